@@ -43,7 +43,7 @@ free_in-zero : (b : List ℕ) (from : ℕ) → free_in b from 0 ≡ 0
 unfolding free_in
 free_in-zero b from = refl
 
--- the first sector, and those behind it
+-- the first sector, and those after it
 free_in-suc : (b : List ℕ) (from n : ℕ) → free_in b from (suc n) ≡ bit b from + free_in b (from + 1) n
 unfolding free_in bit
 free_in-suc b from n = sum_by-cons (λ s. cond (not (is_used b s)) 1 0) from (range_with_len (from + 1) n)
@@ -168,6 +168,6 @@ marked_more u a b c from mid end low high first then = record {
   ];
   others = λ s out. elim out [
     | inl before ↦ then.others s (inl (omega (arith, before, low))) ∙ first.others s (inl before)
-    | inr behind ↦ then.others s (inr behind) ∙ first.others s (inr (omega (arith, behind, high)))
+    | inr after ↦ then.others s (inr after) ∙ first.others s (inr (omega (arith, after, high)))
   ];
 }

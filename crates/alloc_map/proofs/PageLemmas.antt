@@ -6,7 +6,7 @@ use Rattle.std.specs.Int.{bit_at}
 use Rattle.flat_mem.specs.Memory.{part, overwritten}
 use Rattle.flat_mem.specs.Parts.{length-overwritten, part-overwritten_same}
 use Rattle.alloc_map.specs.Bits.{is_used, AreAll, free_in, IsMarked}
-use Rattle.alloc_map.specs.Pages.{first_sector_behind}
+use Rattle.alloc_map.specs.Pages.{first_sector_after}
 use Rattle.alloc_map.proofs.BitLemmas.{free_in_same}
 
 -- a sector of the page, and the same of the whole
@@ -36,23 +36,23 @@ module _ (b page : List ℕ) (at : ℕ) (read : page ≡ part b (512 * (at / 409
   pub free_in_page : (n : ℕ) → at % 4096 + n ≤ 4096 → free_in page (at % 4096) n ≡ free_in b at n
   free_in_page n fits = free_in_same page b (at % 4096) at n (λ k below. used_in_page (at % 4096 + k) (at + k) (omega (arith, fits, below)) (omega arith))
 
-get_or-overwritten_front : (b piece : List ℕ) (at i : ℕ) → at + length piece ≤ length b → i < at → get_or (overwritten b at piece) i 0 ≡ get_or b i 0
-get_or-overwritten_front b piece at i fits front = grind (arith, places)
+get_or-overwritten_prefix : (b piece : List ℕ) (at i : ℕ) → at + length piece ≤ length b → i < at → get_or (overwritten b at piece) i 0 ≡ get_or b i 0
+get_or-overwritten_prefix b piece at i fits prefix = grind (arith, places)
 
-get_or-overwritten_behind : (b piece : List ℕ) (at i : ℕ) → at + length piece ≤ length b → at + length piece ≤ i → get_or (overwritten b at piece) i 0 ≡ get_or b i 0
-get_or-overwritten_behind b piece at i fits behind = grind (arith, places)
+get_or-overwritten_after : (b piece : List ℕ) (at i : ℕ) → at + length piece ≤ length b → at + length piece ≤ i → get_or (overwritten b at piece) i 0 ≡ get_or b i 0
+get_or-overwritten_after b piece at i fits after = grind (arith, places)
 
 -- a sector of another page
 used_elsewhere : (b new : List ℕ) (n s : ℕ) → length new ≡ 512 → 512 * n + 512 ≤ length b → s / 4096 ≢ n → is_used (overwritten b (512 * n) new) s ≡ is_used b s
 unfolding is_used
 used_elsewhere b new n s long fits other =
     ap (λ x. eqb (bit_at x (7 - s % 8)) 1) (elim (cases_lt (s / 4096) n) [
-      | inl low ↦ get_or-overwritten_front b new (512 * n) (s / 8) (omega arith) (omega (arith, low))
-      | inr not ↦ get_or-overwritten_behind b new (512 * n) (s / 8) (omega arith) (omega (arith, not, other, long))
+      | inl low ↦ get_or-overwritten_prefix b new (512 * n) (s / 8) (omega arith) (omega (arith, low))
+      | inr not ↦ get_or-overwritten_after b new (512 * n) (s / 8) (omega arith) (omega (arith, not, other, long))
     ])
 
 -- marks in a page that is written back
-pub marked_in_page : (u : Bool) (b page new : List ℕ) (at stop : ℕ) → page ≡ part b (512 * (at / 4096)) 512 → 512 * (at / 4096) + 512 ≤ length b → length new ≡ 512 → at < stop → stop ≤ first_sector_behind at
+pub marked_in_page : (u : Bool) (b page new : List ℕ) (at stop : ℕ) → page ≡ part b (512 * (at / 4096)) 512 → 512 * (at / 4096) + 512 ≤ length b → length new ≡ 512 → at < stop → stop ≤ first_sector_after at
     → IsMarked u page new (at % 4096) (at % 4096 + (stop - at)) → IsMarked u b (overwritten b (512 * (at / 4096)) new) at stop
 marked_in_page u b page new at stop read fits long some one_page marks =
     let n : ℕ = at / 4096 in
@@ -71,7 +71,7 @@ marked_in_page u b page new at stop read fits long some one_page marks =
             let place : s ≡ 4096 * n + k = omega (arith, here) in
             let apart : (k < at % 4096) ⊎ (at % 4096 + (stop - at) ≤ k) = elim out [
               | inl before ↦ inl (omega (arith, before, here))
-              | inr behind ↦ inr (omega (arith, behind, some))
+              | inr after ↦ inr (omega (arith, after, some))
             ] in
             sym (used_in_page now new at written k s inside place) ∙ marks.others k apart ∙ used_in_page b page at read k s inside place
       ];

@@ -1,7 +1,7 @@
 -- What a walk over the pages of the map spends.
 use Rattle.std.proofs.Common.{◌≡◌, ℕ, ◌+◌, ◌*◌, ◌/◌, ◌<◌, ◌≤◌, arith}
 use Rattle.std.proofs.lemmas.Nat.{mul-le}
-use Rattle.alloc_map.specs.Pages.{first_sector_behind, pages_to, pages_between}
+use Rattle.alloc_map.specs.Pages.{first_sector_after, pages_to, pages_between}
 
 -- so many of the pages from one sector to another were walked, and each took at most so much
 pub record HasSpent (each from end at start spent : ℕ) : Type 0 where
@@ -20,7 +20,7 @@ page_inside at end size now below same fits = omega (arith, page_fits at end bel
 pub spent_none : (each from end start : ℕ) → HasSpent each from end from start start
 spent_none each from end start = record { pages = 0; few = omega arith; passed = λ below. omega arith; paid = omega arith }
 
-pub spent_more : (each from end at stop start spent after : ℕ) → at < end → (stop < end → stop ≡ first_sector_behind at) → after ≤ spent + each → HasSpent each from end at start spent → HasSpent each from end stop start after
+pub spent_more : (each from end at stop start spent after : ℕ) → at < end → (stop < end → stop ≡ first_sector_after at) → after ≤ spent + each → HasSpent each from end at start spent → HasSpent each from end stop start after
 spent_more each from end at stop start spent after below whole more had =
     let passed : had.pages + from / 4096 ≤ at / 4096 = had.passed below in
     record {

@@ -21,15 +21,15 @@ pub record IsMarked (used : Bool) (old new : List ℕ) (from end : ℕ) : Type 0
   pub marked : AreAll used new from end
   pub others : (s : ℕ) → (s < from) ⊎ (end ≤ s) → is_used new s ≡ is_used old s
 
--- a memory tells bytes where these sectors are so marked
-pub record TellsMarked (used : Bool) (tells : List ℕ → Type 0) (old : List ℕ) (from end : ℕ) : Type 0 where
+-- a memory reveals bytes where these sectors are so marked
+pub record RevealsMarked (used : Bool) (reveals : List ℕ → Type 0) (old : List ℕ) (from end : ℕ) : Type 0 where
   pub now : List ℕ
-  pub told : tells now
+  pub revealed : reveals now
   pub bits : IsMarked used old now from end
 
--- a memory tells bytes where no sector but those from one up to another is changed
-pub record TellsOthers (tells : List ℕ → Type 0) (old : List ℕ) (from end : ℕ) : Type 0 where
+-- a memory reveals bytes where no sector but those from one up to another is changed
+pub record RevealsOthers (reveals : List ℕ → Type 0) (old : List ℕ) (from end : ℕ) : Type 0 where
   pub now : List ℕ
-  pub told : tells now
+  pub revealed : reveals now
   pub same_length : length now ≡ length old
   pub others : (s : ℕ) → (s < from) ⊎ (end ≤ s) → is_used now s ≡ is_used old s

@@ -2,9 +2,9 @@
 use Rattle.std.specs.Prelude.{ℕ, ◌+◌, ◌-◌, ◌*◌, ◌/◌}
 use Rattle.std.specs.Int.{div_ceil}
 
--- the first sector of the page behind that of this one
-abbrev pub first_sector_behind : ℕ → ℕ
-first_sector_behind s = (s / 4096 + 1) * 4096
+-- the first sector of the page after that of this one
+abbrev pub first_sector_after : ℕ → ℕ
+first_sector_after s = (s / 4096 + 1) * 4096
 
 -- how many pages have the bits of so many sectors
 abbrev pub pages_to : ℕ → ℕ

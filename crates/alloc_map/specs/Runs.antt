@@ -1,6 +1,6 @@
 -- The sectors that are taken.
 use Rattle.std.specs.Prelude.{◌≡◌, ◌⊎◌, ℕ, ◌+◌, ◌≤◌, ◌<◌, true, false, List, length}
-use Rattle.alloc_map.specs.Bits.{is_used, AreAll, TellsMarked}
+use Rattle.alloc_map.specs.Bits.{is_used, AreAll, RevealsMarked}
 use Rattle.alloc_map.specs.declared.error.AllocError.{AllocError}
 use Rattle.alloc_map.specs.declared.error.AllocError.TheVariants.{NoRoom, Mem}
 
@@ -23,14 +23,14 @@ pub record IsLongestFree (b : List ℕ) (sectors most s n : ℕ) : Type 0 where
   pub free : AreAll false b s (s + n)
   pub longest : n < most → s + n < sectors → is_used b (s + n) ≡ true
 
--- a memory tells bytes where the sectors of the run are marked used
-abbrev pub TellsTaken : (List ℕ → Type 0) → List ℕ → ℕ × ℕ → Type 0
-TellsTaken tells b run = TellsMarked true tells b run.0 (run.0 + run.1)
+-- a memory reveals bytes where the sectors of the run are marked used
+abbrev pub RevealsTaken : (List ℕ → Type 0) → List ℕ → ℕ × ℕ → Type 0
+RevealsTaken reveals b run = RevealsMarked true reveals b run.0 (run.0 + run.1)
 
--- a memory tells bytes where free sectors from one up to another may be marked used, and no other is changed
-pub record TellsSomeTaken (tells : List ℕ → Type 0) (old : List ℕ) (first sectors : ℕ) : Type 0 where
+-- a memory reveals bytes where free sectors from one up to another may be marked used, and no other is changed
+pub record RevealsSomeTaken (reveals : List ℕ → Type 0) (old : List ℕ) (first sectors : ℕ) : Type 0 where
   pub now : List ℕ
-  pub told : tells now
+  pub revealed : reveals now
   pub same_length : length now ≡ length old
   pub outside : (s : ℕ) → (s < first) ⊎ (sectors ≤ s) → is_used now s ≡ is_used old s
   pub used : (s : ℕ) → is_used old s ≡ true → is_used now s ≡ true

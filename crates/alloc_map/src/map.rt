@@ -1,8 +1,8 @@
 //! The map.
 ghost use Rattle.std.specs.Prelude.{◌≡◌, ℕ, ◌+◌, ◌-◌, ◌*◌, ◌≤◌, ◌<◌, true, false, not, List, IfOk, IfErr, OnOk, OnErr, Err};
-ghost use Rattle.alloc_map.specs.Bits.{is_used, AreAll, free_in, TellsMarked, TellsOthers};
+ghost use Rattle.alloc_map.specs.Bits.{is_used, AreAll, free_in, RevealsMarked, RevealsOthers};
 ghost use Rattle.alloc_map.specs.Pages.{pages_to, pages_between};
-ghost use Rattle.alloc_map.specs.Runs.{IsDataRun, IsLowestFree, IsLongestFree, TellsTaken, TellsSomeTaken, IfMem};
+ghost use Rattle.alloc_map.specs.Runs.{IsDataRun, IsLowestFree, IsLongestFree, RevealsTaken, RevealsSomeTaken, IfMem};
 
 use crate::{AllocError, pages};
 use flat_mem::FlatMem;
@@ -40,11 +40,11 @@ impl<M: FlatMem> AllocMap<M> {
     /// Whether a sector is free.
     pub fn is_free(&mut self, sector: u32) -> Result<bool, M::Error>
         requires { sector < sector_count self.old }
-        ensures free { (b : List ℕ) → M.tells (map_memory self.old) b
+        ensures free { (b : List ℕ) → M.reveals (map_memory self.old) b
             → IfOk result (λ free. free ≡ not (is_used b sector)) }
         ensures cause { IfErr result (λ e. M.accounted (map_memory self.old) (map_memory self.new) e) }
-        ensures unchanged { (b : List ℕ) → M.tells (map_memory self.old) b
-            → M.tells (map_memory self.new) b }
+        ensures unchanged { (b : List ℕ) → M.reveals (map_memory self.old) b
+            → M.reveals (map_memory self.new) b }
         ensures first { first_data self.new ≡ first_data self.old }
         ensures sectors { sector_count self.new ≡ sector_count self.old }
         ensures kept { M.beside (map_memory self.old) (map_memory self.new) }
@@ -56,12 +56,12 @@ impl<M: FlatMem> AllocMap<M> {
 
     /// How many data sectors are free.
     pub fn free_count(&mut self) -> Result<u32, M::Error>
-        ensures count { (b : List ℕ) → M.tells (map_memory self.old) b
+        ensures count { (b : List ℕ) → M.reveals (map_memory self.old) b
             → IfOk result (λ n. n ≡ free_in b (first_data self.old) (sector_count self.old - first_data self.old)) }
         ensures form { IfOk result (λ n. n ≤ sector_count self.old - first_data self.old) }
         ensures cause { IfErr result (λ e. M.accounted (map_memory self.old) (map_memory self.new) e) }
-        ensures unchanged { (b : List ℕ) → M.tells (map_memory self.old) b
-            → M.tells (map_memory self.new) b }
+        ensures unchanged { (b : List ℕ) → M.reveals (map_memory self.old) b
+            → M.reveals (map_memory self.new) b }
         ensures first { first_data self.new ≡ first_data self.old }
         ensures sectors { sector_count self.new ≡ sector_count self.old }
         ensures kept { M.beside (map_memory self.old) (map_memory self.new) }
@@ -77,20 +77,20 @@ impl<M: FlatMem> AllocMap<M> {
     /// marked.
     pub fn take(&mut self, most: u32) -> Result<(u32, u32), AllocError<M::Error>>
         requires { 1 ≤ most }
-        ensures lowest { (b : List ℕ) → M.tells (map_memory self.old) b
+        ensures lowest { (b : List ℕ) → M.reveals (map_memory self.old) b
             → IfOk result (λ run. IsLowestFree b (first_data self.old) (sector_count self.old) run.0) }
-        ensures longest { (b : List ℕ) → M.tells (map_memory self.old) b
+        ensures longest { (b : List ℕ) → M.reveals (map_memory self.old) b
             → IfOk result (λ run. IsLongestFree b (sector_count self.old) most run.0 run.1) }
-        ensures taken { (b : List ℕ) → M.tells (map_memory self.old) b
-            → IfOk result (TellsTaken (M.tells (map_memory self.new)) b) }
+        ensures taken { (b : List ℕ) → M.reveals (map_memory self.old) b
+            → IfOk result (RevealsTaken (M.reveals (map_memory self.new)) b) }
         ensures form { IfOk result (IsDataRun (first_data self.old) (sector_count self.old) most) }
-        ensures no_room { (b : List ℕ) → M.tells (map_memory self.old) b
+        ensures no_room { (b : List ℕ) → M.reveals (map_memory self.old) b
             → result ≡ Err AllocError.NoRoom → AreAll true b (first_data self.old) (sector_count self.old) }
         ensures cause { IfErr result (IfMem (M.accounted (map_memory self.old) (map_memory self.new))) }
-        ensures unchanged { (b : List ℕ) → M.tells (map_memory self.old) b
-            → result ≡ Err AllocError.NoRoom → M.tells (map_memory self.new) b }
-        ensures others { (b : List ℕ) → M.tells (map_memory self.old) b
-            → OnErr result (TellsSomeTaken (M.tells (map_memory self.new)) b
+        ensures unchanged { (b : List ℕ) → M.reveals (map_memory self.old) b
+            → result ≡ Err AllocError.NoRoom → M.reveals (map_memory self.new) b }
+        ensures others { (b : List ℕ) → M.reveals (map_memory self.old) b
+            → OnErr result (RevealsSomeTaken (M.reveals (map_memory self.new)) b
             (first_data self.old) (sector_count self.old)) }
         ensures first { first_data self.new ≡ first_data self.old }
         ensures sectors { sector_count self.new ≡ sector_count self.old }
@@ -121,11 +121,11 @@ impl<M: FlatMem> AllocMap<M> {
     pub fn give(&mut self, sector: u32, pages: u32) -> Result<(), M::Error>
         requires data { first_data self.old ≤ sector }
         requires inside { sector + pages ≤ sector_count self.old }
-        ensures given { (b : List ℕ) → M.tells (map_memory self.old) b
-            → OnOk result (TellsMarked false (M.tells (map_memory self.new)) b sector (sector + pages)) }
+        ensures given { (b : List ℕ) → M.reveals (map_memory self.old) b
+            → OnOk result (RevealsMarked false (M.reveals (map_memory self.new)) b sector (sector + pages)) }
         ensures cause { IfErr result (λ e. M.accounted (map_memory self.old) (map_memory self.new) e) }
-        ensures others { (b : List ℕ) → M.tells (map_memory self.old) b
-            → OnErr result (TellsOthers (M.tells (map_memory self.new)) b sector (sector + pages)) }
+        ensures others { (b : List ℕ) → M.reveals (map_memory self.old) b
+            → OnErr result (RevealsOthers (M.reveals (map_memory self.new)) b sector (sector + pages)) }
         ensures first { first_data self.new ≡ first_data self.old }
         ensures sectors { sector_count self.new ≡ sector_count self.old }
         ensures kept { M.beside (map_memory self.old) (map_memory self.new) }

@@ -1,7 +1,7 @@
 //! The sectors of the whole map, page by page.
 ghost use Rattle.std.specs.Prelude.{◌≡◌, ℕ, ◌+◌, ◌-◌, ◌*◌, ◌/◌, ◌≤◌, ◌<◌, Bool, true, false, not, List, IfOk, IfErr, OnOk, OnErr};
-ghost use Rattle.alloc_map.specs.Bits.{is_used, AreAll, free_in, TellsMarked, TellsOthers};
-ghost use Rattle.alloc_map.specs.Pages.{first_sector_behind, pages_to, pages_between};
+ghost use Rattle.alloc_map.specs.Bits.{is_used, AreAll, free_in, RevealsMarked, RevealsOthers};
+ghost use Rattle.alloc_map.specs.Pages.{first_sector_after, pages_to, pages_between};
 
 use crate::bits;
 use flat_mem::FlatMem;
@@ -11,8 +11,8 @@ fn page_stop(at: u32, end: u32) -> u32
     requires { at < end }
     ensures more { at < result }
     ensures within { result ≤ end }
-    ensures one_page { result ≤ first_sector_behind at }
-    ensures whole { result < end → result ≡ first_sector_behind at }
+    ensures one_page { result ≤ first_sector_after at }
+    ensures whole { result < end → result ≡ first_sector_after at }
 {
     at + (4096 - at % 4096).min(end - at)
 }
@@ -20,14 +20,14 @@ fn page_stop(at: u32, end: u32) -> u32
 // The first sector from `at` on that is used, or is free, or `stop`. They lie in one page.
 fn find_in_page<M: FlatMem>(mem: &mut M, at: u32, stop: u32, used: bool) -> Result<u32, M::Error>
     requires order { at < stop }
-    requires one_page { stop ≤ first_sector_behind at }
+    requires one_page { stop ≤ first_sector_after at }
     requires inside { 512 * (at / 4096) + 512 ≤ M.size mem.old }
     ensures range { IfOk result (λ s. (at ≤ s) × (s ≤ stop)) }
-    ensures before { (b : List ℕ) → M.tells mem.old b → IfOk result (AreAll (not used) b at) }
-    ensures found { (b : List ℕ) → M.tells mem.old b
+    ensures before { (b : List ℕ) → M.reveals mem.old b → IfOk result (AreAll (not used) b at) }
+    ensures found { (b : List ℕ) → M.reveals mem.old b
         → IfOk result (λ s. s < stop → is_used b s ≡ used) }
     ensures cause { IfErr result (λ e. M.accounted mem.old mem.new e) }
-    ensures unchanged { (b : List ℕ) → M.tells mem.old b → M.tells mem.new b }
+    ensures unchanged { (b : List ℕ) → M.reveals mem.old b → M.reveals mem.new b }
     ensures kept { M.beside mem.old mem.new }
     ensures cost { M.spent mem.new ≤ M.spent mem.old + M.cost }
 {
@@ -43,11 +43,11 @@ pub fn find<M: FlatMem>(mem: &mut M, from: u32, end: u32, used: bool) -> Result<
     requires order { from ≤ end }
     requires inside { 512 * pages_to end ≤ M.size mem.old }
     ensures range { IfOk result (λ s. (from ≤ s) × (s ≤ end)) }
-    ensures before { (b : List ℕ) → M.tells mem.old b → IfOk result (AreAll (not used) b from) }
-    ensures found { (b : List ℕ) → M.tells mem.old b
+    ensures before { (b : List ℕ) → M.reveals mem.old b → IfOk result (AreAll (not used) b from) }
+    ensures found { (b : List ℕ) → M.reveals mem.old b
         → IfOk result (λ s. s < end → is_used b s ≡ used) }
     ensures cause { IfErr result (λ e. M.accounted mem.old mem.new e) }
-    ensures unchanged { (b : List ℕ) → M.tells mem.old b → M.tells mem.new b }
+    ensures unchanged { (b : List ℕ) → M.reveals mem.old b → M.reveals mem.new b }
     ensures kept { M.beside mem.old mem.new }
     ensures cost { M.spent mem.new ≤ M.spent mem.old + pages_between from end * M.cost }
 {
@@ -66,13 +66,13 @@ pub fn find<M: FlatMem>(mem: &mut M, from: u32, end: u32, used: bool) -> Result<
 // How many of these sectors are free. They lie in one page.
 fn count_in_page<M: FlatMem>(mem: &mut M, at: u32, stop: u32) -> Result<u32, M::Error>
     requires order { at < stop }
-    requires one_page { stop ≤ first_sector_behind at }
+    requires one_page { stop ≤ first_sector_after at }
     requires inside { 512 * (at / 4096) + 512 ≤ M.size mem.old }
-    ensures count { (b : List ℕ) → M.tells mem.old b
+    ensures count { (b : List ℕ) → M.reveals mem.old b
         → IfOk result (λ n. n ≡ free_in b at (stop - at)) }
     ensures form { IfOk result (λ n. n ≤ stop - at) }
     ensures cause { IfErr result (λ e. M.accounted mem.old mem.new e) }
-    ensures unchanged { (b : List ℕ) → M.tells mem.old b → M.tells mem.new b }
+    ensures unchanged { (b : List ℕ) → M.reveals mem.old b → M.reveals mem.new b }
     ensures kept { M.beside mem.old mem.new }
     ensures cost { M.spent mem.new ≤ M.spent mem.old + M.cost }
 {
@@ -86,11 +86,11 @@ fn count_in_page<M: FlatMem>(mem: &mut M, at: u32, stop: u32) -> Result<u32, M::
 pub fn count_free<M: FlatMem>(mem: &mut M, from: u32, end: u32) -> Result<u32, M::Error>
     requires order { from ≤ end }
     requires inside { 512 * pages_to end ≤ M.size mem.old }
-    ensures count { (b : List ℕ) → M.tells mem.old b
+    ensures count { (b : List ℕ) → M.reveals mem.old b
         → IfOk result (λ n. n ≡ free_in b from (end - from)) }
     ensures form { IfOk result (λ n. n ≤ end - from) }
     ensures cause { IfErr result (λ e. M.accounted mem.old mem.new e) }
-    ensures unchanged { (b : List ℕ) → M.tells mem.old b → M.tells mem.new b }
+    ensures unchanged { (b : List ℕ) → M.reveals mem.old b → M.reveals mem.new b }
     ensures kept { M.beside mem.old mem.new }
     ensures cost { M.spent mem.new ≤ M.spent mem.old + pages_between from end * M.cost }
 {
@@ -107,12 +107,12 @@ pub fn count_free<M: FlatMem>(mem: &mut M, from: u32, end: u32) -> Result<u32, M
 // Marks these sectors used or free. They lie in one page.
 fn set_in_page<M: FlatMem>(mem: &mut M, at: u32, stop: u32, used: bool) -> Result<(), M::Error>
     requires order { at < stop }
-    requires one_page { stop ≤ first_sector_behind at }
+    requires one_page { stop ≤ first_sector_after at }
     requires inside { 512 * (at / 4096) + 512 ≤ M.size mem.old }
-    ensures marked { (b : List ℕ) → M.tells mem.old b
-        → OnOk result (TellsMarked used (M.tells mem.new) b at stop) }
+    ensures marked { (b : List ℕ) → M.reveals mem.old b
+        → OnOk result (RevealsMarked used (M.reveals mem.new) b at stop) }
     ensures cause { IfErr result (λ e. M.accounted mem.old mem.new e) }
-    ensures unchanged { (b : List ℕ) → M.tells mem.old b → OnErr result (M.tells mem.new b) }
+    ensures unchanged { (b : List ℕ) → M.reveals mem.old b → OnErr result (M.reveals mem.new b) }
     ensures kept { M.beside mem.old mem.new }
     ensures cost { M.spent mem.new ≤ M.spent mem.old + 2 * M.cost }
 {
@@ -128,11 +128,11 @@ fn set_in_page<M: FlatMem>(mem: &mut M, at: u32, stop: u32, used: bool) -> Resul
 pub fn set_range<M: FlatMem>(mem: &mut M, from: u32, end: u32, used: bool) -> Result<(), M::Error>
     requires order { from ≤ end }
     requires inside { 512 * pages_to end ≤ M.size mem.old }
-    ensures marked { (b : List ℕ) → M.tells mem.old b
-        → OnOk result (TellsMarked used (M.tells mem.new) b from end) }
+    ensures marked { (b : List ℕ) → M.reveals mem.old b
+        → OnOk result (RevealsMarked used (M.reveals mem.new) b from end) }
     ensures cause { IfErr result (λ e. M.accounted mem.old mem.new e) }
-    ensures others { (b : List ℕ) → M.tells mem.old b
-        → OnErr result (TellsOthers (M.tells mem.new) b from end) }
+    ensures others { (b : List ℕ) → M.reveals mem.old b
+        → OnErr result (RevealsOthers (M.reveals mem.new) b from end) }
     ensures kept { M.beside mem.old mem.new }
     // one read and one write a page
     ensures cost { M.spent mem.new ≤ M.spent mem.old + 2 * pages_between from end * M.cost }

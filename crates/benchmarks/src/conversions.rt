@@ -13,7 +13,7 @@ const SECTORS: u32 = 65_536;
 // The files and the pages of each on the volumes that are converted.
 const VOLUMES: [(u32, u32); 3] = [(10, 5_700), (1_000, 56), (28_000, 1)];
 
-// How often each volume is converted; the least time tells.
+// How often each volume is converted; the least time reveals.
 const TURNS: u32 = 5;
 
 const FIRST_FILE: FileId = 0x7_0000_0001;
@@ -29,7 +29,7 @@ fn root_page() -> Page {
     page
 }
 
-// An old volume with so many files of so many pages, one file behind the other.
+// An old volume with so many files of so many pages, one file after the other.
 fn old_volume(alloc: Global, files: u32, pages: u32) -> Result<MemoryDisk<Global>, NoMemory>
     requires some { 1 ≤ pages }
 {
@@ -71,7 +71,7 @@ fn time_both(rt: &HostRuntime, files: u32, pages: u32) -> io::Result<()>
     };
     let made = disk.transfers();
     let start = Instant::now(rt)?;
-    let Ok(told) = convert(rt.alloc(), &mut disk) else {
+    let Ok(revealed) = convert(rt.alloc(), &mut disk) else {
         return println!(rt; "not converted");
     };
     let converted = Instant::now(rt)?;
@@ -85,7 +85,7 @@ fn time_both(rt: &HostRuntime, files: u32, pages: u32) -> io::Result<()>
     let again = disk.transfers().saturating_sub(made).saturating_sub(moved);
     println!(rt;
         "{} files, {} pages: convert {first} us, {moved} sectors; scavenge {second} us, {again} sectors",
-        told.files, told.pages
+        revealed.files, revealed.pages
     )
 }
 

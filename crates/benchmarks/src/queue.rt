@@ -1,4 +1,4 @@
-//! Pages in a queue in front of a disk in memory.
+//! Pages in a queue before a disk in memory.
 ghost use Rattle.std.specs.Prelude.{◌≤◌};
 
 use labelled_disk::{Disk, FileId, Label, MemoryDisk, NoMemory, Wanted};
@@ -58,7 +58,7 @@ pub fn read(queue: &mut Waiting, room: u32, times: u32) -> u32
     answered
 }
 
-/// How many of so many stores, each in the sector behind the one before, were answered. For each the
+/// How many of so many stores, each in the sector after the one before, were answered. For each the
 /// first page of the sweep is written out.
 pub fn store_round(queue: &mut Waiting, times: u32) -> u32 {
     let mut answered = 0u32;

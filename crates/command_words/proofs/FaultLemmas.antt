@@ -82,8 +82,8 @@ use_ok again a values rows e =
     let range = range_ok (unwrap_or_range a.range).start_inclusive (most_values a) (length values) both.0 in
     rw (range.0, range.1, action_ok (action_of a) again a (values_or_missing a values) rows both.1) refl
 
-settle_ok : (c : List Rule) (again : Bool) (h : Held) → settle_fault c again h ≡ [] → settle_passes c again h ≡ true
-settle_ok c again h e = go h.pending e
+sync_ok : (c : List Rule) (again : Bool) (h : Held) → settle_fault c again h ≡ [] → settle_passes c again h ≡ true
+sync_ok c again h e = go h.pending e
   where
     given : (p : Text × List Text) (o : Option Rule) → option_map_or (λ a. use_fault again a p.1 h.rows) o [] ≡ [] → option_map_or (λ a. use_passes again a p.1 h.rows) o true ≡ true
     given p None e = refl
@@ -97,11 +97,11 @@ settle_ok c again h e = go h.pending e
 react_ok : (c : List Rule) (again : Bool) (a : Rule) (values : List Text) (h : Held) → react_fault c again a values h ≡ [] → react_passes c again a values h ≡ true
 react_ok c again a values h e =
     let both = neither _ _ e in
-    rw (settle_ok c again h both.0, use_ok again a values (settled c h).rows both.1) refl
+    rw (sync_ok c again h both.0, use_ok again a values (settled c h).rows both.1) refl
 
 option_ok : (c : List Rule) (again : Bool) (a : Rule) (v : Option Text) (h : Held) → option_fault c again a v h ≡ [] → option_passes c again a v h ≡ true
 option_ok c again a (Some v) h e = react_ok c again a (v ∷ []) h e
-option_ok c again a None h e = settle_ok c again h e
+option_ok c again a None h e = sync_ok c again h e
 
 long_ok : (c : List Rule) (again : Bool) (o : Option Rule) (v : Option Text) (h : Held) → long_fault c again o v h ≡ [] → long_passes c again o v h ≡ true
 long_ok c again None v h e = cc
@@ -165,7 +165,7 @@ positional_ok c again a h e = go (is_pending a h.pending && takes_several a) e
   where
     go : (b : Bool) → cond b [] (settle_fault c again h) ≡ [] → (b || settle_passes c again h) ≡ true
     go true e = refl
-    go false e = settle_ok c again h e
+    go false e = sync_ok c again h e
 
 step_ok : (s : Shape) (position : ℕ) (h : Held) (step : Step) → step_fault s position h step ≡ [] → step_passes s position h step ≡ true
 step_ok s position h value e = go (arg_by_index s.rules position) s.is_leaf e
@@ -206,7 +206,7 @@ faultless_taken a words app e =
     let texts = argument_words a words in
     let end = (walk s.rules [] nothing_held texts).held in
     let walk_and = neither _ _ (sym (leaf_fault (built a) nothing_held texts app.leaf) ∙ e) in
-    let settle_and = neither _ _ walk_and.1 in
+    let sync_and = neither _ _ walk_and.1 in
     let level : level_passes s [] nothing_held texts false ≡ true =
-    rw (walk_ok s [] (walk_from nothing_held) texts walk_and.0, settle_ok s.rules s.args_override_self end settle_and.0, app.defaults_pass, app.valid (finished s.rules end)) refl in
+    rw (walk_ok s [] (walk_from nothing_held) texts walk_and.0, sync_ok s.rules s.args_override_self end sync_and.0, app.defaults_pass, app.valid (finished s.rules end)) refl in
     rw app.simple (leaf_takes (built a) nothing_held texts app.leaf level)

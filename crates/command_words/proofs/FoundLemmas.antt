@@ -92,8 +92,8 @@ module _ (o : NumberOption) where
       go false rest = rest
 
   module _ (c : List Rule) (all : AllBound o c) (again : Bool) where
-    settle_bounds : (h : Held) → settle_passes c again h ≡ true → AreBounded o h.rows → AreBounded o (settled c h).rows
-    settle_bounds h passes ok = go h.pending passes
+    sync_bounds : (h : Held) → settle_passes c again h ≡ true → AreBounded o h.rows → AreBounded o (settled c h).rows
+    sync_bounds h passes ok = go h.pending passes
       where
         by_rule : (p : Text × List Text) (x : Option Rule) → FoundBounds o x → option_map_or (λ a. use_passes again a p.1 h.rows) x true ≡ true → AreBounded o (used_by_id x p.1 h.rows)
         by_rule p None bounds e = ok
@@ -106,11 +106,11 @@ module _ (o : NumberOption) where
     react_bounds : (a : Rule) (values : List Text) (h : Held) → Bounds o a → react_passes c again a values h ≡ true → AreBounded o h.rows → AreBounded o (reacted c a values h).rows
     react_bounds a values h bounds passes ok =
         let two = and_parts _ _ passes in
-        use_bounds again a values (settled c h).rows bounds two.1 (settle_bounds h two.0 ok)
+        use_bounds again a values (settled c h).rows bounds two.1 (sync_bounds h two.0 ok)
 
     option_bounds : (a : Rule) (v : Option Text) (h : Held) → Bounds o a → option_passes c again a v h ≡ true → AreBounded o h.rows → AreBounded o (option_met c a v h).0.rows
     option_bounds a (Some v) h bounds passes ok = react_bounds a (v ∷ []) h bounds passes ok
-    option_bounds a None h bounds passes ok = settle_bounds h passes ok
+    option_bounds a None h bounds passes ok = sync_bounds h passes ok
 
     long_bounds : (x : Option Rule) (v : Option Text) (h : Held) → FoundBounds o x → long_passes c again x v h ≡ true → AreBounded o h.rows → AreBounded o (long_met c x v h).0.rows
     long_bounds None v h bounds passes ok = ok
@@ -122,27 +122,27 @@ module _ (o : NumberOption) where
         go false (Some v) e = ok
         go false None e = react_bounds a [] h bounds e ok
 
-    short_bounds : (x : Option Rule) (rest : Text) (h : Held) (onward : Held → Held × Outcome) (passes : Held → Bool)
-        → ((g : Held) → passes g ≡ true → AreBounded o g.rows → AreBounded o (onward g).0.rows)
-        → FoundBounds o x → short_passes c again x rest h passes ≡ true → AreBounded o h.rows → AreBounded o (short_met c x rest h onward).0.rows
-    short_bounds None rest h onward passes each bounds e ok = ok
-    short_bounds (Some a) rest h onward passes each bounds e ok = go (takes_values a) e
+    short_bounds : (x : Option Rule) (rest : Text) (h : Held) (monotone : Held → Held × Outcome) (passes : Held → Bool)
+        → ((g : Held) → passes g ≡ true → AreBounded o g.rows → AreBounded o (monotone g).0.rows)
+        → FoundBounds o x → short_passes c again x rest h passes ≡ true → AreBounded o h.rows → AreBounded o (short_met c x rest h monotone).0.rows
+    short_bounds None rest h monotone passes each bounds e ok = ok
+    short_bounds (Some a) rest h monotone passes each bounds e ok = go (takes_values a) e
       where
         go : (t : Bool) → cond t (option_passes c again a (attached_value rest) h) (react_passes c again a [] h && passes (reacted c a [] h)) ≡ true
-            → AreBounded o (cond t (option_met c a (attached_value rest) h) (onward (reacted c a [] h))).0.rows
+            → AreBounded o (cond t (option_met c a (attached_value rest) h) (monotone (reacted c a [] h))).0.rows
         go true e = option_bounds a (attached_value rest) h bounds e ok
         go false e =
             let two = and_parts _ _ e in
             each (reacted c a [] h) two.1 (react_bounds a [] h bounds two.0 ok)
 
-    step_bounds : (x : Option ℕ) (flags : Text) (skip : ℕ) (so_far : Outcome) (h : Held) (onward : Text → ℕ → Outcome → Held → Held × Outcome) (passes : Text → ℕ → Held → Bool)
-        → ((t : Text) (n : ℕ) (s : Outcome) (g : Held) → passes t n g ≡ true → AreBounded o g.rows → AreBounded o (onward t n s g).0.rows)
-        → bundle_step_passes c again x flags skip h passes ≡ true → AreBounded o h.rows → AreBounded o (bundle_step c x flags skip so_far h onward).0.rows
-    step_bounds None flags skip so_far h onward passes each e ok = ok
-    step_bounds (Some x) flags zero so_far h onward passes each e ok =
+    step_bounds : (x : Option ℕ) (flags : Text) (skip : ℕ) (so_far : Outcome) (h : Held) (monotone : Text → ℕ → Outcome → Held → Held × Outcome) (passes : Text → ℕ → Held → Bool)
+        → ((t : Text) (n : ℕ) (s : Outcome) (g : Held) → passes t n g ≡ true → AreBounded o g.rows → AreBounded o (monotone t n s g).0.rows)
+        → bundle_step_passes c again x flags skip h passes ≡ true → AreBounded o h.rows → AreBounded o (bundle_step c x flags skip so_far h monotone).0.rows
+    step_bounds None flags skip so_far h monotone passes each e ok = ok
+    step_bounds (Some x) flags zero so_far h monotone passes each e ok =
         let rest = drop (length (encode_utf8 x)) flags in
-        short_bounds (arg_by_short c x) rest h (onward rest 0 done) (passes rest 0) (each rest 0 done) (found_bounds _ c all) e ok
-    step_bounds (Some x) flags (suc skip) so_far h onward passes each e ok = each (drop (length (encode_utf8 x)) flags) skip so_far h e ok
+        short_bounds (arg_by_short c x) rest h (monotone rest 0 done) (passes rest 0) (each rest 0 done) (found_bounds _ c all) e ok
+    step_bounds (Some x) flags (suc skip) so_far h monotone passes each e ok = each (drop (length (encode_utf8 x)) flags) skip so_far h e ok
 
     flags_bounds : (k : ℕ) (flags : Text) (skip : ℕ) (so_far : Outcome) (h : Held) → flags_pass c again k flags skip h ≡ true → AreBounded o h.rows
         → AreBounded o (bundle_met c k flags skip so_far h).0.rows
@@ -199,7 +199,7 @@ module _ (o : NumberOption) where
       where
         pushed_rows : (b : Bool) → (b || settle_passes s.rules s.args_override_self h) ≡ true → AreBounded o (cond b h (settled s.rules h)).rows
         pushed_rows true e = ok
-        pushed_rows false e = settle_bounds s.rules all s.args_override_self h e ok
+        pushed_rows false e = sync_bounds s.rules all s.args_override_self h e ok
 
         go : (x : Option Rule) → option_map_or (λ a. positional_passes s.rules s.args_override_self a h) x false ≡ true → AreBounded o (to_positional s.rules x word w h).held.rows
         go None e = ok
@@ -267,5 +267,5 @@ module _ (o : NumberOption) where
       let two = and_parts _ _ level in
       let end = (walk s.rules (names_of (built a)) nothing_held texts).held in
       let ok = walk_bounds s all (names_of (built a)) (walk_from nothing_held) texts two.0 tt in
-      let settled_ok = settle_bounds s.rules all s.args_override_self end (and_parts _ _ two.1).0 ok in
+      let settled_ok = sync_bounds s.rules all s.args_override_self end (and_parts _ _ two.1).0 ok in
       subst (AreBounded o) (sym (no_defaults s.rules (settled s.rules end).rows app.no_defaults)) settled_ok

@@ -5,7 +5,7 @@ use Rattle.clap.specs.declared.error.kind.ErrorKind.TheVariants.{OutOfMemory}
 use Rattle.command_words.specs.declared.refusal.Refused.{Refused}
 use Rattle.command_words.specs.declared.refusal.Refused.TheVariants as refused
 
--- words that are refused for another reason than want of memory are not taken
+-- words that are refused for another reason than running out of memory are not taken
 pub not_taken : {X : Type 0} (kind : ErrorKind) (why : Refused) (taken : Bool) → (taken ≡ true → kind ≡ OutOfMemory) → (kind ≡ OutOfMemory → why ≡ refused.NoMemory)
     → ◌≡◌ {A = Result X Refused} (Err why) (Err refused.Usage) → taken ≡ false
 not_taken kind why false passes memory usage = refl

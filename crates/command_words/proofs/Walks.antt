@@ -91,9 +91,9 @@ used_row a v rows set fresh =
     let gone : without a.id rows ≡ rows = no_row a.id (λ _. []) [] rows fresh ∙ append-nil rows in
     rw (set, gone) (no_row a.id (more_values CommandLine (v ∷ [])) (use_row a v ∷ []) rows fresh)
 
-pub settle_next : (s : Shape) (name : Text) (a : Rule) (h : Held) (v : Text) → IsOption s name a → IsValue a v
+pub sync_next : (s : Shape) (name : Text) (a : Rule) (h : Held) (v : Text) → IsOption s name a → IsValue a v
     → has_row a.id (settled_rows s.rules h.pending h.rows) ≡ false → settle_passes s.rules s.args_override_self (next_held s a v h) ≡ true
-settle_next s name a h v o i fresh =
+sync_next s name a h v o i fresh =
     let found : arg_by_id s.rules a.id ≡ Some a = ap (arg_by_id s.rules) o.id ∙ o.by_id in
     rw (found, o.least, o.most, o.set, fresh, i.passes) refl
 
@@ -131,7 +131,7 @@ walks s f (p ∷ ps) h rows is ok uses =
     ap (λ w. walked s.rules [] w p.1) (first_word s p.0 a h uses.0) ∙ second_word s p.0 a h p.1 uses.0 uses.1 in
     let next_rows : settled_rows s.rules (Some (a.id, p.1 ∷ [])) (settled_rows s.rules h.pending h.rows) ≡ rows ++ use_row a p.1 ∷ [] =
     rows_next s p.0 a h p.1 uses.0 fresh ∙ ap (λ t. t ++ use_row a p.1 ∷ []) is in
-    let rest = walks s f ps (next_held s a p.1 h) (rows ++ use_row a p.1 ∷ []) next_rows (settle_next s p.0 a h p.1 uses.0 uses.1 fresh) uses.3 in
+    let rest = walks s f ps (next_held s a p.1 h) (rows ++ use_row a p.1 ∷ []) next_rows (sync_next s p.0 a h p.1 uses.0 uses.1 fresh) uses.3 in
     record {
       passes = rw (first_turn s p.0 a h uses.0 ok, first_word s p.0 a h uses.0, second_turn s p.0 a h p.1 uses.0 uses.1, second_word s p.0 a h p.1 uses.0 uses.1) rest.passes;
       held = rest.held;

@@ -12,12 +12,12 @@ use Rattle.labelled_disk.specs.Layout.{capacity, data_sectors, first_data, vam, 
 use Rattle.labelled_disk.specs.File.{File, total_room}
 use Rattle.labelled_disk.specs.FilesOn.{files_on, files_by}
 use Rattle.labelled_disk.specs.Lowest.{is_needed}
-use Rattle.labelled_disk.specs.Moment.{moment}
+use Rattle.labelled_disk.specs.CrashState.{crash_state}
 use Rattle.labelled_disk.specs.Root.{IsRoot, page_in, root_page, number_at, serial_of, counter_of}
 use Rattle.labelled_disk.specs.WriteRuns.{after_writes}
 use Rattle.labelled_disk.proofs.Finds.{get_set_same}
 use Rattle.labelled_disk.proofs.WriteLemmas as laws
-use Rattle.labelled_disk.proofs.WriteRunLemmas.{after_writes-append, moment-end}
+use Rattle.labelled_disk.proofs.WriteRunLemmas.{after_writes-append, crash_state-end}
 use Rattle.volume_root.specs.RootPage.{IsValidRoot, root_in, root_bytes, root_write}
 use Rattle.volume_root.proofs.WrittenLemmas.{is_root, root_read, serial_read, counter_read}
 use Rattle.label_laws.specs.Counts.{places, unneeded_sectors, needs_place}
@@ -25,11 +25,11 @@ use Rattle.label_survey.specs.Counter.{IsRaised}
 use Rattle.scavenger.specs.Orders.{Orders, AreFor, map_writes, scavenge_writes}
 use Rattle.scavenger.specs.Restored.{RestoresEach, IsRestored}
 use Rattle.old_files.specs.OldFiles.{files_old}
-use Rattle.old_files.proofs.SettleLemmas.{settled_has_files}
+use Rattle.old_files.proofs.ArrangeLemmas.{settled_has_files}
 use Rattle.old_files.proofs.NeedLemmas.{settled_are_needed}
-use Rattle.old_files.proofs.MomentLemmas.{spare_moments}
-use Rattle.old_files.proofs.ConversionLemmas.{moments_before_root, root_is_overwritten}
-use Rattle.old_files.specs.Settling.{IsSpareWrite}
+use Rattle.old_files.proofs.CrashStateLemmas.{spare_crash_states}
+use Rattle.old_files.proofs.ConversionLemmas.{crash_states_before_root, root_is_overwritten}
+use Rattle.old_files.specs.Arranging.{IsSpareWrite}
 use Rattle.old_files.specs.Conversion.{IsMapWrite, IsStillThat}
 use Rattle.convert_laws.specs.Converted.{Conversion, today, closed_today, both_maps, convert_writes, settled_disk, IsConversionOf, IsConverted, ConvertingConverts}
 
@@ -56,36 +56,36 @@ low_too d e long (LabelOnly i label ∷ writes) low = absurd low.0
 low_too d e long (Page i wanted page ∷ writes) low = absurd low.0
 
 module _ (d : List Sector) (c : Conversion) (is : IsConversionOf d c) where
-  long_g : length (after_writes c.settle d) ≡ length d
-  long_g = ap (λ (l : List Sector). length l) (sym (moment-end d c.settle)) ∙ (spare_moments d c.settle is.spare (length c.settle)).sectors
+  long_g : length (after_writes c.arrange d) ≡ length d
+  long_g = ap (λ (l : List Sector). length l) (sym (crash_state-end d c.arrange)) ∙ (spare_crash_states d c.arrange is.spare (length c.arrange)).sectors
 
   long : length (settled_disk d c) ≡ length d
-  long = length-set (after_writes c.settle d) 0 (root_label, root_bytes (today c.root)) ∙ long_g
+  long = length-set (after_writes c.arrange d) 0 (root_label, root_bytes (today c.root)) ∙ long_g
 
   valid : IsValidRoot (length d) (today c.root)
   valid = record { version = refl; accepted = is.accepted; count = is.count; serial = is.serial.0; counter = is.counter.0 }
 
   root_here : slice_get (settled_disk d c) 0 ≡ Some (root_label, root_bytes (today c.root))
-  root_here = get_set_same (after_writes c.settle d) 0 (root_label, root_bytes (today c.root)) (let a = is.accepted.0 in omega (arith, long_g, a))
+  root_here = get_set_same (after_writes c.arrange d) 0 (root_label, root_bytes (today c.root)) (let a = is.accepted.0 in omega (arith, long_g, a))
 
   page_here : root_page (settled_disk d c) ≡ root_bytes (today c.root)
   page_here = ap (λ (o : Option Sector). page_in o) root_here
 
-  data_here : data_sectors (settled_disk d c) ≡ data_sectors (after_writes c.settle d)
-  data_here = laws.data_past false 0 0 (after_writes c.settle d) 0 (root_label, root_bytes (today c.root)) (laws.first_positive false 0 0 (length (after_writes c.settle d)))
+  data_here : data_sectors (settled_disk d c) ≡ data_sectors (after_writes c.arrange d)
+  data_here = laws.data_past false 0 0 (after_writes c.arrange d) 0 (root_label, root_bytes (today c.root)) (laws.first_positive false 0 0 (length (after_writes c.arrange d)))
 
   pub none_unneeded : unneeded_sectors false (settled_disk d c) ≡ []
   none_unneeded = places_none (λ i s. not (is_free s.0) && not (needs_place false (settled_disk d c) i)) (first_data (length (settled_disk d c))) (data_sectors (settled_disk d c))
       (λ i s at. by i s (ap (λ (l : List Sector). slice_get l i) (sym data_here) ∙ at) (is_file s.0) refl)
     where
-      by : (i : ℕ) (s : Sector) → slice_get (data_sectors (after_writes c.settle d)) i ≡ Some s → (b : Bool) → is_file s.0 ≡ b
+      by : (i : ℕ) (s : Sector) → slice_get (data_sectors (after_writes c.arrange d)) i ≡ Some s → (b : Bool) → is_file s.0 ≡ b
           → (not (is_free s.0) && not (needs_place false (settled_disk d c) (first_data (length (settled_disk d c)) + i))) ≡ false
       by i s at false f = and_left (not (is_free s.0)) (not (needs_place false (settled_disk d c) (first_data (length (settled_disk d c)) + i))) (not_from_true (is_free s.0) (is.freed i s at f))
       by i s at true f =
           let z : first_data (length (settled_disk d c)) + i - first_data (length (settled_disk d c)) ≡ i = omega arith in
           let n : is_needed false (data_sectors (settled_disk d c)) (first_data (length (settled_disk d c)) + i - first_data (length (settled_disk d c))) ≡ true =
           ap (λ (k : ℕ). is_needed false (data_sectors (settled_disk d c)) k) z ∙ ap (λ (l : List Sector). is_needed false l i) data_here
-          ∙ settled_are_needed d (after_writes c.settle d) long_g is.settled i s at f in
+          ∙ settled_are_needed d (after_writes c.arrange d) long_g is.settled i s at f in
           and_right (not (is_free s.0)) (not (needs_place false (settled_disk d c) (first_data (length (settled_disk d c)) + i))) (not_from_true (needs_place false (settled_disk d c) (first_data (length (settled_disk d c)) + i)) n)
 
   serial_here : serial_of (settled_disk d c) ≡ c.root.serial
@@ -120,15 +120,15 @@ module _ (d : List Sector) (c : Conversion) (is : IsConversionOf d c) where
   same_end : after_writes (scavenge_writes o) (settled_disk d c) ≡ after_writes (convert_writes c) d
   same_end =
       ap (λ (ws : List DiskWrite). after_writes ws (settled_disk d c)) (append_right (map_writes 1 1 c.bits (vam c.root.sectors)) (map_writes 2 (1 + vam c.root.sectors) c.names (vfm c.root.sectors)) (root_write (closed_today c) ∷ []))
-      ∙ root_is_overwritten (after_writes c.settle d) (both_maps c) root_label (root_bytes (closed_today c)) (root_label, root_bytes (today c.root)) low_there
-      ∙ after_writes-append c.settle (both_maps c ++ root_write (closed_today c) ∷ []) d
-      ∙ ap (λ (ws : List DiskWrite). after_writes ws d) (append_right c.settle (both_maps c) (root_write (closed_today c) ∷ []))
+      ∙ root_is_overwritten (after_writes c.arrange d) (both_maps c) root_label (root_bytes (closed_today c)) (root_label, root_bytes (today c.root)) low_there
+      ∙ after_writes-append c.arrange (both_maps c ++ root_write (closed_today c) ∷ []) d
+      ∙ ap (λ (ws : List DiskWrite). after_writes ws d) (append_right c.arrange (both_maps c) (root_write (closed_today c) ∷ []))
     where
-      low_there : AllByRecursion (IsMapWrite (after_writes c.settle d)) (both_maps c)
-      low_there = low_too d (after_writes c.settle d) long_g (both_maps c) is.low
+      low_there : AllByRecursion (IsMapWrite (after_writes c.arrange d)) (both_maps c)
+      low_there = low_too d (after_writes c.arrange d) long_g (both_maps c) is.low
 
   pub same_files : files_on (settled_disk d c) ≡ files_old d
-  same_files = ap (λ (l : List Sector). files_by false l l) data_here ∙ settled_has_files d (after_writes c.settle d) long_g is.settled
+  same_files = ap (λ (l : List Sector). files_by false l l) data_here ∙ settled_has_files d (after_writes c.arrange d) long_g is.settled
 
   converted : RestoresEach → IsConverted d c (after_writes (convert_writes c) d)
   converted restores = subst (λ (h : List Sector). IsConverted d c h) same_end (record {
@@ -138,14 +138,14 @@ module _ (d : List Sector) (c : Conversion) (is : IsConversionOf d c) where
     has_counter = subst (λ (n : ℕ). IsRaised (settled_disk d c) n c.root.counter (counter_of (after_writes (scavenge_writes o) (settled_disk d c)))) serial_here (subst (λ (n : ℕ). IsRaised (settled_disk d c) (serial_of (settled_disk d c)) n (counter_of (after_writes (scavenge_writes o) (settled_disk d c)))) counter_here (restored restores).has_counter);
   })
 
-  ends : (k : ℕ) → length (c.settle ++ both_maps c) < k → moment d (convert_writes c) k ≡ after_writes (convert_writes c) d
-  ends k past = ap (λ (ws : List DiskWrite). after_writes ws d) (take_all k (convert_writes c) (omega (arith, past, length_push (c.settle ++ both_maps c) (root_write (closed_today c)))))
+  ends : (k : ℕ) → length (c.arrange ++ both_maps c) < k → crash_state d (convert_writes c) k ≡ after_writes (convert_writes c) d
+  ends k past = ap (λ (ws : List DiskWrite). after_writes ws d) (take_all k (convert_writes c) (omega (arith, past, length_push (c.arrange ++ both_maps c) (root_write (closed_today c)))))
 
-  moments : (k : ℕ) → IsStillThat d (moment d (convert_writes c) k) ⊎ (moment d (convert_writes c) k ≡ after_writes (convert_writes c) d)
-  moments k = ⊎_elim
-      (λ (past : length (c.settle ++ both_maps c) < k). inr (ends k past))
-      (λ (before : k ≤ length (c.settle ++ both_maps c)). inl (moments_before_root d (c.settle ++ both_maps c) (root_write (closed_today c)) (all_both d c.settle (both_maps c) is.spare is.low) k before))
-      (cases_lt (length (c.settle ++ both_maps c)) k)
+  crash_states : (k : ℕ) → IsStillThat d (crash_state d (convert_writes c) k) ⊎ (crash_state d (convert_writes c) k ≡ after_writes (convert_writes c) d)
+  crash_states k = ⊎_elim
+      (λ (past : length (c.arrange ++ both_maps c) < k). inr (ends k past))
+      (λ (before : k ≤ length (c.arrange ++ both_maps c)). inl (crash_states_before_root d (c.arrange ++ both_maps c) (root_write (closed_today c)) (all_both d c.arrange (both_maps c) is.spare is.low) k before))
+      (cases_lt (length (c.arrange ++ both_maps c)) k)
 
 pub converting_converts : ConvertingConverts
-converting_converts restores d c is = record { converted = converted d c is restores; moments = moments d c is }
+converting_converts restores d c is = record { converted = converted d c is restores; crash_states = crash_states d c is }

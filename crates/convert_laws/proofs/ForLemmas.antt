@@ -13,7 +13,7 @@ use Rattle.labelled_disk.specs.Label.{is_file, is_free, leader_page, page_label,
 use Rattle.labelled_disk.specs.File.{File, file_at, total_room}
 use Rattle.labelled_disk.specs.FilesOn.{files_on, is_of, is_page}
 use Rattle.labelled_disk.specs.Layout.{IsCount, capacity, data_sectors, first_data, vam, vfm}
-use Rattle.labelled_disk.specs.Moment.{written}
+use Rattle.labelled_disk.specs.CrashState.{written}
 use Rattle.labelled_disk.specs.Root.{root_page, number_at, serial_of, counter_of, page_in}
 use Rattle.labelled_disk.specs.Right.{IsGiven}
 use Rattle.labelled_disk.specs.Runs.{freeing, IsWriteInForm}
@@ -35,10 +35,10 @@ use Rattle.old_files.specs.OldFiles.{files_old, heads_file, is_old_needed}
 use Rattle.old_files.specs.Conversion.{IsMapWrite}
 use Rattle.old_files.specs.Laws.{as_leader}
 use Rattle.old_files.specs.Placing.{leader_of, old_leaders, spare_below, IsPlaced}
-use Rattle.old_files.specs.Settling.{IsSpare, IsSpareWrite, IsSettled}
+use Rattle.old_files.specs.Arranging.{IsSpare, IsSpareWrite, IsSettled}
 use Rattle.old_files.proofs.LeaderLemmas.{head_is, old_leaders_are}
 use Rattle.old_files.proofs.PlacingLemmas.{placed_are_settled}
-use Rattle.old_files.proofs.SettleLemmas.{part_of, first_passes}
+use Rattle.old_files.proofs.ArrangeLemmas.{part_of, first_passes}
 use Rattle.convert_laws.specs.Converted.{Conversion, today, both_maps, settled_disk, IsConversionOf, IsConverted}
 use Rattle.convert_laws.specs.Conversions.{IsFor, IsConvertedTo, ConversionsConvert, LeftIsTakenAgain}
 use Rattle.convert_laws.specs.Orders.{needs_old, old_unneeded, old_spare, leader_writes, first_writes}
@@ -199,10 +199,10 @@ module _ (d : List Sector) (c : Conversion) (are : AreSectors d) (valid : IsVali
   accepted : IsCount (length d)
   accepted = (valid.accepted.0, omega (arith, valid.accepted.1))
 
-  after_is : after_writes (first_writes d) d ≡ after_writes c.settle d
-  after_is = ap (λ (ws : List DiskWrite). after_writes ws d) (sym is.settle)
+  after_is : after_writes (first_writes d) d ≡ after_writes c.arrange d
+  after_is = ap (λ (ws : List DiskWrite). after_writes ws d) (sym is.arrange)
 
-  settled : IsSettled (data_sectors d) (data_sectors (after_writes c.settle d))
+  settled : IsSettled (data_sectors d) (data_sectors (after_writes c.arrange d))
   settled = subst (λ (e : List Sector). IsSettled (data_sectors d) (data_sectors e)) after_is
       (placed_are_settled (data_sectors d) (data_sectors (after_writes (first_writes d) d)) (old_leaders d) (placed d accepted valid.accepted.1 room))
 
@@ -221,7 +221,7 @@ module _ (d : List Sector) (c : Conversion) (are : AreSectors d) (valid : IsVali
     serial = (valid.serial, is.serial_fits);
     counter = (valid.counter, omega (arith, is.counter.kept, is.counter_fits));
     next_fits = is.counter_fits;
-    spare = subst (λ (ws : List DiskWrite). AllByRecursion (IsSpareWrite d) ws) (sym is.settle) (spare d accepted valid.accepted.1 room);
+    spare = subst (λ (ws : List DiskWrite). AllByRecursion (IsSpareWrite d) ws) (sym is.arrange) (spare d accepted valid.accepted.1 room);
     settled = settled;
     freed = λ i s at none. rest_is_free d accepted valid.accepted.1 room i s (ap (λ (e : List Sector). slice_get (data_sectors e) i) after_is ∙ at) none;
     room = room;
@@ -250,7 +250,7 @@ conversions_convert restores d c are valid room is =
     let to = converted all.converted conversion in
     record {
       converted = to;
-      moments = λ k. elim (all.moments k) [
+      crash_states = λ k. elim (all.crash_states k) [
         | inl still ↦ inl still
         | inr end ↦ inr (subst (IsConvertedTo d) (sym end) to)
       ];

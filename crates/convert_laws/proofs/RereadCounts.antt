@@ -10,10 +10,10 @@ use Rattle.labelled_disk.specs.Layout.{data_sectors, first_data}
 use Rattle.labelled_disk.specs.File.{File, size, file_at}
 use Rattle.labelled_disk.specs.FilesOn.{files_on, file_among, file_by, page_at, pages_from, leads_file}
 use Rattle.labelled_disk.specs.Lowest.{is_needed}
-use Rattle.labelled_disk.specs.Rising.{BothBy}
+use Rattle.labelled_disk.specs.Ascending.{BothBy}
 use Rattle.labelled_disk.specs.Sectors.{Sector}
 use Rattle.labelled_disk.proofs.Finds.{found_at}
-use Rattle.labelled_disk.proofs.RisingLemmas.{zip_by_look_up, at_id}
+use Rattle.labelled_disk.proofs.AscendingLemmas.{zip_by_look_up, at_id}
 use Rattle.labelled_disk.proofs.WriteLemmas as laws
 use Rattle.label_laws.specs.Counts.{places, data_places, needs_place, total_pages}
 use Rattle.label_laws.proofs.CountLemmas.{count_laws}
@@ -207,15 +207,15 @@ module _ (d : List Sector) (few : length d < leader_page) where
   pub spare_count : spare_below xs (length xs) + total_pages (files_old d) ≡ length xs
   spare_count =
       let c = counted (λ j. is_old_needed xs j) (first_data (length d)) 0 (λ i. needs_old d i) (λ j. (let z : first_data (length d) + j - first_data (length d) ≡ j = omega arith in ap (is_old_needed xs) z)) xs in
-      let s = spares (length xs) in
+      let s = never_blames (length xs) in
       let z : first_data (length d) + 0 ≡ first_data (length d) = omega arith in
       let same = ap (λ (n : ℕ). length (places (λ i s. needs_old d i) n xs)) z in
       omega (arith, needed_count, c, s, same)
     where
-      spares : (m : ℕ) → spare_below xs m ≡ gaps_to (λ j. is_old_needed xs j) 0 m
-      spares zero = refl
-      spares (suc m) =
+      never_blames : (m : ℕ) → spare_below xs m ≡ gaps_to (λ j. is_old_needed xs j) 0 m
+      never_blames zero = refl
+      never_blames (suc m) =
           let z : m ≡ 0 + m = omega arith in
-          ap (λ (n : ℕ). n + (if is_old_needed xs m then 0 else 1)) (spares m)
+          ap (λ (n : ℕ). n + (if is_old_needed xs m then 0 else 1)) (never_blames m)
           ∙ ap (λ (k : ℕ). gaps_to (λ j. is_old_needed xs j) 0 m + (if is_old_needed xs k then 0 else 1)) z
           ∙ sym (gaps_end (λ j. is_old_needed xs j) 0 m)

@@ -3,7 +3,7 @@ use Rattle.std.specs.Prelude.{◌≡◌, ◌⊎◌, ℕ, ◌≤◌, ◌<◌, ◌
 use Rattle.labelled_disk.specs.File.{total_room}
 use Rattle.labelled_disk.specs.FilesOn.{files_on}
 use Rattle.labelled_disk.specs.Layout.{capacity}
-use Rattle.labelled_disk.specs.Moment.{moment}
+use Rattle.labelled_disk.specs.CrashState.{crash_state}
 use Rattle.labelled_disk.specs.Root.{root_page, serial_of, counter_of}
 use Rattle.labelled_disk.specs.Sectors.{Sector, AreSectors}
 use Rattle.labelled_disk.specs.WriteRuns.{after_writes}
@@ -22,7 +22,7 @@ use Rattle.convert_laws.specs.Orders.{first_writes}
 -- are, and a counter above the files.
 pub record IsFor (d : List Sector) (c : Conversion) : Type 0 where
   pub root : c.root ≡ root_in (root_page d)
-  pub settle : c.settle ≡ first_writes d
+  pub arrange : c.arrange ≡ first_writes d
   pub bits : AreBits (settled_disk d c) c.bits
   pub names : AreNames (settled_disk d c) c.names
   pub counter : IsRaised (settled_disk d c) c.root.serial c.root.counter c.counter
@@ -40,10 +40,10 @@ pub record IsConvertedTo (d h : List Sector) : Type 0 where
 abbrev pub IsOldOrConverted : List Sector → List Sector → Type 0
 IsOldOrConverted d now = IsStillThat d now ⊎ IsConvertedTo d now
 
--- all its writes convert the volume, and so it is at each moment
+-- all its writes convert the volume, and so it is in each crash state
 pub record ConvertsAll (d : List Sector) (c : Conversion) : Type 0 where
   pub converted : IsConvertedTo d (after_writes (convert_writes c) d)
-  pub moments : (k : ℕ) → IsOldOrConverted d (moment d (convert_writes c) k)
+  pub crash_states : (k : ℕ) → IsOldOrConverted d (crash_state d (convert_writes c) k)
 
 -- So it is for each disk with a valid old root whose files have room.
 abbrev pub ConversionsConvert : Type 0

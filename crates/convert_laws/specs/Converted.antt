@@ -1,4 +1,4 @@
--- A conversion of an old volume: its writes, what they leave, and what stands at each moment before.
+-- A conversion of an old volume: its writes, what they leave, and what stands in each crash state before.
 use Rattle.std.specs.Prelude.{◌≡◌, ◌⊎◌, ℕ, ◌+◌, ◌<◌, ◌≤◌, ◌^◌, Some, true, false, List, [], ◌∷◌, ◌++◌, length, slice_get, slice_set}
 use Rattle.std.specs.List.{AllByRecursion}
 use Rattle.labelled_disk.specs.declared.disk.DiskWrite.{DiskWrite}
@@ -7,7 +7,7 @@ use Rattle.labelled_disk.specs.Sectors.{Sector, AreSectors}
 use Rattle.labelled_disk.specs.Layout.{IsCount, capacity, data_sectors, vam, vfm}
 use Rattle.labelled_disk.specs.File.{total_room}
 use Rattle.labelled_disk.specs.FilesOn.{files_on}
-use Rattle.labelled_disk.specs.Moment.{moment}
+use Rattle.labelled_disk.specs.CrashState.{crash_state}
 use Rattle.labelled_disk.specs.Root.{serial_of, counter_of}
 use Rattle.labelled_disk.specs.WriteRuns.{after_writes}
 use Rattle.volume_root.specs.declared.root.Root.{Root}
@@ -18,14 +18,14 @@ use Rattle.scavenger.specs.Orders.{map_writes}
 use Rattle.scavenger.specs.Stays.{AreBits, AreNames}
 use Rattle.scavenger.specs.Restored.{RestoresEach}
 use Rattle.old_files.specs.OldFiles.{files_old}
-use Rattle.old_files.specs.Settling.{IsSpareWrite, IsSettled}
+use Rattle.old_files.specs.Arranging.{IsSpareWrite, IsSettled}
 use Rattle.old_files.specs.Conversion.{IsMapWrite, IsStillThat}
 
 -- What is written: the old root that was read, the writes of free labels and leaders, the bytes of both maps, and the
 -- counter.
 pub record Conversion : Type 0 where
   pub root : Root
-  pub settle : List DiskWrite
+  pub arrange : List DiskWrite
   pub bits : List ℕ
   pub names : List ℕ
   pub counter : ℕ
@@ -45,11 +45,11 @@ both_maps c = map_writes 1 1 c.bits (vam c.root.sectors)
 
 -- free labels and leaders; both maps; the root, closed
 abbrev pub convert_writes : Conversion → List DiskWrite
-convert_writes c = (c.settle ++ both_maps c) ++ root_write (closed_today c) ∷ []
+convert_writes c = (c.arrange ++ both_maps c) ++ root_write (closed_today c) ∷ []
 
 -- the disk with free labels and leaders, as it would be with a root of today
 abbrev pub settled_disk : List Sector → Conversion → List Sector
-settled_disk d c = slice_set (after_writes c.settle d) 0 (root_label, root_bytes (today c.root))
+settled_disk d c = slice_set (after_writes c.arrange d) 0 (root_label, root_bytes (today c.root))
 
 -- It is one of this disk. Nothing is asked of its maps.
 pub record IsConversionOf (d : List Sector) (c : Conversion) : Type 0 where
@@ -60,9 +60,9 @@ pub record IsConversionOf (d : List Sector) (c : Conversion) : Type 0 where
   pub counter : (1 ≤ c.root.counter) × (c.root.counter < 2 ^ 32)
   pub next_fits : c.counter < 2 ^ 32
   -- free labels and leaders
-  pub spare : AllByRecursion (IsSpareWrite d) c.settle
-  pub settled : IsSettled (data_sectors d) (data_sectors (after_writes c.settle d))
-  pub freed : (i : ℕ) (s : Sector) → slice_get (data_sectors (after_writes c.settle d)) i ≡ Some s
+  pub spare : AllByRecursion (IsSpareWrite d) c.arrange
+  pub settled : IsSettled (data_sectors d) (data_sectors (after_writes c.arrange d))
+  pub freed : (i : ℕ) (s : Sector) → slice_get (data_sectors (after_writes c.arrange d)) i ≡ Some s
       → is_file s.0 ≡ false → is_free s.0 ≡ true
   pub room : total_room (files_old d) ≤ capacity (length d)
   -- both maps, by the labels as they then are
@@ -79,11 +79,11 @@ pub record IsConverted (d : List Sector) (c : Conversion) (h : List Sector) : Ty
   pub has_serial : serial_of h ≡ c.root.serial
   pub has_counter : IsRaised (settled_disk d c) c.root.serial c.root.counter (counter_of h)
 
--- so it is of each disk; and at each moment root and old files are those of d, or all is written
+-- so it is of each disk; and in each crash state root and old files are those of d, or all is written
 pub record Converts (d : List Sector) (c : Conversion) : Type 0 where
   pub converted : IsConverted d c (after_writes (convert_writes c) d)
-  pub moments : (k : ℕ) → IsStillThat d (moment d (convert_writes c) k)
-      ⊎ (moment d (convert_writes c) k ≡ after_writes (convert_writes c) d)
+  pub crash_states : (k : ℕ) → IsStillThat d (crash_state d (convert_writes c) k)
+      ⊎ (crash_state d (convert_writes c) k ≡ after_writes (convert_writes c) d)
 
 abbrev pub ConvertingConverts : Type 0
 ConvertingConverts = RestoresEach → (d : List Sector) (c : Conversion) → IsConversionOf d c → Converts d c

@@ -21,9 +21,9 @@ map_sectors id page zero = []
 map_sectors id page (suc n) = sector id page 0 0 [] ∷ map_sectors id (page + 1) n
 
 -- Root, maps and free data sectors; then, in the data:
--- a file of two pages, whose second page stands lower, with a lower page 0 that lacks the permanent bit, and both
+-- a file of two pages, whose second page stands lower, with a lower page 0 that misses the permanent bit, and both
 -- pages once more;
--- a file that lacks its page 1, with a leader of a conversion that was stopped;
+-- a file that misses its page 1, with a leader of a conversion that was stopped;
 -- a temporary file; a page of a file that has no page 0; and page 0 of an identifier that no file may have.
 unfoldable pub example : List Sector
 example =
@@ -42,7 +42,7 @@ example =
     71 (sector 30064771075 1 6 0 (73 ∷ [])))
     82 (sector 8589934591 0 6 1 (74 ∷ []))
 
--- the file that lacks its page 1 ends before it
+-- the file that misses its page 1 ends before it
 abbrev pub cut_file : File
 cut_file = record { id = 16; kind = 7; permanent = true; immutable = false; pages = (byte 70 ∷ []) ∷ [] }
 

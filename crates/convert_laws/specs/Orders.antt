@@ -16,11 +16,11 @@ use Rattle.old_files.specs.Placing.{old_leaders, spare_below, IsPlaced}
 abbrev pub needs_old : List Sector → ℕ → Bool
 needs_old d i = is_old_needed (data_sectors d) (i - first_data (length d))
 
--- the data sectors that are freed: those that are neither free nor needed, rising
+-- the data sectors that are freed: those that are neither free nor needed, ascending
 abbrev pub old_unneeded : List Sector → List ℕ
 old_unneeded d = data_places (λ i s. not (is_free s.0) && not (needs_old d i)) d
 
--- the data sectors that are free then, rising
+-- the data sectors that are free then, ascending
 abbrev pub old_spare : List Sector → List ℕ
 old_spare d = data_places (λ i s. not (needs_old d i)) d
 
@@ -30,7 +30,7 @@ leader_writes [] leaders = []
 leader_writes (i ∷ sectors) [] = []
 leader_writes (i ∷ sectors) (l ∷ leaders) = Whole i l (replicate 512 0) ∷ leader_writes sectors leaders
 
--- a free label for each freed sector, rising; then the leaders, files in rising identifiers, each on the lowest
+-- a free label for each freed sector, ascending; then the leaders, files in ascending identifiers, each on the lowest
 -- sector that is free
 abbrev pub first_writes : List Sector → List DiskWrite
 first_writes d = freeing (old_unneeded d) ++ leader_writes (old_spare d) (old_leaders d)

@@ -8,7 +8,7 @@ pub fn first_writes_place()
     ensures { FirstWritesPlace }
 {}
 
-/// The writes of a conversion make a sound volume with the same files, and at each moment before
+/// The writes of a conversion make a sound volume with the same files, and in each crash state before
 /// the last of them root and old files are as they were.
 pub fn conversions_convert()
     ensures { ConversionsConvert }

@@ -1,7 +1,7 @@
 pub mod UnitLemmas
-pub mod MomentLemmas
+pub mod CrashStateLemmas
 pub mod CutLemmas
-pub mod SettleLemmas
+pub mod SyncLemmas
 pub mod TurnLemmas
 pub mod PairLemmas
 pub mod SteadyLemmas

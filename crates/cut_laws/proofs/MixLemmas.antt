@@ -10,7 +10,7 @@ use Rattle.labelled_disk.specs.declared.label.Label.{Label}
 use Rattle.labelled_disk.specs.declared.label.Wanted.{Wanted}
 use Rattle.labelled_disk.specs.declared.disk.DiskWrite.TheVariants as kind
 use Rattle.labelled_disk.specs.Label.{names}
-use Rattle.labelled_disk.specs.Moment.{moment, written}
+use Rattle.labelled_disk.specs.CrashState.{crash_state, written}
 use Rattle.labelled_disk.specs.Sectors.{Sector}
 use Rattle.labelled_disk.proofs.Finds.{get_set_same, get_set_other}
 use Rattle.labelled_disk.proofs.WriteLemmas.{same_elements}
@@ -18,7 +18,7 @@ use Rattle.label_laws.proofs.FileLemmas.{page_written}
 use Rattle.cut_laws.specs.Cut.{unit, AtSome, HasUnitAt, IsCutSince}
 use Rattle.cut_laws.specs.Mixes.{IsMixOf, MixLaws}
 use Rattle.cut_laws.proofs.UnitLemmas.{same_units}
-use Rattle.cut_laws.proofs.MomentLemmas.{get_some}
+use Rattle.cut_laws.proofs.CrashStateLemmas.{get_some}
 
 -- the units beside the one that was put in
 pub unit-put_mid : (lagging u : ℕ) (xs ys : List ℕ) → length ys ≡ 16 → 16 * lagging + 16 ≤ length xs → u ≢ lagging → unit u (put_mid (16 * lagging) (16 * lagging + 16 - 16 * lagging) xs ys) ≡ unit u xs
@@ -29,9 +29,9 @@ unit-put_mid lagging u xs ys long within apart = either (cases_lt u lagging)
         sym (drop-take (16 * u) 16 (put_mid (16 * lagging) (16 * lagging + 16 - 16 * lagging) xs ys))
         ∙ ap (λ (l : List ℕ). drop (16 * u) l) (take-put_mid_below (16 * lagging) (16 * lagging + 16 - 16 * lagging) xs ys (16 * u + 16) (omega (arith, before)) (omega (arith, within)))
         ∙ drop-take (16 * u) 16 xs
-    either (inr behind) =
+    either (inr beyond) =
         ap (λ (l : List ℕ). take 16 l)
-        (drop-put_mid (16 * lagging) (16 * lagging + 16 - 16 * lagging) xs ys (16 * u) (omega (arith, behind, apart)) (omega (arith, within)) (omega (arith, long)))
+        (drop-put_mid (16 * lagging) (16 * lagging + 16 - 16 * lagging) xs ys (16 * u) (omega (arith, beyond, apart)) (omega (arith, within)) (omega (arith, long)))
 
 -- One write of a page.
 module _ (d : List Sector) (i : ℕ) (s : Sector) (wanted : Wanted) (new : List ℕ) (here : slice_get d i ≡ Some s) (named : names s.0 wanted ≡ true) where
@@ -41,7 +41,7 @@ module _ (d : List Sector) (i : ℕ) (s : Sector) (wanted : Wanted) (new : List 
   put : (page : List ℕ) → slice_get (slice_set d i (s.0, page)) i ≡ Some (s.0, page)
   put page = get_set_same d i (s.0, page) (slice_get_within d i s here)
 
-  after : (j : ℕ) → slice_get (moment d (kind.Page i wanted new ∷ []) 1) j ≡ slice_get (slice_set d i (s.0, new)) j
+  after : (j : ℕ) → slice_get (crash_state d (kind.Page i wanted new ∷ []) 1) j ≡ slice_get (slice_set d i (s.0, new)) j
   after j = ap (λ (e : List Sector). slice_get e j) whole
 
   pub may : (page : List ℕ) → IsMixOf s.1 new page → IsCutSince d (kind.Page i wanted new ∷ []) (slice_set d i (s.0, page))
@@ -58,11 +58,11 @@ module _ (d : List Sector) (i : ℕ) (s : Sector) (wanted : Wanted) (new : List 
       is_put j t there on = same_Some (s.0, page) t (sym (put page) ∙ ap (λ (k : ℕ). slice_get (slice_set d i (s.0, page)) k) (sym on) ∙ there)
 
       label : (j : ℕ) (t : Sector) → slice_get (slice_set d i (s.0, page)) j ≡ Some t → (j ≡ i) ⊎ (j ≢ i)
-          → AtSome 0 1 (λ k. (u : Sector) × (slice_get (moment d (kind.Page i wanted new ∷ []) k) j ≡ Some u) × (u.0 ≡ t.0))
+          → AtSome 0 1 (λ k. (u : Sector) × (slice_get (crash_state d (kind.Page i wanted new ∷ []) k) j ≡ Some u) × (u.0 ≡ t.0))
       label j t there (inr off) = (0, omega arith, omega arith, (t, same j t there off, refl))
       label j t there (inl on) = (0, omega arith, omega arith, (s, ap (λ (k : ℕ). slice_get d k) on ∙ here, ap (λ (v : Sector). v.0) (is_put j t there on)))
 
-      part : (j u : ℕ) (t : Sector) → slice_get (slice_set d i (s.0, page)) j ≡ Some t → (j ≡ i) ⊎ (j ≢ i) → AtSome 0 1 (λ k. HasUnitAt (moment d (kind.Page i wanted new ∷ []) k) j u (unit u t.1))
+      part : (j u : ℕ) (t : Sector) → slice_get (slice_set d i (s.0, page)) j ≡ Some t → (j ≡ i) ⊎ (j ≢ i) → AtSome 0 1 (λ k. HasUnitAt (crash_state d (kind.Page i wanted new ∷ []) k) j u (unit u t.1))
       part j u t there (inr off) = (0, omega arith, omega arith, (t, same j t there off, refl))
       part j u t there (inl on) = elim (mix u) [
         | inl old ↦ (0, omega arith, omega arith, (s, ap (λ (k : ℕ). slice_get d k) on ∙ here, sym old ∙ ap (λ (v : Sector). unit u v.1) (is_put j t there on)))
@@ -72,8 +72,8 @@ module _ (d : List Sector) (i : ℕ) (s : Sector) (wanted : Wanted) (new : List 
   pub must : (e : List Sector) → IsCutSince d (kind.Page i wanted new ∷ []) e → (page : List ℕ) × IsMixOf s.1 new page × (e ≡ slice_set d i (s.0, page))
   must e cut = from (get_some e i (omega (arith, slice_get_within d i s here, cut.sectors)))
     where
-      -- a sector at either moment
-      at_either : (j k : ℕ) (v : Sector) → k ≤ 1 → slice_get (moment d (kind.Page i wanted new ∷ []) k) j ≡ Some v
+      -- a sector at either crash state
+      at_either : (j k : ℕ) (v : Sector) → k ≤ 1 → slice_get (crash_state d (kind.Page i wanted new ∷ []) k) j ≡ Some v
           → ((j ≡ i) × (v.0 ≡ s.0) × ((v.1 ≡ s.1) ⊎ (v.1 ≡ new))) ⊎ ((j ≢ i) × (slice_get d j ≡ Some v))
       at_either j (suc (suc k)) v few there = absurd (omega (arith, few))
       at_either j zero v few there = elim (cases_eq j i) [
@@ -92,7 +92,7 @@ module _ (d : List Sector) (i : ℕ) (s : Sector) (wanted : Wanted) (new : List 
       from : (t : Sector) × (slice_get e i ≡ Some t) → (page : List ℕ) × IsMixOf s.1 new page × (e ≡ slice_set d i (s.0, page))
       from t = (t.0.1, λ u. which u (cut.units i u t.0 t.1), same_elements true 0 0 e (slice_set d i (s.0, t.0.1)) (λ j. one j (cases_eq j i) (slice_get e j) refl))
         where
-          which : (u : ℕ) → AtSome 0 1 (λ k. HasUnitAt (moment d (kind.Page i wanted new ∷ []) k) i u (unit u t.0.1)) → (unit u t.0.1 ≡ unit u s.1) ⊎ (unit u t.0.1 ≡ unit u new)
+          which : (u : ℕ) → AtSome 0 1 (λ k. HasUnitAt (crash_state d (kind.Page i wanted new ∷ []) k) i u (unit u t.0.1)) → (unit u t.0.1 ≡ unit u s.1) ⊎ (unit u t.0.1 ≡ unit u new)
           which u some = elim (at_either i some.0 some.3.0 some.2 some.3.1) [
             | inl this ↦ elim this.2 [ inl old ↦ inl (sym some.3.2 ∙ ap (unit u) old) | inr fresh ↦ inr (sym some.3.2 ∙ ap (unit u) fresh) ]
             | inr off ↦ absurd (off.0 refl)
@@ -113,7 +113,7 @@ module _ (d : List Sector) (i : ℕ) (s : Sector) (wanted : Wanted) (new : List 
               let both : w.0 ≡ v = λ x. (sym named_so x, sym page x) in
               w.1 ∙ ap (λ (x : Sector). Some x) both
             where
-              stood : (k : ℕ) (x w : Sector) → k ≤ 1 → slice_get (moment d (kind.Page i wanted new ∷ []) k) j ≡ Some x → slice_get d j ≡ Some w → x ≡ w
+              stood : (k : ℕ) (x w : Sector) → k ≤ 1 → slice_get (crash_state d (kind.Page i wanted new ∷ []) k) j ≡ Some x → slice_get d j ≡ Some w → x ≡ w
               stood k x w few at was = elim (at_either j k x few at) [ inl on ↦ absurd (off on.0) | inr stays ↦ same_Some x w (sym stays.1 ∙ was) ]
 
           one : (j : ℕ) → (j ≡ i) ⊎ (j ≢ i) → (o : Option Sector) → slice_get e j ≡ o → slice_get e j ≡ slice_get (slice_set d i (s.0, t.0.1)) j

@@ -10,16 +10,16 @@ use Rattle.labelled_disk.specs.declared.disk.DiskWrite.TheVariants.{Whole}
 use Rattle.labelled_disk.specs.File.{size}
 use Rattle.labelled_disk.specs.FilesOn.{is_of, is_page, leads_file}
 use Rattle.labelled_disk.specs.Label.{is_file, is_file_id, leader_page, page_label}
-use Rattle.labelled_disk.specs.Lawful.{Lawful}
+use Rattle.labelled_disk.specs.Permitted.{Permitted}
 use Rattle.labelled_disk.specs.Layout.{first_data}
-use Rattle.labelled_disk.specs.Moment.{moment, written}
+use Rattle.labelled_disk.specs.CrashState.{crash_state, written}
 use Rattle.labelled_disk.specs.Runs.{IsAt, ArePagesDown, freeing, growth, sector_of, zero_bytes}
 use Rattle.labelled_disk.specs.Sectors.{Sector, free_label}
 use Rattle.labelled_disk.specs.WriteRuns.{after_writes}
 use Rattle.labelled_disk.proofs.LowestLemmas as lowest
 use Rattle.labelled_disk.proofs.SectorWrites as w
 use Rattle.labelled_disk.proofs.WriteLemmas as laws
-use Rattle.label_laws.specs.LawfulRuns.{AreLawful}
+use Rattle.label_laws.specs.PermittedRuns.{ArePermitted}
 use Rattle.label_laws.specs.Mixed.{gives_label}
 use Rattle.label_laws.specs.OneFile.{id_of}
 use Rattle.label_laws.proofs.MixedLemmas.{written_long, written_other}
@@ -27,7 +27,7 @@ use Rattle.cut_laws.specs.OwnRuns.{OwnRunLaws, own_label_writes}
 use Rattle.cut_laws.specs.ResizeLaws.{AddsNextPage, FreesLastPage}
 use Rattle.cut_laws.specs.ShapeLaws.{FreesLeader, IsOnLeader, IsWholeOn}
 use Rattle.cut_laws.specs.Windows.{EachWrite, IsLabelWriteOf, NoLabelOf}
-use Rattle.cut_laws.proofs.MomentLemmas.{get_some}
+use Rattle.cut_laws.proofs.CrashStateLemmas.{get_some}
 use Rattle.cut_laws.proofs.PairLemmas.{alike_passes}
 use Rattle.cut_laws.proofs.StayLemmas.{Of, turn_alike}
 use Rattle.cut_laws.proofs.TurnLemmas.{turn}
@@ -48,7 +48,7 @@ each_append P d [] next one more = more
 each_append P d (write ∷ first) next one more = each_cons P d write (first ++ next) (one zero write refl) (each_append P (written write d) first next (λ k w here. one (suc k) w here) more)
 
 each_weaker : (P Q : List Sector → DiskWrite → Type 0) (d : List Sector) (writes : List DiskWrite) → ((now : List Sector) (write : DiskWrite) → P now write → Q now write) → EachWrite P d writes → EachWrite Q d writes
-each_weaker P Q d writes less each k write here = less (moment d writes k) write (each k write here)
+each_weaker P Q d writes less each k write here = less (crash_state d writes k) write (each k write here)
 
 module _ (id : ℕ) where
   -- the write is one of the file, or not
@@ -94,12 +94,12 @@ module _ (id : ℕ) where
       either (inr other) more = each_cons (λ now write. IsLabelWriteOf id now write → ⊥) d write writes other.0 (more other.1)
 
   -- a sector of the file stands where the write is none of the file
-  at_stays : (test : Label → Bool) → ((l : Label) → test l ≡ true → Of id l ≡ true) → (d : List Sector) (write : DiskWrite) (i : ℕ) → Lawful d write → (IsLabelWriteOf id d write → ⊥) → IsAt (λ s. test s.0) d i
+  at_stays : (test : Label → Bool) → ((l : Label) → test l ≡ true → Of id l ≡ true) → (d : List Sector) (write : DiskWrite) (i : ℕ) → Permitted d write → (IsLabelWriteOf id d write → ⊥) → IsAt (λ s. test s.0) d i
       → IsAt (λ s. test s.0) (written write d) i
-  at_stays test of d write i lawful other at =
+  at_stays test of d write i permitted other at =
       let t = get_some (written write d) i (omega (arith, slice_get_within d i at.s at.there.here, written_long d write)) in
       let same : at.s.0 ≡ t.0.0 =
-      alike_passes (Of id) at.s.0 t.0.0 (turn_alike id d write i at.s t.0 at.there.here (λ gives e. other (gives, sym e)) (turn d write i at.s t.0 lawful at.there.is_data at.there.here t.1)) (of at.s.0 at.passes) in
+      alike_passes (Of id) at.s.0 t.0.0 (turn_alike id d write i at.s t.0 at.there.here (λ gives e. other (gives, sym e)) (turn d write i at.s t.0 permitted at.there.is_data at.there.here t.1)) (of at.s.0 at.passes) in
       record { s = t.0; there = record { is_data = subst (λ (n : ℕ). first_data n ≤ i) (sym (written_long d write)) at.there.is_data; here = t.1 }; passes = ap test (sym same) ∙ at.passes }
 
   -- or is made on another sector
@@ -128,11 +128,11 @@ module _ (id : ℕ) where
 
   -- One write on the leader.
   module _ (P : List Sector → DiskWrite → Type 0) (leader : ℕ) (label : Label) (so : (now : List Sector) → IsAt (leads_file true id) now leader → P now (kind.LabelOnly leader label)) where
-    pub one_on_leader : (d : List Sector) (writes : List DiskWrite) → AreLawful d writes → IsAt (leads_file true id) d leader → own_label_writes id d writes ≡ kind.LabelOnly leader label ∷ []
+    pub one_on_leader : (d : List Sector) (writes : List DiskWrite) → ArePermitted d writes → IsAt (leads_file true id) d leader → own_label_writes id d writes ≡ kind.LabelOnly leader label ∷ []
         → EachWrite (λ now write. IsLabelWriteOf id now write → P now write) d writes
-    one_on_leader d [] lawful at is = absurd (omega (arith, ap (λ (l : List DiskWrite). length l) is))
-    one_on_leader d (write ∷ writes) lawful at is = either (own_cases d write writes (kind.LabelOnly leader label ∷ []) is)
-        (λ other rest. one_on_leader (written write d) writes lawful.1 (at_stays (λ l. leads_file true id (l, [])) leads_of d write leader lawful.0 other at) rest)
+    one_on_leader d [] permitted at is = absurd (omega (arith, ap (λ (l : List DiskWrite). length l) is))
+    one_on_leader d (write ∷ writes) permitted at is = either (own_cases d write writes (kind.LabelOnly leader label ∷ []) is)
+        (λ other rest. one_on_leader (written write d) writes permitted.1 (at_stays (λ l. leads_file true id (l, [])) leads_of d write leader permitted.0 other at) rest)
       where
         either : ((IsLabelWriteOf id d write) × (write ∷ own_label_writes id (written write d) writes ≡ kind.LabelOnly leader label ∷ []))
             ⊎ ((IsLabelWriteOf id d write → ⊥) × (own_label_writes id (written write d) writes ≡ kind.LabelOnly leader label ∷ []))
@@ -149,10 +149,10 @@ module _ (id : ℕ) where
 
   -- Pages from the last down.
 
-  down_stay : (d : List Sector) (write : DiskWrite) (n : ℕ) (is : List ℕ) → Lawful d write → (IsLabelWriteOf id d write → ⊥) → ArePagesDown d id n is → ArePagesDown (written write d) id n is
-  down_stay d write n [] lawful other down = tt
-  down_stay d write zero (i ∷ is) lawful other down = down
-  down_stay d write (suc n) (i ∷ is) lawful other down = (at_stays (λ l. is_page id n (l, [])) (page_of n) d write i lawful other down.0, down_stay d write n is lawful other down.1)
+  down_stay : (d : List Sector) (write : DiskWrite) (n : ℕ) (is : List ℕ) → Permitted d write → (IsLabelWriteOf id d write → ⊥) → ArePagesDown d id n is → ArePagesDown (written write d) id n is
+  down_stay d write n [] permitted other down = tt
+  down_stay d write zero (i ∷ is) permitted other down = down
+  down_stay d write (suc n) (i ∷ is) permitted other down = (at_stays (λ l. is_page id n (l, [])) (page_of n) d write i permitted other down.0, down_stay d write n is permitted other down.1)
 
   -- the sectors of lower pages are others
   down_other : (d : List Sector) (write : DiskWrite) (p : ℕ) (s : Sector) → slice_get d (sector_of write) ≡ Some s → is_page id p s ≡ true → (n : ℕ) (is : List ℕ) → n ≤ p → ArePagesDown d id n is → ArePagesDown (written write d) id n is
@@ -171,23 +171,23 @@ module _ (id : ℕ) where
   abbrev Shortens : List Sector → List DiskWrite → Type 0
   Shortens d writes = (n : ℕ) → IsSizedOn d id n → (is : List ℕ) → ArePagesDown d id n is → own_label_writes id d writes ≡ freeing is → EachWrite Ends d writes
 
-  shortened : (d : List Sector) (writes : List DiskWrite) → AreLawful d writes → Shortens d writes
-  shortened d [] lawful n sized is down run = each_nil Ends d
-  shortened d (write ∷ writes) lawful n sized is down run = either n sized is down (own_cases d write writes (freeing is) run) (shortened (written write d) writes lawful.1)
+  shortened : (d : List Sector) (writes : List DiskWrite) → ArePermitted d writes → Shortens d writes
+  shortened d [] permitted n sized is down run = each_nil Ends d
+  shortened d (write ∷ writes) permitted n sized is down run = either n sized is down (own_cases d write writes (freeing is) run) (shortened (written write d) writes permitted.1)
     where
       either : (n : ℕ) → IsSizedOn d id n → (is : List ℕ) → ArePagesDown d id n is
           → ((IsLabelWriteOf id d write) × (write ∷ own_label_writes id (written write d) writes ≡ freeing is)) ⊎ ((IsLabelWriteOf id d write → ⊥) × (own_label_writes id (written write d) writes ≡ freeing is))
           → Shortens (written write d) writes → EachWrite Ends d (write ∷ writes)
       either n sized is down (inr other) more =
-          let v = step_other id d write lawful.0 (λ gives e. other.0 (gives, sym e)) sized.0 in
-          each_cons Ends d write writes (λ of. absurd (other.0 of)) (more n (v.0, v.1 ∙ sized.1) is (down_stay d write n is lawful.0 other.0 down) other.1)
+          let v = step_other id d write permitted.0 (λ gives e. other.0 (gives, sym e)) sized.0 in
+          each_cons Ends d write writes (λ of. absurd (other.0 of)) (more n (v.0, v.1 ∙ sized.1) is (down_stay d write n is permitted.0 other.0 down) other.1)
       either n sized [] down (inl own) more = absurd (omega (arith, ap (λ (l : List DiskWrite). length l) own.1))
       either zero sized (i ∷ is) down (inl own) more = absurd down
       either (suc m) sized (i ∷ is) down (inl own) more =
           let at = down.0 in
           let eq : write ≡ kind.LabelOnly i free_label = heads write (kind.LabelOnly i free_label) (own_label_writes id (written write d) writes) (freeing is) own.1 in
           let last : FreesLastPage id d write = subst (FreesLastPage id d) (sym eq) (refl, sized.0.0, sized.0.1, at.s, at.there.here, m, sized.1, at.passes) in
-          let v = step_frees id d write lawful.0 last sized.0 in
+          let v = step_frees id d write permitted.0 last sized.0 in
           let same : v.0 ≡ m = omega (arith, v.1, sized.1) in
           let there : slice_get d (sector_of write) ≡ Some at.s = ap (λ (one : DiskWrite). slice_get d (sector_of one)) eq ∙ at.there.here in
           each_cons Ends d write writes (λ of. inl last)
@@ -199,27 +199,27 @@ module _ (id : ℕ) where
   -- a label of the file that is there
   page_is : (d : List Sector) → IsWholeOn d id → (n kind : ℕ) (page : List ℕ) → is_page id n (page_label id kind n, page) ≡ true
   page_is d whole n kind page =
-      let told = (lowest.files_are_as_told true d).told id whole.0 whole.1 in
-      let leader : is_of whole.0.id told.0.leader.1 ≡ true = laws.leader_of true 0 0 whole.0.id told.0.leader.1 told.0.leader.2.passes in
-      let parts = and_parts (is_file told.0.leader.1.0) (eqb told.0.leader.1.0.id whole.0.id) leader in
-      let file : is_file_id told.0.leader.1.0.id ≡ true =
-      (and_parts (is_file_id told.0.leader.1.0.id) (nat_lt told.0.leader.1.0.flags 4) (and_parts (is_file_id told.0.leader.1.0.id && nat_lt told.0.leader.1.0.flags 4) (eqb told.0.leader.1.0.last 0) parts.0).0).0 in
-      let mine : is_file_id id ≡ true = ap is_file_id (sym told.1 ∙ sym (eqb-true told.0.leader.1.0.id whole.0.id parts.1)) ∙ file in
+      let revealed = (lowest.files_are_as_revealed true d).revealed id whole.0 whole.1 in
+      let leader : is_of whole.0.id revealed.0.leader.1 ≡ true = laws.leader_of true 0 0 whole.0.id revealed.0.leader.1 revealed.0.leader.2.passes in
+      let parts = and_parts (is_file revealed.0.leader.1.0) (eqb revealed.0.leader.1.0.id whole.0.id) leader in
+      let file : is_file_id revealed.0.leader.1.0.id ≡ true =
+      (and_parts (is_file_id revealed.0.leader.1.0.id) (nat_lt revealed.0.leader.1.0.flags 4) (and_parts (is_file_id revealed.0.leader.1.0.id && nat_lt revealed.0.leader.1.0.flags 4) (eqb revealed.0.leader.1.0.last 0) parts.0).0).0 in
+      let mine : is_file_id id ≡ true = ap is_file_id (sym revealed.1 ∙ sym (eqb-true revealed.0.leader.1.0.id whole.0.id parts.1)) ∙ file in
       and_from (is_of id (page_label id kind n, page)) (eqb n n)
       (and_from (is_file (page_label id kind n)) (eqb id id) (ap (λ (b : Bool). b && true && true) mine) (eq-eqb id id refl)) (eq-eqb n n refl)
 
   abbrev Lengthens : List Sector → List DiskWrite → Type 0
   Lengthens d writes = (n kind : ℕ) → IsSizedOn d id n → (is : List ℕ) → n + length is < leader_page → own_label_writes id d writes ≡ growth id kind n is → EachWrite Ends d writes
 
-  lengthened : (d : List Sector) (writes : List DiskWrite) → AreLawful d writes → Lengthens d writes
-  lengthened d [] lawful n kind sized is room run = each_nil Ends d
-  lengthened d (write ∷ writes) lawful n kind sized is room run = either is room (own_cases d write writes (growth id kind n is) run) (lengthened (written write d) writes lawful.1)
+  lengthened : (d : List Sector) (writes : List DiskWrite) → ArePermitted d writes → Lengthens d writes
+  lengthened d [] permitted n kind sized is room run = each_nil Ends d
+  lengthened d (write ∷ writes) permitted n kind sized is room run = either is room (own_cases d write writes (growth id kind n is) run) (lengthened (written write d) writes permitted.1)
     where
       either : (is : List ℕ) → n + length is < leader_page
           → ((IsLabelWriteOf id d write) × (write ∷ own_label_writes id (written write d) writes ≡ growth id kind n is)) ⊎ ((IsLabelWriteOf id d write → ⊥) × (own_label_writes id (written write d) writes ≡ growth id kind n is))
           → Lengthens (written write d) writes → EachWrite Ends d (write ∷ writes)
       either is room (inr other) more =
-          let v = step_other id d write lawful.0 (λ gives e. other.0 (gives, sym e)) sized.0 in
+          let v = step_other id d write permitted.0 (λ gives e. other.0 (gives, sym e)) sized.0 in
           each_cons Ends d write writes (λ of. absurd (other.0 of)) (more n kind (v.0, v.1 ∙ sized.1) is room other.1)
       either [] room (inl own) more = absurd (omega (arith, ap (λ (l : List DiskWrite). length l) own.1))
       either (i ∷ is) room (inl own) more =
@@ -227,7 +227,7 @@ module _ (id : ℕ) where
           let next : AddsNextPage id d write =
           subst (AddsNextPage id d) (sym eq)
           (sized.0.0, sized.0.1, ap (λ (k : ℕ). is_page id k (page_label id kind n, zero_bytes)) sized.1 ∙ page_is d sized.0 n kind zero_bytes, omega (arith, room, sized.1)) in
-          let v = step_adds id d write lawful.0 next sized.0 in
+          let v = step_adds id d write permitted.0 next sized.0 in
           each_cons Ends d write writes (λ of. inr next)
           (more (n + 1) kind (v.0, (let z : suc (size sized.0.0) ≡ n + 1 = omega (arith, sized.1) in v.1 ∙ z)) is (omega (arith, room))
           (tails write (Whole i (page_label id kind n) zero_bytes) (own_label_writes id (written write d) writes) (growth id kind (n + 1) is) own.1))
@@ -236,8 +236,8 @@ pub own_run_laws : (id : ℕ) → OwnRunLaws id
 own_run_laws id = record {
   appended = appended id;
   none = none id;
-  marked = λ d writes leader label lawful at run. one_on_leader id (IsOnLeader id) leader label (on_leader id leader label) d writes lawful at run;
-  freed = λ d writes leader lawful at run. one_on_leader id (FreesLeader id) leader free_label (λ now here. (on_leader id leader free_label now here, refl)) d writes lawful at run;
-  shortened = λ d writes whole is lawful down run. shortened id d writes lawful (size whole.0) (whole, refl) is down run;
-  lengthened = λ d writes whole kind is lawful room run. lengthened id d writes lawful (size whole.0) kind (whole, refl) is room run;
+  marked = λ d writes leader label permitted at run. one_on_leader id (IsOnLeader id) leader label (on_leader id leader label) d writes permitted at run;
+  freed = λ d writes leader permitted at run. one_on_leader id (FreesLeader id) leader free_label (λ now here. (on_leader id leader free_label now here, refl)) d writes permitted at run;
+  shortened = λ d writes whole is permitted down run. shortened id d writes permitted (size whole.0) (whole, refl) is down run;
+  lengthened = λ d writes whole kind is permitted room run. lengthened id d writes permitted (size whole.0) kind (whole, refl) is room run;
 }

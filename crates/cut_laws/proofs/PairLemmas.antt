@@ -13,7 +13,7 @@ use Rattle.labelled_disk.proofs.Finds.{none_passes, find_none}
 use Rattle.labelled_disk.proofs.Pages.{pages_more, pages_end, pages_zero}
 use Rattle.labelled_disk.proofs.SectorWrites as w
 use Rattle.label_laws.specs.Shape.{bare_file}
-use Rattle.cut_laws.proofs.MomentLemmas.{get_some}
+use Rattle.cut_laws.proofs.CrashStateLemmas.{get_some}
 
 -- what is found is the lowest that passes, and the lowest is found
 module _ (test : Sector → Bool) where

@@ -13,7 +13,7 @@ use Rattle.labelled_disk.specs.FilesOn.{is_page, leads_file, file_among, files_a
 use Rattle.labelled_disk.specs.Label.{is_file}
 use Rattle.labelled_disk.specs.Layout.{data_sectors, first_data}
 use Rattle.labelled_disk.specs.Lowest.{IsFileOn, IsLowest, is_first, is_needed}
-use Rattle.labelled_disk.specs.Moment.{moment, written}
+use Rattle.labelled_disk.specs.CrashState.{crash_state, written}
 use Rattle.labelled_disk.specs.Runs.{sector_of}
 use Rattle.labelled_disk.specs.Sectors.{Sector}
 use Rattle.labelled_disk.proofs.Finds.{find_none, none_passes, get_set_same}
@@ -25,7 +25,7 @@ use Rattle.label_laws.proofs.MixedLemmas.{written_other}
 use Rattle.cut_laws.specs.Cut.{unit}
 use Rattle.cut_laws.specs.Restored.{IsRestoring, RestoredKeepsFiles}
 use Rattle.cut_laws.proofs.UnitLemmas.{same_units}
-use Rattle.cut_laws.proofs.MomentLemmas.{get_some, data_at, history}
+use Rattle.cut_laws.proofs.CrashStateLemmas.{get_some, data_at, history}
 use Rattle.cut_laws.proofs.StayLemmas.{of_id}
 
 -- the lowest that passes is the first
@@ -147,10 +147,10 @@ module _ (all : Bool) where
       either : (id : ℕ) (o : Option File) → disk_file all d id ≡ o → disk_file all e id ≡ disk_file all d id
       either id None is = none_stands (data_sectors d) (data_sectors e) long_data each_data id is ∙ sym is
       either id (Some f) is =
-          let told = (lowest.files_are_as_told all d).told id f is in
-          let own : disk_file all d f.id ≡ Some f = ap (disk_file all d) told.1 ∙ is in
-          ap (disk_file all e) (sym told.1)
-          ∙ (lowest.files_are_as_told all e).all f (file_stands (data_sectors d) (data_sectors e) long_data each_data f own told.0)
+          let revealed = (lowest.files_are_as_revealed all d).revealed id f is in
+          let own : disk_file all d f.id ≡ Some f = ap (disk_file all d) revealed.1 ∙ is in
+          ap (disk_file all e) (sym revealed.1)
+          ∙ (lowest.files_are_as_revealed all e).all f (file_stands (data_sectors d) (data_sectors e) long_data each_data f own revealed.0)
           ∙ sym is
 
   -- one write of a restoration
@@ -182,10 +182,10 @@ module _ (all : Bool) where
   pub restored_keeps_files : RestoredKeepsFiles all
   restored_keeps_files d writes e cut each = files_stand d e cut.sectors (λ i s t low here there. one i s t low here there)
     where
-      kept : (i : ℕ) (s : Sector) → first_data (length d) ≤ i → slice_get d i ≡ Some s → (k : ℕ) → k ≤ length writes → (t : Sector) → slice_get (moment d writes k) i ≡ Some t → Kept d i s t
+      kept : (i : ℕ) (s : Sector) → first_data (length d) ≤ i → slice_get d i ≡ Some s → (k : ℕ) → k ≤ length writes → (t : Sector) → slice_get (crash_state d writes k) i ≡ Some t → Kept d i s t
       kept i s low here =
           history (λ k t. Kept d i s t) d writes i (λ t there. let same : t ≡ s = same_Some t s (sym there ∙ here) in (ap (λ (v : Sector). v.1) same, inl (ap (λ (v : Sector). v.0) same)))
-          (λ k write u t few is now new there before. kept_step d (moment d writes k) write i s u t (each k write is) low now new before)
+          (λ k write u t few is now new there before. kept_step d (crash_state d writes k) write i s u t (each k write is) low now new before)
 
       one : (i : ℕ) (s t : Sector) → first_data (length d) ≤ i → slice_get d i ≡ Some s → slice_get e i ≡ Some t → (t ≡ s) ⊎ ((is_needed all (data_sectors d) (i - first_data (length d)) ≡ false) × (is_file t.0 ≡ false))
       one i s t low here there =

@@ -9,21 +9,21 @@ use Rattle.labelled_disk.specs.declared.label.Label.{Label}
 use Rattle.labelled_disk.specs.declared.disk.DiskWrite.{DiskWrite}
 use Rattle.labelled_disk.specs.declared.disk.DiskWrite.TheVariants as kind
 use Rattle.labelled_disk.specs.Label.{names, root_label, wanted_root}
-use Rattle.labelled_disk.specs.Lawful.{Lawful}
+use Rattle.labelled_disk.specs.Permitted.{Permitted}
 use Rattle.labelled_disk.specs.Layout.{vam}
-use Rattle.labelled_disk.specs.Moment.{moment, written}
+use Rattle.labelled_disk.specs.CrashState.{crash_state, written}
 use Rattle.labelled_disk.specs.Root.{IsRoot, page_in, root_page, short_at, number_at, serial_of, counter_of}
 use Rattle.labelled_disk.specs.Runs.{sector_of}
 use Rattle.labelled_disk.specs.Sectors.{Sector}
 use Rattle.labelled_disk.proofs.Finds.{get_set_same, get_set_other}
 use Rattle.labelled_disk.proofs.WriteLemmas as laws
-use Rattle.label_laws.specs.LawfulRuns.{AreLawful}
-use Rattle.label_laws.proofs.LawfulLemmas.{each_lawful}
-use Rattle.label_laws.proofs.MixedLemmas.{moment_long, written_long, written_other}
+use Rattle.label_laws.specs.PermittedRuns.{ArePermitted}
+use Rattle.label_laws.proofs.PermittedLemmas.{each_permitted}
+use Rattle.label_laws.proofs.MixedLemmas.{crash_state_long, written_long, written_other}
 use Rattle.cut_laws.specs.Cut.{unit, AtSome, IsCutSince}
-use Rattle.cut_laws.specs.Roots.{FlagLaws, OneUnitApart, RootOfMoments, SetsFlag, flag_of}
+use Rattle.cut_laws.specs.Roots.{FlagLaws, OneUnitApart, RootOfCrashStates, SetsFlag, flag_of}
 use Rattle.cut_laws.proofs.UnitLemmas.{in_unit, same_units}
-use Rattle.cut_laws.proofs.MomentLemmas.{get_some, history}
+use Rattle.cut_laws.proofs.CrashStateLemmas.{get_some, history}
 
 -- Bytes of one unit.
 
@@ -48,43 +48,43 @@ number_same u a n xs ys fits same = big_same 0 n (16 * u + a) xs ys byte
         let z : 16 * u + (a + m) ≡ 16 * u + a + m = omega arith in
         subst (λ (k : ℕ). get_or xs k 0 ≡ get_or ys k 0) z (same_byte u (a + m) xs ys (omega (arith, fits, high)) same)
 
-front_same : (xs ys : List ℕ) → unit 0 xs ≡ unit 0 ys → slice_range xs 0 8 ≡ slice_range ys 0 8
-front_same xs ys same = sym (take-take 8 16 xs (omega arith)) ∙ ap (λ (l : List ℕ). take 8 l) same ∙ take-take 8 16 ys (omega arith)
+prefix_same : (xs ys : List ℕ) → unit 0 xs ≡ unit 0 ys → slice_range xs 0 8 ≡ slice_range ys 0 8
+prefix_same xs ys same = sym (take-take 8 16 xs (omega arith)) ∙ ap (λ (l : List ℕ). take 8 l) same ∙ take-take 8 16 ys (omega arith)
 
 -- The root's sector.
 
 module _ (d : List Sector) (writes : List DiskWrite) (e : List Sector) (cut : IsCutSince d writes e) where
-  none_earlier : (j : ℕ) → slice_get e 0 ≡ None → slice_get (moment d writes j) 0 ≡ None
-  none_earlier j none = either (slice_get (moment d writes j) 0) refl
+  none_earlier : (j : ℕ) → slice_get e 0 ≡ None → slice_get (crash_state d writes j) 0 ≡ None
+  none_earlier j none = either (slice_get (crash_state d writes j) 0) refl
     where
-      either : (o : Option Sector) → slice_get (moment d writes j) 0 ≡ o → slice_get (moment d writes j) 0 ≡ None
+      either : (o : Option Sector) → slice_get (crash_state d writes j) 0 ≡ o → slice_get (crash_state d writes j) 0 ≡ None
       either None f = f
       either (Some s) f =
-          let t = get_some e 0 (omega (arith, slice_get_within (moment d writes j) 0 s f, moment_long d writes j, cut.sectors)) in
+          let t = get_some e 0 (omega (arith, slice_get_within (crash_state d writes j) 0 s f, crash_state_long d writes j, cut.sectors)) in
           absurd (none-some t.0 (sym none ∙ t.1))
 
-  -- what a unit of the root's page tells is what it told at one moment
-  by_unit : (u : ℕ) (P : List Sector → Type 0) → ((j : ℕ) → root_page e ≡ root_page (moment d writes j) → P (moment d writes j))
-      → ((j : ℕ) → unit u (root_page e) ≡ unit u (root_page (moment d writes j)) → P (moment d writes j)) → AtSome 0 (length writes) (λ j. P (moment d writes j))
+  -- what a unit of the root's page reveals is what it revealed in one crash state
+  by_unit : (u : ℕ) (P : List Sector → Type 0) → ((j : ℕ) → root_page e ≡ root_page (crash_state d writes j) → P (crash_state d writes j))
+      → ((j : ℕ) → unit u (root_page e) ≡ unit u (root_page (crash_state d writes j)) → P (crash_state d writes j)) → AtSome 0 (length writes) (λ j. P (crash_state d writes j))
   by_unit u P same by = either (slice_get e 0) refl
     where
-      either : (o : Option Sector) → slice_get e 0 ≡ o → AtSome 0 (length writes) (λ j. P (moment d writes j))
+      either : (o : Option Sector) → slice_get e 0 ≡ o → AtSome 0 (length writes) (λ j. P (crash_state d writes j))
       either None f = (0, omega arith, omega arith, same 0 (ap page_in f ∙ sym (ap page_in (none_earlier 0 f))))
       either (Some t) f =
           let part = cut.units 0 u t f in
           (part.0, part.1, part.2, by part.0 (ap (λ (o : Option Sector). unit u (page_in o)) f ∙ sym part.3.2 ∙ sym (ap (λ (o : Option Sector). unit u (page_in o)) part.3.1)))
 
-  flag : AtSome 0 (length writes) (λ j. flag_of e ≡ flag_of (moment d writes j))
-  flag = by_unit 0 (λ now. flag_of e ≡ flag_of now) (λ j same. ap (λ (l : List ℕ). short_at l 10) same) (λ j same. number_same 0 10 2 (root_page e) (root_page (moment d writes j)) (omega arith) same)
+  flag : AtSome 0 (length writes) (λ j. flag_of e ≡ flag_of (crash_state d writes j))
+  flag = by_unit 0 (λ now. flag_of e ≡ flag_of now) (λ j same. ap (λ (l : List ℕ). short_at l 10) same) (λ j same. number_same 0 10 2 (root_page e) (root_page (crash_state d writes j)) (omega arith) same)
 
-  numbers : AtSome 0 (length writes) (λ j. (serial_of e ≡ serial_of (moment d writes j)) × (counter_of e ≡ counter_of (moment d writes j)))
+  numbers : AtSome 0 (length writes) (λ j. (serial_of e ≡ serial_of (crash_state d writes j)) × (counter_of e ≡ counter_of (crash_state d writes j)))
   numbers =
       by_unit 1 (λ now. (serial_of e ≡ serial_of now) × (counter_of e ≡ counter_of now))
       (λ j same. (ap (λ (l : List ℕ). number_at l 16) same, ap (λ (l : List ℕ). number_at l 20) same))
-      (λ j same. (number_same 1 0 4 (root_page e) (root_page (moment d writes j)) (omega arith) same, number_same 1 4 4 (root_page e) (root_page (moment d writes j)) (omega arith) same))
+      (λ j same. (number_same 1 0 4 (root_page e) (root_page (crash_state d writes j)) (omega arith) same, number_same 1 4 4 (root_page e) (root_page (crash_state d writes j)) (omega arith) same))
 
-  -- a label of a sector, where it is so at each moment
-  named : (i : ℕ) (test : Label → Bool) → ((j : ℕ) → j ≤ length writes → IsSomeAnd (slice_get (moment d writes j) i) (λ s. IsTrue (test s.0))) → IsSomeAnd (slice_get e i) (λ s. IsTrue (test s.0))
+  -- a label of a sector, where it is so in each crash state
+  named : (i : ℕ) (test : Label → Bool) → ((j : ℕ) → j ≤ length writes → IsSomeAnd (slice_get (crash_state d writes j) i) (λ s. IsTrue (test s.0))) → IsSomeAnd (slice_get e i) (λ s. IsTrue (test s.0))
   named i test each = either (slice_get e i) refl
     where
       either : (o : Option Sector) → slice_get e i ≡ o → IsSomeAnd (slice_get e i) (λ s. IsTrue (test s.0))
@@ -98,7 +98,7 @@ module _ (d : List Sector) (writes : List DiskWrite) (e : List Sector) (cut : Is
           let old = subst (λ (o : Option Sector). IsSomeAnd o (λ s. IsTrue (test s.0))) part.3.1 (each part.0 part.2) in
           subst (λ (o : Option Sector). IsSomeAnd o (λ s. IsTrue (test s.0))) (sym f) (subst (λ (l : Label). IsTrue (test l)) part.3.2 old)
 
-  module _ (n : ℕ) (each : (j : ℕ) → j ≤ length writes → IsRoot n (slice_get (moment d writes j) 0)) where
+  module _ (n : ℕ) (each : (j : ℕ) → j ≤ length writes → IsRoot n (slice_get (crash_state d writes j) 0)) where
     root_at : (u : ℕ) (t : Sector) → slice_get e 0 ≡ Some t → (s : Sector) × IsRoot n (Some s) × (unit u t.1 ≡ unit u s.1)
     root_at u t here = let part = cut.units 0 u t here in (part.3.0, subst (λ (o : Option Sector). IsRoot n o) part.3.1 (each part.0 part.2), sym part.3.2)
 
@@ -109,7 +109,7 @@ module _ (d : List Sector) (writes : List DiskWrite) (e : List Sector) (cut : Is
         record {
           accepted = low.1.accepted;
           label = subst (λ (o : Option Sector). IsSomeAnd o (λ s. IsTrue (names s.0 wanted_root))) here (named 0 (λ l. names l wanted_root) (λ j few. (each j few).label));
-          magic = front_same t.1 low.0.1 low.2 ∙ low.1.magic;
+          magic = prefix_same t.1 low.0.1 low.2 ∙ low.1.magic;
           version = number_same 0 8 2 t.1 low.0.1 (omega arith) low.2 ∙ low.1.version;
           flag = subst (λ (k : ℕ). k ≤ 1) (sym (number_same 0 10 2 t.1 low.0.1 (omega arith) low.2)) low.1.flag;
           count = number_same 0 12 4 t.1 low.0.1 (omega arith) low.2 ∙ low.1.count;
@@ -136,8 +136,8 @@ module _ (d : List Sector) (writes : List DiskWrite) (e : List Sector) (cut : Is
         either None f = subst (λ (o : Option Sector). IsRoot n o) (none_earlier 0 f ∙ sym f) (each 0 (omega arith))
         either (Some t) f = subst (λ (o : Option Sector). IsRoot n o) (sym f) (valid_root t f)
 
-  root_of_moments : RootOfMoments d writes e
-  root_of_moments = record {
+  root_of_crash_states : RootOfCrashStates d writes e
+  root_of_crash_states = record {
     flag = flag;
     numbers = numbers;
     valid = λ each. valid (length d) each;
@@ -148,11 +148,11 @@ module _ (d : List Sector) (writes : List DiskWrite) (e : List Sector) (cut : Is
     };
   }
 
-  module _ (lawful : AreLawful d writes) (unset : flag_of d ≢ 1) (none : (k : ℕ) (write : DiskWrite) → slice_get writes k ≡ Some write → SetsFlag write → ⊥) where
-    step : (now : List Sector) (write : DiskWrite) (s t : Sector) → Lawful now write → (SetsFlag write → ⊥) → slice_get now 0 ≡ Some s → slice_get (written write now) 0 ≡ Some t → short_at s.1 10 ≢ 1 → short_at t.1 10 ≢ 1
+  module _ (permitted : ArePermitted d writes) (unset : flag_of d ≢ 1) (none : (k : ℕ) (write : DiskWrite) → slice_get writes k ≡ Some write → SetsFlag write → ⊥) where
+    step : (now : List Sector) (write : DiskWrite) (s t : Sector) → Permitted now write → (SetsFlag write → ⊥) → slice_get now 0 ≡ Some s → slice_get (written write now) 0 ≡ Some t → short_at s.1 10 ≢ 1 → short_at t.1 10 ≢ 1
     step now write s t may not here there before = either (cases_eq (sector_of write) 0)
       where
-        at : (write : DiskWrite) → Lawful now write → (SetsFlag write → ⊥) → sector_of write ≡ 0 → slice_get (written write now) 0 ≡ Some t → short_at t.1 10 ≢ 1
+        at : (write : DiskWrite) → Permitted now write → (SetsFlag write → ⊥) → sector_of write ≡ 0 → slice_get (written write now) 0 ≡ Some t → short_at t.1 10 ≢ 1
         at (kind.Whole sector label page) may not is there =
             let new : (label, page) ≡ t =
             same_Some (label, page) t (sym (get_set_same now 0 (label, page) (slice_get_within now 0 s here)) ∙ ap (λ (j : ℕ). slice_get (slice_set now j (label, page)) 0) (sym is) ∙ there) in
@@ -164,19 +164,19 @@ module _ (d : List Sector) (writes : List DiskWrite) (e : List Sector) (cut : Is
         either (inl is) = at write may not is there
         either (inr apart) = subst (λ (v : Sector). short_at v.1 10 ≢ 1) (same_Some s t (sym here ∙ sym (written_other now write 0 apart) ∙ there)) before
 
-    unset_at : (j : ℕ) → j ≤ length writes → flag_of (moment d writes j) ≢ 1
-    unset_at j few = either (slice_get (moment d writes j) 0) refl
+    unset_at : (j : ℕ) → j ≤ length writes → flag_of (crash_state d writes j) ≢ 1
+    unset_at j few = either (slice_get (crash_state d writes j) 0) refl
       where
-        either : (o : Option Sector) → slice_get (moment d writes j) 0 ≡ o → flag_of (moment d writes j) ≢ 1
+        either : (o : Option Sector) → slice_get (crash_state d writes j) 0 ≡ o → flag_of (crash_state d writes j) ≢ 1
         either (Some t) f =
             subst (λ (o : Option Sector). short_at (page_in o) 10 ≢ 1) (sym f)
             (history (λ k t. short_at t.1 10 ≢ 1) d writes 0 (λ s here. subst (λ (o : Option Sector). short_at (page_in o) 10 ≢ 1) here unset)
-            (λ k write s t low is here there after before. step (moment d writes k) write s t (each_lawful d writes lawful k write is) (none k write is) here there before) j few t f)
+            (λ k write s t low is here there after before. step (crash_state d writes k) write s t (each_permitted d writes permitted k write is) (none k write is) here there before) j few t f)
         either None f = subst (λ (o : Option Sector). short_at (page_in o) 10 ≢ 1) (first (slice_get d 0) refl ∙ sym f) unset
           where
             first : (o : Option Sector) → slice_get d 0 ≡ o → slice_get d 0 ≡ None
             first None g = g
-            first (Some s) g = let t = get_some (moment d writes j) 0 (omega (arith, slice_get_within d 0 s g, moment_long d writes j)) in absurd (none-some t.0 (sym f ∙ t.1))
+            first (Some s) g = let t = get_some (crash_state d writes j) 0 (omega (arith, slice_get_within d 0 s g, crash_state_long d writes j)) in absurd (none-some t.0 (sym f ∙ t.1))
 
     clear : flag_of e ≢ 1
     clear set = unset_at flag.0 flag.2 (sym flag.3 ∙ set)
@@ -193,11 +193,11 @@ same_disk e f long each = laws.same_elements true 0 0 e f (λ j. either j (slice
     either j (Some t) g None h = let s = get_some f j (omega (arith, slice_get_within e j t g, long)) in absurd (none-some s.0 (sym h ∙ s.1))
 
 module _ (i u : ℕ) (d : List Sector) (write : DiskWrite) (e : List Sector) (apart : OneUnitApart i u d (written write d)) (cut : IsCutSince d (write ∷ []) e) where
-  -- a moment is before the write, or after it
-  which : (P : List Sector → Type 0) → AtSome 0 1 (λ j. P (moment d (write ∷ []) j)) → P d ⊎ P (written write d)
+  -- a crash state is before the write, or after it
+  which : (P : List Sector → Type 0) → AtSome 0 1 (λ j. P (crash_state d (write ∷ []) j)) → P d ⊎ P (written write d)
   which P some = either some.0 some.2 some.3
     where
-      either : (j : ℕ) → j ≤ 1 → P (moment d (write ∷ []) j) → P d ⊎ P (written write d)
+      either : (j : ℕ) → j ≤ 1 → P (crash_state d (write ∷ []) j) → P d ⊎ P (written write d)
       either zero few p = inl p
       either (suc zero) few p = inr p
       either (suc (suc j)) few p = absurd (omega (arith, few))
@@ -285,8 +285,8 @@ one_root d old new e here rest = one_unit 0 0 d (kind.Whole 0 root_label new) e 
 
 pub flag_laws : FlagLaws
 flag_laws = record {
-  root = root_of_moments;
-  clear = λ d writes e lawful cut unset none. clear d writes e cut lawful unset none;
+  root = root_of_crash_states;
+  clear = λ d writes e permitted cut unset none. clear d writes e cut permitted unset none;
   one_unit = λ i u d write e apart cut. one_unit i u d write e apart cut;
   one_root = one_root;
 }

@@ -5,7 +5,7 @@ use Rattle.volume_root.specs.RootPage.{root_bytes}
 use Rattle.cut_laws.specs.RootWrites.{RootIsWhole}
 use Rattle.cut_laws.proofs.RootLemmas.{one_root}
 
--- what stands behind the first unit
+-- what stands after the first unit
 rest : ℕ → ℕ → List ℕ
 rest serial counter = drop 16 (root_bytes (record { version = 0; clean = false; sectors = 0; serial = serial; counter = counter }))
 

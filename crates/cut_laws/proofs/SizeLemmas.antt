@@ -1,4 +1,4 @@
--- Files that get more pages, or fewer, and are whole at each moment.
+-- Files that get more pages, or fewer, and are whole in each crash state.
 use Rattle.std.proofs.Common.{◌≡◌, ◌≢◌, ◌⊎◌, inl, inr, ℕ, zero, suc, ◌+◌, ◌-◌, ◌<◌, ◌≤◌, Bool, true, false, ◌&&◌, List, [], map, length, Option, Some, None, refl, sym, ◌∙◌, ap, subst, arith, eqb}
 use Rattle.std.specs.Prelude.{slice_get, option_map}
 use Rattle.std.proofs.lemmas.Bool.{cases_eq, cases_lt, true≢false}
@@ -9,25 +9,25 @@ use Rattle.labelled_disk.specs.File.{Page, byte, size}
 use Rattle.labelled_disk.specs.FilesOn.{is_of, is_page, leads_file, page_at, pages_from}
 use Rattle.labelled_disk.specs.Label.{is_free, leader_page}
 use Rattle.labelled_disk.specs.Layout.{data_sectors, first_data}
-use Rattle.labelled_disk.specs.Moment.{moment}
+use Rattle.labelled_disk.specs.CrashState.{crash_state}
 use Rattle.labelled_disk.specs.Runs.{sector_of}
 use Rattle.labelled_disk.specs.Sectors.{Sector}
 use Rattle.labelled_disk.proofs.Finds.{find_alone, none_passes}
 use Rattle.labelled_disk.proofs.LowestLemmas as lowest
 use Rattle.labelled_disk.proofs.Pages.{pages_each, pages_most, pages_stop}
 use Rattle.labelled_disk.proofs.SectorWrites as w
-use Rattle.label_laws.specs.LawfulRuns.{AreLawful}
+use Rattle.label_laws.specs.PermittedRuns.{ArePermitted}
 use Rattle.label_laws.specs.Mixed.{gives_label}
 use Rattle.label_laws.specs.OneFile.{id_of}
 use Rattle.label_laws.specs.Shape.{SameShape}
 use Rattle.label_laws.proofs.FileLemmas.{free_none}
-use Rattle.label_laws.proofs.MixedLemmas.{moment_long, written_other}
+use Rattle.label_laws.proofs.MixedLemmas.{crash_state_long, written_other}
 use Rattle.cut_laws.specs.Cut.{unit, AtSome, IsCutSince}
 use Rattle.cut_laws.specs.ShapeLaws.{IsWholeOn}
-use Rattle.cut_laws.specs.SizeLaws.{IsOnPage, IsWholeThroughout, PagesAreOwn, SizeOfOneMoment}
+use Rattle.cut_laws.specs.SizeLaws.{IsOnPage, IsWholeThroughout, PagesAreOwn, SizeOfOneCrashState}
 use Rattle.cut_laws.specs.Windows.{EachWrite, IsLabelWriteOf, disk_page}
 use Rattle.cut_laws.proofs.UnitLemmas.{unit-map}
-use Rattle.cut_laws.proofs.MomentLemmas.{get_some, data_at, moment-step}
+use Rattle.cut_laws.proofs.CrashStateLemmas.{get_some, data_at, crash_state-step}
 use Rattle.cut_laws.proofs.NumberLemmas.{between_two, some_or_each}
 use Rattle.cut_laws.proofs.OwnLemmas.{own_bytes}
 use Rattle.cut_laws.proofs.PairLemmas.{Alike, alike_less, leader_pairs, lowest as lowest_of, shape_by_count}
@@ -48,18 +48,18 @@ pub record HasPages (xs : List Sector) (id n : ℕ) : Type 0 where
 
 pub has_pages : (d : List Sector) (id : ℕ) → IsWholeOn d id → HasPages (data_sectors d) id (count_on d id)
 has_pages d id whole =
-    let told = (lowest.files_are_as_told true d).told id whole.0 whole.1 in
+    let revealed = (lowest.files_are_as_revealed true d).revealed id whole.0 whole.1 in
     let count : size whole.0 ≡ count_on d id = ap (λ (l : List Page). length l) (w.file_pages true (data_sectors d) id whole.0 whole.1) in
     record {
       there = λ p low.
-          let s = told.0.page p (omega (arith, low, count)) in
-          (s.0, s.1, s.2.here, ap (λ (n : ℕ). is_page n p s.1) (sym told.1) ∙ s.2.passes);
+          let s = revealed.0.page p (omega (arith, low, count)) in
+          (s.0, s.1, s.2.here, ap (λ (n : ℕ). is_page n p s.1) (sym revealed.1) ∙ s.2.passes);
       below = λ i p s at is low.
-          let of : is_of whole.0.id s ≡ true = ap (λ (n : ℕ). is_of n s) told.1 ∙ w.page_of true id p s is in
+          let of : is_of whole.0.id s ≡ true = ap (λ (n : ℕ). is_of n s) revealed.1 ∙ w.page_of true id p s is in
           let number : s.0.page ≡ p = w.page_number true id p s is in
           elim (whole.2.no_other i s at of) [ inl lead ↦ absurd (omega (arith, lead, number, low)) | inr less ↦ omega (arith, less, number, count) ];
       once = λ i j p s t at there is same.
-          whole.2.once i j s t at there (ap (λ (n : ℕ). is_of n s) told.1 ∙ w.page_of true id p s is) (ap (λ (n : ℕ). is_of n t) told.1 ∙ w.page_of true id p t same)
+          whole.2.once i j s t at there (ap (λ (n : ℕ). is_of n s) revealed.1 ∙ w.page_of true id p s is) (ap (λ (n : ℕ). is_of n t) revealed.1 ∙ w.page_of true id p t same)
           (w.page_number true id p s is ∙ sym (w.page_number true id p t same));
       most = pages_most (page_at (data_sectors d) id) 0 leader_page;
     }
@@ -106,59 +106,59 @@ module _ (place : ℕ) (xs ys : List Sector) (apart : OneApart place xs ys) (id 
           which (inl on) (inr off) =
               absurd (off (old.once there.0 i p there.1 s (sym (apart.same there.0 (λ e. off (e ∙ sym on))) ∙ there.2) at there.3 is))
 
--- two moments in a row
-steps : (d : List Sector) (writes : List DiskWrite) (k : ℕ) → k < length writes → (place : ℕ) × OneApart place (data_sectors (moment d writes k)) (data_sectors (moment d writes (suc k)))
+-- two crash states in a row
+steps : (d : List Sector) (writes : List DiskWrite) (k : ℕ) → k < length writes → (place : ℕ) × OneApart place (data_sectors (crash_state d writes k)) (data_sectors (crash_state d writes (suc k)))
 steps d writes k few =
     let write = get_some writes k few in
     let first : ℕ = first_data (length d) in (
       sector_of write.0 - first_data (length d),
       record {
         same = λ i off.
-            data_at (moment d writes (suc k)) i
-            ∙ ap (λ (n : ℕ). slice_get (moment d writes (suc k)) (first_data n + i)) (moment_long d writes (suc k))
-            ∙ ap (λ (e : List Sector). slice_get e (first_data (length d) + i)) (moment-step d writes k write.0 write.1)
-            ∙ written_other (moment d writes k) write.0 (first_data (length d) + i) (λ e. off (let z : i ≡ sector_of write.0 - first_data (length d) = omega (arith, e) in z))
-            ∙ ap (λ (n : ℕ). slice_get (moment d writes k) (first_data n + i)) (sym (moment_long d writes k))
-            ∙ sym (data_at (moment d writes k) i);
+            data_at (crash_state d writes (suc k)) i
+            ∙ ap (λ (n : ℕ). slice_get (crash_state d writes (suc k)) (first_data n + i)) (crash_state_long d writes (suc k))
+            ∙ ap (λ (e : List Sector). slice_get e (first_data (length d) + i)) (crash_state-step d writes k write.0 write.1)
+            ∙ written_other (crash_state d writes k) write.0 (first_data (length d) + i) (λ e. off (let z : i ≡ sector_of write.0 - first_data (length d) = omega (arith, e) in z))
+            ∙ ap (λ (n : ℕ). slice_get (crash_state d writes k) (first_data n + i)) (sym (crash_state_long d writes k))
+            ∙ sym (data_at (crash_state d writes k) i);
       },
     )
 
-module _ (d : List Sector) (writes : List DiskWrite) (e : List Sector) (id : ℕ) (lawful : AreLawful d writes) (cut : IsCutSince d writes e) (whole : IsWholeThroughout d writes id) where
+module _ (d : List Sector) (writes : List DiskWrite) (e : List Sector) (id : ℕ) (permitted : ArePermitted d writes) (cut : IsCutSince d writes e) (whole : IsWholeThroughout d writes id) where
   abbrev count : ℕ → ℕ
-  count j = count_on (moment d writes j) id
+  count j = count_on (crash_state d writes j) id
 
-  pages_at : (j : ℕ) → j ≤ length writes → HasPages (data_sectors (moment d writes j)) id (count j)
-  pages_at j few = has_pages (moment d writes j) id (whole j few)
+  pages_at : (j : ℕ) → j ≤ length writes → HasPages (data_sectors (crash_state d writes j)) id (count j)
+  pages_at j few = has_pages (crash_state d writes j) id (whole j few)
 
   up : (j : ℕ) → j < length writes → count (suc j) ≤ suc (count j)
   up j few =
       let step = steps d writes j few in
-      one_more step.0 (data_sectors (moment d writes j)) (data_sectors (moment d writes (suc j))) step.1 id (count j) (count (suc j)) (pages_at j (omega (arith, few))) (pages_at (suc j) (omega (arith, few)))
+      one_more step.0 (data_sectors (crash_state d writes j)) (data_sectors (crash_state d writes (suc j))) step.1 id (count j) (count (suc j)) (pages_at j (omega (arith, few))) (pages_at (suc j) (omega (arith, few)))
 
   down : (j : ℕ) → j < length writes → count j ≤ suc (count (suc j))
   down j few =
       let step = steps d writes j few in
-      one_more step.0 (data_sectors (moment d writes (suc j))) (data_sectors (moment d writes j)) (turned step.0 (data_sectors (moment d writes j)) (data_sectors (moment d writes (suc j))) step.1) id
+      one_more step.0 (data_sectors (crash_state d writes (suc j))) (data_sectors (crash_state d writes j)) (turned step.0 (data_sectors (crash_state d writes j)) (data_sectors (crash_state d writes (suc j))) step.1) id
       (count (suc j)) (count j) (pages_at (suc j) (omega (arith, few))) (pages_at j (omega (arith, few)))
 
-  -- a page that is there at each moment stands in one place
+  -- a page that is there in each crash state stands in one place
   always : (p : ℕ) → ((j : ℕ) → j ≤ length writes → p < count j) → (i : ℕ) (s : Sector) → slice_get (data_sectors d) i ≡ Some s → is_page id p s ≡ true
-      → (j : ℕ) → j ≤ length writes → (t : Sector) × (slice_get (data_sectors (moment d writes j)) i ≡ Some t) × (is_page id p t ≡ true)
+      → (j : ℕ) → j ≤ length writes → (t : Sector) × (slice_get (data_sectors (crash_state d writes j)) i ≡ Some t) × (is_page id p t ≡ true)
   always p low i s at is zero few = (s, at, is)
   always p low i s at is (suc j) few =
       let before = always p low i s at is j (omega (arith, few)) in
       let step = steps d writes j (omega (arith, few)) in
-      same_place step.0 (data_sectors (moment d writes j)) (data_sectors (moment d writes (suc j))) step.1 id (count j) (count (suc j)) p i before.0
+      same_place step.0 (data_sectors (crash_state d writes j)) (data_sectors (crash_state d writes (suc j))) step.1 id (count j) (count (suc j)) p i before.0
       (pages_at j (omega (arith, few))) (pages_at (suc j) few) before.1 before.2 (low (suc j) few)
 
-  -- a label of the cut stood in the data at some moment
-  label_of : (i : ℕ) (t : Sector) → slice_get (data_sectors e) i ≡ Some t → AtSome 0 (length writes) (λ j. (s : Sector) × (slice_get (data_sectors (moment d writes j)) i ≡ Some s) × (s.0 ≡ t.0))
+  -- a label of the cut stood in the data in some crash state
+  label_of : (i : ℕ) (t : Sector) → slice_get (data_sectors e) i ≡ Some t → AtSome 0 (length writes) (λ j. (s : Sector) × (slice_get (data_sectors (crash_state d writes j)) i ≡ Some s) × (s.0 ≡ t.0))
   label_of i t at =
       let one = cut.labels (first_data (length e) + i) t (sym (data_at e i) ∙ at) in (
         one.0,
         one.1,
         one.2,
-        (one.3.0, data_at (moment d writes one.0) i ∙ ap (λ (n : ℕ). slice_get (moment d writes one.0) (first_data n + i)) (moment_long d writes one.0 ∙ sym cut.sectors) ∙ one.3.1, one.3.2),
+        (one.3.0, data_at (crash_state d writes one.0) i ∙ ap (λ (n : ℕ). slice_get (crash_state d writes one.0) (first_data n + i)) (crash_state_long d writes one.0 ∙ sym cut.sectors) ∙ one.3.1, one.3.2),
       )
 
   -- such a page is in the cut
@@ -173,7 +173,7 @@ module _ (d : List Sector) (writes : List DiskWrite) (e : List Sector) (id : ℕ
       let passes : is_page id p t.0 ≡ true = ap (λ (l : Label). is_page id p (l, [])) (sym one.3.2) ∙ ap (λ (v : Sector). is_page id p v) (sym same) ∙ there.2 in
       true≢false (sym passes ∙ none_passes (is_page id p) (data_sectors e) (w.page_missing true (data_sectors e) id p none) first.0 t.0 t.1)
 
-  -- a page that is there at no moment is not
+  -- a page that is there in no crash state is not
   is_out : (p : ℕ) (cells : Page) → p < leader_page → ((j : ℕ) → j ≤ length writes → count j ≤ p) → page_at (data_sectors e) id p ≡ Some cells → ⊥
   is_out p cells low high is =
       let t = found_page d writes e cut id p cells is in
@@ -182,9 +182,9 @@ module _ (d : List Sector) (writes : List DiskWrite) (e : List Sector) (id : ℕ
       let less = (pages_at one.0 one.2).below at.0 p one.3.0 one.3.1 (ap (λ (l : Label). is_page id p (l, [])) one.3.2 ∙ at.1.passes) low in
       omega (arith, less, high one.0 one.2)
 
-  -- so as many follow each other as at some moment
-  count_of_moment : (j : ℕ) × (j ≤ length writes) × (count j ≡ count_on e id)
-  count_of_moment = either (some_or_each (λ j. count j ≤ count_on e id) (λ j. count_on e id < count j) (λ j. turn_around (cases_lt (count_on e id) (count j))) (length writes))
+  -- so as many follow each other as in some crash state
+  count_of_crash_state : (j : ℕ) × (j ≤ length writes) × (count j ≡ count_on e id)
+  count_of_crash_state = either (some_or_each (λ j. count j ≤ count_on e id) (λ j. count_on e id < count j) (λ j. turn_around (cases_lt (count_on e id) (count j))) (length writes))
       (some_or_each (λ j. count_on e id ≤ count j) (λ j. count j < count_on e id) (λ j. turn_around (cases_lt (count j) (count_on e id))) (length writes))
     where
       turn_around : {A B : Type 0} → A ⊎ B → B ⊎ A
@@ -214,56 +214,56 @@ module _ (d : List Sector) (writes : List DiskWrite) (e : List Sector) (id : ℕ
 
   -- the leader's label stays
   leader_stays : (all : Bool) → EachWrite (λ now write. IsLabelWriteOf id now write → IsOnPage now write) d writes → Steady (λ l. leads_file all id (l, [])) d writes
-  leader_stays all only = steady_by_turns (λ l. leads_file all id (l, [])) d writes lawful (λ k write i s t is low now turn. either k write i s t is now (cases_eq id (id_of (moment d writes k) write)) turn)
+  leader_stays all only = steady_by_turns (λ l. leads_file all id (l, [])) d writes permitted (λ k write i s t is low now turn. either k write i s t is now (cases_eq id (id_of (crash_state d writes k) write)) turn)
     where
       free_leads : (l : Label) → is_free l ≡ true → leads_file all id (l, []) ≡ false
       free_leads l free = not_of-not_leader all id l (ap (λ (b : Bool). b && eqb l.id id) (free_none l free))
 
-      either : (k : ℕ) (write : DiskWrite) (i : ℕ) (s t : Sector) → slice_get writes k ≡ Some write → slice_get (moment d writes k) i ≡ Some s
-          → (id ≡ id_of (moment d writes k) write) ⊎ (id ≢ id_of (moment d writes k) write) → Turn write i s t → Alike (λ l. leads_file all id (l, [])) s.0 t.0
+      either : (k : ℕ) (write : DiskWrite) (i : ℕ) (s t : Sector) → slice_get writes k ≡ Some write → slice_get (crash_state d writes k) i ≡ Some s
+          → (id ≡ id_of (crash_state d writes k) write) ⊎ (id ≢ id_of (crash_state d writes k) write) → Turn write i s t → Alike (λ l. leads_file all id (l, [])) s.0 t.0
       either k write i s t is now (inr other) turn =
-          alike_less (Of id) (λ l. leads_file all id (l, [])) s.0 t.0 (λ l fails. not_of-not_leader all id l fails) (turn_alike id (moment d writes k) write i s t now (λ gives. other) turn)
+          alike_less (Of id) (λ l. leads_file all id (l, [])) s.0 t.0 (λ l fails. not_of-not_leader all id l fails) (turn_alike id (crash_state d writes k) write i s t now (λ gives. other) turn)
       either k write i s t is now (inl own) (stays eq) = inl (ap (λ (v : Sector). v.0) (sym eq))
       either k write i s t is now (inl own) (bytes wanted eq named label) = inl (sym label)
       either k write i s t is now (inl own) (fresh eq free taken page) =
-          let on = subst (λ (v : DiskWrite). IsOnPage (moment d writes k) v) eq (only k write is (ap gives_label eq, sym own)) in
+          let on = subst (λ (v : DiskWrite). IsOnPage (crash_state d writes k) v) eq (only k write is (ap gives_label eq, sym own)) in
           inr (free_leads s.0 free, w.other_than_leader all id t on)
       either k write i s t is now (inl own) (freed eq new) =
-          let on = subst (λ (v : DiskWrite). IsOnPage (moment d writes k) v) eq (only k write is (ap gives_label eq, sym own)) in
+          let on = subst (λ (v : DiskWrite). IsOnPage (crash_state d writes k) v) eq (only k write is (ap gives_label eq, sym own)) in
           inr (w.other_than_leader all id s (λ q. on.2 (ap (λ (v : Sector). v.0.page) (same_Some on.0 s (sym on.1 ∙ now)) ∙ q)), ap (λ (v : Sector). leads_file all id (v.0, [])) new)
       either k write i s t is now (inl own) (marked eq same old new page) =
-          let on = subst (λ (v : DiskWrite). IsOnPage (moment d writes k) v) eq (only k write is (ap gives_label eq, sym own)) in
+          let on = subst (λ (v : DiskWrite). IsOnPage (crash_state d writes k) v) eq (only k write is (ap gives_label eq, sym own)) in
           absurd (on.2 (ap (λ (v : Sector). v.0.page) (same_Some on.0 s (sym on.1 ∙ now)) ∙ old))
 
-  size_of_moment : (all : Bool) → EachWrite (λ now write. IsLabelWriteOf id now write → IsOnPage now write) d writes → AtSome 0 (length writes) (λ j. SameShape all (moment d writes j) e id)
-  size_of_moment all only =
-      let j = count_of_moment in (
+  size_of_crash_state : (all : Bool) → EachWrite (λ now write. IsLabelWriteOf id now write → IsOnPage now write) d writes → AtSome 0 (length writes) (λ j. SameShape all (crash_state d writes j) e id)
+  size_of_crash_state all only =
+      let j = count_of_crash_state in (
         j.0,
         omega arith,
         j.1,
-        shape_by_count all id (data_sectors (moment d writes j.0)) (data_sectors e)
-            (leader_pairs all id (data_sectors (moment d writes j.0)) (data_sectors e) (steady_pairs d writes e cut (λ l. leads_file all id (l, [])) (leader_stays all only) j.0 j.1)) (sym j.2),
+        shape_by_count all id (data_sectors (crash_state d writes j.0)) (data_sectors e)
+            (leader_pairs all id (data_sectors (crash_state d writes j.0)) (data_sectors e) (steady_pairs d writes e cut (λ l. leads_file all id (l, [])) (leader_stays all only) j.0 j.1)) (sym j.2),
       )
 
   -- where a page stands, it is the page of the file
-  pub shown : (j p i : ℕ) (s : Sector) → j ≤ length writes → slice_get (data_sectors (moment d writes j)) i ≡ Some s → is_page id p s ≡ true → disk_page (moment d writes j) id p ≡ Some (map byte s.1)
+  pub shown : (j p i : ℕ) (s : Sector) → j ≤ length writes → slice_get (data_sectors (crash_state d writes j)) i ≡ Some s → is_page id p s ≡ true → disk_page (crash_state d writes j) id p ≡ Some (map byte s.1)
   shown j p i s few at is =
       ap (λ (o : Option Sector). option_map (λ u. map byte u.1) o)
-      (find_alone (is_page id p) (data_sectors (moment d writes j)) i s at is (λ k t there passes. (pages_at j few).once k i p t s there at passes is))
+      (find_alone (is_page id p) (data_sectors (crash_state d writes j)) i s at is (λ k t there passes. (pages_at j few).once k i p t s there at passes is))
 
-pub size_of_one_moment : (all : Bool) → SizeOfOneMoment all
-size_of_one_moment all d writes e id lawful cut whole only = size_of_moment d writes e id lawful cut whole all only
+pub size_of_one_crash_state : (all : Bool) → SizeOfOneCrashState all
+size_of_one_crash_state all d writes e id permitted cut whole only = size_of_crash_state d writes e id permitted cut whole all only
 
 pub pages_are_own : PagesAreOwn
-pages_are_own d writes e id lawful cut whole unwritten own p u cells low is =
+pages_are_own d writes e id permitted cut whole unwritten own p u cells low is =
     let t = found_page d writes e cut id p cells is in
     let at = lowest_of (is_page id p) (data_sectors e) t.0 t.1 in
-    let some = (own_bytes id).pages p d writes e lawful cut unwritten (own p) (first_data (length e) + at.0) u t.0 (record { is_data = omega arith; here = sym (data_at e at.0) ∙ at.1.here }) at.1.passes in
-    let here : slice_get (data_sectors (moment d writes some.0)) at.0 ≡ Some some.3.0 =
-    data_at (moment d writes some.0) at.0 ∙ ap (λ (n : ℕ). slice_get (moment d writes some.0) (first_data n + at.0)) (moment_long d writes some.0 ∙ sym cut.sectors) ∙ some.3.1 in (
+    let some = (own_bytes id).pages p d writes e permitted cut unwritten (own p) (first_data (length e) + at.0) u t.0 (record { is_data = omega arith; here = sym (data_at e at.0) ∙ at.1.here }) at.1.passes in
+    let here : slice_get (data_sectors (crash_state d writes some.0)) at.0 ≡ Some some.3.0 =
+    data_at (crash_state d writes some.0) at.0 ∙ ap (λ (n : ℕ). slice_get (crash_state d writes some.0) (first_data n + at.0)) (crash_state_long d writes some.0 ∙ sym cut.sectors) ∙ some.3.1 in (
       some.0,
       some.1,
       some.2,
-      ap (option_map (unit u)) (shown d writes e id lawful cut whole some.0 p at.0 some.3.0 some.2 here some.3.2)
+      ap (option_map (unit u)) (shown d writes e id permitted cut whole some.0 p at.0 some.3.0 some.2 here some.3.2)
           ∙ ap (λ l. Some l) (unit-map byte u some.3.0.1 ∙ ap (λ l. map byte l) some.3.3 ∙ sym (unit-map byte u t.0.1) ∙ ap (unit u) t.2),
     )

@@ -10,22 +10,22 @@ use Rattle.labelled_disk.specs.File.{Page}
 use Rattle.labelled_disk.specs.FilesOn.{is_of, is_page, leads_file, page_at, file_among}
 use Rattle.labelled_disk.specs.Label.{is_file, is_free, names, leader_page}
 use Rattle.labelled_disk.specs.Layout.{data_sectors, first_data}
-use Rattle.labelled_disk.specs.Moment.{moment, written}
+use Rattle.labelled_disk.specs.CrashState.{crash_state, written}
 use Rattle.labelled_disk.specs.Sectors.{Sector, free_label}
 use Rattle.labelled_disk.proofs.Finds.{none_passes}
 use Rattle.labelled_disk.proofs.Pages.{pages_same, pages_each}
 use Rattle.labelled_disk.proofs.SectorWrites as w
-use Rattle.label_laws.specs.LawfulRuns.{AreLawful}
+use Rattle.label_laws.specs.PermittedRuns.{ArePermitted}
 use Rattle.label_laws.specs.Mixed.{gives_label}
 use Rattle.label_laws.specs.Shape.{bare_file}
 use Rattle.label_laws.specs.OneFile.{NoneOf, id_of}
 use Rattle.label_laws.proofs.FileLemmas.{free_none, named_id}
-use Rattle.label_laws.proofs.MixedLemmas.{moment_long}
+use Rattle.label_laws.proofs.MixedLemmas.{crash_state_long}
 use Rattle.cut_laws.specs.Cut.{IsCutSince}
 use Rattle.cut_laws.specs.ShapeLaws.{PagesStay}
 use Rattle.cut_laws.specs.StayLaws.{OthersStayInCuts, NoneAppears, PagesOfFile}
 use Rattle.cut_laws.specs.Windows.{EachWrite, IsPageWriteOf, IsUnwritten}
-use Rattle.cut_laws.proofs.MomentLemmas.{data_at}
+use Rattle.cut_laws.proofs.CrashStateLemmas.{data_at}
 use Rattle.cut_laws.proofs.PairLemmas.{Pairs, Alike, alike_less, alike_then, lowest, leader_pairs, there_pairs, count_pairs, shape_by_count}
 use Rattle.cut_laws.proofs.SteadyLemmas.{SameBy, Steady, Still, same_then, same_alike, steady_units, still_pairs, page_pairs, not_of-not_page, not_of-not_leader, other_id}
 use Rattle.cut_laws.proofs.TurnLemmas.{Turn, stays, bytes, fresh, freed, marked, turns, id_of_label, id_of_page}
@@ -71,19 +71,19 @@ turn_alike id now write i s t here apart (fresh is free taken page) = same_alike
 turn_alike id now write i s t here apart (freed is new) = same_alike (Of id) s t (turn_same id now write i s t here (apart (ap gives_label is)) (freed is new))
 turn_alike id now write i s t here apart (marked is same old new page) = same_alike (Of id) s t (turn_same id now write i s t here (apart (ap gives_label is)) (marked is same old new page))
 
--- what each turn leaves alike is alike at each moment
-pub steady_by_turns : (test : Label → Bool) (d : List Sector) (writes : List DiskWrite) → AreLawful d writes
-    → ((k : ℕ) (write : DiskWrite) (i : ℕ) (s t : Sector) → slice_get writes k ≡ Some write → first_data (length d) ≤ i → slice_get (moment d writes k) i ≡ Some s → Turn write i s t → Alike test s.0 t.0)
+-- what each turn leaves alike is alike in each crash state
+pub steady_by_turns : (test : Label → Bool) (d : List Sector) (writes : List DiskWrite) → ArePermitted d writes
+    → ((k : ℕ) (write : DiskWrite) (i : ℕ) (s t : Sector) → slice_get writes k ≡ Some write → first_data (length d) ≤ i → slice_get (crash_state d writes k) i ≡ Some s → Turn write i s t → Alike test s.0 t.0)
     → Steady test d writes
-steady_by_turns test d writes lawful each i s low here =
-    turns (λ k t. Alike test s.0 t.0) d writes i lawful low (λ t there. inl (ap (λ (v : Sector). v.0) (same_Some s t (sym here ∙ there))))
+steady_by_turns test d writes permitted each i s low here =
+    turns (λ k t. Alike test s.0 t.0) d writes i permitted low (λ t there. inl (ap (λ (v : Sector). v.0) (same_Some s t (sym here ∙ there))))
     (λ k write u t few is now then turn before. alike_then test s.0 u.0 t.0 before (each k write i u t is low now turn))
 
-pub still_by_turns : (test : Label → Bool) (d : List Sector) (writes : List DiskWrite) → AreLawful d writes
-    → ((k : ℕ) (write : DiskWrite) (i : ℕ) (s t : Sector) → slice_get writes k ≡ Some write → first_data (length d) ≤ i → slice_get (moment d writes k) i ≡ Some s → Turn write i s t → SameBy test s t)
+pub still_by_turns : (test : Label → Bool) (d : List Sector) (writes : List DiskWrite) → ArePermitted d writes
+    → ((k : ℕ) (write : DiskWrite) (i : ℕ) (s t : Sector) → slice_get writes k ≡ Some write → first_data (length d) ≤ i → slice_get (crash_state d writes k) i ≡ Some s → Turn write i s t → SameBy test s t)
     → Still test d writes
-still_by_turns test d writes lawful each i s low here =
-    turns (λ k t. SameBy test s t) d writes i lawful low (λ t there. inl (same_Some t s (sym there ∙ here)))
+still_by_turns test d writes permitted each i s low here =
+    turns (λ k t. SameBy test s t) d writes i permitted low (λ t there. inl (same_Some t s (sym there ∙ here)))
     (λ k write u t few is now then turn before. same_then test s u t before (each k write i u t is low now turn))
 
 -- pairs under a narrower test
@@ -102,21 +102,21 @@ shape_pairs all id xs ys pairs =
 
 -- Where writes of labels leave the sectors of a page as they are.
 abbrev pub LabelsLeavePage : ℕ → ℕ → List Sector → List DiskWrite → Type 0
-LabelsLeavePage id p d writes = (k : ℕ) (write : DiskWrite) (i : ℕ) (s t : Sector) → slice_get writes k ≡ Some write → slice_get (moment d writes k) i ≡ Some s → gives_label write ≡ true
+LabelsLeavePage id p d writes = (k : ℕ) (write : DiskWrite) (i : ℕ) (s t : Sector) → slice_get writes k ≡ Some write → slice_get (crash_state d writes k) i ≡ Some s → gives_label write ≡ true
     → Turn write i s t → SameBy (λ l. is_page id p (l, [])) s t
 
-pub steady_page : (id p : ℕ) (d : List Sector) (writes : List DiskWrite) → AreLawful d writes → LabelsLeavePage id p d writes → Steady (λ l. is_page id p (l, [])) d writes
-steady_page id p d writes lawful leave = steady_by_turns (λ l. is_page id p (l, [])) d writes lawful (λ k write i s t is low now turn. one k write i s t is now turn)
+pub steady_page : (id p : ℕ) (d : List Sector) (writes : List DiskWrite) → ArePermitted d writes → LabelsLeavePage id p d writes → Steady (λ l. is_page id p (l, [])) d writes
+steady_page id p d writes permitted leave = steady_by_turns (λ l. is_page id p (l, [])) d writes permitted (λ k write i s t is low now turn. one k write i s t is now turn)
   where
-    one : (k : ℕ) (write : DiskWrite) (i : ℕ) (s t : Sector) → slice_get writes k ≡ Some write → slice_get (moment d writes k) i ≡ Some s → Turn write i s t → Alike (λ l. is_page id p (l, [])) s.0 t.0
+    one : (k : ℕ) (write : DiskWrite) (i : ℕ) (s t : Sector) → slice_get writes k ≡ Some write → slice_get (crash_state d writes k) i ≡ Some s → Turn write i s t → Alike (λ l. is_page id p (l, [])) s.0 t.0
     one k write i s t is now (stays e) = inl (ap (λ (v : Sector). v.0) (sym e))
     one k write i s t is now (bytes wanted eq named label) = inl (sym label)
     one k write i s t is now (fresh a b c e) = same_alike (λ l. is_page id p (l, [])) s t (leave k write i s t is now (ap gives_label a) (fresh a b c e))
     one k write i s t is now (freed a b) = same_alike (λ l. is_page id p (l, [])) s t (leave k write i s t is now (ap gives_label a) (freed a b))
     one k write i s t is now (marked a b c e f) = same_alike (λ l. is_page id p (l, [])) s t (leave k write i s t is now (ap gives_label a) (marked a b c e f))
 
-still_page : (id p : ℕ) (d : List Sector) (writes : List DiskWrite) → AreLawful d writes → LabelsLeavePage id p d writes → IsUnwritten id p d writes → Still (λ l. is_page id p (l, [])) d writes
-still_page id p d writes lawful leave same = still_by_turns (λ l. is_page id p (l, [])) d writes lawful (λ k write i s t is low now turn. one k write i s t is now turn)
+still_page : (id p : ℕ) (d : List Sector) (writes : List DiskWrite) → ArePermitted d writes → LabelsLeavePage id p d writes → IsUnwritten id p d writes → Still (λ l. is_page id p (l, [])) d writes
+still_page id p d writes permitted leave same = still_by_turns (λ l. is_page id p (l, [])) d writes permitted (λ k write i s t is low now turn. one k write i s t is now turn)
   where
     other : (s : Sector) (wanted : Wanted) → ((wanted.id ≡ id) × (wanted.page ≡ p) → ⊥) → names s.0 wanted ≡ true → is_page id p s ≡ false
     other s wanted apart named = either (is_page id p s) refl
@@ -125,7 +125,7 @@ still_page id p d writes lawful leave same = still_by_turns (λ l. is_page id p 
         either false f = f
         either true f = absurd (apart (sym (named_id s.0 wanted named) ∙ of_id id s (w.page_of true id p s f), sym (named_page s.0 wanted named) ∙ w.page_number true id p s f))
 
-    one : (k : ℕ) (write : DiskWrite) (i : ℕ) (s t : Sector) → slice_get writes k ≡ Some write → slice_get (moment d writes k) i ≡ Some s → Turn write i s t → SameBy (λ l. is_page id p (l, [])) s t
+    one : (k : ℕ) (write : DiskWrite) (i : ℕ) (s t : Sector) → slice_get writes k ≡ Some write → slice_get (crash_state d writes k) i ≡ Some s → Turn write i s t → SameBy (λ l. is_page id p (l, [])) s t
     one k write i s t is now (stays e) = inl e
     one k write i s t is now (bytes wanted eq named label) =
         let fails : is_page id p s ≡ false = other s wanted (λ both. same k write is (subst (λ (v : DiskWrite). IsPageWriteOf id p v) (sym eq) both)) named in
@@ -134,10 +134,10 @@ still_page id p d writes lawful leave same = still_by_turns (λ l. is_page id p 
     one k write i s t is now (freed a b) = leave k write i s t is now (ap gives_label a) (freed a b)
     one k write i s t is now (marked a b c e f) = leave k write i s t is now (ap gives_label a) (marked a b c e f)
 
-pub pages_stay : (d : List Sector) (writes : List DiskWrite) (e : List Sector) (id : ℕ) → AreLawful d writes → IsCutSince d writes e → ((p : ℕ) → p < leader_page → LabelsLeavePage id p d writes) → PagesStay d writes e id
-pages_stay d writes e id lawful cut leave = record {
-  pages = λ p u cells low is. steady_units d writes e cut id p (steady_page id p d writes lawful (leave p low)) u cells is;
-  unwritten = λ p low same. page_pairs id p (data_sectors d) (data_sectors e) (still_pairs d writes e cut (λ l. is_page id p (l, [])) (still_page id p d writes lawful (leave p low) same));
+pub pages_stay : (d : List Sector) (writes : List DiskWrite) (e : List Sector) (id : ℕ) → ArePermitted d writes → IsCutSince d writes e → ((p : ℕ) → p < leader_page → LabelsLeavePage id p d writes) → PagesStay d writes e id
+pages_stay d writes e id permitted cut leave = record {
+  pages = λ p u cells low is. steady_units d writes e cut id p (steady_page id p d writes permitted (leave p low)) u cells is;
+  unwritten = λ p low same. page_pairs id p (data_sectors d) (data_sectors e) (still_pairs d writes e cut (λ l. is_page id p (l, [])) (still_page id p d writes permitted (leave p low) same));
 }
 
 -- sectors of another file are no page of this one
@@ -147,13 +147,13 @@ narrow_page id p s t (inr f) = inr (not_of-not_page id p s.0 f.0, not_of-not_pag
 
 module _ (all : Bool) where
   pub others_stay_in_cuts : OthersStayInCuts all
-  others_stay_in_cuts d writes e id lawful cut none =
+  others_stay_in_cuts d writes e id permitted cut none =
       w.by_same_pages all (data_sectors d) (data_sectors e) id
       (leader_pairs all id (data_sectors d) (data_sectors e) (leads pairs))
       (pages_same (page_at (data_sectors d) id) (page_at (data_sectors e) id) 0 leader_page (λ k low high. page_pairs id k (data_sectors d) (data_sectors e) (pages k pairs)))
     where
       pairs : Pairs (SameBy (Of id)) (data_sectors d) (data_sectors e)
-      pairs = still_pairs d writes e cut (Of id) (still_by_turns (Of id) d writes lawful (λ k write i s t is low now turn. turn_same id (moment d writes k) write i s t now (none_each d writes id none k write is) turn))
+      pairs = still_pairs d writes e cut (Of id) (still_by_turns (Of id) d writes permitted (λ k write i s t is low now turn. turn_same id (crash_state d writes k) write i s t now (none_each d writes id none k write is) turn))
 
       leads : Pairs (SameBy (Of id)) (data_sectors d) (data_sectors e) → Pairs (λ s t. Alike (λ l. leads_file all id (l, [])) s.0 t.0) (data_sectors d) (data_sectors e)
       leads p = record { long = p.long; each = λ i s t here there. alike_less (Of id) (λ l. leads_file all id (l, [])) s.0 t.0 (λ l fails. not_of-not_leader all id l fails) (same_alike (Of id) s t (p.each i s t here there)) }
@@ -169,11 +169,11 @@ module _ (all : Bool) where
       nowhere (Some t) f =
           let low = lowest (leads_file all id) (data_sectors e) t f in
           let one = cut.labels (first_data (length e) + low.0) t (sym (data_at e low.0) ∙ low.1.here) in
-          let long : length (moment d writes one.0) ≡ length e = moment_long d writes one.0 ∙ sym cut.sectors in
-          let at : slice_get (data_sectors (moment d writes one.0)) low.0 ≡ Some one.3.0 =
-          data_at (moment d writes one.0) low.0 ∙ ap (λ (n : ℕ). slice_get (moment d writes one.0) (first_data n + low.0)) long ∙ one.3.1 in
+          let long : length (crash_state d writes one.0) ≡ length e = crash_state_long d writes one.0 ∙ sym cut.sectors in
+          let at : slice_get (data_sectors (crash_state d writes one.0)) low.0 ≡ Some one.3.0 =
+          data_at (crash_state d writes one.0) low.0 ∙ ap (λ (n : ℕ). slice_get (crash_state d writes one.0) (first_data n + low.0)) long ∙ one.3.1 in
           let fails : leads_file all id one.3.0 ≡ false =
-          none_passes (leads_file all id) (data_sectors (moment d writes one.0)) (w.none_leads all (data_sectors (moment d writes one.0)) id (none one.0 one.2)) low.0 one.3.0 at in
+          none_passes (leads_file all id) (data_sectors (crash_state d writes one.0)) (w.none_leads all (data_sectors (crash_state d writes one.0)) id (none one.0 one.2)) low.0 one.3.0 at in
           absurd (true≢false (sym low.1.passes ∙ ap (λ (l : Label). leads_file all id (l, [])) (sym one.3.2) ∙ fails))
 
   pub pages_of_file : PagesOfFile all

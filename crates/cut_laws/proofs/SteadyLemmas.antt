@@ -1,4 +1,4 @@
--- Sectors that are the same at each moment, as far as a test of labels sees, are so in a cut.
+-- Sectors that are the same in each crash state, as far as a test of labels sees, are so in a cut.
 use Rattle.std.proofs.Common.{◌≡◌, ◌≢◌, ◌⊎◌, inl, inr, ℕ, ◌+◌, ◌-◌, ◌≤◌, Bool, true, false, ◌&&◌, List, [], map, length, Option, Some, None, refl, sym, ◌∙◌, ap, subst, arith, eqb}
 use Rattle.std.specs.Prelude.{slice_get, find, option_map}
 use Rattle.std.proofs.lemmas.Bool.{true≢false, ne_eqb}
@@ -10,14 +10,14 @@ use Rattle.labelled_disk.specs.File.{Page, byte}
 use Rattle.labelled_disk.specs.FilesOn.{is_of, is_page, leads_file, page_at}
 use Rattle.labelled_disk.specs.Label.{is_file}
 use Rattle.labelled_disk.specs.Layout.{data_sectors, first_data}
-use Rattle.labelled_disk.specs.Moment.{moment}
+use Rattle.labelled_disk.specs.CrashState.{crash_state}
 use Rattle.labelled_disk.specs.Sectors.{Sector}
 use Rattle.labelled_disk.proofs.SectorWrites as w
-use Rattle.label_laws.proofs.MixedLemmas.{moment_long}
+use Rattle.label_laws.proofs.MixedLemmas.{crash_state_long}
 use Rattle.cut_laws.specs.Cut.{unit, AtSome, IsCutSince}
 use Rattle.cut_laws.specs.Windows.{disk_page}
 use Rattle.cut_laws.proofs.UnitLemmas.{same_units, unit-map}
-use Rattle.cut_laws.proofs.MomentLemmas.{get_some, data_at, at_moment}
+use Rattle.cut_laws.proofs.CrashStateLemmas.{get_some, data_at, at_crash_state}
 use Rattle.cut_laws.proofs.PairLemmas.{Pairs, Alike, alike_sym, alike_then, alike_test, alike_passes, lowest, find_lowest, lowest_pair, find_pair}
 
 -- the same sector, or both fail
@@ -47,22 +47,22 @@ data_pairs R d e long each = record {
       each (first_data (length d) + i) s t (omega arith) (sym (data_at d i) ∙ here) (ap (λ (n : ℕ). slice_get e (first_data n + i)) (sym long) ∙ sym (data_at e i) ∙ there);
 }
 
--- at each moment alike, as far as the test sees
+-- in each crash state alike, as far as the test sees
 abbrev pub Steady : (Label → Bool) → List Sector → List DiskWrite → Type 0
 Steady test d writes = (i : ℕ) (s : Sector) → first_data (length d) ≤ i → slice_get d i ≡ Some s
-    → (k : ℕ) → k ≤ length writes → (t : Sector) → slice_get (moment d writes k) i ≡ Some t → Alike test s.0 t.0
+    → (k : ℕ) → k ≤ length writes → (t : Sector) → slice_get (crash_state d writes k) i ≡ Some t → Alike test s.0 t.0
 
 abbrev pub Still : (Label → Bool) → List Sector → List DiskWrite → Type 0
 Still test d writes = (i : ℕ) (s : Sector) → first_data (length d) ≤ i → slice_get d i ≡ Some s
-    → (k : ℕ) → k ≤ length writes → (t : Sector) → slice_get (moment d writes k) i ≡ Some t → SameBy test s t
+    → (k : ℕ) → k ≤ length writes → (t : Sector) → slice_get (crash_state d writes k) i ≡ Some t → SameBy test s t
 
 module _ (d : List Sector) (writes : List DiskWrite) (e : List Sector) (cut : IsCutSince d writes e) where
-  -- a sector of the cut stood at each moment
-  pub before : (i : ℕ) (t : Sector) (j : ℕ) → slice_get e i ≡ Some t → (s : Sector) × (slice_get (moment d writes j) i ≡ Some s)
+  -- a sector of the cut stood in each crash state
+  pub before : (i : ℕ) (t : Sector) (j : ℕ) → slice_get e i ≡ Some t → (s : Sector) × (slice_get (crash_state d writes j) i ≡ Some s)
   before i t j there =
       let one = cut.labels i t there in
       let s = one.3.0 in
-      get_some (moment d writes j) i (omega (arith, at_moment (moment d writes one.0) [] 0 i s one.3.1, moment_long d writes one.0, moment_long d writes j))
+      get_some (crash_state d writes j) i (omega (arith, at_crash_state (crash_state d writes one.0) [] 0 i s one.3.1, crash_state_long d writes one.0, crash_state_long d writes j))
 
   pub steady_cut : (test : Label → Bool) → Steady test d writes → (i : ℕ) (s t : Sector) → first_data (length d) ≤ i → slice_get d i ≡ Some s → slice_get e i ≡ Some t → Alike test s.0 t.0
   steady_cut test steady i s t low here there =
@@ -70,11 +70,11 @@ module _ (d : List Sector) (writes : List DiskWrite) (e : List Sector) (cut : Is
       let alike = steady i s low here one.0 one.2 one.3.0 one.3.1 in
       subst (λ (l : Label). Alike test s.0 l) one.3.2 alike
 
-  -- and so at each moment
-  pub steady_pairs : (test : Label → Bool) → Steady test d writes → (j : ℕ) → j ≤ length writes → Pairs (λ s t. Alike test s.0 t.0) (data_sectors (moment d writes j)) (data_sectors e)
+  -- and so in each crash state
+  pub steady_pairs : (test : Label → Bool) → Steady test d writes → (j : ℕ) → j ≤ length writes → Pairs (λ s t. Alike test s.0 t.0) (data_sectors (crash_state d writes j)) (data_sectors e)
   steady_pairs test steady j few =
-      data_pairs (λ s t. Alike test s.0 t.0) (moment d writes j) e (cut.sectors ∙ sym (moment_long d writes j)) (λ i s t low here there.
-      let low' : first_data (length d) ≤ i = subst (λ (n : ℕ). first_data n ≤ i) (moment_long d writes j) low in
+      data_pairs (λ s t. Alike test s.0 t.0) (crash_state d writes j) e (cut.sectors ∙ sym (crash_state_long d writes j)) (λ i s t low here there.
+      let low' : first_data (length d) ≤ i = subst (λ (n : ℕ). first_data n ≤ i) (crash_state_long d writes j) low in
       let first = before i t 0 there in
       alike_then test s.0 first.0.0 t.0 (alike_sym test first.0.0 s.0 (steady i first.0 low' first.1 j few s here)) (steady_cut test steady i first.0 t low' first.1 there))
 
@@ -105,22 +105,22 @@ module _ (d : List Sector) (writes : List DiskWrite) (e : List Sector) (cut : Is
       either None f h = absurd (none-some cells h)
       either (Some t) f h = (t, f, same_Some (map byte t.1) cells h)
 
-  -- where the same sectors are a page at each moment, its units are of moments
+  -- where the same sectors are a page in each crash state, its units are of crash states
   pub steady_units : (id p : ℕ) → Steady (λ l. is_page id p (l, [])) d writes → (u : ℕ) (cells : Page) → disk_page e id p ≡ Some cells
-      → AtSome 0 (length writes) (λ j. option_map (unit u) (disk_page (moment d writes j) id p) ≡ Some (unit u cells))
+      → AtSome 0 (length writes) (λ j. option_map (unit u) (disk_page (crash_state d writes j) id p) ≡ Some (unit u cells))
   steady_units id p steady u cells is =
       let t = found_page id p cells is in
       let low = lowest (is_page id p) (data_sectors e) t.0 t.1 in
       let one = cut.units (first_data (length e) + low.0) u t.0 (sym (data_at e low.0) ∙ low.1.here) in
-      let long : length (moment d writes one.0) ≡ length e = moment_long d writes one.0 ∙ sym cut.sectors in
-      let there = lowest_pair (λ s t. Alike (λ l. is_page id p (l, [])) s.0 t.0) (data_sectors (moment d writes one.0)) (data_sectors e) (steady_pairs (λ l. is_page id p (l, [])) steady one.0 one.2)
+      let long : length (crash_state d writes one.0) ≡ length e = crash_state_long d writes one.0 ∙ sym cut.sectors in
+      let there = lowest_pair (λ s t. Alike (λ l. is_page id p (l, [])) s.0 t.0) (data_sectors (crash_state d writes one.0)) (data_sectors e) (steady_pairs (λ l. is_page id p (l, [])) steady one.0 one.2)
       (is_page id p) (λ s t alike. alike_test (λ l. is_page id p (l, [])) s.0 t.0 alike) low.0 t.0 low.1 in
       let same : there.0 ≡ one.3.0 = same_Some there.0 one.3.0
-      (sym there.1.here ∙ data_at (moment d writes one.0) low.0 ∙ ap (λ (n : ℕ). slice_get (moment d writes one.0) (first_data n + low.0)) long ∙ one.3.1) in (
+      (sym there.1.here ∙ data_at (crash_state d writes one.0) low.0 ∙ ap (λ (n : ℕ). slice_get (crash_state d writes one.0) (first_data n + low.0)) long ∙ one.3.1) in (
         one.0,
         one.1,
         one.2,
-        ap (λ (o : Option Sector). option_map (unit u) (option_map (λ s. map byte s.1) o)) (find_lowest (is_page id p) (data_sectors (moment d writes one.0)) low.0 there.0 there.1)
+        ap (λ (o : Option Sector). option_map (unit u) (option_map (λ s. map byte s.1) o)) (find_lowest (is_page id p) (data_sectors (crash_state d writes one.0)) low.0 there.0 there.1)
             ∙ ap (λ l. Some l) (unit-map byte u there.0.1 ∙ ap (λ (v : Sector). map byte (unit u v.1)) same ∙ ap (λ l. map byte l) one.3.2 ∙ sym (unit-map byte u t.0.1) ∙ ap (unit u) t.2),
       )
 

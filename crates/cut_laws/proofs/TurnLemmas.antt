@@ -1,4 +1,4 @@
--- What a lawful write makes of a data sector.
+-- What a permitted write makes of a data sector.
 use Rattle.std.proofs.Common.{◌≡◌, ◌≢◌, ◌⊎◌, inl, inr, ℕ, suc, ◌<◌, ◌≤◌, Bool, true, false, List, length, replicate, Option, Some, refl, sym, ◌∙◌, ap, subst, arith}
 use Rattle.std.specs.Prelude.{slice_get, slice_set, if◌then◌else◌}
 use Rattle.std.specs.Option.{option_map_or}
@@ -9,19 +9,19 @@ use Rattle.labelled_disk.specs.declared.label.Wanted.{Wanted}
 use Rattle.labelled_disk.specs.declared.disk.DiskWrite.{DiskWrite}
 use Rattle.labelled_disk.specs.declared.disk.DiskWrite.TheVariants as kind
 use Rattle.labelled_disk.specs.Label.{is_file, is_free, names, leader_page}
-use Rattle.labelled_disk.specs.Lawful.{Lawful, IsNextLabel}
+use Rattle.labelled_disk.specs.Permitted.{Permitted, IsNextLabel}
 use Rattle.labelled_disk.specs.Layout.{first_data}
-use Rattle.labelled_disk.specs.Moment.{moment, written}
+use Rattle.labelled_disk.specs.CrashState.{crash_state, written}
 use Rattle.labelled_disk.specs.Runs.{sector_of, zero_bytes}
 use Rattle.labelled_disk.specs.Sectors.{Sector, free_label}
 use Rattle.labelled_disk.proofs.Finds.{get_set_same}
 use Rattle.labelled_disk.proofs.WriteLemmas as laws
-use Rattle.label_laws.specs.LawfulRuns.{AreLawful}
+use Rattle.label_laws.specs.PermittedRuns.{ArePermitted}
 use Rattle.label_laws.specs.OneFile.{id_of}
 use Rattle.label_laws.proofs.FileLemmas.{label_written, page_written, named_id}
-use Rattle.label_laws.proofs.LawfulLemmas.{each_lawful}
-use Rattle.label_laws.proofs.MixedLemmas.{written_other, moment_long}
-use Rattle.cut_laws.proofs.MomentLemmas.{history}
+use Rattle.label_laws.proofs.PermittedLemmas.{each_permitted}
+use Rattle.label_laws.proofs.MixedLemmas.{written_other, crash_state_long}
+use Rattle.cut_laws.proofs.CrashStateLemmas.{history}
 
 -- Sector i was s, and is t after the write.
 pub data Turn (write : DiskWrite) (i : ℕ) (s t : Sector) : Type 0 where
@@ -42,10 +42,10 @@ put d i s t u here there = same_Some u t (sym (get_set_same d i u (slice_get_wit
 same_sector : (d : List Sector) (i : ℕ) (s u : Sector) → slice_get d i ≡ Some s → slice_get d i ≡ Some u → u ≡ s
 same_sector d i s u here there = same_Some u s (sym there ∙ here)
 
-pub turn : (d : List Sector) (write : DiskWrite) (i : ℕ) (s t : Sector) → Lawful d write → first_data (length d) ≤ i → slice_get d i ≡ Some s → slice_get (written write d) i ≡ Some t → Turn write i s t
-turn d write i s t lawful is_data here there = either (cases_eq (sector_of write) i)
+pub turn : (d : List Sector) (write : DiskWrite) (i : ℕ) (s t : Sector) → Permitted d write → first_data (length d) ≤ i → slice_get d i ≡ Some s → slice_get (written write d) i ≡ Some t → Turn write i s t
+turn d write i s t permitted is_data here there = either (cases_eq (sector_of write) i)
   where
-    at : (write : DiskWrite) → Lawful d write → sector_of write ≡ i → slice_get (written write d) i ≡ Some t → Turn write i s t
+    at : (write : DiskWrite) → Permitted d write → sector_of write ≡ i → slice_get (written write d) i ≡ Some t → Turn write i s t
     at (kind.Whole sector label page) (inl root) is there = absurd (omega (arith, root.place, is, is_data, laws.first_positive true 0 0 (length d)))
     at (kind.Whole sector label page) (inr now) is there =
         let old : now.old.0 ≡ s = same_sector d i s now.old.0 here (ap (λ (j : ℕ). slice_get d j) (sym is) ∙ now.old.1.here) in
@@ -94,19 +94,19 @@ turn d write i s t lawful is_data here there = either (cases_eq (sector_of write
         bytes wanted (λ x. kind.Page (is x) wanted (new x).1) named (ap (λ (v : Sector). v.0) (sym new))
 
     either : (sector_of write ≡ i) ⊎ (sector_of write ≢ i) → Turn write i s t
-    either (inl is) = at write lawful is there
+    either (inl is) = at write permitted is there
     either (inr apart) = stays (same_Some t s (sym there ∙ written_other d write i apart ∙ here))
 
--- What holds of a data sector at first, and after each turn if before it, holds of it at each moment.
-pub turns : (P : ℕ → Sector → Type 0) (d : List Sector) (writes : List DiskWrite) (i : ℕ) → AreLawful d writes → first_data (length d) ≤ i
+-- What holds of a data sector at first, and after each turn if before it, holds of it in each crash state.
+pub turns : (P : ℕ → Sector → Type 0) (d : List Sector) (writes : List DiskWrite) (i : ℕ) → ArePermitted d writes → first_data (length d) ≤ i
     → ((s : Sector) → slice_get d i ≡ Some s → P 0 s)
-    → ((k : ℕ) (write : DiskWrite) (s t : Sector) → k < length writes → slice_get writes k ≡ Some write → slice_get (moment d writes k) i ≡ Some s → slice_get (moment d writes (suc k)) i ≡ Some t
+    → ((k : ℕ) (write : DiskWrite) (s t : Sector) → k < length writes → slice_get writes k ≡ Some write → slice_get (crash_state d writes k) i ≡ Some s → slice_get (crash_state d writes (suc k)) i ≡ Some t
     → Turn write i s t → P k s → P (suc k) t)
-    → (k : ℕ) → k ≤ length writes → (s : Sector) → slice_get (moment d writes k) i ≡ Some s → P k s
-turns P d writes i lawful is_data start step =
+    → (k : ℕ) → k ≤ length writes → (s : Sector) → slice_get (crash_state d writes k) i ≡ Some s → P k s
+turns P d writes i permitted is_data start step =
     history P d writes i start (λ k write s t low is here now there before.
     step k write s t low is here there
-    (turn (moment d writes k) write i s t (each_lawful d writes lawful k write is) (subst (λ (n : ℕ). first_data n ≤ i) (sym (moment_long d writes k)) is_data) here now) before)
+    (turn (crash_state d writes k) write i s t (each_permitted d writes permitted k write is) (subst (λ (n : ℕ). first_data n ≤ i) (sym (crash_state_long d writes k)) is_data) here now) before)
 
 -- the identifier of the sector that is written
 pub id_of_label : (d : List Sector) (write : DiskWrite) (i : ℕ) (label : Label) (s : Sector) → write ≡ kind.LabelOnly i label → slice_get d i ≡ Some s → id_of d write ≡ s.0.id

@@ -19,7 +19,7 @@ use Rattle.labelled_disk.proofs.WriteLemmas as laws
 use Rattle.label_laws.specs.Shape.{bare_file, BareFile}
 use Rattle.cut_laws.specs.ShapeLaws.{IsWholeOn}
 use Rattle.cut_laws.specs.SizeLaws.{RightIsWhole}
-use Rattle.cut_laws.proofs.MomentLemmas.{get_some}
+use Rattle.cut_laws.proofs.CrashStateLemmas.{get_some}
 use Rattle.cut_laws.proofs.PairLemmas.{Pairs, Alike, alike_passes, alike_sym, alike_test}
 use Rattle.cut_laws.proofs.StayLemmas.{Of, shape_pairs}
 
@@ -32,7 +32,7 @@ abbrev pub IsSizedAmong : List Sector → ℕ → ℕ → Type 0
 IsSizedAmong xs id n = (whole : IsWholeAmong xs id) × (size whole.0 ≡ n)
 
 abbrev pub whole_among : (d : List Sector) (id : ℕ) → IsWholeOn d id → IsWholeAmong (data_sectors d) id
-whole_among d id whole = (whole.0, whole.1, ((lowest.files_are_as_told true d).told id whole.0 whole.1).1, whole.2)
+whole_among d id whole = (whole.0, whole.1, ((lowest.files_are_as_revealed true d).revealed id whole.0 whole.1).1, whole.2)
 
 abbrev pub IsSizedOn : List Sector → ℕ → ℕ → Type 0
 IsSizedOn d id n = (whole : IsWholeOn d id) × (size whole.0 ≡ n)
@@ -135,7 +135,7 @@ module _ (id : ℕ) (xs : List Sector) (i : ℕ) (s t : Sector) (here : slice_ge
       other j u off at of e =
           off (whole.3.once j i u s at here of (ap (λ (n : ℕ). is_of n s) whole.2 ∙ w.page_of true id p s is) (e ∙ sym (w.page_number true id p s is)))
 
-  -- a page behind the last one
+  -- a page after the last one
   pub whole_longer : is_of id s ≡ false → is_page id (size whole.0) t ≡ true → suc (size whole.0) < leader_page → IsSizedAmong (slice_set xs i t) id (suc (size whole.0))
   whole_longer old is room = (
     (
@@ -159,10 +159,10 @@ module _ (id : ℕ) (xs : List Sector) (i : ℕ) (s t : Sector) (here : slice_ge
       number : t.0.page ≡ size whole.0
       number = w.page_number true id (size whole.0) t is
 
-      -- no page at or behind the end
-      behind : (p : ℕ) → size whole.0 ≤ p → p < leader_page → (j : ℕ) (u : Sector) → slice_get xs j ≡ Some u → (b : Bool) → is_page id p u ≡ b → is_page id p u ≡ false
-      behind p past low j u at false f = f
-      behind p past low j u at true f =
+      -- no page at or after the end
+      beyond : (p : ℕ) → size whole.0 ≤ p → p < leader_page → (j : ℕ) (u : Sector) → slice_get xs j ≡ Some u → (b : Bool) → is_page id p u ≡ b → is_page id p u ≡ false
+      beyond p past low j u at false f = f
+      beyond p past low j u at true f =
           let page : u.0.page ≡ p = w.page_number true id p u f in
           elim (whole.3.no_other j u at (ap (λ (n : ℕ). is_of n u) whole.2 ∙ w.page_of true id p u f)) [
             | inl lead ↦ absurd (omega (arith, lead, page, low))
@@ -170,7 +170,7 @@ module _ (id : ℕ) (xs : List Sector) (i : ℕ) (s t : Sector) (here : slice_ge
           ]
 
       none : (p : ℕ) → size whole.0 ≤ p → p < leader_page → page_at xs id p ≡ None
-      none p past low = ap (λ (o : Option Sector). option_map (λ u. map byte u.1) o) (find_none (is_page id p) xs (λ j u at. behind p past low j u at (is_page id p u) refl))
+      none p past low = ap (λ (o : Option Sector). option_map (λ u. map byte u.1) o) (find_none (is_page id p) xs (λ j u at. beyond p past low j u at (is_page id p u) refl))
 
       -- an old sector has another number
       apart : (j : ℕ) (u : Sector) → slice_get xs j ≡ Some u → is_of whole.0.id u ≡ true → u.0.page ≢ size whole.0
@@ -186,12 +186,12 @@ module _ (id : ℕ) (xs : List Sector) (i : ℕ) (s t : Sector) (here : slice_ge
 -- With right labels a file that counts has one leader, and so is the file whether or not temporary ones count.
 pub right_is_whole : (all : Bool) → RightIsWhole all
 right_is_whole all serial counter d id f right is =
-    let told = (lowest.files_are_as_told all d).told id f is in
+    let revealed = (lowest.files_are_as_revealed all d).revealed id f is in
     let whole = laws.of_file all 0 0 (IsWhole (data_sectors d)) d right.whole_files id f is in
-    let l = told.0.leader in
+    let l = revealed.0.leader in
     let own : is_of f.id l.1 ≡ true = laws.leader_of all 0 0 f.id l.1 l.2.passes in
     let same : disk_file true d f.id ≡ Some f =
-    (lowest.files_are_as_told true d).all f (record {
+    (lowest.files_are_as_revealed true d).all f (record {
       leader = (
         l.0,
         l.1,
@@ -204,11 +204,11 @@ right_is_whole all serial counter d id f right is =
         l.4,
         l.5,
       );
-      page = told.0.page;
-      numbered = told.0.numbered;
-      ends = told.0.ends;
+      page = revealed.0.page;
+      numbered = revealed.0.numbered;
+      ends = revealed.0.ends;
     }) in
-    (f, ap (disk_file true d) (sym told.1) ∙ same, whole)
+    (f, ap (disk_file true d) (sym revealed.1) ∙ same, whole)
   where
     leads_more : (a b c e : Bool) → ((a && b && c) && e) ≡ true → ((a && b && true) && e) ≡ true
     leads_more true true true e h = h

@@ -8,9 +8,9 @@ use Rattle.labelled_disk.specs.declared.disk.DiskWrite.TheVariants as kind
 use Rattle.labelled_disk.specs.File.{File, size}
 use Rattle.labelled_disk.specs.FilesOn.{is_of, is_page, disk_file}
 use Rattle.labelled_disk.specs.Label.{leader_page}
-use Rattle.labelled_disk.specs.Lawful.{Lawful}
+use Rattle.labelled_disk.specs.Permitted.{Permitted}
 use Rattle.labelled_disk.specs.Layout.{data_sectors, first_data}
-use Rattle.labelled_disk.specs.Moment.{written}
+use Rattle.labelled_disk.specs.CrashState.{written}
 use Rattle.labelled_disk.specs.Sectors.{Sector}
 use Rattle.labelled_disk.proofs.WriteLemmas as laws
 use Rattle.label_laws.specs.Mixed.{gives_label}
@@ -30,16 +30,16 @@ same_size : (now : List Sector) (id : ℕ) (f g : File) → disk_file true now i
 same_size now id f g a b = ap size (same_Some f g (sym a ∙ b))
 
 -- a write that is no label write of the file
-pub step_other : (id : ℕ) (now : List Sector) (write : DiskWrite) → Lawful now write → (gives_label write ≡ true → id ≢ id_of now write) → (whole : IsWholeOn now id) → IsSizedOn (written write now) id (size whole.0)
-step_other id now write lawful apart whole =
+pub step_other : (id : ℕ) (now : List Sector) (write : DiskWrite) → Permitted now write → (gives_label write ≡ true → id ≢ id_of now write) → (whole : IsWholeOn now id) → IsSizedOn (written write now) id (size whole.0)
+step_other id now write permitted apart whole =
     whole_on (written write now) id (size whole.0)
     (whole_alike id (data_sectors now) (data_sectors (written write now))
     (data_pairs (λ s t. Alike (Of id) s.0 t.0) now (written write now) (written_long now write)
-    (λ i s t low here there. turn_alike id now write i s t here apart (turn now write i s t lawful low here there)))
+    (λ i s t low here there. turn_alike id now write i s t here apart (turn now write i s t permitted low here there)))
     (whole_among now id whole))
 
 -- the last page is freed
-pub step_frees : (id : ℕ) (now : List Sector) (write : DiskWrite) → Lawful now write → FreesLastPage id now write → (whole : IsWholeOn now id) → (p : ℕ) × (size whole.0 ≡ suc p) × IsSizedOn (written write now) id p
+pub step_frees : (id : ℕ) (now : List Sector) (write : DiskWrite) → Permitted now write → FreesLastPage id now write → (whole : IsWholeOn now id) → (p : ℕ) × (size whole.0 ≡ suc p) × IsSizedOn (written write now) id p
 step_frees id now (kind.Whole sector label page) may last whole = absurd last
 step_frees id now (kind.Page sector wanted page) may last whole = absurd last
 step_frees id now (kind.LabelOnly sector label) may last whole =
@@ -56,7 +56,7 @@ step_frees id now (kind.LabelOnly sector label) may last whole =
     )
 
 -- the next page is added
-pub step_adds : (id : ℕ) (now : List Sector) (write : DiskWrite) → Lawful now write → AddsNextPage id now write → (whole : IsWholeOn now id) → IsSizedOn (written write now) id (suc (size whole.0))
+pub step_adds : (id : ℕ) (now : List Sector) (write : DiskWrite) → Permitted now write → AddsNextPage id now write → (whole : IsWholeOn now id) → IsSizedOn (written write now) id (suc (size whole.0))
 step_adds id now (kind.LabelOnly sector label) may next whole = absurd next
 step_adds id now (kind.Page sector wanted page) may next whole = absurd next
 step_adds id now (kind.Whole sector label page) (inl root) next whole = absurd (true≢false (sym next.2 ∙ ap (λ (l : Label). is_page id (size next.0) (l, page)) root.root_label))
@@ -70,15 +70,15 @@ step_adds id now (kind.Whole sector label page) (inr may) next whole =
     (ap (λ (b : Bool). b && eqb s.0.id id) (free_none s.0 may.old.2)) (ap (λ (n : ℕ). is_page id n (label, page)) (sym same) ∙ next.2)
     (subst (λ (n : ℕ). suc n < leader_page) same next.3)))
 
-pub whole_step : (id : ℕ) (now : List Sector) (write : DiskWrite) → Lawful now write → (IsLabelWriteOf id now write → FreesLastPage id now write ⊎ AddsNextPage id now write) → IsWholeOn now id
+pub whole_step : (id : ℕ) (now : List Sector) (write : DiskWrite) → Permitted now write → (IsLabelWriteOf id now write → FreesLastPage id now write ⊎ AddsNextPage id now write) → IsWholeOn now id
     → IsWholeOn (written write now) id
-whole_step id now write lawful ends whole = either (gives_label write) refl (cases_eq id (id_of now write))
+whole_step id now write permitted ends whole = either (gives_label write) refl (cases_eq id (id_of now write))
   where
     own : FreesLastPage id now write ⊎ AddsNextPage id now write → IsWholeOn (written write now) id
-    own (inl last) = (step_frees id now write lawful last whole).2.0
-    own (inr next) = (step_adds id now write lawful next whole).0
+    own (inl last) = (step_frees id now write permitted last whole).2.0
+    own (inr next) = (step_adds id now write permitted next whole).0
 
     either : (b : Bool) → gives_label write ≡ b → (id ≡ id_of now write) ⊎ (id ≢ id_of now write) → IsWholeOn (written write now) id
-    either false f of = (step_other id now write lawful (λ gives. absurd (true≢false (sym gives ∙ f))) whole).0
-    either true f (inr apart) = (step_other id now write lawful (λ gives. apart) whole).0
+    either false f of = (step_other id now write permitted (λ gives. absurd (true≢false (sym gives ∙ f))) whole).0
+    either true f (inr apart) = (step_other id now write permitted (λ gives. apart) whole).0
     either true f (inl of) = own (ends (f, sym of))

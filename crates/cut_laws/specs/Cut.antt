@@ -3,7 +3,7 @@
 use Rattle.std.specs.Prelude.{◌≡◌, ℕ, ◌*◌, ◌≤◌, List, length, take, drop, slice_get, Some}
 use Rattle.labelled_disk.specs.declared.label.Label.{Label}
 use Rattle.labelled_disk.specs.declared.disk.DiskWrite.{DiskWrite}
-use Rattle.labelled_disk.specs.Moment.{moment}
+use Rattle.labelled_disk.specs.CrashState.{crash_state}
 use Rattle.labelled_disk.specs.Sectors.{Sector}
 
 -- Unit u of a page, or of its cells: the 16 from 16 * u on. A label is one unit, a page is 32.
@@ -22,13 +22,13 @@ HasLabelAt d i label = (s : Sector) × (slice_get d i ≡ Some s) × (s.0 ≡ la
 abbrev pub HasUnitAt : List Sector → ℕ → ℕ → List ℕ → Type 0
 HasUnitAt d i u bytes = (s : Sector) × (slice_get d i ≡ Some s) × (unit u s.1 ≡ bytes)
 
--- Each label of e, and each unit of its pages, stood there at some moment of these writes from s to k, each at one of
+-- Each label of e, and each unit of its pages, stood there in some crash state of these writes from s to k, each at one of
 -- its own.
 pub record IsCut (d : List Sector) (writes : List DiskWrite) (s k : ℕ) (e : List Sector) : Type 0 where
   pub sectors : length e ≡ length d
-  pub labels : (i : ℕ) (t : Sector) → slice_get e i ≡ Some t → AtSome s k (λ j. HasLabelAt (moment d writes j) i t.0)
+  pub labels : (i : ℕ) (t : Sector) → slice_get e i ≡ Some t → AtSome s k (λ j. HasLabelAt (crash_state d writes j) i t.0)
   pub units : (i u : ℕ) (t : Sector) → slice_get e i ≡ Some t
-      → AtSome s k (λ j. HasUnitAt (moment d writes j) i u (unit u t.1))
+      → AtSome s k (λ j. HasUnitAt (crash_state d writes j) i u (unit u t.1))
 
 -- any part of these writes, which were made since the disk d was settled
 abbrev pub IsCutSince : List Sector → List DiskWrite → List Sector → Type 0

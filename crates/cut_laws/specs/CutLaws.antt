@@ -1,9 +1,9 @@
--- What cuts are: each moment since the last settle is one, and with no write since there is no other.
+-- What cuts are: each crash state since the last sync is one, and with no write since there is no other.
 use Rattle.std.specs.Prelude.{◌≡◌, ◌↔◌, ℕ, ◌+◌, ◌≤◌, List, ◌++◌, length, take, drop}
 use Rattle.labelled_disk.specs.declared.disk.DiskWrite.{DiskWrite}
-use Rattle.labelled_disk.specs.Moment.{moment}
+use Rattle.labelled_disk.specs.CrashState.{crash_state}
 use Rattle.labelled_disk.specs.Sectors.{Sector}
-use Rattle.label_laws.specs.LawfulRuns.{AreLawful}
+use Rattle.label_laws.specs.PermittedRuns.{ArePermitted}
 use Rattle.cut_laws.specs.Cut.{IsCut, IsCutSince}
 
 -- the writes from number s on, up to number k
@@ -18,21 +18,21 @@ LaterIsNotThere = (d : List Sector) (first next : List DiskWrite) (s k : ℕ) (e
 pub record CutLaws : Type 0 where
   -- all was settled
   pub settled : (d : List Sector) (writes : List DiskWrite) (k : ℕ) (e : List Sector) → IsCut d writes k k e
-      → e ≡ moment d writes k
+      → e ≡ crash_state d writes k
   -- a stop is a cut
-  pub moments : (d : List Sector) (writes : List DiskWrite) (s k j : ℕ) → s ≤ j → j ≤ k
-      → IsCut d writes s k (moment d writes j)
+  pub crash_states : (d : List Sector) (writes : List DiskWrite) (s k j : ℕ) → s ≤ j → j ≤ k
+      → IsCut d writes s k (crash_state d writes j)
   -- settled earlier, or written more
   pub wider : (d : List Sector) (writes : List DiskWrite) (r s k l : ℕ) (e : List Sector) → r ≤ s → k ≤ l
       → IsCut d writes s k e → IsCut d writes r l e
   pub later : LaterIsNotThere
 
--- A cut is a part of the writes since the last settle, made on the disk as it was then: so what is said of such
+-- A cut is a part of the writes since the last sync, made on the disk as it was then: so what is said of such
 -- writes is said of each cut.
 pub record WindowLaws : Type 0 where
   pub cut : (d : List Sector) (writes : List DiskWrite) (s k : ℕ) (e : List Sector) → s ≤ k → IsCut d writes s k e
-      → IsCutSince (moment d writes s) (between s k writes) e
-  pub moments : (d : List Sector) (writes : List DiskWrite) (s k j : ℕ) → s + j ≤ k
-      → moment (moment d writes s) (between s k writes) j ≡ moment d writes (s + j)
-  pub lawful : (d : List Sector) (writes : List DiskWrite) (s k : ℕ) → AreLawful d writes
-      → AreLawful (moment d writes s) (between s k writes)
+      → IsCutSince (crash_state d writes s) (between s k writes) e
+  pub crash_states : (d : List Sector) (writes : List DiskWrite) (s k j : ℕ) → s + j ≤ k
+      → crash_state (crash_state d writes s) (between s k writes) j ≡ crash_state d writes (s + j)
+  pub permitted : (d : List Sector) (writes : List DiskWrite) (s k : ℕ) → ArePermitted d writes
+      → ArePermitted (crash_state d writes s) (between s k writes)

@@ -7,7 +7,7 @@ use Rattle.labelled_disk.specs.Label.{leader_page, page_label, root_label}
 use Rattle.labelled_disk.specs.Root.{counter_of}
 use Rattle.labelled_disk.specs.Runs.{growth, zero_bytes}
 use Rattle.labelled_disk.specs.Sectors.{Sector, free_label}
-use Rattle.label_laws.specs.LawfulRuns.{AreLawful}
+use Rattle.label_laws.specs.PermittedRuns.{ArePermitted}
 use Rattle.cut_laws.specs.Cut.{IsCutSince}
 use Rattle.cut_laws.specs.ResizeLaws.{IsResized}
 use Rattle.cut_laws.specs.Roots.{flag_of}
@@ -51,9 +51,9 @@ mixed_up bytes = (free_label, []) ∷ (free_label, []) ∷ (free_label, []) ∷ 
     ∷ (page_label 16 0 leader_page, []) ∷ (page_label 17 0 leader_page, []) ∷ (page_label 16 0 0, bytes) ∷ []
 
 -- a cut may have bytes of the one file in the other: so a sector that was another's has to be free and zeros at a
--- settle
+-- sync
 pub record ForeignBytes (bytes : List ℕ) : Type 0 where
-  pub lawful : AreLawful (two_files bytes) given_on
+  pub permitted : ArePermitted (two_files bytes) given_on
   pub cut : IsCutSince (two_files bytes) given_on (mixed_up bytes)
   pub foreign : disk_page (mixed_up bytes) 16 0 ≡ Some (map byte bytes)
 
@@ -64,7 +64,7 @@ one_file = (free_label, []) ∷ (free_label, []) ∷ (free_label, []) ∷ (free_
 
 -- what a law asks of a file that is lengthened can be met
 pub record OnePageMore : Type 0 where
-  pub lawful : AreLawful one_file (growth 16 0 0 (5 ∷ []))
+  pub permitted : ArePermitted one_file (growth 16 0 0 (5 ∷ []))
   pub resized : IsResized one_file (growth 16 0 0 (5 ∷ [])) 16
 
 pub record ExampleCuts : Type 0 where

@@ -8,7 +8,7 @@ pub mod ResizeLaws
 pub mod Restored
 pub mod RootWrites
 pub mod Roots
-pub mod Settles
+pub mod Syncs
 pub mod ShapeLaws
 pub mod SizeLaws
 pub mod StayLaws

@@ -6,11 +6,11 @@ use Rattle.labelled_disk.specs.declared.disk.DiskWrite.TheVariants.{LabelOnly}
 use Rattle.labelled_disk.specs.File.{size}
 use Rattle.labelled_disk.specs.FilesOn.{leads_file}
 use Rattle.labelled_disk.specs.Label.{leader_page}
-use Rattle.labelled_disk.specs.Moment.{written}
+use Rattle.labelled_disk.specs.CrashState.{written}
 use Rattle.labelled_disk.specs.Runs.{IsAt, ArePagesDown, freeing, growth}
 use Rattle.labelled_disk.specs.Sectors.{Sector}
 use Rattle.labelled_disk.specs.WriteRuns.{after_writes}
-use Rattle.label_laws.specs.LawfulRuns.{AreLawful}
+use Rattle.label_laws.specs.PermittedRuns.{ArePermitted}
 use Rattle.label_laws.specs.Mixed.{gives_label}
 use Rattle.label_laws.specs.OneFile.{id_of}
 use Rattle.cut_laws.specs.ResizeLaws.{AddsNextPage, FreesLastPage}
@@ -30,18 +30,18 @@ pub record OwnRunLaws (id : ℕ) : Type 0 where
       → own_label_writes id d (first ++ next) ≡ own_label_writes id d first
       ++ own_label_writes id (after_writes first d) next
   pub none : (d : List Sector) (writes : List DiskWrite) → own_label_writes id d writes ≡ [] → NoLabelOf id d writes
-  pub marked : (d : List Sector) (writes : List DiskWrite) (leader : ℕ) (label : Label) → AreLawful d writes
+  pub marked : (d : List Sector) (writes : List DiskWrite) (leader : ℕ) (label : Label) → ArePermitted d writes
       → IsAt (leads_file true id) d leader → own_label_writes id d writes ≡ LabelOnly leader label ∷ []
       → EachWrite (λ now write. IsLabelWriteOf id now write → IsOnLeader id now write) d writes
-  pub freed : (d : List Sector) (writes : List DiskWrite) (leader : ℕ) → AreLawful d writes
+  pub freed : (d : List Sector) (writes : List DiskWrite) (leader : ℕ) → ArePermitted d writes
       → IsAt (leads_file true id) d leader → own_label_writes id d writes ≡ freeing (leader ∷ [])
       → EachWrite (λ now write. IsLabelWriteOf id now write → FreesLeader id now write) d writes
   pub shortened : (d : List Sector) (writes : List DiskWrite) (whole : IsWholeOn d id) (is : List ℕ)
-      → AreLawful d writes → ArePagesDown d id (size whole.0) is → own_label_writes id d writes ≡ freeing is
+      → ArePermitted d writes → ArePagesDown d id (size whole.0) is → own_label_writes id d writes ≡ freeing is
       → EachWrite (λ now write. IsLabelWriteOf id now write → FreesLastPage id now write ⊎ AddsNextPage id now write)
       d writes
   pub lengthened : (d : List Sector) (writes : List DiskWrite) (whole : IsWholeOn d id) (kind : ℕ) (is : List ℕ)
-      → AreLawful d writes → size whole.0 + length is < leader_page
+      → ArePermitted d writes → size whole.0 + length is < leader_page
       → own_label_writes id d writes ≡ growth id kind (size whole.0) is
       → EachWrite (λ now write. IsLabelWriteOf id now write → FreesLastPage id now write ⊎ AddsNextPage id now write)
       d writes

@@ -3,9 +3,9 @@ use Rattle.std.specs.Prelude.{◌≡◌, ℕ, ◌≤◌, ◌<◌, Bool, List, le
 use Rattle.labelled_disk.specs.declared.disk.DiskWrite.{DiskWrite}
 use Rattle.labelled_disk.specs.File.{File, size}
 use Rattle.labelled_disk.specs.FilesOn.{disk_file}
-use Rattle.labelled_disk.specs.Moment.{moment}
+use Rattle.labelled_disk.specs.CrashState.{crash_state}
 use Rattle.labelled_disk.specs.Sectors.{Sector}
-use Rattle.label_laws.specs.LawfulRuns.{AreLawful}
+use Rattle.label_laws.specs.PermittedRuns.{ArePermitted}
 use Rattle.label_laws.specs.OneFile.{NoneOf}
 use Rattle.cut_laws.specs.Cut.{IsCutSince}
 use Rattle.cut_laws.specs.Windows.{disk_page}
@@ -13,14 +13,14 @@ use Rattle.cut_laws.specs.Windows.{disk_page}
 module _ (with_temporary : Bool) where
   -- a file that no write is of is there as it was, byte by byte
   abbrev pub OthersStayInCuts : Type 0
-  OthersStayInCuts = (d : List Sector) (writes : List DiskWrite) (e : List Sector) (id : ℕ) → AreLawful d writes
+  OthersStayInCuts = (d : List Sector) (writes : List DiskWrite) (e : List Sector) (id : ℕ) → ArePermitted d writes
       → IsCutSince d writes e → NoneOf id d writes
       → disk_file with_temporary e id ≡ disk_file with_temporary d id
 
-  -- a file that is there at no moment is not there
+  -- a file that is there in no crash state is not there
   abbrev pub NoneAppears : Type 0
   NoneAppears = (d : List Sector) (writes : List DiskWrite) (e : List Sector) (id : ℕ) → IsCutSince d writes e
-      → ((j : ℕ) → j ≤ length writes → disk_file with_temporary (moment d writes j) id ≡ None)
+      → ((j : ℕ) → j ≤ length writes → disk_file with_temporary (crash_state d writes j) id ≡ None)
       → disk_file with_temporary e id ≡ None
 
   -- the pages of a file are those of the sectors

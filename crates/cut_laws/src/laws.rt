@@ -10,20 +10,20 @@ ghost use Rattle.cut_laws.specs.ResizeLaws.{ResizedHasSizeBetween};
 ghost use Rattle.cut_laws.specs.Restored.{RestoredKeepsFiles};
 ghost use Rattle.cut_laws.specs.RootWrites.{RootIsWhole};
 ghost use Rattle.cut_laws.specs.Roots.{FlagLaws};
-ghost use Rattle.cut_laws.specs.Settles.{SettleLaws};
-ghost use Rattle.cut_laws.specs.ShapeLaws.{LeaderFreed, LeaderWritten, NoLabelWritten, ShapesOfOneMoment};
-ghost use Rattle.cut_laws.specs.SizeLaws.{PagesAreOwn, RightIsWhole, SizeOfOneMoment};
+ghost use Rattle.cut_laws.specs.Syncs.{SyncLaws};
+ghost use Rattle.cut_laws.specs.ShapeLaws.{LeaderFreed, LeaderWritten, NoLabelWritten, ShapesOfOneCrashState};
+ghost use Rattle.cut_laws.specs.SizeLaws.{PagesAreOwn, RightIsWhole, SizeOfOneCrashState};
 ghost use Rattle.cut_laws.specs.StayLaws.{NoneAppears, OthersStayInCuts, PagesOfFile};
 
-/// What a cut is: any part of the writes since the last settle.
+/// What a cut is: any part of the writes since the last sync.
 pub fn cuts_are_parts_of_writes()
     ensures cuts { CutLaws }
     ensures windows { WindowLaws }
     ensures mixes { MixLaws }
-    ensures settles { (settles : List ℕ) (k : ℕ) → SettleLaws settles k }
+    ensures syncs { (syncs : List ℕ) (k : ℕ) → SyncLaws syncs k }
 {}
 
-/// A file that no write is of is in a cut as it was, and one that there is at no moment is not in it.
+/// A file that no write is of is in a cut as it was, and one that there is in no crash state is not in it.
 pub fn others_stay_in_cuts()
     ensures stays { (with_temporary : Bool) → OthersStayInCuts with_temporary }
     ensures none { (with_temporary : Bool) → NoneAppears with_temporary }
@@ -35,7 +35,7 @@ pub fn shapes_stay_in_cuts()
     ensures no_label { (with_temporary : Bool) → NoLabelWritten with_temporary }
     ensures marks { (with_temporary : Bool) → LeaderWritten with_temporary }
     ensures leaves { (with_temporary : Bool) → LeaderFreed with_temporary }
-    ensures all { (with_temporary : Bool) → ShapesOfOneMoment with_temporary }
+    ensures all { (with_temporary : Bool) → ShapesOfOneCrashState with_temporary }
 {}
 
 /// Sectors that no file needs are freed, and root and maps are written: each cut has the files.
@@ -49,14 +49,14 @@ pub fn root_in_cuts()
     ensures written { RootIsWhole }
 {}
 
-/// A file has bytes of its own in a cut, where its sectors were no other's since the last settle.
+/// A file has bytes of its own in a cut, where its sectors were no other's since the last sync.
 pub fn own_bytes_in_cuts()
     ensures { (id : ℕ) → OwnBytes id }
 {}
 
-/// A file that gets more pages, or fewer, has a size in a cut that it had at some moment.
+/// A file that gets more pages, or fewer, has a size in a cut that it had in some crash state.
 pub fn sizes_in_cuts()
-    ensures size { (with_temporary : Bool) → SizeOfOneMoment with_temporary }
+    ensures size { (with_temporary : Bool) → SizeOfOneCrashState with_temporary }
     ensures pages { PagesAreOwn }
     ensures whole { (with_temporary : Bool) → RightIsWhole with_temporary }
     ensures resized { (with_temporary : Bool) → ResizedHasSizeBetween with_temporary }

@@ -10,8 +10,8 @@ use Rattle.labelled_disk.specs.State.{DiskState}
 abbrev pub copied : ℕ → ℕ → List Sector → List Sector
 copied from to d = option_map_or (λ source. option_map_or (λ target. slice_set d to (target.0, source.1)) (slice_get d to) d) (slice_get d from) d
 
--- the disk tells of the copy, and of one write more, which was that of the source's page
-pub record TellsCopy (from to : ℕ) (wanted : Wanted) (old new : DiskState) : Type 0 where
+-- the disk reveals of the copy, and of one write more, which was that of the source's page
+pub record RevealsCopy (from to : ℕ) (wanted : Wanted) (old new : DiskState) : Type 0 where
   pub contents : new.contents ≡ option_map (copied from to) old.contents
   pub page : List ℕ
   pub is_source : (d : List Sector) → old.contents ≡ Some d → option_map (λ s. s.1) (slice_get d from) ≡ Some page

@@ -1,7 +1,7 @@
 -- A write that stands on the medium.
 use Rattle.std.specs.Prelude.{◌≡◌, true, option_map}
 use Rattle.labelled_disk.specs.declared.disk.DiskWrite.{DiskWrite}
-use Rattle.labelled_disk.specs.Moment.{written}
+use Rattle.labelled_disk.specs.CrashState.{written}
 use Rattle.labelled_disk.specs.State.{DiskState}
 
 -- the write was made, and all is on the medium

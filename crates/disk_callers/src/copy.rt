@@ -1,9 +1,9 @@
 //! A page copied from one sector of a disk to another.
 ghost use Rattle.std.specs.Prelude.{◌≡◌, ◌<◌, ◌≤◌, ◌+◌, ◌⊎◌, OnOk, true, false};
-ghost use Rattle.labelled_disk.specs.Calls.{OnFailed, OnWrong, Rose, TellsSame};
+ghost use Rattle.labelled_disk.specs.Calls.{OnFailed, OnWrong, Rose, RevealsSame};
 ghost use Rattle.labelled_disk.specs.Label.{names};
 ghost use Rattle.labelled_disk.specs.State.{HasLabel, NamesThere};
-ghost use Rattle.disk_callers.specs.Copies.{TellsCopy};
+ghost use Rattle.disk_callers.specs.Copies.{RevealsCopy};
 
 use labelled_disk::{Disk, DiskError, Wanted};
 
@@ -12,17 +12,17 @@ use labelled_disk::{Disk, DiskError, Wanted};
 pub fn copy_page<D: Disk>(disk: &mut D, from: u32, to: u32, wanted: Wanted) -> Result<(), DiskError>
     requires from_exists { from < (D.state disk.old).sectors }
     requires to_exists { to < (D.state disk.old).sectors }
-    ensures copied { OnOk result (TellsCopy from to wanted (D.state disk.old) (D.state disk.new)) }
+    ensures copied { OnOk result (RevealsCopy from to wanted (D.state disk.old) (D.state disk.new)) }
     ensures named { OnOk result (NamesThere (D.state disk.old) to wanted true) }
 
     // Another label stands there.
     ensures wrong { OnWrong result (λ found. names found wanted ≡ false) }
     ensures there { OnWrong result (λ found. HasLabel (D.state disk.old) to found) }
-    ensures same { OnWrong result (λ found. TellsSame (D.state disk.old) (D.state disk.new)) }
+    ensures same { OnWrong result (λ found. RevealsSame (D.state disk.old) (D.state disk.new)) }
 
     // The disk failed.
-    ensures whole_or_absent { OnFailed result (TellsSame (D.state disk.old) (D.state disk.new)
-        ⊎ TellsCopy from to wanted (D.state disk.old) (D.state disk.new)) }
+    ensures whole_or_absent { OnFailed result (RevealsSame (D.state disk.old) (D.state disk.new)
+        ⊎ RevealsCopy from to wanted (D.state disk.old) (D.state disk.new)) }
     ensures cause { OnFailed result (Rose (D.state disk.old).faults (D.state disk.new).faults) }
 
     ensures later { (D.state disk.old).faults ≤ (D.state disk.new).faults }

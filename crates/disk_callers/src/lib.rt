@@ -8,5 +8,5 @@ mod tests;
 mod through;
 
 pub use copy::copy_page;
-pub use settled::settle_label;
+pub use settled::sync_label;
 pub use through::through_memory;

@@ -6,9 +6,9 @@ use labelled_disk::{Disk, DiskError, DiskWrite, Label, NoMemory};
 use std::alloc::Allocator;
 use write_queue::QueueOver;
 
-/// Sets the label of a sector through a queue, and settles it. After an Ok the label stands on the
+/// Sets the label of a sector through a queue, and syncs it. After an Ok the label stands on the
 /// disk, which is synced. The disk is handed back whatever the answer.
-pub fn settle_label<D: Disk, A: Allocator + Clone>(
+pub fn sync_label<D: Disk, A: Allocator + Clone>(
     alloc: A,
     disk: D,
     sector: u32,
@@ -26,6 +26,6 @@ pub fn settle_label<D: Disk, A: Allocator + Clone>(
     if answer.is_err() {
         return Ok((answer, queue.into_disk()));
     }
-    let settled = queue.settle();
+    let settled = queue.sync();
     Ok((settled, queue.into_disk()))
 }

@@ -4,7 +4,7 @@ ghost use Rattle.std.specs.Prelude.{◌≡◌, IfOk};
 use labelled_disk::{Disk, Label, MemoryDisk, NoMemory, Page};
 use std::alloc::Allocator;
 
-/// Writes a sector of a new disk in memory and reads it back. Only want of memory can stop it.
+/// Writes a sector of a new disk in memory and reads it back. Only running out of memory can stop it.
 pub fn through_memory<A: Allocator + Clone>(
     alloc: A,
     label: Label,

@@ -15,7 +15,7 @@ use Rattle.flat_machine.specs.Refusal.{is_read_only}
 use Rattle.swap_units.specs.declared.interval.Interval.{Interval}
 use Rattle.swap_units.specs.Unit.{Holds}
 use Rattle.space_tables.specs.SpaceTables.{IsIntervalAt}
-use Rattle.space_tables.specs.Stored.{TellSpaces}
+use Rattle.space_tables.specs.Stored.{RevealSpaces}
 use Rattle.space_tables.specs.Form.{BreaksLookUp}
 use Rattle.frame_pool.specs.Frames.{Slots}
 use Rattle.fault_core.specs.declared.reference.Access.{Access}
@@ -27,11 +27,11 @@ use Rattle.fault_core.specs.Kept.{IsFormed}
 use Rattle.fault_core.specs.Reach.{Reaches}
 use Rattle.fault_core.specs.Unit.{IsReady}
 use Rattle.fault_core.specs.Moves.{AreSeen}
-use Rattle.fault_core.specs.Told.{BreaksTables, IsIntervalOf, Told}
+use Rattle.fault_core.specs.Revealed.{BreaksTables, IsIntervalOf, Revealed}
 use Rattle.fault_core.specs.View.{View}
 use Rattle.fault_core.proofs.KeptLemmas.{find_is}
-use Rattle.fault_core.proofs.ShowLemmas.{tells_page, shown_is, seen_of}
-use Rattle.fault_core.proofs.ToldLemmas.{interval_of}
+use Rattle.fault_core.proofs.ShowLemmas.{reveals_page, shown_is, seen_of}
+use Rattle.fault_core.proofs.RevealedLemmas.{interval_of}
 
 -- ---- The pages of a reference.
 
@@ -133,10 +133,10 @@ module _ (ss : List Space) (writes : Bool) (address count : ℕ) where
   read_only_is false true first last = found_last (is_read_only ss) (address / 512) (last_page address count) first last
   read_only_is false false first last = found_none (is_read_only ss) (address / 512) (last_page address count) first last
 
-  pub access_shown : {tells : List ℕ → Type 0} {n : ℕ} → TellSpaces tells n ss → (x y : Interval) → IsIntervalOf ss x → IsIntervalOf ss y → Shows x (address / 512) → Shows y (last_page address count)
+  pub access_shown : {reveals : List ℕ → Type 0} {n : ℕ} → RevealSpaces reveals n ss → (x y : Interval) → IsIntervalOf ss x → IsIntervalOf ss y → Shows x (address / 512) → Shows y (last_page address count)
       → (a : Access) → a ≡ refused_by None (if writes then (if is_load_only x then Some (address / 512) else (if is_load_only y then Some (last_page address count) else None)) else None) → a ≡ access_of ss writes address count
   access_shown t x y of_x of_y shows_x shows_y a is =
-      let only = read_only_is (is_load_only x) (is_load_only y) (tells_page t x of_x (address / 512) shows_x.holds).read_only (tells_page t y of_y (last_page address count) shows_y.holds).read_only in
+      let only = read_only_is (is_load_only x) (is_load_only y) (reveals_page t x of_x (address / 512) shows_x.holds).read_only (reveals_page t y of_y (last_page address count) shows_y.holds).read_only in
       let mapped = all_mapped _ _ (shown_is t x of_x (address / 512) shows_x.holds shows_x.mapped) (shown_is t y of_y (last_page address count) shows_y.holds shows_y.mapped) in
       subst (λ (b : Access). a ≡ b) (sym mapped) (subst (λ (o : Option ℕ). a ≡ refused_by None (if writes then o else None)) (sym only) is)
 
@@ -145,7 +145,7 @@ module _ (ss : List Space) (writes : Bool) (address count : ℕ) where
 pub breaks_before : (v w : View) → Reaches v w → (n k asked page : ℕ) → k ≡ n → BreaksTables w k asked page → BreaksTables v n asked page
 breaks_before v w h n k asked page same g = record {
   in_root = g.in_root;
-  breaks = λ b told. subst (λ (j : ℕ). BreaksLookUp asked j b page) same (g.breaks b (h.told b told));
+  breaks = λ b revealed. subst (λ (j : ℕ). BreaksLookUp asked j b page) same (g.breaks b (h.revealed b revealed));
 }
 
 pub ready_same : (k l : List Interval) (s t : Slots) (page : ℕ) → l ≡ k → t ≡ s → IsReady k s page → IsReady l t page
@@ -177,7 +177,7 @@ pub came_to : (a : Access) (r s : Reference) → r ≡ s → outcome r ≡ a →
 came_to a r s is p = subst (λ (r : Reference). outcome r ≡ a) is p
 
 -- both intervals, where the core is known
-pub both_seen : {v : View} {kept : List Interval} {n : ℕ} {m : List Sector} {named : Triples} {ss : List Space} → Told v kept n m named ss → (r : Reference) (x y : Interval) (p q : ℕ) → r ≡ reference.Shown x y
+pub both_seen : {v : View} {kept : List Interval} {n : ℕ} {m : List Sector} {named : Triples} {ss : List Space} → Revealed v kept n m named ss → (r : Reference) (x y : Interval) (p q : ℕ) → r ≡ reference.Shown x y
     → IfShown (λ x y. Shows x p × Shows y q) r → IfShown (λ x y. IsIntervalAt ss p x × IsIntervalAt ss q y) r → AreSeen ss named m x × AreSeen ss named m y
 both_seen {m = m} {named = named} {ss = ss} h r x y p q is form intervals =
     let shows = at_shown (λ x y. Shows x p × Shows y q) r x y is form in

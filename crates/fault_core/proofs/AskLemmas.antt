@@ -6,7 +6,7 @@ use Rattle.swap_units.specs.declared.interval.Interval.{Interval}
 use Rattle.swap_units.specs.Unit.{Holds, has_page}
 use Rattle.space_tables.specs.Form.{in_form}
 use Rattle.fault_core.specs.Kept.{IsFormed}
-use Rattle.fault_core.proofs.ToldLemmas.{formed_of, holds_it}
+use Rattle.fault_core.proofs.RevealedLemmas.{formed_of, holds_it}
 
 -- what holds of a filer that was lent holds of the one that came back
 pub lent : {W X Y Z : Type 0} (P : W → X → Y → Z → Type 0) (v w : W) (a b : X) (s t : Y) (x y : Z) → v ≡ w → a ≡ b → s ≡ t → x ≡ y → P w b t y → P v a s x

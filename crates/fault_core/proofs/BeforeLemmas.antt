@@ -27,7 +27,7 @@ use Rattle.swapper_kernel.specs.Goes.{Goes, Pages}
 use Rattle.swapper_kernel.specs.GoesLaws.{goes_then, goes_wider}
 use Rattle.swapper_kernel.specs.Halts.{held_or}
 use Rattle.swapper_kernel.specs.HaltLaws.{brings_then, brings_wider, label_before, rose_wider}
-use Rattle.swapper_kernel.specs.Window.{IsPage, Shows, Tells}
+use Rattle.swapper_kernel.specs.Window.{IsPage, Shows, Reveals}
 use Rattle.swapper_kernel.proofs.PlacedLemmas.{parts}
 use Rattle.filer_kernel.specs.Triples.{MapIs}
 use Rattle.filer_kernel.specs.Causes.{MapShows, IsGiven}
@@ -56,14 +56,14 @@ module _ (layout : Layout) (is : IsLayout layout) where
   pub map_still : (named : Triples) (m n : List Sector) → Differs (on_data layout) m n → MapIs layout named m → MapIs layout named n
   map_still named m n differs map = record { bytes = map.bytes; shows = shows_still m n map.bytes differs map.shows; names = map.names }
 
-  tells_still : {pages : Pages} {a b : DiskState} {s t : Slots} → Goes (Differs (on_data layout)) pages [] a s b t → (bytes : List ℕ) → Tells FileMap a s layout bytes → Tells FileMap b t layout bytes
-  tells_still goes bytes tells =
-      let now = goes.memory tells.memory tells.stands in
-      record { memory = now.0; stands = now.1; shows = shows_still tells.memory now.0 bytes now.2 tells.shows; size = goes.makes.went.sectors ∙ tells.size }
+  reveals_still : {pages : Pages} {a b : DiskState} {s t : Slots} → Goes (Differs (on_data layout)) pages [] a s b t → (bytes : List ℕ) → Reveals FileMap a s layout bytes → Reveals FileMap b t layout bytes
+  reveals_still goes bytes reveals =
+      let now = goes.memory reveals.memory reveals.stands in
+      record { memory = now.0; stands = now.1; shows = shows_still reveals.memory now.0 bytes now.2 reveals.shows; size = goes.makes.went.sectors ∙ reveals.size }
 
   -- what its pages show afterwards they showed before
   sight_before : {pages : Pages} {a b : DiskState} {s t : Slots} → Goes (Differs (on_data layout)) pages [] a s b t → (sight : Sight) → MapShows layout b t sight → MapShows layout a s sight
-  sight_before goes sight shows bytes tells = shows bytes (tells_still goes bytes tells)
+  sight_before goes sight shows bytes reveals = shows bytes (reveals_still goes bytes reveals)
 
 -- ---- Pages that are found and brought in are touched.
 
@@ -75,7 +75,7 @@ touches_of {v = v} pages h = record {
   layout = h.layout;
   given = h.given;
   runs_are = h.runs_are;
-  told = h.told;
+  revealed = h.revealed;
 }
 
 module _ (v w : View) (is : IsLayout v.layout) {pages : Pages} (h : Touches pages v w) where
@@ -139,7 +139,7 @@ module _ (v w : View) (is : IsLayout v.layout) {pages : Pages} (h : Touches page
     given = λ r one. given_before r (k.given r one);
     runs_are = λ m named stands map are. let mid = h.goes.memory m stands in
         k.runs_are mid.0 named mid.1 (rw h.layout (map_still v.layout is named m mid.0 mid.2 map)) (h.runs_are m named stands map are);
-    told = λ b tells. k.told b (h.told b tells);
+    revealed = λ b reveals. k.revealed b (h.revealed b reveals);
   }
 
 -- more pages may be touched
@@ -150,5 +150,5 @@ touches_wider {v = v} pages more too h = record {
   layout = h.layout;
   given = h.given;
   runs_are = h.runs_are;
-  told = h.told;
+  revealed = h.revealed;
 }

@@ -21,7 +21,7 @@ use Rattle.swapper_kernel.specs.Homes.{IsLayout, IsAmong}
 use Rattle.swapper_kernel.specs.HaltLaws.{brings_itself, brings_then}
 use Rattle.fault_core.specs.View.{View, kept_by}
 use Rattle.fault_core.specs.Reach.{IsReachedHome, Reaches, TouchHalts, BringsOwn, no_break}
-use Rattle.fault_core.specs.Told.{Known}
+use Rattle.fault_core.specs.Revealed.{Known}
 use Rattle.fault_core.specs.Homes.{AreHomesOf, HaveSectors}
 use Rattle.fault_core.specs.Room.{KeepsWhileEmpty}
 use Rattle.fault_core.proofs.ReachLemmas.{reaches_itself, reaches_then, reached_home_before, finds_before, known_after}
@@ -69,7 +69,7 @@ module _ {v : View} {id first pages : ℕ} {w : View} {homes : List Home} {k : �
   pub finding_more : (x : View) (home : Home) → pages ≤ 16 → k < pages → IsReachedHome w home → home.id ≡ id → home.page ≡ first + k
       → ((m : List Sector) (named : Triples) (b : List ℕ) → Known w m named b → named id (first + k) home.sector ≡ true)
       → Reaches w x → BringsOwn w.slots x.slots → KeepsWhileEmpty w.slots x.slots → x.disk.transfers ≤ w.disk.transfers + 14 → IsFinding v id first pages x (slice_set homes k home) (k + 1)
-  finding_more x home few below reached same_id same_page told next came room cost =
+  finding_more x home few below reached same_id same_page revealed next came room cost =
       let long = h.long in
       let inside : k < length homes = omega (arith, long, below, few) in
       let same_long : length (slice_set homes k home) ≡ length homes = simp length-set in
@@ -82,11 +82,11 @@ module _ {v : View} {id first pages : ℕ} {w : View} {homes : List Home} {k : �
         long = same_long ∙ long;
         found = λ j g under here. elim (set_cases homes k j home g inside under here) [
           | inl (at, same) ↦ subst (IsHomeFor v id (first + j)) same (record { is_id = same_id; is_page = same_page ∙ ap (λ n. first + n) (sym at); reached = reached_home_before v w is h.reaches home reached })
-          | inr (front, was) ↦ h.found j g front was
+          | inr (prefix, was) ↦ h.found j g prefix was
         ];
         are_named = λ m named b known j g under here. elim (set_cases homes k j home g inside under here) [
-          | inl (at, same) ↦ subst (λ (o : Home). named o.id o.page o.sector ≡ true) same (rw (same_id, same_page) (told m named b (known_after v w m named b is h.reaches known)))
-          | inr (front, was) ↦ h.are_named m named b known j g front was
+          | inl (at, same) ↦ subst (λ (o : Home). named o.id o.page o.sector ≡ true) same (rw (same_id, same_page) (revealed m named b (known_after v w m named b is h.reaches known)))
+          | inr (prefix, was) ↦ h.are_named m named b known j g prefix was
         ];
         cost = let c = h.cost in omega (arith, c, cost);
       }

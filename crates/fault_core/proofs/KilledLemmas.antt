@@ -32,11 +32,11 @@ use Rattle.swapper_kernel.specs.Goes.{Pages}
 use Rattle.fault_core.specs.Access.{is_load_only}
 use Rattle.fault_core.specs.Kill.{AreWritableSo, LeavesCore, may_store, of_part}
 use Rattle.fault_core.specs.Moves.{Leaves}
-use Rattle.fault_core.specs.Told.{IsIntervalOf, Told}
+use Rattle.fault_core.specs.Revealed.{IsIntervalOf, Revealed}
 use Rattle.fault_core.specs.Unit.{file_page}
 use Rattle.fault_core.specs.View.{View}
-use Rattle.fault_core.proofs.LeaveLemmas.{told_leaves}
-use Rattle.fault_core.proofs.ShowLemmas.{shown_is, shown_none, shows_through, tells_page}
+use Rattle.fault_core.proofs.LeaveLemmas.{revealed_leaves}
+use Rattle.fault_core.proofs.ShowLemmas.{shown_is, shown_none, shows_through, reveals_page}
 
 and_both : (a b : Bool) → a ≡ true → b ≡ true → (a && b) ≡ true
 and_both a b first next = ap (λ (c : Bool). c && b) first ∙ next
@@ -87,30 +87,30 @@ file_kind n k l from given named =
     let three : (l.id == 3) ≡ false = ne_eqb l.id 3 (omega (arith, client)) in
     data_kind n k l from ∙ ap (λ (b : Bool). if b then the_tables else (if is_file l then a_file else unused)) three ∙ ap (λ (b : Bool). if b then a_file else unused) (file_label l given named)
 
-module _ {v : View} {kept : List Interval} {count : ℕ} {m : List Sector} {named : Triples} {ss : List Space} (is : IsLayout v.layout) (t : Told v kept count m named ss) (x : Interval) (of : IsIntervalOf ss x) (page next : ℕ)
+module _ {v : View} {kept : List Interval} {count : ℕ} {m : List Sector} {named : Triples} {ss : List Space} (is : IsLayout v.layout) (t : Revealed v kept count m named ss) (x : Interval) (of : IsIntervalOf ss x) (page next : ℕ)
     (here : Holds x page) (inside : next ≤ x.first + x.pages) where
   -- where nothing may be stored, no page may
-  pub part_kept : (so : Pages) → may_store x ≡ false → AreWritableSo so ss page next
-  part_kept so bare p from below u shown writable =
+  pub part_kept : (evidence_seen : Pages) → may_store x ≡ false → AreWritableSo evidence_seen ss page next
+  part_kept evidence_seen bare p from below u shown writable =
       let first = here.0 in
       let held : Holds x p = (omega (arith, first, from), omega (arith, inside, below)) in
       by (x.mode == 0) refl held
     where
-      by : (b : Bool) → (x.mode == 0) ≡ b → Holds x p → so u.file u.page
+      by : (b : Bool) → (x.mode == 0) ≡ b → Holds x p → evidence_seen u.file u.page
       by true e held = absurd (none-some u (sym (shown_none t.tables x of p held (grind (arith, nat_tests, e))) ∙ shown))
       by false e held =
           let only : is_load_only x ≡ true = grind (arith, nat_tests, bare, e) in
-          absurd (true≢false (sym only ∙ sym (tells_page t.tables x of p held).read_only ∙ writable))
+          absurd (true≢false (sym only ∙ sym (reveals_page t.tables x of p held).read_only ∙ writable))
 
-  pub part_stored : (so : Pages) → may_store x ≡ true → ((p : ℕ) → page ≤ p → p < next → so x.id (file_page x p)) → AreWritableSo so ss page next
-  part_stored so may each p from below u shown writable =
+  pub part_stored : (evidence_seen : Pages) → may_store x ≡ true → ((p : ℕ) → page ≤ p → p < next → evidence_seen x.id (file_page x p)) → AreWritableSo evidence_seen ss page next
+  part_stored evidence_seen may each p from below u shown writable =
       let first = here.0 in
       let held : Holds x p = (omega (arith, first, from), omega (arith, inside, below)) in
       let same : record { file = x.id; page = file_page x p } ≡ u = same_Some {A = FilePage} (record { file = x.id; page = file_page x p }) u (sym (shown_is t.tables x of p held (stores_of x may).0) ∙ shown) in
-      subst (λ (u : FilePage). so u.file u.page) same (each p from below)
+      subst (λ (u : FilePage). evidence_seen u.file u.page) same (each p from below)
 
   pub killed_test : may_store x ≡ true → (range : Space) → range.first ≤ page → next ≤ range.first + range.pages → (k : ℕ) (l : Label) → of_part v.layout.first x page next k l ≡ true → is_killed v.layout.sectors ss range k l ≡ true
-  killed_test may range front behind k l test =
+  killed_test may range prefix after k l test =
       let first = here.0 in
       let p = page + (l.page - file_page x page) in
       let on : v.layout.first ≤ k = grind (arith, nat_tests, test) in
@@ -120,11 +120,11 @@ module _ {v : View} {kept : List Interval} {count : ℕ} {m : List Sector} {name
       let label : names l (record { id = l.id; page = l.page }) ≡ true = grind (arith, nat_tests, test) in
       let held : Holds x p = (omega (arith, first), omega (arith, from, below, inside)) in
       let same_page : file_page x p ≡ l.page = omega (arith, first, from) in
-      let in_range : holds range p ≡ true = grind (arith, nat_tests, front, behind, from, below) in
+      let in_range : holds range p ≡ true = grind (arith, nat_tests, prefix, after, from, below) in
       let back : x.id ≡ l.id = sym same_id in
       let same : ◌≡◌ {A = FilePage} (record { file = x.id; page = file_page x p }) (record { file = l.id; page = l.page }) = (λ i. record { file = back i; page = same_page i }) in
       let shown : shown_at ss p ≡ Some (record { file = l.id; page = l.page }) = shown_is t.tables x of p held (stores_of x may).0 ∙ ap (λ (u : FilePage). Some u) same in
-      let writable : is_read_only ss p ≡ false = (tells_page t.tables x of p held).read_only ∙ (stores_of x may).1 in
+      let writable : is_read_only ss p ≡ false = (reveals_page t.tables x of p held).read_only ∙ (stores_of x may).1 in
       let given : is_file_id l.id ≡ true = (t.stored p (record { file = l.id; page = l.page }) shown).of_file in
       let since : first_data v.layout.sectors ≤ k = subst (λ (n : ℕ). n ≤ k) (data_first v.layout is) on in
       and_both (files_alone (kind_of v.layout.sectors k l)) (is_writable_within ss range (record { file = l.id; page = l.page })) (ap files_alone (file_kind v.layout.sectors k l since given label))
@@ -132,12 +132,12 @@ module _ {v : View} {kept : List Interval} {count : ℕ} {m : List Sector} {name
 
   pub part_left : may_store x ≡ true → (w : View) (range : Space) → range.first ≤ page → next ≤ range.first + range.pages → Leaves (Differs (of_part v.layout.first x page next)) m named t.bytes w
       → LeavesCore (Differs (is_killed v.layout.sectors ss range)) m named ss w kept count
-  part_left may w range front behind l = record {
+  part_left may w range prefix after l = record {
     memory = l.memory;
     changed = differs_wider (of_part v.layout.first x page next) (is_killed v.layout.sectors ss range) m l.memory (λ k s here fails. fails_too k s.0 fails (of_part v.layout.first x page next k s.0) refl) l.changed;
-    told = told_leaves t l;
+    revealed = revealed_leaves t l;
   }
     where
       fails_too : (k : ℕ) (l : Label) → is_killed v.layout.sectors ss range k l ≡ false → (b : Bool) → of_part v.layout.first x page next k l ≡ b → of_part v.layout.first x page next k l ≡ false
-      fails_too k l fails true test = absurd (true≢false (sym (killed_test may range front behind k l test) ∙ fails))
+      fails_too k l fails true test = absurd (true≢false (sym (killed_test may range prefix after k l test) ∙ fails))
       fails_too k l fails false test = test

@@ -13,27 +13,27 @@ use Rattle.swapper_kernel.specs.Homes.{Homes}
 use Rattle.space_tables.specs.SpaceTables.{IsIntervalAt}
 use Rattle.fault_core.specs.Access.{Shows}
 use Rattle.fault_core.specs.Kept.{IsKept}
-use Rattle.fault_core.specs.Lack.{LacksPage, Sees, run_pages, shown_unit, unit_pages}
+use Rattle.fault_core.specs.Lack.{MissesPage, Sees, run_pages, shown_unit, unit_pages}
 use Rattle.fault_core.specs.Reach.{Reaches}
-use Rattle.fault_core.specs.Told.{IsIntervalOf}
+use Rattle.fault_core.specs.Revealed.{IsIntervalOf}
 use Rattle.fault_core.specs.Unit.{IsUnitRun}
 use Rattle.fault_core.specs.View.{View}
 use Rattle.fault_core.proofs.ShowLemmas.{shown_is}
-use Rattle.fault_core.proofs.ToldLemmas.{interval_at}
+use Rattle.fault_core.proofs.RevealedLemmas.{interval_at}
 
-pub lacks_wider : (pages more : Pages) → ((id page : ℕ) → pages id page → more id page) → (e : Halt) → LacksPage pages e → LacksPage more e
-lacks_wider pages more too Disk h = tt
-lacks_wider pages more too (Damaged (Mismatch sector wanted found)) h = tt
-lacks_wider pages more too (Damaged (Malformed window broken)) h = tt
-lacks_wider pages more too (Damaged (Missing id page)) h = elim h [ inl three ↦ inl three | inr one ↦ inr (too id page one) ]
+pub misses_wider : (pages more : Pages) → ((id page : ℕ) → pages id page → more id page) → (e : Halt) → MissesPage pages e → MissesPage more e
+misses_wider pages more too Disk h = tt
+misses_wider pages more too (Damaged (Mismatch sector wanted found)) h = tt
+misses_wider pages more too (Damaged (Malformed window broken)) h = tt
+misses_wider pages more too (Damaged (Missing id page)) h = elim h [ inl three ↦ inl three | inr one ↦ inr (too id page one) ]
 
 -- ---- What is asked below.
 
-pub brought_lacks : (come : Homes) (old : DiskState) (before : Slots) (new : DiskState) (more : Pages) (e : Halt) → Halts come old before new e → LacksPage more e
-brought_lacks come old before new more Disk h = tt
-brought_lacks come old before new more (Damaged (Mismatch sector wanted found)) h = tt
-brought_lacks come old before new more (Damaged (Malformed window broken)) h = absurd h
-brought_lacks come old before new more (Damaged (Missing id page)) h = absurd h
+pub brought_misses : (come : Homes) (old : DiskState) (before : Slots) (new : DiskState) (more : Pages) (e : Halt) → Halts come old before new e → MissesPage more e
+brought_misses come old before new more Disk h = tt
+brought_misses come old before new more (Damaged (Mismatch sector wanted found)) h = tt
+brought_misses come old before new more (Damaged (Malformed window broken)) h = absurd h
+brought_misses come old before new more (Damaged (Missing id page)) h = absurd h
 
 -- ---- A swap unit.
 
@@ -59,7 +59,7 @@ module _ {v : View} {kept : List Interval} {count : ℕ} {ss : List Space} (s : 
   pub sees_after : (w : View) (more : List Interval) → Reaches v w → ((x : Interval) → IsKept more x → IsKept kept x ⊎ IsIntervalOf ss x) → Sees w more count ss
   sees_after w more h before = record {
     bytes = s.bytes;
-    told = h.told s.bytes s.told;
+    revealed = h.revealed s.bytes s.revealed;
     tables = s.tables;
     cached = λ x one. elim (before x one) [ inl was ↦ s.cached x was | inr of ↦ of ];
   }

@@ -14,7 +14,7 @@ use Rattle.session_words.specs.CellLaws.{IsTouchedOrOwn, Stores, StoresAt, Store
 use Rattle.fault_core.specs.Access.{last_page}
 use Rattle.fault_core.specs.Moves.{AreSeen, Leaves, StoresSome, client_page, of_reference}
 use Rattle.fault_core.specs.Reach.{Reaches}
-use Rattle.fault_core.specs.Told.{Told}
+use Rattle.fault_core.specs.Revealed.{Revealed}
 use Rattle.fault_core.specs.Touch.{and_own, Touches}
 use Rattle.fault_core.specs.Unit.{AreShownStored, file_page}
 use Rattle.fault_core.specs.View.{View}
@@ -94,15 +94,15 @@ module _ {ss : List Space} {named : Triples} {m : List Sector} {b : List ℕ} {w
 -- ---- The whole of a core.
 
 -- where the memory is known, what was touched goes from it to the one that is left
-pub goes_told : (P : Change) (pages more : Pages) {v w : View} {m : List Sector} → Touches pages v w → ((id page : ℕ) → and_own pages id page → more id page) → Stands v.disk v.slots m
+pub goes_revealed : (P : Change) (pages more : Pages) {v w : View} {m : List Sector} → Touches pages v w → ((id page : ℕ) → and_own pages id page → more id page) → Stands v.disk v.slots m
     → (n : List Sector) → Stands w.disk w.slots n → P m n → Goes P more [] v.disk v.slots w.disk w.slots
-goes_told P pages more {v = v} {w = w} {m = m} h too stands n now changed = record {
+goes_revealed P pages more {v = v} {w = w} {m = m} h too stands n now changed = record {
   makes = makes_wider more too h.goes.makes;
   memory = λ k other. subst (λ (j : List Sector). (n : List Sector) × Stands w.disk w.slots n × P j n) (same_memory v.disk v.slots m k stands other) (n, now, changed);
 }
 
-pub told_leaves : {P : Change} {v w : View} {kept : List Interval} {count : ℕ} {m : List Sector} {named : Triples} {ss : List Space} → (h : Told v kept count m named ss) → (l : Leaves P m named h.bytes w) → Told w kept count l.memory named ss
-told_leaves {m = m} {named = named} h l = record {
+pub revealed_leaves : {P : Change} {v w : View} {kept : List Interval} {count : ℕ} {m : List Sector} {named : Triples} {ss : List Space} → (h : Revealed v kept count m named ss) → (l : Leaves P m named h.bytes w) → Revealed w kept count l.memory named ss
+revealed_leaves {m = m} {named = named} h l = record {
   bytes = h.bytes;
   known = l.known;
   tables = h.tables;
@@ -121,9 +121,9 @@ touched_or_own ss named m x y address count seen also first last id page one = e
       inl (record { k = at.0; virtual = last_page address count; touched = at.1; shown = rw (same_id, same_page) (also.shown (last_page address count) last) })
 ]
 
-pub told_stands : {w : View} {kept : List Interval} {count : ℕ} {m : List Sector} {named : Triples} {ss : List Space} → Told w kept count m named ss → (n : List Sector) → Stands w.disk w.slots n → Told w kept count n named ss
-told_stands {w = w} {kept = kept} {count = count} {m = m} {named = named} {ss = ss} h n stands =
-    subst (λ (k : List Sector). Told w kept count k named ss) (same_memory w.disk w.slots m n h.known.stands stands) h
+pub revealed_stands : {w : View} {kept : List Interval} {count : ℕ} {m : List Sector} {named : Triples} {ss : List Space} → Revealed w kept count m named ss → (n : List Sector) → Stands w.disk w.slots n → Revealed w kept count n named ss
+revealed_stands {w = w} {kept = kept} {count = count} {m = m} {named = named} {ss = ss} h n stands =
+    subst (λ (k : List Sector). Revealed w kept count k named ss) (same_memory w.disk w.slots m n h.known.stands stands) h
 
 own_only : (ss : List Space) (address count id page : ℕ) → and_own no_page id page → IsTouchedOrOwn ss address count id page
 own_only ss address count id page own = elim own [
@@ -133,10 +133,10 @@ own_only ss address count id page own = elim own [
 ]
 
 -- a store that changed nothing
-pub goes_refused : (P : Change) {v w : View} {k l : List Interval} {i j : ℕ} {m : List Sector} {named : Triples} {ss : List Space} (address count : ℕ) → P m m → Reaches v w → Told v k i m named ss → Told w l j m named ss
+pub goes_refused : (P : Change) {v w : View} {k l : List Interval} {i j : ℕ} {m : List Sector} {named : Triples} {ss : List Space} (address count : ℕ) → P m m → Reaches v w → Revealed v k i m named ss → Revealed w l j m named ss
     → Goes P (IsTouchedOrOwn ss address count) [] v.disk v.slots w.disk w.slots
 goes_refused P {m = m} {ss = ss} address count same h before after =
-    goes_told P no_page (IsTouchedOrOwn ss address count) (touches_of no_page h) (own_only ss address count) before.known.stands m after.known.stands same
+    goes_revealed P no_page (IsTouchedOrOwn ss address count) (touches_of no_page h) (own_only ss address count) before.known.stands m after.known.stands same
 
 pub clients_alone : (x y : Interval) (address count : ℕ) → 16 ≤ x.id → 16 ≤ y.id → (id page : ℕ) → of_reference x y address count id page → client_page id page
 clients_alone x y address count high also id page one = elim one [ inl (same, _) ↦ rw same high | inr (same, _) ↦ rw same also ]

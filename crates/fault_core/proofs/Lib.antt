@@ -7,7 +7,7 @@ mod FindLemmas
 mod UnitLemmas
 mod KeptLemmas
 pub mod ShowLemmas
-pub mod ToldLemmas
+pub mod RevealedLemmas
 pub mod AskLemmas
 mod AccessLemmas
 mod LendLemmas
@@ -22,7 +22,7 @@ pub mod AnswerLemmas
 mod RestLemmas
 mod RangeLemmas
 pub mod ForcedLemmas
-mod ForgetLemmas
+mod DiscardLemmas
 mod KilledLemmas
 mod KillLemmas
 mod WholeLemmas
@@ -31,4 +31,4 @@ mod RoomLemmas
 mod AttemptLemmas
 mod MovedLemmas
 pub mod LackLemmas
-pub mod SparesLemmas
+pub mod NeverBlamesLemmas

@@ -12,7 +12,7 @@ use Rattle.session_words.proofs.FoundLemmas.{above_reserved}
 use Rattle.fault_core.specs.Access.{last_page}
 use Rattle.fault_core.specs.Attempt.{HasClient, either}
 use Rattle.fault_core.specs.Moves.{HasBytes, Leaves, LoadsIn, client_page}
-use Rattle.fault_core.specs.Told.{AreStored, Known}
+use Rattle.fault_core.specs.Revealed.{AreStored, Known}
 use Rattle.fault_core.specs.Touch.{and_own}
 use Rattle.fault_core.specs.Unit.{IsSlotOf}
 use Rattle.fault_core.specs.Room.{KeepsSlots}

@@ -39,9 +39,9 @@ pub two_pieces : (address : ℕ) (low high : List ℕ) → length low ≡ 512 - 
 two_pieces address low high room some =
     let sum : length (low ++ high) ≡ length low + length high = length-append low high in
     let test : nat_le (address % 512 + length (low ++ high)) 512 ≡ false = grind (arith, nat_tests, room, some, sum) in
-    let front : take (512 - address % 512) (low ++ high) ≡ low = subst (λ (n : ℕ). take n (low ++ high) ≡ low) room (take-append_seam low high) in
+    let prefix : take (512 - address % 512) (low ++ high) ≡ low = subst (λ (n : ℕ). take n (low ++ high) ≡ low) room (take-append_seam low high) in
     let back : drop (512 - address % 512) (low ++ high) ≡ high = subst (λ (n : ℕ). drop n (low ++ high) ≡ high) room (drop-append_seam low high) in
-    rw (test, front, back) refl
+    rw (test, prefix, back) refl
 
 -- ---- Loads.
 

@@ -14,18 +14,18 @@ use Rattle.swap_units.specs.Unit.{Holds, has_page}
 use Rattle.swapper_kernel.specs.Homes.{IsLayout}
 use Rattle.swapper_kernel.specs.HaltLaws.{brings_itself, brings_then}
 use Rattle.projection_laws.specs.Sight.{AreIntervals}
-use Rattle.projection_laws.proofs.Finds.{firsts_are_rising}
+use Rattle.projection_laws.proofs.Finds.{firsts_are_ascending}
 use Rattle.projection_laws.proofs.OneLemmas.{intervals_are_one}
-use Rattle.space_tables.specs.Stored.{TellSpaces}
-use Rattle.fault_core.specs.declared.range.Way.{Way}
+use Rattle.space_tables.specs.Stored.{RevealSpaces}
+use Rattle.fault_core.specs.declared.range.WriteBack.{WriteBack}
 use Rattle.frame_pool.specs.Frames.{Slots}
-use Rattle.fault_core.specs.declared.range.Way.TheVariants.{Force}
+use Rattle.fault_core.specs.declared.range.WriteBack.TheVariants.{Flush}
 use Rattle.fault_core.specs.Kill.{BreaksWithin}
 use Rattle.fault_core.specs.Lack.{Sees}
-use Rattle.fault_core.specs.Range.{AreAtRest, IsNextPart, LeavesFrames}
+use Rattle.fault_core.specs.Range.{AreWrittenBack, IsNextPart, LeavesFrames}
 use Rattle.fault_core.specs.Unit.{file_page}
 use Rattle.fault_core.specs.Reach.{Reaches, ReachHalts, BringsOwn, StayOrYield}
-use Rattle.fault_core.specs.Told.{BreaksTables, Told}
+use Rattle.fault_core.specs.Revealed.{BreaksTables, Revealed}
 use Rattle.fault_core.specs.View.{View}
 use Rattle.fault_core.proofs.AccessLemmas.{breaks_before}
 use Rattle.fault_core.specs.Kept.{AreFormed}
@@ -36,19 +36,19 @@ use Rattle.fault_core.proofs.ShowLemmas.{none_past}
 use Rattle.fault_core.proofs.YieldLemmas.{yield_itself, yield_then}
 
 -- all was passed, or each interval that has the page has at least so many before it
-abbrev pub IsAhead : List Interval → ℕ → ℕ → ℕ → ℕ → Type 0
-IsAhead xs count stop page k = (stop ≤ page) ⊎ ((k ≤ count) × ((j : ℕ) (x : Interval) → slice_get xs j ≡ Some x → Holds x page → k ≤ j))
+abbrev pub IsNotOlder : List Interval → ℕ → ℕ → ℕ → ℕ → Type 0
+IsNotOlder xs count stop page k = (stop ≤ page) ⊎ ((k ≤ count) × ((j : ℕ) (x : Interval) → slice_get xs j ≡ Some x → Holds x page → k ≤ j))
 
--- behind one of them is the next
-pub ahead_next : (ss : List Space) (xs : List Interval) (count stop page k next : ℕ) → AreIntervals ss xs → length xs ≡ count → page < stop → IsAhead xs count stop page k → IsNextPart ss page stop next → IsAhead xs count stop next (k + 1)
+-- after one of them is the next
+pub ahead_next : (ss : List Space) (xs : List Interval) (count stop page k next : ℕ) → AreIntervals ss xs → length xs ≡ count → page < stop → IsNotOlder xs count stop page k → IsNextPart ss page stop next → IsNotOlder xs count stop next (k + 1)
 ahead_next ss xs count stop page k next are counted below ahead part = elim ahead [
   | inl past ↦ absurd (omega (arith, past, below))
-  | inr (few, behind) ↦ elim part [
+  | inr (few, after) ↦ elim part [
     | inl is ↦ inl (omega (arith, is))
     | inr (x, at, is) ↦
         let one : at.xs ≡ xs = intervals_are_one ss at.xs xs at.projection are in
         let there : slice_get xs at.index ≡ Some x = ap (λ (l : List Interval). slice_get l at.index) (sym one) ∙ at.there in
-        let from = behind at.index x there at.holds in
+        let from = after at.index x there at.holds in
         let inside = below_of xs at.index x there in
         inr (
           omega (arith, from, inside, counted),
@@ -62,7 +62,7 @@ ahead_next ss xs count stop page k next are counted below ahead part = elim ahea
                   absurd (omega (arith, low, ends, is))
               | inr other ↦
                   let earlier : j < at.index = omega (arith, not_later, other) in
-                  let before = (firsts_are_rising ss xs are).rises j at.index y x earlier here there in
+                  let before = (firsts_are_ascending ss xs are).rises j at.index y x earlier here there in
                   let low = held.1 in
                   absurd (omega (arith, before, low, is))
             ]
@@ -72,7 +72,7 @@ ahead_next ss xs count stop page k next are counted below ahead part = elim ahea
 ]
 
 -- the intervals that the tables have
-pub tables_are : {tells : List ℕ → Type 0} {count : ℕ} {ss : List Space} (t : TellSpaces tells count ss) → AreIntervals ss t.xs
+pub tables_are : {reveals : List ℕ → Type 0} {count : ℕ} {ss : List Space} (t : RevealSpaces reveals count ss) → AreIntervals ss t.xs
 tables_are t = subst (λ (ss : List Space). AreIntervals ss t.xs) t.spaces t.right.intervals
 
 more_cost : (k a b c d e : ℕ) → b ≡ a → c ≤ e + k * (196 + a) → d ≤ c + (196 + b) → d ≤ e + (k + 1) * (196 + a)
@@ -92,24 +92,24 @@ ends_at kept first pages stop x formed found inside upto each =
     ]
 
 -- in a range that one kept interval has, nothing was done, or all was, and other frames stayed
-abbrev pub IsRestingIn : Interval → View → List Interval → Way → ℕ → ℕ → View → List Interval → ℕ → Type 0
-IsRestingIn x v kept way first stop w now page = ((page ≡ first) × (w.slots ≡ v.slots) × (now ≡ kept)) ⊎ ((stop ≤ page) × LeavesFrames way x.id (file_page x first) (stop - first) v.slots w.slots)
+abbrev pub IsWritingBackIn : Interval → View → List Interval → WriteBack → ℕ → ℕ → View → List Interval → ℕ → Type 0
+IsWritingBackIn x v kept write_back first stop w now page = ((page ≡ first) × (w.slots ≡ v.slots) × (now ≡ kept)) ⊎ ((stop ≤ page) × LeavesFrames write_back x.id (file_page x first) (stop - first) v.slots w.slots)
 
--- The pages from the first one on, up to this one, are at rest, after so many intervals.
-pub record IsResting (v : View) (kept : List Interval) (count : ℕ) (way : Way) (first stop : ℕ) (w : View) (now : List Interval) (still page k : ℕ) : Type 0 where
+-- The pages from the first one on, up to this one, are flushed or evicted, after so many intervals.
+pub record IsWritingBack (v : View) (kept : List Interval) (count : ℕ) (write_back : WriteBack) (first stop : ℕ) (w : View) (now : List Interval) (still page k : ℕ) : Type 0 where
   pub size : w.disk.sectors ≡ w.layout.sectors
   pub reaches : Reaches v w
   pub came : BringsOwn v.slots w.slots
   pub sees : (ss : List Space) → Sees v kept count ss → Sees w now still ss
-  pub stay : way ≡ Force → StayOrYield v.slots w.slots
+  pub stay : write_back ≡ Flush → StayOrYield v.slots w.slots
   pub from : first ≤ page
   pub same_count : still ≡ count
   pub cost : w.disk.transfers ≤ v.disk.transfers + k * (196 + length v.slots)
-  pub frames : (x : Interval) → find (has_page first) kept ≡ Some x → stop ≤ x.first + x.pages → IsRestingIn x v kept way first stop w now page
-  pub told : (m : List Sector) (named : Triples) (ss : List Space) (h : Told v kept count m named ss) → Told w now still m named ss × AreAtRest way ss w.slots first page × IsAhead h.tables.xs count stop page k
+  pub frames : (x : Interval) → find (has_page first) kept ≡ Some x → stop ≤ x.first + x.pages → IsWritingBackIn x v kept write_back first stop w now page
+  pub revealed : (m : List Sector) (named : Triples) (ss : List Space) (h : Revealed v kept count m named ss) → Revealed w now still m named ss × AreWrittenBack write_back ss w.slots first page × IsNotOlder h.tables.xs count stop page k
 
-pub resting_none : (v : View) (kept : List Interval) (count : ℕ) (way : Way) (first stop : ℕ) → v.disk.sectors ≡ v.layout.sectors → IsResting v kept count way first stop v kept count first 0
-resting_none v kept count way first stop size = record {
+pub writing_back_none : (v : View) (kept : List Interval) (count : ℕ) (write_back : WriteBack) (first stop : ℕ) → v.disk.sectors ≡ v.layout.sectors → IsWritingBack v kept count write_back first stop v kept count first 0
+writing_back_none v kept count write_back first stop size = record {
   size = size;
   reaches = reaches_itself v;
   came = brings_itself (λ home. (1 ≤ home.id) × (home.id ≤ 3)) v.slots;
@@ -119,54 +119,54 @@ resting_none v kept count way first stop size = record {
   same_count = refl;
   cost = omega arith;
   frames = λ x found inside. inl (refl, refl, refl);
-  told = λ m named ss h. (h, rest_nowhere way ss v.slots first, inr (omega arith, λ j x here held. omega arith));
+  revealed = λ m named ss h. (h, rest_nowhere write_back ss v.slots first, inr (omega arith, λ j x here held. omega arith));
 }
 
-module _ {v : View} {kept : List Interval} {count : ℕ} {way : Way} {first stop : ℕ} {w : View} {now : List Interval} {still page k : ℕ} (is : IsLayout v.layout) (h : IsResting v kept count way first stop w now still page k) where
+module _ {v : View} {kept : List Interval} {count : ℕ} {write_back : WriteBack} {first stop : ℕ} {w : View} {now : List Interval} {still page k : ℕ} (is : IsLayout v.layout) (h : IsWritingBack v kept count write_back first stop w now still page k) where
   -- one part more
-  resting_frames : (x : View) → page < stop → ((y : Interval) → find (has_page page) now ≡ Some y → stop ≤ y.first + y.pages → LeavesFrames way y.id (file_page y page) (stop - page) w.slots x.slots)
-      → (y : Interval) → find (has_page first) kept ≡ Some y → stop ≤ y.first + y.pages → LeavesFrames way y.id (file_page y first) (stop - first) v.slots x.slots
+  resting_frames : (x : View) → page < stop → ((y : Interval) → find (has_page page) now ≡ Some y → stop ≤ y.first + y.pages → LeavesFrames write_back y.id (file_page y page) (stop - page) w.slots x.slots)
+      → (y : Interval) → find (has_page first) kept ≡ Some y → stop ≤ y.first + y.pages → LeavesFrames write_back y.id (file_page y first) (stop - first) v.slots x.slots
   resting_frames x below frames y found inside = elim (h.frames y found inside) [
     | inl (same_page, same_slots, same_kept) ↦
         let now_found : find (has_page page) now ≡ Some y = rw (same_page, same_kept) found in
         let left = frames y now_found inside in
-        subst (λ (p : ℕ). LeavesFrames way y.id (file_page y p) (stop - p) v.slots x.slots) same_page (subst (λ (s : Slots). LeavesFrames way y.id (file_page y page) (stop - page) s x.slots) same_slots left)
+        subst (λ (p : ℕ). LeavesFrames write_back y.id (file_page y p) (stop - p) v.slots x.slots) same_page (subst (λ (s : Slots). LeavesFrames write_back y.id (file_page y page) (stop - page) s x.slots) same_slots left)
     | inr (past, left) ↦ absurd (omega (arith, past, below))
   ]
 
   module _ (formed : AreFormed kept) (pages : ℕ) (upto : stop ≤ first + pages) (each : (p : ℕ) → p < first + pages → p < root_pages → p < stop) where
     -- a part could not be brought to rest
-    pub frames_stopped : (x : View) → page < stop → ((y : Interval) → find (has_page page) now ≡ Some y → stop ≤ y.first + y.pages → LeavesFrames way y.id (file_page y page) (stop - page) w.slots x.slots)
-        → (y : Interval) → find (has_page first) kept ≡ Some y → first + pages ≤ y.first + y.pages → LeavesFrames way y.id (file_page y first) pages v.slots x.slots
+    pub frames_stopped : (x : View) → page < stop → ((y : Interval) → find (has_page page) now ≡ Some y → stop ≤ y.first + y.pages → LeavesFrames write_back y.id (file_page y page) (stop - page) w.slots x.slots)
+        → (y : Interval) → find (has_page first) kept ≡ Some y → first + pages ≤ y.first + y.pages → LeavesFrames write_back y.id (file_page y first) pages v.slots x.slots
     frames_stopped x below frames y found inside =
         let ends = ends_at kept first pages stop y formed found inside upto each in
         let all : stop - first ≡ pages = omega (arith, ends) in
-        subst (λ (n : ℕ). LeavesFrames way y.id (file_page y first) n v.slots x.slots) all (resting_frames x below frames y found (omega (arith, ends, inside)))
+        subst (λ (n : ℕ). LeavesFrames write_back y.id (file_page y first) n v.slots x.slots) all (resting_frames x below frames y found (omega (arith, ends, inside)))
 
     -- all was
-    pub frames_done : (y : Interval) → find (has_page first) kept ≡ Some y → first + pages ≤ y.first + y.pages → LeavesFrames way y.id (file_page y first) pages v.slots w.slots
+    pub frames_done : (y : Interval) → find (has_page first) kept ≡ Some y → first + pages ≤ y.first + y.pages → LeavesFrames write_back y.id (file_page y first) pages v.slots w.slots
     frames_done y found inside =
         let ends = ends_at kept first pages stop y formed found inside upto each in
         let all : stop - first ≡ pages = omega (arith, ends) in
         elim (h.frames y found (omega (arith, ends, inside))) [
-          | inl (same_page, same_slots, same_kept) ↦ leaves_same way y.id (file_page y first) pages v.slots w.slots same_slots
-          | inr (past, left) ↦ subst (λ (n : ℕ). LeavesFrames way y.id (file_page y first) n v.slots w.slots) all left
+          | inl (same_page, same_slots, same_kept) ↦ leaves_same write_back y.id (file_page y first) pages v.slots w.slots same_slots
+          | inr (past, left) ↦ subst (λ (n : ℕ). LeavesFrames write_back y.id (file_page y first) n v.slots w.slots) all left
         ]
 
   pub resting_more : (x : View) (later : List Interval) (left next : ℕ) → page < stop → page < next
-      → ((m : List Sector) (named : Triples) (ss : List Space) → Told w now still m named ss → AreAtRest way ss x.slots page next)
-      → ((m : List Sector) (named : Triples) (ss : List Space) → Told w now still m named ss → IsNextPart ss page stop next)
-      → ((m : List Sector) (named : Triples) (ss : List Space) → Told w now still m named ss → Told x later left m named ss)
-      → ((y : Interval) → find (has_page page) now ≡ Some y → stop ≤ y.first + y.pages → LeavesFrames way y.id (file_page y page) (stop - page) w.slots x.slots)
-      → ((y : Interval) → find (has_page page) now ≡ Some y → stop ≤ y.first + y.pages → next ≡ stop) → (way ≡ Force → StayOrYield w.slots x.slots)
-      → ((ss : List Space) → Sees w now still ss → Sees x later left ss) → Reaches w x → BringsOwn w.slots x.slots → left ≡ still → x.disk.transfers ≤ w.disk.transfers + (196 + length w.slots) → IsResting v kept count way first stop x later left next (k + 1)
+      → ((m : List Sector) (named : Triples) (ss : List Space) → Revealed w now still m named ss → AreWrittenBack write_back ss x.slots page next)
+      → ((m : List Sector) (named : Triples) (ss : List Space) → Revealed w now still m named ss → IsNextPart ss page stop next)
+      → ((m : List Sector) (named : Triples) (ss : List Space) → Revealed w now still m named ss → Revealed x later left m named ss)
+      → ((y : Interval) → find (has_page page) now ≡ Some y → stop ≤ y.first + y.pages → LeavesFrames write_back y.id (file_page y page) (stop - page) w.slots x.slots)
+      → ((y : Interval) → find (has_page page) now ≡ Some y → stop ≤ y.first + y.pages → next ≡ stop) → (write_back ≡ Flush → StayOrYield w.slots x.slots)
+      → ((ss : List Space) → Sees w now still ss → Sees x later left ss) → Reaches w x → BringsOwn w.slots x.slots → left ≡ still → x.disk.transfers ≤ w.disk.transfers + (196 + length w.slots) → IsWritingBack v kept count write_back first stop x later left next (k + 1)
   resting_more x later left next below further rest part same frames all stay next_sees next_reaches came same_left cost = record {
     size = next_reaches.goes.makes.went.sectors ∙ h.size ∙ ap (λ l. l.sectors) (sym next_reaches.layout);
     reaches = reaches_then v w is h.reaches x next_reaches;
     came = brings_then h.came came;
     sees = λ ss s. next_sees ss (h.sees ss s);
     stay = λ forced. yield_then (h.stay forced) (stay forced);
-    from = let front = h.from in omega (arith, front, further);
+    from = let prefix = h.from in omega (arith, prefix, further);
     same_count = same_left ∙ h.same_count;
     cost = more_cost k (length v.slots) (length w.slots) w.disk.transfers x.disk.transfers v.disk.transfers h.reaches.goes.makes.count h.cost cost;
     frames = λ y found inside. inr (
@@ -176,11 +176,11 @@ module _ {v : View} {kept : List Interval} {count : ℕ} {way : Way} {first stop
       ],
       resting_frames x below frames y found inside,
     );
-    told = λ m named ss told.
-        let was = h.told m named ss told in (
+    revealed = λ m named ss revealed.
+        let was = h.revealed m named ss revealed in (
           same m named ss was.0,
-          rest_then way ss x.slots first page next (rests_stay was.0 next_reaches came way first page was.1) (rest m named ss was.0),
-          ahead_next ss told.tables.xs count stop page k next (tables_are told.tables) told.tables.counted below was.2 (part m named ss was.0),
+          rest_then write_back ss x.slots first page next (rests_stay was.0 next_reaches came write_back first page was.1) (rest m named ss was.0),
+          ahead_next ss revealed.tables.xs count stop page k next (tables_are revealed.tables) revealed.tables.counted below was.2 (part m named ss was.0),
         );
   }
 
@@ -194,18 +194,18 @@ module _ {v : View} {kept : List Interval} {count : ℕ} {way : Way} {first stop
 
   -- the last page up to this one, or of the root, is reached
   module _ (to : ℕ) (all : (p : ℕ) → p < to → p < root_pages → p < stop) where
-    pub resting_done : stop ≤ page → (m : List Sector) (named : Triples) (ss : List Space) → Told v kept count m named ss → AreAtRest way ss w.slots first to
-    resting_done past m named ss told p u from below shown = elim (cases_lt p page) [
-      | inl front ↦ (h.told m named ss told).1 p u from front shown
-      | inr behind ↦ elim (cases_lt p root_pages) [
-        | inl inside ↦ let before = all p below inside in absurd (omega (arith, before, past, behind))
-        | inr outside ↦ absurd (none-some u (sym (none_past told.tables p outside) ∙ shown))
+    pub resting_done : stop ≤ page → (m : List Sector) (named : Triples) (ss : List Space) → Revealed v kept count m named ss → AreWrittenBack write_back ss w.slots first to
+    resting_done past m named ss revealed p u from below shown = elim (cases_lt p page) [
+      | inl prefix ↦ (h.revealed m named ss revealed).1 p u from prefix shown
+      | inr after ↦ elim (cases_lt p root_pages) [
+        | inl inside ↦ let before = all p below inside in absurd (omega (arith, before, past, after))
+        | inr outside ↦ absurd (none-some u (sym (none_past revealed.tables p outside) ∙ shown))
       ]
     ]
 
     -- so many steps reach it
-    pub resting_all : count < k → (m : List Sector) (named : Triples) (ss : List Space) → Told v kept count m named ss → AreAtRest way ss w.slots first to
-    resting_all most m named ss told = elim (h.told m named ss told).2 [ inl past ↦ resting_done past m named ss told | inr (few, behind) ↦ absurd (omega (arith, few, most)) ]
+    pub resting_all : count < k → (m : List Sector) (named : Triples) (ss : List Space) → Revealed v kept count m named ss → AreWrittenBack write_back ss w.slots first to
+    resting_all most m named ss revealed = elim (h.revealed m named ss revealed).2 [ inl past ↦ resting_done past m named ss revealed | inr (few, after) ↦ absurd (omega (arith, few, most)) ]
 
   more_steps : (i d a t u : ℕ) → t ≤ u + i * a → t ≤ u + (i + d) * a
   more_steps i d a t u low = omega (arith, low)

@@ -26,11 +26,11 @@ use Rattle.filer_kernel.specs.declared.cached.CachedRuns.{CachedRuns}
 use Rattle.filer_kernel.specs.Triples.{MapIs}
 use Rattle.filer_kernel.specs.NamedLaws.{maps_named_once}
 use Rattle.filer_kernel.specs.PlaceLaws.{map_kept, one_sector}
-use Rattle.filer_kernel.specs.Tables.{in_tables, table_pages, IsTablePage, TablesTell}
+use Rattle.filer_kernel.specs.Tables.{in_tables, table_pages, IsTablePage, TablesReveal}
 use Rattle.filer_kernel.proofs.MapLemmas.{same_elements}
 use Rattle.fault_core.specs.View.{View, TablesAre}
 use Rattle.fault_core.specs.Reach.{IsReachedHome, IsReached, Reaches, FindHalts, ReachHalts, table_page}
-use Rattle.fault_core.specs.Told.{IsTabled, Known}
+use Rattle.fault_core.specs.Revealed.{IsTabled, Known}
 use Rattle.fault_core.proofs.BeforeLemmas.{touches_of, given_before, found_before, came_before, halt_before}
 
 pub reaches_itself : (v : View) → Reaches v v
@@ -40,7 +40,7 @@ reaches_itself v = record {
   layout = refl;
   given = λ r one. inl one;
   runs_are = λ m named stands map are. are;
-  told = λ b tells. tells;
+  revealed = λ b reveals. reveals;
 }
 
 module _ (v w : View) (is : IsLayout v.layout) (h : Reaches v w) where
@@ -62,7 +62,7 @@ module _ (v w : View) (is : IsLayout v.layout) (h : Reaches v w) where
     given = λ r one. given_before v w is (touches_of no_page h) r (k.given r one);
     runs_are = λ m named stands map are. let mid = h.goes.memory m stands in
         k.runs_are mid.0 named mid.1 (rw h.layout (map_kept v.layout named m mid.0 is mid.2 map)) (h.runs_are m named stands map are);
-    told = λ b tells. k.told b (h.told b tells);
+    revealed = λ b reveals. k.revealed b (h.revealed b reveals);
   }
 
 -- ---- The memory.
@@ -73,7 +73,7 @@ same_memory d s m n h k = same_elements m n (stands_once d s m n h k)
 -- whether a data sector has the identifier of the space tables
 tables_or_not : (layout : Layout) (k : ℕ) (l : Label) → (in_tables layout k l ≡ false) ⊎ ((layout.first ≤ k) × (l.id ≡ 3))
 tables_or_not layout k l = elim (cases_lt k layout.first) [
-  | inl front ↦ inl (grind (arith, nat_tests))
+  | inl prefix ↦ inl (grind (arith, nat_tests))
   | inr from ↦ elim (cases_eq l.id 3) [
     | inl three ↦ inr (from, three)
     | inr other ↦ inl (grind (arith, nat_tests))
@@ -109,24 +109,24 @@ same_tabled v m named b n more tabled map once before after differs = same_eleme
 pub tables_of : (v : View) (m : List Sector) (named : Triples) (b : List ℕ) → Known v m named b → TablesAre v b
 tables_of v m named b k = record { memory = m; stands = k.stands; triples = named; map = k.map; kept = k.runs; size = k.size; count = k.count; page = k.page; held = k.held }
 
-moved_pages : (d : DiskState) (s : Slots) (l : Layout) (k : CachedRuns) (b : List ℕ) (t : TablesTell d s l k b) (x : Layout) (n : List Sector) → n ≡ t.memory → l ≡ x
+moved_pages : (d : DiskState) (s : Slots) (l : Layout) (k : CachedRuns) (b : List ℕ) (t : TablesReveal d s l k b) (x : Layout) (n : List Sector) → n ≡ t.memory → l ≡ x
     → ((j : ℕ) → j < 96 → IsTablePage x t.triples n j (part b (512 * j) 512)) × MapIs x t.triples n
 moved_pages d s l k b t x n at layout =
     subst (λ (y : Layout). ((j : ℕ) → j < 96 → IsTablePage y t.triples n j (part b (512 * j) 512)) × MapIs y t.triples n) layout
     (subst (λ (o : List Sector). ((j : ℕ) → j < 96 → IsTablePage l t.triples o j (part b (512 * j) 512)) × MapIs l t.triples o) (sym at) (t.page, t.map))
 
--- what stood stands, where the tables are told
+-- what stood stands, where the tables are revealed
 pub known_after : (v w : View) (m : List Sector) (named : Triples) (b : List ℕ) → IsLayout v.layout → Reaches v w → Known v m named b → Known w m named b
 known_after v w m named b is h k =
     let mid = h.goes.memory m k.stands in
-    let told = h.told b (tables_of v m named b k) in
-    let last : mid.0 ≡ told.memory = same_memory w.disk w.slots mid.0 told.memory mid.1 told.stands in
-    let moved = moved_pages w.disk w.slots w.layout w.runs b told v.layout mid.0 last h.layout in
-    let once = maps_named_once v.layout mid.0 mid.0 named told.triples is (told.size ∙ ap (λ (l : Layout). l.sectors) h.layout) mid.1 mid.1 (map_kept v.layout named m mid.0 is mid.2 k.map) moved.1 in
-    let same : mid.0 ≡ m = same_tabled v m named b mid.0 told.triples k.tabled k.map once k.page moved.0 mid.2 in
+    let revealed = h.revealed b (tables_of v m named b k) in
+    let last : mid.0 ≡ revealed.memory = same_memory w.disk w.slots mid.0 revealed.memory mid.1 revealed.stands in
+    let moved = moved_pages w.disk w.slots w.layout w.runs b revealed v.layout mid.0 last h.layout in
+    let once = maps_named_once v.layout mid.0 mid.0 named revealed.triples is (revealed.size ∙ ap (λ (l : Layout). l.sectors) h.layout) mid.1 mid.1 (map_kept v.layout named m mid.0 is mid.2 k.map) moved.1 in
+    let same : mid.0 ≡ m = same_tabled v m named b mid.0 revealed.triples k.tabled k.map once k.page moved.0 mid.2 in
     record {
       stands = subst (Stands w.disk w.slots) same mid.1;
-      size = told.size;
+      size = revealed.size;
       long = rw h.layout k.long;
       sectors = k.sectors;
       map = rw h.layout k.map;
@@ -135,7 +135,7 @@ known_after v w m named b is h k =
       tabled = rw h.layout k.tabled;
       count = k.count;
       page = rw h.layout k.page;
-      held = λ home there three below. sym (once 3 home.page home.sector) ∙ told.held home there three below;
+      held = λ home there three below. sym (once 3 home.page home.sector) ∙ revealed.held home there three below;
     }
 
 own_pages : (id page : ℕ) → table_pages id page → volume_page id page

@@ -1,4 +1,4 @@
--- Frames that come to rest, and stay so.
+-- Frames that are flushed or evicted, and stay so.
 use Rattle.std.proofs.Common.{◌≡◌, ◌≢◌, ◌⊎◌, inl, inr, ℕ, ◌+◌, ◌-◌, ◌<◌, ◌≤◌, Bool, true, false, List, [], ◌∷◌, length, refl, sym, ◌∙◌, ap, subst, arith}
 use Rattle.std.specs.Prelude.{if◌then◌else◌, min}
 use Rattle.std.proofs.lemmas.Bool.{cases_lt}
@@ -17,12 +17,12 @@ use Rattle.swapper_kernel.specs.Goes.{Swaps}
 use Rattle.swapper_kernel.specs.HaltLaws.{brings_same}
 use Rattle.swapper_kernel.specs.Homes.{IsLayout, no_home}
 use Rattle.session_words.proofs.FoundLemmas.{above_reserved}
-use Rattle.space_tables.specs.Stored.{TellSpaces}
-use Rattle.fault_core.specs.declared.range.Way.{Way}
-use Rattle.fault_core.specs.declared.range.Way.TheVariants.{Force, LetGo}
-use Rattle.fault_core.specs.Range.{AreAtRest, IsAtRest, LeavesFrames}
+use Rattle.space_tables.specs.Stored.{RevealSpaces}
+use Rattle.fault_core.specs.declared.range.WriteBack.{WriteBack}
+use Rattle.fault_core.specs.declared.range.WriteBack.TheVariants.{Flush, Evict}
+use Rattle.fault_core.specs.Range.{AreWrittenBack, IsWrittenBack, LeavesFrames}
 use Rattle.fault_core.specs.Reach.{Reaches, BringsOwn, StayOrYield}
-use Rattle.fault_core.specs.Told.{IsIntervalOf, Told}
+use Rattle.fault_core.specs.Revealed.{IsIntervalOf, Revealed}
 use Rattle.fault_core.specs.Unit.{file_page}
 use Rattle.fault_core.specs.View.{View}
 use Rattle.fault_core.proofs.ReachLemmas.{reaches_itself}
@@ -31,8 +31,8 @@ use Rattle.fault_core.proofs.TurnLemmas.{reaches_brought}
 use Rattle.fault_core.proofs.YieldLemmas.{stay_yields, yield_then}
 
 -- frames are written out, or given up
-pub rest_reaches : (v x : View) → IsLayout v.layout → Swaps v.disk v.slots x.disk x.slots → ((i : ℕ) (f : Frame) → Has x.slots i f → (g : Frame) × Has v.slots i g × (g.home ≡ f.home) × (g.bytes ≡ f.bytes)) → x.layout ≡ v.layout → x.runs ≡ v.runs → Reaches v x
-rest_reaches v x is swaps frames layout runs = reaches_brought v v x is (reaches_itself v) no_home (λ home none. absurd none) swaps (brings_same no_home frames) layout runs
+pub write_back_reaches : (v x : View) → IsLayout v.layout → Swaps v.disk v.slots x.disk x.slots → ((i : ℕ) (f : Frame) → Has x.slots i f → (g : Frame) × Has v.slots i g × (g.home ≡ f.home) × (g.bytes ≡ f.bytes)) → x.layout ≡ v.layout → x.runs ≡ v.runs → Reaches v x
+write_back_reaches v x is swaps frames layout runs = reaches_brought v v x is (reaches_itself v) no_home (λ home none. absurd none) swaps (brings_same no_home frames) layout runs
 
 pub few_dirty : (id first pages : ℕ) (s : Slots) → dirty_count id first pages s ≤ length s
 few_dirty id first pages [] = omega arith
@@ -42,15 +42,15 @@ few_dirty id first pages (o ∷ s) = by (is_dirty_in id first pages o) (few_dirt
     by true few = omega (arith, few)
     by false few = omega (arith, few)
 
--- ---- What is at rest stays so, where pages of clients don't come.
+-- ---- What is flushed or evicted stays so, where pages of clients don't come.
 
-rest_stays : (v w : View) → Reaches v w → BringsOwn v.slots w.slots → (way : Way) (id page : ℕ) → 16 ≤ id → IsAtRest way v.slots id page → IsAtRest way w.slots id page
-rest_stays v w h came Force id page client rest = λ dirty. elim (h.goes.makes.dirty id page dirty) [
+rest_stays : (v w : View) → Reaches v w → BringsOwn v.slots w.slots → (write_back : WriteBack) (id page : ℕ) → 16 ≤ id → IsWrittenBack write_back v.slots id page → IsWrittenBack write_back w.slots id page
+rest_stays v w h came Flush id page client rest = λ dirty. elim (h.goes.makes.dirty id page dirty) [
   | inl was ↦ rest was
   | inr (inl three) ↦ absurd (omega (arith, client, three))
   | inr (inr two) ↦ absurd (omega (arith, client, two))
 ]
-rest_stays v w h came LetGo id page client rest = λ there.
+rest_stays v w h came Evict id page client rest = λ there.
     let f = there.1.0 in
     let own = there.1.2 in
     elim (came.homes f.home (record { slot = there.0; frame = f; has = there.1.1; at = refl })) [
@@ -58,48 +58,48 @@ rest_stays v w h came LetGo id page client rest = λ there.
       | inr low ↦ let most = low.1 in let same = own.0 in absurd (omega (arith, client, most, same))
     ]
 
-pub rests_stay : {v w : View} {kept : List Interval} {count : ℕ} {m : List Sector} {named : Triples} {ss : List Space} → Told v kept count m named ss → Reaches v w → BringsOwn v.slots w.slots
-    → (way : Way) (from to : ℕ) → AreAtRest way ss v.slots from to → AreAtRest way ss w.slots from to
-rests_stay {v = v} {w = w} told h came way from to rest page shown above below is =
-    rest_stays v w h came way shown.file shown.page (above_reserved shown.file (told.stored page shown is).of_file) (rest page shown above below is)
+pub rests_stay : {v w : View} {kept : List Interval} {count : ℕ} {m : List Sector} {named : Triples} {ss : List Space} → Revealed v kept count m named ss → Reaches v w → BringsOwn v.slots w.slots
+    → (write_back : WriteBack) (from to : ℕ) → AreWrittenBack write_back ss v.slots from to → AreWrittenBack write_back ss w.slots from to
+rests_stay {v = v} {w = w} revealed h came write_back from to rest page shown above below is =
+    rest_stays v w h came write_back shown.file shown.page (above_reserved shown.file (revealed.stored page shown is).of_file) (rest page shown above below is)
 
-pub rest_then : (way : Way) (ss : List Space) (s : Slots) (a b c : ℕ) → AreAtRest way ss s a b → AreAtRest way ss s b c → AreAtRest way ss s a c
-rest_then way ss s a b c first next page shown above below is = elim (cases_lt page b) [ inl low ↦ first page shown above low is | inr high ↦ next page shown high below is ]
+pub rest_then : (write_back : WriteBack) (ss : List Space) (s : Slots) (a b c : ℕ) → AreWrittenBack write_back ss s a b → AreWrittenBack write_back ss s b c → AreWrittenBack write_back ss s a c
+rest_then write_back ss s a b c first next page shown above below is = elim (cases_lt page b) [ inl low ↦ first page shown above low is | inr high ↦ next page shown high below is ]
 
-pub rest_nowhere : (way : Way) (ss : List Space) (s : Slots) (a : ℕ) → AreAtRest way ss s a a
-rest_nowhere way ss s a page shown above below is = absurd (omega (arith, above, below))
+pub rest_nowhere : (write_back : WriteBack) (ss : List Space) (s : Slots) (a : ℕ) → AreWrittenBack write_back ss s a a
+rest_nowhere write_back ss s a page shown above below is = absurd (omega (arith, above, below))
 
 -- ---- What one interval shows.
 
-module _ {tells : List ℕ → Type 0} {count : ℕ} {ss : List Space} (t : TellSpaces tells count ss) (way : Way) (s : Slots) (page next : ℕ) where
-  pub none_at_rest : root_pages ≤ page → AreAtRest way ss s page next
-  none_at_rest past p u above below is = absurd (none-some u (sym (none_past t p (omega (arith, past, above))) ∙ is))
+module _ {reveals : List ℕ → Type 0} {count : ℕ} {ss : List Space} (t : RevealSpaces reveals count ss) (write_back : WriteBack) (s : Slots) (page next : ℕ) where
+  pub none_written_back : root_pages ≤ page → AreWrittenBack write_back ss s page next
+  none_written_back past p u above below is = absurd (none-some u (sym (none_past t p (omega (arith, past, above))) ∙ is))
 
   module _ (x : Interval) (of : IsIntervalOf ss x) (holds : Holds x page) (inside : next ≤ x.first + x.pages) where
-    pub bare_at_rest : x.mode ≡ 0 → AreAtRest way ss s page next
-    bare_at_rest bare p u above below is =
+    pub bare_written_back : x.mode ≡ 0 → AreWrittenBack write_back ss s page next
+    bare_written_back bare p u above below is =
         let from = holds.0 in
         let held : Holds x p = (omega (arith, from, above), omega (arith, below, inside)) in
         absurd (none-some u (sym (shown_none t x of p held bare) ∙ is))
 
-    pub run_at_rest : x.mode ≢ 0 → ((q : ℕ) → file_page x page ≤ q → q < file_page x page + (next - page) → IsAtRest way s x.id q) → AreAtRest way ss s page next
-    run_at_rest mapped rest p u above below is =
+    pub run_written_back : x.mode ≢ 0 → ((q : ℕ) → file_page x page ≤ q → q < file_page x page + (next - page) → IsWrittenBack write_back s x.id q) → AreWrittenBack write_back ss s page next
+    run_written_back mapped rest p u above below is =
         let from = holds.0 in
         let held : Holds x p = (omega (arith, from, above), omega (arith, below, inside)) in
         let same : u ≡ record { file = x.id; page = file_page x p } = same_Some u (record { file = x.id; page = file_page x p }) (sym is ∙ shown_is t x of p held mapped) in
-        subst (λ (u : FilePage). IsAtRest way s u.file u.page) (sym same) (rest (file_page x p) (omega (arith, from, above)) (omega (arith, from, above, below)))
+        subst (λ (u : FilePage). IsWrittenBack write_back s u.file u.page) (sym same) (rest (file_page x p) (omega (arith, from, above)) (omega (arith, from, above, below)))
 
 pub next_of : (next a b : ℕ) → next ≡ min a b → (next ≡ b) ⊎ (next ≡ a)
 next_of next a b is = elim (cases_lt a b) [ inl less ↦ inr (omega (arith, is, less)) | inr from ↦ inl (omega (arith, is, from)) ]
 
 -- ---- Frames that stay.
 
-pub leaves_same : (way : Way) (id first pages : ℕ) (s t : Slots) → t ≡ s → LeavesFrames way id first pages s t
-leaves_same way id first pages s t same = subst (LeavesFrames way id first pages s) (sym same) (itself way)
+pub leaves_same : (write_back : WriteBack) (id first pages : ℕ) (s t : Slots) → t ≡ s → LeavesFrames write_back id first pages s t
+leaves_same write_back id first pages s t same = subst (LeavesFrames write_back id first pages s) (sym same) (itself write_back)
   where
-    itself : (way : Way) → LeavesFrames way id first pages s s
-    itself Force = λ i f has. (f, has, refl, refl)
-    itself LetGo = record { others = λ i outside. refl; frames = λ i f has. (f, has, refl, refl) }
+    itself : (write_back : WriteBack) → LeavesFrames write_back id first pages s s
+    itself Flush = λ i f has. (f, has, refl, refl)
+    itself Evict = record { others = λ i outside. refl; frames = λ i f has. (f, has, refl, refl) }
 
 -- an interval that was kept is the one that was looked up
 pub part_all : (x y : Interval) (next end : ℕ) → next ≡ min (x.first + x.pages) end → y ≡ x → end ≤ y.first + y.pages → next ≡ end
@@ -107,11 +107,11 @@ part_all x y next end least same inside =
     let ends : y.first + y.pages ≡ x.first + x.pages = ap (λ (z : Interval). z.first + z.pages) same in
     omega (arith, least, ends, inside)
 
-pub part_leaves : (way : Way) (x y : Interval) (page next end : ℕ) (s t u : Slots) → y ≡ x → next ≡ end → t ≡ s → LeavesFrames way x.id (file_page x page) (next - page) t u → LeavesFrames way y.id (file_page y page) (end - page) s u
-part_leaves way x y page next end s t u same all slots left =
-    subst (λ (z : Interval). LeavesFrames way z.id (file_page z page) (end - page) s u) (sym same)
-    (subst (λ (n : ℕ). LeavesFrames way x.id (file_page x page) (n - page) s u) all (subst (λ (b : Slots). LeavesFrames way x.id (file_page x page) (next - page) b u) slots left))
+pub part_leaves : (write_back : WriteBack) (x y : Interval) (page next end : ℕ) (s t u : Slots) → y ≡ x → next ≡ end → t ≡ s → LeavesFrames write_back x.id (file_page x page) (next - page) t u → LeavesFrames write_back y.id (file_page y page) (end - page) s u
+part_leaves write_back x y page next end s t u same all slots left =
+    subst (λ (z : Interval). LeavesFrames write_back z.id (file_page z page) (end - page) s u) (sym same)
+    (subst (λ (n : ℕ). LeavesFrames write_back x.id (file_page x page) (n - page) s u) all (subst (λ (b : Slots). LeavesFrames write_back x.id (file_page x page) (next - page) b u) slots left))
 
 -- pages of the volume's own came, and frames of a run were written out
-pub run_yields : (way : Way) (id first pages : ℕ) (s t u : Slots) → StayOrYield s t → LeavesFrames way id first pages t u → way ≡ Force → StayOrYield s u
-run_yields way id first pages s t u come leaves forced = yield_then come (stay_yields (subst (λ (w : Way). LeavesFrames w id first pages t u) forced leaves))
+pub run_yields : (write_back : WriteBack) (id first pages : ℕ) (s t u : Slots) → StayOrYield s t → LeavesFrames write_back id first pages t u → write_back ≡ Flush → StayOrYield s u
+run_yields write_back id first pages s t u come leaves forced = yield_then come (stay_yields (subst (λ (w : WriteBack). LeavesFrames w id first pages t u) forced leaves))

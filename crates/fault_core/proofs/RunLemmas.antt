@@ -14,7 +14,7 @@ use Rattle.swapper_kernel.specs.HaltLaws.{brings_then, brings_wider}
 use Rattle.filer_kernel.specs.PlaceLaws.{one_sector}
 use Rattle.fault_core.specs.View.{View}
 use Rattle.fault_core.specs.Reach.{IsReachedHome, BringsOwn}
-use Rattle.fault_core.specs.Told.{Known, IsStored}
+use Rattle.fault_core.specs.Revealed.{Known, IsStored}
 use Rattle.fault_core.specs.Homes.{AreHomesOf, HaveSectors}
 use Rattle.fault_core.specs.Unit.{AreResident, AreRunStored, BringsRun}
 

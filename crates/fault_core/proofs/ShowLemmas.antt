@@ -15,15 +15,15 @@ use Rattle.flat_machine.proofs.Lists.{find_in}
 use Rattle.projection_laws.proofs.Inside.{in_the_root}
 use Rattle.swap_units.specs.declared.interval.Interval.{Interval}
 use Rattle.swap_units.specs.Unit.{Holds}
-use Rattle.projection_laws.specs.Laws.{Tells}
+use Rattle.projection_laws.specs.Laws.{Reveals}
 use Rattle.projection_laws.specs.Spaces.{AreSpaces}
-use Rattle.projection_laws.proofs.TellLemmas.{intervals_tell}
-use Rattle.space_tables.specs.Stored.{TellSpaces}
+use Rattle.projection_laws.proofs.RevealLemmas.{intervals_reveal}
+use Rattle.space_tables.specs.Stored.{RevealSpaces}
 use Rattle.frame_pool.specs.declared.home.Home.{Home}
 use Rattle.frame_pool.specs.Frames.{Slots}
 use Rattle.swapper_kernel.specs.HaltLaws.{brings_wider}
 use Rattle.fault_core.specs.Reach.{BringsOwn}
-use Rattle.fault_core.specs.Told.{IsIntervalOf, AreStored}
+use Rattle.fault_core.specs.Revealed.{IsIntervalOf, AreStored}
 use Rattle.session_words.specs.FrameLaws.{is_shown, IsKnown, BringsKnown}
 use Rattle.fault_core.specs.Unit.{file_page, AreShownStored, IsOfInterval, BringsShown, BringsBoth}
 use Rattle.fault_core.specs.Moves.{AreSeen}
@@ -32,17 +32,17 @@ use Rattle.fault_core.proofs.KeptLemmas.{find_is}
 mode_test : (n : ℕ) → n ≢ 0 → (n == 0) ≡ false
 mode_test n some = grind (arith, nat_tests, some)
 
-module _ {tells : List ℕ → Type 0} {count : ℕ} {ss : List Space} (t : TellSpaces tells count ss) (x : Interval) (of : IsIntervalOf ss x) where
-  pub tells_page : (page : ℕ) → Holds x page → Tells ss x page
-  tells_page page held = intervals_tell ss of.xs of.index page x (subst AreSpaces t.spaces t.right.spaces) of.projection of.there held
+module _ {reveals : List ℕ → Type 0} {count : ℕ} {ss : List Space} (t : RevealSpaces reveals count ss) (x : Interval) (of : IsIntervalOf ss x) where
+  pub reveals_page : (page : ℕ) → Holds x page → Reveals ss x page
+  reveals_page page held = intervals_reveal ss of.xs of.index page x (subst AreSpaces t.spaces t.right.spaces) of.projection of.there held
 
   -- where the interval is mapped, the page that is shown
   pub shown_is : (page : ℕ) → Holds x page → x.mode ≢ 0 → shown_at ss page ≡ Some (record { file = x.id; page = file_page x page })
-  shown_is page held mapped = (tells_page page held).shown ∙ ap (λ (b : Bool). if b then None else Some (record { file = x.id; page = file_page x page })) (mode_test x.mode mapped)
+  shown_is page held mapped = (reveals_page page held).shown ∙ ap (λ (b : Bool). if b then None else Some (record { file = x.id; page = file_page x page })) (mode_test x.mode mapped)
 
   -- where it isn't, none is
   pub shown_none : (page : ℕ) → Holds x page → x.mode ≡ 0 → shown_at ss page ≡ None
-  shown_none page held bare = (tells_page page held).shown ∙ ap (λ (b : Bool). if b then None else Some (record { file = x.id; page = file_page x page })) (ap (λ (n : ℕ). n == 0) bare)
+  shown_none page held bare = (reveals_page page held).shown ∙ ap (λ (b : Bool). if b then None else Some (record { file = x.id; page = file_page x page })) (ap (λ (n : ℕ). n == 0) bare)
 
   pub all_stored : (named : Triples) (m : List Sector) → AreStored named m ss → x.mode ≢ 0 → AreShownStored named m x
   all_stored named m stored mapped other held = stored other _ (shown_is other held mapped)
@@ -82,10 +82,10 @@ shown_known ss page u is = by (mapped_at ss page) refl
         any_of (shows u.file u.page) ss found.0 s found.1 (through s page u held (sym (ap (λ (o : Option Space). option_and_then (λ s. option_map (λ w. page_through s w page) s.window) o) e) ∙ is))
 
 -- pages that an interval shows are pages that a window shows
-pub known_came : {tells : List ℕ → Type 0} {count : ℕ} {ss : List Space} → TellSpaces tells count ss → (x : Interval) → IsIntervalOf ss x → x.mode ≢ 0 → (s t : Slots) → BringsShown x s t → BringsKnown ss s t
-known_came {ss = ss} told x of mapped s t brings = brings_wider (λ home. IsKnown ss home.id home.page) (λ home come. elim come [
+pub known_came : {reveals : List ℕ → Type 0} {count : ℕ} {ss : List Space} → RevealSpaces reveals count ss → (x : Interval) → IsIntervalOf ss x → x.mode ≢ 0 → (s t : Slots) → BringsShown x s t → BringsKnown ss s t
+known_came {ss = ss} revealed x of mapped s t brings = brings_wider (λ home. IsKnown ss home.id home.page) (λ home come. elim come [
   | inl own ↦ inl own
-  | inr shown ↦ inr (rw (shown.same_id, shown.same_page) (shown_known ss shown.page (record { file = x.id; page = file_page x shown.page }) (shown_is told x of shown.page shown.holds mapped)))
+  | inr shown ↦ inr (rw (shown.same_id, shown.same_page) (shown_known ss shown.page (record { file = x.id; page = file_page x shown.page }) (shown_is revealed x of shown.page shown.holds mapped)))
 ]) brings
 
 -- so are pages of the maps and of the space tables
@@ -101,8 +101,8 @@ module _ (x y : Interval) (s t : Slots) where
   pub came_last : BringsShown y s t → BringsBoth x y s t
   came_last brings = brings_wider (λ home. ((1 ≤ home.id) × (home.id ≤ 3)) ⊎ (IsOfInterval x home ⊎ IsOfInterval y home)) (λ home come. elim come [ inl own ↦ inl own | inr shown ↦ inr (inr shown) ]) brings
 
-pub seen_of : {tells : List ℕ → Type 0} {count : ℕ} {ss : List Space} → TellSpaces tells count ss → (x : Interval) → IsIntervalOf ss x → x.mode ≢ 0 → (named : Triples) (m : List Sector) → AreStored named m ss → AreSeen ss named m x
-seen_of told x of mapped named m stored = record { shown = λ page held. shown_is told x of page held mapped; stored = all_stored told x of named m stored mapped }
+pub seen_of : {reveals : List ℕ → Type 0} {count : ℕ} {ss : List Space} → RevealSpaces reveals count ss → (x : Interval) → IsIntervalOf ss x → x.mode ≢ 0 → (named : Triples) (m : List Sector) → AreStored named m ss → AreSeen ss named m x
+seen_of revealed x of mapped named m stored = record { shown = λ page held. shown_is revealed x of page held mapped; stored = all_stored revealed x of named m stored mapped }
 
 seen_home : (ss : List Space) (named : Triples) (m : List Sector) (x : Interval) → AreSeen ss named m x → (home : Home) → IsOfInterval x home → is_shown ss home.id home.page ≡ true
 seen_home ss named m x seen home of = rw (of.same_id, of.same_page) (shown_known ss of.page (record { file = x.id; page = file_page x of.page }) (seen.shown of.page of.holds))
@@ -114,11 +114,11 @@ both_came ss named m x y seen also s t brings = brings_wider (λ home. IsKnown s
   | inr (inr of) ↦ inr (seen_home ss named m y also home of)
 ]) brings
 
--- ---- Behind the root.
+-- ---- After the root.
 
 -- no window shows a page there
-pub none_past : {tells : List ℕ → Type 0} {count : ℕ} {ss : List Space} → TellSpaces tells count ss → (page : ℕ) → root_pages ≤ page → shown_at ss page ≡ None
-none_past {ss = ss} told page past = by (mapped_at ss page) refl
+pub none_past : {reveals : List ℕ → Type 0} {count : ℕ} {ss : List Space} → RevealSpaces reveals count ss → (page : ℕ) → root_pages ≤ page → shown_at ss page ≡ None
+none_past {ss = ss} revealed page past = by (mapped_at ss page) refl
   where
     by : (o : Option Space) → mapped_at ss page ≡ o → shown_at ss page ≡ None
     by None e = ap (λ (o : Option Space). option_and_then (λ s. option_map (λ w. page_through s w page) s.window) o) e
@@ -126,5 +126,5 @@ none_past {ss = ss} told page past = by (mapped_at ss page) refl
         let found = find_in (λ s. is_mapped s && holds s page) ss s e in
         let both = found.1 in
         let below : page < end s = grind (arith, nat_tests, both) in
-        let last = (in_the_root ss (subst AreSpaces told.spaces told.right.spaces) s found.0).last in
+        let last = (in_the_root ss (subst AreSpaces revealed.spaces revealed.right.spaces) s found.0).last in
         absurd (omega (arith, below, last, past))

@@ -26,7 +26,7 @@ use Rattle.session_words.specs.CellLaws.{StoresAt}
 use Rattle.session_words.proofs.PageLemmas.{set_sectors}
 use Rattle.filer_kernel.specs.Tables.{IsTablePage}
 use Rattle.fault_core.specs.Moves.{Leaves}
-use Rattle.fault_core.specs.Told.{IsStored, Known}
+use Rattle.fault_core.specs.Revealed.{IsStored, Known}
 use Rattle.fault_core.specs.Touch.{and_own, on_data, Touches}
 use Rattle.fault_core.specs.Room.{KeepsSlots}
 use Rattle.fault_core.specs.View.{View}
@@ -168,7 +168,7 @@ module _ (w x : View) (is : IsLayout w.layout) (placed : ArePlaced w.slots w.lay
     layout = layout;
     given = λ r one. inl (rw (← layout, ← runs) one);
     runs_are = λ m named stands map are. rw (layout, runs) are;
-    told = λ b t.
+    revealed = λ b t.
         let now = goes.memory t.memory t.stands in
         rw (layout, runs) (record {
           memory = now.0;

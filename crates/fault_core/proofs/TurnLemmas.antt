@@ -18,7 +18,7 @@ use Rattle.swapper_kernel.specs.Goes.{Same, Swaps}
 use Rattle.swapper_kernel.specs.GoesLaws.{goes_then, swaps_wider}
 use Rattle.swapper_kernel.specs.Halts.{Halts, held_or}
 use Rattle.swapper_kernel.specs.HaltLaws.{brings_then, brings_wider, label_before, rose_wider}
-use Rattle.swapper_kernel.specs.Window.{Tells, Beside}
+use Rattle.swapper_kernel.specs.Window.{Reveals, Beside}
 use Rattle.filer_kernel.specs.Cached.{runs_of}
 use Rattle.filer_kernel.specs.Triples.{MapIs, AreOf, IsOneOf}
 use Rattle.filer_kernel.specs.Causes.{IsGiven, MapHalts}
@@ -43,7 +43,7 @@ reaches_tables v w h same = record {
   layout = h.layout;
   given = λ r one. h.given r (subst (λ (l : Layout). IsOneOf r (runs_of l.sectors w.runs)) h.layout one);
   runs_are = λ m named stands map are. subst (λ (l : Layout). AreOf named (runs_of l.sectors w.runs)) (sym h.layout) (h.runs_are m named stands map are);
-  told = same;
+  revealed = same;
 }
 
 pub map_id : (layout : Layout) (home : Home) → IsMapHome FileMap layout home → (1 ≤ home.id) × (home.id ≤ 3)
@@ -70,13 +70,13 @@ tables_halt v w breaks e accounted = wider e accounted.cause
 
 pub reaches_map : (v w : View) → IsLayout v.layout → v.disk.sectors ≡ v.layout.sectors → ((all : List Sector) → v.disk.contents ≡ Some all → length all ≡ v.disk.sectors)
     → ((all : List Sector) → v.disk.contents ≡ Some all → AreSectors all) → ArePages v.slots → Beside FileMap v.disk v.slots v.layout w.disk w.slots w.layout
-    → ((b : List ℕ) → Tells FileMap v.disk v.slots v.layout b → Tells FileMap w.disk w.slots v.layout b)
+    → ((b : List ℕ) → Reveals FileMap v.disk v.slots v.layout b → Reveals FileMap w.disk w.slots v.layout b)
     → ((r : Run) → IsOneOf r (runs_of v.layout.sectors w.runs) → IsGiven v.layout v.disk v.slots (kept_by v) r)
     → ((m : List Sector) (named : Triples) → Stands v.disk v.slots m → MapIs v.layout named m → AreOf named (kept_by v) → AreOf named (runs_of v.layout.sectors w.runs)) → Reaches v w
 reaches_map v w is size whole form pages beside bytes given are =
     let stays = memory_stays is size whole form pages beside bytes in
     reaches_tables v w (beside_found beside stays given are)
-    (λ b tells. tables_stay beside.layout beside.goes.makes.went.sectors (λ m named stands map. stays m stands) are b tells (map_over v.layout tells.triples beside.brings))
+    (λ b reveals. tables_stay beside.layout beside.goes.makes.went.sectors (λ m named stands map. stays m stands) are b reveals (map_over v.layout reveals.triples beside.brings))
 
 pub own_map : (v w : View) → Beside FileMap v.disk v.slots v.layout w.disk w.slots w.layout → BringsOwn v.slots w.slots
 own_map v w beside = brings_wider (λ home. (1 ≤ home.id) × (home.id ≤ 3)) (map_id v.layout) beside.brings
@@ -90,10 +90,10 @@ map_halt v w breaks (Damaged (Missing id page)) h = absurd h
 -- ---- Pages brought in, after others.
 
 module _ (v w x : View) (is : IsLayout v.layout) (h : Reaches v w) (come : Homes) (found : (home : Home) → come home → IsReachedHome v home) where
-  -- where the space tables are told, pages of them come where the map has them
-  brought_over : Brings come w.slots x.slots → (b : List ℕ) (tells : TablesAre v b) → ComeOver w.slots x.slots (h.told b tells).triples
-  brought_over brings b tells = come_over come (h.told b tells).triples
-      (λ home one three. same_sectors is h.layout h.goes tells (h.told b tells) 3 home.page home.sector ∙ run_home_over is tells home (found home one).by_run three) brings
+  -- where the space tables are revealed, pages of them come where the map has them
+  brought_over : Brings come w.slots x.slots → (b : List ℕ) (reveals : TablesAre v b) → ComeOver w.slots x.slots (h.revealed b reveals).triples
+  brought_over brings b reveals = come_over come (h.revealed b reveals).triples
+      (λ home one three. same_sectors is h.layout h.goes reveals (h.revealed b reveals) 3 home.page home.sector ∙ run_home_over is reveals home (found home one).by_run three) brings
 
   pub reaches_brought : Swaps w.disk w.slots x.disk x.slots → Brings come w.slots x.slots → x.layout ≡ w.layout → x.runs ≡ w.runs → Reaches v x
   reaches_brought swaps brings layout runs = record {
@@ -102,7 +102,7 @@ module _ (v w x : View) (is : IsLayout v.layout) (h : Reaches v w) (come : Homes
     layout = layout ∙ h.layout;
     given = λ r one. h.given r (rw (← layout, ← runs) one);
     runs_are = λ m named stands map are. rw (layout, runs) (h.runs_are m named stands map are);
-    told = λ b tells. rw (layout, runs) (tables_swapped refl swaps b (h.told b tells) (brought_over brings b tells));
+    revealed = λ b reveals. rw (layout, runs) (tables_swapped refl swaps b (h.revealed b reveals) (brought_over brings b reveals));
   }
 
   reason_brought : (home : Home) → held_or w.slots come home → held_or v.slots (IsMapHome FileMap v.layout) home ⊎ IsReachedHome v home

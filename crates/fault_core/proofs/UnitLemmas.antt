@@ -7,7 +7,7 @@ use Rattle.swap_units.specs.declared.interval.Interval.{Interval}
 use Rattle.swap_units.specs.Unit.{Holds, IsUnit, IsAmong, LiesIn}
 use Rattle.swapper_kernel.specs.HaltLaws.{brings_wider}
 use Rattle.fault_core.specs.Kept.{IsFormed}
-use Rattle.fault_core.specs.Told.{IsStored}
+use Rattle.fault_core.specs.Revealed.{IsStored}
 use Rattle.fault_core.specs.Unit.{InUnit, IsResident, AreResident, IsWhole, IsUnitRun, AreShownStored, AreRunStored, BringsRun, BringsShown, IsOfInterval}
 
 pub unit_run_is : (x : Interval) (page : ℕ) (run : ℕ × ℕ) → IsFormed x → Holds x page → x.mode ≢ 0 → IsUnit x page run → IsAmong run page → LiesIn x run → run.1 ≤ x.unit

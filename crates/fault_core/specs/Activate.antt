@@ -21,34 +21,34 @@ IsShownAt spaces page = (shown : FilePage) × (shown_at spaces page ≡ Some sho
 abbrev pub AreBare : List Space → ℕ → ℕ → Type 0
 AreBare spaces from to = (page : ℕ) → from ≤ page → page < to → shown_at spaces page ≡ None
 
--- the swap unit of a page that a window shows: the page behind it, and how many pages it has
-pub record IsUnitAt (spaces : List Space) (page behind pages : ℕ) : Type 0 where
+-- the swap unit of a page that a window shows: the page after it, and how many pages it has
+pub record IsUnitAt (spaces : List Space) (page after pages : ℕ) : Type 0 where
   pub interval : Interval
   pub projected : IsIntervalAt spaces page interval
   pub mapped : interval.mode ≢ 0
   pub first : ℕ
   pub unit : IsUnit interval page (first, pages)
-  pub ends : behind ≡ first + pages
+  pub ends : after ≡ first + pages
 
 -- that of the first page from the one up to the other that a window shows
-pub record IsNextUnit (spaces : List Space) (from to page behind pages : ℕ) : Type 0 where
+pub record IsNextUnit (spaces : List Space) (from to page after pages : ℕ) : Type 0 where
   pub above : from ≤ page
   pub below : page < to
   pub bare : AreBare spaces from page
-  pub unit : IsUnitAt spaces page behind pages
+  pub unit : IsUnitAt spaces page after pages
 
 -- one more unit was brought in
 abbrev pub with_unit : Progress → ℕ → ℕ → ℕ → Progress
-with_unit so_far page behind pages = record { page = behind; last = page; units = so_far.units + 1; left = so_far.left - pages }
+with_unit so_far page after pages = record { page = after; last = page; units = so_far.units + 1; left = so_far.left - pages }
 
 -- So many units are to be brought in yet, one after the other, and the last one is that of this page: the first unit of all is
 -- brought in whatever its size, and each next one if its pages are not more than may still be. Then none is left, or the next
 -- one has more.
 abbrev pub AreUnits : List Space → ℕ → Progress → ℕ → ℕ → Type 0
 AreUnits spaces to so_far zero last =
-    (last ≡ so_far.last) × (AreBare spaces so_far.page to ⊎ ((so_far.units ≢ 0) × (page : ℕ) × (behind : ℕ) × (pages : ℕ) × IsNextUnit spaces so_far.page to page behind pages × (so_far.left < pages)))
+    (last ≡ so_far.last) × (AreBare spaces so_far.page to ⊎ ((so_far.units ≢ 0) × (page : ℕ) × (after : ℕ) × (pages : ℕ) × IsNextUnit spaces so_far.page to page after pages × (so_far.left < pages)))
 AreUnits spaces to so_far (suc n) last =
-    (page : ℕ) × (behind : ℕ) × (pages : ℕ) × IsNextUnit spaces so_far.page to page behind pages × (so_far.units ≢ 0 → pages ≤ so_far.left) × AreUnits spaces to (with_unit so_far page behind pages) n last
+    (page : ℕ) × (after : ℕ) × (pages : ℕ) × IsNextUnit spaces so_far.page to page after pages × (so_far.units ≢ 0 → pages ≤ so_far.left) × AreUnits spaces to (with_unit so_far page after pages) n last
 
 -- no unit was brought in yet
 abbrev pub start_at : ℕ → ℕ → Progress
@@ -94,7 +94,7 @@ IsFurther spaces end was now =
 
 -- the page's unit is not the first one, and has more pages than may still be brought in
 abbrev pub IsTooLong : List Space → Progress → Type 0
-IsTooLong spaces was = (was.units ≢ 0) × (behind : ℕ) × (pages : ℕ) × IsUnitAt spaces was.page behind pages × (was.left < pages)
+IsTooLong spaces was = (was.units ≢ 0) × (after : ℕ) × (pages : ℕ) × IsUnitAt spaces was.page after pages × (was.left < pages)
 
 -- in a turn over any contents
 pub record IsTurn (was now : Progress) : Type 0 where

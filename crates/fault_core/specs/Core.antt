@@ -6,19 +6,19 @@ use Rattle.file_map.specs.FileMap.{Triples}
 use Rattle.flat_machine.specs.declared.space.Space.{Space}
 use Rattle.swap_units.specs.declared.interval.Interval.{Interval}
 use Rattle.descriptor_cache.specs.Cache.{kept_in}
-use Rattle.fault_core.specs.declared.core_over.CoreOver.{CoreOver}
+use Rattle.fault_core.specs.declared.core_over.Core.{Core}
 use Rattle.fault_core.specs.View.{View, view_of}
-use Rattle.fault_core.specs.Told.{Told}
+use Rattle.fault_core.specs.Revealed.{Revealed}
 
 module _ {D A : Type 0} {G : Ghosts D} where
   -- its filer's disk, frames, layout and runs
-  abbrev pub state : CoreOver D A G → View
+  abbrev pub state : Core D A G → View
   state c = view_of c.filer
 
   -- the intervals that it keeps
-  abbrev pub kept : CoreOver D A G → List Interval
+  abbrev pub kept : Core D A G → List Interval
   kept c = kept_in c.descriptors
 
   -- what a session knows of it
-  abbrev pub Knows : CoreOver D A G → List Sector → Triples → List Space → Type 0
-  Knows c memory named spaces = Told (state c) (kept c) c.intervals memory named spaces
+  abbrev pub Knows : Core D A G → List Sector → Triples → List Space → Type 0
+  Knows c memory named spaces = Revealed (state c) (kept c) c.intervals memory named spaces

@@ -13,7 +13,7 @@ use Rattle.swap_units.specs.declared.interval.Interval.{Interval}
 use Rattle.swapper_kernel.specs.Differs.{of_run}
 use Rattle.swapper_kernel.specs.Goes.{Change, Pages}
 use Rattle.fault_core.specs.Access.{Shows, is_load_only}
-use Rattle.fault_core.specs.Told.{BreaksTables, Told}
+use Rattle.fault_core.specs.Revealed.{BreaksTables, Revealed}
 use Rattle.fault_core.specs.Unit.{IsResident, file_page}
 use Rattle.fault_core.specs.View.{View}
 
@@ -42,7 +42,7 @@ pub record BreaksWithin (v : View) (count first to page : ℕ) : Type 0 where
 
 -- of the pages from one on up to another, each page of a file that a window shows there and lets stores through is so
 abbrev pub AreWritableSo : Pages → List Space → ℕ → ℕ → Type 0
-AreWritableSo so spaces from to = (p : ℕ) → from ≤ p → p < to → (u : FilePage) → shown_at spaces p ≡ Some u → is_read_only spaces p ≡ false → so u.file u.page
+AreWritableSo evidence_seen spaces from to = (p : ℕ) → from ≤ p → p < to → (u : FilePage) → shown_at spaces p ≡ Some u → is_read_only spaces p ≡ false → evidence_seen u.file u.page
 
 -- whether the interval's pages may be stored to
 abbrev pub may_store : Interval → Bool
@@ -56,4 +56,4 @@ of_part first x page next place l = nat_le first place && of_run x.id (file_page
 pub record LeavesCore (P : Change) (m : List Sector) (named : Triples) (spaces : List Space) (w : View) (kept : List Interval) (count : ℕ) : Type 0 where
   pub memory : List Sector
   pub changed : P m memory
-  pub told : Told w kept count memory named spaces
+  pub revealed : Revealed w kept count memory named spaces

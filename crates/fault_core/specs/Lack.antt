@@ -8,19 +8,19 @@ use Rattle.flat_machine.specs.At.{shown_at}
 use Rattle.swap_units.specs.declared.interval.Interval.{Interval}
 use Rattle.swapper_kernel.specs.Goes.{Pages}
 use Rattle.space_tables.specs.SpaceTables.{IsIntervalAt}
-use Rattle.space_tables.specs.Stored.{TellSpaces}
+use Rattle.space_tables.specs.Stored.{RevealSpaces}
 use Rattle.fault_core.specs.Access.{Shows, last_page}
 use Rattle.fault_core.specs.Kept.{IsKept}
-use Rattle.fault_core.specs.Told.{IsIntervalOf}
+use Rattle.fault_core.specs.Revealed.{IsIntervalOf}
 use Rattle.fault_core.specs.Unit.{InUnit, file_page}
 use Rattle.fault_core.specs.View.{View, TablesAre}
 
 -- where the halt is that the map has no sector for a page, it is a page of the space tables or one of these
-abbrev pub LacksPage : Pages → Halt → Type 0
-LacksPage pages Disk = Unit {0}
-LacksPage pages (Damaged (Mismatch sector wanted found)) = Unit {0}
-LacksPage pages (Damaged (Malformed window broken)) = Unit {0}
-LacksPage pages (Damaged (Missing id page)) = (id ≡ 3) ⊎ pages id page
+abbrev pub MissesPage : Pages → Halt → Type 0
+MissesPage pages Disk = Unit {0}
+MissesPage pages (Damaged (Mismatch sector wanted found)) = Unit {0}
+MissesPage pages (Damaged (Malformed window broken)) = Unit {0}
+MissesPage pages (Damaged (Missing id page)) = (id ≡ 3) ⊎ pages id page
 
 -- so many pages of a file, from the first one on
 abbrev pub run_pages : ℕ → ℕ → ℕ → Pages
@@ -50,10 +50,10 @@ shown_units spaces address count i p = shown_unit spaces (address / 512) i p ⊎
 abbrev pub range_units : List Space → ℕ → ℕ → Pages
 range_units spaces from to i p = (page : ℕ) × (from ≤ page) × (page < to) × shown_unit spaces page i p
 
--- The space tables are told, and in form: they are those of these spaces, with so many intervals; and the intervals that are
+-- The space tables are revealed, and in form: they are those of these spaces, with so many intervals; and the intervals that are
 -- kept are among them.
 pub record Sees (v : View) (kept : List Interval) (count : ℕ) (spaces : List Space) : Type 0 where
   pub bytes : List ℕ
-  pub told : TablesAre v bytes
-  pub tables : TellSpaces (λ b. b ≡ bytes) count spaces
+  pub revealed : TablesAre v bytes
+  pub tables : RevealSpaces (λ b. b ≡ bytes) count spaces
   pub cached : (x : Interval) → IsKept kept x → IsIntervalOf spaces x

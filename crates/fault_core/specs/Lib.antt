@@ -1,7 +1,7 @@
 pub mod View
 pub mod Reach
 pub mod ReachLaws
-pub mod Told
+pub mod Revealed
 pub mod Core
 pub mod Kept
 pub mod Lending
@@ -18,4 +18,4 @@ pub mod Activate
 pub mod Attempt
 pub mod Room
 pub mod Lack
-pub mod Spares
+pub mod NeverBlames

@@ -15,7 +15,7 @@ use Rattle.session_words.specs.CellLaws.{Stores, StoresPieces, pieces}
 use Rattle.fault_core.specs.declared.reference.Access.{Access}
 use Rattle.fault_core.specs.declared.reference.Access.TheVariants.{Done, NoMap, ReadOnly}
 use Rattle.fault_core.specs.Access.{last_page}
-use Rattle.fault_core.specs.Told.{Known}
+use Rattle.fault_core.specs.Revealed.{Known}
 use Rattle.fault_core.specs.View.{View}
 use Rattle.fault_core.specs.Unit.{AreShownStored, file_page}
 

@@ -32,7 +32,7 @@ abbrev pub IsReached : View → Home → Type 0
 IsReached v home = IsMapHome FileMap v.layout home ⊎ IsReachedHome v home
 
 -- Pages were found and brought in: each frame's home was there before or was found so. Only pages of the space tables and of
--- the file map may have become dirty, and the bytes of the space tables alone may differ; where they are told they don't.
+-- the file map may have become dirty, and the bytes of the space tables alone may differ; where they are revealed they don't.
 -- Runs that are kept were kept before or were read from the map, and are the map's afterwards where they were before.
 pub record Reaches (v w : View) : Type 0 where
   pub goes : Goes (Differs (in_tables v.layout)) table_pages [] v.disk v.slots w.disk w.slots
@@ -40,7 +40,7 @@ pub record Reaches (v w : View) : Type 0 where
   pub layout : w.layout ≡ v.layout
   pub given : (r : Run) → IsOneOf r (kept_by w) → IsGiven v.layout v.disk v.slots (kept_by v) r
   pub runs_are : (m : List Sector) (named : Triples) → Stands v.disk v.slots m → MapIs v.layout named m → AreOf named (kept_by v) → AreOf named (kept_by w)
-  pub told : (b : List ℕ) → TablesAre v b → TablesAre w b
+  pub revealed : (b : List ℕ) → TablesAre v b → TablesAre w b
 
 -- A label is another than that of a home of the map, of a frame, or of a page where a run has it; or a page of the map, or
 -- of the space tables, breaks its form; or the map has no sector for a page that may be missing.

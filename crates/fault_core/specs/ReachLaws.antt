@@ -1,11 +1,11 @@
--- Which pages a call may tell as missing: more of them, and those of the space tables alone.
+-- Which pages a call may report as missing: more of them, and those of the space tables alone.
 use Rattle.std.proofs.Common.{ℕ, inl}
 use Rattle.labelled_disk.specs.declared.evidence.Evidence.TheVariants.{Mismatch, Malformed, Missing}
 use Rattle.labelled_disk.specs.declared.evidence.Halt.{Halt}
 use Rattle.labelled_disk.specs.declared.evidence.Halt.TheVariants.{Disk, Damaged}
 use Rattle.swapper_kernel.specs.Goes.{Pages}
 use Rattle.filer_kernel.specs.Evidence.{MayBeMissing}
-use Rattle.fault_core.specs.Lack.{LacksPage}
+use Rattle.fault_core.specs.Lack.{MissesPage}
 use Rattle.fault_core.specs.Reach.{FindHalts, ReachHalts, TouchHalts, table_page}
 use Rattle.fault_core.specs.View.{View}
 
@@ -21,9 +21,9 @@ module _ (breaks : ℕ → Type 0) (v w : View) where
   pub touch_of_reach : (e : Halt) → ReachHalts breaks v w e → TouchHalts breaks v w e
   touch_of_reach e h = finds_wider table_page MayBeMissing (λ id page own. inl own) e h
 
-  -- a page that it tells as missing is one of the space tables
-  pub reach_lacks : (more : Pages) (e : Halt) → ReachHalts breaks v w e → LacksPage more e
-  reach_lacks more Disk h = tt
-  reach_lacks more (Damaged (Mismatch sector wanted found)) h = tt
-  reach_lacks more (Damaged (Malformed window page)) h = tt
-  reach_lacks more (Damaged (Missing id page)) h = inl h.0.0
+  -- a page that it reports as missing is one of the space tables
+  pub reach_misses : (more : Pages) (e : Halt) → ReachHalts breaks v w e → MissesPage more e
+  reach_misses more Disk h = tt
+  reach_misses more (Damaged (Mismatch sector wanted found)) h = tt
+  reach_misses more (Damaged (Malformed window page)) h = tt
+  reach_misses more (Damaged (Missing id page)) h = inl h.0.0

@@ -25,11 +25,11 @@ and_own pages id page = table_pages id page ⊎ pages id page
 
 -- Pages were found and brought in, and the bytes of some changed: each frame's home was there before or was found so. Only
 -- these pages, and pages of the space tables and of the file map, may have become dirty, and bytes on data sectors alone
--- may differ; where the space tables are told, theirs don't.
+-- may differ; where the space tables are revealed, theirs don't.
 pub record Touches (pages : Pages) (v w : View) : Type 0 where
   pub goes : Goes (Differs (on_data v.layout)) (and_own pages) [] v.disk v.slots w.disk w.slots
   pub brings : Brings (IsReached v) v.slots w.slots
   pub layout : w.layout ≡ v.layout
   pub given : (r : Run) → IsOneOf r (kept_by w) → IsGiven v.layout v.disk v.slots (kept_by v) r
   pub runs_are : (m : List Sector) (named : Triples) → Stands v.disk v.slots m → MapIs v.layout named m → AreOf named (kept_by v) → AreOf named (kept_by w)
-  pub told : (b : List ℕ) → TablesAre v b → TablesAre w b
+  pub revealed : (b : List ℕ) → TablesAre v b → TablesAre w b

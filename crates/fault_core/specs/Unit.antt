@@ -13,7 +13,7 @@ use Rattle.swap_units.specs.Unit.{Holds, block_of}
 use Rattle.swapper_kernel.specs.Goes.{IsDirty}
 use Rattle.swapper_kernel.specs.Homes.{Brings}
 use Rattle.fault_core.specs.Kept.{IsKept}
-use Rattle.fault_core.specs.Told.{IsStored}
+use Rattle.fault_core.specs.Revealed.{IsStored}
 
 -- the page of the file that the interval shows at one of its pages
 abbrev pub file_page : Interval → ℕ → ℕ

@@ -14,9 +14,9 @@ ghost use Rattle.fault_core.specs.Reach.{BringsOwn, Reaches, ReachHalts};
 ghost use Rattle.fault_core.specs.Unit.{IsReady, IsSlotOf, file_page};
 ghost use Rattle.fault_core.specs.Lack.{Sees};
 
-use crate::CoreOver;
+use crate::Core;
 use crate::reference::{Access, Reference, last_page};
-use filer_kernel::FilerOver;
+use filer_kernel::Filer;
 use labelled_disk::{Disk, Halt};
 use std::alloc::Allocator;
 use swap_units::Interval;
@@ -37,11 +37,7 @@ pub(crate) enum Prospect {
 }
 
 // The slot of a page that an interval shows, or None where the page is not resident.
-fn slot_at<D: Disk, A: Allocator>(
-    filer: &mut FilerOver<D, A>,
-    x: &Interval,
-    page: u32,
-) -> Option<u32>
+fn slot_at<D: Disk, A: Allocator>(filer: &mut Filer<D, A>, x: &Interval, page: u32) -> Option<u32>
     requires shows { Shows x.now page }
     ensures slot { IfSome result (λ i. HasPage filer.old.swapper.pool i x.now.id (file_page x.now page)) }
     ensures absent { result ≡ None → is_absent filer.old.swapper.pool x.now.id (file_page x.now page) }
@@ -56,7 +52,7 @@ fn slot_at<D: Disk, A: Allocator>(
 // The slots of the first and of the last page of a reference, by the intervals that show them, or the first of its pages
 // that is not resident.
 fn look_for<D: Disk, A: Allocator>(
-    filer: &mut FilerOver<D, A>,
+    filer: &mut Filer<D, A>,
     first: &Interval,
     last: &Interval,
     address: u32,
@@ -85,7 +81,7 @@ fn look_for<D: Disk, A: Allocator>(
     Prospect::Ready { first: i, last: j }
 }
 
-impl<D: Disk, A: Allocator> CoreOver<D, A> {
+impl<D: Disk, A: Allocator> Core<D, A> {
     ghost use Rattle.fault_core.specs.Core.{kept, state, Knows};
 
     // What comes of a reference, before a byte of it is moved. All its pages are described here, then looked for in the
@@ -96,7 +92,7 @@ impl<D: Disk, A: Allocator> CoreOver<D, A> {
         count: u32,
         writes: bool,
     ) -> Result<Prospect, Halt>
-        requires size { (D.state self.old.filer.swapper.under).sectors ≡ self.old.filer.swapper.layout.sectors }
+        requires size { (D.state self.old.filer.swapper.disk).sectors ≡ self.old.filer.swapper.layout.sectors }
         requires some { 1 ≤ count }
         requires few { count ≤ 512 }
         ensures clients { IfOk result (IfReady (λ i j. HasClient self.new.filer.swapper.pool i × HasClient self.new.filer.swapper.pool j)) }
@@ -119,7 +115,7 @@ impl<D: Disk, A: Allocator> CoreOver<D, A> {
             → IfOk result (IfSettled (IfAbsent (λ page. ⊥))) }
         ensures idle { IsReady (kept self.old) self.old.filer.swapper.pool (address / 512) → IsReady (kept self.old) self.old.filer.swapper.pool (last_page address count) → AreApart (kept self.old)
             → IsOk result × (self.new.filer ≡ self.old.filer) × (kept self.new ≡ kept self.old) }
-        ensures cost { (D.state self.new.filer.swapper.under).transfers ≤ (D.state self.old.filer.swapper.under).transfers + 392 }
+        ensures cost { (D.state self.new.filer.swapper.disk).transfers ≤ (D.state self.old.filer.swapper.disk).transfers + 392 }
     {
         let (first, last) = match self.refer(address, count, writes) {
             Ok(Reference::Shown { first, last }) => (first, last),

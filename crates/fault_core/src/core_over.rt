@@ -4,7 +4,7 @@ ghost use Rattle.descriptor_cache.specs.Cache.{kept_in};
 ghost use Rattle.fault_core.specs.Kept.{AreFormed, are_formed_once};
 
 use descriptor_cache::DescriptorCache;
-use filer_kernel::{Filer, FilerOver, Window1Over};
+use filer_kernel::{Filer, LentFiler, TableMemory};
 use labelled_disk::Disk;
 use space_tables::SpaceTables;
 use std::alloc::Allocator;
@@ -13,8 +13,8 @@ use std::alloc::Allocator;
 /// has. Every call that moves sectors asks that the disk has as many sectors as the layout: a disk or a filer that was lent
 /// might be another one.
 #[derive(Drop)]
-pub struct CoreOver<D: Disk, A: Allocator> {
-    pub filer: FilerOver<D, A>,
+pub struct Core<D: Disk, A: Allocator> {
+    pub filer: Filer<D, A>,
     pub(crate) descriptors: DescriptorCache,
     pub(crate) intervals: u32,
     ghost some: { 1 ≤ intervals },
@@ -23,20 +23,20 @@ pub struct CoreOver<D: Disk, A: Allocator> {
 }
 
 /// A core whose disk is lent.
-pub type Core<'d, D, A> = CoreOver<&'d mut D, A>;
+pub type LentCore<'d, D, A> = Core<&'d mut D, A>;
 
-impl<D: Disk, A: Allocator> CoreOver<D, A> {
+impl<D: Disk, A: Allocator> Core<D, A> {
     ghost use Rattle.fault_core.specs.Core.{kept};
 
     /// A core over tables whose projection has so many intervals, 1 to 1,023. It keeps none.
-    pub fn over(filer: FilerOver<D, A>, intervals: u32) -> CoreOver<D, A>
+    pub fn over(filer: Filer<D, A>, intervals: u32) -> Core<D, A>
         requires some { 1 ≤ intervals }
         requires few { intervals ≤ 1023 }
         ensures filer { result.filer ≡ filer }
         ensures intervals { result.intervals ≡ intervals }
         ensures kept { kept result ≡ [] }
     {
-        CoreOver {
+        Core {
             filer,
             descriptors: DescriptorCache::new(),
             intervals,
@@ -44,10 +44,10 @@ impl<D: Disk, A: Allocator> CoreOver<D, A> {
     }
 
     /// Gives up the intervals.
-    pub fn into_filer(self) -> FilerOver<D, A>
+    pub fn into_filer(self) -> Filer<D, A>
         ensures { result ≡ self.filer }
     {
-        let CoreOver {
+        let Core {
             filer,
             descriptors: _,
             intervals: _,
@@ -56,7 +56,7 @@ impl<D: Disk, A: Allocator> CoreOver<D, A> {
     }
 
     /// Keeps no interval any more. This is due where the tables were changed.
-    pub fn forget_descriptors(&mut self)
+    pub fn discard_descriptors(&mut self)
         ensures kept { kept self.new ≡ [] }
         ensures filer { self.new.filer ≡ self.old.filer }
         ensures intervals { self.new.intervals ≡ self.old.intervals }
@@ -83,25 +83,25 @@ impl<D: Disk, A: Allocator> CoreOver<D, A> {
     }
 }
 
-impl<D: Disk, A: Allocator> CoreOver<D, A> {
+impl<D: Disk, A: Allocator> Core<D, A> {
     ghost use Rattle.std.specs.Borrow.{sem};
     ghost use Rattle.space_tables.specs.SpaceTables.{interval_count, tables_memory};
     ghost use Rattle.fault_core.specs.Lending.{LendsFiler};
 
     /// The space tables, with as many intervals as the core counts. Where they are changed, the intervals that are kept are to
-    /// be forgotten, and how many there are is to be told.
-    pub fn tables<'s>(&'s mut self) -> SpaceTables<Window1Over<'s, D, A>>
-        requires size { (D.state self.old.filer.swapper.under).sectors ≡ self.old.filer.swapper.layout.sectors }
+    /// be forgotten, and how many there are is to be revealed.
+    pub fn tables<'s>(&'s mut self) -> SpaceTables<TableMemory<'s, D, A>>
+        requires size { (D.state self.old.filer.swapper.disk).sectors ≡ self.old.filer.swapper.layout.sectors }
         ensures value { (tables_memory result).filer.now ≡ self.old.filer }
         ensures intervals { interval_count result ≡ self.old.intervals }
         ensures* lends { sem 𝓛 (LendsFiler D.row A.row D.Disk A.Allocator self.entry (tables_memory result).filer) }
     {
         let intervals = self.intervals;
-        SpaceTables::<Window1Over<D, A>>::over(self.filer.window1(), intervals)
+        SpaceTables::<TableMemory<D, A>>::over(self.filer.table_memory(), intervals)
     }
 
     /// The filer.
-    pub fn filer_over(&mut self) -> &mut FilerOver<D, A>
+    pub fn filer_over(&mut self) -> &mut Filer<D, A>
         ensures value { result.now ≡ self.old.filer }
         ensures* lends { sem 𝓛 (LendsFiler D.row A.row D.Disk A.Allocator self.entry result) }
     {
@@ -109,17 +109,17 @@ impl<D: Disk, A: Allocator> CoreOver<D, A> {
     }
 }
 
-impl<'d, D: Disk, A: Allocator> CoreOver<&'d mut D, A> {
+impl<'d, D: Disk, A: Allocator> Core<&'d mut D, A> {
     ghost use Rattle.fault_core.specs.Core.{kept};
 
     /// A core over a filer whose disk is lent.
-    pub fn new(filer: Filer<'d, D, A>, intervals: u32) -> Core<'d, D, A>
+    pub fn new(filer: LentFiler<'d, D, A>, intervals: u32) -> LentCore<'d, D, A>
         requires some { 1 ≤ intervals }
         requires few { intervals ≤ 1023 }
         ensures filer { result.filer ≡ filer.entry }
         ensures intervals { result.intervals ≡ intervals }
         ensures kept { kept result ≡ [] }
     {
-        CoreOver::over(filer, intervals)
+        Core::over(filer, intervals)
     }
 }

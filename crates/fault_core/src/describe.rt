@@ -10,19 +10,19 @@ ghost use Rattle.swap_units.specs.Unit.{Holds, has_page};
 ghost use Rattle.space_tables.specs.Answer.{IfMem, IfMalformed, NotRefused, FromMemory};
 ghost use Rattle.space_tables.specs.Form.{BreaksLookUp};
 ghost use Rattle.space_tables.specs.SpaceTables.{IsIntervalAt};
-ghost use Rattle.space_tables.specs.Stored.{TellSpaces};
+ghost use Rattle.space_tables.specs.Stored.{RevealSpaces};
 ghost use Rattle.filer_kernel.specs.Tables.{BesideTables, IsTableAccounted};
 ghost use Rattle.fault_core.specs.Kept.{IsFormed, IsKept};
 ghost use Rattle.fault_core.specs.View.{view_of, TablesAre};
 ghost use Rattle.fault_core.specs.Reach.{Reaches, ReachHalts, BringsOwn, StayOrYield};
-ghost use Rattle.fault_core.specs.Told.{Known, BreaksTables};
+ghost use Rattle.fault_core.specs.Revealed.{Known, BreaksTables};
 ghost use Rattle.fault_core.specs.Room.{KeepsWhileEmpty};
 ghost use Rattle.fault_core.specs.Lack.{Sees};
-ghost use Rattle.fault_core.specs.Spares.{SparesTables};
+ghost use Rattle.fault_core.specs.NeverBlames.{NeverBlamesTables};
 
-use crate::CoreOver;
+use crate::Core;
 use crate::walk::ROOT_PAGES;
-use filer_kernel::{FilerOver, Window1Over};
+use filer_kernel::{Filer, TableMemory};
 use labelled_disk::{Disk, Evidence, Halt};
 use space_tables::{SpaceError, SpaceTables};
 use std::alloc::Allocator;
@@ -33,47 +33,47 @@ const TABLES: u8 = 3;
 
 // Asks the tables that stand in a filer's space tables.
 fn ask<D: Disk, A: Allocator>(
-    filer: &mut FilerOver<D, A>,
+    filer: &mut Filer<D, A>,
     intervals: u32,
     page: u32,
 ) -> Result<Option<Interval>, SpaceError<Halt>>
-    requires size { (D.state filer.old.swapper.under).sectors ≡ filer.old.swapper.layout.sectors }
+    requires size { (D.state filer.old.swapper.disk).sectors ≡ filer.old.swapper.layout.sectors }
     requires some { 1 ≤ intervals }
     requires few { intervals ≤ 1023 }
-    ensures interval { (ss : List Space) → TellSpaces (TablesAre (view_of filer.old)) intervals ss → IfOk result (λ o. IfSome o (IsIntervalAt ss page)) }
-    ensures right { (ss : List Space) → TellSpaces (TablesAre (view_of filer.old)) intervals ss → IfErr result FromMemory }
+    ensures interval { (ss : List Space) → RevealSpaces (TablesAre (view_of filer.old)) intervals ss → IfOk result (λ o. IfSome o (IsIntervalAt ss page)) }
+    ensures right { (ss : List Space) → RevealSpaces (TablesAre (view_of filer.old)) intervals ss → IfErr result FromMemory }
     ensures none { IfOk result (λ o. (o ≡ None) ↔ (root_pages ≤ page)) }
     ensures form { IfOk result (λ o. IfSome o (λ x. IsFormed x × Holds x page)) }
     ensures malformed { (b : List ℕ) → TablesAre (view_of filer.old) b → IfErr result (IfMalformed (BreaksLookUp page intervals b)) }
     ensures refused { IfErr result NotRefused }
-    ensures cause { IfErr result (IfMem (IsTableAccounted (D.state filer.old.swapper.under) filer.old.swapper.pool filer.old.swapper.layout filer.old.runs (D.state filer.new.swapper.under))) }
+    ensures cause { IfErr result (IfMem (IsTableAccounted (D.state filer.old.swapper.disk) filer.old.swapper.pool filer.old.swapper.layout filer.old.runs (D.state filer.new.swapper.disk))) }
     ensures same { (b : List ℕ) → TablesAre (view_of filer.old) b → TablesAre (view_of filer.new) b }
-    ensures kept { BesideTables (D.state filer.old.swapper.under) filer.old.swapper.pool filer.old.swapper.layout filer.old.runs (D.state filer.new.swapper.under) filer.new.swapper.pool filer.new.swapper.layout filer.new.runs }
-    ensures cost { (D.state filer.new.swapper.under).transfers ≤ (D.state filer.old.swapper.under).transfers + 196 }
+    ensures kept { BesideTables (D.state filer.old.swapper.disk) filer.old.swapper.pool filer.old.swapper.layout filer.old.runs (D.state filer.new.swapper.disk) filer.new.swapper.pool filer.new.swapper.layout filer.new.runs }
+    ensures cost { (D.state filer.new.swapper.disk).transfers ≤ (D.state filer.old.swapper.disk).transfers + 196 }
 {
-    let mut tables = SpaceTables::<Window1Over<D, A>>::over(filer.window1(), intervals);
+    let mut tables = SpaceTables::<TableMemory<D, A>>::over(filer.table_memory(), intervals);
     tables.describe(page)
 }
 
 // The interval that holds a page, by the tables, or none where the page is not one of the root.
 fn look_up<D: Disk, A: Allocator>(
-    filer: &mut FilerOver<D, A>,
+    filer: &mut Filer<D, A>,
     intervals: u32,
     page: u32,
 ) -> Result<Option<Interval>, Halt>
-    requires size { (D.state filer.old.swapper.under).sectors ≡ filer.old.swapper.layout.sectors }
+    requires size { (D.state filer.old.swapper.disk).sectors ≡ filer.old.swapper.layout.sectors }
     requires some { 1 ≤ intervals }
     requires few { intervals ≤ 1023 }
     ensures none { IfOk result (λ o. (o ≡ None) ↔ (root_pages ≤ page)) }
     ensures form { IfOk result (λ o. IfSome o (λ x. IsFormed x × Holds x page)) }
     ensures cause { IfErr result (ReachHalts (BreaksTables (view_of filer.old) intervals page) (view_of filer.old) (view_of filer.new)) }
-    ensures interval { (b : List ℕ) (ss : List Space) → TablesAre (view_of filer.old) b → TellSpaces (λ c. c ≡ b) intervals ss → IfOk result (λ o. IfSome o (IsIntervalAt ss page)) }
-    ensures sound { (m : List Sector) (named : Triples) (b : List ℕ) (ss : List Space) → Known (view_of filer.old) m named b → TellSpaces (λ c. c ≡ b) intervals ss → IfErr result (λ e. e ≡ halt.Disk) }
+    ensures interval { (b : List ℕ) (ss : List Space) → TablesAre (view_of filer.old) b → RevealSpaces (λ c. c ≡ b) intervals ss → IfOk result (λ o. IfSome o (IsIntervalAt ss page)) }
+    ensures sound { (m : List Sector) (named : Triples) (b : List ℕ) (ss : List Space) → Known (view_of filer.old) m named b → RevealSpaces (λ c. c ≡ b) intervals ss → IfErr result (λ e. e ≡ halt.Disk) }
     ensures reaches { Reaches (view_of filer.old) (view_of filer.new) }
     ensures came { BringsOwn filer.old.swapper.pool filer.new.swapper.pool }
     ensures room { KeepsWhileEmpty filer.old.swapper.pool filer.new.swapper.pool }
     ensures stay { StayOrYield filer.old.swapper.pool filer.new.swapper.pool }
-    ensures cost { (D.state filer.new.swapper.under).transfers ≤ (D.state filer.old.swapper.under).transfers + 196 }
+    ensures cost { (D.state filer.new.swapper.disk).transfers ≤ (D.state filer.old.swapper.disk).transfers + 196 }
 {
     if page >= ROOT_PAGES {
         return Ok(None);
@@ -89,19 +89,19 @@ fn look_up<D: Disk, A: Allocator>(
     }
 }
 
-impl<D: Disk, A: Allocator> CoreOver<D, A> {
+impl<D: Disk, A: Allocator> Core<D, A> {
     ghost use Rattle.fault_core.specs.Core.{kept, state, Knows};
 
     /// The interval of the projection that holds a page, or None where the page is not one of the root. An interval that is
     /// kept is given without a transfer.
     pub fn describe(&mut self, page: u32) -> Result<Option<Interval>, Halt>
-        requires size { (D.state self.old.filer.swapper.under).sectors ≡ self.old.filer.swapper.layout.sectors }
+        requires size { (D.state self.old.filer.swapper.disk).sectors ≡ self.old.filer.swapper.layout.sectors }
         ensures none { IfOk result (λ o. (o ≡ None) ↔ (root_pages ≤ page)) }
         ensures form { IfOk result (λ o. IfSome o (λ x. IsFormed x × Holds x page)) }
         ensures is_kept { IfOk result (λ o. IfSome o (IsKept (kept self.new))) }
         ensures cause { IfErr result (ReachHalts (BreaksTables (state self.old) self.old.intervals page) (state self.old) (state self.new)) }
         ensures sees { (ss : List Space) → Sees (state self.old) (kept self.old) self.old.intervals ss → Sees (state self.new) (kept self.new) self.new.intervals ss }
-        ensures right { (ss : List Space) → Sees (state self.old) (kept self.old) self.old.intervals ss → IfErr result SparesTables }
+        ensures right { (ss : List Space) → Sees (state self.old) (kept self.old) self.old.intervals ss → IfErr result NeverBlamesTables }
         ensures interval { (m : List Sector) (named : Triples) (ss : List Space) → Knows self.old m named ss → IfOk result (λ o. IfSome o (IsIntervalAt ss page)) }
         ensures sound { (m : List Sector) (named : Triples) (ss : List Space) → Knows self.old m named ss → IfErr result (λ e. e ≡ halt.Disk) }
         ensures same { (m : List Sector) (named : Triples) (ss : List Space) → Knows self.old m named ss → Knows self.new m named ss }
@@ -111,7 +111,7 @@ impl<D: Disk, A: Allocator> CoreOver<D, A> {
         ensures stay { StayOrYield self.old.filer.swapper.pool self.new.filer.swapper.pool }
         ensures intervals { self.new.intervals ≡ self.old.intervals }
         ensures idle { (x : Interval) → find (has_page page) (kept self.old) ≡ Some x → (result ≡ Ok (Some x)) × (self.new.filer ≡ self.old.filer) × (kept self.new ≡ kept self.old) }
-        ensures cost { (D.state self.new.filer.swapper.under).transfers ≤ (D.state self.old.filer.swapper.under).transfers + 196 }
+        ensures cost { (D.state self.new.filer.swapper.disk).transfers ≤ (D.state self.old.filer.swapper.disk).transfers + 196 }
     {
         if let Some(interval) = self.descriptors.look(page) {
             return Ok(Some(interval));

@@ -12,19 +12,19 @@ ghost use Rattle.fault_core.specs.Access.{last_page};
 ghost use Rattle.fault_core.specs.Attempt.{HasClient, either};
 ghost use Rattle.fault_core.specs.Moves.{Leaves, Loads};
 ghost use Rattle.fault_core.specs.Reach.{BringsOwn};
-ghost use Rattle.fault_core.specs.Told.{AreStored, Known};
+ghost use Rattle.fault_core.specs.Revealed.{AreStored, Known};
 ghost use Rattle.fault_core.specs.Touch.{Touches};
 ghost use Rattle.fault_core.specs.Unit.{IsShownDirty, IsSlotOf};
 ghost use Rattle.fault_core.specs.Room.{KeepsSlots};
 ghost use Rattle.fault_core.specs.View.{view_of};
 
-use filer_kernel::FilerOver;
+use filer_kernel::Filer;
 use labelled_disk::Disk;
 use std::alloc::Allocator;
 
 /// Reads from a page in a frame.
 pub(crate) fn copy_out<D: Disk, A: Allocator>(
-    filer: &mut FilerOver<D, A>,
+    filer: &mut Filer<D, A>,
     slot: u32,
     from: usize,
     into: &mut [u8],
@@ -42,7 +42,7 @@ pub(crate) fn copy_out<D: Disk, A: Allocator>(
 
 /// Reads the bytes of a reference from the slots of its first and of its last page.
 pub(crate) fn copy_pages<D: Disk, A: Allocator>(
-    filer: &mut FilerOver<D, A>,
+    filer: &mut Filer<D, A>,
     first: u32,
     last: u32,
     address: u32,
@@ -69,7 +69,7 @@ pub(crate) fn copy_pages<D: Disk, A: Allocator>(
 
 /// Writes over the bytes of a page in a frame. The frame is dirty then.
 pub(crate) fn change_in<D: Disk, A: Allocator>(
-    filer: &mut FilerOver<D, A>,
+    filer: &mut Filer<D, A>,
     slot: u32,
     from: u32,
     bytes: &[u8],
@@ -82,14 +82,14 @@ pub(crate) fn change_in<D: Disk, A: Allocator>(
     ensures touches { (id page : ℕ) → HasPage filer.old.swapper.pool slot id page → 16 ≤ id → Touches (this_page id page) (view_of filer.old) (view_of filer.new) }
     ensures came { BringsOwn filer.old.swapper.pool filer.new.swapper.pool }
     ensures slots { KeepsSlots filer.old.swapper.pool filer.new.swapper.pool }
-    ensures under { filer.new.swapper.under ≡ filer.old.swapper.under }
+    ensures disk { filer.new.swapper.disk ≡ filer.old.swapper.disk }
 {
     filer.swapper_over().change(slot, from, bytes);
 }
 
 /// Writes the bytes of a reference over those in the slots of its first and of its last page.
 pub(crate) fn change_pages<D: Disk, A: Allocator>(
-    filer: &mut FilerOver<D, A>,
+    filer: &mut Filer<D, A>,
     first: u32,
     last: u32,
     address: u32,
@@ -106,7 +106,7 @@ pub(crate) fn change_pages<D: Disk, A: Allocator>(
     ensures touches { (i p j q : ℕ) → HasPage filer.old.swapper.pool first i p → HasPage filer.old.swapper.pool last j q → 16 ≤ i → 16 ≤ j → Touches (either i p j q) (view_of filer.old) (view_of filer.new) }
     ensures came { BringsOwn filer.old.swapper.pool filer.new.swapper.pool }
     ensures slots { KeepsSlots filer.old.swapper.pool filer.new.swapper.pool }
-    ensures under { filer.new.swapper.under ≡ filer.old.swapper.under }
+    ensures disk { filer.new.swapper.disk ≡ filer.old.swapper.disk }
 {
     let from = address % 512;
     let room = (512 - from) as usize;

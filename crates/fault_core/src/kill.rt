@@ -17,16 +17,16 @@ ghost use Rattle.fault_core.specs.Kill.{AreWritableSo, BreaksWithin, LeavesCore,
 ghost use Rattle.fault_core.specs.Moves.{Leaves};
 ghost use Rattle.fault_core.specs.Range.{IsNextPart};
 ghost use Rattle.fault_core.specs.Reach.{ReachHalts, BringsOwn};
-ghost use Rattle.fault_core.specs.Told.{BreaksTables, Known};
+ghost use Rattle.fault_core.specs.Revealed.{BreaksTables, Known};
 ghost use Rattle.fault_core.specs.Touch.{Touches};
 ghost use Rattle.fault_core.specs.Unit.{file_page};
 ghost use Rattle.fault_core.specs.View.{view_of};
 ghost use Rattle.fault_core.specs.Lack.{Sees};
-ghost use Rattle.fault_core.specs.Spares.{SparesTables};
+ghost use Rattle.fault_core.specs.NeverBlames.{NeverBlamesTables};
 
-use crate::CoreOver;
+use crate::Core;
 use crate::walk::end_of;
-use filer_kernel::FilerOver;
+use filer_kernel::Filer;
 use labelled_disk::{Disk, Halt};
 use std::alloc::Allocator;
 use swap_units::Interval;
@@ -39,20 +39,15 @@ fn may_store(x: &Interval) -> bool
 }
 
 // Gives up the pages from one on up to another, by the interval that shows them.
-fn forget_shown<D: Disk, A: Allocator>(
-    filer: &mut FilerOver<D, A>,
-    x: &Interval,
-    page: u32,
-    next: u32,
-)
+fn discard_shown<D: Disk, A: Allocator>(filer: &mut Filer<D, A>, x: &Interval, page: u32, next: u32)
     requires shows { ShowsPart x.now page next }
     ensures gone { (p : ℕ) → page ≤ p → p < next → is_absent filer.new.swapper.pool x.now.id (file_page x.now p) }
     ensures left { (m : List Sector) (named : Triples) (b : List ℕ) → Known (view_of filer.old) m named b → Leaves (Differs (of_part filer.old.swapper.layout.first x.now page next)) m named b (view_of filer.new) }
     ensures touches { Touches no_page (view_of filer.old) (view_of filer.new) }
     ensures came { BringsOwn filer.old.swapper.pool filer.new.swapper.pool }
-    ensures under { filer.new.swapper.under ≡ filer.old.swapper.under }
+    ensures disk { filer.new.swapper.disk ≡ filer.old.swapper.disk }
 {
-    force_calls::forget(
+    force_calls::discard(
         filer.swapper_over(),
         x.id,
         x.page + (page - x.first),
@@ -60,13 +55,13 @@ fn forget_shown<D: Disk, A: Allocator>(
     );
 }
 
-impl<D: Disk, A: Allocator> CoreOver<D, A> {
+impl<D: Disk, A: Allocator> Core<D, A> {
     ghost use Rattle.fault_core.specs.Core.{kept, state, Knows};
 
     // The same of the interval that holds a page, from that page on, where it may be stored to. Gives the page where it ends,
     // or the range does.
     fn kill_part(&mut self, page: u32, end: u32) -> Result<u32, Halt>
-        requires size { (D.state self.old.filer.swapper.under).sectors ≡ self.old.filer.swapper.layout.sectors }
+        requires size { (D.state self.old.filer.swapper.disk).sectors ≡ self.old.filer.swapper.layout.sectors }
         requires before { page < end }
         requires in_root { end ≤ root_pages }
         ensures next { IfOk result (λ next. (page < next) × (next ≤ end)) }
@@ -80,8 +75,8 @@ impl<D: Disk, A: Allocator> CoreOver<D, A> {
         ensures touches { Touches no_page (state self.old) (state self.new) }
         ensures came { BringsOwn self.old.filer.swapper.pool self.new.filer.swapper.pool }
         ensures intervals { self.new.intervals ≡ self.old.intervals }
-        ensures idle { (x : IntervalIs) → find (has_page page) (kept self.old) ≡ Some x → IsOk result × (D.state self.new.filer.swapper.under ≡ D.state self.old.filer.swapper.under) × (kept self.new ≡ kept self.old) }
-        ensures cost { (D.state self.new.filer.swapper.under).transfers ≤ (D.state self.old.filer.swapper.under).transfers + 196 }
+        ensures idle { (x : IntervalIs) → find (has_page page) (kept self.old) ≡ Some x → IsOk result × (D.state self.new.filer.swapper.disk ≡ D.state self.old.filer.swapper.disk) × (kept self.new ≡ kept self.old) }
+        ensures cost { (D.state self.new.filer.swapper.disk).transfers ≤ (D.state self.old.filer.swapper.disk).transfers + 196 }
     {
         let (x, next) = match self.part_at(page, end) {
             Ok(part) => part,
@@ -90,7 +85,7 @@ impl<D: Disk, A: Allocator> CoreOver<D, A> {
         if !may_store(&x) {
             return Ok(next);
         }
-        forget_shown(&mut self.filer, &x, page, next);
+        discard_shown(&mut self.filer, &x, page, next);
         Ok(next)
     }
 
@@ -98,20 +93,20 @@ impl<D: Disk, A: Allocator> CoreOver<D, A> {
     /// dirty is lost: the bytes of these pages are those of the disk. Where intervals that are kept have the range, no sector is
     /// read or written.
     pub fn kill(&mut self, first: u32, pages: u32) -> Result<(), Halt>
-        requires size { (D.state self.old.filer.swapper.under).sectors ≡ self.old.filer.swapper.layout.sectors }
+        requires size { (D.state self.old.filer.swapper.disk).sectors ≡ self.old.filer.swapper.layout.sectors }
         ensures gone { (m : List Sector) (named : Triples) (ss : List Space) → Knows self.old m named ss → OnOk result (AreWritableSo (is_absent self.new.filer.swapper.pool) ss first (first + pages)) }
         ensures cause { IfErr result (ReachHalts (BreaksWithin (state self.old) self.old.intervals first (first + pages)) (state self.old) (state self.new)) }
         ensures sees { (ss : List Space) → Sees (state self.old) (kept self.old) self.old.intervals ss → Sees (state self.new) (kept self.new) self.new.intervals ss }
-        ensures right { (ss : List Space) → Sees (state self.old) (kept self.old) self.old.intervals ss → IfErr result SparesTables }
+        ensures right { (ss : List Space) → Sees (state self.old) (kept self.old) self.old.intervals ss → IfErr result NeverBlamesTables }
         ensures sound { (m : List Sector) (named : Triples) (ss : List Space) → Knows self.old m named ss → IfErr result (λ e. e ≡ halt.Disk) }
         ensures killed { (m : List Sector) (named : Triples) (ss : List Space) (range : Space) → Knows self.old m named ss → range.first ≡ first → range.pages ≡ pages
-            → Goes (Kills ss range) volume_page [] (D.state self.old.filer.swapper.under) self.old.filer.swapper.pool (D.state self.new.filer.swapper.under) self.new.filer.swapper.pool }
-        ensures known { (m n : List Sector) (named : Triples) (ss : List Space) → Knows self.old m named ss → Stands (D.state self.new.filer.swapper.under) self.new.filer.swapper.pool n → Knows self.new n named ss }
+            → Goes (Kills ss range) volume_page [] (D.state self.old.filer.swapper.disk) self.old.filer.swapper.pool (D.state self.new.filer.swapper.disk) self.new.filer.swapper.pool }
+        ensures known { (m n : List Sector) (named : Triples) (ss : List Space) → Knows self.old m named ss → Stands (D.state self.new.filer.swapper.disk) self.new.filer.swapper.pool n → Knows self.new n named ss }
         ensures touches { Touches no_page (state self.old) (state self.new) }
         ensures came { BringsOwn self.old.filer.swapper.pool self.new.filer.swapper.pool }
         ensures intervals { self.new.intervals ≡ self.old.intervals }
-        ensures idle { AreFound (kept self.old) first (first + pages) → IsOk result × (D.state self.new.filer.swapper.under ≡ D.state self.old.filer.swapper.under) × (kept self.new ≡ kept self.old) }
-        ensures cost { (D.state self.new.filer.swapper.under).transfers ≤ (D.state self.old.filer.swapper.under).transfers + (self.old.intervals + 1) * 196 }
+        ensures idle { AreFound (kept self.old) first (first + pages) → IsOk result × (D.state self.new.filer.swapper.disk ≡ D.state self.old.filer.swapper.disk) × (kept self.new ≡ kept self.old) }
+        ensures cost { (D.state self.new.filer.swapper.disk).transfers ≤ (D.state self.old.filer.swapper.disk).transfers + (self.old.intervals + 1) * 196 }
     {
         let end = end_of(first, pages);
         let mut page = first;

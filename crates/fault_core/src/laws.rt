@@ -8,7 +8,7 @@ ghost use Rattle.fault_core.specs.View.{View};
 ghost use Rattle.fault_core.specs.Range.{ForcedRanges, OwnAreKnown};
 ghost use Rattle.fault_core.specs.Reach.{Reaches};
 ghost use Rattle.fault_core.specs.ReferenceLaws.{LoadsAreAllowed, LoadsAreAnswered, LoadsAreTested, StoresAreAnswered, StoresAreTested, StoresStand};
-ghost use Rattle.fault_core.specs.Told.{Known};
+ghost use Rattle.fault_core.specs.Revealed.{Known};
 
 /// Pages that are found and brought in twice are so once, what was known of the memory is known, and it is the same.
 pub fn reaches_in_turn()

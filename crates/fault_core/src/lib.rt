@@ -21,7 +21,7 @@ mod unit;
 mod walk;
 
 pub use attempt::Attempt;
-pub use core_over::{Core, CoreOver};
+pub use core_over::{Core, LentCore};
 pub use homes::Homes;
 pub use laws::{
     loads_are_allowed, ranges_are_forced, reaches_in_turn, references_are_tested,

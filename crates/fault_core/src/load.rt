@@ -12,42 +12,42 @@ ghost use Rattle.fault_core.specs.Kept.{AreApart};
 ghost use Rattle.fault_core.specs.Moves.{AreSeen, HasBytes, Loads};
 ghost use Rattle.fault_core.specs.View.{view_of};
 ghost use Rattle.fault_core.specs.Reach.{BringsOwn, Reaches, ReachHalts, TouchHalts, no_break};
-ghost use Rattle.fault_core.specs.Told.{Known};
+ghost use Rattle.fault_core.specs.Revealed.{Known};
 ghost use Rattle.fault_core.specs.Unit.{AreShownStored, BringsBoth, BringsShown, IsReady, IsWhole, file_page};
-ghost use Rattle.fault_core.specs.Lack.{LacksPage, Sees, both_units, shown_units, unit_pages};
-ghost use Rattle.fault_core.specs.Spares.{SparesTables};
+ghost use Rattle.fault_core.specs.Lack.{MissesPage, Sees, both_units, shown_units, unit_pages};
+ghost use Rattle.fault_core.specs.NeverBlames.{NeverBlamesTables};
 
-use crate::CoreOver;
+use crate::Core;
 use crate::attempt::{Attempt, Prospect};
 use crate::frames::{copy_out, copy_pages};
 use crate::reference::{Access, Reference};
 use crate::touch::touch;
-use filer_kernel::FilerOver;
+use filer_kernel::Filer;
 use labelled_disk::{Disk, Halt};
 use std::alloc::Allocator;
 use swap_units::Interval;
 
 // Loads from one page that an interval shows.
 fn load_in<D: Disk, A: Allocator>(
-    filer: &mut FilerOver<D, A>,
+    filer: &mut Filer<D, A>,
     x: &Interval,
     page: u32,
     from: usize,
     into: &mut [u8],
 ) -> Result<(), Halt>
-    requires size { (D.state filer.old.swapper.under).sectors ≡ filer.old.swapper.layout.sectors }
+    requires size { (D.state filer.old.swapper.disk).sectors ≡ filer.old.swapper.layout.sectors }
     requires shows { Shows x.now page }
     requires inside { from + length into.old ≤ 512 }
     ensures bytes { (m : List Sector) (named : Triples) (b : List ℕ) → Known (view_of filer.old) m named b → AreShownStored named m x.now → OnOk result (HasBytes x.now.id (file_page x.now page) from into.new m) }
     ensures width { length into.new ≡ length into.old }
     ensures whole { OnOk result (IsWhole filer.new.swapper.pool x.now page) }
     ensures cause { IfErr result (TouchHalts no_break (view_of filer.old) (view_of filer.new)) }
-    ensures lacks { IfErr result (LacksPage (unit_pages x.now page)) }
+    ensures misses { IfErr result (MissesPage (unit_pages x.now page)) }
     ensures sound { (m : List Sector) (named : Triples) (b : List ℕ) → Known (view_of filer.old) m named b → AreShownStored named m x.now → IfErr result (λ e. e ≡ halt.Disk) }
     ensures reaches { Reaches (view_of filer.old) (view_of filer.new) }
     ensures came { BringsShown x.now filer.old.swapper.pool filer.new.swapper.pool }
     ensures idle { IsWhole filer.old.swapper.pool x.now page → IsOk result × (filer.new ≡ filer.old) }
-    ensures cost { (D.state filer.new.swapper.under).transfers ≤ (D.state filer.old.swapper.under).transfers + 256 }
+    ensures cost { (D.state filer.new.swapper.disk).transfers ≤ (D.state filer.old.swapper.disk).transfers + 256 }
 {
     let slot = match touch(filer, x, page) {
         Ok(slot) => slot,
@@ -59,13 +59,13 @@ fn load_in<D: Disk, A: Allocator>(
 
 // Loads from the pages of a reference, by the intervals that show them.
 fn load_shown<D: Disk, A: Allocator>(
-    filer: &mut FilerOver<D, A>,
+    filer: &mut Filer<D, A>,
     first: &Interval,
     last: &Interval,
     address: u32,
     into: &mut [u8],
 ) -> Result<(), Halt>
-    requires size { (D.state filer.old.swapper.under).sectors ≡ filer.old.swapper.layout.sectors }
+    requires size { (D.state filer.old.swapper.disk).sectors ≡ filer.old.swapper.layout.sectors }
     requires some { 1 ≤ length into.old }
     requires few { length into.old ≤ 512 }
     requires first { Shows first.now (address / 512) }
@@ -75,12 +75,12 @@ fn load_shown<D: Disk, A: Allocator>(
     ensures width { length into.new ≡ length into.old }
     ensures whole { OnOk result (IsWhole filer.new.swapper.pool last.now (last_page address (length into.old))) }
     ensures cause { IfErr result (TouchHalts no_break (view_of filer.old) (view_of filer.new)) }
-    ensures lacks { IfErr result (LacksPage (both_units first.now last.now address (length into.old))) }
+    ensures misses { IfErr result (MissesPage (both_units first.now last.now address (length into.old))) }
     ensures sound { (m : List Sector) (named : Triples) (b : List ℕ) → Known (view_of filer.old) m named b → AreShownStored named m first.now → AreShownStored named m last.now → IfErr result (λ e. e ≡ halt.Disk) }
     ensures reaches { Reaches (view_of filer.old) (view_of filer.new) }
     ensures came { BringsBoth first.now last.now filer.old.swapper.pool filer.new.swapper.pool }
     ensures idle { IsWhole filer.old.swapper.pool first.now (address / 512) → IsWhole filer.old.swapper.pool last.now (last_page address (length into.old)) → IsOk result × (filer.new ≡ filer.old) }
-    ensures cost { (D.state filer.new.swapper.under).transfers ≤ (D.state filer.old.swapper.under).transfers + 512 }
+    ensures cost { (D.state filer.new.swapper.disk).transfers ≤ (D.state filer.old.swapper.disk).transfers + 512 }
 {
     let from = (address % 512) as usize;
     let room = 512 - from;
@@ -95,13 +95,13 @@ fn load_shown<D: Disk, A: Allocator>(
     load_in(filer, last, address / 512 + 1, 0, high)
 }
 
-impl<D: Disk, A: Allocator> CoreOver<D, A> {
+impl<D: Disk, A: Allocator> Core<D, A> {
     ghost use Rattle.fault_core.specs.Core.{kept, state, Knows};
 
     /// Loads 1 to 512 bytes from an address on. All pages of the reference are tested before the first byte is moved. After
     /// `Done` the last page is ready.
     pub fn load(&mut self, address: u32, into: &mut [u8]) -> Result<Access, Halt>
-        requires size { (D.state self.old.filer.swapper.under).sectors ≡ self.old.filer.swapper.layout.sectors }
+        requires size { (D.state self.old.filer.swapper.disk).sectors ≡ self.old.filer.swapper.layout.sectors }
         requires some { 1 ≤ length into.old }
         requires few { length into.old ≤ 512 }
         ensures access { (m : List Sector) (named : Triples) (ss : List Space) → Knows self.old m named ss → IfOk result (λ a. a ≡ access_of ss false address (length into.old)) }
@@ -110,9 +110,9 @@ impl<D: Disk, A: Allocator> CoreOver<D, A> {
         ensures refused { IfOk result (λ a. a ≢ access.Done → into.new ≡ into.old) }
         ensures ready { IfOk result (λ a. a ≡ access.Done → IsReady (kept self.new) self.new.filer.swapper.pool (last_page address (length into.old))) }
         ensures cause { IfErr result (TouchHalts (BreaksFor (state self.old) self.old.intervals address (length into.old)) (state self.old) (state self.new)) }
-        ensures missing { (ss : List Space) → Sees (state self.old) (kept self.old) self.old.intervals ss → IfErr result (LacksPage (shown_units ss address (length into.old))) }
+        ensures missing { (ss : List Space) → Sees (state self.old) (kept self.old) self.old.intervals ss → IfErr result (MissesPage (shown_units ss address (length into.old))) }
         ensures sees { (ss : List Space) → Sees (state self.old) (kept self.old) self.old.intervals ss → Sees (state self.new) (kept self.new) self.new.intervals ss }
-        ensures right { (ss : List Space) → Sees (state self.old) (kept self.old) self.old.intervals ss → IfErr result SparesTables }
+        ensures right { (ss : List Space) → Sees (state self.old) (kept self.old) self.old.intervals ss → IfErr result NeverBlamesTables }
         ensures sound { (m : List Sector) (named : Triples) (ss : List Space) → Knows self.old m named ss → IfErr result (λ e. e ≡ halt.Disk) }
         ensures same { (m : List Sector) (named : Triples) (ss : List Space) → Knows self.old m named ss → Knows self.new m named ss }
         ensures reaches { Reaches (state self.old) (state self.new) }
@@ -120,7 +120,7 @@ impl<D: Disk, A: Allocator> CoreOver<D, A> {
         ensures intervals { self.new.intervals ≡ self.old.intervals }
         ensures idle { IsReady (kept self.old) self.old.filer.swapper.pool (address / 512) → IsReady (kept self.old) self.old.filer.swapper.pool (last_page address (length into.old)) → AreApart (kept self.old)
             → IsOk result × (self.new.filer ≡ self.old.filer) × (kept self.new ≡ kept self.old) }
-        ensures cost { (D.state self.new.filer.swapper.under).transfers ≤ (D.state self.old.filer.swapper.under).transfers + 1680 }
+        ensures cost { (D.state self.new.filer.swapper.disk).transfers ≤ (D.state self.old.filer.swapper.disk).transfers + 1680 }
     {
         let (first, last) = match self.refer(address, into.len() as u32, false) {
             Ok(Reference::Shown { first, last }) => (first, last),
@@ -137,7 +137,7 @@ impl<D: Disk, A: Allocator> CoreOver<D, A> {
     /// Loads 1 to 512 bytes from an address on where all pages of the reference are resident, and brings in no page of a
     /// client: it gives the first of them that is not, where the reference is not refused.
     pub fn try_load(&mut self, address: u32, into: &mut [u8]) -> Result<Attempt, Halt>
-        requires size { (D.state self.old.filer.swapper.under).sectors ≡ self.old.filer.swapper.layout.sectors }
+        requires size { (D.state self.old.filer.swapper.disk).sectors ≡ self.old.filer.swapper.layout.sectors }
         requires some { 1 ≤ length into.old }
         requires few { length into.old ≤ 512 }
         ensures access { (m : List Sector) (named : Triples) (ss : List Space) → Knows self.old m named ss → IfOk result (IfAccess (λ a. a ≡ access_of ss false address (length into.old))) }
@@ -150,7 +150,7 @@ impl<D: Disk, A: Allocator> CoreOver<D, A> {
         ensures here { IfOk result (λ t. t ≡ moved → IsHere (kept self.new) self.new.filer.swapper.pool (last_page address (length into.old))) }
         ensures cause { IfErr result (ReachHalts (BreaksFor (state self.old) self.old.intervals address (length into.old)) (state self.old) (state self.new)) }
         ensures sees { (ss : List Space) → Sees (state self.old) (kept self.old) self.old.intervals ss → Sees (state self.new) (kept self.new) self.new.intervals ss }
-        ensures right { (ss : List Space) → Sees (state self.old) (kept self.old) self.old.intervals ss → IfErr result SparesTables }
+        ensures right { (ss : List Space) → Sees (state self.old) (kept self.old) self.old.intervals ss → IfErr result NeverBlamesTables }
         ensures sound { (m : List Sector) (named : Triples) (ss : List Space) → Knows self.old m named ss → IfErr result (λ e. e ≡ halt.Disk) }
         ensures same { (m : List Sector) (named : Triples) (ss : List Space) → Knows self.old m named ss → Knows self.new m named ss }
         ensures reaches { Reaches (state self.old) (state self.new) }
@@ -160,7 +160,7 @@ impl<D: Disk, A: Allocator> CoreOver<D, A> {
             → IfOk result (IfAbsent (λ page. ⊥)) }
         ensures idle { IsReady (kept self.old) self.old.filer.swapper.pool (address / 512) → IsReady (kept self.old) self.old.filer.swapper.pool (last_page address (length into.old)) → AreApart (kept self.old)
             → IsOk result × (self.new.filer ≡ self.old.filer) × (kept self.new ≡ kept self.old) }
-        ensures cost { (D.state self.new.filer.swapper.under).transfers ≤ (D.state self.old.filer.swapper.under).transfers + 392 }
+        ensures cost { (D.state self.new.filer.swapper.disk).transfers ≤ (D.state self.old.filer.swapper.disk).transfers + 392 }
     {
         let (first, last) = match self.look_ahead(address, into.len() as u32, false) {
             Ok(Prospect::Ready { first, last }) => (first, last),

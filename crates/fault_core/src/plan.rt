@@ -8,11 +8,11 @@ ghost use Rattle.flat_machine.specs.At.{shown_at};
 ghost use Rattle.fault_core.specs.Homes.{homes_in};
 ghost use Rattle.fault_core.specs.Plan.{IsKeptPlan, IsPlanAt};
 ghost use Rattle.fault_core.specs.Reach.{Reaches, TouchHalts, BringsOwn};
-ghost use Rattle.fault_core.specs.Told.{BreaksTables};
-ghost use Rattle.fault_core.specs.Lack.{LacksPage, Sees, kept_unit, shown_unit};
-ghost use Rattle.fault_core.specs.Spares.{SparesTables};
+ghost use Rattle.fault_core.specs.Revealed.{BreaksTables};
+ghost use Rattle.fault_core.specs.Lack.{MissesPage, Sees, kept_unit, shown_unit};
+ghost use Rattle.fault_core.specs.NeverBlames.{NeverBlamesTables};
 
-use crate::CoreOver;
+use crate::Core;
 use crate::homes::Homes;
 use crate::search::homes_of;
 use labelled_disk::{Disk, Halt};
@@ -26,27 +26,27 @@ pub struct Plan {
     pub homes: Homes,
 }
 
-impl<D: Disk, A: Allocator> CoreOver<D, A> {
+impl<D: Disk, A: Allocator> Core<D, A> {
     ghost use Rattle.fault_core.specs.Core.{kept, state, Knows};
 
     /// The swap unit of a page, and the home of each of its pages, or None where no window shows the page. None of them is
     /// brought in.
     pub fn resolve(&mut self, page: u32) -> Result<Option<Plan>, Halt>
-        requires size { (D.state self.old.filer.swapper.under).sectors ≡ self.old.filer.swapper.layout.sectors }
+        requires size { (D.state self.old.filer.swapper.disk).sectors ≡ self.old.filer.swapper.layout.sectors }
         ensures unit { IfOk result (λ o. IfSome o (λ plan. IsKeptPlan (kept self.new) page plan.first (homes_in plan.homes))) }
         ensures homes { (m : List Sector) (named : Triples) (ss : List Space) → Knows self.old m named ss → IfOk result (λ o. IfSome o (λ plan. IsPlanAt ss named page plan.first (homes_in plan.homes))) }
         ensures none { (m : List Sector) (named : Triples) (ss : List Space) → Knows self.old m named ss → IfOk result (λ o. (o ≡ None) ↔ (shown_at ss page ≡ None)) }
         ensures cause { IfErr result (TouchHalts (BreaksTables (state self.old) self.old.intervals page) (state self.old) (state self.new)) }
-        ensures lacks { IfErr result (LacksPage (kept_unit (kept self.new) page)) }
-        ensures missing { (ss : List Space) → Sees (state self.old) (kept self.old) self.old.intervals ss → IfErr result (LacksPage (shown_unit ss page)) }
+        ensures misses { IfErr result (MissesPage (kept_unit (kept self.new) page)) }
+        ensures missing { (ss : List Space) → Sees (state self.old) (kept self.old) self.old.intervals ss → IfErr result (MissesPage (shown_unit ss page)) }
         ensures sees { (ss : List Space) → Sees (state self.old) (kept self.old) self.old.intervals ss → Sees (state self.new) (kept self.new) self.new.intervals ss }
-        ensures right { (ss : List Space) → Sees (state self.old) (kept self.old) self.old.intervals ss → IfErr result SparesTables }
+        ensures right { (ss : List Space) → Sees (state self.old) (kept self.old) self.old.intervals ss → IfErr result NeverBlamesTables }
         ensures sound { (m : List Sector) (named : Triples) (ss : List Space) → Knows self.old m named ss → IfErr result (λ e. e ≡ halt.Disk) }
         ensures same { (m : List Sector) (named : Triples) (ss : List Space) → Knows self.old m named ss → Knows self.new m named ss }
         ensures reaches { Reaches (state self.old) (state self.new) }
         ensures came { BringsOwn self.old.filer.swapper.pool self.new.filer.swapper.pool }
         ensures intervals { self.new.intervals ≡ self.old.intervals }
-        ensures cost { (D.state self.new.filer.swapper.under).transfers ≤ (D.state self.old.filer.swapper.under).transfers + 420 }
+        ensures cost { (D.state self.new.filer.swapper.disk).transfers ≤ (D.state self.old.filer.swapper.disk).transfers + 420 }
     {
         let x = match self.shown(page) {
             Ok(Some(x)) => x,

@@ -9,11 +9,11 @@ ghost use Rattle.space_tables.specs.SpaceTables.{IsIntervalAt};
 ghost use Rattle.fault_core.specs.Access.{BreaksFor, IfShown, Shows, access_of, is_load_only, last_page, outcome, refused_by};
 ghost use Rattle.fault_core.specs.Kept.{IsKept, AreApart};
 ghost use Rattle.fault_core.specs.Reach.{Reaches, ReachHalts, BringsOwn};
-ghost use Rattle.fault_core.specs.Told.{BreaksTables};
+ghost use Rattle.fault_core.specs.Revealed.{BreaksTables};
 ghost use Rattle.fault_core.specs.Unit.{IsReady, IsWhole};
 ghost use Rattle.fault_core.specs.Lack.{Sees};
 
-use crate::CoreOver;
+use crate::Core;
 use labelled_disk::{Disk, Halt};
 use std::alloc::Allocator;
 use swap_units::Interval;
@@ -71,12 +71,12 @@ fn allowed(first: Interval, last: Interval, address: u32, count: u32, writes: bo
     Reference::Shown { first, last }
 }
 
-impl<D: Disk, A: Allocator> CoreOver<D, A> {
+impl<D: Disk, A: Allocator> Core<D, A> {
     ghost use Rattle.fault_core.specs.Core.{kept, state, Knows};
 
     // The interval of the last page of a reference, where it is mapped: that of the first page, where they are one.
     fn shown_last(&mut self, x: Interval, first: u32, last: u32) -> Result<Option<Interval>, Halt>
-        requires size { (D.state self.old.filer.swapper.under).sectors ≡ self.old.filer.swapper.layout.sectors }
+        requires size { (D.state self.old.filer.swapper.disk).sectors ≡ self.old.filer.swapper.layout.sectors }
         requires shows { Shows x first }
         requires is_kept { IsKept (kept self.old) x }
         ensures form { IfOk result (λ o. IfSome o (λ y. Shows y last)) }
@@ -93,7 +93,7 @@ impl<D: Disk, A: Allocator> CoreOver<D, A> {
         ensures intervals { self.new.intervals ≡ self.old.intervals }
         ensures idle { IsReady (kept self.old) self.old.filer.swapper.pool last → AreApart (kept self.old)
             → IfOk result (λ o. IfSome o (λ y. IsWhole self.old.filer.swapper.pool y last) × (o ≢ None)) × IsOk result × (self.new.filer ≡ self.old.filer) × (kept self.new ≡ kept self.old) }
-        ensures cost { (D.state self.new.filer.swapper.under).transfers ≤ (D.state self.old.filer.swapper.under).transfers + 196 }
+        ensures cost { (D.state self.new.filer.swapper.disk).transfers ≤ (D.state self.old.filer.swapper.disk).transfers + 196 }
     {
         if last == first {
             return Ok(Some(x));
@@ -109,7 +109,7 @@ impl<D: Disk, A: Allocator> CoreOver<D, A> {
         count: u32,
         writes: bool,
     ) -> Result<Reference, Halt>
-        requires size { (D.state self.old.filer.swapper.under).sectors ≡ self.old.filer.swapper.layout.sectors }
+        requires size { (D.state self.old.filer.swapper.disk).sectors ≡ self.old.filer.swapper.layout.sectors }
         requires some { 1 ≤ count }
         requires few { count ≤ 512 }
         ensures form { IfOk result (IfShown (λ x y. Shows x (address / 512) × Shows y (last_page address count))) }
@@ -128,7 +128,7 @@ impl<D: Disk, A: Allocator> CoreOver<D, A> {
         ensures idle { IsReady (kept self.old) self.old.filer.swapper.pool (address / 512) → IsReady (kept self.old) self.old.filer.swapper.pool (last_page address count) → AreApart (kept self.old)
             → IfOk result (IfShown (λ x y. IsWhole self.old.filer.swapper.pool x (address / 512) × IsWhole self.old.filer.swapper.pool y (last_page address count)))
             × IsOk result × (self.new.filer ≡ self.old.filer) × (kept self.new ≡ kept self.old) }
-        ensures cost { (D.state self.new.filer.swapper.under).transfers ≤ (D.state self.old.filer.swapper.under).transfers + 392 }
+        ensures cost { (D.state self.new.filer.swapper.disk).transfers ≤ (D.state self.old.filer.swapper.disk).transfers + 392 }
     {
         let first = address / 512;
         let last = last_page(address, count);

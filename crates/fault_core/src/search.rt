@@ -12,21 +12,21 @@ ghost use Rattle.swapper_kernel.specs.Homes.{IsAmong};
 ghost use Rattle.swapper_kernel.specs.Stands.{Stands};
 ghost use Rattle.fault_core.specs.View.{view_of, kept_by};
 ghost use Rattle.fault_core.specs.Reach.{IsReachedHome, Reaches, ReachHalts, TouchHalts, BringsOwn, no_break};
-ghost use Rattle.fault_core.specs.Told.{Known};
+ghost use Rattle.fault_core.specs.Revealed.{Known};
 ghost use Rattle.fault_core.specs.Homes.{homes_in, AreHomesOf, HaveSectors};
 ghost use Rattle.fault_core.specs.Room.{KeepsWhileEmpty};
-ghost use Rattle.fault_core.specs.Lack.{LacksPage, run_pages};
+ghost use Rattle.fault_core.specs.Lack.{MissesPage, run_pages};
 ghost use Rattle.swapper_kernel.specs.Goes.{this_page};
 
 use crate::homes::{Homes, MOST};
 use file_map::Run;
-use filer_kernel::FilerOver;
+use filer_kernel::Filer;
 use frame_pool::Home;
 use labelled_disk::{Disk, Evidence, FileId, Halt};
 use std::alloc::Allocator;
 
 // How many frames there are. The bytes of each are a page's.
-fn count_frames<D: Disk, A: Allocator>(filer: &mut FilerOver<D, A>) -> u32
+fn count_frames<D: Disk, A: Allocator>(filer: &mut Filer<D, A>) -> u32
     ensures pages { ArePages filer.old.swapper.pool }
     ensures same { filer.new ≡ filer.old }
 {
@@ -35,22 +35,22 @@ fn count_frames<D: Disk, A: Allocator>(filer: &mut FilerOver<D, A>) -> u32
 
 // The run of the map that has a page, or none.
 fn run_of<D: Disk, A: Allocator>(
-    filer: &mut FilerOver<D, A>,
+    filer: &mut Filer<D, A>,
     id: FileId,
     page: u32,
 ) -> Result<Option<Run>, Halt>
-    requires size { (D.state filer.old.swapper.under).sectors ≡ filer.old.swapper.layout.sectors }
+    requires size { (D.state filer.old.swapper.disk).sectors ≡ filer.old.swapper.layout.sectors }
     ensures form { IfOk result (λ o. IfSome o (IsRun filer.old.swapper.layout.sectors)) }
     ensures holds { IfOk result (λ o. IfSome o (λ run. holds run id page ≡ true)) }
-    ensures given { IfOk result (λ o. IfSome o (IsGiven filer.old.swapper.layout (D.state filer.old.swapper.under) filer.old.swapper.pool (kept_by (view_of filer.old)))) }
-    ensures nowhere { (m : List Sector) (named : Triples) → Stands (D.state filer.old.swapper.under) filer.old.swapper.pool m → MapIs filer.old.swapper.layout named m → result ≡ Ok None → IsNowhere named id page }
+    ensures given { IfOk result (λ o. IfSome o (IsGiven filer.old.swapper.layout (D.state filer.old.swapper.disk) filer.old.swapper.pool (kept_by (view_of filer.old)))) }
+    ensures nowhere { (m : List Sector) (named : Triples) → Stands (D.state filer.old.swapper.disk) filer.old.swapper.pool m → MapIs filer.old.swapper.layout named m → result ≡ Ok None → IsNowhere named id page }
     ensures cause { IfErr result (ReachHalts no_break (view_of filer.old) (view_of filer.new)) }
     ensures found { (m : List Sector) (named : Triples) (b : List ℕ) → Known (view_of filer.old) m named b → IfOk result (IsFound named id page) }
     ensures sound { (m : List Sector) (named : Triples) (b : List ℕ) → Known (view_of filer.old) m named b → IfErr result (λ e. e ≡ halt.Disk) }
     ensures reaches { Reaches (view_of filer.old) (view_of filer.new) }
     ensures came { BringsOwn filer.old.swapper.pool filer.new.swapper.pool }
     ensures room { KeepsWhileEmpty filer.old.swapper.pool filer.new.swapper.pool }
-    ensures cost { (D.state filer.new.swapper.under).transfers ≤ (D.state filer.old.swapper.under).transfers + 14 }
+    ensures cost { (D.state filer.new.swapper.disk).transfers ≤ (D.state filer.old.swapper.disk).transfers + 14 }
 {
     count_frames(filer);
     filer.find(id, page)
@@ -58,22 +58,22 @@ fn run_of<D: Disk, A: Allocator>(
 
 // Where the map says that a page of a client's file stands.
 fn home_of<D: Disk, A: Allocator>(
-    filer: &mut FilerOver<D, A>,
+    filer: &mut Filer<D, A>,
     id: FileId,
     page: u32,
 ) -> Result<Home, Halt>
-    requires size { (D.state filer.old.swapper.under).sectors ≡ filer.old.swapper.layout.sectors }
+    requires size { (D.state filer.old.swapper.disk).sectors ≡ filer.old.swapper.layout.sectors }
     requires client { 16 ≤ id }
     ensures found { IfOk result (IsReachedHome (view_of filer.old)) }
     ensures is { IfOk result (λ home. (home.id ≡ id) × (home.page ≡ page)) }
     ensures cause { IfErr result (TouchHalts no_break (view_of filer.old) (view_of filer.new)) }
-    ensures lacks { IfErr result (LacksPage (this_page id page)) }
+    ensures misses { IfErr result (MissesPage (this_page id page)) }
     ensures named { (m : List Sector) (named : Triples) (b : List ℕ) → Known (view_of filer.old) m named b → IfOk result (λ home. named id page home.sector ≡ true) }
     ensures sound { (m : List Sector) (named : Triples) (b : List ℕ) (sector : ℕ) → Known (view_of filer.old) m named b → named id page sector ≡ true → IfErr result (λ e. e ≡ halt.Disk) }
     ensures reaches { Reaches (view_of filer.old) (view_of filer.new) }
     ensures came { BringsOwn filer.old.swapper.pool filer.new.swapper.pool }
     ensures room { KeepsWhileEmpty filer.old.swapper.pool filer.new.swapper.pool }
-    ensures cost { (D.state filer.new.swapper.under).transfers ≤ (D.state filer.old.swapper.under).transfers + 14 }
+    ensures cost { (D.state filer.new.swapper.disk).transfers ≤ (D.state filer.old.swapper.disk).transfers + 14 }
 {
     match run_of(filer, id, page) {
         Ok(Some(run)) => Ok(Home {
@@ -88,12 +88,12 @@ fn home_of<D: Disk, A: Allocator>(
 
 /// Where the map says that 1 to 16 pages in a row of a client's file stand.
 pub(crate) fn homes_of<D: Disk, A: Allocator>(
-    filer: &mut FilerOver<D, A>,
+    filer: &mut Filer<D, A>,
     id: FileId,
     first: u32,
     pages: u32,
 ) -> Result<Homes, Halt>
-    requires size { (D.state filer.old.swapper.under).sectors ≡ filer.old.swapper.layout.sectors }
+    requires size { (D.state filer.old.swapper.disk).sectors ≡ filer.old.swapper.layout.sectors }
     requires client { 16 ≤ id }
     requires some { 1 ≤ pages }
     requires few { pages ≤ 16 }
@@ -101,13 +101,13 @@ pub(crate) fn homes_of<D: Disk, A: Allocator>(
     ensures are { IfOk result (λ homes. AreHomesOf id first pages (homes_in homes)) }
     ensures found { IfOk result (λ homes. (h : HomeIs) → IsAmong (homes_in homes) h → IsReachedHome (view_of filer.old) h) }
     ensures cause { IfErr result (TouchHalts no_break (view_of filer.old) (view_of filer.new)) }
-    ensures lacks { IfErr result (LacksPage (run_pages id first pages)) }
+    ensures misses { IfErr result (MissesPage (run_pages id first pages)) }
     ensures named { (m : List Sector) (named : Triples) (b : List ℕ) → Known (view_of filer.old) m named b → IfOk result (λ homes. (h : HomeIs) → IsAmong (homes_in homes) h → named h.id h.page h.sector ≡ true) }
     ensures sound { (m : List Sector) (named : Triples) (b : List ℕ) → Known (view_of filer.old) m named b → HaveSectors named id first pages → IfErr result (λ e. e ≡ halt.Disk) }
     ensures reaches { Reaches (view_of filer.old) (view_of filer.new) }
     ensures came { BringsOwn filer.old.swapper.pool filer.new.swapper.pool }
     ensures room { KeepsWhileEmpty filer.old.swapper.pool filer.new.swapper.pool }
-    ensures cost { (D.state filer.new.swapper.under).transfers ≤ (D.state filer.old.swapper.under).transfers + 14 * pages }
+    ensures cost { (D.state filer.new.swapper.disk).transfers ≤ (D.state filer.old.swapper.disk).transfers + 14 * pages }
 {
     let mut homes = [Home {
         sector: 0,

@@ -9,22 +9,22 @@ ghost use Rattle.swap_units.specs.Unit.{Holds};
 ghost use Rattle.space_tables.specs.SpaceTables.{IsIntervalAt};
 ghost use Rattle.fault_core.specs.Kept.{IsFormed, IsKept, AreApart};
 ghost use Rattle.fault_core.specs.Reach.{Reaches, ReachHalts, BringsOwn};
-ghost use Rattle.fault_core.specs.Told.{BreaksTables};
+ghost use Rattle.fault_core.specs.Revealed.{BreaksTables};
 ghost use Rattle.fault_core.specs.Unit.{IsReady, IsWhole};
 ghost use Rattle.fault_core.specs.Room.{KeepsWhileEmpty};
 ghost use Rattle.fault_core.specs.Lack.{Sees};
 
-use crate::CoreOver;
+use crate::Core;
 use labelled_disk::{Disk, Halt};
 use std::alloc::Allocator;
 use swap_units::Interval;
 
-impl<D: Disk, A: Allocator> CoreOver<D, A> {
+impl<D: Disk, A: Allocator> Core<D, A> {
     ghost use Rattle.fault_core.specs.Core.{kept, state, Knows};
 
     // The interval that holds a page, where it is mapped.
     pub(crate) fn shown(&mut self, page: u32) -> Result<Option<Interval>, Halt>
-        requires size { (D.state self.old.filer.swapper.under).sectors ≡ self.old.filer.swapper.layout.sectors }
+        requires size { (D.state self.old.filer.swapper.disk).sectors ≡ self.old.filer.swapper.layout.sectors }
         ensures form { IfOk result (λ o. IfSome o (λ x. IsFormed x × Holds x page × (x.mode ≢ 0))) }
         ensures is_kept { IfOk result (λ o. IfSome o (IsKept (kept self.new))) }
         ensures cause { IfErr result (ReachHalts (BreaksTables (state self.old) self.old.intervals page) (state self.old) (state self.new)) }
@@ -39,7 +39,7 @@ impl<D: Disk, A: Allocator> CoreOver<D, A> {
         ensures intervals { self.new.intervals ≡ self.old.intervals }
         ensures idle { IsReady (kept self.old) self.old.filer.swapper.pool page → AreApart (kept self.old)
             → IfOk result (λ o. IfSome o (λ x. IsWhole self.old.filer.swapper.pool x page) × (o ≢ None)) × IsOk result × (self.new.filer ≡ self.old.filer) × (kept self.new ≡ kept self.old) }
-        ensures cost { (D.state self.new.filer.swapper.under).transfers ≤ (D.state self.old.filer.swapper.under).transfers + 196 }
+        ensures cost { (D.state self.new.filer.swapper.disk).transfers ≤ (D.state self.old.filer.swapper.disk).transfers + 196 }
     {
         let x = match self.describe(page) {
             Ok(Some(x)) => x,

@@ -15,31 +15,31 @@ ghost use Rattle.fault_core.specs.Kept.{AreApart};
 ghost use Rattle.fault_core.specs.Moves.{AreSeen, Leaves, StoresAs, StoresSome, client_page, of_reference};
 ghost use Rattle.fault_core.specs.View.{view_of};
 ghost use Rattle.fault_core.specs.Reach.{BringsOwn, Reaches, ReachHalts, TouchHalts, no_break};
-ghost use Rattle.fault_core.specs.Told.{Known};
+ghost use Rattle.fault_core.specs.Revealed.{Known};
 ghost use Rattle.fault_core.specs.Touch.{Touches};
 ghost use Rattle.fault_core.specs.Unit.{AreShownStored, BringsBoth, BringsShown, IsReady, IsShownDirty, IsWhole, KeepsResident, file_page};
-ghost use Rattle.fault_core.specs.Lack.{LacksPage, Sees, both_units, shown_units, unit_pages};
-ghost use Rattle.fault_core.specs.Spares.{SparesTables};
+ghost use Rattle.fault_core.specs.Lack.{MissesPage, Sees, both_units, shown_units, unit_pages};
+ghost use Rattle.fault_core.specs.NeverBlames.{NeverBlamesTables};
 
-use crate::CoreOver;
+use crate::Core;
 use crate::attempt::{Attempt, Prospect};
 use crate::frames::{change_in, change_pages};
 use crate::reference::{Access, Reference};
 use crate::touch::touch;
-use filer_kernel::FilerOver;
+use filer_kernel::Filer;
 use labelled_disk::{Disk, Halt};
 use std::alloc::Allocator;
 use swap_units::Interval;
 
 // Stores to one page that an interval shows. Its frame is dirty then.
 fn store_in<D: Disk, A: Allocator>(
-    filer: &mut FilerOver<D, A>,
+    filer: &mut Filer<D, A>,
     x: &Interval,
     page: u32,
     from: u32,
     bytes: &[u8],
 ) -> Result<(), Halt>
-    requires size { (D.state filer.old.swapper.under).sectors ≡ filer.old.swapper.layout.sectors }
+    requires size { (D.state filer.old.swapper.disk).sectors ≡ filer.old.swapper.layout.sectors }
     requires shows { Shows x.now page }
     requires inside { from + length bytes.now ≤ 512 }
     ensures stored { (m : List Sector) (named : Triples) (b : List ℕ) → Known (view_of filer.old) m named b → AreShownStored named m x.now → OnOk result (Leaves (StoresAt x.now.id (file_page x.now page) from bytes.now) m named b (view_of filer.new)) }
@@ -47,12 +47,12 @@ fn store_in<D: Disk, A: Allocator>(
     ensures whole { OnOk result (IsWhole filer.new.swapper.pool x.now page) }
     ensures dirty { OnOk result (IsDirty filer.new.swapper.pool x.now.id (file_page x.now page)) }
     ensures cause { IfErr result (TouchHalts no_break (view_of filer.old) (view_of filer.new)) }
-    ensures lacks { IfErr result (LacksPage (unit_pages x.now page)) }
+    ensures misses { IfErr result (MissesPage (unit_pages x.now page)) }
     ensures sound { (m : List Sector) (named : Triples) (b : List ℕ) → Known (view_of filer.old) m named b → AreShownStored named m x.now → IfErr result (λ e. e ≡ halt.Disk) }
     ensures touches { Touches (this_page x.now.id (file_page x.now page)) (view_of filer.old) (view_of filer.new) }
     ensures came { BringsShown x.now filer.old.swapper.pool filer.new.swapper.pool }
-    ensures idle { IsWhole filer.old.swapper.pool x.now page → IsOk result × (D.state filer.new.swapper.under ≡ D.state filer.old.swapper.under) × KeepsResident filer.old.swapper.pool filer.new.swapper.pool }
-    ensures cost { (D.state filer.new.swapper.under).transfers ≤ (D.state filer.old.swapper.under).transfers + 256 }
+    ensures idle { IsWhole filer.old.swapper.pool x.now page → IsOk result × (D.state filer.new.swapper.disk ≡ D.state filer.old.swapper.disk) × KeepsResident filer.old.swapper.pool filer.new.swapper.pool }
+    ensures cost { (D.state filer.new.swapper.disk).transfers ≤ (D.state filer.old.swapper.disk).transfers + 256 }
 {
     let slot = match touch(filer, x, page) {
         Ok(slot) => slot,
@@ -64,13 +64,13 @@ fn store_in<D: Disk, A: Allocator>(
 
 // Stores to the pages of a reference, by the intervals that show them.
 fn store_shown<D: Disk, A: Allocator>(
-    filer: &mut FilerOver<D, A>,
+    filer: &mut Filer<D, A>,
     first: &Interval,
     last: &Interval,
     address: u32,
     bytes: &[u8],
 ) -> Result<(), Halt>
-    requires size { (D.state filer.old.swapper.under).sectors ≡ filer.old.swapper.layout.sectors }
+    requires size { (D.state filer.old.swapper.disk).sectors ≡ filer.old.swapper.layout.sectors }
     requires some { 1 ≤ length bytes.now }
     requires few { length bytes.now ≤ 512 }
     requires first { Shows first.now (address / 512) }
@@ -81,12 +81,12 @@ fn store_shown<D: Disk, A: Allocator>(
     ensures whole { OnOk result (IsWhole filer.new.swapper.pool last.now (last_page address (length bytes.now))) }
     ensures dirty { OnOk result (IsDirty filer.new.swapper.pool last.now.id (file_page last.now (last_page address (length bytes.now)))) }
     ensures cause { IfErr result (TouchHalts no_break (view_of filer.old) (view_of filer.new)) }
-    ensures lacks { IfErr result (LacksPage (both_units first.now last.now address (length bytes.now))) }
+    ensures misses { IfErr result (MissesPage (both_units first.now last.now address (length bytes.now))) }
     ensures sound { (m : List Sector) (named : Triples) (b : List ℕ) → Known (view_of filer.old) m named b → AreShownStored named m first.now → AreShownStored named m last.now → IfErr result (λ e. e ≡ halt.Disk) }
     ensures touches { Touches (of_reference first.now last.now address (length bytes.now)) (view_of filer.old) (view_of filer.new) }
     ensures came { BringsBoth first.now last.now filer.old.swapper.pool filer.new.swapper.pool }
-    ensures idle { IsWhole filer.old.swapper.pool first.now (address / 512) → IsWhole filer.old.swapper.pool last.now (last_page address (length bytes.now)) → IsOk result × (D.state filer.new.swapper.under ≡ D.state filer.old.swapper.under) }
-    ensures cost { (D.state filer.new.swapper.under).transfers ≤ (D.state filer.old.swapper.under).transfers + 512 }
+    ensures idle { IsWhole filer.old.swapper.pool first.now (address / 512) → IsWhole filer.old.swapper.pool last.now (last_page address (length bytes.now)) → IsOk result × (D.state filer.new.swapper.disk ≡ D.state filer.old.swapper.disk) }
+    ensures cost { (D.state filer.new.swapper.disk).transfers ≤ (D.state filer.old.swapper.disk).transfers + 512 }
 {
     let from = address % 512;
     let room = (512 - from) as usize;
@@ -101,36 +101,36 @@ fn store_shown<D: Disk, A: Allocator>(
     store_in(filer, last, address / 512 + 1, 0, high)
 }
 
-impl<D: Disk, A: Allocator> CoreOver<D, A> {
+impl<D: Disk, A: Allocator> Core<D, A> {
     ghost use Rattle.fault_core.specs.Core.{kept, state, Knows};
 
     /// Stores 1 to 512 bytes from an address on. All pages of the reference are tested before the first byte is moved: one
     /// that is refused changes nothing. After `Done` the last page is ready, and its frame dirty.
     pub fn store(&mut self, address: u32, bytes: &[u8]) -> Result<Access, Halt>
-        requires size { (D.state self.old.filer.swapper.under).sectors ≡ self.old.filer.swapper.layout.sectors }
+        requires size { (D.state self.old.filer.swapper.disk).sectors ≡ self.old.filer.swapper.layout.sectors }
         requires some { 1 ≤ length bytes.now }
         requires few { length bytes.now ≤ 512 }
         ensures access { (m : List Sector) (named : Triples) (ss : List Space) → Knows self.old m named ss → IfOk result (λ a. a ≡ access_of ss true address (length bytes.now)) }
         ensures stored { (m : List Sector) (named : Triples) (ss : List Space) → Knows self.old m named ss
-            → IfOk result (λ a. Goes (StoresAs a ss address bytes.now) (IsTouchedOrOwn ss address (length bytes.now)) [] (D.state self.old.filer.swapper.under) self.old.filer.swapper.pool (D.state self.new.filer.swapper.under) self.new.filer.swapper.pool) }
+            → IfOk result (λ a. Goes (StoresAs a ss address bytes.now) (IsTouchedOrOwn ss address (length bytes.now)) [] (D.state self.old.filer.swapper.disk) self.old.filer.swapper.pool (D.state self.new.filer.swapper.disk) self.new.filer.swapper.pool) }
         ensures halted { (m : List Sector) (named : Triples) (ss : List Space) → Knows self.old m named ss
-            → OnErr result (Goes (StoresSome ss address bytes.now) (IsTouchedOrOwn ss address (length bytes.now)) [] (D.state self.old.filer.swapper.under) self.old.filer.swapper.pool (D.state self.new.filer.swapper.under) self.new.filer.swapper.pool) }
-        ensures known { (m n : List Sector) (named : Triples) (ss : List Space) → Knows self.old m named ss → Stands (D.state self.new.filer.swapper.under) self.new.filer.swapper.pool n → Knows self.new n named ss }
+            → OnErr result (Goes (StoresSome ss address bytes.now) (IsTouchedOrOwn ss address (length bytes.now)) [] (D.state self.old.filer.swapper.disk) self.old.filer.swapper.pool (D.state self.new.filer.swapper.disk) self.new.filer.swapper.pool) }
+        ensures known { (m n : List Sector) (named : Triples) (ss : List Space) → Knows self.old m named ss → Stands (D.state self.new.filer.swapper.disk) self.new.filer.swapper.pool n → Knows self.new n named ss }
         ensures tested { (m : List Sector) (named : Triples) (ss : List Space) → Knows self.old m named ss → access_of ss true address (length bytes.now) ≢ access.Done → Reaches (state self.old) (state self.new) }
         ensures refused { IfOk result (λ a. a ≢ access.Done → Reaches (state self.old) (state self.new)) }
         ensures ready { IfOk result (λ a. a ≡ access.Done → IsReady (kept self.new) self.new.filer.swapper.pool (last_page address (length bytes.now))) }
         ensures dirty { (m : List Sector) (named : Triples) (ss : List Space) → Knows self.old m named ss → IfOk result (λ a. a ≡ access.Done → IsShownDirty ss self.new.filer.swapper.pool (last_page address (length bytes.now))) }
         ensures cause { IfErr result (TouchHalts (BreaksFor (state self.old) self.old.intervals address (length bytes.now)) (state self.old) (state self.new)) }
-        ensures missing { (ss : List Space) → Sees (state self.old) (kept self.old) self.old.intervals ss → IfErr result (LacksPage (shown_units ss address (length bytes.now))) }
+        ensures missing { (ss : List Space) → Sees (state self.old) (kept self.old) self.old.intervals ss → IfErr result (MissesPage (shown_units ss address (length bytes.now))) }
         ensures sees { (ss : List Space) → Sees (state self.old) (kept self.old) self.old.intervals ss → Sees (state self.new) (kept self.new) self.new.intervals ss }
-        ensures right { (ss : List Space) → Sees (state self.old) (kept self.old) self.old.intervals ss → IfErr result SparesTables }
+        ensures right { (ss : List Space) → Sees (state self.old) (kept self.old) self.old.intervals ss → IfErr result NeverBlamesTables }
         ensures sound { (m : List Sector) (named : Triples) (ss : List Space) → Knows self.old m named ss → IfErr result (λ e. e ≡ halt.Disk) }
         ensures touches { Touches client_page (state self.old) (state self.new) }
         ensures came { (m : List Sector) (named : Triples) (ss : List Space) → Knows self.old m named ss → BringsKnown ss self.old.filer.swapper.pool self.new.filer.swapper.pool }
         ensures intervals { self.new.intervals ≡ self.old.intervals }
         ensures idle { IsReady (kept self.old) self.old.filer.swapper.pool (address / 512) → IsReady (kept self.old) self.old.filer.swapper.pool (last_page address (length bytes.now)) → AreApart (kept self.old)
-            → IsOk result × (D.state self.new.filer.swapper.under ≡ D.state self.old.filer.swapper.under) × (kept self.new ≡ kept self.old) }
-        ensures cost { (D.state self.new.filer.swapper.under).transfers ≤ (D.state self.old.filer.swapper.under).transfers + 1680 }
+            → IsOk result × (D.state self.new.filer.swapper.disk ≡ D.state self.old.filer.swapper.disk) × (kept self.new ≡ kept self.old) }
+        ensures cost { (D.state self.new.filer.swapper.disk).transfers ≤ (D.state self.old.filer.swapper.disk).transfers + 1680 }
     {
         let (first, last) = match self.refer(address, bytes.len() as u32, true) {
             Ok(Reference::Shown { first, last }) => (first, last),
@@ -147,22 +147,22 @@ impl<D: Disk, A: Allocator> CoreOver<D, A> {
     /// Stores 1 to 512 bytes from an address on where all pages of the reference are resident, and brings in no page of a
     /// client: it gives the first of them that is not, where the reference is not refused.
     pub fn try_store(&mut self, address: u32, bytes: &[u8]) -> Result<Attempt, Halt>
-        requires size { (D.state self.old.filer.swapper.under).sectors ≡ self.old.filer.swapper.layout.sectors }
+        requires size { (D.state self.old.filer.swapper.disk).sectors ≡ self.old.filer.swapper.layout.sectors }
         requires some { 1 ≤ length bytes.now }
         requires few { length bytes.now ≤ 512 }
         ensures access { (m : List Sector) (named : Triples) (ss : List Space) → Knows self.old m named ss → IfOk result (IfAccess (λ a. a ≡ access_of ss true address (length bytes.now))) }
         ensures absent { (m : List Sector) (named : Triples) (ss : List Space) → Knows self.old m named ss → IfOk result (IfAbsent (IsAbsent ss self.new.filer.swapper.pool true address (length bytes.now))) }
         ensures present { (m : List Sector) (named : Triples) (ss : List Space) → Knows self.old m named ss → IfOk result (λ t. t ≡ moved → ArePresent ss self.new.filer.swapper.pool address (length bytes.now)) }
         ensures stored { (m : List Sector) (named : Triples) (ss : List Space) → Knows self.old m named ss
-            → IfOk result (λ t. Goes (StoresTried t ss address bytes.now) (IsTouchedOrOwn ss address (length bytes.now)) [] (D.state self.old.filer.swapper.under) self.old.filer.swapper.pool (D.state self.new.filer.swapper.under) self.new.filer.swapper.pool) }
-        ensures known { (m n : List Sector) (named : Triples) (ss : List Space) → Knows self.old m named ss → Stands (D.state self.new.filer.swapper.under) self.new.filer.swapper.pool n → Knows self.new n named ss }
+            → IfOk result (λ t. Goes (StoresTried t ss address bytes.now) (IsTouchedOrOwn ss address (length bytes.now)) [] (D.state self.old.filer.swapper.disk) self.old.filer.swapper.pool (D.state self.new.filer.swapper.disk) self.new.filer.swapper.pool) }
+        ensures known { (m n : List Sector) (named : Triples) (ss : List Space) → Knows self.old m named ss → Stands (D.state self.new.filer.swapper.disk) self.new.filer.swapper.pool n → Knows self.new n named ss }
         ensures unmoved { result ≢ Ok moved → Reaches (state self.old) (state self.new) }
         ensures referred { IfOk result (IfAbsent (IsReferred address (length bytes.now))) }
         ensures here { IfOk result (λ t. t ≡ moved → IsHere (kept self.new) self.new.filer.swapper.pool (last_page address (length bytes.now))) }
         ensures dirty { (m : List Sector) (named : Triples) (ss : List Space) → Knows self.old m named ss → IfOk result (λ t. t ≡ moved → IsShownDirty ss self.new.filer.swapper.pool (last_page address (length bytes.now))) }
         ensures cause { IfErr result (ReachHalts (BreaksFor (state self.old) self.old.intervals address (length bytes.now)) (state self.old) (state self.new)) }
         ensures sees { (ss : List Space) → Sees (state self.old) (kept self.old) self.old.intervals ss → Sees (state self.new) (kept self.new) self.new.intervals ss }
-        ensures right { (ss : List Space) → Sees (state self.old) (kept self.old) self.old.intervals ss → IfErr result SparesTables }
+        ensures right { (ss : List Space) → Sees (state self.old) (kept self.old) self.old.intervals ss → IfErr result NeverBlamesTables }
         ensures sound { (m : List Sector) (named : Triples) (ss : List Space) → Knows self.old m named ss → IfErr result (λ e. e ≡ halt.Disk) }
         ensures touches { Touches client_page (state self.old) (state self.new) }
         ensures came { BringsOwn self.old.filer.swapper.pool self.new.filer.swapper.pool }
@@ -170,8 +170,8 @@ impl<D: Disk, A: Allocator> CoreOver<D, A> {
         ensures ready { IsReady (kept self.old) self.old.filer.swapper.pool (address / 512) → IsReady (kept self.old) self.old.filer.swapper.pool (last_page address (length bytes.now)) → AreApart (kept self.old)
             → IfOk result (IfAbsent (λ page. ⊥)) }
         ensures idle { IsReady (kept self.old) self.old.filer.swapper.pool (address / 512) → IsReady (kept self.old) self.old.filer.swapper.pool (last_page address (length bytes.now)) → AreApart (kept self.old)
-            → IsOk result × (D.state self.new.filer.swapper.under ≡ D.state self.old.filer.swapper.under) × (kept self.new ≡ kept self.old) }
-        ensures cost { (D.state self.new.filer.swapper.under).transfers ≤ (D.state self.old.filer.swapper.under).transfers + 392 }
+            → IsOk result × (D.state self.new.filer.swapper.disk ≡ D.state self.old.filer.swapper.disk) × (kept self.new ≡ kept self.old) }
+        ensures cost { (D.state self.new.filer.swapper.disk).transfers ≤ (D.state self.old.filer.swapper.disk).transfers + 392 }
     {
         let (first, last) = match self.look_ahead(address, bytes.len() as u32, true) {
             Ok(Prospect::Ready { first, last }) => (first, last),

@@ -11,36 +11,36 @@ ghost use Rattle.fault_core.specs.Access.{Shows};
 ghost use Rattle.fault_core.specs.Kept.{AreApart};
 ghost use Rattle.fault_core.specs.View.{view_of};
 ghost use Rattle.fault_core.specs.Reach.{Reaches, TouchHalts, no_break};
-ghost use Rattle.fault_core.specs.Told.{BreaksTables, Known};
+ghost use Rattle.fault_core.specs.Revealed.{BreaksTables, Known};
 ghost use Rattle.fault_core.specs.Unit.{AreShownStored, BringsShown, IsReady, IsSlotOf, IsTouched, IsWhole, file_page};
 ghost use Rattle.fault_core.specs.Room.{KeepsWhileEmpty};
-ghost use Rattle.fault_core.specs.Lack.{LacksPage, Sees, kept_unit, shown_unit, unit_pages};
-ghost use Rattle.fault_core.specs.Spares.{SparesTables};
+ghost use Rattle.fault_core.specs.Lack.{MissesPage, Sees, kept_unit, shown_unit, unit_pages};
+ghost use Rattle.fault_core.specs.NeverBlames.{NeverBlamesTables};
 
-use crate::CoreOver;
+use crate::Core;
 use crate::unit::{bring_run, is_there, slot_of, unit_run};
-use filer_kernel::FilerOver;
+use filer_kernel::Filer;
 use labelled_disk::{Disk, Halt};
 use std::alloc::Allocator;
 use swap_units::Interval;
 
 // Brings in the swap unit of a page, all of it, where not all of it is resident.
 fn bring_unit<D: Disk, A: Allocator>(
-    filer: &mut FilerOver<D, A>,
+    filer: &mut Filer<D, A>,
     x: &Interval,
     page: u32,
 ) -> Result<(), Halt>
-    requires size { (D.state filer.old.swapper.under).sectors ≡ filer.old.swapper.layout.sectors }
+    requires size { (D.state filer.old.swapper.disk).sectors ≡ filer.old.swapper.layout.sectors }
     requires shows { Shows x.now page }
     ensures whole { OnOk result (IsWhole filer.new.swapper.pool x.now page) }
     ensures cause { IfErr result (TouchHalts no_break (view_of filer.old) (view_of filer.new)) }
-    ensures lacks { IfErr result (LacksPage (unit_pages x.now page)) }
+    ensures misses { IfErr result (MissesPage (unit_pages x.now page)) }
     ensures sound { (m : List Sector) (named : Triples) (b : List ℕ) → Known (view_of filer.old) m named b → AreShownStored named m x.now → IfErr result (λ e. e ≡ halt.Disk) }
     ensures reaches { Reaches (view_of filer.old) (view_of filer.new) }
     ensures came { BringsShown x.now filer.old.swapper.pool filer.new.swapper.pool }
     ensures room { KeepsWhileEmpty filer.old.swapper.pool filer.new.swapper.pool }
     ensures idle { IsWhole filer.old.swapper.pool x.now page → IsOk result × (filer.new ≡ filer.old) }
-    ensures cost { (D.state filer.new.swapper.under).transfers ≤ (D.state filer.old.swapper.under).transfers + 256 }
+    ensures cost { (D.state filer.new.swapper.disk).transfers ≤ (D.state filer.old.swapper.disk).transfers + 256 }
 {
     let (first, pages) = unit_run(x, page);
     if is_there(filer, x.id, first, pages) {
@@ -51,23 +51,23 @@ fn bring_unit<D: Disk, A: Allocator>(
 
 /// Makes the whole swap unit of a page resident, and gives the slot of the page.
 pub(crate) fn touch<D: Disk, A: Allocator>(
-    filer: &mut FilerOver<D, A>,
+    filer: &mut Filer<D, A>,
     x: &Interval,
     page: u32,
 ) -> Result<u32, Halt>
-    requires size { (D.state filer.old.swapper.under).sectors ≡ filer.old.swapper.layout.sectors }
+    requires size { (D.state filer.old.swapper.disk).sectors ≡ filer.old.swapper.layout.sectors }
     requires shows { Shows x.now page }
     ensures slot { IfOk result (λ i. HasPage filer.new.swapper.pool i x.now.id (file_page x.now page)) }
     ensures below { IfOk result (λ i. i < length filer.new.swapper.pool) }
     ensures whole { OnOk result (IsWhole filer.new.swapper.pool x.now page) }
     ensures cause { IfErr result (TouchHalts no_break (view_of filer.old) (view_of filer.new)) }
-    ensures lacks { IfErr result (LacksPage (unit_pages x.now page)) }
+    ensures misses { IfErr result (MissesPage (unit_pages x.now page)) }
     ensures sound { (m : List Sector) (named : Triples) (b : List ℕ) → Known (view_of filer.old) m named b → AreShownStored named m x.now → IfErr result (λ e. e ≡ halt.Disk) }
     ensures reaches { Reaches (view_of filer.old) (view_of filer.new) }
     ensures came { BringsShown x.now filer.old.swapper.pool filer.new.swapper.pool }
     ensures room { KeepsWhileEmpty filer.old.swapper.pool filer.new.swapper.pool }
     ensures idle { IsWhole filer.old.swapper.pool x.now page → IsOk result × (filer.new ≡ filer.old) }
-    ensures cost { (D.state filer.new.swapper.under).transfers ≤ (D.state filer.old.swapper.under).transfers + 256 }
+    ensures cost { (D.state filer.new.swapper.disk).transfers ≤ (D.state filer.old.swapper.disk).transfers + 256 }
 {
     match bring_unit(filer, x, page) {
         Ok(()) => (),
@@ -76,20 +76,20 @@ pub(crate) fn touch<D: Disk, A: Allocator>(
     Ok(slot_of(filer, x.id, x.page + (page - x.first)))
 }
 
-impl<D: Disk, A: Allocator> CoreOver<D, A> {
+impl<D: Disk, A: Allocator> Core<D, A> {
     ghost use Rattle.fault_core.specs.Core.{kept, state, Knows};
 
     /// Makes the whole swap unit of a page resident, and gives the slot of the page, or None where no window shows it.
-    pub fn touch2(&mut self, page: u32) -> Result<Option<u32>, Halt>
-        requires size { (D.state self.old.filer.swapper.under).sectors ≡ self.old.filer.swapper.layout.sectors }
+    pub fn fetch_page(&mut self, page: u32) -> Result<Option<u32>, Halt>
+        requires size { (D.state self.old.filer.swapper.disk).sectors ≡ self.old.filer.swapper.layout.sectors }
         ensures ready { IfOk result (λ o. IfSome o (IsTouched (kept self.new) self.new.filer.swapper.pool page)) }
         ensures slot { (m : List Sector) (named : Triples) (ss : List Space) → Knows self.old m named ss → IfOk result (λ o. IfSome o (IsSlotOf ss self.new.filer.swapper.pool page)) }
         ensures none { (m : List Sector) (named : Triples) (ss : List Space) → Knows self.old m named ss → IfOk result (λ o. (o ≡ None) ↔ (shown_at ss page ≡ None)) }
         ensures cause { IfErr result (TouchHalts (BreaksTables (state self.old) self.old.intervals page) (state self.old) (state self.new)) }
-        ensures lacks { IfErr result (LacksPage (kept_unit (kept self.new) page)) }
-        ensures missing { (ss : List Space) → Sees (state self.old) (kept self.old) self.old.intervals ss → IfErr result (LacksPage (shown_unit ss page)) }
+        ensures misses { IfErr result (MissesPage (kept_unit (kept self.new) page)) }
+        ensures missing { (ss : List Space) → Sees (state self.old) (kept self.old) self.old.intervals ss → IfErr result (MissesPage (shown_unit ss page)) }
         ensures sees { (ss : List Space) → Sees (state self.old) (kept self.old) self.old.intervals ss → Sees (state self.new) (kept self.new) self.new.intervals ss }
-        ensures right { (ss : List Space) → Sees (state self.old) (kept self.old) self.old.intervals ss → IfErr result SparesTables }
+        ensures right { (ss : List Space) → Sees (state self.old) (kept self.old) self.old.intervals ss → IfErr result NeverBlamesTables }
         ensures sound { (m : List Sector) (named : Triples) (ss : List Space) → Knows self.old m named ss → IfErr result (λ e. e ≡ halt.Disk) }
         ensures same { (m : List Sector) (named : Triples) (ss : List Space) → Knows self.old m named ss → Knows self.new m named ss }
         ensures reaches { Reaches (state self.old) (state self.new) }
@@ -97,7 +97,7 @@ impl<D: Disk, A: Allocator> CoreOver<D, A> {
         ensures room { KeepsWhileEmpty self.old.filer.swapper.pool self.new.filer.swapper.pool }
         ensures intervals { self.new.intervals ≡ self.old.intervals }
         ensures idle { IsReady (kept self.old) self.old.filer.swapper.pool page → AreApart (kept self.old) → IsOk result × (self.new.filer ≡ self.old.filer) × (kept self.new ≡ kept self.old) }
-        ensures cost { (D.state self.new.filer.swapper.under).transfers ≤ (D.state self.old.filer.swapper.under).transfers + 644 }
+        ensures cost { (D.state self.new.filer.swapper.disk).transfers ≤ (D.state self.old.filer.swapper.disk).transfers + 644 }
     {
         let x = match self.shown(page) {
             Ok(Some(x)) => x,

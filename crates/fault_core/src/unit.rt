@@ -13,16 +13,16 @@ ghost use Rattle.swapper_kernel.specs.Stands.{Stands};
 ghost use Rattle.fault_core.specs.Kept.{IsFormed};
 ghost use Rattle.fault_core.specs.View.{view_of};
 ghost use Rattle.fault_core.specs.Reach.{Reaches, TouchHalts, no_break};
-ghost use Rattle.fault_core.specs.Told.{Known};
+ghost use Rattle.fault_core.specs.Revealed.{Known};
 ghost use Rattle.fault_core.specs.Homes.{homes_in, AreHomesOf, HaveSectors};
 ghost use Rattle.fault_core.specs.Unit.{AreResident, AreRunStored, BringsRun, IsResident, IsUnitRun};
 ghost use Rattle.fault_core.specs.Room.{KeepsWhileEmpty};
 ghost use Rattle.swapper_kernel.specs.Steps.{Steps};
-ghost use Rattle.fault_core.specs.Lack.{LacksPage, run_pages};
+ghost use Rattle.fault_core.specs.Lack.{MissesPage, run_pages};
 
 use crate::homes::Homes;
 use crate::search::homes_of;
-use filer_kernel::FilerOver;
+use filer_kernel::Filer;
 use labelled_disk::{Disk, FileId, Halt};
 use std::alloc::Allocator;
 use swap_units::{Interval, unit_of};
@@ -40,7 +40,7 @@ pub(crate) fn unit_run(x: &Interval, page: u32) -> (u32, u32)
 
 /// Whether pages in a row of a file are all resident.
 pub(crate) fn is_there<D: Disk, A: Allocator>(
-    filer: &mut FilerOver<D, A>,
+    filer: &mut Filer<D, A>,
     id: FileId,
     first: u32,
     pages: u32,
@@ -53,11 +53,7 @@ pub(crate) fn is_there<D: Disk, A: Allocator>(
 }
 
 /// The slot of a page that is resident.
-pub(crate) fn slot_of<D: Disk, A: Allocator>(
-    filer: &mut FilerOver<D, A>,
-    id: FileId,
-    page: u32,
-) -> u32
+pub(crate) fn slot_of<D: Disk, A: Allocator>(filer: &mut Filer<D, A>, id: FileId, page: u32) -> u32
     requires resident { IsResident filer.old.swapper.pool id page }
     ensures slot { HasPage filer.old.swapper.pool result id page }
     ensures below { result < length filer.old.swapper.pool }
@@ -70,43 +66,43 @@ pub(crate) fn slot_of<D: Disk, A: Allocator>(
 }
 
 // Brings the pages of these homes in.
-fn bring<D: Disk, A: Allocator>(filer: &mut FilerOver<D, A>, homes: &Homes) -> Result<(), Halt>
-    requires size { (D.state filer.old.swapper.under).sectors ≡ filer.old.swapper.layout.sectors }
+fn bring<D: Disk, A: Allocator>(filer: &mut Filer<D, A>, homes: &Homes) -> Result<(), Halt>
+    requires size { (D.state filer.old.swapper.disk).sectors ≡ filer.old.swapper.layout.sectors }
     requires row { IsRow (homes_in homes.now) }
     requires homes { AreFileHomes (homes_in homes.now) filer.old.swapper.layout }
     ensures there { OnOk result (AreThere filer.new.swapper.pool (homes_in homes.now) (length (homes_in homes.now))) }
-    ensures sound { (m : List Sector) → Stands (D.state filer.old.swapper.under) filer.old.swapper.pool m → AreNamed m (IsAmong (homes_in homes.now)) → IfErr result (λ e. e ≡ halt.Disk) }
-    ensures cause { IfErr result (Halts (IsAmong (homes_in homes.now)) (D.state filer.old.swapper.under) filer.old.swapper.pool (D.state filer.new.swapper.under)) }
-    ensures swaps { Swaps (D.state filer.old.swapper.under) filer.old.swapper.pool (D.state filer.new.swapper.under) filer.new.swapper.pool }
+    ensures sound { (m : List Sector) → Stands (D.state filer.old.swapper.disk) filer.old.swapper.pool m → AreNamed m (IsAmong (homes_in homes.now)) → IfErr result (λ e. e ≡ halt.Disk) }
+    ensures cause { IfErr result (Halts (IsAmong (homes_in homes.now)) (D.state filer.old.swapper.disk) filer.old.swapper.pool (D.state filer.new.swapper.disk)) }
+    ensures swaps { Swaps (D.state filer.old.swapper.disk) filer.old.swapper.pool (D.state filer.new.swapper.disk) filer.new.swapper.pool }
     ensures brings { Brings (IsAmong (homes_in homes.now)) filer.old.swapper.pool filer.new.swapper.pool }
-    ensures steps { Steps (IsAmong (homes_in homes.now)) no_home (D.state filer.old.swapper.under) filer.old.swapper.pool (D.state filer.new.swapper.under) filer.new.swapper.pool }
+    ensures steps { Steps (IsAmong (homes_in homes.now)) no_home (D.state filer.old.swapper.disk) filer.old.swapper.pool (D.state filer.new.swapper.disk) filer.new.swapper.pool }
     ensures layout { filer.new.swapper.layout ≡ filer.old.swapper.layout }
     ensures runs { filer.new.runs ≡ filer.old.runs }
-    ensures cost { (D.state filer.new.swapper.under).transfers ≤ (D.state filer.old.swapper.under).transfers + 32 }
+    ensures cost { (D.state filer.new.swapper.disk).transfers ≤ (D.state filer.old.swapper.disk).transfers + 32 }
 {
     filer.swapper_over().bring(homes.as_slice())
 }
 
 /// Finds pages in a row of a client's file, all of them, and then brings them in.
 pub(crate) fn bring_run<D: Disk, A: Allocator>(
-    filer: &mut FilerOver<D, A>,
+    filer: &mut Filer<D, A>,
     id: FileId,
     first: u32,
     pages: u32,
 ) -> Result<(), Halt>
-    requires size { (D.state filer.old.swapper.under).sectors ≡ filer.old.swapper.layout.sectors }
+    requires size { (D.state filer.old.swapper.disk).sectors ≡ filer.old.swapper.layout.sectors }
     requires client { 16 ≤ id }
     requires some { 1 ≤ pages }
     requires few { pages ≤ 16 }
     requires fits { first + pages ≤ 2 ^ 32 }
     ensures there { OnOk result (AreResident filer.new.swapper.pool id first pages) }
     ensures cause { IfErr result (TouchHalts no_break (view_of filer.old) (view_of filer.new)) }
-    ensures lacks { IfErr result (LacksPage (run_pages id first pages)) }
+    ensures misses { IfErr result (MissesPage (run_pages id first pages)) }
     ensures sound { (m : List Sector) (named : Triples) (b : List ℕ) → Known (view_of filer.old) m named b → AreRunStored named m id first pages → IfErr result (λ e. e ≡ halt.Disk) }
     ensures reaches { Reaches (view_of filer.old) (view_of filer.new) }
     ensures came { BringsRun id first pages filer.old.swapper.pool filer.new.swapper.pool }
     ensures room { KeepsWhileEmpty filer.old.swapper.pool filer.new.swapper.pool }
-    ensures cost { (D.state filer.new.swapper.under).transfers ≤ (D.state filer.old.swapper.under).transfers + 256 }
+    ensures cost { (D.state filer.new.swapper.disk).transfers ≤ (D.state filer.old.swapper.disk).transfers + 256 }
 {
     let homes = match homes_of(filer, id, first, pages) {
         Ok(homes) => homes,

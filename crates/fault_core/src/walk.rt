@@ -12,11 +12,11 @@ ghost use Rattle.fault_core.specs.Kill.{IsPart};
 ghost use Rattle.fault_core.specs.Kept.{IsFormed};
 ghost use Rattle.fault_core.specs.Range.{IsNextPart};
 ghost use Rattle.fault_core.specs.Reach.{Reaches, ReachHalts, BringsOwn};
-ghost use Rattle.fault_core.specs.Told.{BreaksTables};
+ghost use Rattle.fault_core.specs.Revealed.{BreaksTables};
 ghost use Rattle.fault_core.specs.Room.{KeepsWhileEmpty};
 ghost use Rattle.fault_core.specs.Lack.{Sees};
 
-use crate::CoreOver;
+use crate::Core;
 use labelled_disk::{Disk, Halt};
 use std::alloc::Allocator;
 use swap_units::Interval;
@@ -33,12 +33,12 @@ pub(crate) fn end_of(first: u32, pages: u32) -> u32
     (u64::from(first) + u64::from(pages)).min(u64::from(ROOT_PAGES)) as u32
 }
 
-impl<D: Disk, A: Allocator> CoreOver<D, A> {
+impl<D: Disk, A: Allocator> Core<D, A> {
     ghost use Rattle.fault_core.specs.Core.{kept, state, Knows};
 
     /// The interval that holds a page, and where it ends, or the range does.
     pub(crate) fn part_at(&mut self, page: u32, end: u32) -> Result<(Interval, u32), Halt>
-        requires size { (D.state self.old.filer.swapper.under).sectors ≡ self.old.filer.swapper.layout.sectors }
+        requires size { (D.state self.old.filer.swapper.disk).sectors ≡ self.old.filer.swapper.layout.sectors }
         requires before { page < end }
         requires in_root { end ≤ root_pages }
         ensures form { IfOk result (λ r. IsFormed r.0 × Holds r.0 page) }
@@ -54,7 +54,7 @@ impl<D: Disk, A: Allocator> CoreOver<D, A> {
         ensures room { KeepsWhileEmpty self.old.filer.swapper.pool self.new.filer.swapper.pool }
         ensures intervals { self.new.intervals ≡ self.old.intervals }
         ensures idle { (x : IntervalIs) → find (has_page page) (kept self.old) ≡ Some x → IsOk result × (self.new.filer ≡ self.old.filer) × (kept self.new ≡ kept self.old) }
-        ensures cost { (D.state self.new.filer.swapper.under).transfers ≤ (D.state self.old.filer.swapper.under).transfers + 196 }
+        ensures cost { (D.state self.new.filer.swapper.disk).transfers ≤ (D.state self.old.filer.swapper.disk).transfers + 196 }
     {
         match self.describe(page) {
             Ok(Some(x)) => Ok((x, end.min(x.first + x.pages))),

@@ -20,7 +20,7 @@ use Rattle.filer_kernel.specs.Causes.{AddHalts, IsFaultOrMost}
 use Rattle.filer_kernel.specs.Triples.{MapIs}
 use Rattle.file_manager.specs.Grounds.{IsMapsHome}
 use Rattle.file_manager.specs.ShownLaws.{named_homes}
-use Rattle.file_manager.specs.Reasons.{AreHomes, IsAtHome, Outset, ShowsReason}
+use Rattle.file_manager.specs.Reasons.{AreHomes, IsAtHome, InitialState, ShowsReason}
 use Rattle.file_manager.proofs.MakeStops.{page_in}
 
 -- one home more, of a page that is none of theirs
@@ -45,7 +45,7 @@ one_more {are = are} {n = n} h extra at other = record {
 
 -- The map is asked to add a run in a state whose memory it is in form in: each page that it names is at home when the call ends, so is
 -- each page of a frame, and so is the first page of the run, which it does not name.
-module _ (o : Outset) (d : DiskState) {x : Layout} {c : DiskState} {t : Slots} {named : Triples} (is : IsLayout x) (size : c.sectors ≡ x.sectors) (n : List Sector) (stands : Stands c t n) (map : MapIs x named n)
+module _ (o : InitialState) (d : DiskState) {x : Layout} {c : DiskState} {t : Slots} {named : Triples} (is : IsLayout x) (size : c.sectors ≡ x.sectors) (n : List Sector) (stands : Stands c t n) (map : MapIs x named n)
     (homes : (home : Home) → named home.id home.page home.sector ≡ true → IsAtHome o d home) (held : (home : Home) → IsHeld t home → IsMapsHome x home ⊎ IsAtHome o d home)
     (extra : Home) (at : IsAtHome o d extra) (none : (sector : ℕ) → named extra.id extra.page sector ≡ false) where
   pub add_at : (e : Halt) → AddHalts x c t d e → IsFaultOrMost x c t e → ShowsReason o x d e

@@ -20,7 +20,7 @@ use Rattle.filer_kernel.specs.declared.cached.CachedRuns.{CachedRuns}
 use Rattle.session_words.specs.Volume.{volume_page}
 use Rattle.file_manager.specs.Freeing.{IsNone, FreesSectors, AreNamedUp, HasPageAt, MayFree, MayFreeAll, Freed, FreedAll, MakesFree}
 use Rattle.file_manager.proofs.FreedSectors.{freeing_append, frees_then}
-use Rattle.file_manager.proofs.FreedRun.{one_memory, behind_map, first_is, makes_free_then}
+use Rattle.file_manager.proofs.FreedRun.{one_memory, after_map, first_is, makes_free_then}
 
 -- each of the sectors is named for the page of its turn
 pub up_at : (named : Triples) (id page : ℕ) (is : List ℕ) → AreNamedUp named id page is → (j s : ℕ) → slice_get is j ≡ Some s → (j < length is) × (named id (page + j) s ≡ true)
@@ -56,7 +56,7 @@ module _ {layout : Layout} {named : Triples} {spaces : List Space} {id pages fir
       let b : one_there.0.0.page ≡ p = names_page one_there.0.0 (record { id = id; page = p }) one_there.2 in
       let c : other.0.0.page ≡ one_there.0.0.page = ap (λ (t : Sector). t.0.page) same in
       omega (arith, below, few, a, b, c) in
-      (was.0, (one_there.0, frees.pages s one_there.0 one_there.1 apart (behind_map AllocationMap layout s one_there.0.0 (let f = first_is layout is in let low = was.0 in omega (arith, f, low))), one_there.2))
+      (was.0, (one_there.0, frees.pages s one_there.0 one_there.1 apart (after_map AllocationMap layout s one_there.0.0 (let f = first_is layout is in let low = was.0 in omega (arith, f, low))), one_there.2))
 
   pub may_rest : MayFree d1 s1 layout later named spaces id 0 pages h.memory
   may_rest = record {

@@ -52,7 +52,7 @@ module _ (layout : Layout) (runs : List Run) (shapes : Shapes) (x : List Sector)
 pub true_by_map : (labels : List Label) (named : Triples) (runs : List Run) → HasTriples named labels → AreOf named runs → AreTrue labels runs
 true_by_map labels named runs triples of k r at page has = triples.only r.id page (sector_at r page) (of k r at page has)
 
--- a label that is told of an option
+-- a label that is revealed of an option
 pub label_in : (o : Option Label) (P : Label → Type 0) → IsSomeAnd o P → (l : Label) × (o ≡ Some l) × P l
 label_in (Some l) P is = (l, refl, is)
 label_in None P is = absurd is
@@ -147,13 +147,13 @@ run_place layout r id page is form has =
     let within : (r.first ≤ page) × (page < r.first + r.pages) = held_within r id page has in
     (omega (arith, from, first, within), omega (arith, inside, within))
 
--- the leader that is found tells the file's type and marks
-pub record LeaderTells (labels : List Label) (shapes : Shapes) (id sector : ℕ) : Type 0 where
+-- the leader that is found reveals the file's type and marks
+pub record LeaderReveals (labels : List Label) (shapes : Shapes) (id sector : ℕ) : Type 0 where
   pub label : Label
   pub here : slice_get labels sector ≡ Some label
   pub shape : Shape
   pub is_shape : shapes id ≡ Some shape
-  pub tells : IsLeader label shape
+  pub reveals : IsLeader label shape
   pub named : names label (record { id = id; page = leader_page }) ≡ true
 
 pub owned_shape : (shapes : Shapes) (id page : ℕ) → 16 ≤ id → is_owned shapes id page ≡ true → (f : Shape) × (shapes id ≡ Some f)
@@ -166,9 +166,9 @@ owned_shape shapes id page some owned = either (shapes id) refl
         let none : is_owned shapes id page ≡ false = rw (small, is) refl in
         absurd (true≢false (sym owned ∙ none))
 
-pub leader_tells : (layout : Layout) (runs : List Run) (shapes : Shapes) (x : List Sector) (b : IsBooked layout runs shapes x) (id sector : ℕ) → 16 ≤ id → IsTriple (labels_of x) id leader_page sector
-    → LeaderTells (labels_of x) shapes id sector
-leader_tells layout runs shapes x b id sector some triple =
+pub leader_reveals : (layout : Layout) (runs : List Run) (shapes : Shapes) (x : List Sector) (b : IsBooked layout runs shapes x) (id sector : ℕ) → 16 ≤ id → IsTriple (labels_of x) id leader_page sector
+    → LeaderReveals (labels_of x) shapes id sector
+leader_reveals layout runs shapes x b id sector some triple =
     let owned = b.labels.pages.only sector triple.label triple.there triple.taken in
     let own : is_owned shapes id leader_page ≡ true = (λ j. is_owned shapes (sym triple.same_id j) (sym triple.same_page j)) ∙ owned.is in
     let f = owned_shape shapes id leader_page some own in
@@ -177,7 +177,7 @@ leader_tells layout runs shapes x b id sector some triple =
       here = triple.there.here;
       shape = f.0;
       is_shape = f.1;
-      tells = b.labels.leaders.tell sector triple.label f.0 triple.there (ap shapes triple.same_id ∙ f.1) triple.same_page;
+      reveals = b.labels.leaders.reveal sector triple.label f.0 triple.there (ap shapes triple.same_id ∙ f.1) triple.same_page;
       named = (λ j. names triple.label (record { id = sym triple.same_id j; page = sym triple.same_page j })) ∙ owned.named;
     }
 

@@ -25,7 +25,7 @@ module _ (layout : Layout) (kept : List Run) (id : ℕ) (old : DiskState) (befor
   search_halts new (halt.Damaged (Malformed window page)) is = is
   search_halts new (halt.Damaged (Missing missing page)) is = absurd is
 
-  -- and of the reading behind it
+  -- and of the reading after it
   pub label_halts : {pages : Pages} (mid new : DiskState) (slots : Slots) (sector : ℕ) → Makes pages [] old before mid slots → IsRunHome layout old before kept (home_at sector (record { id = id; page = leader_page }))
       → (e : Halt) → HasCause (IsNotOf sector (record { id = id; page = leader_page }) mid) mid new e → LeaderHalts layout kept id old before new e
   label_halts mid new slots sector makes given halt.Disk is = rose_wider old.faults mid.faults new.faults new.faults makes.went.faults (omega arith) is

@@ -8,7 +8,7 @@ use Rattle.labelled_disk.specs.Label.{is_free, is_file_id, leader_page, root_lab
 use Rattle.labelled_disk.specs.Runs.{growth, AreUnused}
 use Rattle.labelled_disk.specs.Sectors.{Sector}
 use Rattle.labelled_disk.specs.State.{DiskState}
-use Rattle.label_laws.specs.LawfulOrders.{AreApart}
+use Rattle.label_laws.specs.PermittedOrders.{AreApart}
 use Rattle.frame_pool.specs.Frames.{Slots}
 use Rattle.flat_machine.specs.declared.space.Space.{Space}
 use Rattle.label_calls.specs.Labels.{MayHaveWritten}
@@ -39,8 +39,8 @@ use Rattle.file_manager.proofs.NewFile.{began}
 -- ---- Sectors that were free.
 
 each_so : (P Q : ℕ → Type 0) → ((i : ℕ) → P i → Q i) → (is : List ℕ) → AreApart P is → AreApart Q is
-each_so P Q so [] are = tt
-each_so P Q so (i ∷ is) are = (so i are.0, are.1, each_so P Q so is are.2)
+each_so P Q evidence_seen [] are = tt
+each_so P Q evidence_seen (i ∷ is) are = (evidence_seen i are.0, are.1, each_so P Q evidence_seen is are.2)
 
 -- one for the leader, and then others in turn, are different ones that were all free
 apart_created : (labels : List Label) (id kind leader : ℕ) (is : List ℕ) → 16 ≤ id → IsFree labels leader → AreFree id kind 0 is (slice_set labels leader (page_label id kind leader_page)) → AreApart (IsFree labels) (leader ∷ is)
@@ -70,7 +70,7 @@ leader_broken {a = a} {b = b} {s = s} {t = t} id kind pages x some = either some
     either (i ∷ []) few free n makes = record { sectors = i ∷ []; few = omega arith; free = (free.0, tt, tt); count = n; makes = makes }
     either (i ∷ j ∷ is) few free n makes = absurd (omega (arith, few))
 
--- a stop behind it
+-- a stop after it
 pub pages_broken : (layout : Layout) (is_layout : IsLayout layout) (kept : CachedRuns) (shapes : Shapes) (spaces : List Space) (x : List Sector) (d0 : DiskState) (s0 : Slots) (id kind pages : ℕ)
     (of_file : is_file_id id ≡ true) (may : MayCreate d0 s0 layout kept shapes spaces id pages x) (leader : ℕ) (d : DiskState) (s : Slots) (leads : Leads (Grows id kind leader_page (leader ∷ [])) (growth id kind leader_page (leader ∷ [])) d0 s0 layout d s kept)
     (d2 : DiskState) (s2 : Slots) → ((y : List Sector) (ss : Shapes) (sp : List Space) (f : Shape) → MayGrow d s layout kept ss sp id f pages y → f.size ≡ 0 → GrewSome id kind 0 (pages - 0) y d s d2 s2) → CreatedSome [] id kind pages x d0 s0 d2 s2
@@ -85,7 +85,7 @@ pages_broken layout is_layout kept shapes spaces x d0 s0 id kind pages of_file m
       makes = makes_then leads.goes.makes rest.makes;
     }
 
--- ---- The root in front.
+-- ---- The root before.
 
 module _ {a b : DiskState} {s : Slots} (root : Root) (kind pages : ℕ) (x : List Sector) where
   -- a stop at the root

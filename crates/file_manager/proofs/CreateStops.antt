@@ -8,7 +8,7 @@ use Rattle.labelled_disk.specs.declared.evidence.Evidence.TheVariants.{Mismatch,
 use Rattle.labelled_disk.specs.declared.evidence.Halt.{Halt}
 use Rattle.labelled_disk.specs.declared.evidence.Halt.TheVariants.{Disk, Damaged}
 use Rattle.labelled_disk.specs.declared.layout.Layout.{Layout}
-use Rattle.labelled_disk.specs.Moment.{written}
+use Rattle.labelled_disk.specs.CrashState.{written}
 use Rattle.labelled_disk.specs.Sectors.{Sector}
 use Rattle.labelled_disk.specs.State.{DiskState}
 use Rattle.labelled_disk.proofs.Finds.{get_set_other}
@@ -24,7 +24,7 @@ use Rattle.swapper_kernel.specs.GoesLaws.{makes_then, makes_wider}
 use Rattle.swapper_kernel.specs.HaltLaws.{rose_wider}
 use Rattle.swapper_kernel.specs.Homes.{IsLayout, home_at}
 use Rattle.swapper_kernel.specs.Stands.{Stands}
-use Rattle.swapper_kernel.specs.Window.{Shows, Tells, Beside}
+use Rattle.swapper_kernel.specs.Window.{Shows, Reveals, Beside}
 use Rattle.filer_kernel.specs.Becomes.{Becomes}
 use Rattle.filer_kernel.specs.Causes.{MapShows, MapHalts, CutHalts}
 use Rattle.filer_kernel.specs.Triples.{MapIs}
@@ -37,7 +37,7 @@ use Rattle.file_manager.specs.Taking.{AreOfPages, TakesSectors, NamesNoneOf, eve
 use Rattle.file_manager.proofs.FreedRun.{first_is, map_makes, shows_still}
 use Rattle.file_manager.proofs.Keeping.{broken_shown}
 use Rattle.file_manager.proofs.MadeRun.{maps_come, unframed_still, file_map_alone}
-use Rattle.file_manager.proofs.MakeStops.{labels_behind, shown_before, label_home_before}
+use Rattle.file_manager.proofs.MakeStops.{labels_after, shown_before, label_home_before}
 use Rattle.file_manager.proofs.RoomStops.{room_before}
 use Rattle.file_manager.proofs.TakingLemmas.{not_taken, sectors_then}
 
@@ -71,14 +71,14 @@ cut_filled layout id named c u nothing h = record {
 }
 
 -- no sector of n but the root's is another than in m
-pub record IsSameBehind (m n : List Sector) : Type 0 where
+pub record IsSameAfter (m n : List Sector) : Type 0 where
   pub long : length n ≡ length m
   pub each : (k : ℕ) → k ≢ 0 → slice_get n k ≡ slice_get m k
 
 -- where the root was written
-pub root_behind : (root : Root) {a b : DiskState} {s : Slots} → Goes (λ m n. n ≡ written (root_write root) m) no_page (root_write root ∷ []) a s b s
-    → (m : List Sector) → Stands a s m → (n : List Sector) × Stands b s n × IsSameBehind m n
-root_behind root {b = b} {s = s} rooted m stands =
+pub root_after : (root : Root) {a b : DiskState} {s : Slots} → Goes (λ m n. n ≡ written (root_write root) m) no_page (root_write root ∷ []) a s b s
+    → (m : List Sector) → Stands a s m → (n : List Sector) × Stands b s n × IsSameAfter m n
+root_after root {b = b} {s = s} rooted m stands =
     let now = rooted.memory m stands in (
       slice_set m 0 (root_label, root_bytes root),
       subst (Stands b s) now.2 now.1,
@@ -86,12 +86,12 @@ root_behind root {b = b} {s = s} rooted m stands =
     )
 
 -- where nothing was
-pub nothing_behind : {a : DiskState} {s : Slots} (m : List Sector) → Stands a s m → (n : List Sector) × Stands a s n × IsSameBehind m n
-nothing_behind m stands = (m, stands, record { long = refl; each = λ k other. refl })
+pub nothing_after : {a : DiskState} {s : Slots} (m : List Sector) → Stands a s m → (n : List Sector) × Stands a s n × IsSameAfter m n
+nothing_after m stands = (m, stands, record { long = refl; each = λ k other. refl })
 
-module _ (layout : Layout) (is : IsLayout layout) (id : ℕ) {front : List DiskWrite} {a b : DiskState} {s : Slots} (first : Makes no_page front a s b s)
-    (behind : (m : List Sector) → Stands a s m → (n : List Sector) × Stands b s n × IsSameBehind m n) (wanted : ℕ → Type 0) where
-  root_taken : (m n : List Sector) → IsSameBehind m n → TakesSectors layout id m n
+module _ (layout : Layout) (is : IsLayout layout) (id : ℕ) {prefix : List DiskWrite} {a b : DiskState} {s : Slots} (first : Makes no_page prefix a s b s)
+    (after : (m : List Sector) → Stands a s m → (n : List Sector) × Stands b s n × IsSameAfter m n) (wanted : ℕ → Type 0) where
+  root_taken : (m n : List Sector) → IsSameAfter m n → TakesSectors layout id m n
   root_taken m n same = record {
     labels = record {
       long = same.long;
@@ -104,13 +104,13 @@ module _ (layout : Layout) (is : IsLayout layout) (id : ℕ) {front : List DiskW
     );
   }
 
-  map_behind : (m n : List Sector) → IsSameBehind m n → (bytes : List ℕ) → Shows FileMap m layout bytes → Shows FileMap n layout bytes
-  map_behind m n same bytes shows = shows_still FileMap layout m n bytes (λ k t below here. same.each (1 + layout.vam + k) (λ e. omega (arith, e)) ∙ here) shows
+  map_after : (m n : List Sector) → IsSameAfter m n → (bytes : List ℕ) → Shows FileMap m layout bytes → Shows FileMap n layout bytes
+  map_after m n same bytes shows = shows_still FileMap layout m n bytes (λ k t below here. same.each (1 + layout.vam + k) (λ e. omega (arith, e)) ∙ here) shows
 
-  root_told : (bytes : List ℕ) → Tells FileMap a s layout bytes → Tells FileMap b s layout bytes
-  root_told bytes tells =
-      let now = behind tells.memory tells.stands in
-      record { memory = now.0; stands = now.1; shows = map_behind tells.memory now.0 now.2 bytes tells.shows; size = first.went.sectors ∙ tells.size }
+  root_revealed : (bytes : List ℕ) → Reveals FileMap a s layout bytes → Reveals FileMap b s layout bytes
+  root_revealed bytes reveals =
+      let now = after reveals.memory reveals.stands in
+      record { memory = now.0; stands = now.1; shows = map_after reveals.memory now.0 now.2 bytes reveals.shows; size = first.went.sectors ∙ reveals.size }
 
   -- where the map is cut
   cut_evidence : (e : Evidence) (c : DiskState) (t : Slots) → MapHalts layout b s c (Damaged e) ⊎ IsToCut id 0 (MapShows layout b s) → CutHalts layout b s c t (Damaged e) → CreateEvidence layout id wanted a s c t e
@@ -118,8 +118,8 @@ module _ (layout : Layout) (is : IsLayout layout) (id : ℕ) {front : List DiskW
   cut_evidence (Malformed window page) c t begun why = (
     why.0,
     elim begun [
-      | inl broken ↦ inl (broken_shown (MapShows layout b s) (MapShows layout a s) (shown_before layout root_told) layout.sectors page broken.1)
-      | inr cut ↦ inr (inl (record { run = cut.run; page = cut.page; shown = shown_before layout root_told (Entry cut.page (run_bytes cut.run)) cut.shown; of_file = cut.of_file; behind = cut.behind }))
+      | inl broken ↦ inl (broken_shown (MapShows layout b s) (MapShows layout a s) (shown_before layout root_revealed) layout.sectors page broken.1)
+      | inr cut ↦ inr (inl (record { run = cut.run; page = cut.page; shown = shown_before layout root_revealed (Entry cut.page (run_bytes cut.run)) cut.shown; of_file = cut.of_file; after = cut.after }))
     ],
   )
   cut_evidence (Missing missing page) c t begun why = absurd why
@@ -133,14 +133,14 @@ module _ (layout : Layout) (is : IsLayout layout) (id : ℕ) {front : List DiskW
       (cut : (m : List Sector) (named : Triples) → Stands b s m → MapIs layout named m → Becomes FileMap layout m (MapIs layout (without_from named id 0)) c t) (pages : ℕ → Type 0) (d : DiskState) (u : Slots) where
     since_cut : IsUnframed s 0 → (m : List Sector) → Stands a s m → (n : List Sector) × Stands c t n × TakesSectors layout id m n
     since_cut none m stands =
-        let r = behind m stands in
+        let r = after m stands in
         let now = beside.goes.memory r.0 r.1 in
         (now.0, now.1, sectors_then (root_taken m r.0 r.2) (file_map_alone layout id r.0 now.0 now.2))
 
     -- none was taken
     none_since : IsUnframed s 0 → (m : List Sector) → Stands a s m → (n : List Sector) × Stands c t n × (TakesSectors layout id m n × AreOfPages layout id no_page_of m n)
     none_since none m stands =
-        let r = behind m stands in
+        let r = after m stands in
         let now = beside.goes.memory r.0 r.1 in (
           now.0,
           now.1,
@@ -151,10 +151,10 @@ module _ (layout : Layout) (is : IsLayout layout) (id : ℕ) {front : List DiskW
           ),
         )
 
-    form_behind : (page : ℕ) → StopsInForm layout id pages page c t d u → StopsInForm layout id every_page page a s d u
-    form_behind page stops none m named stands map nothing =
-        let r = behind m stands in
-        let rooted_map : MapIs layout named r.0 = record { bytes = map.bytes; shows = map_behind m r.0 r.2 map.bytes map.shows; names = map.names } in
+    form_after : (page : ℕ) → StopsInForm layout id pages page c t d u → StopsInForm layout id every_page page a s d u
+    form_after page stops none m named stands map nothing =
+        let r = after m stands in
+        let rooted_map : MapIs layout named r.0 = record { bytes = map.bytes; shows = map_after m r.0 r.2 map.bytes map.shows; names = map.names } in
         let now = cut r.0 named r.1 rooted_map in
         let e = stops (unframed_still (maps_come beside) none) now.memory (without_from named id 0) now.stands now.is (λ p sector own. cut_none id named nothing p sector tt) in
         (e.0, cut_filled layout id named d u nothing e.1)
@@ -164,10 +164,10 @@ module _ (layout : Layout) (is : IsLayout layout) (id : ℕ) {front : List DiskW
     make_evidence (Malformed window page) is = (
       is.0,
       inr (inr (record {
-        run = front ++ is.1.run;
+        run = prefix ++ is.1.run;
         makes = makes_then (makes_wider volume_page (λ id page none. absurd none) first) (makes_then (map_makes beside) is.1.makes);
-        labelled = labels_behind id front is.1.run is.1.labelled;
-        in_form = form_behind page is.1.in_form;
+        labelled = labels_after id prefix is.1.run is.1.labelled;
+        in_form = form_after page is.1.in_form;
       })),
     )
     make_evidence (Missing missing page) is = (is.0, is.1, room_before no_page_of wanted wanted (λ p own. own) (λ p own not. not) (maps_come beside) none_since d u is.2)

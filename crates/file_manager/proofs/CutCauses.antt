@@ -36,13 +36,13 @@ module _ {given : Type 0} {layout : Layout} {id : ℕ} {a b : DiskState} {s t : 
   ]
   taken_out (Malformed window page) c u begun why = elim begun [
     | inl broken ↦ inl (search_before keep (Malformed window page) pages broken)
-    | inr cut ↦ inr (why.0, λ g. record { run = cut.run; page = cut.page; shown = shown keep g (Entry cut.page (run_bytes cut.run)) cut.shown; of_file = cut.of_file; behind = cut.behind })
+    | inr cut ↦ inr (why.0, λ g. record { run = cut.run; page = cut.page; shown = shown keep g (Entry cut.page (run_bytes cut.run)) cut.shown; of_file = cut.of_file; after = cut.after })
   ]
   taken_out (Missing missing page) c u begun why = absurd why
 
-  pub cut_halts_behind : (c : DiskState) (u : Slots) (halt : Halt) → MapHalts layout b t c halt ⊎ IsToCut id from (MapShows layout b t) → CutHalts layout b t c u halt → CutFileHalts given layout kept id from pages a s c halt
-  cut_halts_behind c u Disk begun why = rose_wider a.faults b.faults c.faults c.faults keep.faults (omega arith) why
-  cut_halts_behind c u (Damaged e) begun why = taken_out e c u begun why
+  pub cut_halts_after : (c : DiskState) (u : Slots) (halt : Halt) → MapHalts layout b t c halt ⊎ IsToCut id from (MapShows layout b t) → CutHalts layout b t c u halt → CutFileHalts given layout kept id from pages a s c halt
+  cut_halts_after c u Disk begun why = rose_wider a.faults b.faults c.faults c.faults keep.faults (omega arith) why
+  cut_halts_after c u (Damaged e) begun why = taken_out e c u begun why
 
 -- what stops before the file is cut
 pub cut_of_free : (given : Type 0) (layout : Layout) (kept : List Run) (id from : ℕ) (pages : ℕ → Type 0) (a c : DiskState) (s : Slots) (halt : Halt) → FreeHalts given layout kept id pages a s c halt → CutFileHalts given layout kept id from pages a s c halt
@@ -55,7 +55,7 @@ module _ {given : Type 0} {layout : Layout} {id : ℕ} {a b : DiskState} {s t : 
     (from : ℕ) (pages more : ℕ → Type 0) (all : (page : ℕ) → pages page → more page) (c : DiskState) (u : Slots) where
   out_before : (e : Evidence) → TakesOut (IsUnframed t id) layout id from b t e → TakesOut given layout id from a s e
   out_before (Mismatch sector wanted found) is = absurd is
-  out_before (Malformed window page) is = (is.0, λ g. let cut = is.1 (keep.unframed g) in record { run = cut.run; page = cut.page; shown = shown keep g (Entry cut.page (run_bytes cut.run)) cut.shown; of_file = cut.of_file; behind = cut.behind })
+  out_before (Malformed window page) is = (is.0, λ g. let cut = is.1 (keep.unframed g) in record { run = cut.run; page = cut.page; shown = shown keep g (Entry cut.page (run_bytes cut.run)) cut.shown; of_file = cut.of_file; after = cut.after })
   out_before (Missing missing page) is = absurd is
 
   back_before : (e : Evidence) → PutsBack (IsUnframed t id) layout b t c u e → PutsBack given layout a s c u e
@@ -63,15 +63,15 @@ module _ {given : Type 0} {layout : Layout} {id : ℕ} {a b : DiskState} {s t : 
   back_before (Malformed window page) is = (
     is.0,
     λ g m named stands map.
-        let now = keep.told g map.bytes (record { memory = m; stands = stands; shows = map.shows; size = size }) in
+        let now = keep.revealed g map.bytes (record { memory = m; stands = stands; shows = map.shows; size = size }) in
         is.1 (keep.unframed g) now.memory named now.stands (record { bytes = map.bytes; shows = now.shows; names = map.names }),
   )
   back_before (Missing missing page) is = absurd is
 
-  -- the halt of a call that shrinks the file, behind them
-  pub shrink_halts_behind : (halt : Halt) → ShrinkHalts (IsUnframed t id) layout runs id from pages b t c u halt → ShrinkHalts given layout kept id from more a s c u halt
-  shrink_halts_behind Disk is = rose_wider a.faults b.faults c.faults c.faults keep.faults (omega arith) is
-  shrink_halts_behind (Damaged e) is = elim is [
+  -- the halt of a call that shrinks the file, after them
+  pub shrink_halts_after : (halt : Halt) → ShrinkHalts (IsUnframed t id) layout runs id from pages b t c u halt → ShrinkHalts given layout kept id from more a s c u halt
+  shrink_halts_after Disk is = rose_wider a.faults b.faults c.faults c.faults keep.faults (omega arith) is
+  shrink_halts_after (Damaged e) is = elim is [
     | inl free ↦ inl (free_before keep pages more all size e free)
     | inr (inl out) ↦ inr (inl (out_before e out))
     | inr (inr back) ↦ inr (inr (back_before e back))

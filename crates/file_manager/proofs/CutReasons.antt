@@ -1,4 +1,4 @@
--- A run is added to a map that was cut, and a call tells why not: the leader is not named then, so nothing keeps to an outset, but each
+-- A run is added to a map that was cut, and a call reveals why not: the leader is not named then, so nothing keeps to an initial state, but each
 -- home that the evidence speaks of was one before the cut.
 use Rattle.std.proofs.Common.{◌≡◌, ◌⊎◌, inl, inr, ℕ, true, false, List, ◌∙◌, arith}
 use Rattle.std.proofs.lemmas.Bool.Decides.{nat_tests}
@@ -20,7 +20,7 @@ use Rattle.filer_kernel.specs.Becomes.{Becomes}
 use Rattle.filer_kernel.specs.Causes.{AddHalts, IsFaultOrMost}
 use Rattle.filer_kernel.specs.Triples.{MapIs}
 use Rattle.file_manager.specs.Grounds.{IsMapsHome}
-use Rattle.file_manager.specs.Reasons.{Outset, IsAtHome, KeepsTo, ShowsReason}
+use Rattle.file_manager.specs.Reasons.{InitialState, IsAtHome, KeepsTo, ShowsReason}
 use Rattle.file_manager.specs.Shrinking.{leader_run}
 use Rattle.file_manager.specs.LaterLaws.{at_home_later}
 use Rattle.file_manager.proofs.AddReasons.{add_at}
@@ -30,7 +30,7 @@ use Rattle.file_manager.proofs.MadeRun.{maps_come}
 pub has_leader : (id leader : ℕ) → holds (leader_run id leader) id leader_page ≡ true
 has_leader id leader = grind (arith, nat_tests)
 
-module _ {o : Outset} {layout last : Layout} {kept : List Run} {a b : DiskState} {s t : Slots} {named later : Triples} (k : KeepsTo o layout kept a s named) (is : IsLayout layout) (beside : Beside FileMap a s layout b t last)
+module _ {o : InitialState} {layout last : Layout} {kept : List Run} {a b : DiskState} {s t : Slots} {named later : Triples} (k : KeepsTo o layout kept a s named) (is : IsLayout layout) (beside : Beside FileMap a s layout b t last)
     (becomes : Becomes FileMap layout k.memory (MapIs layout later) b t) (only : (id page sector : ℕ) → later id page sector ≡ true → named id page sector ≡ true)
     {pages : Pages} {run : List DiskWrite} {c : DiskState} {u : Slots} (makes : Makes pages run b t c u) where
   there : (home : Home) → IsAtHome o a home → IsAtHome o c home

@@ -35,17 +35,17 @@ some_counted p a zero k above below is = absurd (omega (arith, above, below))
 some_counted p a (suc n) k above below is = here (p a) refl (λ past. some_counted p (a + 1) n k past (omega (arith, below)) is)
   where
     here : (b : Bool) → p a ≡ b → (a + 1 ≤ k → 1 ≤ count_by p (range_with_len (a + 1) n)) → 1 ≤ count_by p (range_with_len a (suc n))
-    here true e behind =
+    here true e after =
         let all = count_more p a (range_with_len (a + 1) n) in
         let one : ◌≡◌ {A = ℕ} (cond (p a) 1 0) 1 = ap (λ (b : Bool). cond b 1 0) e in
         omega (arith, all, one)
-    here false e behind =
+    here false e after =
         let all = count_more p a (range_with_len (a + 1) n) in
         let past : a + 1 ≤ k = elim (cases_lt a k) [
           | inl less ↦ omega (arith, less)
           | inr more ↦ let same : k ≡ a = omega (arith, above, more) in absurd (true≢false (sym is ∙ ap p same ∙ e))
         ] in
-        let rest = behind past in
+        let rest = after past in
         omega (arith, all, rest)
 
 -- without the leader's sector the data sectors are fewer than the map may have records

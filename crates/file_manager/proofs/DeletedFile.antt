@@ -277,14 +277,14 @@ pub free_stops : {layout l1 : Layout} {a b c : DiskState} {s t u : Slots} → Be
 free_stops first some = record { sectors = some.sectors; makes = makes_then (map_makes first) some.makes }
 
 -- what all of it costs
-pub told_cost : (t0 t1 t2 t3 size pages w r : ℕ) → pages ≡ size → t1 ≤ t0 + 14 → t2 ≤ t1 + (1 + pages) * w → t3 ≤ t2 + r → t3 ≤ t0 + (14 + (1 + size) * w + r)
-told_cost t0 t1 t2 t3 size pages w r same one two three =
-    let two_told : t2 ≤ t1 + (1 + size) * w = subst (λ (n : ℕ). t2 ≤ t1 + (1 + n) * w) same two in
-    omega (arith, one, two_told, three)
+pub revealed_cost : (t0 t1 t2 t3 size pages w r : ℕ) → pages ≡ size → t1 ≤ t0 + 14 → t2 ≤ t1 + (1 + pages) * w → t3 ≤ t2 + r → t3 ≤ t0 + (14 + (1 + size) * w + r)
+revealed_cost t0 t1 t2 t3 size pages w r same one two three =
+    let two_revealed : t2 ≤ t1 + (1 + size) * w = subst (λ (n : ℕ). t2 ≤ t1 + (1 + n) * w) same two in
+    omega (arith, one, two_revealed, three)
 
 -- with a cut by the file's size
 pub sized_cost : (t0 t1 t2 t3 size pages w : ℕ) → pages ≡ size → t1 ≤ t0 + 14 → t2 ≤ t1 + (1 + pages) * w → t3 ≤ t2 + 2 * (1 + 51 * (pages + 2)) → t3 ≤ t0 + (14 + (1 + size) * w + 2 * (1 + 51 * (size + 2)))
-sized_cost t0 t1 t2 t3 size pages w same one two three = told_cost t0 t1 t2 t3 size pages w (2 * (1 + 51 * (size + 2))) same one two (omega (arith, same, three))
+sized_cost t0 t1 t2 t3 size pages w same one two three = revealed_cost t0 t1 t2 t3 size pages w (2 * (1 + 51 * (size + 2))) same one two (omega (arith, same, three))
 
 pub most_cost : (t0 t1 t2 t3 pages w r : ℕ) → pages < 2 ^ 32 → t1 ≤ t0 + 14 → t2 ≤ t1 + (1 + pages) * w → t3 ≤ t2 + r → t3 ≤ t0 + (14 + 2 ^ 32 * w + r)
 most_cost t0 t1 t2 t3 pages w r fits one two three =

@@ -12,7 +12,7 @@ use Rattle.file_manager.specs.Freeing.{IsNone, ClearsBits, run_sectors}
 use Rattle.file_manager.specs.Shrinking.{AreNamedDown, run_down}
 use Rattle.file_manager.proofs.FreedSectors.{row_has, row_at, row_clears}
 
--- some one stands behind an option
+-- some one stands after an option
 mapped_from : (f : ℕ → ℕ) (o : Option ℕ) (k : ℕ) → option_map f o ≡ Some k → (i : ℕ) × (o ≡ Some i) × (f i ≡ k)
 mapped_from f None k is = absurd (none-some k is)
 mapped_from f (Some i) k is = (i, refl, same_Some (f i) k is)

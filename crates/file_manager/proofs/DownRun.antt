@@ -43,7 +43,7 @@ use Rattle.file_manager.specs.Freeing.{IsNone, FreesSectors, HasPageAt, MayFree,
 use Rattle.file_manager.specs.Shrinking.{IsLastPart, FreedDown, StoppedDown, AreNamedDown, run_down}
 use Rattle.file_manager.proofs.BookLemmas.{known_after}
 use Rattle.file_manager.proofs.FreedSectors.{labels_at, freed_elsewhere, freed_long, freed_here, freeing_append, long_append, take_freeing, frees_then, frees_none}
-use Rattle.file_manager.proofs.FreedRun.{hidden_then, one_memory, map_makes, map_brings, append_none, shows_still, behind_map, first_is, map_low}
+use Rattle.file_manager.proofs.FreedRun.{hidden_then, one_memory, map_makes, map_brings, append_none, shows_still, after_map, first_is, map_low}
 use Rattle.file_manager.proofs.DownLemmas.{down_has, down_long, down_clears, run_named, down_append, down_take, take_few}
 
 module _ (layout : Layout) (is : IsLayout layout) (named : Triples) (spaces : List Space) (id from end : ℕ) (file : 16 ≤ id) (m : List Sector) (d0 : DiskState) (s0 : Slots) (kept : CachedRuns)
@@ -144,7 +144,7 @@ module _ (layout : Layout) (is : IsLayout layout) (named : Triples) (spaces : Li
           record {
             bytes = was.bytes;
             shows = shows_still FileMap layout m final.memory was.bytes (λ k s below here.
-                pages_now (1 + layout.vam + k) s here (low_apart (1 + layout.vam + k) (let f = first_is layout is in omega (arith, f, below))) (behind_map AllocationMap layout (1 + layout.vam + k) s.0 (omega arith))) was.shows;
+                pages_now (1 + layout.vam + k) s here (low_apart (1 + layout.vam + k) (let f = first_is layout is in omega (arith, f, below))) (after_map AllocationMap layout (1 + layout.vam + k) s.0 (omega arith))) was.shows;
             names = was.names;
           }
 
@@ -169,7 +169,7 @@ module _ (layout : Layout) (is : IsLayout layout) (named : Triples) (spaces : Li
           let b : one.0.0.page ≡ p = names_page one.0.0 (record { id = id; page = p }) one.2 in
           let c : other.0.0.page ≡ one.0.0.page = ap (λ (t : Sector). t.0.page) same in
           omega (arith, below, reaches, a, b, c) in
-          (was.0, (one.0, pages_now s one.0 one.1 apart (behind_map AllocationMap layout s one.0.0 (let f = first_is layout is in let low = was.0 in omega (arith, f, low))), one.2))
+          (was.0, (one.0, pages_now s one.0 one.1 apart (after_map AllocationMap layout s one.0.0 (let f = first_is layout is in let low = was.0 in omega (arith, f, low))), one.2))
 
       brings : BringsOwn s0 s3
       brings = brings_then (map_brings beside) (map_brings beside_then)
@@ -247,7 +247,7 @@ some_labels {a = a} {b = b} {c = c} {s = s} {t = t} {u = u} run first same some 
 pub down_stops : {a b c : DiskState} {s t u : Slots} (run : Run) → Makes volume_page [] a s b t → u ≡ t → MadeSome (freeing (run_down run)) b t c → MakesSomeFree a s c u
 down_stops run first same some = record { sectors = take some.count (run_down run); makes = some_labels run first same some }
 
--- and where they are told, they are those of the last pages
+-- and where they are revealed, they are those of the last pages
 pub down_broken : {a b c : DiskState} {s t u : Slots} {named : Triples} {id pages end : ℕ} (run : Run) → Makes volume_page [] a s b t → u ≡ t → AreNamedDown named id end (run_down run) → run.pages ≤ pages
     → MadeSome (freeing (run_down run)) b t c → StoppedDown named id pages end a s c u
 down_broken {named = named} {id = id} {end = end} run first same down few some = record {
@@ -269,7 +269,7 @@ all_broken run first same down few made last =
     let all = down_makes run first same made last in
     record { sectors = run_down run; few = let long = down_long run in omega (arith, long, few); down = down; makes = all.makes }
 
--- behind pages that were freed
+-- after pages that were freed
 pub broken_then : {layout : Layout} {named : Triples} {spaces : List Space} {id from first next end : ℕ} {a b c : DiskState} {s t u : Slots} {runs : CachedRuns}
     → FreedDown layout named spaces id from first end a s b t runs → StoppedDown named id next (end - first) b t c u → StoppedDown named id (first + next) end a s c u
 broken_then {named = named} {id = id} {end = end} {a = a} {c = c} {s = s} {u = u} h k = record {

@@ -17,8 +17,8 @@ use Rattle.session_words.specs.Volume.{volume_page}
 use Rattle.file_manager.specs.Freeing.{MayFree, MakesFree}
 use Rattle.file_manager.specs.Shrinking.{FreedDown, StoppedDown}
 use Rattle.file_manager.specs.Grounds.{IsUnframed, FreeHalts, KeepsMap}
-use Rattle.file_manager.specs.Reasons.{Outset, AreLet, KeepsTo, ShowsReason}
-use Rattle.file_manager.proofs.FreedReasons.{let_more}
+use Rattle.file_manager.specs.Reasons.{InitialState, AreReleased, KeepsTo, ShowsReason}
+use Rattle.file_manager.proofs.FreedReasons.{released_more}
 use Rattle.file_manager.proofs.FreedRun.{makes_free_then}
 use Rattle.file_manager.proofs.Keeping.{keeps_none, keeps_then, free_halts_before}
 use Rattle.file_manager.proofs.FreedUpTo.{cost_then}
@@ -33,10 +33,10 @@ pub record IsFreedDownTo (id from end page : ℕ) (d0 : DiskState) (s0 : Slots) 
   pub cost : d.transfers ≤ d0.transfers + (end - page) * (16 + 4 * layout.vam)
   pub makes : MakesFree (end - page) d0 s0 d s
   pub keeps : KeepsMap (IsUnframed s0 id) layout id d0 s0 (runs_of layout.sectors kept) d s (runs_of layout.sectors runs)
-  pub told : (named : Triples) (spaces : List Space) (m : List Sector) → MayFree d0 s0 layout kept named spaces id from end m → FreedDown layout named spaces id from (end - page) end d0 s0 d s runs
+  pub revealed : (named : Triples) (spaces : List Space) (m : List Sector) → MayFree d0 s0 layout kept named spaces id from end m → FreedDown layout named spaces id from (end - page) end d0 s0 d s runs
   pub own : WroteOwn id d0 d
-  pub keeps_to : (o : Outset) (named : Triples) → KeepsTo o layout (runs_of layout.sectors kept) d0 s0 named → KeepsTo o later (runs_of later.sectors runs) d s named
-  pub let_go : (o : Outset) (named : Triples) → KeepsTo o layout (runs_of layout.sectors kept) d0 s0 named → AreLet o d named id (λ p. (page ≤ p) × (p < end))
+  pub keeps_to : (o : InitialState) (named : Triples) → KeepsTo o layout (runs_of layout.sectors kept) d0 s0 named → KeepsTo o later (runs_of later.sectors runs) d s named
+  pub evict : (o : InitialState) (named : Triples) → KeepsTo o layout (runs_of layout.sectors kept) d0 s0 named → AreReleased o d named id (λ p. (page ≤ p) × (p < end))
 
 down_cost : (t0 t u from page end v : ℕ) → page ≤ end → from < page → t ≤ t0 + (end - page) * (16 + 4 * v) → u ≤ t + (14 + 2 * (page - from) + 4 * v) → u ≤ t0 + (end - from) * (16 + 4 * v)
 down_cost t0 t u from page end v above below before here =
@@ -55,10 +55,10 @@ down_none id from end d0 s0 layout kept order size =
       cost = omega arith;
       makes = subst (λ (n : ℕ). MakesFree n d0 s0 d0 s0) z (record { sectors = []; long = refl; makes = makes_nothing volume_page d0 s0 });
       keeps = keeps_none (IsUnframed s0 id) layout id d0 s0 (runs_of layout.sectors kept) (λ none. none);
-      told = λ named spaces m may. subst (λ (n : ℕ). FreedDown layout named spaces id from n end d0 s0 d0 s0 kept) z (freed_down_none m may);
+      revealed = λ named spaces m may. subst (λ (n : ℕ). FreedDown layout named spaces id from n end d0 s0 d0 s0 kept) z (freed_down_none m may);
       own = quiet_own id (makes_nothing volume_page d0 s0);
       keeps_to = λ o named h. h;
-      let_go = λ o named h p sector own is. let above = own.0 in let below = own.1 in absurd (omega (arith, above, below));
+      evict = λ o named h p sector own is. let above = own.0 in let below = own.1 in absurd (omega (arith, above, below));
     }
 
 -- and a run more
@@ -66,10 +66,10 @@ pub down_then : {id from end page pages : ℕ} {d0 d e : DiskState} {s0 s t : Sl
     → from < page → (1 ≤ pages) × (pages ≤ page - from) → last ≡ later → e.transfers ≤ d.transfers + (14 + 2 * pages + 4 * later.vam) → MakesFree pages d s e t
     → KeepsMap (IsUnframed s id) later id d s (runs_of later.sectors runs) e t (runs_of later.sectors more)
     → ((named : Triples) (spaces : List Space) (m : List Sector) → MayFree d s later runs named spaces id from page m → FreedDown later named spaces id from pages page d s e t more)
-    → RelabelsOwn id d e → ((o : Outset) (named : Triples) → KeepsTo o later (runs_of later.sectors runs) d s named → KeepsTo o last (runs_of last.sectors more) e t named)
-    → ((o : Outset) (named : Triples) → KeepsTo o later (runs_of later.sectors runs) d s named → AreLet o e named id (λ p. (page - pages ≤ p) × (p < page)))
+    → RelabelsOwn id d e → ((o : InitialState) (named : Triples) → KeepsTo o later (runs_of later.sectors runs) d s named → KeepsTo o last (runs_of last.sectors more) e t named)
+    → ((o : InitialState) (named : Triples) → KeepsTo o later (runs_of later.sectors runs) d s named → AreReleased o e named id (λ p. (page - pages ≤ p) × (p < page)))
     → IsFreedDownTo id from end (page - pages) d0 s0 layout kept e t last more
-down_then {id = id} {from = from} {end = end} {page = page} {pages = pages} {d0 = d0} {d = d} {e = e} {s0 = s0} {s = s} {t = t} {layout = layout} {later = later} {last = last} {kept = kept} {runs = runs} {more = more} h under some same cost makes keeps told own keeps_to let_go =
+down_then {id = id} {from = from} {end = end} {page = page} {pages = pages} {d0 = d0} {d = d} {e = e} {s0 = s0} {s = s} {t = t} {layout = layout} {later = later} {last = last} {kept = kept} {runs = runs} {more = more} h under some same cost makes keeps revealed own keeps_to evict =
     let few = some.1 in
     let below = h.below in
     let z : end - page + pages ≡ end - (page - pages) = omega (arith, below, few) in
@@ -83,20 +83,20 @@ down_then {id = id} {from = from} {end = end} {page = page} {pages = pages} {d0 
       cost = subst (λ (n : ℕ). e.transfers ≤ d0.transfers + n * (16 + 4 * layout.vam)) z (cost_then d0.transfers d.transfers e.transfers (end - page) pages layout.vam some.0 h.cost (subst (λ (n : ℕ). e.transfers ≤ d.transfers + (14 + 2 * pages + 4 * n)) v cost));
       makes = subst (λ (n : ℕ). MakesFree n d0 s0 e t) z (makes_free_then h.makes makes);
       keeps = keeps_then h.keeps (subst (λ (l : Layout). KeepsMap (IsUnframed s id) l id d s (runs_of l.sectors runs) e t (runs_of l.sectors more)) h.same_layout keeps);
-      told = λ named spaces m may.
-          let first = h.told named spaces m may in
+      revealed = λ named spaces m may.
+          let first = h.revealed named spaces m may in
           let rest : MayFree d s layout runs named spaces id from page first.memory = subst (λ (n : ℕ). MayFree d s layout runs named spaces id from n first.memory) y first.rest in
-          let next = told named spaces first.memory (subst (λ (l : Layout). MayFree d s l runs named spaces id from page first.memory) (sym h.same_layout) rest) in
+          let next = revealed named spaces first.memory (subst (λ (l : Layout). MayFree d s l runs named spaces id from page first.memory) (sym h.same_layout) rest) in
           let next_there = subst (λ (l : Layout). FreedDown l named spaces id from pages page d s e t more) h.same_layout next in
           subst (λ (n : ℕ). FreedDown layout named spaces id from n end d0 s0 e t more) z
           (freed_down_then first (subst (λ (n : ℕ). FreedDown layout named spaces id from pages n d s e t more) (sym y) next_there));
       own = own_then h.own (freed_own makes own);
       keeps_to = λ o named k. keeps_to o named (h.keeps_to o named k);
-      let_go = λ o named k p sector own is.
+      evict = λ o named k p sector own is.
           let now = h.keeps_to o named k in
           let first = own.0 in
           let last = own.1 in
-          let_more o named makes.sectors id (λ q. (page ≤ q) × (q < end)) (λ q. (page - pages ≤ q) × (q < page)) makes.makes (h.let_go o named k) (let_go o named now) p sector
+          released_more o named makes.sectors id (λ q. (page ≤ q) × (q < end)) (λ q. (page - pages ≤ q) × (q < page)) makes.makes (h.evict o named k) (evict o named now) p sector
           (elim (leb_tells page p) [ inl (_, above_it) ↦ inl (above_it, last) | inr (_, not_above) ↦ inr (first, omega (arith, not_above)) ]) is;
     }
 
@@ -104,7 +104,7 @@ module _ {id from end page : ℕ} {d0 d : DiskState} {s0 s : Slots} {layout late
   -- the rest may be freed
   pub down_rest : (named : Triples) (spaces : List Space) (m : List Sector) → MayFree d0 s0 layout kept named spaces id from end m → (n : List Sector) × MayFree d s later runs named spaces id from page n
   down_rest named spaces m may =
-      let first = h.told named spaces m may in
+      let first = h.revealed named spaces m may in
       let below = h.below in
       let y : end - (end - page) ≡ page = omega (arith, below) in
       let rest : MayFree d s layout runs named spaces id from page first.memory = subst (λ (n : ℕ). MayFree d s layout runs named spaces id from n first.memory) y first.rest in
@@ -112,7 +112,7 @@ module _ {id from end page : ℕ} {d0 d : DiskState} {s0 s : Slots} {layout late
 
   -- all are freed
   pub down_freed : page ≡ from → (named : Triples) (spaces : List Space) (m : List Sector) → MayFree d0 s0 layout kept named spaces id from end m → FreedDown layout named spaces id from (end - from) end d0 s0 d s runs
-  down_freed all named spaces m may = subst (λ (n : ℕ). FreedDown layout named spaces id from (end - n) end d0 s0 d s runs) all (h.told named spaces m may)
+  down_freed all named spaces m may = subst (λ (n : ℕ). FreedDown layout named spaces id from (end - n) end d0 s0 d s runs) all (h.revealed named spaces m may)
 
   pub down_made : page ≡ from → MakesFree (end - from) d0 s0 d s
   down_made all = subst (λ (n : ℕ). MakesFree (end - n) d0 s0 d s) all h.makes
@@ -125,11 +125,11 @@ module _ {id from end page : ℕ} {d0 d : DiskState} {s0 s : Slots} {layout late
       let v : later.vam ≡ layout.vam = ap (λ (l : Layout). l.vam) h.same_layout in
       down_cost d0.transfers d.transfers e.transfers from page end layout.vam h.below below h.cost (subst (λ (n : ℕ). e.transfers ≤ d.transfers + (14 + 2 * (page - from) + 4 * n)) v here)
 
-  -- a stop behind them
+  -- a stop after them
   pub down_broken_off : {e : DiskState} {t : Slots} → ((named : Triples) (spaces : List Space) (m : List Sector) → MayFree d s later runs named spaces id from page m → StoppedDown named id (page - from) page d s e t)
       → (named : Triples) (spaces : List Space) (m : List Sector) → MayFree d0 s0 layout kept named spaces id from end m → StoppedDown named id (end - from) end d0 s0 e t
   down_broken_off {e = e} {t = t} stopped named spaces m may =
-      let first = h.told named spaces m may in
+      let first = h.revealed named spaces m may in
       let rest = down_rest named spaces m may in
       let above = h.above in
       let below = h.below in
@@ -147,6 +147,6 @@ module _ {id from end page : ℕ} {d0 d : DiskState} {s0 s : Slots} {layout late
       (subst (λ (l : Layout). FreeHalts (IsUnframed s id) l (runs_of l.sectors runs) id (λ p. p ≡ page - 1) d s e halt) h.same_layout why)
 
   -- and its reason
-  pub down_reason : (e : DiskState) (halt : Halt) → ((o : Outset) (named : Triples) → KeepsTo o later (runs_of later.sectors runs) d s named → ShowsReason o later e halt)
-      → (o : Outset) (named : Triples) → KeepsTo o layout (runs_of layout.sectors kept) d0 s0 named → ShowsReason o layout e halt
+  pub down_reason : (e : DiskState) (halt : Halt) → ((o : InitialState) (named : Triples) → KeepsTo o later (runs_of later.sectors runs) d s named → ShowsReason o later e halt)
+      → (o : InitialState) (named : Triples) → KeepsTo o layout (runs_of layout.sectors kept) d0 s0 named → ShowsReason o layout e halt
   down_reason e halt why o named k = subst (λ (l : Layout). ShowsReason o l e halt) h.same_layout (why o named (h.keeps_to o named k))

@@ -11,7 +11,7 @@ abbrev halt_in : {T : Type 0} → Result T Halt → Halt
 halt_in (Ok x) = halt.Disk
 halt_in (Err e) = e
 
--- by its cause, behind other calls
+-- by its cause, after other calls
 pub counted : {T : Type 0} (shown : Evidence → Type 0) (before : ℕ) (old new : DiskState) (e : Halt) → before ≤ old.faults → HasCause shown old new e → ◌≡◌ {A = Result T Halt} (Err e) (Err halt.Disk) → Rose before new.faults
 counted {T = T} shown before old new e less cause is = let rose = subst (HasCause shown old new) (ap (halt_in {T = T}) is) cause in omega (arith, less, rose)
 

@@ -1,4 +1,4 @@
--- What is told of a file, and why a call that asks for it stops the session.
+-- What is revealed of a file, and why a call that asks for it stops the session.
 use Rattle.std.proofs.Common.{◌≡◌, ◌≢◌, inl, inr, ℕ, zero, suc, ◌+◌, ◌<◌, ◌≤◌, Bool, true, false, ◌&&◌, ◌||◌, List, [], Some, refl, sym, ◌∙◌, ap, subst, arith}
 use Rattle.std.specs.Prelude.{slice_get, ◌==◌, nat_lt}
 use Rattle.std.specs.Option.{option_map_or}
@@ -20,7 +20,7 @@ use Rattle.file_map.specs.Entries.{Sight, Entry, Count, Broken}
 use Rattle.file_map.specs.Cause.{IsBroken}
 use Rattle.file_map.specs.FileMap.{IsSize}
 use Rattle.swapper_kernel.specs.declared.manager.Manager.TheVariants.{FileMap}
-use Rattle.labelled_disk.specs.Calls.{TellsSame}
+use Rattle.labelled_disk.specs.Calls.{RevealsSame}
 use Rattle.flat_machine.specs.declared.space.Space.{Space}
 use Rattle.swapper_kernel.specs.Goes.{Makes, Pages, no_page}
 use Rattle.swapper_kernel.specs.GoesLaws.{makes_then, makes_wider}
@@ -29,7 +29,7 @@ use Rattle.swapper_kernel.specs.Halts.{HasCause}
 use Rattle.swapper_kernel.specs.Homes.{Brings, home_at}
 use Rattle.swapper_kernel.specs.Maps.{IsMapHome}
 use Rattle.swapper_kernel.specs.Stands.{Stands, labels_of}
-use Rattle.swapper_kernel.specs.Window.{Tells, Beside}
+use Rattle.swapper_kernel.specs.Window.{Reveals, Beside}
 use Rattle.filer_kernel.specs.declared.cached.CachedRuns.{CachedRuns}
 use Rattle.filer_kernel.specs.Cached.{runs_of}
 use Rattle.label_calls.specs.Labels.{IsNotOf}
@@ -39,7 +39,7 @@ use Rattle.session_words.specs.Volume.{volume_page}
 use Rattle.session_words.specs.Parts.{Shape, Shapes, IsLeader, IsTriple, is_owned}
 use Rattle.file_manager.specs.Finding.{FileHalts, shape_of_leader}
 use Rattle.file_manager.specs.Book.{IsBooked, Books, BringsOwn}
-use Rattle.file_manager.proofs.BookLemmas.{leader_tells}
+use Rattle.file_manager.proofs.BookLemmas.{leader_reveals}
 use Rattle.file_manager.proofs.FreedRun.{map_makes, map_brings}
 
 -- the pages of a file are those below its size, and its leader
@@ -88,23 +88,23 @@ module _ (layout : Layout) (runs : List Run) (shapes : Shapes) (x : List Sector)
           let below = found.highest p place.place named (omega (arith, same, short)) in
           omega (arith, below)
 
-  -- the label that the disk has in the leader's sector, and the map's size, tell the file's shape
+  -- the label that the disk has in the leader's sector, and the map's size, reveal the file's shape
   pub shape_by_leader : (disk : DiskState) (slots : Slots) (sector : ℕ) (label : Label) (size : ℕ) → Stands disk slots x → IsTriple (labels_of x) id leader_page sector → HasLabel disk sector label → IsSize b.named id size
       → shapes id ≡ Some (shape_of_leader label size)
   shape_by_leader disk slots sector label size stands t there found =
-      let tells = leader_tells layout runs shapes x b id sector some t in
-      let on_disk : slice_get (labels_of stands.sectors) sector ≡ Some label = slice_get-map (λ (s : Sector). s.0) stands.sectors sector ∙ there stands.sectors stands.told in
-      let same : tells.label ≡ label = same_Some tells.label label (sym tells.here ∙ ap (λ (l : List Label). slice_get l sector) stands.merged.labels ∙ on_disk) in
-      let leader : IsLeader label tells.shape = subst (λ (l : Label). IsLeader l tells.shape) same tells.tells in
-      let size_same = size_is tells.shape tells.is_shape size found in
-      tells.is_shape ∙ (λ j. Some (record { kind = sym leader.kind j; permanent = sym leader.permanent j; immutable = sym leader.immutable j; size = sym size_same j }))
+      let reveals = leader_reveals layout runs shapes x b id sector some t in
+      let on_disk : slice_get (labels_of stands.sectors) sector ≡ Some label = slice_get-map (λ (s : Sector). s.0) stands.sectors sector ∙ there stands.sectors stands.revealed in
+      let same : reveals.label ≡ label = same_Some reveals.label label (sym reveals.here ∙ ap (λ (l : List Label). slice_get l sector) stands.merged.labels ∙ on_disk) in
+      let leader : IsLeader label reveals.shape = subst (λ (l : Label). IsLeader l reveals.shape) same reveals.reveals in
+      let size_same = size_is reveals.shape reveals.is_shape size found in
+      reveals.is_shape ∙ (λ j. Some (record { kind = sym leader.kind j; permanent = sym leader.permanent j; immutable = sym leader.immutable j; size = sym size_same j }))
 
 -- ---- Halts.
 
 module _ (layout : Layout) {pages : Pages} {a b : DiskState} {s t : Slots} (makes : Makes pages [] a s b t) where
-  module _ (brings : Brings (IsMapHome FileMap layout) s t) (stays : (bytes : List ℕ) → Tells FileMap a s layout bytes → Tells FileMap b t layout bytes) where
+  module _ (brings : Brings (IsMapHome FileMap layout) s t) (stays : (bytes : List ℕ) → Reveals FileMap a s layout bytes → Reveals FileMap b t layout bytes) where
     shown_before : (sight : Sight) → MapShows layout b t sight → MapShows layout a s sight
-    shown_before sight shows bytes tells = shows bytes (stays bytes tells)
+    shown_before sight shows bytes reveals = shows bytes (stays bytes reveals)
 
     broken_before : (n page : ℕ) → IsBroken n (MapShows layout b t) page → IsBroken n (MapShows layout a s) page
     broken_before n page h = elim h [
@@ -144,29 +144,29 @@ leader_halts layout kept id a c s (Damaged e) h = inl h
 
 -- ---- A label that is read.
 
--- the disk tells the same under the same frames
-stands_read : {a b : DiskState} {s t : Slots} {m : List Sector} → TellsSame a b → t ≡ s → Stands a s m → Stands b t m
-stands_read {b = b} {m = m} told frames h = subst (λ (q : Slots). Stands b q m) (sym frames) (record { sectors = h.sectors; told = told.contents ∙ h.told; merged = h.merged })
+-- the disk reveals the same under the same frames
+stands_read : {a b : DiskState} {s t : Slots} {m : List Sector} → RevealsSame a b → t ≡ s → Stands a s m → Stands b t m
+stands_read {b = b} {m = m} revealed frames h = subst (λ (q : Slots). Stands b q m) (sym frames) (record { sectors = h.sectors; revealed = revealed.contents ∙ h.revealed; merged = h.merged })
 
-pub books_read : {layout : Layout} {runs kept : CachedRuns} {shapes : Shapes} {spaces : List Space} {x : List Sector} {a b : DiskState} {s t : Slots} → TellsSame a b → t ≡ s → kept ≡ runs
+pub books_read : {layout : Layout} {runs kept : CachedRuns} {shapes : Shapes} {spaces : List Space} {x : List Sector} {a b : DiskState} {s t : Slots} → RevealsSame a b → t ≡ s → kept ≡ runs
     → Books a s layout runs shapes spaces x → Books b t layout kept shapes spaces x
-books_read {layout = layout} {shapes = shapes} {spaces = spaces} {x = x} told frames same books = record {
-  stands = stands_read told frames books.stands;
+books_read {layout = layout} {shapes = shapes} {spaces = spaces} {x = x} revealed frames same books = record {
+  stands = stands_read revealed frames books.stands;
   booked = subst (λ (r : CachedRuns). IsBooked layout (runs_of layout.sectors r) shapes x) (sym same) books.booked;
   frames = subst (λ (q : Slots). HasFrames q spaces) (sym frames) books.frames;
 }
 
-module _ {layout later : Layout} {a b c : DiskState} {s t u : Slots} (beside : Beside FileMap a s layout b t later) (told : TellsSame b c) (read : Makes no_page [] b t c u) (frames : u ≡ t) where
+module _ {layout later : Layout} {a b c : DiskState} {s t u : Slots} (beside : Beside FileMap a s layout b t later) (revealed : RevealsSame b c) (read : Makes no_page [] b t c u) (frames : u ≡ t) where
   pub read_makes : Makes volume_page [] a s c u
   read_makes = makes_then (map_makes beside) (makes_wider volume_page (λ i p no. absurd no) read)
 
   pub read_map_brings : Brings (IsMapHome FileMap layout) s u
   read_map_brings = subst (λ (q : Slots). Brings (IsMapHome FileMap layout) s q) (sym frames) beside.brings
 
-  pub read_bytes : ((bytes : List ℕ) → Tells FileMap a s layout bytes → Tells FileMap b t layout bytes) → (bytes : List ℕ) → Tells FileMap a s layout bytes → Tells FileMap c u layout bytes
-  read_bytes stays bytes tells =
-      let now = stays bytes tells in
-      record { memory = now.memory; stands = stands_read told frames now.stands; shows = now.shows; size = read.went.sectors ∙ now.size }
+  pub read_bytes : ((bytes : List ℕ) → Reveals FileMap a s layout bytes → Reveals FileMap b t layout bytes) → (bytes : List ℕ) → Reveals FileMap a s layout bytes → Reveals FileMap c u layout bytes
+  read_bytes stays bytes reveals =
+      let now = stays bytes reveals in
+      record { memory = now.memory; stands = stands_read revealed frames now.stands; shows = now.shows; size = read.went.sectors ∙ now.size }
 
   pub read_brings : BringsOwn s u
   read_brings = subst (BringsOwn s) (sym frames) (map_brings beside)

@@ -1,4 +1,4 @@
--- The freeing of a run keeps to an outset, and what it tells as evidence has its reason.
+-- The freeing of a run keeps to an initial state, and what it reports as evidence has its reason.
 use Rattle.std.proofs.Common.{◌≡◌, ◌⊎◌, inl, inr, ℕ, zero, suc, ◌+◌, ◌-◌, ◌<◌, ◌≤◌, Bool, true, false, List, [], ◌∷◌, Some, refl, sym, ◌∙◌, ap, subst, arith}
 use Rattle.std.specs.Prelude.{slice_get, nat_le, nat_lt, ◌&&◌, if◌then◌else◌, IfSome}
 use Rattle.std.proofs.lemmas.Bool.{and_parts, false≢true, leb-true, ltb-true}
@@ -37,15 +37,15 @@ use Rattle.filer_kernel.specs.PlaceLaws.{data_first, one_sector}
 use Rattle.filer_kernel.specs.Triples.{MapIs, AreOf}
 use Rattle.file_manager.specs.Freeing.{NamesAll}
 use Rattle.file_manager.specs.Grounds.{IsMapsHome}
-use Rattle.file_manager.specs.Reasons.{Outset, IsLet, AreLet, KeepsTo, LeavesTables, ShowsReason, MayBeFree, AreTabled}
-use Rattle.file_manager.specs.LaterLaws.{let_later, let_now, at_home_later, free_now}
+use Rattle.file_manager.specs.Reasons.{InitialState, IsReleased, AreReleased, KeepsTo, LeavesTables, ShowsReason, MayBeFree, AreTabled}
+use Rattle.file_manager.specs.LaterLaws.{released_later, released_now, at_home_later, free_now}
 use Rattle.file_manager.specs.WriteLaws.{GivesNot, RootsBelow, TakesNot, label_gives_not, label_no_root, no_roots, sector_of, takes_not}
 use Rattle.file_manager.specs.KeepLaws.{keeps_after, over_left, unframed_still, beside_keeps}
-use Rattle.file_manager.specs.TabledLaws.{told_beside, told_left}
+use Rattle.file_manager.specs.TabledLaws.{revealed_beside, revealed_left}
 use Rattle.file_manager.proofs.FreedTables.{freed_keeps}
-use Rattle.file_manager.proofs.FreedRun.{shows_still, behind_map}
+use Rattle.file_manager.proofs.FreedRun.{shows_still, after_map}
 use Rattle.file_manager.proofs.FreedSectors.{freed_elsewhere}
-use Rattle.file_manager.proofs.ForgottenRun.{SameFront, map_stays, bits_stay}
+use Rattle.file_manager.proofs.ForgottenRun.{SamePrefix, map_stays, bits_stay}
 use Rattle.std.proofs.lemmas.Bool.Decides.{nat_tests}
 use Rattle.labelled_disk.specs.WriteRuns.{after_writes}
 use Rattle.session_words.specs.Volume.{volume_page}
@@ -54,7 +54,7 @@ use Rattle.file_manager.proofs.RunLeads.{append_none, map_makes}
 
 -- ---- A search of the map.
 
-pub found_keeps : {layout later : Layout} {a b : DiskState} {s t : Slots} (kept runs : CachedRuns) {o : Outset} {named : Triples} → Beside FileMap a s layout b t later
+pub found_keeps : {layout later : Layout} {a b : DiskState} {s t : Slots} (kept runs : CachedRuns) {o : InitialState} {named : Triples} → Beside FileMap a s layout b t later
     → ((m : List Sector) (named : Triples) → Stands a s m → MapIs layout named m → Stands b t m)
     → ((m : List Sector) (named : Triples) → Stands a s m → MapIs layout named m → AreOf named (runs_of layout.sectors kept) → AreOf named (runs_of layout.sectors runs))
     → KeepsTo o layout (runs_of layout.sectors kept) a s named → KeepsTo o later (runs_of later.sectors runs) b t named
@@ -62,7 +62,7 @@ found_keeps {layout = layout} {b = b} {t = t} kept runs {o = o} {named = named} 
     subst (λ (l : Layout). KeepsTo o l (runs_of l.sectors runs) b t named) (sym beside.layout)
     (beside_keeps h FileMap beside (same h.memory named h.stands h.map) (runs_of layout.sectors runs) (are h.memory named h.stands h.map h.kept))
 
--- ---- Homes that are let.
+-- ---- Homes that are released.
 
 -- none of these writes gives a sector to a page
 pub frees_give_not : (sectors : List ℕ) (home : Home) → GivesNot (freeing sectors) home
@@ -77,16 +77,16 @@ frees_no_root next (k ∷ ks) root zero has = label_no_root next k free_label ro
 frees_no_root next (k ∷ ks) root (suc turn) has = frees_no_root next ks root turn has
 
 -- those of a run's pages are those of some pages of its file
-pub let_of_run : (o : Outset) (disk : DiskState) (named : Triples) (run : Run) (id : ℕ) (own : ℕ → Type 0) → run.id ≡ id → ((p : ℕ) → own p → (run.first ≤ p) × (p < run.first + run.pages))
-    → AreLet o disk named run.id (λ p. (run.first ≤ p) × (p < run.first + run.pages)) → AreLet o disk named id own
-let_of_run o disk named run id own same within all page sector is named_so =
-    subst (λ (i : ℕ). IsLet o disk (record { sector = sector; id = i; page = page })) same (all page sector (within page is) (subst (λ (i : ℕ). named i page sector ≡ true) (sym same) named_so))
+pub released_of_run : (o : InitialState) (disk : DiskState) (named : Triples) (run : Run) (id : ℕ) (own : ℕ → Type 0) → run.id ≡ id → ((p : ℕ) → own p → (run.first ≤ p) × (p < run.first + run.pages))
+    → AreReleased o disk named run.id (λ p. (run.first ≤ p) × (p < run.first + run.pages)) → AreReleased o disk named id own
+released_of_run o disk named run id own same within all page sector is named_so =
+    subst (λ (i : ℕ). IsReleased o disk (record { sector = sector; id = i; page = page })) same (all page sector (within page is) (subst (λ (i : ℕ). named i page sector ≡ true) (sym same) named_so))
 
--- those of the pages up to one, and those behind it
-pub let_more : (o : Outset) {d e : DiskState} {s t : Slots} {pages : Pages} (named : Triples) (sectors : List ℕ) (id : ℕ) (before now : ℕ → Type 0) → Makes pages (freeing sectors) d s e t
-    → AreLet o d named id before → AreLet o e named id now → AreLet o e named id (λ p. before p ⊎ now p)
-let_more o named sectors id before now makes was is page sector own named_so = elim own [
-  | inl earlier ↦ let_later o makes _ (frees_give_not sectors _) (was page sector earlier named_so)
+-- those of the pages up to one, and those after it
+pub released_more : (o : InitialState) {d e : DiskState} {s t : Slots} {pages : Pages} (named : Triples) (sectors : List ℕ) (id : ℕ) (before now : ℕ → Type 0) → Makes pages (freeing sectors) d s e t
+    → AreReleased o d named id before → AreReleased o e named id now → AreReleased o e named id (λ p. before p ⊎ now p)
+released_more o named sectors id before now makes was is page sector own named_so = elim own [
+  | inl earlier ↦ released_later o makes _ (frees_give_not sectors _) (was page sector earlier named_so)
   | inr later ↦ is page sector later named_so
 ]
 
@@ -135,7 +135,7 @@ one_of_row first count marks sector is = either (nat_le first sector && nat_lt s
         inl (sector - first, omega (arith, from, below), omega (arith, from))
     either false out = inr (sym (ap (λ (b : Bool). if b then false else marks sector) out) ∙ is)
 
-module _ {o : Outset} {layout : Layout} {runs : List Run} {b : DiskState} {t : Slots} {named : Triples} (h : KeepsTo o layout runs b t named) (is : IsLayout layout) (run : Run) (form : IsRun layout.sectors run) where
+module _ {o : InitialState} {layout : Layout} {runs : List Run} {b : DiskState} {t : Slots} {named : Triples} (h : KeepsTo o layout runs b t named) (is : IsLayout layout) (run : Run) (form : IsRun layout.sectors run) where
   on_data : layout.first ≤ run.sector
   on_data = let first = data_first layout is in let from = form.from_data in omega (arith, first, from)
 
@@ -152,12 +152,12 @@ module _ {o : Outset} {layout : Layout} {runs : List Run} {b : DiskState} {t : S
   module _ (sectors : List ℕ) (has : (j k : ℕ) → slice_get sectors j ≡ Some k → (i : ℕ) × (i < run.pages) × (k ≡ run.sector + i)) (each : (i : ℕ) → i < run.pages → (j : ℕ) × (slice_get sectors j ≡ Some (run.sector + i)))
       {c : DiskState} (made : RelabelsRun run.sector run.pages (freeing sectors) b t c)
       (were : (d : List Sector) → b.contents ≡ Some d → HaveOnes (λ k. ones_of (record { id = run.id; page = run.first + k })) d run.sector run.pages)
-      (gone : (i : ℕ) (f : Frame) → Has t i f → IsWithin run.id run.first run.pages f.home → ⊥) (spares : LeavesTables o run.id) where
+      (gone : (i : ℕ) (f : Frame) → Has t i f → IsWithin run.id run.first run.pages f.home → ⊥) (never_blames : LeavesTables o run.id) where
     -- no frame is over the run's sectors: its page would be one of the run's
     uncovered : AreUncovered t run.sector run.pages
     uncovered k below i f in_slot at =
         let stands = h.stands in
-        let disk = were stands.sectors stands.told k below in
+        let disk = were stands.sectors stands.revealed k below in
         let one = other_sector h.memory stands.sectors (sym stands.merged.labels) (run.sector + k) disk.0 disk.1 in
         let home = stands.merged.frames i f in_slot in
         let label : home.label ≡ disk.0.0 = ap (λ (x : Sector). x.0) (same_Some {A = Sector} (home.label, f.bytes) one.0 (sym home.keeps ∙ ap (slice_get h.memory) at ∙ one.1)) ∙ one.2 in
@@ -169,25 +169,25 @@ module _ {o : Outset} {layout : Layout} {runs : List Run} {b : DiskState} {t : S
     mid : (n : List Sector) × Stands c t n × (n ≡ after_writes (freeing sectors) h.memory)
     mid = (made.goes uncovered).memory h.memory h.stands
 
-    front_stays : SameFront layout h.memory mid.0
-    front_stays k x low here =
+    prefix_stays : SamePrefix layout h.memory mid.0
+    prefix_stays k x low here =
         ap (λ (l : List Sector). slice_get l k) mid.2
         ∙ freed_elsewhere sectors h.memory k (λ j at. let r = has j k at in let same = r.2 in let above = on_data in omega (arith, low, same, above)) ∙ here
 
     map_mid : MapIs layout named mid.0
-    map_mid = map_stays is front_stays h.map
+    map_mid = map_stays is prefix_stays h.map
 
-    told_mid : IfSome o.tables (AreTabled layout named h.memory) → IfSome o.tables (AreTabled layout named mid.0)
-    told_mid =
-        told_left layout named named h.memory mid.0 o run.id is h.map spares (λ other. rw mid.2 (freed_keeps layout h.memory h.stands.sectors (sym h.stands.merged.labels) run.sector run.pages run.id (λ k. run.first + k) (were h.stands.sectors h.stands.told) sectors has other)) (λ other page sector own. own)
+    revealed_mid : IfSome o.tables (AreTabled layout named h.memory) → IfSome o.tables (AreTabled layout named mid.0)
+    revealed_mid =
+        revealed_left layout named named h.memory mid.0 o run.id is h.map never_blames (λ other. rw mid.2 (freed_keeps layout h.memory h.stands.sectors (sym h.stands.merged.labels) run.sector run.pages run.id (λ k. run.first + k) (were h.stands.sectors h.stands.revealed) sectors has other)) (λ other page sector own. own)
 
     -- no page got a sector of them
     none_taken : (sector : ℕ) → TakesNot (freeing sectors) sector
     none_taken sector = takes_not (freeing sectors) sector (λ id page. frees_give_not sectors (record { sector = sector; id = id; page = page }))
 
-    -- so each home that the map has of its pages is let
-    pub labels_let : NamesAll named run → AreLet o c named run.id (λ p. (run.first ≤ p) × (p < run.first + run.pages))
-    labels_let all page sector own named_so =
+    -- so each home that the map has of its pages is released
+    pub labels_released : NamesAll named run → AreReleased o c named run.id (λ p. (run.first ≤ p) × (p < run.first + run.pages))
+    labels_released all page sector own named_so =
         let from = own.0 in
         let below = own.1 in
         let i = page - run.first in
@@ -199,12 +199,12 @@ module _ {o : Outset} {layout : Layout} {runs : List Run} {b : DiskState} {t : S
         let write_at : slice_get (freeing sectors) turn.0 ≡ Some (write.LabelOnly sector free_label) =
         subst (λ (n : ℕ). slice_get (freeing sectors) turn.0 ≡ Some (write.LabelOnly n free_label)) same (freeing_at sectors turn.0 (run.sector + i) turn.1) in
         let home : Home = record { sector = sector; id = run.id; page = page } in
-        let_now o made.makes h.since home (frees_give_not sectors home) turn.0 write_at
+        released_now o made.makes h.since home (frees_give_not sectors home) turn.0 write_at
 
-    -- behind accesses to the allocation map too
-    pub marks_let : {d : DiskState} {u : Slots} {later : Layout} → Beside AllocationMap c t layout d u later → NamesAll named run → AreLet o d named run.id (λ p. (run.first ≤ p) × (p < run.first + run.pages))
-    marks_let beside all page sector own named_so =
-        let_later o beside.goes.makes _ (λ turn w at gives. none-some w at) (labels_let all page sector own named_so)
+    -- after accesses to the allocation map too
+    pub marks_released : {d : DiskState} {u : Slots} {later : Layout} → Beside AllocationMap c t layout d u later → NamesAll named run → AreReleased o d named run.id (λ p. (run.first ≤ p) × (p < run.first + run.pages))
+    marks_released beside all page sector own named_so =
+        released_later o beside.goes.makes _ (λ turn w at gives. none-some w at) (labels_released all page sector own named_so)
 
     pub marks_keep : {d : DiskState} {u : Slots} {later : Layout} → Beside AllocationMap c t layout d u later
         → ((m : List Sector) (marks : Marks) → Stands c t m → BitsAre layout marks m → Becomes AllocationMap layout m (BitsAre layout (marked false run.sector run.pages marks)) d u)
@@ -212,12 +212,12 @@ module _ {o : Outset} {layout : Layout} {runs : List Run} {b : DiskState} {t : S
     marks_keep {d = d} {u = u} beside given =
         let both : Makes volume_page (freeing sectors) b t d u =
         subst (λ (ws : List DiskWrite). Makes volume_page ws b t d u) (append_none (freeing sectors)) (makes_then (makes_wider volume_page (λ id page none. absurd none) made.makes) (map_makes beside)) in
-        let now = given mid.0 h.marks mid.1 (bits_stay is front_stays h.bits) in
+        let now = given mid.0 h.marks mid.1 (bits_stay is prefix_stays h.bits) in
         let maps : Brings (IsMapsHome layout) t u = brings_wider (IsMapsHome layout) (λ home own. (AllocationMap, own)) beside.brings in
         keeps_after h both now.memory now.stands named
         (record {
           bytes = map_mid.bytes;
-          shows = shows_still FileMap layout mid.0 now.memory map_mid.bytes (λ j x below here. now.differs.pages (1 + layout.vam + j) x here (behind_map AllocationMap layout (1 + layout.vam + j) x.0 (omega arith))) map_mid.shows;
+          shows = shows_still FileMap layout mid.0 now.memory map_mid.bytes (λ j x below here. now.differs.pages (1 + layout.vam + j) x here (after_map AllocationMap layout (1 + layout.vam + j) x.0 (omega arith))) map_mid.shows;
           names = map_mid.names;
         })
         (λ home is. inl is) runs h.kept
@@ -240,7 +240,7 @@ module _ {o : Outset} {layout : Layout} {runs : List Run} {b : DiskState} {t : S
               false≢true (sym (cleared run.sector run.pages h.marks r.0 sector r.1 (sym same ∙ r.2)) ∙ used),
         ))
         (frees_no_root o.next sectors) (λ home turn w at gives. absurd (frees_give_not sectors home turn w at gives))
-        (λ told. told_beside layout named mid.0 now.memory o.tables AllocationMap is map_mid now.differs (told_mid told))
+        (λ revealed. revealed_beside layout named mid.0 now.memory o.tables AllocationMap is map_mid now.differs (revealed_mid revealed))
 
     -- where it stops at the allocation map
     pub marks_reason : {pages : Pages} {writes : List DiskWrite} {d : DiskState} {u : Slots} → Makes pages writes c t d u → (halt : Halt) → Halts (IsMapHome AllocationMap layout) c t d halt → ShowsReason o layout d halt

@@ -74,14 +74,14 @@ shows_still which layout m n b stays shows = record {
       record { label = was.label; keeps = stays k _ below was.keeps };
 }
 
--- behind a map
-pub behind_map : (which : Manager) (layout : Layout) (k : ℕ) (l : Label) → start_of which layout + pages_of which layout ≤ k → in_map which layout k l ≡ false
-behind_map which layout k l past = grind (arith, nat_tests)
+-- after a map
+pub after_map : (which : Manager) (layout : Layout) (k : ℕ) (l : Label) → start_of which layout + pages_of which layout ≤ k → in_map which layout k l ≡ false
+after_map which layout k l past = grind (arith, nat_tests)
 
 pub first_is : (layout : Layout) → IsLayout layout → layout.first ≡ 1 + layout.vam + layout.vfm
 first_is layout is = ap (λ (l : Layout). l.first) is.1 ∙ sym (ap (λ (l : Layout). 1 + l.vam + l.vfm) is.1)
 
--- a home of a map is in front of the data
+-- a home of a map is before the data
 pub map_low : (which : Manager) (layout : Layout) → IsLayout layout → (home : Home) → IsMapHome which layout home → home.sector < layout.first
 map_low AllocationMap layout is home (page, below, at) = let f = first_is layout is in let place : home.sector ≡ 1 + page = ap (λ (h : Home). h.sector) at in omega (arith, f, place, below)
 map_low FileMap layout is home (page, below, at) = let f = first_is layout is in let place : home.sector ≡ 1 + layout.vam + page = ap (λ (h : Home). h.sector) at in omega (arith, f, place, below)
@@ -202,7 +202,7 @@ module _ (layout : Layout) (is : IsLayout layout) (named : Triples) (spaces : Li
           record {
             bytes = was.bytes;
             shows = shows_still FileMap layout m final.memory was.bytes (λ k s below here.
-                pages_now (1 + layout.vam + k) s here (low_apart (1 + layout.vam + k) (let f = first_is layout is in omega (arith, f, below))) (behind_map AllocationMap layout (1 + layout.vam + k) s.0 (omega arith))) was.shows;
+                pages_now (1 + layout.vam + k) s here (low_apart (1 + layout.vam + k) (let f = first_is layout is in omega (arith, f, below))) (after_map AllocationMap layout (1 + layout.vam + k) s.0 (omega arith))) was.shows;
             names = was.names;
           }
 
@@ -226,7 +226,7 @@ module _ (layout : Layout) (is : IsLayout layout) (named : Triples) (spaces : Li
           let b : one.0.0.page ≡ p = names_page one.0.0 (record { id = id; page = p }) one.2 in
           let c : other.0.0.page ≡ one.0.0.page = ap (λ (t : Sector). t.0.page) same in
           omega (arith, above, inside, a, b, c) in
-          (was.0, (one.0, pages_now s one.0 one.1 apart (behind_map AllocationMap layout s one.0.0 (let f = first_is layout is in let low = was.0 in omega (arith, f, low))), one.2))
+          (was.0, (one.0, pages_now s one.0 one.1 apart (after_map AllocationMap layout s one.0.0 (let f = first_is layout is in let low = was.0 in omega (arith, f, low))), one.2))
 
       brings : BringsOwn s0 s3
       brings = brings_then (map_brings beside) (map_brings beside_then)
@@ -267,7 +267,7 @@ module _ (layout : Layout) (is : IsLayout layout) (named : Triples) (spaces : Li
         };
       }
 
--- runs behind runs
+-- runs after runs
 pub freed_then : {layout : Layout} {named : Triples} {spaces : List Space} {id from first next end : ℕ} {a b c : DiskState} {s t u : Slots} {runs later : CachedRuns}
     → Freed layout named spaces id from first end a s b t runs → Freed layout named spaces id (from + first) next end b t c u later → Freed layout named spaces id from (first + next) end a s c u later
 freed_then {layout = layout} {named = named} {spaces = spaces} {id = id} {from = from} {first = first} {next = next} {end = end} {a = a} {c = c} {s = s} {u = u} {later = later} h k = record {

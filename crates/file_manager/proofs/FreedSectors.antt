@@ -1,4 +1,4 @@
--- Labels of sectors that become free, one after the other: what the writes make, and runs behind runs.
+-- Labels of sectors that become free, one after the other: what the writes make, and runs after runs.
 use Rattle.std.proofs.Common.{◌≡◌, ◌≢◌, ◌⊎◌, inl, inr, ℕ, zero, suc, ◌+◌, ◌-◌, ◌<◌, true, false, List, [], ◌∷◌, ◌++◌, length, take, Option, Some, None, refl, sym, ◌∙◌, ap, subst, arith, length-set}
 use Rattle.std.specs.Prelude.{slice_get, slice_set, option_map, nat_le, nat_lt, ◌&&◌, if◌then◌else◌}
 use Rattle.std.specs.Option.{option_map_or}
@@ -9,7 +9,7 @@ use Rattle.std.proofs.lemmas.Bool.Decides.{nat_tests}
 use Rattle.labelled_disk.specs.declared.disk.DiskWrite.{DiskWrite}
 use Rattle.labelled_disk.specs.declared.disk.DiskWrite.TheVariants.{LabelOnly}
 use Rattle.labelled_disk.specs.declared.layout.Layout.{Layout}
-use Rattle.labelled_disk.specs.Moment.{written}
+use Rattle.labelled_disk.specs.CrashState.{written}
 use Rattle.labelled_disk.specs.Runs.{freeing}
 use Rattle.labelled_disk.specs.Sectors.{Sector, free_label}
 use Rattle.labelled_disk.specs.WriteRuns.{after_writes}
@@ -56,7 +56,7 @@ row_clears a n marks = record {
       let x : (nat_le a k && nat_lt k (a + n)) ≡ true = grind (arith, nat_tests) in
       ap (λ b. if b then false else marks k) x;
   others = λ k none. elim (cases_lt k a) [
-    | inl front ↦
+    | inl prefix ↦
         let x : (nat_le a k && nat_lt k (a + n)) ≡ false = grind (arith, nat_tests) in
         ap (λ b. if b then false else marks k) x
     | inr from ↦ elim (cases_lt k (a + n)) [
@@ -121,7 +121,7 @@ freed_here (i ∷ is) d zero k at below = elim (in_or_not is k) [
       ∙ ap (slice_get (labels_of (written (LabelOnly i free_label) d))) (sym own) ∙ one_here i d (omega (arith, own, below))
 ]
 
--- a list behind a list
+-- a list after a list
 get_either : (is js : List ℕ) (j k : ℕ) → slice_get (is ++ js) j ≡ Some k → ((i : ℕ) × (slice_get is i ≡ Some k)) ⊎ ((i : ℕ) × (slice_get js i ≡ Some k))
 get_either [] js j k at = inr (j, at)
 get_either (i ∷ is) js zero k at = inl (zero, at)

@@ -1,4 +1,4 @@
--- What bytes are told of the space tables stays where labels of another file become free.
+-- What bytes are revealed of the space tables stays where labels of another file become free.
 use Rattle.std.proofs.Common.{◌≡◌, ◌≢◌, inl, inr, ℕ, ◌+◌, ◌<◌, List, Some, sym, ◌∙◌, ap}
 use Rattle.std.specs.Prelude.{slice_get}
 use Rattle.std.proofs.lemmas.Option.{same_Some}

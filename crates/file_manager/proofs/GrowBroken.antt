@@ -17,7 +17,7 @@ use Rattle.labelled_disk.specs.Runs.{growth, AreUnused, IsUnused}
 use Rattle.labelled_disk.specs.Sectors.{Sector}
 use Rattle.labelled_disk.specs.State.{DiskState}
 use Rattle.labelled_disk.proofs.Finds.{get_set_same, get_set_other}
-use Rattle.label_laws.specs.LawfulOrders.{AreApart}
+use Rattle.label_laws.specs.PermittedOrders.{AreApart}
 use Rattle.frame_pool.specs.Frames.{Slots}
 use Rattle.file_map.specs.declared.run.Run.{Run}
 use Rattle.flat_machine.specs.declared.space.Space.{Space}
@@ -57,7 +57,7 @@ module _ {layout l1 : Layout} {a b c : DiskState} {s t u : Slots} {most : ℕ} {
     makes = subst (Makes volume_page (take some.count (growth run.id kind run.first (sectors_of run))) a s c) (sym same) (makes_then (map_makes first) (makes_wider volume_page (λ id page none. absurd none) some.makes));
   }
 
-  -- behind them
+  -- after them
   pub all_grew : {d : DiskState} {v : Slots} {l2 l3 : Layout} → RelabelsRun run.sector run.pages (growth run.id kind run.first (sectors_of run)) b t c → Beside FileMap c u l2 d v l3 → GrewSome run.id kind run.first most x a s d v
   all_grew {d = d} {v = v} made last = record {
     sectors = sectors_of run;
@@ -73,7 +73,7 @@ reached from size n page same long above = omega (arith, same, long, above)
 few_more : (n a b from page end : ℕ) → n ≡ a + b → a ≡ page - from → b ≤ end - page → from ≤ page → page < end → n ≤ end - from
 few_more n a b from page end sum long few above below = omega (arith, sum, long, few, above, below)
 
--- behind pages that were made
+-- after pages that were made
 module _ (id kind from end page : ℕ) (d0 : DiskState) (s0 : Slots) (layout : Layout) (is_layout : IsLayout layout) (kept : CachedRuns) (d : DiskState) (s : Slots) (later : Layout) (runs : CachedRuns)
     (up : IsUpTo id kind from end page d0 s0 layout kept d s later runs) (short : end < leader_page) where
   pub up_broken : (d2 : DiskState) (s2 : Slots) → page < end
@@ -81,7 +81,7 @@ module _ (id kind from end page : ℕ) (d0 : DiskState) (s0 : Slots) (layout : L
       → (x : List Sector) (shapes : Shapes) (spaces : List Space) (f : Shape) → MayGrow d0 s0 layout kept shapes spaces id f end x → f.size ≡ from → GrewSome id kind from (end - from) x d0 s0 d2 s2
   up_broken d2 s2 below broken x shapes spaces f may size =
       let above = up.above in
-      let g = up.told x shapes spaces f may size in
+      let g = up.revealed x shapes spaces f may size in
       let long = g.long in
       let at : f.size + length g.sectors ≡ page = reached from f.size (length g.sectors) page size long above in
       let so_far : from + length g.sectors ≡ page = reached from from (length g.sectors) page refl long above in
@@ -106,7 +106,7 @@ module _ (id kind from end page : ℕ) (d0 : DiskState) (s0 : Slots) (layout : L
 
 -- ---- Sectors that were free in turn.
 
--- one that is free behind another label was free before, and is another
+-- one that is free after another label was free before, and is another
 free_back : (labels : List Label) (i j : ℕ) (l : Label) → IsFree labels i → is_free l ≡ false → IsFree (slice_set labels i l) j → (j ≢ i) × IsFree labels j
 free_back labels i j l first taken next = (
   other,
@@ -122,7 +122,7 @@ free_back labels i j l first taken next = (
         let here : next.label ≡ l = same_Some next.label l (sym next.there.here ∙ ap (slice_get (slice_set labels i l)) same ∙ get_set_same labels i l (slice_get_within labels i first.label first.there.here)) in
         true≢false (sym next.free ∙ ap is_free here ∙ taken)
 
--- different ones that are all free behind another label were so before, and are others
+-- different ones that are all free after another label were so before, and are others
 pub all_back : (labels : List Label) (i : ℕ) (l : Label) (is : List ℕ) → IsFree labels i → is_free l ≡ false → AreApart (IsFree (slice_set labels i l)) is → AllByRecursion (λ j. j ≢ i) is × AreApart (IsFree labels) is
 all_back labels i l [] first taken rest = (tt, tt)
 all_back labels i l (j ∷ is) first taken rest =

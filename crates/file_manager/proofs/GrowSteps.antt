@@ -20,7 +20,7 @@ use Rattle.session_words.specs.GrowLaws.{AreFree, GrowsPages, Grows, grown_label
 use Rattle.session_words.proofs.GrownLemmas.{grown_long, free_are_data}
 use Rattle.file_manager.proofs.RowLemmas.{is_in}
 
--- a list behind a list: where its elements come from
+-- a list after a list: where its elements come from
 pub get_either : (is js : List ℕ) (j k : ℕ) → slice_get (is ++ js) j ≡ Some k → ((i : ℕ) × (slice_get is i ≡ Some k)) ⊎ ((i : ℕ) × (slice_get js i ≡ Some k))
 get_either [] js j k at = inr (j, at)
 get_either (i ∷ is) js zero k at = inl (zero, at)

@@ -1,4 +1,4 @@
--- What keeps to an outset does so where a file is cut out of the map, and its leader is put in again; and where a leader gets a mark.
+-- What keeps to an initial state does so where a file is cut out of the map, and its leader is put in again; and where a leader gets a mark.
 use Rattle.std.proofs.Common.{◌≡◌, ◌≢◌, ◌⊎◌, inl, inr, ℕ, zero, suc, ◌<◌, ◌≤◌, ◌^◌, true, false, Bool, not, ◌&&◌, ◌||◌, List, [], ◌∷◌, refl, sym, ◌∙◌, ap, subst, arith}
 use Rattle.std.specs.Prelude.{filter, slice_get, ◌==◌, nat_le}
 use Rattle.std.proofs.lemmas.Bool.{and_parts, cases_eq, cases_lt, eqb-true, leb-true}
@@ -27,14 +27,14 @@ use Rattle.filer_kernel.specs.Becomes.{Becomes}
 use Rattle.filer_kernel.specs.Triples.{MapIs, AreOf}
 use Rattle.filer_kernel.proofs.LawLemmas.{are_of_fewer, are_of_more}
 use Rattle.filer_kernel.specs.PlaceLaws.{one_sector}
-use Rattle.file_manager.specs.Reasons.{Outset, AreLet, IsLet, KeepsTo, LeavesTables, NamesTables}
+use Rattle.file_manager.specs.Reasons.{InitialState, AreReleased, IsReleased, KeepsTo, LeavesTables, NamesTables}
 use Rattle.file_manager.specs.KeepLaws.{IsUntabled, over_left}
-use Rattle.file_manager.specs.TabledLaws.{StaysNamed, tables_told, told_renamed}
+use Rattle.file_manager.specs.TabledLaws.{StaysNamed, tables_revealed, revealed_renamed}
 use Rattle.file_manager.specs.Taking.{NamesNoneOf}
 use Rattle.file_manager.specs.Shrinking.{leader_run, cut_triples}
 use Rattle.file_manager.proofs.MadeReasons.{either_named, run_parts}
 use Rattle.file_manager.proofs.MadeRun.{maps_come}
-use Rattle.file_manager.proofs.KeepSteps.{GivesNone, keeps_changed, keeps_front, UpNone}
+use Rattle.file_manager.proofs.KeepSteps.{GivesNone, keeps_changed, keeps_prefix, UpNone}
 use Rattle.file_manager.proofs.MarkStands.{marked_ids, marked_stands, mark_names}
 use Rattle.file_manager.specs.WriteLaws.{label_gives_not, label_no_root}
 use Rattle.swapper_kernel.specs.DiffersLaws.{names_id}
@@ -108,8 +108,8 @@ tables_more named run all page below = let at = all page below in (at.0, ap (λ 
 
 -- ---- The map is cut.
 
-module _ {o : Outset} {layout last : Layout} {kept runs : List Run} {a b : DiskState} {s t : Slots} {named : Triples} (k : KeepsTo o layout kept a s named) (beside : Beside FileMap a s layout b t last) (id from : ℕ)
-    (fewer : runs ≡ filter (λ r. not (r.id == id)) kept) (is : IsLayout layout) (spares : LeavesTables o id) (bare : id ≡ 3 → IsUntabled s) where
+module _ {o : InitialState} {layout last : Layout} {kept runs : List Run} {a b : DiskState} {s t : Slots} {named : Triples} (k : KeepsTo o layout kept a s named) (beside : Beside FileMap a s layout b t last) (id from : ℕ)
+    (fewer : runs ≡ filter (λ r. not (r.id == id)) kept) (is : IsLayout layout) (never_blames : LeavesTables o id) (bare : id ≡ 3 → IsUntabled s) where
   -- pages of the space tables are named where they were
   tables_stay : (page sector : ℕ) → id ≢ 3 → named 3 page sector ≡ true → without_from named id from 3 page sector ≡ true
   tables_stay page sector other was = elim (cut_rest named id from 3 page sector was) [ inl left ↦ left | inr (same, above) ↦ absurd (other (sym same)) ]
@@ -123,31 +123,31 @@ module _ {o : Outset} {layout last : Layout} {kept runs : List Run} {a b : DiskS
   runs_left = subst (AreOf (without_from named id from)) (sym fewer) (are_of_fewer named kept id from k.kept)
 
   -- it has no page of the file from one on
-  pub keeps_cut : ((page sector : ℕ) → 16 ≤ id → from ≤ page → named id page sector ≡ true → IsLet o a (record { sector = sector; id = id; page = page })) → ((m : List Sector) (named : Triples) → Stands a s m → MapIs layout named m → Becomes FileMap layout m (MapIs layout (without_from named id from)) b t) → KeepsTo o layout runs b t (without_from named id from)
-  keeps_cut let_go cut = keeps_changed k beside (over_left named (without_from named id from) id k.over (maps_come beside) bare (λ other page sector was. tables_stay page sector other was)) (cut k.memory named k.stands k.map) (less_named named id from) runs_left
+  pub keeps_cut : ((page sector : ℕ) → 16 ≤ id → from ≤ page → named id page sector ≡ true → IsReleased o a (record { sector = sector; id = id; page = page })) → ((m : List Sector) (named : Triples) → Stands a s m → MapIs layout named m → Becomes FileMap layout m (MapIs layout (without_from named id from)) b t) → KeepsTo o layout runs b t (without_from named id from)
+  keeps_cut evict cut = keeps_changed k beside (over_left named (without_from named id from) id k.over (maps_come beside) bare (λ other page sector was. tables_stay page sector other was)) (cut k.memory named k.stands k.map) (less_named named id from) runs_left
       (λ home first may is. elim (cut_rest named id from home.id home.page home.sector is) [
         | inl left ↦ inl left
-        | inr (same, above) ↦ inr (subst (λ (i : ℕ). IsLet o a (record { sector = home.sector; id = i; page = home.page })) (sym same)
-            (let_go home.page home.sector (subst (λ (i : ℕ). 16 ≤ i) same may) above (subst (λ (i : ℕ). named i home.page home.sector ≡ true) same is)))
+        | inr (same, above) ↦ inr (subst (λ (i : ℕ). IsReleased o a (record { sector = home.sector; id = i; page = home.page })) (sym same)
+            (evict home.page home.sector (subst (λ (i : ℕ). 16 ≤ i) same may) above (subst (λ (i : ℕ). named i home.page home.sector ≡ true) same is)))
       ])
-      (told_renamed layout named (without_from named id from) k.memory (cut k.memory named k.stands k.map).memory o id is k.map spares (cut k.memory named k.stands k.map).differs (λ other page sector was. tables_stay page sector other was))
+      (revealed_renamed layout named (without_from named id from) k.memory (cut k.memory named k.stands k.map).memory o id is k.map never_blames (cut k.memory named k.stands k.map).differs (λ other page sector was. tables_stay page sector other was))
 
   -- and has the leader again
-  pub keeps_led : (leader : ℕ) → named id leader_page leader ≡ true → AreLet o a named id (λ p. (from ≤ p) × (p < 4294967295)) → ((m : List Sector) (named : Triples) → Stands a s m → MapIs layout named m → Becomes FileMap layout m (MapIs layout (cut_triples named id from leader)) b t)
+  pub keeps_led : (leader : ℕ) → named id leader_page leader ≡ true → AreReleased o a named id (λ p. (from ≤ p) × (p < 4294967295)) → ((m : List Sector) (named : Triples) → Stands a s m → MapIs layout named m → Becomes FileMap layout m (MapIs layout (cut_triples named id from leader)) b t)
       → KeepsTo o layout runs b t (cut_triples named id from leader)
-  keeps_led leader led let_go cut = keeps_changed k beside (over_left named (cut_triples named id from leader) id k.over (maps_come beside) bare (led_stay leader)) (cut k.memory named k.stands k.map) (cut_named named id from leader led) (are_of_more (without_from named id from) runs (leader_run id leader) runs_left)
+  keeps_led leader led evict cut = keeps_changed k beside (over_left named (cut_triples named id from leader) id k.over (maps_come beside) bare (led_stay leader)) (cut k.memory named k.stands k.map) (cut_named named id from leader led) (are_of_more (without_from named id from) runs (leader_run id leader) runs_left)
       (λ home first may is. elim (cut_rest named id from home.id home.page home.sector is) [
         | inl left ↦ inl (ap (λ (b : Bool). b || run_names (leader_run id leader) home.id home.page home.sector) left)
-        | inr (same, above) ↦ led_or_let home is same above (cases_lt home.page 4294967295)
+        | inr (same, above) ↦ led_or_released home is same above (cases_lt home.page 4294967295)
       ])
-      (told_renamed layout named (cut_triples named id from leader) k.memory (cut k.memory named k.stands k.map).memory o id is k.map spares (cut k.memory named k.stands k.map).differs
+      (revealed_renamed layout named (cut_triples named id from leader) k.memory (cut k.memory named k.stands k.map).memory o id is k.map never_blames (cut k.memory named k.stands k.map).differs
       (led_stay leader))
     where
-      led_or_let : (home : Home) → named home.id home.page home.sector ≡ true → home.id ≡ id → from ≤ home.page → (home.page < 4294967295) ⊎ (4294967295 ≤ home.page)
-          → (cut_triples named id from leader home.id home.page home.sector ≡ true) ⊎ IsLet o a home
-      led_or_let home is same above (inl low) = inr (subst (λ (i : ℕ). IsLet o a (record { sector = home.sector; id = i; page = home.page })) (sym same)
-          (let_go home.page home.sector (above, low) (subst (λ (i : ℕ). named i home.page home.sector ≡ true) same is)))
-      led_or_let home is same above (inr high) =
+      led_or_released : (home : Home) → named home.id home.page home.sector ≡ true → home.id ≡ id → from ≤ home.page → (home.page < 4294967295) ⊎ (4294967295 ≤ home.page)
+          → (cut_triples named id from leader home.id home.page home.sector ≡ true) ⊎ IsReleased o a home
+      led_or_released home is same above (inl low) = inr (subst (λ (i : ℕ). IsReleased o a (record { sector = home.sector; id = i; page = home.page })) (sym same)
+          (evict home.page home.sector (above, low) (subst (λ (i : ℕ). named i home.page home.sector ≡ true) same is)))
+      led_or_released home is same above (inr high) =
           let few = few_pages_named layout named k.memory k.map home.id home.page home.sector is in
           let leads : home.page ≡ leader_page = omega (arith, few, high) in
           let there : named id leader_page home.sector ≡ true = subst (λ (p : ℕ). named id p home.sector ≡ true) leads (subst (λ (i : ℕ). named i home.page home.sector ≡ true) same is) in
@@ -182,17 +182,17 @@ mark_not_up sector label other place zero w at up = other (ap id_only (same_Some
 mark_not_up sector label other place (suc turn) w at up = none-some w at
 
 -- the label with the mark names the page that it named before
-pub keeps_marked : {o : Outset} {layout : Layout} {kept : List Run} {a b : DiskState} {s t : Slots} {named : Triples} → IsLayout layout → KeepsTo o layout kept a s named → (w : Wanted) (sector : ℕ) (mark : Mark) → layout.first ≤ sector
+pub keeps_marked : {o : InitialState} {layout : Layout} {kept : List Run} {a b : DiskState} {s t : Slots} {named : Triples} → IsLayout layout → KeepsTo o layout kept a s named → (w : Wanted) (sector : ℕ) (mark : Mark) → layout.first ≤ sector
     → 16 ≤ w.id → (label : Label) × Relabels (λ l. (l ≡ label) × ones_of w l) sector (LabelOnly sector (with_mark mark label)) a s b → t ≡ s → KeepsTo o layout kept b t named
 keeps_marked {o = o} {layout = layout} {kept = kept} {a = a} {b = b} {s = s} {named = named} is k w sector mark above client (label, made) frames =
     let other : w.id ≢ 3 = λ same. omega (arith, client, same) in
-    let y = made.found k.stands.sectors k.stands.told in
+    let y = made.found k.stands.sectors k.stands.revealed in
     let id_is = names_id (with_mark mark label) w (mark_names mark label w (ap (λ (t : Label). names t w) (sym y.2.0) ∙ y.2.1)) in
     let now = marked_stands a b s k.memory w sector mark label made.appended made.found k.stands in
     let ids = marked_ids a b s k.memory w sector mark label made.appended made.found k.stands in
-    subst (λ (u : Slots). KeepsTo o layout kept b u named) (sym frames) (keeps_front is k made.makes (λ home held. held) now.0 now.1 (λ i x low here. now.2 i (λ same. omega (arith, same, low, above)) ∙ here) (mark_gives_not sector (with_mark mark label)) (mark_not_up sector (with_mark mark label) (λ none. omega (arith, client, id_is, none)))
+    subst (λ (u : Slots). KeepsTo o layout kept b u named) (sym frames) (keeps_prefix is k made.makes (λ home held. held) now.0 now.1 (λ i x low here. now.2 i (λ same. omega (arith, same, low, above)) ∙ here) (mark_gives_not sector (with_mark mark label)) (mark_not_up sector (with_mark mark label) (λ none. omega (arith, client, id_is, none)))
     (label_no_root o.next sector (with_mark mark label))
-    (tables_told layout named named k.memory now.0 o.tables is k.map
+    (tables_revealed layout named named k.memory now.0 o.tables is k.map
     (λ place y from here own. elim (cases_eq place sector) [
       | inl same ↦ absurd (other (sym (ids.1 y (ap (slice_get k.memory) (sym same) ∙ here)) ∙ own))
       | inr apart ↦ now.2 place apart ∙ here

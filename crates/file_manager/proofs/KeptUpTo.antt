@@ -1,4 +1,4 @@
--- What keeps to an outset while the pages of a file are made, run by run.
+-- What keeps to an initial state while the pages of a file are made, run by run.
 use Rattle.std.specs.Prelude.{◌≡◌, None, ℕ, ◌+◌, ◌-◌, ◌<◌, ◌≤◌, Bool, true, ◌||◌, ◌&&◌}
 use Rattle.std.proofs.Common.{inl, inr, refl, ap, subst, arith}
 use Rattle.std.proofs.lemmas.Bool.{eq-eqb}
@@ -12,14 +12,14 @@ use Rattle.file_map.specs.Run.{holds, sector_at}
 use Rattle.file_map.proofs.Runs.{page_held}
 use Rattle.filer_kernel.specs.declared.cached.CachedRuns.{CachedRuns}
 use Rattle.filer_kernel.specs.Cached.{runs_of}
-use Rattle.file_manager.specs.Reasons.{Outset, KeepsTo, MayTake, NamesTables}
+use Rattle.file_manager.specs.Reasons.{InitialState, KeepsTo, MayTake, NamesTables}
 use Rattle.file_manager.specs.Taking.{NamesNoneOf}
 use Rattle.file_manager.proofs.MadeReasons.{none_with_run}
 use Rattle.file_manager.proofs.KeepCut.{or_right}
 
 -- a run of these pages was made, none of which was named
 abbrev pub RunKeeps : ℕ → ℕ → ℕ → Run → DiskState → Slots → Layout → CachedRuns → DiskState → Slots → Layout → CachedRuns → Type 0
-RunKeeps id page most run old before layout kept new after later runs = (o : Outset) (named : Triples) → KeepsTo o layout (runs_of layout.sectors kept) old before named → MayTake o id → (id ≡ 3 → o.tables ≡ None) → NamesNoneOf id (λ p. (page ≤ p) × (p < page + most)) named
+RunKeeps id page most run old before layout kept new after later runs = (o : InitialState) (named : Triples) → KeepsTo o layout (runs_of layout.sectors kept) old before named → MayTake o id → (id ≡ 3 → o.tables ≡ None) → NamesNoneOf id (λ p. (page ≤ p) × (p < page + most)) named
     → KeepsTo o later (runs_of later.sectors runs) new after (with_run named run)
 
 -- what was named is named
@@ -43,7 +43,7 @@ run_page named run p from below =
 
 -- where none of the pages from one up to another was named, those from this page on are not named yet
 abbrev pub KeepsUpTo : ℕ → ℕ → ℕ → ℕ → DiskState → Slots → Layout → CachedRuns → DiskState → Slots → Layout → CachedRuns → Type 0
-KeepsUpTo id from end page old before layout kept new after later runs = (o : Outset) (named : Triples) → KeepsTo o layout (runs_of layout.sectors kept) old before named → MayTake o id → (id ≡ 3 → o.tables ≡ None) → NamesNoneOf id (λ p. (from ≤ p) × (p < end)) named
+KeepsUpTo id from end page old before layout kept new after later runs = (o : InitialState) (named : Triples) → KeepsTo o layout (runs_of layout.sectors kept) old before named → MayTake o id → (id ≡ 3 → o.tables ≡ None) → NamesNoneOf id (λ p. (from ≤ p) × (p < end)) named
     → (now : Triples) × KeepsTo o later (runs_of later.sectors runs) new after now × NamesNoneOf id (λ p. (page ≤ p) × (p < end)) now × NamesMore named now × NamesEach now id from page
 
 pub keeps_more : {id from end page : ℕ} {d0 d d2 : DiskState} {s0 s s2 : Slots} {layout later l2 : Layout} (kept runs r2 : CachedRuns) (run : Run) → run.id ≡ id → run.first ≡ page → page < end
@@ -56,8 +56,8 @@ keeps_more {id = id} {end = end} {page = page} kept runs r2 run same_id same_fir
           (λ p sector own. let from = own.0 in was.2 p sector (omega (arith, from), own.1)),
       (λ i p sector is. ap (λ (b : Bool). b || run_names run i p sector) (was.3 i p sector is)),
       (λ p above below_it. elim (leb_tells page p) [
-        | inl (test, behind) ↦
-            let at = run_page was.0 run p (omega (arith, behind, same_first)) (omega (arith, below_it, same_first)) in
+        | inl (test, beyond) ↦
+            let at = run_page was.0 run p (omega (arith, beyond, same_first)) (omega (arith, below_it, same_first)) in
             (at.0, subst (λ (i : ℕ). with_run was.0 run i p at.0 ≡ true) same_id at.1)
         | inr (test, before) ↦ let at = was.4 p above (omega (arith, before)) in (at.0, ap (λ (b : Bool). b || run_names run id p at.0) at.1)
       ]),

@@ -185,7 +185,7 @@ stopped_leader {a = a} {b = b} {s = s} {t = t} id kind pages some = either some.
     either (i ∷ []) few n makes = record { leader = i; sectors = []; few = omega arith; count = n; makes = makes }
     either (i ∷ j ∷ is) few n makes = absurd (omega (arith, few))
 
--- a stop behind it
+-- a stop after it
 pub stopped_pages : {a b c : DiskState} {s t u : Slots} (id kind pages : ℕ) (is : List ℕ) (leader : ℕ) → is ≡ leader ∷ [] → Makes volume_page (growth id kind leader_page is) a s b t → MakesSome id kind 0 (pages - 0) b t c u → CreatesSome id kind pages a s c u
 stopped_pages {a = a} {b = b} {s = s} {t = t} id kind pages is leader one first some = record {
   leader = leader;

@@ -58,7 +58,7 @@ pub mod MarkStands
 pub mod KeepSteps
 pub mod ReasonCauses
 pub mod KeepCut
-pub mod ForgetSteps
+pub mod DiscardSteps
 pub mod ForgottenRun
 pub mod FreedReasons
 pub mod MadeReasons

@@ -1,4 +1,4 @@
--- A run that is taken, labelled and added keeps to an outset, and what the calls tell as evidence has its reason.
+-- A run that is taken, labelled and added keeps to an initial state, and what the calls report as evidence has its reason.
 use Rattle.std.proofs.Common.{◌≡◌, ◌⊎◌, inl, inr, ℕ, zero, suc, ◌+◌, ◌-◌, ◌<◌, ◌≤◌, Bool, true, false, ◌&&◌, ◌||◌, List, Option, Some, None, refl, sym, ◌∙◌, ap, subst, arith, [], ◌∷◌, take}
 use Rattle.std.specs.Prelude.{slice_get, nat_le, nat_lt, ◌==◌, if◌then◌else◌, IfSome, option_map}
 use Rattle.std.specs.List.{range_with_len}
@@ -39,12 +39,12 @@ use Rattle.filer_kernel.specs.Triples.{MapIs, AreOf}
 use Rattle.session_words.specs.Volume.{volume_page}
 use Rattle.file_manager.specs.Grounds.{IsMapsHome}
 use Rattle.file_manager.specs.Making.{sectors_of}
-use Rattle.file_manager.specs.Reasons.{Outset, AreTabled, Gives, IsAtHome, KeepsTo, MayTake, ShowsReason, IsUsed}
+use Rattle.file_manager.specs.Reasons.{InitialState, AreTabled, Gives, IsAtHome, KeepsTo, MayTake, ShowsReason, IsUsed}
 use Rattle.file_manager.specs.LaterLaws.{at_home_later, made_now, may_be_free_later, used_now}
 use Rattle.file_manager.specs.WriteLaws.{GivesNot, RootsBelow, TakesNot, UpNot, sector_of, takes_not, whole_not_up}
 use Rattle.file_manager.specs.KeepLaws.{keeps_after, home_later, over_left, unframed_still}
 use Rattle.file_manager.specs.ReasonLaws.{label_reasons, room_reason}
-use Rattle.file_manager.specs.TabledLaws.{front_only, keeps_sectors_then, keeps_undiffering, tables_told}
+use Rattle.file_manager.specs.TabledLaws.{prefix_only, keeps_sectors_then, keeps_undiffering, tables_revealed}
 use Rattle.file_manager.specs.Taking.{NamesNoneOf}
 use Rattle.file_manager.proofs.AddReasons.{add_at}
 use Rattle.file_manager.proofs.FreedRun.{first_is}
@@ -152,7 +152,7 @@ used_before first count k marks is = either (nat_le first k && nat_lt k (first +
     either true within = let parts = and_parts (nat_le first k) (nat_lt k (first + count)) within in inr (leb-true first k parts.0, ltb-true k (first + count) parts.1)
     either false out = inl (sym (ap (λ (b : Bool). if b then true else marks k) out) ∙ is)
 
-module _ {o : Outset} {x l1 : Layout} {k : List Run} {a b : DiskState} {s t : Slots} {named : Triples} (h : KeepsTo o x k a s named) (taken : Beside AllocationMap a s x b t l1) where
+module _ {o : InitialState} {x l1 : Layout} {k : List Run} {a b : DiskState} {s t : Slots} {named : Triples} (h : KeepsTo o x k a s named) (taken : Beside AllocationMap a s x b t l1) where
   pub take_reasons : (e : Halt) → Halts (IsMapHome AllocationMap x) a s b e → ShowsReason o x b e
   take_reasons e why = label_reasons h taken.goes.makes (IsMapHome AllocationMap x) (λ home own. inl (AllocationMap, own)) e why
 
@@ -172,9 +172,9 @@ module _ {o : Outset} {x l1 : Layout} {k : List Run} {a b : DiskState} {s t : Sl
         let same : run.sector + turn ≡ place = ap sector_of (same_Some (Whole (run.sector + turn) (page_label run.id kind (run.first + turn)) zero_bytes) w (sym there ∙ taken_at.1) ∙ gives.1) in
         let is_turn : turn ≡ j = omega (arith, at, same) in
         let stands = (taken.goes.memory h.memory h.stands).1 in
-        let one = some.found stands.sectors stands.told turn taken_at.0 in
+        let one = some.found stands.sectors stands.revealed turn taken_at.0 in
         let label : one.0.0 ≡ found = same_Some one.0.0 found (sym (ap (λ (q : Option Sector). option_map (λ (y : Sector). y.0) q) one.1)
-        ∙ ap (λ (n : ℕ). option_map (λ (y : Sector). y.0) (slice_get stands.sectors (run.sector + n))) is_turn ∙ has stands.sectors stands.told) in
+        ∙ ap (λ (n : ℕ). option_map (λ (y : Sector). y.0) (slice_get stands.sectors (run.sector + n))) is_turn ∙ has stands.sectors stands.revealed) in
         true≢false (sym one.2 ∙ ap is_free label ∙ other))
 
     pub label_reasons_taken : {pages : Pages} {u : Slots} → x.first ≤ run.sector → run.sector + run.pages ≤ x.sectors
@@ -190,7 +190,7 @@ module _ {o : Outset} {x l1 : Layout} {k : List Run} {a b : DiskState} {s t : Sl
 
 -- ---- And a run of them is added.
 
-module _ {o : Outset} {x l1 l3 : Layout} {k : List Run} {a b c d : DiskState} {s t u : Slots} {named : Triples} (h : KeepsTo o x k a s named) (is : IsLayout x) (run : Run) (kind most : ℕ) (form : IsDataRun x.first x.sectors most (run.sector, run.pages))
+module _ {o : InitialState} {x l1 l3 : Layout} {k : List Run} {a b c d : DiskState} {s t u : Slots} {named : Triples} (h : KeepsTo o x k a s named) (is : IsLayout x) (run : Run) (kind most : ℕ) (form : IsDataRun x.first x.sectors most (run.sector, run.pages))
     (taken : Beside AllocationMap a s x b t l1) (marked_so : (m : List Sector) (marks : Marks) → Stands a s m → BitsAre x marks m → Becomes AllocationMap x m (BitsAre x (marked true run.sector run.pages marks)) b t)
     (made : RelabelsRun run.sector run.pages (growth run.id kind run.first (sectors_of run)) b t c) (were : (d : List Sector) → b.contents ≡ Some d → HaveOnes (λ k. free_ones) d run.sector run.pages)
     (beside : Beside FileMap c t x d u l3) (makes : Makes volume_page (growth run.id kind run.first (sectors_of run)) a s d u) (nothing : NamesNoneOf run.id (λ page. (run.first ≤ page) × (page < run.first + run.pages)) named) where
@@ -262,13 +262,13 @@ module _ {o : Outset} {x l1 l3 : Layout} {k : List Run} {a b c d : DiskState} {s
       let within = in_row run.sector run.pages (page - run.first) sector (omega (arith, from, below)) p.3 in
       true≢false (sym (ap (λ (b : Bool). if b then true else h.marks sector) within) ∙ free))
 
-  -- what is told of the space tables
-  run_told : (run.id ≡ 3 → o.tables ≡ None) → (n : List Sector) → Differs (in_map FileMap x) mid.0 n → IfSome o.tables (AreTabled x named h.memory) → IfSome o.tables (AreTabled x (with_run named run) n)
-  run_told untold n differs told = elim (cases_eq run.id 3) [
+  -- what is revealed of the space tables
+  run_revealed : (run.id ≡ 3 → o.tables ≡ None) → (n : List Sector) → Differs (in_map FileMap x) mid.0 n → IfSome o.tables (AreTabled x named h.memory) → IfSome o.tables (AreTabled x (with_run named run) n)
+  run_revealed untold n differs revealed = elim (cases_eq run.id 3) [
     | inl own ↦ subst (λ (tables : Option (List ℕ)). IfSome tables (AreTabled x (with_run named run) n)) (sym (untold own)) tt
     | inr other ↦
-        tables_told x named (with_run named run) h.memory n o.tables is h.map (keeps_sectors_then x h.memory mid.0 n mid.2.keeps (keeps_undiffering x mid.0 n differs (λ sector l from own. front_only FileMap x sector l is from)))
-        (λ page sector was. ap (λ (b : Bool). b || run_names run 3 page sector) was) told
+        tables_revealed x named (with_run named run) h.memory n o.tables is h.map (keeps_sectors_then x h.memory mid.0 n mid.2.keeps (keeps_undiffering x mid.0 n differs (λ sector l from own. prefix_only FileMap x sector l is from)))
+        (λ page sector was. ap (λ (b : Bool). b || run_names run 3 page sector) was) revealed
   ]
 
   -- each page that was given a sector is one of the file
@@ -283,7 +283,7 @@ module _ {o : Outset} {x l1 l3 : Layout} {k : List Run} {a b c d : DiskState} {s
       keeps_after h makes more.memory more.stands (with_run named run) more.is given k (are_more named run k h.kept) (λ home held. elim (come.homes home held) [ inl was ↦ inl was | inr own ↦ inr (inl own) ])
       (unframed_still come h.unframed) (over_left named (with_run named run) 0 h.over come (λ zero. absurd (omega (arith, zero))) (λ other page sector was. ap (λ (b : Bool). b || run_names run 3 page sector) was)) later (bits_beside x later mid.0 more.memory more.differs bits) (λ sector from below free. inl (free_before run.sector run.pages sector h.marks free, untaken sector free))
       (λ home from may was. inl (ap (λ (b : Bool). b || run_names run home.id home.page home.sector) was)) (λ home from may. others home) (λ sector from below is. used_then sector is) no_root (takes may_take)
-      (λ told. run_told untold more.memory more.differs told)
+      (λ revealed. run_revealed untold more.memory more.differs revealed)
 
   held_home : (home : Home) → IsHeld t home → IsMapsHome x home ⊎ IsAtHome o d home
   held_home home held = elim ((maps_come taken).homes home held) [ inl was ↦ home_later h makes home was | inr own ↦ inl own ]

@@ -7,7 +7,7 @@ use Rattle.std.proofs.lemmas.List.FromFn.{length-range_with_len}
 use Rattle.std.proofs.lemmas.Option.{same_Some, slice_get_within}
 use Rattle.labelled_disk.specs.declared.label.Label.{Label}
 use Rattle.labelled_disk.specs.declared.layout.Layout.{Layout}
-use Rattle.labelled_disk.specs.Calls.{TellsSame}
+use Rattle.labelled_disk.specs.Calls.{RevealsSame}
 use Rattle.labelled_disk.specs.Runs.{growth}
 use Rattle.labelled_disk.specs.Sectors.{Sector}
 use Rattle.labelled_disk.specs.State.{DiskState}
@@ -24,7 +24,7 @@ use Rattle.swapper_kernel.specs.DiffersLaws.{other_sector, same_length, names_id
 use Rattle.swapper_kernel.specs.HaltLaws.{brings_itself, brings_then, brings_wider}
 use Rattle.swapper_kernel.specs.Homes.{IsLayout, Brings, wanted_at}
 use Rattle.swapper_kernel.specs.Stands.{Stands, labels_of}
-use Rattle.swapper_kernel.specs.Window.{Shows, Tells, Beside, in_map}
+use Rattle.swapper_kernel.specs.Window.{Shows, Reveals, Beside, in_map}
 use Rattle.label_calls.specs.Labels.{free_ones}
 use Rattle.label_calls.specs.Runs.{AreUncovered, HaveOnes, RelabelsRun}
 use Rattle.filer_kernel.specs.Becomes.{Becomes}
@@ -34,9 +34,9 @@ use Rattle.filer_kernel.proofs.MapLemmas.{within_or_not}
 use Rattle.file_manager.specs.Grounds.{IsMapsHome, IsUnframed, MakesFor}
 use Rattle.file_manager.specs.Making.{sectors_of}
 pub use Rattle.file_manager.specs.KeepLaws.{unframed_still}
-use Rattle.file_manager.specs.TabledLaws.{KeepsSectors, front_only, keeps_undiffering}
+use Rattle.file_manager.specs.TabledLaws.{KeepsSectors, prefix_only, keeps_undiffering}
 use Rattle.file_manager.specs.Taking.{IsTakenFor, TakesLabels, TakesBits, TakesSectors, NamesNoneOf, AddsPages, no_page_of}
-use Rattle.file_manager.proofs.FreedRun.{behind_map, first_is, one_memory, shows_still}
+use Rattle.file_manager.proofs.FreedRun.{after_map, first_is, one_memory, shows_still}
 use Rattle.file_manager.proofs.FreedSectors.{row_at}
 use Rattle.file_manager.proofs.GrowSteps.{long_grown}
 use Rattle.file_manager.proofs.RowLemmas.{is_in, in_row, growth_labels, growth_elsewhere, growth_own, growth_page}
@@ -86,7 +86,7 @@ file_map_alone layout id m n differs = record {
 
 -- a call that reads the file map
 pub made_read : {layout later : Layout} (id : ℕ) {a b : DiskState} {s t : Slots} → a.sectors ≡ layout.sectors → Beside FileMap a s layout b t later
-    → ((bytes : List ℕ) → Tells FileMap a s layout bytes → Tells FileMap b t layout bytes) → MakesFor layout id no_page_of a s b t
+    → ((bytes : List ℕ) → Reveals FileMap a s layout bytes → Reveals FileMap b t layout bytes) → MakesFor layout id no_page_of a s b t
 made_read {layout = layout} id {b = b} {t = t} size beside stays = record {
   brings = maps_come beside;
   memory = λ none m stands.
@@ -97,18 +97,18 @@ made_read {layout = layout} id {b = b} {t = t} size beside stays = record {
           taken = file_map_alone layout id m now.0 now.2;
           of = λ other sector from taken. absurd (not_taken id m now.0 sector other taken (λ s here. other_sector now.0 m (sym now.2.labels) sector s here));
           names = λ named map nothing.
-              let told = stays map.bytes (record { memory = m; stands = stands; shows = map.shows; size = size }) in
-              let same = one_memory b t told.memory now.0 told.stands now.1 in
-              (named, record { bytes = map.bytes; shows = subst (λ (x : List Sector). Shows FileMap x layout map.bytes) same told.shows; names = map.names }, adds_none id no_page_of named);
+              let revealed = stays map.bytes (record { memory = m; stands = stands; shows = map.shows; size = size }) in
+              let same = one_memory b t revealed.memory now.0 revealed.stands now.1 in
+              (named, record { bytes = map.bytes; shows = subst (λ (x : List Sector). Shows FileMap x layout map.bytes) same revealed.shows; names = map.names }, adds_none id no_page_of named);
         },
       );
 }
 
 -- a label that is read
-pub made_look : (layout : Layout) (id : ℕ) {a b : DiskState} {s t : Slots} → TellsSame a b → t ≡ s → MakesFor layout id no_page_of a s b t
-made_look layout id {a = a} {b = b} {s = s} told frames = subst (λ (u : Slots). MakesFor layout id no_page_of a s b u) (sym frames) (record {
+pub made_look : (layout : Layout) (id : ℕ) {a b : DiskState} {s t : Slots} → RevealsSame a b → t ≡ s → MakesFor layout id no_page_of a s b t
+made_look layout id {a = a} {b = b} {s = s} revealed frames = subst (λ (u : Slots). MakesFor layout id no_page_of a s b u) (sym frames) (record {
   brings = brings_itself (IsMapsHome layout) s;
-  memory = λ none m stands. (m, record { sectors = stands.sectors; told = told.contents ∙ stands.told; merged = stands.merged }, takes_none layout id m);
+  memory = λ none m stands. (m, record { sectors = stands.sectors; revealed = revealed.contents ∙ stands.revealed; merged = stands.merged }, takes_none layout id m);
 })
 
 -- ---- A run: its sectors are taken, and labelled.
@@ -149,7 +149,7 @@ module _ {layout l1 : Layout} {a b c : DiskState} {s t : Slots} (is : IsLayout l
   -- no frame is over a label that was found free
   pub none_over : IsUnframed t 0 → (m : List Sector) → Stands b t m → AreUncovered t run.sector run.pages
   none_over none m stands k below i f in_slot at =
-      let disk = were stands.sectors stands.told k below in
+      let disk = were stands.sectors stands.revealed k below in
       let one = other_sector m stands.sectors (sym stands.merged.labels) (run.sector + k) disk.0 disk.1 in
       let home = stands.merged.frames i f in_slot in
       let label : home.label ≡ one.0.0 = ap (λ (x : Sector). x.0) (same_Some {A = Sector} (home.label, f.bytes) one.0 (sym home.keeps ∙ ap (slice_get m) at ∙ one.1)) in
@@ -169,7 +169,7 @@ module _ {layout l1 : Layout} {a b c : DiskState} {s t : Slots} (is : IsLayout l
 
     one_taken : (j k : ℕ) → j < run.pages → k ≡ run.sector + j → IsTakenFor run.id m m2 k
     one_taken j k below same =
-        let disk = were stands1.sectors stands1.told j below in
+        let disk = were stands1.sectors stands1.revealed j below in
         let one = other_sector m stands1.sectors (sym stands1.merged.labels ∙ differs.labels) (run.sector + j) disk.0 disk.1 in
         let within = slice_get_within m (run.sector + j) one.0 one.1 in
         let long = same_length m m1 differs.labels in
@@ -199,7 +199,7 @@ module _ {layout l1 : Layout} {a b c : DiskState} {s t : Slots} (is : IsLayout l
         inside : (first n j k : ℕ) → j < n → k ≡ first + j → (nat_le first k && nat_lt k (first + n)) ≡ true
         inside first n j k below same = grind (arith, nat_tests)
 
-    -- the pages of a map, but for those of the allocation map that was told
+    -- the pages of a map, but for those of the allocation map that was revealed
     bits_stay : (marks : Marks) → BitsAre layout marks m1 → BitsAre layout marks m2
     bits_stay marks bits = record {
       bytes = bits.bytes;
@@ -210,19 +210,19 @@ module _ {layout l1 : Layout} {a b c : DiskState} {s t : Slots} (is : IsLayout l
     map_stays : (bytes : List ℕ) → Shows FileMap m layout bytes → Shows FileMap m2 layout bytes
     map_stays bytes shows = shows_still FileMap layout m m2 bytes (λ k s below here.
         elsewhere (1 + layout.vam + k) (low_apart (1 + layout.vam + k) (let f = first_is layout is in omega (arith, f, below)))
-        ∙ differs.pages (1 + layout.vam + k) s here (behind_map AllocationMap layout (1 + layout.vam + k) s.0 (omega arith))) shows
+        ∙ differs.pages (1 + layout.vam + k) s here (after_map AllocationMap layout (1 + layout.vam + k) s.0 (omega arith))) shows
 
     -- sectors with labels of the space tables
     in_tables_still : KeepsSectors layout m m2
     in_tables_still k s from here own = elim (is_in (sectors_of run) k) [
       | inl (j, at) ↦
           let r = in_row run.sector run.pages j k at in
-          let disk = were stands1.sectors stands1.told j r.0 in
+          let disk = were stands1.sectors stands1.revealed j r.0 in
           let one = other_sector m stands1.sectors (sym stands1.merged.labels ∙ differs.labels) (run.sector + j) disk.0 disk.1 in
           let same : one.0 ≡ s = same_Some one.0 s (sym one.1 ∙ ap (slice_get m) (sym r.1) ∙ here) in
           let free : s.0.id ≡ 0 = ap (λ (t : Sector). t.0.id) (sym same) ∙ ap (λ (l : Label). l.id) one.2 ∙ eqb-true disk.0.0.id 0 disk.2 in
           absurd (omega (arith, free, own))
-      | inr none ↦ elsewhere k none ∙ keeps_undiffering layout m m1 differs (λ sector l above named. front_only AllocationMap layout sector l is above) k s from here own
+      | inr none ↦ elsewhere k none ∙ keeps_undiffering layout m m1 differs (λ sector l above named. prefix_only AllocationMap layout sector l is above) k s from here own
     ]
 
     -- sectors that were taken have labels of the run's pages
@@ -276,11 +276,11 @@ module _ {layout l1 : Layout} {a b c : DiskState} {s t : Slots} (is : IsLayout l
       let same = one_memory b t now.memory one.0 now.stands one.1 in
       subst (BitsAre layout later) (one_memory c t two.0 n two.1 stands_n) (bits_stay m stands one.0 one.1 one.2 two.0 two.2 later (subst (BitsAre layout later) same now.is))
 
-  -- the bytes of the file map are told as they were
-  pub bytes_told : IsUnframed s 0 → (bytes : List ℕ) → Tells FileMap a s layout bytes → Tells FileMap c t layout bytes
-  bytes_told none bytes tells =
-      let now = labelled none tells.memory tells.stands in
-      record { memory = now.0; stands = now.1; shows = now.2.map bytes tells.shows; size = made.makes.went.sectors ∙ taken.goes.makes.went.sectors ∙ tells.size }
+  -- the bytes of the file map are reported as they were
+  pub bytes_revealed : IsUnframed s 0 → (bytes : List ℕ) → Reveals FileMap a s layout bytes → Reveals FileMap c t layout bytes
+  bytes_revealed none bytes reveals =
+      let now = labelled none reveals.memory reveals.stands in
+      record { memory = now.0; stands = now.1; shows = now.2.map bytes reveals.shows; size = made.makes.went.sectors ∙ taken.goes.makes.went.sectors ∙ reveals.size }
 
   pub map_then : (m n : List Sector) (named : Triples) → IsLabelledFor layout run.id m n → MapIs layout named m → MapIs layout named n
   map_then m n named h map = record { bytes = map.bytes; shows = h.map map.bytes map.shows; names = map.names }

@@ -1,4 +1,4 @@
--- Why calls that make pages stop the session, behind others.
+-- Why calls that make pages stop the session, after others.
 use Rattle.std.proofs.Common.{◌≡◌, inl, inr, ◌⊎◌, ℕ, zero, suc, ◌+◌, ◌<◌, ◌≤◌, false, List, [], ◌∷◌, ◌++◌, length, Some, refl, sym, ◌∙◌, ap, subst, arith}
 use Rattle.std.specs.Prelude.{slice_get}
 use Rattle.std.proofs.lemmas.Bool.{true≢false}
@@ -28,7 +28,7 @@ use Rattle.swapper_kernel.specs.Halts.{HasCause, Halts, held_or}
 use Rattle.swapper_kernel.specs.Homes.{Brings, home_at}
 use Rattle.swapper_kernel.specs.Maps.{IsMapHome}
 use Rattle.swapper_kernel.specs.Stands.{Stands}
-use Rattle.swapper_kernel.specs.Window.{Tells, Beside}
+use Rattle.swapper_kernel.specs.Window.{Reveals, Beside}
 use Rattle.label_calls.specs.Runs.{IsOneTaken}
 use Rattle.filer_kernel.specs.Causes.{MapShows, AddEvidence, AddHalts, IsFaultOrMost}
 use Rattle.filer_kernel.specs.Marks.{Marks, BitsAre, AreAll}
@@ -56,25 +56,25 @@ pub growth_labels_one : (id kind page : ℕ) (is : List ℕ) → 1 ≤ length is
 growth_labels_one id kind page [] some = absurd (omega (arith, some))
 growth_labels_one id kind page (i ∷ is) some = (zero, i, kind, page, refl)
 
-get_behind : (xs ys : List DiskWrite) (k : ℕ) (w : DiskWrite) → slice_get ys k ≡ Some w → (j : ℕ) × (slice_get (xs ++ ys) j ≡ Some w)
-get_behind [] ys k w at = (k, at)
-get_behind (x ∷ xs) ys k w at = let rest = get_behind xs ys k w at in (suc rest.0, rest.1)
+get_after : (xs ys : List DiskWrite) (k : ℕ) (w : DiskWrite) → slice_get ys k ≡ Some w → (j : ℕ) × (slice_get (xs ++ ys) j ≡ Some w)
+get_after [] ys k w at = (k, at)
+get_after (x ∷ xs) ys k w at = let rest = get_after xs ys k w at in (suc rest.0, rest.1)
 
-pub labels_behind : (id : ℕ) (xs ys : List DiskWrite) → LabelsOne id ys → LabelsOne id (xs ++ ys)
-labels_behind id xs ys (k, sector, kind, page, at) = let there = get_behind xs ys k (Whole sector (page_label id kind page) zero_bytes) at in (there.0, sector, kind, page, there.1)
+pub labels_after : (id : ℕ) (xs ys : List DiskWrite) → LabelsOne id ys → LabelsOne id (xs ++ ys)
+labels_after id xs ys (k, sector, kind, page, at) = let there = get_after xs ys k (Whole sector (page_label id kind page) zero_bytes) at in (there.0, sector, kind, page, there.1)
 
 -- ---- The bytes of the file map.
 
-module _ (layout : Layout) {a b : DiskState} {s t : Slots} (told : (bytes : List ℕ) → Tells FileMap a s layout bytes → Tells FileMap b t layout bytes) where
+module _ (layout : Layout) {a b : DiskState} {s t : Slots} (revealed : (bytes : List ℕ) → Reveals FileMap a s layout bytes → Reveals FileMap b t layout bytes) where
   pub shown_before : (sight : Sight) → MapShows layout b t sight → MapShows layout a s sight
-  shown_before sight shows bytes tells = shows bytes (told bytes tells)
+  shown_before sight shows bytes reveals = shows bytes (revealed bytes reveals)
 
   pub broken_before : (page : ℕ) → IsBrokenOrFull layout page b t → IsBrokenOrFull layout page a s
   broken_before page (inl (inl broken)) = inl (inl (broken_shown (MapShows layout b t) (MapShows layout a s) shown_before layout.sectors page broken))
   broken_before page (inl (inr stops)) = inl (inr (shown_before (Stops page) stops))
-  broken_before page (inr (first, most)) = inr (first, λ count counts. most count (counts.0, told counts.0 counts.1, counts.2))
+  broken_before page (inr (first, most)) = inr (first, λ count counts. most count (counts.0, revealed counts.0 counts.1, counts.2))
 
--- ---- Behind other calls: labels and bits.
+-- ---- After other calls: labels and bits.
 
 module _ {layout : Layout} {id : ℕ} {a b : DiskState} {s t : Slots} (come : Brings (IsMapsHome layout) s t)
     (since : IsUnframed s 0 → (m : List Sector) → Stands a s m → (n : List Sector) × Stands b t n × TakesSectors layout id m n) where
@@ -105,7 +105,7 @@ filled_before layout id p named later c u first h = record {
   until = h.until;
 }
 
--- What a call that was made before had told of the pages of the next one: where none of these pages was named, none of its own
+-- What a call that was made before had revealed of the pages of the next one: where none of these pages was named, none of its own
 -- was, nor is one of the next.
 pub record LeavesUnnamed (layout : Layout) (id : ℕ) (p q r : ℕ → Type 0) (a : DiskState) (s : Slots) : Type 0 where
   pub own : (m : List Sector) (named : Triples) → Stands a s m → MapIs layout named m → NamesNoneOf id r named → NamesNoneOf id p named
@@ -119,7 +119,7 @@ leaves_apart layout id p q r a s of_p of_q apart = record {
 
 module _ {layout : Layout} {id : ℕ} (p q r : ℕ → Type 0) {run : List DiskWrite} {a b : DiskState} {s t : Slots} (makes : Makes volume_page run a s b t) (since : MakesFor layout id p a s b t) (leaves : LeavesUnnamed layout id p q r a s)
     (before wanted : ℕ → Type 0) (of : (page : ℕ) → before page → wanted page) (apart : (page : ℕ) → before page → p page → ⊥)
-    (begun : (IsUnframed s 0 → (bytes : List ℕ) → Tells FileMap a s layout bytes → Tells FileMap b t layout bytes) ⊎ LabelsRun layout id a s b t) (c : DiskState) (u : Slots) where
+    (begun : (IsUnframed s 0 → (bytes : List ℕ) → Reveals FileMap a s layout bytes → Reveals FileMap b t layout bytes) ⊎ LabelsRun layout id a s b t) (c : DiskState) (u : Slots) where
   form_before : (page : ℕ) → StopsInForm layout id q page b t c u → StopsInForm layout id r page a s c u
   form_before page stops none m named stands map nothing =
       let now = since.memory none m stands in
@@ -149,12 +149,12 @@ module _ {layout : Layout} {id : ℕ} (p q r : ℕ → Type 0) {run : List DiskW
 
   run_before : {d : DiskState} {v : Slots} → LabelsRun layout id b t d v → LabelsRun layout id a s d v
   run_before {d = d} {v = v} h = record {
-    front = run ++ h.front;
+    prefix = run ++ h.prefix;
     kind = h.kind;
     run = h.run;
     some = h.some;
     from = h.from;
-    makes = subst (λ (ws : List DiskWrite). Makes volume_page ws a s d v) (sym (append_assoc run h.front (growth id h.kind h.run.first (sectors_of h.run)))) (makes_then makes h.makes);
+    makes = subst (λ (ws : List DiskWrite). Makes volume_page ws a s d v) (sym (append_assoc run h.prefix (growth id h.kind h.run.first (sectors_of h.run)))) (makes_then makes h.makes);
     ended = elim h.ended [ inl leader ↦ inl leader | inr ended ↦ inr (ended_before (h.run.sector + h.run.pages) (let from = h.from in omega (arith, from)) ended) ];
   }
 
@@ -172,10 +172,10 @@ module _ {layout : Layout} {id : ℕ} (p q r : ℕ → Type 0) {run : List DiskW
   stops_before page h = record {
     run = run ++ h.run;
     makes = makes_then makes h.makes;
-    labelled = labels_behind id run h.run h.labelled;
+    labelled = labels_after id run h.run h.labelled;
     in_form = form_before page h.in_form;
     bytes = elim begun [
-      | inl told ↦ elim h.bytes [ inl at ↦ inl (λ none. broken_before layout (told none) page (at (unframed_still since.brings none))) | inr had ↦ inr (had_before had) ]
+      | inl revealed ↦ elim h.bytes [ inl at ↦ inl (λ none. broken_before layout (revealed none) page (at (unframed_still since.brings none))) | inr had ↦ inr (had_before had) ]
       | inr one ↦ inr (record { disk = b; slots = t; added = one; more = h.run; until = h.makes; labelled = h.labelled })
     ];
   }
@@ -192,7 +192,7 @@ module _ {layout : Layout} {id : ℕ} (p q r : ℕ → Type 0) {run : List DiskW
 -- where more pages are said not to be named, and more are wanted
 pub make_halts_wider : (layout : Layout) (id : ℕ) (q r before wanted : ℕ → Type 0) → ((page : ℕ) → q page → r page) → ((page : ℕ) → before page → wanted page) → (a c : DiskState) (s u : Slots) (halt : Halt) → MakeHalts layout id q before a s c u halt → MakeHalts layout id r wanted a s c u halt
 make_halts_wider layout id q r before wanted of_q of a c s u halt is =
-    make_halts_before no_page_of q r (makes_nothing volume_page a s) (made_none layout id no_page_of a s) (leaves_apart layout id no_page_of q r a s (λ page not. absurd not) of_q (λ page own not. not)) before wanted of (λ page own not. not) (inl (λ none bytes tells. tells)) c u halt is
+    make_halts_before no_page_of q r (makes_nothing volume_page a s) (made_none layout id no_page_of a s) (leaves_apart layout id no_page_of q r a s (λ page not. absurd not) of_q (λ page own not. not)) before wanted of (λ page own not. not) (inl (λ none bytes reveals. reveals)) c u halt is
 
 -- ---- Of single calls.
 
@@ -218,7 +218,7 @@ module _ (layout : Layout) (id : ℕ) (pages wanted : ℕ → Type 0) (page : �
           stands = full.1;
           labels = labels_none layout id m;
           all = λ sector from below free. absurd (true≢false (sym (full.0 sector from below) ∙ free));
-          lacking = λ other. (page, own, λ sector from taken has. not_taken id m m sector other taken (λ x here. (x, here, refl)));
+          missing_page = λ other. (page, own, λ sector from taken has. not_taken id m m sector other taken (λ x here. (x, here, refl)));
         },
   )
 
@@ -250,11 +250,11 @@ page_in (Damaged (Mismatch sector wanted found)) = 0
 page_in (Damaged (Malformed window page)) = page
 page_in (Damaged (Missing missing page)) = 0
 
--- A run is added to the map, behind its labels.
+-- A run is added to the map, after its labels.
 module _ {layout later : Layout} (run : Run) (kind : ℕ) (pages wanted : ℕ → Type 0) (some : 1 ≤ run.pages) (few : (page : ℕ) → (run.first ≤ page) × (page < run.first + run.pages) → pages page) {a b c : DiskState} {s t u : Slots}
     (come : Brings (IsMapsHome layout) s t) (labels : Makes volume_page (growth run.id kind run.first (sectors_of run)) a s b t) (makes : Makes volume_page (growth run.id kind run.first (sectors_of run)) a s c u)
     (labelled : IsUnframed s 0 → (m : List Sector) → Stands a s m → (n : List Sector) × Stands b t n × IsLabelledFor layout run.id m n)
-    (told : IsUnframed s 0 → (bytes : List ℕ) → Tells FileMap a s layout bytes → Tells FileMap b t layout bytes) (beside : Beside FileMap b t layout c u later) where
+    (revealed : IsUnframed s 0 → (bytes : List ℕ) → Reveals FileMap a s layout bytes → Reveals FileMap b t layout bytes) (beside : Beside FileMap b t layout c u later) where
   filled : (window page : ℕ) → ((n : List Sector) (named : Triples) → Stands b t n → MapIs layout named n → IsNew named run → IsFaultOrMost layout b t (Damaged (Malformed window page))) → StopsInForm layout run.id pages page a s c u
   filled window page right none m named stands map nothing =
       let now = labelled none m stands in
@@ -289,7 +289,7 @@ module _ {layout later : Layout} (run : Run) (kind : ℕ) (pages wanted : ℕ �
       makes = makes;
       labelled = growth_labels_one run.id kind run.first (sectors_of run) (let long = length-range_with_len run.sector run.pages in omega (arith, long, some));
       in_form = filled window page right;
-      bytes = inl (λ none. broken_before layout (told none) page is.1);
+      bytes = inl (λ none. broken_before layout (revealed none) page is.1);
     },
   )
   added_evidence (Missing missing page) is right = absurd is

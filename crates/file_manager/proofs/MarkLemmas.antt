@@ -12,7 +12,7 @@ use Rattle.labelled_disk.specs.declared.disk.DiskWrite.{DiskWrite}
 use Rattle.labelled_disk.specs.declared.disk.DiskWrite.TheVariants.{LabelOnly}
 use Rattle.labelled_disk.specs.Label.{is_free, names, leader_page}
 use Rattle.labelled_disk.specs.Layout.{first_data, vam, vfm}
-use Rattle.labelled_disk.specs.Moment.{written}
+use Rattle.labelled_disk.specs.CrashState.{written}
 use Rattle.labelled_disk.specs.Sectors.{Sector, AreSectors, IsSector}
 use Rattle.labelled_disk.specs.State.{DiskState, HasLabel as DiskHasLabel}
 use Rattle.labelled_disk.proofs.Finds.{get_set_same, get_set_other}
@@ -37,7 +37,7 @@ use Rattle.label_calls.specs.declared.page.Mark.TheVariants.{Permanent, Immutabl
 use Rattle.label_calls.specs.Labels.{HasOne, MayHaveWritten, Relabels, ones_of, with_mark}
 use Rattle.file_manager.specs.Answer.{IsMarked, WritesMark}
 use Rattle.file_manager.specs.Book.{AreTrue, IsBooked, Books, BringsOwn}
-use Rattle.file_manager.proofs.BookLemmas.{label_in, leader_tells}
+use Rattle.file_manager.proofs.BookLemmas.{label_in, leader_reveals}
 
 same_elements : {X : Type 0} (xs ys : List X) → ((i : ℕ) → slice_get xs i ≡ slice_get ys i) → xs ≡ ys
 same_elements [] [] same = refl
@@ -152,9 +152,9 @@ module _ (layout : Layout) (runs : List Run) (shapes : Shapes) (x : List Sector)
 
   pub leader_named : names s.0 (record { id = id; page = leader_page }) ≡ true
   leader_named =
-      let tells = leader_tells layout runs shapes x b id sector some t in
-      let same : tells.label ≡ s.0 = same_Some tells.label s.0 (sym tells.here ∙ label_here x sector s here) in
-      ap (λ (l : Label). names l (record { id = id; page = leader_page })) (sym same) ∙ tells.named
+      let reveals = leader_reveals layout runs shapes x b id sector some t in
+      let same : reveals.label ≡ s.0 = same_Some reveals.label s.0 (sym reveals.here ∙ label_here x sector s here) in
+      ap (λ (l : Label). names l (record { id = id; page = leader_page })) (sym same) ∙ reveals.named
 
   leader_marked : marked_label id (with_mark mark) s.0 ≡ with_mark mark s.0
   leader_marked =
@@ -214,10 +214,10 @@ pub marked_after : (layout : Layout) (old mid new : DiskState) (before between a
     → IsMarked id (with_mark mark) x old before layout new after runs
 marked_after layout old mid new before between after kept runs shapes spaces x id sector mark some books now first brings t hidden frames (label, made) =
     let b = now.booked in
-    let tells = leader_tells layout (runs_of layout.sectors runs) shapes x b id sector some t in
-    let u = sector_of_label x sector tells.label tells.here in
+    let reveals = leader_reveals layout (runs_of layout.sectors runs) shapes x b id sector some t in
+    let u = sector_of_label x sector reveals.label reveals.here in
     let on_disk = other_sector now.stands.sectors x now.stands.merged.labels sector u.0 u.1 in
-    let found = made.found now.stands.sectors now.stands.told in
+    let found = made.found now.stands.sectors now.stands.revealed in
     let one : found.0 ≡ on_disk.0 = same_Some found.0 on_disk.0 (sym found.1 ∙ on_disk.1) in
     let same : label ≡ u.0.0 = sym found.2.0 ∙ ap (λ (s : Sector). s.0) one ∙ on_disk.2 in
     after_that u.0 u.1 (subst (λ (l : Label). Relabels (λ m. (m ≡ l) × ones_of (record { id = id; page = leader_page }) m) sector (LabelOnly sector (with_mark mark l)) mid between new) same made)
@@ -270,6 +270,6 @@ marked_sectors mark old new before after (inr made) = made.2.went.sectors
 -- the leader of a file has a label that names it
 pub leader_one : (layout : Layout) (runs : List Run) (shapes : Shapes) (x : List Sector) (b : IsBooked layout runs shapes x) (id sector : ℕ) → 16 ≤ id → IsTriple (labels_of x) id leader_page sector → HasOne (ones_of (record { id = id; page = leader_page })) x sector
 leader_one layout runs shapes x b id sector some t =
-    let tells = leader_tells layout runs shapes x b id sector some t in
-    let u = sector_of_label x sector tells.label tells.here in
-    (u.0, u.1, ap (λ (l : Label). names l (record { id = id; page = leader_page })) u.2 ∙ tells.named)
+    let reveals = leader_reveals layout runs shapes x b id sector some t in
+    let u = sector_of_label x sector reveals.label reveals.here in
+    (u.0, u.1, ap (λ (l : Label). names l (record { id = id; page = leader_page })) u.2 ∙ reveals.named)

@@ -9,7 +9,7 @@ use Rattle.labelled_disk.specs.declared.label.Label.{Label}
 use Rattle.labelled_disk.specs.declared.label.Wanted.{Wanted}
 use Rattle.labelled_disk.specs.declared.disk.DiskWrite.TheVariants.{LabelOnly}
 use Rattle.labelled_disk.specs.Label.{names}
-use Rattle.labelled_disk.specs.Moment.{written}
+use Rattle.labelled_disk.specs.CrashState.{written}
 use Rattle.labelled_disk.specs.Sectors.{Sector}
 use Rattle.labelled_disk.specs.State.{DiskState}
 use Rattle.labelled_disk.specs.WriteRuns.{Appended, after_writes}
@@ -92,26 +92,26 @@ abbrev pub marked_stands : (a b : DiskState) (s : Slots) (m : List Sector) (w : 
     → (n : List Sector) × Stands b s n × ((k : ℕ) → k ≢ sector → slice_get n k ≡ slice_get m k)
 marked_stands a b s m w sector mark label appended found stands =
     let d = stands.sectors in
-    let y = found d stands.told in
+    let y = found d stands.revealed in
     let x = other_sector m d (sym stands.merged.labels) sector y.0 y.1 in
     let same : x.0.0 ≡ label = x.2 ∙ y.2.0 in
     let l : Label = with_mark mark label in (
       slice_set m sector (l, x.0.1),
       record {
         sectors = slice_set d sector (l, y.0.1);
-        told = appended.contents ∙ ap (option_map (after_writes (LabelOnly sector l ∷ []))) stands.told ∙ ap (λ (q : List Sector). Some q) (label_written d sector y.0 l y.1);
+        revealed = appended.contents ∙ ap (option_map (after_writes (LabelOnly sector l ∷ []))) stands.revealed ∙ ap (λ (q : List Sector). Some q) (label_written d sector y.0 l y.1);
         merged = merged_labelled d s m sector x.0 y.0 l stands.merged x.1 y.1 (λ v named. mark_names mark label v (ap (λ (t : Label). names t v) (sym same) ∙ named));
       },
       λ k apart. get_set_other m sector k (l, x.0.1) apart,
     )
 
--- the sector's label has the identifier of the page, before and behind it
+-- the sector's label has the identifier of the page, before and after it
 pub marked_ids : (a b : DiskState) (s : Slots) (m : List Sector) (w : Wanted) (sector : ℕ) (mark : Mark) (label : Label) (appended : Appended (LabelOnly sector (with_mark mark label) ∷ []) a b)
     (found : (d : List Sector) → a.contents ≡ Some d → HasOne (λ l. (l ≡ label) × ones_of w l) d sector) (stands : Stands a s m)
     → ((t : Sector) → slice_get (marked_stands a b s m w sector mark label appended found stands).0 sector ≡ Some t → t.0.id ≡ w.id) × ((t : Sector) → slice_get m sector ≡ Some t → t.0.id ≡ w.id)
 marked_ids a b s m w sector mark label appended found stands =
     let d = stands.sectors in
-    let y = found d stands.told in
+    let y = found d stands.revealed in
     let x = other_sector m d (sym stands.merged.labels) sector y.0 y.1 in
     let same : x.0.0 ≡ label = x.2 ∙ y.2.0 in
     let l : Label = with_mark mark label in

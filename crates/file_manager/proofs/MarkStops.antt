@@ -1,4 +1,4 @@
--- What a mark that stopped has written, over a memory that is told.
+-- What a mark that stopped has written, over a memory that is revealed.
 use Rattle.std.proofs.Common.{◌≡◌, ◌⊎◌, inl, inr, ℕ, ◌≤◌, List, [], ◌∷◌, Some, sym, ◌∙◌, ap, subst}
 use Rattle.std.specs.Prelude.{slice_get, option_map}
 use Rattle.std.proofs.lemmas.Option.{same_Some}
@@ -22,14 +22,14 @@ use Rattle.label_calls.specs.declared.page.Mark.{Mark}
 use Rattle.label_calls.specs.Labels.{MayHaveWritten, with_mark}
 use Rattle.file_manager.specs.Book.{Books}
 use Rattle.file_manager.specs.Broken.{MarksFirst}
-use Rattle.file_manager.proofs.BookLemmas.{leader_tells}
+use Rattle.file_manager.proofs.BookLemmas.{leader_reveals}
 use Rattle.file_manager.proofs.MarkLemmas.{leader_named}
 
--- the label that a disk tells is that of the memory that it makes with its frames
+-- the label that a disk reveals is that of the memory that it makes with its frames
 label_on : (disk : DiskState) (slots : Slots) (x : List Sector) (stands : Stands disk slots x) (sector : ℕ) (s : Sector) → slice_get x sector ≡ Some s → (label : Label) → DiskHasLabel disk sector label → label ≡ s.0
 label_on disk slots x stands sector s here label has =
     let t = other_sector stands.sectors x stands.merged.labels sector s here in
-    same_Some label t.0.0 (sym (has stands.sectors stands.told) ∙ ap (option_map (λ (u : Sector). u.0)) t.1) ∙ t.2
+    same_Some label t.0.0 (sym (has stands.sectors stands.revealed) ∙ ap (option_map (λ (u : Sector). u.0)) t.1) ∙ t.2
 
 -- after a search that wrote no label
 module _ (layout : Layout) (old mid new : DiskState) (before between after : Slots) (runs : CachedRuns) (shapes : Shapes) (spaces : List Space) (x : List Sector) (id sector : ℕ) (mark : Mark) (some : 16 ≤ id)
@@ -43,8 +43,8 @@ module _ (layout : Layout) (old mid new : DiskState) (before between after : Slo
   marks_first (inr (label, has, inl none)) = wrote_none (subst (λ (q : Slots). Makes no_page [] mid between new q) (sym frames) none)
   marks_first (inr (label, has, inr made)) =
       let b = books.booked in
-      let tells = leader_tells layout (runs_of layout.sectors runs) shapes x b id sector some t in
-      let u = sector_of_label x sector tells.label tells.here in
+      let reveals = leader_reveals layout (runs_of layout.sectors runs) shapes x b id sector some t in
+      let u = sector_of_label x sector reveals.label reveals.here in
       let same : label ≡ u.0.0 = label_on mid between x books.stands sector u.0 u.1 label has in
       let marked : Makes volume_page (LabelOnly sector (with_mark mark u.0.0) ∷ []) old before new between =
       makes_then first (makes_wider volume_page (λ i p no. absurd no) (subst (λ (l : Label). Makes no_page (LabelOnly sector (with_mark mark l) ∷ []) mid between new between) same made))

@@ -57,8 +57,8 @@ module _ (layout : Layout) (is : IsLayout layout) (kept : CachedRuns) (shapes : 
   labels_rooted : labels_of (slice_set x 0 (root_label, page)) ≡ slice_set (labels_of x) 0 root_label
   labels_rooted = map-set (λ (s : Sector). s.0) x 0 (root_label, page)
 
-  pub behind : (k : ℕ) → k ≢ 0 → slice_get (slice_set x 0 (root_label, page)) k ≡ slice_get x k
-  behind k other = get_set_other x 0 k (root_label, page) other
+  pub after : (k : ℕ) → k ≢ 0 → slice_get (slice_set x 0 (root_label, page)) k ≡ slice_get x k
+  after k other = get_set_other x 0 k (root_label, page) other
 
   -- the map is as it was
   pub map_rooted : MapIs layout books.booked.named (slice_set x 0 (root_label, page))
@@ -66,7 +66,7 @@ module _ (layout : Layout) (is : IsLayout layout) (kept : CachedRuns) (shapes : 
       let was = map_is layout is (runs_of layout.sectors kept) shapes x books.booked books.booked.named books.booked.map in
       record {
         bytes = was.bytes;
-        shows = shows_still FileMap layout x (slice_set x 0 (root_label, page)) was.bytes (λ k s below here. (s, behind (1 + layout.vam + k) (λ e. omega (arith, e)) ∙ here, refl)) was.shows;
+        shows = shows_still FileMap layout x (slice_set x 0 (root_label, page)) was.bytes (λ k s below here. (s, after (1 + layout.vam + k) (λ e. omega (arith, e)) ∙ here, refl)) was.shows;
         names = was.names;
       }
 
@@ -74,7 +74,7 @@ module _ (layout : Layout) (is : IsLayout layout) (kept : CachedRuns) (shapes : 
   named_rooted home (p, below, at) =
       let was = maps_named layout is (runs_of layout.sectors kept) shapes x books.booked FileMap home (p, below, at) in
       let place : home.sector ≡ 1 + layout.vam + p = ap (λ (h : Home). h.sector) at in
-      record { sector = was.sector; here = behind home.sector (λ e. omega (arith, e, place)) ∙ was.here; named = was.named }
+      record { sector = was.sector; here = after home.sector (λ e. omega (arith, e, place)) ∙ was.here; named = was.named }
 
   module _ (id : ℕ) (high : 16 ≤ id) (none : shapes id ≡ None) (d1 : DiskState) (d2 : DiskState) (s2 : Slots) (l2 : Layout) (beside : Beside FileMap d1 s0 layout d2 s2 l2) (last : CachedRuns)
       (cut : Becomes FileMap layout (slice_set x 0 (root_label, page)) (MapIs layout (without_from books.booked.named id 0)) d2 s2)
@@ -105,7 +105,7 @@ module _ (layout : Layout) (is : IsLayout layout) (kept : CachedRuns) (shapes : 
     -- the bits are as they were
     shows_cut : Shows AllocationMap cut.memory layout (shown_bits layout is (runs_of layout.sectors kept) shapes x books.booked)
     shows_cut = shows_still AllocationMap layout x cut.memory (shown_bits layout is (runs_of layout.sectors kept) shapes x books.booked) (λ k s below here.
-        (s, cut.differs.pages (1 + k) s (behind (1 + k) (λ e. omega (arith, e)) ∙ here) (beside_map FileMap layout (1 + k) s.0 (inl (omega (arith, below)))), refl))
+        (s, cut.differs.pages (1 + k) s (after (1 + k) (λ e. omega (arith, e)) ∙ here) (beside_map FileMap layout (1 + k) s.0 (inl (omega (arith, below)))), refl))
         (are_shown layout is (runs_of layout.sectors kept) shapes x books.booked)
 
     pub mark_cut : (k : ℕ) → k < 4096 * layout.vam → is_marked cut.memory k ≡ is_marked x k

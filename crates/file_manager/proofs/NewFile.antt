@@ -1,4 +1,4 @@
--- A file that was created, with the root in front.
+-- A file that was created, with the root before.
 use Rattle.std.proofs.Common.{◌≡◌, ◌≢◌, inl, inr, ℕ, zero, suc, ◌+◌, ◌*◌, ◌^◌, ◌<◌, ◌≤◌, Bool, false, not, ◌&&◌, ◌||◌, List, [], ◌∷◌, length, filter, Some, None, sym, ◌∙◌, ap, subst, arith}
 use Rattle.std.specs.Prelude.{slice_get, slice_set, ◌==◌}
 use Rattle.std.proofs.lemmas.Option.{same_Some, none-some}
@@ -7,7 +7,7 @@ use Rattle.labelled_disk.specs.declared.label.Label.{Label}
 use Rattle.labelled_disk.specs.declared.layout.Layout.{Layout}
 use Rattle.labelled_disk.specs.Label.{leader_page, root_label, page_label}
 use Rattle.labelled_disk.specs.Layout.{capacity, first_data, vam}
-use Rattle.labelled_disk.specs.Moment.{written}
+use Rattle.labelled_disk.specs.CrashState.{written}
 use Rattle.labelled_disk.specs.Sectors.{Sector, AreSectors}
 use Rattle.labelled_disk.specs.State.{DiskState}
 use Rattle.labelled_disk.proofs.Finds.{get_set_same}
@@ -44,7 +44,7 @@ use Rattle.file_manager.proofs.FreedRun.{one_memory, map_makes, map_brings}
 use Rattle.file_manager.proofs.FreesLemmas.{no_map}
 use Rattle.file_manager.proofs.GrowSteps.{marks_alike, renamed, long_grown}
 use Rattle.filer_kernel.specs.MapOnce.{named_once}
-use Rattle.file_manager.proofs.NewBooks.{behind, labels_cut, long_cut, map_cut, mark_cut}
+use Rattle.file_manager.proofs.NewBooks.{after, labels_cut, long_cut, map_cut, mark_cut}
 use Rattle.file_manager.proofs.RunStages.{beside_map, vam_is, vfm_is}
 
 module _ (layout : Layout) (is : IsLayout layout) (kept : CachedRuns) (shapes : Shapes) (spaces : List Space) (x : List Sector) (d0 : DiskState) (s0 : Slots) (books : Books d0 s0 layout kept shapes spaces x) (root : Root)
@@ -81,7 +81,7 @@ module _ (layout : Layout) (is : IsLayout layout) (kept : CachedRuns) (shapes : 
   pages_then : (k : ℕ) (s : Sector) → slice_get x k ≡ Some s → k ≢ 0 → k ≢ leader → maps_alone (kind_of (length x) k s.0) ≡ false → slice_get made.middle k ≡ Some s
   pages_then k s here other apart unmapped =
       let runs = runs_of layout.sectors kept in
-      let rooted = behind layout is kept shapes spaces x d0 s0 books (root_bytes (counted root)) k other ∙ here in
+      let rooted = after layout is kept shapes spaces x d0 s0 books (root_bytes (counted root)) k other ∙ here in
       let now = cut.differs.pages k s rooted (no_map FileMap (length x) layout (vam_is layout is runs shapes x books.booked) (vfm_is layout is runs shapes x books.booked) k s.0 unmapped) in
       made.led.grown.pages k s now (none_is k apart) (ap (λ (n : ℕ). maps_alone (kind_of n k s.0)) long_then ∙ unmapped)
 

@@ -29,7 +29,7 @@ module _ (d x : List Sector) (o : CanOpen d) (c : FlagCleared d x) where
   long : length (labels_of x) ≡ length (labels_of d)
   long = length-map x (λ s. s.0) ∙ c.long ∙ sym (length-map d (λ s. s.0))
 
-  -- behind the root the labels are the same
+  -- after the root the labels are the same
   label_same : (k : ℕ) → k ≢ 0 → slice_get (labels_of x) k ≡ slice_get (labels_of d) k
   label_same k some = slice_get-map (λ (s : Sector). s.0) x k ∙ ap (λ (o : Option Sector). option_map (λ (s : Sector). s.0) o) (c.others k some) ∙ sym (slice_get-map (λ (s : Sector). s.0) d k)
 
@@ -59,7 +59,7 @@ module _ (d x : List Sector) (o : CanOpen d) (c : FlagCleared d x) where
               record { place = place.place; label = place.label; there = forth place.place place.label place.there; taken = place.taken; same_id = place.same_id; same_page = place.same_page };
           once = λ i j a b at_a at_b taken ids pages. files.pages.once i j a b (back i a at_a) (back j b at_b) taken ids pages;
         };
-        leaders = record { tell = λ k l f has found leader. files.leaders.tell k l f (back k l has) found leader };
+        leaders = record { reveal = λ k l f has found leader. files.leaders.reveal k l f (back k l has) found leader };
       }
 
   marks_same : (i : ℕ) → is_marked x i ≡ is_marked d i
@@ -74,7 +74,7 @@ module _ (d x : List Sector) (o : CanOpen d) (c : FlagCleared d x) where
 
   triples_then : HasTriples o.named (labels_of x)
   triples_then = record {
-    only = λ i p s told. let t = o.triples.only i p s told in record { label = t.label; there = forth s t.label t.there; taken = t.taken; same_id = t.same_id; same_page = t.same_page };
+    only = λ i p s revealed. let t = o.triples.only i p s revealed in record { label = t.label; there = forth s t.label t.there; taken = t.taken; same_id = t.same_id; same_page = t.same_page };
     all = λ i p s t. o.triples.all i p s (record { label = t.label; there = back s t.label t.there; taken = t.taken; same_id = t.same_id; same_page = t.same_page });
   }
 

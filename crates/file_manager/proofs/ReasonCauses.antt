@@ -1,4 +1,4 @@
--- What stops a single call has its reason, where the state before it kept to an outset.
+-- What stops a single call has its reason, where the state before it kept to an initial state.
 use Rattle.std.proofs.Common.{◌≡◌, ◌⊎◌, inl, inr, ℕ, true, List, [], sym, subst}
 use Rattle.labelled_disk.specs.declared.disk.DiskWrite.{DiskWrite}
 use Rattle.labelled_disk.specs.declared.disk.DiskWrite.TheVariants.{LabelOnly}
@@ -21,12 +21,12 @@ use Rattle.swapper_kernel.specs.Maps.{IsMapHome}
 use Rattle.label_calls.specs.declared.page.Mark.{Mark}
 use Rattle.label_calls.specs.Labels.{IsNotOf, MayHaveWritten, with_mark}
 use Rattle.filer_kernel.specs.Causes.{CutHalts, IsFaultOrMismatch}
-use Rattle.file_manager.specs.Reasons.{Outset, KeepsTo, IsAtHome, HasReason, ShowsReason}
+use Rattle.file_manager.specs.Reasons.{InitialState, KeepsTo, IsAtHome, HasReason, ShowsReason}
 use Rattle.file_manager.specs.LaterLaws.{at_home_later}
 use Rattle.file_manager.specs.ReasonLaws.{label_reasons}
 
 -- Over writes that were made since.
-module _ {o : Outset} {layout : Layout} {kept : List Run} {a : DiskState} {s : Slots} {named : Triples} (k : KeepsTo o layout kept a s named)
+module _ {o : InitialState} {layout : Layout} {kept : List Run} {a : DiskState} {s : Slots} {named : Triples} (k : KeepsTo o layout kept a s named)
     {pages : Pages} {run : List DiskWrite} {b : DiskState} {t : Slots} (makes : Makes pages run a s b t) where
   -- a label in a home of the map, or of a frame
   held_reason : (sector : ℕ) (wanted : Wanted) (found : Label) → IsOther (held_or s (IsMapHome FileMap layout)) a sector wanted found → HasReason o layout b (Mismatch sector wanted found)
@@ -49,12 +49,12 @@ module _ {o : Outset} {layout : Layout} {kept : List Run} {a : DiskState} {s : S
   other_reasons place w is c d e (Damaged (Missing id page)) cause = absurd cause
 
 -- a mark stops: whatever it wrote, the label isn't that of the leader, which the map names there
-pub mark_reasons : {o : Outset} {layout : Layout} {kept : List Run} {a b : DiskState} {s t : Slots} {named : Triples} → KeepsTo o layout kept a s named → (w : Wanted) (sector : ℕ) (mark : Mark) → named w.id w.page sector ≡ true
+pub mark_reasons : {o : InitialState} {layout : Layout} {kept : List Run} {a b : DiskState} {s t : Slots} {named : Triples} → KeepsTo o layout kept a s named → (w : Wanted) (sector : ℕ) (mark : Mark) → named w.id w.page sector ≡ true
     → Makes no_page [] a s b t ⊎ ((label : Label) × HasLabel a sector label × MayHaveWritten (LabelOnly sector (with_mark mark label)) a s b) → (halt : Halt) → HasCause (IsNotOf sector w a) a b halt → ShowsReason o layout b halt
 mark_reasons {a = a} {b = b} k w sector mark is (inl none) halt cause = other_reasons k none sector w is a a b halt cause
 mark_reasons {a = a} {b = b} k w sector mark is (inr (label, has, inl none)) halt cause = other_reasons k none sector w is a a b halt cause
 mark_reasons {a = a} {b = b} k w sector mark is (inr (label, has, inr made)) halt cause = other_reasons k made sector w is a a b halt cause
 
 -- a fault of the disk shows nothing
-pub fault_reason : (o : Outset) (layout : Layout) (b : DiskState) (halt : Halt) → halt ≡ Disk → ShowsReason o layout b halt
+pub fault_reason : (o : InitialState) (layout : Layout) (b : DiskState) (halt : Halt) → halt ≡ Disk → ShowsReason o layout b halt
 fault_reason o layout b halt is = subst (ShowsReason o layout b) (sym is) tt

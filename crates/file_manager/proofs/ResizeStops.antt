@@ -48,9 +48,9 @@ module _ (layout : Layout) (kept : List Run) (id pages : ℕ) (a c : DiskState) 
   resize_of_make (Damaged e) is = inr (inl is)
 
   fewer : (size : ℕ) → ((page : ℕ) → page < size → IsBelowSize layout a s id page) → (e : Evidence) → FreeEvidence (IsUnframed s id) layout kept id (λ p. (pages ≤ p) × (p < size)) a s e → FreeEvidence (IsUnframed s id) layout kept id (λ p. (pages ≤ p) × IsBelowSize layout a s id p) a s e
-  fewer size told (Mismatch sector wanted found) is = is
-  fewer size told (Malformed window page) is = is
-  fewer size told (Missing missing page) is = (is.0, (is.1.0, told page is.1.1), is.2)
+  fewer size revealed (Mismatch sector wanted found) is = is
+  fewer size revealed (Malformed window page) is = is
+  fewer size revealed (Missing missing page) is = (is.0, (is.1.0, revealed page is.1.1), is.2)
 
   -- no page from the size of a file on is named
   pub above_size : (size : ℕ) (named later : Triples) → pages < 4294967295 → IsSize named id size → AddsPages id no_page_of named later → NamesNoneOf id (λ p. (size ≤ p) × (p < pages)) later
@@ -62,9 +62,9 @@ module _ (layout : Layout) (kept : List Run) (id pages : ℕ) (a c : DiskState) 
 
   -- where pages are freed
   pub resize_of_shrink : (size : ℕ) → ((page : ℕ) → page < size → IsBelowSize layout a s id page) → (halt : Halt) → ShrinkHalts (IsUnframed s id) layout kept id pages (λ p. (pages ≤ p) × (p < size)) a s c u halt → ResizeHalts layout kept id pages a s c u halt
-  resize_of_shrink size told Disk is = is
-  resize_of_shrink size told (Damaged e) is = elim is [
-    | inl free ↦ inr (inr (inl (fewer size told e free)))
+  resize_of_shrink size revealed Disk is = is
+  resize_of_shrink size revealed (Damaged e) is = elim is [
+    | inl free ↦ inr (inr (inl (fewer size revealed e free)))
     | inr (inl out) ↦ inr (inr (inr (inl out)))
     | inr (inr back) ↦ inr (inr (inr (inr back)))
   ]

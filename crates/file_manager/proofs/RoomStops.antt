@@ -1,4 +1,4 @@
--- Where pages could not be made since no data sector was left: what is said of it behind other calls.
+-- Where pages could not be made since no data sector was left: what is said of it after other calls.
 use Rattle.std.proofs.Common.{◌≡◌, inl, inr, ℕ, List, sym, ◌∙◌, ap, subst}
 use Rattle.std.proofs.lemmas.Option.{same_Some}
 use Rattle.labelled_disk.specs.declared.evidence.Evidence.TheVariants.{Mismatch, Malformed, Missing}
@@ -35,7 +35,7 @@ module _ {layout : Layout} {id : ℕ} {a b : DiskState} {s t : Slots} (made befo
           | inl same ↦ taken_before sector from labels (took.all sector from below (same ∙ free))
           | inr (used, taken) ↦ taken_then sector from taken took.labels
         ];
-        lacking = λ other. let page = took.lacking other in (
+        missing_page = λ other. let page = took.missing_page other in (
           page.0,
           of page.0 page.1,
           λ sector from taken has. elim (labels.each sector taken.was.0 from taken.was.1) [
@@ -57,7 +57,7 @@ module _ {layout : Layout} {id : ℕ} {a b : DiskState} {s t : Slots} (made befo
 more_wanted : (layout : Layout) (id : ℕ) (before wanted : ℕ → Type 0) → ((page : ℕ) → before page → wanted page) → (a b : DiskState) (s t : Slots) → HasNoRoom layout id before a s b t → HasNoRoom layout id wanted a s b t
 more_wanted layout id before wanted of a b s t full none m marks stands bits =
     let took = full none m marks stands bits in
-    record { memory = took.memory; stands = took.stands; labels = took.labels; all = took.all; lacking = λ other. let page = took.lacking other in (page.0, of page.0 page.1, page.2) }
+    record { memory = took.memory; stands = took.stands; labels = took.labels; all = took.all; missing_page = λ other. let page = took.missing_page other in (page.0, of page.0 page.1, page.2) }
 
 pub create_wider : (layout : Layout) (id : ℕ) (before wanted : ℕ → Type 0) → ((page : ℕ) → before page → wanted page) → (a b : DiskState) (s t : Slots) (halt : Halt) → CreateHalts layout id before a s b t halt → CreateHalts layout id wanted a s b t halt
 create_wider layout id before wanted of a b s t Disk is = is

@@ -1,4 +1,4 @@
--- The sector of the root at each moment of the calls on files.
+-- The sector of the root in each crash state of the calls on files.
 use Rattle.std.proofs.Common.{◌≡◌, ◌≢◌, inl, inr, ℕ, ◌^◌, ◌<◌, ◌≤◌, List, [], ◌∷◌, length, Some, sym, subst, arith}
 use Rattle.labelled_disk.specs.declared.disk.DiskWrite.{DiskWrite}
 use Rattle.labelled_disk.specs.declared.layout.Layout.{Layout}
@@ -67,7 +67,7 @@ new_is_no_root : (root : Root) → 1 ≤ root.serial → next_id root ≢ 4
 new_is_no_root root some same = omega (arith, same, some)
 
 some_there : (layout : Layout) → IsLayout layout → (a : DiskState) → ((d : List Sector) → a.contents ≡ Some d → length d ≡ layout.sectors) → (d : List Sector) → a.contents ≡ Some d → 0 < length d
-some_there layout is a whole d told = let long = whole d told in let least = is.0.0 in omega (arith, long, least)
+some_there layout is a whole d revealed = let long = whole d revealed in let least = is.0.0 in omega (arith, long, least)
 
 pub created_root : (root : Root) → root.serial < 2 ^ 32 → 1 ≤ root.serial → root.counter < 4294967295 → (layout : Layout) → IsLayout layout → {a b : DiskState} {s t : Slots} → ((d : List Sector) → a.contents ≡ Some d → length d ≡ layout.sectors)
     → (kind pages : ℕ) → NewMade root kind pages a s b t → RootCounts root a b

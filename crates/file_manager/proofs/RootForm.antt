@@ -6,11 +6,11 @@ use Rattle.std.specs.Int.{byte_at, bytes_high_first}
 use Rattle.std.proofs.lemmas.Bool.{and_parts, ltb-true, le-leb, ne_eqb, cases_eq}
 use Rattle.std.proofs.lemmas.List.Elements.{All-nil, All-cons, All-append, All-replicate}
 use Rattle.labelled_disk.specs.declared.layout.Layout.{Layout}
-use Rattle.labelled_disk.specs.Calls.{Moves, TellsSame, TellsWrite}
+use Rattle.labelled_disk.specs.Calls.{Moves, RevealsSame, RevealsWrite}
 use Rattle.labelled_disk.specs.Label.{is_file_id, root_label}
-use Rattle.labelled_disk.specs.Lawful.{Lawful}
+use Rattle.labelled_disk.specs.Permitted.{Permitted}
 use Rattle.labelled_disk.specs.Layout.{capacity}
-use Rattle.labelled_disk.specs.Moment.{written}
+use Rattle.labelled_disk.specs.CrashState.{written}
 use Rattle.labelled_disk.specs.Root.{IsRoot}
 use Rattle.labelled_disk.specs.Sectors.{Sector, IsSector}
 use Rattle.labelled_disk.specs.State.{DiskState}
@@ -96,21 +96,21 @@ home_not_root layout home is placed = elim (cases_eq home.id 1) [
 -- the root is written, whatever stands in frames
 module _ (old new : DiskState) (slots : Slots) (layout : Layout) (root : Root) (is : IsLayout layout) (placed : ArePlaced slots layout) (valid : IsValidRoot layout.sectors root) (serial : root.serial < 2 ^ 32) (counter : root.counter < 2 ^ 32)
     (whole : (d : List Sector) → old.contents ≡ Some d → length d ≡ layout.sectors) (moves : Moves old new) where
-  lawful : (d : List Sector) → old.contents ≡ Some d → Lawful d (root_write root)
-  lawful d told = inl (record {
+  permitted : (d : List Sector) → old.contents ≡ Some d → Permitted d (root_write root)
+  permitted d revealed = inl (record {
     place = refl;
     root_label = refl;
-    valid = subst (λ (n : ℕ). IsRoot n (Some (root_label, root_bytes root))) (sym (whole d told)) (is_root layout.sectors root valid serial counter);
+    valid = subst (λ (n : ℕ). IsRoot n (Some (root_label, root_bytes root))) (sym (whole d revealed)) (is_root layout.sectors root valid serial counter);
   })
 
-  pub root_goes : TellsWrite (root_write root) old new → Goes (λ m n. n ≡ written (root_write root) m) no_page (root_write root ∷ []) old slots new slots
+  pub root_goes : RevealsWrite (root_write root) old new → Goes (λ m n. n ≡ written (root_write root) m) no_page (root_write root ∷ []) old slots new slots
   root_goes made = step_laws.beside_frames old new slots (root_write root) 0 refl (root_in_form root) made moves
-      (λ d told. (lawful d told, there_is d 0 (let long = whole d told in let least = is.0.0 in omega (arith, long, least))))
+      (λ d revealed. (permitted d revealed, there_is d 0 (let long = whole d revealed in let least = is.0.0 in omega (arith, long, least))))
       (λ i f has. home_not_root layout f.home is (placed i f has))
 
-  pub root_may : TellsSame old new ⊎ TellsWrite (root_write root) old new → MayHaveWritten (root_write root) old slots new
+  pub root_may : RevealsSame old new ⊎ RevealsWrite (root_write root) old new → MayHaveWritten (root_write root) old slots new
   root_may (inl same) = inl (step_laws.read old new slots same moves).makes
-  root_may (inr made) = inr (step_laws.label_written old new slots (root_write root) 0 refl (root_in_form root) made moves lawful)
+  root_may (inr made) = inr (step_laws.label_written old new slots (root_write root) 0 refl (root_in_form root) made moves permitted)
 
 -- the next identifier is one that a file may have
 pub next_is_file : (root : Root) → 1 ≤ root.serial → root.counter < 4294967295 → is_file_id (next_id root) ≡ true

@@ -44,10 +44,10 @@ in_row a (suc n) (suc j) k at = let rest = in_row (a + 1) n j k at in let below 
 -- bits of a row
 row_marks_one : (a n k : ℕ) (marks : Marks) → marked true (a + 1) n (λ j. j == a || marks j) k ≡ marked true a (suc n) marks k
 row_marks_one a n k marks = elim (cases_lt k a) [
-  | inl front ↦
+  | inl prefix ↦
       let x : (nat_le (a + 1) k && nat_lt k (a + 1 + n)) ≡ false = grind (arith, nat_tests) in
       let y : (nat_le a k && nat_lt k (a + suc n)) ≡ false = grind (arith, nat_tests) in
-      let z : (k == a) ≡ false = ne_eqb k a (λ q. omega (arith, q, front)) in
+      let z : (k == a) ≡ false = ne_eqb k a (λ q. omega (arith, q, prefix)) in
       rw (x, y, z) refl
   | inr from ↦ elim (cases_eq k a) [
     | inl here ↦
@@ -73,7 +73,7 @@ pub row_marks : (a n : ℕ) (marks : Marks) (k : ℕ) → grown_marks (range_wit
 row_marks a zero marks k = nothing (cases_lt k a)
   where
     nothing : (k < a) ⊎ (a ≤ k) → marks k ≡ marked true a 0 marks k
-    nothing (inl front) = let x : (nat_le a k && nat_lt k (a + 0)) ≡ false = grind (arith, nat_tests) in rw x refl
+    nothing (inl prefix) = let x : (nat_le a k && nat_lt k (a + 0)) ≡ false = grind (arith, nat_tests) in rw x refl
     nothing (inr from) = let x : (nat_le a k && nat_lt k (a + 0)) ≡ false = grind (arith, nat_tests) in rw x refl
 row_marks a (suc n) marks k = row_marks (a + 1) n (λ j. j == a || marks j) k ∙ row_marks_one a n k marks
 
@@ -93,8 +93,8 @@ row_names_one id page a n j p s = own (id == j) (j == id) refl refl
   where
     places : ((p == page && s == a) || ((nat_le (page + 1) p && nat_lt p (page + 1 + n)) && (s == a + 1 + (p - (page + 1))))) ≡ ((nat_le page p && nat_lt p (page + suc n)) && (s == a + (p - page)))
     places = elim (cases_lt p page) [
-      | inl front ↦
-          let x : (p == page) ≡ false = ne_eqb p page (λ q. omega (arith, q, front)) in
+      | inl prefix ↦
+          let x : (p == page) ≡ false = ne_eqb p page (λ q. omega (arith, q, prefix)) in
           let y : (nat_le (page + 1) p && nat_lt p (page + 1 + n)) ≡ false = grind (arith, nat_tests) in
           let z : (nat_le page p && nat_lt p (page + suc n)) ≡ false = grind (arith, nat_tests) in
           rw (x, y, z) refl
@@ -137,7 +137,7 @@ row_names id page a zero named j p s = nothing (named j p s) (cases_lt p page)
   where
     nothing : (b : Bool) → (p < page) ⊎ (page ≤ p) → b ≡ (b || (holds (row_run id page a 0) j p && (s == sector_at (row_run id page a 0) p)))
     nothing true either = refl
-    nothing false (inl front) = let x : (nat_le page p && nat_lt p (page + 0)) ≡ false = grind (arith, nat_tests) in rw x (none (id == j))
+    nothing false (inl prefix) = let x : (nat_le page p && nat_lt p (page + 0)) ≡ false = grind (arith, nat_tests) in rw x (none (id == j))
       where
         none : (b : Bool) → false ≡ ((b && false) && (s == sector_at (row_run id page a 0) p))
         none true = refl

@@ -21,7 +21,7 @@ use Rattle.label_calls.specs.Runs.{HaveOnes, RelabelsRun, IsOneNotOf}
 use Rattle.filer_kernel.specs.Causes.{IsGiven, IsRunHome}
 use Rattle.filer_kernel.specs.PlaceLaws.{data_first}
 use Rattle.file_manager.specs.Grounds.{IsUnframed, FreeHalts, KeepsMap}
-use Rattle.file_manager.proofs.Keeping.{keeps_then, keeps_labels, keeps_marks, row_halts_behind, map_halts_behind}
+use Rattle.file_manager.proofs.Keeping.{keeps_then, keeps_labels, keeps_marks, row_halts_after, map_halts_after}
 
 -- ---- Where runs have pages.
 
@@ -75,7 +75,7 @@ module _ {layout : Layout} {id : ℕ} {a b : DiskState} {s t : Slots} {kept mid 
   pub at_labels : (pages : ℕ → Type 0) → ((k : ℕ) → k < run.pages → IsRunHome layout a s kept (home_at (run.sector + k) (record { id = id; page = run.first + k }))) → (c : DiskState) (halt : Halt)
       → HasCause (IsOneNotOf run.sector run.pages (λ k. record { id = run.id; page = run.first + k }) b) b c halt → FreeHalts (IsUnframed s id) layout kept id pages a s c halt
   at_labels pages homes c halt why =
-      row_halts_behind keep pages run.sector run.pages run.first on_data form.inside (λ k below none. homes k below) c halt
+      row_halts_after keep pages run.sector run.pages run.first on_data form.inside (λ k below none. homes k below) c halt
       (subst (λ (i : ℕ). HasCause (IsOneNotOf run.sector run.pages (λ k. record { id = i; page = run.first + k }) b) b c halt) same_id why)
 
   module _ {c : DiskState} (sectors : List ℕ) (has : (j k : ℕ) → slice_get sectors j ≡ Some k → (i : ℕ) × (i < run.pages) × (k ≡ run.sector + i)) (made : RelabelsRun run.sector run.pages (freeing sectors) b t c)
@@ -86,7 +86,7 @@ module _ {layout : Layout} {id : ℕ} {a b : DiskState} {s t : Slots} {kept mid 
 
     -- where it stops at the allocation map
     pub at_marks : (pages : ℕ → Type 0) (d : DiskState) (halt : Halt) → Halts (IsMapHome AllocationMap layout) c t d halt → FreeHalts (IsUnframed s id) layout kept id pages a s d halt
-    at_marks pages d halt why = map_halts_behind labels_kept AllocationMap pages d halt why
+    at_marks pages d halt why = map_halts_after labels_kept AllocationMap pages d halt why
 
     pub run_kept : {d : DiskState} {u : Slots} {later : Layout} → Beside AllocationMap c t layout d u later → KeepsMap (IsUnframed s id) layout id a s kept d u mid
     run_kept beside = keeps_then labels_kept (keeps_marks mid is file beside)

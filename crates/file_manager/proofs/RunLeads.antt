@@ -308,9 +308,9 @@ module _ {layout l1 : Layout} {a b c : DiskState} {s t u : Slots} (run : Run) (k
     makes = some_labelled some;
   }
 
-  -- a stop behind them
-  pub stopped_behind : {d : DiskState} {v : Slots} {l2 l3 : Layout} (most : ℕ) → run.pages ≤ most → RelabelsRun run.sector run.pages (growth run.id kind run.first (sectors_of run)) b t c → Beside FileMap c u l2 d v l3 → MakesSome run.id kind run.first most a s d v
-  stopped_behind {d = d} {v = v} most few made last = record {
+  -- a stop after them
+  pub stopped_after : {d : DiskState} {v : Slots} {l2 l3 : Layout} (most : ℕ) → run.pages ≤ most → RelabelsRun run.sector run.pages (growth run.id kind run.first (sectors_of run)) b t c → Beside FileMap c u l2 d v l3 → MakesSome run.id kind run.first most a s d v
+  stopped_after {d = d} {v = v} most few made last = record {
     sectors = sectors_of run;
     few = let long = length-range_with_len run.sector run.pages in omega (arith, long, few);
     count = length (growth run.id kind run.first (sectors_of run));

@@ -60,11 +60,11 @@ one_counted p a zero some = absurd (omega (arith, some))
 one_counted p a (suc n) some = here (p a) refl (λ rest. one_counted p (a + 1) n rest)
   where
     here : (b : Bool) → p a ≡ b → (1 ≤ count_by p (range_with_len (a + 1) n) → (k : ℕ) × (a + 1 ≤ k) × (k < a + 1 + n) × (p k ≡ true)) → (k : ℕ) × (a ≤ k) × (k < a + suc n) × (p k ≡ true)
-    here true is behind = (a, omega arith, omega arith, is)
-    here false is behind =
+    here true is after = (a, omega arith, omega arith, is)
+    here false is after =
         let all = count_more p a (range_with_len (a + 1) n) in
         let none : ◌≡◌ {A = ℕ} (cond (p a) 1 0) 0 = ap (λ (b : Bool). cond b 1 0) is in
-        let rest = behind (omega (arith, all, none, some)) in
+        let rest = after (omega (arith, all, none, some)) in
         let above = rest.1 in let below = rest.2 in
         (rest.0, omega (arith, above), omega (arith, below), rest.3)
 
@@ -95,7 +95,7 @@ shows_still which layout m n b stays shows = record {
 
 -- a page of the one map is none of the other's, and of data
 pub beside_map : (which : Manager) (layout : Layout) (k : ℕ) (l : Label) → (k < start_of which layout) ⊎ (start_of which layout + pages_of which layout ≤ k) → in_map which layout k l ≡ false
-beside_map which layout k l (inl front) = grind (arith, nat_tests)
+beside_map which layout k l (inl prefix) = grind (arith, nat_tests)
 beside_map which layout k l (inr past) = grind (arith, nat_tests)
 
 -- no frame is over a free sector

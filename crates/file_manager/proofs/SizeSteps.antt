@@ -25,9 +25,9 @@ use Rattle.file_manager.specs.Resizing.{Resizes, ResizesSome}
 use Rattle.file_manager.specs.Shrinking.{MayShrink, ShrunkBy, ShrunkSome}
 use Rattle.file_manager.proofs.FreedRun.{one_memory}
 
--- what the leader and the size tell of the shape
+-- what the leader and the size reveal of the shape
 pub shape_is : (shapes : Shapes) (id : ℕ) (f : Shape) (leader : Label) (size : ℕ) → shapes id ≡ Some f → shapes id ≡ Some (shape_of_leader leader size) → f ≡ shape_of_leader leader size
-shape_is shapes id f leader size is told = same_Some f (shape_of_leader leader size) (sym is ∙ told)
+shape_is shapes id f leader size is revealed = same_Some f (shape_of_leader leader size) (sym is ∙ revealed)
 
 module _ {layout : Layout} {kept runs : CachedRuns} {shapes : Shapes} {spaces : List Space} {x : List Sector} {a b : DiskState} {s t : Slots}
     (books : Books a s layout kept shapes spaces x) (now : Books b t layout runs shapes spaces x) where
@@ -82,20 +82,20 @@ none_resized id pages first = inr (record { sectors = []; makes = first })
 module _ {layout : Layout} {kept runs : CachedRuns} {shapes : Shapes} {spaces : List Space} {x : List Sector} {a b : DiskState} {s t : Slots}
     (books : Books a s layout kept shapes spaces x) (now : Books b t layout runs shapes spaces x) (first : Makes volume_page [] a s b t) (brings : BringsOwn s t) {c : DiskState} {u : Slots} {last : CachedRuns}
     (f : Shape) (leader : Label) (size : ℕ) (same : f ≡ shape_of_leader leader size) where
-  pub grown_told : (id pages : ℕ) → GrownBy id leader.kind size (pages - size) b t layout c u last → GrownBy id f.kind f.size (pages - f.size) a s layout c u last
-  grown_told id pages h = subst (λ (w : Shape). GrownBy id w.kind w.size (pages - w.size) a s layout c u last) (sym same) (grown_after books now first brings h)
+  pub grown_revealed : (id pages : ℕ) → GrownBy id leader.kind size (pages - size) b t layout c u last → GrownBy id f.kind f.size (pages - f.size) a s layout c u last
+  grown_revealed id pages h = subst (λ (w : Shape). GrownBy id w.kind w.size (pages - w.size) a s layout c u last) (sym same) (grown_after books now first brings h)
 
-  pub shrunk_told : (id pages : ℕ) → ShrunkBy id pages size x b t layout c u last → ShrunkBy id pages f.size x a s layout c u last
-  shrunk_told id pages h = subst (λ (w : Shape). ShrunkBy id pages w.size x a s layout c u last) (sym same) (shrunk_after books now first brings h)
+  pub shrunk_revealed : (id pages : ℕ) → ShrunkBy id pages size x b t layout c u last → ShrunkBy id pages f.size x a s layout c u last
+  shrunk_revealed id pages h = subst (λ (w : Shape). ShrunkBy id pages w.size x a s layout c u last) (sym same) (shrunk_after books now first brings h)
 
 module _ {x : List Sector} {a b c : DiskState} {s t u : Slots} (first : Makes volume_page [] a s b t) (f : Shape) (leader : Label) (size : ℕ) (same : f ≡ shape_of_leader leader size) where
-  pub grew_told : (id pages : ℕ) → GrewSome id leader.kind size (pages - size) x b t c u → GrewSome id f.kind f.size (pages - f.size) x a s c u
-  grew_told id pages h =
+  pub grew_revealed : (id pages : ℕ) → GrewSome id leader.kind size (pages - size) x b t c u → GrewSome id f.kind f.size (pages - f.size) x a s c u
+  grew_revealed id pages h =
       subst (λ (w : Shape). GrewSome id w.kind w.size (pages - w.size) x a s c u) (sym same)
       (record { sectors = h.sectors; few = h.few; free = h.free; count = h.count; makes = makes_then first h.makes })
 
-  pub some_told : (id pages : ℕ) → ShrunkSome id pages size x b t c u → ShrunkSome id pages f.size x a s c u
-  some_told id pages h = subst (λ (w : Shape). ShrunkSome id pages w.size x a s c u) (sym same) (some_after first h)
+  pub some_revealed : (id pages : ℕ) → ShrunkSome id pages size x b t c u → ShrunkSome id pages f.size x a s c u
+  some_revealed id pages h = subst (λ (w : Shape). ShrunkSome id pages w.size x a s c u) (sym same) (some_after first h)
 
 pub grew_none : {id kind size pages : ℕ} {x : List Sector} {a b : DiskState} {s t : Slots} → Makes volume_page [] a s b t → GrewSome id kind size pages x a s b t
 grew_none first = record { sectors = []; few = omega arith; free = tt; count = 0; makes = first }

@@ -18,29 +18,29 @@ use Rattle.swapper_kernel.specs.Maps.{id_of}
 use Rattle.swapper_kernel.proofs.PlacedLemmas.{file_placed}
 use Rattle.label_calls.specs.Labels.{IsTaken, IsNotOf, nobody}
 use Rattle.label_calls.specs.Runs.{IsOneTaken, IsOneNotOf}
-use Rattle.filer_kernel.specs.Evidence.{MayBeIn, IsSo, ShowsSo}
+use Rattle.filer_kernel.specs.Evidence.{MayBeIn, IsEvident, ShowsEvidence}
 use Rattle.filer_kernel.specs.EvidenceLaws.{may_be_in}
 
 -- a fault of the disk shows nothing
-pub fault_shows : (disk : DiskState) (halt : Halt) → halt ≡ Disk → ShowsSo disk halt
-fault_shows disk halt is = subst (ShowsSo disk) (sym is) tt
+pub fault_shows : (disk : DiskState) (halt : Halt) → halt ≡ Disk → ShowsEvidence disk halt
+fault_shows disk halt is = subst (ShowsEvidence disk) (sym is) tt
 
 may_move : (sectors : ℕ) {a b : ℕ} {u w : Wanted} → a ≡ b → u ≡ w → MayBeIn sectors b w → MayBeIn sectors a u
 may_move sectors {a = a} {w = w} place page may = subst (λ (v : Wanted). MayBeIn sectors a v) (sym page) (subst (λ (n : ℕ). MayBeIn sectors n w) (sym place) may)
 
 module _ (disk : DiskState) where
-  taken_so : (k : ℕ) (e : Evidence) → MayBeIn disk.sectors k nobody → IsTaken k disk e → IsSo disk e
+  taken_so : (k : ℕ) (e : Evidence) → MayBeIn disk.sectors k nobody → IsTaken k disk e → IsEvident disk e
   taken_so k (Mismatch sector wanted found) may is = (subst (λ (n : ℕ). HasLabel disk n found) (sym is.0) is.2, inl (is.1, is.3), may_move disk.sectors is.0 is.1 may)
   taken_so k (Malformed window page) may is = absurd is
   taken_so k (Missing id page) may is = absurd is
 
-  not_of_so : (k : ℕ) (w : Wanted) (e : Evidence) → MayBeIn disk.sectors k w → IsNotOf k w disk e → IsSo disk e
+  not_of_so : (k : ℕ) (w : Wanted) (e : Evidence) → MayBeIn disk.sectors k w → IsNotOf k w disk e → IsEvident disk e
   not_of_so k w (Mismatch sector wanted found) may is = (subst (λ (n : ℕ). HasLabel disk n found) (sym is.0) is.2, inr (ap (names found) is.1 ∙ is.3), may_move disk.sectors is.0 is.1 may)
   not_of_so k w (Malformed window page) may is = absurd is
   not_of_so k w (Missing id page) may is = absurd is
 
   -- a label that isn't that of a page
-  pub so_of_other : (k : ℕ) (w : Wanted) → MayBeIn disk.sectors k w → (old new : DiskState) (halt : Halt) → HasCause (IsNotOf k w disk) old new halt → ShowsSo disk halt
+  pub so_of_other : (k : ℕ) (w : Wanted) → MayBeIn disk.sectors k w → (old new : DiskState) (halt : Halt) → HasCause (IsNotOf k w disk) old new halt → ShowsEvidence disk halt
   so_of_other k w may old new Disk is = tt
   so_of_other k w may old new (Damaged e) is = not_of_so k w e may is
 
@@ -59,13 +59,13 @@ module _ (layout : Layout) (disk : DiskState) (accepted : IsLayout layout) (size
       apart FileMap same = omega (arith, same)
 
   -- one of the labels of data sectors in a row, which isn't free
-  pub so_of_taken : (sector pages : ℕ) → layout.first ≤ sector → sector + pages ≤ layout.sectors → (old new : DiskState) (halt : Halt) → HasCause (IsOneTaken sector pages disk) old new halt → ShowsSo disk halt
+  pub so_of_taken : (sector pages : ℕ) → layout.first ≤ sector → sector + pages ≤ layout.sectors → (old new : DiskState) (halt : Halt) → HasCause (IsOneTaken sector pages disk) old new halt → ShowsEvidence disk halt
   so_of_taken sector pages from to old new Disk is = tt
   so_of_taken sector pages from to old new (Damaged e) is = taken_so disk (sector + is.0) e (let below = is.1 in free_may (sector + is.0) (omega (arith, from)) (omega (arith, below, to))) is.2
 
   -- one of those of a run, which isn't that of its page
   pub so_of_run : (run : Run) → layout.first ≤ run.sector → IsRun layout.sectors run → (old new : DiskState) (halt : Halt)
-      → HasCause (IsOneNotOf run.sector run.pages (λ k. record { id = run.id; page = run.first + k }) disk) old new halt → ShowsSo disk halt
+      → HasCause (IsOneNotOf run.sector run.pages (λ k. record { id = run.id; page = run.first + k }) disk) old new halt → ShowsEvidence disk halt
   so_of_run run from form old new Disk is = tt
   so_of_run run from form old new (Damaged e) is =
       let below = is.1 in

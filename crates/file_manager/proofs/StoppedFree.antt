@@ -77,11 +77,11 @@ module _ {a b : DiskState} {s t : Slots} (named : Triples) (id page end : ℕ) (
           (makes_then first (makes_then (subst (Makes volume_page (freeing (run_sectors run)) b t _) (sym same) (makes_wider volume_page (λ id page none. absurd none) made.makes)) (map_makes last)));
     }
 
--- behind runs that were freed
+-- after runs that were freed
 pub some_then : {id from end page : ℕ} {d0 d e : DiskState} {s0 s t : Slots} {layout later : Layout} {kept runs : CachedRuns} → IsFreedTo id from end page d0 s0 layout kept d s later runs → page < end
     → (named : Triples) (spaces : List Space) (m : List Sector) → MayFree d0 s0 layout kept named spaces id from end m → FreedSome named id page (page + (end - page)) d s e t → FreedSome named id from end d0 s0 e t
 some_then {id = id} {from = from} {page = page} {d0 = d0} {e = e} {s0 = s0} {t = t} h under named spaces m may k =
-    let first = h.told named spaces m may in
+    let first = h.revealed named spaces m may in
     let long = first.long in
     let above = h.above in
     let few = k.few in
@@ -102,7 +102,7 @@ leader_some {a = a} {b = b} {s = s} {t = t} named id pages h = either h.sectors 
     either (i ∷ []) few up makes = inr (record { leader = i; leads = up.0; sectors = []; few = omega arith; up = tt; makes = makes })
     either (i ∷ j ∷ is) few up makes = absurd (omega (arith, few))
 
--- and behind it
+-- and after it
 pub pages_some : {layout : Layout} {named : Triples} {spaces : List Space} {id pages first : ℕ} {a b c : DiskState} {s t u : Slots} {runs : CachedRuns} → first ≡ 1 → Freed layout named spaces id leader_page first (leader_page + 1) a s b t runs
     → FreedSome named id 0 pages b t c u → FreedFirst named id pages a s c u
 pages_some {named = named} {id = id} {a = a} {b = b} {c = c} {s = s} {t = t} {u = u} one h k =

@@ -1,4 +1,4 @@
--- A run of the space tables that is taken, labelled and added: the bytes of their pages are told as before, and those of the run's are zeros.
+-- A run of the space tables that is taken, labelled and added: the bytes of their pages are reported as before, and those of the run's are zeros.
 use Rattle.std.proofs.Common.{◌≡◌, ◌≢◌, inl, inr, ℕ, zero, suc, ◌+◌, ◌-◌, ◌*◌, ◌<◌, ◌≤◌, Bool, true, ◌||◌, List, ◌++◌, length, Some, None, refl, sym, ◌∙◌, ap, subst, arith, length-set}
 use Rattle.std.specs.Prelude.{slice_get, slice_set, ◌==◌, take, drop, replicate}
 use Rattle.std.specs.List.{range_with_len}
@@ -37,10 +37,10 @@ use Rattle.session_words.specs.Volume.{volume_page}
 use Rattle.session_words.proofs.GrownLemmas.{page_label_named}
 use Rattle.file_manager.specs.Grounds.{IsUnframed}
 use Rattle.file_manager.specs.Making.{sectors_of}
-use Rattle.file_manager.specs.Reasons.{Outset, AreTabled, KeepsTo, telling}
+use Rattle.file_manager.specs.Reasons.{InitialState, AreTabled, KeepsTo, telling}
 use Rattle.file_manager.specs.RetoldLaws.{retold}
 use Rattle.file_manager.specs.Taking.{NamesNoneOf}
-use Rattle.file_manager.proofs.FreedRun.{behind_map, first_is, one_memory}
+use Rattle.file_manager.proofs.FreedRun.{after_map, first_is, one_memory}
 use Rattle.file_manager.proofs.KeepCut.{or_right}
 use Rattle.file_manager.proofs.MadeReasons.{names_turn, run_keeps}
 use Rattle.file_manager.proofs.MadeRun.{labelled, maps_come, map_then, new_run, none_over, unframed_still}
@@ -48,23 +48,23 @@ use Rattle.file_manager.proofs.RowLemmas.{growth_elsewhere, in_row}
 
 -- ---- Bytes.
 
--- those of a page in front are as they were where more stand behind
-part_front : (b more : List ℕ) (at long : ℕ) → at + long ≤ length b → part (b ++ more) at long ≡ part b at long
-part_front b more at long within =
+-- those of a page before are as they were where more stand after
+part_prefix : (b more : List ℕ) (at long : ℕ) → at + long ≤ length b → part (b ++ more) at long ≡ part b at long
+part_prefix b more at long within =
     let left : long ≤ length (drop at b) = let size = length-drop at b in omega (arith, size, within) in
     ap (take long) (drop-append-le at b more (omega (arith, within))) ∙ take-append-le long (drop at b) more left
 
 -- those of a page among zeros are zeros
-part_behind : (b : List ℕ) (count at j long : ℕ) → at ≡ length b + j → j + long ≤ count → part (b ++ replicate count 0) at long ≡ replicate long 0
-part_behind b count at j long place within =
+part_after : (b : List ℕ) (count at j long : ℕ) → at ≡ length b + j → j + long ≤ count → part (b ++ replicate count 0) at long ≡ replicate long 0
+part_after b count at j long place within =
     ap (λ (k : ℕ). part (b ++ replicate count 0) k long) place ∙ ap (take long) (drop-append-add b (replicate count 0) j ∙ drop-replicate j count 0) ∙ take-replicate long (count - j) 0 (omega (arith, within))
 
 -- a page of zeros
-zeros_behind : (b : List ℕ) (first pages k : ℕ) → length b ≡ 512 * first → first ≤ k → k < first + pages → part (b ++ replicate (512 * pages) 0) (512 * k) 512 ≡ zero_bytes
+zeros_after : (b : List ℕ) (first pages k : ℕ) → length b ≡ 512 * first → first ≤ k → k < first + pages → part (b ++ replicate (512 * pages) 0) (512 * k) 512 ≡ zero_bytes
 unfolding zero_bytes
-zeros_behind b first pages k long from below = part_behind b (512 * pages) (512 * k) (512 * (k - first)) 512 (omega (arith, long, from)) (omega (arith, from, below))
+zeros_after b first pages k long from below = part_after b (512 * pages) (512 * k) (512 * (k - first)) 512 (omega (arith, long, from)) (omega (arith, from, below))
 
--- so many bytes are told then
+-- so many bytes are revealed then
 pub zeros_more : (b : List ℕ) (first pages : ℕ) → length b ≡ 512 * first → length (b ++ replicate (512 * pages) 0) ≡ 512 * (first + pages)
 zeros_more b first pages long = let both = length-append b (replicate (512 * pages) 0) in let more = length-replicate {A = ℕ} (512 * pages) 0 in omega (arith, both, more, long)
 
@@ -98,9 +98,9 @@ record IsGrown (layout : Layout) (run : Run) (kind : ℕ) (m n : List Sector) : 
   was : (j : ℕ) → j < run.pages → HasOne free_ones m (run.sector + j)
   other : (k : ℕ) → layout.first ≤ k → ((j : ℕ) → j < run.pages → k ≢ run.sector + j) → slice_get n k ≡ slice_get m k
 
--- data sectors are behind both maps
+-- data sectors are after both maps
 data_same : (layout : Layout) (m n : List Sector) → IsLayout layout → Differs (in_map FileMap layout) m n → (k : ℕ) → layout.first ≤ k → slice_get n k ≡ slice_get m k
-data_same layout m n is differs k from = same_place (in_map FileMap layout) m n differs k (λ s here. behind_map FileMap layout k s.0 (let first = first_is layout is in omega (arith, first, from)))
+data_same layout m n is differs k from = same_place (in_map FileMap layout) m n differs k (λ s here. after_map FileMap layout k s.0 (let first = first_is layout is in omega (arith, first, from)))
 
 -- so they are when the run is added to the file map
 grown_then : {layout : Layout} {run : Run} {kind : ℕ} {m n o : List Sector} → IsLayout layout → layout.first ≤ run.sector → IsGrown layout run kind m n → Differs (in_map FileMap layout) n o → IsGrown layout run kind m o
@@ -117,14 +117,14 @@ module _ {layout l1 : Layout} {a b c : DiskState} {s t : Slots} (is : IsLayout l
     -- each was free, so it is there
     was_free : (j : ℕ) → j < run.pages → HasOne free_ones m (run.sector + j)
     was_free j below =
-        let disk = were stands.sectors stands.told j below in
+        let disk = were stands.sectors stands.revealed j below in
         let one = other_sector m stands.sectors (sym stands.merged.labels ∙ differs.labels) (run.sector + j) disk.0 disk.1 in
         (one.0, one.1, ap (λ (l : Label). l.id == 0) one.2 ∙ disk.2)
 
     inside : run.sector + run.pages ≤ length m1
     inside =
         let some = form.some in
-        let disk = were stands.sectors stands.told (run.pages - 1) (omega (arith, some)) in
+        let disk = were stands.sectors stands.revealed (run.pages - 1) (omega (arith, some)) in
         let one = other_sector m1 stands.sectors (sym stands.merged.labels) (run.sector + (run.pages - 1)) disk.0 disk.1 in
         let within = slice_get_within m1 (run.sector + (run.pages - 1)) one.0 one.1 in
         omega (arith, some, within)
@@ -136,7 +136,7 @@ module _ {layout l1 : Layout} {a b c : DiskState} {s t : Slots} (is : IsLayout l
       other = λ k from none.
           ap (λ (l : List Sector). slice_get l k) is_n
           ∙ growth_elsewhere run.id kind run.first (sectors_of run) m1 k (λ j at. let r = in_row run.sector run.pages j k at in none j r.0 r.1)
-          ∙ same_place (in_map AllocationMap layout) m m1 differs k (λ x here. behind_map AllocationMap layout k x.0 (let first = first_is layout is in omega (arith, first, from)));
+          ∙ same_place (in_map AllocationMap layout) m m1 differs k (λ x here. after_map AllocationMap layout k x.0 (let first = first_is layout is in omega (arith, first, from)));
     }
 
   grown : IsUnframed s 0 → (m : List Sector) → Stands a s m → (n : List Sector) → Stands c t n → IsGrown layout run kind m n
@@ -152,7 +152,7 @@ not_free : (l : Label) (k : ℕ) → free_ones l → names l (record { id = 3; p
 not_free l k none is = let of : l.id ≡ 3 = names_id l (record { id = 3; page = k }) is in let nobody : l.id ≡ 0 = eqb-true l.id 0 none in omega (arith, of, nobody)
 
 module _ (layout : Layout) (run : Run) (kind : ℕ) (named : Triples) (m n : List Sector) (is : IsLayout layout) (tables : run.id ≡ 3) (from : layout.first ≤ run.sector) (map : MapIs layout named m) (g : IsGrown layout run kind m n) where
-  -- a page in front is as it was
+  -- a page before is as it was
   old_page : (k : ℕ) (page : List ℕ) → k < run.first → IsTablePage layout named m k page → IsTablePage layout (with_run named run) n k page
   old_page k page before p = record {
     sector = p.sector;
@@ -170,10 +170,10 @@ module _ (layout : Layout) (run : Run) (kind : ℕ) (named : Triples) (m n : Lis
 
   -- one of the run's has zeros
   new_page : (k : ℕ) (page : List ℕ) → run.first ≤ k → k < run.first + run.pages → page ≡ zero_bytes → IsTablePage layout (with_run named run) n k page
-  new_page k page behind below zeros =
+  new_page k page after below zeros =
       let j = k - run.first in
-      let of : run.first + j ≡ k = omega (arith, behind) in
-      let inside : j < run.pages = omega (arith, behind, below) in
+      let of : run.first + j ≡ k = omega (arith, after) in
+      let inside : j < run.pages = omega (arith, after, below) in
       record {
         sector = run.sector + j;
         label = page_label 3 kind k;
@@ -192,20 +192,20 @@ module _ (layout : Layout) (run : Run) (kind : ℕ) (named : Triples) (m n : Lis
         long = zeros_more bytes run.first run.pages long;
         page = λ k below. elim (cases_lt k run.first) [
           | inl before ↦
-              let same = part_front bytes (replicate (512 * run.pages) 0) (512 * k) 512 (omega (arith, before, long)) in
+              let same = part_prefix bytes (replicate (512 * run.pages) 0) (512 * k) 512 (omega (arith, before, long)) in
               subst (IsTablePage layout (with_run named run) n k) (sym same) (old_page k (part bytes (512 * k) 512) before (h.page k (omega (arith, before, count))))
-          | inr behind ↦
-              new_page k (part (bytes ++ replicate (512 * run.pages) 0) (512 * k) 512) behind below (zeros_behind bytes run.first run.pages k long behind below)
+          | inr after ↦
+              new_page k (part (bytes ++ replicate (512 * run.pages) 0) (512 * k) 512) after below (zeros_after bytes run.first run.pages k long after below)
         ];
       }
 
--- ---- What keeps to an outset.
+-- ---- What keeps to an initial state.
 
-module _ (o : Outset) {x l1 l3 : Layout} {k : List Run} {a b c d : DiskState} {s t u : Slots} {named : Triples} (bytes : List ℕ) (h : KeepsTo (telling o bytes) x k a s named) (is : IsLayout x) (run : Run) (kind most : ℕ) (form : IsDataRun x.first x.sectors most (run.sector, run.pages))
+module _ (o : InitialState) {x l1 l3 : Layout} {k : List Run} {a b c d : DiskState} {s t u : Slots} {named : Triples} (bytes : List ℕ) (h : KeepsTo (telling o bytes) x k a s named) (is : IsLayout x) (run : Run) (kind most : ℕ) (form : IsDataRun x.first x.sectors most (run.sector, run.pages))
     (taken : Beside AllocationMap a s x b t l1) (marked_so : (m : List Sector) (marks : Marks) → Stands a s m → BitsAre x marks m → Becomes AllocationMap x m (BitsAre x (marked true run.sector run.pages marks)) b t)
     (made : RelabelsRun run.sector run.pages (growth run.id kind run.first (sectors_of run)) b t c) (were : (d : List Sector) → b.contents ≡ Some d → HaveOnes (λ k. free_ones) d run.sector run.pages)
     (beside : Beside FileMap c t x d u l3) (makes : Makes volume_page (growth run.id kind run.first (sectors_of run)) a s d u) (nothing : NamesNoneOf run.id (λ page. (run.first ≤ page) × (page < run.first + run.pages)) named) where
-  -- a run of the tables: its pages are told as zeros
+  -- a run of the tables: its pages are reported as zeros
   pub run_tables : run.id ≡ 3 → run.first + run.pages ≤ 96 → length bytes ≡ 512 * run.first
       → ((m : List Sector) (named : Triples) → Stands c t m → MapIs x named m → IsNew named run → Becomes FileMap x m (MapIs x (with_run named run)) d u)
       → KeepsTo (telling o (bytes ++ replicate (512 * run.pages) 0)) x k d u (with_run named run)

@@ -112,8 +112,8 @@ module _ {tables : ℕ} (layout : Layout) (is : IsLayout layout) (kept : CachedR
       ap not (mark_cut k (in_bits layout is runs shapes x books.booked k (omega (arith, above, below)))))
 
   -- the pages of the tables, made after that, were made of the memory before
-  pub tables_behind : (sectors : List ℕ) (y : List Sector) → TablesMade sectors cut.memory y → TablesMade sectors x y
-  tables_behind sectors y made =
+  pub tables_after : (sectors : List ℕ) (y : List Sector) → TablesMade sectors cut.memory y → TablesMade sectors x y
+  tables_after sectors y made =
       let few : length x < 2 ^ 32 = let size = books.booked.long in let most = is.0.1 in omega (arith, size, most) in
       record {
         count = made.count;
@@ -157,8 +157,8 @@ module _ (layout : Layout) (is : IsLayout layout) (kept : CachedRuns) (shapes : 
     }
 
     -- and where they are, that is so from before the cut
-    pub begun_behind : (d3 : DiskState) (s3 : Slots) (runs : CachedRuns) → BegunBy d2 s2 layout d3 s3 runs → BegunBy d0 s0 layout d3 s3 runs
-    begun_behind d3 s3 runs begun = record {
+    pub begun_after : (d3 : DiskState) (s3 : Slots) (runs : CachedRuns) → BegunBy d2 s2 layout d3 s3 runs → BegunBy d0 s0 layout d3 s3 runs
+    begun_after d3 s3 runs begun = record {
       sectors = begun.sectors;
       leads = record {
         goes = record {
@@ -168,7 +168,7 @@ module _ (layout : Layout) (is : IsLayout layout) (kept : CachedRuns) (shapes : 
                 now.0,
                 now.1,
                 subst (λ (z : List Sector). TablesMade begun.sectors z now.0) (one_memory d0 s0 x m may.books.stands stood)
-                    (tables_behind layout is kept shapes spaces x d0 s0 may.books 3 no_table d2 s2 l2 beside last cut forgotten in_form begun.sectors now.0 now.2),
+                    (tables_after layout is kept shapes spaces x d0 s0 may.books 3 no_table d2 s2 l2 beside last cut forgotten in_form begun.sectors now.0 now.2),
               );
         };
         brings = brings_then (map_brings beside) begun.leads.brings;
@@ -182,9 +182,9 @@ module _ {l0 l2 : Layout} {a b : DiskState} {s t : Slots} (beside : Beside FileM
   pub tables_unmade : MakesSome 3 0 0 96 a s b t
   tables_unmade = record { sectors = []; few = omega arith; count = 0; makes = map_makes beside }
 
-  -- behind it
-  pub tables_some_behind : {c : DiskState} {u : Slots} → MakesSome 3 0 0 96 b t c u → MakesSome 3 0 0 96 a s c u
-  tables_some_behind h = record { sectors = h.sectors; few = h.few; count = h.count; makes = makes_then (map_makes beside) h.makes }
+  -- after it
+  pub tables_some_after : {c : DiskState} {u : Slots} → MakesSome 3 0 0 96 b t c u → MakesSome 3 0 0 96 a s c u
+  tables_some_after h = record { sectors = h.sectors; few = h.few; count = h.count; makes = makes_then (map_makes beside) h.makes }
 
-  pub tables_made_behind : {c : DiskState} {u : Slots} → MakesAll 3 0 0 96 b t c u → MakesAll 3 0 0 96 a s c u
-  tables_made_behind h = record { sectors = h.sectors; long = h.long; makes = makes_then (map_makes beside) h.makes }
+  pub tables_made_after : {c : DiskState} {u : Slots} → MakesAll 3 0 0 96 b t c u → MakesAll 3 0 0 96 a s c u
+  tables_made_after h = record { sectors = h.sectors; long = h.long; makes = makes_then (map_makes beside) h.makes }

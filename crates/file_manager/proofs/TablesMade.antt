@@ -47,7 +47,7 @@ use Rattle.file_manager.proofs.BookLemmas.{root_label_grown}
 use Rattle.file_manager.proofs.GrowSteps.{growth_append, grows_then, grows_none, long_grown}
 use Rattle.file_manager.proofs.KeptUpTo.{RunKeeps}
 use Rattle.file_manager.proofs.RunLeads.{one_memory, own_known}
-use Rattle.file_manager.proofs.TabledUpTo.{RunTold, ToldUpTo, told_more, told_none}
+use Rattle.file_manager.proofs.TabledUpTo.{RunRevealed, RevealedUpTo, revealed_more, revealed_none}
 use Rattle.file_manager.proofs.UpLemmas.{free_left, longer}
 use Rattle.file_manager.proofs.UpTo.{IsUpTo, up_none, up_more}
 
@@ -88,9 +88,9 @@ tabled_then (i ∷ is) n shapes labels marks named none free h =
     let one : IsTabled (n + 1) shapes (slice_set labels i (page_label 3 0 n)) (λ k. k == i || marks k) (λ j p s. (j == 3 && p == n && s == i) || named j p s) = record {
       pages = subst (λ (k : ℕ). HasPages (slice_set labels i (page_label 3 0 n)) (is_owned_upto k shapes)) (let z : suc n ≡ n + 1 = omega arith in z) (start_laws.table labels i n shapes h.pages made);
       leaders = record {
-        tell = λ k l f has found leader. elim (label_set labels i free.0.label (page_label 3 0 n) free.0.there k l has) [
+        reveal = λ k l f has found leader. elim (label_set labels i free.0.label (page_label 3 0 n) free.0.there k l has) [
           | inl (at, same) ↦ absurd (none-some f (sym none ∙ ap (λ (x : Label). shapes x.id) same ∙ found))
-          | inr (other, was) ↦ h.leaders.tell k l f was found leader
+          | inr (other, was) ↦ h.leaders.reveal k l f was found leader
         ];
       };
       bits = bits_set labels marks (λ k. k == i || marks k) i (page_label 3 0 n) free.0.label h.bits free.0.there
@@ -171,17 +171,17 @@ module _ (layout : Layout) (is_layout : IsLayout layout) (kept : CachedRuns) (sh
         true_runs = here.true_runs;
       }
 
--- The pages below this one are made: as in a growth over any contents, with bytes that are told, and where they may be made.
+-- The pages below this one are made: as in a growth over any contents, with bytes that are revealed, and where they may be made.
 pub record AreTablesUpTo (page : ℕ) (d0 : DiskState) (s0 : Slots) (layout : Layout) (kept : CachedRuns) (d : DiskState) (s : Slots) (later : Layout) (runs : CachedRuns) : Type 0 where
   pub up : IsUpTo 3 0 0 96 page d0 s0 layout kept d s later runs
-  pub told : ToldUpTo page d0 s0 layout kept d s later runs
+  pub revealed : RevealedUpTo page d0 s0 layout kept d s later runs
   pub begun : (x : List Sector) (shapes : Shapes) (spaces : List Space) → MayBegin d0 s0 layout kept shapes spaces x → GrownBy 3 0 0 page d0 s0 layout d s kept
 
 -- no page yet
 pub tables_none : (d0 : DiskState) (s0 : Slots) (layout : Layout) (kept : CachedRuns) → d0.sectors ≡ layout.sectors → AreTablesUpTo 0 d0 s0 layout kept d0 s0 layout kept
 tables_none d0 s0 layout kept size = record {
   up = up_none 3 0 0 96 d0 s0 layout kept (omega arith) size;
-  told = told_none d0 s0 layout kept;
+  revealed = revealed_none d0 s0 layout kept;
   begun = λ x shapes spaces may. record {
     sectors = [];
     long = refl;
@@ -193,7 +193,7 @@ tables_none d0 s0 layout kept size = record {
   };
 }
 
--- what a run asks of a told memory, and what it makes of it
+-- what a run asks of a revealed memory, and what it makes of it
 abbrev pub Asks : ℕ → DiskState → Slots → Layout → CachedRuns → Type 0 → Type 0
 Asks page d s layout runs P = (tables : ℕ) (x : List Sector) (shapes : Shapes) (spaces : List Space) → BooksUpto tables d s layout runs shapes spaces x → ShowsNoFree spaces → AreUnownedUpto tables shapes 3 page (96 - page) → 1 ≤ free_count layout x → P
 
@@ -214,10 +214,10 @@ module _ (page : ℕ) (d0 : DiskState) (s0 : Slots) (layout : Layout) (is_layout
       → Asks page d s later runs (Leads (Grows 3 0 page (sectors_of run)) (growth 3 0 page (sectors_of run)) d s later d2 s2 r2)
       → l2 ≡ later → r2 ≡ runs → d2.transfers ≤ d.transfers + (8 * later.vam + 2 * run.pages + 98) → Brings (IsMapsHome later) s s2 → MakesFor later 3 (λ p. (page ≤ p) × (p < page + run.pages)) d s d2 s2
       → (run.pages < 96 - page → (m : List Sector) (marks : Marks) → Stands d s m → BitsAre later marks m → run.sector + run.pages < later.sectors → marks (run.sector + run.pages) ≡ true)
-      → RunKeeps 3 page (96 - page) run d s later runs d2 s2 l2 r2 → RunTold page (96 - page) run d s later runs d2 s2 l2 r2 → AreTablesUpTo (page + run.pages) d0 s0 layout kept d2 s2 l2 r2
-  tables_more run d2 s2 l2 r2 for_it makes made same_layout same_runs cost come takes longest keeps told = record {
+      → RunKeeps 3 page (96 - page) run d s later runs d2 s2 l2 r2 → RunRevealed page (96 - page) run d s later runs d2 s2 l2 r2 → AreTablesUpTo (page + run.pages) d0 s0 layout kept d2 s2 l2 r2
+  tables_more run d2 s2 l2 r2 for_it makes made same_layout same_runs cost come takes longest keeps revealed = record {
     up = up_more 3 0 0 96 page d0 s0 layout is_layout kept d s later runs h.up (omega arith) run d2 s2 l2 r2 below for_it makes (made 96) same_layout same_runs cost come takes longest keeps;
-    told = told_more kept runs r2 run for_it.same_id for_it.same_first below h.told told;
+    revealed = revealed_more kept runs r2 run for_it.same_id for_it.same_first below h.revealed revealed;
     begun = λ x shapes spaces may.
         let g = h.begun x shapes spaces may in
         let here = asked (Leads (Grows 3 0 page (sectors_of run)) (growth 3 0 page (sectors_of run)) d s later d2 s2 r2) made x shapes spaces may in

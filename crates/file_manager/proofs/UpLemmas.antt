@@ -64,18 +64,18 @@ count_less marks i a (suc n) above below free = either (cases_eq a i) (λ b c. c
   where
     either : (a ≡ i) ⊎ (a ≢ i) → (a + 1 ≤ i → i < a + 1 + n → count_by (λ k. not (k == i || marks k)) (range_with_len (a + 1) n) + 1 ≡ count_by (λ k. not (marks k)) (range_with_len (a + 1) n))
         → count_by (λ k. not (k == i || marks k)) (range_with_len a (suc n)) + 1 ≡ count_by (λ k. not (marks k)) (range_with_len a (suc n))
-    either (inl here) behind =
+    either (inl here) beyond =
         let x = count_more (λ k. not (k == i || marks k)) a (range_with_len (a + 1) n) in
         let y = count_more (λ k. not (marks k)) a (range_with_len (a + 1) n) in
         let p : ◌≡◌ {A = ℕ} (one (not (a == i || marks a))) 0 = ap (λ (b : Bool). one (not (b || marks a))) (eq-eqb a i here) in
         let q : ◌≡◌ {A = ℕ} (one (not (marks a))) 1 = ap (λ (b : Bool). one (not b)) (ap marks here ∙ free) in
         let rest = count_same (λ k. not (k == i || marks k)) (λ k. not (marks k)) (a + 1) n (λ k up down. ap (λ (b : Bool). not (b || marks k)) (ne_eqb k i (λ z. omega (arith, z, up, here)))) in
         omega (arith, x, y, p, q, rest)
-    either (inr other) behind =
+    either (inr other) beyond =
         let x = count_more (λ k. not (k == i || marks k)) a (range_with_len (a + 1) n) in
         let y = count_more (λ k. not (marks k)) a (range_with_len (a + 1) n) in
         let p : one (not (a == i || marks a)) ≡ one (not (marks a)) = ap (λ (b : Bool). one (not (b || marks a))) (ne_eqb a i other) in
-        let rest = behind (omega (arith, above, other)) (omega (arith, below)) in
+        let rest = beyond (omega (arith, above, other)) (omega (arith, below)) in
         omega (arith, x, y, p, rest)
 
 -- bits of data sectors say whether their labels are free

@@ -34,7 +34,7 @@ use Rattle.file_manager.proofs.KeptUpTo.{RunKeeps, KeepsUpTo, keeps_more}
 use Rattle.file_manager.proofs.RunLeads.{one_memory}
 use Rattle.file_manager.proofs.UpLemmas.{after, books_then, unowned_then, some_then, run_then, longer}
 use Rattle.swapper_kernel.specs.Stands.{Stands, labels_of}
-use Rattle.swapper_kernel.specs.Window.{Tells}
+use Rattle.swapper_kernel.specs.Window.{Reveals}
 use Rattle.file_manager.proofs.MadeRun.{made_none, made_then, unframed_still}
 use Rattle.file_manager.proofs.MakeStops.{leaves_apart, make_halts_before}
 use Rattle.file_manager.proofs.TakingLemmas.{labels_then, taken_then}
@@ -49,9 +49,9 @@ pub record IsUpTo (id kind from end page : ℕ) (d0 : DiskState) (s0 : Slots) (l
   pub makes : MakesAll id kind from (page - from) d0 s0 d s
   pub come : Brings (IsMapsHome layout) s0 s
   pub takes : MakesFor layout id (λ p. (from ≤ p) × (p < page)) d0 s0 d s
-  pub untouched : page ≡ from → (bytes : List ℕ) → Tells FileMap d0 s0 layout bytes → Tells FileMap d s layout bytes
+  pub untouched : page ≡ from → (bytes : List ℕ) → Reveals FileMap d0 s0 layout bytes → Reveals FileMap d s layout bytes
   pub last : from < page → page < end → LabelsRun layout id d0 s0 d s
-  pub told : (x : List Sector) (shapes : Shapes) (spaces : List Space) (f : Shape) → MayGrow d0 s0 layout kept shapes spaces id f end x → f.size ≡ from → GrownBy id kind from (page - from) d0 s0 layout d s kept
+  pub revealed : (x : List Sector) (shapes : Shapes) (spaces : List Space) (f : Shape) → MayGrow d0 s0 layout kept shapes spaces id f end x → f.size ≡ from → GrownBy id kind from (page - from) d0 s0 layout d s kept
   pub keeps : KeepsUpTo id from end page d0 s0 layout kept d s later runs
 
 -- what a run costs is at most so much a page
@@ -79,10 +79,10 @@ up_none id kind from end d0 s0 layout kept order size = record {
   makes = record { sectors = []; long = omega arith; makes = makes_nothing volume_page d0 s0 };
   come = brings_itself (IsMapsHome layout) s0;
   takes = made_none layout id (λ p. (from ≤ p) × (p < from)) d0 s0;
-  untouched = λ same bytes tells. tells;
+  untouched = λ same bytes reveals. reveals;
   last = λ past below. absurd (omega (arith, past));
   keeps = λ o named h may untold none. (named, h, none, (λ i p sector is. is), (λ p above below. absurd (omega (arith, above, below))));
-  told = λ x shapes spaces f may is. record {
+  revealed = λ x shapes spaces f may is. record {
     sectors = [];
     long = omega arith;
     leads = record {
@@ -133,7 +133,7 @@ module _ (id kind from end page : ℕ) (d0 : DiskState) (s0 : Slots) (layout : L
         keeps = keeps_more kept runs r2 run for_it.same_id for_it.same_first below up.keeps keeps;
         untouched = λ same. let some = for_it.form.some in absurd (omega (arith, same, above, some));
         last = λ past short. record {
-          front = growth id kind from all.sectors;
+          prefix = growth id kind from all.sectors;
           kind = kind;
           run = run;
           some = for_it.form.some;
@@ -141,8 +141,8 @@ module _ (id kind from end page : ℕ) (d0 : DiskState) (s0 : Slots) (layout : L
           makes = makes_then all.makes (subst (λ (n : ℕ). Makes volume_page (growth id kind n (sectors_of run)) d s d2 s2) (sym for_it.same_first) makes);
           ended = inr (run_ends (omega (arith, short, few)) (subst (λ (l : Layout). MakesFor l id (λ p. (page ≤ p) × (p < page + run.pages)) d s d2 s2) up.same_layout takes) (rw up.same_layout at longest));
         };
-        told = λ x shapes spaces f may size.
-            let g = up.told x shapes spaces f may size in
+        revealed = λ x shapes spaces f may size.
+            let g = up.revealed x shapes spaces f may size in
             let at = reached f g.sectors size g.long in
             let leads = subst (λ (n : ℕ). Leads (Grows id kind n g.sectors) (growth id kind n g.sectors) d0 s0 layout d s kept) (sym size) g.leads in
             let y = after layout is_layout kept shapes spaces x d0 s0 id kind f end may short g.sectors page at up.below d s leads in
@@ -190,7 +190,7 @@ module _ (id kind from end page : ℕ) (d0 : DiskState) (s0 : Slots) (layout : L
   pub up_sound : (e : Halt) → page < end → ((x : List Sector) (shapes : Shapes) (spaces : List Space) → Books d s later runs shapes spaces x → ShowsNoFree spaces → AreUnowned shapes id page (end - page) → 1 ≤ free_count later x → e ≡ halt.Disk)
       → (x : List Sector) (shapes : Shapes) (spaces : List Space) (f : Shape) → MayGrow d0 s0 layout kept shapes spaces id f end x → f.size ≡ from → e ≡ halt.Disk
   up_sound e below sound x shapes spaces f may size =
-      let g = up.told x shapes spaces f may size in
+      let g = up.revealed x shapes spaces f may size in
       let at = reached f g.sectors size g.long in
       let leads = subst (λ (n : ℕ). Leads (Grows id kind n g.sectors) (growth id kind n g.sectors) d0 s0 layout d s kept) (sym size) g.leads in
       let y = after layout is_layout kept shapes spaces x d0 s0 id kind f end may short g.sectors page at up.below d s leads in
@@ -237,7 +237,7 @@ module _ (id kind from end page : ℕ) (d0 : DiskState) (s0 : Slots) (layout : L
       (λ p own other. let after = own.0 in let before = other.1 in omega (arith, after, before))
       begun d2 s2 e why
     where
-      begun : (IsUnframed s0 0 → (bytes : List ℕ) → Tells FileMap d0 s0 layout bytes → Tells FileMap d s layout bytes) ⊎ LabelsRun layout id d0 s0 d s
+      begun : (IsUnframed s0 0 → (bytes : List ℕ) → Reveals FileMap d0 s0 layout bytes → Reveals FileMap d s layout bytes) ⊎ LabelsRun layout id d0 s0 d s
       begun = elim (cases_eq page from) [
         | inl same ↦ inl (λ none. up.untouched same)
         | inr other ↦ let above = up.above in inr (up.last (omega (arith, other, above)) below)
@@ -249,4 +249,4 @@ pub up_all : (id kind from end page : ℕ) (d0 : DiskState) (s0 : Slots) (layout
     → (x : List Sector) (shapes : Shapes) (spaces : List Space) (f : Shape) → MayGrow d0 s0 layout kept shapes spaces id f end x → f.size ≡ from → GrownBy id kind from (end - from) d0 s0 layout d s runs
 up_all id kind from end page d0 s0 layout kept d s later runs all up x shapes spaces f may size =
     subst (λ (r : CachedRuns). GrownBy id kind from (end - from) d0 s0 layout d s r) (sym up.same_runs)
-    (subst (λ (n : ℕ). GrownBy id kind from (n - from) d0 s0 layout d s kept) all (up.told x shapes spaces f may size))
+    (subst (λ (n : ℕ). GrownBy id kind from (n - from) d0 s0 layout d s kept) all (up.revealed x shapes spaces f may size))

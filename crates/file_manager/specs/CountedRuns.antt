@@ -5,16 +5,16 @@ use Rattle.std.proofs.lemmas.Bool.{eq-eqb, le-leb, lt-ltb}
 use Rattle.std.proofs.lemmas.List.{length-map}
 use Rattle.std.proofs.lemmas.Option.{same_Some, none-some}
 use Rattle.page_tree.specs.Page.{page_at, count_in}
-use Rattle.page_tree.specs.Tells.{TellsTree}
+use Rattle.page_tree.specs.Reveals.{RevealsTree}
 use Rattle.page_tree.specs.Tree.{IsTree}
 use Rattle.file_map.specs.declared.run.Run.{Run}
 use Rattle.file_map.specs.FileMap.{Triples, AreNamed, run_at}
 use Rattle.file_map.specs.Run.{holds, sector_at, run_bytes}
 use Rattle.file_map.proofs.Searches.{names_at}
 
-module _ (n pages : ℕ) (b : List ℕ) (named : Triples) (is : AreNamed n (TellsTree 24 12 pages (λ c. c ≡ b)) named) where
+module _ (n pages : ℕ) (b : List ℕ) (named : Triples) (is : AreNamed n (RevealsTree 24 12 pages (λ c. c ≡ b)) named) where
   tree : IsTree 24 12 pages b (map run_bytes is.runs)
-  tree = subst (λ (c : List ℕ). IsTree 24 12 pages c (map run_bytes is.runs)) is.listed.told is.listed.tree
+  tree = subst (λ (c : List ℕ). IsTree 24 12 pages c (map run_bytes is.runs)) is.listed.revealed is.listed.tree
 
   -- the header counts its runs
   pub counted_runs : count_in (page_at b 0) ≡ length is.runs

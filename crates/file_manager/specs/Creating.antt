@@ -18,8 +18,8 @@ abbrev pub next_id : Root → ℕ
 next_id root = root.serial * 2 ^ 32 + root.counter
 
 -- the same root or a later one of the same volume: it gives out next no identifier below that which the earlier one does
-abbrev pub IsOnward : Root → Root → Type 0
-IsOnward old new = (next_id old ≤ next_id new) × (new.serial ≡ old.serial)
+abbrev pub IsMonotone : Root → Root → Type 0
+IsMonotone old new = (next_id old ≤ next_id new) × (new.serial ≡ old.serial)
 
 -- the root of the volume in use, once it is given out
 abbrev pub counted : Root → Root

@@ -1,4 +1,4 @@
--- A file, as its leader and the file map tell it.
+-- A file, as its leader and the file map reveal it.
 use Rattle.std.specs.Prelude.{◌≡◌, ◌⊎◌, ℕ, ◌≤◌, ◌<◌, List, Option, Some, None}
 use Rattle.labelled_disk.specs.declared.evidence.Evidence.{Evidence}
 use Rattle.labelled_disk.specs.declared.evidence.Halt.{Halt}
@@ -19,7 +19,7 @@ use Rattle.file_manager.specs.declared.finding.FoundFile.{FoundFile}
 abbrev pub shape_of_leader : Label → ℕ → Shape
 shape_of_leader leader pages = record { kind = leader.kind; permanent = is_permanent leader; immutable = is_immutable leader; size = pages }
 
--- the leader of the file stands in this sector, and label and pages tell its shape; or there is no such file
+-- the leader of the file stands in this sector, and label and pages reveal its shape; or there is no such file
 abbrev pub IsFoundFile : List Label → Shapes → ℕ → Option FoundFile → Type 0
 IsFoundFile labels shapes id (Some file) = IsTriple labels id leader_page file.sector × (shapes id ≡ Some (shape_of_leader file.leader file.pages))
 IsFoundFile labels shapes id None = shapes id ≡ None

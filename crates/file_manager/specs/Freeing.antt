@@ -76,7 +76,7 @@ pub record MayFree (disk : DiskState) (slots : Slots) (layout : Layout) (runs : 
 abbrev pub run_sectors : Run → List ℕ
 run_sectors run = range_with_len run.sector run.pages
 
--- a run of a volume of n sectors: this page of this file and those behind it, below another
+-- a run of a volume of n sectors: this page of this file and those after it, below another
 pub record IsPartOf (n id page end : ℕ) (run : Run) : Type 0 where
   pub form : IsRun n run
   pub same_id : run.id ≡ id

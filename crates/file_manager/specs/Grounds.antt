@@ -22,7 +22,7 @@ use Rattle.swapper_kernel.specs.Homes.{Homes, Brings, home_at}
 use Rattle.swapper_kernel.specs.Halts.{HasCause, IsOther, held_or}
 use Rattle.swapper_kernel.specs.Stands.{Stands}
 use Rattle.swapper_kernel.specs.Goes.{Makes}
-use Rattle.swapper_kernel.specs.Window.{Tells, Beside}
+use Rattle.swapper_kernel.specs.Window.{Reveals, Beside}
 use Rattle.label_calls.specs.Labels.{HasOne, nobody}
 use Rattle.file_map.specs.Entries.{Stops}
 use Rattle.filer_kernel.specs.Causes.{MapShows, MapCounts, IsGiven, IsRunHome}
@@ -68,7 +68,7 @@ TakesOut given layout id from disk slots (Mismatch sector wanted found) = ⊥
 TakesOut given layout id from disk slots (Malformed window page) = (window ≡ 2) × (given → IsToCut id from (MapShows layout disk slots))
 TakesOut given layout id from disk slots (Missing missing page) = ⊥
 
--- the page is below the size of the file that the map tells
+-- the page is below the size of the file that the map reveals
 abbrev pub IsBelowSize : Layout → DiskState → Slots → ℕ → ℕ → Type 0
 IsBelowSize layout disk slots id page = (m : List Sector) (named : Triples) → Stands disk slots m → MapIs layout named m → (size : ℕ) × IsSize named id size × (page < size)
 
@@ -90,12 +90,12 @@ abbrev pub DeleteHalts : Layout → List Run → ℕ → DiskState → Slots →
 DeleteHalts layout kept id old before new halt = CutFileHalts (IsUnframed before id) layout kept id 0 (IsPageOf layout old before id) old before new halt
 
 -- What calls on a file leave: pages of the maps alone came into frames; and where something is given, the bytes of the file
--- map are told as they were, no frame has a page of the file, and runs that are kept were kept or are records of the map.
+-- map are reported as they were, no frame has a page of the file, and runs that are kept were kept or are records of the map.
 pub record KeepsMap (given : Type 0) (layout : Layout) (id : ℕ) (old : DiskState) (before : Slots) (kept : List Run) (new : DiskState) (after : Slots) (runs : List Run) : Type 0 where
   pub faults : old.faults ≤ new.faults
   pub brings : Brings (IsMapsHome layout) before after
   pub unframed : given → IsUnframed after id
-  pub told : given → (b : List ℕ) → Tells FileMap old before layout b → Tells FileMap new after layout b
+  pub revealed : given → (b : List ℕ) → Reveals FileMap old before layout b → Reveals FileMap new after layout b
   pub runs_given : given → (r : Run) → IsOneOf r runs → IsGiven layout old before kept r
 
 -- ---- Pages that are made.
@@ -124,12 +124,12 @@ pub record EndsAt (layout : Layout) (id : ℕ) (m : List Sector) (marks : Marks)
 -- The labels of a run of this file were the last that were written. It is the leader's; or, where no frame had a page that a
 -- free label would name, the allocation map let it be no longer.
 pub record LabelsRun (layout : Layout) (id : ℕ) (old : DiskState) (before : Slots) (disk : DiskState) (slots : Slots) : Type 0 where
-  pub front : List DiskWrite
+  pub prefix : List DiskWrite
   pub kind : ℕ
   pub run : Run
   pub some : 1 ≤ run.pages
   pub from : layout.first ≤ run.sector
-  pub makes : Makes volume_page (front ++ growth id kind run.first (sectors_of run)) old before disk slots
+  pub makes : Makes volume_page (prefix ++ growth id kind run.first (sectors_of run)) old before disk slots
   pub ended : (run.first ≡ leader_page) ⊎ (IsUnframed before 0 → (m : List Sector) (marks : Marks) → Stands old before m → BitsAre layout marks m → EndsAt layout id m marks disk slots (run.sector + run.pages))
 
 -- a run of this file had been added, and then other labels of the file were written
@@ -191,7 +191,7 @@ pub record TookAll (layout : Layout) (id : ℕ) (wanted : ℕ → Type 0) (m : L
   pub stands : Stands new after memory
   pub labels : TakesLabels layout id m memory
   pub all : (sector : ℕ) → layout.first ≤ sector → sector < layout.sectors → marks sector ≡ false → IsTakenFor id m memory sector
-  pub lacking : id ≢ 0 → (page : ℕ) × wanted page × ((sector : ℕ) → layout.first ≤ sector → IsTakenFor id m memory sector → HasOne (λ label. label.page ≡ page) memory sector → ⊥)
+  pub missing_page : id ≢ 0 → (page : ℕ) × wanted page × ((sector : ℕ) → layout.first ≤ sector → IsTakenFor id m memory sector → HasOne (λ label. label.page ≡ page) memory sector → ⊥)
 
 -- that is so, where no frame had a page that a free label would name
 abbrev pub HasNoRoom : Layout → ℕ → (ℕ → Type 0) → DiskState → Slots → DiskState → Slots → Type 0
@@ -215,7 +215,7 @@ MakeEvidence layout file pages wanted old before new after (Missing id page) = (
 abbrev pub MakeHalts : Layout → ℕ → (ℕ → Type 0) → (ℕ → Type 0) → DiskState → Slots → DiskState → Slots → Halt → Type 0
 MakeHalts layout id pages wanted old before new after halt = HasCause (MakeEvidence layout id pages wanted old before new after) old new halt
 
--- the halt of a call that makes those from one on, in front of another
+-- the halt of a call that makes those from one on, before another
 abbrev pub RangeHalts : Layout → ℕ → ℕ → ℕ → DiskState → Slots → DiskState → Slots → Halt → Type 0
 RangeHalts layout id from end old before new after halt = MakeHalts layout id (λ p. (from ≤ p) × (p < end)) (λ p. (from ≤ p) × (p < end)) old before new after halt
 

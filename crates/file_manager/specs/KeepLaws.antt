@@ -1,4 +1,4 @@
--- What keeps to an outset does so behind a call.
+-- What keeps to an initial state does so after a call.
 use Rattle.std.proofs.Common.{◌≡◌, ◌≢◌, ◌⊎◌, inl, inr, ℕ, ◌<◌, ◌≤◌, true, false, List, [], Some, map, refl, sym, ◌∙◌, ap, subst, arith}
 use Rattle.std.specs.Prelude.{IfSome, slice_get}
 use Rattle.std.proofs.lemmas.Bool.{cases_eq}
@@ -21,16 +21,16 @@ use Rattle.swapper_kernel.specs.Maps.{IsMapHome}
 use Rattle.swapper_kernel.specs.Stands.{Stands}
 use Rattle.swapper_kernel.specs.Window.{Beside}
 use Rattle.filer_kernel.specs.declared.cached.CachedRuns.{CachedRuns}
-use Rattle.filer_kernel.specs.declared.filer.FilerOver.{FilerOver}
+use Rattle.filer_kernel.specs.declared.filer.Filer.{Filer}
 use Rattle.filer_kernel.specs.Cached.{runs_of}
 use Rattle.filer_kernel.specs.Marks.{Marks, BitsAre}
 use Rattle.filer_kernel.specs.Tables.{AreOverTables}
 use Rattle.filer_kernel.specs.Triples.{MapIs, AreOf}
 use Rattle.file_manager.specs.Grounds.{IsMapsHome, IsUnframed}
 use Rattle.file_manager.specs.Looking.{Looks}
-use Rattle.file_manager.specs.Reasons.{Outset, AreTabled, HasTables, MayBeFree, IsAtHome, IsLet, KeepsTo, KeepsFrom, KeepsOn, IsUsed, Gives, MayTake}
+use Rattle.file_manager.specs.Reasons.{InitialState, AreTabled, HasTables, MayBeFree, IsAtHome, IsReleased, KeepsTo, KeepsFrom, KeepsOn, IsUsed, Gives, MayTake}
 use Rattle.file_manager.specs.TabledLaws.{StaysNamed}
-use Rattle.file_manager.specs.LaterLaws.{at_home_later, given_either, let_later, may_be_free_later, root_either, since_later, used_later}
+use Rattle.file_manager.specs.LaterLaws.{at_home_later, given_either, released_later, may_be_free_later, root_either, since_later, used_later}
 use Rattle.file_manager.specs.WriteLaws.{GivesNot, RootsBelow, TakesNot, UpNot, no_roots}
 
 -- ---- Pages of the maps in frames.
@@ -85,29 +85,29 @@ over_left {x = x} named later id over brings none stays = elim (cases_eq id 3) [
   | inr other ↦ over_after {x = x} named later over (λ home held. elim (brings.homes home held) [ inl was ↦ inl was | inr map ↦ inr (inl map) ]) (stays other)
 ]
 
--- ---- What keeps to an outset.
+-- ---- What keeps to an initial state.
 
-module _ {o : Outset} {x : Layout} {k : List Run} {a : DiskState} {s : Slots} {named : Triples} (h : KeepsTo o x k a s named) {pages : Pages} {run : List DiskWrite} {b : DiskState} {t : Slots} (makes : Makes pages run a s b t) where
-  -- a home that a frame had is at home behind a call
+module _ {o : InitialState} {x : Layout} {k : List Run} {a : DiskState} {s : Slots} {named : Triples} (h : KeepsTo o x k a s named) {pages : Pages} {run : List DiskWrite} {b : DiskState} {t : Slots} (makes : Makes pages run a s b t) where
+  -- a home that a frame had is at home after a call
   pub home_later : (home : Home) → IsHeld s home → IsMapsHome x home ⊎ IsAtHome o b home
   home_later home held = elim (h.frames home held) [ inl own ↦ inl own | inr at ↦ inr (at_home_later o makes home at) ]
 
-  -- a home is named behind a call, or let: where this is so of those that were named, and where each page that the call gave a
+  -- a home is named after a call, or let: where this is so of those that were named, and where each page that the call gave a
   -- sector is named there
-  rest_after : (later : Triples) → ((home : Home) → x.first ≤ home.sector → 16 ≤ home.id → named home.id home.page home.sector ≡ true → (later home.id home.page home.sector ≡ true) ⊎ IsLet o b home)
+  rest_after : (later : Triples) → ((home : Home) → x.first ≤ home.sector → 16 ≤ home.id → named home.id home.page home.sector ≡ true → (later home.id home.page home.sector ≡ true) ⊎ IsReleased o b home)
       → ((home : Home) → x.first ≤ home.sector → 16 ≤ home.id → (later home.id home.page home.sector ≡ true) ⊎ GivesNot run home)
-      → (home : Home) → x.first ≤ home.sector → 16 ≤ home.id → (later home.id home.page home.sector ≡ true) ⊎ IsLet o b home
+      → (home : Home) → x.first ≤ home.sector → 16 ≤ home.id → (later home.id home.page home.sector ≡ true) ⊎ IsReleased o b home
   rest_after later still given home from may = elim (given home from may) [
     | inl is ↦ inl is
-    | inr none ↦ elim (h.rest home from may) [ inl is ↦ still home from may is | inr let_go ↦ inr (let_later o makes home none let_go) ]
+    | inr none ↦ elim (h.rest home from may) [ inl is ↦ still home from may is | inr evict ↦ inr (released_later o makes home none evict) ]
   ]
 
-  -- behind a call of which this is known
+  -- after a call of which this is known
   pub keeps_after : (n : List Sector) → Stands b t n → (later : Triples) → MapIs x later n
       → ((home : Home) → later home.id home.page home.sector ≡ true → (named home.id home.page home.sector ≡ true) ⊎ IsAtHome o b home) → (l : List Run) → AreOf later l
       → ((home : Home) → IsHeld t home → IsHeld s home ⊎ (IsMapsHome x home ⊎ (named home.id home.page home.sector ≡ true))) → IsUnframed t 0 → AreOverTables t later
       → (marks : Marks) → BitsAre x marks n → ((sector : ℕ) → x.first ≤ sector → sector < x.sectors → marks sector ≡ false → ((h.marks sector ≡ false) × TakesNot run sector) ⊎ MayBeFree o b sector)
-      → ((home : Home) → x.first ≤ home.sector → 16 ≤ home.id → named home.id home.page home.sector ≡ true → (later home.id home.page home.sector ≡ true) ⊎ IsLet o b home)
+      → ((home : Home) → x.first ≤ home.sector → 16 ≤ home.id → named home.id home.page home.sector ≡ true → (later home.id home.page home.sector ≡ true) ⊎ IsReleased o b home)
       → ((home : Home) → x.first ≤ home.sector → 16 ≤ home.id → (later home.id home.page home.sector ≡ true) ⊎ GivesNot run home)
       → ((sector : ℕ) → x.first ≤ sector → sector < x.sectors → marks sector ≡ true → ((h.marks sector ≡ true) × UpNot run sector) ⊎ IsUsed o b sector)
       → RootsBelow o.next run → ((home : Home) (turn : ℕ) (w : DiskWrite) → slice_get run turn ≡ Some w → Gives home w → MayTake o home.id)
@@ -139,16 +139,16 @@ module _ {o : Outset} {x : Layout} {k : List Run} {a : DiskState} {s : Slots} {n
 
 -- ---- Files that may be given pages.
 
-module _ {o : Outset} {x : Layout} {k : List Run} {a : DiskState} {s : Slots} {named : Triples} (h : KeepsTo o x k a s named) where
+module _ {o : InitialState} {x : Layout} {k : List Run} {a : DiskState} {s : Slots} {named : Triples} (h : KeepsTo o x k a s named) where
   -- a file of which the map names a page may be given others
   pub named_takes : (id page sector : ℕ) → named id page sector ≡ true → MayTake o id
   named_takes id page sector is client =
       let home : Home = record { sector = sector; id = id; page = page } in
       elim (h.homes home is) [ inl had ↦ inr (page, sector, had) | inr given ↦ h.taken home given client ]
 
--- ---- Behind a call that wrote no label.
+-- ---- After a call that wrote no label.
 
-module _ {o : Outset} {x : Layout} {k : List Run} {a : DiskState} {s : Slots} {named : Triples} (h : KeepsTo o x k a s named) {pages : Pages} {b : DiskState} {t : Slots} (makes : Makes pages [] a s b t) where
+module _ {o : InitialState} {x : Layout} {k : List Run} {a : DiskState} {s : Slots} {named : Triples} (h : KeepsTo o x k a s named) {pages : Pages} {b : DiskState} {t : Slots} (makes : Makes pages [] a s b t) where
   -- the memory stays, and pages of the maps alone came into frames
   pub keeps_same : Stands b t h.memory → (l : List Run) → AreOf named l → Brings (IsMapsHome x) s t → KeepsTo o x l b t named
   keeps_same stands l are brings =
@@ -156,7 +156,7 @@ module _ {o : Outset} {x : Layout} {k : List Run} {a : DiskState} {s : Slots} {n
       (unframed_still brings h.unframed) (over_left named named 0 h.over brings (λ same. absurd (omega (arith, same))) (λ other page sector own. own)) h.marks h.bits (λ sector from below is. inl (is, λ k w at takes. none-some w at))
       (λ home from may is. inl is) (λ home from may. inr (λ k w at gives. none-some w at)) (λ sector from below is. inl (is, λ k w at up. none-some w at)) (no_roots o.next) (λ home turn w at gives. absurd (none-some w at)) (λ tables. tables)
 
-module _ {o : Outset} {x : Layout} {k : List Run} {a : DiskState} {s : Slots} {named : Triples} (h : KeepsTo o x k a s named) {b : DiskState} {t : Slots} where
+module _ {o : InitialState} {x : Layout} {k : List Run} {a : DiskState} {s : Slots} {named : Triples} (h : KeepsTo o x k a s named) {b : DiskState} {t : Slots} where
   -- a look at files
   pub looks_keep : {l : List Run} → Looks x a s k b t l → KeepsTo o x l b t named
   looks_keep {l = l} looks =
@@ -168,13 +168,13 @@ module _ {o : Outset} {x : Layout} {k : List Run} {a : DiskState} {s : Slots} {n
   beside_keeps which beside stands l are = keeps_same h beside.goes.makes stands l are (maps_brought which beside.brings)
 
 -- by the layout and the runs that a filer has, where they are the same
-pub keeps_as : {o : Outset} {x y : Layout} {k l : CachedRuns} {b : DiskState} {t : Slots} {named : Triples} → y ≡ x → l ≡ k → KeepsTo o x (runs_of x.sectors k) b t named → KeepsTo o y (runs_of y.sectors l) b t named
+pub keeps_as : {o : InitialState} {x y : Layout} {k l : CachedRuns} {b : DiskState} {t : Slots} {named : Triples} → y ≡ x → l ≡ k → KeepsTo o x (runs_of x.sectors k) b t named → KeepsTo o y (runs_of y.sectors l) b t named
 keeps_as {o = o} {x = x} {l = l} {b = b} {t = t} {named = named} place same h =
     subst (λ (z : Layout). KeepsTo o z (runs_of z.sectors l) b t named) (sym place) (subst (λ (r : CachedRuns). KeepsTo o x (runs_of x.sectors r) b t named) (sym same) h)
 
 -- ---- What a filer keeps to, all pages of the space tables named.
 
 module _ {D A : Type 0} {G : Ghosts D} where
-  -- behind a call that names what it will, the pages of the space tables among it
-  pub on_from : (o : Outset) (named : Triples) (f : FilerOver D A G) → HasTables o named → KeepsFrom o named f → KeepsOn o f
+  -- after a call that names what it will, the pages of the space tables among it
+  pub on_from : (o : InitialState) (named : Triples) (f : Filer D A G) → HasTables o named → KeepsFrom o named f → KeepsOn o f
   on_from o named f tables from = (from.0, (from.1, (from.2 tables.0, tables.1)))

@@ -26,4 +26,4 @@ pub mod LaterLaws
 pub mod ShownLaws
 pub mod TabledLaws
 pub mod RetoldLaws
-pub mod ToldLaws
+pub mod RevealedLaws

@@ -40,7 +40,7 @@ free_count layout memory = free_sectors layout (is_marked memory)
 abbrev pub sectors_of : Run → List ℕ
 sectors_of run = range_with_len run.sector run.pages
 
--- a run of a volume of n sectors: this page of this file and those behind it, at most so many
+-- a run of a volume of n sectors: this page of this file and those after it, at most so many
 pub record IsRunFor (n id page most : ℕ) (run : Run) : Type 0 where
   pub form : IsRun n run
   pub same_id : run.id ≡ id

@@ -1,4 +1,4 @@
--- What a call tells as evidence has its reason, where disk and frames keep to an outset.
+-- What a call reports as evidence has its reason, where disk and frames keep to an initial state.
 use Rattle.std.proofs.Common.{◌≡◌, ◌⊎◌, inl, inr, ℕ, ◌<◌, ◌≤◌, true, false, List, [], refl, sym, ◌∙◌, subst}
 use Rattle.std.proofs.lemmas.Bool.{true≢false}
 use Rattle.std.proofs.lemmas.Option.{none-some}
@@ -21,14 +21,14 @@ use Rattle.swapper_kernel.specs.Stands.{Stands}
 use Rattle.filer_kernel.specs.Causes.{MapHalts}
 use Rattle.filer_kernel.specs.Triples.{MapIs}
 use Rattle.file_manager.specs.Grounds.{IsMapsHome}
-use Rattle.file_manager.specs.Reasons.{Outset, IsAtHome, KeepsTo, HasReason, ShowsReason, MayLack}
-use Rattle.file_manager.specs.LaterLaws.{let_later, used_later}
+use Rattle.file_manager.specs.Reasons.{InitialState, IsAtHome, KeepsTo, HasReason, ShowsReason, MayLack}
+use Rattle.file_manager.specs.LaterLaws.{released_later, used_later}
 use Rattle.file_manager.specs.ShownLaws.{in_form}
 use Rattle.file_manager.specs.KeepLaws.{home_later}
 
--- ---- Labels, and what a search of the file map tells.
+-- ---- Labels, and what a search of the file map reveals.
 
-module _ {o : Outset} {x : Layout} {k : List Run} {a : DiskState} {s : Slots} {named : Triples} (h : KeepsTo o x k a s named) {pages : Pages} {run : List DiskWrite} {b : DiskState} {t : Slots} (makes : Makes pages run a s b t) where
+module _ {o : InitialState} {x : Layout} {k : List Run} {a : DiskState} {s : Slots} {named : Triples} (h : KeepsTo o x k a s named) {pages : Pages} {run : List DiskWrite} {b : DiskState} {t : Slots} (makes : Makes pages run a s b t) where
   -- a label that another page's is wanted for, at a home that was given or that a frame had
   pub label_reasons : (homes : Homes) → ((home : Home) → homes home → IsMapsHome x home ⊎ IsAtHome o b home) → (e : Halt) → Halts homes a s b e → ShowsReason o x b e
   label_reasons homes at halt.Disk is = tt
@@ -51,8 +51,8 @@ module _ {o : Outset} {x : Layout} {k : List Run} {a : DiskState} {s : Slots} {n
 
 -- ---- Pages that are missing.
 
-module _ {o : Outset} {x : Layout} {k : List Run} {a : DiskState} {s : Slots} {named : Triples} (h : KeepsTo o x k a s named) {pages : Pages} {b : DiskState} {t : Slots} (makes : Makes pages [] a s b t) where
-  -- a page that the map does not name is told as missing
+module _ {o : InitialState} {x : Layout} {k : List Run} {a : DiskState} {s : Slots} {named : Triples} (h : KeepsTo o x k a s named) {pages : Pages} {b : DiskState} {t : Slots} (makes : Makes pages [] a s b t) where
+  -- a page that the map does not name is reported as missing
   pub missing_reason : (id page : ℕ) → 16 ≤ id → ((m : List Sector) (named : Triples) → Stands a s m → MapIs x named m → IsNowhere named id page) → HasReason o x b (Missing id page)
   missing_reason id page client nowhere = inr (
     client,
@@ -60,7 +60,7 @@ module _ {o : Outset} {x : Layout} {k : List Run} {a : DiskState} {s : Slots} {n
         let home : Home = record { sector = sector; id = id; page = page } in
         elim (h.rest home from client) [
           | inl is ↦ absurd (true≢false (sym is ∙ nowhere h.memory named h.stands h.map sector))
-          | inr let_go ↦ let_later o makes home (λ k w at gives. none-some w at) let_go
+          | inr evict ↦ released_later o makes home (λ k w at gives. none-some w at) evict
         ],
   )
 
@@ -73,7 +73,7 @@ module _ {o : Outset} {x : Layout} {k : List Run} {a : DiskState} {s : Slots} {n
 
 -- ---- No data sector is free.
 
-module _ {o : Outset} {x : Layout} {k : List Run} {a : DiskState} {s : Slots} {named : Triples} (h : KeepsTo o x k a s named) {pages : Pages} {b : DiskState} {t : Slots} (makes : Makes pages [] a s b t) where
+module _ {o : InitialState} {x : Layout} {k : List Run} {a : DiskState} {s : Slots} {named : Triples} (h : KeepsTo o x k a s named) {pages : Pages} {b : DiskState} {t : Slots} (makes : Makes pages [] a s b t) where
   -- the allocation map has each data sector as used
   pub room_reason : ((sector : ℕ) → x.first ≤ sector → sector < x.sectors → h.marks sector ≡ true) → HasReason o x b (Missing 3 0)
   room_reason all = inl (refl, refl, λ sector from below. used_later o makes sector (λ turn w at up. none-some w at) (h.used sector from below (all sector from below)))

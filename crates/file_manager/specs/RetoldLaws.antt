@@ -1,4 +1,4 @@
--- What keeps to an outset does so where other bytes are told of the space tables, or no identifier is given out from a later one on.
+-- What keeps to an initial state does so where other bytes are revealed of the space tables, or no identifier is given out from a later one on.
 use Rattle.std.proofs.Common.{inl, inr, ℕ, ◌≤◌, List, Option, arith}
 use Rattle.std.specs.Prelude.{IfSome}
 use Rattle.labelled_disk.specs.declared.disk.Disk.{Ghosts}
@@ -10,13 +10,13 @@ use Rattle.labelled_disk.specs.State.{DiskState}
 use Rattle.frame_pool.specs.Frames.{Slots}
 use Rattle.file_map.specs.declared.run.Run.{Run}
 use Rattle.file_map.specs.FileMap.{Triples}
-use Rattle.filer_kernel.specs.declared.filer.FilerOver.{FilerOver}
-use Rattle.file_manager.specs.Reasons.{Outset, AreTabled, KeepsOn, KeepsTo, ShowsReason, giving}
+use Rattle.filer_kernel.specs.declared.filer.Filer.{Filer}
+use Rattle.file_manager.specs.Reasons.{InitialState, AreTabled, KeepsOn, KeepsTo, ShowsReason, giving}
 
-module _ {o : Outset} {layout : Layout} {k : List Run} {a : DiskState} {s : Slots} {named : Triples} where
+module _ {o : InitialState} {layout : Layout} {k : List Run} {a : DiskState} {s : Slots} {named : Triples} where
   -- what else is so meanwhile plays no part in what was written, given and let
   meanwhile : (next : ℕ) (tables : Option (List ℕ)) → o.next ≤ next → (h : KeepsTo o layout k a s named) → IfSome tables (AreTabled layout named h.memory) → KeepsTo (record o { next = next; tables = tables }) layout k a s named
-  meanwhile next tables more h told = record {
+  meanwhile next tables more h revealed = record {
     since = h.since;
     memory = h.memory;
     stands = h.stands;
@@ -34,12 +34,12 @@ module _ {o : Outset} {layout : Layout} {k : List Run} {a : DiskState} {s : Slot
     used = h.used;
     roots = λ root made. let was = h.roots root made in omega (arith, was, more);
     taken = λ home given may. elim (h.taken home given may) [ inl below ↦ inl (omega (arith, below, more)) | inr had ↦ inr had ];
-    tabled = told;
+    tabled = revealed;
   }
 
-  -- other bytes are told of the tables, which they have
+  -- other bytes are revealed of the tables, which they have
   pub retold : (tables : Option (List ℕ)) → (h : KeepsTo o layout k a s named) → IfSome tables (AreTabled layout named h.memory) → KeepsTo (record o { tables = tables }) layout k a s named
-  retold tables h told = meanwhile o.next tables (omega arith) h told
+  retold tables h revealed = meanwhile o.next tables (omega arith) h revealed
 
   -- no identifier is given out from a later one on
   pub giving_more : (next : ℕ) → o.next ≤ next → KeepsTo o layout k a s named → KeepsTo (giving o next) layout k a s named
@@ -47,17 +47,17 @@ module _ {o : Outset} {layout : Layout} {k : List Run} {a : DiskState} {s : Slot
 
 -- so it is of a filer
 module _ {D A : Type 0} {G : Ghosts D} where
-  pub on_giving : (o : Outset) (f : FilerOver D A G) (next : ℕ) → KeepsOn o f → o.next ≤ next → KeepsOn (giving o next) f
+  pub on_giving : (o : InitialState) (f : Filer D A G) (next : ℕ) → KeepsOn o f → o.next ≤ next → KeepsOn (giving o next) f
   on_giving o f next (named, (keeps, all)) more = (named, (giving_more next more keeps, all))
 
 -- and a reason stays one, either way
-pub shows_giving : (o : Outset) (next : ℕ) (layout : Layout) (disk : DiskState) (halt : Halt) → ShowsReason o layout disk halt → ShowsReason (giving o next) layout disk halt
+pub shows_giving : (o : InitialState) (next : ℕ) (layout : Layout) (disk : DiskState) (halt : Halt) → ShowsReason o layout disk halt → ShowsReason (giving o next) layout disk halt
 shows_giving o next layout disk Disk is = is
 shows_giving o next layout disk (Damaged (Mismatch sector wanted found)) is = is
 shows_giving o next layout disk (Damaged (Malformed window page)) is = is
 shows_giving o next layout disk (Damaged (Missing id page)) is = is
 
-pub giving_shows : (o : Outset) (next : ℕ) (layout : Layout) (disk : DiskState) (halt : Halt) → ShowsReason (giving o next) layout disk halt → ShowsReason o layout disk halt
+pub giving_shows : (o : InitialState) (next : ℕ) (layout : Layout) (disk : DiskState) (halt : Halt) → ShowsReason (giving o next) layout disk halt → ShowsReason o layout disk halt
 giving_shows o next layout disk Disk is = is
 giving_shows o next layout disk (Damaged (Mismatch sector wanted found)) is = is
 giving_shows o next layout disk (Damaged (Malformed window page)) is = is

@@ -16,9 +16,9 @@ use Rattle.file_map.specs.FileMap.{Triples}
 use Rattle.file_map.proofs.InForm.{shown_unbroken}
 use Rattle.swapper_kernel.specs.declared.manager.Manager.TheVariants.{FileMap}
 use Rattle.swapper_kernel.specs.Homes.{IsLayout}
-use Rattle.swapper_kernel.specs.OnceLaws.{tells_once}
+use Rattle.swapper_kernel.specs.OnceLaws.{reveals_once}
 use Rattle.swapper_kernel.specs.Stands.{Stands}
-use Rattle.swapper_kernel.specs.Window.{Tells}
+use Rattle.swapper_kernel.specs.Window.{Reveals}
 use Rattle.filer_kernel.specs.Causes.{MapShows, MapCounts}
 pub use Rattle.filer_kernel.specs.NamedLaws.{run_home_named}
 use Rattle.filer_kernel.specs.Triples.{MapIs}
@@ -41,8 +41,8 @@ home_at_turn (r ∷ runs) (suc k) home at = home_at_turn runs k home at
 -- ---- What a map in form shows.
 
 module _ {x : Layout} {named : Triples} {a : DiskState} {s : Slots} {m : List Sector} (is : IsLayout x) (size : a.sectors ≡ x.sectors) (stands : Stands a s m) (map : MapIs x named m) where
-  bytes_told : Tells FileMap a s x map.bytes
-  bytes_told = record { memory = m; stands = stands; shows = map.shows; size = size }
+  bytes_revealed : Reveals FileMap a s x map.bytes
+  bytes_revealed = record { memory = m; stands = stands; shows = map.shows; size = size }
 
   map_pages : x.vfm ≡ vfm x.sectors
   map_pages = ap (λ (l : Layout). l.vfm) is.1
@@ -58,13 +58,13 @@ module _ {x : Layout} {named : Triples} {a : DiskState} {s : Slots} {m : List Se
 
   -- no page of it breaks its form
   pub in_form : (page : ℕ) → IsBroken x.sectors (MapShows x a s) page → ⊥
-  in_form page broken = shown_unbroken x.sectors x.vfm map.bytes named map.names few least most (MapShows x a s) (λ sight shows. shows map.bytes bytes_told) page broken
+  in_form page broken = shown_unbroken x.sectors x.vfm map.bytes named map.names few least most (MapShows x a s) (λ sight shows. shows map.bytes bytes_revealed) page broken
 
   -- as many pages of it are named as it counts records
   pub named_homes : (k : ℕ) → MapCounts x a s k → AreHomes (λ home. named home.id home.page home.sector ≡ true) k
-  named_homes k (b, told, counts) =
+  named_homes k (b, revealed, counts) =
       let runs = map.names.runs in
-      let n : k ≡ length runs = counts ∙ ap (λ (c : List ℕ). count_in (page_at c 0)) (tells_once FileMap a s x b map.bytes told bytes_told) ∙ counted_runs x.sectors x.vfm map.bytes named map.names in
+      let n : k ≡ length runs = counts ∙ ap (λ (c : List ℕ). count_in (page_at c 0)) (reveals_once FileMap a s x b map.bytes revealed bytes_revealed) ∙ counted_runs x.sectors x.vfm map.bytes named map.names in
       record {
         homes = homes_of runs;
         counted = length-map runs home_of ∙ sym n;

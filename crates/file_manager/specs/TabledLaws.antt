@@ -20,7 +20,7 @@ use Rattle.filer_kernel.specs.PlaceLaws.{on_data}
 use Rattle.filer_kernel.specs.Tables.{IsTablePage}
 use Rattle.filer_kernel.specs.Triples.{MapIs}
 use Rattle.session_words.proofs.FoundLemmas.{above_reserved}
-use Rattle.file_manager.specs.Reasons.{Outset, AreTabled, LeavesTables}
+use Rattle.file_manager.specs.Reasons.{InitialState, AreTabled, LeavesTables}
 
 -- ---- Memories that have the same labels of the space tables.
 
@@ -33,7 +33,7 @@ abbrev pub StaysNamed : Triples → Triples → Type 0
 StaysNamed named later = (page sector : ℕ) → named 3 page sector ≡ true → later 3 page sector ≡ true
 
 module _ (layout : Layout) (named later : Triples) (m n : List Sector) where
-  -- where no page of theirs is told, none is
+  -- where no page of theirs is revealed, none is
   pub none_tabled : (bytes : List ℕ) → bytes ≡ [] → AreTabled layout named m bytes → AreTabled layout later n bytes
   none_tabled bytes empty h =
       let size : 0 ≡ length bytes = ap (λ (b : List ℕ). length b) (sym empty) in
@@ -51,7 +51,7 @@ module _ (layout : Layout) (named later : Triples) (m n : List Sector) where
       named_so = p.named_so;
     }
 
-    -- else the bytes of those that are told stay
+    -- else the bytes of those that are revealed stay
     pub tabled_still : (bytes : List ℕ) → AreTabled layout named m bytes → AreTabled layout later n bytes
     tabled_still bytes h = record {
       count = h.count;
@@ -60,23 +60,23 @@ module _ (layout : Layout) (named later : Triples) (m n : List Sector) where
       page = λ k below. page_still k (part bytes (512 * k) 512) (h.page k below);
     }
 
--- what is told of them stays so
-pub tables_told : (layout : Layout) (named later : Triples) (m n : List Sector) (tables : Option (List ℕ)) → IsLayout layout → MapIs layout named m → KeepsSectors layout m n → StaysNamed named later
+-- what is revealed of them stays so
+pub tables_revealed : (layout : Layout) (named later : Triples) (m n : List Sector) (tables : Option (List ℕ)) → IsLayout layout → MapIs layout named m → KeepsSectors layout m n → StaysNamed named later
     → IfSome tables (AreTabled layout named m) → IfSome tables (AreTabled layout later n)
-tables_told layout named later m n None is map keeps stays h = tt
-tables_told layout named later m n (Some bytes) is map keeps stays h = tabled_still layout named later m n is map keeps stays bytes h
+tables_revealed layout named later m n None is map keeps stays h = tt
+tables_revealed layout named later m n (Some bytes) is map keeps stays h = tabled_still layout named later m n is map keeps stays bytes h
 
--- so it does where no page is told
-pub none_told : (layout : Layout) (named later : Triples) (m n : List Sector) (tables : Option (List ℕ)) → IfSome tables (λ b. b ≡ []) → IfSome tables (AreTabled layout named m) → IfSome tables (AreTabled layout later n)
-none_told layout named later m n None none is = tt
-none_told layout named later m n (Some bytes) none is = none_tabled layout named later m n bytes none is
+-- so it does where no page is revealed
+pub none_revealed : (layout : Layout) (named later : Triples) (m n : List Sector) (tables : Option (List ℕ)) → IfSome tables (λ b. b ≡ []) → IfSome tables (AreTabled layout named m) → IfSome tables (AreTabled layout later n)
+none_revealed layout named later m n None none is = tt
+none_revealed layout named later m n (Some bytes) none is = none_tabled layout named later m n bytes none is
 
--- behind a call on a file: where it is not that of the space tables, sectors with labels of theirs are as they were
-pub told_left : (layout : Layout) (named later : Triples) (m n : List Sector) (o : Outset) (id : ℕ) → IsLayout layout → MapIs layout named m → LeavesTables o id → (id ≢ 3 → KeepsSectors layout m n) → (id ≢ 3 → StaysNamed named later)
+-- after a call on a file: where it is not that of the space tables, sectors with labels of theirs are as they were
+pub revealed_left : (layout : Layout) (named later : Triples) (m n : List Sector) (o : InitialState) (id : ℕ) → IsLayout layout → MapIs layout named m → LeavesTables o id → (id ≢ 3 → KeepsSectors layout m n) → (id ≢ 3 → StaysNamed named later)
     → IfSome o.tables (AreTabled layout named m) → IfSome o.tables (AreTabled layout later n)
-told_left layout named later m n o id is map spares keeps stays h = elim (cases_eq id 3) [
-  | inl own ↦ none_told layout named later m n o.tables (spares own) h
-  | inr other ↦ tables_told layout named later m n o.tables is map (keeps other) (stays other) h
+revealed_left layout named later m n o id is map never_blames keeps stays h = elim (cases_eq id 3) [
+  | inl own ↦ none_revealed layout named later m n o.tables (never_blames own) h
+  | inr other ↦ tables_revealed layout named later m n o.tables is map (keeps other) (stays other) h
 ]
 
 -- ---- Sectors that do not differ.
@@ -85,21 +85,21 @@ told_left layout named later m n o id is map spares keeps stays h = elim (cases_
 pub keeps_undiffering : {test : ℕ → Label → Bool} (layout : Layout) (m n : List Sector) → Differs test m n → ((sector : ℕ) (l : Label) → layout.first ≤ sector → l.id ≡ 3 → test sector l ≡ false) → KeepsSectors layout m n
 keeps_undiffering layout m n differs fails sector s from here own = differs.pages sector s here (fails sector s.0 from own)
 
--- changes of a map are in front of the data
-pub front_only : (which : Manager) (layout : Layout) (sector : ℕ) (l : Label) → IsLayout layout → layout.first ≤ sector → in_map which layout sector l ≡ false
-front_only AllocationMap layout sector l is from = let first : layout.first ≡ 1 + layout.vam + layout.vfm = (parts layout is).0 in grind (arith, nat_tests)
-front_only FileMap layout sector l is from = let first : layout.first ≡ 1 + layout.vam + layout.vfm = (parts layout is).0 in grind (arith, nat_tests)
+-- changes of a map are before the data
+pub prefix_only : (which : Manager) (layout : Layout) (sector : ℕ) (l : Label) → IsLayout layout → layout.first ≤ sector → in_map which layout sector l ≡ false
+prefix_only AllocationMap layout sector l is from = let first : layout.first ≡ 1 + layout.vam + layout.vfm = (parts layout is).0 in grind (arith, nat_tests)
+prefix_only FileMap layout sector l is from = let first : layout.first ≡ 1 + layout.vam + layout.vfm = (parts layout is).0 in grind (arith, nat_tests)
 
-pub told_beside : (layout : Layout) (named : Triples) (m n : List Sector) (tables : Option (List ℕ)) (which : Manager) → IsLayout layout → MapIs layout named m → Differs (in_map which layout) m n
+pub revealed_beside : (layout : Layout) (named : Triples) (m n : List Sector) (tables : Option (List ℕ)) (which : Manager) → IsLayout layout → MapIs layout named m → Differs (in_map which layout) m n
     → IfSome tables (AreTabled layout named m) → IfSome tables (AreTabled layout named n)
-told_beside layout named m n tables which is map differs h =
-    tables_told layout named named m n tables is map (keeps_undiffering layout m n differs (λ sector l from own. front_only which layout sector l is from)) (λ page sector own. own) h
+revealed_beside layout named m n tables which is map differs h =
+    tables_revealed layout named named m n tables is map (keeps_undiffering layout m n differs (λ sector l from own. prefix_only which layout sector l is from)) (λ page sector own. own) h
 
 -- and where the file map names no other page of theirs
-pub told_renamed : (layout : Layout) (named later : Triples) (m n : List Sector) (o : Outset) (id : ℕ) → IsLayout layout → MapIs layout named m → LeavesTables o id → Differs (in_map FileMap layout) m n → (id ≢ 3 → StaysNamed named later)
+pub revealed_renamed : (layout : Layout) (named later : Triples) (m n : List Sector) (o : InitialState) (id : ℕ) → IsLayout layout → MapIs layout named m → LeavesTables o id → Differs (in_map FileMap layout) m n → (id ≢ 3 → StaysNamed named later)
     → IfSome o.tables (AreTabled layout named m) → IfSome o.tables (AreTabled layout later n)
-told_renamed layout named later m n o id is map spares differs stays h =
-    told_left layout named later m n o id is map spares (λ other. keeps_undiffering layout m n differs (λ sector l from own. front_only FileMap layout sector l is from)) stays h
+revealed_renamed layout named later m n o id is map never_blames differs stays h =
+    revealed_left layout named later m n o id is map never_blames (λ other. keeps_undiffering layout m n differs (λ sector l from own. prefix_only FileMap layout sector l is from)) stays h
 
 -- from a memory to another, and then to a third
 pub keeps_sectors_then : (layout : Layout) (l m n : List Sector) → KeepsSectors layout l m → KeepsSectors layout m n → KeepsSectors layout l n
@@ -108,13 +108,13 @@ keeps_sectors_then layout l m n first next sector s from here own = next sector 
 -- ---- Calls that leave them.
 
 -- a client's file is not theirs
-pub client_leaves : (o : Outset) (id : ℕ) → 16 ≤ id → LeavesTables o id
+pub client_leaves : (o : InitialState) (id : ℕ) → 16 ≤ id → LeavesTables o id
 client_leaves o id client same = absurd (omega (arith, client, same))
 
--- and where nothing is told of them, nothing is
-pub untold_leaves : (o : Outset) (id : ℕ) → o.tables ≡ None → LeavesTables o id
+-- and where nothing is revealed of them, nothing is
+pub untold_leaves : (o : InitialState) (id : ℕ) → o.tables ≡ None → LeavesTables o id
 untold_leaves o id none same = subst (λ (t : Option (List ℕ)). IfSome t (λ b. b ≡ [])) (sym none) tt
 
 -- the identifier of a file is not theirs
-pub file_untold : (o : Outset) (id : ℕ) → is_file_id id ≡ true → id ≡ 3 → o.tables ≡ None
+pub file_untold : (o : InitialState) (id : ℕ) → is_file_id id ≡ true → id ≡ 3 → o.tables ≡ None
 file_untold o id file same = let client = above_reserved id file in absurd (omega (arith, client, same))

@@ -11,14 +11,14 @@ use Rattle.frame_pool.specs.declared.home.Home.{Home}
 use Rattle.swapper_kernel.specs.Goes.{is_page_write}
 use Rattle.volume_root.specs.declared.root.Root.{Root}
 use Rattle.file_manager.specs.Creating.{next_id}
-use Rattle.file_manager.specs.Reasons.{Gives, GivesOut, GivesUp, HasRoot, IsAt, IsOne, Lets, Takes}
+use Rattle.file_manager.specs.Reasons.{Gives, GivesOut, GivesUp, HasRoot, IsAt, IsOne, Releases, Takes}
 
 -- ---- Rows of writes.
 
-pub get_front : (xs ys : List DiskWrite) (k : ℕ) (w : DiskWrite) → slice_get xs k ≡ Some w → slice_get (xs ++ ys) k ≡ Some w
-get_front [] ys k w at = absurd (none-some w at)
-get_front (x ∷ xs) ys zero w at = at
-get_front (x ∷ xs) ys (suc k) w at = get_front xs ys k w at
+pub get_prefix : (xs ys : List DiskWrite) (k : ℕ) (w : DiskWrite) → slice_get xs k ≡ Some w → slice_get (xs ++ ys) k ≡ Some w
+get_prefix [] ys k w at = absurd (none-some w at)
+get_prefix (x ∷ xs) ys zero w at = at
+get_prefix (x ∷ xs) ys (suc k) w at = get_prefix xs ys k w at
 
 pub get_end : (xs ys : List DiskWrite) (k : ℕ) (w : DiskWrite) → slice_get ys k ≡ Some w → (j : ℕ) × (j ≡ length xs + k) × (slice_get (xs ++ ys) j ≡ Some w)
 get_end [] ys k w at = (k, omega arith, at)
@@ -30,7 +30,7 @@ get_either [] ys k w at = inr (k, omega arith, at)
 get_either (x ∷ xs) ys zero w at = inl at
 get_either (x ∷ xs) ys (suc k) w at = elim (get_either xs ys k w at) [ inl was ↦ inl was | inr (j, same, here) ↦ inr (j, omega (arith, same), here) ]
 
--- what stands behind the same writes is the same
+-- what stands after the same writes is the same
 pub same_end : (xs ys zs : List DiskWrite) → xs ++ ys ≡ xs ++ zs → ys ≡ zs
 same_end [] ys zs same = same
 same_end (x ∷ xs) ys zs same = same_end xs ys zs (ap (λ (l : List DiskWrite). drop 1 l) same)
@@ -41,29 +41,29 @@ same_end (x ∷ xs) ys zs same = same_end xs ys zs (ap (λ (l : List DiskWrite).
 abbrev pub labels_in : List DiskWrite → List DiskWrite
 labels_in ws = filter (λ w. not (is_page_write w)) ws
 
--- each write of a label in front of one place of them is in front of that place of the row of labels
-abbrev pub AreInFront : List DiskWrite → List DiskWrite → ℕ → ℕ → Type 0
-AreInFront ws labels j k = (i : ℕ) (v : DiskWrite) → i < j → slice_get ws i ≡ Some v → is_page_write v ≡ false → (m : ℕ) × (m < k) × (slice_get labels m ≡ Some v)
+-- each write of a label before one place of them is before that place of the row of labels
+abbrev pub AreBefore : List DiskWrite → List DiskWrite → ℕ → ℕ → Type 0
+AreBefore ws labels j k = (i : ℕ) (v : DiskWrite) → i < j → slice_get ws i ≡ Some v → is_page_write v ≡ false → (m : ℕ) × (m < k) × (slice_get labels m ≡ Some v)
 
-front_of_page : (w : DiskWrite) (ws labels : List DiskWrite) (j k : ℕ) → is_page_write w ≡ true → AreInFront ws labels j k → AreInFront (w ∷ ws) labels (suc j) k
-front_of_page w ws labels j k page rest zero v below at label = absurd (true≢false (sym page ∙ ap is_page_write (same_Some w v at) ∙ label))
-front_of_page w ws labels j k page rest (suc i) v below at label = rest i v (omega (arith, below)) at label
+prefix_of_page : (w : DiskWrite) (ws labels : List DiskWrite) (j k : ℕ) → is_page_write w ≡ true → AreBefore ws labels j k → AreBefore (w ∷ ws) labels (suc j) k
+prefix_of_page w ws labels j k page rest zero v below at label = absurd (true≢false (sym page ∙ ap is_page_write (same_Some w v at) ∙ label))
+prefix_of_page w ws labels j k page rest (suc i) v below at label = rest i v (omega (arith, below)) at label
 
-front_of_label : (w : DiskWrite) (ws labels : List DiskWrite) (j k : ℕ) → AreInFront ws labels j k → AreInFront (w ∷ ws) (w ∷ labels) (suc j) (suc k)
-front_of_label w ws labels j k rest zero v below at label = (zero, omega arith, at)
-front_of_label w ws labels j k rest (suc i) v below at label = let m = rest i v (omega (arith, below)) at label in let first = m.1 in (suc m.0, omega (arith, first), m.2)
+prefix_of_label : (w : DiskWrite) (ws labels : List DiskWrite) (j k : ℕ) → AreBefore ws labels j k → AreBefore (w ∷ ws) (w ∷ labels) (suc j) (suc k)
+prefix_of_label w ws labels j k rest zero v below at label = (zero, omega arith, at)
+prefix_of_label w ws labels j k rest (suc i) v below at label = let m = rest i v (omega (arith, below)) at label in let first = m.1 in (suc m.0, omega (arith, first), m.2)
 
--- a write of a label is one of the writes, and those in front of it are in front of it in both rows
-pub label_among : (ws : List DiskWrite) (k : ℕ) (w : DiskWrite) → slice_get (labels_in ws) k ≡ Some w → (j : ℕ) × (slice_get ws j ≡ Some w) × AreInFront ws (labels_in ws) j k
+-- a write of a label is one of the writes, and those before it are before it in both rows
+pub label_among : (ws : List DiskWrite) (k : ℕ) (w : DiskWrite) → slice_get (labels_in ws) k ≡ Some w → (j : ℕ) × (slice_get ws j ≡ Some w) × AreBefore ws (labels_in ws) j k
 label_among [] k w at = absurd (none-some w at)
 label_among (write.Page sector wanted bytes ∷ ws) k w at =
-    let rest = label_among ws k w at in (suc rest.0, rest.1, front_of_page (write.Page sector wanted bytes) ws (labels_in ws) rest.0 k refl rest.2)
+    let rest = label_among ws k w at in (suc rest.0, rest.1, prefix_of_page (write.Page sector wanted bytes) ws (labels_in ws) rest.0 k refl rest.2)
 label_among (write.Whole sector label bytes ∷ ws) zero w at = (zero, at, λ i v below. absurd (omega (arith, below)))
 label_among (write.Whole sector label bytes ∷ ws) (suc k) w at =
-    let rest = label_among ws k w at in (suc rest.0, rest.1, front_of_label (write.Whole sector label bytes) ws (labels_in ws) rest.0 k rest.2)
+    let rest = label_among ws k w at in (suc rest.0, rest.1, prefix_of_label (write.Whole sector label bytes) ws (labels_in ws) rest.0 k rest.2)
 label_among (write.LabelOnly sector label ∷ ws) zero w at = (zero, at, λ i v below. absurd (omega (arith, below)))
 label_among (write.LabelOnly sector label ∷ ws) (suc k) w at =
-    let rest = label_among ws k w at in (suc rest.0, rest.1, front_of_label (write.LabelOnly sector label) ws (labels_in ws) rest.0 k rest.2)
+    let rest = label_among ws k w at in (suc rest.0, rest.1, prefix_of_label (write.LabelOnly sector label) ws (labels_in ws) rest.0 k rest.2)
 
 -- and each write among them that is not of a page is one of the writes of labels
 pub label_back : (ws : List DiskWrite) (k : ℕ) (w : DiskWrite) → slice_get ws k ≡ Some w → is_page_write w ≡ false → (j : ℕ) × (slice_get (labels_in ws) j ≡ Some w)
@@ -148,26 +148,26 @@ abbrev pub WasSo : (List DiskWrite → ℕ → Type 0) → Type 0
 WasSo is = (xs ys : List DiskWrite) (turn : ℕ) → labels_in ys ≡ [] → is (xs ++ ys) turn → is xs turn
 
 pub at_stays : (w : DiskWrite) → Stays (IsAt w)
-at_stays w xs ys turn at = get_front xs ys turn w at
+at_stays w xs ys turn at = get_prefix xs ys turn w at
 
 pub at_was : (w : DiskWrite) → is_page_write w ≡ false → WasSo (IsAt w)
 at_was w label xs ys turn none at = elim (get_either xs ys turn w at) [ inl was ↦ was | inr (j, same, here) ↦ absurd (no_label ys j w none here label) ]
 
 pub one_stays : (does : DiskWrite → Type 0) → Stays (IsOne does)
-one_stays does xs ys turn (w, so, at) = (w, so, get_front xs ys turn w at)
+one_stays does xs ys turn (w, evidence_seen, at) = (w, evidence_seen, get_prefix xs ys turn w at)
 
 pub one_was : (does : DiskWrite → Type 0) → ((w : DiskWrite) → does w → is_page_write w ≡ false) → WasSo (IsOne does)
-one_was does label xs ys turn none (w, so, at) = (w, so, at_was w (label w so) xs ys turn none at)
+one_was does label xs ys turn none (w, evidence_seen, at) = (w, evidence_seen, at_was w (label w evidence_seen) xs ys turn none at)
 
 pub root_stays : (root : Root) → Stays (HasRoot root)
-root_stays root xs ys turn (label, (page, (at, is))) = (label, (page, (get_front xs ys turn (write.Whole 0 label page) at, is)))
+root_stays root xs ys turn (label, (page, (at, is))) = (label, (page, (get_prefix xs ys turn (write.Whole 0 label page) at, is)))
 
 pub root_was : (root : Root) → WasSo (HasRoot root)
 root_was root xs ys turn none (label, (page, (at, is))) = (label, (page, (at_was (write.Whole 0 label page) refl xs ys turn none at, is)))
 
--- a root that stands in front of another write of the first row is of that row
-root_in_front : (root : Root) (xs ys : List DiskWrite) (earlier turn : ℕ) (w : DiskWrite) → slice_get xs turn ≡ Some w → earlier < turn → HasRoot root (xs ++ ys) earlier → HasRoot root xs earlier
-root_in_front root xs ys earlier turn w there before (label, (page, (at, is))) = elim (get_either xs ys earlier (write.Whole 0 label page) at) [
+-- a root that stands before another write of the first row is of that row
+root_before : (root : Root) (xs ys : List DiskWrite) (earlier turn : ℕ) (w : DiskWrite) → slice_get xs turn ≡ Some w → earlier < turn → HasRoot root (xs ++ ys) earlier → HasRoot root xs earlier
+root_before root xs ys earlier turn w there before (label, (page, (at, is))) = elim (get_either xs ys earlier (write.Whole 0 label page) at) [
   | inl was ↦ (label, (page, (was, is)))
   | inr (j, same, here) ↦ let within : turn < length xs = slice_get_within xs turn w there in absurd (omega (arith, before, same, within))
 ]
@@ -177,7 +177,7 @@ gives_out_stays old id xs ys turn h = record {
   root = h.root;
   is = root_stays h.root xs ys turn h.is;
   counts = h.counts;
-  first = λ earlier other before has. h.first earlier other before (root_in_front other xs ys earlier turn (write.Whole 0 h.is.0 h.is.1.0) h.is.1.1.0 before has);
+  first = λ earlier other before has. h.first earlier other before (root_before other xs ys earlier turn (write.Whole 0 h.is.0 h.is.1.0) h.is.1.1.0 before has);
 }
 
 gives_out_was : (old : Root) (id : ℕ) → WasSo (GivesOut old id)
@@ -188,10 +188,10 @@ gives_out_was old id xs ys turn none h = record {
   first = λ earlier other before has. h.first earlier other before (root_stays other xs ys earlier has);
 }
 
-pub lets_stays : (lied : Type 0) (old : Root) (home : Home) → Stays (Lets lied old home)
-lets_stays lied old home xs ys turn (inl up) = inl (at_stays (write.LabelOnly home.sector free_label) xs ys turn up)
-lets_stays lied old home xs ys turn (inr (had, out)) = inr (had, gives_out_stays old home.id xs ys turn out)
+pub releases_stays : (lied : Type 0) (old : Root) (home : Home) → Stays (Releases lied old home)
+releases_stays lied old home xs ys turn (inl up) = inl (at_stays (write.LabelOnly home.sector free_label) xs ys turn up)
+releases_stays lied old home xs ys turn (inr (had, out)) = inr (had, gives_out_stays old home.id xs ys turn out)
 
-pub lets_was : (lied : Type 0) (old : Root) (home : Home) → WasSo (Lets lied old home)
-lets_was lied old home xs ys turn none (inl up) = inl (at_was (write.LabelOnly home.sector free_label) refl xs ys turn none up)
-lets_was lied old home xs ys turn none (inr (had, out)) = inr (had, gives_out_was old home.id xs ys turn none out)
+pub releases_was : (lied : Type 0) (old : Root) (home : Home) → WasSo (Releases lied old home)
+releases_was lied old home xs ys turn none (inl up) = inl (at_was (write.LabelOnly home.sector free_label) refl xs ys turn none up)
+releases_was lied old home xs ys turn none (inr (had, out)) = inr (had, gives_out_was old home.id xs ys turn none out)

@@ -1,7 +1,7 @@
 //! Files that are created.
 ghost use Rattle.std.specs.Prelude.{◌≡◌, ℕ, ◌+◌, ◌*◌, ◌^◌, ◌≤◌, ◌<◌, List, [], ◌∷◌, IfOk, IfErr, OnErr, OnOk};
 ghost use Rattle.labelled_disk.specs.declared.evidence.Halt.TheVariants as halt;
-ghost use Rattle.labelled_disk.specs.Moment.{written};
+ghost use Rattle.labelled_disk.specs.CrashState.{written};
 ghost use Rattle.labelled_disk.specs.Calls.{Rose};
 ghost use Rattle.labelled_disk.specs.Sectors.{Sector};
 ghost use Rattle.file_map.specs.FileMap.{Triples, most_records};
@@ -11,17 +11,17 @@ ghost use Rattle.session_words.specs.Parts.{Shapes};
 ghost use Rattle.swapper_kernel.specs.Goes.{Goes, no_page};
 ghost use Rattle.volume_root.specs.RootPage.{IsValidRoot, root_write};
 ghost use Rattle.file_manager.specs.Grounds.{CreateHalts, IsNewPage};
-ghost use Rattle.filer_kernel.specs.Evidence.{ShowsSo};
+ghost use Rattle.filer_kernel.specs.Evidence.{ShowsEvidence};
 ghost use Rattle.file_manager.specs.CreateBroken.{CreatedSome};
 ghost use Rattle.file_manager.specs.Creating.{next_id, counted, CreatedAs, NewMade, NewSome};
 ghost use Rattle.file_manager.specs.Making.{MayCreate};
 ghost use Rattle.file_manager.specs.Roots.{RootCounts};
-ghost use Rattle.file_manager.specs.Reasons.{giving, IsAhead, Keeps, KeepsFrom, Outset, ShowsReason};
+ghost use Rattle.file_manager.specs.Reasons.{giving, IsNotOlder, Keeps, KeepsFrom, InitialState, ShowsReason};
 
 use crate::Volume;
 use crate::growth::frames_of;
 use crate::making::make_file;
-use filer_kernel::FilerOver;
+use filer_kernel::Filer;
 use labelled_disk::{Disk, FileId, Halt};
 use std::alloc::Allocator;
 use volume_root::{Root, write_root};
@@ -45,24 +45,21 @@ fn used_with(volume: &Volume, pages: u32) -> u32
 }
 
 /// Writes a root to the disk. No frame is over its sector.
-pub fn write_over<D: Disk, A: Allocator>(
-    filer: &mut FilerOver<D, A>,
-    root: Root,
-) -> Result<(), Halt>
-    requires size { (D.state filer.old.swapper.under).sectors ≡ filer.old.swapper.layout.sectors }
+pub fn write_over<D: Disk, A: Allocator>(filer: &mut Filer<D, A>, root: Root) -> Result<(), Halt>
+    requires size { (D.state filer.old.swapper.disk).sectors ≡ filer.old.swapper.layout.sectors }
     requires valid { IsValidRoot filer.old.swapper.layout.sectors root }
     requires serial { root.serial < 2 ^ 32 }
     requires counter { root.counter < 2 ^ 32 }
-    ensures made { OnOk result (Goes (λ m n. n ≡ written (root_write root) m) no_page (root_write root ∷ []) (D.state filer.old.swapper.under) filer.old.swapper.pool (D.state filer.new.swapper.under) filer.old.swapper.pool) }
-    ensures stopped { OnErr result (MayHaveWritten (root_write root) (D.state filer.old.swapper.under) filer.old.swapper.pool (D.state filer.new.swapper.under)) }
+    ensures made { OnOk result (Goes (λ m n. n ≡ written (root_write root) m) no_page (root_write root ∷ []) (D.state filer.old.swapper.disk) filer.old.swapper.pool (D.state filer.new.swapper.disk) filer.old.swapper.pool) }
+    ensures stopped { OnErr result (MayHaveWritten (root_write root) (D.state filer.old.swapper.disk) filer.old.swapper.pool (D.state filer.new.swapper.disk)) }
     ensures fault { IfErr result (λ e. e ≡ halt.Disk) }
-    ensures keeps_to { (o : Outset) (named : Triples) → Keeps o filer.old named → next_id root ≤ o.next → OnOk result (Keeps o filer.new named) }
-    ensures reasons { (o : Outset) (named : Triples) → Keeps o filer.old named → IfErr result (ShowsReason o filer.old.swapper.layout (D.state filer.new.swapper.under)) }
-    ensures counted { OnErr result (Rose (D.state filer.old.swapper.under).faults (D.state filer.new.swapper.under).faults) }
+    ensures keeps_to { (o : InitialState) (named : Triples) → Keeps o filer.old named → next_id root ≤ o.next → OnOk result (Keeps o filer.new named) }
+    ensures reasons { (o : InitialState) (named : Triples) → Keeps o filer.old named → IfErr result (ShowsReason o filer.old.swapper.layout (D.state filer.new.swapper.disk)) }
+    ensures counted { OnErr result (Rose (D.state filer.old.swapper.disk).faults (D.state filer.new.swapper.disk).faults) }
     ensures frames { filer.new.swapper.pool ≡ filer.old.swapper.pool }
     ensures layout { filer.new.swapper.layout ≡ filer.old.swapper.layout }
     ensures runs { filer.new.runs ≡ filer.old.runs }
-    ensures cost { (D.state filer.new.swapper.under).transfers ≤ (D.state filer.old.swapper.under).transfers + 1 }
+    ensures cost { (D.state filer.new.swapper.disk).transfers ≤ (D.state filer.old.swapper.disk).transfers + 1 }
 {
     let disk = filer.disk_over();
     match write_root(disk, &root) {
@@ -74,34 +71,34 @@ pub fn write_over<D: Disk, A: Allocator>(
 /// Creates a file of so many pages of zeros, with the next identifier of the volume: the root with the next counter is
 /// written first, and what the file map might have of the identifier goes.
 pub fn create<D: Disk, A: Allocator>(
-    filer: &mut FilerOver<D, A>,
+    filer: &mut Filer<D, A>,
     volume: &mut Volume,
     pages: u32,
     kind: u16,
 ) -> Result<FileId, Halt>
-    requires size { (D.state filer.old.swapper.under).sectors ≡ filer.old.swapper.layout.sectors }
+    requires size { (D.state filer.old.swapper.disk).sectors ≡ filer.old.swapper.layout.sectors }
     requires valid { IsValidRoot filer.old.swapper.layout.sectors volume.old.root }
     requires counter { volume.old.root.counter < 4294967295 }
     requires room { volume.old.used + pages + 1 ≤ volume.old.layout.capacity }
     ensures next { IfOk result (λ id. id ≡ next_id volume.old.root) }
-    ensures created { (x : List Sector) (shapes : Shapes) (spaces : List Space) → MayCreate (D.state filer.old.swapper.under) filer.old.swapper.pool filer.old.swapper.layout filer.old.runs shapes spaces (next_id volume.old.root) pages x
-        → OnOk result (CreatedAs volume.old.root kind pages (D.state filer.old.swapper.under) filer.old.swapper.pool filer.old.swapper.layout (D.state filer.new.swapper.under) filer.new.swapper.pool filer.new.runs) }
-    ensures sound { (x : List Sector) (shapes : Shapes) (spaces : List Space) → MayCreate (D.state filer.old.swapper.under) filer.old.swapper.pool filer.old.swapper.layout filer.old.runs shapes spaces (next_id volume.old.root) pages x
+    ensures created { (x : List Sector) (shapes : Shapes) (spaces : List Space) → MayCreate (D.state filer.old.swapper.disk) filer.old.swapper.pool filer.old.swapper.layout filer.old.runs shapes spaces (next_id volume.old.root) pages x
+        → OnOk result (CreatedAs volume.old.root kind pages (D.state filer.old.swapper.disk) filer.old.swapper.pool filer.old.swapper.layout (D.state filer.new.swapper.disk) filer.new.swapper.pool filer.new.runs) }
+    ensures sound { (x : List Sector) (shapes : Shapes) (spaces : List Space) → MayCreate (D.state filer.old.swapper.disk) filer.old.swapper.pool filer.old.swapper.layout filer.old.runs shapes spaces (next_id volume.old.root) pages x
         → IfErr result (λ e. e ≡ halt.Disk) }
-    ensures broken { (x : List Sector) (shapes : Shapes) (spaces : List Space) → MayCreate (D.state filer.old.swapper.under) filer.old.swapper.pool filer.old.swapper.layout filer.old.runs shapes spaces (next_id volume.old.root) pages x
-        → OnErr result (CreatedSome (root_write (counted volume.old.root) ∷ []) (next_id volume.old.root) kind pages x (D.state filer.old.swapper.under) filer.old.swapper.pool (D.state filer.new.swapper.under) filer.new.swapper.pool) }
-    ensures cause { IfErr result (CreateHalts filer.old.swapper.layout (next_id volume.old.root) (IsNewPage pages) (D.state filer.old.swapper.under) filer.old.swapper.pool (D.state filer.new.swapper.under) filer.new.swapper.pool) }
-    ensures keeps_to { (o : Outset) (named : Triples) → Keeps o filer.old named → IsAhead o volume.old.root → OnOk result (KeepsFrom (giving o (next_id volume.new.root)) named filer.new) }
-    ensures reasons { (o : Outset) (named : Triples) → Keeps o filer.old named → IsAhead o volume.old.root → IfErr result (ShowsReason o filer.old.swapper.layout (D.state filer.new.swapper.under)) }
-    ensures so { IfErr result (ShowsSo (D.state filer.new.swapper.under)) }
-    ensures counted { result ≡ Err halt.Disk → Rose (D.state filer.old.swapper.under).faults (D.state filer.new.swapper.under).faults }
+    ensures broken { (x : List Sector) (shapes : Shapes) (spaces : List Space) → MayCreate (D.state filer.old.swapper.disk) filer.old.swapper.pool filer.old.swapper.layout filer.old.runs shapes spaces (next_id volume.old.root) pages x
+        → OnErr result (CreatedSome (root_write (counted volume.old.root) ∷ []) (next_id volume.old.root) kind pages x (D.state filer.old.swapper.disk) filer.old.swapper.pool (D.state filer.new.swapper.disk) filer.new.swapper.pool) }
+    ensures cause { IfErr result (CreateHalts filer.old.swapper.layout (next_id volume.old.root) (IsNewPage pages) (D.state filer.old.swapper.disk) filer.old.swapper.pool (D.state filer.new.swapper.disk) filer.new.swapper.pool) }
+    ensures keeps_to { (o : InitialState) (named : Triples) → Keeps o filer.old named → IsNotOlder o volume.old.root → OnOk result (KeepsFrom (giving o (next_id volume.new.root)) named filer.new) }
+    ensures reasons { (o : InitialState) (named : Triples) → Keeps o filer.old named → IsNotOlder o volume.old.root → IfErr result (ShowsReason o filer.old.swapper.layout (D.state filer.new.swapper.disk)) }
+    ensures evidence_seen { IfErr result (ShowsEvidence (D.state filer.new.swapper.disk)) }
+    ensures counted { result ≡ Err halt.Disk → Rose (D.state filer.old.swapper.disk).faults (D.state filer.new.swapper.disk).faults }
     ensures new_volume { OnOk result (volume.new ≡ record volume.old { root = counted volume.old.root; used = volume.old.used + pages + 1 }) }
     ensures same_volume { OnErr result (volume.new ≡ volume.old) }
-    ensures makes { OnOk result (NewMade volume.old.root kind pages (D.state filer.old.swapper.under) filer.old.swapper.pool (D.state filer.new.swapper.under) filer.new.swapper.pool) }
-    ensures stopped { OnErr result (NewSome volume.old.root kind pages (D.state filer.old.swapper.under) filer.old.swapper.pool (D.state filer.new.swapper.under) filer.new.swapper.pool) }
-    ensures root { RootCounts volume.old.root (D.state filer.old.swapper.under) (D.state filer.new.swapper.under) }
+    ensures makes { OnOk result (NewMade volume.old.root kind pages (D.state filer.old.swapper.disk) filer.old.swapper.pool (D.state filer.new.swapper.disk) filer.new.swapper.pool) }
+    ensures stopped { OnErr result (NewSome volume.old.root kind pages (D.state filer.old.swapper.disk) filer.old.swapper.pool (D.state filer.new.swapper.disk) filer.new.swapper.pool) }
+    ensures root { RootCounts volume.old.root (D.state filer.old.swapper.disk) (D.state filer.new.swapper.disk) }
     ensures layout { filer.new.swapper.layout ≡ filer.old.swapper.layout }
-    ensures cost { (D.state filer.new.swapper.under).transfers ≤ (D.state filer.old.swapper.under).transfers + (1 + 2 * (1 + 51 * most_records filer.old.swapper.layout.sectors) + (pages + 1) * (8 * filer.old.swapper.layout.vam + 100)) }
+    ensures cost { (D.state filer.new.swapper.disk).transfers ≤ (D.state filer.old.swapper.disk).transfers + (1 + 2 * (1 + 51 * most_records filer.old.swapper.layout.sectors) + (pages + 1) * (8 * filer.old.swapper.layout.vam + 100)) }
 {
     let used = used_with(volume, pages);
     let root = volume.root;

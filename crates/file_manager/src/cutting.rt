@@ -17,11 +17,11 @@ ghost use Rattle.filer_kernel.specs.Becomes.{Becomes};
 ghost use Rattle.filer_kernel.specs.Cached.{runs_of};
 ghost use Rattle.filer_kernel.specs.Triples.{MapIs};
 ghost use Rattle.file_manager.specs.Grounds.{ShrinkHalts, IsUnframed};
-ghost use Rattle.filer_kernel.specs.Evidence.{ShowsSo};
+ghost use Rattle.filer_kernel.specs.Evidence.{ShowsEvidence};
 ghost use Rattle.session_words.specs.Parts.{Shape, Shapes, IsTriple};
 ghost use Rattle.file_manager.specs.Freeing.{MakesFree, MakesSomeFree};
 ghost use Rattle.file_manager.specs.Shrinking.{MayShrink, ShrunkBy, ShrunkSome, IsLeaderAlone, cut_triples};
-ghost use Rattle.file_manager.specs.Reasons.{AreLet, Keeps, KeepsFrom, Outset, ShowsReason};
+ghost use Rattle.file_manager.specs.Reasons.{AreReleased, Keeps, KeepsFrom, InitialState, ShowsReason};
 ghost use Rattle.file_manager.specs.Taking.{NamesNoneOf};
 
 use crate::Volume;
@@ -29,34 +29,34 @@ use crate::growth::frames_of;
 use crate::leader::LEADER;
 use crate::shrinking::free_down;
 use file_map::Run;
-use filer_kernel::FilerOver;
+use filer_kernel::Filer;
 use labelled_disk::{Disk, FileId, Halt};
 use std::alloc::Allocator;
 
 // Takes the pages of a file from one on out of the file map, and puts its leader, which stands in this sector, in again.
 fn cut_to<D: Disk, A: Allocator>(
-    filer: &mut FilerOver<D, A>,
+    filer: &mut Filer<D, A>,
     id: FileId,
     from: u32,
     leader: u32,
 ) -> Result<(), Halt>
-    requires size { (D.state filer.old.swapper.under).sectors ≡ filer.old.swapper.layout.sectors }
+    requires size { (D.state filer.old.swapper.disk).sectors ≡ filer.old.swapper.layout.sectors }
     requires of_file { 16 ≤ id }
     requires data { filer.old.swapper.layout.first ≤ leader }
     requires inside { leader < filer.old.swapper.layout.sectors }
-    ensures cut { (m : List Sector) (named : Triples) → Stands (D.state filer.old.swapper.under) filer.old.swapper.pool m → MapIs filer.old.swapper.layout named m
-        → OnOk result (Becomes FileMapPages filer.old.swapper.layout m (MapIs filer.old.swapper.layout (cut_triples named id from leader)) (D.state filer.new.swapper.under) filer.new.swapper.pool) }
-    ensures in_form { OnOk result ((y : List Sector) → Stands (D.state filer.new.swapper.under) filer.new.swapper.pool y → AreSectors y) }
-    ensures sound { (m : List Sector) (named : Triples) → Stands (D.state filer.old.swapper.under) filer.old.swapper.pool m → MapIs filer.old.swapper.layout named m → AreNamed m (IsMapHome FileMapPages filer.old.swapper.layout)
+    ensures cut { (m : List Sector) (named : Triples) → Stands (D.state filer.old.swapper.disk) filer.old.swapper.pool m → MapIs filer.old.swapper.layout named m
+        → OnOk result (Becomes FileMapPages filer.old.swapper.layout m (MapIs filer.old.swapper.layout (cut_triples named id from leader)) (D.state filer.new.swapper.disk) filer.new.swapper.pool) }
+    ensures in_form { OnOk result ((y : List Sector) → Stands (D.state filer.new.swapper.disk) filer.new.swapper.pool y → AreSectors y) }
+    ensures sound { (m : List Sector) (named : Triples) → Stands (D.state filer.old.swapper.disk) filer.old.swapper.pool m → MapIs filer.old.swapper.layout named m → AreNamed m (IsMapHome FileMapPages filer.old.swapper.layout)
         → AreOnce named → IsLeaderAlone named id leader → IfErr result (λ e. e ≡ halt.Disk) }
     ensures runs { (n : ℕ) → runs_of n filer.new.runs ≡ filter (λ r. not (r.id == id)) (runs_of n filer.old.runs) }
-    ensures cause { IfErr result (ShrinkHalts (IsUnframed filer.old.swapper.pool id) filer.old.swapper.layout (runs_of filer.old.swapper.layout.sectors filer.old.runs) id from (λ p. ⊥) (D.state filer.old.swapper.under) filer.old.swapper.pool (D.state filer.new.swapper.under) filer.new.swapper.pool) }
-    ensures keeps_to { (o : Outset) (named : Triples) → Keeps o filer.old named → named id leader_page leader ≡ true → AreLet o (D.state filer.old.swapper.under) named id (λ p. (from ≤ p) × (p < 4294967295)) → OnOk result (KeepsFrom o named filer.new) }
-    ensures reasons { (o : Outset) (named : Triples) → Keeps o filer.old named → named id leader_page leader ≡ true → IfErr result (ShowsReason o filer.old.swapper.layout (D.state filer.new.swapper.under)) }
-    ensures so { IfErr result (ShowsSo (D.state filer.new.swapper.under)) }
-    ensures counted { IfErr result (λ e. e ≡ halt.Disk → Rose (D.state filer.old.swapper.under).faults (D.state filer.new.swapper.under).faults) }
-    ensures beside { Beside FileMapPages (D.state filer.old.swapper.under) filer.old.swapper.pool filer.old.swapper.layout (D.state filer.new.swapper.under) filer.new.swapper.pool filer.new.swapper.layout }
-    ensures cost { (D.state filer.new.swapper.under).transfers ≤ (D.state filer.old.swapper.under).transfers + (100 + 102 * most_records filer.old.swapper.layout.sectors) }
+    ensures cause { IfErr result (ShrinkHalts (IsUnframed filer.old.swapper.pool id) filer.old.swapper.layout (runs_of filer.old.swapper.layout.sectors filer.old.runs) id from (λ p. ⊥) (D.state filer.old.swapper.disk) filer.old.swapper.pool (D.state filer.new.swapper.disk) filer.new.swapper.pool) }
+    ensures keeps_to { (o : InitialState) (named : Triples) → Keeps o filer.old named → named id leader_page leader ≡ true → AreReleased o (D.state filer.old.swapper.disk) named id (λ p. (from ≤ p) × (p < 4294967295)) → OnOk result (KeepsFrom o named filer.new) }
+    ensures reasons { (o : InitialState) (named : Triples) → Keeps o filer.old named → named id leader_page leader ≡ true → IfErr result (ShowsReason o filer.old.swapper.layout (D.state filer.new.swapper.disk)) }
+    ensures evidence_seen { IfErr result (ShowsEvidence (D.state filer.new.swapper.disk)) }
+    ensures counted { IfErr result (λ e. e ≡ halt.Disk → Rose (D.state filer.old.swapper.disk).faults (D.state filer.new.swapper.disk).faults) }
+    ensures beside { Beside FileMapPages (D.state filer.old.swapper.disk) filer.old.swapper.pool filer.old.swapper.layout (D.state filer.new.swapper.disk) filer.new.swapper.pool filer.new.swapper.layout }
+    ensures cost { (D.state filer.new.swapper.disk).transfers ≤ (D.state filer.old.swapper.disk).transfers + (100 + 102 * most_records filer.old.swapper.layout.sectors) }
 {
     match filer.cut(id, from) {
         Ok(()) => (),
@@ -78,38 +78,38 @@ fn cut_to<D: Disk, A: Allocator>(
 
 // Frees the pages of a file from one on, the last one first. Its leader stands in this sector.
 pub(crate) fn shrink<D: Disk, A: Allocator>(
-    filer: &mut FilerOver<D, A>,
+    filer: &mut Filer<D, A>,
     volume: &mut Volume,
     id: FileId,
     leader: u32,
     pages: u32,
     size: u32,
 ) -> Result<(), Halt>
-    requires sectors { (D.state filer.old.swapper.under).sectors ≡ filer.old.swapper.layout.sectors }
+    requires sectors { (D.state filer.old.swapper.disk).sectors ≡ filer.old.swapper.layout.sectors }
     requires of_file { 16 ≤ id }
     requires data { filer.old.swapper.layout.first ≤ leader }
     requires inside { leader < filer.old.swapper.layout.sectors }
     requires order { pages ≤ size }
-    ensures shrunk { (x : List Sector) (shapes : Shapes) (spaces : List Space) (f : Shape) → MayShrink (D.state filer.old.swapper.under) filer.old.swapper.pool filer.old.swapper.layout filer.old.runs shapes spaces id f pages x
+    ensures shrunk { (x : List Sector) (shapes : Shapes) (spaces : List Space) (f : Shape) → MayShrink (D.state filer.old.swapper.disk) filer.old.swapper.pool filer.old.swapper.layout filer.old.runs shapes spaces id f pages x
         → f.size ≡ size → IsTriple (labels_of x) id leader_page leader
-        → OnOk result (ShrunkBy id pages size x (D.state filer.old.swapper.under) filer.old.swapper.pool filer.old.swapper.layout (D.state filer.new.swapper.under) filer.new.swapper.pool filer.new.runs) }
-    ensures sound { (x : List Sector) (shapes : Shapes) (spaces : List Space) (f : Shape) → MayShrink (D.state filer.old.swapper.under) filer.old.swapper.pool filer.old.swapper.layout filer.old.runs shapes spaces id f pages x
+        → OnOk result (ShrunkBy id pages size x (D.state filer.old.swapper.disk) filer.old.swapper.pool filer.old.swapper.layout (D.state filer.new.swapper.disk) filer.new.swapper.pool filer.new.runs) }
+    ensures sound { (x : List Sector) (shapes : Shapes) (spaces : List Space) (f : Shape) → MayShrink (D.state filer.old.swapper.disk) filer.old.swapper.pool filer.old.swapper.layout filer.old.runs shapes spaces id f pages x
         → f.size ≡ size → IsTriple (labels_of x) id leader_page leader → IfErr result (λ e. e ≡ halt.Disk) }
-    ensures cause { IfErr result (ShrinkHalts (IsUnframed filer.old.swapper.pool id) filer.old.swapper.layout (runs_of filer.old.swapper.layout.sectors filer.old.runs) id pages (λ p. (pages ≤ p) × (p < size)) (D.state filer.old.swapper.under) filer.old.swapper.pool (D.state filer.new.swapper.under) filer.new.swapper.pool) }
-    ensures keeps_to { (o : Outset) (named : Triples) → Keeps o filer.old named → named id leader_page leader ≡ true → NamesNoneOf id (λ p. (size ≤ p) × (p < 4294967295)) named → OnOk result (KeepsFrom o named filer.new) }
-    ensures reasons { (o : Outset) (named : Triples) → Keeps o filer.old named → named id leader_page leader ≡ true → IfErr result (ShowsReason o filer.old.swapper.layout (D.state filer.new.swapper.under)) }
-    ensures so { IfErr result (ShowsSo (D.state filer.new.swapper.under)) }
-    ensures counted { IfErr result (λ e. e ≡ halt.Disk → Rose (D.state filer.old.swapper.under).faults (D.state filer.new.swapper.under).faults) }
-    ensures broken { (x : List Sector) (shapes : Shapes) (spaces : List Space) (f : Shape) → MayShrink (D.state filer.old.swapper.under) filer.old.swapper.pool filer.old.swapper.layout filer.old.runs shapes spaces id f pages x
+    ensures cause { IfErr result (ShrinkHalts (IsUnframed filer.old.swapper.pool id) filer.old.swapper.layout (runs_of filer.old.swapper.layout.sectors filer.old.runs) id pages (λ p. (pages ≤ p) × (p < size)) (D.state filer.old.swapper.disk) filer.old.swapper.pool (D.state filer.new.swapper.disk) filer.new.swapper.pool) }
+    ensures keeps_to { (o : InitialState) (named : Triples) → Keeps o filer.old named → named id leader_page leader ≡ true → NamesNoneOf id (λ p. (size ≤ p) × (p < 4294967295)) named → OnOk result (KeepsFrom o named filer.new) }
+    ensures reasons { (o : InitialState) (named : Triples) → Keeps o filer.old named → named id leader_page leader ≡ true → IfErr result (ShowsReason o filer.old.swapper.layout (D.state filer.new.swapper.disk)) }
+    ensures evidence_seen { IfErr result (ShowsEvidence (D.state filer.new.swapper.disk)) }
+    ensures counted { IfErr result (λ e. e ≡ halt.Disk → Rose (D.state filer.old.swapper.disk).faults (D.state filer.new.swapper.disk).faults) }
+    ensures broken { (x : List Sector) (shapes : Shapes) (spaces : List Space) (f : Shape) → MayShrink (D.state filer.old.swapper.disk) filer.old.swapper.pool filer.old.swapper.layout filer.old.runs shapes spaces id f pages x
         → f.size ≡ size → IsTriple (labels_of x) id leader_page leader
-        → OnErr result (ShrunkSome id pages size x (D.state filer.old.swapper.under) filer.old.swapper.pool (D.state filer.new.swapper.under) filer.new.swapper.pool) }
-    ensures makes { OnOk result (MakesFree (size - pages) (D.state filer.old.swapper.under) filer.old.swapper.pool (D.state filer.new.swapper.under) filer.new.swapper.pool) }
-    ensures stopped { OnErr result (MakesSomeFree (D.state filer.old.swapper.under) filer.old.swapper.pool (D.state filer.new.swapper.under) filer.new.swapper.pool) }
+        → OnErr result (ShrunkSome id pages size x (D.state filer.old.swapper.disk) filer.old.swapper.pool (D.state filer.new.swapper.disk) filer.new.swapper.pool) }
+    ensures makes { OnOk result (MakesFree (size - pages) (D.state filer.old.swapper.disk) filer.old.swapper.pool (D.state filer.new.swapper.disk) filer.new.swapper.pool) }
+    ensures stopped { OnErr result (MakesSomeFree (D.state filer.old.swapper.disk) filer.old.swapper.pool (D.state filer.new.swapper.disk) filer.new.swapper.pool) }
     ensures used { OnOk result (volume.new ≡ record volume.old { used = volume.old.used - (size - pages) }) }
     ensures same_volume { OnErr result (volume.new ≡ volume.old) }
     ensures layout { filer.new.swapper.layout ≡ filer.old.swapper.layout }
-    ensures cost { (D.state filer.new.swapper.under).transfers ≤ (D.state filer.old.swapper.under).transfers + ((size - pages) * (16 + 4 * filer.old.swapper.layout.vam) + (100 + 102 * most_records filer.old.swapper.layout.sectors)) }
-    ensures own { RelabelsOwn id (D.state filer.old.swapper.under) (D.state filer.new.swapper.under) }
+    ensures cost { (D.state filer.new.swapper.disk).transfers ≤ (D.state filer.old.swapper.disk).transfers + ((size - pages) * (16 + 4 * filer.old.swapper.layout.vam) + (100 + 102 * most_records filer.old.swapper.layout.sectors)) }
+    ensures own { RelabelsOwn id (D.state filer.old.swapper.disk) (D.state filer.new.swapper.disk) }
 {
     match free_down(filer, id, pages, size) {
         Ok(()) => (),

@@ -2,7 +2,7 @@
 ghost use Rattle.std.specs.Prelude.{◌≡◌, ℕ, ◌≤◌, List, ◌∷◌};
 ghost use Rattle.labelled_disk.specs.Runs.{AreUnused};
 ghost use Rattle.labelled_disk.specs.Sectors.{Sector};
-ghost use Rattle.label_laws.specs.LawfulOrders.{AreApart};
+ghost use Rattle.label_laws.specs.PermittedOrders.{AreApart};
 ghost use Rattle.swapper_kernel.specs.Stands.{labels_of};
 ghost use Rattle.session_words.specs.CreateLaws.{Creates};
 ghost use Rattle.session_words.specs.GrowLaws.{AreFree, IsFree};

@@ -20,7 +20,7 @@ ghost use Rattle.filer_kernel.specs.Becomes.{Becomes};
 ghost use Rattle.filer_kernel.specs.Marks.{Marks, BitsAre, marked, IsLowestRun};
 ghost use Rattle.file_manager.specs.Grounds.{IsMapsHome, RangeHalts, TakeHalts, MakesFor};
 ghost use Rattle.swapper_kernel.specs.Halts.{HasCause};
-ghost use Rattle.filer_kernel.specs.Evidence.{ShowsSo};
+ghost use Rattle.filer_kernel.specs.Evidence.{ShowsEvidence};
 ghost use Rattle.session_words.specs.Parts.{Shape, Shapes};
 ghost use Rattle.session_words.specs.GrowLaws.{Grows};
 ghost use Rattle.session_words.specs.Volume.{volume_page};
@@ -28,12 +28,12 @@ ghost use Rattle.frame_pool.specs.Frames.{ArePages};
 ghost use Rattle.file_manager.specs.Book.{Books, BooksUpto, Leads};
 ghost use Rattle.file_manager.specs.Broken.{GrewSome};
 ghost use Rattle.file_manager.specs.Making.{AreUnowned, AreUnownedUpto, ShowsNoFree, free_count, sectors_of, IsRunFor, MayGrow, GrownBy, MakesAll, MakesSome};
-ghost use Rattle.file_manager.specs.Reasons.{Keeps, KeepsFrom, MayTake, Outset, ShowsReason, telling};
+ghost use Rattle.file_manager.specs.Reasons.{Keeps, KeepsFrom, MayTake, InitialState, ShowsReason, telling};
 ghost use Rattle.file_manager.specs.Taking.{NamesNoneOf};
 
 use alloc_map::AllocError;
 use file_map::Run;
-use filer_kernel::FilerOver;
+use filer_kernel::Filer;
 use label_calls::make_pages;
 use labelled_disk::{Disk, Evidence, FileId, Halt};
 use std::alloc::Allocator;
@@ -41,26 +41,23 @@ use std::alloc::Allocator;
 /// The identifier of the space tables.
 pub(crate) const TABLES: FileId = 3;
 
-// Takes the lowest free data sector, and free ones behind it, at most so many together.
-fn take_run<D: Disk, A: Allocator>(
-    filer: &mut FilerOver<D, A>,
-    most: u32,
-) -> Result<(u32, u32), Halt>
-    requires size { (D.state filer.old.swapper.under).sectors ≡ filer.old.swapper.layout.sectors }
+// Takes the lowest free data sector, and free ones after it, at most so many together.
+fn take_run<D: Disk, A: Allocator>(filer: &mut Filer<D, A>, most: u32) -> Result<(u32, u32), Halt>
+    requires size { (D.state filer.old.swapper.disk).sectors ≡ filer.old.swapper.layout.sectors }
     requires some { 1 ≤ most }
-    ensures lowest { (m : List Sector) (marks : Marks) → Stands (D.state filer.old.swapper.under) filer.old.swapper.pool m → BitsAre filer.old.swapper.layout marks m → IfOk result (IsLowestRun filer.old.swapper.layout marks most) }
-    ensures taken { (m : List Sector) (marks : Marks) → Stands (D.state filer.old.swapper.under) filer.old.swapper.pool m → BitsAre filer.old.swapper.layout marks m
-        → IfOk result (λ run. Becomes AllocationMap filer.old.swapper.layout m (BitsAre filer.old.swapper.layout (marked true run.0 run.1 marks)) (D.state filer.new.swapper.under) filer.new.swapper.pool) }
-    ensures sound { (m : List Sector) (marks : Marks) (k : ℕ) → Stands (D.state filer.old.swapper.under) filer.old.swapper.pool m → BitsAre filer.old.swapper.layout marks m → AreNamed m (IsMapHome AllocationMap filer.old.swapper.layout)
+    ensures lowest { (m : List Sector) (marks : Marks) → Stands (D.state filer.old.swapper.disk) filer.old.swapper.pool m → BitsAre filer.old.swapper.layout marks m → IfOk result (IsLowestRun filer.old.swapper.layout marks most) }
+    ensures taken { (m : List Sector) (marks : Marks) → Stands (D.state filer.old.swapper.disk) filer.old.swapper.pool m → BitsAre filer.old.swapper.layout marks m
+        → IfOk result (λ run. Becomes AllocationMap filer.old.swapper.layout m (BitsAre filer.old.swapper.layout (marked true run.0 run.1 marks)) (D.state filer.new.swapper.disk) filer.new.swapper.pool) }
+    ensures sound { (m : List Sector) (marks : Marks) (k : ℕ) → Stands (D.state filer.old.swapper.disk) filer.old.swapper.pool m → BitsAre filer.old.swapper.layout marks m → AreNamed m (IsMapHome AllocationMap filer.old.swapper.layout)
         → filer.old.swapper.layout.first ≤ k → k < filer.old.swapper.layout.sectors → marks k ≡ false → IfErr result (λ e. e ≡ halt.Disk) }
-    ensures cause { IfErr result (TakeHalts filer.old.swapper.layout (D.state filer.old.swapper.under) filer.old.swapper.pool (D.state filer.new.swapper.under) filer.new.swapper.pool) }
-    ensures reasons { (o : Outset) (named : Triples) → Keeps o filer.old named → IfErr result (ShowsReason o filer.old.swapper.layout (D.state filer.new.swapper.under)) }
-    ensures so { IfErr result (ShowsSo (D.state filer.new.swapper.under)) }
-    ensures counted { result ≡ Err halt.Disk → Rose (D.state filer.old.swapper.under).faults (D.state filer.new.swapper.under).faults }
+    ensures cause { IfErr result (TakeHalts filer.old.swapper.layout (D.state filer.old.swapper.disk) filer.old.swapper.pool (D.state filer.new.swapper.disk) filer.new.swapper.pool) }
+    ensures reasons { (o : InitialState) (named : Triples) → Keeps o filer.old named → IfErr result (ShowsReason o filer.old.swapper.layout (D.state filer.new.swapper.disk)) }
+    ensures evidence_seen { IfErr result (ShowsEvidence (D.state filer.new.swapper.disk)) }
+    ensures counted { result ≡ Err halt.Disk → Rose (D.state filer.old.swapper.disk).faults (D.state filer.new.swapper.disk).faults }
     ensures form { IfOk result (IsDataRun filer.old.swapper.layout.first filer.old.swapper.layout.sectors most) }
-    ensures kept { Beside AllocationMap (D.state filer.old.swapper.under) filer.old.swapper.pool filer.old.swapper.layout (D.state filer.new.swapper.under) filer.new.swapper.pool filer.new.swapper.layout }
+    ensures kept { Beside AllocationMap (D.state filer.old.swapper.disk) filer.old.swapper.pool filer.old.swapper.layout (D.state filer.new.swapper.disk) filer.new.swapper.pool filer.new.swapper.layout }
     ensures runs { filer.new.runs ≡ filer.old.runs }
-    ensures cost { (D.state filer.new.swapper.under).transfers ≤ (D.state filer.old.swapper.under).transfers + 8 * filer.old.swapper.layout.vam }
+    ensures cost { (D.state filer.new.swapper.disk).transfers ≤ (D.state filer.old.swapper.disk).transfers + 8 * filer.old.swapper.layout.vam }
 {
     match filer.take(most) {
         Ok(run) => Ok(run),
@@ -74,28 +71,28 @@ fn take_run<D: Disk, A: Allocator>(
 
 // Gives the sectors of a run the labels of its pages, and pages of zeros.
 fn label_run<D: Disk, A: Allocator>(
-    filer: &mut FilerOver<D, A>,
+    filer: &mut Filer<D, A>,
     run: Run,
     kind: u16,
 ) -> Result<(), Halt>
-    requires size { (D.state filer.old.swapper.under).sectors ≡ filer.old.swapper.layout.sectors }
+    requires size { (D.state filer.old.swapper.disk).sectors ≡ filer.old.swapper.layout.sectors }
     requires data { filer.old.swapper.layout.first ≤ run.sector }
     requires inside { run.sector + run.pages ≤ filer.old.swapper.layout.sectors }
     requires numbers { run.first + run.pages ≤ 2 ^ 32 }
     requires of_file { AreOfFile run.id kind run.first run.pages }
-    ensures made { OnOk result (RelabelsRun run.sector run.pages (growth run.id kind run.first (sectors_of run)) (D.state filer.old.swapper.under) filer.old.swapper.pool (D.state filer.new.swapper.under)) }
-    ensures were { OnOk result ((d : List Sector) → (D.state filer.old.swapper.under).contents ≡ Some d → HaveOnes (λ k. free_ones) d run.sector run.pages) }
-    ensures stopped { OnErr result (MadeSome (growth run.id kind run.first (sectors_of run)) (D.state filer.old.swapper.under) filer.old.swapper.pool (D.state filer.new.swapper.under)) }
-    ensures named { OnErr result (NamedSome (λ k. run.sector + k) (λ k. free_ones) (growth run.id kind run.first (sectors_of run)) (D.state filer.old.swapper.under) filer.old.swapper.pool (D.state filer.new.swapper.under)) }
-    ensures sound { (m : List Sector) → Stands (D.state filer.old.swapper.under) filer.old.swapper.pool m → AreUncovered filer.old.swapper.pool run.sector run.pages
+    ensures made { OnOk result (RelabelsRun run.sector run.pages (growth run.id kind run.first (sectors_of run)) (D.state filer.old.swapper.disk) filer.old.swapper.pool (D.state filer.new.swapper.disk)) }
+    ensures were { OnOk result ((d : List Sector) → (D.state filer.old.swapper.disk).contents ≡ Some d → HaveOnes (λ k. free_ones) d run.sector run.pages) }
+    ensures stopped { OnErr result (MadeSome (growth run.id kind run.first (sectors_of run)) (D.state filer.old.swapper.disk) filer.old.swapper.pool (D.state filer.new.swapper.disk)) }
+    ensures named { OnErr result (NamedSome (λ k. run.sector + k) (λ k. free_ones) (growth run.id kind run.first (sectors_of run)) (D.state filer.old.swapper.disk) filer.old.swapper.pool (D.state filer.new.swapper.disk)) }
+    ensures sound { (m : List Sector) → Stands (D.state filer.old.swapper.disk) filer.old.swapper.pool m → AreUncovered filer.old.swapper.pool run.sector run.pages
         → HaveOnes (λ k. free_ones) m run.sector run.pages → IfErr result (λ e. e ≡ halt.Disk) }
-    ensures cause { IfErr result (HasCause (IsOneTaken run.sector run.pages (D.state filer.old.swapper.under)) (D.state filer.old.swapper.under) (D.state filer.new.swapper.under)) }
-    ensures so { IfErr result (ShowsSo (D.state filer.new.swapper.under)) }
-    ensures counted { result ≡ Err halt.Disk → Rose (D.state filer.old.swapper.under).faults (D.state filer.new.swapper.under).faults }
+    ensures cause { IfErr result (HasCause (IsOneTaken run.sector run.pages (D.state filer.old.swapper.disk)) (D.state filer.old.swapper.disk) (D.state filer.new.swapper.disk)) }
+    ensures evidence_seen { IfErr result (ShowsEvidence (D.state filer.new.swapper.disk)) }
+    ensures counted { result ≡ Err halt.Disk → Rose (D.state filer.old.swapper.disk).faults (D.state filer.new.swapper.disk).faults }
     ensures frames { filer.new.swapper.pool ≡ filer.old.swapper.pool }
     ensures layout { filer.new.swapper.layout ≡ filer.old.swapper.layout }
     ensures runs { filer.new.runs ≡ filer.old.runs }
-    ensures cost { (D.state filer.new.swapper.under).transfers ≤ (D.state filer.old.swapper.under).transfers + 2 * run.pages }
+    ensures cost { (D.state filer.new.swapper.disk).transfers ≤ (D.state filer.old.swapper.disk).transfers + 2 * run.pages }
 {
     let swapper = filer.swapper_over();
     match make_pages(swapper, run.sector, run.pages, run.id, kind, run.first) {
@@ -105,7 +102,7 @@ fn label_run<D: Disk, A: Allocator>(
 }
 
 // How many frames there are. The bytes of each are a page's.
-pub(crate) fn frames_of<D: Disk, A: Allocator>(filer: &mut FilerOver<D, A>) -> u32
+pub(crate) fn frames_of<D: Disk, A: Allocator>(filer: &mut Filer<D, A>) -> u32
     ensures pages { ArePages filer.old.swapper.pool }
     ensures same { filer.new ≡ filer.old }
 {
@@ -113,43 +110,43 @@ pub(crate) fn frames_of<D: Disk, A: Allocator>(filer: &mut FilerOver<D, A>) -> u
 }
 
 // Makes some of the next pages of a file or of the space tables, at least one and at most so many: the lowest free data
-// sector is taken, and free ones behind it, they get the labels of the pages, and the file map has them.
+// sector is taken, and free ones after it, they get the labels of the pages, and the file map has them.
 pub(crate) fn make_run<D: Disk, A: Allocator>(
-    filer: &mut FilerOver<D, A>,
+    filer: &mut Filer<D, A>,
     id: FileId,
     kind: u16,
     page: u32,
     most: u32,
 ) -> Result<Run, Halt>
-    requires size { (D.state filer.old.swapper.under).sectors ≡ filer.old.swapper.layout.sectors }
+    requires size { (D.state filer.old.swapper.disk).sectors ≡ filer.old.swapper.layout.sectors }
     requires some { 1 ≤ most }
     requires numbers { page + most ≤ 2 ^ 32 }
     requires of_file { AreOfFile id kind page most }
-    ensures made { (tables : ℕ) (x : List Sector) (shapes : Shapes) (spaces : List Space) → BooksUpto tables (D.state filer.old.swapper.under) filer.old.swapper.pool filer.old.swapper.layout filer.old.runs shapes spaces x → ShowsNoFree spaces
+    ensures made { (tables : ℕ) (x : List Sector) (shapes : Shapes) (spaces : List Space) → BooksUpto tables (D.state filer.old.swapper.disk) filer.old.swapper.pool filer.old.swapper.layout filer.old.runs shapes spaces x → ShowsNoFree spaces
         → AreUnownedUpto tables shapes id page most → 1 ≤ free_count filer.old.swapper.layout x
-        → IfOk result (λ run. Leads (Grows id kind page (sectors_of run)) (growth id kind page (sectors_of run)) (D.state filer.old.swapper.under) filer.old.swapper.pool filer.old.swapper.layout (D.state filer.new.swapper.under) filer.new.swapper.pool filer.new.runs) }
-    ensures cause { IfErr result (RangeHalts filer.old.swapper.layout id page (page + most) (D.state filer.old.swapper.under) filer.old.swapper.pool (D.state filer.new.swapper.under) filer.new.swapper.pool) }
-    ensures keeps_to { (o : Outset) (named : Triples) → Keeps o filer.old named → MayTake o id → (id ≡ 3 → o.tables ≡ None) → NamesNoneOf id (λ p. (page ≤ p) × (p < page + most)) named → IfOk result (λ run. Keeps o filer.new (with_run named run)) }
-    ensures tables { (o : Outset) (named : Triples) (b : List ℕ) → id ≡ 3 → page + most ≤ 96 → length b ≡ 512 * page → Keeps (telling o b) filer.old named → NamesNoneOf id (λ p. (page ≤ p) × (p < page + most)) named
+        → IfOk result (λ run. Leads (Grows id kind page (sectors_of run)) (growth id kind page (sectors_of run)) (D.state filer.old.swapper.disk) filer.old.swapper.pool filer.old.swapper.layout (D.state filer.new.swapper.disk) filer.new.swapper.pool filer.new.runs) }
+    ensures cause { IfErr result (RangeHalts filer.old.swapper.layout id page (page + most) (D.state filer.old.swapper.disk) filer.old.swapper.pool (D.state filer.new.swapper.disk) filer.new.swapper.pool) }
+    ensures keeps_to { (o : InitialState) (named : Triples) → Keeps o filer.old named → MayTake o id → (id ≡ 3 → o.tables ≡ None) → NamesNoneOf id (λ p. (page ≤ p) × (p < page + most)) named → IfOk result (λ run. Keeps o filer.new (with_run named run)) }
+    ensures tables { (o : InitialState) (named : Triples) (b : List ℕ) → id ≡ 3 → page + most ≤ 96 → length b ≡ 512 * page → Keeps (telling o b) filer.old named → NamesNoneOf id (λ p. (page ≤ p) × (p < page + most)) named
         → IfOk result (λ run. (c : List ℕ) × (Keeps (telling o c) filer.new (with_run named run) × (length c ≡ 512 * (page + run.pages)))) }
-    ensures reasons { (o : Outset) (named : Triples) → Keeps o filer.old named → NamesNoneOf id (λ p. (page ≤ p) × (p < page + most)) named → IfErr result (ShowsReason o filer.old.swapper.layout (D.state filer.new.swapper.under)) }
-    ensures longest { IfOk result (λ run. run.pages < most → (m : List Sector) (marks : Marks) → Stands (D.state filer.old.swapper.under) filer.old.swapper.pool m → BitsAre filer.old.swapper.layout marks m
+    ensures reasons { (o : InitialState) (named : Triples) → Keeps o filer.old named → NamesNoneOf id (λ p. (page ≤ p) × (p < page + most)) named → IfErr result (ShowsReason o filer.old.swapper.layout (D.state filer.new.swapper.disk)) }
+    ensures longest { IfOk result (λ run. run.pages < most → (m : List Sector) (marks : Marks) → Stands (D.state filer.old.swapper.disk) filer.old.swapper.pool m → BitsAre filer.old.swapper.layout marks m
         → run.sector + run.pages < filer.old.swapper.layout.sectors → marks (run.sector + run.pages) ≡ true) }
-    ensures takes { IfOk result (λ run. MakesFor filer.old.swapper.layout id (λ p. (page ≤ p) × (p < page + run.pages)) (D.state filer.old.swapper.under) filer.old.swapper.pool (D.state filer.new.swapper.under) filer.new.swapper.pool) }
+    ensures takes { IfOk result (λ run. MakesFor filer.old.swapper.layout id (λ p. (page ≤ p) × (p < page + run.pages)) (D.state filer.old.swapper.disk) filer.old.swapper.pool (D.state filer.new.swapper.disk) filer.new.swapper.pool) }
     ensures come { Brings (IsMapsHome filer.old.swapper.layout) filer.old.swapper.pool filer.new.swapper.pool }
-    ensures so { IfErr result (ShowsSo (D.state filer.new.swapper.under)) }
-    ensures counted { result ≡ Err halt.Disk → Rose (D.state filer.old.swapper.under).faults (D.state filer.new.swapper.under).faults }
+    ensures evidence_seen { IfErr result (ShowsEvidence (D.state filer.new.swapper.disk)) }
+    ensures counted { result ≡ Err halt.Disk → Rose (D.state filer.old.swapper.disk).faults (D.state filer.new.swapper.disk).faults }
     ensures form { IfOk result (IsRunFor filer.old.swapper.layout.sectors id page most) }
-    ensures sound { (tables : ℕ) (x : List Sector) (shapes : Shapes) (spaces : List Space) → BooksUpto tables (D.state filer.old.swapper.under) filer.old.swapper.pool filer.old.swapper.layout filer.old.runs shapes spaces x → ShowsNoFree spaces
+    ensures sound { (tables : ℕ) (x : List Sector) (shapes : Shapes) (spaces : List Space) → BooksUpto tables (D.state filer.old.swapper.disk) filer.old.swapper.pool filer.old.swapper.layout filer.old.runs shapes spaces x → ShowsNoFree spaces
         → AreUnownedUpto tables shapes id page most → 1 ≤ free_count filer.old.swapper.layout x → IfErr result (λ e. e ≡ halt.Disk) }
-    ensures broken { (x : List Sector) (shapes : Shapes) (spaces : List Space) → Books (D.state filer.old.swapper.under) filer.old.swapper.pool filer.old.swapper.layout filer.old.runs shapes spaces x → ShowsNoFree spaces
-        → AreUnowned shapes id page most → 1 ≤ free_count filer.old.swapper.layout x → OnErr result (GrewSome id kind page most x (D.state filer.old.swapper.under) filer.old.swapper.pool (D.state filer.new.swapper.under) filer.new.swapper.pool) }
-    ensures makes { IfOk result (λ run. Makes volume_page (growth id kind page (sectors_of run)) (D.state filer.old.swapper.under) filer.old.swapper.pool (D.state filer.new.swapper.under) filer.new.swapper.pool) }
-    ensures stopped { OnErr result (MakesSome id kind page most (D.state filer.old.swapper.under) filer.old.swapper.pool (D.state filer.new.swapper.under) filer.new.swapper.pool) }
+    ensures broken { (x : List Sector) (shapes : Shapes) (spaces : List Space) → Books (D.state filer.old.swapper.disk) filer.old.swapper.pool filer.old.swapper.layout filer.old.runs shapes spaces x → ShowsNoFree spaces
+        → AreUnowned shapes id page most → 1 ≤ free_count filer.old.swapper.layout x → OnErr result (GrewSome id kind page most x (D.state filer.old.swapper.disk) filer.old.swapper.pool (D.state filer.new.swapper.disk) filer.new.swapper.pool) }
+    ensures makes { IfOk result (λ run. Makes volume_page (growth id kind page (sectors_of run)) (D.state filer.old.swapper.disk) filer.old.swapper.pool (D.state filer.new.swapper.disk) filer.new.swapper.pool) }
+    ensures stopped { OnErr result (MakesSome id kind page most (D.state filer.old.swapper.disk) filer.old.swapper.pool (D.state filer.new.swapper.disk) filer.new.swapper.pool) }
     ensures layout { filer.new.swapper.layout ≡ filer.old.swapper.layout }
     ensures runs { filer.new.runs ≡ filer.old.runs }
-    ensures cost { (D.state filer.new.swapper.under).transfers ≤ (D.state filer.old.swapper.under).transfers + (8 * filer.old.swapper.layout.vam + 2 * most + 98) }
-    ensures cost_made { IfOk result (λ run. (D.state filer.new.swapper.under).transfers ≤ (D.state filer.old.swapper.under).transfers + (8 * filer.old.swapper.layout.vam + 2 * run.pages + 98)) }
+    ensures cost { (D.state filer.new.swapper.disk).transfers ≤ (D.state filer.old.swapper.disk).transfers + (8 * filer.old.swapper.layout.vam + 2 * most + 98) }
+    ensures cost_made { IfOk result (λ run. (D.state filer.new.swapper.disk).transfers ≤ (D.state filer.old.swapper.disk).transfers + (8 * filer.old.swapper.layout.vam + 2 * run.pages + 98)) }
 {
     let (sector, pages) = match take_run(filer, most) {
         Ok(taken) => taken,
@@ -175,34 +172,34 @@ pub(crate) fn make_run<D: Disk, A: Allocator>(
 
 // Makes the pages of a file from one on up to another, in the lowest free data sectors.
 pub(crate) fn make_up<D: Disk, A: Allocator>(
-    filer: &mut FilerOver<D, A>,
+    filer: &mut Filer<D, A>,
     id: FileId,
     kind: u16,
     from: u32,
     end: u32,
 ) -> Result<(), Halt>
-    requires size { (D.state filer.old.swapper.under).sectors ≡ filer.old.swapper.layout.sectors }
+    requires size { (D.state filer.old.swapper.disk).sectors ≡ filer.old.swapper.layout.sectors }
     requires of_file { is_file_id id ≡ true }
     requires order { from ≤ end }
     requires numbers { end < 4294967295 }
-    ensures made { (x : List Sector) (shapes : Shapes) (spaces : List Space) (f : Shape) → MayGrow (D.state filer.old.swapper.under) filer.old.swapper.pool filer.old.swapper.layout filer.old.runs shapes spaces id f end x → f.size ≡ from
-        → OnOk result (GrownBy id kind from (end - from) (D.state filer.old.swapper.under) filer.old.swapper.pool filer.old.swapper.layout (D.state filer.new.swapper.under) filer.new.swapper.pool filer.new.runs) }
-    ensures sound { (x : List Sector) (shapes : Shapes) (spaces : List Space) (f : Shape) → MayGrow (D.state filer.old.swapper.under) filer.old.swapper.pool filer.old.swapper.layout filer.old.runs shapes spaces id f end x → f.size ≡ from
+    ensures made { (x : List Sector) (shapes : Shapes) (spaces : List Space) (f : Shape) → MayGrow (D.state filer.old.swapper.disk) filer.old.swapper.pool filer.old.swapper.layout filer.old.runs shapes spaces id f end x → f.size ≡ from
+        → OnOk result (GrownBy id kind from (end - from) (D.state filer.old.swapper.disk) filer.old.swapper.pool filer.old.swapper.layout (D.state filer.new.swapper.disk) filer.new.swapper.pool filer.new.runs) }
+    ensures sound { (x : List Sector) (shapes : Shapes) (spaces : List Space) (f : Shape) → MayGrow (D.state filer.old.swapper.disk) filer.old.swapper.pool filer.old.swapper.layout filer.old.runs shapes spaces id f end x → f.size ≡ from
         → IfErr result (λ e. e ≡ halt.Disk) }
-    ensures broken { (x : List Sector) (shapes : Shapes) (spaces : List Space) (f : Shape) → MayGrow (D.state filer.old.swapper.under) filer.old.swapper.pool filer.old.swapper.layout filer.old.runs shapes spaces id f end x → f.size ≡ from
-        → OnErr result (GrewSome id kind from (end - from) x (D.state filer.old.swapper.under) filer.old.swapper.pool (D.state filer.new.swapper.under) filer.new.swapper.pool) }
-    ensures makes { OnOk result (MakesAll id kind from (end - from) (D.state filer.old.swapper.under) filer.old.swapper.pool (D.state filer.new.swapper.under) filer.new.swapper.pool) }
-    ensures stopped { OnErr result (MakesSome id kind from (end - from) (D.state filer.old.swapper.under) filer.old.swapper.pool (D.state filer.new.swapper.under) filer.new.swapper.pool) }
-    ensures cause { IfErr result (RangeHalts filer.old.swapper.layout id from end (D.state filer.old.swapper.under) filer.old.swapper.pool (D.state filer.new.swapper.under) filer.new.swapper.pool) }
-    ensures keeps_to { (o : Outset) (named : Triples) → Keeps o filer.old named → MayTake o id → NamesNoneOf id (λ p. (from ≤ p) × (p < end)) named → OnOk result (KeepsFrom o named filer.new) }
-    ensures reasons { (o : Outset) (named : Triples) → Keeps o filer.old named → MayTake o id → NamesNoneOf id (λ p. (from ≤ p) × (p < end)) named → IfErr result (ShowsReason o filer.old.swapper.layout (D.state filer.new.swapper.under)) }
-    ensures takes { OnOk result (MakesFor filer.old.swapper.layout id (λ p. (from ≤ p) × (p < end)) (D.state filer.old.swapper.under) filer.old.swapper.pool (D.state filer.new.swapper.under) filer.new.swapper.pool) }
+    ensures broken { (x : List Sector) (shapes : Shapes) (spaces : List Space) (f : Shape) → MayGrow (D.state filer.old.swapper.disk) filer.old.swapper.pool filer.old.swapper.layout filer.old.runs shapes spaces id f end x → f.size ≡ from
+        → OnErr result (GrewSome id kind from (end - from) x (D.state filer.old.swapper.disk) filer.old.swapper.pool (D.state filer.new.swapper.disk) filer.new.swapper.pool) }
+    ensures makes { OnOk result (MakesAll id kind from (end - from) (D.state filer.old.swapper.disk) filer.old.swapper.pool (D.state filer.new.swapper.disk) filer.new.swapper.pool) }
+    ensures stopped { OnErr result (MakesSome id kind from (end - from) (D.state filer.old.swapper.disk) filer.old.swapper.pool (D.state filer.new.swapper.disk) filer.new.swapper.pool) }
+    ensures cause { IfErr result (RangeHalts filer.old.swapper.layout id from end (D.state filer.old.swapper.disk) filer.old.swapper.pool (D.state filer.new.swapper.disk) filer.new.swapper.pool) }
+    ensures keeps_to { (o : InitialState) (named : Triples) → Keeps o filer.old named → MayTake o id → NamesNoneOf id (λ p. (from ≤ p) × (p < end)) named → OnOk result (KeepsFrom o named filer.new) }
+    ensures reasons { (o : InitialState) (named : Triples) → Keeps o filer.old named → MayTake o id → NamesNoneOf id (λ p. (from ≤ p) × (p < end)) named → IfErr result (ShowsReason o filer.old.swapper.layout (D.state filer.new.swapper.disk)) }
+    ensures takes { OnOk result (MakesFor filer.old.swapper.layout id (λ p. (from ≤ p) × (p < end)) (D.state filer.old.swapper.disk) filer.old.swapper.pool (D.state filer.new.swapper.disk) filer.new.swapper.pool) }
     ensures come { Brings (IsMapsHome filer.old.swapper.layout) filer.old.swapper.pool filer.new.swapper.pool }
-    ensures so { IfErr result (ShowsSo (D.state filer.new.swapper.under)) }
-    ensures counted { result ≡ Err halt.Disk → Rose (D.state filer.old.swapper.under).faults (D.state filer.new.swapper.under).faults }
+    ensures evidence_seen { IfErr result (ShowsEvidence (D.state filer.new.swapper.disk)) }
+    ensures counted { result ≡ Err halt.Disk → Rose (D.state filer.old.swapper.disk).faults (D.state filer.new.swapper.disk).faults }
     ensures layout { filer.new.swapper.layout ≡ filer.old.swapper.layout }
     ensures runs { filer.new.runs ≡ filer.old.runs }
-    ensures cost { (D.state filer.new.swapper.under).transfers ≤ (D.state filer.old.swapper.under).transfers + (end - from) * (8 * filer.old.swapper.layout.vam + 100) }
+    ensures cost { (D.state filer.new.swapper.disk).transfers ≤ (D.state filer.old.swapper.disk).transfers + (end - from) * (8 * filer.old.swapper.layout.vam + 100) }
 {
     let mut page = from;
     while page < end {

@@ -17,41 +17,37 @@ ghost use Rattle.file_manager.specs.Book.{Books};
 ghost use Rattle.file_manager.specs.Broken.{MarksFirst};
 ghost use Rattle.file_manager.specs.Causes.{LeaderHalts};
 ghost use Rattle.filer_kernel.specs.Cached.{runs_of};
-ghost use Rattle.filer_kernel.specs.Evidence.{ShowsSo};
+ghost use Rattle.filer_kernel.specs.Evidence.{ShowsEvidence};
 ghost use Rattle.file_manager.specs.Roots.{RootStays};
-ghost use Rattle.file_manager.specs.Reasons.{Keeps, Outset, ShowsReason};
+ghost use Rattle.file_manager.specs.Reasons.{Keeps, InitialState, ShowsReason};
 
 use crate::leader::{LEADER, leader_of};
-use filer_kernel::FilerOver;
+use filer_kernel::Filer;
 use label_calls::{Mark, mark_leader};
 use labelled_disk::{Disk, Evidence, FileId, Halt};
 use std::alloc::Allocator;
 
 // Gives a file a mark.
-fn mark<D: Disk, A: Allocator>(
-    filer: &mut FilerOver<D, A>,
-    id: FileId,
-    mark: Mark,
-) -> Result<(), Halt>
-    requires size { (D.state filer.old.swapper.under).sectors ≡ filer.old.swapper.layout.sectors }
+fn mark<D: Disk, A: Allocator>(filer: &mut Filer<D, A>, id: FileId, mark: Mark) -> Result<(), Halt>
+    requires size { (D.state filer.old.swapper.disk).sectors ≡ filer.old.swapper.layout.sectors }
     requires client { 16 ≤ id }
-    ensures told { (x : List Sector) (shapes : Shapes) (spaces : List Space) (f : Shape) → Books (D.state filer.old.swapper.under) filer.old.swapper.pool filer.old.swapper.layout filer.old.runs shapes spaces x
+    ensures revealed { (x : List Sector) (shapes : Shapes) (spaces : List Space) (f : Shape) → Books (D.state filer.old.swapper.disk) filer.old.swapper.pool filer.old.swapper.layout filer.old.runs shapes spaces x
         → shapes id ≡ Some f → is_shown spaces id leader_page ≡ false
-        → OnOk result (IsMarked id (with_mark mark) x (D.state filer.old.swapper.under) filer.old.swapper.pool filer.old.swapper.layout (D.state filer.new.swapper.under) filer.new.swapper.pool filer.new.runs) }
-    ensures sound { (x : List Sector) (shapes : Shapes) (spaces : List Space) (f : Shape) → Books (D.state filer.old.swapper.under) filer.old.swapper.pool filer.old.swapper.layout filer.old.runs shapes spaces x
+        → OnOk result (IsMarked id (with_mark mark) x (D.state filer.old.swapper.disk) filer.old.swapper.pool filer.old.swapper.layout (D.state filer.new.swapper.disk) filer.new.swapper.pool filer.new.runs) }
+    ensures sound { (x : List Sector) (shapes : Shapes) (spaces : List Space) (f : Shape) → Books (D.state filer.old.swapper.disk) filer.old.swapper.pool filer.old.swapper.layout filer.old.runs shapes spaces x
         → shapes id ≡ Some f → IfErr result (λ e. e ≡ halt.Disk) }
-    ensures broken { (x : List Sector) (shapes : Shapes) (spaces : List Space) (f : Shape) → Books (D.state filer.old.swapper.under) filer.old.swapper.pool filer.old.swapper.layout filer.old.runs shapes spaces x
-        → shapes id ≡ Some f → OnErr result (MarksFirst id (with_mark mark) x (D.state filer.old.swapper.under) filer.old.swapper.pool (D.state filer.new.swapper.under) filer.new.swapper.pool) }
-    ensures makes { WritesMark mark (D.state filer.old.swapper.under) filer.old.swapper.pool (D.state filer.new.swapper.under) filer.new.swapper.pool }
-    ensures cause { IfErr result (LeaderHalts filer.old.swapper.layout (runs_of filer.old.swapper.layout.sectors filer.old.runs) id (D.state filer.old.swapper.under) filer.old.swapper.pool (D.state filer.new.swapper.under)) }
-    ensures keeps_to { (o : Outset) (named : Triples) → Keeps o filer.old named → OnOk result (Keeps o filer.new named) }
-    ensures reasons { (o : Outset) (named : Triples) → Keeps o filer.old named → IfErr result (ShowsReason o filer.old.swapper.layout (D.state filer.new.swapper.under)) }
-    ensures so { IfErr result (ShowsSo (D.state filer.new.swapper.under)) }
-    ensures counted { result ≡ Err halt.Disk → Rose (D.state filer.old.swapper.under).faults (D.state filer.new.swapper.under).faults }
-    ensures root { RootStays (D.state filer.old.swapper.under) (D.state filer.new.swapper.under) }
+    ensures broken { (x : List Sector) (shapes : Shapes) (spaces : List Space) (f : Shape) → Books (D.state filer.old.swapper.disk) filer.old.swapper.pool filer.old.swapper.layout filer.old.runs shapes spaces x
+        → shapes id ≡ Some f → OnErr result (MarksFirst id (with_mark mark) x (D.state filer.old.swapper.disk) filer.old.swapper.pool (D.state filer.new.swapper.disk) filer.new.swapper.pool) }
+    ensures makes { WritesMark mark (D.state filer.old.swapper.disk) filer.old.swapper.pool (D.state filer.new.swapper.disk) filer.new.swapper.pool }
+    ensures cause { IfErr result (LeaderHalts filer.old.swapper.layout (runs_of filer.old.swapper.layout.sectors filer.old.runs) id (D.state filer.old.swapper.disk) filer.old.swapper.pool (D.state filer.new.swapper.disk)) }
+    ensures keeps_to { (o : InitialState) (named : Triples) → Keeps o filer.old named → OnOk result (Keeps o filer.new named) }
+    ensures reasons { (o : InitialState) (named : Triples) → Keeps o filer.old named → IfErr result (ShowsReason o filer.old.swapper.layout (D.state filer.new.swapper.disk)) }
+    ensures evidence_seen { IfErr result (ShowsEvidence (D.state filer.new.swapper.disk)) }
+    ensures counted { result ≡ Err halt.Disk → Rose (D.state filer.old.swapper.disk).faults (D.state filer.new.swapper.disk).faults }
+    ensures root { RootStays (D.state filer.old.swapper.disk) (D.state filer.new.swapper.disk) }
     ensures layout { filer.new.swapper.layout ≡ filer.old.swapper.layout }
-    ensures cost { (D.state filer.new.swapper.under).transfers ≤ (D.state filer.old.swapper.under).transfers + 16 }
-    ensures own { RelabelsOwn id (D.state filer.old.swapper.under) (D.state filer.new.swapper.under) }
+    ensures cost { (D.state filer.new.swapper.disk).transfers ≤ (D.state filer.old.swapper.disk).transfers + 16 }
+    ensures own { RelabelsOwn id (D.state filer.old.swapper.disk) (D.state filer.new.swapper.disk) }
 {
     let sector = match leader_of(filer, id) {
         Ok(Some(sector)) => sector,
@@ -70,28 +66,28 @@ fn mark<D: Disk, A: Allocator>(
 
 /// Makes a file permanent for good: its leader gets the mark, in one write. No window shows the leader's page.
 pub fn make_permanent<D: Disk, A: Allocator>(
-    filer: &mut FilerOver<D, A>,
+    filer: &mut Filer<D, A>,
     id: FileId,
 ) -> Result<(), Halt>
-    requires size { (D.state filer.old.swapper.under).sectors ≡ filer.old.swapper.layout.sectors }
+    requires size { (D.state filer.old.swapper.disk).sectors ≡ filer.old.swapper.layout.sectors }
     requires client { 16 ≤ id }
-    ensures told { (x : List Sector) (shapes : Shapes) (spaces : List Space) (f : Shape) → Books (D.state filer.old.swapper.under) filer.old.swapper.pool filer.old.swapper.layout filer.old.runs shapes spaces x
+    ensures revealed { (x : List Sector) (shapes : Shapes) (spaces : List Space) (f : Shape) → Books (D.state filer.old.swapper.disk) filer.old.swapper.pool filer.old.swapper.layout filer.old.runs shapes spaces x
         → shapes id ≡ Some f → is_shown spaces id leader_page ≡ false
-        → OnOk result (IsMarked id permanent_label x (D.state filer.old.swapper.under) filer.old.swapper.pool filer.old.swapper.layout (D.state filer.new.swapper.under) filer.new.swapper.pool filer.new.runs) }
-    ensures sound { (x : List Sector) (shapes : Shapes) (spaces : List Space) (f : Shape) → Books (D.state filer.old.swapper.under) filer.old.swapper.pool filer.old.swapper.layout filer.old.runs shapes spaces x
+        → OnOk result (IsMarked id permanent_label x (D.state filer.old.swapper.disk) filer.old.swapper.pool filer.old.swapper.layout (D.state filer.new.swapper.disk) filer.new.swapper.pool filer.new.runs) }
+    ensures sound { (x : List Sector) (shapes : Shapes) (spaces : List Space) (f : Shape) → Books (D.state filer.old.swapper.disk) filer.old.swapper.pool filer.old.swapper.layout filer.old.runs shapes spaces x
         → shapes id ≡ Some f → IfErr result (λ e. e ≡ halt.Disk) }
-    ensures broken { (x : List Sector) (shapes : Shapes) (spaces : List Space) (f : Shape) → Books (D.state filer.old.swapper.under) filer.old.swapper.pool filer.old.swapper.layout filer.old.runs shapes spaces x
-        → shapes id ≡ Some f → OnErr result (MarksFirst id permanent_label x (D.state filer.old.swapper.under) filer.old.swapper.pool (D.state filer.new.swapper.under) filer.new.swapper.pool) }
-    ensures makes { WritesMark Permanent (D.state filer.old.swapper.under) filer.old.swapper.pool (D.state filer.new.swapper.under) filer.new.swapper.pool }
-    ensures cause { IfErr result (LeaderHalts filer.old.swapper.layout (runs_of filer.old.swapper.layout.sectors filer.old.runs) id (D.state filer.old.swapper.under) filer.old.swapper.pool (D.state filer.new.swapper.under)) }
-    ensures keeps_to { (o : Outset) (named : Triples) → Keeps o filer.old named → OnOk result (Keeps o filer.new named) }
-    ensures reasons { (o : Outset) (named : Triples) → Keeps o filer.old named → IfErr result (ShowsReason o filer.old.swapper.layout (D.state filer.new.swapper.under)) }
-    ensures so { IfErr result (ShowsSo (D.state filer.new.swapper.under)) }
-    ensures counted { result ≡ Err halt.Disk → Rose (D.state filer.old.swapper.under).faults (D.state filer.new.swapper.under).faults }
-    ensures root { RootStays (D.state filer.old.swapper.under) (D.state filer.new.swapper.under) }
+    ensures broken { (x : List Sector) (shapes : Shapes) (spaces : List Space) (f : Shape) → Books (D.state filer.old.swapper.disk) filer.old.swapper.pool filer.old.swapper.layout filer.old.runs shapes spaces x
+        → shapes id ≡ Some f → OnErr result (MarksFirst id permanent_label x (D.state filer.old.swapper.disk) filer.old.swapper.pool (D.state filer.new.swapper.disk) filer.new.swapper.pool) }
+    ensures makes { WritesMark Permanent (D.state filer.old.swapper.disk) filer.old.swapper.pool (D.state filer.new.swapper.disk) filer.new.swapper.pool }
+    ensures cause { IfErr result (LeaderHalts filer.old.swapper.layout (runs_of filer.old.swapper.layout.sectors filer.old.runs) id (D.state filer.old.swapper.disk) filer.old.swapper.pool (D.state filer.new.swapper.disk)) }
+    ensures keeps_to { (o : InitialState) (named : Triples) → Keeps o filer.old named → OnOk result (Keeps o filer.new named) }
+    ensures reasons { (o : InitialState) (named : Triples) → Keeps o filer.old named → IfErr result (ShowsReason o filer.old.swapper.layout (D.state filer.new.swapper.disk)) }
+    ensures evidence_seen { IfErr result (ShowsEvidence (D.state filer.new.swapper.disk)) }
+    ensures counted { result ≡ Err halt.Disk → Rose (D.state filer.old.swapper.disk).faults (D.state filer.new.swapper.disk).faults }
+    ensures root { RootStays (D.state filer.old.swapper.disk) (D.state filer.new.swapper.disk) }
     ensures layout { filer.new.swapper.layout ≡ filer.old.swapper.layout }
-    ensures cost { (D.state filer.new.swapper.under).transfers ≤ (D.state filer.old.swapper.under).transfers + 16 }
-    ensures own { RelabelsOwn id (D.state filer.old.swapper.under) (D.state filer.new.swapper.under) }
+    ensures cost { (D.state filer.new.swapper.disk).transfers ≤ (D.state filer.old.swapper.disk).transfers + 16 }
+    ensures own { RelabelsOwn id (D.state filer.old.swapper.disk) (D.state filer.new.swapper.disk) }
 {
     match mark(filer, id, Mark::Permanent) {
         Ok(()) => Ok(()),
@@ -101,28 +97,28 @@ pub fn make_permanent<D: Disk, A: Allocator>(
 
 /// Makes a file immutable for good: its leader gets the mark, in one write. No window shows the leader's page.
 pub fn make_immutable<D: Disk, A: Allocator>(
-    filer: &mut FilerOver<D, A>,
+    filer: &mut Filer<D, A>,
     id: FileId,
 ) -> Result<(), Halt>
-    requires size { (D.state filer.old.swapper.under).sectors ≡ filer.old.swapper.layout.sectors }
+    requires size { (D.state filer.old.swapper.disk).sectors ≡ filer.old.swapper.layout.sectors }
     requires client { 16 ≤ id }
-    ensures told { (x : List Sector) (shapes : Shapes) (spaces : List Space) (f : Shape) → Books (D.state filer.old.swapper.under) filer.old.swapper.pool filer.old.swapper.layout filer.old.runs shapes spaces x
+    ensures revealed { (x : List Sector) (shapes : Shapes) (spaces : List Space) (f : Shape) → Books (D.state filer.old.swapper.disk) filer.old.swapper.pool filer.old.swapper.layout filer.old.runs shapes spaces x
         → shapes id ≡ Some f → is_shown spaces id leader_page ≡ false
-        → OnOk result (IsMarked id immutable_label x (D.state filer.old.swapper.under) filer.old.swapper.pool filer.old.swapper.layout (D.state filer.new.swapper.under) filer.new.swapper.pool filer.new.runs) }
-    ensures sound { (x : List Sector) (shapes : Shapes) (spaces : List Space) (f : Shape) → Books (D.state filer.old.swapper.under) filer.old.swapper.pool filer.old.swapper.layout filer.old.runs shapes spaces x
+        → OnOk result (IsMarked id immutable_label x (D.state filer.old.swapper.disk) filer.old.swapper.pool filer.old.swapper.layout (D.state filer.new.swapper.disk) filer.new.swapper.pool filer.new.runs) }
+    ensures sound { (x : List Sector) (shapes : Shapes) (spaces : List Space) (f : Shape) → Books (D.state filer.old.swapper.disk) filer.old.swapper.pool filer.old.swapper.layout filer.old.runs shapes spaces x
         → shapes id ≡ Some f → IfErr result (λ e. e ≡ halt.Disk) }
-    ensures broken { (x : List Sector) (shapes : Shapes) (spaces : List Space) (f : Shape) → Books (D.state filer.old.swapper.under) filer.old.swapper.pool filer.old.swapper.layout filer.old.runs shapes spaces x
-        → shapes id ≡ Some f → OnErr result (MarksFirst id immutable_label x (D.state filer.old.swapper.under) filer.old.swapper.pool (D.state filer.new.swapper.under) filer.new.swapper.pool) }
-    ensures makes { WritesMark Immutable (D.state filer.old.swapper.under) filer.old.swapper.pool (D.state filer.new.swapper.under) filer.new.swapper.pool }
-    ensures cause { IfErr result (LeaderHalts filer.old.swapper.layout (runs_of filer.old.swapper.layout.sectors filer.old.runs) id (D.state filer.old.swapper.under) filer.old.swapper.pool (D.state filer.new.swapper.under)) }
-    ensures keeps_to { (o : Outset) (named : Triples) → Keeps o filer.old named → OnOk result (Keeps o filer.new named) }
-    ensures reasons { (o : Outset) (named : Triples) → Keeps o filer.old named → IfErr result (ShowsReason o filer.old.swapper.layout (D.state filer.new.swapper.under)) }
-    ensures so { IfErr result (ShowsSo (D.state filer.new.swapper.under)) }
-    ensures counted { result ≡ Err halt.Disk → Rose (D.state filer.old.swapper.under).faults (D.state filer.new.swapper.under).faults }
-    ensures root { RootStays (D.state filer.old.swapper.under) (D.state filer.new.swapper.under) }
+    ensures broken { (x : List Sector) (shapes : Shapes) (spaces : List Space) (f : Shape) → Books (D.state filer.old.swapper.disk) filer.old.swapper.pool filer.old.swapper.layout filer.old.runs shapes spaces x
+        → shapes id ≡ Some f → OnErr result (MarksFirst id immutable_label x (D.state filer.old.swapper.disk) filer.old.swapper.pool (D.state filer.new.swapper.disk) filer.new.swapper.pool) }
+    ensures makes { WritesMark Immutable (D.state filer.old.swapper.disk) filer.old.swapper.pool (D.state filer.new.swapper.disk) filer.new.swapper.pool }
+    ensures cause { IfErr result (LeaderHalts filer.old.swapper.layout (runs_of filer.old.swapper.layout.sectors filer.old.runs) id (D.state filer.old.swapper.disk) filer.old.swapper.pool (D.state filer.new.swapper.disk)) }
+    ensures keeps_to { (o : InitialState) (named : Triples) → Keeps o filer.old named → OnOk result (Keeps o filer.new named) }
+    ensures reasons { (o : InitialState) (named : Triples) → Keeps o filer.old named → IfErr result (ShowsReason o filer.old.swapper.layout (D.state filer.new.swapper.disk)) }
+    ensures evidence_seen { IfErr result (ShowsEvidence (D.state filer.new.swapper.disk)) }
+    ensures counted { result ≡ Err halt.Disk → Rose (D.state filer.old.swapper.disk).faults (D.state filer.new.swapper.disk).faults }
+    ensures root { RootStays (D.state filer.old.swapper.disk) (D.state filer.new.swapper.disk) }
     ensures layout { filer.new.swapper.layout ≡ filer.old.swapper.layout }
-    ensures cost { (D.state filer.new.swapper.under).transfers ≤ (D.state filer.old.swapper.under).transfers + 16 }
-    ensures own { RelabelsOwn id (D.state filer.old.swapper.under) (D.state filer.new.swapper.under) }
+    ensures cost { (D.state filer.new.swapper.disk).transfers ≤ (D.state filer.old.swapper.disk).transfers + 16 }
+    ensures own { RelabelsOwn id (D.state filer.old.swapper.disk) (D.state filer.new.swapper.disk) }
 {
     match mark(filer, id, Mark::Immutable) {
         Ok(()) => Ok(()),

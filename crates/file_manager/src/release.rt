@@ -20,44 +20,44 @@ ghost use Rattle.filer_kernel.specs.Triples.{MapIs, AreOf};
 ghost use Rattle.file_manager.specs.Grounds.{FreeHalts, IsUnframed, KeepsMap};
 ghost use Rattle.filer_kernel.specs.Causes.{IsRunHome};
 ghost use Rattle.swapper_kernel.specs.Halts.{HasCause};
-ghost use Rattle.filer_kernel.specs.Evidence.{MayBeMissing, ShowsSo};
+ghost use Rattle.filer_kernel.specs.Evidence.{MayBeMissing, ShowsEvidence};
 ghost use Rattle.file_manager.specs.Freeing.{MayFree, Freed, FreedSome, IsPartOf, NamesAll, MakesFree, MakesSomeFree, run_sectors};
-ghost use Rattle.file_manager.specs.Reasons.{AreLet, Keeps, LacksNone, LeavesTables, MayLack, Outset, ShowsReason};
+ghost use Rattle.file_manager.specs.Reasons.{AreReleased, Keeps, MissesNone, LeavesTables, MayLack, InitialState, ShowsReason};
 
-use crate::forgetting::forget_run;
+use crate::forgetting::discard_run;
 use file_map::Run;
-use filer_kernel::FilerOver;
+use filer_kernel::Filer;
 use label_calls::free_pages_up;
 use labelled_disk::{Disk, Evidence, FileId, Halt};
 use std::alloc::Allocator;
 
-// The sectors in a row of this page of a file and of those behind it, at most so many pages.
+// The sectors in a row of this page of a file and of those after it, at most so many pages.
 fn part_of<D: Disk, A: Allocator>(
-    filer: &mut FilerOver<D, A>,
+    filer: &mut Filer<D, A>,
     id: FileId,
     page: u32,
     most: u32,
 ) -> Result<Run, Halt>
-    requires size { (D.state filer.old.swapper.under).sectors ≡ filer.old.swapper.layout.sectors }
+    requires size { (D.state filer.old.swapper.disk).sectors ≡ filer.old.swapper.layout.sectors }
     requires some { 1 ≤ most }
-    ensures cause { IfErr result (FreeHalts (IsUnframed filer.old.swapper.pool id) filer.old.swapper.layout (runs_of filer.old.swapper.layout.sectors filer.old.runs) id (λ p. p ≡ page) (D.state filer.old.swapper.under) filer.old.swapper.pool (D.state filer.new.swapper.under)) }
-    ensures keeps_to { (o : Outset) (named : Triples) → Keeps o filer.old named → OnOk result (Keeps o filer.new named) }
-    ensures reasons { (o : Outset) (named : Triples) → Keeps o filer.old named → MayLack named id page → IfErr result (ShowsReason o filer.old.swapper.layout (D.state filer.new.swapper.under)) }
-    ensures right { (o : Outset) (named : Triples) (sector : ℕ) → Keeps o filer.old named → named id page sector ≡ true → IfErr result LacksNone }
-    ensures homes { IfOk result (λ run. (k : ℕ) → k < run.pages → IsRunHome filer.old.swapper.layout (D.state filer.old.swapper.under) filer.old.swapper.pool (runs_of filer.old.swapper.layout.sectors filer.old.runs) (home_at (run.sector + k) (record { id = id; page = run.first + k }))) }
-    ensures keeps { (id ≡ 3) ⊎ (16 ≤ id) → KeepsMap (IsUnframed filer.old.swapper.pool id) filer.old.swapper.layout id (D.state filer.old.swapper.under) filer.old.swapper.pool (runs_of filer.old.swapper.layout.sectors filer.old.runs) (D.state filer.new.swapper.under) filer.new.swapper.pool (runs_of filer.old.swapper.layout.sectors filer.new.runs) }
-    ensures so { MayBeMissing id page → IfErr result (ShowsSo (D.state filer.new.swapper.under)) }
-    ensures counted { result ≡ Err halt.Disk → Rose (D.state filer.old.swapper.under).faults (D.state filer.new.swapper.under).faults }
+    ensures cause { IfErr result (FreeHalts (IsUnframed filer.old.swapper.pool id) filer.old.swapper.layout (runs_of filer.old.swapper.layout.sectors filer.old.runs) id (λ p. p ≡ page) (D.state filer.old.swapper.disk) filer.old.swapper.pool (D.state filer.new.swapper.disk)) }
+    ensures keeps_to { (o : InitialState) (named : Triples) → Keeps o filer.old named → OnOk result (Keeps o filer.new named) }
+    ensures reasons { (o : InitialState) (named : Triples) → Keeps o filer.old named → MayLack named id page → IfErr result (ShowsReason o filer.old.swapper.layout (D.state filer.new.swapper.disk)) }
+    ensures right { (o : InitialState) (named : Triples) (sector : ℕ) → Keeps o filer.old named → named id page sector ≡ true → IfErr result MissesNone }
+    ensures homes { IfOk result (λ run. (k : ℕ) → k < run.pages → IsRunHome filer.old.swapper.layout (D.state filer.old.swapper.disk) filer.old.swapper.pool (runs_of filer.old.swapper.layout.sectors filer.old.runs) (home_at (run.sector + k) (record { id = id; page = run.first + k }))) }
+    ensures keeps { (id ≡ 3) ⊎ (16 ≤ id) → KeepsMap (IsUnframed filer.old.swapper.pool id) filer.old.swapper.layout id (D.state filer.old.swapper.disk) filer.old.swapper.pool (runs_of filer.old.swapper.layout.sectors filer.old.runs) (D.state filer.new.swapper.disk) filer.new.swapper.pool (runs_of filer.old.swapper.layout.sectors filer.new.runs) }
+    ensures evidence_seen { MayBeMissing id page → IfErr result (ShowsEvidence (D.state filer.new.swapper.disk)) }
+    ensures counted { result ≡ Err halt.Disk → Rose (D.state filer.old.swapper.disk).faults (D.state filer.new.swapper.disk).faults }
     ensures form { IfOk result (IsPartOf filer.old.swapper.layout.sectors id page (page + most)) }
-    ensures named { (m : List Sector) (named : Triples) → Stands (D.state filer.old.swapper.under) filer.old.swapper.pool m → MapIs filer.old.swapper.layout named m → AreOf named (runs_of filer.old.swapper.layout.sectors filer.old.runs)
+    ensures named { (m : List Sector) (named : Triples) → Stands (D.state filer.old.swapper.disk) filer.old.swapper.pool m → MapIs filer.old.swapper.layout named m → AreOf named (runs_of filer.old.swapper.layout.sectors filer.old.runs)
         → IfOk result (NamesAll named) }
-    ensures kept { (m : List Sector) (named : Triples) → Stands (D.state filer.old.swapper.under) filer.old.swapper.pool m → MapIs filer.old.swapper.layout named m → AreOf named (runs_of filer.old.swapper.layout.sectors filer.old.runs)
+    ensures kept { (m : List Sector) (named : Triples) → Stands (D.state filer.old.swapper.disk) filer.old.swapper.pool m → MapIs filer.old.swapper.layout named m → AreOf named (runs_of filer.old.swapper.layout.sectors filer.old.runs)
         → AreOf named (runs_of filer.old.swapper.layout.sectors filer.new.runs) }
-    ensures sound { (m : List Sector) (named : Triples) (sector : ℕ) → Stands (D.state filer.old.swapper.under) filer.old.swapper.pool m → MapIs filer.old.swapper.layout named m → AreNamed m (IsMapHome FileMapPages filer.old.swapper.layout)
+    ensures sound { (m : List Sector) (named : Triples) (sector : ℕ) → Stands (D.state filer.old.swapper.disk) filer.old.swapper.pool m → MapIs filer.old.swapper.layout named m → AreNamed m (IsMapHome FileMapPages filer.old.swapper.layout)
         → named id page sector ≡ true → IfErr result (λ e. e ≡ halt.Disk) }
-    ensures same { (m : List Sector) (named : Triples) → Stands (D.state filer.old.swapper.under) filer.old.swapper.pool m → MapIs filer.old.swapper.layout named m → Stands (D.state filer.new.swapper.under) filer.new.swapper.pool m }
-    ensures beside { Beside FileMapPages (D.state filer.old.swapper.under) filer.old.swapper.pool filer.old.swapper.layout (D.state filer.new.swapper.under) filer.new.swapper.pool filer.new.swapper.layout }
-    ensures cost { (D.state filer.new.swapper.under).transfers ≤ (D.state filer.old.swapper.under).transfers + 14 }
+    ensures same { (m : List Sector) (named : Triples) → Stands (D.state filer.old.swapper.disk) filer.old.swapper.pool m → MapIs filer.old.swapper.layout named m → Stands (D.state filer.new.swapper.disk) filer.new.swapper.pool m }
+    ensures beside { Beside FileMapPages (D.state filer.old.swapper.disk) filer.old.swapper.pool filer.old.swapper.layout (D.state filer.new.swapper.disk) filer.new.swapper.pool filer.new.swapper.layout }
+    ensures cost { (D.state filer.new.swapper.disk).transfers ≤ (D.state filer.old.swapper.disk).transfers + 14 }
 {
     match filer.find(id, page) {
         Ok(Some(run)) => {
@@ -76,23 +76,23 @@ fn part_of<D: Disk, A: Allocator>(
 }
 
 // Frees the labels of the sectors of a run, the first page first.
-fn free_labels<D: Disk, A: Allocator>(filer: &mut FilerOver<D, A>, run: Run) -> Result<(), Halt>
-    requires size { (D.state filer.old.swapper.under).sectors ≡ filer.old.swapper.layout.sectors }
+fn free_labels<D: Disk, A: Allocator>(filer: &mut Filer<D, A>, run: Run) -> Result<(), Halt>
+    requires size { (D.state filer.old.swapper.disk).sectors ≡ filer.old.swapper.layout.sectors }
     requires data { filer.old.swapper.layout.first ≤ run.sector }
     requires form { IsRun filer.old.swapper.layout.sectors run }
-    ensures freed { OnOk result (RelabelsRun run.sector run.pages (freeing (run_sectors run)) (D.state filer.old.swapper.under) filer.old.swapper.pool (D.state filer.new.swapper.under)) }
-    ensures stopped { OnErr result (MadeSome (freeing (run_sectors run)) (D.state filer.old.swapper.under) filer.old.swapper.pool (D.state filer.new.swapper.under)) }
-    ensures sound { (m : List Sector) → Stands (D.state filer.old.swapper.under) filer.old.swapper.pool m → AreUncovered filer.old.swapper.pool run.sector run.pages
+    ensures freed { OnOk result (RelabelsRun run.sector run.pages (freeing (run_sectors run)) (D.state filer.old.swapper.disk) filer.old.swapper.pool (D.state filer.new.swapper.disk)) }
+    ensures stopped { OnErr result (MadeSome (freeing (run_sectors run)) (D.state filer.old.swapper.disk) filer.old.swapper.pool (D.state filer.new.swapper.disk)) }
+    ensures sound { (m : List Sector) → Stands (D.state filer.old.swapper.disk) filer.old.swapper.pool m → AreUncovered filer.old.swapper.pool run.sector run.pages
         → HaveOnes (λ k. ones_of (record { id = run.id; page = run.first + k })) m run.sector run.pages → IfErr result (λ e. e ≡ halt.Disk) }
-    ensures cause { IfErr result (HasCause (IsOneNotOf run.sector run.pages (λ k. record { id = run.id; page = run.first + k }) (D.state filer.old.swapper.under)) (D.state filer.old.swapper.under) (D.state filer.new.swapper.under)) }
-    ensures were { OnOk result ((d : List Sector) → (D.state filer.old.swapper.under).contents ≡ Some d → HaveOnes (λ k. ones_of (record { id = run.id; page = run.first + k })) d run.sector run.pages) }
-    ensures so { IfErr result (ShowsSo (D.state filer.new.swapper.under)) }
-    ensures counted { result ≡ Err halt.Disk → Rose (D.state filer.old.swapper.under).faults (D.state filer.new.swapper.under).faults }
+    ensures cause { IfErr result (HasCause (IsOneNotOf run.sector run.pages (λ k. record { id = run.id; page = run.first + k }) (D.state filer.old.swapper.disk)) (D.state filer.old.swapper.disk) (D.state filer.new.swapper.disk)) }
+    ensures were { OnOk result ((d : List Sector) → (D.state filer.old.swapper.disk).contents ≡ Some d → HaveOnes (λ k. ones_of (record { id = run.id; page = run.first + k })) d run.sector run.pages) }
+    ensures evidence_seen { IfErr result (ShowsEvidence (D.state filer.new.swapper.disk)) }
+    ensures counted { result ≡ Err halt.Disk → Rose (D.state filer.old.swapper.disk).faults (D.state filer.new.swapper.disk).faults }
     ensures frames { filer.new.swapper.pool ≡ filer.old.swapper.pool }
     ensures layout { filer.new.swapper.layout ≡ filer.old.swapper.layout }
     ensures runs { filer.new.runs ≡ filer.old.runs }
-    ensures cost { (D.state filer.new.swapper.under).transfers ≤ (D.state filer.old.swapper.under).transfers + 2 * run.pages }
-    ensures own { RelabelsOwn run.id (D.state filer.old.swapper.under) (D.state filer.new.swapper.under) }
+    ensures cost { (D.state filer.new.swapper.disk).transfers ≤ (D.state filer.old.swapper.disk).transfers + 2 * run.pages }
+    ensures own { RelabelsOwn run.id (D.state filer.old.swapper.disk) (D.state filer.new.swapper.disk) }
 {
     let swapper = filer.swapper_over();
     match free_pages_up(swapper, run.sector, run.pages, run.id, run.first) {
@@ -104,41 +104,41 @@ fn free_labels<D: Disk, A: Allocator>(filer: &mut FilerOver<D, A>, run: Run) -> 
 // Frees pages of a file from one on, at least that one and at most so many: those whose sectors are in a row. The file map
 // stays.
 pub(crate) fn free_run<D: Disk, A: Allocator>(
-    filer: &mut FilerOver<D, A>,
+    filer: &mut Filer<D, A>,
     id: FileId,
     page: u32,
     most: u32,
 ) -> Result<u32, Halt>
-    requires size { (D.state filer.old.swapper.under).sectors ≡ filer.old.swapper.layout.sectors }
+    requires size { (D.state filer.old.swapper.disk).sectors ≡ filer.old.swapper.layout.sectors }
     requires of_file { (id ≡ 3) ⊎ (16 ≤ id) }
     requires some { 1 ≤ most }
-    ensures freed { (named : Triples) (spaces : List Space) (m : List Sector) → MayFree (D.state filer.old.swapper.under) filer.old.swapper.pool filer.old.swapper.layout filer.old.runs named spaces id page (page + most) m
-        → IfOk result (λ pages. Freed filer.old.swapper.layout named spaces id page pages (page + most) (D.state filer.old.swapper.under) filer.old.swapper.pool (D.state filer.new.swapper.under) filer.new.swapper.pool filer.new.runs) }
+    ensures freed { (named : Triples) (spaces : List Space) (m : List Sector) → MayFree (D.state filer.old.swapper.disk) filer.old.swapper.pool filer.old.swapper.layout filer.old.runs named spaces id page (page + most) m
+        → IfOk result (λ pages. Freed filer.old.swapper.layout named spaces id page pages (page + most) (D.state filer.old.swapper.disk) filer.old.swapper.pool (D.state filer.new.swapper.disk) filer.new.swapper.pool filer.new.runs) }
     ensures some { IfOk result (λ pages. (1 ≤ pages) × (pages ≤ most)) }
-    ensures sound { (named : Triples) (spaces : List Space) (m : List Sector) → MayFree (D.state filer.old.swapper.under) filer.old.swapper.pool filer.old.swapper.layout filer.old.runs named spaces id page (page + most) m
+    ensures sound { (named : Triples) (spaces : List Space) (m : List Sector) → MayFree (D.state filer.old.swapper.disk) filer.old.swapper.pool filer.old.swapper.layout filer.old.runs named spaces id page (page + most) m
         → IfErr result (λ e. e ≡ halt.Disk) }
-    ensures first { (named : Triples) (spaces : List Space) (m : List Sector) → MayFree (D.state filer.old.swapper.under) filer.old.swapper.pool filer.old.swapper.layout filer.old.runs named spaces id page (page + most) m
-        → OnErr result (FreedSome named id page (page + most) (D.state filer.old.swapper.under) filer.old.swapper.pool (D.state filer.new.swapper.under) filer.new.swapper.pool) }
-    ensures makes { IfOk result (λ pages. MakesFree pages (D.state filer.old.swapper.under) filer.old.swapper.pool (D.state filer.new.swapper.under) filer.new.swapper.pool) }
-    ensures stopped { OnErr result (MakesSomeFree (D.state filer.old.swapper.under) filer.old.swapper.pool (D.state filer.new.swapper.under) filer.new.swapper.pool) }
-    ensures cause { IfErr result (FreeHalts (IsUnframed filer.old.swapper.pool id) filer.old.swapper.layout (runs_of filer.old.swapper.layout.sectors filer.old.runs) id (λ p. p ≡ page) (D.state filer.old.swapper.under) filer.old.swapper.pool (D.state filer.new.swapper.under)) }
-    ensures keeps_to { (o : Outset) (named : Triples) → Keeps o filer.old named → LeavesTables o id → OnOk result (Keeps o filer.new named) }
-    ensures let_go { (o : Outset) (named : Triples) → Keeps o filer.old named → LeavesTables o id → IfOk result (λ pages. AreLet o (D.state filer.new.swapper.under) named id (λ p. (page ≤ p) × (p < page + pages))) }
-    ensures reasons { (o : Outset) (named : Triples) → Keeps o filer.old named → LeavesTables o id → MayLack named id page → IfErr result (ShowsReason o filer.old.swapper.layout (D.state filer.new.swapper.under)) }
-    ensures right { (o : Outset) (named : Triples) (sector : ℕ) → Keeps o filer.old named → named id page sector ≡ true → IfErr result LacksNone }
-    ensures keeps { OnOk result (KeepsMap (IsUnframed filer.old.swapper.pool id) filer.old.swapper.layout id (D.state filer.old.swapper.under) filer.old.swapper.pool (runs_of filer.old.swapper.layout.sectors filer.old.runs) (D.state filer.new.swapper.under) filer.new.swapper.pool (runs_of filer.old.swapper.layout.sectors filer.new.runs)) }
-    ensures so { MayBeMissing id page → IfErr result (ShowsSo (D.state filer.new.swapper.under)) }
-    ensures counted { result ≡ Err halt.Disk → Rose (D.state filer.old.swapper.under).faults (D.state filer.new.swapper.under).faults }
+    ensures first { (named : Triples) (spaces : List Space) (m : List Sector) → MayFree (D.state filer.old.swapper.disk) filer.old.swapper.pool filer.old.swapper.layout filer.old.runs named spaces id page (page + most) m
+        → OnErr result (FreedSome named id page (page + most) (D.state filer.old.swapper.disk) filer.old.swapper.pool (D.state filer.new.swapper.disk) filer.new.swapper.pool) }
+    ensures makes { IfOk result (λ pages. MakesFree pages (D.state filer.old.swapper.disk) filer.old.swapper.pool (D.state filer.new.swapper.disk) filer.new.swapper.pool) }
+    ensures stopped { OnErr result (MakesSomeFree (D.state filer.old.swapper.disk) filer.old.swapper.pool (D.state filer.new.swapper.disk) filer.new.swapper.pool) }
+    ensures cause { IfErr result (FreeHalts (IsUnframed filer.old.swapper.pool id) filer.old.swapper.layout (runs_of filer.old.swapper.layout.sectors filer.old.runs) id (λ p. p ≡ page) (D.state filer.old.swapper.disk) filer.old.swapper.pool (D.state filer.new.swapper.disk)) }
+    ensures keeps_to { (o : InitialState) (named : Triples) → Keeps o filer.old named → LeavesTables o id → OnOk result (Keeps o filer.new named) }
+    ensures evict { (o : InitialState) (named : Triples) → Keeps o filer.old named → LeavesTables o id → IfOk result (λ pages. AreReleased o (D.state filer.new.swapper.disk) named id (λ p. (page ≤ p) × (p < page + pages))) }
+    ensures reasons { (o : InitialState) (named : Triples) → Keeps o filer.old named → LeavesTables o id → MayLack named id page → IfErr result (ShowsReason o filer.old.swapper.layout (D.state filer.new.swapper.disk)) }
+    ensures right { (o : InitialState) (named : Triples) (sector : ℕ) → Keeps o filer.old named → named id page sector ≡ true → IfErr result MissesNone }
+    ensures keeps { OnOk result (KeepsMap (IsUnframed filer.old.swapper.pool id) filer.old.swapper.layout id (D.state filer.old.swapper.disk) filer.old.swapper.pool (runs_of filer.old.swapper.layout.sectors filer.old.runs) (D.state filer.new.swapper.disk) filer.new.swapper.pool (runs_of filer.old.swapper.layout.sectors filer.new.runs)) }
+    ensures evidence_seen { MayBeMissing id page → IfErr result (ShowsEvidence (D.state filer.new.swapper.disk)) }
+    ensures counted { result ≡ Err halt.Disk → Rose (D.state filer.old.swapper.disk).faults (D.state filer.new.swapper.disk).faults }
     ensures layout { filer.new.swapper.layout ≡ filer.old.swapper.layout }
-    ensures spent { IfOk result (λ pages. (D.state filer.new.swapper.under).transfers ≤ (D.state filer.old.swapper.under).transfers + (14 + 2 * pages + 4 * filer.old.swapper.layout.vam)) }
-    ensures cost { (D.state filer.new.swapper.under).transfers ≤ (D.state filer.old.swapper.under).transfers + (14 + 2 * most + 4 * filer.old.swapper.layout.vam) }
-    ensures own { RelabelsOwn id (D.state filer.old.swapper.under) (D.state filer.new.swapper.under) }
+    ensures spent { IfOk result (λ pages. (D.state filer.new.swapper.disk).transfers ≤ (D.state filer.old.swapper.disk).transfers + (14 + 2 * pages + 4 * filer.old.swapper.layout.vam)) }
+    ensures cost { (D.state filer.new.swapper.disk).transfers ≤ (D.state filer.old.swapper.disk).transfers + (14 + 2 * most + 4 * filer.old.swapper.layout.vam) }
+    ensures own { RelabelsOwn id (D.state filer.old.swapper.disk) (D.state filer.new.swapper.disk) }
 {
     let run = match part_of(filer, id, page, most) {
         Ok(run) => run,
         Err(halt) => return Err(halt),
     };
-    forget_run(filer, run.id, run.first, run.pages);
+    discard_run(filer, run.id, run.first, run.pages);
     match free_labels(filer, run) {
         Ok(()) => (),
         Err(halt) => return Err(halt),
@@ -152,33 +152,33 @@ pub(crate) fn free_run<D: Disk, A: Allocator>(
 
 // Frees the pages of a file from one on up to another, run by run. The file map stays.
 pub(crate) fn free_up<D: Disk, A: Allocator>(
-    filer: &mut FilerOver<D, A>,
+    filer: &mut Filer<D, A>,
     id: FileId,
     from: u32,
     end: u32,
 ) -> Result<(), Halt>
-    requires size { (D.state filer.old.swapper.under).sectors ≡ filer.old.swapper.layout.sectors }
+    requires size { (D.state filer.old.swapper.disk).sectors ≡ filer.old.swapper.layout.sectors }
     requires of_file { (id ≡ 3) ⊎ (16 ≤ id) }
     requires order { from ≤ end }
-    ensures freed { (named : Triples) (spaces : List Space) (m : List Sector) → MayFree (D.state filer.old.swapper.under) filer.old.swapper.pool filer.old.swapper.layout filer.old.runs named spaces id from end m
-        → OnOk result (Freed filer.old.swapper.layout named spaces id from (end - from) end (D.state filer.old.swapper.under) filer.old.swapper.pool (D.state filer.new.swapper.under) filer.new.swapper.pool filer.new.runs) }
-    ensures sound { (named : Triples) (spaces : List Space) (m : List Sector) → MayFree (D.state filer.old.swapper.under) filer.old.swapper.pool filer.old.swapper.layout filer.old.runs named spaces id from end m
+    ensures freed { (named : Triples) (spaces : List Space) (m : List Sector) → MayFree (D.state filer.old.swapper.disk) filer.old.swapper.pool filer.old.swapper.layout filer.old.runs named spaces id from end m
+        → OnOk result (Freed filer.old.swapper.layout named spaces id from (end - from) end (D.state filer.old.swapper.disk) filer.old.swapper.pool (D.state filer.new.swapper.disk) filer.new.swapper.pool filer.new.runs) }
+    ensures sound { (named : Triples) (spaces : List Space) (m : List Sector) → MayFree (D.state filer.old.swapper.disk) filer.old.swapper.pool filer.old.swapper.layout filer.old.runs named spaces id from end m
         → IfErr result (λ e. e ≡ halt.Disk) }
-    ensures first { (named : Triples) (spaces : List Space) (m : List Sector) → MayFree (D.state filer.old.swapper.under) filer.old.swapper.pool filer.old.swapper.layout filer.old.runs named spaces id from end m
-        → OnErr result (FreedSome named id from end (D.state filer.old.swapper.under) filer.old.swapper.pool (D.state filer.new.swapper.under) filer.new.swapper.pool) }
-    ensures makes { OnOk result (MakesFree (end - from) (D.state filer.old.swapper.under) filer.old.swapper.pool (D.state filer.new.swapper.under) filer.new.swapper.pool) }
-    ensures stopped { OnErr result (MakesSomeFree (D.state filer.old.swapper.under) filer.old.swapper.pool (D.state filer.new.swapper.under) filer.new.swapper.pool) }
-    ensures cause { IfErr result (FreeHalts (IsUnframed filer.old.swapper.pool id) filer.old.swapper.layout (runs_of filer.old.swapper.layout.sectors filer.old.runs) id (λ p. (from ≤ p) × (p < end)) (D.state filer.old.swapper.under) filer.old.swapper.pool (D.state filer.new.swapper.under)) }
-    ensures keeps_to { (o : Outset) (named : Triples) → Keeps o filer.old named → LeavesTables o id → OnOk result (Keeps o filer.new named) }
-    ensures let_go { (o : Outset) (named : Triples) → Keeps o filer.old named → LeavesTables o id → OnOk result (AreLet o (D.state filer.new.swapper.under) named id (λ p. (from ≤ p) × (p < end))) }
-    ensures reasons { (o : Outset) (named : Triples) → Keeps o filer.old named → LeavesTables o id → ((page : ℕ) → page < end → MayLack named id page) → IfErr result (ShowsReason o filer.old.swapper.layout (D.state filer.new.swapper.under)) }
-    ensures right { (o : Outset) (named : Triples) → Keeps o filer.old named → LeavesTables o id → ((page : ℕ) → page < end → (sector : ℕ) × (named id page sector ≡ true)) → IfErr result LacksNone }
-    ensures keeps { OnOk result (KeepsMap (IsUnframed filer.old.swapper.pool id) filer.old.swapper.layout id (D.state filer.old.swapper.under) filer.old.swapper.pool (runs_of filer.old.swapper.layout.sectors filer.old.runs) (D.state filer.new.swapper.under) filer.new.swapper.pool (runs_of filer.old.swapper.layout.sectors filer.new.runs)) }
-    ensures so { ((page : ℕ) → page < end → MayBeMissing id page) → IfErr result (ShowsSo (D.state filer.new.swapper.under)) }
-    ensures counted { result ≡ Err halt.Disk → Rose (D.state filer.old.swapper.under).faults (D.state filer.new.swapper.under).faults }
+    ensures first { (named : Triples) (spaces : List Space) (m : List Sector) → MayFree (D.state filer.old.swapper.disk) filer.old.swapper.pool filer.old.swapper.layout filer.old.runs named spaces id from end m
+        → OnErr result (FreedSome named id from end (D.state filer.old.swapper.disk) filer.old.swapper.pool (D.state filer.new.swapper.disk) filer.new.swapper.pool) }
+    ensures makes { OnOk result (MakesFree (end - from) (D.state filer.old.swapper.disk) filer.old.swapper.pool (D.state filer.new.swapper.disk) filer.new.swapper.pool) }
+    ensures stopped { OnErr result (MakesSomeFree (D.state filer.old.swapper.disk) filer.old.swapper.pool (D.state filer.new.swapper.disk) filer.new.swapper.pool) }
+    ensures cause { IfErr result (FreeHalts (IsUnframed filer.old.swapper.pool id) filer.old.swapper.layout (runs_of filer.old.swapper.layout.sectors filer.old.runs) id (λ p. (from ≤ p) × (p < end)) (D.state filer.old.swapper.disk) filer.old.swapper.pool (D.state filer.new.swapper.disk)) }
+    ensures keeps_to { (o : InitialState) (named : Triples) → Keeps o filer.old named → LeavesTables o id → OnOk result (Keeps o filer.new named) }
+    ensures evict { (o : InitialState) (named : Triples) → Keeps o filer.old named → LeavesTables o id → OnOk result (AreReleased o (D.state filer.new.swapper.disk) named id (λ p. (from ≤ p) × (p < end))) }
+    ensures reasons { (o : InitialState) (named : Triples) → Keeps o filer.old named → LeavesTables o id → ((page : ℕ) → page < end → MayLack named id page) → IfErr result (ShowsReason o filer.old.swapper.layout (D.state filer.new.swapper.disk)) }
+    ensures right { (o : InitialState) (named : Triples) → Keeps o filer.old named → LeavesTables o id → ((page : ℕ) → page < end → (sector : ℕ) × (named id page sector ≡ true)) → IfErr result MissesNone }
+    ensures keeps { OnOk result (KeepsMap (IsUnframed filer.old.swapper.pool id) filer.old.swapper.layout id (D.state filer.old.swapper.disk) filer.old.swapper.pool (runs_of filer.old.swapper.layout.sectors filer.old.runs) (D.state filer.new.swapper.disk) filer.new.swapper.pool (runs_of filer.old.swapper.layout.sectors filer.new.runs)) }
+    ensures evidence_seen { ((page : ℕ) → page < end → MayBeMissing id page) → IfErr result (ShowsEvidence (D.state filer.new.swapper.disk)) }
+    ensures counted { result ≡ Err halt.Disk → Rose (D.state filer.old.swapper.disk).faults (D.state filer.new.swapper.disk).faults }
     ensures layout { filer.new.swapper.layout ≡ filer.old.swapper.layout }
-    ensures cost { (D.state filer.new.swapper.under).transfers ≤ (D.state filer.old.swapper.under).transfers + (end - from) * (16 + 4 * filer.old.swapper.layout.vam) }
-    ensures own { RelabelsOwn id (D.state filer.old.swapper.under) (D.state filer.new.swapper.under) }
+    ensures cost { (D.state filer.new.swapper.disk).transfers ≤ (D.state filer.old.swapper.disk).transfers + (end - from) * (16 + 4 * filer.old.swapper.layout.vam) }
+    ensures own { RelabelsOwn id (D.state filer.old.swapper.disk) (D.state filer.new.swapper.disk) }
 {
     let mut page = from;
     while page < end {

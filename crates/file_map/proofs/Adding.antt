@@ -152,6 +152,6 @@ module _ (n : ℕ) (lists now : List (List ℕ) → Type 0) (named : Triples) (m
 
     pub extended : (entry : List ℕ) (done : Bool) → entry ≡ run_bytes whole → IsReplaced 12 now (map run_bytes map_is.runs) entry done → done ≡ true → AreNamed n now (with_run named r)
     extended entry true is answer h =
-        let told = subst (λ (x : List ℕ). IsReplaced 12 now (map run_bytes runs) x true) is answer in
-        joined_named told.0 told.1 told.2
+        let revealed = subst (λ (x : List ℕ). IsReplaced 12 now (map run_bytes runs) x true) is answer in
+        joined_named revealed.0 revealed.1 revealed.2
     extended entry false is answer h = absurd (false≢true h)

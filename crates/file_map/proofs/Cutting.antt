@@ -47,7 +47,7 @@ none_to_cut named file from none id page sector = kept_or_not _ _ (λ h. not_nam
 pub uncut : (n : ℕ) (lists now : List (List ℕ) → Type 0) (named : Triples) (map_is : AreNamed n lists named) (file from : ℕ) → now (map run_bytes map_is.runs) → ((page sector : ℕ) → from ≤ page → named file page sector ≡ true → ⊥) → AreNamed n now (without_from named file from)
 uncut n lists now named map_is file from listed none = renamed n now named (without_from named file from) (relisted n lists now named map_is listed) (none_to_cut named file from none)
 
-module _ (n : ℕ) (lists : List (List ℕ) → Type 0) (named : Triples) (map_is : AreNamed n lists named) (rising : (xs : List (List ℕ)) → lists xs → IsInKeyOrder 12 xs) (file from : ℕ) (file_fits : file < 2 ^ 64) where
+module _ (n : ℕ) (lists : List (List ℕ) → Type 0) (named : Triples) (map_is : AreNamed n lists named) (ascending : (xs : List (List ℕ)) → lists xs → IsInKeyOrder 12 xs) (file from : ℕ) (file_fits : file < 2 ^ 64) where
   abbrev runs : List Run
   runs = map_is.runs
 
@@ -59,8 +59,8 @@ module _ (n : ℕ) (lists : List (List ℕ) → Type 0) (named : Triples) (map_i
 
   pub done_none : IsLastRun map_is.runs file 4294967295 None → (page sector : ℕ) → from ≤ page → named file page sector ≡ true → ⊥
   done_none none page sector low h =
-      let by = by_run n lists named map_is rising file page sector h in
-      in_none n runs (sorted n lists named map_is rising) file 4294967295 file_fits (omega arith) by.index page none by.below (fits by.index by.below page by.has) by.has
+      let by = by_run n lists named map_is ascending file page sector h in
+      in_none n runs (sorted n lists named map_is ascending) file 4294967295 file_fits (omega arith) by.index page none by.below (fits by.index by.below page by.has) by.has
 
   module _ (r : Run) (last : IsLastRun map_is.runs file 4294967295 (Some r)) where
     below : last.0 < length runs
@@ -72,20 +72,20 @@ module _ (n : ℕ) (lists : List (List ℕ) → Type 0) (named : Triples) (map_i
     -- a page of the file from there on is one of the last run, where that begins before or is none of the file
     in_run : (page sector : ℕ) → named file page sector ≡ true → (holds r file page ≡ true) ⊎ (rank file page < rank_of r)
     in_run page sector h =
-        let by = by_run n lists named map_is rising file page sector h in
-        elim (in_last n runs (sorted n lists named map_is rising) file 4294967295 file_fits (omega arith) last.0 by.index page last.1 by.below (fits by.index by.below page by.has) by.has) [
+        let by = by_run n lists named map_is ascending file page sector h in
+        elim (in_last n runs (sorted n lists named map_is ascending) file 4294967295 file_fits (omega arith) last.0 by.index page last.1 by.below (fits by.index by.below page by.has) by.has) [
           | inl here ↦ inl (subst (λ (x : Run). holds x file page ≡ true) (ap (run_at runs) here ∙ sym last.2) by.held)
           | inr low ↦ inr (subst (λ (x : Run). rank file page < rank_of x) (sym last.2) low)
         ]
 
     low_last : rank_of r ≤ rank file 4294967295
-    low_last = subst (λ (x : Run). rank_of x ≤ rank file 4294967295) (sym last.2) (last_rank n runs (sorted n lists named map_is rising) file 4294967295 file_fits (omega arith) last.0 last.1)
+    low_last = subst (λ (x : Run). rank_of x ≤ rank file 4294967295) (sym last.2) (last_rank n runs (sorted n lists named map_is ascending) file 4294967295 file_fits (omega arith) last.0 last.1)
 
     pub done_other : r.id ≢ file → (page sector : ℕ) → from ≤ page → named file page sector ≡ true → ⊥
     done_other other page sector low h = elim (in_run page sector h) [
       | inl held ↦ other (has_page r file page held).same
       | inr before ↦
-          let by = by_run n lists named map_is rising file page sector h in
+          let by = by_run n lists named map_is ascending file page sector h in
           let small = fits by.index by.below page by.has in
           other (omega (arith, before, low_last, form.pages_fit, form.some, small))
     ]
@@ -94,7 +94,7 @@ module _ (n : ℕ) (lists : List (List ℕ) → Type 0) (named : Triples) (map_i
     done_before ends page sector low h = elim (in_run page sector h) [
       | inl held ↦ let has = has_page r file page held in omega (arith, has.below, ends, low)
       | inr before ↦
-          let by = by_run n lists named map_is rising file page sector h in
+          let by = by_run n lists named map_is ascending file page sector h in
           let small = fits by.index by.below page by.has in
           omega (arith, before, low_last, form.pages_fit, form.some, small, ends, low)
     ]
@@ -149,11 +149,11 @@ module _ (n : ℕ) (lists : List (List ℕ) → Type 0) (named : Triples) (map_i
       }
 
       pub removed_same : r.id ≡ file → from ≤ r.first → (id page sector : ℕ) → without_from (names_triple (remove map_is.runs last.0)) file from id page sector ≡ without_from named file from id page sector
-      removed_same same behind id page sector =
+      removed_same same after id page sector =
           sym (ap (λ (x : Bool). x && not ((id == file) && nat_le from page)) (names_is id page sector)
           ∙ cut_out (run_names r id page sector) (names_triple (remove runs last.0) id page sector) ((id == file) && nat_le from page) (λ h.
           let has = has_page r id page (run_named r id page sector h).0 in
-          and_both (id == file) (nat_le from page) (eq-eqb id file (sym has.same ∙ same)) (le-leb from page (omega (arith, behind, has.from)))))
+          and_both (id == file) (nat_le from page) (eq-eqb id file (sym has.same ∙ same)) (le-leb from page (omega (arith, after, has.from)))))
 
       pub removed_count : length (remove map_is.runs last.0) + 1 ≡ length map_is.runs
       removed_count = omega (arith, length-remove runs last.0 below, below)
@@ -161,12 +161,12 @@ module _ (n : ℕ) (lists : List (List ℕ) → Type 0) (named : Triples) (map_i
       pub removed_step : (counts : ℕ → Type 0) → ((xs : List (List ℕ)) → now xs → counts (length xs)) → (key : List ℕ) → key ≡ key_bytes r.id r.first → r.id ≡ file → from ≤ r.first → (count : ℕ) → count ≡ length (map run_bytes map_is.runs)
           → (done : Bool) → IsTakenOut 12 now (map run_bytes map_is.runs) key done → IsStep n now counts named file from count done
       unfolding removed_named
-      removed_step counts counted key is same behind count count_is true (i, meant, listed) =
+      removed_step counts counted key is same after count count_is true (i, meant, listed) =
           let map_now = removed_named key is i meant listed in
           record {
             now = names_triple (remove runs last.0);
             map_is = map_now;
-            same = removed_same same behind;
+            same = removed_same same after;
             left = length (remove runs last.0);
             counted = subst counts (length-map (remove runs last.0) run_bytes) (counted (map run_bytes (remove runs last.0)) map_now.listed);
             fewer = removed_count ∙ sym long ∙ sym count_is;
@@ -177,7 +177,7 @@ module _ (n : ℕ) (lists : List (List ℕ) → Type 0) (named : Triples) (map_i
             before = others_before same;
             among = others_named same;
           }
-      removed_step counts counted key is same behind count count_is false answer = absurd (none_of_last key is answer.0)
+      removed_step counts counted key is same after count count_is false answer = absurd (none_of_last key is answer.0)
 
       module _ (short : Run) (short_id : short.id ≡ file) (short_first : short.first ≡ r.first) (short_pages : short.pages ≡ from - r.first) (short_sector : short.sector ≡ r.sector) (same : r.id ≡ file) (early : r.first < from) (late : from < r.first + r.pages) where
         short_form : IsRun n short
@@ -266,8 +266,8 @@ module _ (n : ℕ) (lists : List (List ℕ) → Type 0) (named : Triples) (map_i
 
         pub short_step : (entry : List ℕ) → entry ≡ run_bytes short → (done : Bool) → IsReplaced 12 now (map run_bytes map_is.runs) entry done → AreNamed n now (without_from named file from)
         short_step entry is true answer =
-            let told = subst (λ (x : List ℕ). IsReplaced 12 now (map run_bytes runs) x true) is answer in
-            short_named (take 12 (run_bytes short)) key_same told.0 told.1 told.2
+            let revealed = subst (λ (x : List ℕ). IsReplaced 12 now (map run_bytes runs) x true) is answer in
+            short_named (take 12 (run_bytes short)) key_same revealed.0 revealed.1 revealed.2
         short_step entry is false answer =
-            let told = subst (λ (x : List ℕ). IsReplaced 12 now (map run_bytes runs) x false) is answer in
-            absurd (none_of_last (take 12 (run_bytes short)) key_same told.0)
+            let revealed = subst (λ (x : List ℕ). IsReplaced 12 now (map run_bytes runs) x false) is answer in
+            absurd (none_of_last (take 12 (run_bytes short)) key_same revealed.0)

@@ -19,10 +19,10 @@ same_truth false false h k = refl
 
 -- ---- the names of an edited list
 
-to_front : (a x b : Bool) → (a || (x || b)) ≡ (x || (a || b))
-to_front true true b = refl
-to_front true false b = refl
-to_front false x b = refl
+to_prefix : (a x b : Bool) → (a || (x || b)) ≡ (x || (a || b))
+to_prefix true true b = refl
+to_prefix true false b = refl
+to_prefix false x b = refl
 
 to_end : (a x b : Bool) → (a || (x || b)) ≡ ((a || b) || x)
 to_end true x b = refl
@@ -42,7 +42,7 @@ module _ (runs : List Run) (id page sector : ℕ) where
 
   around : (j : ℕ) (r : Run) → list_any f (take j runs ++ r ∷ drop (suc j) runs) ≡ (run_names r id page sector || names_triple (remove runs j) id page sector)
   around j r =
-      list_any-append f (take j runs) (r ∷ drop (suc j) runs) ∙ to_front (list_any f (take j runs)) (f r) (list_any f (drop (suc j) runs))
+      list_any-append f (take j runs) (r ∷ drop (suc j) runs) ∙ to_prefix (list_any f (take j runs)) (f r) (list_any f (drop (suc j) runs))
       ∙ ap (λ (b : Bool). f r || b) (sym (list_any-append f (take j runs) (drop (suc j) runs)))
 
   next : (j : ℕ) → drop (j + 1) runs ≡ drop (suc j) runs
@@ -76,7 +76,7 @@ module _ (n : ℕ) (runs : List Run) (form : AreRuns n runs) where
       ys : List Run
       ys = insert runs at r
 
-      -- the run is the new one, or one below the place, or one behind it
+      -- the run is the new one, or one below the place, or one after it
       which : (j : ℕ) → j < length (insert runs at r) → ((j ≡ at) × (run_at (insert runs at r) j ≡ r)) ⊎ ((m : ℕ) × (m < length runs) × (run_at (insert runs at r) j ≡ run_at runs m) × (((j < at) × (m ≡ j)) ⊎ ((at < j) × (m + 1 ≡ j))))
       which j below = elim (cases_lt j at) [
         | inl early ↦ inr (j, omega (arith, early, within), get_or-insert_below runs at r no_run j early within, inl (early, refl))

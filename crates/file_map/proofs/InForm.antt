@@ -3,7 +3,7 @@ use Rattle.std.proofs.Common.{◌≡◌, inl, inr, ℕ, ◌<◌, ◌≤◌, ◌^
 use Rattle.std.proofs.lemmas.List.{get_or-map, length-map}
 use Rattle.page_tree.specs.Broken.{StopsInsertion}
 use Rattle.page_tree.specs.Page.{IsWidths}
-use Rattle.page_tree.specs.Tells.{TellsTree}
+use Rattle.page_tree.specs.Reveals.{RevealsTree}
 use Rattle.page_tree.specs.Tree.{IsTree}
 use Rattle.page_tree.proofs.Recorded.{recorded}
 use Rattle.page_tree.proofs.Unbroken.{unstopped}
@@ -19,9 +19,9 @@ use Rattle.file_map.proofs.Searches.{names_at}
 widths : IsWidths 24 12
 widths = record { some_key = omega arith; key_most = omega arith; entry_least = omega arith; entry_most = omega arith }
 
-module _ (n pages : ℕ) (b : List ℕ) (named : Triples) (is : AreNamed n (TellsTree 24 12 pages (λ c. c ≡ b)) named) (few : n < 2 ^ 32) (least : 9 ≤ pages) (most : pages ≤ 2 ^ 18) where
+module _ (n pages : ℕ) (b : List ℕ) (named : Triples) (is : AreNamed n (RevealsTree 24 12 pages (λ c. c ≡ b)) named) (few : n < 2 ^ 32) (least : 9 ≤ pages) (most : pages ≤ 2 ^ 18) where
   tree : IsTree 24 12 pages b (map run_bytes is.runs)
-  tree = subst (λ (c : List ℕ). IsTree 24 12 pages c (map run_bytes is.runs)) is.listed.told is.listed.tree
+  tree = subst (λ (c : List ℕ). IsTree 24 12 pages c (map run_bytes is.runs)) is.listed.revealed is.listed.tree
 
   -- a record that is shown is that of one of its runs
   pub shown_record : (page : ℕ) (entry : List ℕ) → IsShown pages b (Entry page entry) → (j : ℕ) × (j < length is.runs) × (entry ≡ run_bytes (run_at is.runs j))

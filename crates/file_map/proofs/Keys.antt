@@ -41,7 +41,7 @@ some_power : (n : ℕ) → 0 < 256 ^ n
 some_power zero = omega arith
 some_power (suc n) = let h = some_power n in let p = pow-suc 256 n in omega (arith, h, p)
 
--- a byte more in front
+-- a byte more before
 compared_more : (a b c x y n m : ℕ) (xs ys : List ℕ) (rest : Ordering) → n ≡ a * c + x → m ≡ b * c + y → x < c → y < c
     → IsCompared x y (slice_cmp nat_cmp xs ys) rest → IsCompared n m (slice_cmp nat_cmp (a ∷ xs) (b ∷ ys)) rest
 compared_more a b c x y n m xs ys rest n_is m_is x_below y_below inner = elim (cases_lt a b) [
@@ -64,10 +64,10 @@ compared_more a b c x y n m xs ys rest n_is m_is x_below y_below inner = elim (c
     | inr other ↦
         let high : b < a = omega (arith, not, other) in
         let far : (b + 1) * c ≤ a * c = mul-le (b + 1) c a c (omega (arith, high)) (omega arith) in
-        let behind : m < n = omega (arith, far, n_is, m_is, y_below) in
+        let after : m < n = omega (arith, far, n_is, m_is, y_below) in
         record {
-          less = λ is. absurd (omega (arith, is, behind));
-          same = λ is. absurd (omega (arith, is, behind));
+          less = λ is. absurd (omega (arith, is, after));
+          same = λ is. absurd (omega (arith, is, after));
           more = λ _. more_first a b xs ys high;
         }
   ]

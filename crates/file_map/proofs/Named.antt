@@ -15,12 +15,12 @@ pub not_named : (b : Bool) → (b ≡ true → ⊥) → b ≡ false
 not_named true h = absurd (h refl)
 not_named false h = refl
 
-module _ (n : ℕ) (lists : List (List ℕ) → Type 0) (named : Triples) (map_is : AreNamed n lists named) (rising : (xs : List (List ℕ)) → lists xs → IsInKeyOrder 12 xs) where
+module _ (n : ℕ) (lists : List (List ℕ) → Type 0) (named : Triples) (map_is : AreNamed n lists named) (ascending : (xs : List (List ℕ)) → lists xs → IsInKeyOrder 12 xs) where
   abbrev runs : List Run
   runs = map_is.runs
 
   pub sorted : AreSorted n map_is.runs
-  sorted = record { form = map_is.form; rising = rising (map run_bytes runs) map_is.listed }
+  sorted = record { form = map_is.form; ascending = ascending (map run_bytes runs) map_is.listed }
 
   pub by_run : (id page sector : ℕ) → named id page sector ≡ true → IsNamedBy map_is.runs id page sector
   by_run id page sector h = named_by runs id page sector (sym (map_is.are id page sector) ∙ h)

@@ -34,7 +34,7 @@ module _ (b : List ℕ) (len : length b ≡ 24) (bytes : (k : ℕ) → get_or b 
   pub zero_rest : from_be_bytes w32 (get_or b 20 0 ∷ get_or b 21 0 ∷ get_or b 22 0 ∷ get_or b 23 0 ∷ []) ≡ 0 → drop 20 b ≡ 0 ∷ 0 ∷ 0 ∷ 0 ∷ []
   zero_rest is = last_four b len ∙ sym (be_bytes_4 (reads 20 4 b) 0 refl (part_bytes 20 4) (sym is))
 
-  -- a record whose last bytes are zeros is that of the run that it tells
+  -- a record whose last bytes are zeros is that of the run that it reveals
   pub bytes_back : (r : Run) → r.id ≡ from_be_bytes w64 (reads 0 8 b) → r.first ≡ from_be_bytes w32 (reads 8 4 b) → r.pages ≡ from_be_bytes w32 (reads 12 4 b)
       → r.sector ≡ from_be_bytes w32 (reads 16 4 b) → drop 20 b ≡ 0 ∷ 0 ∷ 0 ∷ 0 ∷ [] → run_bytes r ≡ b
   unfolding run_bytes

@@ -1,4 +1,4 @@
--- Runs in rising order of their keys, of which no two have one page: they lie one behind the other among all pages of all files.
+-- Runs in ascending order of their keys, of which no two have one page: they lie one after the other among all pages of all files.
 use Rattle.std.proofs.Common.{◌≡◌, inl, inr, ℕ, suc, ◌+◌, ◌<◌, ◌≤◌, Bool, true, false, ◌&&◌, ◌==◌, nat_lt, nat_le, List, [], length, map, take, refl, sym, ◌∙◌, ap, arith}
 use Rattle.std.proofs.lemmas.Bool.{cases_lt, false≢true, eqb-true, eq-eqb, leb-true, le-leb}
 use Rattle.std.proofs.lemmas.List.{get_or-map, length-map}
@@ -55,7 +55,7 @@ key_of_entry runs j below = ap (take 12) (get_or-map run_bytes runs j no_run [] 
 
 pub record AreSorted (n : ℕ) (runs : List Run) : Type 0 where
   pub form : AreRuns n runs
-  pub rising : IsInKeyOrder 12 (map run_bytes runs)
+  pub ascending : IsInKeyOrder 12 (map run_bytes runs)
 
 -- the first page of each run is above all pages of the runs before it
 abbrev pub AreSpread : List Run → Type 0
@@ -66,7 +66,7 @@ module _ (n : ℕ) (runs : List Run) (sorted : AreSorted n runs) where
   ordered j k order below =
       let a = sorted.form.each j (omega (arith, order, below)) in
       let b = sorted.form.each k below in
-      let test = sorted.rising j k order (omega (arith, below, length-map runs run_bytes)) in
+      let test = sorted.ascending j k order (omega (arith, below, length-map runs run_bytes)) in
       let tested : at_most (key_bytes (run_at runs j).id (run_at runs j).first) (key_bytes (run_at runs k).id (run_at runs k).first) ≡ true =
       rw (← key_of_entry runs j (omega (arith, order, below)), ← key_of_entry runs k below) test in
       elim (cases_lt (rank_of (run_at runs k)) (rank_of (run_at runs j))) [

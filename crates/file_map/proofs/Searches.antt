@@ -109,7 +109,7 @@ module _ (n : ℕ) (runs : List Run) (form : AreRuns n runs) (few : n < 2 ^ 32) 
   pub in_form_at : (i : ℕ) (entry : List ℕ) → i < length (map run_bytes runs) → entry ≡ entry_at (map run_bytes runs) i → IsRecord n entry
   in_form_at i entry below is = subst (λ (x : List ℕ). IsRecord n x) (sym (is ∙ entry_is i below)) (record_of_run n (run_at runs i) few (form.each i (omega (arith, below, length-map runs run_bytes))))
 
-  -- and the run that it tells is that one
+  -- and the run that it reveals is that one
   pub run_is : (i : ℕ) (entry : List ℕ) (r : Run) → i < length (map run_bytes runs) → entry ≡ entry_at (map run_bytes runs) i → IsRun n r → entry ≡ run_bytes r → r ≡ run_at runs i
   run_is i entry r below is r_form same =
       sym (run_back n r few r_form) ∙ ap run_in (sym same ∙ is ∙ entry_is i below) ∙ run_back n (run_at runs i) few (form.each i (omega (arith, below, length-map runs run_bytes)))

@@ -34,15 +34,15 @@ IsAddCause n full shows accounted Full = full
 IsAddCause n full shows accounted (Malformed page) = IsBroken n shows page ⊎ shows (Stops page)
 IsAddCause n full shows accounted (Mem error) = accounted error
 
--- a record of the file is shown that ends behind page `from`, so that a cut there takes something out
+-- a record of the file is shown that ends after page `from`, so that a cut there takes something out
 pub record IsToCut (id from : ℕ) (shows : Sight → Type 0) : Type 0 where
   pub run : Run
   pub page : ℕ
   pub shown : shows (Entry page (run_bytes run))
   pub of_file : run.id ≡ id
-  pub behind : from < run.first + run.pages
+  pub after : from < run.first + run.pages
 
--- no record may be added: whatever count is told, it is that of the data sectors
+-- no record may be added: whatever count is revealed, it is that of the data sectors
 abbrev pub IsMost : ℕ → (ℕ → Type 0) → Type 0
 IsMost n counts = (count : ℕ) → counts count → count ≡ most_records n
 

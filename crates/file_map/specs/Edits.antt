@@ -11,7 +11,7 @@ pub record Joins (a b r : Run) : Type 0 where
   pub both : r ≡ record { id = a.id; first = a.first; pages = a.pages + b.pages; sector = a.sector }
 
 -- A record fewer, with the same triples but for some of the file from a page on: one page of the file that was named is
--- behind all that still are.
+-- after all that still are.
 pub record IsShorter (n : ℕ) (lists : List (List ℕ) → Type 0) (counts : ℕ → Type 0) (named : Triples) (file from count : ℕ) : Type 0 where
   pub now : Triples
   pub map_is : AreNamed n lists now

@@ -1,7 +1,7 @@
 -- A sorted list of entries as its callers see it: what searches and edits give, and what its pages show.
 use Rattle.std.specs.Prelude.{◌≡◌, ℕ, ◌<◌, ◌≤◌, List, length, Option, Some, None, Bool, true, false, slice_set, take}
 use Rattle.std.specs.List.{insert, remove}
-use Rattle.flat_mem.specs.Order.{entry_at, key_at, at_most, IsBehind}
+use Rattle.flat_mem.specs.Order.{entry_at, key_at, at_most, IsAfter}
 use Rattle.page_tree.specs.declared.error.TreeError.{TreeError}
 use Rattle.page_tree.specs.declared.error.TreeError.TheVariants.{Full, Malformed, Mem}
 
@@ -38,11 +38,11 @@ pub record IsLastOf (k : ℕ) (xs : List (List ℕ)) (key : List ℕ) (i : ℕ) 
 abbrev pub NoneOf : ℕ → List (List ℕ) → List ℕ → Type 0
 NoneOf k xs key = (j : ℕ) → j < length xs → ¬ (key_at k xs j ≡ key)
 
--- the entry stands behind the last whose key is at most its own
+-- the entry stands after the last whose key is at most its own
 pub record IsPut (k : ℕ) (lists : List (List ℕ) → Type 0) (xs : List (List ℕ)) (entry : List ℕ) : Type 0 where
   pub at : ℕ
   pub within : at ≤ length xs
-  pub behind : IsBehind k xs (take k entry) at
+  pub after : IsAfter k xs (take k entry) at
   pub listed : lists (insert xs at entry)
 
 -- the entry stands in the place of the last with its key, or none has its key

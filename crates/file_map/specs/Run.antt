@@ -31,7 +31,7 @@ key_bytes id page = to_be_bytes w64 id ++ to_be_bytes w32 page
 unfoldable pub run_bytes : Run → List ℕ
 run_bytes r = to_be_bytes w64 r.id ++ to_be_bytes w32 r.first ++ to_be_bytes w32 r.pages ++ to_be_bytes w32 r.sector ++ 0 ∷ 0 ∷ 0 ∷ 0 ∷ []
 
--- the run that a record tells
+-- the run that a record reveals
 unfoldable pub run_in : List ℕ → Run
 run_in bytes = record {
   id = from_be_bytes w64 (slice_range bytes 0 8);

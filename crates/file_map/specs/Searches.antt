@@ -1,4 +1,4 @@
--- What a search for a page gives in a list of runs in rising order.
+-- What a search for a page gives in a list of runs in ascending order.
 use Rattle.std.specs.Prelude.{◌≡◌, ℕ, List, map, Option, Some, None}
 use Rattle.flat_mem.specs.Order.{IsLastAtMost, NoneAtMost}
 use Rattle.file_map.specs.declared.run.Run.{Run}

@@ -2,7 +2,7 @@
 use Rattle.std.specs.Prelude.{◌≡◌, ℕ, List}
 use Rattle.std.proofs.Common.{◌∙◌, ap, sym}
 use Rattle.page_tree.specs.Page.{page_at, count_in}
-use Rattle.page_tree.specs.Tells.{StandsIn}
+use Rattle.page_tree.specs.Reveals.{StandsIn}
 use Rattle.page_tree.specs.Broken.{Breaks, StopsInsertion}
 use Rattle.file_map.specs.Entries.{Sight, Entry, Count, Broken, Stops}
 

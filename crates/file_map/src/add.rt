@@ -90,7 +90,7 @@ pub fn add<T: SortedEntries>(
     requires room { most_records sectors ≤ T.room entries.old }
     ensures added { (named : Triples) → AreNamed sectors (T.lists entries.old) named → IsNew named run → MatchResult result (λ _. AreNamed sectors (T.lists entries.new) (with_run named run)) (IsFullOr (T.counts entries.old (most_records sectors)) (AreNamed sectors (T.lists entries.new) named)) }
     ensures room { (n : ℕ) → T.counts entries.old n → IfOk result (λ _. n < most_records sectors) }
-    ensures full_same { (b : List ℕ) → T.told entries.old b → IfErr result (IfFull (T.told entries.new b)) }
+    ensures full_same { (b : List ℕ) → T.revealed entries.old b → IfErr result (IfFull (T.revealed entries.new b)) }
     ensures kept { T.beside entries.old entries.new }
     ensures cause { IfErr result (IsAddCause sectors (IsMost sectors (T.counts entries.old)) (T.shows entries.old) (T.accounted entries.old entries.new)) }
     ensures cost { T.spent entries.new ≤ T.spent entries.old + T.count_cost + T.look_cost + T.replace_cost + T.insert_cost }

@@ -12,8 +12,8 @@ use crate::run::{LEADER, Run, key_of};
 use crate::search::last_run;
 use labelled_disk::FileId;
 
-// Takes the last run of the file out where it begins at `from` or behind it; true says that there may be more. Else the
-// last run is shortened where it ends behind `from`.
+// Takes the last run of the file out where it begins at `from` or after it; true says that there may be more. Else the
+// last run is shortened where it ends after `from`.
 fn cut_last<T: CutEntries>(
     entries: &mut T,
     sectors: u32,

@@ -7,7 +7,7 @@ ghost use Rattle.page_tree.specs.Answer.{FromMemory, IsLastEntry};
 use crate::run::{Key, Record};
 use page_tree::TreeError;
 
-/// A list of entries of 24 bytes in rising order of their first 12 bytes, the key, that is searched.
+/// A list of entries of 24 bytes in ascending order of their first 12 bytes, the key, that is searched.
 pub trait SearchedEntries {
     /// What a memory that failed answers.
     type Error;
@@ -24,10 +24,10 @@ pub trait SearchedEntries {
     /// The most entries that it takes.
     ghost room: { Self → ℕ };
 
-    /// It tells that its entries are these.
+    /// It reveals that its entries are these.
     ghost lists: { Self → List (List ℕ) → Type 0 };
 
-    /// It tells that it has so many entries, whatever their form is.
+    /// It reveals that it has so many entries, whatever their form is.
     ghost counts: { Self → ℕ → Type 0 };
 
     /// The transfers that were spent so far.
@@ -39,11 +39,11 @@ pub trait SearchedEntries {
     /// The memory's error is accounted for by what happened between the two states.
     ghost accounted: { Self → Self → Self.Error → Type 0 };
 
-    /// What it tells, whatever its form is, shows this.
+    /// What it reveals, whatever its form is, shows this.
     ghost shows: { Self → Sight → Type 0 };
 
-    /// It tells these bytes.
-    ghost told: { Self → List ℕ → Type 0 };
+    /// It reveals these bytes.
+    ghost revealed: { Self → List ℕ → Type 0 };
 
     /// How many entries there are.
     fn count(&mut self) -> Result<u32, TreeError<Self::Error>>
@@ -53,7 +53,7 @@ pub trait SearchedEntries {
         ensures same { (xs : List (List ℕ)) → lists self.old xs → lists self.new xs }
         ensures same_count { (n : ℕ) → counts self.old n → counts self.new n }
         ensures same_sights { (sight : Sight) → shows self.new sight → shows self.old sight }
-        ensures same_bytes { (b : List ℕ) → told self.old b → told self.new b }
+        ensures same_bytes { (b : List ℕ) → revealed self.old b → revealed self.new b }
         ensures kept { beside self.old self.new }
         ensures cause { IfErr result (IsCause ⊥ (shows self.old) (accounted self.old self.new)) }
         ensures cost { spent self.new ≤ spent self.old + count_cost };
@@ -69,7 +69,7 @@ pub trait SearchedEntries {
         ensures same { (xs : List (List ℕ)) → lists self.old xs → lists self.new xs }
         ensures same_count { (n : ℕ) → counts self.old n → counts self.new n }
         ensures same_sights { (sight : Sight) → shows self.new sight → shows self.old sight }
-        ensures same_bytes { (b : List ℕ) → told self.old b → told self.new b }
+        ensures same_bytes { (b : List ℕ) → revealed self.old b → revealed self.new b }
         ensures kept { beside self.old self.new }
         ensures cause { IfErr result (IsCause ⊥ (shows self.old) (accounted self.old self.new)) }
         ensures cost { spent self.new ≤ spent self.old + look_cost };
@@ -85,18 +85,18 @@ pub trait SearchedEntries {
         ensures same { (xs : List (List ℕ)) → lists self.old xs → lists self.new xs }
         ensures same_count { (n : ℕ) → counts self.old n → counts self.new n }
         ensures same_sights { (sight : Sight) → shows self.new sight → shows self.old sight }
-        ensures same_bytes { (b : List ℕ) → told self.old b → told self.new b }
+        ensures same_bytes { (b : List ℕ) → revealed self.old b → revealed self.new b }
         ensures kept { beside self.old self.new }
         ensures cause { IfErr result (IsCause ⊥ (shows self.old) (accounted self.old self.new)) }
         ensures cost { spent self.new ≤ spent self.old + after_cost };
 
-    ghost rising: { (t : Self) (xs : List (List ℕ)) → lists t xs → IsInKeyOrder 12 xs };
+    ghost ascending: { (t : Self) (xs : List (List ℕ)) → lists t xs → IsInKeyOrder 12 xs };
 
     ghost counted: { (t : Self) (xs : List (List ℕ)) → lists t xs → counts t (length xs) };
 
     ghost counted_once: { (t : Self) (n m : ℕ) → counts t n → counts t m → n ≡ m };
 
-    ghost counted_told: { (t : Self) (b : List ℕ) → told t b → (n : ℕ) × counts t n };
+    ghost counted_revealed: { (t : Self) (b : List ℕ) → revealed t b → (n : ℕ) × counts t n };
 
     ghost same_room: { (a b : Self) → beside a b → room a ≡ room b };
 
@@ -115,7 +115,7 @@ pub trait SortedEntries: SearchedEntries {
     /// And a replacement.
     ghost replace_cost: { ℕ };
 
-    /// Puts an entry behind those whose key is at most its own.
+    /// Puts an entry after those whose key is at most its own.
     fn insert(&mut self, entry: &Record) -> Result<(), TreeError<Self::Error>>
         ensures answer { (xs : List (List ℕ)) → Self.lists self.old xs → MatchResult result (λ _. IsPut 12 (Self.lists self.new) xs entry.now) (IsFullOr (Self.room self.old) (Self.lists self.new) xs) }
         ensures kept { Self.beside self.old self.new }

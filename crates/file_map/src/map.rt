@@ -35,7 +35,7 @@ impl<M: FlatMem> FileMap<M> {
         ensures memory { map_memory result ≡ mem }
         ensures sectors { map_sectors result ≡ sectors }
         // a first page of zeros is the map of a volume without files
-        ensures empty { (b : List ℕ) → M.tells mem b → page_at b 0 ≡ replicate 512 0 → Names result no_triples }
+        ensures empty { (b : List ℕ) → M.reveals mem b → page_at b 0 ≡ replicate 512 0 → Names result no_triples }
     {
         FileMap { mem, sectors }
     }
@@ -48,7 +48,7 @@ impl<M: FlatMem> FileMap<M> {
         ensures read { IfOk result (λ found. IfSome found (λ run. (at : ℕ) × Shows self.old (Entry at (run_bytes run)))) }
         ensures same { (named : Triples) → Names self.old named → Names self.new named }
         ensures same_count { (n : ℕ) → Counts self.old n → Counts self.new n }
-        ensures same_bytes { (b : List ℕ) → M.tells (map_memory self.old) b → M.tells (map_memory self.new) b }
+        ensures same_bytes { (b : List ℕ) → M.reveals (map_memory self.old) b → M.reveals (map_memory self.new) b }
         ensures sectors { map_sectors self.new ≡ map_sectors self.old }
         ensures kept { M.beside (map_memory self.old) (map_memory self.new) }
         ensures cause { IfErr result (IsCause (map_sectors self.old) ⊥ (Shows self.old) (M.accounted (map_memory self.old) (map_memory self.new))) }
@@ -63,7 +63,7 @@ impl<M: FlatMem> FileMap<M> {
         ensures size { (named : Triples) → Names self.old named → MatchResult result (IsSize named id) FromMemory }
         ensures same { (named : Triples) → Names self.old named → Names self.new named }
         ensures same_count { (n : ℕ) → Counts self.old n → Counts self.new n }
-        ensures same_bytes { (b : List ℕ) → M.tells (map_memory self.old) b → M.tells (map_memory self.new) b }
+        ensures same_bytes { (b : List ℕ) → M.reveals (map_memory self.old) b → M.reveals (map_memory self.new) b }
         ensures sectors { map_sectors self.new ≡ map_sectors self.old }
         ensures kept { M.beside (map_memory self.old) (map_memory self.new) }
         ensures cause { IfErr result (IsCause (map_sectors self.old) ⊥ (Shows self.old) (M.accounted (map_memory self.old) (map_memory self.new))) }
@@ -79,7 +79,7 @@ impl<M: FlatMem> FileMap<M> {
         ensures above { IfOk result (λ found. IfSome found (λ next. (id < next) × (16 ≤ next))) }
         ensures same { (named : Triples) → Names self.old named → Names self.new named }
         ensures same_count { (n : ℕ) → Counts self.old n → Counts self.new n }
-        ensures same_bytes { (b : List ℕ) → M.tells (map_memory self.old) b → M.tells (map_memory self.new) b }
+        ensures same_bytes { (b : List ℕ) → M.reveals (map_memory self.old) b → M.reveals (map_memory self.new) b }
         ensures sectors { map_sectors self.new ≡ map_sectors self.old }
         ensures kept { M.beside (map_memory self.old) (map_memory self.new) }
         ensures cause { IfErr result (IsCause (map_sectors self.old) ⊥ (Shows self.old) (M.accounted (map_memory self.old) (map_memory self.new))) }
@@ -95,7 +95,7 @@ impl<M: FlatMem> FileMap<M> {
     pub fn add(&mut self, run: Run) -> Result<(), MapError<M::Error>>
         requires { IsRun (map_sectors self.old) run }
         ensures added { (named : Triples) → Names self.old named → IsNew named run → MatchResult result (λ _. Names self.new (with_run named run)) (IsFullOr (Counts self.old (most_records (map_sectors self.old))) (Names self.new named)) }
-        ensures full_same { (b : List ℕ) → M.tells (map_memory self.old) b → IfErr result (IfFull (M.tells (map_memory self.new) b)) }
+        ensures full_same { (b : List ℕ) → M.reveals (map_memory self.old) b → IfErr result (IfFull (M.reveals (map_memory self.new) b)) }
         ensures room { (n : ℕ) → Counts self.old n → IfOk result (λ _. n < most_records (map_sectors self.old)) }
         ensures sectors { map_sectors self.new ≡ map_sectors self.old }
         ensures kept { M.beside (map_memory self.old) (map_memory self.new) }
@@ -111,7 +111,7 @@ impl<M: FlatMem> FileMap<M> {
         ensures cut { (named : Triples) → Names self.old named → MatchResult result (λ _. Names self.new (without_from named id from)) FromMemory }
         ensures sectors { map_sectors self.new ≡ map_sectors self.old }
         ensures kept { M.beside (map_memory self.old) (map_memory self.new) }
-        ensures cause { IfErr result (λ error. (m : M) × M.beside (map_memory self.old) m × M.beside m (map_memory self.new) × IsCause (map_sectors self.old) ⊥ (ShownBy (M.tells m) (M.size m / 512)) (M.accounted (map_memory self.old) (map_memory self.new)) error) }
+        ensures cause { IfErr result (λ error. (m : M) × M.beside (map_memory self.old) m × M.beside m (map_memory self.new) × IsCause (map_sectors self.old) ⊥ (ShownBy (M.reveals m) (M.size m / 512)) (M.accounted (map_memory self.old) (map_memory self.new)) error) }
         // it is a cause in the bytes at the start, or a record of the file, whole or in part, was to be taken out of them
         ensures begun { IfErr result (λ error. IsCause (map_sectors self.old) ⊥ (Shows self.old) (M.accounted (map_memory self.old) (map_memory self.new)) error ⊎ IsToCut id from (Shows self.old)) }
         ensures cost { M.spent (map_memory self.new) ≤ M.spent (map_memory self.old) + (1 + most_records (map_sectors self.old) * (7 + 8 + 36)) * M.cost }

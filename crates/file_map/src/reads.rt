@@ -1,4 +1,4 @@
-//! What the map says of a page, of a file, and of the files behind one.
+//! What the map says of a page, of a file, and of the files after one.
 ghost use Rattle.std.specs.Prelude.{◌≡◌, ℕ, ◌+◌, ◌<◌, ◌≤◌, true, List, IfOk, IfErr, IfSome, MatchResult};
 ghost use Rattle.file_map.specs.Run.{IsRun, holds, run_bytes};
 ghost use Rattle.file_map.specs.FileMap.{AreNamed, Triples, IsFound, IsSize, IsNext};
@@ -26,7 +26,7 @@ pub fn find<T: SearchedEntries>(
     ensures same { (xs : List (List ℕ)) → T.lists entries.old xs → T.lists entries.new xs }
     ensures same_count { (n : ℕ) → T.counts entries.old n → T.counts entries.new n }
     ensures same_sights { (sight : Sight) → T.shows entries.new sight → T.shows entries.old sight }
-    ensures same_bytes { (b : List ℕ) → T.told entries.old b → T.told entries.new b }
+    ensures same_bytes { (b : List ℕ) → T.revealed entries.old b → T.revealed entries.new b }
     ensures kept { T.beside entries.old entries.new }
     ensures cause { IfErr result (IsCause sectors ⊥ (T.shows entries.old) (T.accounted entries.old entries.new)) }
     ensures cost { T.spent entries.new ≤ T.spent entries.old + T.look_cost }
@@ -52,7 +52,7 @@ pub fn size<T: SearchedEntries>(
     ensures same { (xs : List (List ℕ)) → T.lists entries.old xs → T.lists entries.new xs }
     ensures same_count { (n : ℕ) → T.counts entries.old n → T.counts entries.new n }
     ensures same_sights { (sight : Sight) → T.shows entries.new sight → T.shows entries.old sight }
-    ensures same_bytes { (b : List ℕ) → T.told entries.old b → T.told entries.new b }
+    ensures same_bytes { (b : List ℕ) → T.revealed entries.old b → T.revealed entries.new b }
     ensures kept { T.beside entries.old entries.new }
     ensures cause { IfErr result (IsCause sectors ⊥ (T.shows entries.old) (T.accounted entries.old entries.new)) }
     ensures cost { T.spent entries.new ≤ T.spent entries.old + T.look_cost }
@@ -79,7 +79,7 @@ pub fn next_file<T: SearchedEntries>(
     ensures same { (xs : List (List ℕ)) → T.lists entries.old xs → T.lists entries.new xs }
     ensures same_count { (n : ℕ) → T.counts entries.old n → T.counts entries.new n }
     ensures same_sights { (sight : Sight) → T.shows entries.new sight → T.shows entries.old sight }
-    ensures same_bytes { (b : List ℕ) → T.told entries.old b → T.told entries.new b }
+    ensures same_bytes { (b : List ℕ) → T.revealed entries.old b → T.revealed entries.new b }
     ensures kept { T.beside entries.old entries.new }
     ensures cause { IfErr result (IsCause sectors ⊥ (T.shows entries.old) (T.accounted entries.old entries.new)) }
     ensures cost { T.spent entries.new ≤ T.spent entries.old + T.after_cost }

@@ -36,7 +36,7 @@ pub fn key_of(id: FileId, page: u32) -> Key
 }
 
 impl Run {
-    /// Behind the last page.
+    /// After the last page.
     pub fn end(&self) -> u64
         ensures { result ≡ self.now.first + self.now.pages }
     {
@@ -72,7 +72,7 @@ impl Run {
     }
 }
 
-// The run that a record tells, whatever its form is.
+// The run that a record reveals, whatever its form is.
 #[tactic(auto, unfolding(crate::specs::Run::run_in))]
 fn run_of(bytes: &[u8]) -> Run
     requires { length bytes.now ≡ 24 }
@@ -118,7 +118,7 @@ fn ends_in_zeros(bytes: &Record) -> bool
     u32::from_be_bytes([bytes[20], bytes[21], bytes[22], bytes[23]]) == 0
 }
 
-/// The run that a record tells, or none where the record breaks its form on a volume of so many sectors.
+/// The run that a record reveals, or none where the record breaks its form on a volume of so many sectors.
 pub fn read_record(bytes: &Record, sectors: u32) -> Option<Run>
     requires { sectors ≤ 1048576 }
     ensures form { IfSome result (λ run. IsRun sectors run) }

@@ -25,7 +25,7 @@ pub fn last_run<T: SearchedEntries>(
     ensures same { (xs : List (List ℕ)) → T.lists entries.old xs → T.lists entries.new xs }
     ensures same_count { (n : ℕ) → T.counts entries.old n → T.counts entries.new n }
     ensures same_sights { (sight : Sight) → T.shows entries.new sight → T.shows entries.old sight }
-    ensures same_bytes { (b : List ℕ) → T.told entries.old b → T.told entries.new b }
+    ensures same_bytes { (b : List ℕ) → T.revealed entries.old b → T.revealed entries.new b }
     ensures kept { T.beside entries.old entries.new }
     ensures cause { IfErr result (IsCause sectors ⊥ (T.shows entries.old) (T.accounted entries.old entries.new)) }
     ensures cost { T.spent entries.new ≤ T.spent entries.old + T.look_cost }
@@ -54,7 +54,7 @@ pub fn first_run_above<T: SearchedEntries>(
     ensures same { (xs : List (List ℕ)) → T.lists entries.old xs → T.lists entries.new xs }
     ensures same_count { (n : ℕ) → T.counts entries.old n → T.counts entries.new n }
     ensures same_sights { (sight : Sight) → T.shows entries.new sight → T.shows entries.old sight }
-    ensures same_bytes { (b : List ℕ) → T.told entries.old b → T.told entries.new b }
+    ensures same_bytes { (b : List ℕ) → T.revealed entries.old b → T.revealed entries.new b }
     ensures kept { T.beside entries.old entries.new }
     ensures cause { IfErr result (IsCause sectors ⊥ (T.shows entries.old) (T.accounted entries.old entries.new)) }
     ensures cost { T.spent entries.new ≤ T.spent entries.old + T.after_cost }

@@ -25,7 +25,7 @@ impl<'m, M: FlatMem> SearchedEntries for PageTree<&'m mut M, 24, 12> {
 
     ghost lists = { λ t xs. Lists t xs };
 
-    ghost counts = { λ t n. (b : List ℕ) × M.tells (tree_memory t).now b × (n ≡ count_in (page_at b 0)) };
+    ghost counts = { λ t n. (b : List ℕ) × M.reveals (tree_memory t).now b × (n ≡ count_in (page_at b 0)) };
 
     ghost spent = { λ t. M.spent (tree_memory t).now };
 
@@ -33,17 +33,17 @@ impl<'m, M: FlatMem> SearchedEntries for PageTree<&'m mut M, 24, 12> {
 
     ghost accounted = { λ a b e. M.accounted (tree_memory a).now (tree_memory b).now e };
 
-    ghost shows = { λ t sight. (b : List ℕ) → M.tells (tree_memory t).now b → IsShown (M.size (tree_memory t).now / 512) b sight };
+    ghost shows = { λ t sight. (b : List ℕ) → M.reveals (tree_memory t).now b → IsShown (M.size (tree_memory t).now / 512) b sight };
 
-    ghost told = { λ t b. M.tells (tree_memory t).now b };
+    ghost revealed = { λ t b. M.reveals (tree_memory t).now b };
 
-    ghost rising = { λ t xs h. h.rising };
+    ghost ascending = { λ t xs h. h.ascending };
 
-    ghost counted = { λ t xs h. (h.bytes, h.told, sym h.tree.header.count_is) };
+    ghost counted = { λ t xs h. (h.bytes, h.revealed, sym h.tree.header.count_is) };
 
-    ghost counted_once = { λ t n m h k. counted_same n m h.0 k.0 (M.told_once _ _ _ h.1 k.1) h.2 k.2 };
+    ghost counted_once = { λ t n m h k. counted_same n m h.0 k.0 (M.revealed_once _ _ _ h.1 k.1) h.2 k.2 };
 
-    ghost counted_told = { λ t b h. (count_in (page_at b 0), (b, h, refl)) };
+    ghost counted_revealed = { λ t b h. (count_in (page_at b 0), (b, h, refl)) };
 
     ghost same_room = { λ a b h. ap (λ (n : ℕ). capacity_of 24 (n / 512)) (M.same_size _ _ h.1) };
 

@@ -3,9 +3,9 @@ ghost use Rattle.std.specs.Prelude.{◌≡◌, ◌≤◌, ◌+◌, ◌*◌, ◌�
 ghost use Rattle.flat_mem.specs.Order.{IsFound, IsInKeyOrder};
 ghost use Rattle.record_table.specs.Edits.{IfMem};
 ghost use Rattle.record_table.specs.InPart.{IsInsertedIn, entries_in};
-ghost use Rattle.filer_kernel.specs.Tables.{BesideTables, IsTableAccounted, TablesTell};
+ghost use Rattle.filer_kernel.specs.Tables.{BesideTables, IsTableAccounted, TablesReveal};
 
-use filer_kernel::{FilerOver, Window1Over};
+use filer_kernel::{Filer, TableMemory};
 use flat_mem::Part;
 use labelled_disk::{Disk, Halt};
 use record_table::{RecordTable, TableError};
@@ -14,7 +14,7 @@ use std::alloc::Allocator;
 /// A filer, and how many entries the table in pages 32 to 95 of its space tables has.
 #[derive(Drop)]
 pub struct RegisterOver<D: Disk, A: Allocator> {
-    pub(crate) filer: FilerOver<D, A>,
+    pub(crate) filer: Filer<D, A>,
     pub(crate) count: u32,
 }
 
@@ -24,17 +24,17 @@ pub type Register<'d, D, A> = RegisterOver<&'d mut D, A>;
 impl<D: Disk, A: Allocator> RegisterOver<D, A> {
     /// The last of the entries whose key is at most this one.
     pub fn find(&mut self, key: &[u8; 4]) -> Result<Option<u32>, Halt>
-        requires size { (D.state self.old.filer.swapper.under).sectors ≡ self.old.filer.swapper.layout.sectors }
+        requires size { (D.state self.old.filer.swapper.disk).sectors ≡ self.old.filer.swapper.layout.sectors }
         requires few { self.old.count ≤ 1024 }
-        ensures found { (b : List ℕ) → TablesTell (D.state self.old.filer.swapper.under) self.old.filer.swapper.pool self.old.filer.swapper.layout self.old.filer.runs b → IsInKeyOrder 4 (entries_in 32 32 64 self.old.count b) → IfOk result (IsFound 4 (entries_in 32 32 64 self.old.count b) key.now) }
-        ensures same { (b : List ℕ) → TablesTell (D.state self.old.filer.swapper.under) self.old.filer.swapper.pool self.old.filer.swapper.layout self.old.filer.runs b → TablesTell (D.state self.new.filer.swapper.under) self.new.filer.swapper.pool self.new.filer.swapper.layout self.new.filer.runs b }
+        ensures found { (b : List ℕ) → TablesReveal (D.state self.old.filer.swapper.disk) self.old.filer.swapper.pool self.old.filer.swapper.layout self.old.filer.runs b → IsInKeyOrder 4 (entries_in 32 32 64 self.old.count b) → IfOk result (IsFound 4 (entries_in 32 32 64 self.old.count b) key.now) }
+        ensures same { (b : List ℕ) → TablesReveal (D.state self.old.filer.swapper.disk) self.old.filer.swapper.pool self.old.filer.swapper.layout self.old.filer.runs b → TablesReveal (D.state self.new.filer.swapper.disk) self.new.filer.swapper.pool self.new.filer.swapper.layout self.new.filer.runs b }
         ensures count { self.new.count ≡ self.old.count }
-        ensures kept { BesideTables (D.state self.old.filer.swapper.under) self.old.filer.swapper.pool self.old.filer.swapper.layout self.old.filer.runs (D.state self.new.filer.swapper.under) self.new.filer.swapper.pool self.new.filer.swapper.layout self.new.filer.runs }
-        ensures cause { IfErr result (λ e. IsTableAccounted (D.state self.old.filer.swapper.under) self.old.filer.swapper.pool self.old.filer.swapper.layout self.old.filer.runs (D.state self.new.filer.swapper.under) e) }
-        ensures cost { (D.state self.new.filer.swapper.under).transfers ≤ (D.state self.old.filer.swapper.under).transfers + 7 * 28 }
+        ensures kept { BesideTables (D.state self.old.filer.swapper.disk) self.old.filer.swapper.pool self.old.filer.swapper.layout self.old.filer.runs (D.state self.new.filer.swapper.disk) self.new.filer.swapper.pool self.new.filer.swapper.layout self.new.filer.runs }
+        ensures cause { IfErr result (λ e. IsTableAccounted (D.state self.old.filer.swapper.disk) self.old.filer.swapper.pool self.old.filer.swapper.layout self.old.filer.runs (D.state self.new.filer.swapper.disk) e) }
+        ensures cost { (D.state self.new.filer.swapper.disk).transfers ≤ (D.state self.old.filer.swapper.disk).transfers + 7 * 28 }
     {
-        let mut table = RecordTable::<Part<Window1Over<D, A>>, 32, 4>::over(
-            Part::of(self.filer.window1(), 32, 64),
+        let mut table = RecordTable::<Part<TableMemory<D, A>>, 32, 4>::over(
+            Part::of(self.filer.table_memory(), 32, 64),
             self.count,
         );
         table.find_last_at_most(key)
@@ -42,17 +42,17 @@ impl<D: Disk, A: Allocator> RegisterOver<D, A> {
 
     /// One entry more. After an error of the disk the entries are open, and the count is what it was.
     pub fn add(&mut self, entry: &[u8; 32]) -> Result<(), TableError<Halt>>
-        requires size { (D.state self.old.filer.swapper.under).sectors ≡ self.old.filer.swapper.layout.sectors }
+        requires size { (D.state self.old.filer.swapper.disk).sectors ≡ self.old.filer.swapper.layout.sectors }
         requires few { self.old.count ≤ 1024 }
-        ensures inserted { (b : List ℕ) → TablesTell (D.state self.old.filer.swapper.under) self.old.filer.swapper.pool self.old.filer.swapper.layout self.old.filer.runs b
-            → OnOk result (IsInsertedIn 32 4 32 64 (TablesTell (D.state self.new.filer.swapper.under) self.new.filer.swapper.pool self.new.filer.swapper.layout self.new.filer.runs) b self.old.count entry.now) }
+        ensures inserted { (b : List ℕ) → TablesReveal (D.state self.old.filer.swapper.disk) self.old.filer.swapper.pool self.old.filer.swapper.layout self.old.filer.runs b
+            → OnOk result (IsInsertedIn 32 4 32 64 (TablesReveal (D.state self.new.filer.swapper.disk) self.new.filer.swapper.pool self.new.filer.swapper.layout self.new.filer.runs) b self.old.count entry.now) }
         ensures full { (result ≡ Err TableError.Full) ↔ (self.old.count ≡ 1024) }
         ensures count { self.new.count ≡ (if is_ok result then self.old.count + 1 else self.old.count) }
-        ensures kept { BesideTables (D.state self.old.filer.swapper.under) self.old.filer.swapper.pool self.old.filer.swapper.layout self.old.filer.runs (D.state self.new.filer.swapper.under) self.new.filer.swapper.pool self.new.filer.swapper.layout self.new.filer.runs }
-        ensures cause { IfErr result (IfMem (IsTableAccounted (D.state self.old.filer.swapper.under) self.old.filer.swapper.pool self.old.filer.swapper.layout self.old.filer.runs (D.state self.new.filer.swapper.under))) }
+        ensures kept { BesideTables (D.state self.old.filer.swapper.disk) self.old.filer.swapper.pool self.old.filer.swapper.layout self.old.filer.runs (D.state self.new.filer.swapper.disk) self.new.filer.swapper.pool self.new.filer.swapper.layout self.new.filer.runs }
+        ensures cause { IfErr result (IfMem (IsTableAccounted (D.state self.old.filer.swapper.disk) self.old.filer.swapper.pool self.old.filer.swapper.layout self.old.filer.runs (D.state self.new.filer.swapper.disk))) }
     {
-        let mut table = RecordTable::<Part<Window1Over<D, A>>, 32, 4>::over(
-            Part::of(self.filer.window1(), 32, 64),
+        let mut table = RecordTable::<Part<TableMemory<D, A>>, 32, 4>::over(
+            Part::of(self.filer.table_memory(), 32, 64),
             self.count,
         );
         let answer = table.insert(entry);

@@ -26,38 +26,38 @@ use Rattle.swapper_kernel.specs.Maps.{IsMapHome}
 use Rattle.swapper_kernel.specs.Homes.{AreNamed}
 use Rattle.swapper_kernel.specs.Stands.{Stands}
 use Rattle.swapper_kernel.specs.Halts.{IsMismatch, HasCause, held_or}
-use Rattle.swapper_kernel.specs.Window.{Tells, IsAccounted, size_in}
-use Rattle.swapper_kernel.specs.OnceLaws.{tells_once}
+use Rattle.swapper_kernel.specs.Window.{Reveals, IsAccounted, size_in}
+use Rattle.swapper_kernel.specs.OnceLaws.{reveals_once}
 use Rattle.filer_kernel.specs.Causes.{AddHalts, MapCounts, IsFaultOrMost}
 use Rattle.filer_kernel.specs.Halted.{halted}
 use Rattle.filer_kernel.specs.Triples.{MapIs}
-use Rattle.filer_kernel.proofs.FileLemmas.{names_told, window_pages, broken_same, window_right}
+use Rattle.filer_kernel.proofs.FileLemmas.{names_revealed, window_pages, broken_same, window_right}
 
--- the window tells a map that counts so many records
-abbrev pub TellsCount : ℕ → Manager → DiskState → Slots → Layout → Type 0
-TellsCount n which d s x = (b : List ℕ) × Tells which d s x b × (n ≡ count_in (page_at b 0))
+-- the window reveals a map that counts so many records
+abbrev pub RevealsCount : ℕ → Manager → DiskState → Slots → Layout → Type 0
+RevealsCount n which d s x = (b : List ℕ) × Reveals which d s x b × (n ≡ count_in (page_at b 0))
 
 -- why an addition to the map over a window answered an error
 abbrev pub IsWindowAddCause : ℕ → Type 0 → Manager → DiskState → Slots → Layout → DiskState → MapError Halt → Type 0
-IsWindowAddCause n full which d s x e = IsAddCause n full (ShownBy (Tells which d s x) (size_in which d.sectors x / 512)) (IsAccounted which d s x e)
+IsWindowAddCause n full which d s x e = IsAddCause n full (ShownBy (Reveals which d s x) (size_in which d.sectors x / 512)) (IsAccounted which d s x e)
 
 -- what is said of the window's own swapper is said of the one that it was lent
 pub add_cause_here : {T : Type 0} (r : Result T (MapError Halt)) (n : ℕ) (full : Manager → DiskState → Slots → Layout → Type 0) (e : DiskState) {which also : Manager} {a b : DiskState} {s t : Slots} {x y : Layout} → which ≡ also → a ≡ b → s ≡ t → x ≡ y
     → IfErr r (IsWindowAddCause n (full which a s x) which a s x e) → IfErr r (IsWindowAddCause n (full also b t y) also b t y e)
 add_cause_here r n full e w d s l h = rw (← w, ← d, ← s, ← l) h
 
-stops_same : {p q page : ℕ} {tells : List ℕ → Type 0} → p ≡ q → ShownBy tells p (Stops page) → ShownBy tells q (Stops page)
+stops_same : {p q page : ℕ} {reveals : List ℕ → Type 0} → p ≡ q → ShownBy reveals p (Stops page) → ShownBy reveals q (Stops page)
 stops_same same h = rw (← same) h
 
 -- where fewer sectors are used than records may be, the map has room
 pub has_room : {d : DiskState} {s : Slots} {x : Layout} → d.sectors ≡ x.sectors → (m : List Sector) (named : Triples) (used : ℕ → Bool) → Stands d s m → MapIs x named m → AreOnce named → AreAmong named used
-    → data_count x.sectors used < most_records x.sectors → (n : ℕ) → n ≡ x.sectors → TellsCount (most_records n) FileMap d s x → ⊥
+    → data_count x.sectors used < most_records x.sectors → (n : ℕ) → n ≡ x.sectors → RevealsCount (most_records n) FileMap d s x → ⊥
 has_room {d = d} {s = s} {x = x} size m named used stands map once among room n of counted =
-    let told = names_told size m named stands map in
-    let tree = told.listed in
-    let count : most_records n ≡ length (list_map run_bytes told.runs) =
-    counted_same (most_records n) (length (list_map run_bytes told.runs)) counted.0 tree.bytes (tells_once FileMap d s x counted.0 tree.bytes counted.1 tree.told) counted.2 (sym tree.tree.header.count_is) in
-    let few = are_few x.sectors _ named told (most_records n) count used once among in
+    let revealed = names_revealed size m named stands map in
+    let tree = revealed.listed in
+    let count : most_records n ≡ length (list_map run_bytes revealed.runs) =
+    counted_same (most_records n) (length (list_map run_bytes revealed.runs)) counted.0 tree.bytes (reveals_once FileMap d s x counted.0 tree.bytes counted.1 tree.revealed) counted.2 (sym tree.tree.header.count_is) in
+    let few = are_few x.sectors _ named revealed (most_records n) count used once among in
     let same : most_records n ≡ most_records x.sectors = ap most_records of in
     omega (arith, few, room, same)
 
@@ -75,13 +75,13 @@ window_halts x d e s (halt.Damaged (MalformedPage window page)) is = absurd is
 window_halts x d e s (halt.Damaged (Missing id page)) is = is
 
 -- no record may be added, on a volume of n sectors
-abbrev pub TellsMost : ℕ → Manager → DiskState → Slots → Layout → Type 0
-TellsMost n which d s x = IsMost n (λ count. TellsCount count which d s x)
+abbrev pub RevealsMost : ℕ → Manager → DiskState → Slots → Layout → Type 0
+RevealsMost n which d s x = IsMost n (λ count. RevealsCount count which d s x)
 
 pub add_halts : {T : Type 0} (r : Result T (MapError Halt)) (n : ℕ) (x : Layout) (d e : DiskState) (s : Slots) → n ≡ x.sectors → d.sectors ≡ x.sectors
-    → IfErr r (IsWindowAddCause n (TellsMost n FileMap d s x) FileMap d s x e) → IfErr (halted r) (AddHalts x d s e)
+    → IfErr r (IsWindowAddCause n (RevealsMost n FileMap d s x) FileMap d s x e) → IfErr (halted r) (AddHalts x d s e)
 add_halts (Ok value) n x d e s of size is = tt
-add_halts (Err Full) n x d e s of size is = (refl, inr (refl, subst (λ (k : ℕ). TellsMost k FileMap d s x) of is))
+add_halts (Err Full) n x d e s of size is = (refl, inr (refl, subst (λ (k : ℕ). RevealsMost k FileMap d s x) of is))
 add_halts (Err (Malformed page)) n x d e s of size is = (
   refl,
   inl (elim is [

@@ -1,4 +1,4 @@
--- What the file map tells through its window, and what the memory says.
+-- What the file map reveals through its window, and what the memory says.
 use Rattle.std.proofs.Common.{◌≡◌, ℕ, ◌*◌, ◌/◌, ◌≤◌, List, length, Option, Some, None, Ok, Err, IfOk, IfErr, IfSome, MatchResult, OnOk, refl, sym, ◌∙◌, ap, subst, arith}
 use Rattle.std.specs.Prelude.{map as list_map}
 use Rattle.std.specs.declared.result.Result.{Result}
@@ -10,7 +10,7 @@ use Rattle.labelled_disk.specs.Sectors.{Sector}
 use Rattle.labelled_disk.specs.State.{DiskState}
 use Rattle.frame_pool.specs.declared.home.Home.{Home}
 use Rattle.frame_pool.specs.Frames.{Slots}
-use Rattle.page_tree.specs.Tells.{TellsTree}
+use Rattle.page_tree.specs.Reveals.{RevealsTree}
 use Rattle.page_tree.specs.Tree.{IsTree}
 use Rattle.file_map.specs.declared.error.MapError.{MapError}
 use Rattle.file_map.specs.declared.error.MapError.TheVariants.{Full, Malformed, Mem}
@@ -26,7 +26,7 @@ use Rattle.swapper_kernel.specs.Maps.{IsMapHome, pages_of}
 use Rattle.swapper_kernel.specs.Homes.{AreNamed}
 use Rattle.swapper_kernel.specs.Stands.{Stands}
 use Rattle.swapper_kernel.specs.Halts.{IsMismatch, HasCause, held_or}
-use Rattle.swapper_kernel.specs.Window.{Tells, Beside, IsAccounted, size_in}
+use Rattle.swapper_kernel.specs.Window.{Reveals, Beside, IsAccounted, size_in}
 use Rattle.swapper_kernel.specs.WindowLaws.{size_is}
 use Rattle.filer_kernel.specs.Becomes.{Becomes}
 use Rattle.filer_kernel.specs.Causes.{MapShows, MapHalts, IsFaultOrMismatch}
@@ -41,22 +41,22 @@ pages_in n = omega arith
 pub window_pages : (which : Manager) (sectors : ℕ) (layout : Layout) → sectors ≡ layout.sectors → size_in which sectors layout / 512 ≡ pages_of which layout
 window_pages which sectors layout size = ap (λ (n : ℕ). n / 512) (size_is which sectors layout size) ∙ pages_in (pages_of which layout)
 
--- the window tells the bytes of the map
-pub map_told : {d : DiskState} {s : Slots} {x : Layout} → d.sectors ≡ x.sectors → (m : List Sector) (named : Triples) → Stands d s m → (map : MapIs x named m) → Tells FileMap d s x map.bytes
-map_told size m named stands map = record { memory = m; stands = stands; shows = map.shows; size = size }
+-- the window reveals the bytes of the map
+pub map_revealed : {d : DiskState} {s : Slots} {x : Layout} → d.sectors ≡ x.sectors → (m : List Sector) (named : Triples) → Stands d s m → (map : MapIs x named m) → Reveals FileMap d s x map.bytes
+map_revealed size m named stands map = record { memory = m; stands = stands; shows = map.shows; size = size }
 
 -- and the map over it names these triples
-pub names_told : {d : DiskState} {s : Slots} {x : Layout} → d.sectors ≡ x.sectors → (m : List Sector) (named : Triples) → Stands d s m → MapIs x named m
-    → AreNames x.sectors (TellsTree 24 12 (size_in FileMap d.sectors x / 512) (Tells FileMap d s x)) named
-names_told {d = d} {s = s} {x = x} size m named stands map =
+pub names_revealed : {d : DiskState} {s : Slots} {x : Layout} → d.sectors ≡ x.sectors → (m : List Sector) (named : Triples) → Stands d s m → MapIs x named m
+    → AreNames x.sectors (RevealsTree 24 12 (size_in FileMap d.sectors x / 512) (Reveals FileMap d s x)) named
+names_revealed {d = d} {s = s} {x = x} size m named stands map =
     let tree = map.names.listed in
     record {
       runs = map.names.runs;
       listed = record {
         bytes = tree.bytes;
-        told = subst (Tells FileMap d s x) (sym tree.told) (map_told size m named stands map);
+        revealed = subst (Reveals FileMap d s x) (sym tree.revealed) (map_revealed size m named stands map);
         tree = subst (λ (n : ℕ). IsTree 24 12 n tree.bytes (list_map run_bytes map.names.runs)) (sym (window_pages FileMap d.sectors x size)) tree.tree;
-        rising = tree.rising;
+        ascending = tree.ascending;
       };
       form = map.names.form;
       few = map.names.few;
@@ -65,11 +65,11 @@ names_told {d = d} {s = s} {x = x} size m named stands map =
 
 -- the map over the window names these triples afterwards
 pub becomes_named : {also : Manager} {d e : DiskState} {s t : Slots} {x y : Layout} → FileMap ≡ also → Beside FileMap d s x e t y → (m : List Sector) → Stands d s m → (named : Triples) (n : ℕ) → n ≡ x.sectors
-    → AreNames n (TellsTree 24 12 (size_in also e.sectors y / 512) (Tells also e t y)) named → Becomes FileMap x m (MapIs x named) e t
+    → AreNames n (RevealsTree 24 12 (size_in also e.sectors y / 512) (Reveals also e t y)) named → Becomes FileMap x m (MapIs x named) e t
 becomes_named {also = also} {e = e} {x = x} {y = y} same beside m stands named n of map =
     let tree = map.listed in
-    let now = becomes_shown same beside m stands tree.bytes tree.told in
-    let pages : size_in also e.sectors y / 512 ≡ x.vfm = window_pages also e.sectors y tree.told.size ∙ ap (λ (w : Manager). pages_of w y) (sym same) ∙ ap (λ (l : Layout). l.vfm) beside.layout in
+    let now = becomes_shown same beside m stands tree.bytes tree.revealed in
+    let pages : size_in also e.sectors y / 512 ≡ x.vfm = window_pages also e.sectors y tree.revealed.size ∙ ap (λ (w : Manager). pages_of w y) (sym same) ∙ ap (λ (l : Layout). l.vfm) beside.layout in
     record {
       memory = now.memory;
       stands = now.stands;
@@ -79,7 +79,7 @@ becomes_named {also = also} {e = e} {x = x} {y = y} same beside m stands named n
         shows = now.is;
         names = record {
           runs = map.runs;
-          listed = record { bytes = tree.bytes; told = refl; tree = subst (λ (n : ℕ). IsTree 24 12 n tree.bytes (list_map run_bytes map.runs)) pages tree.tree; rising = tree.rising };
+          listed = record { bytes = tree.bytes; revealed = refl; tree = subst (λ (n : ℕ). IsTree 24 12 n tree.bytes (list_map run_bytes map.runs)) pages tree.tree; ascending = tree.ascending };
           form = subst (λ (k : ℕ). AreRuns k map.runs) of map.form;
           few = subst (λ (k : ℕ). length map.runs ≤ most_records k) of map.few;
           are = map.are;
@@ -94,12 +94,12 @@ search_halts x d e s (halt.Damaged (Mismatch sector wanted found)) is = is
 search_halts x d e s (halt.Damaged (MalformedPage window page)) is = absurd is
 search_halts x d e s (halt.Damaged (Missing id page)) is = is
 
-pub broken_same : {n o p q page : ℕ} {tells : List ℕ → Type 0} → n ≡ o → p ≡ q → IsBroken n (ShownBy tells p) page → IsBroken o (ShownBy tells q) page
+pub broken_same : {n o p q page : ℕ} {reveals : List ℕ → Type 0} → n ≡ o → p ≡ q → IsBroken n (ShownBy reveals p) page → IsBroken o (ShownBy reveals q) page
 broken_same of same h = rw (← of, ← same) h
 
 -- why the map over a window answered an error; where it is full, this holds
 abbrev pub IsWindowCause : ℕ → Type 0 → Manager → DiskState → Slots → Layout → DiskState → MapError Halt → Type 0
-IsWindowCause n full which d s x e = IsCause n full (ShownBy (Tells which d s x) (size_in which d.sectors x / 512)) (IsAccounted which d s x e)
+IsWindowCause n full which d s x e = IsCause n full (ShownBy (Reveals which d s x) (size_in which d.sectors x / 512)) (IsAccounted which d s x e)
 
 -- what is said of the window's own swapper is said of the one that it was lent
 pub cause_here : {T : Type 0} (r : Result T (MapError Halt)) (n : ℕ) (full : Manager → DiskState → Slots → Layout → Type 0) (e : DiskState) {which also : Manager} {a b : DiskState} {s t : Slots} {x y : Layout} → which ≡ also → a ≡ b → s ≡ t → x ≡ y
@@ -138,9 +138,9 @@ map_right (Err (Mem h)) P n full x d e s own is = window_right (held_or s (IsMap
 
 -- the run is a record that was read
 pub ok_shown : (r : Result (Option Run) (MapError Halt)) (x : Layout) (d : DiskState) (s : Slots) → d.sectors ≡ x.sectors
-    → IfOk r (λ found. IfSome found (λ run. (page : ℕ) × ShownBy (Tells FileMap d s x) (size_in FileMap d.sectors x / 512) (Entry page (run_bytes run))))
+    → IfOk r (λ found. IfSome found (λ run. (page : ℕ) × ShownBy (Reveals FileMap d s x) (size_in FileMap d.sectors x / 512) (Entry page (run_bytes run))))
     → IfOk (halted r) (λ found. IfSome found (λ run. (page : ℕ) × MapShows x d s (Entry page (run_bytes run))))
-ok_shown (Ok (Some run)) x d s size is = (is.0, subst (λ (n : ℕ). ShownBy (Tells FileMap d s x) n (Entry is.0 (run_bytes run))) (window_pages FileMap d.sectors x size) is.1)
+ok_shown (Ok (Some run)) x d s size is = (is.0, subst (λ (n : ℕ). ShownBy (Reveals FileMap d s x) n (Entry is.0 (run_bytes run))) (window_pages FileMap d.sectors x size) is.1)
 ok_shown (Ok None) x d s size is = tt
 ok_shown (Err error) x d s size is = tt
 
@@ -149,9 +149,9 @@ pub match_halted : {T : Type 0} (r : Result T (MapError Halt)) (P : T → Type 0
 match_halted (Ok value) P Q is = is
 match_halted (Err error) P Q is = tt
 
--- the bytes that a window tells are those of the map
-pub told_at : {also : Manager} {e : DiskState} {t : Slots} {x y : Layout} → FileMap ≡ also → y ≡ x → (b : List ℕ) → Tells also e t y b → Tells FileMap e t x b
-told_at which layout b h = rw (which, ← layout) h
+-- the bytes that a window reveals are those of the map
+pub revealed_at : {also : Manager} {e : DiskState} {t : Slots} {x y : Layout} → FileMap ≡ also → y ≡ x → (b : List ℕ) → Reveals also e t y b → Reveals FileMap e t x b
+revealed_at which layout b h = rw (which, ← layout) h
 
 pub ok_halted : {T : Type 0} (r : Result T (MapError Halt)) (P : T → Type 0) → IfOk r P → IfOk (halted r) P
 ok_halted (Ok value) P is = is

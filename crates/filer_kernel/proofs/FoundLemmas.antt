@@ -24,14 +24,14 @@ use Rattle.swapper_kernel.specs.GoesLaws.{makes_wider}
 use Rattle.swapper_kernel.specs.HaltLaws.{brings_wider}
 use Rattle.swapper_kernel.specs.CourseLaws.{steps_wider}
 use Rattle.swapper_kernel.specs.OnceLaws.{stands_once}
-use Rattle.swapper_kernel.specs.ThereLaws.{tells_there}
-use Rattle.swapper_kernel.specs.Window.{Shows, Tells, Beside, map_bytes}
+use Rattle.swapper_kernel.specs.ThereLaws.{reveals_there}
+use Rattle.swapper_kernel.specs.Window.{Shows, Reveals, Beside, map_bytes}
 use Rattle.filer_kernel.specs.declared.cached.CachedRuns.{CachedRuns}
 use Rattle.filer_kernel.specs.Cached.{runs_of}
 use Rattle.filer_kernel.specs.Triples.{MapIs, AreOf, IsOneOf}
 use Rattle.filer_kernel.specs.Causes.{IsGiven, MapHalts}
 use Rattle.filer_kernel.specs.PlaceLaws.{data_first, one_sector}
-use Rattle.filer_kernel.specs.Tables.{in_tables, table_pages, IsFoundHome, FoundHalts, IfMissing, IsComing, IsChanging, IsTablePage, TablesTell, BesideTables, IsTableAccounted}
+use Rattle.filer_kernel.specs.Tables.{in_tables, table_pages, IsFoundHome, FoundHalts, IfMissing, IsComing, IsChanging, IsTablePage, TablesReveal, BesideTables, IsTableAccounted}
 use Rattle.filer_kernel.specs.TableOnce.{map_over, tables_stay}
 use Rattle.filer_kernel.proofs.MapLemmas.{same_elements, stays_shown}
 
@@ -40,15 +40,15 @@ same_memory d s m n h k = same_elements m n (stands_once d s m n h k)
 
 -- where the bytes of the map stay, whatever they are, so does the memory
 pub memory_stays : {a b : DiskState} {s t : Slots} {x y : Layout} → IsLayout x → a.sectors ≡ x.sectors → ((all : List Sector) → a.contents ≡ Some all → length all ≡ a.sectors)
-    → ((all : List Sector) → a.contents ≡ Some all → AreSectors all) → ArePages s → Beside FileMap a s x b t y → ((bytes : List ℕ) → Tells FileMap a s x bytes → Tells FileMap b t x bytes)
+    → ((all : List Sector) → a.contents ≡ Some all → AreSectors all) → ArePages s → Beside FileMap a s x b t y → ((bytes : List ℕ) → Reveals FileMap a s x bytes → Reveals FileMap b t x bytes)
     → (m : List Sector) → Stands a s m → Stands b t m
 memory_stays {a = a} {b = b} {s = s} {t = t} {x = x} is size whole form pages beside stays m stands =
-    let long : length m ≡ x.sectors = same_length stands.sectors m stands.merged.labels ∙ whole stands.sectors stands.told ∙ size in
-    let tells = tells_there FileMap a s x m is size stands long (memory_in_form a s m stands (form stands.sectors stands.told) pages) in
+    let long : length m ≡ x.sectors = same_length stands.sectors m stands.merged.labels ∙ whole stands.sectors stands.revealed ∙ size in
+    let reveals = reveals_there FileMap a s x m is size stands long (memory_in_form a s m stands (form stands.sectors stands.revealed) pages) in
     let bytes = map_bytes FileMap x m in
-    let same : m ≡ tells.memory = same_memory a s m tells.memory stands tells.stands in
-    stays_shown refl beside m stands bytes (subst (λ (n : List Sector). Shows FileMap n x bytes) (sym same) tells.shows)
-    (subst (λ (l : Layout). Tells FileMap b t l bytes) (sym beside.layout) (stays bytes tells))
+    let same : m ≡ reveals.memory = same_memory a s m reveals.memory stands reveals.stands in
+    stays_shown refl beside m stands bytes (subst (λ (n : List Sector). Shows FileMap n x bytes) (sym same) reveals.shows)
+    (subst (λ (l : Layout). Reveals FileMap b t l bytes) (sym beside.layout) (stays bytes reveals))
 
 -- a search of the map
 pub beside_found : {a b : DiskState} {s t : Slots} {x y : Layout} {k l : CachedRuns} → Beside FileMap a s x b t y → ((m : List Sector) → Stands a s m → Stands b t m)
@@ -61,7 +61,7 @@ beside_found {a = a} {s = s} {x = x} {k = k} h stays given are = record {
   layout = h.layout;
   given = given;
   runs_are = are;
-  told = λ bytes tells. (bytes, tables_stay h.layout h.goes.makes.went.sectors (λ m named stands map. stays m stands) are bytes tells (map_over x tells.triples h.brings));
+  revealed = λ bytes reveals. (bytes, tables_stay h.layout h.goes.makes.went.sectors (λ m named stands map. stays m stands) are bytes reveals (map_over x reveals.triples h.brings));
 }
 
 -- the home that a run gives to a page of the space tables
@@ -77,13 +77,13 @@ found_home x a s kept r page is given form held =
       by_run = record { run = r; given = given; form = form; has = held; at = refl };
     }
 
--- its label names the page, where the tables are told
-pub found_named : (x : Layout) (a : DiskState) (s : Slots) (k : CachedRuns) (b : List ℕ) (page sector : ℕ) → page < 96 → (tells : TablesTell a s x k b) → tells.triples 3 page sector ≡ true
+-- its label names the page, where the tables are revealed
+pub found_named : (x : Layout) (a : DiskState) (s : Slots) (k : CachedRuns) (b : List ℕ) (page sector : ℕ) → page < 96 → (reveals : TablesReveal a s x k b) → reveals.triples 3 page sector ≡ true
     → (m : List Sector) → Stands a s m → IsNamed m (record { sector = sector; id = 3; page = page })
-found_named x a s k b page sector below tells found m stands =
-    let p : IsTablePage x tells.triples tells.memory page (part b (512 * page) 512) = tells.page page below in
-    let same : sector ≡ p.sector = one_sector x tells.triples tells.memory tells.map 3 page sector p.sector found p.found in
-    record { sector = (p.label, part b (512 * page) 512); here = ap (slice_get m) same ∙ stands_once a s m tells.memory stands tells.stands p.sector ∙ p.keeps; named = p.named_so }
+found_named x a s k b page sector below reveals found m stands =
+    let p : IsTablePage x reveals.triples reveals.memory page (part b (512 * page) 512) = reveals.page page below in
+    let same : sector ≡ p.sector = one_sector x reveals.triples reveals.memory reveals.map 3 page sector p.sector found p.found in
+    record { sector = (p.label, part b (512 * page) 512); here = ap (slice_get m) same ∙ stands_once a s m reveals.memory stands reveals.stands p.sector ∙ p.keeps; named = p.named_so }
 
 -- ---- Halts.
 
@@ -98,7 +98,7 @@ pub accounted_found : (x : Layout) (a b : DiskState) (s : Slots) (k : CachedRuns
     → ((m : List Sector) (named : Triples) → Stands a s m → MapIs x named m → AreNamed m (IsMapHome FileMap x) → e ≡ Disk) → IsTableAccounted a s x k b e
 accounted_found x a b s k e cause sound = record {
   cause = found_wider x a b s (runs_of x.sectors k) e cause;
-  sound = λ m bytes stands named tells. sound m tells.triples stands (rw (same_memory a s m tells.memory stands tells.stands) tells.map) named;
+  sound = λ m bytes stands named reveals. sound m reveals.triples stands (rw (same_memory a s m reveals.memory stands reveals.stands) reveals.map) named;
 }
 
 -- it names no page that is missing
@@ -113,7 +113,7 @@ pub accounted_missing : (x : Layout) (a b : DiskState) (s : Slots) (k : CachedRu
     → ((m : List Sector) (named : Triples) → Stands a s m → MapIs x named m → IsNowhere named 3 page) → IsTableAccounted a s x k b (Damaged (Missing 3 page))
 accounted_missing x a b s k page below nowhere = record {
   cause = (refl, below, nowhere);
-  sound = λ m bytes stands named tells.
-      let p : IsTablePage x tells.triples tells.memory page (part bytes (512 * page) 512) = tells.page page below in
-      absurd (true≢false (sym p.found ∙ nowhere tells.memory tells.triples tells.stands tells.map p.sector));
+  sound = λ m bytes stands named reveals.
+      let p : IsTablePage x reveals.triples reveals.memory page (part bytes (512 * page) 512) = reveals.page page below in
+      absurd (true≢false (sym p.found ∙ nowhere reveals.memory reveals.triples reveals.stands reveals.map p.sector));
 }

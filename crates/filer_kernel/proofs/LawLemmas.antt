@@ -11,7 +11,7 @@ use Rattle.labelled_disk.specs.Sectors.{Sector, AreSectors}
 use Rattle.labelled_disk.specs.State.{DiskState}
 use Rattle.flat_mem.specs.Memory.{part}
 use Rattle.alloc_map.specs.Bits.{is_used}
-use Rattle.page_tree.specs.Tells.{TellsTree}
+use Rattle.page_tree.specs.Reveals.{RevealsTree}
 use Rattle.file_map.specs.declared.run.Run.{Run}
 use Rattle.file_map.specs.Run.{sector_at}
 use Rattle.file_map.specs.FileMap.{Triples, AreNamed, with_run, without_from, run_names}
@@ -22,7 +22,7 @@ use Rattle.swapper_kernel.specs.Homes.{IsLayout}
 use Rattle.swapper_kernel.specs.Maps.{pages_of, start_of}
 use Rattle.swapper_kernel.specs.Stands.{Stands}
 use Rattle.swapper_kernel.specs.Differs.{Differs}
-use Rattle.swapper_kernel.specs.OnceLaws.{tells_once}
+use Rattle.swapper_kernel.specs.OnceLaws.{reveals_once}
 use Rattle.swapper_kernel.specs.ThereLaws.{shows_there}
 use Rattle.swapper_kernel.specs.Window.{IsPage, Shows, in_map, map_bytes}
 use Rattle.filer_kernel.specs.Marks.{Marks, BitsAre}
@@ -74,16 +74,16 @@ marks_stay layout marks m n differs bits = record { bytes = bits.bytes; shows = 
 pub named_stays : (layout : Layout) (named : Triples) (m n : List Sector) → Differs (in_map AllocationMap layout) m n → MapIs layout named m → MapIs layout named n
 named_stays layout named m n differs map = record { bytes = map.bytes; shows = shows_apart AllocationMap FileMap layout m n map.bytes (not_of_marks layout) differs map.shows; names = map.names }
 
--- a disk without frames that tells this memory
-abbrev tells_alone : Layout → List Sector → DiskState
-tells_alone layout m = record { sectors = layout.sectors; contents = Some m; writes = None; transfers = 0; faults = 0; synced = true; lent = [] }
+-- a disk without frames that reveals this memory
+abbrev reveals_alone : Layout → List Sector → DiskState
+reveals_alone layout m = record { sectors = layout.sectors; contents = Some m; writes = None; transfers = 0; faults = 0; synced = true; lent = [] }
 
-alone : (layout : Layout) (m : List Sector) → Stands (tells_alone layout m) [] m
-alone layout m = record { sectors = m; told = refl; merged = record { labels = refl; frames = λ i f has. absurd (none-some (Some f) has.is); clean = λ k clean. refl } }
+alone : (layout : Layout) (m : List Sector) → Stands (reveals_alone layout m) [] m
+alone layout m = record { sectors = m; revealed = refl; merged = record { labels = refl; frames = λ i f has. absurd (none-some (Some f) has.is); clean = λ k clean. refl } }
 
 shows_once : (which : Manager) (layout : Layout) (m : List Sector) (b c : List ℕ) → Shows which m layout b → Shows which m layout c → b ≡ c
 shows_once which layout m b c first second =
-    tells_once which (tells_alone layout m) [] layout b c (record { memory = m; stands = alone layout m; shows = first; size = refl }) (record { memory = m; stands = alone layout m; shows = second; size = refl })
+    reveals_once which (reveals_alone layout m) [] layout b c (record { memory = m; stands = alone layout m; shows = first; size = refl }) (record { memory = m; stands = alone layout m; shows = second; size = refl })
 
 pub marks_in_sectors : (layout : Layout) (marks : Marks) (m : List Sector) → IsLayout layout → length m ≡ layout.sectors → AreSectors m
     → BitsAre layout marks m ↔ ((sector : ℕ) → marks sector ≡ is_used (map_bytes AllocationMap layout m) sector)
@@ -93,7 +93,7 @@ marks_in_sectors layout marks m is size sectors =
       λ are. record { bytes = map_bytes AllocationMap layout m; shows = there; are = are },
     )
 
-names_as : {n k p q : ℕ} {b c : List ℕ} {named : Triples} → n ≡ k → p ≡ q → b ≡ c → AreNamed n (TellsTree 24 12 p (λ x. x ≡ b)) named → AreNamed k (TellsTree 24 12 q (λ x. x ≡ c)) named
+names_as : {n k p q : ℕ} {b c : List ℕ} {named : Triples} → n ≡ k → p ≡ q → b ≡ c → AreNamed n (RevealsTree 24 12 p (λ x. x ≡ b)) named → AreNamed k (RevealsTree 24 12 q (λ x. x ≡ c)) named
 names_as same pages is h = rw (← same, ← pages, ← is) h
 
 same_bytes : (layout : Layout) (m : List Sector) → IsLayout layout → length m ≡ layout.sectors → map_bytes FileMap layout m ≡ file_map_bytes m

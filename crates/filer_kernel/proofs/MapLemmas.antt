@@ -16,7 +16,7 @@ use Rattle.swapper_kernel.specs.Stands.{Stands}
 use Rattle.swapper_kernel.specs.Differs.{Differs}
 use Rattle.swapper_kernel.specs.DiffersLaws.{same_place, label_here}
 use Rattle.swapper_kernel.specs.OnceLaws.{stands_once}
-use Rattle.swapper_kernel.specs.Window.{IsPage, Shows, Tells, Beside, in_map}
+use Rattle.swapper_kernel.specs.Window.{IsPage, Shows, Reveals, Beside, in_map}
 use Rattle.filer_kernel.specs.Becomes.{Becomes}
 
 pub same_elements : {X : Type 0} (xs ys : List X) → ((k : ℕ) → slice_get xs k ≡ slice_get ys k) → xs ≡ ys
@@ -28,7 +28,7 @@ same_elements (x ∷ xs) (y ∷ ys) same = λ i. same_Some x y (same zero) i ∷
 -- within some numbers in a row, or outside
 pub within_or_not : (start count k : ℕ) → ((nat_le start k && nat_lt k (start + count)) ≡ false) ⊎ ((j : ℕ) × (j < count) × (k ≡ start + j))
 within_or_not start count k = elim (cases_lt k start) [
-  | inl front ↦ inl (grind (arith, nat_tests))
+  | inl prefix ↦ inl (grind (arith, nat_tests))
   | inr from ↦ elim (cases_lt k (start + count)) [
     | inl below ↦ inr (k - start, omega (arith, from, below), omega (arith, from))
     | inr past ↦ inl (grind (arith, nat_tests))
@@ -50,15 +50,15 @@ same_shown which layout m n b before after differs = same_elements n m (λ k. el
 
 module _ {which also : Manager} {d e : DiskState} {s t : Slots} {x y : Layout} (same : which ≡ also) (beside : Beside which d s x e t y) (m : List Sector) (stands : Stands d s m) where
   -- the map's bytes are these now
-  pub becomes_shown : (c : List ℕ) → Tells also e t y c → Becomes which x m (λ n. Shows which n x c) e t
-  becomes_shown c tells =
+  pub becomes_shown : (c : List ℕ) → Reveals also e t y c → Becomes which x m (λ n. Shows which n x c) e t
+  becomes_shown c reveals =
       let now = beside.goes.memory m stands in
-      let one : now.0 ≡ tells.memory = same_elements now.0 tells.memory (stands_once e t now.0 tells.memory now.1 tells.stands) in
-      let shows : Shows also now.0 x c = subst (λ (l : Layout). Shows also now.0 l c) beside.layout (subst (λ (n : List Sector). Shows also n y c) (sym one) tells.shows) in
+      let one : now.0 ≡ reveals.memory = same_elements now.0 reveals.memory (stands_once e t now.0 reveals.memory now.1 reveals.stands) in
+      let shows : Shows also now.0 x c = subst (λ (l : Layout). Shows also now.0 l c) beside.layout (subst (λ (n : List Sector). Shows also n y c) (sym one) reveals.shows) in
       record { memory = now.0; stands = now.1; differs = now.2; is = subst (λ (w : Manager). Shows w now.0 x c) (sym same) shows }
 
   -- and were these before
-  pub stays_shown : (b : List ℕ) → Shows which m x b → Tells also e t y b → Stands e t m
-  stays_shown b shows tells =
-      let now = becomes_shown b tells in
+  pub stays_shown : (b : List ℕ) → Shows which m x b → Reveals also e t y b → Stands e t m
+  stays_shown b shows reveals =
+      let now = becomes_shown b reveals in
       subst (Stands e t) (same_shown which x m now.memory b shows now.is now.differs) now.stands

@@ -1,4 +1,4 @@
--- What the maps say, and what the space tables tell, where their sectors stay.
+-- What the maps say, and what the space tables reveal, where their sectors stay.
 use Rattle.std.proofs.Common.{◌≡◌, ◌↔◌, ℕ, ◌+◌, ◌*◌, ◌<◌, ◌≤◌, ◌==◌, ◌&&◌, true, List, Some, ◌∙◌, arith}
 use Rattle.std.specs.Prelude.{slice_get, nat_lt}
 use Rattle.std.proofs.lemmas.Bool.{eqb-true, and_parts}
@@ -21,7 +21,7 @@ use Rattle.filer_kernel.specs.declared.cached.CachedRuns.{CachedRuns}
 use Rattle.filer_kernel.specs.Cached.{runs_of}
 use Rattle.filer_kernel.specs.Marks.{Marks, BitsAre}
 use Rattle.filer_kernel.specs.PlaceLaws.{on_data}
-use Rattle.filer_kernel.specs.Tables.{AreOverTables, IsTablePage, TablesTell}
+use Rattle.filer_kernel.specs.Tables.{AreOverTables, IsTablePage, TablesReveal}
 use Rattle.filer_kernel.specs.Triples.{MapIs, AreOf}
 
 -- the sectors before the data sectors
@@ -51,22 +51,22 @@ of_tables : (label : Label) (k : ℕ) → names label (record { id = 3; page = k
 of_tables label k named = eqb-true label.id 3
     (and_parts (label.id == 3) (label.page == k) (and_parts (label.id == 3 && label.page == k) (nat_lt label.flags 4) (and_parts (label.id == 3 && label.page == k && nat_lt label.flags 4) (label.last == 0) named).0).0).0
 
-pub tables_told : (old new : DiskState) (before after : Slots) (layout : Layout) (kept runs : CachedRuns) (b : List ℕ) (n : List Sector) (named : Triples) → IsLayout layout
-    → (told : TablesTell old before layout kept b) → Stands new after n → new.sectors ≡ layout.sectors → MapIs layout named n → AreOf named (runs_of layout.sectors runs)
-    → ((page sector : ℕ) → page < 96 → told.triples 3 page sector ≡ true → named 3 page sector ≡ true)
-    → ((sector : ℕ) (s : Sector) → layout.first ≤ sector → s.0.id ≡ 3 → slice_get told.memory sector ≡ Some s ↔ slice_get n sector ≡ Some s)
-    → AreOverTables after named → TablesTell new after layout runs b
-tables_told old new before after layout kept runs b n named is told stands size map are has same over = record {
+pub tables_revealed : (old new : DiskState) (before after : Slots) (layout : Layout) (kept runs : CachedRuns) (b : List ℕ) (n : List Sector) (named : Triples) → IsLayout layout
+    → (revealed : TablesReveal old before layout kept b) → Stands new after n → new.sectors ≡ layout.sectors → MapIs layout named n → AreOf named (runs_of layout.sectors runs)
+    → ((page sector : ℕ) → page < 96 → revealed.triples 3 page sector ≡ true → named 3 page sector ≡ true)
+    → ((sector : ℕ) (s : Sector) → layout.first ≤ sector → s.0.id ≡ 3 → slice_get revealed.memory sector ≡ Some s ↔ slice_get n sector ≡ Some s)
+    → AreOverTables after named → TablesReveal new after layout runs b
+tables_revealed old new before after layout kept runs b n named is revealed stands size map are has same over = record {
   memory = n;
   stands = stands;
   triples = named;
   map = map;
   kept = are;
   size = size;
-  count = told.count;
+  count = revealed.count;
   page = λ k below.
-      let p : IsTablePage layout told.triples told.memory k (part b (512 * k) 512) = told.page k below in
-      let from = on_data layout told.triples told.memory told.map is 3 k p.sector p.found in
+      let p : IsTablePage layout revealed.triples revealed.memory k (part b (512 * k) 512) = revealed.page k below in
+      let from = on_data layout revealed.triples revealed.memory revealed.map is 3 k p.sector p.found in
       record {
         sector = p.sector;
         label = p.label;

@@ -28,7 +28,7 @@ use Rattle.swapper_kernel.proofs.WindowLemmas.{part_elsewhere}
 use Rattle.filer_kernel.specs.declared.cached.CachedRuns.{CachedRuns}
 use Rattle.filer_kernel.specs.Cached.{runs_of}
 use Rattle.filer_kernel.specs.PlaceLaws.{map_kept, one_sector}
-use Rattle.filer_kernel.specs.Tables.{in_tables, table_pages, IsTableHome, IsComing, IsChanging, IsTablePage, TablesTell, BesideTables}
+use Rattle.filer_kernel.specs.Tables.{in_tables, table_pages, IsTableHome, IsComing, IsChanging, IsTablePage, TablesReveal, BesideTables}
 use Rattle.filer_kernel.proofs.TableLemmas.{table_on_data}
 
 -- no byte is written
@@ -56,7 +56,7 @@ module _ (x : Layout) (k from : ℕ) (bytes : List ℕ) (home : Home) (m n : Lis
     ];
   }
 
-  -- the bytes of each page are those that are told then
+  -- the bytes of each page are those that are revealed then
   module _ (named : Triples) (over : (sector : ℕ) → named 3 k sector ≡ true → home.sector ≡ sector) (b : List ℕ) (page : (j : ℕ) → j < 96 → IsTablePage x named m j (part b (512 * j) 512)) (long : length b ≡ 512 * 96) (below : k < 96) (fits : from + length bytes ≤ 512) where
     piece : 512 * k + from + length bytes ≤ length b
     piece = omega (arith, long, below, fits)
@@ -106,24 +106,24 @@ held_before s t f from bytes i has slots home held = elim (has_set s i held.slot
 module _ {a b : DiskState} {s t : Slots} {x y : Layout} {k : CachedRuns} (is : IsLayout x) (page : ℕ) (below : page < 96) (same : y ≡ x) (f : Frame) (placed : IsPlaced x f.home) (three : f.home.id ≡ 3) (at : f.home.page ≡ page)
     (from : ℕ) (bytes : List ℕ) (fits : from + length bytes ≤ 512) (goes : Goes (ChangesAt f.home from bytes) (this_page f.home.id f.home.page) [] a s b t)
     (i : ℕ) (has : Has s i f) (slots : t ≡ slice_set s i (Some (changed f from bytes))) where
-  pub tables_changed : (all : List ℕ) → TablesTell a s x k all → TablesTell b t y k (overwritten all (512 * page + from) bytes)
-  tables_changed all tells =
-      let now = goes.memory tells.memory tells.stands in
+  pub tables_changed : (all : List ℕ) → TablesReveal a s x k all → TablesReveal b t y k (overwritten all (512 * page + from) bytes)
+  tables_changed all reveals =
+      let now = goes.memory reveals.memory reveals.stands in
       let first = (table_on_data x f.home placed three).0 in
-      let here : tells.triples 3 page f.home.sector ≡ true =
-      ap (λ (j : ℕ). tells.triples 3 j f.home.sector) (sym at) ∙ tells.held f.home (record { slot = i; frame = f; has = has; at = refl }) three (omega (arith, at, below)) in
-      let over = one_sector x tells.triples tells.memory tells.map 3 page f.home.sector in
-      let piece : 512 * page + from + length bytes ≤ length all = omega (arith, tells.count, below, fits) in
-      let changed : TablesTell b t x k (overwritten all (512 * page + from) bytes) = record {
+      let here : reveals.triples 3 page f.home.sector ≡ true =
+      ap (λ (j : ℕ). reveals.triples 3 j f.home.sector) (sym at) ∙ reveals.held f.home (record { slot = i; frame = f; has = has; at = refl }) three (omega (arith, at, below)) in
+      let over = one_sector x reveals.triples reveals.memory reveals.map 3 page f.home.sector in
+      let piece : 512 * page + from + length bytes ≤ length all = omega (arith, reveals.count, below, fits) in
+      let changed : TablesReveal b t x k (overwritten all (512 * page + from) bytes) = record {
         memory = now.0;
         stands = now.1;
-        triples = tells.triples;
-        map = map_kept x tells.triples tells.memory now.0 is (change_differs x page from bytes f.home tells.memory now.0 first three at now.2) tells.map;
-        kept = tells.kept;
-        size = goes.makes.went.sectors ∙ tells.size;
-        count = length-overwritten all bytes (512 * page + from) piece ∙ tells.count;
-        page = changed_page x page from bytes f.home tells.memory now.0 first three at now.2 tells.triples (λ sector found. over sector here found) all tells.page tells.count below fits;
-        held = λ home held. tells.held home (held_before s t f from bytes i has slots home held);
+        triples = reveals.triples;
+        map = map_kept x reveals.triples reveals.memory now.0 is (change_differs x page from bytes f.home reveals.memory now.0 first three at now.2) reveals.map;
+        kept = reveals.kept;
+        size = goes.makes.went.sectors ∙ reveals.size;
+        count = length-overwritten all bytes (512 * page + from) piece ∙ reveals.count;
+        page = changed_page x page from bytes f.home reveals.memory now.0 first three at now.2 reveals.triples (λ sector found. over sector here found) all reveals.page reveals.count below fits;
+        held = λ home held. reveals.held home (held_before s t f from bytes i has slots home held);
       } in
       rw same changed
 
@@ -135,7 +135,7 @@ module _ {a b : DiskState} {s t : Slots} {x y : Layout} {k : CachedRuns} (is : I
     layout = same;
     given = λ r one. inl one;
     runs_are = λ m named stands map are. are;
-    told = λ all tells. (overwritten all (512 * page + from) bytes, tables_changed all tells);
+    revealed = λ all reveals. (overwritten all (512 * page + from) bytes, tables_changed all reveals);
   }
     where
       changing : IsTableHome x f.home

@@ -27,7 +27,7 @@ use Rattle.filer_kernel.specs.declared.cached.CachedRuns.{CachedRuns}
 use Rattle.filer_kernel.specs.Cached.{runs_of}
 use Rattle.filer_kernel.specs.Causes.{IsRunHome}
 use Rattle.filer_kernel.specs.PlaceLaws.{one_sector}
-use Rattle.filer_kernel.specs.Tables.{in_tables, table_pages, IsFoundHome, FoundHalts, IfMissing, IsComing, IsChanging, IsTablePage, TablesTell, BesideTables, IsTableAccounted}
+use Rattle.filer_kernel.specs.Tables.{in_tables, table_pages, IsFoundHome, FoundHalts, IfMissing, IsComing, IsChanging, IsTablePage, TablesReveal, BesideTables, IsTableAccounted}
 use Rattle.filer_kernel.specs.TableOnce.{ComeOver, come_over, run_home_over, same_sectors, tables_swapped}
 
 no_map : (id : ℕ) → id ≡ 3 → (which : Manager) → id ≢ id_of which
@@ -38,16 +38,16 @@ no_map id three FileMap same = absurd (omega (arith, three, same))
 pub table_on_data : (x : Layout) (home : Home) → IsPlaced x home → home.id ≡ 3 → (x.first ≤ home.sector) × (home.sector < x.sectors)
 table_on_data x home placed three = placed.of_file (no_map home.id three)
 
--- a frame of the space tables has what is told
-pub table_shown : (x : Layout) (d : DiskState) (s : Slots) (k : CachedRuns) (b : List ℕ) (page i : ℕ) (f : Frame) → page < 96 → TablesTell d s x k b → Has s i f → f.home.id ≡ 3 → f.home.page ≡ page
+-- a frame of the space tables has what is revealed
+pub table_shown : (x : Layout) (d : DiskState) (s : Slots) (k : CachedRuns) (b : List ℕ) (page i : ℕ) (f : Frame) → page < 96 → TablesReveal d s x k b → Has s i f → f.home.id ≡ 3 → f.home.page ≡ page
     → f.bytes ≡ part b (512 * page) 512
-table_shown x d s k b page i f below tells has three at =
-    let home : IsHome tells.memory f = tells.stands.merged.frames i f has in
-    let p : IsTablePage x tells.triples tells.memory page (part b (512 * page) 512) = tells.page page below in
-    let over : tells.triples 3 page f.home.sector ≡ true =
-    ap (λ (j : ℕ). tells.triples 3 j f.home.sector) (sym at) ∙ tells.held f.home (record { slot = i; frame = f; has = has; at = refl }) three (omega (arith, at, below)) in
-    let same : f.home.sector ≡ p.sector = one_sector x tells.triples tells.memory tells.map 3 page f.home.sector p.sector over p.found in
-    ap (λ (t : Sector). t.1) (same_Some {A = Sector} (home.label, f.bytes) (p.label, part b (512 * page) 512) (sym home.keeps ∙ ap (slice_get tells.memory) same ∙ p.keeps))
+table_shown x d s k b page i f below reveals has three at =
+    let home : IsHome reveals.memory f = reveals.stands.merged.frames i f has in
+    let p : IsTablePage x reveals.triples reveals.memory page (part b (512 * page) 512) = reveals.page page below in
+    let over : reveals.triples 3 page f.home.sector ≡ true =
+    ap (λ (j : ℕ). reveals.triples 3 j f.home.sector) (sym at) ∙ reveals.held f.home (record { slot = i; frame = f; has = has; at = refl }) three (omega (arith, at, below)) in
+    let same : f.home.sector ≡ p.sector = one_sector x reveals.triples reveals.memory reveals.map 3 page f.home.sector p.sector over p.found in
+    ap (λ (t : Sector). t.1) (same_Some {A = Sector} (home.label, f.bytes) (p.label, part b (512 * page) 512) (sym home.keeps ∙ ap (slice_get reveals.memory) same ∙ p.keeps))
 
 -- the frame that a call gives is that of the page
 pub table_there : (r : Result ℕ Halt) (s : Slots) (home : Home) (page : ℕ) → home.id ≡ 3 → home.page ≡ page → IfOk r (λ i. (f : Frame) × Has s i f × (f.home.id ≡ home.id) × (f.home.page ≡ home.page))
@@ -55,23 +55,23 @@ pub table_there : (r : Result ℕ Halt) (s : Slots) (home : Home) (page : ℕ) �
 table_there (Ok i) s home page three at is = (is.0, is.1, is.2 ∙ three, is.3 ∙ at)
 table_there (Err e) s home page three at is = tt
 
--- and has what is told
-pub table_shown_there : (r : Result ℕ Halt) (x : Layout) (d : DiskState) (s : Slots) (k : CachedRuns) (b : List ℕ) (page : ℕ) → page < 96 → TablesTell d s x k b
+-- and has what is revealed
+pub table_shown_there : (r : Result ℕ Halt) (x : Layout) (d : DiskState) (s : Slots) (k : CachedRuns) (b : List ℕ) (page : ℕ) → page < 96 → TablesReveal d s x k b
     → IfOk r (λ i. (f : Frame) × Has s i f × (f.home.id ≡ 3) × (f.home.page ≡ page)) → IfOk r (λ i. (f : Frame) × Has s i f × (f.bytes ≡ part b (512 * page) 512))
-table_shown_there (Ok i) x d s k b page below tells is = (is.0, is.1, table_shown x d s k b page i is.0 below tells is.1 is.2 is.3)
-table_shown_there (Err e) x d s k b page below tells is = tt
+table_shown_there (Ok i) x d s k b page below reveals is = (is.0, is.1, table_shown x d s k b page i is.0 below reveals is.1 is.2 is.3)
+table_shown_there (Err e) x d s k b page below reveals is = tt
 
 module _ {a b : DiskState} {s t : Slots} {x y : Layout} {k l : CachedRuns} (home : Home) (h : BesideTables a s x k b t y l) (found : IsFoundHome x a s (runs_of x.sectors k) home) where
   -- its frame is over the sector where the map has it
-  over_fetched : {u : Slots} → IsLayout x → Brings (λ (o : Home). o ≡ home) t u → (bytes later : List ℕ) → (tells : TablesTell a s x k bytes) → (told : TablesTell b t y l later) → ComeOver t u told.triples
-  over_fetched is brings bytes later tells told =
-      come_over (λ (o : Home). o ≡ home) told.triples (λ o same three.
-      same_sectors is h.layout h.goes tells told 3 o.page o.sector ∙ run_home_over is tells o (subst (IsRunHome x a s (runs_of x.sectors k)) (sym same) found.by_run) three) brings
+  over_fetched : {u : Slots} → IsLayout x → Brings (λ (o : Home). o ≡ home) t u → (bytes later : List ℕ) → (reveals : TablesReveal a s x k bytes) → (revealed : TablesReveal b t y l later) → ComeOver t u revealed.triples
+  over_fetched is brings bytes later reveals revealed =
+      come_over (λ (o : Home). o ≡ home) revealed.triples (λ o same three.
+      same_sectors is h.layout h.goes reveals revealed 3 o.page o.sector ∙ run_home_over is reveals o (subst (IsRunHome x a s (runs_of x.sectors k)) (sym same) found.by_run) three) brings
 
-  -- the same is told
-  pub told_fetched : {c : DiskState} {u : Slots} {z : Layout} → IsLayout x → Swaps b t c u → Brings (λ (o : Home). o ≡ home) t u → z ≡ y → ((bytes : List ℕ) → TablesTell a s x k bytes → TablesTell b t y l bytes)
-      → (bytes : List ℕ) → TablesTell a s x k bytes → TablesTell c u z l bytes
-  told_fetched is swaps brings same mid bytes tells = tables_swapped same swaps bytes (mid bytes tells) (over_fetched is brings bytes bytes tells (mid bytes tells))
+  -- the same is revealed
+  pub revealed_fetched : {c : DiskState} {u : Slots} {z : Layout} → IsLayout x → Swaps b t c u → Brings (λ (o : Home). o ≡ home) t u → z ≡ y → ((bytes : List ℕ) → TablesReveal a s x k bytes → TablesReveal b t y l bytes)
+      → (bytes : List ℕ) → TablesReveal a s x k bytes → TablesReveal c u z l bytes
+  revealed_fetched is swaps brings same mid bytes reveals = tables_swapped same swaps bytes (mid bytes reveals) (over_fetched is brings bytes bytes reveals (mid bytes reveals))
 
   -- a page that was found is brought in
   pub beside_fetched : {c : DiskState} {u : Slots} {z : Layout} → IsLayout x → Swaps b t c u → Brings (λ (o : Home). o ≡ home) t u → Steps (λ (o : Home). o ≡ home) no_home b t c u → z ≡ y → BesideTables a s x k c u z l
@@ -82,7 +82,7 @@ module _ {a b : DiskState} {s t : Slots} {x y : Layout} {k l : CachedRuns} (home
     layout = same ∙ h.layout;
     given = h.given;
     runs_are = h.runs_are;
-    told = λ bytes tells. let mid = h.told bytes tells in (mid.0, tables_swapped same swaps mid.0 mid.1 (over_fetched is_layout brings bytes mid.0 tells mid.1));
+    revealed = λ bytes reveals. let mid = h.revealed bytes reveals in (mid.0, tables_swapped same swaps mid.0 mid.1 (over_fetched is_layout brings bytes mid.0 reveals mid.1));
   }
 
   reason_found : (o : Home) → held_or t (λ (i : Home). i ≡ home) o → held_or s (IsMapHome FileMap x) o ⊎ IsFoundHome x a s (runs_of x.sectors k) o
@@ -103,9 +103,9 @@ module _ {a b : DiskState} {s t : Slots} {x y : Layout} {k l : CachedRuns} (home
 
   -- it could not be brought in
   pub accounted_fetched : (c : DiskState) (r : Result ℕ Halt) → IfErr r (Halts (λ (o : Home). o ≡ home) b t c) → ((m : List Sector) → Stands b t m → IsNamed m home → IfErr r (λ e. e ≡ Disk))
-      → ((m : List Sector) → Stands a s m → Stands b t m) → ((bytes : List ℕ) → TablesTell a s x k bytes → (m : List Sector) → Stands a s m → IsNamed m home) → IfErr r (IsTableAccounted a s x k c)
+      → ((m : List Sector) → Stands a s m → Stands b t m) → ((bytes : List ℕ) → TablesReveal a s x k bytes → (m : List Sector) → Stands a s m → IsNamed m home) → IfErr r (IsTableAccounted a s x k c)
   accounted_fetched c (Ok i) cause sound stays named = tt
-  accounted_fetched c (Err e) cause sound stays named = record { cause = halts_fetched c e cause; sound = λ m bytes stands maps tells. sound m (stays m stands) (named bytes tells m stands) }
+  accounted_fetched c (Err e) cause sound stays named = record { cause = halts_fetched c e cause; sound = λ m bytes stands maps reveals. sound m (stays m stands) (named bytes reveals m stands) }
 
 -- no page is missing where one was found
 missing_no : (homes : Home → Type 0) (b : DiskState) (t : Slots) (c : DiskState) (page : ℕ) (e : Halt) → Halts homes b t c e → IfMissing page e

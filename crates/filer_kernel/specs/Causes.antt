@@ -18,12 +18,12 @@ use Rattle.file_map.specs.Map.{ShownBy}
 use Rattle.swapper_kernel.specs.declared.manager.Manager.TheVariants.{FileMap}
 use Rattle.swapper_kernel.specs.Maps.{IsMapHome}
 use Rattle.swapper_kernel.specs.Halts.{IsOther, HasCause, held_or}
-use Rattle.swapper_kernel.specs.Window.{Tells, Beside}
+use Rattle.swapper_kernel.specs.Window.{Reveals, Beside}
 use Rattle.filer_kernel.specs.Triples.{IsOneOf}
 
 -- what the pages of the file map show, whatever their form is
 abbrev pub MapShows : Layout → DiskState → Slots → Sight → Type 0
-MapShows layout disk slots sight = ShownBy (Tells FileMap disk slots layout) layout.vfm sight
+MapShows layout disk slots sight = ShownBy (Reveals FileMap disk slots layout) layout.vfm sight
 
 -- the run is one of these, which were kept, or a record of the map that was read
 abbrev pub IsGiven : Layout → DiskState → Slots → List Run → Run → Type 0
@@ -56,7 +56,7 @@ MapHalts layout old before new halt = HasCause (MapEvidence layout old before) o
 
 -- the bytes of the map count so many records
 abbrev pub MapCounts : Layout → DiskState → Slots → ℕ → Type 0
-MapCounts layout disk slots n = (b : List ℕ) × Tells FileMap disk slots layout b × (n ≡ count_in (page_at b 0))
+MapCounts layout disk slots n = (b : List ℕ) × Reveals FileMap disk slots layout b × (n ≡ count_in (page_at b 0))
 
 -- such evidence, or a page of the map where no record can be put in, or the map has as many records as it may
 abbrev pub AddEvidence : Layout → DiskState → Slots → Evidence → Type 0
@@ -72,7 +72,7 @@ AddHalts layout old before new halt = HasCause (AddEvidence layout old before) o
 abbrev pub IsFaultOrMost : Layout → DiskState → Slots → Halt → Type 0
 IsFaultOrMost layout disk slots halt = IsFaultOrMismatch halt ⊎ ((halt ≡ Damaged (Malformed 2 0)) × MapCounts layout disk slots (most_records layout.sectors))
 
--- as disk and frames were at some moment between two others, this page of the map broke its form
+-- as disk and frames were in some crash state between two others, this page of the map broke its form
 pub record IsBrokenBetween (layout : Layout) (old : DiskState) (before : Slots) (new : DiskState) (after : Slots) (page : ℕ) : Type 0 where
   pub disk : DiskState
   pub slots : Slots
@@ -80,7 +80,7 @@ pub record IsBrokenBetween (layout : Layout) (old : DiskState) (before : Slots) 
   pub until : Beside FileMap disk slots layout new after layout
   pub broken : IsBroken layout.sectors (MapShows layout disk slots) page
 
--- the evidence is a label, as in a search; or a page of the map that broke its form at some moment of the call
+-- the evidence is a label, as in a search; or a page of the map that broke its form in some crash state of the call
 abbrev pub CutEvidence : Layout → DiskState → Slots → DiskState → Slots → Evidence → Type 0
 CutEvidence layout old before new after (Mismatch sector wanted found) = IsOther (held_or before (IsMapHome FileMap layout)) old sector wanted found
 CutEvidence layout old before new after (Malformed window page) = (window ≡ 2) × IsBrokenBetween layout old before new after page

@@ -20,19 +20,19 @@ IsUnwanted found wanted = ((wanted ≡ record { id = 0; page = 0 }) × (is_free 
 abbrev pub MayBeIn : ℕ → ℕ → Wanted → Type 0
 MayBeIn sectors sector wanted = IsPlaced (layout_of sectors) (home_at sector wanted)
 
--- a page that may be told as missing: one of the 96 of the space tables, or any of an identifier that a client's file may have
+-- a page that may be reported as missing: one of the 96 of the space tables, or any of an identifier that a client's file may have
 abbrev pub MayBeMissing : ℕ → ℕ → Type 0
 MayBeMissing id page = ((id ≡ 3) × (page < 96)) ⊎ (16 ≤ id)
 
 -- The disk has that label in that sector, where the layout lets the wanted page be, and it is not the wanted one; or the window
--- is that of the file map or of the space tables, whatever the page; or the page may be told as missing. Why the page was asked
+-- is that of the file map or of the space tables, whatever the page; or the page may be reported as missing. Why the page was asked
 -- for is said by the cause of the call.
-abbrev pub IsSo : DiskState → Evidence → Type 0
-IsSo disk (Mismatch sector wanted found) = HasLabel disk sector found × IsUnwanted found wanted × MayBeIn disk.sectors sector wanted
-IsSo disk (Malformed window page) = (window ≡ 2) ⊎ (window ≡ 3)
-IsSo disk (Missing id page) = MayBeMissing id page
+abbrev pub IsEvident : DiskState → Evidence → Type 0
+IsEvident disk (Mismatch sector wanted found) = HasLabel disk sector found × IsUnwanted found wanted × MayBeIn disk.sectors sector wanted
+IsEvident disk (Malformed window page) = (window ≡ 2) ⊎ (window ≡ 3)
+IsEvident disk (Missing id page) = MayBeMissing id page
 
 -- a halt of a call that left the disk so: the disk failed, or what the evidence says is so
-abbrev pub ShowsSo : DiskState → Halt → Type 0
-ShowsSo disk Disk = Unit {0}
-ShowsSo disk (Damaged evidence) = IsSo disk evidence
+abbrev pub ShowsEvidence : DiskState → Halt → Type 0
+ShowsEvidence disk Disk = Unit {0}
+ShowsEvidence disk (Damaged evidence) = IsEvident disk evidence

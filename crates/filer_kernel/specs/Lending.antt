@@ -2,15 +2,15 @@
 use Rattle.std.specs.Borrow.{Lends, MutBor, Fml, RattleType}
 use Rattle.std.specs.declared.alloc.Allocator.{Ghosts as AllocatorGhosts}
 use Rattle.labelled_disk.specs.declared.disk.Disk.{Ghosts as DiskGhosts}
-use Rattle.swapper_kernel.specs.declared.swapper.SwapperOver.{SwapperOver}
-use Rattle.swapper_kernel.specs.contracts.swapper.SwapperOver.{the_row as swapper_row}
-use Rattle.filer_kernel.specs.declared.filer.FilerOver.{FilerOver}
-use Rattle.filer_kernel.specs.contracts.filer.FilerOver.{the_row}
+use Rattle.swapper_kernel.specs.declared.swapper.Swapper.{Swapper}
+use Rattle.swapper_kernel.specs.contracts.swapper.Swapper.{the_row as swapper_row}
+use Rattle.filer_kernel.specs.declared.filer.Filer.{Filer}
+use Rattle.filer_kernel.specs.contracts.filer.Filer.{the_row}
 
 -- the filer ends with the swapper that was left
-abbrev pub LendsSwapper : (D A : RattleType) (disk : DiskGhosts D.Denot) (alloc : AllocatorGhosts A.Denot) → MutBor (FilerOver D.Denot A.Denot disk) → MutBor (SwapperOver D.Denot A.Denot disk) → Fml
+abbrev pub LendsSwapper : (D A : RattleType) (disk : DiskGhosts D.Denot) (alloc : AllocatorGhosts A.Denot) → MutBor (Filer D.Denot A.Denot disk) → MutBor (Swapper D.Denot A.Denot disk) → Fml
 LendsSwapper D A disk alloc f r = Lends (the_row D A disk alloc) (swapper_row D A disk alloc) f r (λ w. record f.now { swapper = w })
 
 -- the filer ends with the disk that was left
-abbrev pub LendsUnder : (D A : RattleType) (disk : DiskGhosts D.Denot) (alloc : AllocatorGhosts A.Denot) → MutBor (FilerOver D.Denot A.Denot disk) → MutBor D.Denot → Fml
-LendsUnder D A disk alloc f r = Lends (the_row D A disk alloc) D f r (λ w. record f.now { swapper = record f.now.swapper { under = w } })
+abbrev pub LendsDisk : (D A : RattleType) (disk : DiskGhosts D.Denot) (alloc : AllocatorGhosts A.Denot) → MutBor (Filer D.Denot A.Denot disk) → MutBor D.Denot → Fml
+LendsDisk D A disk alloc f r = Lends (the_row D A disk alloc) D f r (λ w. record f.now { swapper = record f.now.swapper { disk = w } })

@@ -1,4 +1,4 @@
--- The records of a file map are told by its bytes alone, and so is what it names.
+-- The records of a file map are revealed by its bytes alone, and so is what it names.
 use Rattle.std.proofs.Common.{◌≡◌, ℕ, zero, suc, ◌+◌, ◌<◌, ◌^◌, List, [], ◌∷◌, ◌++◌, map, length, get_or, drop, refl, sym, ◌∙◌, ap, subst, arith}
 use Rattle.std.proofs.lemmas.List.{ext_get_or, get_or-map, length-map, map-append}
 use Rattle.std.proofs.lemmas.List.Concat.{flat_map-cons}
@@ -6,7 +6,7 @@ use Rattle.labelled_disk.specs.Layout.{vfm}
 use Rattle.labelled_disk.specs.Sectors.{Sector}
 use Rattle.page_tree.specs.Keys.{Item, no_item}
 use Rattle.page_tree.specs.Page.{page_at, record_item, IsLeaf, IsInner, IsPageOf}
-use Rattle.page_tree.specs.Tells.{TellsTree}
+use Rattle.page_tree.specs.Reveals.{RevealsTree}
 use Rattle.page_tree.specs.Tree.{Node, node_at, items_of, head_of, heads, IsTree}
 use Rattle.file_map.specs.declared.run.Run.{Run}
 use Rattle.file_map.specs.Run.{IsRun, run_bytes, run_in}
@@ -51,11 +51,11 @@ links_once k page xs ys h l =
 -- a level is listed above by its pages
 head_pages : (ns : List Node) → map (λ x. x.page) (heads ns) ≡ pages_of ns
 head_pages [] = refl
-head_pages (n ∷ ns) = ap (λ (l : List ℕ). n.page ∷ l) (behind ns)
+head_pages (n ∷ ns) = ap (λ (l : List ℕ). n.page ∷ l) (after ns)
   where
-    behind : (ns : List Node) → map (λ x. x.page) (map head_of ns) ≡ pages_of ns
-    behind [] = refl
-    behind (n ∷ ns) = ap (λ (l : List ℕ). n.page ∷ l) (behind ns)
+    after : (ns : List Node) → map (λ x. x.page) (map head_of ns) ≡ pages_of ns
+    after [] = refl
+    after (n ∷ ns) = ap (λ (l : List ℕ). n.page ∷ l) (after ns)
 
 bytes_back : (k : ℕ) (xs : List (List ℕ)) → map (λ x. x.bytes) (map (record_item k) xs) ≡ xs
 bytes_back k [] = refl
@@ -108,10 +108,10 @@ runs_back n few [] each = refl
 runs_back n few (r ∷ rs) each = λ i. run_back n r few (each zero (omega arith)) i ∷ runs_back n few rs (λ j below. each (suc j) (omega (arith, below))) i
 
 -- maps in form of the same bytes name the same
-pub named_by_bytes : (sectors : ℕ) (b c : List ℕ) (named also : Triples) → sectors < 2 ^ 32 → c ≡ b → AreNamed sectors (TellsTree 24 12 (vfm sectors) (λ x. x ≡ b)) named → AreNamed sectors (TellsTree 24 12 (vfm sectors) (λ x. x ≡ c)) also
+pub named_by_bytes : (sectors : ℕ) (b c : List ℕ) (named also : Triples) → sectors < 2 ^ 32 → c ≡ b → AreNamed sectors (RevealsTree 24 12 (vfm sectors) (λ x. x ≡ b)) named → AreNamed sectors (RevealsTree 24 12 (vfm sectors) (λ x. x ≡ c)) also
     → (id page sector : ℕ) → also id page sector ≡ named id page sector
 named_by_bytes sectors b c named also few same h l id page sector =
-    let bytes : l.listed.bytes ≡ h.listed.bytes = l.listed.told ∙ same ∙ sym h.listed.told in
+    let bytes : l.listed.bytes ≡ h.listed.bytes = l.listed.revealed ∙ same ∙ sym h.listed.revealed in
     let records : map run_bytes h.runs ≡ map run_bytes l.runs = tree_once 24 12 (vfm sectors) h.listed.bytes (map run_bytes h.runs) (map run_bytes l.runs) h.listed.tree
     (subst (λ (b : List ℕ). IsTree 24 12 (vfm sectors) b (map run_bytes l.runs)) bytes l.listed.tree) in
     let runs : h.runs ≡ l.runs = sym (runs_back sectors few h.runs h.form.each) ∙ ap (λ (rs : List (List ℕ)). map run_in rs) records ∙ runs_back sectors few l.runs l.form.each in

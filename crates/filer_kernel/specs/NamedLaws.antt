@@ -7,7 +7,7 @@ use Rattle.labelled_disk.specs.Sectors.{Sector}
 use Rattle.labelled_disk.specs.State.{DiskState}
 use Rattle.frame_pool.specs.declared.home.Home.{Home}
 use Rattle.frame_pool.specs.Frames.{Slots}
-use Rattle.page_tree.specs.Tells.{TellsTree}
+use Rattle.page_tree.specs.Reveals.{RevealsTree}
 use Rattle.file_map.specs.declared.run.Run.{Run}
 use Rattle.file_map.specs.FileMap.{AreNamed, Triples}
 use Rattle.file_map.specs.Run.{holds, sector_at}
@@ -15,9 +15,9 @@ use Rattle.file_map.proofs.InForm.{shown_run}
 use Rattle.file_map.proofs.Runs.{has_page}
 use Rattle.swapper_kernel.specs.declared.manager.Manager.TheVariants.{FileMap}
 use Rattle.swapper_kernel.specs.Homes.{IsLayout}
-use Rattle.swapper_kernel.specs.OnceLaws.{tells_once}
+use Rattle.swapper_kernel.specs.OnceLaws.{reveals_once}
 use Rattle.swapper_kernel.specs.Stands.{Stands}
-use Rattle.swapper_kernel.specs.Window.{Tells}
+use Rattle.swapper_kernel.specs.Window.{Reveals}
 use Rattle.filer_kernel.specs.Causes.{IsRunHome}
 use Rattle.filer_kernel.specs.MapOnce.{named_by_bytes}
 use Rattle.filer_kernel.specs.Triples.{MapIs, AreOf}
@@ -27,16 +27,16 @@ pub maps_named_once : {a : DiskState} {s : Slots} (layout : Layout) (m n : List 
     → (id page sector : ℕ) → also id page sector ≡ named id page sector
 maps_named_once {a = a} {s = s} layout m n named also is size first second h l =
     let pages : layout.vfm ≡ vfm layout.sectors = ap (λ (x : Layout). x.vfm) is.1 in
-    let tells : Tells FileMap a s layout h.bytes = record { memory = m; stands = first; shows = h.shows; size = size } in
-    let also_tells : Tells FileMap a s layout l.bytes = record { memory = n; stands = second; shows = l.shows; size = size } in
-    let same : l.bytes ≡ h.bytes = tells_once FileMap a s layout l.bytes h.bytes also_tells tells in
+    let reveals : Reveals FileMap a s layout h.bytes = record { memory = m; stands = first; shows = h.shows; size = size } in
+    let also_reveals : Reveals FileMap a s layout l.bytes = record { memory = n; stands = second; shows = l.shows; size = size } in
+    let same : l.bytes ≡ h.bytes = reveals_once FileMap a s layout l.bytes h.bytes also_reveals reveals in
     named_by_bytes layout.sectors h.bytes l.bytes named also (let few = is.0.1 in omega (arith, few)) same
-    (subst (λ (p : ℕ). AreNamed layout.sectors (TellsTree 24 12 p (λ b. b ≡ h.bytes)) named) pages h.names)
-    (subst (λ (p : ℕ). AreNamed layout.sectors (TellsTree 24 12 p (λ b. b ≡ l.bytes)) also) pages l.names)
+    (subst (λ (p : ℕ). AreNamed layout.sectors (RevealsTree 24 12 p (λ b. b ≡ h.bytes)) named) pages h.names)
+    (subst (λ (p : ℕ). AreNamed layout.sectors (RevealsTree 24 12 p (λ b. b ≡ l.bytes)) also) pages l.names)
 
 module _ {x : Layout} {named : Triples} {a : DiskState} {s : Slots} {m : List Sector} (is : IsLayout x) (size : a.sectors ≡ x.sectors) (stands : Stands a s m) (map : MapIs x named m) where
-  bytes_told : Tells FileMap a s x map.bytes
-  bytes_told = record { memory = m; stands = stands; shows = map.shows; size = size }
+  bytes_revealed : Reveals FileMap a s x map.bytes
+  bytes_revealed = record { memory = m; stands = stands; shows = map.shows; size = size }
 
   map_pages : x.vfm ≡ vfm x.sectors
   map_pages = ap (λ (l : Layout). l.vfm) is.1
@@ -57,5 +57,5 @@ module _ {x : Layout} {named : Triples} {a : DiskState} {s : Slots} {m : List Se
         let same = (has_page h.run home.id home.page h.has).same in
         let held : holds h.run h.run.id home.page ≡ true = ap (λ (i : ℕ). holds h.run i home.page) same ∙ h.has in
         ap (named home.id home.page) h.at ∙ ap (λ (i : ℕ). named i home.page (sector_at h.run home.page)) (sym same) ∙ are j h.run at home.page held
-    | inr (page, shows) ↦ ap (named home.id home.page) h.at ∙ shown_run x.sectors x.vfm map.bytes named map.names few least most page h.run h.form (shows map.bytes bytes_told) home.id home.page h.has
+    | inr (page, shows) ↦ ap (named home.id home.page) h.at ∙ shown_run x.sectors x.vfm map.bytes named map.names few least most page h.run h.form (shows map.bytes bytes_revealed) home.id home.page h.has
   ]

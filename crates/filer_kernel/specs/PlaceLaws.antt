@@ -17,7 +17,7 @@ use Rattle.swapper_kernel.specs.declared.manager.Manager.TheVariants.{FileMap}
 use Rattle.swapper_kernel.specs.Homes.{IsLayout}
 use Rattle.swapper_kernel.specs.Differs.{Differs}
 use Rattle.swapper_kernel.specs.Goes.{Goes, Pages}
-use Rattle.swapper_kernel.specs.Window.{IsPage, Shows, Tells}
+use Rattle.swapper_kernel.specs.Window.{IsPage, Shows, Reveals}
 use Rattle.swapper_kernel.proofs.PlacedLemmas.{parts}
 use Rattle.filer_kernel.specs.Triples.{MapIs}
 use Rattle.filer_kernel.specs.Causes.{MapShows}
@@ -70,13 +70,13 @@ pub map_kept : (layout : Layout) (named : Triples) (m n : List Sector) → IsLay
 map_kept layout named m n is differs map = record { bytes = map.bytes; shows = shows_kept layout m n map.bytes is differs map.shows; names = map.names }
 
 -- and its bytes, whatever their form is
-pub tells_kept : {pages : Pages} {a b : DiskState} {s t : Slots} (layout : Layout) → IsLayout layout → Goes (Differs (in_tables layout)) pages [] a s b t
-    → (bytes : List ℕ) → Tells FileMap a s layout bytes → Tells FileMap b t layout bytes
-tells_kept layout is goes bytes tells =
-    let now = goes.memory tells.memory tells.stands in
-    record { memory = now.0; stands = now.1; shows = shows_kept layout tells.memory now.0 bytes is now.2 tells.shows; size = goes.makes.went.sectors ∙ tells.size }
+pub reveals_kept : {pages : Pages} {a b : DiskState} {s t : Slots} (layout : Layout) → IsLayout layout → Goes (Differs (in_tables layout)) pages [] a s b t
+    → (bytes : List ℕ) → Reveals FileMap a s layout bytes → Reveals FileMap b t layout bytes
+reveals_kept layout is goes bytes reveals =
+    let now = goes.memory reveals.memory reveals.stands in
+    record { memory = now.0; stands = now.1; shows = shows_kept layout reveals.memory now.0 bytes is now.2 reveals.shows; size = goes.makes.went.sectors ∙ reveals.size }
 
 -- what they show afterwards they showed before
 pub shown_before : {pages : Pages} {a b : DiskState} {s t : Slots} (layout : Layout) → IsLayout layout → Goes (Differs (in_tables layout)) pages [] a s b t
     → (sight : Sight) → MapShows layout b t sight → MapShows layout a s sight
-shown_before layout is goes sight shows bytes tells = shows bytes (tells_kept layout is goes bytes tells)
+shown_before layout is goes sight shows bytes reveals = shows bytes (reveals_kept layout is goes bytes reveals)

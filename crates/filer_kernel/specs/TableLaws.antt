@@ -31,9 +31,9 @@ use Rattle.filer_kernel.specs.Cached.{runs_of}
 use Rattle.filer_kernel.specs.Triples.{IsOneOf}
 use Rattle.filer_kernel.specs.Causes.{MapShows, IsGiven, IsRunHome}
 use Rattle.filer_kernel.specs.PlaceLaws.{map_kept, shown_before}
-use Rattle.filer_kernel.specs.Tables.{in_tables, table_pages, IsFoundHome, FoundEvidence, FoundHalts, IsComing, IsChanging, TablesTell, BesideTables, IsTableAccounted, tables_size}
+use Rattle.filer_kernel.specs.Tables.{in_tables, table_pages, IsFoundHome, FoundEvidence, FoundHalts, IsComing, IsChanging, TablesReveal, BesideTables, IsTableAccounted, tables_size}
 
--- ---- How many bytes are told.
+-- ---- How many bytes are revealed.
 
 pub tables_size_is : (sectors : ℕ) (layout : Layout) → sectors ≡ layout.sectors → tables_size sectors layout ≡ 512 * 96
 tables_size_is sectors layout same = ap (λ (b : Bool). if b then 512 * 96 else 0) (eq-eqb sectors layout.sectors same)
@@ -45,8 +45,8 @@ tables_size_right sectors layout n some below = elim (eqb_tells sectors layout.s
   | inr (test, _) ↦ absurd (let none : tables_size sectors layout ≡ 0 = ap (λ (b : Bool). if b then 512 * 96 else 0) test in omega (arith, none, some, below))
 ]
 
-pub told_tables_size : {disk : DiskState} {slots : Slots} {layout : Layout} {runs : CachedRuns} {b : List ℕ} → TablesTell disk slots layout runs b → length b ≡ tables_size disk.sectors layout
-told_tables_size {disk = disk} {layout = layout} tells = tells.count ∙ sym (tables_size_is disk.sectors layout tells.size)
+pub revealed_tables_size : {disk : DiskState} {slots : Slots} {layout : Layout} {runs : CachedRuns} {b : List ℕ} → TablesReveal disk slots layout runs b → length b ≡ tables_size disk.sectors layout
+revealed_tables_size {disk = disk} {layout = layout} reveals = reveals.count ∙ sym (tables_size_is disk.sectors layout reveals.size)
 
 pub same_tables_size : {a b : DiskState} {s t : Slots} {x y : Layout} {k l : CachedRuns} → BesideTables a s x k b t y l → tables_size a.sectors x ≡ tables_size b.sectors y
 same_tables_size {b = b} {x = x} h = ap (λ (n : ℕ). tables_size n x) (sym h.goes.makes.went.sectors) ∙ ap (tables_size b.sectors) (sym h.layout)
@@ -111,15 +111,15 @@ beside_tables_itself d s layout runs = record {
   layout = refl;
   given = λ r one. inl one;
   runs_are = λ m named stands map are. are;
-  told = λ b tells. (b, tells);
+  revealed = λ b reveals. (b, reveals);
 }
 
 -- the second is said of the layout that the first left
 moved : {a b : DiskState} {s t : Slots} {x y z : Layout} {k l : CachedRuns} → y ≡ x → BesideTables a s y k b t z l → BesideTables a s x k b t z l
 moved layout h = rw (← layout) h
 
-tells_moved : {d : DiskState} {s : Slots} {x y : Layout} {k : CachedRuns} → y ≡ x → (b : List ℕ) → TablesTell d s y k b → TablesTell d s x k b
-tells_moved layout b h = rw (← layout) h
+reveals_moved : {d : DiskState} {s : Slots} {x y : Layout} {k : CachedRuns} → y ≡ x → (b : List ℕ) → TablesReveal d s y k b → TablesReveal d s x k b
+reveals_moved layout b h = rw (← layout) h
 
 pub beside_tables_then : {a b c : DiskState} {s t u : Slots} {x y z : Layout} {k l m : CachedRuns} → IsLayout x → BesideTables a s x k b t y l → BesideTables b t y l c u z m → BesideTables a s x k c u z m
 beside_tables_then {a = a} {s = s} {x = x} {k = k} {l = l} is h next =
@@ -136,7 +136,7 @@ beside_tables_then {a = a} {s = s} {x = x} {k = k} {l = l} is h next =
       runs_are = λ m named stands map are.
           let mid = h.goes.memory m stands in
           after.runs_are mid.0 named mid.1 (map_kept x named m mid.0 is mid.2 map) (h.runs_are m named stands map are);
-      told = λ b tells. let mid = h.told b tells in after.told mid.0 (tells_moved h.layout mid.0 mid.1);
+      revealed = λ b reveals. let mid = h.revealed b reveals in after.revealed mid.0 (reveals_moved h.layout mid.0 mid.1);
     }
 
 pub tables_accounted_then : {a b c d : DiskState} {s t u v : Slots} {w x y z : Layout} {k l m n : CachedRuns} {e : Halt} → IsLayout w
@@ -145,8 +145,8 @@ tables_accounted_then {c = c} {d = d} {w = w} {k = k} {l = l} {e = e} is h next 
     let acc = rw (h.layout) at accounted in
     record {
       cause = found_halts_before w is (runs_of w.sectors k) (runs_of w.sectors l) h.goes h.given h.brings c d last.goes.makes.went.faults e acc.cause;
-      sound = λ m b stands named tells.
+      sound = λ m b stands named reveals.
           let mid = h.goes.memory m stands in
-          let told = h.told b tells in
-          acc.sound mid.0 told.0 mid.1 (named_kept (IsMapHome FileMap w) m mid.0 mid.2.labels named) (tells_moved h.layout told.0 told.1);
+          let revealed = h.revealed b reveals in
+          acc.sound mid.0 revealed.0 mid.1 (named_kept (IsMapHome FileMap w) m mid.0 mid.2.labels named) (reveals_moved h.layout revealed.0 revealed.1);
     }

@@ -23,11 +23,11 @@ use Rattle.filer_kernel.specs.Cached.{runs_of}
 use Rattle.filer_kernel.specs.Causes.{IsRunHome}
 use Rattle.filer_kernel.specs.NamedLaws.{maps_named_once, run_home_named}
 use Rattle.filer_kernel.specs.PlaceLaws.{map_kept, one_sector}
-use Rattle.filer_kernel.specs.Tables.{in_tables, IsComing, IsTablePage, TablesTell}
+use Rattle.filer_kernel.specs.Tables.{in_tables, IsComing, IsTablePage, TablesReveal}
 use Rattle.filer_kernel.specs.Triples.{MapIs, AreOf}
 
-pub tables_tell_once : (disk : DiskState) (slots : Slots) (layout : Layout) (runs : CachedRuns) (b c : List ℕ) → IsLayout layout → TablesTell disk slots layout runs b → TablesTell disk slots layout runs c → b ≡ c
-tables_tell_once disk slots layout runs b c is h l =
+pub tables_reveal_once : (disk : DiskState) (slots : Slots) (layout : Layout) (runs : CachedRuns) (b c : List ℕ) → IsLayout layout → TablesReveal disk slots layout runs b → TablesReveal disk slots layout runs c → b ≡ c
+tables_reveal_once disk slots layout runs b c is h l =
     same_lists b c (h.count ∙ sym l.count) (λ k d below.
     let page : k / 512 < 96 = omega (arith, h.count, below) in
     byte_in b k d ∙ ap (λ (x : List ℕ). get_or x (k % 512) d) (same_page (k / 512) page) ∙ sym (byte_in c k d))
@@ -60,35 +60,35 @@ pub map_over : {s t : Slots} (x : Layout) (named : Triples) → Brings (IsMapHom
 map_over x named brings = come_over (IsMapHome FileMap x) named (λ home at three. absurd (map_not_over x home at three)) brings
 
 -- a page of the space tables is where a run has it that was kept, or that the map shows
-pub run_home_over : {a : DiskState} {s : Slots} {x : Layout} {k : CachedRuns} {b : List ℕ} → IsLayout x → (tells : TablesTell a s x k b) → (home : Home) → IsRunHome x a s (runs_of x.sectors k) home → home.id ≡ 3
-    → tells.triples 3 home.page home.sector ≡ true
-run_home_over {x = x} {k = k} is tells home by_run three =
-    ap (λ (i : ℕ). tells.triples i home.page home.sector) (sym three) ∙ run_home_named is tells.size tells.stands tells.map (runs_of x.sectors k) tells.kept home by_run
+pub run_home_over : {a : DiskState} {s : Slots} {x : Layout} {k : CachedRuns} {b : List ℕ} → IsLayout x → (reveals : TablesReveal a s x k b) → (home : Home) → IsRunHome x a s (runs_of x.sectors k) home → home.id ≡ 3
+    → reveals.triples 3 home.page home.sector ≡ true
+run_home_over {x = x} {k = k} is reveals home by_run three =
+    ap (λ (i : ℕ). reveals.triples i home.page home.sector) (sym three) ∙ run_home_named is reveals.size reveals.stands reveals.map (runs_of x.sectors k) reveals.kept home by_run
 
 -- and so it is where such pages come
-pub coming_over : {a : DiskState} {s t : Slots} {x : Layout} {k : CachedRuns} {b : List ℕ} → IsLayout x → (tells : TablesTell a s x k b) → Brings (IsComing x a s (runs_of x.sectors k)) s t → ComeOver s t tells.triples
-coming_over {a = a} {s = s} {x = x} {k = k} is tells brings =
-    come_over (IsComing x a s (runs_of x.sectors k)) tells.triples (λ home coming three. elim coming [
+pub coming_over : {a : DiskState} {s t : Slots} {x : Layout} {k : CachedRuns} {b : List ℕ} → IsLayout x → (reveals : TablesReveal a s x k b) → Brings (IsComing x a s (runs_of x.sectors k)) s t → ComeOver s t reveals.triples
+coming_over {a = a} {s = s} {x = x} {k = k} is reveals brings =
+    come_over (IsComing x a s (runs_of x.sectors k)) reveals.triples (λ home coming three. elim coming [
       | inl at ↦ absurd (map_not_over x home at three)
-      | inr found ↦ run_home_over is tells home found.by_run three
+      | inr found ↦ run_home_over is reveals home found.by_run three
     ]) brings
 
--- what is told before and after changes of the pages of the tables has them in the same sectors
+-- what is revealed before and after changes of the pages of the tables has them in the same sectors
 pub same_sectors : {pages : Pages} {a b : DiskState} {s t : Slots} {x y : Layout} {k l : CachedRuns} {bytes later : List ℕ} → IsLayout x → y ≡ x → Goes (Differs (in_tables x)) pages [] a s b t
-    → (tells : TablesTell a s x k bytes) → (told : TablesTell b t y l later) → (id page sector : ℕ) → told.triples id page sector ≡ tells.triples id page sector
-same_sectors {x = x} is same goes tells told id page sector =
-    let now = goes.memory tells.memory tells.stands in
-    let kept : MapIs x tells.triples now.0 = map_kept x tells.triples tells.memory now.0 is now.2 tells.map in
-    maps_named_once x now.0 told.memory tells.triples told.triples is (goes.makes.went.sectors ∙ tells.size) now.1 told.stands kept (rw same at told.map) id page sector
+    → (reveals : TablesReveal a s x k bytes) → (revealed : TablesReveal b t y l later) → (id page sector : ℕ) → revealed.triples id page sector ≡ reveals.triples id page sector
+same_sectors {x = x} is same goes reveals revealed id page sector =
+    let now = goes.memory reveals.memory reveals.stands in
+    let kept : MapIs x reveals.triples now.0 = map_kept x reveals.triples reveals.memory now.0 is now.2 reveals.map in
+    maps_named_once x now.0 revealed.memory reveals.triples revealed.triples is (goes.makes.went.sectors ∙ reveals.size) now.1 revealed.stands kept (rw same at revealed.map) id page sector
 
--- ---- What is told stays.
+-- ---- What is revealed stays.
 
--- where the memory whose map is in form stays, runs that are kept are the map's, and frames come over their pages, what is told stays
+-- where the memory whose map is in form stays, runs that are kept are the map's, and frames come over their pages, what is revealed stays
 pub tables_stay : {a b : DiskState} {s t : Slots} {x y : Layout} {k l : CachedRuns} → y ≡ x → b.sectors ≡ a.sectors → ((m : List Sector) (named : Triples) → Stands a s m → MapIs x named m → Stands b t m)
     → ((m : List Sector) (named : Triples) → Stands a s m → MapIs x named m → AreOf named (runs_of x.sectors k) → AreOf named (runs_of x.sectors l))
-    → (bytes : List ℕ) → (tells : TablesTell a s x k bytes) → ComeOver s t tells.triples → TablesTell b t y l bytes
+    → (bytes : List ℕ) → (reveals : TablesReveal a s x k bytes) → ComeOver s t reveals.triples → TablesReveal b t y l bytes
 tables_stay {b = b} {t = t} {x = x} {l = l} same sectors stays are bytes h over =
-    let now : TablesTell b t x l bytes = record {
+    let now : TablesReveal b t x l bytes = record {
       memory = h.memory;
       stands = stays h.memory h.triples h.stands h.map;
       triples = h.triples;
@@ -102,5 +102,5 @@ tables_stay {b = b} {t = t} {x = x} {l = l} same sectors stays are bytes h over 
     rw same now
 
 -- so it does where pages are swapped, those of the space tables too
-pub tables_swapped : {a b : DiskState} {s t : Slots} {x y : Layout} {k : CachedRuns} → y ≡ x → Swaps a s b t → (bytes : List ℕ) → (tells : TablesTell a s x k bytes) → ComeOver s t tells.triples → TablesTell b t y k bytes
+pub tables_swapped : {a b : DiskState} {s t : Slots} {x y : Layout} {k : CachedRuns} → y ≡ x → Swaps a s b t → (bytes : List ℕ) → (reveals : TablesReveal a s x k bytes) → ComeOver s t reveals.triples → TablesReveal b t y k bytes
 tables_swapped same swaps bytes h over = tables_stay same swaps.makes.went.sectors (λ m named stands map. swaps_stands swaps m stands) (λ m named stands map are. are) bytes h over

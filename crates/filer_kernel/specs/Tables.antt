@@ -85,9 +85,9 @@ pub record IsTablePage (layout : Layout) (named : Triples) (memory : List Sector
 abbrev pub AreOverTables : Slots → Triples → Type 0
 AreOverTables slots named = (home : Home) → IsHeld slots home → home.id ≡ 3 → home.page < 96 → named 3 home.page home.sector ≡ true
 
--- The disk tells its contents, and with the frames over it the pages of the space tables are these bytes; the runs that
+-- The disk reveals its contents, and with the frames over it the pages of the space tables are these bytes; the runs that
 -- are kept are the map's, and frames of these pages are where the map has them.
-pub record TablesTell (disk : DiskState) (slots : Slots) (layout : Layout) (runs : CachedRuns) (b : List ℕ) : Type 0 where
+pub record TablesReveal (disk : DiskState) (slots : Slots) (layout : Layout) (runs : CachedRuns) (b : List ℕ) : Type 0 where
   pub memory : List Sector
   pub stands : Stands disk slots memory
   pub triples : Triples
@@ -104,7 +104,7 @@ tables_size sectors layout = if sectors == layout.sectors then 512 * 96 else 0
 
 -- What accesses to the pages of the space tables do to all else: nothing of it changes, but for what swapping is. Runs that
 -- are kept were kept before or were read from the map, and are the map's afterwards where they were before. Where the
--- tables were told, some bytes are told of them afterwards.
+-- tables were revealed, some bytes are revealed of them afterwards.
 pub record BesideTables (old : DiskState) (before : Slots) (place : Layout) (kept : CachedRuns) (new : DiskState) (after : Slots) (later : Layout) (runs : CachedRuns) : Type 0 where
   pub goes : Goes (Differs (in_tables place)) table_pages [] old before new after
   pub brings : Brings (IsComing place old before (runs_of place.sectors kept)) before after
@@ -112,10 +112,10 @@ pub record BesideTables (old : DiskState) (before : Slots) (place : Layout) (kep
   pub layout : later ≡ place
   pub given : (r : Run) → IsOneOf r (runs_of place.sectors runs) → IsGiven place old before (runs_of place.sectors kept) r
   pub runs_are : (m : List Sector) (named : Triples) → Stands old before m → MapIs place named m → AreOf named (runs_of place.sectors kept) → AreOf named (runs_of place.sectors runs)
-  pub told : (b : List ℕ) → TablesTell old before place kept b → (c : List ℕ) × TablesTell new after later runs c
+  pub revealed : (b : List ℕ) → TablesReveal old before place kept b → (c : List ℕ) × TablesReveal new after later runs c
 
--- A halt has its cause, and where the labels of the map's sectors name its pages, and the tables are told, it is a fault of
+-- A halt has its cause, and where the labels of the map's sectors name its pages, and the tables are revealed, it is a fault of
 -- the disk.
 pub record IsTableAccounted (old : DiskState) (before : Slots) (layout : Layout) (kept : CachedRuns) (new : DiskState) (halt : Halt) : Type 0 where
   pub cause : FoundHalts layout old before (runs_of layout.sectors kept) new halt
-  pub sound : (m : List Sector) (b : List ℕ) → Stands old before m → AreNamed m (IsMapHome FileMap layout) → TablesTell old before layout kept b → halt ≡ Disk
+  pub sound : (m : List Sector) (b : List ℕ) → Stands old before m → AreNamed m (IsMapHome FileMap layout) → TablesReveal old before layout kept b → halt ≡ Disk

@@ -2,18 +2,18 @@
 use Rattle.std.specs.Prelude.{◌≡◌, ℕ, true, List, Some, slice_get}
 use Rattle.labelled_disk.specs.declared.layout.Layout.{Layout}
 use Rattle.labelled_disk.specs.Sectors.{Sector}
-use Rattle.page_tree.specs.Tells.{TellsTree}
+use Rattle.page_tree.specs.Reveals.{RevealsTree}
 use Rattle.file_map.specs.declared.run.Run.{Run}
 use Rattle.file_map.specs.Run.{holds, sector_at}
 use Rattle.file_map.specs.FileMap.{Triples, AreNamed}
 use Rattle.swapper_kernel.specs.declared.manager.Manager.TheVariants.{FileMap}
 use Rattle.swapper_kernel.specs.Window.{Shows}
 
--- the map's pages tell a map in form, which names these triples
+-- the map's pages reveal a map in form, which names these triples
 pub record MapIs (layout : Layout) (named : Triples) (memory : List Sector) : Type 0 where
   pub bytes : List ℕ
   pub shows : Shows FileMap memory layout bytes
-  pub names : AreNamed layout.sectors (TellsTree 24 12 layout.vfm (λ b. b ≡ bytes)) named
+  pub names : AreNamed layout.sectors (RevealsTree 24 12 layout.vfm (λ b. b ≡ bytes)) named
 
 -- for each page of each of the runs, what the run says is named
 abbrev pub AreOf : Triples → List Run → Type 0

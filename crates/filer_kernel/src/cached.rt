@@ -65,7 +65,7 @@ impl CachedRuns {
     }
 
     /// Drops the runs of a file.
-    pub fn forget(&mut self, id: FileId)
+    pub fn discard(&mut self, id: FileId)
         ensures { (n : ℕ) → runs_of n self.new ≡ filter (λ r. not (r.id == id)) (runs_of n self.old) }
     {
         self.runs.retain(|run| run.id != id);

@@ -4,56 +4,56 @@ ghost use Rattle.std.specs.Prelude.{◌≡◌, ℕ, []};
 use crate::CachedRuns;
 use labelled_disk::Disk;
 use std::alloc::Allocator;
-use swapper_kernel::{Swapper, SwapperOver};
+use swapper_kernel::{LentSwapper, Swapper};
 
 /// A swapper that is held by value, and the runs of files that were found last. Every call that moves sectors asks that
 /// the disk has as many sectors as the layout: a disk or a swapper that was lent might be another one.
 #[derive(Drop)]
-pub struct FilerOver<D: Disk, A: Allocator> {
-    pub(crate) swapper: SwapperOver<D, A>,
+pub struct Filer<D: Disk, A: Allocator> {
+    pub(crate) swapper: Swapper<D, A>,
     pub(crate) runs: CachedRuns,
 }
 
 /// A filer whose disk is lent.
-pub type Filer<'d, D, A> = FilerOver<&'d mut D, A>;
+pub type LentFiler<'d, D, A> = Filer<&'d mut D, A>;
 
-impl<D: Disk, A: Allocator> FilerOver<D, A> {
+impl<D: Disk, A: Allocator> Filer<D, A> {
     ghost use Rattle.filer_kernel.specs.Cached.{runs_of};
 
     /// A filer with no run.
-    pub fn over(swapper: SwapperOver<D, A>) -> FilerOver<D, A>
+    pub fn over(swapper: Swapper<D, A>) -> Filer<D, A>
         ensures swapper { result.swapper ≡ swapper }
         ensures runs { (n : ℕ) → runs_of n result.runs ≡ [] }
     {
         let layout = swapper.layout();
-        FilerOver {
+        Filer {
             swapper,
             runs: CachedRuns::new(layout.sectors),
         }
     }
 
     /// Gives up the runs.
-    pub fn into_swapper(self) -> SwapperOver<D, A>
+    pub fn into_swapper(self) -> Swapper<D, A>
         ensures { result ≡ self.swapper }
     {
-        let FilerOver { swapper, runs: _ } = self;
+        let Filer { swapper, runs: _ } = self;
         swapper
     }
 
     /// Gives up the runs and the frames. What is dirty is lost.
     pub fn into_disk(self) -> D
-        ensures { result ≡ self.swapper.under }
+        ensures { result ≡ self.swapper.disk }
     {
         self.into_swapper().into_disk()
     }
 }
 
-impl<D: Disk, A: Allocator> FilerOver<D, A> {
+impl<D: Disk, A: Allocator> Filer<D, A> {
     ghost use Rattle.std.specs.Borrow.{sem};
-    ghost use Rattle.filer_kernel.specs.Lending.{LendsSwapper, LendsUnder};
+    ghost use Rattle.filer_kernel.specs.Lending.{LendsSwapper, LendsDisk};
 
     /// The swapper.
-    pub fn swapper_over(&mut self) -> &mut SwapperOver<D, A>
+    pub fn swapper_over(&mut self) -> &mut Swapper<D, A>
         ensures value { result.now ≡ self.old.swapper }
         ensures* lends { sem 𝓛 (LendsSwapper D.row A.row D.Disk A.Allocator self.entry result) }
     {
@@ -62,21 +62,21 @@ impl<D: Disk, A: Allocator> FilerOver<D, A> {
 
     /// The disk, as it is held.
     pub fn disk_over(&mut self) -> &mut D
-        ensures value { result.now ≡ self.old.swapper.under }
-        ensures* lends { sem 𝓛 (LendsUnder D.row A.row D.Disk A.Allocator self.entry result) }
+        ensures value { result.now ≡ self.old.swapper.disk }
+        ensures* lends { sem 𝓛 (LendsDisk D.row A.row D.Disk A.Allocator self.entry result) }
     {
         self.swapper.disk_over()
     }
 }
 
-impl<'d, D: Disk, A: Allocator> FilerOver<&'d mut D, A> {
+impl<'d, D: Disk, A: Allocator> Filer<&'d mut D, A> {
     ghost use Rattle.filer_kernel.specs.Cached.{runs_of};
 
     /// A filer with no run, over a swapper whose disk is lent.
-    pub fn new(swapper: Swapper<'d, D, A>) -> Filer<'d, D, A>
+    pub fn new(swapper: LentSwapper<'d, D, A>) -> LentFiler<'d, D, A>
         ensures swapper { result.swapper ≡ swapper.entry }
         ensures runs { (n : ℕ) → runs_of n result.runs ≡ [] }
     {
-        FilerOver::over(swapper)
+        Filer::over(swapper)
     }
 }

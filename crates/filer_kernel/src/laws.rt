@@ -17,7 +17,7 @@ ghost use Rattle.filer_kernel.specs.declared.cached.CachedRuns.{CachedRuns as Ca
 ghost use Rattle.filer_kernel.specs.Cached.{runs_of};
 ghost use Rattle.filer_kernel.specs.Marks.{Marks, BitsAre};
 ghost use Rattle.filer_kernel.specs.Triples.{MapIs, AreOf};
-ghost use Rattle.filer_kernel.specs.Tables.{AreOverTables, TablesTell};
+ghost use Rattle.filer_kernel.specs.Tables.{AreOverTables, TablesReveal};
 
 /// Runs of a map are runs of it where it names more, and those of other files where a file is cut.
 pub fn runs_stay()
@@ -45,12 +45,12 @@ pub fn maps_stay()
     ensures named { (layout : Layout) (named : Triples) (m n : List Sector) → IsLayout layout → ((sector : ℕ) → sector < layout.first → slice_get n sector ≡ slice_get m sector) → MapIs layout named m → MapIs layout named n }
 {}
 
-/// What the space tables tell stays where no sector of file 3 changed, and the map, the runs and the frames still have its pages.
-pub fn tables_told_stay()
+/// What the space tables reveal stays where no sector of file 3 changed, and the map, the runs and the frames still have its pages.
+pub fn tables_revealed_stay()
     ensures { (old new : DiskState) (before after : Slots) (layout : Layout) (kept runs : CachedIs) (b : List ℕ) (n : List Sector) (named : Triples) → IsLayout layout
-        → (told : TablesTell old before layout kept b) → Stands new after n → new.sectors ≡ layout.sectors → MapIs layout named n → AreOf named (runs_of layout.sectors runs)
-        → ((page sector : ℕ) → page < 96 → told.triples 3 page sector ≡ true → named 3 page sector ≡ true)
-        → ((sector : ℕ) (s : Sector) → layout.first ≤ sector → s.0.id ≡ 3 → slice_get told.memory sector ≡ Some s ↔ slice_get n sector ≡ Some s)
+        → (revealed : TablesReveal old before layout kept b) → Stands new after n → new.sectors ≡ layout.sectors → MapIs layout named n → AreOf named (runs_of layout.sectors runs)
+        → ((page sector : ℕ) → page < 96 → revealed.triples 3 page sector ≡ true → named 3 page sector ≡ true)
+        → ((sector : ℕ) (s : Sector) → layout.first ≤ sector → s.0.id ≡ 3 → slice_get revealed.memory sector ≡ Some s ↔ slice_get n sector ≡ Some s)
         → AreOverTables after named
-        → TablesTell new after layout runs b }
+        → TablesReveal new after layout runs b }
 {}

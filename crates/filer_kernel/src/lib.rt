@@ -12,6 +12,6 @@ mod tables;
 mod window;
 
 pub use cached::CachedRuns;
-pub use filer::{Filer, FilerOver};
-pub use laws::{maps_in_sectors, maps_stay, other_map_stays, runs_stay, tables_told_stay};
-pub use window::{Window1, Window1Over};
+pub use filer::{Filer, LentFiler};
+pub use laws::{maps_in_sectors, maps_stay, other_map_stays, runs_stay, tables_revealed_stay};
+pub use window::{LentTableMemory, TableMemory};

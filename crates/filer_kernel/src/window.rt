@@ -4,32 +4,32 @@ ghost use Rattle.frame_pool.specs.Frames.{Frame, Has, frame_at};
 ghost use Rattle.flat_mem.specs.Memory.{part};
 ghost use Rattle.filer_kernel.specs.Tables.{tables_size};
 
-use crate::FilerOver;
+use crate::Filer;
 use flat_mem::FlatMem;
 use labelled_disk::{Disk, Halt};
 use std::alloc::Allocator;
 
 /// The pages of the space tables, through the file map and the frames. Each access takes at most 28 transfers.
 #[derive(Drop)]
-pub struct Window1Over<'s, D: Disk, A: Allocator> {
-    pub(crate) filer: &'s mut FilerOver<D, A>,
+pub struct TableMemory<'s, D: Disk, A: Allocator> {
+    pub(crate) filer: &'s mut Filer<D, A>,
 }
 
 /// The pages of the space tables, where the disk is lent.
-pub type Window1<'s, 'd, D, A> = Window1Over<'s, &'d mut D, A>;
+pub type LentTableMemory<'s, 'd, D, A> = TableMemory<'s, &'d mut D, A>;
 
-impl<D: Disk, A: Allocator> FilerOver<D, A> {
+impl<D: Disk, A: Allocator> Filer<D, A> {
     /// The pages of the space tables as a memory. It has no bytes on a disk of another size than the layout's.
-    pub fn window1<'s>(&'s mut self) -> Window1Over<'s, D, A>
+    pub fn table_memory<'s>(&'s mut self) -> TableMemory<'s, D, A>
         ensures same_reference { result.filer.ghost_name ≡ self.entry.ghost_name }
         ensures value { result.filer.now ≡ self.old }
     {
-        Window1Over { filer: self }
+        TableMemory { filer: self }
     }
 
     // How many bytes the space tables have: none on a disk of another size.
     fn tables_len(&self) -> u64
-        ensures { result ≡ tables_size (D.state self.now.swapper.under).sectors self.now.swapper.layout }
+        ensures { result ≡ tables_size (D.state self.now.swapper.disk).sectors self.now.swapper.layout }
     {
         if self.swapper.fits() { 512 * 96 } else { 0 }
     }
@@ -46,11 +46,11 @@ impl<D: Disk, A: Allocator> FilerOver<D, A> {
     }
 }
 
-impl<'s, D: Disk, A: Allocator> FlatMem for Window1Over<'s, D, A> {
+impl<'s, D: Disk, A: Allocator> FlatMem for TableMemory<'s, D, A> {
     ghost use Rattle.std.specs.Prelude.{◌≡◌, ℕ, ◌+◌, ◌≤◌, List};
-    ghost use Rattle.filer_kernel.specs.Tables.{TablesTell, BesideTables, IsTableAccounted, tables_size};
-    ghost use Rattle.filer_kernel.specs.TableLaws.{beside_tables_itself, beside_tables_then, tables_accounted_then, told_tables_size, same_tables_size};
-    ghost use Rattle.filer_kernel.specs.TableOnce.{tables_tell_once};
+    ghost use Rattle.filer_kernel.specs.Tables.{TablesReveal, BesideTables, IsTableAccounted, tables_size};
+    ghost use Rattle.filer_kernel.specs.TableLaws.{beside_tables_itself, beside_tables_then, tables_accounted_then, revealed_tables_size, same_tables_size};
+    ghost use Rattle.filer_kernel.specs.TableOnce.{tables_reveal_once};
 
     type Error = Halt;
 
@@ -58,23 +58,23 @@ impl<'s, D: Disk, A: Allocator> FlatMem for Window1Over<'s, D, A> {
 
     ghost cost = { 28 };
 
-    ghost size = { λ w. tables_size (D.state w.filer.now.swapper.under).sectors w.filer.now.swapper.layout };
+    ghost size = { λ w. tables_size (D.state w.filer.now.swapper.disk).sectors w.filer.now.swapper.layout };
 
-    ghost tells = { λ w b. TablesTell (D.state w.filer.now.swapper.under) w.filer.now.swapper.pool w.filer.now.swapper.layout w.filer.now.runs b };
+    ghost reveals = { λ w b. TablesReveal (D.state w.filer.now.swapper.disk) w.filer.now.swapper.pool w.filer.now.swapper.layout w.filer.now.runs b };
 
-    ghost spent = { λ w. (D.state w.filer.now.swapper.under).transfers };
+    ghost spent = { λ w. (D.state w.filer.now.swapper.disk).transfers };
 
-    ghost beside = { λ a b. (a.filer.ghost_name ≡ b.filer.ghost_name) × BesideTables (D.state a.filer.now.swapper.under) a.filer.now.swapper.pool a.filer.now.swapper.layout a.filer.now.runs (D.state b.filer.now.swapper.under) b.filer.now.swapper.pool b.filer.now.swapper.layout b.filer.now.runs };
+    ghost beside = { λ a b. (a.filer.ghost_name ≡ b.filer.ghost_name) × BesideTables (D.state a.filer.now.swapper.disk) a.filer.now.swapper.pool a.filer.now.swapper.layout a.filer.now.runs (D.state b.filer.now.swapper.disk) b.filer.now.swapper.pool b.filer.now.swapper.layout b.filer.now.runs };
 
-    ghost accounted = { λ a b e. IsTableAccounted (D.state a.filer.now.swapper.under) a.filer.now.swapper.pool a.filer.now.swapper.layout a.filer.now.runs (D.state b.filer.now.swapper.under) e };
+    ghost accounted = { λ a b e. IsTableAccounted (D.state a.filer.now.swapper.disk) a.filer.now.swapper.pool a.filer.now.swapper.layout a.filer.now.runs (D.state b.filer.now.swapper.disk) e };
 
-    ghost told_once = { λ w b c h k. tables_tell_once _ _ _ _ b c w.filer.now.swapper.accepted h k };
+    ghost revealed_once = { λ w b c h k. tables_reveal_once _ _ _ _ b c w.filer.now.swapper.accepted h k };
 
-    ghost told_length = { λ w b h. told_tables_size h };
+    ghost revealed_length = { λ w b h. revealed_tables_size h };
 
     ghost same_size = { λ a b h. same_tables_size h.1 };
 
-    ghost beside_itself = { λ w. (Prim.cc, beside_tables_itself (D.state w.filer.now.swapper.under) w.filer.now.swapper.pool w.filer.now.swapper.layout w.filer.now.runs) };
+    ghost beside_itself = { λ w. (Prim.cc, beside_tables_itself (D.state w.filer.now.swapper.disk) w.filer.now.swapper.pool w.filer.now.swapper.layout w.filer.now.runs) };
 
     ghost beside_through = { λ a b c h k. (Prim.cc, beside_tables_then a.filer.now.swapper.accepted h.1 k.1) };
 
@@ -88,7 +88,7 @@ impl<'s, D: Disk, A: Allocator> FlatMem for Window1Over<'s, D, A> {
         if into.is_empty() {
             return Ok(());
         }
-        let slot = self.filer.touch1((at / 512) as u32)?;
+        let slot = self.filer.fetch_table_page((at / 512) as u32)?;
         self.filer.copy_out(slot, (at % 512) as usize, into);
         Ok(())
     }
@@ -97,7 +97,7 @@ impl<'s, D: Disk, A: Allocator> FlatMem for Window1Over<'s, D, A> {
         if bytes.is_empty() {
             return Ok(());
         }
-        let slot = self.filer.touch1((at / 512) as u32)?;
+        let slot = self.filer.fetch_table_page((at / 512) as u32)?;
         self.filer.swapper.change(slot, (at % 512) as u32, bytes);
         Ok(())
     }

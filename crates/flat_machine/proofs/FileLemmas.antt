@@ -5,18 +5,18 @@ use Rattle.std.specs.List.{AllByRecursion}
 use Rattle.std.specs.Option.{option_map_or}
 use Rattle.std.proofs.lemmas.Bool.{eq-eqb, ne_eqb}
 use Rattle.std.proofs.lemmas.List.Sums.{sum_by-cons}
-use Rattle.labelled_disk.specs.Rising.{AreRising}
-use Rattle.labelled_disk.proofs.RisingLemmas.{at_put, rising_put}
+use Rattle.labelled_disk.specs.Ascending.{AreAscending}
+use Rattle.labelled_disk.proofs.AscendingLemmas.{at_put, ascending_put}
 use Rattle.labelled_disk.proofs.WriteLemmas.{room_changed}
 use Rattle.flat_machine.specs.File.{File, size, file_at, room_of, total_room, put_file}
 use Rattle.flat_machine.specs.Space.{Window}
 use Rattle.flat_machine.specs.Machine.{IsFile, IsFileId, IsWindow}
 use Rattle.flat_machine.specs.Next.{change_file}
-use Rattle.flat_machine.proofs.Lists.{In, all_in, in_all, in_filter, in_map, looked_up, rising_filter, rising_map}
+use Rattle.flat_machine.proofs.Lists.{In, all_in, in_all, in_filter, in_map, looked_up, ascending_filter, ascending_map}
 
 -- what holds of every machine, of its files alone
 pub record AreFiles (serial counter capacity : ℕ) (fs : List File) : Type 0 where
-  pub rise : AreRising fs
+  pub rise : AreAscending fs
   pub given : AllByRecursion (λ f. IsFileId serial counter f.id) fs
   pub whole : AllByRecursion IsFile fs
   pub room : total_room fs ≤ capacity
@@ -34,7 +34,7 @@ room_filter p (f ∷ fs) = either (p f) (room_filter p fs)
 module _ (serial counter capacity : ℕ) where
   pub fewer_files : (p : File → Bool) (fs : List File) → AreFiles serial counter capacity fs → AreFiles serial counter capacity (filter p fs)
   fewer_files p fs h = record {
-    rise = rising_filter (λ f. f.id) p fs h.rise;
+    rise = ascending_filter (λ f. f.id) p fs h.rise;
     given = in_all _ (filter p fs) (λ f i. all_in _ fs h.given f (in_filter p fs f i).0);
     whole = in_all _ (filter p fs) (λ f i. all_in _ fs h.whole f (in_filter p fs f i).0);
     room = omega (arith, room_filter p fs, h.room);
@@ -44,7 +44,7 @@ module _ (serial counter capacity : ℕ) where
   pub changed_files : (g : File → File) → ((f : File) → (g f).id ≡ f.id) → (fs : List File) → ((f : File) → In f fs → IsFile f → IsFile (g f))
       → total_room (map g fs) ≤ capacity → AreFiles serial counter capacity fs → AreFiles serial counter capacity (map g fs)
   changed_files g ids fs kept room h = record {
-    rise = rising_map (λ f. f.id) g ids fs h.rise;
+    rise = ascending_map (λ f. f.id) g ids fs h.rise;
     given = in_all _ (map g fs) (λ y i. let r = in_map g fs y i in
         subst (λ (f : File). IsFileId serial counter f.id) r.2 (subst (λ (n : ℕ). IsFileId serial counter n) (sym (ids r.0)) (all_in _ fs h.given r.0 r.1)));
     whole = in_all _ (map g fs) (λ y i. let r = in_map g fs y i in subst IsFile r.2 (kept r.0 r.1 (all_in _ fs h.whole r.0 r.1)));
@@ -85,12 +85,12 @@ pub unchanged : (id : ℕ) (c : File → File) (f : File) → f.id ≢ id → (i
 unchanged id c f n = let t : eqb f.id id ≡ false = ne_eqb f.id id n in ap (λ (b : Bool). if b then c f else f) t
 
 -- the room is that of before, but for the one file
-pub room_of_one : (id : ℕ) (c : File → File) → ((f : File) → (c f).id ≡ f.id) → (fs : List File) (f : File) → AreRising fs → file_at fs id ≡ Some f
+pub room_of_one : (id : ℕ) (c : File → File) → ((f : File) → (c f).id ≡ f.id) → (fs : List File) (f : File) → AreAscending fs → file_at fs id ≡ Some f
     → total_room (change_file id c fs) + size f ≡ total_room fs + size (c f)
 room_of_one id c ids fs f rise is =
     let g : File → File = λ x. if x.id == id then c x else x in
     let found = look_up_changed g (one_id id c ids) fs in
-    let same = room_changed false 0 0 fs (map g fs) id rise (rising_map (λ x. x.id) g (one_id id c ids) fs rise) (λ j n. found j ∙ stays j n (file_at fs j) refl) in
+    let same = room_changed false 0 0 fs (map g fs) id rise (ascending_map (λ x. x.id) g (one_id id c ids) fs rise) (λ j n. found j ∙ stays j n (file_at fs j) refl) in
     let old : option_map_or room_of (file_at fs id) 0 ≡ room_of f = ap (λ (o : Option File). option_map_or room_of o 0) is in
     let now : option_map_or room_of (file_at (map g fs) id) 0 ≡ room_of (c f) =
     ap (λ (o : Option File). option_map_or room_of o 0) (found_changed g (one_id id c ids) fs id f is)
@@ -115,9 +115,9 @@ each_put P f (g ∷ gs) p h = either (nat_lt f.id g.id) (eqb f.id g.id) (each_pu
     either false true more = (p, h.1)
     either false false more = (h.0, more)
 
-pub room_put : (f : File) (fs : List File) → AreRising fs → file_at fs f.id ≡ None → total_room (put_file f fs) ≡ total_room fs + room_of f
+pub room_put : (f : File) (fs : List File) → AreAscending fs → file_at fs f.id ≡ None → total_room (put_file f fs) ≡ total_room fs + room_of f
 room_put f fs rise none =
-    let same = room_changed false 0 0 fs (put_file f fs) f.id rise (rising_put f fs rise) (λ j n. at_put f fs j ∙ past j n) in
+    let same = room_changed false 0 0 fs (put_file f fs) f.id rise (ascending_put f fs rise) (λ j n. at_put f fs j ∙ past j n) in
     let old : option_map_or room_of (file_at fs f.id) 0 ≡ 0 = ap (λ (o : Option File). option_map_or room_of o 0) none in
     let now : option_map_or room_of (file_at (put_file f fs) f.id) 0 ≡ room_of f = ap (λ (o : Option File). option_map_or room_of o 0) (put_here f fs) in
     omega (arith, same, old, now)

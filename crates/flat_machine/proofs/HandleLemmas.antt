@@ -4,7 +4,7 @@ use Rattle.std.proofs.lemmas.Bool.Decides.{nat_tests}
 use Rattle.std.specs.Prelude.{nat_lt, ◌==◌, if◌then◌else◌}
 use Rattle.std.specs.List.{list_any, AllByRecursion}
 use Rattle.flat_machine.specs.Space.{Space}
-use Rattle.flat_machine.specs.Machine.{IsRising}
+use Rattle.flat_machine.specs.Machine.{IsAscending}
 use Rattle.flat_machine.specs.Next.{is_unused, lowest_unused, put_space}
 use Rattle.flat_machine.proofs.LowestLemmas.{lowest_unused_is_least}
 
@@ -12,7 +12,7 @@ use Rattle.flat_machine.proofs.LowestLemmas.{lowest_unused_is_least}
 abbrev pub handles : List Space → List ℕ
 handles ss = map (λ s. s.handle) ss
 
--- the first number from low on that the rising handles skip
+-- the first number from low on that the ascending handles skip
 abbrev pub walk : ℕ → List Space → ℕ
 walk low [] = low
 walk low (s ∷ ss) = if s.handle == low then walk (low + 1) ss else low
@@ -57,7 +57,7 @@ above_unused : (ss : List Space) (k : ℕ) → AllByRecursion (λ y. k < y) (han
 above_unused [] k h = refl
 above_unused (s ∷ ss) k h = neither _ _ (other_below k s.handle h.0) (above_unused ss k h.1)
 
-walk_unused : (ss : List Space) (low : ℕ) → IsRising (handles ss) → AllByRecursion (λ y. low ≤ y) (handles ss) → list_any (λ s. s.handle == walk low ss) ss ≡ false
+walk_unused : (ss : List Space) (low : ℕ) → IsAscending (handles ss) → AllByRecursion (λ y. low ≤ y) (handles ss) → list_any (λ s. s.handle == walk low ss) ss ≡ false
 walk_unused [] low r h = refl
 walk_unused (s ∷ ss) low r h = either (s.handle == low) refl (walk_unused ss (low + 1) r.1)
   where
@@ -94,13 +94,13 @@ from_zero [] = tt
 from_zero (n ∷ ns) = (omega arith, from_zero ns)
 
 -- no more handles are below the lowest unused one than there are spaces
-pub lowest_few : (ss : List Space) → IsRising (handles ss) → is_unused ss 0 ≡ false → lowest_unused ss ≤ length ss
+pub lowest_few : (ss : List Space) → IsAscending (handles ss) → is_unused ss 0 ≡ false → lowest_unused ss ≤ length ss
 lowest_few ss r z =
     let u : is_unused ss (walk 0 ss) ≡ true = turned _ (walk_unused ss 0 r (from_zero (handles ss))) in
     omega (arith, (lowest_unused_is_least ss (walk 0 ss) z u).0, walk_few ss 0)
 
 -- it is unused, and not the root's
-pub lowest_free : (ss : List Space) → IsRising (handles ss) → is_unused ss 0 ≡ false → (is_unused ss (lowest_unused ss) ≡ true) × (1 ≤ lowest_unused ss)
+pub lowest_free : (ss : List Space) → IsAscending (handles ss) → is_unused ss 0 ≡ false → (is_unused ss (lowest_unused ss) ≡ true) × (1 ≤ lowest_unused ss)
 lowest_free ss r z =
     let u : is_unused ss (walk 0 ss) ≡ true = turned _ (walk_unused ss 0 r (from_zero (handles ss))) in
     let least = lowest_unused_is_least ss (walk 0 ss) z u in
@@ -134,12 +134,12 @@ not_or : (a b : Bool) → not (a || b) ≡ true → (a ≡ false) × (not b ≡ 
 not_or true b h = absurd (cc)
 not_or false b h = (refl, h)
 
-pub put_rises : (x : Space) (ss : List Space) → IsRising (handles ss) → is_unused ss x.handle ≡ true → IsRising (handles (put_space x ss))
+pub put_rises : (x : Space) (ss : List Space) → IsAscending (handles ss) → is_unused ss x.handle ≡ true → IsAscending (handles (put_space x ss))
 put_rises x [] r u = (tt, tt)
 put_rises x (s ∷ ss) r u = either (nat_lt x.handle s.handle) refl (put_rises x ss r.1)
   where
-    either : (b : Bool) → nat_lt x.handle s.handle ≡ b → (is_unused ss x.handle ≡ true → IsRising (handles (put_space x ss)))
-        → IsRising (handles (cond b (x ∷ s ∷ ss) (s ∷ put_space x ss)))
+    either : (b : Bool) → nat_lt x.handle s.handle ≡ b → (is_unused ss x.handle ≡ true → IsAscending (handles (put_space x ss)))
+        → IsAscending (handles (cond b (x ∷ s ∷ ss) (s ∷ put_space x ss)))
     either true e f =
         let l : x.handle < s.handle = lt_from _ _ e in
         ((l, weaker (λ y. s.handle < y) (λ y. x.handle < y) (λ k p. omega arith) (handles ss) r.0), r)

@@ -154,8 +154,8 @@ module _ (ss : List Space) (h : AreSpaces ss) (p : ℕ) where
       descend b.0 b.1 (suc b.0) 0 root (root_there ss h) (holds_by root p (omega arith) (omega (arith, l))) (record { root_at = refl; sooner = λ j m. absurd (omega arith) }) (omega arith)
 
   -- the same, by look-up
-  told : (s : Space) → IsInner ss p s → IsInnermost ss p s
-  told s is = record {
+  revealed : (s : Space) → IsInner ss p s → IsInnermost ss p s
+  revealed s is = record {
     there = look_up (λ t. t.handle) ss h.rise s is.there s.handle refl;
     holds_it = is.holds_it;
     no_child = λ t at child. none t (holds t p) refl (looked_up (λ r. r.handle) ss t.handle t at).0 child;
@@ -175,4 +175,4 @@ module _ (ss : List Space) (h : AreSpaces ss) (p : ℕ) where
 pub innermost_is_one : InnermostIsOne
 innermost_is_one ss page h l =
     let r = inner_there ss h page l in
-    (r.0, found_inner ss h page r.0 r.1, told ss h page r.0 r.1, λ t is. one_inner ss h page t r.0 (untold ss h page t is) r.1)
+    (r.0, found_inner ss h page r.0 r.1, revealed ss h page r.0 r.1, λ t is. one_inner ss h page t r.0 (untold ss h page t is) r.1)

@@ -4,7 +4,7 @@ use Rattle.std.specs.Prelude.{IfSome, IsSomeAnd, IsFalse}
 use Rattle.std.specs.Option.{option_map_or}
 use Rattle.std.proofs.lemmas.Bool.{eq-eqb, ne_eqb}
 use Rattle.std.proofs.lemmas.List.{length-replicate}
-use Rattle.labelled_disk.proofs.RisingLemmas.{at_put}
+use Rattle.labelled_disk.proofs.AscendingLemmas.{at_put}
 use Rattle.flat_machine.specs.declared.call.Call.TheVariants.{MapAnonymous}
 use Rattle.flat_machine.specs.File.{File, size, file_at, put_file, zero_page}
 use Rattle.flat_machine.specs.Space.{Space, Window, space_at}

@@ -6,7 +6,7 @@ use Rattle.std.specs.List.{AllByRecursion}
 use Rattle.std.proofs.lemmas.Bool.{ne_eqb, true≢false, ltb-false}
 use Rattle.std.proofs.lemmas.Bool.{cases_eq}
 use Rattle.std.proofs.lemmas.Option.{same_Some}
-use Rattle.labelled_disk.specs.Rising.{AreRising}
+use Rattle.labelled_disk.specs.Ascending.{AreAscending}
 use Rattle.flat_machine.specs.declared.call.Call.TheVariants.{Delete, SetSize, MakePermanent, MakeImmutable, Kill}
 use Rattle.flat_machine.specs.declared.call.Refusal.TheVariants as why
 use Rattle.flat_machine.specs.File.{File, size, file_at, total_room}
@@ -16,7 +16,7 @@ use Rattle.flat_machine.specs.IsMachine.{IsMachine}
 use Rattle.flat_machine.specs.At.{Spot, spot_at}
 use Rattle.flat_machine.specs.Refusal.{refusal, no_file, file_mapped, is_immutable, cut_while_mapped, no_room_as}
 use Rattle.flat_machine.specs.Next.{next, change_file, without_file, resized, with_byte, store_byte, store_bytes, killed_file}
-use Rattle.flat_machine.proofs.Lists.{In, filter_in, looked_up, look_up, not_any, rising_filter}
+use Rattle.flat_machine.proofs.Lists.{In, filter_in, looked_up, look_up, not_any, ascending_filter}
 use Rattle.flat_machine.proofs.TestLemmas.{one_none, two_none, four_none, then_none, file_there, of_file_none, windows_fail, not_shown, none_anonymous}
 use Rattle.flat_machine.proofs.FileLemmas.{Follows, fewer_files, changed_files, found_changed, same_room, one_id, changed_here, unchanged, room_of_one}
 use Rattle.flat_machine.proofs.Cells.{resized_size, resized_file, byte_size, byte_file, killed_size, killed_is_file}
@@ -28,12 +28,12 @@ follows_self w f = record { size = omega arith; immutable = λ t e. e; permanent
 
 -- delete
 
-pub left_at : (fs : List File) (id j : ℕ) → AreRising fs → j ≢ id → (f : File) → file_at fs j ≡ Some f → file_at (without_file id fs) j ≡ Some f
+pub left_at : (fs : List File) (id j : ℕ) → AreAscending fs → j ≢ id → (f : File) → file_at fs j ≡ Some f → file_at (without_file id fs) j ≡ Some f
 left_at fs id j rise n f is =
     let at = looked_up (λ x. x.id) fs j f is in
     let kept = λ (x : File). not (x.id == id) in
     let stays : eqb f.id id ≡ false = ne_eqb f.id id (λ e. n (sym at.1 ∙ e)) in
-    look_up (λ x. x.id) (without_file id fs) (rising_filter (λ x. x.id) kept fs rise) f (filter_in kept fs f at.0 (ap not stays)) j at.1
+    look_up (λ x. x.id) (without_file id fs) (ascending_filter (λ x. x.id) kept fs rise) f (filter_in kept fs f at.0 (ap not stays)) j at.1
 
 pub delete_keeps : (id : ℕ) (m : Machine) → IsMachine m → IsMachine (next m (Delete id))
 delete_keeps id m h = refused_or m (Delete id) h kept

@@ -3,7 +3,7 @@ use Rattle.std.proofs.Common.{◌≡◌, ◌≢◌, ℕ, ◌+◌, ◌*◌, ◌/�
 use Rattle.std.specs.Prelude.{◌==◌}
 use Rattle.std.proofs.lemmas.Bool.{eqb-false, ne_eqb}
 use Rattle.std.proofs.lemmas.List.{length-replicate}
-use Rattle.labelled_disk.proofs.RisingLemmas.{at_put, rising_put}
+use Rattle.labelled_disk.proofs.AscendingLemmas.{at_put, ascending_put}
 use Rattle.flat_machine.specs.declared.call.Call.TheVariants.{Create}
 use Rattle.flat_machine.specs.declared.call.Refusal.TheVariants as why
 use Rattle.flat_machine.specs.File.{File, file_at, put_file, zero_page}
@@ -57,7 +57,7 @@ module _ (m : Machine) (h : IsMachine m) where
       let last : m.counter ≢ 4294967295 = eqb-false m.counter 4294967295 (then_none (m.counter == 4294967295) why.Ids ids) in
       let there = room_there m (pages + 1) room in
       record {
-        rise = rising_put f m.files h.ids_rise;
+        rise = ascending_put f m.files h.ids_rise;
         given = each_put (λ x. IsFileId m.serial (m.counter + 1) x.id) f m.files
             (record {
               above_reserved = omega (arith, h.serial_fits.0);

@@ -67,7 +67,7 @@ all_marked : (ss : List Space) (pages : List ℕ) (us : List FilePage) → ((p :
 all_marked ss [] us f shown = shown
 all_marked ss (p ∷ ps) us f shown = all_marked ss ps (mark_page ss us p) (λ q i. f q (inr i)) (marked ss us p (f p (inl refl)) shown)
 
--- none of a list, and not the one behind it
+-- none of a list, and not the one after it
 last_not : (v u : FilePage) (ws : List FilePage) → list_any (is_same_page v) ws ≡ false → is_same_page v u ≡ false → list_any (is_same_page v) (ws ++ u ∷ []) ≡ false
 last_not v u [] a b = rw b refl
 last_not v u (w ∷ ws) a b = either (is_same_page v w) a (last_not v u ws)

@@ -98,11 +98,11 @@ reply_plain reply.Done = refl
 reply_plain (reply.File id) = both (codes "file ") (encode_lower (to_be_bytes w64 id)) refl (hex_plain (to_be_bytes w64 id))
 reply_plain reply.Nothing = refl
 reply_plain (reply.Attributes pages kind permanent immutable) =
-    let front : List ℕ = codes "attr " ++ decimal pages ++ codes " " ++ decimal kind in
-    let plain : IsPlain front = with_next (codes "attr " ++ decimal pages) kind (with_number (codes "attr ") pages refl) in
+    let prefix : List ℕ = codes "attr " ++ decimal pages ++ codes " " ++ decimal kind in
+    let plain : IsPlain prefix = with_next (codes "attr " ++ decimal pages) kind (with_number (codes "attr ") pages refl) in
     let life : List ℕ = if permanent then codes " perm" else codes " temp" in
     let change : List ℕ = if immutable then codes " immutable" else codes " mutable" in
-    both (front ++ life) change (both front life plain (either permanent (codes " perm") (codes " temp") refl refl))
+    both (prefix ++ life) change (both prefix life plain (either permanent (codes " perm") (codes " temp") refl refl))
     (either immutable (codes " immutable") (codes " mutable") refl refl)
 reply_plain (reply.Volume capacity free) = with_next (codes "volume " ++ decimal capacity) free (with_number (codes "volume ") capacity refl)
 reply_plain (reply.Space handle first) = with_next (codes "space " ++ decimal handle) first (with_number (codes "space ") handle refl)
@@ -121,7 +121,7 @@ unfolding text
 replies_are_lines r = record {
   line = reply_text r;
   ends = refl;
-  lacks = λ k d l. not_ten _ (AllPass-from_list_all no_feed (reply_text r) (reply_plain r) k d l);
+  misses = λ k d l. not_ten _ (AllPass-from_list_all no_feed (reply_text r) (reply_plain r) k d l);
 }
 
 -- how many line feeds are in the bytes

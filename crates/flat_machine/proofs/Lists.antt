@@ -4,7 +4,7 @@ use Rattle.std.specs.Prelude.{find, ◌==◌}
 use Rattle.std.specs.List.{AllByRecursion, list_any, list_all}
 use Rattle.std.proofs.lemmas.Option.{same_Some, none-some}
 use Rattle.std.proofs.lemmas.Bool.{eqb-true, eq-eqb, true≢false, false≢true, and_parts}
-use Rattle.labelled_disk.specs.Rising.{IsRising}
+use Rattle.labelled_disk.specs.Ascending.{IsAscending}
 
 -- one of the elements
 abbrev pub In : {X : Type 0} → X → List X → Type 0
@@ -105,14 +105,14 @@ module _ {X Y : Type 0} where
   map_in f (y ∷ ys) x (inl e) = inl (ap f e)
   map_in f (y ∷ ys) x (inr i) = inr (map_in f ys x i)
 
--- Elements with keys in rising order.
+-- Elements with keys in ascending order.
 
 module _ {X : Type 0} (key : X → ℕ) where
   above : (xs : List X) (low : ℕ) → AllByRecursion (λ k. low < k) (map key xs) → (x : X) → In x xs → low < key x
   above xs low h x i = all_in (λ k. low < k) (map key xs) h (key x) (map_in key xs x i)
 
   -- two with one key are the same
-  pub one_key : (xs : List X) → IsRising (map key xs) → (x y : X) → In x xs → In y xs → key x ≡ key y → x ≡ y
+  pub one_key : (xs : List X) → IsAscending (map key xs) → (x y : X) → In x xs → In y xs → key x ≡ key y → x ≡ y
   one_key [] r x y i j e = absurd i
   one_key (z ∷ zs) r x y (inl p) (inl q) e = sym p ∙ q
   one_key (z ∷ zs) r x y (inl p) (inr j) e = let l = above zs (key z) r.0 y j in let s : key z ≡ key x = ap key p in absurd (omega arith)
@@ -123,7 +123,7 @@ module _ {X : Type 0} (key : X → ℕ) where
   pub looked_up : (xs : List X) (k : ℕ) (x : X) → find (λ y. key y == k) xs ≡ Some x → In x xs × (key x ≡ k)
   looked_up xs k x e = let r = find_in (λ y. key y == k) xs x e in (r.0, eqb-true (key x) k r.1)
 
-  pub look_up : (xs : List X) → IsRising (map key xs) → (x : X) → In x xs → (k : ℕ) → key x ≡ k → find (λ y. key y == k) xs ≡ Some x
+  pub look_up : (xs : List X) → IsAscending (map key xs) → (x : X) → In x xs → (k : ℕ) → key x ≡ k → find (λ y. key y == k) xs ≡ Some x
   look_up xs r x i k e = either (find (λ y. key y == k) xs) refl
     where
       either : (o : Option X) → find (λ y. key y == k) xs ≡ o → find (λ y. key y == k) xs ≡ Some x
@@ -146,11 +146,11 @@ module _ {X : Type 0} (key : X → ℕ) where
       either true t = (h.0, t)
       either false t = t
 
-  pub rising_filter : (p : X → Bool) (xs : List X) → IsRising (map key xs) → IsRising (map key (filter p xs))
-  rising_filter p [] h = tt
-  rising_filter p (x ∷ xs) h = either (p x) (rising_filter p xs h.1)
+  pub ascending_filter : (p : X → Bool) (xs : List X) → IsAscending (map key xs) → IsAscending (map key (filter p xs))
+  ascending_filter p [] h = tt
+  ascending_filter p (x ∷ xs) h = either (p x) (ascending_filter p xs h.1)
     where
-      either : (b : Bool) → IsRising (map key (filter p xs)) → IsRising (map key (cond b (x ∷ filter p xs) (filter p xs)))
+      either : (b : Bool) → IsAscending (map key (filter p xs)) → IsAscending (map key (cond b (x ∷ filter p xs) (filter p xs)))
       either true t = (above_filter p (key x) xs h.0, t)
       either false t = t
 
@@ -159,5 +159,5 @@ module _ {X : Type 0} (key : X → ℕ) where
   same_keys g k [] = refl
   same_keys g k (x ∷ xs) = λ t. k x t ∷ same_keys g k xs t
 
-  pub rising_map : (g : X → X) → ((x : X) → key (g x) ≡ key x) → (xs : List X) → IsRising (map key xs) → IsRising (map key (map g xs))
-  rising_map g k xs r = subst IsRising (sym (same_keys g k xs)) r
+  pub ascending_map : (g : X → X) → ((x : X) → key (g x) ≡ key x) → (xs : List X) → IsAscending (map key xs) → IsAscending (map key (map g xs))
+  ascending_map g k xs r = subst IsAscending (sym (same_keys g k xs)) r

@@ -6,7 +6,7 @@ use Rattle.std.specs.Option.{option_map_or}
 use Rattle.std.specs.List.{list_all, list_any, AllByRecursion}
 use Rattle.std.proofs.lemmas.Bool.{true≢false}
 use Rattle.std.proofs.lemmas.Option.{same_Some, none-some}
-use Rattle.flat_machine.specs.Machine.{IsRising}
+use Rattle.flat_machine.specs.Machine.{IsAscending}
 use Rattle.flat_machine.specs.Space.{Space, is_child_of, end}
 use Rattle.flat_machine.specs.Refusal.{fits, lowest_gap, least, gap_starts}
 use Rattle.flat_machine.specs.Next.{is_unused, lowest_unused}
@@ -232,7 +232,7 @@ least_is_least ns n e =
 
 -- The lowest handle of a space that passes.
 
-lower_found : (test : Space → Bool) (ss : List Space) (low : Space) → IsRising (map (λ s. s.handle) ss) → find test ss ≡ Some low
+lower_found : (test : Space → Bool) (ss : List Space) (low : Space) → IsAscending (map (λ s. s.handle) ss) → find test ss ≡ Some low
     → (t : Space) → In t ss → test t ≡ true → low.handle ≤ t.handle
 lower_found test [] low rise e t i passes = absurd i
 lower_found test (s ∷ ss) low rise e t i passes = either (test s) refl e i (λ f j. lower_found test ss low rise.1 f t j passes)

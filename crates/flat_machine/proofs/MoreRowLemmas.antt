@@ -75,9 +75,9 @@ blocks_of_the_space = (refl, refl, refl)
 agrees : AgreeingFiles
 agrees = record {
   same_byte = (record { same_id = refl; same_kind = refl; same_immutable = refl; pages_agree = ((refl, tt), tt) }, tt);
-  any_behind = (record { same_id = refl; same_kind = refl; same_immutable = refl; pages_agree = ((tt, tt), tt) }, tt);
+  any_after = (record { same_id = refl; same_kind = refl; same_immutable = refl; pages_agree = ((tt, tt), tt) }, tt);
   other_byte = λ a. let e : 65 ≡ 66 = same_Some 65 66 a.0.pages_agree.0.0 in absurd (omega arith);
-  byte_behind = λ a. none-some 65 a.0.pages_agree.0.0;
+  byte_after = λ a. none-some 65 a.0.pages_agree.0.0;
   no_file = λ a. a;
 }
 

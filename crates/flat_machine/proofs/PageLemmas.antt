@@ -7,7 +7,7 @@ use Rattle.std.specs.Bool.{then_some}
 use Rattle.std.proofs.lemmas.Bool.{eqb-true, eqb-false, ltb-true, ltb-false}
 use Rattle.std.proofs.lemmas.Bool.Decides.{nat_tests}
 use Rattle.labelled_disk.proofs.Finds.{get_set_other}
-use Rattle.labelled_disk.proofs.RisingLemmas.{at_put}
+use Rattle.labelled_disk.proofs.AscendingLemmas.{at_put}
 use Rattle.flat_machine.specs.declared.call.Call.TheVariants.{Create, Delete, SetSize, Kill, Store}
 use Rattle.flat_machine.specs.declared.call.Refusal.{Refusal}
 use Rattle.flat_machine.specs.declared.call.Refusal.TheVariants as why

@@ -4,15 +4,15 @@ use Rattle.std.specs.Prelude.{slice_get, replicate, option_map, option_and_then,
 use Rattle.std.specs.Bool.{then_some}
 use Rattle.std.specs.List.{AllByRecursion, AllZip, enumerate_from}
 use Rattle.std.proofs.lemmas.Bool.{true≢false, false≢true, eq-eqb}
-use Rattle.labelled_disk.proofs.RisingLemmas.{zip_by_look_up}
-use Rattle.labelled_disk.specs.Rising.{AreRising}
+use Rattle.labelled_disk.proofs.AscendingLemmas.{zip_by_look_up}
+use Rattle.labelled_disk.specs.Ascending.{AreAscending}
 use Rattle.flat_machine.specs.File.{File, Page, Cell, any_page, file_at}
 use Rattle.flat_machine.specs.Space.{FilePage}
 use Rattle.flat_machine.specs.Machine.{IsFile}
 use Rattle.flat_machine.specs.Settled.{settled_file, is_unforced, FileAgrees, PageAgrees, CellAgrees, FileStandsFor}
-use Rattle.flat_machine.specs.Laws.{StandingFilesAgree}
+use Rattle.flat_machine.specs.Laws.{SectorStateFilesAgree}
 use Rattle.flat_machine.specs.SettledLaws.{SettledByIdentifier, SettledByPage}
-use Rattle.flat_machine.proofs.Lists.{in_filter, filter_in, not_found, looked_up, look_up, look_up_none, one_key, rising_filter}
+use Rattle.flat_machine.proofs.Lists.{in_filter, filter_in, not_found, looked_up, look_up, look_up_none, one_key, ascending_filter}
 use Rattle.flat_machine.proofs.FileLemmas.{look_up_changed}
 use Rattle.flat_machine.proofs.PageLemmas.{any_at}
 
@@ -68,13 +68,13 @@ permanent_agree unforced (f ∷ fs) (g ∷ gs) whole all = either f.permanent g.
     either false true e more = absurd (false≢true e)
     either false false e more = more
 
-pub standing_files_agree : StandingFilesAgree
-standing_files_agree fs m rise whole is both =
+pub sector_state_files_agree : SectorStateFilesAgree
+sector_state_files_agree fs m rise whole is both =
     permanent_agree m.unforced fs m.files whole (zip_by_look_up (FileStandsFor m.unforced) (λ f g a. a.same_id) fs m.files rise is.ids_rise both)
 
 -- The settled files by identifier and by page.
 
-permanent_at : (fs : List File) (id : ℕ) → AreRising fs → file_at (filter (λ f. f.permanent) fs) id ≡ option_and_then (λ f. then_some f.permanent f) (file_at fs id)
+permanent_at : (fs : List File) (id : ℕ) → AreAscending fs → file_at (filter (λ f. f.permanent) fs) id ≡ option_and_then (λ f. then_some f.permanent f) (file_at fs id)
 permanent_at fs id rise = either (file_at fs id) refl
   where
     none : file_at fs id ≡ None → file_at (filter (λ f. f.permanent) fs) id ≡ None
@@ -84,7 +84,7 @@ permanent_at fs id rise = either (file_at fs id) refl
     some : (f : File) → file_at fs id ≡ Some f → (b : Bool) → f.permanent ≡ b → file_at (filter (λ f. f.permanent) fs) id ≡ then_some b f
     some f e true p =
         let at = looked_up (λ g. g.id) fs id f e in
-        look_up (λ g. g.id) (filter (λ g. g.permanent) fs) (rising_filter (λ g. g.id) (λ g. g.permanent) fs rise) f (filter_in (λ g. g.permanent) fs f at.0 p) id at.1
+        look_up (λ g. g.id) (filter (λ g. g.permanent) fs) (ascending_filter (λ g. g.id) (λ g. g.permanent) fs rise) f (filter_in (λ g. g.permanent) fs f at.0 p) id at.1
     some f e false p =
         let at = looked_up (λ g. g.id) fs id f e in
         look_up_none (λ g. g.id) (filter (λ g. g.permanent) fs) id

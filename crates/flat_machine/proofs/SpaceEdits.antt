@@ -5,9 +5,9 @@ use Rattle.std.specs.Option.{option_map_or}
 use Rattle.std.specs.List.{list_any}
 use Rattle.std.proofs.lemmas.Bool.{eqb-true, eqb-false, eq-eqb, ne_eqb, true≢false, not-true, and_parts}
 use Rattle.flat_machine.specs.Space.{Space, Window, root, end, overlap, is_child_of, is_mapped, has_window}
-use Rattle.flat_machine.specs.Machine.{IsRising, IsSpace, ancestor, are_siblings, shares_anonymous}
+use Rattle.flat_machine.specs.Machine.{IsAscending, IsSpace, ancestor, are_siblings, shares_anonymous}
 use Rattle.flat_machine.specs.Next.{is_unused, put_space, without_space}
-use Rattle.flat_machine.proofs.Lists.{In, all_in, in_all, in_filter, filter_in, not_any, one_key, looked_up, look_up, rising_filter}
+use Rattle.flat_machine.proofs.Lists.{In, all_in, in_all, in_filter, filter_in, not_any, one_key, looked_up, look_up, ascending_filter}
 use Rattle.flat_machine.proofs.HandleLemmas.{put_rises}
 use Rattle.flat_machine.specs.Spaces.{AreAlone}
 use Rattle.flat_machine.proofs.SpaceLemmas.{AreSpaces, IsIn, IsHandle, two_at, two_by, parent_at, parent_by, parent_of, parent_is, same_ancestors}
@@ -105,7 +105,7 @@ pub record MayBeMade (ss : List Space) (x p : Space) : Type 0 where
 pub made_spaces : (ss : List Space) (x p : Space) → MayBeMade ss x p → AreSpaces ss → AreSpaces (put_space x ss)
 made_spaces ss x p may h =
     let new = put_space x ss in
-    let rise : IsRising (map (λ s. s.handle) new) = put_rises x ss h.rise may.unused in
+    let rise : IsAscending (map (λ s. s.handle) new) = put_rises x ss h.rise may.unused in
     record {
       has_root = let r = looked_up (λ s. s.handle) ss 0 root h.has_root in look_up (λ s. s.handle) new rise root (put_in x ss root r.0) 0 refl;
       rise = rise;
@@ -131,23 +131,23 @@ made_spaces ss x p may h =
     path_of y z (inr i) (inr j) n t = two_at _ ss h.path y z i j n t
 
     -- an old handle has the same parent, an old one
-    step : IsRising (map (λ s. s.handle) (put_space x ss)) → (k : ℕ) → IsHandle ss k → (parent_of (put_space x ss) k ≡ parent_of ss k) × IsHandle ss (parent_of ss k)
+    step : IsAscending (map (λ s. s.handle) (put_space x ss)) → (k : ℕ) → IsHandle ss k → (parent_of (put_space x ss) k ≡ parent_of ss k) × IsHandle ss (parent_of ss k)
     step rise k at =
         let old = parent_is ss h.rise at.0 at.1 k at.2 in
         let up = parent_at ss at.0 (all_in (IsSpace ss) ss h.whole at.0 at.1) in
         (parent_is (put_space x ss) rise at.0 (put_in x ss at.0 at.1) k at.2 ∙ sym old, (up.0, up.1.there, up.1.parent ∙ sym old))
 
-    leads : IsRising (map (λ s. s.handle) (put_space x ss)) → (s : Space) → In s ss → (n : ℕ) × (ancestor (put_space x ss) n s.handle ≡ 0)
+    leads : IsAscending (map (λ s. s.handle) (put_space x ss)) → (s : Space) → In s ss → (n : ℕ) × (ancestor (put_space x ss) n s.handle ≡ 0)
     leads rise s i =
         let old = (all_in (IsSpace ss) ss h.whole s i).leads_to_root in
         (old.0, same_ancestors ss (put_space x ss) (IsHandle ss) (step rise) old.0 s.handle (s, i, refl) ∙ old.1)
 
-    higher : IsRising (map (λ s. s.handle) (put_space x ss)) → (n : ℕ) → ancestor (put_space x ss) n p.handle ≡ 0 → ancestor (put_space x ss) (suc n) x.handle ≡ 0
+    higher : IsAscending (map (λ s. s.handle) (put_space x ss)) → (n : ℕ) → ancestor (put_space x ss) n p.handle ≡ 0 → ancestor (put_space x ss) (suc n) x.handle ≡ 0
     higher rise n e =
         ap (λ (o : Option Space). ancestor (put_space x ss) n (option_map_or (λ s. s.parent) o 0)) (look_up (λ s. s.handle) (put_space x ss) rise x (put_there x ss) x.handle refl)
         ∙ ap (λ (k : ℕ). ancestor (put_space x ss) n k) (sym may.inside.parent) ∙ e
 
-    whole_of : (y : Space) → (x ≡ y) ⊎ In y ss → IsRising (map (λ s. s.handle) (put_space x ss)) → IsSpace (put_space x ss) y
+    whole_of : (y : Space) → (x ≡ y) ⊎ In y ss → IsAscending (map (λ s. s.handle) (put_space x ss)) → IsSpace (put_space x ss) y
     whole_of y (inl e) rise =
         let up = leads rise p may.inside.there in
         subst (IsSpace (put_space x ss)) e (record {
@@ -173,7 +173,7 @@ pub removed_spaces : (ss : List Space) (k : ℕ) → k ≢ 0 → ((s : Space) �
 removed_spaces ss k n none h =
     let new = without_space k ss in
     let kept = λ (s : Space). not (s.handle == k) in
-    let rise : IsRising (map (λ s. s.handle) new) = rising_filter (λ s. s.handle) kept ss h.rise in
+    let rise : IsAscending (map (λ s. s.handle) new) = ascending_filter (λ s. s.handle) kept ss h.rise in
     let back = λ (s : Space) (i : In s new). (in_filter kept ss s i).0 in
     record {
       has_root = let r = looked_up (λ s. s.handle) ss 0 root h.has_root in look_up (λ s. s.handle) new rise root (stays root r.0 (λ e. n (sym e))) 0 refl;
@@ -202,7 +202,7 @@ removed_spaces ss k n none h =
         let p = parent_at ss s (all_in (IsSpace ss) ss h.whole s i) in
         (p.0, record { there = stays p.0 p.1.there (λ e. other_parent s i (sym p.1.parent ∙ e)); parent = p.1.parent; first = p.1.first; last = p.1.last })
 
-    step : IsRising (map (λ s. s.handle) (without_space k ss)) → (j : ℕ) → IsHandle (without_space k ss) j
+    step : IsAscending (map (λ s. s.handle) (without_space k ss)) → (j : ℕ) → IsHandle (without_space k ss) j
         → (parent_of (without_space k ss) j ≡ parent_of ss j) × IsHandle (without_space k ss) (parent_of ss j)
     step rise j at =
         let there = (in_filter (λ s. not (s.handle == k)) ss at.0 at.1).0 in
@@ -210,7 +210,7 @@ removed_spaces ss k n none h =
         let up = parent_stays at.0 there in
         (parent_is (without_space k ss) rise at.0 at.1 j at.2 ∙ sym old, (up.0, up.1.there, up.1.parent ∙ sym old))
 
-    whole_of : (y : Space) → In y (without_space k ss) → IsRising (map (λ s. s.handle) (without_space k ss)) → IsSpace (without_space k ss) y
+    whole_of : (y : Space) → In y (without_space k ss) → IsAscending (map (λ s. s.handle) (without_space k ss)) → IsSpace (without_space k ss) y
     whole_of y i rise =
         let there = (in_filter (λ s. not (s.handle == k)) ss y i).0 in
         let old = all_in (IsSpace ss) ss h.whole y there in

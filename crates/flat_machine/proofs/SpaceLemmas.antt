@@ -4,10 +4,10 @@ use Rattle.std.specs.Prelude.{IsSomeAnd, IsTrue, IsFalse, is_some, ◌==◌}
 use Rattle.std.specs.Option.{option_map_or}
 use Rattle.std.specs.List.{AllByRecursion}
 use Rattle.flat_machine.specs.Space.{Space, Window, root, end, overlap, space_at, is_mapped}
-use Rattle.flat_machine.specs.Machine.{IsRising, IsSpace, EachTwo, ancestor, are_siblings, shares_anonymous}
+use Rattle.flat_machine.specs.Machine.{IsAscending, IsSpace, EachTwo, ancestor, are_siblings, shares_anonymous}
 pub use Rattle.flat_machine.specs.Spaces.{AreSpaces}
 use Rattle.flat_machine.specs.Spaces.{AreAlone}
-use Rattle.flat_machine.proofs.Lists.{In, all_in, in_all, in_map, map_in, looked_up, look_up, rising_map}
+use Rattle.flat_machine.proofs.Lists.{In, all_in, in_all, in_map, map_in, looked_up, look_up, ascending_map}
 
 -- of every two different ones
 pub two_at : (R : Space → Space → Type 0) (ss : List Space) → EachTwo R ss → (s t : Space) → In s ss → In t ss → s.handle ≢ t.handle → R s t
@@ -33,7 +33,7 @@ parent_at ss s h = either (space_at ss s.parent) refl
         let inside = subst (λ (o : Option Space). IsSomeAnd o (λ p. (p.first ≤ s.first) × (end s ≤ end p))) e h.inside_parent in
         (p, record { there = at.0; parent = at.1; first = inside.0; last = inside.1 })
 
-pub parent_by : (ss : List Space) → IsRising (map (λ s. s.handle) ss) → (s p : Space) → IsIn ss s p
+pub parent_by : (ss : List Space) → IsAscending (map (λ s. s.handle) ss) → (s p : Space) → IsIn ss s p
     → IsSomeAnd (space_at ss s.parent) (λ p. (p.first ≤ s.first) × (end s ≤ end p))
 parent_by ss rise s p h =
     subst (λ (o : Option Space). IsSomeAnd o (λ p. (p.first ≤ s.first) × (end s ≤ end p))) (sym (look_up (λ t. t.handle) ss rise p h.there s.parent h.parent)) (h.first, h.last)
@@ -43,7 +43,7 @@ parent_by ss rise s p h =
 pub parent_of : List Space → ℕ → ℕ
 parent_of ss handle = option_map_or (λ s. s.parent) (space_at ss handle) 0
 
-pub parent_is : (ss : List Space) → IsRising (map (λ s. s.handle) ss) → (s : Space) → In s ss → (h : ℕ) → s.handle ≡ h → parent_of ss h ≡ s.parent
+pub parent_is : (ss : List Space) → IsAscending (map (λ s. s.handle) ss) → (s : Space) → In s ss → (h : ℕ) → s.handle ≡ h → parent_of ss h ≡ s.parent
 unfolding parent_of
 parent_is ss rise s i h e = ap (λ (o : Option Space). option_map_or (λ t. t.parent) o 0) (look_up (λ t. t.handle) ss rise s i h e)
 
@@ -83,7 +83,7 @@ module _ (u : Space → ℕ) (w : Space → Option Window) where
       → AreSpaces ss → AreSpaces (map (fitted u w) ss)
   fitted_spaces ss keeps_root units path h =
       let new = map (fitted u w) ss in
-      let rise : IsRising (map (λ s. s.handle) new) = rising_map (λ s. s.handle) (fitted u w) (λ s. refl) ss h.rise in
+      let rise : IsAscending (map (λ s. s.handle) new) = ascending_map (λ s. s.handle) (fitted u w) (λ s. refl) ss h.rise in
       let back = in_map (fitted u w) ss in
       record {
         has_root = let r = looked_up (λ s. s.handle) ss 0 root h.has_root in
@@ -103,7 +103,7 @@ module _ (u : Space → ℕ) (w : Space → Option Window) where
       differ : (a b x y : Space) → fitted u w a ≡ x → fitted u w b ≡ y → x.handle ≢ y.handle → a.handle ≢ b.handle
       differ a b x y p q n e = n (sym (ap (λ (s : Space). s.handle) p) ∙ e ∙ ap (λ (s : Space). s.handle) q)
 
-      is_space : (s : Space) → In s ss → IsRising (map (λ t. t.handle) (map (fitted u w) ss)) → IsSpace (map (fitted u w) ss) (fitted u w s)
+      is_space : (s : Space) → In s ss → IsAscending (map (λ t. t.handle) (map (fitted u w) ss)) → IsSpace (map (fitted u w) ss) (fitted u w s)
       is_space s i rise =
           let old = all_in (IsSpace ss) ss h.whole s i in
           let p = parent_at ss s old in

@@ -15,7 +15,7 @@ unit_holds_its_page s i page low some from to =
       lies_in_span = omega (arith, from, to, b.0, b.1);
       ends_in_span = omega (arith, from, to, b.0, b.1);
       begins_before = omega (arith, from, b.0);
-      ends_behind = omega (arith, from, to, b.0, b.1);
+      ends_after = omega (arith, from, to, b.0, b.1);
       short = omega (arith, from, to, b.0, b.1);
     }
 
@@ -32,7 +32,7 @@ reference_touches address count some few = either (address / 512 == (address + c
         let same = eqb-true (address / 512) ((address + count - 1) / 512) e in
         record {
           two_at_most = omega arith;
-          rising = (tt, tt);
+          ascending = (tt, tt);
           no_other = ((0, some, omega arith), tt);
           each = λ k l. inl (omega (arith, same, l));
         }
@@ -40,7 +40,7 @@ reference_touches address count some few = either (address / 512 == (address + c
         let other = eqb-false (address / 512) ((address + count - 1) / 512) e in
         record {
           two_at_most = omega arith;
-          rising = ((omega (arith, other, some), tt), (tt, tt));
+          ascending = ((omega (arith, other, some), tt), (tt, tt));
           no_other = ((0, some, omega arith), ((count - 1, omega (arith, some), omega (arith, some)), tt));
           each = λ k l. cases_of k l (cases_lt ((address + k) / 512) ((address + count - 1) / 512));
         }

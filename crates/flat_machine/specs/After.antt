@@ -14,7 +14,7 @@ use Rattle.flat_machine.specs.Allows.{Allows}
 abbrev pub TraceLine : Type 0
 TraceLine = Option Call
 
--- no line is read behind the call
+-- no line is read after the call
 abbrev pub ends_trace : Call → Bool
 ends_trace call.Close = true
 ends_trace call.Halt = true

@@ -9,10 +9,10 @@ use Rattle.flat_machine.specs.declared.call.Reply.{Reply}
 use Rattle.flat_machine.specs.declared.call.Refusal.{Refusal}
 use Rattle.flat_machine.specs.Text.{text}
 use Rattle.flat_machine.specs.Form.{IsTyped}
-use Rattle.labelled_disk.specs.Rising.{AreRising, BothBy}
+use Rattle.labelled_disk.specs.Ascending.{AreAscending, BothBy}
 use Rattle.flat_machine.specs.File.{File, size, file_at}
 use Rattle.flat_machine.specs.Space.{Space, FilePage, overlap, root_pages, space_at}
-use Rattle.flat_machine.specs.Machine.{Machine, IsFile, IsRising, ancestor}
+use Rattle.flat_machine.specs.Machine.{Machine, IsFile, IsAscending, ancestor}
 use Rattle.flat_machine.specs.IsMachine.{IsMachine}
 use Rattle.flat_machine.specs.At.{shown_at, pages_of}
 use Rattle.flat_machine.specs.Refusal.{refusal, fits, lowest_gap}
@@ -82,7 +82,7 @@ pub record IsUnitOf (space : Space) (i : Span) (page : ℕ) : Type 0 where
   pub lies_in_span : i.first ≤ (unit space i page).0
   pub ends_in_span : (unit space i page).0 + (unit space i page).1 ≤ end_of i
   pub begins_before : (unit space i page).0 ≤ page
-  pub ends_behind : page < (unit space i page).0 + (unit space i page).1
+  pub ends_after : page < (unit space i page).0 + (unit space i page).1
   pub short : (unit space i page).1 ≤ space.unit
 
 -- it is so for each page of a span that lies in the space
@@ -115,7 +115,7 @@ IsOneOf (p ∷ ps) page = (p ≡ page) ⊎ IsOneOf ps page
 -- these are the pages of so many addresses in a row: two at most
 pub record IsTouched (address count : ℕ) (pages : List ℕ) : Type 0 where
   pub two_at_most : length pages ≤ 2
-  pub rising : IsRising pages
+  pub ascending : IsAscending pages
   pub no_other : AllByRecursion (λ page. (k : ℕ) × (k < count) × ((address + k) / 512 ≡ page)) pages
   pub each : (k : ℕ) → k < count → IsOneOf pages ((address + k) / 512)
 
@@ -137,15 +137,15 @@ AfterIsMachine = (m : Machine) (lines : List TraceLine) (k : ℕ) → AllByRecur
     → IsMachine m → IsMachine (after m lines k)
 
 -- where each file stands for the machine's of its identifier, the permanent ones agree with the settled machine
-abbrev pub StandingFilesAgree : Type 0
-StandingFilesAgree = (fs : List File) (m : Machine) → AreRising fs → AllByRecursion IsFile fs → IsMachine m
+abbrev pub SectorStateFilesAgree : Type 0
+SectorStateFilesAgree = (fs : List File) (m : Machine) → AreAscending fs → AllByRecursion IsFile fs → IsMachine m
     → ((id : ℕ) → BothBy (FileStandsFor m.unforced) (file_at fs id) (file_at m.files id)) → Agrees (filter (λ f. f.permanent) fs) (settled m)
 
 -- the bytes are one line: a line feed ends them, and none stands before it
 pub record IsOneLine (bytes : List ℕ) : Type 0 where
   pub line : List ℕ
   pub ends : bytes ≡ line ++ 10 ∷ []
-  pub lacks : All (λ b. b ≢ 10) line
+  pub misses : All (λ b. b ≢ 10) line
 
 -- the text of every reply is one line
 abbrev pub RepliesAreLines : Type 0

@@ -2,11 +2,11 @@
 use Rattle.std.specs.Prelude.{ℕ, zero, suc, Bool, ◌&&◌, ◌≡◌, ◌≢◌, ◌+◌, ◌/◌, ◌%◌, ◌^◌, ◌<◌, ◌≤◌, ◌==◌, if◌then◌else◌, List, Option, None, length, IsTrue, IsFalse, IfSome, IsSomeAnd}
 use Rattle.std.specs.List.{list_any, AllByRecursion}
 use Rattle.std.specs.Option.{option_map_or}
-pub use Rattle.labelled_disk.specs.Rising.{IsRising, AreRising}
+pub use Rattle.labelled_disk.specs.Ascending.{IsAscending, AreAscending}
 use Rattle.flat_machine.specs.File.{File, Cell, size, file_at, total_room}
 use Rattle.flat_machine.specs.Space.{Space, Window, FilePage, end, space_at, is_child_of, is_writable, has_window, shows}
 
--- Files in rising identifiers; spaces in rising handles, the root first; the numbers that new identifiers are made of;
+-- Files in ascending identifiers; spaces in ascending handles, the root first; the numbers that new identifiers are made of;
 -- how many sectors files may have; and the pages that were stored to and not forced since.
 pub record Machine : Type 0 where
   pub files : List File

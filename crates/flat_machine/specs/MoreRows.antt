@@ -16,7 +16,7 @@ use Rattle.flat_machine.specs.Rows.{Gives, volume_124, f1, f2, filled, cells_aft
 abbrev pub machine_after : List Call → Machine
 machine_after calls = fold next volume_124 calls
 
--- the marks of a file, as a client is told them
+-- the marks of a file, as a client is revealed them
 unfoldable pub Marks : Type 0
 Marks = Gives volume_124 (
     (Create 1 9, reply.File f1) ∷
@@ -53,7 +53,7 @@ LastSector = Gives (opened 7 1 5) (
     (Create 0 0, reply.File f2) ∷
     (Volume, reply.Volume 5 0) ∷ [])
 
--- where several refusals hold, the first is told
+-- where several refusals hold, the first is revealed
 unfoldable pub Orders : Type 0
 Orders = Gives volume_124 (
     (Create 1 0, reply.File f1) ∷
@@ -194,12 +194,12 @@ BlocksOfTheSpace = (unit space_3 span_3 4 ≡ (3, 2)) × (unit space_3 span_3 5 
 abbrev pub one_cell : Cell → List File
 one_cell cell = (record { id = f1; kind = 0; permanent = true; immutable = false; pages = (cell ∷ []) ∷ [] }) ∷ []
 
--- which files agree: the same byte, or any behind a byte; not another byte, a byte behind any, or no file
+-- which files agree: the same byte, or any after a byte; not another byte, a byte after any, or no file
 pub record AgreeingFiles : Type 0 where
   pub same_byte : Agrees (one_cell (byte 65)) (one_cell (byte 65))
-  pub any_behind : Agrees (one_cell (byte 65)) (one_cell any)
+  pub any_after : Agrees (one_cell (byte 65)) (one_cell any)
   pub other_byte : ¬ Agrees (one_cell (byte 65)) (one_cell (byte 66))
-  pub byte_behind : ¬ Agrees (one_cell any) (one_cell (byte 65))
+  pub byte_after : ¬ Agrees (one_cell any) (one_cell (byte 65))
   pub no_file : ¬ Agrees [] (one_cell any)
 
 pub record MoreRows : Type 0 where

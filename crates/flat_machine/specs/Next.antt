@@ -38,7 +38,7 @@ resized pages f = record f { pages = take pages f.pages ++ replicate (pages - si
 
 -- Changes of the spaces.
 
--- into rising handles
+-- into ascending handles
 abbrev pub put_space : Space → List Space → List Space
 put_space space [] = space ∷ []
 put_space space (s ∷ ss) = if nat_lt space.handle s.handle then space ∷ s ∷ ss else s ∷ put_space space ss

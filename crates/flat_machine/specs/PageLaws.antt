@@ -23,7 +23,7 @@ abbrev pub DeletedPages : Type 0
 DeletedPages = (m : Machine) (gone id page : ℕ) → refusal m (Delete gone) ≡ None
     → page_of (next m (Delete gone)).files id page ≡ (if id == gone then None else page_of m.files id page)
 
--- a file of another size keeps its pages below it, and has zero pages behind them; each page of another file stays
+-- a file of another size keeps its pages below it, and has zero pages after them; each page of another file stays
 abbrev pub SizedPages : Type 0
 SizedPages = (m : Machine) (sized pages id page : ℕ) → refusal m (SetSize sized pages) ≡ None
     → page_of (next m (SetSize sized pages)).files id page

@@ -20,11 +20,11 @@ pub record Span : Type 0 where
   pub pages : ℕ
   pub view : View
 
--- the first page behind a span
+-- the first page after a span
 abbrev pub end_of : Span → ℕ
 end_of i = i.first + i.pages
 
--- the span begins at the page, each of its pages has its view, and the page behind it, if it is one of the root, has another
+-- the span begins at the page, each of its pages has its view, and the page after it, if it is one of the root, has another
 pub record IsMaximalFrom (spaces : List Space) (page : ℕ) (i : Span) : Type 0 where
   pub begins : i.first ≡ page
   pub not_empty : 1 ≤ i.pages
@@ -49,7 +49,7 @@ block_start space page = space.first + space.unit * ((page - space.first) / spac
 abbrev pub unit_first : Space → Span → ℕ → ℕ
 unit_first space i page = max i.first (block_start space page)
 
--- the first page behind the block, cut to the span
+-- the first page after the block, cut to the span
 abbrev pub unit_end : Space → Span → ℕ → ℕ
 unit_end space i page = min (end_of i) (block_start space page + space.unit)
 

@@ -101,7 +101,7 @@ abbrev pub least : List ℕ → Option ℕ
 least [] = None
 least (n ∷ ns) = Some (option_map_or (λ k. if nat_lt k n then k else n) (least ns) n)
 
--- where a gap may begin: with the parent, or behind a child
+-- where a gap may begin: with the parent, or after a child
 abbrev pub gap_starts : List Space → Space → List ℕ
 gap_starts spaces parent = parent.first ∷ map end (filter (is_child_of parent.handle) spaces)
 

@@ -267,7 +267,7 @@ cells_after calls address count = cells_at (fold next volume_124 calls) address 
 abbrev pub one_page : List Call
 one_page = Create 1 0 ∷ MakeSpace 0 1 None ∷ Map 1 f1 0 true ∷ []
 
--- which cells are any after a kill, and after a store behind it
+-- which cells are any after a kill, and after a store after it
 unfoldable pub KilledCells : Type 0
 KilledCells =
     (cells_after (one_page ++ Store 0 (65 ∷ 66 ∷ []) ∷ Kill 1 ∷ []) 0 2 ≡ any ∷ any ∷ [])

@@ -17,7 +17,7 @@ root_pages = 8126464
 abbrev pub root : Space
 root = record { handle = 0; parent = 0; first = 0; pages = root_pages; unit = 16; window = None }
 
--- the first page behind a space
+-- the first page after a space
 abbrev pub end : Space → ℕ
 end space = space.first + space.pages
 

@@ -2,7 +2,7 @@
 use Rattle.std.specs.Prelude.{◌≡◌, ℕ, ◌<◌, ◌≤◌, Bool, List, map, Some, IsTrue, IsFalse}
 use Rattle.std.specs.List.{AllByRecursion}
 use Rattle.flat_machine.specs.Space.{Space, root_pages, holds, is_child_of, space_at, innermost}
-use Rattle.flat_machine.specs.Machine.{IsRising}
+use Rattle.flat_machine.specs.Machine.{IsAscending}
 use Rattle.flat_machine.specs.Spaces.{AreSpaces}
 use Rattle.flat_machine.specs.Refusal.{least, lowest_handle}
 use Rattle.flat_machine.specs.Laws.{IsOneOf}
@@ -29,7 +29,7 @@ pub record IsLowest (test : Space → Bool) (ss : List Space) (handle : ℕ) : T
   pub passes : IsTrue (test space)
   pub lowest : (t : Space) → space_at ss t.handle ≡ Some t → IsTrue (test t) → handle ≤ t.handle
 
--- of spaces in rising handles the lowest handle is the lowest
+-- of spaces in ascending handles the lowest handle is the lowest
 abbrev pub LowestHandleIsLowest : Type 0
-LowestHandleIsLowest = (test : Space → Bool) (ss : List Space) (handle : ℕ) → IsRising (map (λ s. s.handle) ss) → lowest_handle test ss ≡ Some handle
+LowestHandleIsLowest = (test : Space → Bool) (ss : List Space) (handle : ℕ) → IsAscending (map (λ s. s.handle) ss) → lowest_handle test ss ≡ Some handle
     → IsLowest test ss handle

@@ -12,12 +12,12 @@ use Rattle.flat_machine.specs.Refusal.{refusal}
 use Rattle.flat_machine.specs.Next.{next}
 use Rattle.flat_machine.specs.Allows.{Allows}
 
--- behind a store that is not refused, its addresses show its bytes
+-- after a store that is not refused, its addresses show its bytes
 abbrev pub StoredIsShown : Type 0
 StoredIsShown = (m : Machine) (address : ℕ) (bytes : List ℕ) → IsMachine m → IsTyped (Store address bytes) → IsInForm (Store address bytes)
     → refusal m (Store address bytes) ≡ None → cells_at (next m (Store address bytes)) address (length bytes) ≡ map byte bytes
 
--- a load of these addresses behind it replies them, and nothing else is allowed
+-- a load of these addresses after it replies them, and nothing else is allowed
 abbrev pub StoredIsLoaded : Type 0
 StoredIsLoaded = (m : Machine) (address : ℕ) (bytes : List ℕ) (r : Reply) → IsMachine m → IsTyped (Store address bytes) → IsInForm (Store address bytes)
     → refusal m (Store address bytes) ≡ None → Allows (next m (Store address bytes)) (Load address (length bytes)) r → r ≡ reply.Bytes bytes

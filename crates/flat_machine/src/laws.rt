@@ -6,7 +6,7 @@ ghost use Rattle.flat_machine.specs.Rows.{WorkedRows};
 ghost use Rattle.flat_machine.specs.MoreRows.{MoreRows};
 ghost use Rattle.flat_machine.specs.Laws.{OpenedIsMachine, StartAgrees, ProjectionIsUnique, LowestGapIsLeast, LowestUnusedIsLeast};
 ghost use Rattle.flat_machine.specs.Laws.{NextKeepsMachine, AfterIsMachine, StartIsMachine, UnitHoldsItsPage, ProjectionCovers};
-ghost use Rattle.flat_machine.specs.Laws.{ProjectionExists, SharingIsOnePath, ReferenceTouches, ShownIsThere, ForcedIsSettled, StandingFilesAgree};
+ghost use Rattle.flat_machine.specs.Laws.{ProjectionExists, SharingIsOnePath, ReferenceTouches, ShownIsThere, ForcedIsSettled, SectorStateFilesAgree};
 ghost use Rattle.flat_machine.specs.Laws.{RepliesAreLines, TranscriptsCount};
 ghost use Rattle.flat_machine.specs.SpaceLaws.{InnermostIsOne, LeastIsLeast, LowestHandleIsLowest};
 ghost use Rattle.flat_machine.specs.SettledLaws.{SettledByIdentifier, SettledByPage};
@@ -86,7 +86,7 @@ pub fn pages_change()
     ensures cells { StoredCells }
 {}
 
-/// What is stored is what a load behind it replies.
+/// What is stored is what a load after it replies.
 pub fn stored_is_loaded()
     ensures shown { StoredIsShown }
     ensures loaded { StoredIsLoaded }
@@ -128,7 +128,7 @@ pub fn shown_is_there()
 /// the machine's agree with the settled ones. A settled file is one of the machine's, page by page.
 pub fn settled_files()
     ensures forced { ForcedIsSettled }
-    ensures standing { StandingFilesAgree }
+    ensures sector_state { SectorStateFilesAgree }
     ensures file { SettledByIdentifier }
     ensures page { SettledByPage }
 {}

@@ -28,7 +28,7 @@ pub struct Space {
 }
 
 impl Space {
-    /// The first page behind the space.
+    /// The first page after the space.
     pub fn end(&self) -> u64
         ensures { result ≡ end self.now }
     {

@@ -1,4 +1,4 @@
--- Lists of entries in rising order of their keys. The key of an entry is its first k bytes.
+-- Lists of entries in ascending order of their keys. The key of an entry is its first k bytes.
 use Rattle.std.specs.Prelude.{◌≡◌, ℕ, ◌≤◌, ◌<◌, Bool, true, false, List, [], length, take, get_or, Option, Some, None}
 use Rattle.std.specs.Ordering.{nat_cmp, is_le}
 use Rattle.std.specs.Cmp.Lexicographic.{slice_cmp}
@@ -34,7 +34,7 @@ abbrev pub IsFound : ℕ → List (List ℕ) → List ℕ → Option ℕ → Typ
 IsFound k xs key (Some i) = IsLastAtMost k xs key i
 IsFound k xs key None = NoneAtMost k xs key
 
--- an entry with this key goes to this index, directly behind the last whose key is at most its own
-pub record IsBehind (k : ℕ) (xs : List (List ℕ)) (key : List ℕ) (at : ℕ) : Type 0 where
+-- an entry with this key goes to this index, directly after the last whose key is at most its own
+pub record IsAfter (k : ℕ) (xs : List (List ℕ)) (key : List ℕ) (at : ℕ) : Type 0 where
   pub below : (j : ℕ) → j < at → at_most (key_at k xs j) key ≡ true
   pub above : (j : ℕ) → at ≤ j → j < length xs → at_most (key_at k xs j) key ≡ false

@@ -6,23 +6,23 @@ use Rattle.std.proofs.lemmas.Bool.{le-leb}
 use Rattle.std.proofs.lemmas.Bool.Decides.{leb_tells}
 use Rattle.flat_mem.specs.Memory.{part, overwritten}
 use Rattle.flat_mem.specs.Parts.{length-part, take-overwritten, drop-overwritten}
-use Rattle.flat_mem.specs.Part.{IsSameBeside, part_size, TellsPart, IsKept}
+use Rattle.flat_mem.specs.Part.{IsSameBeside, part_size, RevealsPart, IsKept}
 use Rattle.flat_mem.specs.declared.part.Part.{Part}
 
 pub same_beside_through : (f m g n : ℕ) (w v u : List ℕ) → f ≡ g → m ≡ n → IsSameBeside f m w v → IsSameBeside g n v u → IsSameBeside f m w u
 same_beside_through f m g n w v u e d h k = record {
-  front = rw e (k.front ∙ (rw e at h.front));
+  prefix = rw e (k.prefix ∙ (rw e at h.prefix));
   back = rw (e, d) (k.back ∙ (rw (e, d) at h.back));
 }
 
 -- a piece that lies within the pages
 pub same_beside_written : (first pages at : ℕ) (w piece : List ℕ) → at + length piece ≤ 512 * pages → 512 * first + 512 * pages ≤ length w → IsSameBeside first pages w (overwritten w (512 * first + at) piece)
 same_beside_written first pages at w piece inside fits = record {
-  front = take-overwritten w piece (512 * first + at) (512 * first) (omega arith) (omega (arith, inside));
+  prefix = take-overwritten w piece (512 * first + at) (512 * first) (omega arith) (omega (arith, inside));
   back = drop-overwritten w piece (512 * first + at) (512 * first + 512 * pages) (omega (arith, inside)) (omega (arith, inside));
 }
 
--- a list is its front, its middle and its back
+-- a list is its prefix, its middle and its back
 cut : (b : List ℕ) (at len : ℕ) → b ≡ take at b ++ (part b at len ++ drop (at + len) b)
 cut b at len = same_lists _ _ (search (rules, places)) (λ k d h. grind (arith, places))
 
@@ -32,7 +32,7 @@ same_whole first pages w v beside middle =
     let at = 512 * first in
     let len = 512 * pages in
     cut v at len
-    ∙ ap (λ (x : List ℕ). x ++ (part v at len ++ drop (at + len) v)) beside.front
+    ∙ ap (λ (x : List ℕ). x ++ (part v at len ++ drop (at + len) v)) beside.prefix
     ∙ ap (λ (x : List ℕ). take at w ++ (x ++ drop (at + len) v)) middle
     ∙ ap (λ (x : List ℕ). take at w ++ (part w at len ++ x)) beside.back
     ∙ sym (cut w at len)
@@ -49,42 +49,42 @@ part_inside whole first pages n some below = elim (leb_tells (512 * first + 512 
       absurd (omega (arith, some, below, none))
 ]
 
-module _ {M X : Type 0} (tells : M → List ℕ → Type 0) where
-  pub told_part_once : ((m : M) (w v : List ℕ) → tells m w → tells m v → w ≡ v) → (p : Part M X) (b c : List ℕ) → TellsPart tells p b → TellsPart tells p c → b ≡ c
-  told_part_once once p b c h k = h.is ∙ ap (λ (x : List ℕ). part x (512 * p.first) (512 * p.pages)) (once p.mem h.whole k.whole h.told k.told) ∙ sym k.is
+module _ {M X : Type 0} (reveals : M → List ℕ → Type 0) where
+  pub revealed_part_once : ((m : M) (w v : List ℕ) → reveals m w → reveals m v → w ≡ v) → (p : Part M X) (b c : List ℕ) → RevealsPart reveals p b → RevealsPart reveals p c → b ≡ c
+  revealed_part_once once p b c h k = h.is ∙ ap (λ (x : List ℕ). part x (512 * p.first) (512 * p.pages)) (once p.mem h.whole k.whole h.revealed k.revealed) ∙ sym k.is
 
-  pub part_length : (size : M → ℕ) → ((m : M) (w : List ℕ) → tells m w → length w ≡ size m) → (p : Part M X) (b : List ℕ) → TellsPart tells p b → length b ≡ part_size (size p.mem) p.first p.pages
+  pub part_length : (size : M → ℕ) → ((m : M) (w : List ℕ) → reveals m w → length w ≡ size m) → (p : Part M X) (b : List ℕ) → RevealsPart reveals p b → length b ≡ part_size (size p.mem) p.first p.pages
   part_length size long p b h =
-      let fits : 512 * p.first + 512 * p.pages ≤ size p.mem = omega (arith, long p.mem h.whole h.told, h.inside) in
+      let fits : 512 * p.first + 512 * p.pages ≤ size p.mem = omega (arith, long p.mem h.whole h.revealed, h.inside) in
       ap length h.is ∙ length-part h.whole (512 * p.first) (512 * p.pages) h.inside ∙ sym (part_size_is (size p.mem) p.first p.pages fits)
 
   module _ (beside : M → M → Type 0) where
-    pub same_part_size : (size : M → ℕ) (a b : Part M X) → size a.mem ≡ size b.mem → IsKept tells beside a b → part_size (size a.mem) a.first a.pages ≡ part_size (size b.mem) b.first b.pages
+    pub same_part_size : (size : M → ℕ) (a b : Part M X) → size a.mem ≡ size b.mem → IsKept reveals beside a b → part_size (size a.mem) a.first a.pages ≡ part_size (size b.mem) b.first b.pages
     same_part_size size a b same h = rw (same, h.first, h.pages) refl
 
-    pub kept_itself : (p : Part M X) → beside p.mem p.mem → IsKept tells beside p p
-    kept_itself p same = record { mem = same; first = refl; pages = refl; others = λ w told. (w, told, record { front = refl; back = refl }) }
+    pub kept_itself : (p : Part M X) → beside p.mem p.mem → IsKept reveals beside p p
+    kept_itself p same = record { mem = same; first = refl; pages = refl; others = λ w revealed. (w, revealed, record { prefix = refl; back = refl }) }
 
-    pub kept_through : (a b c : Part M X) → beside a.mem c.mem → IsKept tells beside a b → IsKept tells beside b c → IsKept tells beside a c
+    pub kept_through : (a b c : Part M X) → beside a.mem c.mem → IsKept reveals beside a b → IsKept reveals beside b c → IsKept reveals beside a c
     kept_through a b c through h k = record {
       mem = through;
       first = h.first ∙ k.first;
       pages = h.pages ∙ k.pages;
-      others = λ w told.
-          let mid = h.others w told in
+      others = λ w revealed.
+          let mid = h.others w revealed in
           let end = k.others mid.0 mid.1 in
           (end.0, end.1, same_beside_through a.first a.pages b.first b.pages w mid.0 end.0 h.first h.pages mid.2 end.2);
     }
 
-    -- what the memory tells afterwards has the other pages of what it told before
-    pub others_kept : ((m : M) (w v : List ℕ) → tells m w → tells m v → w ≡ v) → (a b : Part M X) (w v : List ℕ) → IsKept tells beside a b → tells a.mem w → tells b.mem v → IsSameBeside a.first a.pages w v
+    -- what the memory reveals afterwards has the other pages of what it revealed before
+    pub others_kept : ((m : M) (w v : List ℕ) → reveals m w → reveals m v → w ≡ v) → (a b : Part M X) (w v : List ℕ) → IsKept reveals beside a b → reveals a.mem w → reveals b.mem v → IsSameBeside a.first a.pages w v
     others_kept once a b w v kept before after =
-        let told = kept.others w before in
-        rw (once b.mem v told.0 after told.1) told.2
+        let revealed = kept.others w before in
+        rw (once b.mem v revealed.0 after revealed.1) revealed.2
 
-    -- where the part tells what it told, so does the memory
-    pub whole_unchanged : ((m : M) (w v : List ℕ) → tells m w → tells m v → w ≡ v) → (p q : Part M X) (w : List ℕ) → IsKept tells beside p q → tells p.mem w → TellsPart tells q (part w (512 * p.first) (512 * p.pages)) → tells q.mem w
-    whole_unchanged once p q w kept before told =
-        let others = others_kept once p q w told.whole kept before told.told in
-        let middle : part told.whole (512 * p.first) (512 * p.pages) ≡ part w (512 * p.first) (512 * p.pages) = cc (told.is, kept.first, kept.pages) in
-        subst (λ (x : List ℕ). tells q.mem x) (same_whole p.first p.pages w told.whole others middle) told.told
+    -- where the part reveals what it revealed, so does the memory
+    pub whole_unchanged : ((m : M) (w v : List ℕ) → reveals m w → reveals m v → w ≡ v) → (p q : Part M X) (w : List ℕ) → IsKept reveals beside p q → reveals p.mem w → RevealsPart reveals q (part w (512 * p.first) (512 * p.pages)) → reveals q.mem w
+    whole_unchanged once p q w kept before revealed =
+        let others = others_kept once p q w revealed.whole kept before revealed.revealed in
+        let middle : part revealed.whole (512 * p.first) (512 * p.pages) ≡ part w (512 * p.first) (512 * p.pages) = cc (revealed.is, kept.first, kept.pages) in
+        subst (λ (x : List ℕ). reveals q.mem x) (same_whole p.first p.pages w revealed.whole others middle) revealed.revealed

@@ -75,7 +75,7 @@ impl<A: Allocator> FlatMem for FlakyMem<A> {
 
     ghost size = { λ m. length m.bytes.items };
 
-    ghost tells = { λ m b. b ≡ m.bytes.items };
+    ghost reveals = { λ m b. b ≡ m.bytes.items };
 
     ghost spent = { λ m. m.accesses };
 
@@ -83,9 +83,9 @@ impl<A: Allocator> FlatMem for FlakyMem<A> {
 
     ghost accounted = { λ a b e. Rose a.faults b.faults };
 
-    ghost told_once = { λ m b c h k. h ∙ sym k };
+    ghost revealed_once = { λ m b c h k. h ∙ sym k };
 
-    ghost told_length = { λ m b h i. length (h i) };
+    ghost revealed_length = { λ m b h i. length (h i) };
 
     ghost same_size = { λ a b h. h.size };
 

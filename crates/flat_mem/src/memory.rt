@@ -18,8 +18,8 @@ pub trait FlatMem {
     /// How many bytes it has.
     ghost size: { Self → ℕ };
 
-    /// It tells that its bytes are these.
-    ghost tells: { Self → List ℕ → Type 0 };
+    /// It reveals that its bytes are these.
+    ghost reveals: { Self → List ℕ → Type 0 };
 
     /// The transfers that were spent so far.
     ghost spent: { Self → ℕ };
@@ -38,8 +38,8 @@ pub trait FlatMem {
     fn read(&mut self, at: u64, into: &mut [u8]) -> Result<(), Self::Error>
         requires inside { at + length into.old ≤ size self.old }
         requires in_one_page { InOnePage at (length into.old) }
-        ensures read { (b : List ℕ) → tells self.old b → OnOk result (into.new ≡ part b at (length into.old)) }
-        ensures unchanged { (b : List ℕ) → tells self.old b → tells self.new b }
+        ensures read { (b : List ℕ) → reveals self.old b → OnOk result (into.new ≡ part b at (length into.old)) }
+        ensures unchanged { (b : List ℕ) → reveals self.old b → reveals self.new b }
         ensures kept { beside self.old self.new }
         ensures cause { IfErr result (λ e. accounted self.old self.new e) }
         ensures cost { spent self.new ≤ spent self.old + cost };
@@ -48,16 +48,16 @@ pub trait FlatMem {
     fn write(&mut self, at: u64, bytes: &[u8]) -> Result<(), Self::Error>
         requires inside { at + length bytes.now ≤ size self.old }
         requires in_one_page { InOnePage at (length bytes.now) }
-        ensures written { (b : List ℕ) → tells self.old b → OnOk result (tells self.new (overwritten b at bytes.now)) }
-        ensures unchanged { (b : List ℕ) → tells self.old b → OnErr result (tells self.new b) }
+        ensures written { (b : List ℕ) → reveals self.old b → OnOk result (reveals self.new (overwritten b at bytes.now)) }
+        ensures unchanged { (b : List ℕ) → reveals self.old b → OnErr result (reveals self.new b) }
         ensures kept { beside self.old self.new }
         ensures cause { IfErr result (λ e. accounted self.old self.new e) }
         ensures cost { spent self.new ≤ spent self.old + cost };
 
-    /// It tells one list at most.
-    ghost told_once: { (m : Self) (b c : List ℕ) → tells m b → tells m c → b ≡ c };
+    /// It reveals one list at most.
+    ghost revealed_once: { (m : Self) (b c : List ℕ) → reveals m b → reveals m c → b ≡ c };
 
-    ghost told_length: { (m : Self) (b : List ℕ) → tells m b → length b ≡ size m };
+    ghost revealed_length: { (m : Self) (b : List ℕ) → reveals m b → length b ≡ size m };
 
     ghost same_size: { (a b : Self) → beside a b → size a ≡ size b };
 
@@ -77,7 +77,7 @@ impl<'m, M: FlatMem> FlatMem for &'m mut M {
 
     ghost size = { λ m. M.size m.now };
 
-    ghost tells = { λ m b. M.tells m.now b };
+    ghost reveals = { λ m b. M.reveals m.now b };
 
     ghost spent = { λ m. M.spent m.now };
 
@@ -85,9 +85,9 @@ impl<'m, M: FlatMem> FlatMem for &'m mut M {
 
     ghost accounted = { λ a b e. M.accounted a.now b.now e };
 
-    ghost told_once = { λ m b c h k. M.told_once m.now b c h k };
+    ghost revealed_once = { λ m b c h k. M.revealed_once m.now b c h k };
 
-    ghost told_length = { λ m b h. M.told_length m.now b h };
+    ghost revealed_length = { λ m b h. M.revealed_length m.now b h };
 
     ghost same_size = { λ a b h. M.same_size a.now b.now h.1 };
 

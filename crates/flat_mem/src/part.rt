@@ -26,8 +26,8 @@ impl<M: FlatMem> Part<M> {
 }
 
 impl<M: FlatMem> FlatMem for Part<M> {
-    ghost use Rattle.flat_mem.specs.Part.{part_size, IsKept, TellsPart};
-    ghost use Rattle.flat_mem.specs.PartLaws.{told_part_once, part_length, same_part_size, kept_itself, kept_through};
+    ghost use Rattle.flat_mem.specs.Part.{part_size, IsKept, RevealsPart};
+    ghost use Rattle.flat_mem.specs.PartLaws.{revealed_part_once, part_length, same_part_size, kept_itself, kept_through};
 
     type Error = M::Error;
 
@@ -37,23 +37,23 @@ impl<M: FlatMem> FlatMem for Part<M> {
 
     ghost size = { λ p. part_size (M.size p.mem) p.first p.pages };
 
-    ghost tells = { λ p b. TellsPart M.tells p b };
+    ghost reveals = { λ p b. RevealsPart M.reveals p b };
 
     ghost spent = { λ p. M.spent p.mem };
 
-    ghost beside = { λ a b. IsKept M.tells M.beside a b };
+    ghost beside = { λ a b. IsKept M.reveals M.beside a b };
 
     ghost accounted = { λ a b e. M.accounted a.mem b.mem e };
 
-    ghost told_once = { λ p b c h k. told_part_once M.tells M.told_once p b c h k };
+    ghost revealed_once = { λ p b c h k. revealed_part_once M.reveals M.revealed_once p b c h k };
 
-    ghost told_length = { λ p b h. part_length M.tells M.size M.told_length p b h };
+    ghost revealed_length = { λ p b h. part_length M.reveals M.size M.revealed_length p b h };
 
-    ghost same_size = { λ a b h. same_part_size M.tells M.beside M.size a b (M.same_size a.mem b.mem h.mem) h };
+    ghost same_size = { λ a b h. same_part_size M.reveals M.beside M.size a b (M.same_size a.mem b.mem h.mem) h };
 
-    ghost beside_itself = { λ p. kept_itself M.tells M.beside p (M.beside_itself p.mem) };
+    ghost beside_itself = { λ p. kept_itself M.reveals M.beside p (M.beside_itself p.mem) };
 
-    ghost beside_through = { λ a b c h k. kept_through M.tells M.beside a b c (M.beside_through a.mem b.mem c.mem h.mem k.mem) h k };
+    ghost beside_through = { λ a b c h k. kept_through M.reveals M.beside a b c (M.beside_through a.mem b.mem c.mem h.mem k.mem) h k };
 
     ghost accounted_wider = { λ a b c d e h k l x. M.accounted_wider a.mem b.mem c.mem d.mem e h.mem k.mem l.mem x };
 

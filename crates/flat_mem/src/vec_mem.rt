@@ -45,7 +45,7 @@ impl<A: Allocator> FlatMem for VecMem<A> {
 
     ghost size = { λ m. length m.bytes.items };
 
-    ghost tells = { λ m b. b ≡ m.bytes.items };
+    ghost reveals = { λ m b. b ≡ m.bytes.items };
 
     ghost spent = { λ m. 0 };
 
@@ -53,9 +53,9 @@ impl<A: Allocator> FlatMem for VecMem<A> {
 
     ghost accounted = { λ a b e. ⊥ };
 
-    ghost told_once = { λ m b c h k. h ∙ sym k };
+    ghost revealed_once = { λ m b c h k. h ∙ sym k };
 
-    ghost told_length = { λ m b h i. length (h i) };
+    ghost revealed_length = { λ m b h i. length (h i) };
 
     ghost same_size = { λ a b h. h };
 

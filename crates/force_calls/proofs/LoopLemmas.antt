@@ -165,12 +165,12 @@ pub found_below : (by_page : Bool) (id first pages : ℕ) (s t : Slots) (i k n :
 found_below true id first pages s t i k n f same looks end has within = let low = within.1 in let high = within.2 in omega (arith, looks, end, low, high)
 found_below false id first pages s t i k n f same looks end has within = let below = has_below t i f has in omega (arith, same, looks, end, below)
 
--- what was found is what is told of the frame
-pub told_slot : (slot i : ℕ) (dirty : Bool) (f : Frame) → ◌≡◌ {A = Option (ℕ × Bool)} (Some (slot, dirty)) (Some (i, f.dirty)) → i ≡ slot
-told_slot slot i dirty f is = sym (ap (λ (x : ℕ × Bool). x.0) (same_Some (slot, dirty) (i, f.dirty) is))
+-- what was found is what is revealed of the frame
+pub revealed_slot : (slot i : ℕ) (dirty : Bool) (f : Frame) → ◌≡◌ {A = Option (ℕ × Bool)} (Some (slot, dirty)) (Some (i, f.dirty)) → i ≡ slot
+revealed_slot slot i dirty f is = sym (ap (λ (x : ℕ × Bool). x.0) (same_Some (slot, dirty) (i, f.dirty) is))
 
-pub told_dirty : (slot i : ℕ) (dirty : Bool) (f : Frame) → ◌≡◌ {A = Option (ℕ × Bool)} (Some (slot, dirty)) (Some (i, f.dirty)) → dirty ≡ f.dirty
-told_dirty slot i dirty f is = ap (λ (x : ℕ × Bool). x.1) (same_Some (slot, dirty) (i, f.dirty) is)
+pub revealed_dirty : (slot i : ℕ) (dirty : Bool) (f : Frame) → ◌≡◌ {A = Option (ℕ × Bool)} (Some (slot, dirty)) (Some (i, f.dirty)) → dirty ≡ f.dirty
+revealed_dirty slot i dirty f is = ap (λ (x : ℕ × Bool). x.1) (same_Some (slot, dirty) (i, f.dirty) is)
 
 -- the same slots
 pub has_in : {s t : Slots} {i : ℕ} {f : Frame} → s ≡ t → Has s i f → Has t i f

@@ -20,7 +20,7 @@ within_kept id first pages f within =
 pub kept_within : (id first pages : ℕ) (f : Frame) → is_kept id first pages (Some f) ≡ true → IsWithin id first pages f.home
 kept_within id first pages f kept = (grind (arith, nat_tests), grind (arith, nat_tests), grind (arith, nat_tests))
 
--- what the look at a slot tells
+-- what the look at a slot reveals
 held_as : (id first pages : ℕ) (o : Option Frame) (b : Bool) → Some b ≡ dirty_within id first pages o → (f : Frame) × (o ≡ Some f) × (f.dirty ≡ b) × (is_kept id first pages (Some f) ≡ true)
 held_as id first pages None b is = absurd (none-some b (sym is))
 held_as id first pages (Some f) b is = tested (is_kept id first pages (Some f)) refl
@@ -34,7 +34,7 @@ held_frame id first pages s i b below is =
     let h = held_as id first pages (frame_at s i) b is in
     (h.0, has_of_frame s i h.0 below h.1, h.2, h.3)
 
--- a slot of which the look tells nothing has no page of the run
+-- a slot of which the look reveals nothing has no page of the run
 pub none_held : (id first pages : ℕ) (s : Slots) (i : ℕ) → None ≡ dirty_within id first pages (frame_at s i) → IsOutside s i id first pages
 none_held id first pages s i is f has within =
     none-some f.dirty (is ∙ ap (dirty_within id first pages) (frame_of_has s i f has) ∙ ap (λ (x : Bool). if x then Some f.dirty else None) (within_kept id first pages f within))
@@ -112,9 +112,9 @@ dirty_some id first pages s i f has kept dirty = let fewer = cleaned_count id fi
 pub same_frame : (s : Slots) (i : ℕ) (f g : Frame) → Has s i f → Has s i g → f.dirty ≡ false → g.dirty ≡ false
 same_frame s i f g has also clean = sym (ap (λ (x : Frame). x.dirty) (same_Some f g (same_Some (Some f) (Some g) (sym has.is ∙ also.is)))) ∙ clean
 
--- what the look at a slot tells of a frame of the run
-pub told_within : (id first pages : ℕ) (s : Slots) (i : ℕ) (f : Frame) → Has s i f → IsWithin id first pages f.home → dirty_within id first pages (frame_at s i) ≡ Some f.dirty
-told_within id first pages s i f has within =
+-- what the look at a slot reveals of a frame of the run
+pub revealed_within : (id first pages : ℕ) (s : Slots) (i : ℕ) (f : Frame) → Has s i f → IsWithin id first pages f.home → dirty_within id first pages (frame_at s i) ≡ Some f.dirty
+revealed_within id first pages s i f has within =
     ap (dirty_within id first pages) (frame_of_has s i f has) ∙ ap (λ (x : Bool). if x then Some f.dirty else None) (within_kept id first pages f within)
 
 -- a search for the page of this look finds the frame's slot

@@ -39,7 +39,7 @@ abbrev pub Stay : Slots → Slots → Type 0
 Stay before after = (i : ℕ) (f : Frame) → Has before i f → (g : Frame) × Has after i g × (g.home ≡ f.home) × (g.bytes ≡ f.bytes)
 
 -- Frames of the run were written to their homes until none was dirty. Only then were frames of the run given up.
-pub record LetsGo (id first pages : ℕ) (old : DiskState) (before : Slots) (new : DiskState) (after : Slots) : Type 0 where
+pub record Evicts (id first pages : ℕ) (old : DiskState) (before : Slots) (new : DiskState) (after : Slots) : Type 0 where
   pub middle : Slots
   pub steps : Steps no_home no_home old before new middle
   pub clean : (i : ℕ) (f : Frame) → Has middle i f → IsWithin id first pages f.home → f.dirty ≡ false

@@ -4,4 +4,4 @@
 mod calls;
 mod run;
 
-pub use calls::{force, forget, let_go};
+pub use calls::{discard, evict, flush};

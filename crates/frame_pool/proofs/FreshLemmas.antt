@@ -12,7 +12,7 @@ range_more : (a n j : ℕ) → a + n ≡ j → range_with_len a n ++ j ∷ [] �
 range_more a zero j is = let e : j ≡ a = omega (arith, is) in ap (λ k. k ∷ []) e
 range_more a (suc n) j is = ap (λ l. a ∷ l) (range_more (a + 1) n j (omega (arith, is)))
 
--- a field that was told for each slot is told for one more
+-- a field that was revealed for each slot is revealed for one more
 field_more : {X : Type 0} (f : Slot → X) (slots : List Slot) (s : Slot) (xs ys : List X) → map f slots ≡ xs → xs ++ f s ∷ [] ≡ ys → map f (slots ++ s ∷ []) ≡ ys
 field_more f slots s xs ys is more = map-append f slots (s ∷ []) ∙ ap (λ l. l ++ f s ∷ []) is ∙ more
 

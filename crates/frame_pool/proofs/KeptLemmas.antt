@@ -104,13 +104,13 @@ nowhere_of slots id page miss slot f has ids pages = hit id page f ids pages (sy
 pub overwritten_page : (page : List ℕ) (start : ℕ) (bytes : List ℕ) → IsPageBytes page → start + length bytes ≤ 512 → ((k : ℕ) → get_or bytes k 0 < 256) → IsPageBytes (overwritten page start bytes)
 overwritten_page page start bytes (long, fit) inside fits =
     let before = take start page in
-    let behind = drop (start + length bytes) page in
-    let sum : length (before ++ bytes ++ behind) ≡ length before + length bytes + length behind = length-append (before ++ bytes) behind ∙ ap (λ (n : ℕ). n + length behind) (length-append before bytes) in
-    let front : length before ≡ start = length-take-le start page (omega (arith, long, inside)) in
-    let rest : length behind ≡ length page - (start + length bytes) = length-drop (start + length bytes) page in
+    let after = drop (start + length bytes) page in
+    let sum : length (before ++ bytes ++ after) ≡ length before + length bytes + length after = length-append (before ++ bytes) after ∙ ap (λ (n : ℕ). n + length after) (length-append before bytes) in
+    let prefix : length before ≡ start = length-take-le start page (omega (arith, long, inside)) in
+    let rest : length after ≡ length page - (start + length bytes) = length-drop (start + length bytes) page in
     let new : All (λ b. b < 256) bytes = λ k d below. rw (get_or_default_zero bytes k d below) (fits k) in (
-      omega (arith, long, inside, sum, front, rest),
-      All-append (λ (b : ℕ). b < 256) (before ++ bytes) behind
+      omega (arith, long, inside, sum, prefix, rest),
+      All-append (λ (b : ℕ). b < 256) (before ++ bytes) after
           (All-append (λ (b : ℕ). b < 256) before bytes (All-take (λ (b : ℕ). b < 256) start page fit) new)
           (All-drop (λ (b : ℕ). b < 256) (start + length bytes) page fit),
     )

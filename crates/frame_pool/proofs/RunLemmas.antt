@@ -200,9 +200,9 @@ runs_found s founds time i id first pages hit there runs =
     begins s id f.home.id f.home.page first pages pages there (sym own.0) (sym own.1) (omega arith))
 
 -- what the slot of the first page remembers of this time is there
-pub runs_told : (s : Slots) (founds : List FoundRun) (time i id first pages : ℕ) → i < length s → is_of id first (frame_at s i) ≡ true → HasRuns s founds time
+pub runs_revealed : (s : Slots) (founds : List FoundRun) (time i id first pages : ℕ) → i < length s → is_of id first (frame_at s i) ≡ true → HasRuns s founds time
     → IsFresh (found_at founds i) time → pages ≤ (found_at founds i).pages → HasRun s id first pages
-runs_told s founds time i id first pages below hit runs fresh less =
+runs_revealed s founds time i id first pages below hit runs fresh less =
     let at = frame_of_hit s i id first below hit in
     let own = at.2 in
     begins s at.0.home.id id first at.0.home.page _ pages (runs.there i at.0 at.1 fresh) own.0 own.1 less

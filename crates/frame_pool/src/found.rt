@@ -13,8 +13,8 @@ pub(crate) struct FoundRun {
 pub(crate) const NOTHING: FoundRun = FoundRun { pages: 0, time: 0 };
 
 impl FoundRun {
-    /// Whether it tells, at this time, that so many pages are there. At the greatest time it tells nothing.
-    pub(crate) fn tells(&self, pages: u32, time: u32) -> bool
+    /// Whether it reveals, at this time, that so many pages are there. At the greatest time it reveals nothing.
+    pub(crate) fn reveals(&self, pages: u32, time: u32) -> bool
         ensures { result ≡ true → IsFresh self.now time × (pages ≤ self.now.pages) }
     {
         self.time == time && time < u32::MAX && pages <= u32::from(self.pages)

@@ -92,7 +92,7 @@ impl<A: Allocator> FramePool<A> {
             return false;
         };
         let time = self.time;
-        if self.table.found(slot).tells(pages, time) {
+        if self.table.found(slot).reveals(pages, time) {
             return true;
         }
         let there = chain::has_run(&self.table, &Run { id, first, pages });

@@ -220,7 +220,7 @@ impl<A: Allocator> Table<A> {
         self.slots[slot as usize].referenced.set(true);
     }
 
-    /// Takes the slot's second chance, and tells whether it had one.
+    /// Takes the slot's second chance, and reveals whether it had one.
     pub(crate) fn take_mark(&self, slot: u16) -> bool
         requires { slot < length self.now.frames }
     {

@@ -14,12 +14,12 @@ is_colon b = eqb b 58
 digit_no_colon : (c : ℕ) (cs : List ℕ) → AllDigits 10 (c ∷ cs) → is_colon c ≡ false
 digit_no_colon c cs digits = let range = digit_from_value c digits.0 in grind arith
 
--- the first colon behind digits
+-- the first colon after digits
 position_at : (count path : List ℕ) → AllDigits 10 count → position_or_len is_colon (count ++ 58 ∷ path) ≡ length count
 position_at [] path digits = refl
 position_at (c ∷ cs) path digits = rw (digit_no_colon c cs digits) (omega (arith, position_at cs path digits.1))
 
--- digits and a colon are cut behind the digits
+-- digits and a colon are cut after the digits
 record IsCut (word count path : List ℕ) : Type 0 where
   before : before_first is_colon word ≡ count
   after : after_first is_colon word ≡ path
@@ -39,10 +39,10 @@ path_without_colon word none = record {
   not_new = λ n path new. let cut = cut_at word new.count path new.whole new.counts.digits.1 in omega (arith, cut.inside);
 }
 
--- so is one that begins with a colon, but not with a number behind it
-pub path_behind_colon : (word count : List ℕ) → count ≡ after_first is_colon word → length (before_first is_colon word) ≡ 0
+-- so is one that begins with a colon, but not with a number after it
+pub path_after_colon : (word count : List ℕ) → count ≡ after_first is_colon word → length (before_first is_colon word) ≡ 0
     → ((n : ℕ) → ¬ IsCount count n) → IsPath word
-path_behind_colon word count is empty no_count = record {
+path_after_colon word count is empty no_count = record {
   no_memory = λ n memory. let cut = cut_at word [] memory.count memory.whole tt in no_count n (rw is (rw cut.after memory.counts));
   not_new = λ n path new. let cut = cut_at word new.count path new.whole new.counts.digits.1 in omega (arith, new.counts.digits.0, ap length cut.before);
 }

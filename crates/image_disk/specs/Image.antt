@@ -6,7 +6,7 @@ use Rattle.labelled_disk.specs.State.{DiskState}
 use Rattle.labelled_disk.specs.declared.disk.DiskError.{DiskError}
 use Rattle.image_disk.specs.declared.disk.ImageDisk.{ImageDisk}
 
--- the disk that an image is: it tells neither what the file holds nor what was written
+-- the disk that an image is: it reveals neither what the file holds nor what was written
 abbrev pub image_state : {F : Type 0} → ImageDisk F → DiskState
 image_state d = record {
   sectors = d.sectors;
@@ -23,6 +23,6 @@ pub record Counts {T : Type 0} (result : Result T DiskError) (old new : DiskStat
   pub transfers : new.transfers ≡ min (old.transfers + 1) (2 ^ 64 - 1)
   pub faults : CountsFault result old.faults new.faults
 
--- what is not told is no list of sectors
-pub not_told : {X P : Type 0} (x : X) → None ≡ Some x → P
-not_told x told = absurd (none-some x told)
+-- what is not revealed is no list of sectors
+pub not_revealed : {X P : Type 0} (x : X) → None ≡ Some x → P
+not_revealed x revealed = absurd (none-some x revealed)

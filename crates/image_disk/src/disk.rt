@@ -1,6 +1,6 @@
 //! A disk over a file of sectors of 528 bytes, each a label of 16 bytes and then a page of 512.
 ghost use Rattle.std.specs.Prelude.{◌≡◌, ◌<◌, ◌≤◌, ◌+◌, ◌-◌, ◌*◌, ◌/◌, ◌^◌, ◌++◌, min, true, false, take, drop};
-ghost use Rattle.labelled_disk.specs.Calls.{Reads, Writes, WritesData, Settles, Rose, Moved};
+ghost use Rattle.labelled_disk.specs.Calls.{Reads, Writes, WritesData, Syncs, Rose, Moved};
 ghost use Rattle.labelled_disk.specs.Label.{label_of, label_bytes, names};
 ghost use Rattle.labelled_disk.specs.Memory.{CountsFault};
 
@@ -18,7 +18,7 @@ pub enum Trouble {
     Sector { sector: u32, error: io::Error },
     /// What was written could not be put on the medium.
     #[error("fdatasync: {0}")]
-    Settling(io::Error),
+    Syncing(io::Error),
 }
 
 /// The bytes of a sector in an image file.
@@ -26,8 +26,8 @@ pub const SECTOR_BYTES: u64 = 528;
 
 const LABEL_BYTES: u64 = 16;
 
-/// A disk over an image file. It tells nothing of what the file holds, since no contract can: only
-/// its counts. It is synced from an Ok of `settle` to the next call that may write.
+/// A disk over an image file. It reveals nothing of what the file holds, since no contract can: only
+/// its counts. It is synced from an Ok of `sync` to the next call that may write.
 #[derive(Drop)]
 pub struct ImageDisk<F: FileExt + OpenFile> {
     file: Option<F>,
@@ -42,8 +42,8 @@ pub struct ImageDisk<F: FileExt + OpenFile> {
 impl<F: FileExt + OpenFile> ImageDisk<F> {
     ghost use Rattle.image_disk.specs.Image.{image_state};
 
-    /// The disk of the sectors that lie in the file whole. Bytes behind the last of them are not
-    /// looked at. Where the file doesn't tell its length the disk has no sector.
+    /// The disk of the sectors that lie in the file whole. Bytes after the last of them are not
+    /// looked at. Where the file doesn't reveal its length the disk has no sector.
     pub fn over(file: F) -> ImageDisk<F>
         ensures counts { image_state result
             ≡ record (image_state result) { transfers = 0; faults = 0; synced = false } }
@@ -122,7 +122,7 @@ impl<F: FileExt + OpenFile> ImageDisk<F> {
     }
 
     // Waits until what was written to the file is on the medium.
-    fn sync(&self) -> io::Result<()> {
+    fn sync_file(&self) -> io::Result<()> {
         match &self.file {
             Some(file) => file.sync_data(),
             None => Ok(()),
@@ -191,13 +191,13 @@ fn parted(bytes: &[u8; 528], page: &mut Page) -> Label
 }
 
 impl<F: FileExt + OpenFile> Disk for ImageDisk<F> {
-    ghost use Rattle.image_disk.specs.Image.{image_state, not_told, Counts};
+    ghost use Rattle.image_disk.specs.Image.{image_state, not_revealed, Counts};
 
     ghost state = { image_state };
 
-    ghost whole = { λ d all told. not_told all told };
+    ghost whole = { λ d all revealed. not_revealed all revealed };
 
-    ghost in_form = { λ d all told. not_told all told };
+    ghost in_form = { λ d all revealed. not_revealed all revealed };
 
     ghost few = { λ d. d.few };
 
@@ -271,12 +271,12 @@ impl<F: FileExt + OpenFile> Disk for ImageDisk<F> {
         }
     }
 
-    fn settle(&mut self) -> Result<(), DiskError>
-        ensures settles { Settles (image_state self.old) result (image_state self.new) }
+    fn sync(&mut self) -> Result<(), DiskError>
+        ensures syncs { Syncs (image_state self.old) result (image_state self.new) }
         ensures faults { CountsFault result self.old.faults self.new.faults }
     {
-        if let Err(error) = self.sync() {
-            return Err(self.fault(Trouble::Settling(error)));
+        if let Err(error) = self.sync_file() {
+            return Err(self.fault(Trouble::Syncing(error)));
         }
         self.synced = true;
         Ok(())

@@ -57,7 +57,7 @@ pub so_far_own : (place : ℕ → ℕ) (label : Label) (labels : ℕ → Labels)
 so_far_own place label labels id k so_far of_id apart = record {
   writes = turns (λ i. write.LabelOnly (place i) label) k;
   appended = so_far.appended;
-  over = λ d before told was. over_turns place label id labels of_id k apart d (so_far.found d told);
+  over = λ d before revealed was. over_turns place label id labels of_id k apart d (so_far.found d revealed);
 }
 
 turns_whole : (place : ℕ → ℕ) (label : ℕ → Label) (bytes : List ℕ) (is : List ℕ) → AreWhole (map (λ k. write.Whole (place k) (label k) bytes) is)

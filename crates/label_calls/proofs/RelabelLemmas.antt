@@ -11,12 +11,12 @@ use Rattle.labelled_disk.specs.declared.layout.Layout.{Layout}
 use Rattle.labelled_disk.specs.Layout.{first_data, vam, vfm}
 use Rattle.labelled_disk.specs.Label.{is_free, names, leader_page}
 use Rattle.labelled_disk.specs.declared.label.Wanted.{Wanted}
-use Rattle.labelled_disk.specs.Moment.{written}
-use Rattle.labelled_disk.specs.Lawful.{Lawful, IsNextLabel}
+use Rattle.labelled_disk.specs.CrashState.{written}
+use Rattle.labelled_disk.specs.Permitted.{Permitted, IsNextLabel}
 use Rattle.labelled_disk.specs.Runs.{IsWriteInForm, zero_bytes}
 use Rattle.labelled_disk.specs.Sectors.{Sector, IsSector, free_label}
 use Rattle.labelled_disk.specs.State.{DiskState, HasLabel}
-use Rattle.labelled_disk.specs.Calls.{TellsSame, TellsWrite, Moves}
+use Rattle.labelled_disk.specs.Calls.{RevealsSame, RevealsWrite, Moves}
 use Rattle.labelled_disk.specs.WriteLaws.{HasData}
 use Rattle.labelled_disk.proofs.WriteRunLemmas.{appended_one, appended_then, appended_none}
 use Rattle.frame_pool.specs.Frames.{Slots}
@@ -41,61 +41,61 @@ label_there (Some s) label is = (s, refl, same_Some s.0 label is)
 pub in_memory : (labels : Labels) (disk : DiskState) (slots : Slots) (sector : ℕ) (found : Label) (m : List Sector) → HasLabel disk sector found → Stands disk slots m → HasOne labels m sector → labels found
 in_memory labels disk slots sector found m there stands one =
     let on_disk = other_sector stands.sectors m stands.merged.labels sector one.0 one.1 in
-    let is = label_there (slice_get stands.sectors sector) found (there stands.sectors stands.told) in
+    let is = label_there (slice_get stands.sectors sector) found (there stands.sectors stands.revealed) in
     let same : on_disk.0 ≡ is.0 = same_Some on_disk.0 is.0 (sym on_disk.1 ∙ is.1) in
     subst labels (sym on_disk.2 ∙ ap (λ (s : Sector). s.0) same ∙ is.2) one.2
 
-module _ (old mid : DiskState) (slots : Slots) (sector : ℕ) (found : Label) (there : HasLabel old sector found) (same : TellsSame old mid) (read : Moves old mid) where
+module _ (old mid : DiskState) (slots : Slots) (sector : ℕ) (found : Label) (there : HasLabel old sector found) (same : RevealsSame old mid) (read : Moves old mid) where
   pub was_read : Swaps old slots mid slots
   was_read = step_laws.read old mid slots same read
 
   -- where the label was one of these, the disk has such a one
   pub had_one : (labels : Labels) → labels found → (d : List Sector) → old.contents ≡ Some d → HasOne labels d sector
-  had_one labels is d told = let s = label_there (slice_get d sector) found (there d told) in (s.0, s.1, subst labels (sym s.2) is)
+  had_one labels is d revealed = let s = label_there (slice_get d sector) found (there d revealed) in (s.0, s.1, subst labels (sym s.2) is)
 
   module _ (new : DiskState) (w : DiskWrite) (is : IsLabelled w sector) (form : IsWriteInForm w) (moves : Moves mid new)
-      (lawful : (d : List Sector) → old.contents ≡ Some d → (s : Sector) → slice_get d sector ≡ Some s → s.0 ≡ found → Lawful d w) where
-    law : (d : List Sector) → mid.contents ≡ Some d → Lawful d w
-    law d told =
-        let before : old.contents ≡ Some d = sym same.contents ∙ told in
+      (permitted : (d : List Sector) → old.contents ≡ Some d → (s : Sector) → slice_get d sector ≡ Some s → s.0 ≡ found → Permitted d w) where
+    law : (d : List Sector) → mid.contents ≡ Some d → Permitted d w
+    law d revealed =
+        let before : old.contents ≡ Some d = sym same.contents ∙ revealed in
         let s = label_there (slice_get d sector) found (there d before) in
-        lawful d before s.0 s.1 s.2
+        permitted d before s.0 s.1 s.2
 
-    makes : TellsWrite w mid new → Makes no_page (w ∷ []) old slots new slots
+    makes : RevealsWrite w mid new → Makes no_page (w ∷ []) old slots new slots
     makes made = makes_then was_read.makes (label_written mid new slots w sector is form made moves law)
 
-    pub relabels : (labels : Labels) → labels found → TellsWrite w mid new → Relabels labels sector w old slots new
+    pub relabels : (labels : Labels) → labels found → RevealsWrite w mid new → Relabels labels sector w old slots new
     relabels labels one made = record {
       found = had_one labels one;
       appended = appended_then [] (w ∷ []) (appended_none same) (appended_one w made);
       makes = makes made;
       goes = λ free. goes_then Same (λ m n. n ≡ written w m) (λ m n. n ≡ written w m) (λ m n o stays now. now ∙ ap (written w) stays) was_read
-          (beside_frames mid new slots w sector is form made moves (λ d told. (law d told, let s = label_there (slice_get d sector) found (there d (sym same.contents ∙ told)) in (s.0, s.1))) free);
+          (beside_frames mid new slots w sector is form made moves (λ d revealed. (law d revealed, let s = label_there (slice_get d sector) found (there d (sym same.contents ∙ revealed)) in (s.0, s.1))) free);
     }
 
-    pub may_have : TellsSame mid new ⊎ TellsWrite w mid new → MayHaveWritten w old slots new
+    pub may_have : RevealsSame mid new ⊎ RevealsWrite w mid new → MayHaveWritten w old slots new
     may_have (inl nothing) = inl (makes_then was_read.makes (step_laws.read mid new slots nothing moves).makes)
     may_have (inr made) = inr (makes made)
 
--- a sector behind the layout's first data sector is one of the disk's
+-- a sector after the layout's first data sector is one of the disk's
 from_first : (layout : Layout) (n sector : ℕ) → IsLayout layout → n ≡ layout.sectors → layout.first ≤ sector → first_data n ≤ sector
 unfolding first_data
-from_first layout n sector is long behind =
+from_first layout n sector is long after =
     let first : layout.first ≡ 1 + vam n + vfm n = ap (λ (l : Layout). l.first) is.1 ∙ ap (λ (k : ℕ). 1 + vam k + vfm k) (sym long) in
-    subst (λ (k : ℕ). k ≤ sector) first behind
+    subst (λ (k : ℕ). k ≤ sector) first after
 
-module _ (layout : Layout) (d : List Sector) (sector : ℕ) (s : Sector) (is : IsLayout layout) (long : length d ≡ layout.sectors) (behind : layout.first ≤ sector) (here : slice_get d sector ≡ Some s) where
+module _ (layout : Layout) (d : List Sector) (sector : ℕ) (s : Sector) (is : IsLayout layout) (long : length d ≡ layout.sectors) (after : layout.first ≤ sector) (here : slice_get d sector ≡ Some s) where
   there_is : HasData d sector s
-  there_is = record { is_data = from_first layout (length d) sector is long behind; here = here }
+  there_is = record { is_data = from_first layout (length d) sector is long after; here = here }
 
-  -- the labels that a page may be made with are lawful over a free one
-  pub fresh_is_lawful : (label : Label) → IsFresh label → is_free s.0 ≡ true → Lawful d (write.Whole sector label zero_bytes)
+  -- the labels that a page may be made with are permitted over a free one
+  pub fresh_is_permitted : (label : Label) → IsFresh label → is_free s.0 ≡ true → Permitted d (write.Whole sector label zero_bytes)
   unfolding zero_bytes
-  fresh_is_lawful label fresh free = inr (record { old = (s, there_is, free); of_file = fresh.of_file; no_flags = fresh.no_flags; zero_page = refl })
+  fresh_is_permitted label fresh free = inr (record { old = (s, there_is, free); of_file = fresh.of_file; no_flags = fresh.no_flags; zero_page = refl })
 
   -- a free label, and a leader's mark, over that of a page
-  pub next_is_lawful : (label : Label) → (s.0.id ≡ 3) ⊎ (16 ≤ s.0.id) → IsNextLabel s.0 label → Lawful d (write.LabelOnly sector label)
-  next_is_lawful label of_file next = record { old = (s, there_is, of_file, next) }
+  pub next_is_permitted : (label : Label) → (s.0.id ≡ 3) ⊎ (16 ≤ s.0.id) → IsNextLabel s.0 label → Permitted d (write.LabelOnly sector label)
+  next_is_permitted label of_file next = record { old = (s, there_is, of_file, next) }
 
 -- a label that names a page has its file and its number
 page_of : (label : Label) (wanted : Wanted) → names label wanted ≡ true → label.page ≡ wanted.page
@@ -130,15 +130,15 @@ fresh_in_form label id page kind flags last = record {
 
 -- what a write makes of a label that was read, once it was made, and where it failed
 pub record WriteLaws (labels : Labels) (sector : ℕ) (w : DiskWrite) (old : DiskState) (slots : Slots) (mid new : DiskState) : Type 0 where
-  pub made : TellsWrite w mid new → Relabels labels sector w old slots new
-  pub stopped : TellsSame mid new ⊎ TellsWrite w mid new → MayHaveWritten w old slots new
+  pub made : RevealsWrite w mid new → Relabels labels sector w old slots new
+  pub stopped : RevealsSame mid new ⊎ RevealsWrite w mid new → MayHaveWritten w old slots new
 
 module _ (layout : Layout) (old mid new : DiskState) (slots : Slots) (sector : ℕ) (found : Label) (is : IsLayout layout) (long : (d : List Sector) → old.contents ≡ Some d → length d ≡ layout.sectors)
-    (behind : layout.first ≤ sector) (there : HasLabel old sector found) (same : TellsSame old mid) (read : Moves old mid) (moves : Moves mid new) where
+    (after : layout.first ≤ sector) (there : HasLabel old sector found) (same : RevealsSame old mid) (read : Moves old mid) (moves : Moves mid new) where
   pub fresh_laws : (label : Label) → IsFresh label → IsSector (label, zero_bytes) → is_free found ≡ true → WriteLaws free_ones sector (write.Whole sector label zero_bytes) old slots mid new
   fresh_laws label fresh form free =
-      let law = λ (d : List Sector) (told : old.contents ≡ Some d) (s : Sector) (here : slice_get d sector ≡ Some s) (at : s.0 ≡ found).
-      fresh_is_lawful layout d sector s is (long d told) behind here label fresh (ap is_free at ∙ free) in
+      let law = λ (d : List Sector) (revealed : old.contents ≡ Some d) (s : Sector) (here : slice_get d sector ≡ Some s) (at : s.0 ≡ found).
+      fresh_is_permitted layout d sector s is (long d revealed) after here label fresh (ap is_free at ∙ free) in
       record {
         made = λ made. relabels old mid slots sector found there same read new (write.Whole sector label zero_bytes) refl form moves law free_ones free made;
         stopped = λ either. may_have old mid slots sector found there same read new (write.Whole sector label zero_bytes) refl form moves law either;
@@ -146,8 +146,8 @@ module _ (layout : Layout) (old mid new : DiskState) (slots : Slots) (sector : �
 
   pub freed_laws : (wanted : Wanted) → (wanted.id ≡ 3) ⊎ (16 ≤ wanted.id) → names found wanted ≡ true → WriteLaws (ones_of wanted) sector (write.LabelOnly sector free_label) old slots mid new
   freed_laws wanted of_file named =
-      let law = λ (d : List Sector) (told : old.contents ≡ Some d) (s : Sector) (here : slice_get d sector ≡ Some s) (at : s.0 ≡ found).
-      next_is_lawful layout d sector s is (long d told) behind here free_label (of_wanted wanted s.0 of_file (ap (λ (l : Label). names l wanted) at ∙ named)) (inl refl) in
+      let law = λ (d : List Sector) (revealed : old.contents ≡ Some d) (s : Sector) (here : slice_get d sector ≡ Some s) (at : s.0 ≡ found).
+      next_is_permitted layout d sector s is (long d revealed) after here free_label (of_wanted wanted s.0 of_file (ap (λ (l : Label). names l wanted) at ∙ named)) (inl refl) in
       record {
         made = λ made. relabels old mid slots sector found there same read new (write.LabelOnly sector free_label) refl free_in_form moves law (ones_of wanted) named made;
         stopped = λ either. may_have old mid slots sector found there same read new (write.LabelOnly sector free_label) refl free_in_form moves law either;
@@ -157,8 +157,8 @@ module _ (layout : Layout) (old mid new : DiskState) (slots : Slots) (sector : �
       → WriteLaws (λ l. (l ≡ found) × ones_of (record { id = id; page = leader_page }) l) sector (write.LabelOnly sector (with_mark mark found)) old slots mid new
   marked_laws mark id some form named =
       let wanted : Wanted = record { id = id; page = leader_page } in
-      let law = λ (d : List Sector) (told : old.contents ≡ Some d) (s : Sector) (here : slice_get d sector ≡ Some s) (at : s.0 ≡ found).
-      next_is_lawful layout d sector s is (long d told) behind here (with_mark mark found) (of_wanted wanted s.0 (inr some) (ap (λ (l : Label). names l wanted) at ∙ named)) (next_mark mark s.0 found at (page_of found wanted named)) in
+      let law = λ (d : List Sector) (revealed : old.contents ≡ Some d) (s : Sector) (here : slice_get d sector ≡ Some s) (at : s.0 ≡ found).
+      next_is_permitted layout d sector s is (long d revealed) after here (with_mark mark found) (of_wanted wanted s.0 (inr some) (ap (λ (l : Label). names l wanted) at ∙ named)) (next_mark mark s.0 found at (page_of found wanted named)) in
       let in_form : IsWriteInForm (write.LabelOnly sector (with_mark mark found)) = λ page whole bytes. record { id_fits = form.id_fits; page_fits = form.page_fits; kind_fits = form.kind_fits; flags_fit = form.flags_fit; last_fits = form.last_fits; whole_page = whole; bytes = bytes } in
       record {
         made = λ made. relabels old mid slots sector found there same read new (write.LabelOnly sector (with_mark mark found)) refl in_form moves law (λ l. (l ≡ found) × ones_of wanted l) (refl, named) made;

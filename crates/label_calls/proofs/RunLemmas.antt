@@ -14,7 +14,7 @@ use Rattle.labelled_disk.specs.declared.evidence.Evidence.{Evidence}
 use Rattle.labelled_disk.specs.declared.evidence.Evidence.TheVariants as evidence
 use Rattle.labelled_disk.specs.declared.evidence.Halt.{Halt}
 use Rattle.labelled_disk.specs.declared.evidence.Halt.TheVariants as halt
-use Rattle.labelled_disk.specs.Moment.{written}
+use Rattle.labelled_disk.specs.CrashState.{written}
 use Rattle.labelled_disk.specs.Runs.{growth, freeing, zero_bytes}
 use Rattle.labelled_disk.specs.Label.{page_label}
 use Rattle.labelled_disk.specs.Sectors.{Sector, free_label}
@@ -67,7 +67,7 @@ so_far_none place f labels covered old slots layout size = record {
   makes = makes_nothing no_page old slots;
   others = λ d j apart. refl;
   goes = λ free. goes_itself (λ m n. n ≡ m) no_page old slots (λ m. refl);
-  found = λ d told i below. absurd (omega (arith, below));
+  found = λ d revealed i below. absurd (omega (arith, below));
   same_pool = refl;
   same_layout = refl;
   size = size;
@@ -92,9 +92,9 @@ module _ (place : ℕ → ℕ) (f : ℕ → DiskWrite) (labels : ℕ → Labels)
         goes = λ c. subst (λ (run : List DiskWrite). Goes (λ m n. n ≡ after_writes run m) no_page run old slots new slots) (sym (turns_more f k))
             (goes_then (λ m n. n ≡ after_writes (turns f k) m) (λ m n. n ≡ written (f k) m) (λ m n. n ≡ after_writes (turns f k ++ f k ∷ []) m)
             (λ m n o first next. next ∙ ap (written (f k)) first ∙ after_writes-append (turns f k) (f k ∷ []) m) (so_far.goes c) (did.goes (free c)));
-        found = λ d told i below. elim (cases_eq i k) [
-          | inl same ↦ rw same (let one = did.found (after_writes (turns f k) d) (so_far.appended.contents ∙ ap (option_map (after_writes (turns f k))) told) in (one.0, sym (so_far.others d (place k) apart) ∙ one.1, one.2))
-          | inr other ↦ so_far.found d told i (omega (arith, below, other))
+        found = λ d revealed i below. elim (cases_eq i k) [
+          | inl same ↦ rw same (let one = did.found (after_writes (turns f k) d) (so_far.appended.contents ∙ ap (option_map (after_writes (turns f k))) revealed) in (one.0, sym (so_far.others d (place k) apart) ∙ one.1, one.2))
+          | inr other ↦ so_far.found d revealed i (omega (arith, below, other))
         ];
         same_pool = frames ∙ so_far.same_pool;
         same_layout = stays ∙ so_far.same_layout;
@@ -108,8 +108,8 @@ module _ (place : ℕ → ℕ) (f : ℕ → DiskWrite) (labels : ℕ → Labels)
 
   -- a label that was read there was there at first
   pub label_before : (found : Label) → HasLabel mid (place k) found → HasLabel old (place k) found
-  label_before found there d told =
-      ap (option_map (λ (s : Sector). s.0)) (sym (still_there d)) ∙ there (after_writes (turns f k) d) (so_far.appended.contents ∙ ap (option_map (after_writes (turns f k))) told)
+  label_before found there d revealed =
+      ap (option_map (λ (s : Sector). s.0)) (sym (still_there d)) ∙ there (after_writes (turns f k) d) (so_far.appended.contents ∙ ap (option_map (after_writes (turns f k))) revealed)
 
   pub taken_before : (evidence : Evidence) → IsTaken (place k) mid evidence → IsTaken (place k) old evidence
   taken_before (evidence.Mismatch sector wanted found) is = (is.0, is.1, label_before found is.2, is.3)
@@ -171,9 +171,9 @@ module _ (place : ℕ → ℕ) (f : ℕ → DiskWrite) (labels : ℕ → Labels)
     count = k + 1;
     within = subst (λ (n : ℕ). k + 1 ≤ n) (sym (length-map-range_with_len f 0 all)) (omega (arith, below));
     makes = subst (λ (r : List DiskWrite). Makes no_page r old slots new slots) (sym (turns_more f k) ∙ sym (take-map-range_with_len f 0 all (k + 1) (omega (arith, below)))) (makes_then so_far.makes (subst (λ (t : Slots). Makes no_page (f k ∷ []) mid t new t) so_far.same_pool made));
-    found = λ d told i less. elim (cases_eq i k) [
-      | inl same ↦ rw same (let one = had (after_writes (turns f k) d) (so_far.appended.contents ∙ ap (option_map (after_writes (turns f k))) told) in (one.0, sym (so_far.others d (place k) apart) ∙ one.1, one.2))
-      | inr other ↦ so_far.found d told i (omega (arith, less, other))
+    found = λ d revealed i less. elim (cases_eq i k) [
+      | inl same ↦ rw same (let one = had (after_writes (turns f k) d) (so_far.appended.contents ∙ ap (option_map (after_writes (turns f k))) revealed) in (one.0, sym (so_far.others d (place k) apart) ∙ one.1, one.2))
+      | inr other ↦ so_far.found d revealed i (omega (arith, less, other))
     ];
   })
 

@@ -8,7 +8,7 @@ use Rattle.labelled_disk.specs.declared.evidence.Evidence.TheVariants.{Mismatch,
 use Rattle.labelled_disk.specs.Label.{is_free, is_file, names}
 use Rattle.labelled_disk.specs.Sectors.{Sector}
 use Rattle.labelled_disk.specs.State.{DiskState, HasLabel}
-use Rattle.labelled_disk.specs.Moment.{written}
+use Rattle.labelled_disk.specs.CrashState.{written}
 use Rattle.labelled_disk.specs.WriteRuns.{Appended}
 use Rattle.frame_pool.specs.Frames.{Frame, Slots, Has}
 use Rattle.swapper_kernel.specs.Goes.{Goes, Makes, no_page}
@@ -45,7 +45,7 @@ IsUncovered slots sector = (i : ℕ) (f : Frame) → Has slots i f → f.home.se
 abbrev pub HasOne : Labels → List Sector → ℕ → Type 0
 HasOne labels sectors sector = (s : Sector) × (slice_get sectors sector ≡ Some s) × labels s.0
 
--- The sector had one of these labels, and one lawful write gave it another. Where no frame is over the sector, the memory
+-- The sector had one of these labels, and one permitted write gave it another. Where no frame is over the sector, the memory
 -- is what the write makes of it.
 pub record Relabels (labels : Labels) (sector : ℕ) (write : DiskWrite) (old : DiskState) (slots : Slots) (new : DiskState) : Type 0 where
   pub found : (d : List Sector) → old.contents ≡ Some d → HasOne labels d sector

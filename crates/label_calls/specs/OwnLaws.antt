@@ -8,22 +8,22 @@ use Rattle.std.proofs.lemmas.Option.{same_Some, none-some}
 use Rattle.labelled_disk.specs.declared.label.Label.{Label}
 use Rattle.labelled_disk.specs.declared.disk.DiskWrite.{DiskWrite}
 use Rattle.labelled_disk.specs.declared.disk.DiskWrite.TheVariants as write
-use Rattle.labelled_disk.specs.Calls.{TellsSame, TellsWrite}
-use Rattle.labelled_disk.specs.Moment.{moment}
+use Rattle.labelled_disk.specs.Calls.{RevealsSame, RevealsWrite}
+use Rattle.labelled_disk.specs.CrashState.{crash_state}
 use Rattle.labelled_disk.specs.Runs.{growth, creation}
 use Rattle.labelled_disk.specs.Sectors.{Sector}
 use Rattle.labelled_disk.specs.State.{DiskState, HasLabel}
 use Rattle.labelled_disk.specs.WriteRuns.{Appended, after_writes}
-use Rattle.labelled_disk.proofs.WriteRunLemmas.{appended_none, appended_one, appended_then, moment-earlier, after_writes-append, moment-later}
+use Rattle.labelled_disk.proofs.WriteRunLemmas.{appended_none, appended_one, appended_then, crash_state-earlier, after_writes-append, crash_state-later}
 use Rattle.frame_pool.specs.Frames.{Slots}
 use Rattle.swapper_kernel.specs.Goes.{Pages, Makes, is_page_write}
 use Rattle.label_calls.specs.Labels.{MayHaveWritten}
 use Rattle.label_calls.specs.Own.{RelabelsOwn}
 
--- each of these writes that is of a label without its page stands, at its moment, over a label of this identifier
+-- each of these writes that is of a label without its page stands, where it is made, over a label of this identifier
 abbrev pub AreOverOwn : ℕ → List Sector → List DiskWrite → Type 0
 AreOverOwn id d writes =
-    (k sector : ℕ) (label : Label) → slice_get writes k ≡ Some (write.LabelOnly sector label) → (s : Sector) → slice_get (moment d writes k) sector ≡ Some s → s.0.id ≡ id
+    (k sector : ℕ) (label : Label) → slice_get writes k ≡ Some (write.LabelOnly sector label) → (s : Sector) → slice_get (crash_state d writes k) sector ≡ Some s → s.0.id ≡ id
 
 -- the writes that were made are such
 pub record WroteOwn (id : ℕ) (old new : DiskState) : Type 0 where
@@ -31,20 +31,20 @@ pub record WroteOwn (id : ℕ) (old new : DiskState) : Type 0 where
   pub appended : Appended writes old new
   pub over : (d : List Sector) (before : List DiskWrite) → old.contents ≡ Some d → old.writes ≡ Some before → AreOverOwn id d writes
 
-told_after : {a b : DiskState} (writes : List DiskWrite) (before : List DiskWrite) → Appended writes a b → a.writes ≡ Some before → b.writes ≡ Some (before ++ writes)
-told_after writes before appended was = appended.told ∙ ap (option_map (λ (earlier : List DiskWrite). earlier ++ writes)) was
+revealed_after : {a b : DiskState} (writes : List DiskWrite) (before : List DiskWrite) → Appended writes a b → a.writes ≡ Some before → b.writes ≡ Some (before ++ writes)
+revealed_after writes before appended was = appended.revealed ∙ ap (option_map (λ (earlier : List DiskWrite). earlier ++ writes)) was
 
 pub relabels_own : {id : ℕ} {a b : DiskState} → WroteOwn id a b → RelabelsOwn id a b
 relabels_own {id = id} wrote = record {
-  own = λ d before writes told was now.
-      subst (AreOverOwn id d) (append_cancel_left before wrote.writes writes (same_Some (before ++ wrote.writes) (before ++ writes) (sym (told_after wrote.writes before wrote.appended was) ∙ now))) (wrote.over d before told was);
+  own = λ d before writes revealed was now.
+      subst (AreOverOwn id d) (append_cancel_left before wrote.writes writes (same_Some (before ++ wrote.writes) (before ++ writes) (sym (revealed_after wrote.writes before wrote.appended was) ∙ now))) (wrote.over d before revealed was);
 }
 
 appended_own : {id : ℕ} {a b : DiskState} (writes : List DiskWrite) → Appended writes a b → RelabelsOwn id a b → WroteOwn id a b
 appended_own writes appended relabels = record {
   writes = writes;
   appended = appended;
-  over = λ d before told was. relabels.own d before writes told was (told_after writes before appended was);
+  over = λ d before revealed was. relabels.own d before writes revealed was (revealed_after writes before appended was);
 }
 
 -- what a call says of its writes
@@ -64,8 +64,8 @@ place_in (y ∷ xs) ys (suc k) x is = elim (place_in xs ys k x is) [
 -- writes in a row
 pub over_then : (id : ℕ) (d : List Sector) (first next : List DiskWrite) → AreOverOwn id d first → AreOverOwn id (after_writes first d) next → AreOverOwn id d (first ++ next)
 over_then id d first next one more k sector label at s here = elim (place_in first next k (write.LabelOnly sector label) at) [
-  | inl (below, there) ↦ one k sector label there s (sym (ap (λ (l : List Sector). slice_get l sector) (moment-earlier d first next k (omega (arith, below)))) ∙ here)
-  | inr (j, past, there) ↦ more j sector label there s (sym (ap (λ (l : List Sector). slice_get l sector) (ap (moment d (first ++ next)) past ∙ moment-later d first next j)) ∙ here)
+  | inl (below, there) ↦ one k sector label there s (sym (ap (λ (l : List Sector). slice_get l sector) (crash_state-earlier d first next k (omega (arith, below)))) ∙ here)
+  | inr (j, past, there) ↦ more j sector label there s (sym (ap (λ (l : List Sector). slice_get l sector) (ap (crash_state d (first ++ next)) past ∙ crash_state-later d first next j)) ∙ here)
 ]
 
 -- one call, and then another
@@ -73,8 +73,8 @@ pub own_then : {id : ℕ} {a b c : DiskState} → WroteOwn id a b → WroteOwn i
 own_then {id = id} one more = record {
   writes = one.writes ++ more.writes;
   appended = appended_then one.writes more.writes one.appended more.appended;
-  over = λ d before told was. over_then id d one.writes more.writes (one.over d before told was)
-      (more.over (after_writes one.writes d) (before ++ one.writes) (one.appended.contents ∙ ap (option_map (after_writes one.writes)) told) (told_after one.writes before one.appended was));
+  over = λ d before revealed was. over_then id d one.writes more.writes (one.over d before revealed was)
+      (more.over (after_writes one.writes d) (before ++ one.writes) (one.appended.contents ∙ ap (option_map (after_writes one.writes)) revealed) (revealed_after one.writes before one.appended was));
 }
 
 -- the write is of a label without its page
@@ -110,15 +110,15 @@ pub whole_own : (id : ℕ) {pages : Pages} {run : List DiskWrite} {a b : DiskSta
 whole_own id whole makes = record {
   writes = makes.wrote.writes;
   appended = makes.wrote.appended;
-  over = λ d before told was k sector label at s here. absurd (none_alone makes.wrote.writes (whole_among makes.wrote.writes (subst AreWhole (sym makes.wrote.labels) whole)) k sector label at);
+  over = λ d before revealed was k sector label at s here. absurd (none_alone makes.wrote.writes (whole_among makes.wrote.writes (subst AreWhole (sym makes.wrote.labels) whole)) k sector label at);
 }
 
 -- a call that wrote no label
 pub quiet_own : (id : ℕ) {pages : Pages} {a b : DiskState} {s t : Slots} → Makes pages [] a s b t → WroteOwn id a b
 quiet_own id makes = whole_own id tt makes
 
-pub same_own : (id : ℕ) {a b : DiskState} → TellsSame a b → WroteOwn id a b
-same_own id same = record { writes = []; appended = appended_none same; over = λ d before told was k sector label at s here. absurd (none-some (write.LabelOnly sector label) at) }
+pub same_own : (id : ℕ) {a b : DiskState} → RevealsSame a b → WroteOwn id a b
+same_own id same = record { writes = []; appended = appended_none same; over = λ d before revealed was k sector label at s here. absurd (none-some (write.LabelOnly sector label) at) }
 
 -- the first of such writes are such
 pub first_whole : (n : ℕ) (run : List DiskWrite) → AreWhole run → AreWhole (take n run)
@@ -156,21 +156,21 @@ read_id {id = id} {found = found} (Some x) there is s here =
     ap (λ (l : Label). l.id) (ap (λ (z : Sector). z.0) (sym (same_Some x s here)) ∙ same_Some x.0 found there) ∙ is
 
 -- A label was read and found to be of this identifier. One was written over it, or nothing was.
-pub read_own : {id : ℕ} {a b c : DiskState} (sector : ℕ) (found label : Label) → HasLabel a sector found → found.id ≡ id → TellsSame a b → TellsSame b c ⊎ TellsWrite (write.LabelOnly sector label) b c → RelabelsOwn id a c
+pub read_own : {id : ℕ} {a b c : DiskState} (sector : ℕ) (found label : Label) → HasLabel a sector found → found.id ≡ id → RevealsSame a b → RevealsSame b c ⊎ RevealsWrite (write.LabelOnly sector label) b c → RelabelsOwn id a c
 read_own {id = id} sector found label there is same (inl nothing) = relabels_own (own_then (same_own id same) (same_own id nothing))
 read_own {id = id} sector found label there is same (inr made) = relabels_own (record {
   writes = write.LabelOnly sector label ∷ [];
   appended = appended_then [] (write.LabelOnly sector label ∷ []) (appended_none same) (appended_one (write.LabelOnly sector label) made);
-  over = λ d before told was. one_over id sector label d (read_id (slice_get d sector) (there d told) is);
+  over = λ d before revealed was. one_over id sector label d (read_id (slice_get d sector) (there d revealed) is);
 })
 
 -- a page was written with its label, or nothing was
-pub fresh_own : (id : ℕ) {a b c : DiskState} (sector : ℕ) (label : Label) (bytes : List ℕ) → TellsSame a b → TellsSame b c ⊎ TellsWrite (write.Whole sector label bytes) b c → RelabelsOwn id a c
+pub fresh_own : (id : ℕ) {a b c : DiskState} (sector : ℕ) (label : Label) (bytes : List ℕ) → RevealsSame a b → RevealsSame b c ⊎ RevealsWrite (write.Whole sector label bytes) b c → RelabelsOwn id a c
 fresh_own id sector label bytes same (inl nothing) = relabels_own (own_then (same_own id same) (same_own id nothing))
 fresh_own id sector label bytes same (inr made) = relabels_own (record {
   writes = write.Whole sector label bytes ∷ [];
   appended = appended_then [] (write.Whole sector label bytes ∷ []) (appended_none same) (appended_one (write.Whole sector label bytes) made);
-  over = λ d before told was k place next at s here. absurd (none_alone (write.Whole sector label bytes ∷ []) tt k place next at);
+  over = λ d before revealed was k place next at s here. absurd (none_alone (write.Whole sector label bytes ∷ []) tt k place next at);
 })
 
 -- a write that may have been made

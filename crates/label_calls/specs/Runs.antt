@@ -23,7 +23,7 @@ AreUncovered slots sector pages = (k : ℕ) → k < pages → IsUncovered slots 
 abbrev pub HaveOnes : (ℕ → Labels) → List Sector → ℕ → ℕ → Type 0
 HaveOnes labels sectors sector pages = (k : ℕ) → k < pages → HasOne (labels k) sectors (sector + k)
 
--- These lawful writes gave sectors in a row other labels. Where no frame is over them, the memory is what the writes make of it.
+-- These permitted writes gave sectors in a row other labels. Where no frame is over them, the memory is what the writes make of it.
 pub record RelabelsRun (sector pages : ℕ) (run : List DiskWrite) (old : DiskState) (slots : Slots) (new : DiskState) : Type 0 where
   pub appended : Appended run old new
   pub makes : Makes no_page run old slots new slots

@@ -5,7 +5,7 @@ ghost use Rattle.labelled_disk.specs.declared.evidence.Halt.TheVariants as halt;
 ghost use Rattle.labelled_disk.specs.Label.{leader_page};
 ghost use Rattle.labelled_disk.specs.Runs.{zero_bytes};
 ghost use Rattle.labelled_disk.specs.Sectors.{Sector, free_label};
-ghost use Rattle.labelled_disk.specs.Calls.{Moves, Rose, TellsSame, TellsWrite};
+ghost use Rattle.labelled_disk.specs.Calls.{Moves, Rose, RevealsSame, RevealsWrite};
 ghost use Rattle.labelled_disk.specs.State.{HasLabel};
 ghost use Rattle.labelled_disk.specs.declared.label.Label.{Label};
 ghost use Rattle.swapper_kernel.specs.Goes.{Makes, no_page};
@@ -16,7 +16,7 @@ ghost use Rattle.label_calls.specs.Own.{RelabelsOwn};
 
 use labelled_disk::{Disk, Evidence, FileId, Halt, Label, Wanted};
 use std::alloc::Allocator;
-use swapper_kernel::SwapperOver;
+use swapper_kernel::Swapper;
 
 /// A mark that a file gets for good.
 #[derive(Clone, Copy, Debug, PartialEq, Eq)]
@@ -46,15 +46,15 @@ impl Mark {
 
 /// The label of a sector, as the disk has it.
 pub fn read_label<D: Disk, A: Allocator>(
-    swapper: &mut SwapperOver<D, A>,
+    swapper: &mut Swapper<D, A>,
     sector: u32,
 ) -> Result<Label, Halt>
-    requires { sector < (D.state swapper.old.under).sectors }
-    ensures found { IfOk result (HasLabel (D.state swapper.old.under) sector) }
-    ensures same { TellsSame (D.state swapper.old.under) (D.state swapper.new.under) }
-    ensures moves { Moves (D.state swapper.old.under) (D.state swapper.new.under) }
-    ensures makes { Makes no_page [] (D.state swapper.old.under) swapper.old.pool (D.state swapper.new.under) swapper.new.pool }
-    ensures cause { IfErr result (λ e. (e ≡ halt.Disk) × Rose (D.state swapper.old.under).faults (D.state swapper.new.under).faults) }
+    requires { sector < (D.state swapper.old.disk).sectors }
+    ensures found { IfOk result (HasLabel (D.state swapper.old.disk) sector) }
+    ensures same { RevealsSame (D.state swapper.old.disk) (D.state swapper.new.disk) }
+    ensures moves { Moves (D.state swapper.old.disk) (D.state swapper.new.disk) }
+    ensures makes { Makes no_page [] (D.state swapper.old.disk) swapper.old.pool (D.state swapper.new.disk) swapper.new.pool }
+    ensures cause { IfErr result (λ e. (e ≡ halt.Disk) × Rose (D.state swapper.old.disk).faults (D.state swapper.new.disk).faults) }
     ensures frames { swapper.new.pool ≡ swapper.old.pool }
     ensures layout { swapper.new.layout ≡ swapper.old.layout }
 {
@@ -68,15 +68,15 @@ pub fn read_label<D: Disk, A: Allocator>(
 
 // Writes a label over that of a data sector, whose page stays.
 fn write_label<D: Disk, A: Allocator>(
-    swapper: &mut SwapperOver<D, A>,
+    swapper: &mut Swapper<D, A>,
     sector: u32,
     label: Label,
 ) -> Result<(), Halt>
-    requires { sector < (D.state swapper.old.under).sectors }
-    ensures writes { OnOk result (TellsWrite (write.LabelOnly sector label) (D.state swapper.old.under) (D.state swapper.new.under)) }
-    ensures stopped { OnErr result (TellsSame (D.state swapper.old.under) (D.state swapper.new.under) ⊎ TellsWrite (write.LabelOnly sector label) (D.state swapper.old.under) (D.state swapper.new.under)) }
-    ensures moves { Moves (D.state swapper.old.under) (D.state swapper.new.under) }
-    ensures cause { IfErr result (λ e. (e ≡ halt.Disk) × Rose (D.state swapper.old.under).faults (D.state swapper.new.under).faults) }
+    requires { sector < (D.state swapper.old.disk).sectors }
+    ensures writes { OnOk result (RevealsWrite (write.LabelOnly sector label) (D.state swapper.old.disk) (D.state swapper.new.disk)) }
+    ensures stopped { OnErr result (RevealsSame (D.state swapper.old.disk) (D.state swapper.new.disk) ⊎ RevealsWrite (write.LabelOnly sector label) (D.state swapper.old.disk) (D.state swapper.new.disk)) }
+    ensures moves { Moves (D.state swapper.old.disk) (D.state swapper.new.disk) }
+    ensures cause { IfErr result (λ e. (e ≡ halt.Disk) × Rose (D.state swapper.old.disk).faults (D.state swapper.new.disk).faults) }
     ensures frames { swapper.new.pool ≡ swapper.old.pool }
     ensures layout { swapper.new.layout ≡ swapper.old.layout }
 {
@@ -90,15 +90,15 @@ fn write_label<D: Disk, A: Allocator>(
 // Writes a label and a page of zeros into a data sector.
 #[tactic(auto, unfolding(labelled_disk::specs::Runs::zero_bytes))]
 fn write_fresh<D: Disk, A: Allocator>(
-    swapper: &mut SwapperOver<D, A>,
+    swapper: &mut Swapper<D, A>,
     sector: u32,
     label: Label,
 ) -> Result<(), Halt>
-    requires { sector < (D.state swapper.old.under).sectors }
-    ensures writes { OnOk result (TellsWrite (write.Whole sector label zero_bytes) (D.state swapper.old.under) (D.state swapper.new.under)) }
-    ensures stopped { OnErr result (TellsSame (D.state swapper.old.under) (D.state swapper.new.under) ⊎ TellsWrite (write.Whole sector label zero_bytes) (D.state swapper.old.under) (D.state swapper.new.under)) }
-    ensures moves { Moves (D.state swapper.old.under) (D.state swapper.new.under) }
-    ensures cause { IfErr result (λ e. (e ≡ halt.Disk) × Rose (D.state swapper.old.under).faults (D.state swapper.new.under).faults) }
+    requires { sector < (D.state swapper.old.disk).sectors }
+    ensures writes { OnOk result (RevealsWrite (write.Whole sector label zero_bytes) (D.state swapper.old.disk) (D.state swapper.new.disk)) }
+    ensures stopped { OnErr result (RevealsSame (D.state swapper.old.disk) (D.state swapper.new.disk) ⊎ RevealsWrite (write.Whole sector label zero_bytes) (D.state swapper.old.disk) (D.state swapper.new.disk)) }
+    ensures moves { Moves (D.state swapper.old.disk) (D.state swapper.new.disk) }
+    ensures cause { IfErr result (λ e. (e ≡ halt.Disk) × Rose (D.state swapper.old.disk).faults (D.state swapper.new.disk).faults) }
     ensures frames { swapper.new.pool ≡ swapper.old.pool }
     ensures layout { swapper.new.layout ≡ swapper.old.layout }
 {
@@ -111,25 +111,25 @@ fn write_fresh<D: Disk, A: Allocator>(
 
 /// Gives a free data sector the label of a page, and a page of zeros.
 pub fn make_page<D: Disk, A: Allocator>(
-    swapper: &mut SwapperOver<D, A>,
+    swapper: &mut Swapper<D, A>,
     sector: u32,
     label: Label,
 ) -> Result<(), Halt>
-    requires size { (D.state swapper.old.under).sectors ≡ swapper.old.layout.sectors }
+    requires size { (D.state swapper.old.disk).sectors ≡ swapper.old.layout.sectors }
     requires data { swapper.old.layout.first ≤ sector }
     requires inside { sector < swapper.old.layout.sectors }
     requires form { IsFresh label }
-    ensures made { OnOk result (Relabels free_ones sector (write.Whole sector label zero_bytes) (D.state swapper.old.under) swapper.old.pool (D.state swapper.new.under)) }
-    ensures stopped { OnErr result (MayHaveWritten (write.Whole sector label zero_bytes) (D.state swapper.old.under) swapper.old.pool (D.state swapper.new.under)) }
-    ensures was { OnErr result (Makes no_page [] (D.state swapper.old.under) swapper.old.pool (D.state swapper.new.under) swapper.new.pool
-        ⊎ ((d : List Sector) → (D.state swapper.old.under).contents ≡ Some d → HasOne free_ones d sector)) }
-    ensures sound { (m : List Sector) → Stands (D.state swapper.old.under) swapper.old.pool m → HasOne free_ones m sector → IfErr result (λ e. e ≡ halt.Disk) }
-    ensures cause { IfErr result (HasCause (IsTaken sector (D.state swapper.old.under)) (D.state swapper.old.under) (D.state swapper.new.under)) }
-    ensures so { IfErr result (HasCause (IsTaken sector (D.state swapper.new.under)) (D.state swapper.old.under) (D.state swapper.new.under)) }
+    ensures made { OnOk result (Relabels free_ones sector (write.Whole sector label zero_bytes) (D.state swapper.old.disk) swapper.old.pool (D.state swapper.new.disk)) }
+    ensures stopped { OnErr result (MayHaveWritten (write.Whole sector label zero_bytes) (D.state swapper.old.disk) swapper.old.pool (D.state swapper.new.disk)) }
+    ensures was { OnErr result (Makes no_page [] (D.state swapper.old.disk) swapper.old.pool (D.state swapper.new.disk) swapper.new.pool
+        ⊎ ((d : List Sector) → (D.state swapper.old.disk).contents ≡ Some d → HasOne free_ones d sector)) }
+    ensures sound { (m : List Sector) → Stands (D.state swapper.old.disk) swapper.old.pool m → HasOne free_ones m sector → IfErr result (λ e. e ≡ halt.Disk) }
+    ensures cause { IfErr result (HasCause (IsTaken sector (D.state swapper.old.disk)) (D.state swapper.old.disk) (D.state swapper.new.disk)) }
+    ensures evidence_seen { IfErr result (HasCause (IsTaken sector (D.state swapper.new.disk)) (D.state swapper.old.disk) (D.state swapper.new.disk)) }
     ensures frames { swapper.new.pool ≡ swapper.old.pool }
     ensures layout { swapper.new.layout ≡ swapper.old.layout }
-    ensures cost { (D.state swapper.new.under).transfers ≤ (D.state swapper.old.under).transfers + 2 }
-    ensures own { (other : ℕ) → RelabelsOwn other (D.state swapper.old.under) (D.state swapper.new.under) }
+    ensures cost { (D.state swapper.new.disk).transfers ≤ (D.state swapper.old.disk).transfers + 2 }
+    ensures own { (other : ℕ) → RelabelsOwn other (D.state swapper.old.disk) (D.state swapper.new.disk) }
 {
     let found = match read_label(swapper, sector) {
         Ok(found) => found,
@@ -151,25 +151,25 @@ pub fn make_page<D: Disk, A: Allocator>(
 
 /// Gives a data sector that has this page of a file, or of the space tables, a free label.
 pub fn free_page<D: Disk, A: Allocator>(
-    swapper: &mut SwapperOver<D, A>,
+    swapper: &mut Swapper<D, A>,
     sector: u32,
     wanted: Wanted,
 ) -> Result<(), Halt>
-    requires size { (D.state swapper.old.under).sectors ≡ swapper.old.layout.sectors }
+    requires size { (D.state swapper.old.disk).sectors ≡ swapper.old.layout.sectors }
     requires data { swapper.old.layout.first ≤ sector }
     requires inside { sector < swapper.old.layout.sectors }
     requires of_file { (wanted.id ≡ 3) ⊎ (16 ≤ wanted.id) }
-    ensures freed { OnOk result (Relabels (ones_of wanted) sector (write.LabelOnly sector free_label) (D.state swapper.old.under) swapper.old.pool (D.state swapper.new.under)) }
-    ensures stopped { OnErr result (MayHaveWritten (write.LabelOnly sector free_label) (D.state swapper.old.under) swapper.old.pool (D.state swapper.new.under)) }
-    ensures was { OnErr result (Makes no_page [] (D.state swapper.old.under) swapper.old.pool (D.state swapper.new.under) swapper.new.pool
-        ⊎ ((d : List Sector) → (D.state swapper.old.under).contents ≡ Some d → HasOne (ones_of wanted) d sector)) }
-    ensures sound { (m : List Sector) → Stands (D.state swapper.old.under) swapper.old.pool m → HasOne (ones_of wanted) m sector → IfErr result (λ e. e ≡ halt.Disk) }
-    ensures cause { IfErr result (HasCause (IsNotOf sector wanted (D.state swapper.old.under)) (D.state swapper.old.under) (D.state swapper.new.under)) }
-    ensures so { IfErr result (HasCause (IsNotOf sector wanted (D.state swapper.new.under)) (D.state swapper.old.under) (D.state swapper.new.under)) }
+    ensures freed { OnOk result (Relabels (ones_of wanted) sector (write.LabelOnly sector free_label) (D.state swapper.old.disk) swapper.old.pool (D.state swapper.new.disk)) }
+    ensures stopped { OnErr result (MayHaveWritten (write.LabelOnly sector free_label) (D.state swapper.old.disk) swapper.old.pool (D.state swapper.new.disk)) }
+    ensures was { OnErr result (Makes no_page [] (D.state swapper.old.disk) swapper.old.pool (D.state swapper.new.disk) swapper.new.pool
+        ⊎ ((d : List Sector) → (D.state swapper.old.disk).contents ≡ Some d → HasOne (ones_of wanted) d sector)) }
+    ensures sound { (m : List Sector) → Stands (D.state swapper.old.disk) swapper.old.pool m → HasOne (ones_of wanted) m sector → IfErr result (λ e. e ≡ halt.Disk) }
+    ensures cause { IfErr result (HasCause (IsNotOf sector wanted (D.state swapper.old.disk)) (D.state swapper.old.disk) (D.state swapper.new.disk)) }
+    ensures evidence_seen { IfErr result (HasCause (IsNotOf sector wanted (D.state swapper.new.disk)) (D.state swapper.old.disk) (D.state swapper.new.disk)) }
     ensures frames { swapper.new.pool ≡ swapper.old.pool }
     ensures layout { swapper.new.layout ≡ swapper.old.layout }
-    ensures cost { (D.state swapper.new.under).transfers ≤ (D.state swapper.old.under).transfers + 2 }
-    ensures own { RelabelsOwn wanted.id (D.state swapper.old.under) (D.state swapper.new.under) }
+    ensures cost { (D.state swapper.new.disk).transfers ≤ (D.state swapper.old.disk).transfers + 2 }
+    ensures own { RelabelsOwn wanted.id (D.state swapper.old.disk) (D.state swapper.new.disk) }
 {
     let found = match read_label(swapper, sector) {
         Ok(found) => found,
@@ -191,27 +191,27 @@ pub fn free_page<D: Disk, A: Allocator>(
 
 /// Gives the leader of a file, which stands in this data sector, a mark more.
 pub fn mark_leader<D: Disk, A: Allocator>(
-    swapper: &mut SwapperOver<D, A>,
+    swapper: &mut Swapper<D, A>,
     sector: u32,
     id: FileId,
     mark: Mark,
 ) -> Result<(), Halt>
-    requires size { (D.state swapper.old.under).sectors ≡ swapper.old.layout.sectors }
+    requires size { (D.state swapper.old.disk).sectors ≡ swapper.old.layout.sectors }
     requires data { swapper.old.layout.first ≤ sector }
     requires inside { sector < swapper.old.layout.sectors }
     requires of_file { 16 ≤ id }
-    ensures marked { OnOk result ((label : Label) × Relabels (λ l. (l ≡ label) × ones_of (record { id = id; page = leader_page }) l) sector (write.LabelOnly sector (with_mark mark label)) (D.state swapper.old.under) swapper.old.pool (D.state swapper.new.under)) }
-    ensures stopped { OnErr result (Makes no_page [] (D.state swapper.old.under) swapper.old.pool (D.state swapper.new.under) swapper.new.pool
-        ⊎ ((label : Label) × HasLabel (D.state swapper.old.under) sector label × MayHaveWritten (write.LabelOnly sector (with_mark mark label)) (D.state swapper.old.under) swapper.old.pool (D.state swapper.new.under))) }
-    ensures was { OnErr result (Makes no_page [] (D.state swapper.old.under) swapper.old.pool (D.state swapper.new.under) swapper.new.pool
-        ⊎ ((d : List Sector) → (D.state swapper.old.under).contents ≡ Some d → HasOne (ones_of (record { id = id; page = leader_page })) d sector)) }
-    ensures sound { (m : List Sector) → Stands (D.state swapper.old.under) swapper.old.pool m → HasOne (ones_of (record { id = id; page = leader_page })) m sector → IfErr result (λ e. e ≡ halt.Disk) }
-    ensures cause { IfErr result (HasCause (IsNotOf sector (record { id = id; page = leader_page }) (D.state swapper.old.under)) (D.state swapper.old.under) (D.state swapper.new.under)) }
-    ensures so { IfErr result (HasCause (IsNotOf sector (record { id = id; page = leader_page }) (D.state swapper.new.under)) (D.state swapper.old.under) (D.state swapper.new.under)) }
+    ensures marked { OnOk result ((label : Label) × Relabels (λ l. (l ≡ label) × ones_of (record { id = id; page = leader_page }) l) sector (write.LabelOnly sector (with_mark mark label)) (D.state swapper.old.disk) swapper.old.pool (D.state swapper.new.disk)) }
+    ensures stopped { OnErr result (Makes no_page [] (D.state swapper.old.disk) swapper.old.pool (D.state swapper.new.disk) swapper.new.pool
+        ⊎ ((label : Label) × HasLabel (D.state swapper.old.disk) sector label × MayHaveWritten (write.LabelOnly sector (with_mark mark label)) (D.state swapper.old.disk) swapper.old.pool (D.state swapper.new.disk))) }
+    ensures was { OnErr result (Makes no_page [] (D.state swapper.old.disk) swapper.old.pool (D.state swapper.new.disk) swapper.new.pool
+        ⊎ ((d : List Sector) → (D.state swapper.old.disk).contents ≡ Some d → HasOne (ones_of (record { id = id; page = leader_page })) d sector)) }
+    ensures sound { (m : List Sector) → Stands (D.state swapper.old.disk) swapper.old.pool m → HasOne (ones_of (record { id = id; page = leader_page })) m sector → IfErr result (λ e. e ≡ halt.Disk) }
+    ensures cause { IfErr result (HasCause (IsNotOf sector (record { id = id; page = leader_page }) (D.state swapper.old.disk)) (D.state swapper.old.disk) (D.state swapper.new.disk)) }
+    ensures evidence_seen { IfErr result (HasCause (IsNotOf sector (record { id = id; page = leader_page }) (D.state swapper.new.disk)) (D.state swapper.old.disk) (D.state swapper.new.disk)) }
     ensures frames { swapper.new.pool ≡ swapper.old.pool }
     ensures layout { swapper.new.layout ≡ swapper.old.layout }
-    ensures cost { (D.state swapper.new.under).transfers ≤ (D.state swapper.old.under).transfers + 2 }
-    ensures own { RelabelsOwn id (D.state swapper.old.under) (D.state swapper.new.under) }
+    ensures cost { (D.state swapper.new.disk).transfers ≤ (D.state swapper.old.disk).transfers + 2 }
+    ensures own { RelabelsOwn id (D.state swapper.old.disk) (D.state swapper.new.disk) }
 {
     let wanted = Wanted { id, page: LEADER };
     let found = match read_label(swapper, sector) {

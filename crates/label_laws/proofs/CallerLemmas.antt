@@ -1,9 +1,9 @@
--- The loop of a caller that writes lawfully.
+-- The loop of a caller that writes as permitted.
 use Rattle.std.proofs.Common.{◌≡◌}
 use Rattle.labelled_disk.specs.State.{DiskState}
-use Rattle.label_laws.specs.LawfulRuns.{LawfullyLater}
+use Rattle.label_laws.specs.PermittedRuns.{LawfullyLater}
 
 -- so far
 pub record SoFar (first now : DiskState) : Type 0 where
-  pub lawful : LawfullyLater first now
+  pub permitted : LawfullyLater first now
   pub sectors : now.sectors ≡ first.sectors

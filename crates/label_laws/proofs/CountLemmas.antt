@@ -12,7 +12,7 @@ use Rattle.labelled_disk.specs.Layout.{data_sectors, first_data}
 use Rattle.labelled_disk.specs.File.{File, size, file_at, room_of, total_room}
 use Rattle.labelled_disk.specs.FilesOn.{is_page, leads_file, file_among, files_among, disk_file}
 use Rattle.labelled_disk.specs.Lowest.{is_first, IsFileOn}
-use Rattle.labelled_disk.specs.Rising.{AreRising}
+use Rattle.labelled_disk.specs.Ascending.{AreAscending}
 use Rattle.labelled_disk.specs.WriteLaws.{HasData}
 use Rattle.labelled_disk.proofs.SectorWrites as w
 use Rattle.labelled_disk.proofs.WriteLemmas as laws
@@ -39,8 +39,8 @@ module _ (with_temporary : Bool) where
 
   all_unneeded : (d : List Sector) → AreAllUnneeded with_temporary d (unneeded_sectors with_temporary d)
   all_unneeded d i s there taken free =
-      let behind = there.is_data in
-      places_all (λ i s. not (is_free s.0) && not (needs_place with_temporary d i)) (first_data (length d)) (data_sectors d) i (i - first_data (length d)) s (omega (arith, behind))
+      let after = there.is_data in
+      places_all (λ i s. not (is_free s.0) && not (needs_place with_temporary d i)) (first_data (length d)) (data_sectors d) i (i - first_data (length d)) s (omega (arith, after))
       (laws.data_get with_temporary 0 0 d i s there.is_data there.here)
       (and_from (not (is_free s.0)) (not (needs_place with_temporary d i)) (not_from_false (is_free s.0) taken) (not_from_false (needs_place with_temporary d i) free))
 
@@ -58,8 +58,8 @@ module _ (with_temporary : Bool) where
 
   all_lost : (d : List Sector) (i : ℕ) → IsLost with_temporary d i → Contains (lost_sectors with_temporary d) i
   all_lost d i lost =
-      let behind = lost.there.is_data in
-      places_all (λ i s. not (needs_place with_temporary d i) && is_of_some_file with_temporary d s) (first_data (length d)) (data_sectors d) i (i - first_data (length d)) lost.s (omega (arith, behind))
+      let after = lost.there.is_data in
+      places_all (λ i s. not (needs_place with_temporary d i) && is_of_some_file with_temporary d s) (first_data (length d)) (data_sectors d) i (i - first_data (length d)) lost.s (omega (arith, after))
       (laws.data_get with_temporary 0 0 d i lost.s lost.there.is_data lost.there.here)
       (and_from (not (needs_place with_temporary d i)) (is_of_some_file with_temporary d lost.s) (not_from_false (needs_place with_temporary d i) lost.unneeded)
       (and_from (is_file lost.s.0) (option_map_or (λ f. true) (disk_file with_temporary d lost.s.0.id) false) lost.file_label (ap (λ (o : Option File). option_map_or (λ f. true) o false) lost.file)))
@@ -68,11 +68,11 @@ module _ (with_temporary : Bool) where
   list_laws = record {
     each = each_unneeded;
     all = all_unneeded;
-    rising = λ d. places_rise (λ i s. not (is_free s.0) && not (needs_place with_temporary d i)) (first_data (length d)) (data_sectors d);
+    ascending = λ d. places_rise (λ i s. not (is_free s.0) && not (needs_place with_temporary d i)) (first_data (length d)) (data_sectors d);
     freed = λ d. freed_all with_temporary d (unneeded_sectors with_temporary d) (each_unneeded d) (all_unneeded d);
     lost_each = each_lost;
     lost_all = all_lost;
-    lost_rising = λ d. places_rise (λ i s. not (needs_place with_temporary d i) && is_of_some_file with_temporary d s) (first_data (length d)) (data_sectors d);
+    lost_ascending = λ d. places_rise (λ i s. not (needs_place with_temporary d i) && is_of_some_file with_temporary d s) (first_data (length d)) (data_sectors d);
   }
 
 -- a test of the sectors of each file's identifier
@@ -96,7 +96,7 @@ greater id [] all = tt
 greater id (f ∷ fs) all = (all.0, greater id fs all.1)
 
 -- it is the file of the identifier
-any_at : (test : OfFile) (fs : List File) (n : ℕ) (s : Sector) → AreRising fs → any_of test fs n s ≡ option_map_or (λ f. test f n s) (file_at fs s.0.id) false
+any_at : (test : OfFile) (fs : List File) (n : ℕ) (s : Sector) → AreAscending fs → any_of test fs n s ≡ option_map_or (λ f. test f n s) (file_at fs s.0.id) false
 any_at test [] n s rise = refl
 any_at test (f ∷ fs) n s rise = either (eqb f.id s.0.id) refl (any_at test fs n s rise.1)
   where
@@ -115,7 +115,7 @@ any_at test (f ∷ fs) n s rise = either (eqb f.id s.0.id) refl (any_at test fs 
 
 module _ (with_temporary : Bool) (base : ℕ) (xs : List Sector) (test : OfFile) (count : File → ℕ) where
   -- as many sectors as each file counts
-  any_counts : (fs : List File) → AreRising fs → AllByRecursion (λ f. length (places (λ n s. eqb s.0.id f.id && test f n s) base xs) ≡ count f) fs
+  any_counts : (fs : List File) → AreAscending fs → AllByRecursion (λ f. length (places (λ n s. eqb s.0.id f.id && test f n s) base xs) ≡ count f) fs
       → length (places (any_of test fs) base xs) ≡ sum_by count fs
   any_counts [] rise each = places_none base xs
   any_counts (f ∷ fs) rise each =
@@ -167,11 +167,11 @@ module _ (with_temporary : Bool) (d : List Sector) where
 
   -- one leader
   leader_counts : (f : File) → IsFileOn with_temporary (data_sectors d) f → length (places (of_file (leads_it with_temporary d) f) (first_data (length d)) (data_sectors d)) ≡ 1
-  leader_counts f told =
+  leader_counts f revealed =
       ap (λ (l : List ℕ). length l)
       (places_same (of_file (leads_it with_temporary d) f) (leads_it with_temporary d f) (first_data (length d)) (data_sectors d)
       (λ n j s is here. either s (n - first_data (length d)) (sector_at n j s is here) (is_first (leads_file with_temporary f.id) (data_sectors d) (n - first_data (length d))) refl))
-      ∙ first_counts (leads_file with_temporary f.id) (data_sectors d) (first_data (length d)) told.leader.0 told.leader.1 told.leader.2
+      ∙ first_counts (leads_file with_temporary f.id) (data_sectors d) (first_data (length d)) revealed.leader.0 revealed.leader.1 revealed.leader.2
     where
       either : (s : Sector) (j : ℕ) → slice_get (data_sectors d) j ≡ Some s → (b : Bool) → is_first (leads_file with_temporary f.id) (data_sectors d) j ≡ b → (eqb s.0.id f.id && b) ≡ b
       either s j here true e =
@@ -220,14 +220,14 @@ module _ (with_temporary : Bool) (d : List Sector) where
 
   -- as many pages as the file has below m
   pages_count : (f : File) → IsFileOn with_temporary (data_sectors d) f → (m : ℕ) → m ≤ size f → length (places (of_file (is_below d m) f) (first_data (length d)) (data_sectors d)) ≡ m
-  pages_count f told zero low =
+  pages_count f revealed zero low =
       ap (λ (l : List ℕ). length l)
       (places_same (of_file (is_below d 0) f) (λ n s. false) (first_data (length d)) (data_sectors d)
       (λ n j s is here. ap (λ (b : Bool). eqb s.0.id f.id && (b && is_first (is_page f.id s.0.page) (data_sectors d) (n - first_data (length d)))) (le-ltb s.0.page 0 (omega arith)) ∙ and_false (eqb s.0.id f.id)))
       ∙ places_none (first_data (length d)) (data_sectors d)
-  pages_count f told (suc m) low =
-      let page = told.page m (omega (arith, low)) in
-      let fewer = pages_count f told m (omega (arith, low)) in
+  pages_count f revealed (suc m) low =
+      let page = revealed.page m (omega (arith, low)) in
+      let fewer = pages_count f revealed m (omega (arith, low)) in
       let last = first_counts (is_page f.id m) (data_sectors d) (first_data (length d)) page.0 page.1 page.2 in
       ap (λ (l : List ℕ). length l)
       (places_same (of_file (is_below d (suc m)) f) (λ n s. of_file (is_below d m) f n s || is_first (is_page f.id m) (data_sectors d) (n - first_data (length d))) (first_data (length d)) (data_sectors d)
@@ -240,9 +240,9 @@ module _ (with_temporary : Bool) (d : List Sector) where
       omega (arith, low_page, same))
       ∙ omega (arith, fewer, last)
 
-  -- each file of the disk is told
-  each_told : (P : File → Type 0) → ((f : File) → IsFileOn with_temporary (data_sectors d) f → P f) → AllByRecursion P (files_among with_temporary d)
-  each_told P holds = laws.each_file with_temporary 0 0 P d (λ id f is. holds f ((lowest.files_are_as_told with_temporary d).told id f is).0)
+  -- each file of the disk is revealed
+  each_revealed : (P : File → Type 0) → ((f : File) → IsFileOn with_temporary (data_sectors d) f → P f) → AllByRecursion P (files_among with_temporary d)
+  each_revealed P holds = laws.each_file with_temporary 0 0 P d (λ id f is. holds f ((lowest.files_are_as_revealed with_temporary d).revealed id f is).0)
 
   -- of a sector, the leader that its file needs, or a page
   parted : (n j : ℕ) (s : Sector) → n ≡ first_data (length d) + j → slice_get (data_sectors d) j ≡ Some s
@@ -263,18 +263,18 @@ module _ (with_temporary : Bool) (d : List Sector) where
           × ((option_map_or (needs with_temporary (data_sectors d) (n - first_data (length d)) s) o false && not (eqb s.0.page leader_page)) ≡ option_map_or (λ f. is_below d (size f) f n s) o false)
       by_file None e = (refl, refl)
       by_file (Some f) e =
-          let told = (lowest.files_are_as_told with_temporary d).told s.0.id f e in
+          let revealed = (lowest.files_are_as_revealed with_temporary d).revealed s.0.id f e in
           let lead : is_first (leads_file with_temporary s.0.id) (data_sectors d) (n - first_data (length d)) ≡ true → eqb s.0.page leader_page ≡ true =
           λ h. eq-eqb s.0.page leader_page (w.leader_number with_temporary s.0.id s (first_passes (leads_file with_temporary s.0.id) (data_sectors d) (n - first_data (length d)) s at h)) in
           let page : (nat_lt s.0.page (size f) && is_first (is_page s.0.id s.0.page) (data_sectors d) (n - first_data (length d))) ≡ true → eqb s.0.page leader_page ≡ false =
           λ h. ne_eqb s.0.page leader_page (λ q.
-          omega (arith, q, told.0.numbered, ltb-true s.0.page (size f) (and_parts (nat_lt s.0.page (size f)) (is_first (is_page s.0.id s.0.page) (data_sectors d) (n - first_data (length d))) h).0)) in (
+          omega (arith, q, revealed.0.numbered, ltb-true s.0.page (size f) (and_parts (nat_lt s.0.page (size f)) (is_first (is_page s.0.id s.0.page) (data_sectors d) (n - first_data (length d))) h).0)) in (
             split_lead (is_first (leads_file with_temporary s.0.id) (data_sectors d) (n - first_data (length d)))
                 (nat_lt s.0.page (size f) && is_first (is_page s.0.id s.0.page) (data_sectors d) (n - first_data (length d))) (eqb s.0.page leader_page) lead page
-                ∙ ap (λ (k : ℕ). is_first (leads_file with_temporary k) (data_sectors d) (n - first_data (length d))) (sym told.1),
+                ∙ ap (λ (k : ℕ). is_first (leads_file with_temporary k) (data_sectors d) (n - first_data (length d))) (sym revealed.1),
             split_page (is_first (leads_file with_temporary s.0.id) (data_sectors d) (n - first_data (length d)))
                 (nat_lt s.0.page (size f) && is_first (is_page s.0.id s.0.page) (data_sectors d) (n - first_data (length d))) (eqb s.0.page leader_page) lead page
-                ∙ ap (λ (k : ℕ). nat_lt s.0.page (size f) && is_first (is_page k s.0.page) (data_sectors d) (n - first_data (length d))) (sym told.1),
+                ∙ ap (λ (k : ℕ). nat_lt s.0.page (size f) && is_first (is_page k s.0.page) (data_sectors d) (n - first_data (length d))) (sym revealed.1),
           )
 
 ones : (files : List File) → sum_by (λ f. 1) files ≡ length files
@@ -290,7 +290,7 @@ module _ (with_temporary : Bool) where
   files_count d =
       ap (λ (l : List ℕ). length l)
       (places_same (λ i s. needs_place with_temporary d i && eqb s.0.page leader_page) (any_of (leads_it with_temporary d) (files_among with_temporary d)) (first_data (length d)) (data_sectors d) (λ n j s is here. (parted with_temporary d n j s is here).0))
-      ∙ any_counts with_temporary (first_data (length d)) (data_sectors d) (leads_it with_temporary d) (λ f. 1) (files_among with_temporary d) (laws.files_on_rise with_temporary 0 0 d) (each_told with_temporary d (λ f. length (places (of_file (leads_it with_temporary d) f) (first_data (length d)) (data_sectors d)) ≡ 1) (λ f told. leader_counts with_temporary d f told))
+      ∙ any_counts with_temporary (first_data (length d)) (data_sectors d) (leads_it with_temporary d) (λ f. 1) (files_among with_temporary d) (laws.files_on_rise with_temporary 0 0 d) (each_revealed with_temporary d (λ f. length (places (of_file (leads_it with_temporary d) f) (first_data (length d)) (data_sectors d)) ≡ 1) (λ f revealed. leader_counts with_temporary d f revealed))
       ∙ ones (files_among with_temporary d)
 
   pub pages_counted : (d : List Sector) → length (needed_pages with_temporary d) ≡ total_pages (files_among with_temporary d)
@@ -298,7 +298,7 @@ module _ (with_temporary : Bool) where
       ap (λ (l : List ℕ). length l)
       (places_same (λ i s. needs_place with_temporary d i && not (eqb s.0.page leader_page)) (any_of (λ f. is_below d (size f) f) (files_among with_temporary d)) (first_data (length d)) (data_sectors d) (λ n j s is here. (parted with_temporary d n j s is here).1))
       ∙ any_counts with_temporary (first_data (length d)) (data_sectors d) (λ f. is_below d (size f) f) size (files_among with_temporary d) (laws.files_on_rise with_temporary 0 0 d)
-      (each_told with_temporary d (λ f. length (places (of_file (λ g. is_below d (size g) g) f) (first_data (length d)) (data_sectors d)) ≡ size f) (λ f told. pages_count with_temporary d f told (size f) (omega arith)))
+      (each_revealed with_temporary d (λ f. length (places (of_file (λ g. is_below d (size g) g) f) (first_data (length d)) (data_sectors d)) ≡ size f) (λ f revealed. pages_count with_temporary d f revealed (size f) (omega arith)))
 
   pub count_laws : CountLaws with_temporary
   count_laws = record { files = files_count; pages = pages_counted; room = rooms }

@@ -9,11 +9,11 @@ use Rattle.labelled_disk.specs.declared.label.Wanted.{Wanted}
 use Rattle.labelled_disk.specs.declared.disk.DiskWrite.TheVariants.{Whole, LabelOnly, Page}
 use Rattle.labelled_disk.specs.Label.{is_file, is_file_id, is_free, is_immutable, is_permanent, names, leader_page}
 use Rattle.labelled_disk.specs.Sectors.{Sector}
-use Rattle.labelled_disk.specs.Moment.{written}
+use Rattle.labelled_disk.specs.CrashState.{written}
 use Rattle.labelled_disk.specs.Layout.{data_sectors, first_data}
 use Rattle.labelled_disk.specs.File.{Page as Cells, byte}
 use Rattle.labelled_disk.specs.FilesOn.{is_of, is_page, leads, leads_file, leader_among, page_at, pages_from, file_by, disk_file, file_among, files_among}
-use Rattle.labelled_disk.specs.Lawful.{IsNextLabel}
+use Rattle.labelled_disk.specs.Permitted.{IsNextLabel}
 use Rattle.labelled_disk.specs.WriteLaws.{HasData, IsOnlyOf, with_page}
 use Rattle.labelled_disk.proofs.Finds.{find_new, find_none}
 use Rattle.labelled_disk.proofs.Pages.{pages_same}
@@ -81,10 +81,10 @@ module _ (with_temporary : Bool) where
       ∙ one_sector d sector s (s.0, page) s.0.id here (only_self s s.0.id refl) (only_self (s.0, page) s.0.id refl) other (λ q. apart (q ∙ same))
 
   pub others_stay_in_runs : OthersStayInRuns with_temporary
-  others_stay_in_runs d writes other zero lawful none = refl
-  others_stay_in_runs d [] other (suc k) lawful none = refl
-  others_stay_in_runs d (write ∷ writes) other (suc k) lawful none =
-      others_stay_in_runs (written write d) writes other k lawful.1 none.1 ∙ others_stay d write other lawful.0 none.0
+  others_stay_in_runs d writes other zero permitted none = refl
+  others_stay_in_runs d [] other (suc k) permitted none = refl
+  others_stay_in_runs d (write ∷ writes) other (suc k) permitted none =
+      others_stay_in_runs (written write d) writes other k permitted.1 none.1 ∙ others_stay d write other permitted.0 none.0
 
   pub low_leaves : (d : List Sector) (i : ℕ) (t : Sector) → i < first_data (length d) → files_among with_temporary (slice_set d i t) ≡ files_among with_temporary d
   low_leaves d i t low = laws.same_files with_temporary 0 0 d (slice_set d i t) (λ id. ap (λ (xs : List Sector). file_among with_temporary xs id) (laws.data_past with_temporary 0 0 d i t low))

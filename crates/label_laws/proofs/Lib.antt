@@ -1,4 +1,4 @@
-pub mod LawfulLemmas
+pub mod PermittedLemmas
 pub mod FileLemmas
 pub mod CallerLemmas
 mod ThereLemmas

@@ -22,11 +22,11 @@ module _ (with_temporary : Bool) (serial counter : ℕ) where
   marks_of : (d : List Sector) (i : ℕ) (s : Sector) (id : ℕ) (f : File) → FilesRight with_temporary serial counter d → HasData d i s → leads_file with_temporary id s ≡ true → disk_file with_temporary d id ≡ Some f
       → (f.permanent ≡ is_permanent s.0) × (f.immutable ≡ is_immutable s.0)
   marks_of d i s id f right holds led is =
-      let told = (lowest.files_are_as_told with_temporary d).told id f is in
-      let low = told.0.leader in
+      let revealed = (lowest.files_are_as_revealed with_temporary d).revealed id f is in
+      let low = revealed.0.leader in
       let here = laws.data_get with_temporary serial counter d i s holds.is_data holds.here in
       let whole : IsWhole (data_sectors d) f = laws.of_file with_temporary serial counter (IsWhole (data_sectors d)) d right.whole_files id f is in
-      let mine : is_of f.id s ≡ true = ap (λ (n : ℕ). is_of n s) told.1 ∙ laws.leader_of with_temporary serial counter id s led in
+      let mine : is_of f.id s ≡ true = ap (λ (n : ℕ). is_of n s) revealed.1 ∙ laws.leader_of with_temporary serial counter id s led in
       let theirs : is_of f.id low.1 ≡ true = laws.leader_of with_temporary serial counter f.id low.1 low.2.passes in
       let place : low.0 ≡ i - first_data (length d) =
       whole.once low.0 (i - first_data (length d)) low.1 s low.2.here here theirs mine (w.leader_number with_temporary f.id low.1 low.2.passes ∙ sym (w.leader_number with_temporary id s led)) in

@@ -11,7 +11,7 @@ use Rattle.labelled_disk.specs.declared.disk.DiskWrite.{DiskWrite}
 use Rattle.labelled_disk.specs.declared.disk.DiskWrite.TheVariants as write
 use Rattle.labelled_disk.specs.Label.{names, leader_page}
 use Rattle.labelled_disk.specs.Sectors.{Sector}
-use Rattle.labelled_disk.specs.Moment.{moment, written}
+use Rattle.labelled_disk.specs.CrashState.{crash_state, written}
 use Rattle.labelled_disk.specs.Layout.{data_sectors, first_data}
 use Rattle.labelled_disk.specs.File.{Page, byte, size}
 use Rattle.labelled_disk.specs.FilesOn.{is_of, is_page, page_at, pages_from}
@@ -67,7 +67,7 @@ labels_page d i wanted page = either (slice_get d i) refl
     either (Some s) e = choice (names s.0 wanted) s e
 
 -- two disks with the same labels, written alike
-pub mixed : (d e : List Sector) (writes : List DiskWrite) (k : ℕ) → labels d ≡ labels e → labels (moment d writes k) ≡ labels (moment e (label_writes writes) (length (label_writes (take k writes))))
+pub mixed : (d e : List Sector) (writes : List DiskWrite) (k : ℕ) → labels d ≡ labels e → labels (crash_state d writes k) ≡ labels (crash_state e (label_writes writes) (length (label_writes (take k writes))))
 mixed d e writes zero same = same
 mixed d e [] (suc k) same = same
 mixed d e (write.Whole i label page ∷ writes) (suc k) same =
@@ -114,31 +114,31 @@ written_long d (write.LabelOnly sector label) =
 written_long d (write.Page sector wanted page) =
     sym (length-map (written (write.Page sector wanted page) d) (λ (s : Sector). s.0)) ∙ ap (λ (l : List Label). length l) (labels_page d sector wanted page) ∙ length-map d (λ (s : Sector). s.0)
 
-pub moment_long : (d : List Sector) (writes : List DiskWrite) (k : ℕ) → length (moment d writes k) ≡ length d
-moment_long d writes zero = refl
-moment_long d [] (suc k) = refl
-moment_long d (one ∷ writes) (suc k) = moment_long (written one d) writes k ∙ written_long d one
+pub crash_state_long : (d : List Sector) (writes : List DiskWrite) (k : ℕ) → length (crash_state d writes k) ≡ length d
+crash_state_long d writes zero = refl
+crash_state_long d [] (suc k) = refl
+crash_state_long d (one ∷ writes) (suc k) = crash_state_long (written one d) writes k ∙ written_long d one
 
 pub last_page_stands : LastPageStands
-last_page_stands d writes zero i s lawful here leaves = here
-last_page_stands d [] (suc k) i s lawful here leaves = here
-last_page_stands d (write.Whole sector label page ∷ writes) (suc k) i s lawful here leaves =
-    last_page_stands (written (write.Whole sector label page) d) writes k i s lawful.1 (written_other d (write.Whole sector label page) i (leaves.0 refl) ∙ here) leaves.1
-last_page_stands d (write.LabelOnly sector label ∷ writes) (suc k) i s lawful here leaves =
-    last_page_stands (written (write.LabelOnly sector label) d) writes k i s lawful.1 (written_other d (write.LabelOnly sector label) i (leaves.0 refl) ∙ here) leaves.1
-last_page_stands d (write.Page sector wanted page ∷ writes) (suc k) i s lawful here leaves =
-    last_page_stands (written (write.Page sector wanted page) d) writes k i (s.0, if eqb sector i then page else s.1) lawful.1 (now (eqb sector i) refl) leaves.1
+last_page_stands d writes zero i s permitted here leaves = here
+last_page_stands d [] (suc k) i s permitted here leaves = here
+last_page_stands d (write.Whole sector label page ∷ writes) (suc k) i s permitted here leaves =
+    last_page_stands (written (write.Whole sector label page) d) writes k i s permitted.1 (written_other d (write.Whole sector label page) i (leaves.0 refl) ∙ here) leaves.1
+last_page_stands d (write.LabelOnly sector label ∷ writes) (suc k) i s permitted here leaves =
+    last_page_stands (written (write.LabelOnly sector label) d) writes k i s permitted.1 (written_other d (write.LabelOnly sector label) i (leaves.0 refl) ∙ here) leaves.1
+last_page_stands d (write.Page sector wanted page ∷ writes) (suc k) i s permitted here leaves =
+    last_page_stands (written (write.Page sector wanted page) d) writes k i (s.0, if eqb sector i then page else s.1) permitted.1 (now (eqb sector i) refl) leaves.1
   where
     now : (b : Bool) → eqb sector i ≡ b → slice_get (written (write.Page sector wanted page) d) i ≡ Some (s.0, if b then page else s.1)
     now false e = written_other d (write.Page sector wanted page) i (eqb-false sector i e) ∙ here
     now true e =
         let place : sector ≡ i = eqb-true sector i e in
-        let old : Sector = lawful.0.old.0 in
-        let same : old ≡ s = same_Some old s (sym lawful.0.old.1 ∙ ap (λ (j : ℕ). slice_get d j) place ∙ here) in
+        let old : Sector = permitted.0.old.0 in
+        let same : old ≡ s = same_Some old s (sym permitted.0.old.1 ∙ ap (λ (j : ℕ). slice_get d j) place ∙ here) in
         ap (λ (e : List Sector). slice_get e i)
-        (page_written d sector old wanted page lawful.0.old.1 ∙ ap (λ (b : Bool). if b then slice_set d sector (old.0, page) else d) lawful.0.old.2)
+        (page_written d sector old wanted page permitted.0.old.1 ∙ ap (λ (b : Bool). if b then slice_set d sector (old.0, page) else d) permitted.0.old.2)
         ∙ ap (λ (j : ℕ). slice_get (slice_set d sector (old.0, page)) j) (sym place)
-        ∙ get_set_same d sector (old.0, page) (slice_get_within d sector old lawful.0.old.1)
+        ∙ get_set_same d sector (old.0, page) (slice_get_within d sector old permitted.0.old.1)
         ∙ ap (λ (u : Sector). Some (u.0, page)) same
 
 module _ (with_temporary : Bool) (serial counter : ℕ) where
@@ -162,12 +162,12 @@ module _ (with_temporary : Bool) (serial counter : ℕ) where
 
   pub page_stays : PageStays with_temporary serial counter
   page_stays d writes k i s id p g holds is middle apart right file =
-      page_stands (moment d writes k) i s id p g right
-      (record { is_data = subst (λ (n : ℕ). first_data n ≤ i) (sym (moment_long d writes k)) holds.is_data; here = sector_stays d writes k i apart ∙ holds.here })
+      page_stands (crash_state d writes k) i s id p g right
+      (record { is_data = subst (λ (n : ℕ). first_data n ≤ i) (sym (crash_state_long d writes k)) holds.is_data; here = sector_stays d writes k i apart ∙ holds.here })
       is middle file
 
   pub last_page_shows : LastPageShows with_temporary serial counter
-  last_page_shows d writes k i s id p g holds is middle lawful leaves right file =
-      page_stands (moment d writes k) i (s.0, page_after i s.1 (take k writes)) id p g right
-      (record { is_data = subst (λ (n : ℕ). first_data n ≤ i) (sym (moment_long d writes k)) holds.is_data; here = last_page_stands d writes k i s lawful holds.here leaves })
+  last_page_shows d writes k i s id p g holds is middle permitted leaves right file =
+      page_stands (crash_state d writes k) i (s.0, page_after i s.1 (take k writes)) id p g right
+      (record { is_data = subst (λ (n : ℕ). first_data n ≤ i) (sym (crash_state_long d writes k)) holds.is_data; here = last_page_stands d writes k i s permitted holds.here leaves })
       is middle file

@@ -3,7 +3,7 @@ use Rattle.std.proofs.Common.{◌≡◌, ℕ, zero, suc, ◌+◌, ◌≤◌, Boo
 use Rattle.labelled_disk.specs.declared.disk.DiskWrite.{DiskWrite}
 use Rattle.labelled_disk.specs.declared.disk.DiskWrite.TheVariants as write
 use Rattle.labelled_disk.specs.Sectors.{Sector}
-use Rattle.labelled_disk.specs.Moment.{moment}
+use Rattle.labelled_disk.specs.CrashState.{crash_state}
 use Rattle.labelled_disk.specs.File.{File, size, zero_page}
 use Rattle.labelled_disk.specs.FilesOn.{disk_file}
 use Rattle.labelled_disk.specs.WriteLaws.{Changed}
@@ -36,34 +36,34 @@ within writes order k is = subst (λ (l : List DiskWrite). label_count writes k 
 
 module _ (with_temporary : Bool) (serial counter : ℕ) where
   -- what an order makes of a file, and the writes have as label writes, they make of its shape
-  lifted : (d : List Sector) (writes order : List DiskWrite) (k id : ℕ) (now : Option File) → label_writes writes ≡ order → Changed with_temporary serial counter d (moment d order (label_count writes k)) id now
-      → ShapeChanged with_temporary serial counter d (moment d writes k) id now
+  lifted : (d : List Sector) (writes order : List DiskWrite) (k id : ℕ) (now : Option File) → label_writes writes ≡ order → Changed with_temporary serial counter d (crash_state d order (label_count writes k)) id now
+      → ShapeChanged with_temporary serial counter d (crash_state d writes k) id now
   lifted d writes order k id now is change =
-      changes with_temporary serial counter d writes k id now (subst (λ (l : List DiskWrite). Changed with_temporary serial counter d (moment d l (label_count writes k)) id now) (sym is) change)
+      changes with_temporary serial counter d writes k id now (subst (λ (l : List DiskWrite). Changed with_temporary serial counter d (crash_state d l (label_count writes k)) id now) (sym is) change)
 
   pub mixed_runs : MixedRunLaws with_temporary serial counter
   mixed_runs = record {
     before = λ d writes k id right none.
         changes with_temporary serial counter d writes k id (disk_file with_temporary d id)
-        (subst (λ (n : ℕ). Changed with_temporary serial counter d (moment d (label_writes writes) n) id (disk_file with_temporary d id)) (sym none)
+        (subst (λ (n : ℕ). Changed with_temporary serial counter d (crash_state d (label_writes writes) n) id (disk_file with_temporary d id)) (sym none)
         (record { file = refl; others = λ other apart. refl; right = right }));
     growth = λ d writes k id kind f is order right file unused room.
         let low = within writes (growth id kind (size f) is) k order in
         lifted d writes (growth id kind (size f) is) k id _ order
-        (runs.growth_moments with_temporary serial counter d id kind f is right file unused room (label_count writes k) (omega (arith, low, growth_long id kind (size f) is)));
+        (runs.growth_crash_states with_temporary serial counter d id kind f is right file unused room (label_count writes k) (omega (arith, low, growth_long id kind (size f) is)));
     shrinking = λ d writes k id f is order right file pages.
         let low = within writes (freeing is) k order in
         lifted d writes (freeing is) k id _ order
-        (runs.shrinking_moments with_temporary serial counter d id f is right file pages (label_count writes k) (omega (arith, low, freeing_long is)));
+        (runs.shrinking_crash_states with_temporary serial counter d id f is right file pages (label_count writes k) (omega (arith, low, freeing_long is)));
     creation = λ d writes k j id kind leader is order right leads nowhere given unused room count.
         let low = within writes (creation id kind leader is) k order in
         lifted d writes (creation id kind leader is) k id _ order
-        (subst (λ (n : ℕ). Changed with_temporary serial counter d (moment d (creation id kind leader is) n) id
+        (subst (λ (n : ℕ). Changed with_temporary serial counter d (crash_state d (creation id kind leader is) n) id
         (Some (record { id = id; kind = kind; permanent = false; immutable = false; pages = replicate j zero_page }))) (sym count)
-        (runs.creation_moments with_temporary serial counter d id kind leader is right leads nowhere given unused room j (omega (arith, low, count, growth_long id kind 0 is))));
+        (runs.creation_crash_states with_temporary serial counter d id kind leader is right leads nowhere given unused room j (omega (arith, low, count, growth_long id kind 0 is))));
     deletion = λ d writes k j id leader f is order right file led pages count.
         let low = within writes (freeing (leader ∷ is)) k order in
         lifted d writes (freeing (leader ∷ is)) k id None order
-        (subst (λ (n : ℕ). Changed with_temporary serial counter d (moment d (freeing (leader ∷ is)) n) id None) (sym count)
-        (runs.deletion_moments with_temporary serial counter d id leader f is right file led pages j (omega (arith, low, count, freeing_long (leader ∷ is)))));
+        (subst (λ (n : ℕ). Changed with_temporary serial counter d (crash_state d (freeing (leader ∷ is)) n) id None) (sym count)
+        (runs.deletion_crash_states with_temporary serial counter d id leader f is right file led pages j (omega (arith, low, count, freeing_long (leader ∷ is)))));
   }

@@ -8,7 +8,7 @@ use Rattle.std.proofs.lemmas.Bool.{cases_eq, and_parts, and_left, and_from, eqb-
 use Rattle.labelled_disk.specs.declared.disk.DiskWrite.TheVariants as write
 use Rattle.labelled_disk.specs.Label.{is_file, is_free}
 use Rattle.labelled_disk.specs.Sectors.{Sector, free_label, zero_sector}
-use Rattle.labelled_disk.specs.Moment.{moment, written}
+use Rattle.labelled_disk.specs.CrashState.{crash_state, written}
 use Rattle.labelled_disk.specs.Layout.{data_sectors, first_data}
 use Rattle.labelled_disk.specs.File.{File, size, file_at}
 use Rattle.labelled_disk.specs.FilesOn.{is_of, is_page, leads_file, file_among, files_among, disk_file}
@@ -23,7 +23,7 @@ use Rattle.labelled_disk.proofs.WriteLemmas as laws
 use Rattle.labelled_disk.proofs.LowestLemmas as lowest
 use Rattle.labelled_disk.proofs.RootLemmas.{only_self}
 use Rattle.labelled_disk.proofs.RunLemmas.{data_runs}
-use Rattle.label_laws.specs.Unneeded.{FreedStayRight, IsUnneeded, SameNeeds, FreedMoments, FreedAll, NeededIfFiles}
+use Rattle.label_laws.specs.Unneeded.{FreedStayRight, IsUnneeded, SameNeeds, FreedCrashStates, FreedAll, NeededIfFiles}
 use Rattle.label_laws.proofs.FileLemmas.{free_none, label_written}
 use Rattle.label_laws.proofs.MixedLemmas.{written_other}
 
@@ -183,19 +183,19 @@ module _ (with_temporary : Bool) where
   same_then : (d e g : List Sector) → SameNeeds with_temporary d e → SameNeeds with_temporary e g → SameNeeds with_temporary d g
   same_then d e g one more = record { sectors = more.sectors ∙ one.sectors; files = more.files ∙ one.files; needed = λ j. more.needed j ∙ one.needed j }
 
-  pub freed_moments : FreedMoments with_temporary
-  freed_moments d is all zero = record { sectors = refl; files = refl; needed = λ j. refl }
-  freed_moments d [] all (suc k) = record { sectors = refl; files = refl; needed = λ j. refl }
-  freed_moments d (i ∷ is) all (suc k) =
+  pub freed_crash_states : FreedCrashStates with_temporary
+  freed_crash_states d is all zero = record { sectors = refl; files = refl; needed = λ j. refl }
+  freed_crash_states d [] all (suc k) = record { sectors = refl; files = refl; needed = λ j. refl }
+  freed_crash_states d (i ∷ is) all (suc k) =
       let s : Sector = get_or d i zero_sector in
       let here : slice_get d i ≡ Some s = slice_get-get_or d i zero_sector all.0.within in
       let t : Sector = (free_label, s.1) in
       let one : SameNeeds with_temporary d (slice_set d i t) = freed_one d i s t all.0 here refl in
-      subst (λ (e : List Sector). SameNeeds with_temporary d (moment e (freeing is) k)) (sym (label_written d i s free_label here))
-      (same_then d (slice_set d i t) (moment (slice_set d i t) (freeing is) k) one (freed_moments (slice_set d i t) is (still_unneeded d (slice_set d i t) is one all.1) k))
+      subst (λ (e : List Sector). SameNeeds with_temporary d (crash_state e (freeing is) k)) (sym (label_written d i s free_label here))
+      (same_then d (slice_set d i t) (crash_state (slice_set d i t) (freeing is) k) one (freed_crash_states (slice_set d i t) is (still_unneeded d (slice_set d i t) is one all.1) k))
 
 -- after the freeing a sector is free, or it is none of them and stands as it stood
-freed_or_stays : (d : List Sector) (is : List ℕ) (i : ℕ) (u : Sector) → slice_get (moment d (freeing is) (length is)) i ≡ Some u
+freed_or_stays : (d : List Sector) (is : List ℕ) (i : ℕ) (u : Sector) → slice_get (crash_state d (freeing is) (length is)) i ≡ Some u
     → (is_free u.0 ≡ true) ⊎ ((slice_get d i ≡ Some u) × AllByRecursion (λ j. j ≢ i) is)
 freed_or_stays d [] i u at = inr (at, tt)
 freed_or_stays d (k ∷ is) i u at = elim (freed_or_stays (written (write.LabelOnly k free_label) d) is i u at) [
@@ -225,8 +225,8 @@ none_contained (j ∷ js) i apart within = either within.0 within.1 within.2 (no
 module _ (with_temporary : Bool) where
   pub freed_all : FreedAll with_temporary
   freed_all d is unneeded all i u at =
-      let e : List Sector = moment d (freeing is) (length is) in
-      let same : SameNeeds with_temporary d e = freed_moments with_temporary d is unneeded (length is) in
+      let e : List Sector = crash_state d (freeing is) (length is) in
+      let same : SameNeeds with_temporary d e = freed_crash_states with_temporary d is unneeded (length is) in
       let long : length e ≡ length d = same.sectors in
       let first : ℕ = first_data (length d) in
       let there : slice_get e (first + i) ≡ Some u = sym (laws.get_drop first e i) ∙ ap (λ (n : ℕ). slice_get (drop (first_data n) e) i) (sym long) ∙ at in
@@ -235,9 +235,9 @@ module _ (with_temporary : Bool) where
         | inr stays ↦ either i u (same.needed i) stays.0 stays.1 (is_free u.0) refl (is_needed with_temporary (data_sectors d) i) refl
       ]
     where
-      either : (i : ℕ) (u : Sector) → is_needed with_temporary (data_sectors (moment d (freeing is) (length is))) i ≡ is_needed with_temporary (data_sectors d) i → slice_get d (first_data (length d) + i) ≡ Some u
+      either : (i : ℕ) (u : Sector) → is_needed with_temporary (data_sectors (crash_state d (freeing is) (length is))) i ≡ is_needed with_temporary (data_sectors d) i → slice_get d (first_data (length d) + i) ≡ Some u
           → AllByRecursion (λ j. j ≢ first_data (length d) + i) is → (b : Bool) → is_free u.0 ≡ b → (c : Bool) → is_needed with_temporary (data_sectors d) i ≡ c
-          → (is_free u.0 ≡ true) ⊎ (is_needed with_temporary (data_sectors (moment d (freeing is) (length is))) i ≡ true)
+          → (is_free u.0 ≡ true) ⊎ (is_needed with_temporary (data_sectors (crash_state d (freeing is) (length is))) i ≡ true)
       either i u same here apart true p c q = inl p
       either i u same here apart false p true q = inr (same ∙ q)
       either i u same here apart false p false q =
@@ -268,14 +268,14 @@ module _ (with_temporary : Bool) where
           absurd (true≢false (sym (lowest.right_are_needed with_temporary serial counter d (i - first_data (length d)) s f right (laws.data_get with_temporary 0 0 d i s un.is_data at) p q) ∙ un.unneeded))
 
   freed_files_right : (serial counter : ℕ) (d : List Sector) (is : List ℕ) → AllByRecursion (IsUnneeded with_temporary d) is → FilesRight with_temporary serial counter d
-      → (k : ℕ) → FilesRight with_temporary serial counter (moment d (freeing is) k)
+      → (k : ℕ) → FilesRight with_temporary serial counter (crash_state d (freeing is) k)
   freed_files_right serial counter d is all right zero = right
   freed_files_right serial counter d [] all right (suc k) = right
   freed_files_right serial counter d (i ∷ is) all right (suc k) =
       let s : Sector = get_or d i zero_sector in
       let here : slice_get d i ≡ Some s = slice_get-get_or d i zero_sector all.0.within in
       let e : List Sector = slice_set d i (free_label, s.1) in
-      subst (λ (e : List Sector). FilesRight with_temporary serial counter (moment e (freeing is) k)) (sym (label_written d i s free_label here))
+      subst (λ (e : List Sector). FilesRight with_temporary serial counter (crash_state e (freeing is) k)) (sym (label_written d i s free_label here))
       (freed_files_right serial counter e is (still_unneeded with_temporary d e is (freed_one with_temporary d i s (free_label, s.1) all.0 here refl) all.1) (freed_right serial counter d i s all.0 here right) k)
 
   freed_data : (d : List Sector) (is : List ℕ) → AllByRecursion (IsUnneeded with_temporary d) is → AllByRecursion (λ one. first_data (length d) ≤ sector_of one) (freeing is)

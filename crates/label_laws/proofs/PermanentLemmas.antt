@@ -13,11 +13,11 @@ use Rattle.labelled_disk.specs.File.{File, Page, size, file_at, room_of, total_r
 use Rattle.labelled_disk.specs.FilesOn.{is_of, is_page, leads, leads_file, page_at, put_file, file_by, file_among, files_by, files_among, files_on, disk_file}
 use Rattle.labelled_disk.specs.Lowest.{is_first, is_needed}
 use Rattle.labelled_disk.specs.Right.{FilesRight, IsWhole, IsGiven}
-use Rattle.labelled_disk.specs.Rising.{AreRising}
+use Rattle.labelled_disk.specs.Ascending.{AreAscending}
 use Rattle.labelled_disk.specs.Root.{RightFor, LabelsRight}
 use Rattle.labelled_disk.proofs.Finds.{found_at, none_passes, find_none, find_alone, IsAlone}
 use Rattle.labelled_disk.proofs.Pages.{pages_most}
-use Rattle.labelled_disk.proofs.RisingLemmas.{at_low, same_by_look_up}
+use Rattle.labelled_disk.proofs.AscendingLemmas.{at_low, same_by_look_up}
 use Rattle.labelled_disk.proofs.SectorWrites as w
 use Rattle.labelled_disk.proofs.WriteLemmas as laws
 use Rattle.volume_root.specs.Sound.{Sound}
@@ -110,7 +110,7 @@ permanent_some (Some g) f is = either g.permanent is
 abbrev permanents : List File → List File
 permanents fs = filter (λ f. f.permanent) fs
 
-pub at_permanents : (fs : List File) → AreRising fs → (id : ℕ) → file_at (permanents fs) id ≡ if_permanent (file_at fs id)
+pub at_permanents : (fs : List File) → AreAscending fs → (id : ℕ) → file_at (permanents fs) id ≡ if_permanent (file_at fs id)
 at_permanents [] rise id = refl
 at_permanents (f ∷ fs) rise id = either f.permanent refl (eqb f.id id) refl (at_permanents fs rise.1 id)
   where
@@ -130,11 +130,11 @@ above_permanents (f ∷ fs) low all = either f.permanent (above_permanents fs lo
     either true more = (all.0, more)
     either false more = more
 
-pub rising_permanents : (fs : List File) → AreRising fs → AreRising (permanents fs)
-rising_permanents [] rise = tt
-rising_permanents (f ∷ fs) rise = either f.permanent (rising_permanents fs rise.1)
+pub ascending_permanents : (fs : List File) → AreAscending fs → AreAscending (permanents fs)
+ascending_permanents [] rise = tt
+ascending_permanents (f ∷ fs) rise = either f.permanent (ascending_permanents fs rise.1)
   where
-    either : (b : Bool) → AreRising (permanents fs) → AreRising (cond b (f ∷ permanents fs) (permanents fs))
+    either : (b : Bool) → AreAscending (permanents fs) → AreAscending (cond b (f ∷ permanents fs) (permanents fs))
     either true more = (above_permanents fs f.id rise.0, more)
     either false more = more
 
@@ -202,7 +202,7 @@ module _ (serial counter : ℕ) (d : List Sector) (right : FilesRight true seria
 
   pub permanent_among : PermanentAreAmong d
   permanent_among =
-      same_by_look_up (files_on d) (permanents (files_among true d)) (laws.files_on_rise false 0 0 d) (rising_permanents (files_among true d) (laws.files_on_rise true 0 0 d))
+      same_by_look_up (files_on d) (permanents (files_among true d)) (laws.files_on_rise false 0 0 d) (ascending_permanents (files_among true d) (laws.files_on_rise true 0 0 d))
       (λ id. laws.look_up false 0 0 d id ∙ one id ∙ ap if_permanent (sym (laws.look_up true 0 0 d id)) ∙ sym (at_permanents (files_among true d) (laws.files_on_rise true 0 0 d) id))
 
   pub permanent_right : FilesRight false serial counter d

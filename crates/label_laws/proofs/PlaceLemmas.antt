@@ -6,7 +6,7 @@ use Rattle.std.proofs.lemmas.Option.{same_Some, none-some, slice_get_within}
 use Rattle.std.proofs.lemmas.Bool.{eqb-true, eqb-false, eq-eqb, ne_eqb}
 use Rattle.labelled_disk.specs.Sectors.{Sector}
 use Rattle.labelled_disk.specs.Lowest.{IsLowest, is_first}
-use Rattle.labelled_disk.specs.Rising.{IsRising}
+use Rattle.labelled_disk.specs.Ascending.{IsAscending}
 use Rattle.label_laws.specs.Counts.{places}
 
 -- what holds of each place that passes
@@ -32,11 +32,11 @@ places_all test i (x ∷ xs) n (suc j) s is here passes = either (test i x) (pla
     either true more = (suc more.0, omega (arith, more.1), more.2)
     either false more = more
 
-pub places_rise : (test : ℕ → Sector → Bool) (i : ℕ) (xs : List Sector) → IsRising (places test i xs)
+pub places_rise : (test : ℕ → Sector → Bool) (i : ℕ) (xs : List Sector) → IsAscending (places test i xs)
 places_rise test i [] = tt
 places_rise test i (x ∷ xs) = either (test i x) (places_rise test (i + 1) xs)
   where
-    either : (b : Bool) → IsRising (places test (i + 1) xs) → IsRising (if b then i ∷ places test (i + 1) xs else places test (i + 1) xs)
+    either : (b : Bool) → IsAscending (places test (i + 1) xs) → IsAscending (if b then i ∷ places test (i + 1) xs else places test (i + 1) xs)
     either true more = (places_each (λ y. i < y) test (i + 1) xs (λ n j s is here passes. omega (arith, is)), more)
     either false more = more
 
@@ -68,17 +68,17 @@ places_or a b i (x ∷ xs) apart = either (a i x) refl (b i x) refl (places_or a
     either false e false f more = more
 
 -- one place alone
-place_behind : (i q : ℕ) (xs : List Sector) → q < i → length (places (λ n s. eqb n q) i xs) ≡ 0
-place_behind i q [] low = refl
-place_behind i q (x ∷ xs) low = ap (λ (b : Bool). length (if b then i ∷ places (λ n s. eqb n q) (i + 1) xs else places (λ n s. eqb n q) (i + 1) xs)) (ne_eqb i q (λ e. omega (arith, e, low)))
-    ∙ place_behind (i + 1) q xs (omega (arith, low))
+place_after : (i q : ℕ) (xs : List Sector) → q < i → length (places (λ n s. eqb n q) i xs) ≡ 0
+place_after i q [] low = refl
+place_after i q (x ∷ xs) low = ap (λ (b : Bool). length (if b then i ∷ places (λ n s. eqb n q) (i + 1) xs else places (λ n s. eqb n q) (i + 1) xs)) (ne_eqb i q (λ e. omega (arith, e, low)))
+    ∙ place_after (i + 1) q xs (omega (arith, low))
 
 pub place_one : (i q : ℕ) (xs : List Sector) → i ≤ q → q < i + length xs → length (places (λ n s. eqb n q) i xs) ≡ 1
 place_one i q [] low high = absurd (omega (arith, low, high))
 place_one i q (x ∷ xs) low high = either (eqb i q) refl (λ e. place_one (i + 1) q xs (let other = eqb-false i q e in omega (arith, other, low)) (omega (arith, high)))
   where
     either : (b : Bool) → eqb i q ≡ b → (eqb i q ≡ false → length (places (λ n s. eqb n q) (i + 1) xs) ≡ 1) → length (if b then i ∷ places (λ n s. eqb n q) (i + 1) xs else places (λ n s. eqb n q) (i + 1) xs) ≡ 1
-    either true e more = let none = place_behind (i + 1) q xs (omega (arith, eqb-true i q e)) in omega (arith, none)
+    either true e more = let none = place_after (i + 1) q xs (omega (arith, eqb-true i q e)) in omega (arith, none)
     either false e more = more e
 
 -- the lowest that passes is the first

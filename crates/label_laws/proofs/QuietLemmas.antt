@@ -5,14 +5,14 @@ use Rattle.std.proofs.lemmas.Option.{none-some}
 use Rattle.labelled_disk.specs.declared.disk.DiskWrite.{DiskWrite}
 use Rattle.labelled_disk.specs.declared.disk.DiskWrite.TheVariants.{Whole, LabelOnly, Page}
 use Rattle.labelled_disk.specs.Sectors.{Sector}
-use Rattle.labelled_disk.specs.Moment.{written}
+use Rattle.labelled_disk.specs.CrashState.{written}
 use Rattle.labelled_disk.specs.File.{File, file_at}
 use Rattle.labelled_disk.specs.FilesOn.{disk_file}
 use Rattle.labelled_disk.specs.Right.{FilesRight}
 use Rattle.labelled_disk.specs.WriteLaws.{Kept}
 use Rattle.labelled_disk.proofs.WriteLemmas as laws
 use Rattle.label_laws.specs.MixedVolumes.{ShapesKept}
-use Rattle.label_laws.specs.Quiet.{IsQuiet, QuietAppended, QuietMoments}
+use Rattle.label_laws.specs.Quiet.{IsQuiet, QuietAppended, QuietCrashStates}
 use Rattle.label_laws.specs.Shape.{bare_file}
 use Rattle.label_laws.proofs.MixedLemmas.{labels_page}
 use Rattle.label_laws.proofs.ShapeLemmas.{labels_give_shape}
@@ -41,11 +41,11 @@ module _ (with_temporary : Bool) (id serial counter : ℕ) where
       let alike = labels_give_shape with_temporary d (written (Page sector wanted page) d) (labels_page d sector wanted page) in
       record { shapes = alike.shapes; right = alike.right serial counter right }
 
-  pub quiet_moments : QuietMoments with_temporary id serial counter
-  quiet_moments d writes right none are zero = record { shapes = λ other. refl; right = right }
-  quiet_moments d [] right none are (suc k) = record { shapes = λ other. refl; right = right }
-  quiet_moments d (one ∷ writes) right none are (suc k) =
+  pub quiet_crash_states : QuietCrashStates with_temporary id serial counter
+  quiet_crash_states d writes right none are zero = record { shapes = λ other. refl; right = right }
+  quiet_crash_states d [] right none are (suc k) = record { shapes = λ other. refl; right = right }
+  quiet_crash_states d (one ∷ writes) right none are (suc k) =
       let first = quiet_one d one right none are.0 in
       let still : disk_file with_temporary (written one d) id ≡ None = no_shape (disk_file with_temporary (written one d) id) (first.shapes id ∙ ap (λ (o : Option File). option_map bare_file o) none) in
-      let rest = quiet_moments (written one d) writes first.right still are.1 k in
+      let rest = quiet_crash_states (written one d) writes first.right still are.1 k in
       record { shapes = λ other. rest.shapes other ∙ first.shapes other; right = rest.right }

@@ -10,15 +10,15 @@ use Rattle.std.proofs.lemmas.List.Sums.{sum_by-cons}
 use Rattle.labelled_disk.specs.declared.label.Label.{Label}
 use Rattle.labelled_disk.specs.Label.{is_permanent, is_immutable, leader_page}
 use Rattle.labelled_disk.specs.Sectors.{Sector}
-use Rattle.labelled_disk.specs.Moment.{moment}
+use Rattle.labelled_disk.specs.CrashState.{crash_state}
 use Rattle.labelled_disk.specs.Layout.{data_sectors, first_data}
 use Rattle.labelled_disk.specs.File.{File, Page, byte, size, file_at, room_of, total_room}
 use Rattle.labelled_disk.specs.FilesOn.{is_of, is_page, leads_file, leader_among, page_at, pages_from, file_by, file_among, files_among, disk_file}
 use Rattle.labelled_disk.specs.Lowest.{is_first, is_needed}
 use Rattle.labelled_disk.specs.Right.{FilesRight, IsWhole, IsGiven}
-use Rattle.labelled_disk.specs.Rising.{BothBy}
+use Rattle.labelled_disk.specs.Ascending.{BothBy}
 use Rattle.labelled_disk.proofs.Pages.{pages_more, pages_end, pages_zero}
-use Rattle.labelled_disk.proofs.RisingLemmas.{zip_by_look_up}
+use Rattle.labelled_disk.proofs.AscendingLemmas.{zip_by_look_up}
 use Rattle.labelled_disk.proofs.WriteLemmas as laws
 use Rattle.label_laws.specs.Mixed.{labels, label_writes}
 use Rattle.label_laws.specs.Shape.{BareFile, bare_file, LabelsGiveShape, MixedShapes, SameByPages}
@@ -224,4 +224,4 @@ module _ (with_temporary : Bool) where
   }
 
   pub mixed_shapes : MixedShapes with_temporary
-  mixed_shapes d writes k = labels_give_shape (moment d (label_writes writes) (length (label_writes (take k writes)))) (moment d writes k) (labels_by_label_writes d writes k)
+  mixed_shapes d writes k = labels_give_shape (crash_state d (label_writes writes) (length (label_writes (take k writes)))) (crash_state d writes k) (labels_by_label_writes d writes k)

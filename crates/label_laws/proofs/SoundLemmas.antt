@@ -38,8 +38,8 @@ module _ (s t : Sector) (rest : List Sector) where
       here : (i : ℕ) (u : Sector) → HasData (t ∷ rest) i u → slice_get (s ∷ rest) i ≡ Some u
       here i u there =
           let first = writes.first_positive false 0 0 (length (s ∷ rest)) in
-          let behind : first_data (length (s ∷ rest)) ≤ i = there.is_data in
-          sym (get_set_other (s ∷ rest) 0 i t (λ e. omega (arith, e, first, behind))) ∙ there.here
+          let after : first_data (length (s ∷ rest)) ≤ i = there.is_data in
+          sym (get_set_other (s ∷ rest) 0 i t (λ e. omega (arith, e, first, after))) ∙ there.here
 
   by_sector : IsSoundButFlag (s ∷ rest) → IsRoot (length (s ∷ rest)) (Some t) → number_at t.1 16 ≡ serial_of (s ∷ rest) → counter_of (s ∷ rest) ≤ number_at t.1 20 → short_at t.1 10 ≡ 1
       → Sound (t ∷ rest)

@@ -4,7 +4,7 @@ use Rattle.std.specs.Prelude.{slice_get, option_map}
 use Rattle.std.proofs.lemmas.Bool.{cases_eq}
 use Rattle.labelled_disk.specs.declared.disk.DiskWrite.{DiskWrite}
 use Rattle.labelled_disk.specs.Sectors.{Sector}
-use Rattle.labelled_disk.specs.Moment.{moment}
+use Rattle.labelled_disk.specs.CrashState.{crash_state}
 use Rattle.labelled_disk.specs.Layout.{data_sectors}
 use Rattle.labelled_disk.specs.File.{File, zero_page}
 use Rattle.labelled_disk.specs.FilesOn.{is_of, leads_file, disk_file}
@@ -43,24 +43,24 @@ module _ (serial counter : ℕ) (d : List Sector) (right : FilesRight true seria
       }
 
   before_or_after : (writes : List DiskWrite) (k id : ℕ) → disk_file false d id ≡ None
-      → ((j : ℕ) → label_count writes k ≡ suc j → (now : Option File) × (if_permanent now ≡ None) × ShapeChanged true serial counter d (moment d writes k) id now)
-      → ShapesKept false serial counter d (moment d writes k)
+      → ((j : ℕ) → label_count writes k ≡ suc j → (now : Option File) × (if_permanent now ≡ None) × ShapeChanged true serial counter d (crash_state d writes k) id now)
+      → ShapesKept false serial counter d (crash_state d writes k)
   before_or_after writes k id none after = either (label_count writes k) refl
     where
-      either : (n : ℕ) → label_count writes k ≡ n → ShapesKept false serial counter d (moment d writes k)
-      either zero count = kept_by (moment d writes k) id (disk_file true d id) (one serial counter d right id) ((mixed_runs true serial counter).before d writes k id right count)
-      either (suc j) count = let made = after j count in kept_by (moment d writes k) id made.0 (none ∙ sym made.1) made.2
+      either : (n : ℕ) → label_count writes k ≡ n → ShapesKept false serial counter d (crash_state d writes k)
+      either zero count = kept_by (crash_state d writes k) id (disk_file true d id) (one serial counter d right id) ((mixed_runs true serial counter).before d writes k id right count)
+      either (suc j) count = let made = after j count in kept_by (crash_state d writes k) id made.0 (none ∙ sym made.1) made.2
 
 pub temporary_runs : (serial counter : ℕ) → TemporaryRunLaws serial counter
 temporary_runs serial counter =
     let runs = mixed_runs true serial counter in
     record {
       growth = λ d writes k id kind f is order right file temporary unused room.
-          kept_by serial counter d right (moment d writes k) id (Some (lengthened (label_count writes k) f))
+          kept_by serial counter d right (crash_state d writes k) id (Some (lengthened (label_count writes k) f))
           (hidden serial counter d right id f file temporary ∙ sym (not_permanent (lengthened (label_count writes k) f) temporary))
           (runs.growth d writes k id kind f is order right file unused room);
       shrinking = λ d writes k id f is order right file temporary pages.
-          kept_by serial counter d right (moment d writes k) id (Some (shortened (label_count writes k) f))
+          kept_by serial counter d right (crash_state d writes k) id (Some (shortened (label_count writes k) f))
           (hidden serial counter d right id f file temporary ∙ sym (not_permanent (shortened (label_count writes k) f) temporary))
           (runs.shrinking d writes k id f is order right file pages);
       creation = λ d writes k id kind leader is order right leads nowhere given unused room.

@@ -9,7 +9,7 @@ use Rattle.labelled_disk.specs.declared.disk.DiskWrite.{DiskWrite}
 use Rattle.labelled_disk.specs.declared.disk.DiskWrite.TheVariants.{Whole, LabelOnly, Page}
 use Rattle.labelled_disk.specs.Label.{is_file, is_permanent, names, leader_page, page_label}
 use Rattle.labelled_disk.specs.Sectors.{Sector, free_label}
-use Rattle.labelled_disk.specs.Moment.{written}
+use Rattle.labelled_disk.specs.CrashState.{written}
 use Rattle.labelled_disk.specs.Layout.{data_sectors, first_data}
 use Rattle.labelled_disk.specs.File.{File, file_at}
 use Rattle.labelled_disk.specs.FilesOn.{leads_file, disk_file}
@@ -20,7 +20,7 @@ use Rattle.labelled_disk.proofs.Finds.{none_passes, get_set_same, get_set_other}
 use Rattle.labelled_disk.proofs.SectorWrites as w
 use Rattle.labelled_disk.proofs.WriteLemmas as laws
 use Rattle.labelled_disk.proofs.RootLemmas.{only_self}
-use Rattle.label_laws.specs.Unseen.{IsOfNoOther, IsUnseen, AreUnseen, UnseenAppended, UnseenMoments, UnseenOrders, UnseenCreation}
+use Rattle.label_laws.specs.Unseen.{IsOfNoOther, IsUnseen, AreUnseen, UnseenAppended, UnseenCrashStates, UnseenOrders, UnseenCreation}
 use Rattle.label_laws.proofs.FileLemmas.{label_written, page_written}
 
 pub unseen_append : (with_temporary : Bool) (id : ℕ) → UnseenAppended with_temporary id
@@ -63,12 +63,12 @@ module _ (with_temporary : Bool) (id serial counter : ℕ) where
       choice true = laws.temporary_written with_temporary serial counter d i own.0 (own.0.0, page) id right own.1 own.2 own.2 none hidden
       choice false = kept_same d right
 
-  pub unseen_moments : UnseenMoments with_temporary id serial counter
-  unseen_moments d writes right none are zero = kept_same d right
-  unseen_moments d [] right none are (suc k) = kept_same d right
-  unseen_moments d (one ∷ writes) right none are (suc k) =
+  pub unseen_crash_states : UnseenCrashStates with_temporary id serial counter
+  unseen_crash_states d writes right none are zero = kept_same d right
+  unseen_crash_states d [] right none are (suc k) = kept_same d right
+  unseen_crash_states d (one ∷ writes) right none are (suc k) =
       let first = unseen_one d one right none are.0 in
-      let rest = unseen_moments (written one d) writes first.right (still_none d (written one d) first none) are.1 k in
+      let rest = unseen_crash_states (written one d) writes first.right (still_none d (written one d) first none) are.1 k in
       record { files = rest.files ∙ first.files; right = rest.right }
 
 -- The orders of a file that does not count.

@@ -9,7 +9,7 @@ use Rattle.labelled_disk.specs.declared.label.Wanted.{Wanted}
 use Rattle.labelled_disk.specs.declared.disk.DiskWrite.{DiskWrite}
 use Rattle.labelled_disk.specs.declared.disk.DiskWrite.TheVariants as write
 use Rattle.labelled_disk.specs.Sectors.{Sector}
-use Rattle.labelled_disk.specs.Moment.{moment, written}
+use Rattle.labelled_disk.specs.CrashState.{crash_state, written}
 use Rattle.labelled_disk.specs.Layout.{first_data}
 use Rattle.labelled_disk.specs.File.{File}
 use Rattle.labelled_disk.specs.Right.{FilesRight}
@@ -20,7 +20,7 @@ use Rattle.labelled_disk.proofs.RootLemmas.{right_still}
 use Rattle.label_laws.specs.Mixed.{labels, label_writes}
 use Rattle.label_laws.specs.MixedVolumes.{LeavesLow, ShapeChanged, label_count, MixedLaws}
 use Rattle.label_laws.specs.Shape.{bare_file}
-use Rattle.label_laws.proofs.MixedLemmas.{labels_page, written_other, moment_long}
+use Rattle.label_laws.proofs.MixedLemmas.{labels_page, written_other, crash_state_long}
 use Rattle.label_laws.proofs.ShapeLemmas.{right_alike, mixed_shapes}
 
 -- the label of a sector, by all labels
@@ -46,13 +46,13 @@ label_left first d (write.LabelOnly sector label) i low leaves =
     label_by d (written (write.LabelOnly sector label) d) i (written_other d (write.LabelOnly sector label) i (λ e. omega (arith, e, low, leaves)))
 label_left first d (write.Page sector wanted page) i low leaves = ap (λ (l : List Label). slice_get l i) (labels_page d sector wanted page)
 
-roots_left : (first : ℕ) (d : List Sector) (writes : List DiskWrite) (k : ℕ) → 0 < first → AllByRecursion (LeavesLow first) writes → slice_get (moment d writes k) 0 ≡ slice_get d 0
+roots_left : (first : ℕ) (d : List Sector) (writes : List DiskWrite) (k : ℕ) → 0 < first → AllByRecursion (LeavesLow first) writes → slice_get (crash_state d writes k) 0 ≡ slice_get d 0
 roots_left first d writes zero some all = refl
 roots_left first d [] (suc k) some all = refl
 roots_left first d (one ∷ writes) (suc k) some all = roots_left first (written one d) writes k some all.1 ∙ root_left first d one some all.0
 
 labels_left : (first : ℕ) (d : List Sector) (writes : List DiskWrite) (k i : ℕ) → i < first → AllByRecursion (LeavesLow first) writes
-    → slice_get (labels (moment d writes k)) i ≡ slice_get (labels d) i
+    → slice_get (labels (crash_state d writes k)) i ≡ slice_get (labels d) i
 labels_left first d writes zero i low all = refl
 labels_left first d [] (suc k) i low all = refl
 labels_left first d (one ∷ writes) (suc k) i low all = labels_left first (written one d) writes k i low all.1 ∙ label_left first d one i low all.0
@@ -75,15 +75,15 @@ module _ (with_temporary : Bool) where
       labels_right d (written (write.Page sector wanted page) d) (labels_page d sector wanted page) (written_other d (write.Page sector wanted page) 0 (λ e. omega (arith, e, above))) right
 
   runs_right : (d : List Sector) (writes : List DiskWrite) (k : ℕ) → RightFor with_temporary d → AllByRecursion (LeavesLow (first_data (length d))) writes
-      → FilesRight with_temporary (serial_of d) (counter_of d) (moment d writes k) → RightFor with_temporary (moment d writes k)
+      → FilesRight with_temporary (serial_of d) (counter_of d) (crash_state d writes k) → RightFor with_temporary (crash_state d writes k)
   runs_right d writes k right all files =
-      right_still with_temporary d (moment d writes k) (moment_long d writes k)
+      right_still with_temporary d (crash_state d writes k) (crash_state_long d writes k)
       (roots_left (first_data (length d)) d writes k (laws.first_positive with_temporary 0 0 (length d)) all)
-      (λ i high low. same_label d (moment d writes k) i (labels_left (first_data (length d)) d writes k i low all))
+      (λ i high low. same_label d (crash_state d writes k) i (labels_left (first_data (length d)) d writes k i low all))
       files right
 
   pub changes : (serial counter : ℕ) (d : List Sector) (writes : List DiskWrite) (k id : ℕ) (now : Option File)
-      → Changed with_temporary serial counter d (moment d (label_writes writes) (label_count writes k)) id now → ShapeChanged with_temporary serial counter d (moment d writes k) id now
+      → Changed with_temporary serial counter d (crash_state d (label_writes writes) (label_count writes k)) id now → ShapeChanged with_temporary serial counter d (crash_state d writes k) id now
   changes serial counter d writes k id now change =
       let alike = mixed_shapes with_temporary d writes k in
       record {

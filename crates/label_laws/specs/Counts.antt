@@ -5,12 +5,12 @@ use Rattle.std.specs.List.{AllByRecursion}
 use Rattle.std.specs.Option.{option_map_or}
 use Rattle.labelled_disk.specs.Label.{is_file, is_free, leader_page}
 use Rattle.labelled_disk.specs.Sectors.{Sector}
-use Rattle.labelled_disk.specs.Moment.{moment}
+use Rattle.labelled_disk.specs.CrashState.{crash_state}
 use Rattle.labelled_disk.specs.Layout.{data_sectors, first_data}
 use Rattle.labelled_disk.specs.File.{File, size, total_room}
 use Rattle.labelled_disk.specs.FilesOn.{files_among, disk_file}
 use Rattle.labelled_disk.specs.Lowest.{is_needed}
-use Rattle.labelled_disk.specs.Rising.{IsRising}
+use Rattle.labelled_disk.specs.Ascending.{IsAscending}
 use Rattle.labelled_disk.specs.Runs.{freeing}
 use Rattle.labelled_disk.specs.WriteLaws.{HasData}
 use Rattle.label_laws.specs.Unneeded.{IsUnneeded, AreAllUnneeded, AreFreeOrNeeded}
@@ -24,7 +24,7 @@ abbrev pub places : (ℕ → Sector → Bool) → ℕ → List Sector → List �
 places test i [] = []
 places test i (s ∷ rest) = if test i s then i ∷ places test (i + 1) rest else places test (i + 1) rest
 
--- the data sectors of a disk that pass, rising
+-- the data sectors of a disk that pass, ascending
 abbrev pub data_places : (ℕ → Sector → Bool) → List Sector → List ℕ
 data_places test d = places test (first_data (length d)) (data_sectors d)
 
@@ -68,11 +68,11 @@ module _ (with_temporary : Bool) where
   pub record UnneededListLaws : Type 0 where
     pub each : (d : List Sector) → AllByRecursion (IsUnneeded with_temporary d) (unneeded_sectors d)
     pub all : (d : List Sector) → AreAllUnneeded with_temporary d (unneeded_sectors d)
-    pub rising : (d : List Sector) → IsRising (unneeded_sectors d)
-    pub freed : (d : List Sector) → AreFreeOrNeeded with_temporary (moment d (freeing (unneeded_sectors d)) (length (unneeded_sectors d)))
+    pub ascending : (d : List Sector) → IsAscending (unneeded_sectors d)
+    pub freed : (d : List Sector) → AreFreeOrNeeded with_temporary (crash_state d (freeing (unneeded_sectors d)) (length (unneeded_sectors d)))
     pub lost_each : (d : List Sector) → AllByRecursion (IsLost d) (lost_sectors d)
     pub lost_all : (d : List Sector) (i : ℕ) → IsLost d i → Contains (lost_sectors d) i
-    pub lost_rising : (d : List Sector) → IsRising (lost_sectors d)
+    pub lost_ascending : (d : List Sector) → IsAscending (lost_sectors d)
 
   -- on any disk, as many leaders are needed as there are files, and as many pages as these have
   pub record CountLaws : Type 0 where

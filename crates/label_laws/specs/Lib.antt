@@ -3,9 +3,9 @@ pub mod AnyDisk
 pub mod Assembly
 pub mod Counts
 pub mod LabelWrites
-pub mod LawfulOrders
-pub mod LawfulRuns
-pub mod LawfulThere
+pub mod PermittedOrders
+pub mod PermittedRuns
+pub mod PermittedThere
 pub mod MapLabels
 pub mod Marks
 pub mod Mixed

@@ -1,4 +1,4 @@
--- Label writes mixed with writes of page bytes: the labels at each moment, and the cells of a page that no write names.
+-- Label writes mixed with writes of page bytes: the labels in each crash state, and the cells of a page that no write names.
 use Rattle.std.specs.Prelude.{◌≡◌, ◌≢◌, ℕ, Bool, true, false, ◌==◌, if◌then◌else◌, List, [], ◌∷◌, length, map, take, filter, slice_get, Some}
 use Rattle.std.specs.List.{AllByRecursion}
 use Rattle.labelled_disk.specs.declared.label.Label.{Label}
@@ -6,13 +6,13 @@ use Rattle.labelled_disk.specs.declared.disk.DiskWrite.{DiskWrite}
 use Rattle.labelled_disk.specs.declared.disk.DiskWrite.TheVariants.{Whole, LabelOnly, Page}
 use Rattle.labelled_disk.specs.Label.{leader_page}
 use Rattle.labelled_disk.specs.Sectors.{Sector}
-use Rattle.labelled_disk.specs.Moment.{moment}
+use Rattle.labelled_disk.specs.CrashState.{crash_state}
 use Rattle.labelled_disk.specs.File.{File, byte}
 use Rattle.labelled_disk.specs.FilesOn.{is_page, disk_file}
 use Rattle.labelled_disk.specs.Right.{FilesRight}
 use Rattle.labelled_disk.specs.Runs.{sector_of}
 use Rattle.labelled_disk.specs.WriteLaws.{HasData}
-use Rattle.label_laws.specs.LawfulRuns.{AreLawful}
+use Rattle.label_laws.specs.PermittedRuns.{ArePermitted}
 
 -- the labels of a disk
 abbrev pub labels : List Sector → List Label
@@ -28,13 +28,13 @@ gives_label (Page sector wanted page) = false
 abbrev pub label_writes : List DiskWrite → List DiskWrite
 label_writes writes = filter gives_label writes
 
--- at each moment the labels are those that the label writes before it give
+-- in each crash state the labels are those that the label writes before it give
 abbrev pub LabelsByLabelWrites : Type 0
-LabelsByLabelWrites = (d : List Sector) (writes : List DiskWrite) (k : ℕ) → labels (moment d writes k) ≡ labels (moment d (label_writes writes) (length (label_writes (take k writes))))
+LabelsByLabelWrites = (d : List Sector) (writes : List DiskWrite) (k : ℕ) → labels (crash_state d writes k) ≡ labels (crash_state d (label_writes writes) (length (label_writes (take k writes))))
 
 -- a sector that no write was made on stands as it stood
 abbrev pub SectorStays : Type 0
-SectorStays = (d : List Sector) (writes : List DiskWrite) (k i : ℕ) → AllByRecursion (λ write. sector_of write ≢ i) (take k writes) → slice_get (moment d writes k) i ≡ slice_get d i
+SectorStays = (d : List Sector) (writes : List DiskWrite) (k i : ℕ) → AllByRecursion (λ write. sector_of write ≢ i) (take k writes) → slice_get (crash_state d writes k) i ≡ slice_get d i
 
 -- the bytes of a sector after these writes, where they give it no label
 abbrev pub page_after : ℕ → List ℕ → List DiskWrite → List ℕ
@@ -47,10 +47,10 @@ page_after i page (Page sector wanted new ∷ writes) = page_after i (if sector 
 abbrev pub LeavesLabel : ℕ → DiskWrite → Type 0
 LeavesLabel i write = gives_label write ≡ true → sector_of write ≢ i
 
--- lawful writes that give a sector no label leave it the label, and the bytes that were written last
+-- permitted writes that give a sector no label leave it the label, and the bytes that were written last
 abbrev pub LastPageStands : Type 0
-LastPageStands = (d : List Sector) (writes : List DiskWrite) (k i : ℕ) (s : Sector) → AreLawful d writes → slice_get d i ≡ Some s → AllByRecursion (LeavesLabel i) (take k writes)
-    → slice_get (moment d writes k) i ≡ Some (s.0, page_after i s.1 (take k writes))
+LastPageStands = (d : List Sector) (writes : List DiskWrite) (k i : ℕ) (s : Sector) → ArePermitted d writes → slice_get d i ≡ Some s → AllByRecursion (LeavesLabel i) (take k writes)
+    → slice_get (crash_state d writes k) i ≡ Some (s.0, page_after i s.1 (take k writes))
 
 module _ (with_temporary : Bool) (serial counter : ℕ) where
   -- with right labels, a sector that is a page of a file has its cells
@@ -61,11 +61,11 @@ module _ (with_temporary : Bool) (serial counter : ℕ) where
   -- so the page of a sector that no write was made on keeps its cells, whatever else was written
   abbrev pub PageStays : Type 0
   PageStays = (d : List Sector) (writes : List DiskWrite) (k i : ℕ) (s : Sector) (id p : ℕ) (g : File) → HasData d i s → is_page id p s ≡ true → p ≢ leader_page
-      → AllByRecursion (λ write. sector_of write ≢ i) (take k writes) → FilesRight with_temporary serial counter (moment d writes k) → disk_file with_temporary (moment d writes k) id ≡ Some g
+      → AllByRecursion (λ write. sector_of write ≢ i) (take k writes) → FilesRight with_temporary serial counter (crash_state d writes k) → disk_file with_temporary (crash_state d writes k) id ≡ Some g
       → slice_get g.pages p ≡ Some (map byte s.1)
 
-  -- or, where the writes are lawful, has the cells of the bytes that were written last
+  -- or, where the writes are permitted, has the cells of the bytes that were written last
   abbrev pub LastPageShows : Type 0
   LastPageShows = (d : List Sector) (writes : List DiskWrite) (k i : ℕ) (s : Sector) (id p : ℕ) (g : File) → HasData d i s → is_page id p s ≡ true → p ≢ leader_page
-      → AreLawful d writes → AllByRecursion (LeavesLabel i) (take k writes) → FilesRight with_temporary serial counter (moment d writes k) → disk_file with_temporary (moment d writes k) id ≡ Some g
+      → ArePermitted d writes → AllByRecursion (LeavesLabel i) (take k writes) → FilesRight with_temporary serial counter (crash_state d writes k) → disk_file with_temporary (crash_state d writes k) id ≡ Some g
       → slice_get g.pages p ≡ Some (map byte (page_after i s.1 (take k writes)))

@@ -5,7 +5,7 @@ use Rattle.labelled_disk.specs.declared.label.Wanted.{Wanted}
 use Rattle.labelled_disk.specs.declared.disk.DiskWrite.{DiskWrite}
 use Rattle.labelled_disk.specs.declared.disk.DiskWrite.TheVariants.{Whole, LabelOnly, Page}
 use Rattle.labelled_disk.specs.Sectors.{Sector}
-use Rattle.labelled_disk.specs.Moment.{moment, written}
+use Rattle.labelled_disk.specs.CrashState.{crash_state, written}
 use Rattle.labelled_disk.specs.Layout.{first_data}
 use Rattle.labelled_disk.specs.File.{File}
 use Rattle.labelled_disk.specs.FilesOn.{disk_file}
@@ -32,7 +32,7 @@ pub record ShapesKept (with_temporary : Bool) (serial counter : ℕ) (d e : List
   pub shapes : (other : ℕ) → SameShape with_temporary d e other
   pub right : FilesRight with_temporary serial counter e
 
--- the moment of the label writes alone that has the labels of moment k
+-- the crash state of the label writes alone that has the labels of crash state k
 abbrev pub label_count : List DiskWrite → ℕ → ℕ
 label_count writes k = length (label_writes (take k writes))
 
@@ -43,9 +43,9 @@ pub record MixedLaws (with_temporary : Bool) : Type 0 where
   pub page_right : (d : List Sector) (sector : ℕ) (wanted : Wanted) (page : List ℕ) → 0 < sector → RightFor with_temporary d → RightFor with_temporary (written (Page sector wanted page) d)
   -- any writes that leave root and maps
   pub runs_right : (d : List Sector) (writes : List DiskWrite) (k : ℕ) → RightFor with_temporary d → AllByRecursion (LeavesLow (first_data (length d))) writes
-      → FilesRight with_temporary (serial_of d) (counter_of d) (moment d writes k) → RightFor with_temporary (moment d writes k)
+      → FilesRight with_temporary (serial_of d) (counter_of d) (crash_state d writes k) → RightFor with_temporary (crash_state d writes k)
   -- what the label writes alone make of a file is what all make of its shape
   pub changes : (serial counter : ℕ) (d : List Sector) (writes : List DiskWrite) (k id : ℕ) (now : Option File)
-      → Changed with_temporary serial counter d (moment d (label_writes writes) (label_count writes k)) id now → ShapeChanged with_temporary serial counter d (moment d writes k) id now
+      → Changed with_temporary serial counter d (crash_state d (label_writes writes) (label_count writes k)) id now → ShapeChanged with_temporary serial counter d (crash_state d writes k) id now
   -- and there are no more of them than there are
   pub fewer : (writes : List DiskWrite) (k : ℕ) → label_count writes k ≤ length (label_writes writes)

@@ -3,7 +3,7 @@ use Rattle.std.specs.Prelude.{◌≡◌, ℕ, Bool, List, [], ◌∷◌, ◌++�
 use Rattle.labelled_disk.specs.declared.disk.DiskWrite.{DiskWrite}
 use Rattle.labelled_disk.specs.declared.disk.DiskWrite.TheVariants.{Whole, LabelOnly, Page}
 use Rattle.labelled_disk.specs.Sectors.{Sector}
-use Rattle.labelled_disk.specs.Moment.{moment, written}
+use Rattle.labelled_disk.specs.CrashState.{crash_state, written}
 use Rattle.labelled_disk.specs.FilesOn.{disk_file}
 use Rattle.labelled_disk.specs.Right.{FilesRight}
 use Rattle.labelled_disk.specs.WriteRuns.{after_writes}
@@ -25,7 +25,7 @@ module _ (with_temporary : Bool) (id : ℕ) where
   abbrev pub QuietAppended : Type 0
   QuietAppended = (d : List Sector) (first next : List DiskWrite) → AreQuiet d first → AreQuiet (after_writes first d) next → AreQuiet d (first ++ next)
 
-  -- at each moment all files have their shapes, and the labels of the files are right
-  abbrev pub QuietMoments : ℕ → ℕ → Type 0
-  QuietMoments serial counter = (d : List Sector) (writes : List DiskWrite) → FilesRight with_temporary serial counter d → disk_file with_temporary d id ≡ None → AreQuiet d writes
-      → (k : ℕ) → ShapesKept with_temporary serial counter d (moment d writes k)
+  -- in each crash state all files have their shapes, and the labels of the files are right
+  abbrev pub QuietCrashStates : ℕ → ℕ → Type 0
+  QuietCrashStates serial counter = (d : List Sector) (writes : List DiskWrite) → FilesRight with_temporary serial counter d → disk_file with_temporary d id ≡ None → AreQuiet d writes
+      → (k : ℕ) → ShapesKept with_temporary serial counter d (crash_state d writes k)

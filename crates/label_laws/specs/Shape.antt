@@ -3,7 +3,7 @@ use Rattle.std.specs.Prelude.{◌≡◌, ℕ, ◌<◌, Bool, true, List, length,
 use Rattle.std.specs.Option.{option_map_or}
 use Rattle.labelled_disk.specs.declared.disk.DiskWrite.{DiskWrite}
 use Rattle.labelled_disk.specs.Sectors.{Sector}
-use Rattle.labelled_disk.specs.Moment.{moment}
+use Rattle.labelled_disk.specs.CrashState.{crash_state}
 use Rattle.labelled_disk.specs.Layout.{data_sectors}
 use Rattle.labelled_disk.specs.File.{File, Page, size, total_room}
 use Rattle.labelled_disk.specs.FilesOn.{is_page, disk_file, files_among}
@@ -53,4 +53,4 @@ module _ (with_temporary : Bool) where
 
   -- so writes of page bytes among label writes change no shape
   abbrev pub MixedShapes : Type 0
-  MixedShapes = (d : List Sector) (writes : List DiskWrite) (k : ℕ) → LabelLaws (moment d (label_writes writes) (length (label_writes (take k writes)))) (moment d writes k)
+  MixedShapes = (d : List Sector) (writes : List DiskWrite) (k : ℕ) → LabelLaws (crash_state d (label_writes writes) (length (label_writes (take k writes)))) (crash_state d writes k)

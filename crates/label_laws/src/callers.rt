@@ -1,6 +1,6 @@
-//! How a function says that it writes lawfully.
+//! How a function says that it writes as permitted.
 ghost use Rattle.std.specs.Prelude.{◌≡◌, ◌<◌, ◌≤◌, ◌+◌, length};
-ghost use Rattle.label_laws.specs.LawfulRuns.{LawfullyLater};
+ghost use Rattle.label_laws.specs.PermittedRuns.{LawfullyLater};
 
 use labelled_disk::{Disk, DiskError, Page, Wanted};
 
@@ -13,7 +13,7 @@ pub fn put_twice<D: Disk>(
 ) -> Result<(), DiskError>
     requires above { 0 < sector }
     requires exists { sector < (D.state disk.old).sectors }
-    ensures lawful { LawfullyLater (D.state disk.old) (D.state disk.new) }
+    ensures permitted { LawfullyLater (D.state disk.old) (D.state disk.new) }
 {
     disk.write_data(sector, wanted, page)?;
     disk.write_data(sector, wanted, page)
@@ -29,7 +29,7 @@ pub fn put_pages<D: Disk>(
     requires above { 0 < first }
     requires exist { first + length pages.now ≤ (D.state disk.old).sectors }
     requires few { length pages.now < 65536 }
-    ensures lawful { LawfullyLater (D.state disk.old) (D.state disk.new) }
+    ensures permitted { LawfullyLater (D.state disk.old) (D.state disk.new) }
 {
     for i in 0..pages.len() {
         let page = i as u32;

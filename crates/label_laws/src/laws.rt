@@ -8,12 +8,12 @@ ghost use Rattle.label_laws.specs.Counts.{CountLaws, TakenByFiles, UnneededListL
 ghost use Rattle.label_laws.specs.LabelWrites.{LabelLaterLaws, LabelWritesAppended};
 ghost use Rattle.label_laws.specs.StayLaws.{StayLaws};
 ghost use Rattle.label_laws.specs.TemporaryRuns.{TemporaryRunLaws};
-ghost use Rattle.label_laws.specs.Quiet.{QuietAppended, QuietMoments};
+ghost use Rattle.label_laws.specs.Quiet.{QuietAppended, QuietCrashStates};
 ghost use Rattle.label_laws.specs.Shape.{LabelsGiveShape, MixedShapes, PagesBySectors, SameByPages};
 ghost use Rattle.label_laws.specs.SoundParts.{SoundByParts, SoundByRoom, SoundWhenClosed};
-ghost use Rattle.label_laws.specs.LawfulOrders.{OrdersAreLawful};
-ghost use Rattle.label_laws.specs.LawfulRuns.{LawfulLaws, LaterLaws};
-ghost use Rattle.label_laws.specs.LawfulThere.{ThereLaws};
+ghost use Rattle.label_laws.specs.PermittedOrders.{OrdersArePermitted};
+ghost use Rattle.label_laws.specs.PermittedRuns.{PermittedLaws, LaterLaws};
+ghost use Rattle.label_laws.specs.PermittedThere.{ThereLaws};
 ghost use Rattle.label_laws.specs.MapLabels.{MappedOneMore, MappedAreMaps, MapRelabelled};
 ghost use Rattle.label_laws.specs.Marks.{MarksAreAdded, MarksOfFiles};
 ghost use Rattle.label_laws.specs.Mixed.{LabelsByLabelWrites, LastPageShows, LastPageStands, PageStands, PageStays, SectorStays};
@@ -21,19 +21,19 @@ ghost use Rattle.label_laws.specs.MixedRuns.{LabelCountRises, MixedRunLaws};
 ghost use Rattle.label_laws.specs.MixedVolumes.{MixedLaws};
 ghost use Rattle.label_laws.specs.OneFile.{OthersStay, OthersStayInRuns};
 ghost use Rattle.labelled_disk.specs.Sectors.{Sector};
-ghost use Rattle.label_laws.specs.Unneeded.{FreedAll, FreedMoments, FreedStayRight, NeededIfFiles};
-ghost use Rattle.label_laws.specs.Unseen.{UnseenAppended, UnseenCreation, UnseenMoments, UnseenOrders};
+ghost use Rattle.label_laws.specs.Unneeded.{FreedAll, FreedCrashStates, FreedStayRight, NeededIfFiles};
+ghost use Rattle.label_laws.specs.Unseen.{UnseenAppended, UnseenCreation, UnseenCrashStates, UnseenOrders};
 
-/// Lawful writes in a row, and states of a disk that are lawfully later.
-pub fn lawful_runs()
-    ensures rows { LawfulLaws }
+/// Permitted writes in a row, and states of a disk that are as permitted later.
+pub fn permitted_runs()
+    ensures rows { PermittedLaws }
     ensures states { LaterLaws }
-    ensures orders { OrdersAreLawful }
+    ensures orders { OrdersArePermitted }
     ensures there { ThereLaws }
 {}
 
-/// A lawful write changes the file of one identifier at most: that of the sector that it is made on.
-pub fn lawful_writes_leave_others()
+/// A permitted write changes the file of one identifier at most: that of the sector that it is made on.
+pub fn permitted_writes_leave_others()
     ensures one { (with_temporary : Bool) → OthersStay with_temporary }
     ensures runs { (with_temporary : Bool) → OthersStayInRuns with_temporary }
 {}
@@ -66,16 +66,16 @@ pub fn labels_by_label_writes()
 /// Writes in a row of a file that does not count.
 pub fn unseen_runs()
     ensures rows { (with_temporary : Bool) (id : ℕ) → UnseenAppended with_temporary id }
-    ensures moments { (with_temporary : Bool) (id serial counter : ℕ) → UnseenMoments with_temporary id serial counter }
+    ensures crash_states { (with_temporary : Bool) (id serial counter : ℕ) → UnseenCrashStates with_temporary id serial counter }
     ensures orders { (with_temporary : Bool) (id : ℕ) → UnseenOrders with_temporary id }
     ensures creation { (id : ℕ) → UnseenCreation id }
     ensures quiet_rows { (with_temporary : Bool) (id : ℕ) → QuietAppended with_temporary id }
-    ensures quiet { (with_temporary : Bool) (id serial counter : ℕ) → QuietMoments with_temporary id serial counter }
+    ensures quiet { (with_temporary : Bool) (id serial counter : ℕ) → QuietCrashStates with_temporary id serial counter }
 {}
 
 /// Sectors that no file needs are freed.
 pub fn unneeded_are_freed()
-    ensures moments { (with_temporary : Bool) → FreedMoments with_temporary }
+    ensures crash_states { (with_temporary : Bool) → FreedCrashStates with_temporary }
     ensures all { (with_temporary : Bool) → FreedAll with_temporary }
     ensures right { (with_temporary : Bool) → FreedStayRight with_temporary }
     ensures needed { (with_temporary : Bool) → NeededIfFiles with_temporary }
@@ -133,7 +133,7 @@ pub fn needed_sectors_are_counted()
     ensures taken { (with_temporary : Bool) → TakenByFiles with_temporary }
 {}
 
-/// Runs of label writes that keep the permanent files, and right labels, at each moment.
+/// Runs of label writes that keep the permanent files, and right labels, in each crash state.
 pub fn permanent_files_stay()
     ensures { StayLaws }
 {}

@@ -11,7 +11,7 @@ use Rattle.labelled_disk.proofs.WriteLemmas as laws
 use Rattle.label_survey.specs.declared.triples.Triple.{Triple}
 use Rattle.label_survey.specs.Counter.{IsRaised}
 use Rattle.label_survey.specs.Triples.{AreNeeded}
-use Rattle.label_survey.proofs.StandingLemmas.{needed_file, file_leader, file_low}
+use Rattle.label_survey.proofs.SectorStateLemmas.{needed_file, file_leader, file_low}
 
 -- one more than the low half of the identifier, as far as it fits
 abbrev pub above : Triple → ℕ

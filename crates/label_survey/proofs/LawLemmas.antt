@@ -1,4 +1,4 @@
--- What standings say of a disk, and what is so of a sector that stays.
+-- What sector states say of a disk, and what is so of a sector that stays.
 use Rattle.std.proofs.Common.{◌≡◌, ◌⊎◌, inl, inr, ℕ, ◌+◌, ◌-◌, ◌≤◌, Bool, true, false, ◌&&◌, ◌||◌, cond, List, length, Option, Some, None, refl, sym, ◌∙◌, ap, arith, eqb}
 use Rattle.std.specs.Prelude.{slice_get, option_map, nat_lt}
 use Rattle.std.proofs.lemmas.Option.{same_Some, none-some}
@@ -11,28 +11,28 @@ use Rattle.labelled_disk.specs.Lowest.{is_first, is_needed}
 use Rattle.labelled_disk.specs.Sectors.{Sector}
 use Rattle.labelled_disk.specs.WriteLaws.{HasData}
 use Rattle.label_laws.specs.Counts.{needs_place, is_of_some_file}
-use Rattle.label_survey.specs.declared.standing.Standing.{Standing}
+use Rattle.label_survey.specs.declared.sector_state.SectorState.{SectorState}
 use Rattle.label_survey.specs.Laws.{FreedAreUnneeded, KeptAreNeeded, NeededAreFiles}
-use Rattle.label_survey.specs.Standings.{standing}
+use Rattle.label_survey.specs.SectorStates.{sector_state}
 use Rattle.label_survey.specs.Survey.{is_kept}
 use Rattle.label_survey.proofs.PlaceLemmas.{first_passes}
-use Rattle.label_survey.proofs.StandingLemmas.{needed_file, needed_by, data_here, short_of}
+use Rattle.label_survey.proofs.SectorStateLemmas.{needed_file, needed_by, data_here, short_of}
 use Rattle.label_survey.proofs.TallyLemmas.{freed}
 use Rattle.label_survey.proofs.TripleLemmas.{kept_stands}
 
 pub freed_are_unneeded : FreedAreUnneeded
-freed_are_unneeded d standings are = freed d standings are
+freed_are_unneeded d sector_states are = freed d sector_states are
 
 pub kept_are_needed : KeptAreNeeded
-kept_are_needed d standings j x are here = either (slice_get (data_sectors d) j) (sym here ∙ are j)
+kept_are_needed d sector_states j x are here = either (slice_get (data_sectors d) j) (sym here ∙ are j)
   where
     back : j ≡ first_data (length d) + j - first_data (length d)
     back = omega arith
 
-    either : (o : Option Sector) → Some x ≡ option_map (standing d j) o → is_kept x ≡ needs_place false d (first_data (length d) + j)
+    either : (o : Option Sector) → Some x ≡ option_map (sector_state d j) o → is_kept x ≡ needs_place false d (first_data (length d) + j)
     either None e = absurd (none-some x (sym e))
     either (Some s) e =
-        ap is_kept (same_Some x (standing d j s) e)
+        ap is_kept (same_Some x (sector_state d j s) e)
         ∙ kept_stands (is_needed false (data_sectors d) j) (eqb s.0.page leader_page) (is_free s.0) (is_of_some_file false d s)
         ∙ ap (is_needed false (data_sectors d)) back
 

@@ -1,6 +1,6 @@
 pub mod ScanLemmas
 mod PlaceLemmas
-mod StandingLemmas
+mod SectorStateLemmas
 mod WalkLemmas
 mod ClaimLemmas
 mod EntryLemmas

@@ -69,9 +69,9 @@ module _ {E : Type 0} (key : E → ℕ) where
       let sum = sum_by-cons (is_at i) x xs in
       ap suc (once_by_count i xs (omega (arith, few, sum)) j k a b at_j at_k is_a is_b)
 
-  -- rising, and then in any order
-  pub once_moved : (n : ℕ) (rising moved : List E) → Rises n rising → IsPermutation rising moved → (j k : ℕ) (a b : E) → slice_get moved j ≡ Some a → slice_get moved k ≡ Some b → key a ≡ key b → j ≡ k
-  once_moved n rising moved up order j k a b at_j at_k same =
-      let count : sum_by (is_at (key b)) moved ≡ sum_by (is_at (key b)) rising = sum_by-IsPermutation (is_at (key b)) rising moved order in
-      let few = one_at_most n (key b) rising up in
+  -- ascending, and then in any order
+  pub once_moved : (n : ℕ) (ascending moved : List E) → Rises n ascending → IsPermutation ascending moved → (j k : ℕ) (a b : E) → slice_get moved j ≡ Some a → slice_get moved k ≡ Some b → key a ≡ key b → j ≡ k
+  once_moved n ascending moved up order j k a b at_j at_k same =
+      let count : sum_by (is_at (key b)) moved ≡ sum_by (is_at (key b)) ascending = sum_by-IsPermutation (is_at (key b)) ascending moved order in
+      let few = one_at_most n (key b) ascending up in
       once_by_count (key b) moved (omega (arith, count, few)) j k a b at_j at_k same refl

@@ -6,7 +6,7 @@ use Rattle.std.proofs.lemmas.List.{take_all}
 use Rattle.labelled_disk.specs.declared.layout.Layout.{Layout}
 use Rattle.labelled_disk.specs.Layout.{IsCount, layout_of, first_data}
 
--- an element behind the first n
+-- an element after the first n
 pub dropped : {X : Type 0} (xs : List X) (n k : ℕ) → slice_get (drop n xs) k ≡ slice_get xs (n + k)
 dropped xs zero k = let z : 0 + k ≡ k = omega arith in ap (slice_get xs) (sym z)
 dropped [] (suc n) k = refl

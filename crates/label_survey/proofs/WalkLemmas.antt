@@ -9,13 +9,13 @@ use Rattle.labelled_disk.specs.Sectors.{Sector}
 use Rattle.labelled_disk.specs.Layout.{data_sectors}
 use Rattle.labelled_disk.specs.Lowest.{is_needed}
 use Rattle.label_survey.specs.declared.entries.Entry.{Entry}
-use Rattle.label_survey.specs.declared.standing.Standing.{Standing}
-use Rattle.label_survey.specs.declared.standing.Standing.TheVariants.{Stray, Lost, Leader, Page}
+use Rattle.label_survey.specs.declared.sector_state.SectorState.{SectorState}
+use Rattle.label_survey.specs.declared.sector_state.SectorState.TheVariants.{Orphan, Lost, Leader, Page}
 use Rattle.label_survey.specs.declared.walk.Progress.{Progress}
 use Rattle.label_survey.specs.Entries.{place_of, entry_of, Precedes, AreInOrder, AreOf}
 use Rattle.label_survey.specs.Progress.{IsSeen, HasCome, Takes}
-use Rattle.label_survey.specs.Standings.{standing}
-use Rattle.label_survey.proofs.StandingLemmas.{Is, IsSomewhere, file_id_above, twin_below, place_missing, place_past, lowest_needed, is_leader, is_a_page, is_lost, is_stray}
+use Rattle.label_survey.specs.SectorStates.{sector_state}
+use Rattle.label_survey.proofs.SectorStateLemmas.{Is, IsSomewhere, file_id_above, twin_below, place_missing, place_past, lowest_needed, is_leader, is_a_page, is_lost, is_orphan}
 
 -- truly before it
 abbrev pub IsBefore : Entry → Entry → Type 0
@@ -93,14 +93,14 @@ module _ (d : List Sector) (entries : List Entry) (of : AreOf (map (λ s. s.0) (
         either (inl l) = l
         either (inr l) = absurd (never_both e a (order k j e a l at here) before)
 
-    -- one of those that have come with it is not behind it
-    not_behind : (j : ℕ) (a : Entry) → j < k + 1 → slice_get entries j ≡ Some a → Precedes a e
-    not_behind j a l here = order j k a e (omega (arith, l)) here at
+    -- one of those that have come with it is not after it
+    not_after : (j : ℕ) (a : Entry) → j < k + 1 → slice_get entries j ≡ Some a → Precedes a e
+    not_after j a l here = order j k a e (omega (arith, l)) here at
 
     id_above : e.id ≢ old.id → old.id < e.id
     id_above apart = elim come.begun [
       | inl none ↦ omega (arith, none, apart)
-      | inr seen ↦ let first = seen 0 (omega (arith, come.above)) in omega (arith, apart, first.4, id_rises first.1 e (not_behind first.0 first.1 (omega (arith, first.2)) first.3))
+      | inr seen ↦ let first = seen 0 (omega (arith, come.above)) in omega (arith, apart, first.4, id_rises first.1 e (not_after first.0 first.1 (omega (arith, first.2)) first.3))
     ]
 
     begun : e.id ≡ old.id → (place : ℕ) → place < old.next → IsSeen entries k old.id place
@@ -109,8 +109,8 @@ module _ (d : List Sector) (entries : List Entry) (of : AreOf (map (λ s. s.0) (
       | inr seen ↦ seen
     ]
 
-    said : (says : Standing) → standing d e.sector is_entry.s ≡ says → (s : Sector) → slice_get (data_sectors d) e.sector ≡ Some s → standing d e.sector s ≡ says
-    said says is s here = subst (λ (t : Sector). standing d e.sector t ≡ says) (same_Some is_entry.s s (sym is_entry.here ∙ here)) is
+    said : (says : SectorState) → sector_state d e.sector is_entry.s ≡ says → (s : Sector) → slice_get (data_sectors d) e.sector ≡ Some s → sector_state d e.sector s ≡ says
+    said says is s here = subst (λ (t : Sector). sector_state d e.sector t ≡ says) (same_Some is_entry.s s (sym is_entry.here ∙ here)) is
 
     begun_still : (next : ℕ) → next ≤ old.next → (old.id ≡ 0) ⊎ ((place : ℕ) → place < next → IsSeen entries (k + 1) old.id place)
     begun_still next few = elim come.begun [
@@ -133,8 +133,8 @@ module _ (d : List Sector) (entries : List Entry) (of : AreOf (map (λ s. s.0) (
         begun = inr (λ place l. (k, e, omega arith, at, refl, omega (arith, first, l)));
         above = omega arith;
         bounded = omega arith;
-        lacks = λ j a l here same next. absurd (omega (arith, next, first, place_rises a e (not_behind j a l here) same));
-        last = λ j a l here lead. id_rises a e (not_behind j a l here);
+        misses = λ j a l here same next. absurd (omega (arith, next, first, place_rises a e (not_after j a l here) same));
+        last = λ j a l here lead. id_rises a e (not_after j a l here);
       };
     }
       where
@@ -154,7 +154,7 @@ module _ (d : List Sector) (entries : List Entry) (of : AreOf (map (λ s. s.0) (
         begun = inr (λ place l. one place (cases_lt place old.next) l);
         above = omega arith;
         bounded = omega (arith, below, next);
-        lacks = λ j a l here is more. absurd (omega (arith, more, next, place_rises a e (not_behind j a l here) (is ∙ sym same)));
+        misses = λ j a l here is more. absurd (omega (arith, more, next, place_rises a e (not_after j a l here) (is ∙ sym same)));
         last = λ j a l here lead. or_this (λ (b : Entry). b.id ≤ old.id) j a l here (λ m. come.last j a m here lead) (omega (arith, same));
       };
     }
@@ -170,7 +170,7 @@ module _ (d : List Sector) (entries : List Entry) (of : AreOf (map (λ s. s.0) (
         lower j l is =
             let own = entry_there j e.id e.place is in
             let m = has_come own.j own.a own.at (inr (own.id_is, inr (own.place_is, omega (arith, l, own.sector_is)))) in
-            few (sym own.place_is ∙ come.lacks own.j own.a m own.at (own.id_is ∙ same) (own.place_is ∙ next))
+            few (sym own.place_is ∙ come.misses own.j own.a m own.at (own.id_is ∙ same) (own.place_is ∙ next))
 
         each : (r : ℕ) → r < e.place → IsSomewhere d e.id r
         each r l =
@@ -183,11 +183,11 @@ module _ (d : List Sector) (entries : List Entry) (of : AreOf (map (λ s. s.0) (
 
     -- the file goes on as it is known
     come_still : (e.id ≡ old.id → e.place ≡ old.next → e.place ≡ 2 ^ 32) → (e.place ≡ 0 → e.id ≤ old.id) → HasCome entries (k + 1) old
-    come_still lacks last = record {
+    come_still misses last = record {
       begun = begun_still old.next (omega arith);
       above = come.above;
       bounded = come.bounded;
-      lacks = λ j a l here. or_this (λ (b : Entry). b.id ≡ old.id → b.place ≡ old.next → b.place ≡ 2 ^ 32) j a l here (λ m. come.lacks j a m here) lacks;
+      misses = λ j a l here. or_this (λ (b : Entry). b.id ≡ old.id → b.place ≡ old.next → b.place ≡ 2 ^ 32) j a l here (λ m. come.misses j a m here) misses;
       last = λ j a l here. or_this (λ (b : Entry). b.place ≡ 0 → b.id ≤ old.id) j a l here (λ m. come.last j a m here) last;
     }
 
@@ -205,7 +205,7 @@ module _ (d : List Sector) (entries : List Entry) (of : AreOf (map (λ s. s.0) (
         twin : IsSeen entries k old.id e.place → is_needed false (data_sectors d) e.sector ≡ false
         twin seen =
             let is = entry_is seen.0 seen.1 seen.3 in
-            let most = sector_rises seen.1 e (not_behind seen.0 seen.1 (omega (arith, seen.2)) seen.3) (seen.4 ∙ sym same) seen.5 in
+            let most = sector_rises seen.1 e (not_after seen.0 seen.1 (omega (arith, seen.2)) seen.3) (seen.4 ∙ sym same) seen.5 in
             twin_below d e.sector seen.1.sector e.id e.place is_entry
             (record { s = is.s; here = is.here; file = is.file; named = is.named ∙ seen.4 ∙ sym same; placed = is.placed ∙ seen.5 })
             (least (cases_eq seen.1.sector e.sector) most)
@@ -218,7 +218,7 @@ module _ (d : List Sector) (entries : List Entry) (of : AreOf (map (λ s. s.0) (
         missing l below there =
             let own = entry_there there.0 e.id old.next there.1 in
             let m = has_come own.j own.a own.at (inr (own.id_is, inl (omega (arith, l, own.place_is)))) in
-            omega (arith, l, below, own.place_is, come.lacks own.j own.a m own.at (own.id_is ∙ same) own.place_is)
+            omega (arith, l, below, own.place_is, come.misses own.j own.a m own.at (own.id_is ∙ same) own.place_is)
 
         unneeded : is_needed false (data_sectors d) e.sector ≡ false
         unneeded = either (cases_lt e.place (2 ^ 32)) (cases_lt e.place old.next)
@@ -234,9 +234,9 @@ module _ (d : List Sector) (entries : List Entry) (of : AreOf (map (λ s. s.0) (
                 let above : old.next < e.place = more l below (cases_eq e.place old.next) in
                 place_missing d e.sector e.id e.place old.next is_entry above (missing above below)
 
-    pub takes_stray : e.id ≢ old.id → e.place ≢ 0 → Takes d entries k e Stray old
-    takes_stray apart page = record {
-      said = said Stray (is_stray d e.sector e.id e.place is_entry none);
+    pub takes_orphan : e.id ≢ old.id → e.place ≢ 0 → Takes d entries k e Orphan old
+    takes_orphan apart page = record {
+      said = said Orphan (is_orphan d e.sector e.id e.place is_entry none);
       come = come_still (λ same. absurd (apart same)) (λ first. absurd (page first));
     }
       where

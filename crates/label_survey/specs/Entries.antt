@@ -16,11 +16,11 @@ abbrev pub entries_from : ℕ → List Label → List Entry
 entries_from i [] = []
 entries_from i (l ∷ ls) = if is_file l then entry_of i l ∷ entries_from (i + 1) ls else entries_from (i + 1) ls
 
--- not behind it
+-- not after it
 abbrev pub Precedes : Entry → Entry → Type 0
 Precedes a b = (a.id < b.id) ⊎ ((a.id ≡ b.id) × ((a.place < b.place) ⊎ ((a.place ≡ b.place) × (a.sector ≤ b.sector))))
 
--- none is behind a later one
+-- none is after a later one
 abbrev pub AreInOrder : List Entry → Type 0
 AreInOrder entries = (i j : ℕ) (a b : Entry) → i ≤ j → slice_get entries i ≡ Some a → slice_get entries j ≡ Some b → Precedes a b
 

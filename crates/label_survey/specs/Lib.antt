@@ -1,5 +1,5 @@
 pub mod Entries
-pub mod Standings
+pub mod SectorStates
 pub mod Progress
 pub mod Survey
 pub mod Triples

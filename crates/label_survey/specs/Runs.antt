@@ -29,6 +29,6 @@ pub record AreRunsOf (triples : List Triple) (runs : List Run) : Type 0 where
 abbrev pub run_of : Triple → Run
 run_of t = record { id = t.id; first = t.page; pages = 1; sector = t.sector }
 
--- the page behind the run stands in the sector behind it
+-- the page after the run stands in the sector after it
 abbrev pub goes_on : Run → Triple → Bool
 goes_on r t = t.id == r.id && t.page == r.first + r.pages && t.sector == r.sector + r.pages

@@ -1,10 +1,10 @@
--- The leaders and pages that stay, each with its sector, in rising identifiers and pages.
+-- The leaders and pages that stay, each with its sector, in ascending identifiers and pages.
 use Rattle.std.specs.Prelude.{◌≡◌, ◌⊎◌, ℕ, ◌+◌, ◌<◌, ◌≤◌, true, false, if◌then◌else◌, List, [], ◌∷◌, slice_get, Some}
 use Rattle.labelled_disk.specs.declared.label.Label.{Label}
 use Rattle.labelled_disk.specs.Sectors.{Sector}
 use Rattle.labelled_disk.specs.WriteLaws.{HasData}
 use Rattle.label_laws.specs.Counts.{needs_place}
-use Rattle.label_survey.specs.declared.standing.Standing.{Standing}
+use Rattle.label_survey.specs.declared.sector_state.SectorState.{SectorState}
 use Rattle.label_survey.specs.declared.triples.Triple.{Triple}
 use Rattle.label_survey.specs.Survey.{is_kept}
 
@@ -12,8 +12,8 @@ abbrev pub triple_of : ℕ → Label → Triple
 triple_of sector l = record { id = l.id; page = l.page; sector = sector }
 
 -- those of the sectors that are kept, the first being sector n
-abbrev pub triples_from : ℕ → List Label → List Standing → List Triple
-triples_from n [] standings = []
+abbrev pub triples_from : ℕ → List Label → List SectorState → List Triple
+triples_from n [] sector_states = []
 triples_from n (l ∷ ls) [] = []
 triples_from n (l ∷ ls) (x ∷ xs) = if is_kept x then triple_of n l ∷ triples_from (n + 1) ls xs else triples_from (n + 1) ls xs
 

@@ -17,7 +17,7 @@ pub enum SurveyFault {
     NoMemory,
 }
 
-/// The labels of the data sectors, rising. The memory is taken before the first is read: 16 bytes
+/// The labels of the data sectors, ascending. The memory is taken before the first is read: 16 bytes
 /// for each.
 pub fn read_labels<A: Allocator, D: Disk>(
     alloc: A,

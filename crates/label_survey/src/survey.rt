@@ -1,12 +1,12 @@
-//! All that the labels of a disk tell.
+//! All that the labels of a disk reveal.
 ghost use Rattle.std.specs.Prelude.{◌≡◌, ◌+◌, ◌<◌, ◌^◌, List, length, map, IfOk};
 ghost use Rattle.labelled_disk.specs.Layout.{data_sectors, first_data};
 ghost use Rattle.labelled_disk.specs.Sectors.{Sector};
-ghost use Rattle.label_survey.specs.Survey.{Tells};
+ghost use Rattle.label_survey.specs.Survey.{Reveals};
 
-use crate::standing::Standing;
+use crate::sector_state::SectorState;
 use crate::tally::{Tally, lost_sectors, tally_sectors};
-use crate::walk::find_standings;
+use crate::walk::find_sector_states;
 use labelled_disk::{Label, NoMemory};
 use std::alloc::Allocator;
 
@@ -14,9 +14,9 @@ use std::alloc::Allocator;
 #[derive(Drop)]
 pub struct Survey<A: Allocator> {
     /// What each data sector is, counted from the first.
-    pub standings: Vec<Standing, A>,
+    pub sector_states: Vec<SectorState, A>,
     pub tally: Tally,
-    /// The freed sectors whose labels are those of files that stay, rising, counted from sector 0.
+    /// The freed sectors whose labels are those of files that stay, ascending, counted from sector 0.
     pub lost: Vec<u32, A>,
 }
 
@@ -27,16 +27,16 @@ pub fn survey_labels<A: Allocator + Clone>(
     labels: &[Label],
 ) -> Result<Survey<A>, NoMemory>
     requires few { first + length labels.now + 1 < 2 ^ 32 }
-    ensures tells { IfOk result (λ survey. (d : List Sector) → first ≡ first_data (length d)
+    ensures reveals { IfOk result (λ survey. (d : List Sector) → first ≡ first_data (length d)
         → labels.now ≡ map (λ s. s.0) (data_sectors d)
-        → Tells d survey.standings.items survey.tally survey.lost.items) }
-    ensures all { IfOk result (λ survey. length survey.standings.items ≡ length labels.now) }
+        → Reveals d survey.sector_states.items survey.tally survey.lost.items) }
+    ensures all { IfOk result (λ survey. length survey.sector_states.items ≡ length labels.now) }
 {
-    let standings = find_standings(alloc.clone()?, labels)?;
-    let lost = lost_sectors(alloc, first, &standings)?;
-    let tally = tally_sectors(&standings);
+    let sector_states = find_sector_states(alloc.clone()?, labels)?;
+    let lost = lost_sectors(alloc, first, &sector_states)?;
+    let tally = tally_sectors(&sector_states);
     Ok(Survey {
-        standings,
+        sector_states,
         tally,
         lost,
     })

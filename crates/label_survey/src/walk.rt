@@ -1,17 +1,17 @@
-//! One walk over the entries in order tells what each data sector is.
+//! One walk over the entries in order reveals what each data sector is.
 ghost use Rattle.std.specs.Prelude.{◌≡◌, ◌<◌, ◌≤◌, ◌^◌, ℕ, List, length, map, slice_get, Some, IfOk};
 ghost use Rattle.labelled_disk.specs.Layout.{data_sectors};
 ghost use Rattle.labelled_disk.specs.Sectors.{Sector};
 ghost use Rattle.label_survey.specs.Entries.{AreInOrder, AreOf};
 ghost use Rattle.label_survey.specs.Progress.{TakesNext};
-ghost use Rattle.label_survey.specs.Standings.{AreStandings, unclaimed};
+ghost use Rattle.label_survey.specs.SectorStates.{AreSectorStates, unclaimed};
 
 use crate::entries::{Entry, TEMPORARY, entries_in_order};
-use crate::standing::{Standing, unclaimed_sectors};
+use crate::sector_state::{SectorState, unclaimed_sectors};
 use labelled_disk::{FileId, Label, NoMemory};
 use std::alloc::Allocator;
 
-// The last permanent file that the entries have come to, and the place that it lacks so far.
+// The last permanent file that the entries have come to, and the place that it misses so far.
 #[derive(Clone, Copy)]
 struct Progress {
     id: FileId,
@@ -20,59 +20,59 @@ struct Progress {
 
 impl Progress {
     // The next entry, in order.
-    fn take(&mut self, entry: &Entry) -> Standing
+    fn take(&mut self, entry: &Entry) -> SectorState
         requires bounded { self.old.next ≤ 2 ^ 32 }
         ensures next { TakesNext entry.now self.old result self.new }
         ensures bounded { self.new.next ≤ 2 ^ 32 }
     {
         if entry.id != self.id {
             if entry.place != 0 {
-                return Standing::Stray;
+                return SectorState::Orphan;
             }
             *self = Progress {
                 id: entry.id,
                 next: 1,
             };
-            return Standing::Leader;
+            return SectorState::Leader;
         }
         if entry.place != self.next || entry.place == TEMPORARY {
-            return Standing::Lost;
+            return SectorState::Lost;
         }
         self.next += 1;
-        Standing::Page
+        SectorState::Page
     }
 }
 
-// Each entry tells what its sector is.
-fn claim_sectors(entries: &[Entry], standings: &mut [Standing])
+// Each entry reveals what its sector is.
+fn claim_sectors(entries: &[Entry], sector_states: &mut [SectorState])
     requires within { (k : ℕ) (e : Entry) → slice_get entries.now k ≡ Some e
-        → e.sector < length standings.old }
+        → e.sector < length sector_states.old }
     requires order { AreInOrder entries.now }
     ensures claimed { (d : List Sector) → AreOf (map (λ s. s.0) (data_sectors d)) entries.now
-        → standings.old ≡ map unclaimed (map (λ s. s.0) (data_sectors d))
-        → AreStandings d standings.new }
-    ensures len { length standings.new ≡ length standings.old }
+        → sector_states.old ≡ map unclaimed (map (λ s. s.0) (data_sectors d))
+        → AreSectorStates d sector_states.new }
+    ensures len { length sector_states.new ≡ length sector_states.old }
 {
     let mut progress = Progress { id: 0, next: 1 };
     for k in 0..entries.len() {
         let entry = &entries[k];
-        standings[entry.sector as usize] = progress.take(entry);
+        sector_states[entry.sector as usize] = progress.take(entry);
     }
 }
 
 /// What each data sector is, by the labels of them all: one sort, and one walk. The memory beside
 /// the answer is 24 bytes for each label, which are given back.
-pub fn find_standings<A: Allocator + Clone>(
+pub fn find_sector_states<A: Allocator + Clone>(
     alloc: A,
     labels: &[Label],
-) -> Result<Vec<Standing, A>, NoMemory>
+) -> Result<Vec<SectorState, A>, NoMemory>
     requires few { length labels.now < 2 ^ 32 }
-    ensures standings { IfOk result (λ standings. (d : List Sector)
-        → labels.now ≡ map (λ s. s.0) (data_sectors d) → AreStandings d standings.items) }
-    ensures len { IfOk result (λ standings. length standings.items ≡ length labels.now) }
+    ensures sector_states { IfOk result (λ sector_states. (d : List Sector)
+        → labels.now ≡ map (λ s. s.0) (data_sectors d) → AreSectorStates d sector_states.items) }
+    ensures len { IfOk result (λ sector_states. length sector_states.items ≡ length labels.now) }
 {
-    let mut standings = unclaimed_sectors(alloc.clone()?, labels)?;
+    let mut sector_states = unclaimed_sectors(alloc.clone()?, labels)?;
     let entries = entries_in_order(alloc, labels)?;
-    claim_sectors(&entries, &mut standings);
-    Ok(standings)
+    claim_sectors(&entries, &mut sector_states);
+    Ok(sector_states)
 }

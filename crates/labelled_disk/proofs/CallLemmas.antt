@@ -4,8 +4,8 @@ use Rattle.std.specs.Prelude.{option_map}
 use Rattle.labelled_disk.specs.declared.label.Label.{Label}
 use Rattle.labelled_disk.specs.declared.disk.DiskError.{DiskError}
 use Rattle.labelled_disk.specs.declared.disk.DiskWrite.{DiskWrite}
-use Rattle.labelled_disk.specs.Calls.{Rose, TellsSame, TellsWrite, Reads, Settles, OnlyReads, ReadsAtMost}
-use Rattle.labelled_disk.specs.Moment.{written}
+use Rattle.labelled_disk.specs.Calls.{Rose, RevealsSame, RevealsWrite, Reads, Syncs, OnlyReads, ReadsAtMost}
+use Rattle.labelled_disk.specs.CrashState.{written}
 use Rattle.labelled_disk.specs.State.{DiskState}
 
 -- no call at all
@@ -64,16 +64,16 @@ reads_at_most_wider less reads = record { only = reads.only; moved = omega (arit
 pub reads_one : {a b : DiskState} {sector : ℕ} {page : List ℕ} {result : Result Label DiskError} → Reads a sector page result b → ReadsAtMost 1 a b
 reads_one read = record { only = read_only read; moved = read.moves.transfers.by_one }
 
--- a settling that was answered
-pub settled_only : {a b : DiskState} → Settles a (Ok tt) b → OnlyReads a b
-settled_only settled = record {
-  sectors = settled.sectors;
-  lent = settled.lent;
-  contents = settled.same.contents;
-  writes = settled.same.writes;
-  transfers = omega (arith, settled.transfers);
-  faults = settled.faults;
-  synced = λ is. settled.synced;
+-- a syncing that was answered
+pub settled_only : {a b : DiskState} → Syncs a (Ok tt) b → OnlyReads a b
+settled_only sync_counts = record {
+  sectors = sync_counts.sectors;
+  lent = sync_counts.lent;
+  contents = sync_counts.same.contents;
+  writes = sync_counts.same.writes;
+  transfers = omega (arith, sync_counts.transfers);
+  faults = sync_counts.faults;
+  synced = λ is. sync_counts.synced;
 }
 
 -- a count that rose, rose by each later state, since no count falls
@@ -84,19 +84,19 @@ rose_later a b c rose more = omega (arith, rose, more)
 pub rose_earlier : (a b c : ℕ) → a ≤ b → Rose b c → Rose a c
 rose_earlier a b c less rose = omega (arith, less, rose)
 
-pub tells_same_itself : (d : DiskState) → TellsSame d d
-tells_same_itself d = record { contents = refl; writes = refl }
+pub reveals_same_itself : (d : DiskState) → RevealsSame d d
+reveals_same_itself d = record { contents = refl; writes = refl }
 
-pub tells_same_then : {a b c : DiskState} → TellsSame a b → TellsSame b c → TellsSame a c
-tells_same_then first next = record { contents = next.contents ∙ first.contents; writes = next.writes ∙ first.writes }
+pub reveals_same_then : {a b c : DiskState} → RevealsSame a b → RevealsSame b c → RevealsSame a c
+reveals_same_then first next = record { contents = next.contents ∙ first.contents; writes = next.writes ∙ first.writes }
 
 -- one write, after calls that wrote nothing
-pub tells_write_later : {a b c : DiskState} (write : DiskWrite) → TellsSame a b → TellsWrite write b c → TellsWrite write a c
-tells_write_later write same made = record {
+pub reveals_write_later : {a b c : DiskState} (write : DiskWrite) → RevealsSame a b → RevealsWrite write b c → RevealsWrite write a c
+reveals_write_later write same made = record {
   contents = made.contents ∙ ap (option_map (written write)) same.contents;
   writes = made.writes ∙ ap (option_map (λ (writes : List DiskWrite). writes ++ write ∷ [])) same.writes;
 }
 
 -- one write, and then calls that wrote nothing
-pub tells_write_earlier : {a b c : DiskState} (write : DiskWrite) → TellsWrite write a b → TellsSame b c → TellsWrite write a c
-tells_write_earlier write made same = record { contents = same.contents ∙ made.contents; writes = same.writes ∙ made.writes }
+pub reveals_write_earlier : {a b c : DiskState} (write : DiskWrite) → RevealsWrite write a b → RevealsSame b c → RevealsWrite write a c
+reveals_write_earlier write made same = record { contents = same.contents ∙ made.contents; writes = same.writes ∙ made.writes }

@@ -12,7 +12,7 @@ use Rattle.labelled_disk.specs.Layout.{data_sectors, first_data}
 use Rattle.labelled_disk.specs.File.{File, Page, byte, size}
 use Rattle.labelled_disk.specs.FilesOn.{leads, leads_file, is_page, is_of, page_at, leader_among, pages_from, file_by, file_among, files_by}
 use Rattle.labelled_disk.specs.Right.{IsWhole}
-use Rattle.labelled_disk.specs.Lowest.{IsLowest, IsFileOn, is_first, is_needed, FilesAreAsTold, UnneededFreed, NeededAreWhole, EmptyHasNone, RightAreNeeded}
+use Rattle.labelled_disk.specs.Lowest.{IsLowest, IsFileOn, is_first, is_needed, FilesAreAsRevealed, UnneededFreed, NeededAreWhole, EmptyHasNone, RightAreNeeded}
 use Rattle.labelled_disk.proofs.Finds.{none_passes, find_none, IsAlone}
 use Rattle.labelled_disk.proofs.Pages.{pages_each, pages_stop, pages_most, pages_below, pages_stay}
 use Rattle.labelled_disk.proofs.SectorWrites as w
@@ -66,11 +66,11 @@ module _ (with_temporary : Bool) where
   get_some (x ∷ xs) zero below = (x, refl)
   get_some (x ∷ xs) (suc i) below = get_some xs i (omega arith)
 
-  told : (xs : List Sector) (id : ℕ) (f : File) → file_among with_temporary xs id ≡ Some f → IsFileOn with_temporary xs f × (f.id ≡ id)
-  told xs id f is = either (find (leads_file with_temporary id) xs) refl is
+  revealed : (xs : List Sector) (id : ℕ) (f : File) → file_among with_temporary xs id ≡ Some f → IsFileOn with_temporary xs f × (f.id ≡ id)
+  revealed xs id f is = either (find (leads_file with_temporary id) xs) refl is
     where
-      as_told : (s : Sector) → find (leads_file with_temporary s.0.id) xs ≡ Some s → IsFileOn with_temporary xs (file_by xs s.0)
-      as_told s e = record {
+      as_revealed : (s : Sector) → find (leads_file with_temporary s.0.id) xs ≡ Some s → IsFileOn with_temporary xs (file_by xs s.0)
+      as_revealed s e = record {
         leader = let l = lowest (leads_file with_temporary s.0.id) xs s e in (l.0, s, l.1, refl, refl, refl);
         page = λ k below.
             let one = get_some (pages_from (page_at xs s.0.id) 0 leader_page) k below in
@@ -95,13 +95,13 @@ module _ (with_temporary : Bool) where
           let l = lowest (leads_file with_temporary id) xs s e in
           let same : s.0.id ≡ id = w.leader_id with_temporary id s l.1.passes in
           let eq : file_by xs s.0 ≡ f = same_Some (file_by xs s.0) f h in
-          subst (λ (g : File). IsFileOn with_temporary xs g × (g.id ≡ id)) eq (as_told s (ap (λ (n : ℕ). find (leads_file with_temporary n) xs) same ∙ e), same)
+          subst (λ (g : File). IsFileOn with_temporary xs g × (g.id ≡ id)) eq (as_revealed s (ap (λ (n : ℕ). find (leads_file with_temporary n) xs) same ∙ e), same)
 
   same_file : (f g : File) → f.id ≡ g.id → f.kind ≡ g.kind → f.permanent ≡ g.permanent → f.immutable ≡ g.immutable → f.pages ≡ g.pages → f ≡ g
   same_file f g a b c e h = λ x. record { id = a x; kind = b x; permanent = c x; immutable = e x; pages = h x }
 
-  all_told : (xs : List Sector) (f : File) → IsFileOn with_temporary xs f → file_among with_temporary xs f.id ≡ Some f
-  all_told xs f is =
+  all_revealed : (xs : List Sector) (f : File) → IsFileOn with_temporary xs f → file_among with_temporary xs f.id ≡ Some f
+  all_revealed xs f is =
       let lead : leader_among with_temporary xs f.id ≡ Some is.leader.1.0 = ap (λ (o : Option Sector). option_map (λ (s : Sector). s.0) o) (find_lowest (leads_file with_temporary f.id) xs is.leader.0 is.leader.1 is.leader.2) in
       let same : is.leader.1.0.id ≡ f.id = w.leader_id with_temporary f.id is.leader.1 is.leader.2.passes in
       ap (λ (o : Option Label). option_map (file_by xs) o) lead
@@ -139,8 +139,8 @@ module _ (with_temporary : Bool) where
           at k (inl l) = let z : 0 + k ≡ k = omega arith in pages_each (page_at xs f.id) 0 leader_page k (omega (arith, l, long)) ∙ ap (page_at xs f.id) z ∙ there k l
           at k (inr l) = slice_get_past (pages_from (page_at xs f.id) 0 leader_page) k (omega (arith, l, long)) ∙ sym (slice_get_past f.pages k l)
 
-  pub files_are_as_told : (d : List Sector) → FilesAreAsTold with_temporary d
-  files_are_as_told d = record { told = told (data_sectors d); all = all_told (data_sectors d) }
+  pub files_are_as_revealed : (d : List Sector) → FilesAreAsRevealed with_temporary d
+  files_are_as_revealed d = record { revealed = revealed (data_sectors d); all = all_revealed (data_sectors d) }
 
   -- Sectors that no file needs.
 
@@ -229,7 +229,7 @@ module _ (with_temporary : Bool) where
 
   pub needed_are_whole : NeededAreWhole with_temporary
   needed_are_whole d needed = laws.each_file with_temporary 0 0 (IsWhole (data_sectors d)) d (λ id f is.
-      let own : file_among with_temporary (data_sectors d) f.id ≡ Some f = ap (λ (n : ℕ). file_among with_temporary (data_sectors d) n) (told (data_sectors d) id f is).1 ∙ is in
+      let own : file_among with_temporary (data_sectors d) f.id ≡ Some f = ap (λ (n : ℕ). file_among with_temporary (data_sectors d) n) (revealed (data_sectors d) id f is).1 ∙ is in
       record {
         no_other = λ i s at of. elim (part f own i s at of) [ inl h ↦ inl h.0 | inr h ↦ inr h.0 ];
         once = λ i j s t at_i at_j of_s of_t same. together f own i j s t same (part f own i s at_i of_s) (part f own j t at_j of_t);
@@ -254,7 +254,7 @@ module _ (with_temporary : Bool) where
           ]
 
       numbered : (f : File) → file_among with_temporary (data_sectors d) f.id ≡ Some f → size f ≤ leader_page
-      numbered f own = (told (data_sectors d) f.id f own).0.numbered
+      numbered f own = (revealed (data_sectors d) f.id f own).0.numbered
 
       together : (f : File) → file_among with_temporary (data_sectors d) f.id ≡ Some f → (i j : ℕ) (s t : Sector) → s.0.page ≡ t.0.page → Part d f i s → Part d f j t → i ≡ j
       together f own i j s t same (inl a) (inl b) = sym a.1 ∙ b.1
@@ -297,7 +297,7 @@ module _ (with_temporary : Bool) where
   pub right_are_needed : RightAreNeeded with_temporary
   right_are_needed serial counter d i s f right here is file =
       let whole = laws.of_file with_temporary 0 0 (IsWhole (data_sectors d)) d right.whole_files s.0.id f file in
-      let same : f.id ≡ s.0.id = (told (data_sectors d) s.0.id f file).1 in
+      let same : f.id ≡ s.0.id = (revealed (data_sectors d) s.0.id f file).1 in
       let of : is_of s.0.id s ≡ true = and_from (is_file s.0) (eqb s.0.id s.0.id) is (eq-eqb s.0.id s.0.id refl) in
       let mine : is_of f.id s ≡ true = ap (λ (n : ℕ). is_of n s) same ∙ of in
       needed_at (data_sectors d) i s f here file ∙ elim (whole.no_other i s here mine) [
@@ -317,4 +317,4 @@ module _ (with_temporary : Bool) where
           (λ j t at_j passes. whole.once j i t s at_j here (ap (λ (n : ℕ). is_of n t) same ∙ laws.leader_of with_temporary 0 0 s.0.id t passes) mine (w.leader_number with_temporary s.0.id t passes ∙ sym page))
         where
           lowest_leader : (j : ℕ) × (t : Sector) × IsLowest (leads_file with_temporary s.0.id) (data_sectors d) j t
-          lowest_leader = let l = (told (data_sectors d) s.0.id f file).0.leader in subst (λ (n : ℕ). (j : ℕ) × (t : Sector) × IsLowest (leads_file with_temporary n) (data_sectors d) j t) (told (data_sectors d) s.0.id f file).1 (l.0, l.1, l.2)
+          lowest_leader = let l = (revealed (data_sectors d) s.0.id f file).0.leader in subst (λ (n : ℕ). (j : ℕ) × (t : Sector) × IsLowest (leads_file with_temporary n) (data_sectors d) j t) (revealed (data_sectors d) s.0.id f file).1 (l.0, l.1, l.2)

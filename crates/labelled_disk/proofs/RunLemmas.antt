@@ -1,4 +1,4 @@
--- Runs of writes, moment by moment.
+-- Runs of writes, crash state by crash state.
 use Rattle.std.proofs.Common.{◌≡◌, ◌≢◌, ℕ, zero, suc, ◌+◌, ◌-◌, ◌<◌, ◌≤◌, Bool, true, false, ◌&&◌, ◌||◌, List, [], ◌∷◌, ◌++◌, map, length, Option, Some, None, refl, sym, ◌∙◌, ap, subst, arith, take, append_assoc, append-nil, length-set, eqb}
 use Rattle.std.specs.Prelude.{slice_get, slice_set, replicate, option_map, find, nat_lt, if◌then◌else◌}
 use Rattle.std.specs.Option.{option_map_or}
@@ -11,13 +11,13 @@ use Rattle.labelled_disk.specs.declared.label.Label.{Label}
 use Rattle.labelled_disk.specs.declared.disk.DiskWrite.{DiskWrite}
 use Rattle.labelled_disk.specs.declared.disk.DiskWrite.TheVariants as write
 use Rattle.labelled_disk.specs.Sectors.{Sector, IsSector, AreSectors, free_label}
-use Rattle.labelled_disk.specs.Moment.{moment, written}
+use Rattle.labelled_disk.specs.CrashState.{crash_state, written}
 use Rattle.labelled_disk.specs.Layout.{capacity, data_sectors, first_data}
 use Rattle.labelled_disk.specs.File.{File, Page, byte, size, file_at, total_room, zero_page}
 use Rattle.labelled_disk.specs.FilesOn.{is_of, is_page, leads, leads_file, leader_among, files_among, disk_file}
 use Rattle.labelled_disk.specs.Right.{FilesRight}
 use Rattle.labelled_disk.specs.WriteLaws.{HasData, Changed, Kept}
-use Rattle.labelled_disk.specs.Runs.{zero_bytes, growth, freeing, AreUnused, ArePagesDown, ArePagesUp, lengthened, shortened, GrowthMoments, CreationMoments, ShrinkingMoments, DeletionMoments, CreationUnseen, DataRuns, SectorsStay, sector_of}
+use Rattle.labelled_disk.specs.Runs.{zero_bytes, growth, freeing, AreUnused, ArePagesDown, ArePagesUp, lengthened, shortened, GrowthCrashStates, CreationCrashStates, ShrinkingCrashStates, DeletionCrashStates, CreationUnseen, DataRuns, SectorsStay, sector_of}
 use Rattle.labelled_disk.proofs.Finds.{get_set_other, found_at, find_none}
 use Rattle.labelled_disk.proofs.SectorWrites as w
 use Rattle.labelled_disk.proofs.WriteLemmas as laws
@@ -142,7 +142,7 @@ module _ (with_temporary : Bool) (serial counter : ℕ) where
 
   growth_from : (d : List Sector) (id kind page : ℕ) (f : File) (is : List ℕ) → page ≡ size f → FilesRight with_temporary serial counter d → disk_file with_temporary d id ≡ Some f → AreUnused d is
       → length is + total_room (files_among with_temporary d) ≤ capacity (length d) → (k : ℕ) → k ≤ length is
-      → Changed with_temporary serial counter d (moment d (growth id kind page is) k) id (Some (lengthened k f))
+      → Changed with_temporary serial counter d (crash_state d (growth id kind page is) k) id (Some (lengthened k f))
   growth_from d id kind page f is start right file unused room zero low =
       let same : f ≡ lengthened 0 f = ap (λ (p : List Page). record f { pages = p }) (sym (append-nil f.pages)) in
       unchanged d id (Some (lengthened 0 f)) right (file ∙ ap (λ (g : File). Some g) same)
@@ -159,13 +159,13 @@ module _ (with_temporary : Bool) (serial counter : ℕ) where
       let same : lengthened k more ≡ lengthened (suc k) f =
       ap (λ (p : List Page). record f { pages = p }) (append_assoc f.pages (map byte zero_bytes ∷ []) (replicate k zero_page) ∙ ap (λ (z : Page). f.pages ++ (z ∷ replicate k zero_page)) zero_cells) in
       then_changed d (slice_set d i t) _ id (Some more) (Some (lengthened (suc k) f)) once
-      (subst (λ (g : File). Changed with_temporary serial counter (slice_set d i t) (moment (slice_set d i t) (growth id kind (page + 1) is) k) id (Some g)) same rest)
+      (subst (λ (g : File). Changed with_temporary serial counter (slice_set d i t) (crash_state (slice_set d i t) (growth id kind (page + 1) is) k) id (Some g)) same rest)
 
-  pub growth_moments : GrowthMoments with_temporary serial counter
-  growth_moments d id kind f is right file unused room k low = growth_from d id kind (size f) f is refl right file unused room k low
+  pub growth_crash_states : GrowthCrashStates with_temporary serial counter
+  growth_crash_states d id kind f is right file unused room k low = growth_from d id kind (size f) f is refl right file unused room k low
 
-  pub creation_moments : CreationMoments with_temporary serial counter
-  creation_moments d id kind leader is right leads nowhere given unused room k low =
+  pub creation_crash_states : CreationCrashStates with_temporary serial counter
+  creation_crash_states d id kind leader is right leads nowhere given unused room k low =
       let t : Sector = (page_label id kind leader_page, zero_bytes) in
       let once = laws.file_created with_temporary serial counter d leader unused.0.s t id right unused.0.there unused.0.unused leads nowhere given (omega (arith, room)) in
       let empty : File = record { id = id; kind = kind; permanent = false; immutable = false; pages = [] } in
@@ -179,11 +179,11 @@ module _ (with_temporary : Bool) (serial counter : ℕ) where
 
   -- a label is freed
   freed : (d : List Sector) (i : ℕ) (s : Sector) (is : List ℕ) (k : ℕ) → slice_get d i ≡ Some s
-      → moment (slice_set d i (free_label, s.1)) (freeing is) k ≡ moment d (freeing (i ∷ is)) (suc k)
-  freed d i s is k here = ap (λ (e : List Sector). moment e (freeing is) k) (sym (ap (λ (o : Option Sector). option_map_or (λ (old : Sector). slice_set d i (free_label, old.1)) o d) here))
+      → crash_state (slice_set d i (free_label, s.1)) (freeing is) k ≡ crash_state d (freeing (i ∷ is)) (suc k)
+  freed d i s is k here = ap (λ (e : List Sector). crash_state e (freeing is) k) (sym (ap (λ (o : Option Sector). option_map_or (λ (old : Sector). slice_set d i (free_label, old.1)) o d) here))
 
   shrink_from : (d : List Sector) (id n : ℕ) (f : File) (is : List ℕ) → n ≡ size f → FilesRight with_temporary serial counter d → disk_file with_temporary d id ≡ Some f → ArePagesDown d id n is
-      → (k : ℕ) → k ≤ length is → Changed with_temporary serial counter d (moment d (freeing is) k) id (Some (shortened k f))
+      → (k : ℕ) → k ≤ length is → Changed with_temporary serial counter d (crash_state d (freeing is) k) id (Some (shortened k f))
   shrink_from d id n f is long right file pages zero low =
       let same : f ≡ shortened 0 f = ap (λ (p : List Page). record f { pages = p }) (sym (take_all (size f - 0) f.pages (omega arith))) in
       unchanged d id (Some (shortened 0 f)) right (file ∙ ap (λ (g : File). Some g) same)
@@ -199,7 +199,7 @@ module _ (with_temporary : Bool) (serial counter : ℕ) where
       let same : shortened k less ≡ shortened (suc k) f = ap (λ (p : List Page). record f { pages = p }) (fewer f n k long short) in
       then_changed d (slice_set d i t) _ id (Some less) (Some (shortened (suc k) f)) once
       (subst (λ (e : List Sector). Changed with_temporary serial counter (slice_set d i t) e id (Some (shortened (suc k) f))) (freed d i s is k pages.0.there.here)
-      (subst (λ (g : File). Changed with_temporary serial counter (slice_set d i t) (moment (slice_set d i t) (freeing is) k) id (Some g)) same rest))
+      (subst (λ (g : File). Changed with_temporary serial counter (slice_set d i t) (crash_state (slice_set d i t) (freeing is) k) id (Some g)) same rest))
     where
       fewer : (f : File) (n k : ℕ) → suc n ≡ size f → n ≡ size (record f { pages = take n f.pages }) → take (size (record f { pages = take n f.pages }) - k) (take n f.pages) ≡ take (size f - suc k) f.pages
       fewer f n k long short =
@@ -207,8 +207,8 @@ module _ (with_temporary : Bool) (serial counter : ℕ) where
           let g : size f - suc k ≡ n - k = omega (arith, long) in
           ap (λ (m : ℕ). take m (take n f.pages)) e ∙ take-take (n - k) n f.pages (omega arith) ∙ ap (λ (m : ℕ). take m f.pages) (sym g)
 
-  pub shrinking_moments : ShrinkingMoments with_temporary serial counter
-  shrinking_moments d id f is right file pages k low = shrink_from d id (size f) f is refl right file pages k low
+  pub shrinking_crash_states : ShrinkingCrashStates with_temporary serial counter
+  shrinking_crash_states d id f is right file pages k low = shrink_from d id (size f) f is refl right file pages k low
 
   as_changed : (d e : List Sector) (id : ℕ) → disk_file with_temporary d id ≡ None → Kept with_temporary serial counter d e → Changed with_temporary serial counter d e id None
   as_changed d e id none kept = record { file = each id ∙ none; others = λ other apart. each other; right = kept.right }
@@ -217,7 +217,7 @@ module _ (with_temporary : Bool) (serial counter : ℕ) where
       each other = sym (laws.look_up with_temporary serial counter e other) ∙ ap (λ (l : List File). file_at l other) kept.files ∙ laws.look_up with_temporary serial counter d other
 
   gone_from : (d : List Sector) (id n : ℕ) (is : List ℕ) → FilesRight with_temporary serial counter d → disk_file with_temporary d id ≡ None → ArePagesUp d id n is
-      → (k : ℕ) → k ≤ length is → Changed with_temporary serial counter d (moment d (freeing is) k) id None
+      → (k : ℕ) → k ≤ length is → Changed with_temporary serial counter d (crash_state d (freeing is) k) id None
   gone_from d id n is right none pages zero low = unchanged d id None right none
   gone_from d id n [] right none pages (suc k) low = absurd (omega (arith, low))
   gone_from d id n (i ∷ is) right none pages (suc k) low =
@@ -231,8 +231,8 @@ module _ (with_temporary : Bool) (serial counter : ℕ) where
       then_changed d (slice_set d i t) _ id None None once
       (subst (λ (e : List Sector). Changed with_temporary serial counter (slice_set d i t) e id None) (freed d i s is k pages.1.there.here) rest)
 
-  pub deletion_moments : DeletionMoments with_temporary serial counter
-  deletion_moments d id leader f is right file led pages k low =
+  pub deletion_crash_states : DeletionCrashStates with_temporary serial counter
+  deletion_crash_states d id leader f is right file led pages k low =
       let s : Sector = led.s in
       let t : Sector = (free_label, s.1) in
       let once = laws.leader_freed with_temporary serial counter d leader s t id f right led.there led.passes free_is_none file in
@@ -242,7 +242,7 @@ module _ (with_temporary : Bool) (serial counter : ℕ) where
 
   -- pages of a file that doesn't count
   unseen_from : (d : List Sector) (id kind page : ℕ) (is : List ℕ) → FilesRight with_temporary serial counter d → disk_file with_temporary d id ≡ None → AreUnused d is → page + length is ≤ leader_page
-      → (k : ℕ) → k ≤ length is → Changed with_temporary serial counter d (moment d (growth id kind page is) k) id None
+      → (k : ℕ) → k ≤ length is → Changed with_temporary serial counter d (crash_state d (growth id kind page is) k) id None
   unseen_from d id kind page is right none unused few zero low = unchanged d id None right none
   unseen_from d id kind page [] right none unused few (suc k) low = absurd (omega (arith, low))
   unseen_from d id kind page (i ∷ is) right none unused few (suc k) low =
@@ -305,21 +305,21 @@ written_long d (write.Page sector wanted page) = either (slice_get d sector)
     either (Some s) = choice (names s.0 wanted) s
 
 -- the sectors before the data, after writes of data sectors
-moment_long : (d : List Sector) (writes : List DiskWrite) (k : ℕ) → length (moment d writes k) ≡ length d
-moment_long d writes zero = refl
-moment_long d [] (suc k) = refl
-moment_long d (one ∷ writes) (suc k) = moment_long (written one d) writes k ∙ written_long d one
+crash_state_long : (d : List Sector) (writes : List DiskWrite) (k : ℕ) → length (crash_state d writes k) ≡ length d
+crash_state_long d writes zero = refl
+crash_state_long d [] (suc k) = refl
+crash_state_long d (one ∷ writes) (suc k) = crash_state_long (written one d) writes k ∙ written_long d one
 
-moment_low : (n : ℕ) (d : List Sector) (writes : List DiskWrite) (k j : ℕ) → j < n → AllByRecursion (λ one. n ≤ sector_of one) writes → slice_get (moment d writes k) j ≡ slice_get d j
-moment_low n d writes zero j low all = refl
-moment_low n d [] (suc k) j low all = refl
-moment_low n d (one ∷ writes) (suc k) j low all = moment_low n (written one d) writes k j low all.1 ∙ written_apart d one j (omega (arith, low, all.0))
+crash_state_low : (n : ℕ) (d : List Sector) (writes : List DiskWrite) (k j : ℕ) → j < n → AllByRecursion (λ one. n ≤ sector_of one) writes → slice_get (crash_state d writes k) j ≡ slice_get d j
+crash_state_low n d writes zero j low all = refl
+crash_state_low n d [] (suc k) j low all = refl
+crash_state_low n d (one ∷ writes) (suc k) j low all = crash_state_low n (written one d) writes k j low all.1 ∙ written_apart d one j (omega (arith, low, all.0))
 
 pub data_runs : (with_temporary : Bool) → DataRuns with_temporary
 data_runs with_temporary d writes k right all files =
-    right_still with_temporary d (moment d writes k) (moment_long d writes k)
-    (moment_low (first_data (length d)) d writes k 0 (laws.first_positive with_temporary 0 0 (length d)) all)
-    (λ i high low. ap (λ (o : Option Sector). option_map (λ s. s.0) o) (moment_low (first_data (length d)) d writes k i low all))
+    right_still with_temporary d (crash_state d writes k) (crash_state_long d writes k)
+    (crash_state_low (first_data (length d)) d writes k 0 (laws.first_positive with_temporary 0 0 (length d)) all)
+    (λ i high low. ap (λ (o : Option Sector). option_map (λ s. s.0) o) (crash_state_low (first_data (length d)) d writes k i low all))
     files right
 
 -- Sectors stay sectors.

@@ -8,10 +8,10 @@ use Rattle.labelled_disk.specs.FilesOn.{disk_file, file_among, file_by, files_am
 use Rattle.labelled_disk.specs.Label.{is_file, is_immutable, is_permanent, leader_page}
 use Rattle.labelled_disk.specs.Layout.{IsCount, capacity, data_sectors, first_data}
 use Rattle.labelled_disk.specs.Right.{FilesRight, IsGiven, IsWhole, OnlyMaps}
-use Rattle.labelled_disk.specs.Rising.{AreRising}
+use Rattle.labelled_disk.specs.Ascending.{AreAscending}
 use Rattle.labelled_disk.specs.Sectors.{Sector}
 use Rattle.labelled_disk.specs.WriteLaws.{Changed, CounterRaised, PlainWritten, FileCreated, FileGrown, HasData, IsOnlyOf, Kept, LastPageFreed, LeaderFreed, LeaderMarked, LowWritten, MadePermanent, MapsMayDiffer, PageWritten, TemporaryWritten, with_page}
-use Rattle.labelled_disk.proofs.RisingLemmas.{at_put, rising_put, same_by_look_up, each_at, each_by_look_up, at_id}
+use Rattle.labelled_disk.proofs.AscendingLemmas.{at_put, ascending_put, same_by_look_up, each_at, each_by_look_up, at_id}
 use Rattle.std.specs.Option.{option_map_or}
 use Rattle.std.specs.List.{AllByRecursion}
 use Rattle.std.proofs.lemmas.List.{length-map, drop-set-lt, drop-set-add, length_push, length-take-le}
@@ -22,7 +22,7 @@ use Rattle.std.proofs.lemmas.Bool.Decides.{eqb_tells}
 use Rattle.labelled_disk.proofs.Pages.{pages_end}
 use Rattle.labelled_disk.proofs.SectorWrites as w
 
--- Lists behind their first elements.
+-- Lists after their first elements.
 
 pub get_drop : {X : Type 0} (n : ℕ) (xs : List X) (k : ℕ) → slice_get (drop n xs) k ≡ slice_get xs (n + k)
 get_drop zero xs k = ap (λ (i : ℕ). slice_get xs i) (let e : k ≡ 0 + k = omega arith in e)
@@ -38,12 +38,12 @@ file_id l is =
     (leb-true 16 l.id c.0, eqb-false (l.id % 2 ^ 32) 4294967295 (not-true (eqb (l.id % 2 ^ 32) 4294967295) c.1))
 
 module _ (with_temporary : Bool) (serial counter : ℕ) where
-  pub rising_files : (all rest : List Sector) → AreRising (files_by with_temporary all rest)
-  rising_files all [] = tt
-  rising_files all (s ∷ rest) = either (leads with_temporary s) (rising_files all rest)
+  pub ascending_files : (all rest : List Sector) → AreAscending (files_by with_temporary all rest)
+  ascending_files all [] = tt
+  ascending_files all (s ∷ rest) = either (leads with_temporary s) (ascending_files all rest)
     where
-      either : (b : Bool) → AreRising (files_by with_temporary all rest) → AreRising (if b then put_file (file_by all s.0) (files_by with_temporary all rest) else files_by with_temporary all rest)
-      either true h = rising_put (file_by all s.0) (files_by with_temporary all rest) h
+      either : (b : Bool) → AreAscending (files_by with_temporary all rest) → AreAscending (if b then put_file (file_by all s.0) (files_by with_temporary all rest) else files_by with_temporary all rest)
+      either true h = ascending_put (file_by all s.0) (files_by with_temporary all rest) h
       either false h = h
 
   pub look_up_files : (all rest : List Sector) (id : ℕ) → file_at (files_by with_temporary all rest) id ≡ option_map (λ t. file_by all t.0) (find (leads_file with_temporary id) rest)
@@ -62,8 +62,8 @@ module _ (with_temporary : Bool) (serial counter : ℕ) where
           ∙ found (eqb s.0.id id) (find (leads_file with_temporary id) rest)
       either false h = h
 
-  pub files_on_rise : (d : List Sector) → AreRising (files_among with_temporary d)
-  files_on_rise d = rising_files (data_sectors d) (data_sectors d)
+  pub files_on_rise : (d : List Sector) → AreAscending (files_among with_temporary d)
+  files_on_rise d = ascending_files (data_sectors d) (data_sectors d)
 
   -- the file of an identifier is what is looked up
   pub look_up : (d : List Sector) (id : ℕ) → file_at (files_among with_temporary d) id ≡ file_among with_temporary (data_sectors d) id
@@ -151,12 +151,12 @@ module _ (with_temporary : Bool) (serial counter : ℕ) where
       either true m = m
       either false m = (h.0, m)
 
-  rising_without : (id : ℕ) (fs : List File) → AreRising fs → AreRising (without id fs)
+  ascending_without : (id : ℕ) (fs : List File) → AreAscending fs → AreAscending (without id fs)
   unfolding without
-  rising_without id [] r = tt
-  rising_without id (f ∷ fs) r = either (eqb f.id id) (rising_without id fs r.1)
+  ascending_without id [] r = tt
+  ascending_without id (f ∷ fs) r = either (eqb f.id id) (ascending_without id fs r.1)
     where
-      either : (b : Bool) → AreRising (without id fs) → AreRising (cond b (without id fs) (f ∷ without id fs))
+      either : (b : Bool) → AreAscending (without id fs) → AreAscending (cond b (without id fs) (f ∷ without id fs))
       either true m = m
       either false m = (above_without id f.id fs r.0, m)
 
@@ -165,7 +165,7 @@ module _ (with_temporary : Bool) (serial counter : ℕ) where
   none_above id [] h = refl
   none_above id (f ∷ fs) h = let e : eqb f.id id ≡ false = ne_eqb f.id id (λ q. omega (arith, q, h.0)) in rw e (ap (λ (l : List File). f ∷ l) (none_above id fs h.1))
 
-  pub room_without : (id : ℕ) (fs : List File) → AreRising fs → total_room fs ≡ total_room (without id fs) + room_at (file_at fs id)
+  pub room_without : (id : ℕ) (fs : List File) → AreAscending fs → total_room fs ≡ total_room (without id fs) + room_at (file_at fs id)
   unfolding without
   room_without id [] r = refl
   room_without id (f ∷ fs) r = either (eqb f.id id) refl (room_without id fs r.1)
@@ -178,10 +178,10 @@ module _ (with_temporary : Bool) (serial counter : ℕ) where
       either false e m = omega (arith, m, sum_by-cons room_of f fs, sum_by-cons room_of f (without id fs))
 
   -- one file has another room
-  pub room_changed : (fs gs : List File) (id : ℕ) → AreRising fs → AreRising gs → ((j : ℕ) → j ≢ id → file_at gs j ≡ file_at fs j)
+  pub room_changed : (fs gs : List File) (id : ℕ) → AreAscending fs → AreAscending gs → ((j : ℕ) → j ≢ id → file_at gs j ≡ file_at fs j)
       → total_room gs + room_at (file_at fs id) ≡ total_room fs + room_at (file_at gs id)
   room_changed fs gs id rf rg same =
-      let rest : without id gs ≡ without id fs = same_by_look_up (without id gs) (without id fs) (rising_without id gs rg) (rising_without id fs rf) (λ j. at j (eqb_tells j id)) in
+      let rest : without id gs ≡ without id fs = same_by_look_up (without id gs) (without id fs) (ascending_without id gs rg) (ascending_without id fs rf) (λ j. at j (eqb_tells j id)) in
       omega (arith, room_without id fs rf, room_without id gs rg, ap (λ (l : List File). total_room l) rest)
     where
       at : (j : ℕ) → ((eqb j id ≡ true) × (j ≡ id)) ⊎ ((eqb j id ≡ false) × (j ≢ id)) → file_at (without id gs) j ≡ file_at (without id fs) j

@@ -8,7 +8,7 @@ use Rattle.labelled_disk.specs.declared.disk.DiskError.TheVariants.{Failed, Wron
 use Rattle.labelled_disk.specs.declared.disk.DiskWrite.{DiskWrite}
 use Rattle.labelled_disk.specs.declared.disk.DiskWrite.TheVariants.{Page}
 use Rattle.labelled_disk.specs.Label.{names}
-use Rattle.labelled_disk.specs.Moment.{written}
+use Rattle.labelled_disk.specs.CrashState.{written}
 use Rattle.labelled_disk.specs.State.{DiskState, Holds, HasLabel, NamesThere}
 
 -- a count of transfers rose by one at most
@@ -28,13 +28,13 @@ OnWrong (Ok x) P = Unit {0}
 OnWrong (Err Failed) P = Unit {0}
 OnWrong (Err (Wrong found)) P = P found
 
--- the disk tells the same
-pub record TellsSame (old new : DiskState) : Type 0 where
+-- the disk reveals the same
+pub record RevealsSame (old new : DiskState) : Type 0 where
   pub contents : new.contents ≡ old.contents
   pub writes : new.writes ≡ old.writes
 
--- the disk tells of one write more
-pub record TellsWrite (write : DiskWrite) (old new : DiskState) : Type 0 where
+-- the disk reveals of one write more
+pub record RevealsWrite (write : DiskWrite) (old new : DiskState) : Type 0 where
   pub contents : new.contents ≡ option_map (written write) old.contents
   pub writes : new.writes ≡ option_map (λ writes. writes ++ write ∷ []) old.writes
 
@@ -53,31 +53,31 @@ pub record FailsWith {T : Type 0} (result : Result T DiskError) (old new : DiskS
 -- the label and page of the sector, and nothing changes
 pub record Reads (old : DiskState) (sector : ℕ) (page : List ℕ) (result : Result Label DiskError) (new : DiskState) : Type 0 where
   pub found : IfOk result (λ label. Holds old sector (label, page))
-  pub same : TellsSame old new
+  pub same : RevealsSame old new
   pub moves : Moves old new
   pub fails : FailsWith result old new
   pub synced : old.synced ≡ true → new.synced ≡ true
 
 -- the write is made whole, or after an error whole or not at all
 pub record Writes (write : DiskWrite) (old : DiskState) (result : Result (Unit {0}) DiskError) (new : DiskState) : Type 0 where
-  pub written : OnOk result (TellsWrite write old new)
-  pub whole_or_absent : OnErr result (TellsSame old new ⊎ TellsWrite write old new)
+  pub written : OnOk result (RevealsWrite write old new)
+  pub whole_or_absent : OnErr result (RevealsSame old new ⊎ RevealsWrite write old new)
   pub moves : Moves old new
   pub fails : FailsWith result old new
 
 -- a page is written where the label names it, and nowhere else, whatever the answer
 pub record WritesData (sector : ℕ) (wanted : Wanted) (page : List ℕ) (old : DiskState) (result : Result (Unit {0}) DiskError) (new : DiskState) : Type 0 where
-  pub written : OnOk result (TellsWrite (Page sector wanted page) old new)
+  pub written : OnOk result (RevealsWrite (Page sector wanted page) old new)
   pub named : OnOk result (NamesThere old sector wanted true)
-  pub wrong : OnWrong result (λ found. (names found wanted ≡ false) × HasLabel old sector found × TellsSame old new)
-  pub whole_or_absent : OnFailed result (TellsSame old new ⊎ (TellsWrite (Page sector wanted page) old new × NamesThere old sector wanted true))
+  pub wrong : OnWrong result (λ found. (names found wanted ≡ false) × HasLabel old sector found × RevealsSame old new)
+  pub whole_or_absent : OnFailed result (RevealsSame old new ⊎ (RevealsWrite (Page sector wanted page) old new × NamesThere old sector wanted true))
   pub cause : OnFailed result (Rose old.faults new.faults)
   pub moves : Moves old new
 
 -- all earlier writes are on the medium, and no sector moved
-pub record Settles (old : DiskState) (result : Result (Unit {0}) DiskError) (new : DiskState) : Type 0 where
+pub record Syncs (old : DiskState) (result : Result (Unit {0}) DiskError) (new : DiskState) : Type 0 where
   pub synced : OnOk result (new.synced ≡ true)
-  pub same : TellsSame old new
+  pub same : RevealsSame old new
   pub sectors : new.sectors ≡ old.sectors
   pub lent : new.lent ≡ old.lent
   pub transfers : new.transfers ≡ old.transfers

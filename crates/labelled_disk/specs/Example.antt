@@ -17,7 +17,7 @@ map_sectors id page (suc n) = sector id page 0 0 [] ∷ map_sectors id (page + 1
 -- Root, maps and free data sectors; then, in the data:
 -- a permanent file of two pages, whose second page stands lower, with a second leader and a second page 0 higher up;
 -- a temporary file of one page;
--- a permanent file that lacks its page 1;
+-- a permanent file that misses its page 1;
 -- and two pages of a file that has no leader.
 unfoldable pub example : List Sector
 example =
@@ -36,7 +36,7 @@ example =
     70 (sector 30064771075 0 6 0 (72 ∷ [])))
     71 (sector 30064771075 1 6 0 (73 ∷ []))
 
--- the file that lacks its page 1 ends before it
+-- the file that misses its page 1 ends before it
 abbrev pub cut_file : File
 cut_file = record { id = 16; kind = 7; permanent = true; immutable = false; pages = (byte 70 ∷ []) ∷ [] }
 

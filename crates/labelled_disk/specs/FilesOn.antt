@@ -50,7 +50,7 @@ file_by sectors leader = record {
 abbrev pub file_among : Bool → List Sector → ℕ → Option File
 file_among with_temporary sectors id = option_map (file_by sectors) (leader_among with_temporary sectors id)
 
--- into rising identifiers, in the place of one with the same identifier
+-- into ascending identifiers, in the place of one with the same identifier
 abbrev pub put_file : File → List File → List File
 put_file file [] = file ∷ []
 put_file file (f ∷ fs) = if nat_lt file.id f.id then file ∷ f ∷ fs else (if file.id == f.id then file ∷ fs else f ∷ put_file file fs)
@@ -60,7 +60,7 @@ abbrev pub files_by : Bool → List Sector → List Sector → List File
 files_by with_temporary sectors [] = []
 files_by with_temporary sectors (s ∷ rest) = if leads with_temporary s then put_file (file_by sectors s.0) (files_by with_temporary sectors rest) else files_by with_temporary sectors rest
 
--- the files on a disk, in rising identifiers
+-- the files on a disk, in ascending identifiers
 abbrev pub files_among : Bool → List Sector → List File
 files_among with_temporary d = files_by with_temporary (data_sectors d) (data_sectors d)
 

@@ -3,13 +3,13 @@ pub mod Example
 pub mod File
 pub mod FilesOn
 pub mod Label
-pub mod Lawful
+pub mod Permitted
 pub mod Layout
 pub mod Lowest
 pub mod Memory
-pub mod Moment
+pub mod CrashState
 pub mod Right
-pub mod Rising
+pub mod Ascending
 pub mod Root
 pub mod RootLaws
 pub mod Runs

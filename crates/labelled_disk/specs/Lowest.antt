@@ -33,9 +33,9 @@ module _ (with_temporary : Bool) where
     pub numbered : size f ≤ leader_page
     pub ends : (size f ≡ leader_page) ⊎ IsNowhere (is_page f.id (size f)) sectors
 
-  -- the files of the disk are those that the words tell
-  pub record FilesAreAsTold (d : List Sector) : Type 0 where
-    pub told : (id : ℕ) (f : File) → disk_file with_temporary d id ≡ Some f → IsFileOn (data_sectors d) f × (f.id ≡ id)
+  -- the files of the disk are those that the words reveal
+  pub record FilesAreAsRevealed (d : List Sector) : Type 0 where
+    pub revealed : (id : ℕ) (f : File) → disk_file with_temporary d id ≡ Some f → IsFileOn (data_sectors d) f × (f.id ≡ id)
     pub all : (f : File) → IsFileOn (data_sectors d) f → disk_file with_temporary d f.id ≡ Some f
 
   -- sector i is the leader or a page of a file

@@ -1,4 +1,4 @@
--- What a disk in memory holds, tells and was told to do.
+-- What a disk in memory holds, reveals and was meant to do.
 use Rattle.std.specs.Prelude.{◌≡◌, ℕ, ◌+◌, ◌-◌, ◌^◌, ◌≤◌, min, length, Bool, false, List, [], Contains, slice_get, Option, Some, None, Result, Ok, Err, if◌then◌else◌}
 use Rattle.std.specs.Option.{option_map_or}
 use Rattle.labelled_disk.specs.declared.label.Wanted.{Wanted}
@@ -75,6 +75,6 @@ abbrev pub StaysSyncedIfErr : {T : Type 0} → Result T DiskError → DiskState 
 StaysSyncedIfErr (Ok x) old new = new.synced ≡ false
 StaysSyncedIfErr (Err e) old new = new.synced ≡ old.synced
 
--- what holds of the told list holds of the list
+-- what holds of the revealed list holds of the list
 pub same_some : {X : Type 0} {x y : X} → Some x ≡ Some y → (P : X → Type 0) → P x → P y
 same_some is P holds = subst P (same_Some _ _ is) holds

@@ -2,12 +2,12 @@
 use Rattle.std.specs.Prelude.{◌≡◌, ◌≢◌, ℕ, ◌<◌, ◌≤◌, Bool, List, length, slice_get, slice_set, Some}
 use Rattle.labelled_disk.specs.declared.disk.DiskWrite.{DiskWrite}
 use Rattle.labelled_disk.specs.Sectors.{Sector}
-use Rattle.labelled_disk.specs.Moment.{written}
+use Rattle.labelled_disk.specs.CrashState.{written}
 use Rattle.labelled_disk.specs.Layout.{first_data}
 use Rattle.labelled_disk.specs.FilesOn.{disk_file, files_among}
 use Rattle.labelled_disk.specs.Right.{FilesRight, OnlyMaps}
 use Rattle.labelled_disk.specs.Root.{IsRoot, RightFor, number_at, serial_of, counter_of}
-use Rattle.labelled_disk.specs.Lawful.{Lawful}
+use Rattle.labelled_disk.specs.Permitted.{Permitted}
 use Rattle.labelled_disk.specs.WriteLaws.{HasData}
 
 module _ (with_temporary : Bool) where
@@ -35,9 +35,9 @@ module _ (with_temporary : Bool) where
   abbrev pub MapsDiffer : Type 0
   MapsDiffer = (d e : List Sector) → OnlyMaps d e → RightFor with_temporary d → StaysRight d e
 
-  -- on any disk a lawful write changes one identifier's file at most
+  -- on any disk a permitted write changes one identifier's file at most
   abbrev pub OneFileAtMost : Type 0
-  OneFileAtMost = (d : List Sector) (write : DiskWrite) → Lawful d write
+  OneFileAtMost = (d : List Sector) (write : DiskWrite) → Permitted d write
       → (id : ℕ) × ((other : ℕ) → other ≢ id → disk_file with_temporary (written write d) other ≡ disk_file with_temporary d other)
 
   -- what each kind of write does

@@ -1,11 +1,11 @@
--- The writes in a row that make, lengthen, shorten and remove a file, and the files at each moment of them.
+-- The writes in a row that make, lengthen, shorten and remove a file, and the files in each crash state of them.
 use Rattle.std.specs.Prelude.{◌≡◌, ◌≢◌, ℕ, zero, suc, ◌+◌, ◌-◌, ◌/◌, ◌%◌, ◌^◌, ◌<◌, ◌≤◌, Bool, true, false, List, [], ◌∷◌, ◌++◌, length, take, replicate, slice_get, Some, None, All}
 use Rattle.std.specs.List.{AllByRecursion}
 use Rattle.labelled_disk.specs.declared.disk.DiskWrite.{DiskWrite}
 use Rattle.labelled_disk.specs.declared.disk.DiskWrite.TheVariants.{Whole, LabelOnly, Page}
 use Rattle.labelled_disk.specs.Label.{is_file, leader_page, page_label}
 use Rattle.labelled_disk.specs.Sectors.{Sector, IsSector, AreSectors, free_label}
-use Rattle.labelled_disk.specs.Moment.{moment, written}
+use Rattle.labelled_disk.specs.CrashState.{crash_state, written}
 use Rattle.labelled_disk.specs.Layout.{capacity, data_sectors, first_data}
 use Rattle.labelled_disk.specs.File.{File, size, total_room, zero_page}
 use Rattle.labelled_disk.specs.FilesOn.{is_of, is_page, leads_file, files_among, disk_file}
@@ -69,42 +69,42 @@ shortened k f = record f { pages = take (size f - k) f.pages }
 
 module _ (with_temporary : Bool) (serial counter : ℕ) where
   -- of a growth, after k writes: the file has k pages more
-  abbrev pub GrowthMoments : Type 0
-  GrowthMoments = (d : List Sector) (id kind : ℕ) (f : File) (is : List ℕ) → FilesRight with_temporary serial counter d → disk_file with_temporary d id ≡ Some f → AreUnused d is
+  abbrev pub GrowthCrashStates : Type 0
+  GrowthCrashStates = (d : List Sector) (id kind : ℕ) (f : File) (is : List ℕ) → FilesRight with_temporary serial counter d → disk_file with_temporary d id ≡ Some f → AreUnused d is
       → length is + total_room (files_among with_temporary d) ≤ capacity (length d) → (k : ℕ) → k ≤ length is
-      → Changed with_temporary serial counter d (moment d (growth id kind (size f) is) k) id (Some (lengthened k f))
+      → Changed with_temporary serial counter d (crash_state d (growth id kind (size f) is) k) id (Some (lengthened k f))
 
   -- of a creation, after the leader and k pages: the file has k pages
-  abbrev pub CreationMoments : Type 0
-  CreationMoments = (d : List Sector) (id kind leader : ℕ) (is : List ℕ) → FilesRight with_temporary serial counter d → leads_file with_temporary id (page_label id kind leader_page, zero_bytes) ≡ true
+  abbrev pub CreationCrashStates : Type 0
+  CreationCrashStates = (d : List Sector) (id kind leader : ℕ) (is : List ℕ) → FilesRight with_temporary serial counter d → leads_file with_temporary id (page_label id kind leader_page, zero_bytes) ≡ true
       → ((j : ℕ) (u : Sector) → slice_get (data_sectors d) j ≡ Some u → is_of id u ≡ false) → (id / 2 ^ 32 ≡ serial → id % 2 ^ 32 < counter)
       → AreUnused d (leader ∷ is) → suc (length is) + total_room (files_among with_temporary d) ≤ capacity (length d) → (k : ℕ) → k ≤ length is
-      → Changed with_temporary serial counter d (moment d (creation id kind leader is) (suc k)) id
+      → Changed with_temporary serial counter d (crash_state d (creation id kind leader is) (suc k)) id
       (Some (record { id = id; kind = kind; permanent = false; immutable = false; pages = replicate k zero_page }))
 
   -- of a shrinking, after k writes: the file has k pages fewer
-  abbrev pub ShrinkingMoments : Type 0
-  ShrinkingMoments = (d : List Sector) (id : ℕ) (f : File) (is : List ℕ) → FilesRight with_temporary serial counter d → disk_file with_temporary d id ≡ Some f → ArePagesDown d id (size f) is
-      → (k : ℕ) → k ≤ length is → Changed with_temporary serial counter d (moment d (freeing is) k) id (Some (shortened k f))
+  abbrev pub ShrinkingCrashStates : Type 0
+  ShrinkingCrashStates = (d : List Sector) (id : ℕ) (f : File) (is : List ℕ) → FilesRight with_temporary serial counter d → disk_file with_temporary d id ≡ Some f → ArePagesDown d id (size f) is
+      → (k : ℕ) → k ≤ length is → Changed with_temporary serial counter d (crash_state d (freeing is) k) id (Some (shortened k f))
 
   -- of a deletion, after the leader and k pages: there is no such file
-  abbrev pub DeletionMoments : Type 0
-  DeletionMoments = (d : List Sector) (id leader : ℕ) (f : File) (is : List ℕ) → FilesRight with_temporary serial counter d → disk_file with_temporary d id ≡ Some f → IsAt (leads_file with_temporary id) d leader
-      → ArePagesUp d id 0 is → (k : ℕ) → k ≤ length is → Changed with_temporary serial counter d (moment d (freeing (leader ∷ is)) (suc k)) id None
+  abbrev pub DeletionCrashStates : Type 0
+  DeletionCrashStates = (d : List Sector) (id leader : ℕ) (f : File) (is : List ℕ) → FilesRight with_temporary serial counter d → disk_file with_temporary d id ≡ Some f → IsAt (leads_file with_temporary id) d leader
+      → ArePagesUp d id 0 is → (k : ℕ) → k ≤ length is → Changed with_temporary serial counter d (crash_state d (freeing (leader ∷ is)) (suc k)) id None
 
-  -- of a creation whose leader doesn't count, at each moment: there is no such file, and all others are as before
+  -- of a creation whose leader doesn't count, in each crash state: there is no such file, and all others are as before
   abbrev pub CreationUnseen : Type 0
   CreationUnseen = (d : List Sector) (id kind leader : ℕ) (is : List ℕ) → FilesRight with_temporary serial counter d → disk_file with_temporary d id ≡ None
       → leads_file with_temporary id (page_label id kind leader_page, zero_bytes) ≡ false → AreUnused d (leader ∷ is) → length is < leader_page → (k : ℕ) → k ≤ suc (length is)
-      → Changed with_temporary serial counter d (moment d (creation id kind leader is) k) id None
+      → Changed with_temporary serial counter d (crash_state d (creation id kind leader is) k) id None
 
   -- what each run of writes does
   pub record RunLaws : Type 0 where
     pub creation_unseen : CreationUnseen
-    pub growth_moments : GrowthMoments
-    pub creation_moments : CreationMoments
-    pub shrinking_moments : ShrinkingMoments
-    pub deletion_moments : DeletionMoments
+    pub growth_crash_states : GrowthCrashStates
+    pub creation_crash_states : CreationCrashStates
+    pub shrinking_crash_states : ShrinkingCrashStates
+    pub deletion_crash_states : DeletionCrashStates
 
 -- the sector that a write is made on
 abbrev pub sector_of : DiskWrite → ℕ
@@ -112,10 +112,10 @@ sector_of (Whole sector label page) = sector
 sector_of (LabelOnly sector label) = sector
 sector_of (Page sector wanted page) = sector
 
--- writes of data sectors, at each moment, leave root and maps: only the files' labels count
+-- writes of data sectors, in each crash state, leave root and maps: only the files' labels count
 abbrev pub DataRuns : Bool → Type 0
 DataRuns with_temporary = (d : List Sector) (writes : List DiskWrite) (k : ℕ) → RightFor with_temporary d → AllByRecursion (λ write. first_data (length d) ≤ sector_of write) writes
-    → FilesRight with_temporary (serial_of d) (counter_of d) (moment d writes k) → RightFor with_temporary (moment d writes k)
+    → FilesRight with_temporary (serial_of d) (counter_of d) (crash_state d writes k) → RightFor with_temporary (crash_state d writes k)
 
 -- the label and the page of a write fit
 abbrev pub IsWriteInForm : DiskWrite → Type 0

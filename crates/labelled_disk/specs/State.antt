@@ -1,4 +1,4 @@
--- What a disk is and tells.
+-- What a disk is and reveals.
 use Rattle.std.specs.Prelude.{◌≡◌, ℕ, Bool, List, ◌∷◌, slice_get, Option, Some, option_map}
 use Rattle.labelled_disk.specs.declared.label.Label.{Label}
 use Rattle.labelled_disk.specs.declared.label.Wanted.{Wanted}
@@ -6,7 +6,7 @@ use Rattle.labelled_disk.specs.declared.disk.DiskWrite.{DiskWrite}
 use Rattle.labelled_disk.specs.Label.{names}
 use Rattle.labelled_disk.specs.Sectors.{Sector}
 
--- How many sectors a disk has, what it holds and which writes were made on it since it was made, as far as it tells,
+-- How many sectors a disk has, what it holds and which writes were made on it since it was made, as far as it reveals,
 -- how many sectors were moved, how often it failed, whether all writes are on the medium, and the ghost names of the
 -- references through which it is lent, the outermost first.
 pub record DiskState : Type 0 where
@@ -18,7 +18,7 @@ pub record DiskState : Type 0 where
   pub synced : Bool
   pub lent : List ℕ
 
--- the same disk, behind a reference with this ghost name
+-- the same disk, through a reference with this ghost name
 abbrev pub lent_state : ℕ → DiskState → DiskState
 lent_state name disk = record {
   sectors = disk.sectors;
@@ -30,14 +30,14 @@ lent_state name disk = record {
   lent = name ∷ disk.lent;
 }
 
--- where the contents are told, this sector stands there
+-- where the contents are revealed, this sector stands there
 abbrev pub Holds : DiskState → ℕ → Sector → Type 0
 Holds disk sector found = (d : List Sector) → disk.contents ≡ Some d → slice_get d sector ≡ Some found
 
--- where the contents are told, the sector there has this label
+-- where the contents are revealed, the sector there has this label
 abbrev pub HasLabel : DiskState → ℕ → Label → Type 0
 HasLabel disk sector label = (d : List Sector) → disk.contents ≡ Some d → option_map (λ s. s.0) (slice_get d sector) ≡ Some label
 
--- where the contents are told, whether the label there names the wanted page
+-- where the contents are revealed, whether the label there names the wanted page
 abbrev pub NamesThere : DiskState → ℕ → Wanted → Bool → Type 0
 NamesThere disk sector wanted answer = (d : List Sector) → disk.contents ≡ Some d → option_map (λ s. names s.0 wanted) (slice_get d sector) ≡ Some answer

@@ -4,7 +4,7 @@ use Rattle.labelled_disk.specs.Label.{is_file, is_permanent, is_immutable, leade
 use Rattle.labelled_disk.specs.Sectors.{Sector}
 use Rattle.labelled_disk.specs.Layout.{capacity, data_sectors, first_data}
 use Rattle.labelled_disk.specs.File.{File, Page, byte, file_at, size, room_of, total_room}
-use Rattle.labelled_disk.specs.Rising.{AreRising}
+use Rattle.labelled_disk.specs.Ascending.{AreAscending}
 use Rattle.labelled_disk.specs.FilesOn.{is_of, is_page, leads_file, file_by, files_among, disk_file}
 use Rattle.labelled_disk.specs.Right.{IsWhole, IsGiven, FilesRight, OnlyMaps}
 
@@ -21,9 +21,9 @@ IsOnlyOf id s = (other : ℕ) → other ≢ id → is_of other s ≡ false
 abbrev pub with_page : ℕ → Page → File → File
 with_page k page f = record f { pages = slice_set f.pages k page }
 
--- the files are those of each identifier, in rising order
+-- the files are those of each identifier, in ascending order
 pub record FilesAreThose (with_temporary : Bool) (d : List Sector) : Type 0 where
-  pub rise : AreRising (files_among with_temporary d)
+  pub rise : AreAscending (files_among with_temporary d)
   pub each : (id : ℕ) → file_at (files_among with_temporary d) id ≡ disk_file with_temporary d id
 
 module _ (with_temporary : Bool) (serial counter : ℕ) where

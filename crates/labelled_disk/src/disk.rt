@@ -2,7 +2,7 @@
 ghost use Rattle.std.specs.Prelude.{◌≡◌, ℕ, ◌<◌, ◌^◌, List, length, Some};
 ghost use Rattle.labelled_disk.specs.State.{DiskState, lent_state};
 ghost use Rattle.labelled_disk.specs.Sectors.{Sector, AreSectors};
-ghost use Rattle.labelled_disk.specs.Calls.{Reads, Writes, WritesData, Settles};
+ghost use Rattle.labelled_disk.specs.Calls.{Reads, Writes, WritesData, Syncs};
 
 use crate::{Label, Page, Wanted};
 use thiserror::Error;
@@ -42,8 +42,8 @@ pub enum DiskWrite {
 
 /// Sectors that are read and written one by one. A sector is a label of 16 bytes and a page of 512.
 ///
-/// A disk may tell what it holds and which writes were made on it, and it may tell neither. Code
-/// over any disk is right on each: a fact on contents or writes holds where they are told.
+/// A disk may reveal what it holds and which writes were made on it, and it may reveal neither. Code
+/// over any disk is right on each: a fact on contents or writes holds where they are revealed.
 pub trait Disk {
     ghost state: { Self → DiskState };
 
@@ -75,8 +75,8 @@ pub trait Disk {
         ensures { WritesData sector wanted page.now (state self.old) result (state self.new) };
 
     /// Waits for all earlier writes: after an Ok they are on the medium. No sector is moved.
-    fn settle(&mut self) -> Result<(), DiskError>
-        ensures { Settles (state self.old) result (state self.new) };
+    fn sync(&mut self) -> Result<(), DiskError>
+        ensures { Syncs (state self.old) result (state self.new) };
 
     /// How many sectors were moved since the disk was made. The count stays at the last value of
     /// u64.
@@ -91,7 +91,7 @@ pub trait Disk {
     ghost whole: { (d : Self) (all : List Sector) → (state d).contents ≡ Some all
         → length all ≡ (state d).sectors };
 
-    /// What is told of a sector fits: each field of its label, and its 512 bytes.
+    /// What is revealed of a sector fits: each field of its label, and its 512 bytes.
     ghost in_form: { (d : Self) (all : List Sector) → (state d).contents ≡ Some all
         → AreSectors all };
 
@@ -103,9 +103,9 @@ pub trait Disk {
 impl<'m, D: Disk> Disk for &'m mut D {
     ghost state = { λ d. lent_state d.ghost_name (D.state d.now) };
 
-    ghost whole = { λ d all told. D.whole d.now all told };
+    ghost whole = { λ d all revealed. D.whole d.now all revealed };
 
-    ghost in_form = { λ d all told. D.in_form d.now all told };
+    ghost in_form = { λ d all revealed. D.in_form d.now all revealed };
 
     ghost few = { λ d. D.few d.now };
 
@@ -129,8 +129,8 @@ impl<'m, D: Disk> Disk for &'m mut D {
         (**self).write_data(sector, wanted, page)
     }
 
-    fn settle(&mut self) -> Result<(), DiskError> {
-        (**self).settle()
+    fn sync(&mut self) -> Result<(), DiskError> {
+        (**self).sync()
     }
 
     fn transfers(&self) -> u64 {

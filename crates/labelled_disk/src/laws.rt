@@ -3,12 +3,12 @@
 ghost use Rattle.std.specs.Prelude.{ℕ, Bool, List};
 ghost use Rattle.labelled_disk.specs.Sectors.{Sector};
 ghost use Rattle.labelled_disk.specs.Example.{ExampleFiles};
-ghost use Rattle.labelled_disk.specs.Lowest.{FilesAreAsTold, NeededLaws};
+ghost use Rattle.labelled_disk.specs.Lowest.{FilesAreAsRevealed, NeededLaws};
 ghost use Rattle.labelled_disk.specs.RootLaws.{RootLaws};
 ghost use Rattle.labelled_disk.specs.Runs.{DataRuns, RunLaws, SectorsStay};
 ghost use Rattle.labelled_disk.specs.WriteLaws.{WriteLaws, FilesAreThose};
 
-/// The list of files has what each identifier has, in rising order.
+/// The list of files has what each identifier has, in ascending order.
 pub fn files_are_looked_up()
     ensures { (with_temporary : Bool) (d : List Sector) → FilesAreThose with_temporary d }
 {}
@@ -23,9 +23,9 @@ pub fn write_keeps_volume()
     ensures { (with_temporary : Bool) → RootLaws with_temporary }
 {}
 
-/// The files of a disk are those that the words tell: of two sectors that may be a page, the lowest counts.
-pub fn files_are_as_told()
-    ensures { (with_temporary : Bool) (d : List Sector) → FilesAreAsTold with_temporary d }
+/// The files of a disk are those that the words reveal: of two sectors that may be a page, the lowest counts.
+pub fn files_are_as_revealed()
+    ensures { (with_temporary : Bool) (d : List Sector) → FilesAreAsRevealed with_temporary d }
 {}
 
 /// Which sectors the files of a disk need, whatever labels it has.
@@ -33,7 +33,7 @@ pub fn unneeded_sectors_are_free()
     ensures { (with_temporary : Bool) → NeededLaws with_temporary }
 {}
 
-/// The files at each moment of a creation, a growth, a shrinking and a deletion.
+/// The files in each crash state of a creation, a growth, a shrinking and a deletion.
 pub fn runs_go_one_way()
     ensures files { (with_temporary : Bool) (serial counter : ℕ) → RunLaws with_temporary serial counter }
     ensures volume { (with_temporary : Bool) → DataRuns with_temporary }

@@ -36,7 +36,7 @@ pub enum Difference {
     /// The clean flag is neither 0 nor 1.
     #[error("flag")]
     Flag(u16),
-    /// This byte, the first such behind the fields, is not 0.
+    /// This byte, the first such after the fields, is not 0.
     #[error("rest")]
     Rest(u16),
 }

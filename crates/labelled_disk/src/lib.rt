@@ -12,7 +12,7 @@ pub use disk::{Disk, DiskError, DiskWrite};
 pub use evidence::{Evidence, Halt};
 pub use label::{FileId, Label, NoMemory, Page, Wanted};
 pub use laws::{
-    example_files, files_are_as_told, files_are_looked_up, runs_go_one_way,
+    example_files, files_are_as_revealed, files_are_looked_up, runs_go_one_way,
     unneeded_sectors_are_free, write_changes_files, write_keeps_volume,
 };
 pub use layout::{Difference, Layout, RootFault};

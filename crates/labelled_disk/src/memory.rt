@@ -3,12 +3,12 @@ ghost use Rattle.std.specs.Prelude.{◌≡◌, ℕ, ◌<◌, ◌≤◌, ◌^◌,
 ghost use Rattle.std.specs.Prelude.{List, [], ◌++◌, ◌∷◌, length, replicate, slice_get, slice_set, Contains, vec_capacity};
 ghost use Rattle.std.specs.Prelude.{Some, None, IfOk, IfErr, OnOk, OnErr, IsErr, is_ok, unwrap_or, option_map};
 ghost use Rattle.labelled_disk.specs.Sectors.{zero_sector, AreSectors};
-ghost use Rattle.labelled_disk.specs.Calls.{Rose, TellsSame, Moves, FailsWith, Reads, Writes, WritesData, Settles};
+ghost use Rattle.labelled_disk.specs.Calls.{Rose, RevealsSame, Moves, FailsWith, Reads, Writes, WritesData, Syncs};
 
 use crate::{Disk, DiskError, DiskWrite, Label, NoMemory, Page, Wanted};
 use std::alloc::{AllocError, Allocator};
 
-/// A disk that holds its sectors in memory and tells them. It is settled by `settle` alone, which
+/// A disk that holds its sectors in memory and reveals them. It is settled by `sync` alone, which
 /// never fails.
 #[derive(Drop)]
 pub struct MemoryDisk<A: Allocator> {
@@ -28,7 +28,7 @@ pub struct MemoryDisk<A: Allocator> {
 impl<A: Allocator + Clone> MemoryDisk<A> {
     ghost use Rattle.labelled_disk.specs.Memory.{memory_state, memory_plan};
 
-    /// A disk of zero sectors, all free, which never fails and doesn't tell its writes. The memory
+    /// A disk of zero sectors, all free, which never fails and doesn't reveal its writes. The memory
     /// for all sectors, 528 bytes each, is taken here, and none later.
     pub fn new(alloc: A, sectors: u32) -> Result<MemoryDisk<A>, NoMemory>
         ensures sectors { IfOk result (λ d. (memory_state d).sectors ≡ sectors) }
@@ -52,7 +52,7 @@ impl<A: Allocator + Clone> MemoryDisk<A> {
     }
 
     /// Such a disk that fails at the calls with these numbers, counted from 1 over the calls that
-    /// move a sector, those that failed among them. It tells its writes, and has room for so many;
+    /// move a sector, those that failed among them. It reveals its writes, and has room for so many;
     /// a write beyond them fails. All memory is taken here.
     pub fn failing(
         alloc: A,
@@ -106,7 +106,7 @@ impl<A: Allocator> MemoryDisk<A> {
     // Counts a call that moves a sector, and answers whether the call fails.
     fn moves(&mut self) -> Result<(), DiskError>
         ensures cells { self.new.cells.items ≡ self.old.cells.items }
-        ensures same { TellsSame (memory_state self.old) (memory_state self.new) }
+        ensures same { RevealsSame (memory_state self.old) (memory_state self.new) }
         ensures moves { Moves (memory_state self.old) (memory_state self.new) }
         ensures fails { FailsWith result (memory_state self.old) (memory_state self.new) }
         ensures exact { IsErr result ↔ FailsNext self.old }
@@ -127,7 +127,7 @@ impl<A: Allocator> MemoryDisk<A> {
         ensures cells { self.new.cells.items ≡ self.old.cells.items }
         ensures recorded { OnOk result ((memory_state self.new).writes
             ≡ option_map (λ writes. writes ++ write ∷ []) (memory_state self.old).writes) }
-        ensures same { OnErr result (TellsSame (memory_state self.old) (memory_state self.new)) }
+        ensures same { OnErr result (RevealsSame (memory_state self.old) (memory_state self.new)) }
         ensures fails { FailsWith result (memory_state self.old) (memory_state self.new) }
         ensures exact { IsErr result ↔ IsFull self.old }
         ensures plan { memory_plan self.new ≡ memory_plan self.old }
@@ -167,7 +167,7 @@ impl<A: Allocator> MemoryDisk<A> {
         ensures never_falls { self.old.faults ≤ self.new.faults }
         ensures faults { self.new.faults ≡ min (self.old.faults + 1) (2 ^ 64 - 1) }
         ensures cells { self.new.cells.items ≡ self.old.cells.items }
-        ensures same { TellsSame (memory_state self.old) (memory_state self.new) }
+        ensures same { RevealsSame (memory_state self.old) (memory_state self.new) }
         ensures plan { memory_plan self.new ≡ memory_plan self.old }
         ensures transfers { self.new.transfers ≡ self.old.transfers }
         ensures synced { self.new.synced ≡ self.old.synced }
@@ -212,7 +212,7 @@ impl<A: Allocator> Disk for MemoryDisk<A> {
         ensures writes { Writes (DiskWrite.Whole sector label.now page.now) (memory_state self.old)
             result (memory_state self.new) }
         ensures fails { IsErr result ↔ (FailsNext self.old ⊎ IsFull self.old) }
-        ensures same { OnErr result (TellsSame (memory_state self.old) (memory_state self.new)) }
+        ensures same { OnErr result (RevealsSame (memory_state self.old) (memory_state self.new)) }
         ensures counts { Counts result self.old self.new }
         ensures synced { StaysSyncedIfErr result (memory_state self.old) (memory_state self.new) }
     {
@@ -231,7 +231,7 @@ impl<A: Allocator> Disk for MemoryDisk<A> {
         ensures writes { Writes (DiskWrite.LabelOnly sector label.now) (memory_state self.old)
             result (memory_state self.new) }
         ensures fails { IsErr result ↔ (FailsNext self.old ⊎ IsFull self.old) }
-        ensures same { OnErr result (TellsSame (memory_state self.old) (memory_state self.new)) }
+        ensures same { OnErr result (RevealsSame (memory_state self.old) (memory_state self.new)) }
         ensures counts { Counts result self.old self.new }
         ensures synced { StaysSyncedIfErr result (memory_state self.old) (memory_state self.new) }
     {
@@ -251,7 +251,7 @@ impl<A: Allocator> Disk for MemoryDisk<A> {
             (memory_state self.new) }
         ensures fails { IsFailed result ↔ (FailsNext self.old
             ⊎ (IsTrue (names_at self.old sector wanted) × IsFull self.old)) }
-        ensures same { OnErr result (TellsSame (memory_state self.old) (memory_state self.new)) }
+        ensures same { OnErr result (RevealsSame (memory_state self.old) (memory_state self.new)) }
         ensures counts { Counts result self.old self.new }
         ensures synced { StaysSyncedIfErr result (memory_state self.old) (memory_state self.new) }
     {
@@ -269,8 +269,8 @@ impl<A: Allocator> Disk for MemoryDisk<A> {
         Ok(())
     }
 
-    fn settle(&mut self) -> Result<(), DiskError>
-        ensures settles { Settles (memory_state self.old) result (memory_state self.new) }
+    fn sync(&mut self) -> Result<(), DiskError>
+        ensures syncs { Syncs (memory_state self.old) result (memory_state self.new) }
         ensures never_fails { result ≡ Ok tt }
         ensures faults { (memory_state self.new).faults ≡ (memory_state self.old).faults }
         ensures plan { memory_plan self.new ≡ memory_plan self.old }

@@ -1,7 +1,7 @@
 //! What each sector of a volume is, for a picture.
 use crate::listing::LEADER;
 use crate::rows::last_of;
-use label_survey::{Run, Standing};
+use label_survey::{Run, SectorState};
 use labelled_disk::Layout;
 use std::alloc::{AllocError, Global};
 use volume_view::{BitRun, Names, View};
@@ -32,7 +32,7 @@ pub(crate) struct Place {
 /// How many colours the pages of files have.
 pub(crate) const COLOURS: u8 = 6;
 
-/// How many sectors a page of the allocation map tells of.
+/// How many sectors a page of the allocation map reveals of.
 const BITS: u32 = 4096;
 
 fn low_kind(layout: &Layout, sector: u32) -> Kind {
@@ -45,13 +45,13 @@ fn low_kind(layout: &Layout, sector: u32) -> Kind {
     }
 }
 
-fn data_kind(standing: Standing) -> Kind {
-    match standing {
-        Standing::Free => Kind::Free,
-        Standing::Stray => Kind::Leftover,
-        Standing::Lost => Kind::Lost,
-        Standing::Leader => Kind::Leader,
-        Standing::Page => Kind::Page(0),
+fn data_kind(sector_state: SectorState) -> Kind {
+    match sector_state {
+        SectorState::Free => Kind::Free,
+        SectorState::Orphan => Kind::Leftover,
+        SectorState::Lost => Kind::Lost,
+        SectorState::Leader => Kind::Leader,
+        SectorState::Page => Kind::Page(0),
     }
 }
 
@@ -61,8 +61,8 @@ fn plain_places(alloc: Global, view: &View<Global>) -> Result<Vec<Place>, AllocE
         let kind = low_kind(&view.layout, sector);
         places.push(Place { kind, run: None })?;
     }
-    for i in 0..view.found.survey.standings.len() {
-        let kind = data_kind(view.found.survey.standings[i]);
+    for i in 0..view.found.survey.sector_states.len() {
+        let kind = data_kind(view.found.survey.sector_states[i]);
         places.push(Place { kind, run: None })?;
     }
     Ok(places)

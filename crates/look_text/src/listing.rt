@@ -85,7 +85,7 @@ fn write_line(
     )
 }
 
-// A line for each file. The runs are those of the files in their order, the leader behind the pages of each.
+// A line for each file. The runs are those of the files in their order, the leader after the pages of each.
 fn write_files(out: &mut String, files: &[FileLine], runs: &[Run]) -> Result<(), AllocError> {
     if files.is_empty() {
         return writeln!(out, "no permanent file");
@@ -189,8 +189,8 @@ fn write_scavenge(
     Ok(())
 }
 
-// A line for each of the other things that a sound volume has, where this one lacks it.
-fn write_lacks(out: &mut String, view: &View<Global>) -> Result<(), AllocError> {
+// A line for each of the other things that a sound volume has, where this one misses it.
+fn write_misses(out: &mut String, view: &View<Global>) -> Result<(), AllocError> {
     if !view.maps_labelled {
         writeln!(
             out,
@@ -219,7 +219,7 @@ pub fn write_listing(out: &mut String, view: &View<Global>) -> Result<(), AllocE
     write_files(out, &view.found.files, &view.found.runs)?;
     writeln!(out)?;
     write_maps(out, view)?;
-    write_lacks(out, view)?;
+    write_misses(out, view)?;
     write_leftovers(out, &view.found.leftovers)?;
     write_scavenge(
         out,

@@ -162,7 +162,7 @@ fn write_row(out: &mut String, sheet: Sheet<'_>, y: u64, row: &[Place]) -> Resul
     write_rect(out, sheet, start, y, row.len().saturating_sub(start), place)
 }
 
-// The number of the first sector in front of a row.
+// The number of the first sector before a row.
 fn write_number(out: &mut String, y: u64, sector: usize) -> Result<(), AllocError> {
     let text_y = y.saturating_add(12);
     writeln!(

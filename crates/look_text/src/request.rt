@@ -1,7 +1,7 @@
-//! What the words behind the image ask for.
+//! What the words after the image ask for.
 use labelled_disk::FileId;
 
-/// What the words behind the image ask for.
+/// What the words after the image ask for.
 #[derive(Clone, Copy, Debug, PartialEq, Eq)]
 pub enum Request<'w> {
     /// The listing as text.
@@ -30,7 +30,7 @@ fn number_of(word: &str) -> Option<u32> {
     u32::from_str_radix(word, 10).ok()
 }
 
-// An option's name and value, which are one word or two, and the words behind.
+// An option's name and value, which are one word or two, and the words after.
 fn first_option(words: &[String]) -> Option<(&str, &str, &[String])> {
     let [word, rest @ ..] = words else {
         return None;
@@ -44,7 +44,7 @@ fn first_option(words: &[String]) -> Option<(&str, &str, &[String])> {
     Some((word.as_str(), value.as_str(), rest))
 }
 
-// The page that the words behind a file ask for.
+// The page that the words after a file ask for.
 fn page_request(words: &[String]) -> Option<u32> {
     match first_option(words)? {
         ("--page", page, []) => number_of(page),

@@ -51,8 +51,8 @@ fn are_of_tables(first: u32, labels: &[Label], runs: &[BitRun], sectors: u64) ->
     found == sectors
 }
 
-// Whether the file map lacks the pages of the space tables, so many, and has nothing else wrong.
-fn lacks_tables(names: &Names<Global>, pages: u64) -> bool {
+// Whether the file map misses the pages of the space tables, so many, and has nothing else wrong.
+fn misses_tables(names: &Names<Global>, pages: u64) -> bool {
     match names {
         Names::Malformed { page: _ } => false,
         Names::Read {
@@ -70,7 +70,7 @@ pub(crate) fn missing_tables(view: &View<Global>) -> Option<u64> {
     let pages = table_sectors(&view.labels);
     let stopped = view.condition() == Condition::NotClosed && pages > 0;
     if stopped
-        && lacks_tables(&view.names, pages)
+        && misses_tables(&view.names, pages)
         && are_of_tables(view.layout.first, &view.labels, &view.bits, pages)
     {
         Some(pages)

@@ -1,4 +1,4 @@
--- Moments of a conversion.
+-- Crash states of a conversion.
 use Rattle.std.proofs.Common.{◌≡◌, ◌⊎◌, inl, inr, ℕ, zero, suc, ◌<◌, ◌≤◌, false, List, [], ◌∷◌, ◌++◌, length, Option, refl, sym, ◌∙◌, ap, subst, arith, take, length-set}
 use Rattle.std.specs.Prelude.{slice_get, slice_set, fold}
 use Rattle.std.specs.Option.{option_map_or}
@@ -7,17 +7,17 @@ use Rattle.labelled_disk.specs.declared.disk.DiskWrite.{DiskWrite}
 use Rattle.labelled_disk.specs.declared.disk.DiskWrite.TheVariants.{Whole, LabelOnly, Page}
 use Rattle.labelled_disk.specs.Sectors.{Sector}
 use Rattle.labelled_disk.specs.Layout.{data_sectors, first_data}
-use Rattle.labelled_disk.specs.Moment.{moment, written}
+use Rattle.labelled_disk.specs.CrashState.{crash_state, written}
 use Rattle.labelled_disk.specs.WriteRuns.{after_writes}
 use Rattle.labelled_disk.proofs.Finds.{get_set_other}
 use Rattle.labelled_disk.proofs.WriteLemmas as laws
 use Rattle.old_files.specs.Laws.{OnlyUnneeded}
-use Rattle.old_files.specs.Settling.{IsSpareWrite}
-use Rattle.old_files.specs.Conversion.{IsMapWrite, MomentsBeforeRoot, RootIsOverwritten}
+use Rattle.old_files.specs.Arranging.{IsSpareWrite}
+use Rattle.old_files.specs.Conversion.{IsMapWrite, CrashStatesBeforeRoot, RootIsOverwritten}
 use Rattle.old_files.proofs.StayLemmas.{old_files_stay, get_some}
-use Rattle.old_files.proofs.MomentLemmas.{sets_only}
+use Rattle.old_files.proofs.CrashStateLemmas.{sets_only}
 
--- what holds of each moment
+-- what holds of each crash state
 record Now (d e : List Sector) : Type 0 where
   sectors : length e ≡ length d
   root : slice_get e 0 ≡ slice_get d 0
@@ -34,17 +34,17 @@ mapped d e (LabelOnly i label) may now = absurd may
 mapped d e (Page i wanted page) may now = absurd may
 
 -- a write to a sector that no old file needs
-spared : (d e : List Sector) (write : DiskWrite) → IsSpareWrite d write → Now d e → Now d (written write e)
-spared d e (Whole i label page) may now =
+blameless : (d e : List Sector) (write : DiskWrite) → IsSpareWrite d write → Now d e → Now d (written write e)
+blameless d e (Whole i label page) may now =
     let root = get_set_other e i 0 (label, page) (λ is. absurd (omega (arith, is, may.0.is_data, laws.first_positive false 0 0 (length d)))) ∙ now.root in
     let s = sets_only d e i (label, page) may.0 may.1 now.sectors now.only in
     record { sectors = s.0; root = root; only = s.1 }
-spared d e (LabelOnly i label) may now =
+blameless d e (LabelOnly i label) may now =
     let x = get_some e i (omega (arith, may.0.within, now.sectors)) in
     let root = get_set_other e i 0 (label, x.0.1) (λ is. absurd (omega (arith, is, may.0.is_data, laws.first_positive false 0 0 (length d)))) ∙ now.root in
     let s = sets_only d e i (label, x.0.1) may.0 (may.1 x.0.1) now.sectors now.only in
     subst (λ (o : Option Sector). Now d (option_map_or (λ old. slice_set e i (label, old.1)) o e)) (sym x.1) (record { sectors = s.0; root = root; only = s.1 })
-spared d e (Page i wanted page) may now = absurd may
+blameless d e (Page i wanted page) may now = absurd may
 
 all : (d e : List Sector) (writes : List DiskWrite) → AllByRecursion (λ w. IsSpareWrite d w ⊎ IsMapWrite d w) writes → (k : ℕ) → Now d e → Now d (fold (λ now write. written write now) e (take k writes))
 all d e writes may zero now = now
@@ -52,19 +52,19 @@ all d e [] may (suc k) now = now
 all d e (write ∷ writes) may (suc k) now = all d (written write e) writes may.1 k (by may.0)
   where
     by : IsSpareWrite d write ⊎ IsMapWrite d write → Now d (written write e)
-    by (inl a) = spared d e write a now
+    by (inl a) = blameless d e write a now
     by (inr b) = mapped d e write b now
 
-take_front : (writes : List DiskWrite) (last : DiskWrite) (k : ℕ) → k ≤ length writes → take k (writes ++ last ∷ []) ≡ take k writes
-take_front writes last zero l = refl
-take_front [] last (suc k) l = absurd (omega arith)
-take_front (write ∷ writes) last (suc k) l = ap (λ (rest : List DiskWrite). write ∷ rest) (take_front writes last k (omega arith))
+take_prefix : (writes : List DiskWrite) (last : DiskWrite) (k : ℕ) → k ≤ length writes → take k (writes ++ last ∷ []) ≡ take k writes
+take_prefix writes last zero l = refl
+take_prefix [] last (suc k) l = absurd (omega arith)
+take_prefix (write ∷ writes) last (suc k) l = ap (λ (rest : List DiskWrite). write ∷ rest) (take_prefix writes last k (omega arith))
 
-pub moments_before_root : MomentsBeforeRoot
-moments_before_root d writes last may k below =
-    let now = subst (λ (ws : List DiskWrite). Now d (fold (λ now write. written write now) d ws)) (sym (take_front writes last k below))
+pub crash_states_before_root : CrashStatesBeforeRoot
+crash_states_before_root d writes last may k below =
+    let now = subst (λ (ws : List DiskWrite). Now d (fold (λ now write. written write now) d ws)) (sym (take_prefix writes last k below))
     (all d d writes may k (record { sectors = refl; root = refl; only = record { same_length = refl; each = λ i. inl refl } })) in
-    record { sectors = now.sectors; root = now.root; files = old_files_stay d (moment d (writes ++ last ∷ []) k) now.sectors now.only }
+    record { sectors = now.sectors; root = now.root; files = old_files_stay d (crash_state d (writes ++ last ∷ []) k) now.sectors now.only }
 
 -- Sector 0 is overwritten in the end.
 

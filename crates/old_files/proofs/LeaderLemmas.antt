@@ -9,9 +9,9 @@ use Rattle.labelled_disk.specs.Label.{is_file, is_file_id, is_permanent, leader_
 use Rattle.labelled_disk.specs.Sectors.{Sector}
 use Rattle.labelled_disk.specs.Layout.{data_sectors}
 use Rattle.labelled_disk.specs.File.{File, file_at}
-use Rattle.labelled_disk.specs.Rising.{AreRising}
+use Rattle.labelled_disk.specs.Ascending.{AreAscending}
 use Rattle.labelled_disk.proofs.Finds.{found_at}
-use Rattle.labelled_disk.proofs.RisingLemmas.{at_head, at_tail}
+use Rattle.labelled_disk.proofs.AscendingLemmas.{at_head, at_tail}
 use Rattle.old_files.specs.OldFiles.{heads, heads_file, head_among, old_file_by, files_old}
 use Rattle.old_files.specs.Laws.{as_leader}
 use Rattle.old_files.specs.Placing.{leader_of, old_leaders, OldLeadersAre}
@@ -41,8 +41,8 @@ head_is id s h =
     let c = and_parts (is_file s.0) (eqb s.0.page 0) b.0 in
     (c.0, eqb-true s.0.id id a.1)
 
--- a file of a rising list is the one that is looked up by its identifier
-pub looked_up : (fs : List File) → AreRising fs → (k : ℕ) (f : File) → slice_get fs k ≡ Some f → file_at fs f.id ≡ Some f
+-- a file of an ascending list is the one that is looked up by its identifier
+pub looked_up : (fs : List File) → AreAscending fs → (k : ℕ) (f : File) → slice_get fs k ≡ Some f → file_at fs f.id ≡ Some f
 looked_up [] up k f here = absurd (none-some f here)
 looked_up (g ∷ gs) up zero f here = subst (λ (h : File). file_at (g ∷ gs) h.id ≡ Some h) (same_Some g f here) (at_head g gs)
 looked_up (g ∷ gs) up (suc k) f here = at_tail g gs f.id (above gs k up.0 here) ∙ looked_up gs up.1 k f here
@@ -56,23 +56,23 @@ looked_up (g ∷ gs) up (suc k) f here = at_tail g gs f.id (above gs k up.0 here
 pub looked_at : (fs : List File) (id : ℕ) (f : File) → file_at fs id ≡ Some f → (k : ℕ) × (slice_get fs k ≡ Some f)
 looked_at fs id f is = let a = found_at (λ (g : File). eqb g.id id) fs f is in (a.0, a.1)
 
--- in a rising list no identifier comes twice
-pub rising_once : (fs : List File) → AreRising fs → (j k : ℕ) (a b : File) → slice_get fs j ≡ Some a → slice_get fs k ≡ Some b → a.id ≡ b.id → j ≡ k
-rising_once [] up j k a b at_j at_k same = absurd (none-some a at_j)
-rising_once (f ∷ fs) up zero zero a b at_j at_k same = refl
-rising_once (f ∷ fs) up zero (suc k) a b at_j at_k same = absurd (above fs k b up.0 at_k (ap (λ (e : File). e.id) (same_Some f a at_j) ∙ same))
+-- in an ascending list no identifier comes twice
+pub ascending_once : (fs : List File) → AreAscending fs → (j k : ℕ) (a b : File) → slice_get fs j ≡ Some a → slice_get fs k ≡ Some b → a.id ≡ b.id → j ≡ k
+ascending_once [] up j k a b at_j at_k same = absurd (none-some a at_j)
+ascending_once (f ∷ fs) up zero zero a b at_j at_k same = refl
+ascending_once (f ∷ fs) up zero (suc k) a b at_j at_k same = absurd (above fs k b up.0 at_k (ap (λ (e : File). e.id) (same_Some f a at_j) ∙ same))
   where
     above : (hs : List File) (k : ℕ) (b : File) → AllByRecursion (λ y. f.id < y) (map (λ h. h.id) hs) → slice_get hs k ≡ Some b → f.id ≢ b.id
     above [] k b all at = absurd (none-some b at)
     above (h ∷ hs) zero b all at = λ same. absurd (omega (arith, all.0, same, ap (λ (e : File). e.id) (same_Some h b at)))
     above (h ∷ hs) (suc k) b all at = above hs k b all.1 at
-rising_once (f ∷ fs) up (suc j) zero a b at_j at_k same = absurd (above fs j a up.0 at_j (ap (λ (e : File). e.id) (same_Some f b at_k) ∙ sym same))
+ascending_once (f ∷ fs) up (suc j) zero a b at_j at_k same = absurd (above fs j a up.0 at_j (ap (λ (e : File). e.id) (same_Some f b at_k) ∙ sym same))
   where
     above : (hs : List File) (k : ℕ) (b : File) → AllByRecursion (λ y. f.id < y) (map (λ h. h.id) hs) → slice_get hs k ≡ Some b → f.id ≢ b.id
     above [] k b all at = absurd (none-some b at)
     above (h ∷ hs) zero b all at = λ same. absurd (omega (arith, all.0, same, ap (λ (e : File). e.id) (same_Some h b at)))
     above (h ∷ hs) (suc k) b all at = above hs k b all.1 at
-rising_once (f ∷ fs) up (suc j) (suc k) a b at_j at_k same = ap (λ (n : ℕ). suc n) (rising_once fs up.1 j k a b at_j at_k same)
+ascending_once (f ∷ fs) up (suc j) (suc k) a b at_j at_k same = ap (λ (n : ℕ). suc n) (ascending_once fs up.1 j k a b at_j at_k same)
 
 from_map : (fs : List File) (k : ℕ) (l : Label) → slice_get (map leader_of fs) k ≡ Some l → (f : File) × (slice_get fs k ≡ Some f) × (l ≡ leader_of f)
 from_map [] k l at = absurd (none-some l at)
@@ -114,7 +114,7 @@ module _ (d : List Sector) where
   once j k a b at_j at_k same =
       let f = from_map (files_old d) j a at_j in
       let g = from_map (files_old d) k b at_k in
-      rising_once (files_old d) (old_files_are_those d).rise j k f.0 g.0 f.1 g.1 (sym (ap (λ (m : Label). m.id) f.2) ∙ same ∙ ap (λ (m : Label). m.id) g.2)
+      ascending_once (files_old d) (old_files_are_those d).rise j k f.0 g.0 f.1 g.1 (sym (ap (λ (m : Label). m.id) f.2) ∙ same ∙ ap (λ (m : Label). m.id) g.2)
 
 pub old_leaders_are : OldLeadersAre
 old_leaders_are d = record { each = each d; all = all d; once = once d }

@@ -1,8 +1,8 @@
 pub mod OldLemmas
 pub mod StayLemmas
 pub mod RereadLemmas
-pub mod MomentLemmas
-pub mod SettleLemmas
+pub mod CrashStateLemmas
+pub mod ArrangeLemmas
 pub mod NeedLemmas
 pub mod ConversionLemmas
 pub mod PlacingLemmas

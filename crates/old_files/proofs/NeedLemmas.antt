@@ -15,10 +15,10 @@ use Rattle.labelled_disk.proofs.Finds.{IsAlone, found_at}
 use Rattle.labelled_disk.proofs.Pages.{pages_stop}
 use Rattle.old_files.specs.OldFiles.{heads, heads_file, head_among, old_page_at, old_file_by, old_file_among, is_old_needed}
 use Rattle.old_files.specs.Laws.{as_leader}
-use Rattle.old_files.specs.Settling.{IsSettled, SettledAreNeeded}
+use Rattle.old_files.specs.Arranging.{IsSettled, SettledAreNeeded}
 use Rattle.old_files.proofs.OldLemmas.{same_among}
 use Rattle.old_files.proofs.StayLemmas.{kept}
-use Rattle.old_files.proofs.SettleLemmas.{IsPart, part_of, only, what_is, have_leaders, below_leader, leader_parts, head_page, leads_page, first_passes, leads_as}
+use Rattle.old_files.proofs.ArrangeLemmas.{IsPart, part_of, only, what_is, have_leaders, below_leader, leader_parts, head_page, leads_page, first_passes, leads_as}
 
 -- one that passes alone is the first
 first_alone : (test : Sector → Bool) (xs : List Sector) (i : ℕ) (s : Sector) → slice_get xs i ≡ Some s → test s ≡ true → IsAlone test xs i → is_first test xs i ≡ true

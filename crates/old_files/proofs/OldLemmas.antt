@@ -7,8 +7,8 @@ use Rattle.labelled_disk.specs.Sectors.{Sector}
 use Rattle.labelled_disk.specs.Layout.{data_sectors}
 use Rattle.labelled_disk.specs.File.{File, byte, file_at}
 use Rattle.labelled_disk.specs.FilesOn.{page_at, pages_from, put_file, files_on, file_among, file_by}
-use Rattle.labelled_disk.specs.Rising.{AreRising}
-use Rattle.labelled_disk.proofs.RisingLemmas.{at_put, rising_put, same_by_look_up}
+use Rattle.labelled_disk.specs.Ascending.{AreAscending}
+use Rattle.labelled_disk.proofs.AscendingLemmas.{at_put, ascending_put, same_by_look_up}
 use Rattle.labelled_disk.proofs.Pages.{pages_same}
 use Rattle.labelled_disk.proofs.WriteLemmas as laws
 use Rattle.old_files.specs.OldFiles.{heads, heads_file, head_among, old_page_at, old_file_by, old_file_among, old_files_by, files_old, old_file}
@@ -16,12 +16,12 @@ use Rattle.old_files.specs.Laws.{OldFilesAreThose, HaveLeaders, LeadersMakeFiles
 
 -- The list of files, and the file of each identifier.
 
-rising_old : (all rest : List Sector) → AreRising (old_files_by all rest)
-rising_old all [] = tt
-rising_old all (s ∷ rest) = either (heads s) (rising_old all rest)
+ascending_old : (all rest : List Sector) → AreAscending (old_files_by all rest)
+ascending_old all [] = tt
+ascending_old all (s ∷ rest) = either (heads s) (ascending_old all rest)
   where
-    either : (b : Bool) → AreRising (old_files_by all rest) → AreRising (if b then put_file (old_file_by all s.0) (old_files_by all rest) else old_files_by all rest)
-    either true h = rising_put (old_file_by all s.0) (old_files_by all rest) h
+    either : (b : Bool) → AreAscending (old_files_by all rest) → AreAscending (if b then put_file (old_file_by all s.0) (old_files_by all rest) else old_files_by all rest)
+    either true h = ascending_put (old_file_by all s.0) (old_files_by all rest) h
     either false h = h
 
 look_up_old : (all rest : List Sector) (id : ℕ) → file_at (old_files_by all rest) id ≡ option_map (λ t. old_file_by all t.0) (find (heads_file id) rest)
@@ -48,10 +48,10 @@ look_up : (d : List Sector) (id : ℕ) → file_at (files_old d) id ≡ old_file
 look_up d id = look_up_old (data_sectors d) (data_sectors d) id ∙ twice (data_sectors d) (find (heads_file id) (data_sectors d))
 
 pub old_files_are_those : (d : List Sector) → OldFilesAreThose d
-old_files_are_those d = record { rise = rising_old (data_sectors d) (data_sectors d); each = look_up d }
+old_files_are_those d = record { rise = ascending_old (data_sectors d) (data_sectors d); each = look_up d }
 
 pub same_old_files : (d e : List Sector) → ((id : ℕ) → old_file e id ≡ old_file d id) → files_old e ≡ files_old d
-same_old_files d e same = same_by_look_up (files_old e) (files_old d) (rising_old (data_sectors e) (data_sectors e)) (rising_old (data_sectors d) (data_sectors d)) (λ id. look_up e id ∙ same id ∙ sym (look_up d id))
+same_old_files d e same = same_by_look_up (files_old e) (files_old d) (ascending_old (data_sectors e) (data_sectors e)) (ascending_old (data_sectors d) (data_sectors d)) (λ id. look_up e id ∙ same id ∙ sym (look_up d id))
 
 -- Where the old files have leaders.
 
@@ -75,5 +75,5 @@ module _ (xs : List Sector) (have : HaveLeaders xs) where
 
 pub leaders_make_files : LeadersMakeFiles
 leaders_make_files d have =
-    same_by_look_up (files_on d) (files_old d) (laws.files_on_rise false 0 0 d) (rising_old (data_sectors d) (data_sectors d))
+    same_by_look_up (files_on d) (files_old d) (laws.files_on_rise false 0 0 d) (ascending_old (data_sectors d) (data_sectors d))
     (λ id. laws.look_up false 0 0 d id ∙ same_among (data_sectors d) have id ∙ sym (look_up d id))

@@ -8,10 +8,10 @@ use Rattle.labelled_disk.specs.Label.{is_file, is_file_id, is_free, leader_page}
 use Rattle.labelled_disk.specs.Sectors.{Sector}
 use Rattle.old_files.specs.OldFiles.{head_among, is_old_needed}
 use Rattle.old_files.specs.Laws.{as_leader}
-use Rattle.old_files.specs.Settling.{IsSettled}
+use Rattle.old_files.specs.Arranging.{IsSettled}
 use Rattle.old_files.specs.Placing.{spare_below, IsPlaced, PlacedAreSettled}
 use Rattle.old_files.proofs.StayLemmas.{get_some}
-use Rattle.old_files.proofs.SettleLemmas.{page_of_needed}
+use Rattle.old_files.proofs.ArrangeLemmas.{page_of_needed}
 
 -- a free label is no file's
 pub free_is_none : (l : Label) → is_free l ≡ true → is_file l ≡ false

@@ -78,7 +78,7 @@ module _ (xs : List Sector) (short : IsShort xs) where
   leader : (id : ℕ) → find (leads_file false id) (all_reread xs) ≡ option_map reread (head_among xs id)
   leader id = find_reread (leads_file false id) (heads_file id) (leads_reread id) xs
 
-  -- the bytes of a page are those of the page behind
+  -- the bytes of a page are those of the page after
   page : (id k : ℕ) → k < leader_page → page_at (all_reread xs) id k ≡ old_page_at xs id (suc k)
   page id k below = ap (λ (o : Option Sector). option_map (λ s. map byte s.1) o) (find_reread (is_page id k) (is_page id (suc k)) (λ s. page_reread id k s below) xs) ∙ bytes (find (is_page id (suc k)) xs)
     where

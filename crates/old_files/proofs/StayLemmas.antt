@@ -33,9 +33,9 @@ module _ (test : Sector → Bool) where
   find_same (x ∷ xs) [] long each = absurd (omega (arith, long))
   find_same (x ∷ xs) (y ∷ ys) long each = either (test x) refl (each 0) (λ rest. find_same xs ys (omega (arith, long)) rest)
     where
-      behind : test x ≡ false → (i : ℕ) → IsReplaced (x ∷ xs) (y ∷ ys) (suc i) → IsReplaced xs ys i
-      behind e i (inl same) = inl same
-      behind e i (inr how) = inr (ne_eqb (position_or_len test xs) i (λ is. eqb-false (position_or_len test (x ∷ xs)) (suc i) how.0 (place e is)), how.1, how.2, how.3)
+      after : test x ≡ false → (i : ℕ) → IsReplaced (x ∷ xs) (y ∷ ys) (suc i) → IsReplaced xs ys i
+      after e i (inl same) = inl same
+      after e i (inr how) = inr (ne_eqb (position_or_len test xs) i (λ is. eqb-false (position_or_len test (x ∷ xs)) (suc i) how.0 (place e is)), how.1, how.2, how.3)
         where
           place : test x ≡ false → position_or_len test xs ≡ i → position_or_len test (x ∷ xs) ≡ suc i
           place e is = rw e (omega (arith, is))
@@ -44,11 +44,11 @@ module _ (test : Sector → Bool) where
           → find test (y ∷ ys) ≡ find test (x ∷ xs)
       either true e (inl same) more = let is : y ≡ x = same_Some y x same in rw (is, e) refl
       either true e (inr how) more = absurd (eqb-false (position_or_len test (x ∷ xs)) 0 how.0 (rw e refl))
-      either false e (inl same) more = let is : y ≡ x = same_Some y x same in rw (is, e) (more (λ i. behind e i (each (suc i))))
+      either false e (inl same) more = let is : y ≡ x = same_Some y x same in rw (is, e) (more (λ i. after e i (each (suc i))))
       either false e (inr how) more =
           let is : y ≡ how.1 = same_Some y how.1 how.2 in
           let fails : test y ≡ false = ap test is ∙ how.3 in
-          rw (fails, e) (more (λ i. behind e i (each (suc i))))
+          rw (fails, e) (more (λ i. after e i (each (suc i))))
 
   -- the first that passes does pass
   pub not_first : (xs : List Sector) (i : ℕ) (s : Sector) → slice_get xs i ≡ Some s → test s ≡ false → is_first test xs i ≡ false

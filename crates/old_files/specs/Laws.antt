@@ -6,11 +6,11 @@ use Rattle.labelled_disk.specs.Layout.{data_sectors}
 use Rattle.labelled_disk.specs.Sectors.{Sector}
 use Rattle.labelled_disk.specs.File.{file_at}
 use Rattle.labelled_disk.specs.FilesOn.{files_on, is_page, leader_among}
-use Rattle.labelled_disk.specs.Rising.{AreRising}
+use Rattle.labelled_disk.specs.Ascending.{AreAscending}
 use Rattle.old_files.specs.OldFiles.{files_old, old_file, head_among, is_old_needed}
 
 pub record OldFilesAreThose (d : List Sector) : Type 0 where
-  pub rise : AreRising (files_old d)
+  pub rise : AreAscending (files_old d)
   pub each : (id : ℕ) → file_at (files_old d) id ≡ old_file d id
 
 -- the label is no page of an old file: it is no file's, or that of a leader

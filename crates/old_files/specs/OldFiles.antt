@@ -48,7 +48,7 @@ old_files_by sectors [] = []
 old_files_by sectors (s ∷ rest) = if heads s then put_file (old_file_by sectors s.0) (old_files_by sectors rest) else
     old_files_by sectors rest
 
--- the files on the disk of an old volume, in rising identifiers
+-- the files on the disk of an old volume, in ascending identifiers
 abbrev pub files_old : List Sector → List File
 files_old d = old_files_by (data_sectors d) (data_sectors d)
 

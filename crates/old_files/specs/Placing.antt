@@ -7,7 +7,7 @@ use Rattle.labelled_disk.specs.Layout.{data_sectors}
 use Rattle.labelled_disk.specs.Sectors.{Sector}
 use Rattle.old_files.specs.OldFiles.{files_old, head_among, is_old_needed}
 use Rattle.old_files.specs.Laws.{as_leader}
-use Rattle.old_files.specs.Settling.{IsSettled}
+use Rattle.old_files.specs.Arranging.{IsSettled}
 
 -- how many of the first so many sectors no old file needs
 abbrev pub spare_below : List Sector → ℕ → ℕ
@@ -25,7 +25,7 @@ leader_of f = record {
   last = 0;
 }
 
--- those of the old files, in rising identifiers
+-- those of the old files, in ascending identifiers
 abbrev pub old_leaders : List Sector → List Label
 old_leaders d = map leader_of (files_old d)
 

@@ -42,7 +42,7 @@ module _ (e k : ℕ) (b : List ℕ) (records : List (List ℕ)) (levels : ℕ) (
   rises : (i j : ℕ) → i ≤ j → j < length records → at_most (key_at k records i) (key_at k records j) ≡ true
   rises i j order below =
       sym (ap (λ (x : Item). at_most x.key (item_at (map (record_item k) records) j).key) (item i (omega (arith, order, below))) ∙ ap (λ (x : Item). at_most (key_at k records i) x.key) (item j below))
-      ∙ tower.rising i j order (omega (arith, below, long))
+      ∙ tower.ascending i j order (omega (arith, below, long))
 
   -- the first c records of the leaf, and all before them, have a key that is at most this one
   pub all_low : (c : ℕ) → c ≤ filled page → (0 < c → at_most (take k (record_at e page (c - 1))) key ≡ true) → (j : ℕ) → j < before (nodes 1) (home 1) + c → at_most (key_at k records j) key ≡ true
@@ -58,39 +58,39 @@ module _ (e k : ℕ) (b : List ℕ) (records : List (List ℕ)) (levels : ℕ) (
   pub counted_here : (c : ℕ) → c < filled page → (0 < c → at_most (take k (record_at e page (c - 1))) key ≡ true) → at_most (take k (record_at e page c)) key ≡ false → IsCounted k records key (before (nodes 1) (home 1) + c)
   counted_here c less low next = record {
     within = omega (arith, inside c less);
-    behind = record {
+    after = record {
       below = all_low c (omega (arith, less)) low;
       above = λ j from below.
           ap (λ (x : Item). at_most x.key key) (sym (item j below))
-          ∙ above_from (map (record_item k) records) key (start + c) tower.rising (ap (λ (x : Item). at_most x.key key) (item (start + c) (inside c less)) ∙ ap (λ (x : List ℕ). at_most x key) (sym (key_is c less)) ∙ next) j from (omega (arith, below, long));
+          ∙ above_from (map (record_item k) records) key (start + c) tower.ascending (ap (λ (x : Item). at_most x.key key) (item (start + c) (inside c less)) ∙ ap (λ (x : List ℕ). at_most x key) (sym (key_is c less)) ∙ next) j from (omega (arith, below, long));
     };
   }
 
   -- all records of the leaf are low
-  pub low_behind : (c : ℕ) → c ≡ filled page → (0 < c → at_most (take k (record_at e page (c - 1))) key ≡ true) → (j : ℕ) → j < before (nodes 1) (home 1 + 1) → at_most (key_at k records j) key ≡ true
-  low_behind c all low j less = all_low c (omega (arith, all)) low j (omega (arith, less, before_more (nodes 1) (home 1) (path.inside 1 (omega arith) (omega (arith, some))), leaf_here.count, all))
+  pub low_after : (c : ℕ) → c ≡ filled page → (0 < c → at_most (take k (record_at e page (c - 1))) key ≡ true) → (j : ℕ) → j < before (nodes 1) (home 1 + 1) → at_most (key_at k records j) key ≡ true
+  low_after c all low j less = all_low c (omega (arith, all)) low j (omega (arith, less, before_more (nodes 1) (home 1) (path.inside 1 (omega arith) (omega (arith, some))), leaf_here.count, all))
 
-  pub total_behind : (c : ℕ) → c ≡ filled page → before (nodes 1) (home 1) + c ≡ before (nodes 1) (home 1 + 1)
-  total_behind c all = omega (arith, before_more (nodes 1) (home 1) (path.inside 1 (omega arith) (omega (arith, some))), leaf_here.count, all)
+  pub total_after : (c : ℕ) → c ≡ filled page → before (nodes 1) (home 1) + c ≡ before (nodes 1) (home 1 + 1)
+  total_after c all = omega (arith, before_more (nodes 1) (home 1) (path.inside 1 (omega arith) (omega (arith, some))), leaf_here.count, all)
 
   -- and it is the last leaf
   pub counted_all : (c : ℕ) → c ≡ filled page → (0 < c → at_most (take k (record_at e page (c - 1))) key ≡ true) → home 1 + 1 ≡ length (nodes 1) → IsCounted k records key (before (nodes 1) (home 1) + c)
   counted_all c all low last =
-      let whole : before (nodes 1) (home 1) + c ≡ length records = omega (arith, total_behind c all, before_all (nodes 1) (home 1 + 1) (omega (arith, last)), ap length (tower.listed 0 some), long) in
+      let whole : before (nodes 1) (home 1) + c ≡ length records = omega (arith, total_after c all, before_all (nodes 1) (home 1 + 1) (omega (arith, last)), ap length (tower.listed 0 some), long) in
       record {
         within = omega (arith, whole);
-        behind = record { below = all_low c (omega (arith, all)) low; above = λ j from below. absurd (omega (arith, from, below, whole)) };
+        after = record { below = all_low c (omega (arith, all)) low; above = λ j from below. absurd (omega (arith, from, below, whole)) };
       }
 
 -- the count names the last of them
 pub counted_none : (k : ℕ) (xs : List (List ℕ)) (key : List ℕ) (n : ℕ) → n ≡ 0 → IsCounted k xs key n → IsFound k xs key None
-counted_none k xs key n none counted j below = counted.behind.above j (omega (arith, none)) below
+counted_none k xs key n none counted j below = counted.after.above j (omega (arith, none)) below
 
 pub counted_last : (k : ℕ) (xs : List (List ℕ)) (key : List ℕ) (n : ℕ) → 0 < n → IsCounted k xs key n → IsFound k xs key (Some (n - 1))
 counted_last k xs key n some counted = record {
   below = omega (arith, some, counted.within);
-  holds = counted.behind.below (n - 1) (omega (arith, some));
-  above = λ j behind below. counted.behind.above j (omega (arith, behind, some)) below;
+  holds = counted.after.below (n - 1) (omega (arith, some));
+  above = λ j after below. counted.after.above j (omega (arith, after, some)) below;
 }
 
 -- the same of the leaf at which a walk has come
@@ -116,7 +116,7 @@ module _ (e k : ℕ) (b : List ℕ) (records : List (List ℕ)) (levels : ℕ) (
   led_all all last = subst (IsCounted k records key) total_here (counted_all e k b records levels nodes tower some page pages index at led.home led.path read key earlier_here c all low last)
 
   pub led_low : c ≡ filled page → (j : ℕ) → j < before (nodes 1) (p + 1) → at_most (key_at k records j) key ≡ true
-  led_low all j less = low_behind e k b records levels nodes tower some page pages index at led.home led.path read key earlier_here c all low j (omega (arith, less, ap (λ (i : ℕ). before (nodes 1) (i + 1)) led.home_is))
+  led_low all j less = low_after e k b records levels nodes tower some page pages index at led.home led.path read key earlier_here c all low j (omega (arith, less, ap (λ (i : ℕ). before (nodes 1) (i + 1)) led.home_is))
 
   pub led_total : c ≡ filled page → total + c ≡ before (nodes 1) (p + 1)
-  led_total all = sym total_here ∙ total_behind e k b records levels nodes tower some page pages index at led.home led.path read key earlier_here c all ∙ ap (λ (i : ℕ). before (nodes 1) (i + 1)) led.home_is
+  led_total all = sym total_here ∙ total_after e k b records levels nodes tower some page pages index at led.home led.path read key earlier_here c all ∙ ap (λ (i : ℕ). before (nodes 1) (i + 1)) led.home_is

@@ -7,12 +7,12 @@ use Rattle.page_tree.specs.Page.{page_at, kind_of, filled, record_at, key_at, li
 use Rattle.page_tree.specs.Tree.{Node, node_at, items_of, before, heads, rows, IsTower, uses, IsShared, IsRooted, IsTree}
 use Rattle.page_tree.specs.Path.{IsPath, IsReached, with_place}
 use Rattle.flat_mem.specs.Order.{entry_at, IsLastAtMost, NoneAtMost}
-use Rattle.page_tree.specs.Tells.{StandsIn}
+use Rattle.page_tree.specs.Reveals.{StandsIn}
 use Rattle.page_tree.specs.Broken.{Meets}
 use Rattle.page_tree.specs.Answer.{IsLastEntry, IsNextEntry, IsLastInPage, GoesTo}
 use Rattle.page_tree.proofs.Order.{above_from, at_most_through}
 use Rattle.page_tree.proofs.Once.{times_some, uses_level}
-use Rattle.page_tree.proofs.Levels.{NoneEmpty, before_more, before_all, page_fits, item_of_page, heads_page, length-heads, head_key, heads_rising, step}
+use Rattle.page_tree.proofs.Levels.{NoneEmpty, before_more, before_all, page_fits, item_of_page, heads_page, length-heads, head_key, heads_ascending, step}
 
 module _ (e k : ℕ) (b : List ℕ) (records : List (List ℕ)) (levels : ℕ) (nodes : ℕ → List Node) (tower : IsTower e k b records levels nodes) where
   pub none_empty : (l : ℕ) → 0 < l → l ≤ levels → NoneEmpty (nodes l)
@@ -24,16 +24,16 @@ module _ (e k : ℕ) (b : List ℕ) (records : List (List ℕ)) (levels : ℕ) (
     | inr more ↦ let inner = (tower.stored l q some most below).inner (omega (arith, more)) in omega (arith, inner.some)
   ]
 
-  pub rows_rising : (l : ℕ) → l ≤ levels → AreInKeyOrder (rows k records nodes l)
-  rows_rising zero most = tower.rising
-  rows_rising (suc l) most =
+  pub rows_ascending : (l : ℕ) → l ≤ levels → AreInKeyOrder (rows k records nodes l)
+  rows_ascending zero most = tower.ascending
+  rows_ascending (suc l) most =
       let next : suc l ≡ l + 1 = omega arith in
       let listed : items_of (nodes (suc l)) ≡ rows k records nodes l = ap (λ (m : ℕ). items_of (nodes m)) next ∙ tower.listed l (omega arith) in
-      heads_rising (nodes (suc l)) (none_empty (suc l) (omega arith) most) (subst AreInKeyOrder (sym listed) (rows_rising l (omega arith)))
+      heads_ascending (nodes (suc l)) (none_empty (suc l) (omega arith) most) (subst AreInKeyOrder (sym listed) (rows_ascending l (omega arith)))
 
-  pub level_rising : (l below : ℕ) → l ≡ below + 1 → l ≤ levels → AreInKeyOrder (items_of (nodes l))
-  level_rising l below is most =
-      subst AreInKeyOrder (sym (ap (λ (m : ℕ). items_of (nodes m)) is ∙ tower.listed below (omega arith))) (rows_rising below (omega arith))
+  pub level_ascending : (l below : ℕ) → l ≡ below + 1 → l ≤ levels → AreInKeyOrder (items_of (nodes l))
+  level_ascending l below is most =
+      subst AreInKeyOrder (sym (ap (λ (m : ℕ). items_of (nodes m)) is ∙ tower.listed below (omega arith))) (rows_ascending below (omega arith))
 
 pub rows_above : (k : ℕ) (records : List (List ℕ)) (nodes : ℕ → List Node) (l : ℕ) → 0 < l → rows k records nodes l ≡ heads (nodes l)
 rows_above k records nodes zero some = absurd (omega arith)
@@ -64,7 +64,7 @@ go_down e k b records levels nodes tower l p key page inner_level most place is 
     some = none_empty e k b records levels nodes tower l (omega arith) most
 
     here : IsPlace (items_of ns) key (before ns p + c)
-    here = step ns some (level_rising e k b records levels nodes tower l (l - 1) (omega arith) most) key p c place c_below
+    here = step ns some (level_ascending e k b records levels nodes tower l (l - 1) (omega arith) most) key p c place c_below
         (λ (pos : 0 < c).
         let same : c - 1 + 1 ≡ c = omega arith in
         let named : (item_at (node_at ns p).items c).key ≡ key_at k page (c - 1) = ap (λ (m : ℕ). (item_at (node_at ns p).items m).key) (sym same) ∙ inner.keys (c - 1) (omega (arith, c_below)) in
@@ -121,7 +121,7 @@ pub place_root : (nodes : ℕ → List Node) (levels : ℕ) (key : List ℕ) →
 place_root nodes levels key one = record {
   below = omega (arith, one, length-heads (nodes levels));
   holds = inr refl;
-  above = λ q behind below. absurd (omega (arith, behind, below, one, length-heads (nodes levels)));
+  above = λ q after below. absurd (omega (arith, after, below, one, length-heads (nodes levels)));
 }
 
 -- the path goes on to a child
@@ -221,8 +221,8 @@ module _ (e k : ℕ) (b : List ℕ) (records : List (List ℕ)) (levels : ℕ) (
   some : NoneEmpty (nodes 1)
   some = none_empty e k b records levels nodes tower 1 (omega arith) (omega arith)
 
-  rising : AreInKeyOrder (items_of (nodes 1))
-  rising = subst AreInKeyOrder (sym listed) tower.rising
+  ascending : AreInKeyOrder (items_of (nodes 1))
+  ascending = subst AreInKeyOrder (sym listed) tower.ascending
 
   -- the key of record j of the leaf
   leaf_key : (j : ℕ) → j < length (node_at (nodes 1) p_of).items → (item_at (node_at (nodes 1) p_of).items j).key ≡ take k (record_at e page j)
@@ -237,7 +237,7 @@ module _ (e k : ℕ) (b : List ℕ) (records : List (List ℕ)) (levels : ℕ) (
       let at_next = λ (more : c - 1 + 1 < length (node_at (nodes 1) p_of).items).
       ap (λ (m : ℕ). at_most (item_at (node_at (nodes 1) p_of).items m).key key) same
       ∙ ap (λ (x : List ℕ). at_most x key) (leaf_key c (omega (arith, more))) ∙ next (omega (arith, leaf.count, more)) in
-      let place = step (nodes 1) some rising key p_of (c - 1) reached.found j_below (λ (h : 0 < c - 1). at_low) at_next in
+      let place = step (nodes 1) some ascending key p_of (c - 1) reached.found j_below (λ (h : 0 < c - 1). at_low) at_next in
       let i = before (nodes 1) p_of + (c - 1) in
       let there : item_at (items_of (nodes 1)) i ≡ item_at (node_at (nodes 1) p_of).items (c - 1) = item_of_page (nodes 1) p_of (c - 1) p_below j_below in
       let size : length (items_of (nodes 1)) ≡ length records = ap length listed ∙ length-map records (record_item k) in
@@ -247,8 +247,8 @@ module _ (e k : ℕ) (b : List ℕ) (records : List (List ℕ)) (levels : ℕ) (
       let last : IsLastAtMost k records key i = record {
         below = i_below;
         holds = i_low;
-        above = λ j behind below.
-            ap (λ (x : Item). at_most x.key key) (sym (ap (λ (xs : List Item). item_at xs j) listed ∙ record_key k records j below)) ∙ place.above j behind (omega (arith, size));
+        above = λ j after below.
+            ap (λ (x : Item). at_most x.key key) (sym (ap (λ (xs : List Item). item_at xs j) listed ∙ record_key k records j below)) ∙ place.above j after (omega (arith, size));
       } in
       let bytes : record_at e page (c - 1) ≡ entry_at records i = ap (λ (x : Item). x.bytes) (sym (leaf.lists (c - 1) j_below) ∙ sym there ∙ item_is) in
       (i, last, bytes)
@@ -277,7 +277,7 @@ module _ (e k : ℕ) (b : List ℕ) (records : List (List ℕ)) (levels : ℕ) (
       let size : length (items_of (nodes 1)) ≡ length records = ap length listed ∙ length-map records (record_item k) in
       let all = λ (none : before (nodes 1) p_of ≡ 0).
       ap (λ (x : Item). at_most x.key key) (sym (ap (λ (xs : List Item). item_at xs j) listed ∙ record_key k records j below))
-      ∙ above_from (items_of (nodes 1)) key (before (nodes 1) p_of) rising start j (omega (arith, none)) (omega (arith, size)) in
+      ∙ above_from (items_of (nodes 1)) key (before (nodes 1) p_of) ascending start j (omega (arith, none)) (omega (arith, size)) in
       elim (cases_eq p_of 0) [
         | inl zero_p ↦ all (ap (before (nodes 1)) zero_p)
         | inr some_p ↦ elim reached.found.holds [
@@ -287,16 +287,16 @@ module _ (e k : ℕ) (b : List ℕ) (records : List (List ℕ)) (levels : ℕ) (
       ]
 
   -- where a record with this key goes
-  pub behind_in_leaf : (c : ℕ) → c ≤ filled page → (0 < c → at_most (take k (record_at e page (c - 1))) key ≡ true) → (c < filled page → at_most (take k (record_at e page c)) key ≡ false)
+  pub after_in_leaf : (c : ℕ) → c ≤ filled page → (0 < c → at_most (take k (record_at e page (c - 1))) key ≡ true) → (c < filled page → at_most (take k (record_at e page c)) key ≡ false)
       → GoesTo k records key (before (nodes 1) p_of + c)
-  behind_in_leaf c most low next = elim (cases_eq c 0) [
+  after_in_leaf c most low next = elim (cases_eq c 0) [
     | inl none ↦
         let is : at_most (take k (record_at e page 0)) key ≡ false = ap (λ (m : ℕ). at_most (take k (record_at e page m)) key) (sym none) ∙ next (omega (arith, leaf.count, leaf.some, none)) in
         let zero_p = first_leaf is in
         let at : before (nodes 1) p_of + c ≡ 0 = let start : before (nodes 1) p_of ≡ 0 = ap (before (nodes 1)) zero_p in omega (arith, start, none) in
         record {
           within = omega (arith, at);
-          behind = record { below = λ j less. absurd (omega (arith, at, less)); above = λ j from below. none_in_leaf is j below };
+          after = record { below = λ j less. absurd (omega (arith, at, less)); above = λ j from below. none_in_leaf is j below };
         }
     | inr pos ↦
         let j_below : c - 1 < length (node_at (nodes 1) p_of).items = omega (arith, leaf.count, pos) in
@@ -305,17 +305,17 @@ module _ (e k : ℕ) (b : List ℕ) (records : List (List ℕ)) (levels : ℕ) (
         let at_next = λ (more : c - 1 + 1 < length (node_at (nodes 1) p_of).items).
         ap (λ (m : ℕ). at_most (item_at (node_at (nodes 1) p_of).items m).key key) same
         ∙ ap (λ (x : List ℕ). at_most x key) (leaf_key c (omega (arith, more, pos))) ∙ next (omega (arith, leaf.count, more, pos)) in
-        let place = step (nodes 1) some rising key p_of (c - 1) reached.found j_below (λ (h : 0 < c - 1). at_low) at_next in
+        let place = step (nodes 1) some ascending key p_of (c - 1) reached.found j_below (λ (h : 0 < c - 1). at_low) at_next in
         let there : item_at (items_of (nodes 1)) (before (nodes 1) p_of + (c - 1)) ≡ item_at (node_at (nodes 1) p_of).items (c - 1) = item_of_page (nodes 1) p_of (c - 1) p_below j_below in
         let size : length (items_of (nodes 1)) ≡ length records = ap length listed ∙ length-map records (record_item k) in
         let last_low : at_most (item_at (items_of (nodes 1)) (before (nodes 1) p_of + (c - 1))).key key ≡ true = ap (λ (x : Item). at_most x.key key) there ∙ at_low in
         record {
           within = omega (arith, place.below, size, pos);
-          behind = record {
+          after = record {
             below = λ j less.
                 let j_inside : j < length records = omega (arith, place.below, size, less, pos) in
                 ap (λ (x : Item). at_most x.key key) (sym (ap (λ (xs : List Item). item_at xs j) listed ∙ record_key k records j j_inside))
-                ∙ at_most_through _ (item_at (items_of (nodes 1)) (before (nodes 1) p_of + (c - 1))).key key (rising j (before (nodes 1) p_of + (c - 1)) (omega (arith, less, pos)) place.below) last_low;
+                ∙ at_most_through _ (item_at (items_of (nodes 1)) (before (nodes 1) p_of + (c - 1))).key key (ascending j (before (nodes 1) p_of + (c - 1)) (omega (arith, less, pos)) place.below) last_low;
             above = λ j from below.
                 ap (λ (x : Item). at_most x.key key) (sym (ap (λ (xs : List Item). item_at xs j) listed ∙ record_key k records j below)) ∙ place.above j (omega (arith, from, pos)) (omega (arith, below, size));
           };
@@ -391,7 +391,7 @@ stands_in e k b page key into home true is met read kind last = record {
 pub place_at_down : (place : ℕ → ℕ) (m q : ℕ) → with_place place m q m ≡ q
 place_at_down place m q = place_same place m q m refl
 
--- the first record above a key: in the leaf of the search, or the first of the leaf behind it
+-- the first record above a key: in the leaf of the search, or the first of the leaf after it
 module _ (e k : ℕ) (b : List ℕ) (records : List (List ℕ)) (levels : ℕ) (nodes : ℕ → List Node) (tower : IsTower e k b records levels nodes) (some_level : 0 < levels)
     (key page pages index : List ℕ) (home : ℕ) (reached : IsReached b levels nodes key page pages index home) where
   abbrev q_of : ℕ
@@ -417,15 +417,15 @@ module _ (e k : ℕ) (b : List ℕ) (records : List (List ℕ)) (levels : ℕ) (
   pub next_here : (c : ℕ) → c < filled page → (0 < c → at_most (take k (record_at e page (c - 1))) key ≡ true) → at_most (take k (record_at e page c)) key ≡ false → IsNextEntry k records key (record_at e page c) true
   next_here c less low above =
       let there = leaf e k b records levels nodes tower some_level key page pages index home reached in
-      let goes = behind_in_leaf e k b records levels nodes tower some_level key page pages index home reached c (omega (arith, less)) low (λ more. above) in
+      let goes = after_in_leaf e k b records levels nodes tower some_level key page pages index home reached c (omega (arith, less)) low (λ more. above) in
       let found = record_in q_of c q_below (omega (arith, less, there.count)) page there in
-      (before (nodes 1) q_of + c, found.0, goes.behind, found.1)
+      (before (nodes 1) q_of + c, found.0, goes.after, found.1)
 
   -- all records of the leaf are at most the key
   goes_past : (c : ℕ) → c ≡ filled page → at_most (take k (record_at e page (c - 1))) key ≡ true → GoesTo k records key (before (nodes 1) (q_of + 1))
   goes_past c all low =
       let there = leaf e k b records levels nodes tower some_level key page pages index home reached in
-      let goes = behind_in_leaf e k b records levels nodes tower some_level key page pages index home reached c (omega (arith, all)) (λ some. low) (λ more. absurd (omega (arith, more, all))) in
+      let goes = after_in_leaf e k b records levels nodes tower some_level key page pages index home reached c (omega (arith, all)) (λ some. low) (λ more. absurd (omega (arith, more, all))) in
       let ends : before (nodes 1) q_of + c ≡ before (nodes 1) (q_of + 1) = omega (arith, before_more (nodes 1) q_of q_below, all, there.count) in
       subst (GoesTo k records key) ends goes
 
@@ -435,7 +435,7 @@ module _ (e k : ℕ) (b : List ℕ) (records : List (List ℕ)) (levels : ℕ) (
       let found = record_in (q_of + 1) 0 p_below (omega (arith, leaf_is.some)) bytes leaf_is in
       let zero_more : before (nodes 1) (q_of + 1) + 0 ≡ before (nodes 1) (q_of + 1) = add-zero (before (nodes 1) (q_of + 1)) in
       let goes = goes_past c all low in
-      (before (nodes 1) (q_of + 1), omega (arith, found.0, zero_more), goes.behind, found.1 ∙ ap (entry_at records) zero_more)
+      (before (nodes 1) (q_of + 1), omega (arith, found.0, zero_more), goes.after, found.1 ∙ ap (entry_at records) zero_more)
 
   pub none_there : (c : ℕ) → c ≡ filled page → at_most (take k (record_at e page (c - 1))) key ≡ true → q_of + 1 ≡ length (nodes 1) → (into : List ℕ) → IsNextEntry k records key into false
-  none_there c all low last into j below = (goes_past c all low).behind.below j (omega (arith, below, before_all (nodes 1) (q_of + 1) (omega (arith, last)), all_length))
+  none_there c all low last into j below = (goes_past c all low).after.below j (omega (arith, below, before_all (nodes 1) (q_of + 1) (omega (arith, last)), all_length))

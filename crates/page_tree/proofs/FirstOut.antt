@@ -9,11 +9,11 @@ use Rattle.page_tree.specs.Page.{IsWidths, page_at, filled, key_room, record_at,
 use Rattle.page_tree.specs.Tree.{node_at, before}
 use Rattle.page_tree.specs.Change.{without}
 use Rattle.page_tree.specs.Copied.{leaf_without}
-use Rattle.page_tree.specs.Owed.{swapped}
+use Rattle.page_tree.specs.Due.{swapped}
 use Rattle.page_tree.specs.Path.{IsPath}
 use Rattle.page_tree.specs.Named.{IsTurn, IsNamed, IsKept, CanName}
-use Rattle.page_tree.specs.Standing.{IsStanding}
-use Rattle.page_tree.specs.Thin.{IsPending}
+use Rattle.page_tree.specs.SectorState.{IsSectorState}
+use Rattle.page_tree.specs.Underfull.{IsPending}
 use Rattle.page_tree.proofs.Once.{page_same, page_other}
 use Rattle.std.proofs.lemmas.Nat.{mul-le}
 use Rattle.page_tree.proofs.Inner.{links_fit}
@@ -26,7 +26,7 @@ use Rattle.page_tree.proofs.NamedFirst.{naming_first, doubled, doubled_long, dou
 use Rattle.page_tree.proofs.Turned.{naming_all, turned_leaf, straight_leaf, up_some, up_inner}
 use Rattle.page_tree.proofs.TakenOut.{dup_out, dup_removed, out_pending, kept_pending}
 
-pub can_name : (e k pages : ℕ) (b : List ℕ) (records : List (List ℕ)) (levels root first top : ℕ) (here : IsStanding e k pages b records levels root first top) (paths index : List ℕ) (at : ℕ) (home : ℕ → ℕ) → IsPath here.nodes levels 1 paths index at home → CanName k b pages levels paths index
+pub can_name : (e k pages : ℕ) (b : List ℕ) (records : List (List ℕ)) (levels root first top : ℕ) (here : IsSectorState e k pages b records levels root first top) (paths index : List ℕ) (at : ℕ) (home : ℕ → ℕ) → IsPath here.nodes levels 1 paths index at home → CanName k b pages levels paths index
 can_name e k pages b records levels root first top here paths index at home path = record {
   inside = λ l turn. (up_some e k pages b records levels root first top here paths index at home path b (λ (q : ℕ) (some_q : 1 ≤ q) (other : q ≢ at). refl) l turn.from turn.most).1;
   inner = λ l turn. (
@@ -36,9 +36,9 @@ can_name e k pages b records levels root first top here paths index at home path
   );
 }
 
-module _ (e k pages : ℕ) (b : List ℕ) (records : List (List ℕ)) (levels root first top : ℕ) (here : IsStanding e k pages b records levels root first top) (widths : IsWidths e k) (some : 0 < levels)
+module _ (e k pages : ℕ) (b : List ℕ) (records : List (List ℕ)) (levels root first top : ℕ) (here : IsSectorState e k pages b records levels root first top) (widths : IsWidths e k) (some : 0 < levels)
     (page paths index : List ℕ) (at : ℕ) (home : ℕ → ℕ) (path : IsPath here.nodes levels 1 paths index at home) (read : page ≡ page_at b (node_at (here.nodes 1) (home 1)).page) (long : length page ≡ 512) (two : 2 ≤ filled page) (size : 512 * pages ≤ length b)
-    (tells : List ℕ → Type 0) where
+    (reveals : List ℕ → Type 0) where
   abbrev xs : List Item
   xs = (node_at (here.nodes 1) (home 1)).items
 
@@ -88,11 +88,11 @@ module _ (e k pages : ℕ) (b : List ℕ) (records : List (List ℕ)) (levels ro
     long_up : length (page_at b up) ≡ 512
     long_up = length-part b (512 * up) 512 up_fits
 
-    turned : (tells (overwritten b (512 * up) named)) → length named ≡ 512 → length v ≡ length b
-        → (c : List ℕ) × tells c × IsPending e k pages c (remove records (pos + 0)) levels 1 paths index at (leaf_without e page (filled page) 0) root first top
-    turned told long_named long_v = (
+    turned : (reveals (overwritten b (512 * up) named)) → length named ≡ 512 → length v ≡ length b
+        → (c : List ℕ) × reveals c × IsPending e k pages c (remove records (pos + 0)) levels 1 paths index at (leaf_without e page (filled page) 0) root first top
+    turned revealed long_named long_v = (
       overwritten b (512 * up) named,
-      told,
+      revealed,
       subst (λ (rs : List (List ℕ)). IsPending e k pages (overwritten b (512 * up) named) rs levels 1 paths index at (leaf_without e page (filled page) 0) root first top) records_now
           (kept_pending e k pages (overwritten v (512 * up) named) (overwritten b (512 * up) named) (slice_set records pos second) levels paths index at root first top pos (swapped xs 0 1 (record_item k second ∷ [])) kept (omega (arith, some))
           (omega (arith, length-set records pos second, next_in e k pages b records levels root first top here widths some page paths index at home path read long two size))
@@ -127,8 +127,8 @@ module _ (e k pages : ℕ) (b : List ℕ) (records : List (List ℕ)) (levels ro
       length-overwritten (page_at b (get_or paths l 0)) (take k second) (8 + k * (get_or index l 0 - 1)) (omega (arith, is, width, cells, (links_fit k widths.some_key widths.key_most).0)) ∙ is
 
   -- what has still to be written then
-  pub first_pending : IsNamed k tells b levels paths index (take k (record_at e page 1))
-      → (c : List ℕ) × tells c × IsPending e k pages c (remove records (before (here.nodes 1) (home 1) + 0)) levels 1 paths index at (leaf_without e page (filled page) 0) root first top
+  pub first_pending : IsNamed k reveals b levels paths index (take k (record_at e page 1))
+      → (c : List ℕ) × reveals c × IsPending e k pages c (remove records (before (here.nodes 1) (home 1) + 0)) levels 1 paths index at (leaf_without e page (filled page) 0) root first top
   first_pending named = elim named [
     | inl straight ↦
         let first_leaf : home 1 ≡ 0 = straight_leaf e k pages b records levels root first top here paths index at home path b (λ (q : ℕ) (some_q : 1 ≤ q) (other : q ≢ at). refl) straight.0 (levels - 1) 1 (omega (arith, some)) (omega arith) in
@@ -137,6 +137,6 @@ module _ (e k pages : ℕ) (b : List ℕ) (records : List (List ℕ)) (levels ro
         let l = turned_at.0 in
         let is : turned_at.0 ≡ (turned_at.0 - 2) + 2 = omega (arith, turned_at.1.from) in
         let turn = subst (IsTurn index levels) is turned_at.1 in
-        let told = subst (λ (m : ℕ). tells (overwritten b (512 * get_or paths m 0) (overwritten (page_at b (get_or paths m 0)) (8 + k * (get_or index m 0 - 1)) (take k second)))) is turned_at.2 in
-        turned (turned_at.0 - 2) turn told (named_long (turned_at.0 - 2 + 2) turn.from turn.most turn.turns (long_up (turned_at.0 - 2) turn)) (doubled_long e k pages b records levels root first top here widths some page paths index at home path read long two size)
+        let revealed = subst (λ (m : ℕ). reveals (overwritten b (512 * get_or paths m 0) (overwritten (page_at b (get_or paths m 0)) (8 + k * (get_or index m 0 - 1)) (take k second)))) is turned_at.2 in
+        turned (turned_at.0 - 2) turn revealed (named_long (turned_at.0 - 2 + 2) turn.from turn.most turn.turns (long_up (turned_at.0 - 2) turn)) (doubled_long e k pages b records levels root first top here widths some page paths index at home path read long two size)
   ]

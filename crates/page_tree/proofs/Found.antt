@@ -18,7 +18,7 @@ use Rattle.page_tree.specs.Path.{IsReached}
 use Rattle.page_tree.specs.Removed.{IsLastOf, NoneOf, IsLastHere, IsNotHere}
 use Rattle.page_tree.proofs.Order.{at_most_itself}
 use Rattle.page_tree.proofs.Levels.{item_of_page, page_fits, length-heads}
-use Rattle.page_tree.proofs.Descent.{leaf, behind_in_leaf, none_in_leaf}
+use Rattle.page_tree.proofs.Descent.{leaf, after_in_leaf, none_in_leaf}
 
 above_other : (x key : List ℕ) → at_most x key ≡ false → x ≢ key
 above_other x key above same = false≢true (sym above ∙ ap (λ (y : List ℕ). at_most y key) same ∙ at_most_itself key)
@@ -38,7 +38,7 @@ module _ (e k : ℕ) (b : List ℕ) (records : List (List ℕ)) (levels : ℕ) (
   -- what the scan of the leaf says of the whole list
   around : (c : ℕ) → c ≤ filled page → (0 < c → at_most (take k (record_at e page (c - 1))) key ≡ true) → (c < filled page → at_most (take k (record_at e page c)) key ≡ false)
       → ((j : ℕ) → j < before (nodes 1) (reached.place 1) + c → at_most (key_at k records j) key ≡ true) × ((j : ℕ) → before (nodes 1) (reached.place 1) + c ≤ j → j < length records → at_most (key_at k records j) key ≡ false)
-  around c most low next = let behind = behind_in_leaf e k b records levels nodes tower some_level key page pages index home reached c most low next in (behind.behind.below, behind.behind.above)
+  around c most low next = let after = after_in_leaf e k b records levels nodes tower some_level key page pages index home reached c most low next in (after.after.below, after.after.above)
 
   here : IsLeaf e k page (node_at (nodes 1) (reached.place 1)).items
   here = leaf e k b records levels nodes tower some_level key page pages index home reached
@@ -63,7 +63,7 @@ module _ (e k : ℕ) (b : List ℕ) (records : List (List ℕ)) (levels : ℕ) (
   found_last place last = record {
     below = found_below place last.below;
     holds = sym (ap (λ (x : Item). x.key) (found_record place last.below)) ∙ last.holds;
-    above = λ j behind below. above_other (key_at k records j) key (scanned.1 j (omega (arith, behind)) below);
+    above = λ j after below. above_other (key_at k records j) key (scanned.1 j (omega (arith, after)) below);
   }
     where
       back : place + 1 - 1 ≡ place
@@ -87,7 +87,7 @@ module _ (e k : ℕ) (b : List ℕ) (records : List (List ℕ)) (levels : ℕ) (
           let c_in : not.c - 1 < filled page = omega (arith, not.most, other) in
           let pos_in = found_below (not.c - 1) c_in in
           let key_is : take k (record_at e page (not.c - 1)) ≡ key_at k records (before (nodes 1) (reached.place 1) + (not.c - 1)) = ap (λ (x : Item). x.key) (found_record (not.c - 1) c_in) in
-          let order = tower.rising j (before (nodes 1) (reached.place 1) + (not.c - 1)) (omega (arith, low, other)) (omega (arith, pos_in, length-map records (record_item k))) in
+          let order = tower.ascending j (before (nodes 1) (reached.place 1) + (not.c - 1)) (omega (arith, low, other)) (omega (arith, pos_in, length-map records (record_item k))) in
           let order_keys : at_most (key_at k records j) (key_at k records (before (nodes 1) (reached.place 1) + (not.c - 1))) ≡ true =
           sym (ap (λ (x : Item). at_most x.key (item_at (map (record_item k) records) (before (nodes 1) (reached.place 1) + (not.c - 1))).key) (key_item j below)
           ∙ ap (λ (x : Item). at_most (key_at k records j) x.key) (key_item (before (nodes 1) (reached.place 1) + (not.c - 1)) pos_in)) ∙ order in

@@ -44,7 +44,7 @@ closed_tree e k pages c records levels root first top head closed some few size 
   };
   tower = record {
     none = λ none. absurd (omega (arith, none, some));
-    rising = closed.order;
+    ascending = closed.order;
     listed = closed.listed;
     stored = λ l p some_l most below.
         let within = within_shared levels closed.nodes closed.free top closed.opened.shared l p some_l most below in
@@ -177,7 +177,7 @@ headed_tree e k pages b some is blank = record {
   };
   tower = record {
     none = λ none. refl;
-    rising = λ i j order below. absurd (omega (arith, below));
+    ascending = λ i j order below. absurd (omega (arith, below));
     listed = λ l below. absurd (omega (arith, below));
     stored = λ l p some_l most below. absurd (omega (arith, some_l, most));
     filled = λ l p some_l most below. absurd (omega (arith, most));

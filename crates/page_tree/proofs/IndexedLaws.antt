@@ -10,7 +10,7 @@ use Rattle.page_tree.specs.Leaves.{gathered, leaves_below, leaves_of, records_in
 use Rattle.page_tree.specs.Broken.{IsLeafForm}
 use Rattle.page_tree.specs.Met.{IsMetPath}
 use Rattle.page_tree.specs.Walked.{page_on, IsThread, leaves_ahead, IsWalked}
-use Rattle.page_tree.specs.Indexed.{IsIndexed, LacksNth}
+use Rattle.page_tree.specs.Indexed.{IsIndexed, MissesNth}
 use Rattle.page_tree.proofs.CountLaws.{named_leaves}
 use Rattle.page_tree.proofs.Threads.{on_other}
 
@@ -20,8 +20,8 @@ gathered_split f n zero below = absurd (omega (arith, below))
 gathered_split f n (suc m) below = elim (cases_eq n m) [
   | inl same ↦ ([], subst (λ (i : ℕ). gathered f (suc m) ≡ gathered f i ++ f i ++ []) (sym same) (sym (append-nil (gathered f m ++ f m))))
   | inr other ↦
-      let front = gathered_split f n m (omega (arith, below, other)) in
-      (front.0 ++ f m, ap (λ (xs : List ℕ). xs ++ f m) front.1 ∙ append_assoc (gathered f n ++ f n) front.0 (f m))
+      let prefix = gathered_split f n m (omega (arith, below, other)) in
+      (prefix.0 ++ f m, ap (λ (xs : List ℕ). xs ++ f m) prefix.1 ∙ append_assoc (gathered f n ++ f n) prefix.0 (f m))
 ]
 
 joined : (xs ys here rest more : List ℕ) (at : ℕ) → here ≡ ys ++ at ∷ rest → xs ++ here ++ more ≡ xs ++ ys ++ at ∷ (rest ++ more)
@@ -31,9 +31,9 @@ joined xs ys here rest more at is =
     ∙ ap (λ (zs : List ℕ). xs ++ zs) (append_assoc ys (at ∷ rest) more)
     ∙ sym (append_assoc xs ys (at ∷ (rest ++ more)))
 
--- the leaf at the path's end stands below each page of the path, behind those in front of it
+-- the leaf at the path's end stands below each page of the path, after those before it
 leaves_split : (k : ℕ) (b : List ℕ) (levels root : ℕ) (pages index : List ℕ) (at : ℕ) → IsThread k b levels 1 root pages index at → IsMetPath k b levels 1 root pages index → (d : ℕ) → suc d ≤ levels
-    → (behind : List ℕ) × (leaves_below k b d (page_on pages 1 at (suc d)) ≡ leaves_ahead k b pages index d ++ at ∷ behind)
+    → (after : List ℕ) × (leaves_below k b d (page_on pages 1 at (suc d)) ≡ leaves_ahead k b pages index d ++ at ∷ after)
 leaves_split k b levels root pages index at thread path zero most = ([], refl)
 leaves_split k b levels root pages index at thread path (suc d) most =
     let lower = leaves_split k b levels root pages index at thread path d (omega (arith, most)) in
@@ -49,7 +49,7 @@ leaves_split k b levels root pages index at thread path (suc d) most =
           (leaves_below k b d (link_at k (page_at b (get_or pages (suc (suc d)) 0)) (get_or index (suc (suc d)) 0))) lower.0 split.0 at below,
     )
 
-pub walked_leaves : (k : ℕ) (b : List ℕ) (levels root : ℕ) (pages index : List ℕ) (at : ℕ) (passed : List ℕ) → 1 ≤ levels → IsWalked k b levels root pages index at passed → (behind : List ℕ) × (leaves_of k b levels root ≡ passed ++ at ∷ behind)
+pub walked_leaves : (k : ℕ) (b : List ℕ) (levels root : ℕ) (pages index : List ℕ) (at : ℕ) (passed : List ℕ) → 1 ≤ levels → IsWalked k b levels root pages index at passed → (after : List ℕ) × (leaves_of k b levels root ≡ passed ++ at ∷ after)
 walked_leaves k b zero root pages index at passed some walked = absurd (omega (arith, some))
 walked_leaves k b (suc d) root pages index at passed some walked =
     let split = leaves_split k b (suc d) root pages index at walked.thread walked.path d (omega arith) in
@@ -67,7 +67,7 @@ pub walked_indexed : (e k : ℕ) (b : List ℕ) (levels root : ℕ) (pages index
 walked_indexed e k b levels root pages index at passed page rest i levels_is root_is some walked count read form below =
     let all = walked_leaves k b levels root pages index at passed some walked in record {
       passed = passed;
-      behind = all.0;
+      after = all.0;
       leaves = named_leaves k b levels root levels_is root_is ∙ all.1;
       count = count;
       met = walked.met;
@@ -77,15 +77,15 @@ walked_indexed e k b levels root pages index at passed page rest i levels_is roo
 
 -- why a walk ends without one
 module _ (k : ℕ) (b : List ℕ) (levels root : ℕ) (levels_is : levels_in (page_at b 0) ≡ levels) (root_is : root_in (page_at b 0) ≡ root) (e pages i : ℕ) where
-  pub short_of : (passed : List ℕ) (rest : ℕ) → leaves_of k b levels root ≡ passed → records_in b passed + rest ≡ i → LacksNth e k pages b i
-  short_of passed rest all count = LacksNth.short (omega (arith, ap (records_in b) (named_leaves k b levels root levels_is root_is ∙ all), count))
+  pub short_of : (passed : List ℕ) (rest : ℕ) → leaves_of k b levels root ≡ passed → records_in b passed + rest ≡ i → MissesNth e k pages b i
+  short_of passed rest all count = MissesNth.short (omega (arith, ap (records_in b) (named_leaves k b levels root levels_is root_is ∙ all), count))
 
-  pub crowded_by : (passed : List ℕ) → length passed < length (leaves_of k b levels root) → pages ≤ length passed → LacksNth e k pages b i
-  crowded_by passed fewer past = LacksNth.crowded (omega (arith, ap length (named_leaves k b levels root levels_is root_is), fewer, past))
+  pub crowded_by : (passed : List ℕ) → length passed < length (leaves_of k b levels root) → pages ≤ length passed → MissesNth e k pages b i
+  crowded_by passed fewer past = MissesNth.crowded (omega (arith, ap length (named_leaves k b levels root levels_is root_is), fewer, past))
 
 -- a tree of no level has no record
-pub bare_lacks : (e k pages : ℕ) (b : List ℕ) (i : ℕ) → levels_in (page_at b 0) ≡ 0 → LacksNth e k pages b i
-bare_lacks e k pages b i none = LacksNth.short (omega (arith, ap (λ (l : ℕ). records_in b (leaves_of k b l (root_in (page_at b 0)))) none))
+pub bare_misses : (e k pages : ℕ) (b : List ℕ) (i : ℕ) → levels_in (page_at b 0) ≡ 0 → MissesNth e k pages b i
+bare_misses e k pages b i none = MissesNth.short (omega (arith, ap (λ (l : ℕ). records_in b (leaves_of k b l (root_in (page_at b 0)))) none))
 
 -- the parts of a list, put together again
 parts_joined : (w : List ℕ) (from size : ℕ) → from + size ≤ length w → take from w ++ part w from size ++ drop (from + size) w ≡ w

@@ -17,7 +17,7 @@ item_of_page ns p j below inside = get_or-flat_map (λ (n : Node). n.items) ns p
 length-one : (n : Node) → length (items_of (n ∷ [])) ≡ length n.items
 length-one n = length-append n.items [] ∙ add-zero (length n.items)
 
--- the items of the next page stand behind those of this one
+-- the items of the next page stand after those of this one
 pub before_more : (ns : List Node) (p : ℕ) → p < length ns → before ns (p + 1) ≡ before ns p + length (node_at ns p).items
 before_more ns p below =
     ap (λ (xs : List Node). length (items_of xs)) (take_more ns p no_node below)
@@ -52,18 +52,18 @@ pub heads_first : (ns : List Node) → (item_at (heads ns) 0).key ≡ []
 heads_first [] = refl
 heads_first (n ∷ ns) = refl
 
-pub heads_behind : (ns : List Node) (p : ℕ) → 0 < p → p < length ns → (item_at (heads ns) p).key ≡ (item_at (node_at ns p).items 0).key
-heads_behind [] p some below = absurd (omega arith)
-heads_behind (n ∷ ns) zero some below = absurd (omega arith)
-heads_behind (n ∷ ns) (suc p) some below = ap (λ (x : Item). x.key) (get_or-map head_of ns p no_node no_item (omega arith))
+pub heads_after : (ns : List Node) (p : ℕ) → 0 < p → p < length ns → (item_at (heads ns) p).key ≡ (item_at (node_at ns p).items 0).key
+heads_after [] p some below = absurd (omega arith)
+heads_after (n ∷ ns) zero some below = absurd (omega arith)
+heads_after (n ∷ ns) (suc p) some below = ap (λ (x : Item). x.key) (get_or-map head_of ns p no_node no_item (omega arith))
 
 -- the key of a page is that of its first item
 pub head_key : (ns : List Node) (p : ℕ) → NoneEmpty ns → 0 < p → p < length ns → (item_at (heads ns) p).key ≡ (item_at (items_of ns) (before ns p)).key
 head_key ns p some pos below =
-    heads_behind ns p pos below
+    heads_after ns p pos below
     ∙ sym (ap (λ (i : ℕ). (item_at (items_of ns) i).key) (sym (add-zero (before ns p))) ∙ ap (λ (x : Item). x.key) (item_of_page ns p 0 below (some p below)))
 
-module _ (ns : List Node) (some : NoneEmpty ns) (rising : AreInKeyOrder (items_of ns)) where
+module _ (ns : List Node) (some : NoneEmpty ns) (ascending : AreInKeyOrder (items_of ns)) where
   before_rises : (i j : ℕ) → i ≤ j → j ≤ length ns → before ns i ≤ before ns j
   before_rises i zero order inside = let same : i ≡ 0 = omega arith in rw same (omega arith)
   before_rises i (suc j) order inside = elim (cases_eq i (suc j)) [
@@ -74,13 +74,13 @@ module _ (ns : List Node) (some : NoneEmpty ns) (rising : AreInKeyOrder (items_o
         omega (arith, before_rises i j (omega arith) (omega arith), more)
   ]
 
-  pub heads_rising : AreInKeyOrder (heads ns)
-  heads_rising i j order inside = elim (cases_eq i 0) [
+  pub heads_ascending : AreInKeyOrder (heads ns)
+  heads_ascending i j order inside = elim (cases_eq i 0) [
     | inl first ↦ ap (λ (m : ℕ). at_most (item_at (heads ns) m).key (item_at (heads ns) j).key) first ∙ ap (λ (x : List ℕ). at_most x (item_at (heads ns) j).key) (heads_first ns) ∙ nil_at_most (item_at (heads ns) j).key
     | inr other ↦
         let below : j < length ns = omega (arith, length-heads ns) in
         let last : before ns j < length (items_of ns) = omega (arith, page_fits ns j below, some j below) in
-        rw (head_key ns i some (omega (arith, other)) (omega arith), head_key ns j some (omega (arith, other)) below) (rising (before ns i) (before ns j) (before_rises i j order (omega arith)) last)
+        rw (head_key ns i some (omega (arith, other)) (omega arith), head_key ns j some (omega (arith, other)) below) (ascending (before ns i) (before ns j) (before_rises i j order (omega arith)) last)
   ]
 
   -- where page p is the last whose key is at most this one, its last such item is the last of all
@@ -100,15 +100,15 @@ module _ (ns : List Node) (some : NoneEmpty ns) (rising : AreInKeyOrder (items_o
         ]
       ]
     ];
-    above = λ q behind q_below. elim (cases_lt (j + 1) (length (node_at ns p).items)) [
+    above = λ q after q_below. elim (cases_lt (j + 1) (length (node_at ns p).items)) [
       | inl more ↦
-          above_from (items_of ns) key (before ns p + (j + 1)) rising
+          above_from (items_of ns) key (before ns p + (j + 1)) ascending
           (ap (λ (x : Item). at_most x.key key) (item_of_page ns p (j + 1) below more) ∙ next more) q (omega arith) q_below
       | inr ends ↦
           let here : before ns (p + 1) ≤ q = omega (arith, before_more ns p below) in
           elim (cases_lt (p + 1) (length ns)) [
             | inl inner ↦
-                above_from (items_of ns) key (before ns (p + 1)) rising
+                above_from (items_of ns) key (before ns (p + 1)) ascending
                 (ap (λ (x : List ℕ). at_most x key) (sym (head_key ns (p + 1) some (omega arith) inner)) ∙ place.above (p + 1) (omega arith) (omega (arith, length-heads ns))) q here q_below
             | inr last ↦ absurd (omega (arith, before_all ns (p + 1) last))
           ]

@@ -27,13 +27,13 @@ mod Low
 mod Pair
 mod PairLaws
 mod Swapped
-mod Owed
+mod Due
 mod PairOpen
 mod Copied
 mod Less
 mod InnerLess
-mod Mend
-mod MendEnds
+mod Rebalance
+mod RebalanceEnds
 mod InnerNamed
 mod Shift
 mod Fills
@@ -42,7 +42,7 @@ pub mod Listed
 pub mod MetLaws
 pub mod FormLaws
 pub mod WayLaws
-pub mod MendingLaws
+pub mod RebalancingLaws
 pub mod Listing
 pub mod WalkLaws
 mod Threads
@@ -55,11 +55,11 @@ mod LeavesLaws
 pub mod Unbroken
 pub mod Recorded
 mod Neighbours
-mod Evened
+mod Redistributed
 mod Freed
 mod Paired
-mod Noted
-mod ToNote
+mod KeyUpdated
+mod NeedsUpdate
 mod Found
 mod Replaced
 mod Renamed

@@ -50,7 +50,7 @@ inner_lists k page form = (
 )
 
 pub leaf_kinds : (e k : ℕ) (ys : List Item) (left right key : List ℕ) → IsHalves e k 1 ys left right key → (kind_of left ≢ 0) × (kind_of right ≢ 0)
-leaf_kinds e k ys left right key halves = (λ zero_left. omega (arith, zero_left, (halves.front.leaf refl).kind), λ zero_right. omega (arith, zero_right, (halves.back.leaf refl).kind))
+leaf_kinds e k ys left right key halves = (λ zero_left. omega (arith, zero_left, (halves.prefix.leaf refl).kind), λ zero_right. omega (arith, zero_right, (halves.back.leaf refl).kind))
 
 pub inner_kinds : (e k l : ℕ) (ys : List Item) (left right key : List ℕ) → 1 < l → IsHalves e k l ys left right key → (kind_of left ≢ 0) × (kind_of right ≢ 0)
-inner_kinds e k l ys left right key above halves = (λ zero_left. omega (arith, zero_left, (halves.front.inner above).kind), λ zero_right. omega (arith, zero_right, (halves.back.inner above).kind))
+inner_kinds e k l ys left right key above halves = (λ zero_left. omega (arith, zero_left, (halves.prefix.inner above).kind), λ zero_right. omega (arith, zero_right, (halves.back.inner above).kind))

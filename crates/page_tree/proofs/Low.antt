@@ -16,9 +16,9 @@ use Rattle.page_tree.specs.declared.error.TreeError.TheVariants.{Full, Malformed
 use Rattle.page_tree.proofs.Grown.{first_closed}
 use Rattle.page_tree.proofs.Order.{at_most_itself}
 use Rattle.std.proofs.lemmas.Nat.{mul-le, div-add-mod'}
-use Rattle.page_tree.proofs.Descent.{leaf, behind_in_leaf, first_leaf, rooted}
+use Rattle.page_tree.proofs.Descent.{leaf, after_in_leaf, first_leaf, rooted}
 use Rattle.page_tree.proofs.Carry.{begin_carry}
-use Rattle.page_tree.proofs.Edit.{rising_put}
+use Rattle.page_tree.proofs.Edit.{ascending_put}
 use Rattle.page_tree.proofs.Room.{room_left}
 use Rattle.page_tree.proofs.StepLaws.{put_bytes, split_bytes, can_take, free_within}
 
@@ -56,8 +56,8 @@ module _ (e k pages : ℕ) (b : List ℕ) (records : List (List ℕ)) (levels ro
   pos : ℕ
   pos = before (ready_now.nodes 1) (reached.place 1) + c
 
-  behind_key : GoesTo k records key (before (ready_now.nodes 1) (reached.place 1) + c)
-  behind_key = behind_in_leaf e k b records levels ready_now.nodes tower some key page paths index at reached c most low next
+  after_key : GoesTo k records key (before (ready_now.nodes 1) (reached.place 1) + c)
+  after_key = after_in_leaf e k b records levels ready_now.nodes tower some key page paths index at reached c most low next
 
   starts : (reached.place 1 ≡ 0) ⊎ (0 < c)
   starts = elim (cases_eq c 0) [
@@ -70,7 +70,7 @@ module _ (e k pages : ℕ) (b : List ℕ) (records : List (List ℕ)) (levels ro
   opened = record { stored = tower.stored; filled = tower.filled; chain = ready_now.chain; shared = ready_now.shared }
 
   order : AreInKeyOrder (map (record_item k) (insert records (before (ready_now.nodes 1) (reached.place 1) + c) r))
-  order = rising_put k records (before (ready_now.nodes 1) (reached.place 1) + c) r tower.rising (subst (λ (x : List ℕ). GoesTo k records x (before (ready_now.nodes 1) (reached.place 1) + c)) key_is behind_key)
+  order = ascending_put k records (before (ready_now.nodes 1) (reached.place 1) + c) r tower.ascending (subst (λ (x : List ℕ). GoesTo k records x (before (ready_now.nodes 1) (reached.place 1) + c)) key_is after_key)
 
   inside : c ≤ length (node_at (ready_now.nodes 1) (reached.place 1)).items
   inside = omega (arith, most, old_leaf.count)
@@ -83,8 +83,8 @@ module _ (e k pages : ℕ) (b : List ℕ) (records : List (List ℕ)) (levels ro
       let left = room_left e k b records levels ready_now.nodes tower widths ready_now.rooted.one (λ (l : ℕ) (some_l : 0 < l) (most_l : l ≤ levels). omega (arith, reached.path.inside l (omega arith) most_l)) pages nine some (omega (arith, ready_now.capacity)) in
       omega (arith, left, ready_now.shared.counted)
 
-  pub low_behind : (at_pos : ℕ) → at_pos ≡ before (ready_now.nodes 1) (reached.place 1) + c → GoesTo k records key at_pos
-  low_behind at_pos same = subst (λ (m : ℕ). GoesTo k records key m) (sym same) behind_key
+  pub low_after : (at_pos : ℕ) → at_pos ≡ before (ready_now.nodes 1) (reached.place 1) + c → GoesTo k records key at_pos
+  low_after at_pos same = subst (λ (m : ℕ). GoesTo k records key m) (sym same) after_key
 
   pub low_take : CanTake b ready_now.free first top pages
   low_take = can_take e k pages b levels ready_now.nodes ready_now.free first top opened ready_now.top_below 0 (omega arith) room
@@ -139,17 +139,17 @@ empty_open e k pages b records count root top first levels tree is none nine = (
     shared = subst (λ (m : ℕ). IsShared m tree.nodes tree.free top) tree_none (subst (λ (m : ℕ). IsShared tree.levels tree.nodes tree.free m) top_is tree.shared)
 
 pub first_put : (e k pages : ℕ) (b : List ℕ) (records : List (List ℕ)) (count root top first levels : ℕ) (tree : IsTree e k pages b records) → IsHead (page_at b 0) count root top first levels → levels ≡ 0 → 9 ≤ pages → 512 * pages ≤ length b
-    → (new above under : ℕ) → IsTaken b tree.free top under above new → new < pages → (r bytes : List ℕ) → length bytes ≡ 512 → IsLeaf e k bytes (record_item k r ∷ []) → (tells : List ℕ → Type 0) → tells (overwritten b (512 * new) bytes)
-    → IsPutIn e k pages tells records r 1 new under above
-first_put e k pages b records count root top first levels tree is none nine size new above under taken small r bytes long leaf_is tells told = record {
+    → (new above under : ℕ) → IsTaken b tree.free top under above new → new < pages → (r bytes : List ℕ) → length bytes ≡ 512 → IsLeaf e k bytes (record_item k r ∷ []) → (reveals : List ℕ → Type 0) → reveals (overwritten b (512 * new) bytes)
+    → IsPutIn e k pages reveals records r 1 new under above
+first_put e k pages b records count root top first levels tree is none nine size new above under taken small r bytes long leaf_is reveals revealed = record {
   now = overwritten b (512 * new) bytes;
-  told = told;
+  revealed = revealed;
   at = 0;
-  behind = record { within = omega arith; behind = record { below = λ j less. absurd (omega (arith, less)); above = λ j from below. absurd (omega (arith, below, ap length empty)) } };
+  after = record { within = omega arith; after = record { below = λ j less. absurd (omega (arith, less)); above = λ j from below. absurd (omega (arith, below, ap length empty)) } };
   some = omega arith;
   few = omega arith;
   closed = subst (λ (xs : List (List ℕ)). IsClosed e k pages (overwritten b (512 * new) bytes) (insert xs 0 r) 1 new under above) (sym empty)
-      (first_closed e k pages b r tree.nodes tree.free first top opened_now.0 opened_now.2 size new above under taken small bytes long leaf_is rising_one);
+      (first_closed e k pages b r tree.nodes tree.free first top opened_now.0 opened_now.2 size new above under taken small bytes long leaf_is ascending_one);
 }
   where
     opened_now : IsOpen e k b 0 tree.nodes tree.free first top × (records ≡ []) × (top < pages) × CanTake b tree.free first top pages
@@ -158,8 +158,8 @@ first_put e k pages b records count root top first levels tree is none nine size
     empty : records ≡ []
     empty = opened_now.1
 
-    rising_one : AreInKeyOrder (map (record_item k) (r ∷ []))
-    rising_one i j order below =
+    ascending_one : AreInKeyOrder (map (record_item k) (r ∷ []))
+    ascending_one i j order below =
         let i_none : i ≡ 0 = omega (arith, order, below) in
         let j_none : j ≡ 0 = omega (arith, below) in
         ap (λ (m : ℕ). at_most (item_at (record_item k r ∷ []) m).key (item_at (record_item k r ∷ []) j).key) i_none ∙ ap (λ (m : ℕ). at_most (take k r) (item_at (record_item k r ∷ []) m).key) j_none ∙ at_most_itself (take k r)
@@ -169,7 +169,7 @@ capacity_small e pages least few =
     let room : 24 * leaf_room e ≤ 504 = omega (arith, mul-le 24 (leaf_room e) e (leaf_room e) least (omega arith), div-add-mod' 504 e) in
     omega (arith, mul-le (leaf_room e / 2 - 1) (pages - 8) 10 (2 ^ 18) (omega (arith, room)) (omega (arith, few)))
 
-pub full_or : {X : Type 0} (e pages : ℕ) (tells : List ℕ → Type 0) (b : List ℕ) (records : List (List ℕ)) (error : TreeError X) → FromMemory error → FullOr e pages tells b records error
-full_or e pages tells b records Full h = absurd h
-full_or e pages tells b records (Malformed page) h = absurd h
-full_or e pages tells b records (Mem error) h = tt
+pub full_or : {X : Type 0} (e pages : ℕ) (reveals : List ℕ → Type 0) (b : List ℕ) (records : List (List ℕ)) (error : TreeError X) → FromMemory error → FullOr e pages reveals b records error
+full_or e pages reveals b records Full h = absurd h
+full_or e pages reveals b records (Malformed page) h = absurd h
+full_or e pages reveals b records (Mem error) h = tt

@@ -10,16 +10,16 @@ use Rattle.page_tree.specs.Met.{IsMetPath}
 
 -- a page that is met is a page of the bytes, at a level, and not the header
 pub met_low : (k : ℕ) (b : List ℕ) (l p : ℕ) → Meets k b l p → 1 ≤ l
-met_low k b l p (Meets.root _ _ is named low behind fits) = low
-met_low k b l p (Meets.child m q i _ _ met next low form inside is behind fits) = low
+met_low k b l p (Meets.root _ _ is named low after fits) = low
+met_low k b l p (Meets.child m q i _ _ met next low form inside is after fits) = low
 
-pub met_behind : (k : ℕ) (b : List ℕ) (l p : ℕ) → Meets k b l p → 1 ≤ p
-met_behind k b l p (Meets.root _ _ is named low behind fits) = behind
-met_behind k b l p (Meets.child m q i _ _ met next low form inside is behind fits) = behind
+pub met_after : (k : ℕ) (b : List ℕ) (l p : ℕ) → Meets k b l p → 1 ≤ p
+met_after k b l p (Meets.root _ _ is named low after fits) = after
+met_after k b l p (Meets.child m q i _ _ met next low form inside is after fits) = after
 
 pub met_fits : (k : ℕ) (b : List ℕ) (l p : ℕ) → Meets k b l p → 512 * p + 512 ≤ length b
-met_fits k b l p (Meets.root _ _ is named low behind fits) = fits
-met_fits k b l p (Meets.child m q i _ _ met next low form inside is behind fits) = fits
+met_fits k b l p (Meets.root _ _ is named low after fits) = fits
+met_fits k b l p (Meets.child m q i _ _ met next low form inside is after fits) = fits
 
 free_fits : (b : List ℕ) (n p : ℕ) → Frees b n p → 512 * p + 512 ≤ length b
 free_fits b n p (Frees.first _ _ start named fits) = fits
@@ -31,14 +31,14 @@ broken_fits e k pages b page some (Breaks.header is unlike) = omega (arith, is, 
 broken_fits e k pages b page some (Breaks.level l met low unlike) = met_fits k b l page met
 broken_fits e k pages b page some (Breaks.link l i met above form inside outside) = met_fits k b l page met
 broken_fits e k pages b page some (Breaks.twice l m low high less) = met_fits k b l page low
-broken_fits e k pages b page some (Breaks.free n was behind either) = free_fits b n page was
-broken_fits e k pages b page some (Breaks.used n l was behind met) = met_fits k b l page met
-broken_fits e k pages b page some (Breaks.again n m one two behind less) = free_fits b n page one
+broken_fits e k pages b page some (Breaks.free n was after either) = free_fits b n page was
+broken_fits e k pages b page some (Breaks.used n l was after met) = met_fits k b l page met
+broken_fits e k pages b page some (Breaks.again n m one two after less) = free_fits b n page one
 broken_fits e k pages b page some (Breaks.above either past) = elim either [
   | inl met ↦ met_fits k b met.0 page met.1
   | inr was ↦ free_fits b was.0 page was.1
 ]
-broken_fits e k pages b page some (Breaks.thin l met low below thin) = met_fits k b l page met
+broken_fits e k pages b page some (Breaks.underfull l met low below underfull) = met_fits k b l page met
 broken_fits e k pages b page some (Breaks.uncounted is level none) = omega (arith, is, some)
 broken_fits e k pages b page some (Breaks.few is less) = omega (arith, is, some)
 broken_fits e k pages b page some (Breaks.crowded is many) = omega (arith, is, some)
@@ -87,7 +87,7 @@ inner_form k b page at read kind some most = subst (IsInnerForm k) read (record 
 module _ (k : ℕ) (b : List ℕ) (levels l m root : ℕ) (pages index : List ℕ) (at c : ℕ) (path : IsMetPath k b levels l root pages index) (met : Meets k b l at) (form : IsInnerForm k (page_at b at)) (inside : c ≤ filled (page_at b at))
     (next : l ≡ m + 1) (some : 1 ≤ m) (most : l ≤ levels) (long : l < length pages) (long_index : l < length index) (starts : l ≡ levels → at ≡ root) where
   pub met_child : (child : ℕ) → child ≡ link_at k (page_at b at) c → 1 ≤ child → 512 * child + 512 ≤ length b → Meets k b m child
-  met_child child is behind fits = Meets.child l at c m child met next some form inside is behind fits
+  met_child child is after fits = Meets.child l at c m child met next some form inside is after fits
 
   page_same : (n : ℕ) → n ≡ l → get_or (set pages l at) n 0 ≡ at
   page_same n same = ap (λ (i : ℕ). get_or (set pages l at) i 0) same ∙ get_or-set_same pages l at 0 long

@@ -1,14 +1,14 @@
--- A page that may be too thin, and its neighbour under the same parent.
+-- A page that may be underfull, and its neighbour under the same parent.
 use Rattle.std.proofs.Common.{◌≡◌, ◌≢◌, inl, inr, ℕ, suc, ◌+◌, ◌-◌, ◌/◌, ◌<◌, ◌≤◌, List, ◌++◌, length, get_or, arith, refl, sym, ◌∙◌, ap, subst, length-append}
 use Rattle.page_tree.specs.Keys.{Item, item_at}
 use Rattle.page_tree.specs.Page.{page_at, filled, key_room, key_at, link_at, IsInner, IsPageOf, IsEnough}
 use Rattle.page_tree.specs.Tree.{Node, node_at, items_of, before, heads, uses}
-use Rattle.page_tree.specs.Owed.{swapped}
-use Rattle.page_tree.specs.Thin.{IsPending, IsPair}
-use Rattle.page_tree.specs.Mending.{AreNotAbove}
+use Rattle.page_tree.specs.Due.{swapped}
+use Rattle.page_tree.specs.Underfull.{IsPending, IsPair}
+use Rattle.page_tree.specs.Rebalancing.{AreNotAbove}
 use Rattle.page_tree.proofs.Changed.{used_once, apart}
 use Rattle.page_tree.proofs.Descent.{within_shared, rows_above}
-use Rattle.page_tree.proofs.Levels.{item_of_page, page_fits, before_more, length-heads, heads_page, heads_behind}
+use Rattle.page_tree.proofs.Levels.{item_of_page, page_fits, before_more, length-heads, heads_page, heads_after}
 use Rattle.page_tree.proofs.Shift.{edit_first, edit_second}
 
 enough_more : (e k l n : ℕ) → IsEnough e k l n → IsEnough e k l (n + 1)
@@ -17,13 +17,13 @@ enough_more e k l n enough = record { leaf = λ one. omega (arith, enough.leaf o
 module _ (e k pages : ℕ) (b : List ℕ) (records : List (List ℕ)) (levels level : ℕ) (paths index : List ℕ) (at : ℕ) (page : List ℕ) (root first top : ℕ)
     (pending : IsPending e k pages b records levels level paths index at page root first top) (some : 1 ≤ level) (under : level < levels) where
   abbrev nodes : ℕ → List Node
-  nodes = pending.mend.nodes
+  nodes = pending.rebalance.nodes
 
   abbrev q : ℕ
-  q = pending.mend.place (level + 1)
+  q = pending.rebalance.place (level + 1)
 
   abbrev home : ℕ
-  home = pending.mend.place level
+  home = pending.rebalance.place level
 
   abbrev parent : List Item
   parent = (node_at (nodes (level + 1)) q).items
@@ -32,38 +32,38 @@ module _ (e k pages : ℕ) (b : List ℕ) (records : List (List ℕ)) (levels le
   most = omega (arith, under)
 
   home_in : home < length (nodes level)
-  home_in = pending.mend.path.inside level (omega arith) most
+  home_in = pending.rebalance.path.inside level (omega arith) most
 
   parent_in : q < length (nodes (level + 1))
-  parent_in = pending.mend.path.inside (level + 1) (omega arith) (omega (arith, under))
+  parent_in = pending.rebalance.path.inside (level + 1) (omega arith) (omega (arith, under))
 
   up_is : get_or paths (level + 1) 0 ≡ (node_at (nodes (level + 1)) q).page
-  up_is = pending.mend.path.page (level + 1) (omega arith) (omega (arith, under))
+  up_is = pending.rebalance.path.page (level + 1) (omega arith) (omega (arith, under))
 
   pub up_in : (1 ≤ get_or paths (level + 1) 0) × (get_or paths (level + 1) 0 < pages)
   up_in =
-      let within = within_shared levels nodes pending.mend.free top pending.mend.opened.shared (level + 1) q (omega arith) (omega (arith, under)) parent_in in
-      (omega (arith, within.0, up_is), omega (arith, within.1, up_is, pending.mend.top_below))
+      let within = within_shared levels nodes pending.rebalance.free top pending.rebalance.opened.shared (level + 1) q (omega arith) (omega (arith, under)) parent_in in
+      (omega (arith, within.0, up_is), omega (arith, within.1, up_is, pending.rebalance.top_below))
 
   once : (n : ℕ) → uses n nodes levels ≤ 1
-  once n = omega (arith, used_once levels nodes pending.mend.free top pending.mend.opened.shared n)
+  once n = omega (arith, used_once levels nodes pending.rebalance.free top pending.rebalance.opened.shared n)
 
   -- the page above is no page of the level
-  pub up_apart : (i : ℕ) → i < length (pending.mend.nodes level) → get_or paths (level + 1) 0 ≢ (node_at (pending.mend.nodes level) i).page
+  pub up_apart : (i : ℕ) → i < length (pending.rebalance.nodes level) → get_or paths (level + 1) 0 ≢ (node_at (pending.rebalance.nodes level) i).page
   up_apart i below h =
       apart levels nodes once (level + 1) q level i (omega arith) (omega (arith, under)) some most parent_in below (λ (same : level + 1 ≡ level). absurd (omega (arith, same))) (sym up_is ∙ h)
 
   pub up_not_at : get_or paths (level + 1) 0 ≢ at
-  up_not_at h = up_apart home home_in (h ∙ pending.mend.path.here)
+  up_not_at h = up_apart home home_in (h ∙ pending.rebalance.path.here)
 
   -- nor is any page of the path above
-  pub path_apart : (l : ℕ) → level < l → l ≤ levels → (i : ℕ) → i < length (pending.mend.nodes level) → get_or paths l 0 ≢ (node_at (pending.mend.nodes level) i).page
+  pub path_apart : (l : ℕ) → level < l → l ≤ levels → (i : ℕ) → i < length (pending.rebalance.nodes level) → get_or paths l 0 ≢ (node_at (pending.rebalance.nodes level) i).page
   path_apart l above l_most i below h =
-      apart levels nodes once l (pending.mend.place l) level i (omega (arith, above)) l_most some most (pending.mend.path.inside l (omega (arith, above)) l_most) below (λ (same : l ≡ level). absurd (omega (arith, same, above)))
-      (sym (pending.mend.path.page l above l_most) ∙ h)
+      apart levels nodes once l (pending.rebalance.place l) level i (omega (arith, above)) l_most some most (pending.rebalance.path.inside l (omega (arith, above)) l_most) below (λ (same : l ≡ level). absurd (omega (arith, same, above)))
+      (sym (pending.rebalance.path.page l above l_most) ∙ h)
 
   listed : items_of (nodes (level + 1)) ≡ heads (nodes level)
-  listed = pending.mend.owed.listed level under (λ (h : level + 1 ≡ level). absurd (omega (arith, h))) ∙ rows_above k records nodes level (omega (arith, some))
+  listed = pending.rebalance.due.listed level under (λ (h : level + 1 ≡ level). absurd (omega (arith, h))) ∙ rows_above k records nodes level (omega (arith, some))
 
   -- a child of the page above
   child_in : (s : ℕ) → s < length parent → before (nodes (level + 1)) q + s < length (nodes level)
@@ -75,22 +75,22 @@ module _ (e k pages : ℕ) (b : List ℕ) (records : List (List ℕ)) (levels le
       ∙ heads_page (nodes level) (before (nodes (level + 1)) q + s) (child_in s inside)
 
   child_key : (s : ℕ) → 0 < s → s < length parent → (item_at parent s).key ≡ (item_at (node_at (nodes level) (before (nodes (level + 1)) q + s)).items 0).key
-  child_key s behind inside =
+  child_key s after inside =
       ap (λ (x : Item). x.key) (sym (item_of_page (nodes (level + 1)) q s parent_in inside)) ∙ ap (λ (xs : List Item). (item_at xs (before (nodes (level + 1)) q + s)).key) listed
-      ∙ heads_behind (nodes level) (before (nodes (level + 1)) q + s) (omega (arith, behind)) (child_in s inside)
+      ∙ heads_after (nodes level) (before (nodes (level + 1)) q + s) (omega (arith, after)) (child_in s inside)
 
   chosen : get_or index (level + 1) 0 < length parent
-  chosen = pending.mend.path.chosen (level + 1) (omega arith) (omega (arith, under))
+  chosen = pending.rebalance.path.chosen (level + 1) (omega arith) (omega (arith, under))
 
   home_is : home ≡ before (nodes (level + 1)) q + get_or index (level + 1) 0
-  home_is = pending.mend.path.below (level + 1) level refl (omega arith) (omega (arith, under))
+  home_is = pending.rebalance.path.below (level + 1) level refl (omega arith) (omega (arith, under))
 
   module _ (above : List ℕ) (above_is : above ≡ page_at b (get_or paths (level + 1) 0)) where
-    pub above_inner : IsInner k above (node_at (pending.mend.nodes (level + 1)) (pending.mend.place (level + 1))).items
+    pub above_inner : IsInner k above (node_at (pending.rebalance.nodes (level + 1)) (pending.rebalance.place (level + 1))).items
     above_inner =
-        let not_home : get_or paths (level + 1) 0 ≢ at = λ h. up_apart home home_in (h ∙ pending.mend.path.here) in
+        let not_home : get_or paths (level + 1) 0 ≢ at = λ h. up_apart home home_in (h ∙ pending.rebalance.path.here) in
         subst (λ (x : List ℕ). IsInner k x parent) (sym (above_is ∙ pending.others (get_or paths (level + 1) 0) up_in.0 not_home ∙ ap (page_at pending.was) up_is))
-        ((pending.mend.opened.stored (level + 1) q (omega arith) (omega (arith, under)) parent_in).inner (omega (arith, some)))
+        ((pending.rebalance.opened.stored (level + 1) q (omega arith) (omega (arith, under)) parent_in).inner (omega (arith, some)))
 
     pub above_index : get_or index (level + 1) 0 ≤ filled above
     above_index = omega (arith, chosen, above_inner.count)
@@ -99,7 +99,7 @@ module _ (e k pages : ℕ) (b : List ℕ) (records : List (List ℕ)) (levels le
     child_link s inside = sym (above_inner.links s inside) ∙ child_page s inside
 
     pub above_full : level + 1 < levels → key_room k / 2 ≤ filled above
-    above_full more = omega (arith, (pending.mend.opened.filled (level + 1) q (omega arith) more parent_in).inner (omega (arith, some)), above_inner.count)
+    above_full more = omega (arith, (pending.rebalance.opened.filled (level + 1) q (omega arith) more parent_in).inner (omega (arith, some)), above_inner.count)
 
     -- a child of the page above that is not the page itself: it is a page of the level as it was
     module _ (s : ℕ) (inside : s ≤ filled above) (other : s ≢ get_or index (level + 1) 0) where
@@ -108,74 +108,74 @@ module _ (e k pages : ℕ) (b : List ℕ) (records : List (List ℕ)) (levels le
 
       pub beside_in : (1 ≤ link_at k above s) × (link_at k above s < pages)
       beside_in =
-          let within = within_shared levels nodes pending.mend.free top pending.mend.opened.shared level (before (nodes (level + 1)) q + s) some most (child_in s s_in) in
-          (omega (arith, within.0, child_link s s_in), omega (arith, within.1, child_link s s_in, pending.mend.top_below))
+          let within = within_shared levels nodes pending.rebalance.free top pending.rebalance.opened.shared level (before (nodes (level + 1)) q + s) some most (child_in s s_in) in
+          (omega (arith, within.0, child_link s s_in), omega (arith, within.1, child_link s s_in, pending.rebalance.top_below))
 
       beside_apart : link_at k above s ≢ at
       beside_apart h =
           apart levels nodes once level (before (nodes (level + 1)) q + s) level home some most some most (child_in s s_in) home_in (λ (same : level ≡ level) (eq : before (nodes (level + 1)) q + s ≡ home). other (omega (arith, eq, home_is)))
-          (sym (child_link s s_in) ∙ h ∙ pending.mend.path.here)
+          (sym (child_link s s_in) ∙ h ∙ pending.rebalance.path.here)
 
-      pub beside_bytes : (beside : List ℕ) → beside ≡ page_at b (link_at k above s) → IsPageOf e k level beside (node_at (pending.mend.nodes level) (before (pending.mend.nodes (level + 1)) (pending.mend.place (level + 1)) + s)).items
+      pub beside_bytes : (beside : List ℕ) → beside ≡ page_at b (link_at k above s) → IsPageOf e k level beside (node_at (pending.rebalance.nodes level) (before (pending.rebalance.nodes (level + 1)) (pending.rebalance.place (level + 1)) + s)).items
       beside_bytes beside is =
           subst (λ (x : List ℕ). IsPageOf e k level x (node_at (nodes level) (before (nodes (level + 1)) q + s)).items)
           (sym (is ∙ pending.others (link_at k above s) beside_in.0 beside_apart ∙ ap (page_at pending.was) (child_link s s_in)))
-          (pending.mend.opened.stored level (before (nodes (level + 1)) q + s) some most (child_in s s_in))
+          (pending.rebalance.opened.stored level (before (nodes (level + 1)) q + s) some most (child_in s s_in))
 
       pub not_above : AreNotAbove paths level levels at (link_at k above s)
       not_above l l_above l_most =
-          ((λ (h : get_or paths l 0 ≡ at). path_apart l l_above l_most home home_in (h ∙ pending.mend.path.here)), (λ (h : get_or paths l 0 ≡ link_at k above s). path_apart l l_above l_most (before (nodes (level + 1)) q + s) (child_in s s_in) (h ∙ child_link s s_in)))
+          ((λ (h : get_or paths l 0 ≡ at). path_apart l l_above l_most home home_in (h ∙ pending.rebalance.path.here)), (λ (h : get_or paths l 0 ≡ link_at k above s). path_apart l l_above l_most (before (nodes (level + 1)) q + s) (child_in s s_in) (h ∙ child_link s s_in)))
 
       pub up_not_beside : get_or paths (level + 1) 0 ≢ link_at k above s
       up_not_beside h = up_apart (before (nodes (level + 1)) q + s) (child_in s s_in) (h ∙ child_link s s_in)
 
       beside_enough : IsEnough e k level (length (node_at (nodes level) (before (nodes (level + 1)) q + s)).items)
-      beside_enough = pending.mend.opened.filled level (before (nodes (level + 1)) q + s) some under (child_in s s_in)
+      beside_enough = pending.rebalance.opened.filled level (before (nodes (level + 1)) q + s) some under (child_in s s_in)
 
     -- the page is child `index` of the page above
     pub at_link : at ≡ link_at k above (get_or index (level + 1) 0)
     at_link =
-        pending.mend.path.here ∙ ap (λ (i : ℕ). (node_at (nodes level) i).page) home_is ∙ sym (child_link (get_or index (level + 1) 0) chosen)
+        pending.rebalance.path.here ∙ ap (λ (i : ℕ). (node_at (nodes level) i).page) home_is ∙ sym (child_link (get_or index (level + 1) 0) chosen)
 
     -- with the neighbour before it
     pub pair_left : (i left_at : ℕ) → i ≡ get_or index (level + 1) 0 → 0 < i → left_at ≡ link_at k above (i - 1) → (beside key : List ℕ) → beside ≡ page_at b left_at → key ≡ key_at k above (i - 1) → (1 < level → filled page < key_room k / 2)
         → IsPair e k pages b records levels level paths index left_at at i beside page key root first top
-    pair_left i left_at i_is behind left_is beside key beside_is key_is thin = record {
+    pair_left i left_at i_is after left_is beside key beside_is key_is underfull = record {
       was = pending.was;
       at = at;
       from = pending.slot;
       less = pending.less;
       its = pending.its;
-      mend = pending.mend;
+      rebalance = pending.rebalance;
       p = (before (nodes (level + 1)) q + (i - 1));
       j = length (node_at (nodes level) (before (nodes (level + 1)) q + (i - 1))).items + pending.slot;
       below = omega (arith, next, home_in);
-      place = omega (arith, pending.mend.pos_is, before_more (nodes level) (before (nodes (level + 1)) q + (i - 1)) (omega (arith, next, home_in)), ap (before (nodes level)) next_one);
+      place = omega (arith, pending.rebalance.pos_is, before_more (nodes level) (before (nodes (level + 1)) q + (i - 1)) (omega (arith, next, home_in)), ap (before (nodes level)) next_one);
       inside = omega (arith, pending.inside, length-append (node_at (nodes level) (before (nodes (level + 1)) q + (i - 1))).items (node_at (nodes level) (suc (before (nodes (level + 1)) q + (i - 1)))).items, ap (λ (m : ℕ). length (node_at (nodes level) m).items) (sym next));
       under = under;
-      listed = omega (arith, behind);
+      listed = omega (arith, after);
       left_is = left_is ∙ child_link (i - 1) (omega (arith, chosen, i_is));
-      right_is = pending.mend.path.here ∙ ap (λ (m : ℕ). (node_at (nodes level) m).page) (sym next);
+      right_is = pending.rebalance.path.here ∙ ap (λ (m : ℕ). (node_at (nodes level) m).page) (sym next);
       xs = (node_at (nodes level) (before (nodes (level + 1)) q + (i - 1))).items;
       ys = swapped (node_at (nodes level) home).items pending.slot pending.less pending.its;
       both = edit_second (node_at (nodes level) (before (nodes (level + 1)) q + (i - 1))).items (node_at (nodes level) home).items pending.slot (length (node_at (nodes level) (before (nodes (level + 1)) q + (i - 1))).items + pending.slot) pending.less pending.its refl
           ∙ ap (λ (m : ℕ). swapped ((node_at (nodes level) (before (nodes (level + 1)) q + (i - 1))).items ++ (node_at (nodes level) m).items) (length (node_at (nodes level) (before (nodes (level + 1)) q + (i - 1))).items + pending.slot) pending.less pending.its) (sym next);
-      left_bytes = beside_bytes (i - 1) (omega (arith, above_index, i_is)) (omega (arith, behind, i_is)) beside (beside_is ∙ ap (page_at b) left_is);
+      left_bytes = beside_bytes (i - 1) (omega (arith, above_index, i_is)) (omega (arith, after, i_is)) beside (beside_is ∙ ap (page_at b) left_is);
       right_bytes = pending.bytes;
       named = λ high. elim pending.keeps [
-        | inl none ↦ absurd (omega (arith, none, home_is, i_is, behind))
-        | inr same ↦ same ∙ ap (λ (m : ℕ). (item_at (node_at (nodes level) m).items 0).key) home_at ∙ sym (child_key i behind (omega (arith, chosen, i_is)))
-            ∙ ap (λ (m : ℕ). (item_at parent m).key) i_next ∙ above_inner.keys (i - 1) (omega (arith, chosen, i_is, behind)) ∙ sym key_is
+        | inl none ↦ absurd (omega (arith, none, home_is, i_is, after))
+        | inr same ↦ same ∙ ap (λ (m : ℕ). (item_at (node_at (nodes level) m).items 0).key) home_at ∙ sym (child_key i after (omega (arith, chosen, i_is)))
+            ∙ ap (λ (m : ℕ). (item_at parent m).key) i_next ∙ above_inner.keys (i - 1) (omega (arith, chosen, i_is, after)) ∙ sym key_is
       ];
       keeps = inr refl;
-      left_almost = enough_more e k level (length (node_at (nodes level) (before (nodes (level + 1)) q + (i - 1))).items) (beside_enough (i - 1) (omega (arith, above_index, i_is)) (omega (arith, behind, i_is)));
+      left_almost = enough_more e k level (length (node_at (nodes level) (before (nodes (level + 1)) q + (i - 1))).items) (beside_enough (i - 1) (omega (arith, above_index, i_is)) (omega (arith, after, i_is)));
       right_almost = pending.almost under;
-      thin = λ high. inr (thin high);
+      underfull = λ high. inr (underfull high);
       others = λ n some_n one two. pending.others n some_n two;
     }
       where
         next : suc (before (nodes (level + 1)) q + (i - 1)) ≡ home
-        next = omega (arith, home_is, i_is, behind)
+        next = omega (arith, home_is, i_is, after)
 
         next_one : (before (nodes (level + 1)) q + (i - 1)) + 1 ≡ home
         next_one = omega (arith, next)
@@ -184,26 +184,26 @@ module _ (e k pages : ℕ) (b : List ℕ) (records : List (List ℕ)) (levels le
         home_at = omega (arith, home_is, i_is)
 
         i_next : i ≡ (i - 1) + 1
-        i_next = omega (arith, behind)
+        i_next = omega (arith, after)
 
-    -- with the neighbour behind it
+    -- with the neighbour after it
     pub pair_right : (right_at : ℕ) → get_or index (level + 1) 0 ≡ 0 → right_at ≡ link_at k above 1 → (beside key : List ℕ) → beside ≡ page_at b right_at → key ≡ key_at k above 0 → (1 < level → filled page < key_room k / 2)
         → IsPair e k pages b records levels level paths index at right_at 1 page beside key root first top
-    pair_right right_at none right_is beside key beside_is key_is thin = record {
+    pair_right right_at none right_is beside key beside_is key_is underfull = record {
       was = pending.was;
       at = at;
       from = pending.slot;
       less = pending.less;
       its = pending.its;
-      mend = pending.mend;
+      rebalance = pending.rebalance;
       p = home;
       j = pending.slot;
       below = omega (arith, next, child_in 1 one_in);
-      place = pending.mend.pos_is;
+      place = pending.rebalance.pos_is;
       inside = omega (arith, pending.inside, length-append (node_at (nodes level) home).items (node_at (nodes level) (suc home)).items);
       under = under;
       listed = next;
-      left_is = pending.mend.path.here;
+      left_is = pending.rebalance.path.here;
       right_is = right_is ∙ child_link 1 one_in ∙ ap (λ (m : ℕ). (node_at (nodes level) m).page) (sym next);
       xs = swapped (node_at (nodes level) home).items pending.slot pending.less pending.its;
       ys = (node_at (nodes level) (suc home)).items;
@@ -214,7 +214,7 @@ module _ (e k pages : ℕ) (b : List ℕ) (records : List (List ℕ)) (levels le
       keeps = pending.keeps;
       left_almost = pending.almost under;
       right_almost = enough_more e k level (length (node_at (nodes level) (suc home)).items) (subst (λ (m : ℕ). IsEnough e k level (length (node_at (nodes level) m).items)) (sym next) (beside_enough 1 one_most one_other));
-      thin = λ high. inl (thin high);
+      underfull = λ high. inl (underfull high);
       others = λ n some_n one two. pending.others n some_n one;
     }
       where

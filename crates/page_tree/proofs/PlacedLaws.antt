@@ -6,7 +6,7 @@ use Rattle.flat_mem.specs.Order.{entry_at}
 use Rattle.page_tree.specs.Keys.{Item, no_item, item_at}
 use Rattle.page_tree.specs.Page.{page_at, filled, record_at, record_item, IsLeaf}
 use Rattle.page_tree.specs.Tree.{Node, node_at, before, pages_to, IsTower, IsShared, IsRooted}
-use Rattle.page_tree.specs.Standing.{IsStanding}
+use Rattle.page_tree.specs.SectorState.{IsSectorState}
 use Rattle.page_tree.specs.Path.{IsPath, leaf_under}
 use Rattle.page_tree.proofs.Levels.{item_of_page, page_fits, before_more, before_all}
 
@@ -46,13 +46,13 @@ few_leaves levels nodes free top pages shared some below = omega (arith, shared.
     first_level (suc zero) one = omega arith
     first_level (suc (suc l)) one = omega (arith, first_level (suc l) (omega arith))
 
--- what is left of an index behind the last leaf is no index of the list
+-- what is left of an index after the last leaf is no index of the list
 pub past_last : (e k : ℕ) (b : List ℕ) (records : List (List ℕ)) (levels : ℕ) (nodes : ℕ → List Node) → IsTower e k b records levels nodes → 0 < levels → (p rest i : ℕ) → p ≡ length (nodes 1) → i ≡ before (nodes 1) p + rest → length records ≤ i
 past_last e k b records levels nodes tower some p rest i all is = omega (arith, is, before_all (nodes 1) p (omega (arith, all)), ap length (tower.listed 0 some), length-map records (record_item k))
 
--- what is left of an index behind a leaf
-pub rest_behind : (ns : List Node) (p n rest i : ℕ) → p < length ns → n ≡ length (node_at ns p).items → n ≤ rest → i ≡ before ns p + rest → i ≡ before ns (p + 1) + (rest - n)
-rest_behind ns p n rest i below count not is = omega (arith, is, before_more ns p below, count, not)
+-- what is left of an index after a leaf
+pub rest_after : (ns : List Node) (p n rest i : ℕ) → p < length ns → n ≡ length (node_at ns p).items → n ≤ rest → i ≡ before ns p + rest → i ≡ before ns (p + 1) + (rest - n)
+rest_after ns p n rest i below count not is = omega (arith, is, before_more ns p below, count, not)
 
 -- the cost of a walk, and of one more step
 pub walks : (now next first cost steps : ℕ) → now ≤ first + steps * (11 * cost) → next ≤ now + 11 * cost → next ≤ first + (steps + 1) * (11 * cost)
@@ -62,8 +62,8 @@ pub walks_most : (now first start cost steps pages : ℕ) → now ≤ first + st
 walks_most now first start cost steps pages so_far begun few = omega (arith, so_far, begun, mul-le steps (11 * cost) pages (11 * cost) few (omega arith))
 
 -- the same tree in a memory of the same size
-abbrev pub standing_at : (e k s s' : ℕ) (b : List ℕ) (records : List (List ℕ)) (levels root first top : ℕ) → s ≡ s' → IsStanding e k (s / 512) b records levels root first top → IsStanding e k (s' / 512) b records levels root first top
-standing_at e k s s' b records levels root first top same here = record {
+abbrev pub sector_state_at : (e k s s' : ℕ) (b : List ℕ) (records : List (List ℕ)) (levels root first top : ℕ) → s ≡ s' → IsSectorState e k (s / 512) b records levels root first top → IsSectorState e k (s' / 512) b records levels root first top
+sector_state_at e k s s' b records levels root first top same here = record {
   nodes = here.nodes;
   free = here.free;
   rooted = subst (λ (n : ℕ). IsRooted e k (n / 512) b records levels root here.nodes) same here.rooted;

@@ -4,7 +4,7 @@ use Rattle.std.proofs.lemmas.List.{length-map, get_or-map}
 use Rattle.page_tree.specs.Keys.{Item, no_item, item_at}
 use Rattle.page_tree.specs.Page.{IsWidths, page_at, filled, record_at, record_item}
 use Rattle.page_tree.specs.Tree.{node_at, items_of, before, IsTree}
-use Rattle.page_tree.specs.Tells.{StandsIn}
+use Rattle.page_tree.specs.Reveals.{StandsIn}
 use Rattle.page_tree.proofs.Levels.{item_of_page, page_fits}
 use Rattle.page_tree.proofs.Unbroken.{met_node}
 

@@ -6,7 +6,7 @@ use Rattle.page_tree.specs.Keys.{Item, item_at}
 use Rattle.page_tree.specs.Page.{page_at, link_at, IsInner, IsPageOf, IsEnough}
 use Rattle.page_tree.specs.Tree.{Node, node_at, items_of, before, head_of}
 use Rattle.page_tree.specs.Change.{splice, with_level}
-use Rattle.page_tree.specs.Owed.{swapped}
+use Rattle.page_tree.specs.Due.{swapped}
 use Rattle.page_tree.specs.Path.{IsPath}
 use Rattle.page_tree.specs.Climb.{child_item}
 use Rattle.page_tree.specs.Named.{IsNaming, IsKept}
@@ -17,7 +17,7 @@ use Rattle.page_tree.proofs.Levels.{heads_first}
 use Rattle.page_tree.proofs.Swapped.{swapped_one}
 use Rattle.page_tree.proofs.InnerNamed.{spliced_other, inner_first, inner_named, length-inner_named}
 use Rattle.page_tree.proofs.Neighbours.{page_of_inner}
-use Rattle.page_tree.proofs.Mend.{mend_rename, mend_put}
+use Rattle.page_tree.proofs.Rebalance.{rebalance_rename, rebalance_put}
 
 -- one node for another of the same page and as many items
 splice_node : (ns : List Node) (p i : ℕ) (n : Node) → p < length ns → (node_at (splice ns p (n ∷ [])) i ≡ node_at ns i) ⊎ ((i ≡ p) × (node_at (splice ns p (n ∷ [])) i ≡ n))
@@ -104,22 +104,22 @@ first_swapped xs (suc p) its x none is = absurd (omega (arith, none))
 
 module _ (e k pages : ℕ) (v : List ℕ) (records : List (List ℕ)) (levels l : ℕ) (paths index : List ℕ) (at : ℕ) (key : List ℕ) (child root first top pos : ℕ) (xs : List Item)
     (naming : IsNaming e k pages v records levels l paths index at key child root first top pos xs) (high : 2 ≤ l) (most : l ≤ levels) (some_key : 1 ≤ k) (key_most : k ≤ 12) (width : length key ≡ k)
-    (page : List ℕ) (page_is : page ≡ page_at v (get_or paths l 0)) (chosen : get_or index l 0 < length (node_at (naming.mend.nodes l) (naming.mend.place l)).items)
+    (page : List ℕ) (page_is : page ≡ page_at v (get_or paths l 0)) (chosen : get_or index l 0 < length (node_at (naming.rebalance.nodes l) (naming.rebalance.place l)).items)
     (linked : child ≡ link_at k page (get_or index l 0)) where
   abbrev items : List Item
-  items = (node_at (naming.mend.nodes l) (naming.mend.place l)).items
+  items = (node_at (naming.rebalance.nodes l) (naming.rebalance.place l)).items
 
   abbrev q : ℕ
-  q = naming.mend.place l
+  q = naming.rebalance.place l
 
   abbrev slot : ℕ
   slot = get_or index l 0
 
-  q_in : q < length (naming.mend.nodes l)
-  q_in = naming.mend.path.inside l (omega arith) most
+  q_in : q < length (naming.rebalance.nodes l)
+  q_in = naming.rebalance.path.inside l (omega arith) most
 
   inner : IsInner k page items
-  inner = subst (λ (x : List ℕ). IsInner k x items) (sym (page_is ∙ ap (page_at v) naming.mend.path.here)) ((naming.mend.opened.stored l q (omega (arith, high)) most q_in).inner (omega (arith, high)))
+  inner = subst (λ (x : List ℕ). IsInner k x items) (sym (page_is ∙ ap (page_at v) naming.rebalance.path.here)) ((naming.rebalance.opened.stored l q (omega (arith, high)) most q_in).inner (omega (arith, high)))
 
   child_here : child ≡ (item_at items slot).page
   child_here = linked ∙ sym (inner.links slot chosen)
@@ -130,16 +130,16 @@ module _ (e k pages : ℕ) (v : List ℕ) (records : List (List ℕ)) (levels l 
   long_same : length (swapped items slot 1 naming.its) ≡ length items
   long_same = omega (arith, ap length swapped_is, length-splice items slot (child_item key child ∷ []) chosen)
 
-  some_pos : naming.mend.pos ≢ 0
+  some_pos : naming.rebalance.pos ≢ 0
   some_pos none =
       let under : l - 1 < levels = omega (arith, high, most) in
       let next : l - 1 + 1 ≡ l = omega (arith, high) in
-      let rows_are = naming.mend.owed.owed (l - 1) under next ∙ rows_above k records naming.mend.nodes (l - 1) (omega (arith, high)) in
-      let key_none : key ≡ [] = sym (ap (λ (x : Item). x.key) (first_swapped (items_of (naming.mend.nodes (l - 1 + 1))) naming.mend.pos naming.its (child_item key child) none naming.its_is)) ∙ ap (λ (ys : List Item). (item_at ys 0).key) rows_are ∙ heads_first (naming.mend.nodes (l - 1)) in
+      let rows_are = naming.rebalance.due.due (l - 1) under next ∙ rows_above k records naming.rebalance.nodes (l - 1) (omega (arith, high)) in
+      let key_none : key ≡ [] = sym (ap (λ (x : Item). x.key) (first_swapped (items_of (naming.rebalance.nodes (l - 1 + 1))) naming.rebalance.pos naming.its (child_item key child) none naming.its_is)) ∙ ap (λ (ys : List Item). (item_at ys 0).key) rows_are ∙ heads_first (naming.rebalance.nodes (l - 1)) in
       absurd (omega (arith, ap length key_none, width, some_key))
 
   enough : l < levels → IsEnough e k l (length items)
-  enough under = naming.mend.opened.filled l q (omega (arith, high)) under q_in
+  enough under = naming.rebalance.opened.filled l q (omega (arith, high)) under q_in
 
   enough_same : l < levels → IsEnough e k l (length (swapped items slot 1 naming.its))
   enough_same under = subst (IsEnough e k l) (sym long_same) (enough under)
@@ -148,27 +148,27 @@ module _ (e k pages : ℕ) (v : List ℕ) (records : List (List ℕ)) (levels l 
   module _ (none : get_or index l 0 ≡ 0) where
     some_q : 0 < q
     some_q = elim (cases_eq q 0) [
-      | inl zero_q ↦ absurd (some_pos (omega (arith, naming.mend.pos_is, none, ap (before (naming.mend.nodes l)) zero_q)))
+      | inl zero_q ↦ absurd (some_pos (omega (arith, naming.rebalance.pos_is, none, ap (before (naming.rebalance.nodes l)) zero_q)))
       | inr other ↦ omega (arith, other)
     ]
 
     pub naming_under : l < levels
     naming_under = elim (cases_lt l levels) [
       | inl less ↦ less
-      | inr not ↦ let top_level : levels ≡ l = omega (arith, not, most) in absurd (omega (arith, some_q, sym (ap naming.mend.place top_level) ∙ naming.mend.path.top))
+      | inr not ↦ let top_level : levels ≡ l = omega (arith, not, most) in absurd (omega (arith, some_q, sym (ap naming.rebalance.place top_level) ∙ naming.rebalance.path.top))
     ]
 
     pub naming_next : IsNaming e k pages v records levels (l + 1) paths index at key (get_or paths l 0) root first top pos xs
     naming_next = record {
       its = head_of n ∷ [];
       its_is = ap (λ (x : List ℕ). child_item x (get_or paths l 0) ∷ []) first_key;
-      mend = mend_rename e k pages v records levels l paths index (get_or paths l 0) slot 1 naming.its root first top naming.mend (omega (arith, high)) most v (omega (arith, chosen)) (record { page = get_or paths l 0; items = swapped items slot 1 naming.its }) naming.mend.path.here refl
+      rebalance = rebalance_rename e k pages v records levels l paths index (get_or paths l 0) slot 1 naming.its root first top naming.rebalance (omega (arith, high)) most v (omega (arith, chosen)) (record { page = get_or paths l 0; items = swapped items slot 1 naming.its }) naming.rebalance.path.here refl
           (subst (λ (x : List ℕ). IsPageOf e k l x (swapped items slot 1 naming.its)) page_is (page_of_inner e k l page (swapped items slot 1 naming.its) (omega (arith, high)) (subst (IsInner k page) (sym swapped_is)
-          (inner_first k page items (length items - 1) slot (child_item key child) inner (omega (arith, inner.count)) (omega (arith, chosen)) child_here none)))) enough_same (λ (n : ℕ) (some_n : 1 ≤ n) (other : n ≢ (node_at (naming.mend.nodes l) q).page). refl)
-          (get_or index (l + 1) 0) naming_under some_q (naming.mend.path.below (l + 1) l refl (omega arith) (omega (arith, naming_under)));
-      whole = path_whole naming.mend.nodes levels l paths index at naming.mend.place naming.whole (omega (arith, high)) most (record { page = get_or paths l 0; items = swapped items slot 1 naming.its }) naming.mend.path.here long_same;
-      items = ap (λ (ns : List Node). (node_at ns (naming.mend.place 1)).items) (level_other naming.mend.nodes l (splice (naming.mend.nodes l) q (n ∷ [])) 1 (omega (arith, high))) ∙ naming.items;
-      starts = ap (λ (ns : List Node). before ns (naming.mend.place 1)) (level_other naming.mend.nodes l (splice (naming.mend.nodes l) q (n ∷ [])) 1 (omega (arith, high))) ∙ naming.starts;
+          (inner_first k page items (length items - 1) slot (child_item key child) inner (omega (arith, inner.count)) (omega (arith, chosen)) child_here none)))) enough_same (λ (n : ℕ) (some_n : 1 ≤ n) (other : n ≢ (node_at (naming.rebalance.nodes l) q).page). refl)
+          (get_or index (l + 1) 0) naming_under some_q (naming.rebalance.path.below (l + 1) l refl (omega arith) (omega (arith, naming_under)));
+      whole = path_whole naming.rebalance.nodes levels l paths index at naming.rebalance.place naming.whole (omega (arith, high)) most (record { page = get_or paths l 0; items = swapped items slot 1 naming.its }) naming.rebalance.path.here long_same;
+      items = ap (λ (ns : List Node). (node_at ns (naming.rebalance.place 1)).items) (level_other naming.rebalance.nodes l (splice (naming.rebalance.nodes l) q (n ∷ [])) 1 (omega (arith, high))) ∙ naming.items;
+      starts = ap (λ (ns : List Node). before ns (naming.rebalance.place 1)) (level_other naming.rebalance.nodes l (splice (naming.rebalance.nodes l) q (n ∷ [])) 1 (omega (arith, high))) ∙ naming.starts;
     }
       where
         n : Node
@@ -180,22 +180,22 @@ module _ (e k pages : ℕ) (v : List ℕ) (records : List (List ℕ)) (levels l 
   -- the page has the key, and is written
   pub naming_done : 0 < get_or index l 0 → length page ≡ 512 → 512 * pages ≤ length v
       → IsKept e k pages (overwritten v (512 * get_or paths l 0) (overwritten page (8 + k * (get_or index l 0 - 1)) key)) records levels paths index at root first top pos xs
-  naming_done behind long size = record {
-    closed = mend_put e k pages v records levels l paths index (get_or paths l 0) slot 1 naming.its root first top naming.mend (omega (arith, high)) most (overwritten v (512 * get_or paths l 0) new) (omega (arith, chosen)) (record { page = get_or paths l 0; items = swapped items slot 1 naming.its }) naming.mend.path.here refl
+  naming_done after long size = record {
+    closed = rebalance_put e k pages v records levels l paths index (get_or paths l 0) slot 1 naming.its root first top naming.rebalance (omega (arith, high)) most (overwritten v (512 * get_or paths l 0) new) (omega (arith, chosen)) (record { page = get_or paths l 0; items = swapped items slot 1 naming.its }) naming.rebalance.path.here refl
         (subst (λ (x : List ℕ). IsPageOf e k l x (swapped items slot 1 naming.its)) (sym (page_same v new (get_or paths l 0) long_new fits)) (page_of_inner e k l new (swapped items slot 1 naming.its) (omega (arith, high)) (subst (IsInner k new) (sym swapped_is) named_inner)))
-        enough_same (λ (n : ℕ) (some_n : 1 ≤ n) (other : n ≢ (node_at (naming.mend.nodes l) q).page). page_other v new (get_or paths l 0) n long_new fits (λ (h : n ≡ get_or paths l 0). other (h ∙ naming.mend.path.here)))
-        (naming.mend.path.here, inr (ap (λ (ys : List Item). (item_at ys 0).key) swapped_is ∙ ap (λ (x : Item). x.key) (spliced_other items slot 0 (child_item key child) chosen (omega (arith, behind)))));
-    place = naming.mend.place;
-    whole = path_whole naming.mend.nodes levels l paths index at naming.mend.place naming.whole (omega (arith, high)) most (record { page = get_or paths l 0; items = swapped items slot 1 naming.its }) naming.mend.path.here long_same;
-    items = ap (λ (ns : List Node). (node_at ns (naming.mend.place 1)).items) (level_other naming.mend.nodes l (splice (naming.mend.nodes l) q (record { page = get_or paths l 0; items = swapped items slot 1 naming.its } ∷ [])) 1 (omega (arith, high))) ∙ naming.items;
-    starts = ap (λ (ns : List Node). before ns (naming.mend.place 1)) (level_other naming.mend.nodes l (splice (naming.mend.nodes l) q (record { page = get_or paths l 0; items = swapped items slot 1 naming.its } ∷ [])) 1 (omega (arith, high))) ∙ naming.starts;
+        enough_same (λ (n : ℕ) (some_n : 1 ≤ n) (other : n ≢ (node_at (naming.rebalance.nodes l) q).page). page_other v new (get_or paths l 0) n long_new fits (λ (h : n ≡ get_or paths l 0). other (h ∙ naming.rebalance.path.here)))
+        (naming.rebalance.path.here, inr (ap (λ (ys : List Item). (item_at ys 0).key) swapped_is ∙ ap (λ (x : Item). x.key) (spliced_other items slot 0 (child_item key child) chosen (omega (arith, after)))));
+    place = naming.rebalance.place;
+    whole = path_whole naming.rebalance.nodes levels l paths index at naming.rebalance.place naming.whole (omega (arith, high)) most (record { page = get_or paths l 0; items = swapped items slot 1 naming.its }) naming.rebalance.path.here long_same;
+    items = ap (λ (ns : List Node). (node_at ns (naming.rebalance.place 1)).items) (level_other naming.rebalance.nodes l (splice (naming.rebalance.nodes l) q (record { page = get_or paths l 0; items = swapped items slot 1 naming.its } ∷ [])) 1 (omega (arith, high))) ∙ naming.items;
+    starts = ap (λ (ns : List Node). before ns (naming.rebalance.place 1)) (level_other naming.rebalance.nodes l (splice (naming.rebalance.nodes l) q (record { page = get_or paths l 0; items = swapped items slot 1 naming.its } ∷ [])) 1 (omega (arith, high))) ∙ naming.starts;
   }
     where
       new : List ℕ
       new = overwritten page (8 + k * (slot - 1)) key
 
       slot_next : slot ≡ slot - 1 + 1
-      slot_next = omega (arith, behind)
+      slot_next = omega (arith, after)
 
       named_inner : IsInner k new (splice items slot (child_item key child ∷ []))
       named_inner = inner_named k page items (length items - 1) slot (child_item key child) inner (omega (arith, inner.count)) (omega (arith, chosen)) child_here some_key key_most long (slot - 1) slot_next width
@@ -205,8 +205,8 @@ module _ (e k pages : ℕ) (v : List ℕ) (records : List (List ℕ)) (levels l 
 
       up_small : get_or paths l 0 < pages
       up_small =
-          let within = within_shared levels naming.mend.nodes naming.mend.free top naming.mend.opened.shared l q (omega (arith, high)) most q_in in
-          omega (arith, within.1, naming.mend.path.here, naming.mend.top_below)
+          let within = within_shared levels naming.rebalance.nodes naming.rebalance.free top naming.rebalance.opened.shared l q (omega (arith, high)) most q_in in
+          omega (arith, within.1, naming.rebalance.path.here, naming.rebalance.top_below)
 
       fits : 512 * get_or paths l 0 + 512 ≤ length v
       fits = omega (arith, up_small, size)

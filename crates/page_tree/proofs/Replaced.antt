@@ -12,10 +12,10 @@ use Rattle.page_tree.specs.Keys.{Item, no_item, item_at, at_most, AreInKeyOrder}
 use Rattle.page_tree.specs.Page.{leaf_room, filled, record_at, record_item, IsLeaf}
 use Rattle.page_tree.specs.Tree.{before}
 use Rattle.page_tree.specs.Change.{splice, without}
-use Rattle.page_tree.specs.Owed.{swapped, IsOwed}
+use Rattle.page_tree.specs.Due.{swapped, IsDue}
 use Rattle.page_tree.specs.Path.{IsPath}
-use Rattle.page_tree.specs.Standing.{IsStanding}
-use Rattle.page_tree.specs.Mend.{IsMend}
+use Rattle.page_tree.specs.SectorState.{IsSectorState}
+use Rattle.page_tree.specs.Rebalance.{IsRebalance}
 use Rattle.page_tree.proofs.Cells.{kind_kept}
 use Rattle.page_tree.proofs.Changed.{length-splice}
 use Rattle.page_tree.proofs.InnerNamed.{spliced_here, spliced_other}
@@ -24,15 +24,15 @@ use Rattle.page_tree.specs.Page.{IsWidths, page_at, IsBlank, IsEnough}
 use Rattle.page_tree.specs.Tree.{node_at, IsChain, IsShared, IsTower, IsTree}
 use Rattle.page_tree.specs.Put.{capacity_of}
 use Rattle.page_tree.specs.Climb.{IsHead, IsClosed}
-use Rattle.page_tree.specs.Thin.{IsPending}
-use Rattle.page_tree.proofs.Owed.{begin_owed, begin_lack}
-use Rattle.page_tree.proofs.MendEnds.{map_without, rising_without}
+use Rattle.page_tree.specs.Underfull.{IsPending}
+use Rattle.page_tree.proofs.Due.{begin_due, begin_lack}
+use Rattle.page_tree.proofs.RebalanceEnds.{map_without, ascending_without}
 use Rattle.page_tree.proofs.Order.{at_most_itself}
 use Rattle.page_tree.proofs.Descent.{rooted}
 use Rattle.page_tree.proofs.PlacedLaws.{placed_leaf, placed_below, placed_record}
 use Rattle.page_tree.proofs.Neighbours.{page_of_leaf}
 use Rattle.page_tree.proofs.Once.{page_other}
-use Rattle.page_tree.proofs.Noted.{pending_closed}
+use Rattle.page_tree.proofs.KeyUpdated.{pending_closed}
 
 -- the words of lists
 pub removed_is : {X : Type 0} (xs : List X) (p : ℕ) → p < length xs → remove xs p ≡ without xs p
@@ -80,16 +80,16 @@ module _ (e k : ℕ) (page : List ℕ) (xs : List Item) (at : ℕ) (entry : List
       ]
 
 -- an item that stands between its neighbours
-pub rising_between : (xs : List Item) (p : ℕ) (x : Item) → AreInKeyOrder xs → p < length xs → ((q : ℕ) → q < p → at_most (item_at xs q).key x.key ≡ true) → ((q : ℕ) → p < q → q < length xs → at_most x.key (item_at xs q).key ≡ true) → at_most x.key x.key ≡ true
+pub ascending_between : (xs : List Item) (p : ℕ) (x : Item) → AreInKeyOrder xs → p < length xs → ((q : ℕ) → q < p → at_most (item_at xs q).key x.key ≡ true) → ((q : ℕ) → p < q → q < length xs → at_most x.key (item_at xs q).key ≡ true) → at_most x.key x.key ≡ true
     → AreInKeyOrder (splice xs p (x ∷ []))
-rising_between xs p x rising below low high itself i j order inside = elim (cases_eq i p) [
+ascending_between xs p x ascending below low high itself i j order inside = elim (cases_eq i p) [
   | inl i_is ↦ elim (cases_eq j p) [
     | inl j_is ↦ let a = spliced_here xs p i x below i_is in let c = spliced_here xs p j x below j_is in rw (a, c) itself
     | inr j_not ↦ let a = spliced_here xs p i x below i_is in let c = spliced_other xs p j x below j_not in rw (a, c) (high j (omega (arith, order, i_is, j_not)) (omega (arith, inside, long)))
   ]
   | inr i_not ↦ elim (cases_eq j p) [
     | inl j_is ↦ let a = spliced_other xs p i x below i_not in let c = spliced_here xs p j x below j_is in rw (a, c) (low i (omega (arith, order, j_is, i_not)))
-    | inr j_not ↦ let a = spliced_other xs p i x below i_not in let c = spliced_other xs p j x below j_not in rw (a, c) (rising i j order (omega (arith, inside, long)))
+    | inr j_not ↦ let a = spliced_other xs p i x below i_not in let c = spliced_other xs p j x below j_not in rw (a, c) (ascending i j order (omega (arith, inside, long)))
   ]
 ]
   where
@@ -97,21 +97,21 @@ rising_between xs p x rising below low high itself i j order inside = elim (case
     long = omega (arith, length-splice xs p (x ∷ []) below)
 
 -- a record is to be replaced
-abbrev pub begin_set : (e k pages : ℕ) (b : List ℕ) (records : List (List ℕ)) (levels root first top : ℕ) (ready : IsStanding e k pages b records levels root first top)
+abbrev pub begin_set : (e k pages : ℕ) (b : List ℕ) (records : List (List ℕ)) (levels root first top : ℕ) (ready : IsSectorState e k pages b records levels root first top)
     (paths index : List ℕ) (home : ℕ) (place : ℕ → ℕ) → IsPath ready.nodes levels 1 paths index home place → (pos slot : ℕ) (entry : List ℕ) → pos < length records → pos ≡ before (ready.nodes 1) (place 1) + slot
     → ((q : ℕ) → q < pos → at_most (key_at k records q) (take k entry) ≡ true) → ((q : ℕ) → pos < q → q < length records → at_most (take k entry) (key_at k records q) ≡ true) → at_most (take k entry) (take k entry) ≡ true
-    → IsMend e k pages b (slice_set records pos entry) levels 1 paths index home slot 1 (record_item k entry ∷ []) root first top
+    → IsRebalance e k pages b (slice_set records pos entry) levels 1 paths index home slot 1 (record_item k entry ∷ []) root first top
 begin_set e k pages b records levels root first top ready paths index home place path pos slot entry below is low high itself = record {
   nodes = ready.nodes;
   free = ready.free;
   place = place;
   pos = pos;
   opened = record { stored = ready.rooted.tower.stored; filled = ready.rooted.tower.filled; chain = ready.chain; shared = ready.shared };
-  owed = subst (λ (xs : List (List ℕ)). IsOwed k xs levels ready.nodes 1 pos 1 (record_item k entry ∷ [])) (sym (set_is records pos entry below)) (begin_owed k records levels ready.nodes pos 1 (entry ∷ []) ready.rooted.tower.listed);
+  due = subst (λ (xs : List (List ℕ)). IsDue k xs levels ready.nodes 1 pos 1 (record_item k entry ∷ [])) (sym (set_is records pos entry below)) (begin_due k records levels ready.nodes pos 1 (entry ∷ []) ready.rooted.tower.listed);
   path = path;
   pos_is = is;
   order = subst AreInKeyOrder (sym items_are)
-      (rising_between (map (record_item k) records) pos (record_item k entry) ready.rooted.tower.rising (omega (arith, below, long))
+      (ascending_between (map (record_item k) records) pos (record_item k entry) ready.rooted.tower.ascending (omega (arith, below, long))
       (λ (q : ℕ) (less : q < pos). ap (λ (x : Item). at_most x.key (take k entry)) (item q (omega (arith, less, below))) ∙ low q less)
       (λ (q : ℕ) (more : pos < q) (inside : q < length (map (record_item k) records)). ap (λ (x : Item). at_most (take k entry) x.key) (item q (omega (arith, inside, long))) ∙ high q more (omega (arith, inside, long)))
       itself);
@@ -130,27 +130,27 @@ begin_set e k pages b records levels root first top ready paths index home place
     items_are = ap (map (record_item k)) (set_is records pos entry below) ∙ map_swapped (record_item k) records pos 1 (entry ∷ []) ∙ swapped_one (map (record_item k) records) pos (record_item k entry ∷ []) (omega (arith, below, long))
 
 -- a record is to be taken out
-abbrev pub begin_out : (e k pages : ℕ) (b : List ℕ) (records : List (List ℕ)) (levels root first top : ℕ) (standing : IsStanding e k pages b records levels root first top)
-    (paths index : List ℕ) (home : ℕ) (place : ℕ → ℕ) → IsPath standing.nodes levels 1 paths index home place → (pos slot : ℕ) → pos < length records → pos ≡ before (standing.nodes 1) (place 1) + slot
-    → IsMend e k pages b (remove records pos) levels 1 paths index home slot 1 [] root first top
-begin_out e k pages b records levels root first top standing paths index home place path pos slot below is = record {
-  nodes = standing.nodes;
-  free = standing.free;
+abbrev pub begin_out : (e k pages : ℕ) (b : List ℕ) (records : List (List ℕ)) (levels root first top : ℕ) (sector_state : IsSectorState e k pages b records levels root first top)
+    (paths index : List ℕ) (home : ℕ) (place : ℕ → ℕ) → IsPath sector_state.nodes levels 1 paths index home place → (pos slot : ℕ) → pos < length records → pos ≡ before (sector_state.nodes 1) (place 1) + slot
+    → IsRebalance e k pages b (remove records pos) levels 1 paths index home slot 1 [] root first top
+begin_out e k pages b records levels root first top sector_state paths index home place path pos slot below is = record {
+  nodes = sector_state.nodes;
+  free = sector_state.free;
   place = place;
   pos = pos;
-  opened = record { stored = standing.rooted.tower.stored; filled = standing.rooted.tower.filled; chain = standing.chain; shared = standing.shared };
-  owed = subst (λ (xs : List (List ℕ)). IsOwed k xs levels standing.nodes 1 pos 1 []) (sym (removed_is records pos below)) (begin_lack k records levels standing.nodes pos below standing.rooted.tower.listed);
+  opened = record { stored = sector_state.rooted.tower.stored; filled = sector_state.rooted.tower.filled; chain = sector_state.chain; shared = sector_state.shared };
+  due = subst (λ (xs : List (List ℕ)). IsDue k xs levels sector_state.nodes 1 pos 1 []) (sym (removed_is records pos below)) (begin_lack k records levels sector_state.nodes pos below sector_state.rooted.tower.listed);
   path = path;
   pos_is = is;
   order = subst AreInKeyOrder (sym (ap (map (record_item k)) (removed_is records pos below) ∙ map_without (record_item k) records pos below))
-      (rising_without (map (record_item k) records) pos standing.rooted.tower.rising (omega (arith, below, length-map records (record_item k))));
-  one = standing.rooted.one;
-  root_is = standing.rooted.root_is;
-  top_below = standing.top_below;
+      (ascending_without (map (record_item k) records) pos sector_state.rooted.tower.ascending (omega (arith, below, length-map records (record_item k))));
+  one = sector_state.rooted.one;
+  root_is = sector_state.rooted.root_is;
+  top_below = sector_state.top_below;
 }
 
-pub standing : (e k pages : ℕ) (b : List ℕ) (records : List (List ℕ)) (count root top first levels : ℕ) (tree : IsTree e k pages b records) → IsHead (page_at b 0) count root top first levels → 0 < levels → IsStanding e k pages b records levels root first top
-standing e k pages b records count root top first levels tree is some = record {
+pub sector_state : (e k pages : ℕ) (b : List ℕ) (records : List (List ℕ)) (count root top first levels : ℕ) (tree : IsTree e k pages b records) → IsHead (page_at b 0) count root top first levels → 0 < levels → IsSectorState e k pages b records levels root first top
+sector_state e k pages b records count root top first levels tree is some = record {
   nodes = tree.nodes;
   free = tree.free;
   rooted = rooted e k pages b records tree levels root (sym is.levels_is) (sym is.root_is) some;
@@ -182,7 +182,7 @@ tree_still e k pages c records levels root first top closed some few is blank ca
   };
   tower = record {
     none = λ none. absurd (omega (arith, none, some));
-    rising = closed.order;
+    ascending = closed.order;
     listed = closed.listed;
     stored = closed.opened.stored;
     filled = closed.opened.filled;
@@ -193,7 +193,7 @@ tree_still e k pages c records levels root first top closed some few is blank ca
 }
 
 -- a record of the leaf is another with the same key: what is to be written
-module _ (e k pages : ℕ) (b : List ℕ) (records : List (List ℕ)) (levels root first top : ℕ) (here : IsStanding e k pages b records levels root first top) (widths : IsWidths e k) (some : 0 < levels)
+module _ (e k pages : ℕ) (b : List ℕ) (records : List (List ℕ)) (levels root first top : ℕ) (here : IsSectorState e k pages b records levels root first top) (widths : IsWidths e k) (some : 0 < levels)
     (page paths index : List ℕ) (at : ℕ) (home : ℕ → ℕ) (path : IsPath here.nodes levels 1 paths index at home) (read : page ≡ page_at b (node_at (here.nodes 1) (home 1)).page) (place : ℕ) (place_here : place < filled page) (long : length page ≡ 512) where
   abbrev pos : ℕ
   pos = before (here.nodes 1) (home 1) + place
@@ -217,7 +217,7 @@ module _ (e k pages : ℕ) (b : List ℕ) (records : List (List ℕ)) (levels ro
   rises q r order inside =
       sym (ap (λ (x : Item). at_most x.key (item_at (map (record_item k) records) r).key) (get_or-map (record_item k) records q [] no_item (omega (arith, order, inside)))
       ∙ ap (λ (x : Item). at_most (key_at k records q) x.key) (get_or-map (record_item k) records r [] no_item inside))
-      ∙ tower.rising q r order (omega (arith, inside, length-map records (record_item k)))
+      ∙ tower.ascending q r order (omega (arith, inside, length-map records (record_item k)))
 
   pub set_pending : (entry : List ℕ) → length entry ≡ e → take k entry ≡ take k (record_at e page place)
       → IsPending e k pages b (slice_set records (before (here.nodes 1) (home 1) + place) entry) levels 1 paths index at (overwritten page (8 + e * place) entry) root first top
@@ -226,7 +226,7 @@ module _ (e k pages : ℕ) (b : List ℕ) (records : List (List ℕ)) (levels ro
     slot = place;
     less = 1;
     its = record_item k entry ∷ [];
-    mend = begin_set e k pages b records levels root first top here paths index at home path pos place entry pos_below refl
+    rebalance = begin_set e k pages b records levels root first top here paths index at home path pos place entry pos_below refl
         (λ (q : ℕ) (less : q < pos). ap (at_most (key_at k records q)) key_same ∙ rises q pos (omega (arith, less)) pos_below)
         (λ (q : ℕ) (more : pos < q) (inside : q < length records). ap (λ (x : List ℕ). at_most x (key_at k records q)) key_same ∙ rises pos q (omega (arith, more)) inside)
         (at_most_itself (take k entry));

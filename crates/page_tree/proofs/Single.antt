@@ -8,12 +8,12 @@ use Rattle.page_tree.specs.Tree.{node_at, IsTree}
 use Rattle.page_tree.specs.Open.{IsOpen}
 use Rattle.page_tree.specs.Path.{IsPath}
 use Rattle.page_tree.specs.Removed.{IsLastOf, NoneOf}
-use Rattle.page_tree.specs.Standing.{IsStanding}
+use Rattle.page_tree.specs.SectorState.{IsSectorState}
 use Rattle.page_tree.specs.Out.{IsBare, IsOut}
 use Rattle.page_tree.specs.Climb.{IsClosed}
 use Rattle.page_tree.proofs.Once.{page_same, page_other}
 use Rattle.page_tree.proofs.PlacedLaws.{placed_leaf}
-use Rattle.page_tree.proofs.MendEnds.{items_one}
+use Rattle.page_tree.proofs.RebalanceEnds.{items_one}
 use Rattle.page_tree.proofs.Neighbours.{leaf_room_least}
 use Rattle.page_tree.proofs.PairOpen.{open_shrink}
 
@@ -23,7 +23,7 @@ one_gone (x ∷ []) zero one below = refl
 one_gone (x ∷ []) (suc i) one below = absurd (omega (arith, below))
 one_gone (x ∷ y ∷ xs) i one below = absurd (omega (arith, one))
 
-module _ (e k pages : ℕ) (b : List ℕ) (records : List (List ℕ)) (levels root first top : ℕ) (here : IsStanding e k pages b records levels root first top) (widths : IsWidths e k) (some : 0 < levels)
+module _ (e k pages : ℕ) (b : List ℕ) (records : List (List ℕ)) (levels root first top : ℕ) (here : IsSectorState e k pages b records levels root first top) (widths : IsWidths e k) (some : 0 < levels)
     (page paths index : List ℕ) (at : ℕ) (home : ℕ → ℕ) (path : IsPath here.nodes levels 1 paths index at home) (read : page ≡ page_at b (node_at (here.nodes 1) (home 1)).page) (one : filled page ≡ 1) where
   leaf_here : IsLeaf e k page (node_at (here.nodes 1) (home 1)).items
   leaf_here = placed_leaf e k b records levels here.nodes here.rooted.tower some page paths index at home path read
@@ -74,19 +74,19 @@ module _ (e k pages : ℕ) (b : List ℕ) (records : List (List ℕ)) (levels ro
           let within = here.rooted.within levels 0 some (omega arith) (omega (arith, here.rooted.one)) in
           omega (arith, within.1, at_is, size)
 
-pub out_true : (e k pages : ℕ) (tells : List ℕ → Type 0) (b : List ℕ) (xs : List (List ℕ)) (key : List ℕ) (levels root first top : ℕ) (found : Bool) → found ≡ true → IsOut e k pages tells b xs key levels root first top found
-    → (i : ℕ) × IsLastOf k xs key i × (c : List ℕ) × tells c × (((1 ≤ levels) × IsClosed e k pages c (remove xs i) levels root first top) ⊎ IsBare e k pages c (remove xs i) levels root first top)
-out_true e k pages tells b xs key levels root first top true is out = out
-out_true e k pages tells b xs key levels root first top false is out = absurd (false≢true is)
+pub out_true : (e k pages : ℕ) (reveals : List ℕ → Type 0) (b : List ℕ) (xs : List (List ℕ)) (key : List ℕ) (levels root first top : ℕ) (found : Bool) → found ≡ true → IsOut e k pages reveals b xs key levels root first top found
+    → (i : ℕ) × IsLastOf k xs key i × (c : List ℕ) × reveals c × (((1 ≤ levels) × IsClosed e k pages c (remove xs i) levels root first top) ⊎ IsBare e k pages c (remove xs i) levels root first top)
+out_true e k pages reveals b xs key levels root first top true is out = out
+out_true e k pages reveals b xs key levels root first top false is out = absurd (false≢true is)
 
-pub out_false : (e k pages : ℕ) (tells : List ℕ → Type 0) (b : List ℕ) (xs : List (List ℕ)) (key : List ℕ) (levels root first top : ℕ) (found : Bool) → found ≡ false → IsOut e k pages tells b xs key levels root first top found → NoneOf k xs key × tells b
-out_false e k pages tells b xs key levels root first top false is out = out
-out_false e k pages tells b xs key levels root first top true is out = absurd (false≢true (sym is))
+pub out_false : (e k pages : ℕ) (reveals : List ℕ → Type 0) (b : List ℕ) (xs : List (List ℕ)) (key : List ℕ) (levels root first top : ℕ) (found : Bool) → found ≡ false → IsOut e k pages reveals b xs key levels root first top found → NoneOf k xs key × reveals b
+out_false e k pages reveals b xs key levels root first top false is out = out
+out_false e k pages reveals b xs key levels root first top true is out = absurd (false≢true (sym is))
 
 pub bare_at : (e k pages : ℕ) (c : List ℕ) (records : List (List ℕ)) (levels root first top levels' root' first' top' : ℕ) → levels ≡ levels' → root ≡ root' → first ≡ first' → top ≡ top' → IsBare e k pages c records levels root first top → IsBare e k pages c records levels' root' first' top'
 bare_at e k pages c records levels root first top levels' root' first' top' same same_root same_first same_top bare =
     subst (λ (m : ℕ). IsBare e k pages c records m root' first' top') same (subst (λ (m : ℕ). IsBare e k pages c records levels m first' top') same_root
     (subst (λ (m : ℕ). IsBare e k pages c records levels root m top') same_first (subst (λ (m : ℕ). IsBare e k pages c records levels root first m) same_top bare)))
 
-pub empty_told : (e k pages : ℕ) (tells : List ℕ → Type 0) (records : List (List ℕ)) → [] ≡ records → (x : List ℕ) × tells x × IsTree e k pages x [] → (x : List ℕ) × tells x × IsTree e k pages x records
-empty_told e k pages tells records same empty = (empty.0, empty.1, subst (IsTree e k pages empty.0) same empty.2)
+pub empty_revealed : (e k pages : ℕ) (reveals : List ℕ → Type 0) (records : List (List ℕ)) → [] ≡ records → (x : List ℕ) × reveals x × IsTree e k pages x [] → (x : List ℕ) × reveals x × IsTree e k pages x records
+empty_revealed e k pages reveals records same empty = (empty.0, empty.1, subst (IsTree e k pages empty.0) same empty.2)

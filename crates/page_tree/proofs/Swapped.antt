@@ -5,7 +5,7 @@ use Rattle.std.proofs.lemmas.List.Concat.{flat_map-append}
 use Rattle.page_tree.specs.Keys.{Item}
 use Rattle.page_tree.specs.Tree.{Node, node_at, items_of, before, head_of, heads}
 use Rattle.page_tree.specs.Change.{splice, splice_two}
-use Rattle.page_tree.specs.Owed.{swapped}
+use Rattle.page_tree.specs.Due.{swapped}
 use Rattle.page_tree.proofs.Splice.{KeepsHead, head_kept, length-before}
 
 module _ {X : Type 0} where
@@ -23,20 +23,20 @@ module _ {X : Type 0} where
   pub swapped_none : (xs : List X) (p : ℕ) → swapped xs p 0 [] ≡ xs
   swapped_none xs p = take-append-drop p xs
 
-  drop_front : (xs ys : List X) (n : ℕ) → n ≤ length xs → drop n (xs ++ ys) ≡ drop n xs ++ ys
-  drop_front xs ys zero most = refl
-  drop_front [] ys (suc n) most = absurd (omega arith)
-  drop_front (c ∷ xs) ys (suc n) most = drop_front xs ys n (omega arith)
+  drop_prefix : (xs ys : List X) (n : ℕ) → n ≤ length xs → drop n (xs ++ ys) ≡ drop n xs ++ ys
+  drop_prefix xs ys zero most = refl
+  drop_prefix [] ys (suc n) most = absurd (omega arith)
+  drop_prefix (c ∷ xs) ys (suc n) most = drop_prefix xs ys n (omega arith)
 
-  pub swapped_front : (xs ys : List X) (j less : ℕ) (mid : List X) → j + less ≤ length xs → swapped (xs ++ ys) j less mid ≡ swapped xs j less mid ++ ys
-  swapped_front xs ys zero less mid most = ap (λ (zs : List X). mid ++ zs) (drop_front xs ys less (omega (arith, most))) ∙ sym (append_assoc mid (drop less xs) ys)
-  swapped_front [] ys (suc j) less mid most = absurd (omega arith)
-  swapped_front (c ∷ xs) ys (suc j) less mid most = ap (λ (zs : List X). c ∷ zs) (swapped_front xs ys j less mid (omega arith))
+  pub swapped_prefix : (xs ys : List X) (j less : ℕ) (mid : List X) → j + less ≤ length xs → swapped (xs ++ ys) j less mid ≡ swapped xs j less mid ++ ys
+  swapped_prefix xs ys zero less mid most = ap (λ (zs : List X). mid ++ zs) (drop_prefix xs ys less (omega (arith, most))) ∙ sym (append_assoc mid (drop less xs) ys)
+  swapped_prefix [] ys (suc j) less mid most = absurd (omega arith)
+  swapped_prefix (c ∷ xs) ys (suc j) less mid most = ap (λ (zs : List X). c ∷ zs) (swapped_prefix xs ys j less mid (omega arith))
 
-  pub swapped_behind : (xs ys : List X) (i at less : ℕ) (mid : List X) → at ≡ length xs + i → swapped (xs ++ ys) at less mid ≡ xs ++ swapped ys i less mid
-  swapped_behind [] ys i at less mid is = let same : at ≡ i = omega (arith, is) in ap (λ (m : ℕ). swapped ys m less mid) same
-  swapped_behind (c ∷ xs) ys i zero less mid is = absurd (omega (arith, is))
-  swapped_behind (c ∷ xs) ys i (suc at) less mid is = ap (λ (zs : List X). c ∷ zs) (swapped_behind xs ys i at less mid (omega (arith, is)))
+  pub swapped_after : (xs ys : List X) (i at less : ℕ) (mid : List X) → at ≡ length xs + i → swapped (xs ++ ys) at less mid ≡ xs ++ swapped ys i less mid
+  swapped_after [] ys i at less mid is = let same : at ≡ i = omega (arith, is) in ap (λ (m : ℕ). swapped ys m less mid) same
+  swapped_after (c ∷ xs) ys i zero less mid is = absurd (omega (arith, is))
+  swapped_after (c ∷ xs) ys i (suc at) less mid is = ap (λ (zs : List X). c ∷ zs) (swapped_after xs ys i at less mid (omega (arith, is)))
 
 pub map_swapped : {X Y : Type 0} (f : X → Y) (xs : List X) (p n : ℕ) (mid : List X) → map f (swapped xs p n mid) ≡ swapped (map f xs) p n (map f mid)
 map_swapped f xs p n mid =
@@ -57,13 +57,13 @@ items_swapped ns zero n j less mid its below inside is =
     let at : 0 + j ≡ j = omega arith in
     let all : items_of (take n ns) ++ items_of (drop n ns) ≡ items_of ns = sym (flat_map-append (λ (m : Node). m.items) (take n ns) (drop n ns)) ∙ ap items_of (take-append-drop n ns) in
     flat_map-append (λ (m : Node). m.items) mid (drop n ns) ∙ ap (λ (ys : List Item). ys ++ items_of (drop n ns)) is
-    ∙ sym (swapped_front (items_of (take n ns)) (items_of (drop n ns)) j less its inside)
+    ∙ sym (swapped_prefix (items_of (take n ns)) (items_of (drop n ns)) j less its inside)
     ∙ ap (λ (ys : List Item). swapped ys j less its) all
     ∙ sym (ap (λ (m : ℕ). swapped (items_of ns) m less its) at)
 items_swapped [] (suc p) n j less mid its below inside is = absurd (omega arith)
 items_swapped (m ∷ ns) (suc p) n j less mid its below inside is =
     ap (λ (ys : List Item). m.items ++ ys) (items_swapped ns p n j less mid its (omega arith) inside is)
-    ∙ sym (swapped_behind m.items (items_of ns) (before ns p + j) (before (m ∷ ns) (suc p) + j) less its (omega (arith, length-before m ns p)))
+    ∙ sym (swapped_after m.items (items_of ns) (before ns p + j) (before (m ∷ ns) (suc p) + j) less its (omega (arith, length-before m ns p)))
 
 -- pages replaced are heads replaced
 pub heads_swapped : (ns : List Node) (p n : ℕ) (mid : List Node) → 0 < p → p < length ns → heads (swapped ns p n mid) ≡ swapped (heads ns) p n (map head_of mid)

@@ -7,16 +7,16 @@ use Rattle.page_tree.specs.Page.{IsWidths, page_at, filled, record_item, IsLeaf,
 use Rattle.page_tree.specs.Tree.{node_at, before}
 use Rattle.page_tree.specs.Change.{without}
 use Rattle.page_tree.specs.Copied.{leaf_without}
-use Rattle.page_tree.specs.Owed.{swapped, IsOwed}
+use Rattle.page_tree.specs.Due.{swapped, IsDue}
 use Rattle.page_tree.specs.Path.{IsPath}
 use Rattle.page_tree.specs.Named.{IsKept}
-use Rattle.page_tree.specs.Standing.{IsStanding}
-use Rattle.page_tree.specs.Thin.{IsPending}
+use Rattle.page_tree.specs.SectorState.{IsSectorState}
+use Rattle.page_tree.specs.Underfull.{IsPending}
 use Rattle.page_tree.proofs.PlacedLaws.{placed_leaf, placed_below}
 use Rattle.page_tree.proofs.Less.{leaf_less, length-without, without_below}
 use Rattle.page_tree.proofs.Swapped.{swapped_one}
-use Rattle.page_tree.proofs.Owed.{begin_lack}
-use Rattle.page_tree.proofs.MendEnds.{map_without, rising_without}
+use Rattle.page_tree.proofs.Due.{begin_lack}
+use Rattle.page_tree.proofs.RebalanceEnds.{map_without, ascending_without}
 use Rattle.page_tree.proofs.Neighbours.{page_of_leaf}
 use Rattle.page_tree.proofs.Replaced.{removed_is, begin_out}
 
@@ -34,8 +34,8 @@ dup_removed (a ∷ b ∷ xs) (suc p) below =
     let next : suc p + 1 ≡ suc (p + 1) = omega arith in
     ap (λ (i : ℕ). remove (slice_set (a ∷ b ∷ xs) (suc p) (entry_at (a ∷ b ∷ xs) i)) i) next ∙ ap (λ (ys : List (List ℕ)). a ∷ ys) (dup_removed (b ∷ xs) p (omega (arith, below)))
 
--- a record behind the first of its leaf, or one of the first leaf
-module _ (e k pages : ℕ) (b : List ℕ) (records : List (List ℕ)) (levels root first top : ℕ) (here : IsStanding e k pages b records levels root first top) (widths : IsWidths e k) (some : 0 < levels)
+-- a record after the first of its leaf, or one of the first leaf
+module _ (e k pages : ℕ) (b : List ℕ) (records : List (List ℕ)) (levels root first top : ℕ) (here : IsSectorState e k pages b records levels root first top) (widths : IsWidths e k) (some : 0 < levels)
     (page paths index : List ℕ) (at : ℕ) (home : ℕ → ℕ) (path : IsPath here.nodes levels 1 paths index at home) (read : page ≡ page_at b (node_at (here.nodes 1) (home 1)).page) (place : ℕ) (inside : place < filled page) (long : length page ≡ 512) (two : 2 ≤ filled page) where
   abbrev xs : List Item
   xs = (node_at (here.nodes 1) (home 1)).items
@@ -56,13 +56,13 @@ module _ (e k pages : ℕ) (b : List ℕ) (records : List (List ℕ)) (levels ro
     slot = place;
     less = 1;
     its = [];
-    mend = begin_out e k pages b records levels root first top here paths index at home path (before (here.nodes 1) (home 1) + place) place
+    rebalance = begin_out e k pages b records levels root first top here paths index at home path (before (here.nodes 1) (home 1) + place) place
         (placed_below e k b records levels here.nodes here.rooted.tower some page paths index at home path read place inside) refl;
     inside = omega (arith, place_in);
     bytes = page_of_leaf e k 1 (leaf_without e page (filled page) place) (swapped xs place 1 []) refl
         (subst (IsLeaf e k (leaf_without e page (filled page) place)) (sym swapped_is) (leaf_less e k page xs (filled page) place (omega (arith, widths.entry_least)) leaf_here long refl inside two));
     keeps = elim head [
-      | inl behind ↦ inr (ap (λ (ys : List Item). (item_at ys 0).key) swapped_is ∙ ap (λ (x : Item). x.key) (without_below xs place 0 place_in behind))
+      | inl after ↦ inr (ap (λ (ys : List Item). (item_at ys 0).key) swapped_is ∙ ap (λ (x : Item). x.key) (without_below xs place 0 place_in after))
       | inr first_leaf ↦ inl first_leaf
     ];
     almost = λ under. almost_one under;
@@ -86,17 +86,17 @@ kept_pending e k pages w c records levels paths index at root first top pos xs k
   slot = 1;
   less = 1;
   its = [];
-  mend = record {
+  rebalance = record {
     nodes = kept.closed.nodes;
     free = kept.closed.free;
     place = kept.place;
     pos = pos + 1;
     opened = kept.closed.opened;
-    owed = subst (λ (ys : List (List ℕ)). IsOwed k ys levels kept.closed.nodes 1 (pos + 1) 1 []) (sym (removed_is records (pos + 1) below)) (begin_lack k records levels kept.closed.nodes (pos + 1) below kept.closed.listed);
+    due = subst (λ (ys : List (List ℕ)). IsDue k ys levels kept.closed.nodes 1 (pos + 1) 1 []) (sym (removed_is records (pos + 1) below)) (begin_lack k records levels kept.closed.nodes (pos + 1) below kept.closed.listed);
     path = kept.whole;
     pos_is = omega (arith, kept.starts);
     order = subst AreInKeyOrder (sym (ap (map (record_item k)) (removed_is records (pos + 1) below) ∙ map_without (record_item k) records (pos + 1) below))
-        (rising_without (map (record_item k) records) (pos + 1) kept.closed.order (omega (arith, below, length-map records (record_item k))));
+        (ascending_without (map (record_item k) records) (pos + 1) kept.closed.order (omega (arith, below, length-map records (record_item k))));
     one = kept.closed.one;
     root_is = kept.closed.root_is;
     top_below = kept.closed.top_below;

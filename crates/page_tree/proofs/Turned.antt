@@ -6,14 +6,14 @@ use Rattle.page_tree.specs.Page.{page_at, filled, link_at, IsInner}
 use Rattle.page_tree.specs.Tree.{Node, node_at, items_of, before, heads, uses}
 use Rattle.page_tree.specs.Path.{IsPath}
 use Rattle.page_tree.specs.Named.{IsTurn, IsNaming, IsKept}
-use Rattle.page_tree.specs.Standing.{IsStanding}
+use Rattle.page_tree.specs.SectorState.{IsSectorState}
 use Rattle.page_tree.proofs.Changed.{used_once, apart}
 use Rattle.page_tree.proofs.Descent.{rows_above}
 use Rattle.page_tree.proofs.Splice.{length-before}
 use Rattle.page_tree.proofs.Levels.{item_of_page, page_fits, length-heads, heads_page}
 use Rattle.page_tree.proofs.Renamed.{naming_next, naming_done}
 
--- behind a page that lists something, something stands
+-- after a page that lists something, something stands
 before_some : (ns : List Node) (p : ℕ) → 0 < p → p < length ns → 1 ≤ length (node_at ns 0).items → 0 < before ns p
 before_some [] p some below first = absurd (omega (arith, below))
 before_some (n ∷ ns) zero some below first = absurd (omega (arith, some))
@@ -26,12 +26,12 @@ lower at paths (suc d) = get_or paths (d + 2) 0
 
 -- a page of a level above has as many children as its bytes say
 naming_count : (e k pages : ℕ) (v : List ℕ) (records : List (List ℕ)) (levels l : ℕ) (paths index : List ℕ) (at : ℕ) (key : List ℕ) (child root first top pos : ℕ) (xs : List Item)
-    (naming : IsNaming e k pages v records levels l paths index at key child root first top pos xs) → 2 ≤ l → l ≤ levels → (page : List ℕ) → page ≡ page_at v (get_or paths l 0) → filled page + 1 ≡ length (node_at (naming.mend.nodes l) (naming.mend.place l)).items
+    (naming : IsNaming e k pages v records levels l paths index at key child root first top pos xs) → 2 ≤ l → l ≤ levels → (page : List ℕ) → page ≡ page_at v (get_or paths l 0) → filled page + 1 ≡ length (node_at (naming.rebalance.nodes l) (naming.rebalance.place l)).items
 naming_count e k pages v records levels l paths index at key child root first top pos xs naming high most page page_is =
-    let stored = (naming.mend.opened.stored l (naming.mend.place l) (omega (arith, high)) most (naming.mend.path.inside l (omega arith) most)).inner (omega (arith, high)) in
-    ap (λ (x : List ℕ). filled x + 1) (page_is ∙ ap (page_at v) naming.mend.path.here) ∙ stored.count
+    let stored = (naming.rebalance.opened.stored l (naming.rebalance.place l) (omega (arith, high)) most (naming.rebalance.path.inside l (omega arith) most)).inner (omega (arith, high)) in
+    ap (λ (x : List ℕ). filled x + 1) (page_is ∙ ap (page_at v) naming.rebalance.path.here) ∙ stored.count
 
-module _ (e k pages : ℕ) (b : List ℕ) (records : List (List ℕ)) (levels root first top : ℕ) (here : IsStanding e k pages b records levels root first top)
+module _ (e k pages : ℕ) (b : List ℕ) (records : List (List ℕ)) (levels root first top : ℕ) (here : IsSectorState e k pages b records levels root first top)
     (paths index : List ℕ) (at : ℕ) (place : ℕ → ℕ) (path : IsPath here.nodes levels 1 paths index at place) (v : List ℕ) (others : (q : ℕ) → 1 ≤ q → q ≢ at → page_at v q ≡ page_at b q) where
   in_level : (l : ℕ) → 1 ≤ l → l ≤ levels → place l < length (here.nodes l)
   in_level l some most = path.inside l some most

@@ -72,7 +72,7 @@ module _ (e k pages : ℕ) (b : List ℕ) (xs : List (List ℕ)) (tree : IsTree 
 
   -- a page that is met is one of its level
   pub met_node : (l p : ℕ) → Meets k b l p → 1 ≤ l → Stands l p
-  met_node l p (Meets.root _ _ is named low behind fits) some =
+  met_node l p (Meets.root _ _ is named low after fits) some =
       let same : l ≡ tree.levels = is ∙ tree.header.levels_is in
       let some_level : 0 < tree.levels = omega (arith, same, some) in (
         omega (arith, same),
@@ -80,7 +80,7 @@ module _ (e k pages : ℕ) (b : List ℕ) (xs : List (List ℕ)) (tree : IsTree 
         omega (arith, tree.header.one_root some_level, ap (λ (m : ℕ). length (tree.nodes m)) same),
         named ∙ tree.header.root_is some_level ∙ ap (λ (m : ℕ). (node_at (tree.nodes m) 0).page) (sym same),
       )
-  met_node l p (Meets.child m q i _ _ met next low form inside is behind fits) some = child_node m q i l p (met_node m q met (omega (arith, next))) next low inside is
+  met_node l p (Meets.child m q i _ _ met next low form inside is after fits) some = child_node m q i l p (met_node m q met (omega (arith, next))) next low inside is
 
   listed : (n p : ℕ) → Frees b n p → Listed tree.free n p
   listed n p (Frees.first _ _ start named fits) =
@@ -201,17 +201,17 @@ module _ (e k pages : ℕ) (b : List ℕ) (xs : List (List ℕ)) (tree : IsTree 
             omega (arith, above, here.3, (within_tree e k pages b xs tree met.0 here.1 low here.0 here.2).1)
         | inr was ↦ omega (arith, above, (free_within tree.levels tree.nodes tree.free tree.top tree.shared page (is_free was.0 page was.1 (omega (arith, above)))).1)
       ]
-  unbroken page (Breaks.thin l met some below thin) =
+  unbroken page (Breaks.underfull l met some below underfull) =
       let here = met_node l page met some in
       let enough = tree.tower.filled l here.1 some (omega (arith, below, tree.header.levels_is)) here.2 in
       let stored = tree.tower.stored l here.1 some here.0 here.2 in
       elim (cases_eq l 1) [
         | inl one ↦
             let fills : filled (page_at b page) ≡ length (node_at (tree.nodes l) here.1).items = ap (λ (p : ℕ). filled (page_at b p)) here.3 ∙ (stored.leaf one).count in
-            omega (arith, fills, thin.leaf one, enough.leaf one)
+            omega (arith, fills, underfull.leaf one, enough.leaf one)
         | inr more ↦
             let fills : filled (page_at b page) + 1 ≡ length (node_at (tree.nodes l) here.1).items = ap (λ (p : ℕ). filled (page_at b p) + 1) here.3 ∙ (stored.inner (omega (arith, some, more))).count in
-            omega (arith, fills, thin.inner more, enough.inner (omega (arith, some, more)))
+            omega (arith, fills, underfull.inner more, enough.inner (omega (arith, some, more)))
       ]
   unbroken page (Breaks.uncounted is some none) =
       let level : 0 < tree.levels = omega (arith, some, tree.header.levels_is) in

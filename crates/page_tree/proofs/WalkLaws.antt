@@ -9,7 +9,7 @@ use Rattle.page_tree.specs.Path.{IsPath, IsLed, first_leaf_below, leaf_under}
 use Rattle.page_tree.specs.Broken.{IsInnerForm, IsLeafForm, Meets}
 use Rattle.page_tree.specs.Met.{IsMetPath}
 use Rattle.page_tree.specs.Answer.{IfMemNotFull, IfMemory, IfFull}
-use Rattle.page_tree.specs.Tells.{StandsIn}
+use Rattle.page_tree.specs.Reveals.{StandsIn}
 use Rattle.page_tree.specs.declared.error.TreeError.{TreeError}
 use Rattle.page_tree.specs.declared.error.TreeError.TheVariants.{Full, Malformed, Mem}
 use Rattle.page_tree.proofs.Levels.{item_of_page, heads_page, length-heads, page_fits}
@@ -76,22 +76,22 @@ path_cut nodes levels m n paths index home place path above most = record {
   here = path.page n above most;
 }
 
--- where the path chose last children below a level, the next child there leads to the leaf behind
-pub leads_behind : (nodes : ℕ → List Node) (levels : ℕ) (paths index : List ℕ) (at : ℕ) (home : ℕ → ℕ) → IsPath nodes levels 1 paths index at home → (level : ℕ) → 2 ≤ level → level ≤ levels
+-- where the path chose last children below a level, the next child there leads to the leaf after
+pub leads_after : (nodes : ℕ → List Node) (levels : ℕ) (paths index : List ℕ) (at : ℕ) (home : ℕ → ℕ) → IsPath nodes levels 1 paths index at home → (level : ℕ) → 2 ≤ level → level ≤ levels
     → ((n : ℕ) → 1 < n → n < level → get_or index n 0 + 1 ≡ length (node_at (nodes n) (home n)).items) → leaf_under nodes level (home level) (get_or index level 0 + 1) ≡ home 1 + 1
-leads_behind nodes levels paths index at home path zero some most last = absurd (omega (arith, some))
-leads_behind nodes levels paths index at home path (suc zero) some most last = absurd (omega (arith, some))
-leads_behind nodes levels paths index at home path (suc (suc d)) some most last =
+leads_after nodes levels paths index at home path zero some most last = absurd (omega (arith, some))
+leads_after nodes levels paths index at home path (suc zero) some most last = absurd (omega (arith, some))
+leads_after nodes levels paths index at home path (suc (suc d)) some most last =
     let below = path.below (suc (suc d)) (d + 1) (omega arith) (omega arith) most in
     let child : before (nodes (suc (suc d))) (home (suc (suc d))) + (get_or index (suc (suc d)) 0 + 1) ≡ home (d + 1) + 1 = omega (arith, below) in
     leaf_below nodes d (before (nodes (suc (suc d))) (home (suc (suc d))) + (get_or index (suc (suc d)) 0 + 1))
     ∙ ap (first_leaf_below nodes d) child
     ∙ sym (next_leaf nodes levels paths index at home path d (omega (arith, most)) (λ (n : ℕ) (more : 1 < n) (le : n ≤ d + 1). last n more (omega (arith, le))))
 
--- and where it chose them everywhere, there is no leaf behind
-pub none_behind : (e k pages : ℕ) (b : List ℕ) (records : List (List ℕ)) (levels root : ℕ) (nodes : ℕ → List Node) → IsRooted e k pages b records levels root nodes → 1 ≤ levels → (paths index : List ℕ) (at : ℕ) (home : ℕ → ℕ) → IsPath nodes levels 1 paths index at home
+-- and where it chose them everywhere, there is no leaf after
+pub none_after : (e k pages : ℕ) (b : List ℕ) (records : List (List ℕ)) (levels root : ℕ) (nodes : ℕ → List Node) → IsRooted e k pages b records levels root nodes → 1 ≤ levels → (paths index : List ℕ) (at : ℕ) (home : ℕ → ℕ) → IsPath nodes levels 1 paths index at home
     → ((n : ℕ) → 1 < n → n ≤ levels → get_or index n 0 + 1 ≡ length (node_at (nodes n) (home n)).items) → home 1 + 1 ≡ length (nodes 1)
-none_behind e k pages b records levels root nodes rooted some paths index at home path last =
+none_after e k pages b records levels root nodes rooted some paths index at home path last =
     last_leaf nodes levels paths index at home path rooted.one (listed_length e k b records levels nodes rooted.tower) last (levels - 1) 1 (omega (arith, some)) (omega arith)
 
 -- the leaf at the end of a way is in form

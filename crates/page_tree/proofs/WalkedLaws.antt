@@ -23,7 +23,7 @@ last_ahead k b levels root pages index at thread (suc d) most last =
     ∙ ap (λ (xs : List ℕ). gathered (λ i. leaves_below k b d (link_at k (page_at b (get_or pages (suc (suc d)) 0)) i)) (get_or index (suc (suc d)) 0) ++ xs) below
     ∙ sym (append_assoc (gathered (λ i. leaves_below k b d (link_at k (page_at b (get_or pages (suc (suc d)) 0)) i)) (get_or index (suc (suc d)) 0)) (leaves_ahead k b pages index d) (at ∷ []))
 
--- below first children no leaf stands in front
+-- below first children no leaf stands before
 pub none_ahead : (k : ℕ) (b pages index : List ℕ) (d : ℕ) → ((l : ℕ) → 1 < l → l < suc (suc d) → get_or index l 0 ≡ 0) → leaves_ahead k b pages index d ≡ []
 none_ahead k b pages index zero first = refl
 none_ahead k b pages index (suc d) first =
@@ -105,7 +105,7 @@ gathered_grows f n (suc m) few = elim (cases_eq n (suc m)) [
   | inr other ↦ omega (arith, gathered_grows f n m (omega (arith, few, other)), length-append (gathered f m) (f m))
 ]
 
--- the leaves in front of a path are fewer than all
+-- the leaves before a path are fewer than all
 fewer_ahead : (k : ℕ) (b : List ℕ) (levels root : ℕ) (pages index : List ℕ) (at : ℕ) → IsThread k b levels 1 root pages index at → IsMetPath k b levels 1 root pages index → (d : ℕ) → suc d ≤ levels
     → length (leaves_ahead k b pages index d) < length (leaves_below k b d (page_on pages 1 at (suc d)))
 fewer_ahead k b levels root pages index at thread path zero most = omega arith

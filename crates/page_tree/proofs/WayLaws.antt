@@ -112,9 +112,9 @@ halves_written k b c level up t page free top at left right taken next met long 
     half_fits : 512 * page + 512 ≤ length half
     half_fits = omega (arith, length-overwritten c left (512 * at) (omega (arith, long, fits)), page_fits)
 
-pub goes_on : (k : ℕ) (tells : List ℕ → Type 0) (b : List ℕ) (level free top : ℕ) (done : Bool) → done ≡ false → GoesOn k tells b level free top done → (d : List ℕ) × tells d × IsUnderWay k b d level level free top
-goes_on k tells b level free top false is way = way
-goes_on k tells b level free top true is way = absurd (false≢true (sym is))
+pub goes_on : (k : ℕ) (reveals : List ℕ → Type 0) (b : List ℕ) (level free top : ℕ) (done : Bool) → done ≡ false → GoesOn k reveals b level free top done → (d : List ℕ) × reveals d × IsUnderWay k b d level level free top
+goes_on k reveals b level free top false is way = way
+goes_on k reveals b level free top true is way = absurd (false≢true (sym is))
 
 -- the page of the path that is read again is as it was, or it breaks the form
 pub read_again : (e k pages : ℕ) (b c : List ℕ) (levels level root free top : ℕ) (paths index : List ℕ) → IsUnderWay k b c level level free top → IsMetPath k b levels 1 root paths index → 1 ≤ level → level < levels

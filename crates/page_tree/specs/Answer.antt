@@ -1,6 +1,6 @@
 -- What a look-up answers.
 use Rattle.std.specs.Prelude.{◌≡◌, ℕ, ◌-◌, ◌<◌, ◌≤◌, Bool, true, false, List, length, take}
-use Rattle.flat_mem.specs.Order.{at_most, entry_at, IsLastAtMost, NoneAtMost, IsBehind}
+use Rattle.flat_mem.specs.Order.{at_most, entry_at, IsLastAtMost, NoneAtMost, IsAfter}
 use Rattle.page_tree.specs.Page.{filled, record_at}
 use Rattle.page_tree.specs.declared.error.TreeError.{TreeError}
 use Rattle.page_tree.specs.declared.error.TreeError.TheVariants.{Full, Malformed, Mem}
@@ -12,7 +12,7 @@ IsLastEntry k xs key into false = NoneAtMost k xs key
 
 -- the first entry whose key is above the given one, or none
 abbrev pub IsNextEntry : ℕ → List (List ℕ) → List ℕ → List ℕ → Bool → Type 0
-IsNextEntry k xs key into true = (i : ℕ) × (i < length xs) × IsBehind k xs key i × (into ≡ entry_at xs i)
+IsNextEntry k xs key into true = (i : ℕ) × (i < length xs) × IsAfter k xs key i × (into ≡ entry_at xs i)
 IsNextEntry k xs key into false = (j : ℕ) → j < length xs → at_most (take k (entry_at xs j)) key ≡ true
 
 -- the error comes from the memory
@@ -61,4 +61,4 @@ pub record CanBegin (pages levels root : ℕ) : Type 0 where
 -- a record with this key goes to this index of the list
 pub record GoesTo (k : ℕ) (xs : List (List ℕ)) (key : List ℕ) (at : ℕ) : Type 0 where
   pub within : at ≤ length xs
-  pub behind : IsBehind k xs key at
+  pub after : IsAfter k xs key at

@@ -2,7 +2,7 @@
 use Rattle.std.specs.Prelude.{◌≡◌, ◌≢◌, ℕ, ◌+◌, ◌*◌, ◌<◌, ◌≤◌, ◌⊎◌, List, length}
 use Rattle.page_tree.specs.Page.{page_at, kind_of, filled, leaf_room, key_room, link_at, count_in, root_in, top_in, free_in, levels_in, next_in}
 use Rattle.page_tree.specs.Put.{capacity_of}
-use Rattle.page_tree.specs.Neighbours.{IsThin}
+use Rattle.page_tree.specs.Neighbours.{IsUnderfull}
 use Rattle.page_tree.specs.Leaves.{leaves_in, records_in}
 use Rattle.page_tree.specs.declared.error.TreeError.{TreeError}
 use Rattle.page_tree.specs.declared.error.TreeError.TheVariants.{Full, Malformed, Mem}
@@ -72,7 +72,7 @@ pub data Breaks (e k pages : ℕ) (b : List ℕ) (page : ℕ) : Type 0 where
   -- it is met, or listed as free, and lies above the greatest page that was ever used
   above : ((l : ℕ) × Meets k b l page) ⊎ ((n : ℕ) × Frees b n page) → top_in (page_at b 0) < page → Breaks e k pages b page
   -- it stands below the root, and is filled less than half
-  thin : (l : ℕ) → Meets k b l page → 1 ≤ l → l < levels_in (page_at b 0) → IsThin e k l (filled (page_at b page)) → Breaks e k pages b page
+  underfull : (l : ℕ) → Meets k b l page → 1 ≤ l → l < levels_in (page_at b 0) → IsUnderfull e k l (filled (page_at b page)) → Breaks e k pages b page
   -- it is the header, and counts no record where there is a level
   uncounted : page ≡ 0 → 0 < levels_in (page_at b 0) → count_in (page_at b 0) ≡ 0 → Breaks e k pages b page
   -- it is the header, and counts more records than stand in the leaves

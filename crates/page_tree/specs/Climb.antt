@@ -49,21 +49,21 @@ pub record IsHalves (e k l : ℕ) (ys : List Item) (left right key : List ℕ) :
   pub m : ℕ
   pub some : 0 < m
   pub more : m < length ys
-  pub front : IsPageOf e k l left (take m ys)
+  pub prefix : IsPageOf e k l left (take m ys)
   pub back : IsPageOf e k l right (drop m ys)
-  pub front_enough : IsEnough e k l m
+  pub prefix_enough : IsEnough e k l m
   pub back_enough : IsEnough e k l (length ys - m)
   pub key_is : key ≡ (item_at (drop m ys) 0).key
 
 -- all is done but the header, or the new half is carried one level on
 abbrev pub IsStep : ℕ → ℕ → ℕ → (List ℕ → Type 0) → List (List ℕ) → ℕ → ℕ → List ℕ → List ℕ → List ℕ → ℕ → ℕ → ℕ → ℕ → Bool → Type 0
-IsStep e k pages tells records levels level paths index key page root first top true = (c : List ℕ) × tells c × IsClosed e k pages c records levels root first top
-IsStep e k pages tells records levels level paths index key page root first top false = (c : List ℕ) × tells c × IsClimb e k pages c records levels level paths index key page root first top
+IsStep e k pages reveals records levels level paths index key page root first top true = (c : List ℕ) × reveals c × IsClosed e k pages c records levels root first top
+IsStep e k pages reveals records levels level paths index key page root first top false = (c : List ℕ) × reveals c × IsClimb e k pages c records levels level paths index key page root first top
 
 -- the halves were written, the second into a page that was taken
 abbrev pub IsStoredAs : (List ℕ → Type 0) → List ℕ → List ℕ → ℕ → ℕ → List ℕ → List ℕ → ℕ → ℕ → ℕ → ℕ → Type 0
-IsStoredAs tells b free pages at left right top first now page =
-    (page < pages) × IsTaken b free top first now page × tells (overwritten (overwritten b (512 * at) left) (512 * page) right)
+IsStoredAs reveals b free pages at left right top first now page =
+    (page < pages) × IsTaken b free top first now page × reveals (overwritten (overwritten b (512 * at) left) (512 * page) right)
 
 -- the fields of a header
 pub record IsHead (page : List ℕ) (count root top free levels : ℕ) : Type 0 where
@@ -83,21 +83,21 @@ pub record IsReady (e k pages : ℕ) (b : List ℕ) (records : List (List ℕ)) 
   pub top_below : top < pages
   pub capacity : length records < capacity_of e pages
 
--- the record stands in its leaf, behind those whose key is at most its own; all is done but the header, or the new half is carried up
+-- the record stands in its leaf, after those whose key is at most its own; all is done but the header, or the new half is carried up
 abbrev pub IsLow : ℕ → ℕ → ℕ → (List ℕ → Type 0) → List (List ℕ) → List ℕ → List ℕ → ℕ → List ℕ → List ℕ → List ℕ → ℕ → ℕ → ℕ → ℕ → Bool → Type 0
-IsLow e k pages tells records r old levels paths index key page root first top done =
-    (pos : ℕ) × GoesTo k records old pos × IsStep e k pages tells (insert records pos r) levels 1 paths index key page root first top done
+IsLow e k pages reveals records r old levels paths index key page root first top done =
+    (pos : ℕ) × GoesTo k records old pos × IsStep e k pages reveals (insert records pos r) levels 1 paths index key page root first top done
 
 -- the record stands in the levels
-pub record IsPutIn (e k pages : ℕ) (tells : List ℕ → Type 0) (records : List (List ℕ)) (entry : List ℕ) (levels root first top : ℕ) : Type 0 where
+pub record IsPutIn (e k pages : ℕ) (reveals : List ℕ → Type 0) (records : List (List ℕ)) (entry : List ℕ) (levels root first top : ℕ) : Type 0 where
   pub now : List ℕ
-  pub told : tells now
+  pub revealed : reveals now
   pub at : ℕ
-  pub behind : GoesTo k records (take k entry) at
+  pub after : GoesTo k records (take k entry) at
   pub some : 1 ≤ levels
   pub few : levels ≤ 6
   pub closed : IsClosed e k pages now (insert records at entry) levels root first top
 
--- the memory tells what is done but for the header
-abbrev pub TellsClosed : ℕ → ℕ → ℕ → (List ℕ → Type 0) → List (List ℕ) → ℕ → ℕ → ℕ → ℕ → Type 0
-TellsClosed e k pages tells records levels root first top = (c : List ℕ) × tells c × IsClosed e k pages c records levels root first top × (1 ≤ levels) × (levels ≤ 6)
+-- the memory reveals what is done but for the header
+abbrev pub RevealsClosed : ℕ → ℕ → ℕ → (List ℕ → Type 0) → List (List ℕ) → ℕ → ℕ → ℕ → ℕ → Type 0
+RevealsClosed e k pages reveals records levels root first top = (c : List ℕ) × reveals c × IsClosed e k pages c records levels root first top × (1 ≤ levels) × (levels ≤ 6)

@@ -1,4 +1,4 @@
--- Keys, and lists of items in rising order of keys.
+-- Keys, and lists of items in ascending order of keys.
 use Rattle.std.specs.Prelude.{◌≡◌, ℕ, ◌<◌, ◌≤◌, ◌⊎◌, true, false, List, [], length, get_or}
 unfoldable pub use Rattle.flat_mem.specs.Order.{at_most}
 
@@ -18,7 +18,7 @@ item_at xs i = get_or xs i no_item
 abbrev pub AreInKeyOrder : List Item → Type 0
 AreInKeyOrder xs = (i j : ℕ) → i ≤ j → j < length xs → at_most (item_at xs i).key (item_at xs j).key ≡ true
 
--- item p is the last whose key is at most this one, or it is the first and all behind it are above
+-- item p is the last whose key is at most this one, or it is the first and all after it are above
 pub record IsPlace (xs : List Item) (key : List ℕ) (p : ℕ) : Type 0 where
   pub below : p < length xs
   pub holds : (at_most (item_at xs p).key key ≡ true) ⊎ (p ≡ 0)

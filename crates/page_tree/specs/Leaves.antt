@@ -3,7 +3,7 @@ use Rattle.std.specs.Prelude.{ℕ, zero, suc, List, [], ◌∷◌, ◌++◌}
 use Rattle.std.specs.List.{sum_by}
 use Rattle.page_tree.specs.Page.{page_at, filled, link_at, root_in, levels_in}
 
--- the lists f 0, f 1, .. one behind the other, n of them
+-- the lists f 0, f 1, .. one after the other, n of them
 abbrev pub gathered : (ℕ → List ℕ) → ℕ → List ℕ
 gathered f zero = []
 gathered f (suc n) = gathered f n ++ f n

@@ -1,4 +1,4 @@
--- Two neighbours of one level, of which one may be too thin.
+-- Two neighbours of one level, of which one may be underfull.
 use Rattle.std.specs.Prelude.{◌≡◌, ◌≢◌, ℕ, ◌+◌, ◌/◌, ◌<◌, ◌≤◌, List, length, Bool, true, false}
 use Rattle.page_tree.specs.Keys.{Item}
 use Rattle.page_tree.specs.Page.{leaf_room, key_room, IsPageOf, IsEnough}
@@ -19,7 +19,7 @@ pub record IsLean (e k l n m : ℕ) : Type 0 where
   pub inner_both : l ≢ 1 → n + m < key_room k + key_room k / 2
 
 -- a page of level l that counts n has too few
-pub record IsThin (e k l n : ℕ) : Type 0 where
+pub record IsUnderfull (e k l n : ℕ) : Type 0 where
   pub leaf : l ≡ 1 → n < leaf_room e / 2
   pub inner : l ≢ 1 → n < key_room k / 2
 

@@ -17,6 +17,6 @@ pub record IsBare (e k pages : ℕ) (c : List ℕ) (records : List (List ℕ)) (
 
 -- the last record of the key is out, and only the header is left to be written; or there is none, and the bytes are the same
 abbrev pub IsOut : ℕ → ℕ → ℕ → (List ℕ → Type 0) → List ℕ → List (List ℕ) → List ℕ → ℕ → ℕ → ℕ → ℕ → Bool → Type 0
-IsOut e k pages tells b xs key levels root first top true =
-    (i : ℕ) × IsLastOf k xs key i × (c : List ℕ) × tells c × (((1 ≤ levels) × IsClosed e k pages c (remove xs i) levels root first top) ⊎ IsBare e k pages c (remove xs i) levels root first top)
-IsOut e k pages tells b xs key levels root first top false = NoneOf k xs key × tells b
+IsOut e k pages reveals b xs key levels root first top true =
+    (i : ℕ) × IsLastOf k xs key i × (c : List ℕ) × reveals c × (((1 ≤ levels) × IsClosed e k pages c (remove xs i) levels root first top) ⊎ IsBare e k pages c (remove xs i) levels root first top)
+IsOut e k pages reveals b xs key levels root first top false = NoneOf k xs key × reveals b

@@ -1,4 +1,4 @@
--- A path from the root down, and the leaf behind one.
+-- A path from the root down, and the leaf after one.
 use Rattle.std.specs.Prelude.{◌≡◌, ℕ, zero, suc, ◌+◌, ◌<◌, ◌≤◌, List, length, get_or, ◌==◌, if◌then◌else◌, Option, Some, None}
 use Rattle.page_tree.specs.Keys.{IsPlace}
 use Rattle.page_tree.specs.Page.{page_at}
@@ -42,12 +42,12 @@ pub record IsLed (b : List ℕ) (levels : ℕ) (nodes : ℕ → List Node) (page
   pub home_is : home 1 ≡ p
   pub bytes : page ≡ page_at b at
 
--- the path ends in the leaf behind leaf p, or there is none
+-- the path ends in the leaf after leaf p, or there is none
 abbrev pub IsLedOn : List ℕ → ℕ → (ℕ → List Node) → List ℕ → List ℕ → List ℕ → ℕ → Option ℕ → Type 0
 IsLedOn b levels nodes page pages index p (Some at) = IsLed b levels nodes page pages index at (p + 1)
 IsLedOn b levels nodes page pages index p None = p + 1 ≡ length (nodes 1)
 
--- at this level of the path a child stands behind the chosen one, and at none below it; or it does so at no level
+-- at this level of the path a child stands after the chosen one, and at none below it; or it does so at no level
 abbrev pub Turns : (ℕ → List Node) → ℕ → List ℕ → (ℕ → ℕ) → Option ℕ → Type 0
 Turns nodes levels index home (Some level) =
     (get_or index level 0 + 1 < length (node_at (nodes level) (home level)).items) × ((n : ℕ) → 1 < n → n < level → get_or index n 0 + 1 ≡ length (node_at (nodes n) (home n)).items)

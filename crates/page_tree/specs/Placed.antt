@@ -1,6 +1,6 @@
 -- A record by its index in the list.
 use Rattle.std.specs.Prelude.{◌≡◌, ℕ, ◌+◌, ◌<◌, ◌≤◌, ◌⊎◌, List, length, remove, slice_set}
-use Rattle.flat_mem.specs.Order.{IsBehind}
+use Rattle.flat_mem.specs.Order.{IsAfter}
 use Rattle.page_tree.specs.Page.{page_at, filled}
 use Rattle.page_tree.specs.Tree.{Node, node_at, before, IsTree}
 use Rattle.page_tree.specs.Path.{IsPath}
@@ -15,19 +15,19 @@ pub record IsPlaced (b : List ℕ) (levels : ℕ) (nodes : ℕ → List Node) (p
   pub below : place < filled page
   pub is : i ≡ before (nodes 1) (home 1) + place
 
--- n is the index behind the last record whose key is at most this one
+-- n is the index after the last record whose key is at most this one
 pub record IsCounted (k : ℕ) (xs : List (List ℕ)) (key : List ℕ) (n : ℕ) : Type 0 where
   pub within : n ≤ length xs
-  pub behind : IsBehind k xs key n
+  pub after : IsAfter k xs key n
 
 -- only the header is left to be written; or no record is left, and no level
 abbrev pub IsLeft : ℕ → ℕ → ℕ → (List ℕ → Type 0) → List (List ℕ) → ℕ → ℕ → ℕ → ℕ → Type 0
-IsLeft e k pages tells xs levels root first top = (c : List ℕ) × tells c × (((1 ≤ levels) × IsClosed e k pages c xs levels root first top) ⊎ IsBare e k pages c xs levels root first top)
+IsLeft e k pages reveals xs levels root first top = (c : List ℕ) × reveals c × (((1 ≤ levels) × IsClosed e k pages c xs levels root first top) ⊎ IsBare e k pages c xs levels root first top)
 
--- the memory tells a well-formed tree without record i
+-- the memory reveals a well-formed tree without record i
 abbrev pub IsOutAt : ℕ → ℕ → ℕ → (List ℕ → Type 0) → List (List ℕ) → ℕ → Type 0
-IsOutAt e k pages tells xs i = (now : List ℕ) × tells now × IsTree e k pages now (remove xs i)
+IsOutAt e k pages reveals xs i = (now : List ℕ) × reveals now × IsTree e k pages now (remove xs i)
 
--- the memory tells a well-formed tree with this entry in the place of record i
+-- the memory reveals a well-formed tree with this entry in the place of record i
 abbrev pub IsSetAt : ℕ → ℕ → ℕ → (List ℕ → Type 0) → List (List ℕ) → ℕ → List ℕ → Type 0
-IsSetAt e k pages tells xs i entry = (now : List ℕ) × tells now × IsTree e k pages now (slice_set xs i entry)
+IsSetAt e k pages reveals xs i entry = (now : List ℕ) × reveals now × IsTree e k pages now (slice_set xs i entry)

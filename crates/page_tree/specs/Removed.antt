@@ -15,15 +15,15 @@ pub record IsLastOf (k : ℕ) (xs : List (List ℕ)) (key : List ℕ) (i : ℕ) 
 abbrev pub NoneOf : ℕ → List (List ℕ) → List ℕ → Type 0
 NoneOf k xs key = (j : ℕ) → j < length xs → key_at k xs j ≢ key
 
--- the memory tells a well-formed tree without the last record of this key; or there is none, and its bytes are the same
+-- the memory reveals a well-formed tree without the last record of this key; or there is none, and its bytes are the same
 abbrev pub IsRemoved : ℕ → ℕ → ℕ → (List ℕ → Type 0) → List ℕ → List (List ℕ) → List ℕ → Bool → Type 0
-IsRemoved e k pages tells b xs key true = (i : ℕ) × IsLastOf k xs key i × (now : List ℕ) × tells now × IsTree e k pages now (remove xs i)
-IsRemoved e k pages tells b xs key false = NoneOf k xs key × tells b
+IsRemoved e k pages reveals b xs key true = (i : ℕ) × IsLastOf k xs key i × (now : List ℕ) × reveals now × IsTree e k pages now (remove xs i)
+IsRemoved e k pages reveals b xs key false = NoneOf k xs key × reveals b
 
--- the memory tells a well-formed tree with this entry in place of the last record of its own key; or there is none, and its bytes are the same
+-- the memory reveals a well-formed tree with this entry in place of the last record of its own key; or there is none, and its bytes are the same
 abbrev pub IsReplaced : ℕ → ℕ → ℕ → (List ℕ → Type 0) → List ℕ → List (List ℕ) → List ℕ → Bool → Type 0
-IsReplaced e k pages tells b xs entry true = (i : ℕ) × IsLastOf k xs (take k entry) i × (now : List ℕ) × tells now × IsTree e k pages now (slice_set xs i entry)
-IsReplaced e k pages tells b xs entry false = NoneOf k xs (take k entry) × tells b
+IsReplaced e k pages reveals b xs entry true = (i : ℕ) × IsLastOf k xs (take k entry) i × (now : List ℕ) × reveals now × IsTree e k pages now (slice_set xs i entry)
+IsReplaced e k pages reveals b xs entry false = NoneOf k xs (take k entry) × reveals b
 
 -- the last record of this leaf that has the key
 pub record IsLastHere (e k : ℕ) (page key : List ℕ) (place : ℕ) : Type 0 where

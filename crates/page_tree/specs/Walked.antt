@@ -22,20 +22,20 @@ pub record IsLedDown (level at place : ℕ) (pages index pages' index' : List �
   pub here_index : 1 < level → get_or index' level 0 ≡ place
   pub first : (l : ℕ) → 1 < l → l < level → get_or index' l 0 ≡ 0
 
--- the leaves in front of a path, below its pages of the levels up to d + 1
+-- the leaves before a path, below its pages of the levels up to d + 1
 abbrev pub leaves_ahead : ℕ → List ℕ → List ℕ → List ℕ → ℕ → List ℕ
 leaves_ahead k b pages index zero = []
 leaves_ahead k b pages index (suc d) =
     gathered (λ i. leaves_below k b d (link_at k (page_at b (get_or pages (suc (suc d)) 0)) i)) (get_or index (suc (suc d)) 0) ++ leaves_ahead k b pages index d
 
--- the path ends in the leaf `at`, and these leaves stand in front of it
+-- the path ends in the leaf `at`, and these leaves stand before it
 pub record IsWalked (k : ℕ) (b : List ℕ) (levels root : ℕ) (pages index : List ℕ) (at : ℕ) (passed : List ℕ) : Type 0 where
   pub met : Meets k b 1 at
   pub path : IsMetPath k b levels 1 root pages index
   pub thread : IsThread k b levels 1 root pages index at
   pub ahead : leaves_ahead k b pages index (levels - 1) ≡ passed
 
--- the walk goes on to the leaf behind `at`, or there is none
+-- the walk goes on to the leaf after `at`, or there is none
 abbrev pub IsWalkedOn : ℕ → List ℕ → ℕ → ℕ → List ℕ → List ℕ → ℕ → List ℕ → Option ℕ → Type 0
 IsWalkedOn k b levels root pages index at passed (Some next) = IsWalked k b levels root pages index next (passed ++ at ∷ [])
 IsWalkedOn k b levels root pages index at passed None = leaves_of k b levels root ≡ passed ++ at ∷ []

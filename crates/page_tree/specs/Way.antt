@@ -29,5 +29,5 @@ WasFull e k pages b page = (filled (page_at b page) ≡ key_room k) ⊎ Breaks e
 
 -- the insertion goes on to the next level, where it was not done
 abbrev pub GoesOn : ℕ → (List ℕ → Type 0) → List ℕ → ℕ → ℕ → ℕ → Bool → Type 0
-GoesOn k tells b level free top true = Unit {0}
-GoesOn k tells b level free top false = (d : List ℕ) × tells d × IsUnderWay k b d level level free top
+GoesOn k reveals b level free top true = Unit {0}
+GoesOn k reveals b level free top false = (d : List ℕ) × reveals d × IsUnderWay k b d level level free top

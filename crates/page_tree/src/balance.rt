@@ -1,4 +1,4 @@
-// Two neighbours of which one is too thin: they become one page, or one item goes over.
+// Two neighbours of which one is underfull: they become one page, or one item goes over.
 ghost use Rattle.std.specs.Prelude.{◌≡◌, ℕ, ◌+◌, ◌-◌, ◌/◌, ◌<◌, ◌≤◌, ◌⊎◌, List, ◌++◌, length};
 ghost use Rattle.page_tree.specs.Keys.{Item, item_at};
 ghost use Rattle.page_tree.specs.Page.{IsWidths, filled, key_room, leaf_room, IsEnough, IsInner, IsLeaf};
@@ -10,7 +10,7 @@ use crate::pages::{
     Page, filled_of, first_key_of, key_of, link_of, put_child, put_count, put_record,
 };
 
-// The first record of the second leaf goes behind those of the first.
+// The first record of the second leaf goes after those of the first.
 fn record_left<const E: usize, const K: usize>(
     left: &mut Page,
     right: &mut Page,
@@ -78,7 +78,7 @@ pub fn balance_leaves<const E: usize, const K: usize>(
     false
 }
 
-// The first child of the second page goes behind those of the first.
+// The first child of the second page goes after those of the first.
 fn child_left<const K: usize>(
     left: &mut Page,
     right: &mut Page,

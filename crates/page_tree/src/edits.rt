@@ -6,7 +6,7 @@ ghost use Rattle.page_tree.specs.Copied.{copy_cells, leaf_without, leaf_joined, 
 
 use crate::pages::{Page, put, put_count};
 
-/// Moves the cells from `from` up to `count` of another page to place `at` and behind it. The cells stand `width` bytes apart from byte `base` on.
+/// Moves the cells from `from` up to `count` of another page to place `at` and after it. The cells stand `width` bytes apart from byte `base` on.
 fn copy_cells(
     page: &mut Page,
     base: usize,
@@ -40,7 +40,7 @@ pub fn remove_record<const E: usize>(page: &mut Page, count: usize, at: usize)
     put_count(page, count - 1);
 }
 
-/// Puts the records of another leaf behind those of this one.
+/// Puts the records of another leaf after those of this one.
 pub fn append_records<const E: usize>(page: &mut Page, count: usize, other: &Page, more: usize)
     requires some { 1 ≤ E }
     requires room { count + more ≤ leaf_room E }
@@ -91,7 +91,7 @@ pub fn remove_child<const K: usize>(page: &mut Page, count: usize, slot: usize, 
     put_count(page, count - 1);
 }
 
-/// Puts the children of another inner page behind those of this one; `key` is the first key below them.
+/// Puts the children of another inner page after those of this one; `key` is the first key below them.
 pub fn append_children<const K: usize>(
     page: &mut Page,
     count: usize,

@@ -23,9 +23,9 @@ pub fn is_at_most(key: &[u8], other: &[u8]) -> bool
 /// Reads page `index` for a call of the tree.
 pub fn load<M: FlatMem>(mem: &mut M, index: u32, page: &mut Page) -> Result<(), TreeError<M::Error>>
     requires { 512 * index + 512 ≤ M.size mem.old }
-    ensures read { (b : List ℕ) → M.tells mem.old b → OnOk result (page.new ≡ page_at b index) }
+    ensures read { (b : List ℕ) → M.reveals mem.old b → OnOk result (page.new ≡ page_at b index) }
     ensures memory { IfErr result FromMemory }
-    ensures unchanged { (b : List ℕ) → M.tells mem.old b → M.tells mem.new b }
+    ensures unchanged { (b : List ℕ) → M.reveals mem.old b → M.reveals mem.new b }
     ensures kept { M.beside mem.old mem.new }
     ensures cause { IfErr result (IfMemNotFull (M.accounted mem.old mem.new)) }
     ensures cost { M.spent mem.new ≤ M.spent mem.old + M.cost }
@@ -98,7 +98,7 @@ pub fn first_key_of<const K: usize>(page: &Page, into: &mut [u8; K])
 /// Writes page `index` for a call of the tree.
 pub fn store<M: FlatMem>(mem: &mut M, index: u32, page: &Page) -> Result<(), TreeError<M::Error>>
     requires { 512 * index + 512 ≤ M.size mem.old }
-    ensures written { (b : List ℕ) → M.tells mem.old b → OnOk result (M.tells mem.new (overwritten b (512 * index) page.now)) }
+    ensures written { (b : List ℕ) → M.reveals mem.old b → OnOk result (M.reveals mem.new (overwritten b (512 * index) page.now)) }
     ensures memory { IfErr result FromMemory }
     ensures kept { M.beside mem.old mem.new }
     ensures cause { IfErr result (IfMemNotFull (M.accounted mem.old mem.new)) }
@@ -157,7 +157,7 @@ fn put_cell(page: &mut Page, base: usize, width: usize, count: usize, at: usize,
     put(page, base + width * at, cell);
 }
 
-/// Moves the cells from `from` on to the front.
+/// Moves the cells from `from` on to the prefix.
 fn keep_cells(page: &mut Page, base: usize, width: usize, count: usize, from: usize)
     requires place { from ≤ count }
     requires room { base + width * count ≤ 512 }

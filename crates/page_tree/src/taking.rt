@@ -4,8 +4,8 @@ ghost use Rattle.page_tree.specs.Page.{IsWidths, page_at, filled, leaf_room, lev
 ghost use Rattle.page_tree.specs.Tree.{node_at, before};
 ghost use Rattle.page_tree.specs.Path.{IsPath};
 ghost use Rattle.page_tree.specs.Answer.{FromMemory, IfMemNotFull};
-ghost use Rattle.page_tree.specs.Climb.{TellsClosed};
-ghost use Rattle.page_tree.specs.Standing.{IsStanding};
+ghost use Rattle.page_tree.specs.Climb.{RevealsClosed};
+ghost use Rattle.page_tree.specs.SectorState.{IsSectorState};
 ghost use Rattle.page_tree.specs.Broken.{Meets, Breaks, IfMalformed};
 ghost use Rattle.page_tree.specs.Met.{IsMetPath, AvoidsHeader};
 
@@ -14,7 +14,7 @@ use crate::error::TreeError;
 use crate::look::{Header, Path};
 use crate::naming::name_leaf;
 use crate::pages::Page;
-use crate::thin::mend;
+use crate::underfull::rebalance;
 use flat_mem::FlatMem;
 
 /// Takes out a record that is not the first of its leaf.
@@ -37,10 +37,10 @@ pub fn take_later<M: FlatMem, const E: usize, const K: usize>(
     requires two { 2 ≤ count }
     requires most { count ≤ leaf_room E }
     requires below { place < count }
-    requires behind { 0 < place }
-    ensures out { (b : List ℕ) → M.tells mem.old b → (records : List (List ℕ)) (here : IsStanding E K (M.size mem.old / 512) b records header.old.levels header.old.root header.old.free header.old.top) (home : ℕ → ℕ) → IsPath here.nodes header.old.levels 1 path.now.pages path.now.index at home → page.old ≡ page_at b (node_at (here.nodes 1) (home 1)).page
-        → MatchResult result (λ _. TellsClosed E K (M.size mem.old / 512) (M.tells mem.new) (remove records (before (here.nodes 1) (home 1) + place)) header.new.levels header.new.root header.new.free header.new.top) FromMemory }
-    ensures broken { (root : ℕ) (b : List ℕ) → M.tells mem.old b → header.old.levels ≡ levels_in (page_at b 0) → IsMetPath K b header.old.levels 1 root path.now.pages path.now.index → Meets K b 1 at → IfErr result (IfMalformed (Breaks E K (M.size mem.old / 512) b)) }
+    requires after { 0 < place }
+    ensures out { (b : List ℕ) → M.reveals mem.old b → (records : List (List ℕ)) (here : IsSectorState E K (M.size mem.old / 512) b records header.old.levels header.old.root header.old.free header.old.top) (home : ℕ → ℕ) → IsPath here.nodes header.old.levels 1 path.now.pages path.now.index at home → page.old ≡ page_at b (node_at (here.nodes 1) (home 1)).page
+        → MatchResult result (λ _. RevealsClosed E K (M.size mem.old / 512) (M.reveals mem.new) (remove records (before (here.nodes 1) (home 1) + place)) header.new.levels header.new.root header.new.free header.new.top) FromMemory }
+    ensures broken { (root : ℕ) (b : List ℕ) → M.reveals mem.old b → header.old.levels ≡ levels_in (page_at b 0) → IsMetPath K b header.old.levels 1 root path.now.pages path.now.index → Meets K b 1 at → IfErr result (IfMalformed (Breaks E K (M.size mem.old / 512) b)) }
     ensures named { AvoidsHeader header.old.levels path.now.pages → IfErr result (IfMalformed (λ page. 1 ≤ page)) }
     ensures levels { header.new.levels ≤ header.old.levels }
     ensures count { header.new.count ≡ header.old.count }
@@ -49,7 +49,7 @@ pub fn take_later<M: FlatMem, const E: usize, const K: usize>(
     ensures cost { M.spent mem.new ≤ M.spent mem.old + 26 * M.cost }
 {
     remove_record::<E>(page, count, place);
-    match mend::<M, E, K>(mem, header, path, at, page) {
+    match rebalance::<M, E, K>(mem, header, path, at, page) {
         Ok(()) => (),
         Err(error) => return Err(error),
     }
@@ -77,10 +77,10 @@ pub fn take_first<M: FlatMem, const E: usize, const K: usize>(
     requires counts { count ≡ filled page.old }
     requires two { 2 ≤ count }
     requires most { count ≤ leaf_room E }
-    ensures out { (b : List ℕ) → M.tells mem.old b → (records : List (List ℕ)) (here : IsStanding E K (M.size mem.old / 512) b records header.old.levels header.old.root header.old.free header.old.top) (home : ℕ → ℕ) → IsPath here.nodes header.old.levels 1 path.now.pages path.now.index at home → page.old ≡ page_at b (node_at (here.nodes 1) (home 1)).page
-        → MatchResult result (λ _. TellsClosed E K (M.size mem.old / 512) (M.tells mem.new) (remove records (before (here.nodes 1) (home 1) + 0)) header.new.levels header.new.root header.new.free header.new.top) FromMemory }
-    ensures broken { (root : ℕ) (b : List ℕ) → M.tells mem.old b → header.old.levels ≡ levels_in (page_at b 0) → IsMetPath K b header.old.levels 1 root path.now.pages path.now.index → Meets K b 1 at → IfErr result (IfMalformed (Breaks E K (M.size mem.old / 512) b)) }
-    ensures named { (root : ℕ) (b : List ℕ) → M.tells mem.old b → header.old.levels ≡ levels_in (page_at b 0) → IsMetPath K b header.old.levels 1 root path.now.pages path.now.index → IfErr result (IfMalformed (λ page. 1 ≤ page)) }
+    ensures out { (b : List ℕ) → M.reveals mem.old b → (records : List (List ℕ)) (here : IsSectorState E K (M.size mem.old / 512) b records header.old.levels header.old.root header.old.free header.old.top) (home : ℕ → ℕ) → IsPath here.nodes header.old.levels 1 path.now.pages path.now.index at home → page.old ≡ page_at b (node_at (here.nodes 1) (home 1)).page
+        → MatchResult result (λ _. RevealsClosed E K (M.size mem.old / 512) (M.reveals mem.new) (remove records (before (here.nodes 1) (home 1) + 0)) header.new.levels header.new.root header.new.free header.new.top) FromMemory }
+    ensures broken { (root : ℕ) (b : List ℕ) → M.reveals mem.old b → header.old.levels ≡ levels_in (page_at b 0) → IsMetPath K b header.old.levels 1 root path.now.pages path.now.index → Meets K b 1 at → IfErr result (IfMalformed (Breaks E K (M.size mem.old / 512) b)) }
+    ensures named { (root : ℕ) (b : List ℕ) → M.reveals mem.old b → header.old.levels ≡ levels_in (page_at b 0) → IsMetPath K b header.old.levels 1 root path.now.pages path.now.index → IfErr result (IfMalformed (λ page. 1 ≤ page)) }
     ensures levels { header.new.levels ≤ header.old.levels }
     ensures count { header.new.count ≡ header.old.count }
     ensures kept { M.beside mem.old mem.new }
@@ -94,7 +94,7 @@ pub fn take_first<M: FlatMem, const E: usize, const K: usize>(
         Err(error) => return Err(error),
     }
     remove_record::<E>(page, count, 0);
-    match mend::<M, E, K>(mem, header, path, at, page) {
+    match rebalance::<M, E, K>(mem, header, path, at, page) {
         Ok(()) => (),
         Err(error) => return Err(error),
     }

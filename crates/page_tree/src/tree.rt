@@ -5,8 +5,8 @@ ghost use Rattle.page_tree.specs.Answer.{IsLastEntry, IsNextEntry, FromMemory, I
 ghost use Rattle.page_tree.specs.Page.{IsWidths, page_at, count_in};
 ghost use Rattle.page_tree.specs.Put.{capacity_of};
 ghost use Rattle.page_tree.specs.Broken.{Breaks, StopsInsertion, IfMalformed};
-ghost use Rattle.page_tree.specs.Tells.{IsInserted, IsFull, IsTakenOut, IsPutOver, StandsIn};
-ghost use Rattle.page_tree.specs.Indexed.{HasNth, IsNth, IsNthSet, LacksNth};
+ghost use Rattle.page_tree.specs.Reveals.{IsInserted, IsFull, IsTakenOut, IsPutOver, StandsIn};
+ghost use Rattle.page_tree.specs.Indexed.{HasNth, IsNth, IsNthSet, MissesNth};
 
 use crate::error::TreeError;
 use crate::{
@@ -35,7 +35,7 @@ impl<M: FlatMem + Drop, const E: usize, const K: usize> PageTree<M, E, K> {
         requires widths { IsWidths E K }
         requires least { 9 * 512 ≤ M.size mem }
         requires most { M.size mem ≤ 2 ^ 27 }
-        ensures empty { (b : List ℕ) → M.tells mem b → IfOk result (λ t. Lists t []) }
+        ensures empty { (b : List ℕ) → M.reveals mem b → IfOk result (λ t. Lists t []) }
         ensures cause { IfErr result (λ why. (m : M) × M.beside mem m × FromMemory why × IfMemNotFull (M.accounted mem m) why) }
         ensures kept { IfOk result (λ t. M.beside mem (tree_memory t)) }
         ensures cost { IfOk result (λ t. M.spent (tree_memory t) ≤ M.spent mem + M.cost) }
@@ -57,7 +57,7 @@ impl<M: FlatMem, const E: usize, const K: usize> PageTree<M, E, K> {
         requires least { 9 * 512 ≤ M.size mem }
         requires most { M.size mem ≤ 2 ^ 27 }
         ensures memory { tree_memory result ≡ mem }
-        ensures zeros { (b : List ℕ) → M.tells mem b → page_at b 0 ≡ replicate 512 0 → Lists result [] }
+        ensures zeros { (b : List ℕ) → M.reveals mem b → page_at b 0 ≡ replicate 512 0 → Lists result [] }
     {
         PageTree { mem }
     }
@@ -72,12 +72,12 @@ impl<M: FlatMem, const E: usize, const K: usize> PageTree<M, E, K> {
     /// How many entries there are, as the header says.
     pub fn count(&mut self) -> Result<u32, TreeError<M::Error>>
         ensures count { (xs : List (List ℕ)) → Lists self.old xs → MatchResult result (λ n. n ≡ length xs) FromMemory }
-        ensures header { (b : List ℕ) → M.tells (tree_memory self.old) b → IfOk result (λ n. n ≡ count_in (page_at b 0)) }
-        ensures malformed { (b : List ℕ) → M.tells (tree_memory self.old) b → IfErr result (IfMalformed (Breaks E K (M.size (tree_memory self.old) / 512) b)) }
-        ensures inside { (b : List ℕ) → M.tells (tree_memory self.old) b → IfErr result (IfMalformed (λ page. page < M.size (tree_memory self.old) / 512)) }
+        ensures header { (b : List ℕ) → M.reveals (tree_memory self.old) b → IfOk result (λ n. n ≡ count_in (page_at b 0)) }
+        ensures malformed { (b : List ℕ) → M.reveals (tree_memory self.old) b → IfErr result (IfMalformed (Breaks E K (M.size (tree_memory self.old) / 512) b)) }
+        ensures inside { (b : List ℕ) → M.reveals (tree_memory self.old) b → IfErr result (IfMalformed (λ page. page < M.size (tree_memory self.old) / 512)) }
         ensures cause { IfErr result (IfMemNotFull (M.accounted (tree_memory self.old) (tree_memory self.new))) }
         ensures same_list { (xs : List (List ℕ)) → Lists self.old xs → Lists self.new xs }
-        ensures same_bytes { (b : List ℕ) → M.tells (tree_memory self.old) b → M.tells (tree_memory self.new) b }
+        ensures same_bytes { (b : List ℕ) → M.reveals (tree_memory self.old) b → M.reveals (tree_memory self.new) b }
         ensures kept { M.beside (tree_memory self.old) (tree_memory self.new) }
         ensures cost { M.spent (tree_memory self.new) ≤ M.spent (tree_memory self.old) + M.cost }
     {
@@ -91,11 +91,11 @@ impl<M: FlatMem, const E: usize, const K: usize> PageTree<M, E, K> {
         into: &mut [u8; E],
     ) -> Result<bool, TreeError<M::Error>>
         ensures found { (xs : List (List ℕ)) → Lists self.old xs → MatchResult result (IsLastEntry K xs key.now into.new) FromMemory }
-        ensures malformed { (b : List ℕ) → M.tells (tree_memory self.old) b → IfErr result (IfMalformed (Breaks E K (M.size (tree_memory self.old) / 512) b)) }
-        ensures inside { (b : List ℕ) → M.tells (tree_memory self.old) b → IfErr result (IfMalformed (λ page. page < M.size (tree_memory self.old) / 512)) }
+        ensures malformed { (b : List ℕ) → M.reveals (tree_memory self.old) b → IfErr result (IfMalformed (Breaks E K (M.size (tree_memory self.old) / 512) b)) }
+        ensures inside { (b : List ℕ) → M.reveals (tree_memory self.old) b → IfErr result (IfMalformed (λ page. page < M.size (tree_memory self.old) / 512)) }
         ensures cause { IfErr result (IfMemNotFull (M.accounted (tree_memory self.old) (tree_memory self.new))) }
         ensures same_list { (xs : List (List ℕ)) → Lists self.old xs → Lists self.new xs }
-        ensures same_bytes { (b : List ℕ) → M.tells (tree_memory self.old) b → M.tells (tree_memory self.new) b }
+        ensures same_bytes { (b : List ℕ) → M.reveals (tree_memory self.old) b → M.reveals (tree_memory self.new) b }
         ensures kept { M.beside (tree_memory self.old) (tree_memory self.new) }
         ensures cost { M.spent (tree_memory self.new) ≤ M.spent (tree_memory self.old) + 7 * M.cost }
     {
@@ -112,12 +112,12 @@ impl<M: FlatMem, const E: usize, const K: usize> PageTree<M, E, K> {
         into: &mut [u8; E],
     ) -> Result<Option<u32>, TreeError<M::Error>>
         ensures found { (xs : List (List ℕ)) → Lists self.old xs → MatchResult result (λ page. IsLastEntry K xs key.now into.new (is_some page)) FromMemory }
-        ensures page { (b : List ℕ) → M.tells (tree_memory self.old) b → IfOk result (λ page. IfSome page (StandsIn E K b into.new)) }
-        ensures malformed { (b : List ℕ) → M.tells (tree_memory self.old) b → IfErr result (IfMalformed (Breaks E K (M.size (tree_memory self.old) / 512) b)) }
-        ensures inside { (b : List ℕ) → M.tells (tree_memory self.old) b → IfErr result (IfMalformed (λ page. page < M.size (tree_memory self.old) / 512)) }
+        ensures page { (b : List ℕ) → M.reveals (tree_memory self.old) b → IfOk result (λ page. IfSome page (StandsIn E K b into.new)) }
+        ensures malformed { (b : List ℕ) → M.reveals (tree_memory self.old) b → IfErr result (IfMalformed (Breaks E K (M.size (tree_memory self.old) / 512) b)) }
+        ensures inside { (b : List ℕ) → M.reveals (tree_memory self.old) b → IfErr result (IfMalformed (λ page. page < M.size (tree_memory self.old) / 512)) }
         ensures cause { IfErr result (IfMemNotFull (M.accounted (tree_memory self.old) (tree_memory self.new))) }
         ensures same_list { (xs : List (List ℕ)) → Lists self.old xs → Lists self.new xs }
-        ensures same_bytes { (b : List ℕ) → M.tells (tree_memory self.old) b → M.tells (tree_memory self.new) b }
+        ensures same_bytes { (b : List ℕ) → M.reveals (tree_memory self.old) b → M.reveals (tree_memory self.new) b }
         ensures kept { M.beside (tree_memory self.old) (tree_memory self.new) }
         ensures cost { M.spent (tree_memory self.new) ≤ M.spent (tree_memory self.old) + 7 * M.cost }
     {
@@ -131,11 +131,11 @@ impl<M: FlatMem, const E: usize, const K: usize> PageTree<M, E, K> {
         into: &mut [u8; E],
     ) -> Result<bool, TreeError<M::Error>>
         ensures found { (xs : List (List ℕ)) → Lists self.old xs → MatchResult result (IsNextEntry K xs key.now into.new) FromMemory }
-        ensures malformed { (b : List ℕ) → M.tells (tree_memory self.old) b → IfErr result (IfMalformed (Breaks E K (M.size (tree_memory self.old) / 512) b)) }
-        ensures inside { (b : List ℕ) → M.tells (tree_memory self.old) b → IfErr result (IfMalformed (λ page. page < M.size (tree_memory self.old) / 512)) }
+        ensures malformed { (b : List ℕ) → M.reveals (tree_memory self.old) b → IfErr result (IfMalformed (Breaks E K (M.size (tree_memory self.old) / 512) b)) }
+        ensures inside { (b : List ℕ) → M.reveals (tree_memory self.old) b → IfErr result (IfMalformed (λ page. page < M.size (tree_memory self.old) / 512)) }
         ensures cause { IfErr result (IfMemNotFull (M.accounted (tree_memory self.old) (tree_memory self.new))) }
         ensures same_list { (xs : List (List ℕ)) → Lists self.old xs → Lists self.new xs }
-        ensures same_bytes { (b : List ℕ) → M.tells (tree_memory self.old) b → M.tells (tree_memory self.new) b }
+        ensures same_bytes { (b : List ℕ) → M.reveals (tree_memory self.old) b → M.reveals (tree_memory self.new) b }
         ensures kept { M.beside (tree_memory self.old) (tree_memory self.new) }
         ensures cost { M.spent (tree_memory self.new) ≤ M.spent (tree_memory self.old) + 18 * M.cost }
     {
@@ -152,25 +152,25 @@ impl<M: FlatMem, const E: usize, const K: usize> PageTree<M, E, K> {
         into: &mut [u8; E],
     ) -> Result<Option<u32>, TreeError<M::Error>>
         ensures found { (xs : List (List ℕ)) → Lists self.old xs → MatchResult result (λ page. IsNextEntry K xs key.now into.new (is_some page)) FromMemory }
-        ensures page { (b : List ℕ) → M.tells (tree_memory self.old) b → IfOk result (λ page. IfSome page (StandsIn E K b into.new)) }
-        ensures malformed { (b : List ℕ) → M.tells (tree_memory self.old) b → IfErr result (IfMalformed (Breaks E K (M.size (tree_memory self.old) / 512) b)) }
-        ensures inside { (b : List ℕ) → M.tells (tree_memory self.old) b → IfErr result (IfMalformed (λ page. page < M.size (tree_memory self.old) / 512)) }
+        ensures page { (b : List ℕ) → M.reveals (tree_memory self.old) b → IfOk result (λ page. IfSome page (StandsIn E K b into.new)) }
+        ensures malformed { (b : List ℕ) → M.reveals (tree_memory self.old) b → IfErr result (IfMalformed (Breaks E K (M.size (tree_memory self.old) / 512) b)) }
+        ensures inside { (b : List ℕ) → M.reveals (tree_memory self.old) b → IfErr result (IfMalformed (λ page. page < M.size (tree_memory self.old) / 512)) }
         ensures cause { IfErr result (IfMemNotFull (M.accounted (tree_memory self.old) (tree_memory self.new))) }
         ensures same_list { (xs : List (List ℕ)) → Lists self.old xs → Lists self.new xs }
-        ensures same_bytes { (b : List ℕ) → M.tells (tree_memory self.old) b → M.tells (tree_memory self.new) b }
+        ensures same_bytes { (b : List ℕ) → M.reveals (tree_memory self.old) b → M.reveals (tree_memory self.new) b }
         ensures kept { M.beside (tree_memory self.old) (tree_memory self.new) }
         ensures cost { M.spent (tree_memory self.new) ≤ M.spent (tree_memory self.old) + 18 * M.cost }
     {
         after::look_after(&mut self.mem, key, into)
     }
 
-    /// Adds an entry behind the last whose key is at most its own.
+    /// Adds an entry after the last whose key is at most its own.
     pub fn insert(&mut self, entry: &[u8; E]) -> Result<(), TreeError<M::Error>>
         ensures inserted { (xs : List (List ℕ)) → Lists self.old xs → MatchResult result (λ _. IsInserted E K (M.size (tree_memory self.old) / 512) (Lists self.new) xs entry.now) (IsFull E (M.size (tree_memory self.old) / 512) (Lists self.new) xs) }
-        ensures full { (b : List ℕ) → M.tells (tree_memory self.old) b → IfErr result (IfFull (capacity_of E (M.size (tree_memory self.old) / 512) ≤ count_in (page_at b 0))) }
-        ensures full_same { (b : List ℕ) → M.tells (tree_memory self.old) b → IfErr result (IfFull (M.tells (tree_memory self.new) b)) }
-        ensures malformed { (b : List ℕ) → M.tells (tree_memory self.old) b → IfErr result (IfMalformed (StopsInsertion E K (M.size (tree_memory self.old) / 512) b)) }
-        ensures inside { (b : List ℕ) → M.tells (tree_memory self.old) b → IfErr result (IfMalformed (λ page. page < M.size (tree_memory self.old) / 512)) }
+        ensures full { (b : List ℕ) → M.reveals (tree_memory self.old) b → IfErr result (IfFull (capacity_of E (M.size (tree_memory self.old) / 512) ≤ count_in (page_at b 0))) }
+        ensures full_same { (b : List ℕ) → M.reveals (tree_memory self.old) b → IfErr result (IfFull (M.reveals (tree_memory self.new) b)) }
+        ensures malformed { (b : List ℕ) → M.reveals (tree_memory self.old) b → IfErr result (IfMalformed (StopsInsertion E K (M.size (tree_memory self.old) / 512) b)) }
+        ensures inside { (b : List ℕ) → M.reveals (tree_memory self.old) b → IfErr result (IfMalformed (λ page. page < M.size (tree_memory self.old) / 512)) }
         ensures cause { IfErr result (IfMemory (M.accounted (tree_memory self.old) (tree_memory self.new))) }
         ensures kept { M.beside (tree_memory self.old) (tree_memory self.new) }
         ensures cost { M.spent (tree_memory self.new) ≤ M.spent (tree_memory self.old) + 33 * M.cost }
@@ -181,9 +181,9 @@ impl<M: FlatMem, const E: usize, const K: usize> PageTree<M, E, K> {
     /// Takes out the last entry that has this key, and says whether there was one.
     pub fn remove_key(&mut self, key: &[u8; K]) -> Result<bool, TreeError<M::Error>>
         ensures removed { (xs : List (List ℕ)) → Lists self.old xs → MatchResult result (IsTakenOut K (Lists self.new) xs key.now) FromMemory }
-        ensures absent { (b : List ℕ) → M.tells (tree_memory self.old) b → IfOk result (λ found. found ≡ false → M.tells (tree_memory self.new) b) }
-        ensures malformed { (b : List ℕ) → M.tells (tree_memory self.old) b → IfErr result (IfMalformed (Breaks E K (M.size (tree_memory self.old) / 512) b)) }
-        ensures inside { (b : List ℕ) → M.tells (tree_memory self.old) b → IfErr result (IfMalformed (λ page. page < M.size (tree_memory self.old) / 512)) }
+        ensures absent { (b : List ℕ) → M.reveals (tree_memory self.old) b → IfOk result (λ found. found ≡ false → M.reveals (tree_memory self.new) b) }
+        ensures malformed { (b : List ℕ) → M.reveals (tree_memory self.old) b → IfErr result (IfMalformed (Breaks E K (M.size (tree_memory self.old) / 512) b)) }
+        ensures inside { (b : List ℕ) → M.reveals (tree_memory self.old) b → IfErr result (IfMalformed (λ page. page < M.size (tree_memory self.old) / 512)) }
         ensures cause { IfErr result (IfMemNotFull (M.accounted (tree_memory self.old) (tree_memory self.new))) }
         ensures kept { M.beside (tree_memory self.old) (tree_memory self.new) }
         ensures cost { M.spent (tree_memory self.new) ≤ M.spent (tree_memory self.old) + 36 * M.cost }
@@ -194,9 +194,9 @@ impl<M: FlatMem, const E: usize, const K: usize> PageTree<M, E, K> {
     /// Writes an entry over the last that has its key, and says whether there was one.
     pub fn replace_key(&mut self, entry: &[u8; E]) -> Result<bool, TreeError<M::Error>>
         ensures replaced { (xs : List (List ℕ)) → Lists self.old xs → MatchResult result (IsPutOver K (Lists self.new) xs entry.now) FromMemory }
-        ensures absent { (b : List ℕ) → M.tells (tree_memory self.old) b → IfOk result (λ found. found ≡ false → M.tells (tree_memory self.new) b) }
-        ensures malformed { (b : List ℕ) → M.tells (tree_memory self.old) b → IfErr result (IfMalformed (Breaks E K (M.size (tree_memory self.old) / 512) b)) }
-        ensures inside { (b : List ℕ) → M.tells (tree_memory self.old) b → IfErr result (IfMalformed (λ page. page < M.size (tree_memory self.old) / 512)) }
+        ensures absent { (b : List ℕ) → M.reveals (tree_memory self.old) b → IfOk result (λ found. found ≡ false → M.reveals (tree_memory self.new) b) }
+        ensures malformed { (b : List ℕ) → M.reveals (tree_memory self.old) b → IfErr result (IfMalformed (Breaks E K (M.size (tree_memory self.old) / 512) b)) }
+        ensures inside { (b : List ℕ) → M.reveals (tree_memory self.old) b → IfErr result (IfMalformed (λ page. page < M.size (tree_memory self.old) / 512)) }
         ensures cause { IfErr result (IfMemNotFull (M.accounted (tree_memory self.old) (tree_memory self.new))) }
         ensures kept { M.beside (tree_memory self.old) (tree_memory self.new) }
         ensures cost { M.spent (tree_memory self.new) ≤ M.spent (tree_memory self.old) + 8 * M.cost }
@@ -208,14 +208,14 @@ impl<M: FlatMem, const E: usize, const K: usize> PageTree<M, E, K> {
     pub fn nth(&mut self, index: u32, into: &mut [u8; E]) -> Result<(), TreeError<M::Error>>
         ensures entry { (xs : List (List ℕ)) → Lists self.old xs → index < length xs → MatchResult result (λ _. into.new ≡ entry_at xs index) FromMemory }
         ensures past { (xs : List (List ℕ)) → Lists self.old xs → length xs ≤ index → MatchResult result (λ _. ⊥) IsPast }
-        ensures past_any { (b : List ℕ) → M.tells (tree_memory self.old) b → count_in (page_at b 0) ≤ index → MatchResult result (λ _. ⊥) IsPast }
-        ensures stands { (b : List ℕ) → M.tells (tree_memory self.old) b → IfOk result (λ _. IsNth E K b index into.new) }
-        ensures malformed { (b : List ℕ) → M.tells (tree_memory self.old) b → IfErr result (IfMalformed (λ page. Breaks E K (M.size (tree_memory self.old) / 512) b page ⊎ ((page ≡ 0) × (count_in (page_at b 0) ≤ index)))) }
-        ensures lacking { (b : List ℕ) → M.tells (tree_memory self.old) b → IfErr result (IfMalformed (λ page. page ≡ 0 → LacksNth E K (M.size (tree_memory self.old) / 512) b index)) }
-        ensures inside { (b : List ℕ) → M.tells (tree_memory self.old) b → IfErr result (IfMalformed (λ page. page < M.size (tree_memory self.old) / 512)) }
+        ensures past_any { (b : List ℕ) → M.reveals (tree_memory self.old) b → count_in (page_at b 0) ≤ index → MatchResult result (λ _. ⊥) IsPast }
+        ensures stands { (b : List ℕ) → M.reveals (tree_memory self.old) b → IfOk result (λ _. IsNth E K b index into.new) }
+        ensures malformed { (b : List ℕ) → M.reveals (tree_memory self.old) b → IfErr result (IfMalformed (λ page. Breaks E K (M.size (tree_memory self.old) / 512) b page ⊎ ((page ≡ 0) × (count_in (page_at b 0) ≤ index)))) }
+        ensures missing { (b : List ℕ) → M.reveals (tree_memory self.old) b → IfErr result (IfMalformed (λ page. page ≡ 0 → MissesNth E K (M.size (tree_memory self.old) / 512) b index)) }
+        ensures inside { (b : List ℕ) → M.reveals (tree_memory self.old) b → IfErr result (IfMalformed (λ page. page < M.size (tree_memory self.old) / 512)) }
         ensures cause { IfErr result (IfMemNotFull (M.accounted (tree_memory self.old) (tree_memory self.new))) }
         ensures same_list { (xs : List (List ℕ)) → Lists self.old xs → Lists self.new xs }
-        ensures same_bytes { (b : List ℕ) → M.tells (tree_memory self.old) b → M.tells (tree_memory self.new) b }
+        ensures same_bytes { (b : List ℕ) → M.reveals (tree_memory self.old) b → M.reveals (tree_memory self.new) b }
         ensures kept { M.beside (tree_memory self.old) (tree_memory self.new) }
         ensures cost { M.spent (tree_memory self.new) ≤ M.spent (tree_memory self.old) + 12 * (M.size (tree_memory self.old) / 512) * M.cost }
     {
@@ -225,11 +225,11 @@ impl<M: FlatMem, const E: usize, const K: usize> PageTree<M, E, K> {
     /// Finds the index of the last entry whose key is at most `key`, leaf by leaf.
     pub fn find_last_at_most(&mut self, key: &[u8; K]) -> Result<Option<u32>, TreeError<M::Error>>
         ensures found { (xs : List (List ℕ)) → Lists self.old xs → MatchResult result (IsFound K xs key.now) FromMemory }
-        ensures malformed { (b : List ℕ) → M.tells (tree_memory self.old) b → IfErr result (IfMalformed (Breaks E K (M.size (tree_memory self.old) / 512) b)) }
-        ensures inside { (b : List ℕ) → M.tells (tree_memory self.old) b → IfErr result (IfMalformed (λ page. page < M.size (tree_memory self.old) / 512)) }
+        ensures malformed { (b : List ℕ) → M.reveals (tree_memory self.old) b → IfErr result (IfMalformed (Breaks E K (M.size (tree_memory self.old) / 512) b)) }
+        ensures inside { (b : List ℕ) → M.reveals (tree_memory self.old) b → IfErr result (IfMalformed (λ page. page < M.size (tree_memory self.old) / 512)) }
         ensures cause { IfErr result (IfMemNotFull (M.accounted (tree_memory self.old) (tree_memory self.new))) }
         ensures same_list { (xs : List (List ℕ)) → Lists self.old xs → Lists self.new xs }
-        ensures same_bytes { (b : List ℕ) → M.tells (tree_memory self.old) b → M.tells (tree_memory self.new) b }
+        ensures same_bytes { (b : List ℕ) → M.reveals (tree_memory self.old) b → M.reveals (tree_memory self.new) b }
         ensures kept { M.beside (tree_memory self.old) (tree_memory self.new) }
         ensures cost { M.spent (tree_memory self.new) ≤ M.spent (tree_memory self.old) + 12 * (M.size (tree_memory self.old) / 512) * M.cost }
     {
@@ -240,12 +240,12 @@ impl<M: FlatMem, const E: usize, const K: usize> PageTree<M, E, K> {
     pub fn replace(&mut self, index: u32, entry: &[u8; E]) -> Result<(), TreeError<M::Error>>
         ensures replaced { (xs : List (List ℕ)) → Lists self.old xs → index < length xs → take K entry.now ≡ key_at K xs index → MatchResult result (λ _. Lists self.new (slice_set xs index entry.now)) FromMemory }
         ensures past { (xs : List (List ℕ)) → Lists self.old xs → length xs ≤ index → MatchResult result (λ _. ⊥) IsPast }
-        ensures past_any { (b : List ℕ) → M.tells (tree_memory self.old) b → count_in (page_at b 0) ≤ index → MatchResult result (λ _. ⊥) IsPast }
-        ensures past_same { (b : List ℕ) → M.tells (tree_memory self.old) b → count_in (page_at b 0) ≤ index → M.tells (tree_memory self.new) b }
-        ensures written { (b : List ℕ) → M.tells (tree_memory self.old) b → IfOk result (λ _. IsNthSet E K (M.tells (tree_memory self.new)) b index entry.now) }
-        ensures malformed { (b : List ℕ) → M.tells (tree_memory self.old) b → IfErr result (IfMalformed (λ page. Breaks E K (M.size (tree_memory self.old) / 512) b page ⊎ ((page ≡ 0) × (count_in (page_at b 0) ≤ index)))) }
-        ensures lacking { (b : List ℕ) → M.tells (tree_memory self.old) b → IfErr result (IfMalformed (λ page. page ≡ 0 → LacksNth E K (M.size (tree_memory self.old) / 512) b index)) }
-        ensures inside { (b : List ℕ) → M.tells (tree_memory self.old) b → IfErr result (IfMalformed (λ page. page < M.size (tree_memory self.old) / 512)) }
+        ensures past_any { (b : List ℕ) → M.reveals (tree_memory self.old) b → count_in (page_at b 0) ≤ index → MatchResult result (λ _. ⊥) IsPast }
+        ensures past_same { (b : List ℕ) → M.reveals (tree_memory self.old) b → count_in (page_at b 0) ≤ index → M.reveals (tree_memory self.new) b }
+        ensures written { (b : List ℕ) → M.reveals (tree_memory self.old) b → IfOk result (λ _. IsNthSet E K (M.reveals (tree_memory self.new)) b index entry.now) }
+        ensures malformed { (b : List ℕ) → M.reveals (tree_memory self.old) b → IfErr result (IfMalformed (λ page. Breaks E K (M.size (tree_memory self.old) / 512) b page ⊎ ((page ≡ 0) × (count_in (page_at b 0) ≤ index)))) }
+        ensures missing { (b : List ℕ) → M.reveals (tree_memory self.old) b → IfErr result (IfMalformed (λ page. page ≡ 0 → MissesNth E K (M.size (tree_memory self.old) / 512) b index)) }
+        ensures inside { (b : List ℕ) → M.reveals (tree_memory self.old) b → IfErr result (IfMalformed (λ page. page < M.size (tree_memory self.old) / 512)) }
         ensures cause { IfErr result (IfMemNotFull (M.accounted (tree_memory self.old) (tree_memory self.new))) }
         ensures kept { M.beside (tree_memory self.old) (tree_memory self.new) }
         ensures cost { M.spent (tree_memory self.new) ≤ M.spent (tree_memory self.old) + 12 * (M.size (tree_memory self.old) / 512) * M.cost }
@@ -257,12 +257,12 @@ impl<M: FlatMem, const E: usize, const K: usize> PageTree<M, E, K> {
     pub fn remove(&mut self, index: u32) -> Result<(), TreeError<M::Error>>
         ensures removed { (xs : List (List ℕ)) → Lists self.old xs → index < length xs → MatchResult result (λ _. Lists self.new (remove xs index)) FromMemory }
         ensures past { (xs : List (List ℕ)) → Lists self.old xs → length xs ≤ index → MatchResult result (λ _. ⊥) IsPast }
-        ensures past_any { (b : List ℕ) → M.tells (tree_memory self.old) b → count_in (page_at b 0) ≤ index → MatchResult result (λ _. ⊥) IsPast }
-        ensures past_same { (b : List ℕ) → M.tells (tree_memory self.old) b → count_in (page_at b 0) ≤ index → M.tells (tree_memory self.new) b }
-        ensures stood { (b : List ℕ) → M.tells (tree_memory self.old) b → IfOk result (λ _. HasNth E K b index) }
-        ensures malformed { (b : List ℕ) → M.tells (tree_memory self.old) b → IfErr result (IfMalformed (λ page. Breaks E K (M.size (tree_memory self.old) / 512) b page ⊎ ((page ≡ 0) × (count_in (page_at b 0) ≤ index)))) }
-        ensures lacking { (b : List ℕ) → M.tells (tree_memory self.old) b → IfErr result (IfMalformed (λ page. page ≡ 0 → LacksNth E K (M.size (tree_memory self.old) / 512) b index)) }
-        ensures inside { (b : List ℕ) → M.tells (tree_memory self.old) b → IfErr result (IfMalformed (λ page. page < M.size (tree_memory self.old) / 512)) }
+        ensures past_any { (b : List ℕ) → M.reveals (tree_memory self.old) b → count_in (page_at b 0) ≤ index → MatchResult result (λ _. ⊥) IsPast }
+        ensures past_same { (b : List ℕ) → M.reveals (tree_memory self.old) b → count_in (page_at b 0) ≤ index → M.reveals (tree_memory self.new) b }
+        ensures stood { (b : List ℕ) → M.reveals (tree_memory self.old) b → IfOk result (λ _. HasNth E K b index) }
+        ensures malformed { (b : List ℕ) → M.reveals (tree_memory self.old) b → IfErr result (IfMalformed (λ page. Breaks E K (M.size (tree_memory self.old) / 512) b page ⊎ ((page ≡ 0) × (count_in (page_at b 0) ≤ index)))) }
+        ensures missing { (b : List ℕ) → M.reveals (tree_memory self.old) b → IfErr result (IfMalformed (λ page. page ≡ 0 → MissesNth E K (M.size (tree_memory self.old) / 512) b index)) }
+        ensures inside { (b : List ℕ) → M.reveals (tree_memory self.old) b → IfErr result (IfMalformed (λ page. page < M.size (tree_memory self.old) / 512)) }
         ensures cause { IfErr result (IfMemNotFull (M.accounted (tree_memory self.old) (tree_memory self.new))) }
         ensures kept { M.beside (tree_memory self.old) (tree_memory self.new) }
         ensures cost { M.spent (tree_memory self.new) ≤ M.spent (tree_memory self.old) + 15 * (M.size (tree_memory self.old) / 512) * M.cost }

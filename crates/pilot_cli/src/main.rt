@@ -31,7 +31,7 @@ fn hold_streams(rt: &HostRuntime) -> io::Result<(File, File, File)> {
     Ok((hold_stream(rt)?, hold_stream(rt)?, hold_stream(rt)?))
 }
 
-/// The words behind the program's name, or how the program ends without them.
+/// The words after the program's name, or how the program ends without them.
 fn words_of(rt: &HostRuntime) -> Result<Vec<String>, Status> {
     let args = env::args(rt).map_err(|error| match error.kind() {
         io::ErrorKind::OutOfMemory => Status::NoMemory,
@@ -64,7 +64,7 @@ fn command<D: Disk>(rt: &HostRuntime, disk: &mut D, words: &[String]) -> Status 
 }
 
 /// Writes a text of the program's own.
-fn tell(rt: &HostRuntime, text: &str) -> Status {
+fn reveal(rt: &HostRuntime, text: &str) -> Status {
     match print!(rt; "{text}") {
         Ok(()) => Status::Done,
         Err(error) => {
@@ -82,7 +82,7 @@ fn run(rt: &HostRuntime, held: io::Result<()>) -> Status {
     let words = match words_of(rt) {
         Ok(words) => words,
         Err(Status::Usage) => {
-            let _ = tell(rt, "stopped usage\n");
+            let _ = reveal(rt, "stopped usage\n");
             reasons::not_a_text(rt);
             return Status::Usage;
         }
@@ -92,8 +92,8 @@ fn run(rt: &HostRuntime, held: io::Result<()>) -> Status {
         }
     };
     match words.as_slice() {
-        [word] if asks_for_help(word.as_str()) => tell(rt, about::HELP),
-        [word] if word.as_str() == "--version" => tell(rt, about::VERSION),
+        [word] if asks_for_help(word.as_str()) => reveal(rt, about::HELP),
+        [word] if word.as_str() == "--version" => reveal(rt, about::VERSION),
         [] => no_command(rt, "", &[]),
         [image, rest @ ..] => on_image(rt, held, image.as_str(), rest),
     }

@@ -20,7 +20,7 @@ fn order(image: &str) -> &'static str {
     }
 }
 
-/// The words behind the image word mean no command: which words, and how the program is called.
+/// The words after the image word mean no command: which words, and how the program is called.
 pub(crate) fn no_command(rt: &HostRuntime, image: &str, words: &[String]) -> Status {
     let status = command(rt, &mut ImageDisk::<File>::absent(), words);
     let order = order(image);
@@ -111,7 +111,7 @@ fn too_long(rt: &HostRuntime) {
     );
 }
 
-/// What is said behind the fault of a root: the counts of sectors that a volume can have, or that
+/// What is said after the fault of a root: the counts of sectors that a volume can have, or that
 /// a volume is not old.
 fn beside(fault: RootFault) -> &'static str {
     match fault {
@@ -148,7 +148,7 @@ fn renewal(rt: &HostRuntime, path: &str, version: u16) {
     );
 }
 
-/// The volume was refused: its root is read once more, and the first test of it that fails is told.
+/// The volume was refused: its root is read once more, and the first test of it that fails is revealed.
 fn not_opened(rt: &HostRuntime, task: Task<'_>, disk: &mut ImageDisk<File>) {
     let root = match task.meant {
         Command::Convert => read_old_root(disk),

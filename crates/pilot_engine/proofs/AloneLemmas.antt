@@ -33,14 +33,14 @@ use Rattle.swapper_kernel.specs.HaltLaws.{brings_wider}
 use Rattle.filer_kernel.specs.Tables.{table_pages}
 use Rattle.session_words.specs.FrameLaws.{HasFrames, IsKnown, IsThere, is_shown}
 use Rattle.session_words.specs.Parts.{DirtyAreLoose, TablesMeaning}
-use Rattle.session_words.specs.StandsFor.{IsFor, TellsSettled}
+use Rattle.session_words.specs.StandsFor.{IsFor, RevealsSettled}
 use Rattle.session_words.specs.Volume.{volume_page}
 use Rattle.session_words.proofs.CellLemmas.{any_agrees}
 use Rattle.session_words.proofs.LooseLemmas.{volume_loose}
 use Rattle.session_words.proofs.SameLabelLemmas.{zip_long}
 use Rattle.file_manager.specs.declared.volume.Volume.{Volume}
 use Rattle.fault_core.specs.Reach.{BringsOwn, Reaches}
-use Rattle.fault_core.specs.Told.{Told}
+use Rattle.fault_core.specs.Revealed.{Revealed}
 use Rattle.fault_core.specs.Unit.{IsResident}
 use Rattle.fault_core.specs.View.{View}
 use Rattle.running_words.specs.Running.{IsRunning}
@@ -135,7 +135,7 @@ forgotten_is spaces_of x m h = record {
     bits = h.by.bits;
     triples = h.by.triples;
     cells = h.by.cells;
-    tables = record { pages = h.by.tables.pages; told = refl; count = h.by.tables.count; each = h.by.tables.each };
+    tables = record { pages = h.by.tables.pages; revealed = refl; count = h.by.tables.count; each = h.by.tables.each };
   };
 }
 
@@ -183,19 +183,19 @@ alone_left v kept count volume m r gone =
 pub own_makes : {run : List DiskWrite} {a b : DiskState} {s t : Slots} → Makes table_pages run a s b t → Makes volume_page run a s b t
 own_makes makes = makes_wider volume_page tables_own makes
 
--- the same of what a core is seen as, once the frames of the whole root were let go
+-- the same of what a core is seen as, once the frames of the whole root were evicted
 module _ (laws : RunningLaws) (v w : View) (kept later : List Interval) (count now : ℕ) (volume : Volume) (m : Machine) (whole : IsWhole v) (r : IsRunning v kept count volume m) where
-  abbrev pub told_there : Told v kept count r.session.stands.memory r.session.stands.is.named m.spaces
-  told_there = laws.known v kept count volume m whole r
+  abbrev pub revealed_there : Revealed v kept count r.session.stands.memory r.session.stands.is.named m.spaces
+  revealed_there = laws.known v kept count volume m whole r
 
-  pub let_go_alone : Reaches v w → BringsOwn v.slots w.slots → now ≡ count → Told w later now r.session.stands.memory r.session.stands.is.named m.spaces → AreGone m.spaces w.slots 0 (0 + root_pages)
+  pub evict_alone : Reaches v w → BringsOwn v.slots w.slots → now ≡ count → Revealed w later now r.session.stands.memory r.session.stands.is.named m.spaces → AreGone m.spaces w.slots 0 (0 + root_pages)
       → IsAlone root_alone w.disk w.slots w.layout w.runs volume (forgotten m)
-  let_go_alone reaches came same told gone =
+  evict_alone reaches came same revealed gone =
       let known = brings_wider (λ home. IsKnown m.spaces home.id home.page) (λ home own. inl own) came in
-      let running = laws.asked v w kept later count volume m whole r reaches known (subst (λ (n : ℕ). Told w later n r.session.stands.memory r.session.stands.is.named m.spaces) same told) in
+      let running = laws.asked v w kept later count volume m whole r reaches known (subst (λ (n : ℕ). Revealed w later n r.session.stands.memory r.session.stands.is.named m.spaces) same revealed) in
       alone_left w later count volume m running gone
 
--- Where all is forced, more bytes are told.
+-- Where all is forced, more bytes are revealed.
 
 page_any : (test : ℕ → Bool) (n : ℕ) (ps qs : List Page) → AllByRecursion (λ q. length q ≡ 512) qs → AllZip PageAgrees ps (map (λ e. if false then any_page else e.1) (enumerate_from n qs))
     → AllZip PageAgrees ps (map (λ e. if test e.0 then any_page else e.1) (enumerate_from n qs))
@@ -232,21 +232,21 @@ files_any unforced fs (g ∷ gs) whole all = either g.permanent fs (λ fs. files
     either true fs rest all = one fs rest all
     either false fs rest all = rest fs all
 
-settled_more : (d : List Sector) (m : Machine) → IsMachine m → TellsSettled d (forgotten m) → TellsSettled d m
-settled_more d m is told = record { agrees = files_any m.unforced (files_on d) m.files is.whole_files told.agrees; right = told.right }
+settled_more : (d : List Sector) (m : Machine) → IsMachine m → RevealsSettled d (forgotten m) → RevealsSettled d m
+settled_more d m is revealed = record { agrees = files_any m.unforced (files_on d) m.files is.whole_files revealed.agrees; right = revealed.right }
 
 pub stop_more : (d : List Sector) (m : Machine) → IsMachine m → IsStop (forgotten m) d → IsStop m d
-stop_more d m is stop = record { told = settled_more d m is stop.told; same_serial = stop.same_serial; same_counter = stop.same_counter; honest = stop.honest }
+stop_more d m is stop = record { revealed = settled_more d m is stop.revealed; same_serial = stop.same_serial; same_counter = stop.same_counter; honest = stop.honest }
 
 -- and the machine that is closed is the same
 pub shut_same : (m : Machine) (disk : DiskState) → HasShut (forgotten m) disk → HasShut m disk
 shut_same m disk h =
-    let s = h.tells.shut in
+    let s = h.reveals.shut in
     record {
-      tells = record {
-        sectors = h.tells.sectors;
-        told = h.tells.told;
-        shut = record { sound = s.sound; same_serial = s.same_serial; same_counter = s.same_counter; same_room = s.same_room; told = s.told };
+      reveals = record {
+        sectors = h.reveals.sectors;
+        revealed = h.reveals.revealed;
+        shut = record { sound = s.sound; same_serial = s.same_serial; same_counter = s.same_counter; same_room = s.same_room; revealed = s.revealed };
       };
       synced = h.synced;
     }

@@ -21,7 +21,7 @@ use Rattle.flat_machine.specs.Machine.{Machine, shares_anonymous}
 use Rattle.flat_machine.specs.Next.{next, is_same_page, set_window, unmapped, without_anonymous, without_file, without_window_of}
 use Rattle.flat_machine.specs.Refusal.{first_of, refusal, file_mapped}
 use Rattle.projection_laws.specs.Tests.{window_row}
-use Rattle.table_calls.specs.Answers.{Tells}
+use Rattle.table_calls.specs.Answers.{Reveals}
 use Rattle.flat_machine.specs.Settled.{is_unforced}
 use Rattle.flat_machine.specs.Space.{has_window, shows, space_at}
 use Rattle.flat_machine.proofs.FileLemmas.{window_file}
@@ -34,10 +34,10 @@ use Rattle.space_tables.specs.declared.shown.Shown.{Shown}
 use Rattle.space_tables.specs.Shows.{window_of}
 use Rattle.space_calls.specs.Unmapping.{IsTaken, without_window}
 use Rattle.file_manager.specs.declared.volume.Volume.{Volume}
-use Rattle.fault_core.specs.declared.core_over.CoreOver.{CoreOver}
+use Rattle.fault_core.specs.declared.core_over.Core.{Core}
 use Rattle.running_words.specs.Running.{Carried, Runs}
 use Rattle.running_words.specs.Stages.{HasNumbers, Passes, stage}
-use Rattle.labelled_disk.specs.Calls.{TellsSame}
+use Rattle.labelled_disk.specs.Calls.{RevealsSame}
 use Rattle.labelled_disk.specs.State.{DiskState}
 use Rattle.labelled_disk.proofs.WriteRunLemmas.{appended_no_more}
 use Rattle.file_map.specs.FileMap.{Triples}
@@ -47,11 +47,11 @@ use Rattle.fault_core.specs.Core.{Knows, state}
 use Rattle.fault_core.specs.Reach.{BringsOwn, Reaches}
 use Rattle.space_calls.proofs.RunLemmas.{knows, reached_runs}
 use Rattle.labelled_disk.specs.Sectors.{Sector}
-use Rattle.session_words.specs.StandsFor.{TellsSettled}
+use Rattle.session_words.specs.StandsFor.{RevealsSettled}
 use Rattle.pilot_engine.proofs.CarryLemmas.{answers}
 use Rattle.pilot_engine.proofs.RefusalLemmas.{delete_free}
 use Rattle.pilot_engine.proofs.SeenLemmas.{unseen_named}
-use Rattle.pilot_engine.proofs.SettledWider.{tells_wider}
+use Rattle.pilot_engine.proofs.SettledWider.{reveals_wider}
 
 -- what none of a list passes is not found in it
 none_passes : {X : Type 0} (p : X → Bool) (xs : List X) → ((x : X) → In x xs → p x ≡ false) → find p xs ≡ None
@@ -64,14 +64,14 @@ none_passes {X} p xs fails = by (find p xs) refl
 -- Tests that are turned.
 
 pub unset : (b : Bool) → not b ≡ true → b ≡ false
-unset true told = absurd (true≢false (sym told))
-unset false told = refl
+unset true revealed = absurd (true≢false (sym revealed))
+unset false revealed = refl
 
 pub is_set : (b : Bool) → not b ≡ false → b ≡ true
-is_set true told = refl
-is_set false told = absurd (true≢false told)
+is_set true revealed = refl
+is_set false revealed = absurd (true≢false revealed)
 
--- what the taking of a window tells
+-- what the taking of a window reveals
 pub record Took (m : Machine) (space : ℕ) (shown : Shown) (stands : Machine → Type 0) : Type 0 where
   pub free : refusal m (call.Unmap space) ≡ None
   pub s : Space
@@ -79,11 +79,11 @@ pub record Took (m : Machine) (space : ℕ) (shown : Shown) (stands : Machine �
   pub window : s.window ≡ Some (window_of shown)
   pub left : stands (without_window space s m)
 
-pub took : (m : Machine) (space : ℕ) (shown : Shown) (stands : Machine → Type 0) → Tells (first_of (window_row m.spaces space)) (IsTaken m space stands) (Ok shown) → Took m space shown stands
+pub took : (m : Machine) (space : ℕ) (shown : Shown) (stands : Machine → Type 0) → Reveals (first_of (window_row m.spaces space)) (IsTaken m space stands) (Ok shown) → Took m space shown stands
 took m space shown stands (free, t) = record { free = free; s = t.0; here = t.1; window = t.2; left = t.3 }
 
 -- or that it was refused
-pub not_taken : (m : Machine) (space : ℕ) (word : Refusal) (stands : Machine → Type 0) → Tells (first_of (window_row m.spaces space)) (IsTaken m space stands) (Err word) → refusal m (call.Unmap space) ≡ Some word
+pub not_taken : (m : Machine) (space : ℕ) (word : Refusal) (stands : Machine → Type 0) → Reveals (first_of (window_row m.spaces space)) (IsTaken m space stands) (Err word) → refusal m (call.Unmap space) ≡ Some word
 not_taken m space word stands (is, any) = is
 
 -- the reply to a call that is not refused
@@ -111,8 +111,8 @@ module _ (m : Machine) (h : IsMachine m) (space : ℕ) (s : Space) (here : space
   plain_left plain = is_unmapped ∙ (λ i. record m { files = files_left false plain i; spaces = set_window (own_handle i) None m.spaces; unforced = without_window_of s m.unforced })
 
   -- fewer pages are unforced
-  pub forced_wider : (d : List Sector) → TellsSettled d left → TellsSettled d m
-  forced_wider d told = tells_wider m left h refl fewer d told
+  pub forced_wider : (d : List Sector) → RevealsSettled d left → RevealsSettled d m
+  forced_wider d revealed = reveals_wider m left h refl fewer d revealed
     where
       fewer : (id page : ℕ) → is_unforced left.unforced id page ≡ true → is_unforced m.unforced id page ≡ true
       fewer id page is =
@@ -157,10 +157,10 @@ module _ (m : Machine) (h : IsMachine m) (space : ℕ) (s : Space) (here : space
         unrefused left (call.Delete shown.id) left_free
         ∙ sym (is_unmapped ∙ (λ i. record m { files = files_left true anonymous i; spaces = set_window (own_handle i) None m.spaces; unforced = without_window_of s m.unforced }))
 
-    -- at each moment
-    pub hidden_alike : (d : List Sector) (k : ℕ) → TellsSettled d (stage left (call.Delete shown.id) k) → TellsSettled d (stage m (call.Unmap space) k)
-    hidden_alike d zero told = forced_wider d told
-    hidden_alike d (suc k) told = subst (λ (n : Machine). TellsSettled d n) hidden_left told
+    -- in each crash state
+    pub hidden_alike : (d : List Sector) (k : ℕ) → RevealsSettled d (stage left (call.Delete shown.id) k) → RevealsSettled d (stage m (call.Unmap space) k)
+    hidden_alike d zero revealed = forced_wider d revealed
+    hidden_alike d (suc k) revealed = subst (λ (n : Machine). RevealsSettled d n) hidden_left revealed
 
     -- and the numbers are the same
     pub hidden_numbers : (d : List Sector) → HasNumbers left (call.Delete shown.id) d → HasNumbers m (call.Unmap space) d
@@ -169,7 +169,7 @@ module _ (m : Machine) (h : IsMachine m) (space : ℕ) (s : Space) (here : space
       counter = elim is.counter [ inl before ↦ inl before | inr after ↦ inr (after ∙ ap (λ (n : Machine). n.counter) hidden_left) ];
     }
 
-    module _ {D A : Type 0} {G : Ghosts D} (core : CoreOver D A G) (volume : Volume) where
+    module _ {D A : Type 0} {G : Ghosts D} (core : Core D A G) (volume : Volume) where
       pub hidden_carried : (result : Result Reply Halt) → IfOk result (Carried left (call.Delete shown.id) core volume) → IfOk result (Carried m (call.Unmap space) core volume)
       hidden_carried (Err e) carried = tt
       hidden_carried (Ok r) carried = record {
@@ -177,32 +177,32 @@ module _ (m : Machine) (h : IsMachine m) (space : ℕ) (s : Space) (here : space
         runs = subst (λ (n : Machine). Runs core volume n) hidden_left carried.runs;
       }
 
-  pub plain_carried : {D A : Type 0} {G : Ghosts D} (core : CoreOver D A G) (volume : Volume) → shown.anonymous ≡ false → Runs core volume left → Carried m (call.Unmap space) core volume reply.Done
+  pub plain_carried : {D A : Type 0} {G : Ghosts D} (core : Core D A G) (volume : Volume) → shown.anonymous ≡ false → Runs core volume left → Carried m (call.Unmap space) core volume reply.Done
   plain_carried core volume plain runs = record { allowed = answers m (call.Unmap space) reply.Done free refl; runs = subst (λ (n : Machine). Runs core volume n) (sym (plain_left plain)) runs }
 
 -- ---- What was written is waited for.
 
 module _ {D A : Type 0} {G : Ghosts D} where
   -- a core of which as much is known stands for the same machine
-  pub waited_running : (old new : CoreOver D A G) → IsLayout old.filer.swapper.layout → (G.state old.filer.swapper.under).sectors ≡ old.filer.swapper.layout.sectors → (volume : Volume) (m : Machine) → Runs old volume m
+  pub waited_running : (old new : Core D A G) → IsLayout old.filer.swapper.layout → (G.state old.filer.swapper.disk).sectors ≡ old.filer.swapper.layout.sectors → (volume : Volume) (m : Machine) → Runs old volume m
       → Reaches (state old) (state new) → new.filer.swapper.pool ≡ old.filer.swapper.pool → new.intervals ≡ old.intervals → ((x : List Sector) (named : Triples) (ss : List Space) → Knows old x named ss → Knows new x named ss) → Runs new volume m
   waited_running old new layout size volume m r reaches pools count known =
       reached_runs old layout size new volume m r reaches (subst (λ (slots : Slots). BringsOwn old.filer.swapper.pool slots) (sym pools) (record { homes = λ home held. inl held })) count (known _ _ m.spaces (knows old layout size volume m r))
 
-  pub waited_carried : (old new : CoreOver D A G) → IsLayout old.filer.swapper.layout → (G.state old.filer.swapper.under).sectors ≡ old.filer.swapper.layout.sectors → (volume : Volume) (m : Machine) (c : Call) (r : Reply) → Carried m c old volume r
+  pub waited_carried : (old new : Core D A G) → IsLayout old.filer.swapper.layout → (G.state old.filer.swapper.disk).sectors ≡ old.filer.swapper.layout.sectors → (volume : Volume) (m : Machine) (c : Call) (r : Reply) → Carried m c old volume r
       → Reaches (state old) (state new) → new.filer.swapper.pool ≡ old.filer.swapper.pool → new.intervals ≡ old.intervals → ((x : List Sector) (named : Triples) (ss : List Space) → Knows old x named ss → Knows new x named ss) → Carried m c new volume r
   waited_carried old new layout size volume m c r carried reaches pools count known =
       record { allowed = carried.allowed; runs = waited_running old new layout size volume (next m c) carried.runs reaches pools count known }
 
 -- and nothing more is written
-pub passes_still : {old mid new : DiskState} (m : Machine) (c : Call) → Passes m c old mid → TellsSame mid new → Passes m c old new
+pub passes_still : {old mid new : DiskState} (m : Machine) (c : Call) → Passes m c old mid → RevealsSame mid new → Passes m c old new
 passes_still m c h same = record {
   writes = h.writes;
   appended = appended_no_more h.writes h.appended same;
   steps = h.steps;
   rise = h.rise;
   within = h.within;
-  tells = h.tells;
+  reveals = h.reveals;
   open_flag = h.open_flag;
   numbers = h.numbers;
 }
@@ -217,7 +217,7 @@ pub refused_undone : (word : Refusal) → reply.Refused word ≡ reply.Done → 
 refused_undone word same = true≢false (sym (ap is_done_reply same))
 
 module _ {D A : Type 0} {G : Ghosts D} where
-  pub done_then : (m : Machine) (space : ℕ) (core : CoreOver D A G) (volume : Volume) (P : Type 0) (result : Result Reply Halt) → refusal m (call.Unmap space) ≡ None → IfOk result (Carried m (call.Unmap space) core volume)
+  pub done_then : (m : Machine) (space : ℕ) (core : Core D A G) (volume : Volume) (P : Type 0) (result : Result Reply Halt) → refusal m (call.Unmap space) ≡ None → IfOk result (Carried m (call.Unmap space) core volume)
       → IfOk result (λ answer. answer ≡ reply.Done → P) → OnOk result P
   done_then m space core volume P (Err e) free carried synced = tt
   done_then m space core volume P (Ok r) free carried synced = synced (replied m (call.Unmap space) r free carried.allowed)

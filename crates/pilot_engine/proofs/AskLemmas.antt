@@ -6,8 +6,8 @@ use Rattle.std.proofs.lemmas.Bool.Decides.{nat_tests}
 use Rattle.std.proofs.lemmas.Bool.{cases_lt}
 use Rattle.std.proofs.lemmas.Option.{none-some}
 use Rattle.labelled_disk.specs.File.{File, file_at}
-use Rattle.labelled_disk.specs.Rising.{AreRising}
-use Rattle.labelled_disk.proofs.RisingLemmas.{at_low, at_head, at_tail}
+use Rattle.labelled_disk.specs.Ascending.{AreAscending}
+use Rattle.labelled_disk.proofs.AscendingLemmas.{at_low, at_head, at_tail}
 use Rattle.flat_machine.specs.declared.call.Call.TheVariants as call
 use Rattle.flat_machine.specs.declared.call.Reply.TheVariants as reply
 use Rattle.flat_machine.specs.Machine.{Machine, used}
@@ -19,7 +19,7 @@ use Rattle.file_manager.specs.Answer.{IsNextFile}
 pub has_shape : (files : List File) (id : ℕ) (f : File) → file_at files id ≡ Some f → shapes_of files id ≢ None
 has_shape files id f is no_shape = none-some (shape_of f) (sym no_shape ∙ ap (option_map shape_of) is)
 
--- the first file above, in rising order
+-- the first file above, in ascending order
 module _ (all : List File) (id : ℕ) where
   abbrev test : File → Bool
   test f = nat_lt id f.id && is_some (file_at all f.id)
@@ -30,7 +30,7 @@ module _ (all : List File) (id : ℕ) where
   fails : (f : File) → f.id ≤ id → test f ≡ false
   fails f low = let a : nat_lt id f.id ≡ false = grind (arith, nat_tests) in rw a refl
 
-  module _ (f : File) (fs : List File) (rising : AreRising (f ∷ fs)) where
+  module _ (f : File) (fs : List File) (ascending : AreAscending (f ∷ fs)) where
     head : test f ≡ true → option_map (λ (g : File). g.id) (find test (f ∷ fs)) ≡ Some f.id
     head is = rw is refl
 
@@ -51,25 +51,25 @@ module _ (all : List File) (id : ℕ) where
     least (Some n) next above =
         let low : n ≤ f.id = next.2 f.id above (has_shape (f ∷ fs) f.id f (at_head f fs)) in
         elim (cases_lt n f.id) [
-          | inl under ↦ absurd (next.1 (ap (option_map shape_of) (at_tail f fs n (λ e. omega (arith, e, under)) ∙ at_low fs f.id n rising.0 (omega (arith, under)))))
+          | inl under ↦ absurd (next.1 (ap (option_map shape_of) (at_tail f fs n (λ e. omega (arith, e, under)) ∙ at_low fs f.id n ascending.0 (omega (arith, under)))))
           | inr over ↦ ap Some (let e : f.id ≡ n = omega (arith, low, over) in e)
         ]
 
     -- a file of the others is not the first one
     apart : (j : ℕ) (g : File) → file_at fs j ≡ Some g → f.id ≡ j → ⊥
-    apart j g is e = none-some g (sym (at_low fs f.id j rising.0 (omega (arith, e))) ∙ is)
+    apart j g is e = none-some g (sym (at_low fs f.id j ascending.0 (omega (arith, e))) ∙ is)
 
-  pub first_above : (fs : List File) → AreRising fs → ((j : ℕ) (f : File) → file_at fs j ≡ Some f → is_some (file_at all f.id) ≡ true)
+  pub first_above : (fs : List File) → AreAscending fs → ((j : ℕ) (f : File) → file_at fs j ≡ Some f → is_some (file_at all f.id) ≡ true)
       → (found : Option ℕ) → IsNextFile (shapes_of fs) id found → option_map (λ (f : File). f.id) (find test fs) ≡ found
-  first_above [] rising there None next = refl
-  first_above [] rising there (Some n) next = absurd (next.1 refl)
-  first_above (f ∷ fs) rising there found next =
+  first_above [] ascending there None next = refl
+  first_above [] ascending there (Some n) next = absurd (next.1 refl)
+  first_above (f ∷ fs) ascending there found next =
       either (cases_lt id f.id)
-      (λ low. first_above fs rising.1 (λ j g is. there j g (at_tail f fs j (λ e. absurd (apart f fs rising j g is e)) ∙ is)) found (among f fs rising found next low))
+      (λ low. first_above fs ascending.1 (λ j g is. there j g (at_tail f fs j (λ e. absurd (apart f fs ascending j g is e)) ∙ is)) found (among f fs ascending found next low))
     where
       either : (id < f.id) ⊎ (f.id ≤ id) → (f.id ≤ id → option_map (λ (g : File). g.id) (find test fs) ≡ found) → option_map (λ (g : File). g.id) (find test (f ∷ fs)) ≡ found
-      either (inl above) rest = head f fs rising (passes f (there f.id f (at_head f fs)) above) ∙ least f fs rising found next above
-      either (inr low) rest = tail f fs rising (fails f low) ∙ rest low
+      either (inl above) rest = head f fs ascending (passes f (there f.id f (at_head f fs)) above) ∙ least f fs ascending found next above
+      either (inr low) rest = tail f fs ascending (fails f low) ∙ rest low
 
 -- the machine's room is the volume's
 pub volume_replied : (m : Machine) (capacity used_now : ℕ) → capacity ≡ m.capacity → used_now ≡ used m → reply.Volume capacity (capacity - used_now) ≡ plain_reply m call.Volume

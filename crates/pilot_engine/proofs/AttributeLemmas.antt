@@ -1,4 +1,4 @@
--- What is told of a file that may be named, over a core.
+-- What is revealed of a file that may be named, over a core.
 use Rattle.std.proofs.Common.{◌≡◌, ℕ, Option, Some, None, refl, ap, subst}
 use Rattle.std.specs.Prelude.{is_none}
 use Rattle.std.specs.Bool.{then_some}
@@ -11,7 +11,7 @@ use Rattle.flat_machine.specs.Machine.{Machine, nameable}
 use Rattle.flat_machine.specs.Refusal.{no_file, refusal}
 use Rattle.file_manager.specs.declared.attributes.Attributes.{Attributes}
 use Rattle.file_manager.specs.declared.volume.Volume.{Volume}
-use Rattle.fault_core.specs.declared.core_over.CoreOver.{CoreOver}
+use Rattle.fault_core.specs.declared.core_over.Core.{Core}
 use Rattle.space_calls.specs.Naming.{IsNameable}
 use Rattle.running_words.specs.Running.{Carried, Runs}
 use Rattle.pilot_engine.proofs.LiftLemmas.{refused_running}
@@ -21,11 +21,11 @@ nameless : (o : Option File) → IsNameable o None → o ≡ None
 nameless None is = refl
 nameless (Some f) is = absurd is
 
-told_of : (o : Option File) (a : Attributes) → IsNameable o (Some a) → (f : File) × (o ≡ Some f) × (a.pages ≡ size f) × (a.kind ≡ f.kind) × (a.permanent ≡ f.permanent) × (a.immutable ≡ f.immutable)
-told_of None a is = absurd is
-told_of (Some f) a is = (f, refl, is.0, is.1, is.2, is.3)
+revealed_of : (o : Option File) (a : Attributes) → IsNameable o (Some a) → (f : File) × (o ≡ Some f) × (a.pages ≡ size f) × (a.kind ≡ f.kind) × (a.permanent ≡ f.permanent) × (a.immutable ≡ f.immutable)
+revealed_of None a is = absurd is
+revealed_of (Some f) a is = (f, refl, is.0, is.1, is.2, is.3)
 
-module _ {D A : Type 0} {G : Ghosts D} (core : CoreOver D A G) (volume : Volume) (m : Machine) (id : ℕ) where
+module _ {D A : Type 0} {G : Ghosts D} (core : Core D A G) (volume : Volume) (m : Machine) (id : ℕ) where
   pub nameless_running : Runs core volume m → IsNameable (nameable m id) None → Carried m (call.Attributes id) core volume (reply.Refused why.File)
   nameless_running r none =
       let gone : no_file m id ≡ Some why.File = ap (λ (o : Option File). then_some (is_none o) why.File) (nameless (nameable m id) none) in
@@ -33,7 +33,7 @@ module _ {D A : Type 0} {G : Ghosts D} (core : CoreOver D A G) (volume : Volume)
 
   pub attributes_running : (a : Attributes) → Runs core volume m → IsNameable (nameable m id) (Some a) → Carried m (call.Attributes id) core volume (reply.Attributes a.pages a.kind a.permanent a.immutable)
   attributes_running a r some =
-      let f = told_of (nameable m id) a some in
+      let f = revealed_of (nameable m id) a some in
       let there : no_file m id ≡ None = ap (λ (o : Option File). then_some (is_none o) why.File) f.1 in
       let free : refusal m (call.Attributes id) ≡ None = rw there refl in
       record {

@@ -1,6 +1,6 @@
 -- The root of a volume in use was written over a disk without frames.
 use Rattle.std.proofs.Common.{◌≡◌, [], ◌∷◌, sym, subst}
-use Rattle.labelled_disk.specs.Moment.{written}
+use Rattle.labelled_disk.specs.CrashState.{written}
 use Rattle.frame_pool.specs.Frames.{Slots}
 use Rattle.swapper_kernel.specs.Goes.{Goes, no_page}
 use Rattle.volume_root.specs.declared.root.Root.{Root}

@@ -18,7 +18,7 @@ use Rattle.running_words.specs.Bound.{CostsOther, other_bound}
 use Rattle.running_words.specs.Session.{IsOpen, IsSession}
 use Rattle.pilot_engine.specs.Order.{turn_cost}
 use Rattle.pilot_engine.specs.Seen.{CostsInside}
-use Rattle.pilot_engine.proofs.CallLemmas.{file_told}
+use Rattle.pilot_engine.proofs.CallLemmas.{file_revealed}
 use Rattle.pilot_engine.proofs.RoomLemmas.{used_without}
 
 -- Plain numbers.
@@ -157,20 +157,20 @@ module _ (spaces_of : TablesMeaning) (disk : DiskState) (slots : Slots) (layout 
       let room = opened.room in
       omega (arith, whole, same, room)
 
-  module _ (is : IsLayout layout) (now : Layout) (same : now ≡ layout) (mid new : DiskState) (id : ℕ) (a : Attributes) (told : IsAttributesOf (shapes_of m.files id) (Some a)) where
+  module _ (is : IsLayout layout) (now : Layout) (same : now ≡ layout) (mid new : DiskState) (id : ℕ) (a : Attributes) (revealed : IsAttributesOf (shapes_of m.files id) (Some a)) where
     -- a file that was looked at and deleted
-    pub delete_told : disk.sectors ≡ layout.sectors → mid.transfers ≤ disk.transfers + 29 → new.transfers ≤ mid.transfers + (14 + (1 + a.pages) * (16 + 4 * now.vam) + 2 * (1 + 51 * most_records now.sectors)) → CostsInside disk new
-    delete_told on looked paid =
-        let f = file_told m id a told in
+    pub delete_revealed : disk.sectors ≡ layout.sectors → mid.transfers ≤ disk.transfers + 29 → new.transfers ≤ mid.transfers + (14 + (1 + a.pages) * (16 + 4 * now.vam) + 2 * (1 + 51 * most_records now.sectors)) → CostsInside disk new
+    delete_revealed on looked paid =
+        let f = file_revealed m id a revealed in
         let long : size f.0 ≡ a.pages = ap (λ (w : Shape). w.size) f.2 in
         let fits = file_fits id f.0 f.1 in
         inside_layout layout disk new on (delete_bounded layout now is same disk.transfers mid.transfers new.transfers a.pages (omega (arith, fits, long)) looked paid)
 
     -- or got another size, of pages that there is room for
-    pub resize_told : (pages : ℕ) → pages ≤ layout.capacity → disk.sectors ≡ layout.sectors → mid.transfers ≤ disk.transfers + 29
+    pub resize_revealed : (pages : ℕ) → pages ≤ layout.capacity → disk.sectors ≡ layout.sectors → mid.transfers ≤ disk.transfers + 29
         → new.transfers ≤ mid.transfers + (129 + ((pages - a.pages) + (a.pages - pages)) * (8 * now.vam + 100) + 102 * most_records now.sectors) → CostsInside disk new
-    resize_told pages within on looked paid =
-        let f = file_told m id a told in
+    resize_revealed pages within on looked paid =
+        let f = file_revealed m id a revealed in
         let long : size f.0 ≡ a.pages = ap (λ (w : Shape). w.size) f.2 in
         let fits = file_fits id f.0 f.1 in
         inside_layout layout disk new on

@@ -34,7 +34,7 @@ use Rattle.file_manager.specs.declared.attributes.Attributes.{Attributes}
 use Rattle.file_manager.specs.declared.volume.Volume.{Volume}
 use Rattle.file_manager.specs.Answer.{IsMarked, WritesMark}
 use Rattle.label_calls.specs.declared.page.Mark.{Mark}
-use Rattle.file_manager.specs.Attributes.{IsAttributesOf, shape_told}
+use Rattle.file_manager.specs.Attributes.{IsAttributesOf, shape_revealed}
 use Rattle.file_manager.specs.Book.{Books, BringsOwn}
 use Rattle.file_manager.specs.Broken.{MarksFirst}
 use Rattle.file_manager.specs.Deleting.{DeletedBy, DeletesFirst, MakesOneFree}
@@ -52,16 +52,16 @@ use Rattle.running_words.proofs.StageLemmas.{no_step}
 pub none_shown : (spaces : List Space) → spaces ≡ root ∷ [] → (id page : ℕ) → is_shown spaces id page ≡ false
 none_shown spaces alone id page = rw alone refl
 
--- what is told of a file is told of the machine's
-pub file_told : (m : Machine) (id : ℕ) (a : Attributes) → IsAttributesOf (shapes_of m.files id) (Some a) → (f : File) × (file_at m.files id ≡ Some f) × (shape_of f ≡ shape_told a)
-file_told m id a told = shape_at m.files id (shape_told a) told
+-- what is revealed of a file is revealed of the machine's
+pub file_revealed : (m : Machine) (id : ℕ) (a : Attributes) → IsAttributesOf (shapes_of m.files id) (Some a) → (f : File) × (file_at m.files id ≡ Some f) × (shape_of f ≡ shape_revealed a)
+file_revealed m id a revealed = shape_at m.files id (shape_revealed a) revealed
 
-pub none_told : (m : Machine) (id : ℕ) → IsAttributesOf (shapes_of m.files id) None → file_at m.files id ≡ None
-none_told m id told = either (file_at m.files id) refl
+pub none_revealed : (m : Machine) (id : ℕ) → IsAttributesOf (shapes_of m.files id) None → file_at m.files id ≡ None
+none_revealed m id revealed = either (file_at m.files id) refl
   where
     either : (o : Option File) → file_at m.files id ≡ o → o ≡ None
     either None is = refl
-    either (Some f) is = absurd (none-some (shape_of f) (sym told ∙ ap (option_map shape_of) is))
+    either (Some f) is = absurd (none-some (shape_of f) (sym revealed ∙ ap (option_map shape_of) is))
 
 -- no window shows the page of a leader
 pub leader_hidden : (spaces_of : TablesMeaning) (disk : DiskState) (slots : Slots) (m : Machine) → StandsFor spaces_of disk slots m → (id : ℕ) → is_shown m.spaces id leader_page ≡ false
@@ -88,17 +88,17 @@ module _ (spaces_of : TablesMeaning) (old mid : DiskState) (before between : Slo
   pub refused_after : (c : Call) (word : Refusal) → refusal m c ≡ Some word → Carries spaces_of m c (reply.Refused word) mid between now kept volume
   refused_after c word is = record { allowed = refuses m c word is; stands = subst (λ (n : Machine). IsSession spaces_of mid between now kept volume n) (stays_refused m c word is) looked }
 
-  -- what no file is told of
+  -- what no file is revealed of
   pub missing_after : (id : ℕ) → IsAttributesOf (shapes_of m.files id) None → (c : Call) → (file_at m.files id ≡ None → refusal m c ≡ Some why.File) → Carries spaces_of m c (reply.Refused why.File) mid between now kept volume
-  missing_after id told c refused = refused_after c why.File (refused (none_told m id told))
+  missing_after id revealed c refused = refused_after c why.File (refused (none_revealed m id revealed))
 
   -- a file with a mark
-  module _ (new : DiskState) (after : Slots) (later : CachedRuns) (next_volume : Volume) (same_volume : next_volume ≡ volume) (id : ℕ) (a : Attributes) (told : IsAttributesOf (shapes_of m.files id) (Some a)) where
-    file : (f : File) × (file_at m.files id ≡ Some f) × (shape_of f ≡ shape_told a)
-    file = file_told m id a told
+  module _ (new : DiskState) (after : Slots) (later : CachedRuns) (next_volume : Volume) (same_volume : next_volume ≡ volume) (id : ℕ) (a : Attributes) (revealed : IsAttributesOf (shapes_of m.files id) (Some a)) where
+    file : (f : File) × (file_at m.files id ≡ Some f) × (shape_of f ≡ shape_revealed a)
+    file = file_revealed m id a revealed
 
     of_file : is_file_id id ≡ true
-    of_file = (machine_shapes m s.stands.is.by.machine (length s.stands.memory) (slice_get s.stands.memory 0) s.stands.is.by.root).given id (shape_told a) told
+    of_file = (machine_shapes m s.stands.is.by.machine (length s.stands.memory) (slice_get s.stands.memory 0) s.stands.is.by.root).given id (shape_revealed a) revealed
 
     module _ (x : List Sector) (at : x ≡ s.stands.memory) (leader : ℕ) (t : Sector) (here : slice_get x leader ≡ Some t) (named : names t.0 (record { id = id; page = leader_page }) ≡ true) where
       there : slice_get s.stands.memory leader ≡ Some t
@@ -143,23 +143,23 @@ module _ (spaces_of : TablesMeaning) (old mid : DiskState) (before between : Slo
     immutable_broken free form (inr some) = immutable_stops s.stands.memory refl some.leader some.s some.here some.named free form some.makes
 
   -- a file that is gone
-  module _ (new : DiskState) (after : Slots) (later : CachedRuns) (next_volume : Volume) (id : ℕ) (a : Attributes) (told : IsAttributesOf (shapes_of m.files id) (Some a)) where
+  module _ (new : DiskState) (after : Slots) (later : CachedRuns) (next_volume : Volume) (id : ℕ) (a : Attributes) (revealed : IsAttributesOf (shapes_of m.files id) (Some a)) where
     pub delete_done : refusal m (call.Delete id) ≡ None → next_volume.root.serial ≡ volume.root.serial → next_volume.root.counter ≡ volume.root.counter → next_volume.used ≡ volume.used - (a.pages + 1)
         → DeletedBy id a.pages s.stands.memory mid between now new after later → Carries spaces_of m (call.Delete id) reply.Done new after now later next_volume
     delete_done free serial counter less deleted =
-        let f = file_told m id a told in
+        let f = file_revealed m id a revealed in
         let long : size f.0 ≡ a.pages = ap (λ (g : Shape). g.size) f.2 in
         delete_carried spaces_of mid new between after now kept later volume next_volume m looked serial counter id f.0 f.1 _ free (omega (arith, less, long)) deleted.leads
 
     pub delete_passed : refusal m (call.Delete id) ≡ None → AreInForm old → DeletedBy id a.pages s.stands.memory mid between now new after later → Passes m (call.Delete id) old new
     delete_passed free form deleted =
-        let f = file_told m id a told in
+        let f = file_revealed m id a revealed in
         delete_passes spaces_of old new before after m s.stands form id deleted.leader f.0 deleted.sectors f.1 free deleted.stops (makes_then makes deleted.leads.goes.makes)
 
     pub delete_broken : refusal m (call.Delete id) ≡ None → AreInForm old → DeletesFirst id s.stands.memory mid between new after → Passes m (call.Delete id) old new
     delete_broken free form (inl none) = no_step spaces_of old new before after m (call.Delete id) s.stands (makes_then makes none) form
     delete_broken free form (inr some) =
-        let f = file_told m id a told in
+        let f = file_revealed m id a revealed in
         delete_passes spaces_of old new before after m s.stands form id some.leader f.0 some.sectors f.1 free some.stops (makes_then makes some.makes)
 
 -- after a look at the file, no label or one with a mark more was written

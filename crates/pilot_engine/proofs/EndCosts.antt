@@ -20,7 +20,7 @@ use Rattle.file_manager.specs.declared.attributes.Attributes.{Attributes}
 use Rattle.file_manager.specs.Attributes.{IsAttributesOf}
 use Rattle.running_words.specs.Bound.{delete_cost, visit_cost, room_above, emptying_bound, other_bound}
 use Rattle.pilot_engine.proofs.BoundLemmas.{linear, small}
-use Rattle.pilot_engine.proofs.CallLemmas.{file_told}
+use Rattle.pilot_engine.proofs.CallLemmas.{file_revealed}
 
 -- The files above an identifier.
 
@@ -74,10 +74,10 @@ room_all cursor (x ∷ fs) = let rest = room_all cursor fs in let whole = sum_by
 
 -- A file that is looked at.
 
--- what was told of it is told of the machine's
-pub pages_told : (m : Machine) (id : ℕ) (f : File) (a : Attributes) → file_at m.files id ≡ Some f → IsAttributesOf (shapes_of m.files id) (Some a) → a.pages ≡ size f
-pages_told m id f a found told =
-    let g = file_told m id a told in
+-- what was revealed of it is revealed of the machine's
+pub pages_revealed : (m : Machine) (id : ℕ) (f : File) (a : Attributes) → file_at m.files id ≡ Some f → IsAttributesOf (shapes_of m.files id) (Some a) → a.pages ≡ size f
+pages_revealed m id f a found revealed =
+    let g = file_revealed m id a revealed in
     ap (λ (w : Shape). w.size) (sym g.2) ∙ ap size (same_Some g.0 f (sym g.1 ∙ found))
 
 pub looked_cost : (t0 t1 : ℕ) (f : File) → t1 ≤ t0 + 29 → t1 ≤ t0 + delete_cost * room_of f

@@ -6,12 +6,12 @@ use Rattle.std.proofs.lemmas.Option.{slice_get-map, same_Some, none-some}
 use Rattle.std.proofs.lemmas.Bool.{eq-eqb, true≢false, cases_eq}
 use Rattle.labelled_disk.specs.declared.label.Label.{Label}
 use Rattle.labelled_disk.specs.declared.layout.Layout.{Layout}
-use Rattle.labelled_disk.specs.Calls.{TellsWrite}
+use Rattle.labelled_disk.specs.Calls.{RevealsWrite}
 use Rattle.labelled_disk.specs.File.{File, file_at}
 use Rattle.labelled_disk.specs.Label.{is_free}
 use Rattle.labelled_disk.specs.Layout.{first_data, capacity}
 use Rattle.labelled_disk.specs.Lowest.{is_needed}
-use Rattle.labelled_disk.specs.Moment.{written}
+use Rattle.labelled_disk.specs.CrashState.{written}
 use Rattle.labelled_disk.specs.Root.{root_page, short_at, number_at}
 use Rattle.labelled_disk.specs.Sectors.{Sector, free_label}
 use Rattle.labelled_disk.specs.State.{DiskState}
@@ -44,13 +44,13 @@ use Rattle.session_words.specs.CloseLaws.{is_closing, IsClosed}
 use Rattle.session_words.specs.FrameLaws.{HasFrames, is_shown}
 use Rattle.session_words.specs.FreeLaws.{Frees, free_where}
 use Rattle.session_words.specs.Parts.{HasRoot, TablesMeaning}
-use Rattle.session_words.specs.StandsFor.{TellsSettled}
+use Rattle.session_words.specs.StandsFor.{RevealsSettled}
 use Rattle.session_words.proofs.CloseLemmas.{closed_law}
 use Rattle.session_words.proofs.KnownLemmas.{frames_brought}
 use Rattle.session_words.proofs.SoundLemmas.{sound_laws}
 use Rattle.file_manager.specs.declared.volume.Volume.{Volume}
 use Rattle.file_manager.specs.Tables.{EndedBy, of_tables}
-use Rattle.pilot_engine.specs.Closing.{AreWritten, HasShut, IsEmptied, IsOpenStop, IsReady, IsShut, IsStop, Shed, TellsShut, closed_root}
+use Rattle.pilot_engine.specs.Closing.{AreWritten, HasShut, IsEmptied, IsOpenStop, IsReady, IsShut, IsStop, Shed, RevealsShut, closed_root}
 use Rattle.running_words.proofs.SessionLemmas.{known_brought}
 
 -- no window shows a page where there is no space but the root
@@ -97,7 +97,7 @@ module _ (spaces_of : TablesMeaning) (old new : DiskState) (before after : Slots
       record {
         can_open = c.can_open;
         root = subst (λ (w : Machine). HasRoot (length y) (slice_get y 0) w.serial w.counter w.capacity) h.sheds.rest c.root;
-        told = subst (λ (w : Machine). TellsSettled y w) after_close c.told;
+        revealed = subst (λ (w : Machine). RevealsSettled y w) after_close c.revealed;
       }
 
   maps_have_frames : (i : ℕ) (f : Frame) → Has after i f → (f.home.id ≡ 1) ⊎ (f.home.id ≡ 2)
@@ -128,7 +128,7 @@ module _ (spaces_of : TablesMeaning) (old new : DiskState) (before after : Slots
 pub made_ready : (m : Machine) (r : Root) (old new : DiskState) (before after : Slots) → IsEmptied m r old before → Swaps old before new after → AreWritten after → IsReady m r new
 made_ready m r old new before after e swaps forced = record {
   sectors = e.memory;
-  told = subst (λ (d : List Sector). new.contents ≡ Some d) (sym same) stands.told;
+  revealed = subst (λ (d : List Sector). new.contents ≡ Some d) (sym same) stands.revealed;
   closed = e.closed;
   same_serial = e.same_serial;
   same_counter = e.same_counter;
@@ -155,7 +155,7 @@ made_ready m r old new before after e swaps forced = record {
             absurd (none f.home.id f.home.page (had f.home.id f.home.page (swaps.makes.dirty f.home.id f.home.page dirty)) dirty)
 
     same : e.memory ≡ stands.sectors
-    same = stands_flushed new after e.memory stands.sectors stands.told stands clean
+    same = stands_flushed new after e.memory stands.sectors stands.revealed stands clean
 
 module _ (m : Machine) (r : Root) (y : List Sector) (closed : IsClosed m y) (serial : r.serial ≡ m.serial) (counter : r.counter ≡ m.counter) (valid : IsValidRoot (length y) r) where
   laws : FlagLaws y
@@ -200,26 +200,26 @@ module _ (m : Machine) (r : Root) (y : List Sector) (closed : IsClosed m y) (ser
     same_serial = laws.has_serial true ∙ closed.root.has_serial;
     same_counter = laws.has_counter true ∙ closed.root.has_counter;
     same_room = ap capacity (laws.sectors true) ∙ closed.root.has_room;
-    told = record {
-      agrees = subst (λ (fs : List File). Agrees fs (settled (next m Close))) (sym (laws.files true)) closed.told.agrees;
-      right = laws.right true closed.told.right;
+    revealed = record {
+      agrees = subst (λ (fs : List File). Agrees fs (settled (next m Close))) (sym (laws.files true)) closed.revealed.agrees;
+      right = laws.right true closed.revealed.right;
     };
   })
 
-  -- and a stop there tells the settled files
+  -- and a stop there reveals the settled files
   pub shut_stop : IsOpenStop m y → IsStop m (written (root_write (closed_root r)) y)
   shut_stop stop = subst (λ (w : Root). IsStop m (written (root_write w) y)) same_root (record {
-    told = record { agrees = subst (λ (fs : List File). Agrees fs (settled m)) (sym (laws.files true)) stop.told.agrees; right = laws.right true stop.told.right };
+    revealed = record { agrees = subst (λ (fs : List File). Agrees fs (settled m)) (sym (laws.files true)) stop.revealed.agrees; right = laws.right true stop.revealed.right };
     same_serial = laws.has_serial true ∙ closed.root.has_serial;
     same_counter = laws.has_counter true ∙ closed.root.has_counter;
     honest = λ set. sound;
   })
 
 -- the root is written, and the volume is closed
-pub tells_shut : (m : Machine) (r : Root) (old new : DiskState) → (ready : IsReady m r old) → IsValidRoot (length ready.sectors) r → TellsWrite (root_write (closed_root r)) old new → TellsShut m new
-tells_shut m r old new ready valid wrote = record {
+pub reveals_shut : (m : Machine) (r : Root) (old new : DiskState) → (ready : IsReady m r old) → IsValidRoot (length ready.sectors) r → RevealsWrite (root_write (closed_root r)) old new → RevealsShut m new
+reveals_shut m r old new ready valid wrote = record {
   sectors = written (root_write (closed_root r)) ready.sectors;
-  told = wrote.contents ∙ ap (option_map (written (root_write (closed_root r)))) ready.told;
+  revealed = wrote.contents ∙ ap (option_map (written (root_write (closed_root r)))) ready.revealed;
   shut = shut m r ready.sectors ready.closed ready.same_serial ready.same_counter valid;
 }
 
@@ -243,7 +243,7 @@ pub valid_at : (n now : ℕ) (r : Root) → now ≡ n → IsValidRoot n r → Is
 valid_at n now r same valid = subst (λ (k : ℕ). IsValidRoot k r) (sym same) valid
 
 -- the root is written by a volume that is still the same, and the disk has settled
-pub has_shut : (m : Machine) (v now : Volume) (mid last new : DiskState) → now ≡ v → IsReady m v.root mid → (IsReady m now.root mid → TellsShut m last) → new.contents ≡ last.contents → new.synced ≡ true → HasShut m new
-has_shut m v now mid last new same ready made told synced =
+pub has_shut : (m : Machine) (v now : Volume) (mid last new : DiskState) → now ≡ v → IsReady m v.root mid → (IsReady m now.root mid → RevealsShut m last) → new.contents ≡ last.contents → new.synced ≡ true → HasShut m new
+has_shut m v now mid last new same ready made revealed synced =
     let t = made (subst (λ (w : Volume). IsReady m w.root mid) (sym same) ready) in
-    record { tells = record { sectors = t.sectors; told = told ∙ t.told; shut = t.shut }; synced = synced }
+    record { reveals = record { sectors = t.sectors; revealed = revealed ∙ t.revealed; shut = t.shut }; synced = synced }

@@ -23,9 +23,9 @@ use Rattle.volume_root.specs.Sound.{Sound}
 use Rattle.volume_root.proofs.NewVolume.{new_is_empty}
 use Rattle.volume_root.proofs.WrittenLemmas.{root_read}
 use Rattle.pilot_engine.specs.Fresh.{MadeVolume, WroteOnNew}
-use Rattle.pilot_engine.specs.NewMoments.{KeepsNew}
+use Rattle.pilot_engine.specs.NewCrashStates.{KeepsNew}
 use Rattle.pilot_engine.specs.Opening.{IsBare, StartsSome}
-use Rattle.pilot_engine.proofs.StartMoments.{files_kept}
+use Rattle.pilot_engine.proofs.StartCrashStates.{files_kept}
 use Rattle.pilot_engine.proofs.StartWrites.{start_wrote}
 
 module _ (n : ℕ) (count : IsCount n) where
@@ -55,9 +55,9 @@ module _ (n : ℕ) (count : IsCount n) where
 pub fresh_volume : (P : Machine → Type 0) (before now : DiskState) (d : List Sector) (r : Root) → length d ≡ before.sectors → IsCount before.sectors → r ≡ new_root before.sectors 1 1
     → now.contents ≡ Some (formatted (length d) 1 1)
     → ((e : List Sector) → now.contents ≡ Some e → Sound e → r ≡ root_in (root_page e) → P (start e)) → P (opened 1 1 (capacity before.sectors))
-fresh_volume P before now d r long count is told all =
+fresh_volume P before now d r long count is revealed all =
     let n = before.sectors in
-    let there : now.contents ≡ Some (formatted n 1 1) = told ∙ ap (λ (k : ℕ). Some (formatted k 1 1)) long in
+    let there : now.contents ≡ Some (formatted n 1 1) = revealed ∙ ap (λ (k : ℕ). Some (formatted k 1 1)) long in
     subst P (same_start n count) (all (formatted n 1 1) there (made n count).sound (is ∙ same_root n count))
 
 -- on a disk that can hold a volume, none is made only where the disk failed
@@ -80,13 +80,13 @@ wrote_on_new {made = made} volume root same bare starts = record {
     itself : (d : DiskState) → OnlyReads d d
     itself d = record { sectors = refl; contents = refl; writes = refl; lent = refl; faults = omega arith; transfers = omega arith; synced = λ s. s }
 
--- and what stands at each moment of it
+-- and what stands in each crash state of it
 pub keeps_new : {old made_so new : DiskState} {s t : Slots} (d : List Sector) → length d ≡ old.sectors → IsCount old.sectors → old.contents ≡ Some d → MadeVolume old made_so → (root : Root) → root ≡ new_root old.sectors 1 1
     → IsBare s → StartsSome root made_so s new t → KeepsNew old new
-keeps_new {old = old} {made_so = made_so} {new = new} {s = s} {t = t} d long count told volume root same bare starts =
+keeps_new {old = old} {made_so = made_so} {new = new} {s = s} {t = t} d long count revealed volume root same bare starts =
     let n = old.sectors in
     let empty = made n count in
-    let there : made_so.contents ≡ Some (formatted n 1 1) = volume.contents d told ∙ ap (λ (k : ℕ). Some (formatted k 1 1)) long in
+    let there : made_so.contents ≡ Some (formatted n 1 1) = volume.contents d revealed ∙ ap (λ (k : ℕ). Some (formatted k 1 1)) long in
     let valid : IsValidRoot n (new_root n 1 1) = record { version = refl; accepted = count; count = refl; serial = omega arith; counter = omega arith } in
     let kept = files_kept (formatted n 1 1) empty.sound.labels (new_root n 1 1) (subst (λ (k : ℕ). IsValidRoot k (new_root n 1 1)) (sym empty.sectors) valid) (omega arith) (omega arith) (sym empty.has_serial) (sym empty.has_counter)
     made_so new s t there bare (subst (λ (r : Root). StartsSome r made_so s new t) same starts) in

@@ -4,14 +4,14 @@ pub mod RoomLemmas
 pub mod LeadLemmas
 pub mod CarryLemmas
 pub mod CallLemmas
-pub mod StartMoments
+pub mod StartCrashStates
 pub mod RangeCounts
 pub mod StartCount
 pub mod StartStands
 pub mod StartWrites
 pub mod StartRuns
 pub mod StartFaults
-pub mod OutsetLemmas
+pub mod InitialStateLemmas
 pub mod FormLemmas
 pub mod BeginLemmas
 pub mod FreshLemmas
@@ -47,6 +47,6 @@ pub mod ShutLemmas
 pub mod UnsetLemmas
 pub mod LackLemmas
 pub mod HomeLemmas
-pub mod SpaceLacks
+pub mod SpaceMisses
 pub mod HomeSteps
-pub mod EndSpares
+pub mod EndNeverBlames

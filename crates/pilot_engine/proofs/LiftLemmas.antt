@@ -18,17 +18,17 @@ use Rattle.flat_machine.proofs.StoreLemmas.{unrefused}
 use Rattle.flat_machine.specs.Next.{change, next}
 use Rattle.flat_machine.specs.Refusal.{refusal}
 use Rattle.swap_units.specs.declared.interval.Interval.{Interval}
-use Rattle.space_tables.specs.Stored.{TellSpaces}
+use Rattle.space_tables.specs.Stored.{RevealSpaces}
 use Rattle.labelled_disk.specs.Sectors.{Sector}
 use Rattle.session_words.specs.Parts.{Shapes, TablesMeaning, shapes_of}
 use Rattle.session_words.specs.Volume.{volume_page}
 use Rattle.swapper_kernel.specs.Goes.{Makes}
 use Rattle.file_manager.specs.declared.volume.Volume.{Volume}
 use Rattle.file_manager.specs.Book.{Books, BringsOwn}
-use Rattle.fault_core.specs.declared.core_over.CoreOver.{CoreOver}
+use Rattle.fault_core.specs.declared.core_over.Core.{Core}
 use Rattle.fault_core.specs.Core.{kept, state}
 use Rattle.fault_core.specs.Kept.{IsKept}
-use Rattle.fault_core.specs.Told.{IsIntervalOf}
+use Rattle.fault_core.specs.Revealed.{IsIntervalOf}
 use Rattle.fault_core.specs.View.{View}
 use Rattle.running_words.specs.Running.{Carried, IsRunning, Runs, exactly}
 use Rattle.running_words.specs.Session.{AreInForm, Carries, IsOpen, IsSession}
@@ -43,7 +43,7 @@ pub lifted : (v w : View) (kept later : List Interval) (count now : ℕ) (volume
     → IsRunning w later now next_volume n
 lifted v w kept later count now volume next_volume m n r same_kept same_count same inner = record {
   pages = r.pages;
-  tables = subst (λ (ss : List Space). TellSpaces (λ b. b ≡ concat r.pages) now ss) (sym same) (subst (λ (k : ℕ). TellSpaces (λ b. b ≡ concat r.pages) k m.spaces) (sym same_count) r.tables);
+  tables = subst (λ (ss : List Space). RevealSpaces (λ b. b ≡ concat r.pages) now ss) (sym same) (subst (λ (k : ℕ). RevealSpaces (λ b. b ≡ concat r.pages) k m.spaces) (sym same_count) r.tables);
   session = subst (λ (ss : List Space). IsSession (exactly r.pages ss) w.disk w.slots w.layout w.runs next_volume n) (sym same) (inner (exactly r.pages m.spaces) r.session);
   cached = λ x is. subst (λ (ss : List Space). IsIntervalOf ss x) (sym same) (r.cached x (subst (λ (l : List Interval). IsKept l x) same_kept is));
 }
@@ -57,7 +57,7 @@ same_spaces m c same = by (is_none (refusal m c))
     by false = refl
 
 module _ {D A : Type 0} {G : Ghosts D} where
-  module _ (old new : CoreOver D A G) (volume next_volume : Volume) (m : Machine) (c : Call) (same_kept : kept new ≡ kept old) (same_count : new.intervals ≡ old.intervals) (spaces : (change m c).spaces ≡ m.spaces) (r : Runs old volume m) where
+  module _ (old new : Core D A G) (volume next_volume : Volume) (m : Machine) (c : Call) (same_kept : kept new ≡ kept old) (same_count : new.intervals ≡ old.intervals) (spaces : (change m c).spaces ≡ m.spaces) (r : Runs old volume m) where
     -- what was carried out, whatever those pages mean
     pub carried_out : (result : Result Reply Halt)
         → ((spaces_of : TablesMeaning) → IsSession spaces_of (state old).disk (state old).slots (state old).layout (state old).runs volume m
@@ -70,23 +70,23 @@ module _ {D A : Type 0} {G : Ghosts D} where
     }
 
   -- a call is refused after a question
-  pub refused_running : (core : CoreOver D A G) (volume : Volume) (m : Machine) (c : Call) (word : Refusal) → Runs core volume m → refusal m c ≡ Some word → Carried m c core volume (reply.Refused word)
+  pub refused_running : (core : Core D A G) (volume : Volume) (m : Machine) (c : Call) (word : Refusal) → Runs core volume m → refusal m c ≡ Some word → Carried m c core volume (reply.Refused word)
   refused_running core volume m c word r is = record { allowed = refuses m c word is; runs = subst (λ (n : Machine). Runs core volume n) (stays_refused m c word is) r }
 
   -- or answered, and changes nothing
-  pub replied_running : (core : CoreOver D A G) (volume : Volume) (m : Machine) (c : Call) (r : Reply) → Runs core volume m → refusal m c ≡ None → Answers m c r → change m c ≡ m → Carried m c core volume r
+  pub replied_running : (core : Core D A G) (volume : Volume) (m : Machine) (c : Call) (r : Reply) → Runs core volume m → refusal m c ≡ None → Answers m c r → change m c ≡ m → Carried m c core volume r
   replied_running core volume m c r runs free answer still = record {
     allowed = answers m c r free answer;
     runs = subst (λ (n : Machine). Runs core volume n) (sym (unrefused m c free ∙ still)) runs;
   }
 
   -- and nothing was written but pages of the volume's own
-  pub asked_passes : (core : CoreOver D A G) (volume : Volume) (m : Machine) (c : Call) → Runs core volume m → AreInForm (state core).disk → {new : DiskState} {after : Slots} → Makes volume_page [] (state core).disk (state core).slots new after
+  pub asked_passes : (core : Core D A G) (volume : Volume) (m : Machine) (c : Call) → Runs core volume m → AreInForm (state core).disk → {new : DiskState} {after : Slots} → Makes volume_page [] (state core).disk (state core).slots new after
       → Passes m c (state core).disk new
   asked_passes core volume m c r form {new = new} {after = after} makes = no_step (exactly r.pages m.spaces) (state core).disk new (state core).slots after m c r.session.stands makes form
 
   -- pages were searched for, and the runs that were found are kept
-  pub searched_running : (old new : CoreOver D A G) (volume : Volume) (m : Machine) → Runs old volume m → kept new ≡ kept old → new.intervals ≡ old.intervals → Makes volume_page [] (state old).disk (state old).slots (state new).disk (state new).slots
+  pub searched_running : (old new : Core D A G) (volume : Volume) (m : Machine) → Runs old volume m → kept new ≡ kept old → new.intervals ≡ old.intervals → Makes volume_page [] (state old).disk (state old).slots (state new).disk (state new).slots
       → BringsOwn (state old).slots (state new).slots
       → ((x : List Sector) (shapes : Shapes) (spaces : List Space) → Books (state old).disk (state old).slots (state old).layout (state old).runs shapes spaces x → Books (state new).disk (state new).slots (state old).layout (state new).runs shapes spaces x)
       → (state new).layout ≡ (state old).layout → Runs new volume m

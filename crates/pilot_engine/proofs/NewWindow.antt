@@ -8,7 +8,7 @@ use Rattle.labelled_disk.specs.declared.evidence.Halt.{Halt}
 use Rattle.labelled_disk.specs.File.{File, file_at}
 use Rattle.labelled_disk.specs.Root.{counter_of}
 use Rattle.labelled_disk.specs.Sectors.{Sector}
-use Rattle.labelled_disk.proofs.RisingLemmas.{at_put, each_at}
+use Rattle.labelled_disk.proofs.AscendingLemmas.{at_put, each_at}
 use Rattle.flat_machine.specs.declared.call.Call.TheVariants as call
 use Rattle.flat_machine.specs.declared.call.Refusal.{Refusal}
 use Rattle.flat_machine.specs.declared.call.Reply.{Reply}
@@ -32,10 +32,10 @@ use Rattle.projection_laws.specs.Laws.{WindowFits}
 use Rattle.projection_laws.specs.Spaces.{MayHaveWindow}
 use Rattle.projection_laws.specs.Tests.{map_row, no_space, path_mapped}
 use Rattle.projection_laws.proofs.Passes.{tests_on_spaces}
-use Rattle.table_calls.specs.Answers.{Tells}
-use Rattle.session_words.specs.StandsFor.{TellsSettled}
+use Rattle.table_calls.specs.Answers.{Reveals}
+use Rattle.session_words.specs.StandsFor.{RevealsSettled}
 use Rattle.file_manager.specs.declared.volume.Volume.{Volume}
-use Rattle.fault_core.specs.declared.core_over.CoreOver.{CoreOver}
+use Rattle.fault_core.specs.declared.core_over.Core.{Core}
 use Rattle.running_words.specs.Running.{Carried, Runs}
 use Rattle.running_words.specs.Stages.{HasNumbers, stage}
 use Rattle.pilot_engine.proofs.AnonymousLemmas.{replied}
@@ -43,25 +43,25 @@ use Rattle.pilot_engine.proofs.CarryLemmas.{answers, stays_refused}
 use Rattle.pilot_engine.proofs.LiftLemmas.{refused_running}
 use Rattle.pilot_engine.proofs.PassThen.{quiet_numbers}
 
--- the space may be mapped, as far as spaces tell
+-- the space may be mapped, as far as spaces reveal
 pub record CanMap (m : Machine) (space : ℕ) (run : ℕ × ℕ) : Type 0 where
   pub row : first_of (map_row m.spaces space) ≡ None
   pub s : Space
   pub here : space_at m.spaces space ≡ Some s
   pub pages : run.1 ≡ s.pages
 
-pub can_be_mapped : (m : Machine) (space : ℕ) (run : ℕ × ℕ) → Tells (first_of (map_row m.spaces space)) (λ at. (s : Space) × (space_at m.spaces space ≡ Some s) × (at ≡ (s.first, s.pages))) (Ok run) → CanMap m space run
+pub can_be_mapped : (m : Machine) (space : ℕ) (run : ℕ × ℕ) → Reveals (first_of (map_row m.spaces space)) (λ at. (s : Space) × (space_at m.spaces space ≡ Some s) × (at ≡ (s.first, s.pages))) (Ok run) → CanMap m space run
 can_be_mapped m space run (row, t) = record { row = row; s = t.0; here = t.1; pages = ap (λ (at : ℕ × ℕ). at.1) t.2 }
 
 -- or not
-pub map_refused : (m : Machine) (space : ℕ) (word : Refusal) (P : ℕ × ℕ → Type 0) → Tells (first_of (map_row m.spaces space)) P (Err word) → refusal m (call.MapAnonymous space) ≡ Some word
+pub map_refused : (m : Machine) (space : ℕ) (word : Refusal) (P : ℕ × ℕ → Type 0) → Reveals (first_of (map_row m.spaces space)) P (Err word) → refusal m (call.MapAnonymous space) ≡ Some word
 map_refused m space word P (is, any) = (tests_on_spaces m).map_anonymous space ∙ ap (λ (o : Option Refusal). first_of (o ∷ no_room_for_space m space ∷ no_ids m ∷ [])) is
 
 -- the machines' settled files are the same
-same_settled : (m n : Machine) → n.files ≡ m.files → n.unforced ≡ m.unforced → (d : List Sector) → TellsSettled d m → TellsSettled d n
-same_settled m n files unforced d told =
-    let t = subst (λ (us : List _). TellsSettled d (record m { unforced = us })) (sym unforced) (record { agrees = told.agrees; right = told.right }) in
-    let u = subst (λ (fs : List File). TellsSettled d (record m { unforced = n.unforced; files = fs })) (sym files) (record { agrees = t.agrees; right = t.right }) in
+same_settled : (m n : Machine) → n.files ≡ m.files → n.unforced ≡ m.unforced → (d : List Sector) → RevealsSettled d m → RevealsSettled d n
+same_settled m n files unforced d revealed =
+    let t = subst (λ (us : List _). RevealsSettled d (record m { unforced = us })) (sym unforced) (record { agrees = revealed.agrees; right = revealed.right }) in
+    let u = subst (λ (fs : List File). RevealsSettled d (record m { unforced = n.unforced; files = fs })) (sym files) (record { agrees = t.agrees; right = t.right }) in
     record { agrees = u.agrees; right = u.right }
 
 -- pages of a run are numbers of 32 bits
@@ -72,13 +72,13 @@ abbrev is_file_reply : Reply → Bool
 is_file_reply (reply.File id) = true
 is_file_reply other = false
 
-abbrev told_id : Reply → ℕ
-told_id (reply.File id) = id
-told_id other = 0
+abbrev revealed_id : Reply → ℕ
+revealed_id (reply.File id) = id
+revealed_id other = 0
 
 -- a reply names one file
 pub one_named : (id other : ℕ) → reply.File id ≡ reply.File other → id ≡ other
-one_named id other same = ap told_id same
+one_named id other same = ap revealed_id same
 
 -- a refusal names none
 pub none_named : (word : Refusal) (id : ℕ) → reply.Refused word ≡ reply.File id → ⊥
@@ -103,7 +103,7 @@ module _ (m : Machine) (h : IsMachine m) (space : ℕ) (run : ℕ × ℕ) (can :
       ∙ ap (λ (n : ℕ). first_of (no_room m (n + 1) ∷ no_ids m ∷ [])) (sym can.pages)
 
   -- the file may not be made
-  module _ {D A : Type 0} {G : Ghosts D} (core : CoreOver D A G) (volume : Volume) where
+  module _ {D A : Type 0} {G : Ghosts D} (core : Core D A G) (volume : Volume) where
     pub not_created : (r : Reply) → Carried m (call.Create run.1 0) core volume r → ((id : ℕ) → r ≡ reply.File id → ⊥) → Carried m (call.MapAnonymous space) core volume r
     not_created r carried other = by (refusal m (call.Create run.1 0)) refl
       where
@@ -126,7 +126,7 @@ module _ (m : Machine) (h : IsMachine m) (space : ℕ) (run : ℕ × ℕ) (can :
         by : (o : Option Refusal) → refusal m (call.Create run.1 0) ≡ o → Made id
         by None is = record {
           free = same_refusal ∙ is;
-          same_id = ap told_id (replied m (call.Create run.1 0) (reply.File id) is carried.allowed);
+          same_id = ap revealed_id (replied m (call.Create run.1 0) (reply.File id) is carried.allowed);
           runs = subst (λ (n : Machine). Runs core volume n) (unrefused m (call.Create run.1 0) is) carried.runs;
         }
         by (Some word) is =
@@ -178,26 +178,26 @@ module _ (m : Machine) (h : IsMachine m) (space : ℕ) (run : ℕ × ℕ) (can :
       pub mapped_machine : IsMachine (record middle { spaces = set_window space (Some window) m.spaces })
       mapped_machine = subst IsMachine (sym mapped_is) (map_anonymous_keeps space m h)
 
-      pub window_carried : {D A : Type 0} {G : Ghosts D} (core : CoreOver D A G) (volume : Volume) (result : Result Reply Halt)
+      pub window_carried : {D A : Type 0} {G : Ghosts D} (core : Core D A G) (volume : Volume) (result : Result Reply Halt)
           → IfOk result (λ r. (r ≡ reply.Done) × Runs core volume (record middle { spaces = set_window space (Some window) m.spaces })) → IfOk result (Carried m (call.MapAnonymous space) core volume)
       window_carried core volume (Err e) given = tt
       window_carried core volume (Ok r) given = record { allowed = answers m (call.MapAnonymous space) r free given.0; runs = subst (λ (n : Machine). Runs core volume n) mapped_is given.1 }
 
-  -- What is told at each moment.
+  -- What is revealed in each crash state.
 
-  pub created_alike : (d : List Sector) (k : ℕ) → TellsSettled d (stage m (call.Create run.1 0) k) → TellsSettled d (stage m (call.MapAnonymous space) k)
-  created_alike d zero told = told
-  created_alike d (suc k) told = by (refusal m (call.Create run.1 0)) refl
+  pub created_alike : (d : List Sector) (k : ℕ) → RevealsSettled d (stage m (call.Create run.1 0) k) → RevealsSettled d (stage m (call.MapAnonymous space) k)
+  created_alike d zero revealed = revealed
+  created_alike d (suc k) revealed = by (refusal m (call.Create run.1 0)) refl
     where
-      by : (o : Option Refusal) → refusal m (call.Create run.1 0) ≡ o → TellsSettled d (next m (call.MapAnonymous space))
+      by : (o : Option Refusal) → refusal m (call.Create run.1 0) ≡ o → RevealsSettled d (next m (call.MapAnonymous space))
       by (Some word) is =
-          subst (λ (n : Machine). TellsSettled d n) (stays_refused m (call.MapAnonymous space) word (same_refusal ∙ is)) (subst (λ (n : Machine). TellsSettled d n) (sym (stays_refused m (call.Create run.1 0) word is)) told)
+          subst (λ (n : Machine). RevealsSettled d n) (stays_refused m (call.MapAnonymous space) word (same_refusal ∙ is)) (subst (λ (n : Machine). RevealsSettled d n) (sym (stays_refused m (call.Create run.1 0) word is)) revealed)
       by None is =
-          subst (λ (n : Machine). TellsSettled d n) (mapped_is (same_refusal ∙ is) (new_id m) refl)
-          (same_settled (with_new_file m run.1 0) _ refl refl d (subst (λ (n : Machine). TellsSettled d n) (unrefused m (call.Create run.1 0) is) told))
+          subst (λ (n : Machine). RevealsSettled d n) (mapped_is (same_refusal ∙ is) (new_id m) refl)
+          (same_settled (with_new_file m run.1 0) _ refl refl d (subst (λ (n : Machine). RevealsSettled d n) (unrefused m (call.Create run.1 0) is) revealed))
 
-  pub mapped_alike : refusal m (call.MapAnonymous space) ≡ None → (d : List Sector) → TellsSettled d (with_new_file m run.1 0) → TellsSettled d (stage m (call.MapAnonymous space) 1)
-  mapped_alike free d told = subst (λ (n : Machine). TellsSettled d n) (mapped_is free (new_id m) refl) (same_settled (with_new_file m run.1 0) _ refl refl d told)
+  pub mapped_alike : refusal m (call.MapAnonymous space) ≡ None → (d : List Sector) → RevealsSettled d (with_new_file m run.1 0) → RevealsSettled d (stage m (call.MapAnonymous space) 1)
+  mapped_alike free d revealed = subst (λ (n : Machine). RevealsSettled d n) (mapped_is free (new_id m) refl) (same_settled (with_new_file m run.1 0) _ refl refl d revealed)
 
   -- and which numbers the root has
   pub created_numbers : (d : List Sector) → HasNumbers m (call.Create run.1 0) d → HasNumbers m (call.MapAnonymous space) d

@@ -6,8 +6,8 @@ use Rattle.std.proofs.lemmas.Bool.Decides.{nat_tests}
 use Rattle.std.proofs.lemmas.Bool.{and_parts, cases_eq, cases_lt, true≢false}
 use Rattle.std.proofs.lemmas.Option.{none-some, same_Some}
 use Rattle.labelled_disk.specs.File.{File, file_at}
-use Rattle.labelled_disk.specs.Rising.{AreRising}
-use Rattle.labelled_disk.proofs.RisingLemmas.{at_id}
+use Rattle.labelled_disk.specs.Ascending.{AreAscending}
+use Rattle.labelled_disk.proofs.AscendingLemmas.{at_id}
 use Rattle.flat_machine.specs.declared.call.Call.TheVariants as call
 use Rattle.flat_machine.specs.declared.call.Reply.TheVariants as reply
 use Rattle.flat_machine.specs.Machine.{Machine, nameable, is_anonymous}
@@ -49,7 +49,7 @@ none_of : {X Y : Type 0} (f : X → Y) (o : Option X) → option_map f o ≡ Non
 none_of f None e = refl
 none_of f (Some x) e = absurd (none-some (f x) (sym e))
 
-module _ (m : Machine) (rising : AreRising m.files) where
+module _ (m : Machine) (ascending : AreAscending m.files) where
   abbrev named : ℕ → File → Bool
   named id f = nat_lt id f.id && is_some (nameable m f.id)
 
@@ -68,7 +68,7 @@ module _ (m : Machine) (rising : AreRising m.files) where
       rw (a, b) refl
 
   first_any : (id : ℕ) (found : Option ℕ) → IsNextFile (shapes_of m.files) id found → option_map (λ (f : File). f.id) (find (any id) m.files) ≡ found
-  first_any id found next = first_above m.files id m.files rising (λ j f is. subst (λ (k : ℕ). is_some (file_at m.files k) ≡ true) (sym (at_id m.files j f is)) (ap is_some is)) found next
+  first_any id found next = first_above m.files id m.files ascending (λ j f is. subst (λ (k : ℕ). is_some (file_at m.files k) ≡ true) (sym (at_id m.files j f is)) (ap is_some is)) found next
 
   -- there is none
   pub next_none : (id : ℕ) → IsNextFile (shapes_of m.files) id None → next_file m id ≡ None
@@ -101,7 +101,7 @@ module _ (m : Machine) (rising : AreRising m.files) where
       each : (f : File) → In f m.files → named id f ≡ named n f
       each f is = elim (cases_lt id f.id) [
         | inl above ↦
-            let least : n ≤ f.id = next.2 f.id above (has_shape m.files f.id f (look_up (λ (x : File). x.id) m.files rising f is f.id refl)) in
+            let least : n ≤ f.id = next.2 f.id above (has_shape m.files f.id f (look_up (λ (x : File). x.id) m.files ascending f is f.id refl)) in
             elim (cases_eq f.id n) [
               | inl same ↦
                   let unseen : is_anonymous m.spaces f.id ≡ true = ap (is_anonymous m.spaces) same ∙ hidden in

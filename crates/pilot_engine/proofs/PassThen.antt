@@ -3,17 +3,17 @@ use Rattle.std.proofs.Common.{◌≡◌, ◌⊎◌, inl, inr, ℕ, zero, suc, �
 use Rattle.std.specs.Prelude.{nat_le, option_map}
 use Rattle.std.proofs.lemmas.Bool.{cases_lt}
 use Rattle.std.proofs.lemmas.Bool.Decides.{nat_tests}
-use Rattle.labelled_disk.specs.Moment.{moment}
+use Rattle.labelled_disk.specs.CrashState.{crash_state}
 use Rattle.labelled_disk.specs.Root.{counter_of, root_page, short_at}
 use Rattle.labelled_disk.specs.Sectors.{Sector}
 use Rattle.labelled_disk.specs.State.{DiskState}
 use Rattle.labelled_disk.specs.WriteRuns.{after_writes}
-use Rattle.labelled_disk.proofs.WriteRunLemmas.{appended_then, moment-earlier, moment-later}
+use Rattle.labelled_disk.proofs.WriteRunLemmas.{appended_then, crash_state-earlier, crash_state-later}
 use Rattle.flat_machine.specs.declared.call.Call.{Call}
 use Rattle.flat_machine.specs.declared.call.Call.TheVariants as call
 use Rattle.flat_machine.specs.Machine.{Machine}
 use Rattle.flat_machine.specs.Next.{next}
-use Rattle.session_words.specs.StandsFor.{TellsSettled}
+use Rattle.session_words.specs.StandsFor.{RevealsSettled}
 use Rattle.running_words.specs.Stages.{HasNumbers, Passes, stage, last_step}
 
 -- the steps of the writes up to one, and then those of later writes
@@ -33,8 +33,8 @@ pub record AreParts (m n : Machine) (first later whole : Call) (one two : ℕ �
   pub apart : (j k : ℕ) → j ≤ last_step m first → one j ≤ two k
   pub few_one : (k : ℕ) → k ≤ last_step m first → one k ≤ last_step m whole
   pub few_two : (k : ℕ) → k ≤ last_step n later → two k ≤ last_step m whole
-  pub alike_one : (d : List Sector) (k : ℕ) → TellsSettled d (stage m first k) → TellsSettled d (stage m whole (one k))
-  pub alike_two : (d : List Sector) (k : ℕ) → TellsSettled d (stage n later k) → TellsSettled d (stage m whole (two k))
+  pub alike_one : (d : List Sector) (k : ℕ) → RevealsSettled d (stage m first k) → RevealsSettled d (stage m whole (one k))
+  pub alike_two : (d : List Sector) (k : ℕ) → RevealsSettled d (stage n later k) → RevealsSettled d (stage m whole (two k))
   pub numbers_one : (d : List Sector) → HasNumbers m first d → HasNumbers m whole d
   pub numbers_two : (d : List Sector) → HasNumbers n later d → HasNumbers m whole d
 
@@ -72,34 +72,34 @@ module _ {old mid new : DiskState} (m n : Machine) (a b c : Call) (one two : ℕ
     | inr few ↦ let most = parts.few_one (first.steps k) (first.within k) in let at = then_low count early late k few in omega (arith, most, at)
   ]
 
-  module _ (d : List Sector) (k : ℕ) (told : old.contents ≡ Some d) where
-    told_mid : mid.contents ≡ Some (after_writes first.writes d)
-    told_mid = first.appended.contents ∙ ap (option_map (after_writes first.writes)) told
+  module _ (d : List Sector) (k : ℕ) (revealed : old.contents ≡ Some d) where
+    revealed_mid : mid.contents ≡ Some (after_writes first.writes d)
+    revealed_mid = first.appended.contents ∙ ap (option_map (after_writes first.writes)) revealed
 
-    at_later : count < k → moment d (first.writes ++ later.writes) k ≡ moment (after_writes first.writes d) later.writes (k - count)
-    at_later past = let at : k ≡ count + (k - count) = omega (arith, past) in ap (moment d (first.writes ++ later.writes)) at ∙ moment-later d first.writes later.writes (k - count)
+    at_later : count < k → crash_state d (first.writes ++ later.writes) k ≡ crash_state (after_writes first.writes d) later.writes (k - count)
+    at_later past = let at : k ≡ count + (k - count) = omega (arith, past) in ap (crash_state d (first.writes ++ later.writes)) at ∙ crash_state-later d first.writes later.writes (k - count)
 
-    at_moment : TellsSettled (moment d (first.writes ++ later.writes) k) (stage m c (step k))
-    at_moment = elim (cases_lt count k) [
+    at_crash_state : RevealsSettled (crash_state d (first.writes ++ later.writes) k) (stage m c (step k))
+    at_crash_state = elim (cases_lt count k) [
       | inl past ↦
-          subst (λ (e : List Sector). TellsSettled e (stage m c (step k))) (sym (at_later past))
-          (subst (λ (j : ℕ). TellsSettled (moment (after_writes first.writes d) later.writes (k - count)) (stage m c j)) (sym (then_high count early late k past))
-          (parts.alike_two (moment (after_writes first.writes d) later.writes (k - count)) (later.steps (k - count)) (later.tells (after_writes first.writes d) (k - count) told_mid)))
+          subst (λ (e : List Sector). RevealsSettled e (stage m c (step k))) (sym (at_later past))
+          (subst (λ (j : ℕ). RevealsSettled (crash_state (after_writes first.writes d) later.writes (k - count)) (stage m c j)) (sym (then_high count early late k past))
+          (parts.alike_two (crash_state (after_writes first.writes d) later.writes (k - count)) (later.steps (k - count)) (later.reveals (after_writes first.writes d) (k - count) revealed_mid)))
       | inr few ↦
-          subst (λ (e : List Sector). TellsSettled e (stage m c (step k))) (sym (moment-earlier d first.writes later.writes k few))
-          (subst (λ (j : ℕ). TellsSettled (moment d first.writes k) (stage m c j)) (sym (then_low count early late k few)) (parts.alike_one (moment d first.writes k) (first.steps k) (first.tells d k told)))
+          subst (λ (e : List Sector). RevealsSettled e (stage m c (step k))) (sym (crash_state-earlier d first.writes later.writes k few))
+          (subst (λ (j : ℕ). RevealsSettled (crash_state d first.writes k) (stage m c j)) (sym (then_low count early late k few)) (parts.alike_one (crash_state d first.writes k) (first.steps k) (first.reveals d k revealed)))
     ]
 
-    flag_moment : short_at (root_page (moment d (first.writes ++ later.writes) k)) 10 ≡ 0
-    flag_moment = elim (cases_lt count k) [
-      | inl past ↦ subst (λ (e : List Sector). short_at (root_page e) 10 ≡ 0) (sym (at_later past)) (later.open_flag (after_writes first.writes d) (k - count) told_mid)
-      | inr few ↦ subst (λ (e : List Sector). short_at (root_page e) 10 ≡ 0) (sym (moment-earlier d first.writes later.writes k few)) (first.open_flag d k told)
+    flag_crash_state : short_at (root_page (crash_state d (first.writes ++ later.writes) k)) 10 ≡ 0
+    flag_crash_state = elim (cases_lt count k) [
+      | inl past ↦ subst (λ (e : List Sector). short_at (root_page e) 10 ≡ 0) (sym (at_later past)) (later.open_flag (after_writes first.writes d) (k - count) revealed_mid)
+      | inr few ↦ subst (λ (e : List Sector). short_at (root_page e) 10 ≡ 0) (sym (crash_state-earlier d first.writes later.writes k few)) (first.open_flag d k revealed)
     ]
 
-    numbers_moment : HasNumbers m c (moment d (first.writes ++ later.writes) k)
-    numbers_moment = elim (cases_lt count k) [
-      | inl past ↦ subst (HasNumbers m c) (sym (at_later past)) (parts.numbers_two (moment (after_writes first.writes d) later.writes (k - count)) (later.numbers (after_writes first.writes d) (k - count) told_mid))
-      | inr few ↦ subst (HasNumbers m c) (sym (moment-earlier d first.writes later.writes k few)) (parts.numbers_one (moment d first.writes k) (first.numbers d k told))
+    numbers_crash_state : HasNumbers m c (crash_state d (first.writes ++ later.writes) k)
+    numbers_crash_state = elim (cases_lt count k) [
+      | inl past ↦ subst (HasNumbers m c) (sym (at_later past)) (parts.numbers_two (crash_state (after_writes first.writes d) later.writes (k - count)) (later.numbers (after_writes first.writes d) (k - count) revealed_mid))
+      | inr few ↦ subst (HasNumbers m c) (sym (crash_state-earlier d first.writes later.writes k few)) (parts.numbers_one (crash_state d first.writes k) (first.numbers d k revealed))
     ]
 
   pub joined : Passes m c old new
@@ -109,9 +109,9 @@ module _ {old mid new : DiskState} (m n : Machine) (a b c : Call) (one two : ℕ
     steps = step;
     rise = rises;
     within = few_steps;
-    tells = at_moment;
-    open_flag = flag_moment;
-    numbers = numbers_moment;
+    reveals = at_crash_state;
+    open_flag = flag_crash_state;
+    numbers = numbers_crash_state;
   }
 
 -- A call for the volume's room changes nothing; it stands for any that only asks.
@@ -133,7 +133,7 @@ quiet_numbers m n c serial counter d is = record { same_serial = is.same_serial 
 
 -- at first nothing changes
 pub quiet_then : {old mid new : DiskState} (m n : Machine) (c b : Call) → Passes m call.Volume old mid → Passes n b mid new → last_step n b ≤ last_step m c
-    → ((d : List Sector) (k : ℕ) → TellsSettled d (stage n b k) → TellsSettled d (stage m c k)) → ((d : List Sector) → HasNumbers n b d → HasNumbers m c d) → Passes m c old new
+    → ((d : List Sector) (k : ℕ) → RevealsSettled d (stage n b k) → RevealsSettled d (stage m c k)) → ((d : List Sector) → HasNumbers n b d → HasNumbers m c d) → Passes m c old new
 quiet_then m n c b first later last alike same =
     joined m n call.Volume b c (λ k. 0) (λ k. k)
     (record {
@@ -142,7 +142,7 @@ quiet_then m n c b first later last alike same =
       apart = λ j k few. omega arith;
       few_one = λ k few. omega arith;
       few_two = λ k few. omega (arith, few, last);
-      alike_one = λ d k told. subst (TellsSettled d) (stays m k) told;
+      alike_one = λ d k revealed. subst (RevealsSettled d) (stays m k) revealed;
       alike_two = alike;
       numbers_one = quiet_numbers m m c refl (inl refl);
       numbers_two = same;
@@ -150,11 +150,11 @@ quiet_then m n c b first later last alike same =
 
 -- after a question
 pub asked_then : {old mid new : DiskState} (m : Machine) (c : Call) → Passes m call.Volume old mid → Passes m c mid new → Passes m c old new
-asked_then m c first later = quiet_then m m c c first later (omega arith) (λ d k told. told) (λ d is. is)
+asked_then m c first later = quiet_then m m c c first later (omega arith) (λ d k revealed. revealed) (λ d is. is)
 
 -- a call that is whole or absent, and then nothing more changes
 pub then_quiet : {old mid new : DiskState} (m n : Machine) (a c : Call) → Passes m a old mid → Passes n call.Volume mid new → last_step m a ≡ 1 → last_step m c ≡ 1
-    → ((d : List Sector) (k : ℕ) → TellsSettled d (stage m a k) → TellsSettled d (stage m c k)) → ((d : List Sector) → TellsSettled d n → TellsSettled d (stage m c 1))
+    → ((d : List Sector) (k : ℕ) → RevealsSettled d (stage m a k) → RevealsSettled d (stage m c k)) → ((d : List Sector) → RevealsSettled d n → RevealsSettled d (stage m c 1))
     → ((d : List Sector) → HasNumbers m a d → HasNumbers m c d) → ((d : List Sector) → HasNumbers n call.Volume d → HasNumbers m c d) → Passes m c old new
 then_quiet m n a c first later one last alike done same still =
     joined m n a call.Volume c (λ k. k) (λ k. 1)
@@ -165,7 +165,7 @@ then_quiet m n a c first later one last alike done same still =
       few_one = λ k few. omega (arith, few, one, last);
       few_two = λ k few. omega (arith, last);
       alike_one = alike;
-      alike_two = λ d k told. done d (subst (TellsSettled d) (stays n k) told);
+      alike_two = λ d k revealed. done d (subst (RevealsSettled d) (stays n k) revealed);
       numbers_one = same;
       numbers_two = still;
     }) first later

@@ -10,7 +10,7 @@ use Rattle.flat_machine.specs.declared.call.Refusal.TheVariants as why
 use Rattle.flat_machine.specs.declared.space.Space.{Space}
 use Rattle.flat_machine.specs.declared.space.Window.{Window}
 use Rattle.flat_machine.specs.IsMachine.{IsMachine}
-use Rattle.labelled_disk.proofs.RisingLemmas.{at_id, each_at}
+use Rattle.labelled_disk.proofs.AscendingLemmas.{at_id, each_at}
 use Rattle.flat_machine.specs.Machine.{Machine, IsFileId, is_anonymous, shares_anonymous}
 use Rattle.flat_machine.specs.Refusal.{refusal, file_mapped, lowest_handle}
 use Rattle.flat_machine.specs.declared.call.Call.TheVariants as call

@@ -33,7 +33,7 @@ use Rattle.session_words.proofs.FoundLemmas.{above_reserved}
 use Rattle.session_words.proofs.SettledLemmas.{machine_shapes}
 use Rattle.file_manager.specs.declared.attributes.Attributes.{Attributes}
 use Rattle.file_manager.specs.declared.volume.Volume.{Volume}
-use Rattle.file_manager.specs.Attributes.{IsAttributesOf, shape_told}
+use Rattle.file_manager.specs.Attributes.{IsAttributesOf, shape_revealed}
 use Rattle.file_manager.specs.Book.{Books, BringsOwn}
 use Rattle.file_manager.specs.Broken.{GrewSome}
 use Rattle.file_manager.specs.Making.{MayGrow, GrownBy, free_count}
@@ -43,7 +43,7 @@ use Rattle.file_manager.proofs.DownLemmas.{take_few}
 use Rattle.file_manager.proofs.GrowBroken.{free_are_unused}
 use Rattle.running_words.specs.Session.{AreInForm, Carries, IsSession, Wrote}
 use Rattle.running_words.specs.Stages.{Passes}
-use Rattle.pilot_engine.proofs.CallLemmas.{file_told, books_at, looked, refused_after}
+use Rattle.pilot_engine.proofs.CallLemmas.{file_revealed, books_at, looked, refused_after}
 use Rattle.pilot_engine.proofs.CarryLemmas.{grow_carried, shrink_carried}
 use Rattle.running_words.proofs.FlagLemmas.{freeing_open, growth_open, take_open}
 use Rattle.pilot_engine.proofs.GrowthLemmas.{take_growth, take_unused}
@@ -218,12 +218,12 @@ module _ (spaces_of : TablesMeaning) (old : DiskState) (before : Slots) (layout 
           pub shrink_broken : pages < size f → ShrunkSome id pages (size f) s.stands.memory mid between new after → Passes m (call.SetSize id pages) old new
           shrink_broken fewer some = shrink_passes spaces_of old new before after m s.stands form id pages f found free some.sectors fewer some.few some.last (makes_then makes some.makes)
 
--- ---- In the words of what was told of the file, and of the call that gives it its size.
+-- ---- In the words of what was revealed of the file, and of the call that gives it its size.
 module _ (spaces_of : TablesMeaning) (old : DiskState) (before : Slots) (layout : Layout) (runs : CachedRuns) (volume : Volume) (m : Machine) (s : IsSession spaces_of old before layout runs volume m)
     (mid : DiskState) (between : Slots) (now : Layout) (kept : CachedRuns) (makes : Makes volume_page [] old before mid between) (brings : BringsOwn before between)
-    (books : Books mid between layout kept (shapes_of m.files) m.spaces s.stands.memory) (same : now ≡ layout) (id pages : ℕ) (seen : Option ℕ) (by : IsSeenBy m id seen) (a : Attributes) (told : IsAttributesOf (shapes_of m.files id) (Some a)) where
-  file : (f : File) × (file_at m.files id ≡ Some f) × (shape_of f ≡ shape_told a)
-  file = file_told m id a told
+    (books : Books mid between layout kept (shapes_of m.files) m.spaces s.stands.memory) (same : now ≡ layout) (id pages : ℕ) (seen : Option ℕ) (by : IsSeenBy m id seen) (a : Attributes) (revealed : IsAttributesOf (shapes_of m.files id) (Some a)) where
+  file : (f : File) × (file_at m.files id ≡ Some f) × (shape_of f ≡ shape_revealed a)
+  file = file_revealed m id a revealed
 
   refused : (word : Refusal) → refusal m (call.SetSize id pages) ≡ Some word → Carries spaces_of m (call.SetSize id pages) (reply.Refused word) mid between now kept volume
   refused word is = refused_after spaces_of old mid before between layout now runs kept volume m s makes brings books same (call.SetSize id pages) word is

@@ -11,7 +11,7 @@ use Rattle.flat_machine.specs.IsMachine.{IsMachine}
 use Rattle.flat_machine.specs.Machine.{Machine, IsFile}
 use Rattle.flat_machine.specs.Settled.{settled_file, is_unforced, FileAgrees, PageAgrees, CellAgrees, Agrees}
 use Rattle.flat_machine.proofs.Lists.{all_in, in_all, in_filter}
-use Rattle.session_words.specs.StandsFor.{TellsSettled}
+use Rattle.session_words.specs.StandsFor.{RevealsSettled}
 
 -- what agrees with a whole page agrees with any
 whole_agrees : (p q : Page) → length q ≡ 512 → PageAgrees p q → PageAgrees p any_page
@@ -55,12 +55,12 @@ module _ (few many : List FilePage) (less : (id page : ℕ) → is_unforced few 
     files_wider fs gs whole.1 all.1,
   )
 
--- what is told of a machine is told of one with the same files, of which more pages are unforced
-pub tells_wider : (m n : Machine) → IsMachine m → n.files ≡ m.files → ((id page : ℕ) → is_unforced n.unforced id page ≡ true → is_unforced m.unforced id page ≡ true) → (d : List Sector) → TellsSettled d n → TellsSettled d m
-tells_wider m n is same less d told = record {
+-- what is revealed of a machine is revealed of one with the same files, of which more pages are unforced
+pub reveals_wider : (m n : Machine) → IsMachine m → n.files ≡ m.files → ((id page : ℕ) → is_unforced n.unforced id page ≡ true → is_unforced m.unforced id page ≡ true) → (d : List Sector) → RevealsSettled d n → RevealsSettled d m
+reveals_wider m n is same less d revealed = record {
   agrees = files_wider n.unforced m.unforced less (files_on d) (filter (λ f. f.permanent) m.files) whole
-      (subst (λ (fs : List File). Agrees (files_on d) (map (settled_file n.unforced) (filter (λ f. f.permanent) fs))) same told.agrees);
-  right = told.right;
+      (subst (λ (fs : List File). Agrees (files_on d) (map (settled_file n.unforced) (filter (λ f. f.permanent) fs))) same revealed.agrees);
+  right = revealed.right;
 }
   where
     whole : AllByRecursion IsFile (filter (λ f. f.permanent) m.files)

@@ -5,11 +5,11 @@ use Rattle.std.proofs.lemmas.Option.{same_Some, none-some}
 use Rattle.std.proofs.lemmas.Bool.{eq-eqb, eqb-true, cases_lt}
 use Rattle.labelled_disk.specs.declared.layout.Layout.{Layout}
 use Rattle.labelled_disk.specs.File.{File, file_at, size}
-use Rattle.labelled_disk.specs.Rising.{AreRising}
+use Rattle.labelled_disk.specs.Ascending.{AreAscending}
 use Rattle.labelled_disk.specs.State.{DiskState}
-use Rattle.labelled_disk.proofs.RisingLemmas.{same_by_look_up}
+use Rattle.labelled_disk.proofs.AscendingLemmas.{same_by_look_up}
 use Rattle.label_laws.specs.AllPermanent.{if_permanent}
-use Rattle.label_laws.proofs.PermanentLemmas.{at_permanents, rising_permanents}
+use Rattle.label_laws.proofs.PermanentLemmas.{at_permanents, ascending_permanents}
 use Rattle.frame_pool.specs.Frames.{Slots}
 use Rattle.flat_machine.specs.declared.call.Call.TheVariants as call
 use Rattle.flat_machine.specs.declared.call.Reply.TheVariants as reply
@@ -35,14 +35,14 @@ use Rattle.pilot_engine.specs.Closing.{Shed, Sheds, permanents, up_to_next}
 use Rattle.running_words.specs.Session.{IsAlone, IsSession}
 use Rattle.running_words.proofs.SessionLemmas.{asked_at}
 use Rattle.pilot_engine.proofs.AloneLemmas.{delete_alone}
-use Rattle.pilot_engine.proofs.CallLemmas.{books_at, carries_at, file_told, looked, none_told}
+use Rattle.pilot_engine.proofs.CallLemmas.{books_at, carries_at, file_revealed, looked, none_revealed}
 use Rattle.pilot_engine.proofs.CarryLemmas.{delete_carried}
 use Rattle.pilot_engine.proofs.EndCosts.{room_without}
 
 -- without a temporary file the permanent ones are the same
-pub without_permanents : (fs : List File) (id : ℕ) (f : File) → AreRising fs → AreRising (without_file id fs) → file_at fs id ≡ Some f → f.permanent ≡ false → permanents (without_file id fs) ≡ permanents fs
+pub without_permanents : (fs : List File) (id : ℕ) (f : File) → AreAscending fs → AreAscending (without_file id fs) → file_at fs id ≡ Some f → f.permanent ≡ false → permanents (without_file id fs) ≡ permanents fs
 without_permanents fs id f rise rises found temporary =
-    same_by_look_up (permanents (without_file id fs)) (permanents fs) (rising_permanents (without_file id fs) rises) (rising_permanents fs rise)
+    same_by_look_up (permanents (without_file id fs)) (permanents fs) (ascending_permanents (without_file id fs) rises) (ascending_permanents fs rise)
     (λ j. at_permanents (without_file id fs) rises j ∙ ap if_permanent (at_without id fs j) ∙ by j (j == id) refl ∙ sym (at_permanents fs rise j))
   where
     gone : if_permanent (Some f) ≡ None
@@ -73,7 +73,7 @@ sheds_then m n o h k = record {
   room = λ cursor. let first = h.room cursor in let second = k.room cursor in omega (arith, first, second);
 }
 
-pub sheds_one : (m : Machine) (id : ℕ) (f : File) → AreRising m.files → AreRising (without_file id m.files) → file_at m.files id ≡ Some f → f.permanent ≡ false → Sheds m (record m { files = without_file id m.files })
+pub sheds_one : (m : Machine) (id : ℕ) (f : File) → AreAscending m.files → AreAscending (without_file id m.files) → file_at m.files id ≡ Some f → f.permanent ≡ false → Sheds m (record m { files = without_file id m.files })
 sheds_one m id f rise rises found temporary = record {
   rest = refl;
   permanent = without_permanents m.files id f rise rises found temporary;
@@ -135,14 +135,14 @@ module _ (spaces_of : TablesMeaning) (old mid : DiskState) (before between : Slo
 
   -- there is no such file
   pub shed_missing : IsAttributesOf (shapes_of m.files id) None → Shed spaces_of (λ other. other ≡ id) m mid between now kept volume
-  shed_missing told =
+  shed_missing revealed =
       shed_nothing spaces_of mid between now kept volume m (λ other. other ≡ id) looked_at
-      (λ j f is found. absurd (none-some f (sym (none_told m id told) ∙ subst (λ (k : ℕ). file_at m.files k ≡ Some f) is found)))
+      (λ j f is found. absurd (none-some f (sym (none_revealed m id revealed) ∙ subst (λ (k : ℕ). file_at m.files k ≡ Some f) is found)))
 
-  module _ (a : Attributes) (told : IsAttributesOf (shapes_of m.files id) (Some a)) where
+  module _ (a : Attributes) (revealed : IsAttributesOf (shapes_of m.files id) (Some a)) where
     mark_of : (f : File) → file_at m.files id ≡ Some f → f.permanent ≡ a.permanent
     mark_of f found =
-        let g = file_told m id a told in
+        let g = file_revealed m id a revealed in
         ap (λ (w : File). w.permanent) (same_Some f g.0 (sym found ∙ g.1)) ∙ ap (λ (w : Shape). w.permanent) g.2
 
     -- it is permanent
@@ -159,7 +159,7 @@ module _ (spaces_of : TablesMeaning) (old mid : DiskState) (before between : Slo
     pub shed_deleted : (new : DiskState) (after : Slots) (last : Layout) (later : CachedRuns) (next_volume : Volume) → a.permanent ≡ false → next_volume ≡ record volume { used = next_volume.used }
         → next_volume.used ≡ volume.used - (a.pages + 1) → last ≡ now → DeletedBy id a.pages s.session.stands.memory mid between now new after later → Shed spaces_of (λ other. other ≡ id) m new after last later next_volume
     shed_deleted new after last later next_volume temporary rest less at deleted =
-        let f = file_told m id a told in
+        let f = file_revealed m id a revealed in
         let long : size f.0 ≡ a.pages = ap (λ (w : Shape). w.size) f.2 in
         let free = delete_alone m s.alone id f.0 f.1 in
         let carries = delete_carried spaces_of mid new between after now kept later volume next_volume m looked_at.session (ap (λ (v : Volume). v.root.serial) rest) (ap (λ (v : Volume). v.root.counter) rest) id f.0 f.1 _ free (omega (arith, less, long)) deleted.leads in

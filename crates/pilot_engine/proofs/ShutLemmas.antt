@@ -6,15 +6,15 @@ use Rattle.std.proofs.lemmas.Option.{same_Some, none-some}
 use Rattle.labelled_disk.specs.declared.disk.DiskWrite.{DiskWrite}
 use Rattle.labelled_disk.specs.declared.disk.DiskWrite.TheVariants as write
 use Rattle.labelled_disk.specs.declared.label.Wanted.{Wanted}
-use Rattle.labelled_disk.specs.Calls.{Moves, TellsSame, TellsWrite}
-use Rattle.labelled_disk.specs.Lawful.{Lawful}
-use Rattle.labelled_disk.specs.Moment.{moment}
+use Rattle.labelled_disk.specs.Calls.{Moves, RevealsSame, RevealsWrite}
+use Rattle.labelled_disk.specs.Permitted.{Permitted}
+use Rattle.labelled_disk.specs.CrashState.{crash_state}
 use Rattle.labelled_disk.specs.Root.{IsRoot}
 use Rattle.labelled_disk.specs.Runs.{IsWriteInForm}
 use Rattle.labelled_disk.specs.Sectors.{Sector}
 use Rattle.labelled_disk.specs.State.{DiskState}
 use Rattle.labelled_disk.specs.WriteRuns.{after_writes}
-use Rattle.labelled_disk.proofs.WriteRunLemmas.{appended_no_more, appended_none, appended_one, appended_then, moment-earlier, moment-later}
+use Rattle.labelled_disk.proofs.WriteRunLemmas.{appended_no_more, appended_none, appended_one, appended_then, crash_state-earlier, crash_state-later}
 use Rattle.frame_pool.specs.Frames.{Slots}
 use Rattle.swapper_kernel.specs.Goes.{IsDirty, Makes, Pages, Went, is_page_write}
 use Rattle.swapper_kernel.specs.GoesLaws.{went_then}
@@ -56,11 +56,11 @@ module _ {run more : List DiskWrite} {a b c : DiskState} {s t u : Slots} (h : Ma
   joined_form : (i : ℕ) (w : DiskWrite) → slice_get (h.wrote.writes ++ k.wrote.writes) i ≡ Some w → IsWriteInForm w
   joined_form i w at = elim (get_append h.wrote.writes k.wrote.writes i w at) [ inl first ↦ h.wrote.form i w first.1 | inr next ↦ k.wrote.form next.0 w next.2 ]
 
-  joined_lawful : (d : List Sector) (i : ℕ) (w : DiskWrite) → a.contents ≡ Some d → slice_get (h.wrote.writes ++ k.wrote.writes) i ≡ Some w → Lawful (moment d (h.wrote.writes ++ k.wrote.writes) i) w
-  joined_lawful d i w told at = elim (get_append h.wrote.writes k.wrote.writes i w at) [
-    | inl (below, here) ↦ subst (λ (now : List Sector). Lawful now w) (sym (moment-earlier d h.wrote.writes k.wrote.writes i (omega arith))) (h.wrote.lawful d i w told here)
-    | inr (j, past, here) ↦ subst (λ (now : List Sector). Lawful now w) (sym (ap (moment d (h.wrote.writes ++ k.wrote.writes)) past ∙ moment-later d h.wrote.writes k.wrote.writes j))
-        (k.wrote.lawful (after_writes h.wrote.writes d) j w (h.wrote.appended.contents ∙ ap (option_map (after_writes h.wrote.writes)) told) here)
+  joined_permitted : (d : List Sector) (i : ℕ) (w : DiskWrite) → a.contents ≡ Some d → slice_get (h.wrote.writes ++ k.wrote.writes) i ≡ Some w → Permitted (crash_state d (h.wrote.writes ++ k.wrote.writes) i) w
+  joined_permitted d i w revealed at = elim (get_append h.wrote.writes k.wrote.writes i w at) [
+    | inl (below, here) ↦ subst (λ (now : List Sector). Permitted now w) (sym (crash_state-earlier d h.wrote.writes k.wrote.writes i (omega arith))) (h.wrote.permitted d i w revealed here)
+    | inr (j, past, here) ↦ subst (λ (now : List Sector). Permitted now w) (sym (ap (crash_state d (h.wrote.writes ++ k.wrote.writes)) past ∙ crash_state-later d h.wrote.writes k.wrote.writes j))
+        (k.wrote.permitted (after_writes h.wrote.writes d) j w (h.wrote.appended.contents ∙ ap (option_map (after_writes h.wrote.writes)) revealed) here)
   ]
 
   joined_dirty : (i sector : ℕ) (wanted : Wanted) (bytes : List ℕ) → slice_get (h.wrote.writes ++ k.wrote.writes) i ≡ Some (write.Page sector wanted bytes) → IsDirty s wanted.id wanted.page ⊎ volume_page wanted.id wanted.page
@@ -77,7 +77,7 @@ module _ {run more : List DiskWrite} {a b c : DiskState} {s t u : Slots} (h : Ma
       writes = h.wrote.writes ++ k.wrote.writes;
       appended = appended_then h.wrote.writes k.wrote.writes h.wrote.appended k.wrote.appended;
       form = joined_form;
-      lawful = joined_lawful;
+      permitted = joined_permitted;
       labels = filter-append (λ w. not (is_page_write w)) h.wrote.writes k.wrote.writes ∙ (λ i. h.wrote.labels i ++ k.wrote.labels i);
       of_dirty = joined_dirty;
     };
@@ -98,7 +98,7 @@ shut_then h k = record {
 }
 
 -- an end, and then nothing is written
-pub shut_still : {a b c : DiskState} {s t u : Slots} → WroteAny a s b t → TellsSame b c → Wrote b t c u → WroteAny a s c u
+pub shut_still : {a b c : DiskState} {s t u : Slots} → WroteAny a s b t → RevealsSame b c → Wrote b t c u → WroteAny a s c u
 shut_still h same k = record {
   labels = h.labels;
   makes = record {
@@ -108,7 +108,7 @@ shut_still h same k = record {
       writes = h.makes.wrote.writes;
       appended = appended_no_more h.makes.wrote.writes h.makes.wrote.appended same;
       form = h.makes.wrote.form;
-      lawful = h.makes.wrote.lawful;
+      permitted = h.makes.wrote.permitted;
       labels = h.makes.wrote.labels;
       of_dirty = h.makes.wrote.of_dirty;
     };
@@ -127,19 +127,19 @@ module _ (old new : DiskState) (slots : Slots) (n : ℕ) (root : Root) (valid : 
   form zero w here = subst IsWriteInForm (same_Some (root_write (closed_root root)) w here) (root_in_form (closed_root root))
   form (suc k) w here = absurd (none-some w here)
 
-  lawful : (d : List Sector) (k : ℕ) (w : DiskWrite) → old.contents ≡ Some d → slice_get (root_write (closed_root root) ∷ []) k ≡ Some w → Lawful (moment d (root_write (closed_root root) ∷ []) k) w
-  lawful d zero w told here = subst (Lawful d) (same_Some (root_write (closed_root root)) w here) (inl (record {
+  permitted : (d : List Sector) (k : ℕ) (w : DiskWrite) → old.contents ≡ Some d → slice_get (root_write (closed_root root) ∷ []) k ≡ Some w → Permitted (crash_state d (root_write (closed_root root) ∷ []) k) w
+  permitted d zero w revealed here = subst (Permitted d) (same_Some (root_write (closed_root root)) w here) (inl (record {
     place = refl;
     root_label = refl;
-    valid = subst (λ (m : ℕ). IsRoot m (Some (root_label, root_bytes (closed_root root)))) (sym (whole d told)) (is_root n (closed_root root) valid serial counter);
+    valid = subst (λ (m : ℕ). IsRoot m (Some (root_label, root_bytes (closed_root root)))) (sym (whole d revealed)) (is_root n (closed_root root) valid serial counter);
   }))
-  lawful d (suc k) w told here = absurd (none-some w here)
+  permitted d (suc k) w revealed here = absurd (none-some w here)
 
   of_none : (k sector : ℕ) (wanted : Wanted) (bytes : List ℕ) → slice_get (root_write (closed_root root) ∷ []) k ≡ Some (write.Page sector wanted bytes) → IsDirty slots wanted.id wanted.page ⊎ volume_page wanted.id wanted.page
   of_none zero sector wanted bytes here = absurd (cc here)
   of_none (suc k) sector wanted bytes here = absurd (none-some (write.Page sector wanted bytes) here)
 
-  pub any_root : TellsSame old new ⊎ TellsWrite (root_write (closed_root root)) old new → WroteAny old slots new slots
+  pub any_root : RevealsSame old new ⊎ RevealsWrite (root_write (closed_root root)) old new → WroteAny old slots new slots
   any_root (inl same) = record {
     labels = [];
     makes = record {
@@ -149,7 +149,7 @@ module _ (old new : DiskState) (slots : Slots) (n : ℕ) (root : Root) (valid : 
         writes = [];
         appended = appended_none same;
         form = λ k w here. absurd (none-some w here);
-        lawful = λ d k w told here. absurd (none-some w here);
+        permitted = λ d k w revealed here. absurd (none-some w here);
         labels = refl;
         of_dirty = λ k sector wanted bytes here. absurd (none-some (write.Page sector wanted bytes) here);
       };
@@ -166,7 +166,7 @@ module _ (old new : DiskState) (slots : Slots) (n : ℕ) (root : Root) (valid : 
         writes = root_write (closed_root root) ∷ [];
         appended = appended_one (root_write (closed_root root)) made;
         form = form;
-        lawful = lawful;
+        permitted = permitted;
         labels = refl;
         of_dirty = of_none;
       };

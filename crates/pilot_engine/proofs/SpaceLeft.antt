@@ -28,7 +28,7 @@ use Rattle.session_words.specs.Found.{AreShapes}
 use Rattle.session_words.specs.Parts.{Shape, shapes_of, HasLabel, TablesMeaning, is_marked, is_owned_upto}
 use Rattle.session_words.specs.StandsFor.{IsForBy, IsSettled}
 use Rattle.session_words.proofs.FoundLemmas.{data_label, file_of, file_found, file_missing, file_label, owner_upto}
-use Rattle.session_words.proofs.SettledLemmas.{Tells, zipped, same_rooms, right_all, machine_shapes}
+use Rattle.session_words.proofs.SettledLemmas.{Reveals, zipped, same_rooms, right_all, machine_shapes}
 use Rattle.label_laws.specs.Counts.{needs_place}
 use Rattle.label_laws.proofs.CountLemmas.{files_count, pages_counted, rooms}
 use Rattle.file_manager.specs.declared.volume.Volume.{Volume}
@@ -81,8 +81,8 @@ module _ (spaces_of : TablesMeaning) (named : Triples) (d : List Sector) (m : Ma
   abbrev label_at : (Label → Bool) → ℕ → Bool
   label_at test k = option_map_or test (slice_get (labels_of d) k) false
 
-  told_at : (test : Label → Bool) (k : ℕ) (l : Label) → slice_get (labels_of d) k ≡ Some l → label_at test k ≡ test l
-  told_at test k l here = ap (λ (o : Option Label). option_map_or test o false) here
+  revealed_at : (test : Label → Bool) (k : ℕ) (l : Label) → slice_get (labels_of d) k ≡ Some l → label_at test k ≡ test l
+  revealed_at test k l here = ap (λ (o : Option Label). option_map_or test o false) here
 
   sizes : (length (labels_of d) ≡ length d) × (many ≡ length d - start)
   sizes = (length-map d (λ s. s.0), length-drop start d)
@@ -102,7 +102,7 @@ module _ (spaces_of : TablesMeaning) (named : Triples) (d : List Sector) (m : Ma
   tables_counted : (k : ℕ) → k ≤ 96 → count_by (label_at (table_label k)) (range_with_len start many) ≡ k
   tables_counted zero few =
       same_counted (label_at (table_label 0)) (λ n. false) start many
-      (λ n low high. let l = has_label n low high in told_at (table_label 0) n l.0 l.1.here ∙ and_right (eqb l.0.id 3) (nat_lt l.0.page 0) (le-ltb l.0.page 0 (omega arith)))
+      (λ n low high. let l = has_label n low high in revealed_at (table_label 0) n l.0 l.1.here ∙ and_right (eqb l.0.id 3) (nat_lt l.0.page 0) (le-ltb l.0.page 0 (omega arith)))
       ∙ none_counted start many
   tables_counted (suc k) few =
       let p = by.labels.pages.all 3 k (table_owned k (omega (arith, few))) in
@@ -112,13 +112,13 @@ module _ (spaces_of : TablesMeaning) (named : Triples) (d : List Sector) (m : Ma
       let low : start ≤ p.place = subst (λ (n : ℕ). first_data n ≤ p.place) long p.there.is_data in
       let number = p.same_page in
       let more = one_more (label_at (table_label (suc k))) (label_at (table_label k)) start many p.place low (omega (arith, long, size, within, low))
-      (told_at (table_label (suc k)) p.place p.label p.there.here ∙ and_from (eqb p.label.id 3) (nat_lt p.label.page (suc k)) (eq-eqb p.label.id 3 p.same_id) (lt-ltb p.label.page (suc k) (omega (arith, number))))
-      (told_at (table_label k) p.place p.label p.there.here ∙ and_right (eqb p.label.id 3) (nat_lt p.label.page k) (le-ltb p.label.page k (omega (arith, number))))
+      (revealed_at (table_label (suc k)) p.place p.label p.there.here ∙ and_from (eqb p.label.id 3) (nat_lt p.label.page (suc k)) (eq-eqb p.label.id 3 p.same_id) (lt-ltb p.label.page (suc k) (omega (arith, number))))
+      (revealed_at (table_label k) p.place p.label p.there.here ∙ and_right (eqb p.label.id 3) (nat_lt p.label.page k) (le-ltb p.label.page k (omega (arith, number))))
       (λ n above below apart.
       let l = has_label n above below in
-      told_at (table_label (suc k)) n l.0 l.1.here
+      revealed_at (table_label (suc k)) n l.0 l.1.here
       ∙ others l.0 (cases_eq l.0.id 3) (λ three page. apart (sym (by.labels.pages.once p.place n p.label l.0 p.there l.1 p.taken (p.same_id ∙ sym three) (p.same_page ∙ sym page)))) (cases_eq l.0.page k)
-      ∙ sym (told_at (table_label k) n l.0 l.1.here)) in
+      ∙ sym (revealed_at (table_label k) n l.0 l.1.here)) in
       let rest = tables_counted k (omega (arith, few)) in
       omega (arith, more, rest)
     where
@@ -171,7 +171,7 @@ module _ (spaces_of : TablesMeaning) (named : Triples) (d : List Sector) (m : Ma
       mark = by.bits.bits k s.0 label
 
       table : label_at (table_label 96) k ≡ table_label 96 s.0
-      table = told_at (table_label 96) k s.0 label.here
+      table = revealed_at (table_label 96) k s.0 label.here
 
       either : (b : Bool) → is_free s.0 ≡ b → (s.0.id ≡ 3) ⊎ (s.0.id ≢ 3)
           → ((is_marked d k && label_at (table_label 96) k) ≡ label_at (table_label 96) k) × ((is_marked d k && not (label_at (table_label 96) k)) ≡ needs_place true d k)
@@ -195,7 +195,7 @@ module _ (spaces_of : TablesMeaning) (named : Triples) (d : List Sector) (m : Ma
   needs_counted =
       let split = split_counted (needs_place true d) (label_at leads_some) (range_with_len start many) in
       let label : (j : ℕ) (s : Sector) → slice_get (data_sectors d) j ≡ Some s → label_at leads_some (start + j) ≡ leads_some s.0 =
-      λ j s here. told_at leads_some (start + j) s.0 (data_label 96 d (shapes_of m.files) by.labels are (start + j) s (omega arith) (sym (get_drop start d j) ∙ here)).here in
+      λ j s here. revealed_at leads_some (start + j) s.0 (data_label 96 d (shapes_of m.files) by.labels are (start + j) s (omega arith) (sym (get_drop start d j) ∙ here)).here in
       let leaders = placed (λ n. needs_place true d n && label_at leads_some n) (λ n s. needs_place true d n && leads_some s.0) start (data_sectors d)
       (λ j s here. ap (λ (b : Bool). needs_place true d (start + j) && b) (label j s here)) in
       let pages = placed (λ n. needs_place true d n && not (label_at leads_some n)) (λ n s. needs_place true d n && not (leads_some s.0)) start (data_sectors d)
@@ -203,7 +203,7 @@ module _ (spaces_of : TablesMeaning) (named : Triples) (d : List Sector) (m : Ma
       let files = files_count true d in
       let sizes = pages_counted true d in
       let room = rooms (files_among true d) in
-      let same = same_rooms (Tells d m as_settled) (λ f g t. ap (λ (s : Shape). s.size) t.same_shape) (files_among true d) m.files (zipped d m as_settled) in
+      let same = same_rooms (Reveals d m as_settled) (λ f g t. ap (λ (s : Shape). s.size) t.same_shape) (files_among true d) m.files (zipped d m as_settled) in
       omega (arith, split, leaders, pages, files, sizes, room, same)
 
   -- what files have, the 96 pages and what is free are all data sectors
@@ -235,10 +235,10 @@ module _ (spaces_of : TablesMeaning) (named : Triples) (d : List Sector) (m : Ma
         let beside = room_beside layout.sectors is.0.0 in
         let least = beside.0 in
         let most = beside.1 in
-        let front : layout.first ≡ 1 + vam layout.sectors + vfm layout.sectors = ap (λ (l : Layout). l.first) is.1 in
+        let prefix : layout.first ≡ 1 + vam layout.sectors + vfm layout.sectors = ap (λ (l : Layout). l.first) is.1 in
         let room : layout.capacity ≡ capacity layout.sectors = ap (λ (l : Layout). l.capacity) is.1 in
         let all = all_data in
-        omega (arith, size, free, least, most, front, room, all)
+        omega (arith, size, free, least, most, prefix, room, all)
 
 pub room : (spaces_of : TablesMeaning) (disk : DiskState) (slots : Slots) (layout : Layout) (runs : CachedRuns) (volume : Volume) (m : Machine) → IsLayout layout
     → (s : IsSession spaces_of disk slots layout runs volume m) → layout.capacity ≡ used m + free_count layout s.stands.memory

@@ -18,13 +18,13 @@ use Rattle.volume_root.specs.Flag.{IsRefused}
 use Rattle.volume_root.specs.RootPage.{first_of, judged, root_in, tests, IsUnlessFault, Test}
 use Rattle.volume_root.specs.Sound.{Sound}
 use Rattle.volume_root.proofs.FlagLemmas.{sound_is_opened}
-use Rattle.file_manager.specs.Reasons.{Outset}
+use Rattle.file_manager.specs.Reasons.{InitialState}
 use Rattle.file_manager.proofs.RunStages.{there_is}
 use Rattle.pilot_engine.specs.declared.fault.StartFault.{StartFault}
 use Rattle.pilot_engine.specs.declared.fault.StartFault.TheVariants.{Root as NoRoot, NoMemory, Halt as Halted}
 use Rattle.pilot_engine.specs.Beginning.{HasStartCause}
 use Rattle.pilot_engine.specs.Opening.{IsBare, IsEarly, IsOutside, IsRightRefusal, IsSoAtStart, LeavesOpenAtStart}
-use Rattle.pilot_engine.specs.Reasons.{ShowsReasonAtStart, SparesFilesAtStart}
+use Rattle.pilot_engine.specs.Reasons.{ShowsReasonAtStart, NeverBlamesFilesAtStart}
 
 -- empty slots have no frame
 pub bare_slots : (n : ℕ) (slots : Slots) → slots ≡ replicate n None → IsBare slots
@@ -118,17 +118,17 @@ early_left disk (NoRoot why) early = tt
 early_left disk NoMemory early = tt
 early_left disk (Halted why) early = absurd early
 
--- no evidence is told
-pub early_reason : (o : Outset) (layout : Layout) (disk : DiskState) (f : StartFault) → IsEarly f → ShowsReasonAtStart o layout disk f
+-- no evidence is revealed
+pub early_reason : (o : InitialState) (layout : Layout) (disk : DiskState) (f : StartFault) → IsEarly f → ShowsReasonAtStart o layout disk f
 early_reason o layout disk (NoRoot why) early = tt
 early_reason o layout disk NoMemory early = tt
 early_reason o layout disk (Halted why) early = absurd early
 
--- no page of the space tables is told as broken, nor one of a file as missing
-pub early_spares : (f : StartFault) → IsEarly f → SparesFilesAtStart f
-early_spares (NoRoot why) early = tt
-early_spares NoMemory early = tt
-early_spares (Halted why) early = absurd early
+-- no page of the space tables is reported as broken, nor one of a file as missing
+pub early_never_blames : (f : StartFault) → IsEarly f → NeverBlamesFilesAtStart f
+early_never_blames (NoRoot why) early = tt
+early_never_blames NoMemory early = tt
+early_never_blames (Halted why) early = absurd early
 
 -- nor is there a halt
 pub early_cause : (old new : DiskState) (f : StartFault) → IsEarly f → HasStartCause old new f

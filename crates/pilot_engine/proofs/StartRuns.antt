@@ -8,19 +8,19 @@ use Rattle.flat_machine.specs.Machine.{Machine}
 use Rattle.flat_machine.specs.Space.{root}
 use Rattle.flat_machine.specs.Start.{start}
 use Rattle.swap_units.specs.declared.interval.Interval.{Interval}
-use Rattle.filer_kernel.specs.declared.filer.FilerOver.{FilerOver}
+use Rattle.filer_kernel.specs.declared.filer.Filer.{Filer}
 use Rattle.filer_kernel.specs.Tables.{BesideTables}
-use Rattle.space_tables.specs.Stored.{TellSpaces}
+use Rattle.space_tables.specs.Stored.{RevealSpaces}
 use Rattle.session_words.specs.FrameLaws.{HasFrames}
 use Rattle.session_words.specs.Parts.{DirtyAreLoose}
 use Rattle.session_words.proofs.LooseLemmas.{volume_loose}
 use Rattle.file_manager.specs.declared.volume.Volume.{Volume}
 use Rattle.file_manager.proofs.BookLemmas.{known_after}
-use Rattle.fault_core.specs.declared.core_over.CoreOver.{CoreOver}
+use Rattle.fault_core.specs.declared.core_over.Core.{Core}
 use Rattle.fault_core.specs.Core.{kept}
 use Rattle.fault_core.specs.Lack.{Sees}
 use Rattle.fault_core.specs.Reach.{BringsOwn}
-use Rattle.fault_core.specs.Told.{Known}
+use Rattle.fault_core.specs.Revealed.{Known}
 use Rattle.fault_core.specs.View.{View, TablesAre, view_of}
 use Rattle.space_calls.specs.Sees.{SeesFiles}
 use Rattle.swapper_kernel.specs.Goes.{no_page}
@@ -53,22 +53,22 @@ module _ (v : View) (volume : Volume) (d : List Sector) (whole : IsWhole v) (s :
     loose : DirtyAreLoose w.slots []
     loose id page dirty = elim (b.goes.makes.dirty id page dirty) [ inl was ↦ s.stands.dirty id page was | inr own ↦ volume_loose [] id page (tables_own id page own) ]
 
-    pub begun_runs : AreInForm w.disk → ArePages w.slots → TellSpaces (TablesAre w) 1 (root ∷ []) → IsRunning w [] 1 volume (start d)
-    begun_runs form frames tells = session_changed root_alone v w 1 volume (start d) (root ∷ []) whole form frames s bytes known_before b tells [] s.stands.is.by.machine has loose
+    pub begun_runs : AreInForm w.disk → ArePages w.slots → RevealSpaces (TablesAre w) 1 (root ∷ []) → IsRunning w [] 1 volume (start d)
+    begun_runs form frames reveals = session_changed root_alone v w 1 volume (start d) (root ∷ []) whole form frames s bytes known_before b reveals [] s.stands.is.by.machine has loose
 
 -- a core over that filer
-pub runs_over : {D A : Type 0} {G : Ghosts D} (c : CoreOver D A G) (filer : FilerOver D A G) (volume : Volume) (m : Machine) → c.filer ≡ filer → kept c ≡ [] → c.intervals ≡ 1 → IsRunning (view_of filer) [] 1 volume m → Runs c volume m
+pub runs_over : {D A : Type 0} {G : Ghosts D} (c : Core D A G) (filer : Filer D A G) (volume : Volume) (m : Machine) → c.filer ≡ filer → kept c ≡ [] → c.intervals ≡ 1 → IsRunning (view_of filer) [] 1 volume m → Runs c volume m
 runs_over {D} {A} {G} c filer volume m same none one runs =
     subst (λ (n : ℕ). IsRunning (view_of c.filer) (kept c) n volume m) (sym one)
-    (subst (λ (ks : List Interval). IsRunning (view_of c.filer) ks 1 volume m) (sym none) (subst (λ (f : FilerOver D A G). IsRunning (view_of f) [] 1 volume m) (sym same) runs))
+    (subst (λ (ks : List Interval). IsRunning (view_of c.filer) ks 1 volume m) (sym none) (subst (λ (f : Filer D A G). IsRunning (view_of f) [] 1 volume m) (sym same) runs))
 
 -- what is seen of the tables by the filer, the core sees: no window is there
-pub sees_over : {D A : Type 0} {G : Ghosts D} (c : CoreOver D A G) (filer : FilerOver D A G) → c.filer ≡ filer → kept c ≡ [] → c.intervals ≡ 1 → SeesRoot (view_of filer) → SeesFiles no_page c
+pub sees_over : {D A : Type 0} {G : Ghosts D} (c : Core D A G) (filer : Filer D A G) → c.filer ≡ filer → kept c ≡ [] → c.intervals ≡ 1 → SeesRoot (view_of filer) → SeesFiles no_page c
 sees_over {D} {A} {G} c filer same none one sees = (
   root ∷ [],
   (
     subst (λ (n : ℕ). Sees (view_of c.filer) (kept c) n (root ∷ [])) (sym one)
-        (subst (λ (ks : List Interval). Sees (view_of c.filer) ks 1 (root ∷ [])) (sym none) (subst (λ (f : FilerOver D A G). Sees (view_of f) [] 1 (root ∷ [])) (sym same) sees)),
+        (subst (λ (ks : List Interval). Sees (view_of c.filer) ks 1 (root ∷ [])) (sym none) (subst (λ (f : Filer D A G). Sees (view_of f) [] 1 (root ∷ [])) (sym same) sees)),
     (tt, tt),
   ),
 )

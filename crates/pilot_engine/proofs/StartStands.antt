@@ -9,7 +9,7 @@ use Rattle.labelled_disk.specs.declared.label.Label.{Label}
 use Rattle.labelled_disk.specs.declared.layout.Layout.{Layout}
 use Rattle.labelled_disk.specs.Label.{leader_page, page_label}
 use Rattle.labelled_disk.specs.Layout.{first_data}
-use Rattle.labelled_disk.specs.Moment.{written}
+use Rattle.labelled_disk.specs.CrashState.{written}
 use Rattle.labelled_disk.specs.Root.{root_page}
 use Rattle.labelled_disk.specs.Runs.{zero_bytes}
 use Rattle.labelled_disk.specs.Sectors.{Sector, AreSectors}
@@ -60,11 +60,11 @@ use Rattle.pilot_engine.specs.Opening.{root_alone, in_use, IsBare}
 use Rattle.running_words.specs.Session.{IsSession}
 use Rattle.pilot_engine.proofs.StartCount.{room_for_tables, used_by_files}
 
--- where no frame is, the memory is what the disk tells
+-- where no frame is, the memory is what the disk reveals
 pub bare_stands : (disk : DiskState) (slots : Slots) (d : List Sector) → IsBare slots → disk.contents ≡ Some d → Stands disk slots d
-bare_stands disk slots d bare told = record {
+bare_stands disk slots d bare revealed = record {
   sectors = d;
-  told = told;
+  revealed = revealed;
   merged = record { labels = refl; frames = λ i f has. absurd (bare i f has); clean = λ k clean. refl };
 }
 
@@ -100,7 +100,7 @@ none_owned shapes page none =
 tables_zero : (shapes : Shapes) (x z : List Sector) (is : List ℕ) → AreShapes shapes → HasLabelsUpto 0 (labels_of x) shapes → TablesMade is x z → HasTables root_alone z (root ∷ [])
 tables_zero shapes x z is are labels made = record {
   pages = replicate 96 zero_bytes;
-  told = refl;
+  revealed = refl;
   count = length-replicate 96 zero_bytes;
   each = each;
 }
@@ -116,8 +116,8 @@ tables_zero shapes x z is are labels made = record {
           at_each 96 zero_bytes s.0.page (omega (arith, below, few, number)) ∙ ap (λ (b : List ℕ). Some b) (sym (made.grown.fresh j k s at has.here))
       | inr was ↦
           let three : s.0.id ≡ 3 = kind_tables (length z) k s.0 has.is in
-          let behind : first_data (length z) ≤ k = kind_is_data (length z) k s.0 the_tables (λ e. true≢false (ap tables_alone e)) (λ e. true≢false (ap tables_alone e)) (λ e. true≢false (ap tables_alone e)) has.is in
-          let owned = labels.pages.only k s.0 (record { is_data = subst (λ (n : ℕ). first_data n ≤ k) (long ∙ sym (length-map x (λ s. s.0))) behind; here = was }) (ne_eqb s.0.id 0 (λ e. omega (arith, e, three))) in
+          let beyond : first_data (length z) ≤ k = kind_is_data (length z) k s.0 the_tables (λ e. true≢false (ap tables_alone e)) (λ e. true≢false (ap tables_alone e)) (λ e. true≢false (ap tables_alone e)) has.is in
+          let owned = labels.pages.only k s.0 (record { is_data = subst (λ (n : ℕ). first_data n ≤ k) (long ∙ sym (length-map x (λ s. s.0))) beyond; here = was }) (ne_eqb s.0.id 0 (λ e. omega (arith, e, three))) in
           absurd (true≢false (sym owned.is ∙ ap (λ (n : ℕ). is_owned_upto 0 shapes n s.0.page) three ∙ none_owned shapes s.0.page (no_shape shapes are)))
     ]
 
@@ -141,7 +141,7 @@ module _ (d : List Sector) (sectors : AreSectors d) (sound : Sound d) (layout : 
   opened_long = cleared.long ∙ long
 
   opened_form : AreSectors opened
-  opened_form = memory_in_form d1 slots opened opened_stands (in_form opened_stands.sectors opened_stands.told) (λ i f has. absurd (bare i f has))
+  opened_form = memory_in_form d1 slots opened opened_stands (in_form opened_stands.sectors opened_stands.revealed) (λ i f has. absurd (bare i f has))
 
   pub opened_book : IsBookedUpto 0 layout (runs_of layout.sectors kept) (shapes_of (files_on d)) opened
   opened_book =

@@ -7,8 +7,8 @@ use Rattle.labelled_disk.specs.declared.disk.DiskWrite.TheVariants.{Page}
 use Rattle.labelled_disk.specs.declared.label.Wanted.{Wanted}
 use Rattle.labelled_disk.specs.declared.layout.Layout.{Layout}
 use Rattle.labelled_disk.specs.Calls.{OnlyReads}
-use Rattle.labelled_disk.specs.Lawful.{Lawful}
-use Rattle.labelled_disk.specs.Moment.{moment, written}
+use Rattle.labelled_disk.specs.Permitted.{Permitted}
+use Rattle.labelled_disk.specs.CrashState.{crash_state, written}
 use Rattle.labelled_disk.specs.Root.{LabelsRight, counter_of, root_page, serial_of}
 use Rattle.labelled_disk.specs.RootLaws.{StaysRight}
 use Rattle.labelled_disk.specs.Runs.{growth, IsWriteInForm}
@@ -29,7 +29,7 @@ use Rattle.file_manager.specs.Making.{MakesAll, MakesSome}
 use Rattle.file_manager.proofs.RunLeads.{map_makes, take_all}
 use Rattle.pilot_engine.specs.Opening.{in_use, IsBare, StartsSome, WroteFirst, KeepsFiles}
 use Rattle.running_words.proofs.FlagLemmas.{labels_alone}
-use Rattle.pilot_engine.proofs.StartMoments.{files_kept}
+use Rattle.pilot_engine.proofs.StartCrashStates.{files_kept}
 
 module _ (root : Root) (a : DiskState) (s : Slots) (bare : IsBare s) where
   -- where no frame is there, no page is written out
@@ -47,7 +47,7 @@ module _ (root : Root) (a : DiskState) (s : Slots) (bare : IsBare s) where
       writes = h.wrote.writes;
       appended = h.wrote.appended;
       form = h.wrote.form;
-      lawful = h.wrote.lawful;
+      permitted = h.wrote.permitted;
       labels = h.wrote.labels;
       of_dirty = λ k sector wanted bytes here. elim (h.wrote.of_dirty k sector wanted bytes here) [ inl was ↦ inl was | inr none ↦ absurd none ];
     };
@@ -72,10 +72,10 @@ module _ (root : Root) (a : DiskState) (s : Slots) (bare : IsBare s) where
       form zero w here = subst IsWriteInForm (same_Some (root_write (in_use root)) w here) (made.wrote.form 0 (root_write (in_use root)) first_here)
       form (suc i) w here = k.wrote.form i w here
 
-      lawful : (d : List Sector) (i : ℕ) (w : DiskWrite) → a.contents ≡ Some d → slice_get (root_write (in_use root) ∷ k.wrote.writes) i ≡ Some w → Lawful (moment d (root_write (in_use root) ∷ k.wrote.writes) i) w
-      lawful d zero w told here = subst (Lawful d) (same_Some (root_write (in_use root)) w here) (made.wrote.lawful d 0 (root_write (in_use root)) told first_here)
-      lawful d (suc i) w told here =
-          k.wrote.lawful (written (root_write (in_use root)) d) i w (first_made.contents ∙ ap (option_map (after_writes (root_write (in_use root) ∷ []))) told) here
+      permitted : (d : List Sector) (i : ℕ) (w : DiskWrite) → a.contents ≡ Some d → slice_get (root_write (in_use root) ∷ k.wrote.writes) i ≡ Some w → Permitted (crash_state d (root_write (in_use root) ∷ k.wrote.writes) i) w
+      permitted d zero w revealed here = subst (Permitted d) (same_Some (root_write (in_use root)) w here) (made.wrote.permitted d 0 (root_write (in_use root)) revealed first_here)
+      permitted d (suc i) w revealed here =
+          k.wrote.permitted (written (root_write (in_use root)) d) i w (first_made.contents ∙ ap (option_map (after_writes (root_write (in_use root) ∷ []))) revealed) here
 
       of_dirty : (i sector : ℕ) (wanted : Wanted) (bytes : List ℕ) → slice_get (root_write (in_use root) ∷ k.wrote.writes) i ≡ Some (Page sector wanted bytes) → IsDirty s wanted.id wanted.page ⊎ volume_page wanted.id wanted.page
       of_dirty zero sector wanted bytes here = absurd (cc here)
@@ -89,7 +89,7 @@ module _ (root : Root) (a : DiskState) (s : Slots) (bare : IsBare s) where
           writes = root_write (in_use root) ∷ k.wrote.writes;
           appended = appended_then (root_write (in_use root) ∷ []) k.wrote.writes first_made k.wrote.appended;
           form = form;
-          lawful = lawful;
+          permitted = permitted;
           labels = ap (λ (ws : List DiskWrite). root_write (in_use root) ∷ ws) k.wrote.labels;
           of_dirty = of_dirty;
         };
@@ -116,12 +116,12 @@ module _ (root : Root) (a : DiskState) (s : Slots) (bare : IsBare s) where
         first = inr (_, refl);
       }
 
--- Behind calls that wrote nothing.
+-- After calls that wrote nothing.
 module _ {o a : DiskState} (reads : OnlyReads o a) where
   pub appended_later : {b : DiskState} (writes : List DiskWrite) → Appended writes a b → Appended writes o b
   appended_later writes more = record {
     contents = more.contents ∙ ap (option_map (after_writes writes)) reads.contents;
-    told = more.told ∙ ap (option_map (λ earlier. earlier ++ writes)) reads.writes;
+    revealed = more.revealed ∙ ap (option_map (λ earlier. earlier ++ writes)) reads.writes;
   }
 
   -- nothing was written
@@ -136,7 +136,7 @@ module _ {o a : DiskState} (reads : OnlyReads o a) where
       writes = [];
       appended = appended_none (record { contents = reads.contents; writes = reads.writes });
       form = λ k w here. absurd (none-some w here);
-      lawful = λ d k w told here. absurd (none-some w here);
+      permitted = λ d k w revealed here. absurd (none-some w here);
       labels = refl;
       of_dirty = λ k sector wanted bytes here. absurd (none-some (Page sector wanted bytes) here);
     };
@@ -153,11 +153,11 @@ module _ {o a : DiskState} (reads : OnlyReads o a) where
     opened = λ k. inl (same k);
   }
     where
-      same : (k : ℕ) → moment d [] k ≡ d
+      same : (k : ℕ) → crash_state d [] k ≡ d
       same zero = refl
       same (suc k) = refl
 
-      still : (k : ℕ) → StaysRight false d (moment d [] k)
+      still : (k : ℕ) → StaysRight false d (crash_state d [] k)
       still zero = record { files = refl; right = right }
       still (suc k) = record { files = refl; right = right }
 
@@ -182,15 +182,15 @@ module _ {o a : DiskState} (reads : OnlyReads o a) where
             writes = w.writes;
             appended = appended_later w.writes w.appended;
             form = w.form;
-            lawful = λ d k x told here. w.lawful d k x (reads.contents ∙ told) here;
+            permitted = λ d k x revealed here. w.permitted d k x (reads.contents ∙ revealed) here;
             labels = w.labels;
             of_dirty = λ k sector wanted bytes here. elim (w.of_dirty k sector wanted bytes here) [ inl was ↦ absurd (bare was.slot was.frame was.has) | inr own ↦ inr own ];
           };
           first = starts.first;
         }
 
-    -- and the files at each moment of it
+    -- and the files in each crash state of it
     pub start_keeps : (d : List Sector) → o.contents ≡ Some d → LabelsRight d → (n : ℕ) → length d ≡ n → IsValidRoot n root → root.serial < 2 ^ 32 → root.counter < 2 ^ 32 → root ≡ root_in (root_page d) → KeepsFiles d o b
-    start_keeps d told right n long valid serial counter same =
-        let kept = files_kept d right root (subst (λ (m : ℕ). IsValidRoot m root) (sym long) valid) serial counter (ap (λ (r : Root). r.serial) same) (ap (λ (r : Root). r.counter) same) a b s t (reads.contents ∙ told) bare starts in
+    start_keeps d revealed right n long valid serial counter same =
+        let kept = files_kept d right root (subst (λ (m : ℕ). IsValidRoot m root) (sym long) valid) serial counter (ap (λ (r : Root). r.serial) same) (ap (λ (r : Root). r.counter) same) a b s t (reads.contents ∙ revealed) bare starts in
         record { writes = kept.writes; appended = appended_later kept.writes kept.appended; right = kept.right; same_serial = kept.same_serial; same_counter = kept.same_counter; opened = kept.opened }

@@ -46,28 +46,28 @@ pub none_on_spaces : (c : Call) → is_on_spaces c ≡ true → ((parent pages :
     → ((space : ℕ) → c ≡ call.MapAnonymous space → ⊥) → ((space : ℕ) → c ≡ call.Unmap space → ⊥) → ((space : ℕ) (writable : Bool) → c ≡ call.Protect space writable → ⊥)
     → ((address count : ℕ) → c ≡ call.Load address count → ⊥) → ((address : ℕ) (bytes : List ℕ) → c ≡ call.Store address bytes → ⊥) → ((space : ℕ) → c ≡ call.Activate space → ⊥)
     → ((space : ℕ) → c ≡ call.Deactivate space → ⊥) → ((space : ℕ) → c ≡ call.Kill space → ⊥) → ((space : ℕ) → c ≡ call.ForceOut space → ⊥) → ⊥
-none_on_spaces (call.MakeSpace parent pages first) told n1 n2 n3 n4 n5 n6 n7 n8 n9 n10 n11 n12 n13 n14 = n1 parent pages first refl
-none_on_spaces (call.RemoveSpace space) told n1 n2 n3 n4 n5 n6 n7 n8 n9 n10 n11 n12 n13 n14 = n2 space refl
-none_on_spaces (call.Place page) told n1 n2 n3 n4 n5 n6 n7 n8 n9 n10 n11 n12 n13 n14 = n3 page refl
-none_on_spaces (call.Units space pages) told n1 n2 n3 n4 n5 n6 n7 n8 n9 n10 n11 n12 n13 n14 = n4 space pages refl
-none_on_spaces (call.Map space id page writable) told n1 n2 n3 n4 n5 n6 n7 n8 n9 n10 n11 n12 n13 n14 = n5 space id page writable refl
-none_on_spaces (call.MapAnonymous space) told n1 n2 n3 n4 n5 n6 n7 n8 n9 n10 n11 n12 n13 n14 = n6 space refl
-none_on_spaces (call.Unmap space) told n1 n2 n3 n4 n5 n6 n7 n8 n9 n10 n11 n12 n13 n14 = n7 space refl
-none_on_spaces (call.Protect space writable) told n1 n2 n3 n4 n5 n6 n7 n8 n9 n10 n11 n12 n13 n14 = n8 space writable refl
-none_on_spaces (call.Load address count) told n1 n2 n3 n4 n5 n6 n7 n8 n9 n10 n11 n12 n13 n14 = n9 address count refl
-none_on_spaces (call.Store address bytes) told n1 n2 n3 n4 n5 n6 n7 n8 n9 n10 n11 n12 n13 n14 = n10 address bytes refl
-none_on_spaces (call.Activate space) told n1 n2 n3 n4 n5 n6 n7 n8 n9 n10 n11 n12 n13 n14 = n11 space refl
-none_on_spaces (call.Deactivate space) told n1 n2 n3 n4 n5 n6 n7 n8 n9 n10 n11 n12 n13 n14 = n12 space refl
-none_on_spaces (call.Kill space) told n1 n2 n3 n4 n5 n6 n7 n8 n9 n10 n11 n12 n13 n14 = n13 space refl
-none_on_spaces (call.ForceOut space) told n1 n2 n3 n4 n5 n6 n7 n8 n9 n10 n11 n12 n13 n14 = n14 space refl
-none_on_spaces other told n1 n2 n3 n4 n5 n6 n7 n8 n9 n10 n11 n12 n13 n14 = absurd (true≢false (sym told))
+none_on_spaces (call.MakeSpace parent pages first) revealed n1 n2 n3 n4 n5 n6 n7 n8 n9 n10 n11 n12 n13 n14 = n1 parent pages first refl
+none_on_spaces (call.RemoveSpace space) revealed n1 n2 n3 n4 n5 n6 n7 n8 n9 n10 n11 n12 n13 n14 = n2 space refl
+none_on_spaces (call.Place page) revealed n1 n2 n3 n4 n5 n6 n7 n8 n9 n10 n11 n12 n13 n14 = n3 page refl
+none_on_spaces (call.Units space pages) revealed n1 n2 n3 n4 n5 n6 n7 n8 n9 n10 n11 n12 n13 n14 = n4 space pages refl
+none_on_spaces (call.Map space id page writable) revealed n1 n2 n3 n4 n5 n6 n7 n8 n9 n10 n11 n12 n13 n14 = n5 space id page writable refl
+none_on_spaces (call.MapAnonymous space) revealed n1 n2 n3 n4 n5 n6 n7 n8 n9 n10 n11 n12 n13 n14 = n6 space refl
+none_on_spaces (call.Unmap space) revealed n1 n2 n3 n4 n5 n6 n7 n8 n9 n10 n11 n12 n13 n14 = n7 space refl
+none_on_spaces (call.Protect space writable) revealed n1 n2 n3 n4 n5 n6 n7 n8 n9 n10 n11 n12 n13 n14 = n8 space writable refl
+none_on_spaces (call.Load address count) revealed n1 n2 n3 n4 n5 n6 n7 n8 n9 n10 n11 n12 n13 n14 = n9 address count refl
+none_on_spaces (call.Store address bytes) revealed n1 n2 n3 n4 n5 n6 n7 n8 n9 n10 n11 n12 n13 n14 = n10 address bytes refl
+none_on_spaces (call.Activate space) revealed n1 n2 n3 n4 n5 n6 n7 n8 n9 n10 n11 n12 n13 n14 = n11 space refl
+none_on_spaces (call.Deactivate space) revealed n1 n2 n3 n4 n5 n6 n7 n8 n9 n10 n11 n12 n13 n14 = n12 space refl
+none_on_spaces (call.Kill space) revealed n1 n2 n3 n4 n5 n6 n7 n8 n9 n10 n11 n12 n13 n14 = n13 space refl
+none_on_spaces (call.ForceOut space) revealed n1 n2 n3 n4 n5 n6 n7 n8 n9 n10 n11 n12 n13 n14 = n14 space refl
+none_on_spaces other revealed n1 n2 n3 n4 n5 n6 n7 n8 n9 n10 n11 n12 n13 n14 = absurd (true≢false (sym revealed))
 
 -- What the frames show.
 
--- where nothing is told
-pub nothing_told : (result : Result Reply Halt) → OnOk result (Unit {0})
-nothing_told (Ok reply) = tt
-nothing_told (Err halt) = tt
+-- where nothing is revealed
+pub nothing_revealed : (result : Result Reply Halt) → OnOk result (Unit {0})
+nothing_revealed (Ok reply) = tt
+nothing_revealed (Err halt) = tt
 
 -- of the space's pages
 pub of_pages : (P : ℕ → ℕ → Type 0) (spaces : List Space) (handle : ℕ) (result : Result Reply Halt) → ((s : Space) → space_at spaces handle ≡ Some s → OnOk result (P s.first (s.first + s.pages))) → OnOk result (OfPages P spaces handle)

@@ -5,14 +5,14 @@ use Rattle.std.specs.Option.{option_map_or}
 use Rattle.std.specs.List.{AllByRecursion, position_or_len}
 use Rattle.std.proofs.lemmas.Bool.{and_left, eq-eqb, eqb-true, true≢false}
 use Rattle.std.proofs.lemmas.Option.{same_Some, none-some, slice_get_within}
-use Rattle.labelled_disk.specs.Calls.{TellsSame, TellsWrite}
+use Rattle.labelled_disk.specs.Calls.{RevealsSame, RevealsWrite}
 use Rattle.labelled_disk.specs.declared.label.Label.{Label}
 use Rattle.labelled_disk.specs.File.{File, size}
 use Rattle.labelled_disk.specs.FilesOn.{is_of, is_page, leads_file, file_among}
 use Rattle.labelled_disk.specs.Label.{is_file, is_file_id}
 use Rattle.labelled_disk.specs.Layout.{data_sectors, first_data}
 use Rattle.labelled_disk.specs.Lowest.{is_first, is_needed}
-use Rattle.labelled_disk.specs.Moment.{moment}
+use Rattle.labelled_disk.specs.CrashState.{crash_state}
 use Rattle.labelled_disk.specs.Root.{LabelsRight}
 use Rattle.labelled_disk.specs.RootLaws.{StaysRight}
 use Rattle.labelled_disk.specs.Runs.{freeing}
@@ -37,7 +37,7 @@ use Rattle.session_words.specs.Parts.{TablesMeaning, DirtyAreLoose, is_loose}
 use Rattle.session_words.specs.StandsFor.{StandsFor}
 use Rattle.session_words.specs.Volume.{volume_page}
 use Rattle.session_words.proofs.RunStopLemmas.{run_stops}
-use Rattle.session_words.proofs.SettledLemmas.{settled_is_told}
+use Rattle.session_words.proofs.SettledLemmas.{settled_is_revealed}
 use Rattle.file_manager.specs.Tables.{AreTablePages}
 use Rattle.pilot_engine.specs.Closing.{IsEmptied, IsOpenStop, IsReady, IsStop, Throughout, closed_root}
 use Rattle.pilot_engine.proofs.EndLemmas.{shut_stop}
@@ -107,24 +107,24 @@ unneeded d page (i ∷ is) are =
 -- the pages of the space tables are freed
 pub stops_freeing : (spaces_of : TablesMeaning) (old new : DiskState) (before after : Slots) (m : Machine) (stands : StandsFor spaces_of old before m) → AreInForm old
     → (is : List ℕ) → ((d : List Sector) → labels_of d ≡ labels_of stands.memory → AreTablePages d 0 is) → Makes volume_page (freeing is) old before new after → Throughout (IsOpenStop m) old new
-stops_freeing spaces_of old new before after m stands form is were makes = stops_by spaces_of old new before after m stands form (freeing is) (freeing_none is) makes (λ d k told.
-    let b = begun spaces_of old before m d stands told (form d told) in
-    let free = unneeded d 0 is (were d (same_labels old before stands.memory d stands.stands told)) in
-    run_stops.quiet_stops m (freeing is) old new before d makes.wrote b (λ j few. stay_laws.freed d is (settled_is_told d m b.settled_disk).right free j) k)
+stops_freeing spaces_of old new before after m stands form is were makes = stops_by spaces_of old new before after m stands form (freeing is) (freeing_none is) makes (λ d k revealed.
+    let b = begun spaces_of old before m d stands revealed (form d revealed) in
+    let free = unneeded d 0 is (were d (same_labels old before stands.memory d stands.stands revealed)) in
+    run_stops.quiet_stops m (freeing is) old new before d makes.wrote b (λ j few. stay_laws.freed d is (settled_is_revealed d m b.settled_disk).right free j) k)
 
 -- both maps are written
 pub stops_forcing : (m : Machine) (r : Root) (old new : DiskState) (before after : Slots) → IsEmptied m r old before → Swaps old before new after → ((d : List Sector) → old.contents ≡ Some d → IsOpenStop m d) → Throughout (IsOpenStop m) old new
 stops_forcing m r old new before after e swaps start = record {
   writes = makes.wrote.writes;
   appended = makes.wrote.appended;
-  each = λ d k told.
-      let stop = start d told in
-      let stays = run_stops.start_stops [] old new before d makes.wrote loose told (λ j few. still d j few stop.told.right) k in
+  each = λ d k revealed.
+      let stop = start d revealed in
+      let stays = run_stops.start_stops [] old new before d makes.wrote loose revealed (λ j few. still d j few stop.revealed.right) k in
       record {
-        told = record { agrees = subst (λ (fs : List File). Agrees fs (settled m)) (sym stays.files) stop.told.agrees; right = stays.right };
-        same_serial = number_stays makes.wrote tt d k told 16 m.serial stop.same_serial;
-        same_counter = number_stays makes.wrote tt d k told 20 m.counter stop.same_counter;
-        open_flag = flag_stays makes.wrote tt d k told stop.open_flag;
+        revealed = record { agrees = subst (λ (fs : List File). Agrees fs (settled m)) (sym stays.files) stop.revealed.agrees; right = stays.right };
+        same_serial = number_stays makes.wrote tt d k revealed 16 m.serial stop.same_serial;
+        same_counter = number_stays makes.wrote tt d k revealed 20 m.counter stop.same_counter;
+        open_flag = flag_stays makes.wrote tt d k revealed stop.open_flag;
       };
 }
   where
@@ -138,35 +138,35 @@ stops_forcing m r old new before after e swaps start = record {
     loose : DirtyAreLoose before []
     loose id page dirty = low id page (elim (e.maps_alone dirty.slot dirty.frame dirty.has) [ inl one ↦ inl (sym dirty.same_id ∙ one) | inr two ↦ inr (sym dirty.same_id ∙ two) ])
 
-    still : (d : List Sector) (j : ℕ) → j ≤ 0 → LabelsRight d → StaysRight false d (moment d [] j)
+    still : (d : List Sector) (j : ℕ) → j ≤ 0 → LabelsRight d → StaysRight false d (crash_state d [] j)
     still d zero few right = record { files = refl; right = right }
     still d (suc j) few right = absurd (omega (arith, few))
 
 -- the root is written, or it isn't
 pub stops_root : (m : Machine) (r : Root) (old new : DiskState) → (ready : IsReady m r old) → IsValidRoot (length ready.sectors) r → ((d : List Sector) → old.contents ≡ Some d → IsOpenStop m d)
-    → TellsSame old new ⊎ TellsWrite (root_write (closed_root r)) old new → Throughout (IsStop m) old new
+    → RevealsSame old new ⊎ RevealsWrite (root_write (closed_root r)) old new → Throughout (IsStop m) old new
 stops_root m r old new ready valid start (inl same) = record {
   writes = [];
   appended = appended_none same;
-  each = λ d k told. none d k (open_is_stop m d (start d told));
+  each = λ d k revealed. none d k (open_is_stop m d (start d revealed));
 }
   where
-    none : (d : List Sector) (k : ℕ) → IsStop m d → IsStop m (moment d [] k)
+    none : (d : List Sector) (k : ℕ) → IsStop m d → IsStop m (crash_state d [] k)
     none d zero is = is
     none d (suc k) is = is
 stops_root m r old new ready valid start (inr wrote) = record {
   writes = root_write (closed_root r) ∷ [];
   appended = appended_one (root_write (closed_root r)) wrote;
-  each = λ d k told. one d k (open_is_stop m d (start d told)) (same_Some ready.sectors d (sym ready.told ∙ told));
+  each = λ d k revealed. one d k (open_is_stop m d (start d revealed)) (same_Some ready.sectors d (sym ready.revealed ∙ revealed));
 }
   where
-    after : IsStop m (moment ready.sectors (root_write (closed_root r) ∷ []) 1)
-    after = shut_stop m r ready.sectors ready.closed ready.same_serial ready.same_counter valid (start ready.sectors ready.told)
+    after : IsStop m (crash_state ready.sectors (root_write (closed_root r) ∷ []) 1)
+    after = shut_stop m r ready.sectors ready.closed ready.same_serial ready.same_counter valid (start ready.sectors ready.revealed)
 
-    one : (d : List Sector) (k : ℕ) → IsStop m d → ready.sectors ≡ d → IsStop m (moment d (root_write (closed_root r) ∷ []) k)
+    one : (d : List Sector) (k : ℕ) → IsStop m d → ready.sectors ≡ d → IsStop m (crash_state d (root_write (closed_root r) ∷ []) k)
     one d zero is same = is
-    one d (suc zero) is same = subst (λ (e : List Sector). IsStop m (moment e (root_write (closed_root r) ∷ []) 1)) same after
-    one d (suc (suc k)) is same = subst (λ (e : List Sector). IsStop m (moment e (root_write (closed_root r) ∷ []) 1)) same after
+    one d (suc zero) is same = subst (λ (e : List Sector). IsStop m (crash_state e (root_write (closed_root r) ∷ []) 1)) same after
+    one d (suc (suc k)) is same = subst (λ (e : List Sector). IsStop m (crash_state e (root_write (closed_root r) ∷ []) 1)) same after
 
 -- the frames of what windows show were given up, and then the volume was closed
 pub stops_closed : (m : Machine) → IsMachine m → {a b c : DiskState} → Throughout (IsOpenStop m) a b → Throughout (IsStop (forgotten m)) b c → Throughout (IsStop m) a c

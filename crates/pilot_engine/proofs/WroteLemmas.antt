@@ -38,6 +38,6 @@ pub wrote_some : {a b : DiskState} {s t : Slots} (root : Root) (kind pages : ℕ
 wrote_some root kind pages some =
     wrote_by some.makes (take_open some.count (root_write (counted root) ∷ creation (next_id root) kind some.leader some.sectors) (file_open root kind some.leader some.sectors))
 
--- a fault that was counted behind other calls
-pub rose_behind : (a b c : ℕ) → a ≤ b → Rose b c → Rose a c
-rose_behind a b c less rose = omega (arith, less, rose)
+-- a fault that was counted after other calls
+pub rose_after : (a b c : ℕ) → a ≤ b → Rose b c → Rose a c
+rose_after a b c less rose = omega (arith, less, rose)

@@ -3,7 +3,7 @@ use Rattle.std.specs.Prelude.{◌≡◌, ◌⊎◌, ◌<◌, List, [], ◌∷◌
 use Rattle.labelled_disk.specs.declared.evidence.Halt.{Halt}
 use Rattle.labelled_disk.specs.declared.evidence.Halt.TheVariants as halt
 use Rattle.labelled_disk.specs.Calls.{ReadsAtMost, Rose}
-use Rattle.labelled_disk.specs.Moment.{written}
+use Rattle.labelled_disk.specs.CrashState.{written}
 use Rattle.labelled_disk.specs.Root.{root_page}
 use Rattle.labelled_disk.specs.Sectors.{Sector}
 use Rattle.labelled_disk.specs.State.{DiskState}
@@ -57,7 +57,7 @@ StartHalts root v w e =
 -- Such a halt, from the disk as the reading of its root left it, with its own layout, no frame over it and no run kept, to this one.
 pub record IsStartHalt (old new : DiskState) (e : Halt) : Type 0 where
   pub root : Root
-  pub told : (d : List Sector) → old.contents ≡ Some d → root ≡ root_in (root_page d)
+  pub revealed : (d : List Sector) → old.contents ≡ Some d → root ≡ root_in (root_page d)
   pub before : View
   pub read : ReadsAtMost 1 old before.disk
   pub laid : IsLayout before.layout × (before.layout.sectors ≡ old.sectors)

@@ -4,7 +4,7 @@ use Rattle.labelled_disk.specs.declared.disk.DiskWrite.{DiskWrite}
 use Rattle.labelled_disk.specs.declared.layout.Layout.{Layout}
 use Rattle.labelled_disk.specs.File.{File, file_at}
 use Rattle.labelled_disk.specs.Layout.{capacity}
-use Rattle.labelled_disk.specs.Moment.{moment}
+use Rattle.labelled_disk.specs.CrashState.{crash_state}
 use Rattle.labelled_disk.specs.Root.{root_page, short_at, serial_of, counter_of}
 use Rattle.labelled_disk.specs.Sectors.{Sector}
 use Rattle.labelled_disk.specs.State.{DiskState}
@@ -23,31 +23,31 @@ use Rattle.swapper_kernel.specs.Stands.{Stands}
 use Rattle.filer_kernel.specs.declared.cached.CachedRuns.{CachedRuns}
 use Rattle.session_words.specs.CloseLaws.{IsClosed}
 use Rattle.session_words.specs.Parts.{TablesMeaning}
-use Rattle.session_words.specs.StandsFor.{TellsSettled}
+use Rattle.session_words.specs.StandsFor.{RevealsSettled}
 use Rattle.session_words.specs.Volume.{volume_page}
 use Rattle.file_manager.specs.declared.volume.Volume.{Volume}
 use Rattle.running_words.specs.Bound.{room_above}
 use Rattle.running_words.specs.Session.{AreOpen, IsAlone}
 
--- Each moment of the writes.
+-- Each crash state of the writes.
 
--- writes were made, and the sectors at each moment of them are such
+-- writes were made, and the sectors in each crash state of them are such
 pub record Throughout (P : List Sector → Type 0) (old new : DiskState) : Type 0 where
   pub writes : List DiskWrite
   pub appended : Appended writes old new
-  pub each : (d : List Sector) (k : ℕ) → old.contents ≡ Some d → P (moment d writes k)
+  pub each : (d : List Sector) (k : ℕ) → old.contents ≡ Some d → P (crash_state d writes k)
 
--- the disk tells the settled files of the machine, its labels are right, and its root has the machine's numbers; with a set
+-- the disk reveals the settled files of the machine, its labels are right, and its root has the machine's numbers; with a set
 -- clean flag the volume is sound
 pub record IsStop (m : Machine) (d : List Sector) : Type 0 where
-  pub told : TellsSettled d m
+  pub revealed : RevealsSettled d m
   pub same_serial : serial_of d ≡ m.serial
   pub same_counter : counter_of d ≡ m.counter
   pub honest : short_at (root_page d) 10 ≡ 1 → Sound d
 
 -- the same, and the clean flag is not set
 pub record IsOpenStop (m : Machine) (d : List Sector) : Type 0 where
-  pub told : TellsSettled d m
+  pub revealed : RevealsSettled d m
   pub same_serial : serial_of d ≡ m.serial
   pub same_counter : counter_of d ≡ m.counter
   pub open_flag : short_at (root_page d) 10 ≡ 0
@@ -97,7 +97,7 @@ AreWritten slots = (which : Manager) (page : ℕ) → IsDirty slots (id_of which
 -- the disk has that memory
 pub record IsReady (m : Machine) (root : Root) (disk : DiskState) : Type 0 where
   pub sectors : List Sector
-  pub told : disk.contents ≡ Some sectors
+  pub revealed : disk.contents ≡ Some sectors
   pub closed : IsClosed m sectors
   pub same_serial : root.serial ≡ m.serial
   pub same_counter : root.counter ≡ m.counter
@@ -112,31 +112,31 @@ pub record IsShut (m : Machine) (d : List Sector) : Type 0 where
   pub same_serial : serial_of d ≡ m.serial
   pub same_counter : counter_of d ≡ m.counter
   pub same_room : capacity (length d) ≡ m.capacity
-  pub told : TellsSettled d (next m Close)
+  pub revealed : RevealsSettled d (next m Close)
 
 -- the disk has such a volume
-pub record TellsShut (m : Machine) (disk : DiskState) : Type 0 where
+pub record RevealsShut (m : Machine) (disk : DiskState) : Type 0 where
   pub sectors : List Sector
-  pub told : disk.contents ≡ Some sectors
+  pub revealed : disk.contents ≡ Some sectors
   pub shut : IsShut m sectors
 
 -- and all of it is on the medium
 pub record HasShut (m : Machine) (disk : DiskState) : Type 0 where
-  pub tells : TellsShut m disk
+  pub reveals : RevealsShut m disk
   pub synced : disk.synced ≡ true
 
 -- none of these writes sets the clean flag, or the last alone, which is the root of a closed volume
 abbrev pub ShutLast : List DiskWrite → Type 0
 ShutLast writes = AreOpen writes ⊎ ((earlier : List DiskWrite) × (root : Root) × (writes ≡ earlier ++ root_write (closed_root root) ∷ []) × AreOpen earlier)
 
--- over any contents: the writes of an end, whose last may set the clean flag, were lawful, each at its moment, and no page but
+-- over any contents: the writes of an end, whose last may set the clean flag, were permitted, each where it is made, and no page but
 -- those of the volume's own became dirty
 pub record WroteAny (old : DiskState) (before : Slots) (new : DiskState) (after : Slots) : Type 0 where
   pub labels : List DiskWrite
   pub makes : Makes volume_page labels old before new after
   pub shut : ShutLast makes.wrote.writes
 
--- over any contents: the same disk later, the writes were lawful, each at its moment, and none but the last sets the clean flag
+-- over any contents: the same disk later, the writes were permitted, each where it is made, and none but the last sets the clean flag
 pub record WroteOn (before : Slots) (old new : DiskState) : Type 0 where
   pub labels : List DiskWrite
   pub went : Went old new

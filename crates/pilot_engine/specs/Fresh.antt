@@ -35,7 +35,7 @@ abbrev pub BeganVolume : DiskState → DiskState → Type 0
 BeganVolume old new = PartMade (format_writes old.sectors 1 1) old new
 
 -- Over any contents: a new volume was made, and on it the first of the writes of a start, with its root. Each of these is
--- lawful at its moment, from the new volume on.
+-- permitted where it is made, from the new volume on.
 pub record WroteOnNew (old new : DiskState) : Type 0 where
   pub made : DiskState
   pub volume : MadeVolume old made

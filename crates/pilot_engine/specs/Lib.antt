@@ -8,6 +8,6 @@ pub mod Halting
 pub mod Stepping
 pub mod Advised
 pub mod Beginning
-pub mod NewMoments
+pub mod NewCrashStates
 pub mod Reasons
 pub mod EndLaws

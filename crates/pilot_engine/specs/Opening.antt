@@ -5,7 +5,7 @@ use Rattle.labelled_disk.specs.declared.evidence.Halt.{Halt}
 use Rattle.labelled_disk.specs.declared.evidence.Halt.TheVariants as halt
 use Rattle.labelled_disk.specs.declared.layout.RootFault.TheVariants as fault
 use Rattle.labelled_disk.specs.Layout.{vam}
-use Rattle.labelled_disk.specs.Moment.{moment}
+use Rattle.labelled_disk.specs.CrashState.{crash_state}
 use Rattle.labelled_disk.specs.Root.{counter_of, root_page, serial_of, short_at}
 use Rattle.labelled_disk.specs.RootLaws.{StaysRight}
 use Rattle.labelled_disk.specs.Runs.{growth}
@@ -16,7 +16,7 @@ use Rattle.frame_pool.specs.Frames.{Slots, Frame, Has}
 use Rattle.file_map.specs.FileMap.{most_records}
 use Rattle.flat_machine.specs.Space.{root}
 use Rattle.swapper_kernel.specs.Goes.{Went, Wrote, Makes}
-use Rattle.filer_kernel.specs.Evidence.{ShowsSo}
+use Rattle.filer_kernel.specs.Evidence.{ShowsEvidence}
 use Rattle.session_words.specs.Parts.{TablesMeaning}
 use Rattle.session_words.specs.Volume.{volume_page}
 use Rattle.volume_root.specs.declared.root.Root.{Root}
@@ -49,7 +49,7 @@ pub record StartsSome (root : Root) (old : DiskState) (before : Slots) (new : Di
   pub first : BeginWith (root_write (in_use root)) makes.wrote.writes
 
 -- Over any contents: the first of the writes of a start were made, with some root, which goes before all others, and in some
--- sectors, each lawful at its moment; and page bytes of the volume's own pages alone.
+-- sectors, each permitted where it is made; and page bytes of the volume's own pages alone.
 pub record WroteFirst (old new : DiskState) : Type 0 where
   pub root : Root
   pub sectors : List ℕ
@@ -68,15 +68,15 @@ abbrev pub LeavesOpen : DiskState → Halt → Type 0
 LeavesOpen disk halt.Disk = Unit {0}
 LeavesOpen disk (halt.Damaged evidence) = IsUnset disk
 
--- at each moment of what was written there are the same permanent files, all labels are right, and the root has the same
+-- in each crash state of what was written there are the same permanent files, all labels are right, and the root has the same
 -- serial and counter; and the clean flag is 0, or the disk is as it was
 pub record KeepsFiles (d : List Sector) (old new : DiskState) : Type 0 where
   pub writes : List DiskWrite
   pub appended : Appended writes old new
-  pub right : (k : ℕ) → StaysRight false d (moment d writes k)
-  pub same_serial : (k : ℕ) → serial_of (moment d writes k) ≡ serial_of d
-  pub same_counter : (k : ℕ) → counter_of (moment d writes k) ≡ counter_of d
-  pub opened : (k : ℕ) → (moment d writes k ≡ d) ⊎ (short_at (root_page (moment d writes k)) 10 ≡ 0)
+  pub right : (k : ℕ) → StaysRight false d (crash_state d writes k)
+  pub same_serial : (k : ℕ) → serial_of (crash_state d writes k) ≡ serial_of d
+  pub same_counter : (k : ℕ) → counter_of (crash_state d writes k) ≡ counter_of d
+  pub opened : (k : ℕ) → (crash_state d writes k ≡ d) ⊎ (short_at (root_page (crash_state d writes k)) 10 ≡ 0)
 
 -- so many transfers at most
 abbrev pub CostsStart : DiskState → DiskState → Type 0
@@ -110,7 +110,7 @@ IsRightRefusal d (Halted why) = Unit {0}
 abbrev pub IsSoAtStart : DiskState → StartFault → Type 0
 IsSoAtStart disk (NoRoot why) = Unit {0}
 IsSoAtStart disk NoMemory = Unit {0}
-IsSoAtStart disk (Halted why) = ShowsSo disk why
+IsSoAtStart disk (Halted why) = ShowsEvidence disk why
 
 -- and where that is damage, the volume is left open
 abbrev pub LeavesOpenAtStart : DiskState → StartFault → Type 0

@@ -1,4 +1,4 @@
--- Why a session that does not start tells damage, from what the disk had before.
+-- Why a session that does not start reveals damage, from what the disk had before.
 use Rattle.std.specs.Prelude.{◌≡◌, List, [], ◌∷◌, ◌++◌, Some}
 use Rattle.labelled_disk.specs.declared.disk.Disk.{Ghosts}
 use Rattle.labelled_disk.specs.declared.disk.DiskWrite.{DiskWrite}
@@ -10,60 +10,60 @@ use Rattle.file_map.specs.FileMap.{Triples}
 use Rattle.file_map.specs.InSectors.{MapNames}
 use Rattle.volume_root.specs.declared.root.Root.{Root}
 use Rattle.volume_root.specs.RootPage.{root_write}
-use Rattle.file_manager.specs.Reasons.{IsOfFile, Outset, ShowsReason, WasBelow, outset}
+use Rattle.file_manager.specs.Reasons.{IsOfFile, InitialState, ShowsReason, WasBelow, initial_state}
 use Rattle.flat_machine.specs.Space.{root}
-use Rattle.fault_core.specs.declared.core_over.CoreOver.{CoreOver}
-use Rattle.fault_core.specs.Lack.{LacksPage, Sees}
-use Rattle.fault_core.specs.Spares.{SparesTables}
+use Rattle.fault_core.specs.declared.core_over.Core.{Core}
+use Rattle.fault_core.specs.Lack.{MissesPage, Sees}
+use Rattle.fault_core.specs.NeverBlames.{NeverBlamesTables}
 use Rattle.fault_core.specs.View.{View}
 use Rattle.swapper_kernel.specs.Goes.{no_page}
-use Rattle.running_words.specs.Spared.{SparesForm}
+use Rattle.running_words.specs.Blameless.{NeverBlamesForm}
 use Rattle.space_calls.specs.Sees.{SeesFiles}
 use Rattle.pilot_engine.specs.declared.fault.StartFault.{StartFault}
 use Rattle.pilot_engine.specs.declared.fault.StartFault.TheVariants.{Root as NoRoot, NoMemory, Halt as Halted}
 
--- The disk has these sectors and tells which writes were made. Its file map is in form, and names these triples.
+-- The disk has these sectors and reveals which writes were made. Its file map is in form, and names these triples.
 pub record IsBegun (d : List Sector) (named : Triples) (ws : List DiskWrite) (disk : DiskState) : Type 0 where
   pub contents : disk.contents ≡ Some d
   pub writes : disk.writes ≡ Some ws
   pub map : MapNames d named
 
--- A session's first write is a root's: this is so of an outset with such a write behind those that had been made, and with what both
+-- A session's first write is a root's: this is so of an initial state with such a write after those that had been made, and with what both
 -- maps said before it.
-abbrev pub FromStart : List Sector → Triples → List DiskWrite → (Outset → Type 0) → Type 0
-FromStart d named ws holds = (root : Root) × holds (outset d named (ws ++ (root_write root ∷ [])))
+abbrev pub FromStart : List Sector → Triples → List DiskWrite → (InitialState → Type 0) → Type 0
+FromStart d named ws holds = (root : Root) × holds (initial_state d named (ws ++ (root_write root ∷ [])))
 
 -- where a halt is why no session started, it has such a reason
-abbrev pub ShowsReasonAtStart : Outset → Layout → DiskState → StartFault → Type 0
+abbrev pub ShowsReasonAtStart : InitialState → Layout → DiskState → StartFault → Type 0
 ShowsReasonAtStart o layout disk (NoRoot why) = Unit {0}
 ShowsReasonAtStart o layout disk NoMemory = Unit {0}
 ShowsReasonAtStart o layout disk (Halted why) = ShowsReason o layout disk why
 
 -- the halt is neither that a page of the space tables breaks its form, nor that a page of a file is missing
-abbrev pub SparesFiles : Halt → Type 0
-SparesFiles halt = SparesForm halt × LacksPage no_page halt
+abbrev pub NeverBlamesFiles : Halt → Type 0
+NeverBlamesFiles halt = NeverBlamesForm halt × MissesPage no_page halt
 
 -- so it is where a halt is why no session started
-abbrev pub SparesFilesAtStart : StartFault → Type 0
-SparesFilesAtStart (NoRoot why) = Unit {0}
-SparesFilesAtStart NoMemory = Unit {0}
-SparesFilesAtStart (Halted why) = SparesFiles why
+abbrev pub NeverBlamesFilesAtStart : StartFault → Type 0
+NeverBlamesFilesAtStart (NoRoot why) = Unit {0}
+NeverBlamesFilesAtStart NoMemory = Unit {0}
+NeverBlamesFilesAtStart (Halted why) = NeverBlamesFiles why
 
--- the space tables are told, and in form: they have the root alone
+-- the space tables are revealed, and in form: they have the root alone
 abbrev pub SeesRoot : View → Type 0
 SeesRoot v = Sees v [] 1 (root ∷ [])
 
 -- The halt is not that a page of the space tables breaks its form; and where it is that a page of a file is missing, it is one of what
 -- the file is or was.
-abbrev pub IsSpared : Outset → DiskState → Halt → Type 0
-IsSpared o disk halt = SparesForm halt × LacksPage (IsOfFile o disk) halt
+abbrev pub IsBlameless : InitialState → DiskState → Halt → Type 0
+IsBlameless o disk halt = NeverBlamesForm halt × MissesPage (IsOfFile o disk) halt
 
--- The halt of an end tells no page of the space tables, as broken or as missing; and where it is that a page of a file is missing, it is
+-- The halt of an end reveals no page of the space tables, as broken or as missing; and where it is that a page of a file is missing, it is
 -- one of what the file is or was.
-abbrev pub SparesEnd : Outset → DiskState → Halt → Type 0
-SparesEnd o disk halt = SparesTables halt × LacksPage (IsOfFile o disk) halt
+abbrev pub NeverBlamesEnd : InitialState → DiskState → Halt → Type 0
+NeverBlamesEnd o disk halt = NeverBlamesTables halt × MissesPage (IsOfFile o disk) halt
 
 module _ {D A : Type 0} {G : Ghosts D} where
-  -- the space tables are told, and in form: each page of a file that a window shows is below the end of what the file is or was
-  abbrev pub SeesHome : Outset → CoreOver D A G → Type 0
-  SeesHome o core = SeesFiles (WasBelow o (G.state core.filer.swapper.under)) core
+  -- the space tables are revealed, and in form: each page of a file that a window shows is below the end of what the file is or was
+  abbrev pub SeesHome : InitialState → Core D A G → Type 0
+  SeesHome o core = SeesFiles (WasBelow o (G.state core.filer.swapper.disk)) core

@@ -85,15 +85,15 @@ StepHalts new (call.Kill space) count v w e = ReachHalts (BreaksRange v count sp
 StepHalts new (call.ForceOut space) count v w e = ReachHalts (BreaksRange v count space) v w e
 StepHalts new other count v w e = ⊥
 
--- which pages a call may tell as missing, by the spaces at its start, but for those of the space tables: those that windows show of the
+-- which pages a call may report as missing, by the spaces at its start, but for those of the space tables: those that windows show of the
 -- swap units that it touches; those of the file that it frees or marks, or that the window had which it takes away, an anonymous one
-abbrev pub lacking : Call → List Space → Pages
-lacking (call.Load address count) spaces = shown_units spaces address count
-lacking (call.Store address bytes) spaces = shown_units spaces address (length bytes)
-lacking (call.Activate space) spaces = space_units spaces space
-lacking (call.Unmap space) spaces = λ id page. (shown : Shown) × ShowsIn spaces space shown × (shown.anonymous ≡ true) × (id ≡ shown.id)
-lacking (call.Delete file) spaces = λ id page. id ≡ file
-lacking (call.SetSize file pages) spaces = λ id page. id ≡ file
-lacking (call.MakePermanent file) spaces = λ id page. id ≡ file
-lacking (call.MakeImmutable file) spaces = λ id page. id ≡ file
-lacking other spaces = no_page
+abbrev pub missing_page : Call → List Space → Pages
+missing_page (call.Load address count) spaces = shown_units spaces address count
+missing_page (call.Store address bytes) spaces = shown_units spaces address (length bytes)
+missing_page (call.Activate space) spaces = space_units spaces space
+missing_page (call.Unmap space) spaces = λ id page. (shown : Shown) × ShowsIn spaces space shown × (shown.anonymous ≡ true) × (id ≡ shown.id)
+missing_page (call.Delete file) spaces = λ id page. id ≡ file
+missing_page (call.SetSize file pages) spaces = λ id page. id ≡ file
+missing_page (call.MakePermanent file) spaces = λ id page. id ≡ file
+missing_page (call.MakeImmutable file) spaces = λ id page. id ≡ file
+missing_page other spaces = no_page

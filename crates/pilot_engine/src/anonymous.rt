@@ -2,7 +2,7 @@
 ghost use Rattle.std.specs.Prelude.{◌≡◌, true, IfOk, IfErr, OnOk, Err, MatchResult, ◌≤◌, List};
 ghost use Rattle.labelled_disk.specs.Calls.{Rose};
 ghost use Rattle.labelled_disk.specs.declared.evidence.Halt.TheVariants as halt;
-ghost use Rattle.filer_kernel.specs.Evidence.{ShowsSo};
+ghost use Rattle.filer_kernel.specs.Evidence.{ShowsEvidence};
 ghost use Rattle.flat_machine.specs.declared.call.Call.TheVariants as call;
 ghost use Rattle.flat_machine.specs.declared.call.Reply.TheVariants as reply;
 ghost use Rattle.flat_machine.specs.Machine.{Machine};
@@ -13,43 +13,43 @@ ghost use Rattle.running_words.specs.Stages.{Passes};
 ghost use Rattle.fault_core.specs.Core.{kept, state};
 ghost use Rattle.pilot_engine.specs.Halting.{MapNewHalts, UnmapHalts};
 ghost use Rattle.file_manager.specs.Creating.{next_id};
-ghost use Rattle.file_manager.specs.Reasons.{KeepsOn, Outset, ShowsReason, IsAhead, giving};
-ghost use Rattle.pilot_engine.specs.Reasons.{SeesHome, IsSpared};
-ghost use Rattle.fault_core.specs.Lack.{LacksPage, Sees};
+ghost use Rattle.file_manager.specs.Reasons.{KeepsOn, InitialState, ShowsReason, IsNotOlder, giving};
+ghost use Rattle.pilot_engine.specs.Reasons.{SeesHome, IsBlameless};
+ghost use Rattle.fault_core.specs.Lack.{MissesPage, Sees};
 ghost use Rattle.flat_machine.specs.declared.space.Space.{Space};
-ghost use Rattle.pilot_engine.specs.Stepping.{lacking};
+ghost use Rattle.pilot_engine.specs.Stepping.{missing_page};
 
-use crate::SessionOver;
+use crate::Session;
 use flat_machine::Reply;
 use labelled_disk::{Disk, Halt};
-use space_calls::{give_window, take_window, wait};
+use space_calls::{give_window, sync, take_window};
 use space_tables::Shown;
 use std::alloc::Allocator;
 use table_calls::can_map;
 
-impl<D: Disk, A: Allocator> SessionOver<D, A> {
+impl<D: Disk, A: Allocator> Session<D, A> {
     // Takes the window of a space away, and an anonymous one's file with it. What was written is on the medium then.
     pub(crate) fn unmap(&mut self, space: u32) -> Result<Reply, Halt>
-        requires size { (D.state self.old.core.filer.swapper.under).sectors ≡ self.old.core.filer.swapper.layout.sectors }
+        requires size { (D.state self.old.core.filer.swapper.disk).sectors ≡ self.old.core.filer.swapper.layout.sectors }
         requires opened { IsOpen self.old.core.filer.swapper.layout self.old.volume }
         ensures carried { (m : Machine) → Runs self.old.core self.old.volume m → IfOk result (Carried m (call.Unmap space) self.new.core self.new.volume) }
         ensures sound { (m : Machine) → Runs self.old.core self.old.volume m → IfErr result (λ e. e ≡ halt.Disk) }
-        ensures passes { (m : Machine) → Runs self.old.core self.old.volume m → Passes m (call.Unmap space) (D.state self.old.core.filer.swapper.under) (D.state self.new.core.filer.swapper.under) }
-        ensures synced { IfOk result (λ answer. answer ≡ reply.Done → (D.state self.new.core.filer.swapper.under).synced ≡ true) }
-        ensures counted { result ≡ Err halt.Disk → Rose (D.state self.old.core.filer.swapper.under).faults (D.state self.new.core.filer.swapper.under).faults }
+        ensures passes { (m : Machine) → Runs self.old.core self.old.volume m → Passes m (call.Unmap space) (D.state self.old.core.filer.swapper.disk) (D.state self.new.core.filer.swapper.disk) }
+        ensures synced { IfOk result (λ answer. answer ≡ reply.Done → (D.state self.new.core.filer.swapper.disk).synced ≡ true) }
+        ensures counted { result ≡ Err halt.Disk → Rose (D.state self.old.core.filer.swapper.disk).faults (D.state self.new.core.filer.swapper.disk).faults }
         ensures cause { IfErr result (UnmapHalts space self.old.core.intervals (state self.old.core) (state self.new.core)) }
-        ensures missing { (ss : List Space) → Sees (state self.old.core) (kept self.old.core) self.old.core.intervals ss → IfErr result (LacksPage (lacking (call.Unmap space) ss)) }
-        ensures keeps_to { (o : Outset) → KeepsOn o self.old.core.filer → OnOk result (KeepsOn o self.new.core.filer) }
-        ensures reasons { (o : Outset) → KeepsOn o self.old.core.filer → IfErr result (ShowsReason o self.old.core.filer.swapper.layout (D.state self.new.core.filer.swapper.under)) }
-        ensures sees { (o : Outset) → KeepsOn o self.old.core.filer → SeesHome o self.old.core → MatchResult result (λ _. SeesHome o self.new.core) (IsSpared o (D.state self.new.core.filer.swapper.under)) }
-        ensures so { IfErr result (ShowsSo (D.state self.new.core.filer.swapper.under)) }
-        ensures wrote { Wrote (D.state self.old.core.filer.swapper.under) self.old.core.filer.swapper.pool (D.state self.new.core.filer.swapper.under) self.new.core.filer.swapper.pool }
+        ensures missing { (ss : List Space) → Sees (state self.old.core) (kept self.old.core) self.old.core.intervals ss → IfErr result (MissesPage (missing_page (call.Unmap space) ss)) }
+        ensures keeps_to { (o : InitialState) → KeepsOn o self.old.core.filer → OnOk result (KeepsOn o self.new.core.filer) }
+        ensures reasons { (o : InitialState) → KeepsOn o self.old.core.filer → IfErr result (ShowsReason o self.old.core.filer.swapper.layout (D.state self.new.core.filer.swapper.disk)) }
+        ensures sees { (o : InitialState) → KeepsOn o self.old.core.filer → SeesHome o self.old.core → MatchResult result (λ _. SeesHome o self.new.core) (IsBlameless o (D.state self.new.core.filer.swapper.disk)) }
+        ensures evidence_seen { IfErr result (ShowsEvidence (D.state self.new.core.filer.swapper.disk)) }
+        ensures wrote { Wrote (D.state self.old.core.filer.swapper.disk) self.old.core.filer.swapper.pool (D.state self.new.core.filer.swapper.disk) self.new.core.filer.swapper.pool }
         ensures open_still { IsOpen self.new.core.filer.swapper.layout self.new.volume }
-        ensures onward { next_id self.old.volume.root ≤ next_id self.new.volume.root }
+        ensures monotone { next_id self.old.volume.root ≤ next_id self.new.volume.root }
         ensures serial { self.new.volume.root.serial ≡ self.old.volume.root.serial }
         ensures layout { self.new.core.filer.swapper.layout ≡ self.old.core.filer.swapper.layout }
         ensures running { self.new.running ≡ self.old.running }
-        ensures cost { (m : Machine) → Runs self.old.core self.old.volume m → CostsOther (D.state self.old.core.filer.swapper.under) (D.state self.new.core.filer.swapper.under) }
+        ensures cost { (m : Machine) → Runs self.old.core self.old.volume m → CostsOther (D.state self.old.core.filer.swapper.disk) (D.state self.new.core.filer.swapper.disk) }
     {
         let shown = match take_window(&mut self.core, space) {
             Ok(Ok(shown)) => shown,
@@ -63,7 +63,7 @@ impl<D: Disk, A: Allocator> SessionOver<D, A> {
             Ok(done) => done,
             Err(halt) => return Err(halt),
         };
-        match wait(&mut self.core) {
+        match sync(&mut self.core) {
             Ok(()) => Ok(done),
             Err(halt) => Err(halt),
         }
@@ -71,24 +71,24 @@ impl<D: Disk, A: Allocator> SessionOver<D, A> {
 
     // Shows a new file of zero pages in a space, of its size.
     pub(crate) fn map_anonymous(&mut self, space: u32) -> Result<Reply, Halt>
-        requires size { (D.state self.old.core.filer.swapper.under).sectors ≡ self.old.core.filer.swapper.layout.sectors }
+        requires size { (D.state self.old.core.filer.swapper.disk).sectors ≡ self.old.core.filer.swapper.layout.sectors }
         requires opened { IsOpen self.old.core.filer.swapper.layout self.old.volume }
         ensures carried { (m : Machine) → Runs self.old.core self.old.volume m → IfOk result (Carried m (call.MapAnonymous space) self.new.core self.new.volume) }
         ensures sound { (m : Machine) → Runs self.old.core self.old.volume m → IfErr result (λ e. e ≡ halt.Disk) }
-        ensures passes { (m : Machine) → Runs self.old.core self.old.volume m → Passes m (call.MapAnonymous space) (D.state self.old.core.filer.swapper.under) (D.state self.new.core.filer.swapper.under) }
-        ensures counted { result ≡ Err halt.Disk → Rose (D.state self.old.core.filer.swapper.under).faults (D.state self.new.core.filer.swapper.under).faults }
+        ensures passes { (m : Machine) → Runs self.old.core self.old.volume m → Passes m (call.MapAnonymous space) (D.state self.old.core.filer.swapper.disk) (D.state self.new.core.filer.swapper.disk) }
+        ensures counted { result ≡ Err halt.Disk → Rose (D.state self.old.core.filer.swapper.disk).faults (D.state self.new.core.filer.swapper.disk).faults }
         ensures cause { IfErr result (MapNewHalts (next_id self.old.volume.root) self.old.core.intervals (state self.old.core) (state self.new.core)) }
-        ensures keeps_to { (o : Outset) → KeepsOn o self.old.core.filer → IsAhead o self.old.volume.root → OnOk result (KeepsOn (giving o (next_id self.new.volume.root)) self.new.core.filer) }
-        ensures reasons { (o : Outset) → KeepsOn o self.old.core.filer → IsAhead o self.old.volume.root → IfErr result (ShowsReason o self.old.core.filer.swapper.layout (D.state self.new.core.filer.swapper.under)) }
-        ensures sees { (o : Outset) → KeepsOn o self.old.core.filer → IsAhead o self.old.volume.root → SeesHome o self.old.core → MatchResult result (λ _. SeesHome o self.new.core) (IsSpared o (D.state self.new.core.filer.swapper.under)) }
-        ensures so { IfErr result (ShowsSo (D.state self.new.core.filer.swapper.under)) }
-        ensures wrote { Wrote (D.state self.old.core.filer.swapper.under) self.old.core.filer.swapper.pool (D.state self.new.core.filer.swapper.under) self.new.core.filer.swapper.pool }
+        ensures keeps_to { (o : InitialState) → KeepsOn o self.old.core.filer → IsNotOlder o self.old.volume.root → OnOk result (KeepsOn (giving o (next_id self.new.volume.root)) self.new.core.filer) }
+        ensures reasons { (o : InitialState) → KeepsOn o self.old.core.filer → IsNotOlder o self.old.volume.root → IfErr result (ShowsReason o self.old.core.filer.swapper.layout (D.state self.new.core.filer.swapper.disk)) }
+        ensures sees { (o : InitialState) → KeepsOn o self.old.core.filer → IsNotOlder o self.old.volume.root → SeesHome o self.old.core → MatchResult result (λ _. SeesHome o self.new.core) (IsBlameless o (D.state self.new.core.filer.swapper.disk)) }
+        ensures evidence_seen { IfErr result (ShowsEvidence (D.state self.new.core.filer.swapper.disk)) }
+        ensures wrote { Wrote (D.state self.old.core.filer.swapper.disk) self.old.core.filer.swapper.pool (D.state self.new.core.filer.swapper.disk) self.new.core.filer.swapper.pool }
         ensures open_still { IsOpen self.new.core.filer.swapper.layout self.new.volume }
-        ensures onward { next_id self.old.volume.root ≤ next_id self.new.volume.root }
+        ensures monotone { next_id self.old.volume.root ≤ next_id self.new.volume.root }
         ensures serial { self.new.volume.root.serial ≡ self.old.volume.root.serial }
         ensures layout { self.new.core.filer.swapper.layout ≡ self.old.core.filer.swapper.layout }
         ensures running { self.new.running ≡ self.old.running }
-        ensures cost { (m : Machine) → Runs self.old.core self.old.volume m → CostsOther (D.state self.old.core.filer.swapper.under) (D.state self.new.core.filer.swapper.under) }
+        ensures cost { (m : Machine) → Runs self.old.core self.old.volume m → CostsOther (D.state self.old.core.filer.swapper.disk) (D.state self.new.core.filer.swapper.disk) }
     {
         let run = match can_map(&mut self.core, space) {
             Ok(Ok(run)) => run,

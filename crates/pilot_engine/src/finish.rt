@@ -3,7 +3,7 @@ ghost use Rattle.std.specs.Prelude.{◌≡◌, ◌⊎◌, ℕ, ◌+◌, ◌*◌,
 ghost use Rattle.labelled_disk.specs.declared.evidence.Halt.TheVariants as halt;
 ghost use Rattle.labelled_disk.specs.Calls.{Rose};
 ghost use Rattle.labelled_disk.specs.Sectors.{Sector};
-ghost use Rattle.filer_kernel.specs.Evidence.{ShowsSo};
+ghost use Rattle.filer_kernel.specs.Evidence.{ShowsEvidence};
 ghost use Rattle.flat_machine.specs.Machine.{Machine};
 ghost use Rattle.flat_machine.specs.Space.{root, root_pages};
 ghost use Rattle.swapper_kernel.specs.Goes.{IsDirty, Swaps};
@@ -13,22 +13,22 @@ ghost use Rattle.session_words.specs.Parts.{TablesMeaning};
 ghost use Rattle.running_words.specs.Bound.{CostsOther, emptying_bound};
 ghost use Rattle.running_words.specs.Running.{Runs};
 ghost use Rattle.running_words.specs.Session.{IsOpen, IsAlone, Wrote};
-ghost use Rattle.pilot_engine.specs.Closing.{AreWritten, HasShut, IsEmptied, IsOpenStop, IsReady, IsStop, TellsShut, Throughout, WroteAny, WroteOn, closed_root};
+ghost use Rattle.pilot_engine.specs.Closing.{AreWritten, HasShut, IsEmptied, IsOpenStop, IsReady, IsStop, RevealsShut, Throughout, WroteAny, WroteOn, closed_root};
 ghost use Rattle.pilot_engine.specs.Opening.{IsUnset, LeavesOpen, root_alone};
 ghost use Rattle.fault_core.specs.Core.{state};
 ghost use Rattle.fault_core.specs.Kill.{BreaksWithin};
 ghost use Rattle.fault_core.specs.Reach.{ReachHalts};
 ghost use Rattle.space_calls.specs.Halts.{After};
 ghost use Rattle.pilot_engine.specs.Halting.{ClearHalts, EndHalts, FreeTablesHalts, Made, WriteHalts};
-ghost use Rattle.file_manager.specs.Reasons.{KeepsBare, KeepsOn, Outset, ShowsReason};
-ghost use Rattle.pilot_engine.specs.Reasons.{SeesHome, SparesEnd};
+ghost use Rattle.file_manager.specs.Reasons.{KeepsBare, KeepsOn, InitialState, ShowsReason};
+ghost use Rattle.pilot_engine.specs.Reasons.{SeesHome, NeverBlamesEnd};
 
-use crate::SessionOver;
+use crate::Session;
 use crate::frames::look_at_frames;
 use file_manager::free_tables;
-use force_calls::force;
+use force_calls::flush;
 use labelled_disk::{Disk, Halt};
-use space_calls::wait;
+use space_calls::sync;
 use std::alloc::Allocator;
 use swapper_kernel::Manager;
 use volume_root::{Root, write_root};
@@ -58,55 +58,55 @@ fn closed(root: Root) -> Root
     }
 }
 
-impl<D: Disk, A: Allocator> SessionOver<D, A> {
+impl<D: Disk, A: Allocator> Session<D, A> {
     // Gives up the frames of all pages that windows show. What is dirty is written out first.
-    fn let_root_go(&mut self) -> Result<(), Halt>
-        requires size { (D.state self.old.core.filer.swapper.under).sectors ≡ self.old.core.filer.swapper.layout.sectors }
+    fn evict_root(&mut self) -> Result<(), Halt>
+        requires size { (D.state self.old.core.filer.swapper.disk).sectors ≡ self.old.core.filer.swapper.layout.sectors }
         requires opened { IsOpen self.old.core.filer.swapper.layout self.old.volume }
         ensures alone { (m : Machine) → Runs self.old.core self.old.volume m
-            → OnOk result (IsAlone root_alone (D.state self.new.core.filer.swapper.under) self.new.core.filer.swapper.pool self.new.core.filer.swapper.layout self.new.core.filer.runs self.new.volume (record m { spaces = root ∷ []; unforced = [] })) }
+            → OnOk result (IsAlone root_alone (D.state self.new.core.filer.swapper.disk) self.new.core.filer.swapper.pool self.new.core.filer.swapper.layout self.new.core.filer.runs self.new.volume (record m { spaces = root ∷ []; unforced = [] })) }
         ensures sound { (m : Machine) → Runs self.old.core self.old.volume m → IfErr result (λ e. e ≡ halt.Disk) }
-        ensures stops { (m : Machine) → Runs self.old.core self.old.volume m → Throughout (IsOpenStop m) (D.state self.old.core.filer.swapper.under) (D.state self.new.core.filer.swapper.under) }
-        ensures counted { result ≡ Err halt.Disk → Rose (D.state self.old.core.filer.swapper.under).faults (D.state self.new.core.filer.swapper.under).faults }
+        ensures stops { (m : Machine) → Runs self.old.core self.old.volume m → Throughout (IsOpenStop m) (D.state self.old.core.filer.swapper.disk) (D.state self.new.core.filer.swapper.disk) }
+        ensures counted { result ≡ Err halt.Disk → Rose (D.state self.old.core.filer.swapper.disk).faults (D.state self.new.core.filer.swapper.disk).faults }
         ensures cause { IfErr result (ReachHalts (BreaksWithin (state self.old.core) self.old.core.intervals 0 root_pages) (state self.old.core) (state self.new.core)) }
-        ensures keeps_to { (o : Outset) → KeepsOn o self.old.core.filer → OnOk result (KeepsOn o self.new.core.filer) }
-        ensures reasons { (o : Outset) → KeepsOn o self.old.core.filer → IfErr result (ShowsReason o self.old.core.filer.swapper.layout (D.state self.new.core.filer.swapper.under)) }
-        ensures sees { (o : Outset) → KeepsOn o self.old.core.filer → SeesHome o self.old.core → MatchResult result (λ _. SeesHome o self.new.core) (SparesEnd o (D.state self.new.core.filer.swapper.under)) }
-        ensures so { IfErr result (ShowsSo (D.state self.new.core.filer.swapper.under)) }
-        ensures wrote { Wrote (D.state self.old.core.filer.swapper.under) self.old.core.filer.swapper.pool (D.state self.new.core.filer.swapper.under) self.new.core.filer.swapper.pool }
+        ensures keeps_to { (o : InitialState) → KeepsOn o self.old.core.filer → OnOk result (KeepsOn o self.new.core.filer) }
+        ensures reasons { (o : InitialState) → KeepsOn o self.old.core.filer → IfErr result (ShowsReason o self.old.core.filer.swapper.layout (D.state self.new.core.filer.swapper.disk)) }
+        ensures sees { (o : InitialState) → KeepsOn o self.old.core.filer → SeesHome o self.old.core → MatchResult result (λ _. SeesHome o self.new.core) (NeverBlamesEnd o (D.state self.new.core.filer.swapper.disk)) }
+        ensures evidence_seen { IfErr result (ShowsEvidence (D.state self.new.core.filer.swapper.disk)) }
+        ensures wrote { Wrote (D.state self.old.core.filer.swapper.disk) self.old.core.filer.swapper.pool (D.state self.new.core.filer.swapper.disk) self.new.core.filer.swapper.pool }
         ensures layout { self.new.core.filer.swapper.layout ≡ self.old.core.filer.swapper.layout }
         ensures open_still { IsOpen self.new.core.filer.swapper.layout self.new.volume }
         ensures volume { self.new.volume ≡ self.old.volume }
-        ensures cost { (D.state self.new.core.filer.swapper.under).transfers ≤ (D.state self.old.core.filer.swapper.under).transfers + 1024 * (196 + length self.old.core.filer.swapper.pool) }
+        ensures cost { (D.state self.new.core.filer.swapper.disk).transfers ≤ (D.state self.old.core.filer.swapper.disk).transfers + 1024 * (196 + length self.old.core.filer.swapper.pool) }
     {
-        match self.core.let_go(0, ROOT_PAGES) {
+        match self.core.evict(0, ROOT_PAGES) {
             Ok(()) => Ok(()),
             Err(halt) => Err(halt),
         }
     }
 
     // The same, of at most 4,096 frames.
-    fn let_all_go(&mut self) -> Result<(), Halt>
-        requires size { (D.state self.old.core.filer.swapper.under).sectors ≡ self.old.core.filer.swapper.layout.sectors }
+    fn evict_all(&mut self) -> Result<(), Halt>
+        requires size { (D.state self.old.core.filer.swapper.disk).sectors ≡ self.old.core.filer.swapper.layout.sectors }
         requires opened { IsOpen self.old.core.filer.swapper.layout self.old.volume }
         ensures alone { (m : Machine) → Runs self.old.core self.old.volume m
-            → OnOk result (IsAlone root_alone (D.state self.new.core.filer.swapper.under) self.new.core.filer.swapper.pool self.new.core.filer.swapper.layout self.new.core.filer.runs self.new.volume (record m { spaces = root ∷ []; unforced = [] })) }
+            → OnOk result (IsAlone root_alone (D.state self.new.core.filer.swapper.disk) self.new.core.filer.swapper.pool self.new.core.filer.swapper.layout self.new.core.filer.runs self.new.volume (record m { spaces = root ∷ []; unforced = [] })) }
         ensures sound { (m : Machine) → Runs self.old.core self.old.volume m → IfErr result (λ e. e ≡ halt.Disk) }
-        ensures stops { (m : Machine) → Runs self.old.core self.old.volume m → Throughout (IsOpenStop m) (D.state self.old.core.filer.swapper.under) (D.state self.new.core.filer.swapper.under) }
-        ensures counted { result ≡ Err halt.Disk → Rose (D.state self.old.core.filer.swapper.under).faults (D.state self.new.core.filer.swapper.under).faults }
+        ensures stops { (m : Machine) → Runs self.old.core self.old.volume m → Throughout (IsOpenStop m) (D.state self.old.core.filer.swapper.disk) (D.state self.new.core.filer.swapper.disk) }
+        ensures counted { result ≡ Err halt.Disk → Rose (D.state self.old.core.filer.swapper.disk).faults (D.state self.new.core.filer.swapper.disk).faults }
         ensures cause { IfErr result (ReachHalts (BreaksWithin (state self.old.core) self.old.core.intervals 0 root_pages) (state self.old.core) (state self.new.core)) }
-        ensures keeps_to { (o : Outset) → KeepsOn o self.old.core.filer → OnOk result (KeepsOn o self.new.core.filer) }
-        ensures reasons { (o : Outset) → KeepsOn o self.old.core.filer → IfErr result (ShowsReason o self.old.core.filer.swapper.layout (D.state self.new.core.filer.swapper.under)) }
-        ensures sees { (o : Outset) → KeepsOn o self.old.core.filer → SeesHome o self.old.core → MatchResult result (λ _. SeesHome o self.new.core) (SparesEnd o (D.state self.new.core.filer.swapper.under)) }
-        ensures so { IfErr result (ShowsSo (D.state self.new.core.filer.swapper.under)) }
-        ensures wrote { Wrote (D.state self.old.core.filer.swapper.under) self.old.core.filer.swapper.pool (D.state self.new.core.filer.swapper.under) self.new.core.filer.swapper.pool }
+        ensures keeps_to { (o : InitialState) → KeepsOn o self.old.core.filer → OnOk result (KeepsOn o self.new.core.filer) }
+        ensures reasons { (o : InitialState) → KeepsOn o self.old.core.filer → IfErr result (ShowsReason o self.old.core.filer.swapper.layout (D.state self.new.core.filer.swapper.disk)) }
+        ensures sees { (o : InitialState) → KeepsOn o self.old.core.filer → SeesHome o self.old.core → MatchResult result (λ _. SeesHome o self.new.core) (NeverBlamesEnd o (D.state self.new.core.filer.swapper.disk)) }
+        ensures evidence_seen { IfErr result (ShowsEvidence (D.state self.new.core.filer.swapper.disk)) }
+        ensures wrote { Wrote (D.state self.old.core.filer.swapper.disk) self.old.core.filer.swapper.pool (D.state self.new.core.filer.swapper.disk) self.new.core.filer.swapper.pool }
         ensures layout { self.new.core.filer.swapper.layout ≡ self.old.core.filer.swapper.layout }
         ensures open_still { IsOpen self.new.core.filer.swapper.layout self.new.volume }
         ensures volume { self.new.volume ≡ self.old.volume }
-        ensures cost { (D.state self.new.core.filer.swapper.under).transfers ≤ (D.state self.old.core.filer.swapper.under).transfers + 1024 * (196 + 4096) }
+        ensures cost { (D.state self.new.core.filer.swapper.disk).transfers ≤ (D.state self.old.core.filer.swapper.disk).transfers + 1024 * (196 + 4096) }
     {
         look_at_frames(&mut self.core.filer);
-        match self.let_root_go() {
+        match self.evict_root() {
             Ok(()) => Ok(()),
             Err(halt) => Err(halt),
         }
@@ -114,25 +114,25 @@ impl<D: Disk, A: Allocator> SessionOver<D, A> {
 
     // Deletes the temporary files, and frees the pages of the space tables.
     fn empty(&mut self) -> Result<(), Halt>
-        requires size { (D.state self.old.core.filer.swapper.under).sectors ≡ self.old.core.filer.swapper.layout.sectors }
+        requires size { (D.state self.old.core.filer.swapper.disk).sectors ≡ self.old.core.filer.swapper.layout.sectors }
         requires opened { IsOpen self.old.core.filer.swapper.layout self.old.volume }
-        ensures emptied { (spaces_of : TablesMeaning) (m : Machine) → IsAlone spaces_of (D.state self.old.core.filer.swapper.under) self.old.core.filer.swapper.pool self.old.core.filer.swapper.layout self.old.core.filer.runs self.old.volume m
-            → OnOk result (IsEmptied m self.new.volume.root (D.state self.new.core.filer.swapper.under) self.new.core.filer.swapper.pool) }
-        ensures sound { (spaces_of : TablesMeaning) (m : Machine) → IsAlone spaces_of (D.state self.old.core.filer.swapper.under) self.old.core.filer.swapper.pool self.old.core.filer.swapper.layout self.old.core.filer.runs self.old.volume m
+        ensures emptied { (spaces_of : TablesMeaning) (m : Machine) → IsAlone spaces_of (D.state self.old.core.filer.swapper.disk) self.old.core.filer.swapper.pool self.old.core.filer.swapper.layout self.old.core.filer.runs self.old.volume m
+            → OnOk result (IsEmptied m self.new.volume.root (D.state self.new.core.filer.swapper.disk) self.new.core.filer.swapper.pool) }
+        ensures sound { (spaces_of : TablesMeaning) (m : Machine) → IsAlone spaces_of (D.state self.old.core.filer.swapper.disk) self.old.core.filer.swapper.pool self.old.core.filer.swapper.layout self.old.core.filer.runs self.old.volume m
             → IfErr result (λ e. e ≡ halt.Disk) }
-        ensures stops { (spaces_of : TablesMeaning) (m : Machine) → IsAlone spaces_of (D.state self.old.core.filer.swapper.under) self.old.core.filer.swapper.pool self.old.core.filer.swapper.layout self.old.core.filer.runs self.old.volume m
-            → Throughout (IsOpenStop m) (D.state self.old.core.filer.swapper.under) (D.state self.new.core.filer.swapper.under) }
-        ensures counted { result ≡ Err halt.Disk → Rose (D.state self.old.core.filer.swapper.under).faults (D.state self.new.core.filer.swapper.under).faults }
+        ensures stops { (spaces_of : TablesMeaning) (m : Machine) → IsAlone spaces_of (D.state self.old.core.filer.swapper.disk) self.old.core.filer.swapper.pool self.old.core.filer.swapper.layout self.old.core.filer.runs self.old.volume m
+            → Throughout (IsOpenStop m) (D.state self.old.core.filer.swapper.disk) (D.state self.new.core.filer.swapper.disk) }
+        ensures counted { result ≡ Err halt.Disk → Rose (D.state self.old.core.filer.swapper.disk).faults (D.state self.new.core.filer.swapper.disk).faults }
         ensures cause { IfErr result (After Made (λ u x e. ClearHalts u x e ⊎ FreeTablesHalts u x e) (state self.old.core) (state self.new.core)) }
-        ensures keeps_to { (o : Outset) → KeepsOn o self.old.core.filer → OnOk result (KeepsBare o self.new.core.filer) }
-        ensures reasons { (o : Outset) → KeepsOn o self.old.core.filer → IfErr result (ShowsReason o self.old.core.filer.swapper.layout (D.state self.new.core.filer.swapper.under)) }
-        ensures sees { (o : Outset) → KeepsOn o self.old.core.filer → SeesHome o self.old.core → IfErr result (SparesEnd o (D.state self.new.core.filer.swapper.under)) }
-        ensures so { IfErr result (ShowsSo (D.state self.new.core.filer.swapper.under)) }
-        ensures wrote { Wrote (D.state self.old.core.filer.swapper.under) self.old.core.filer.swapper.pool (D.state self.new.core.filer.swapper.under) self.new.core.filer.swapper.pool }
+        ensures keeps_to { (o : InitialState) → KeepsOn o self.old.core.filer → OnOk result (KeepsBare o self.new.core.filer) }
+        ensures reasons { (o : InitialState) → KeepsOn o self.old.core.filer → IfErr result (ShowsReason o self.old.core.filer.swapper.layout (D.state self.new.core.filer.swapper.disk)) }
+        ensures sees { (o : InitialState) → KeepsOn o self.old.core.filer → SeesHome o self.old.core → IfErr result (NeverBlamesEnd o (D.state self.new.core.filer.swapper.disk)) }
+        ensures evidence_seen { IfErr result (ShowsEvidence (D.state self.new.core.filer.swapper.disk)) }
+        ensures wrote { Wrote (D.state self.old.core.filer.swapper.disk) self.old.core.filer.swapper.pool (D.state self.new.core.filer.swapper.disk) self.new.core.filer.swapper.pool }
         ensures open_still { IsOpen self.new.core.filer.swapper.layout self.new.volume }
         ensures layout { self.new.core.filer.swapper.layout ≡ self.old.core.filer.swapper.layout }
-        ensures cost { (spaces_of : TablesMeaning) (m : Machine) → IsAlone spaces_of (D.state self.old.core.filer.swapper.under) self.old.core.filer.swapper.pool self.old.core.filer.swapper.layout self.old.core.filer.runs self.old.volume m
-            → (D.state self.new.core.filer.swapper.under).transfers ≤ (D.state self.old.core.filer.swapper.under).transfers + emptying_bound self.old.core.filer.swapper.layout.sectors }
+        ensures cost { (spaces_of : TablesMeaning) (m : Machine) → IsAlone spaces_of (D.state self.old.core.filer.swapper.disk) self.old.core.filer.swapper.pool self.old.core.filer.swapper.layout self.old.core.filer.runs self.old.volume m
+            → (D.state self.new.core.filer.swapper.disk).transfers ≤ (D.state self.old.core.filer.swapper.disk).transfers + emptying_bound self.old.core.filer.swapper.layout.sectors }
     {
         match self.delete_temporary() {
             Ok(()) => (),
@@ -146,24 +146,24 @@ impl<D: Disk, A: Allocator> SessionOver<D, A> {
 
     // Writes out the dirty pages of a map.
     fn write_map(&mut self, which: Manager) -> Result<(), Halt>
-        requires size { (D.state self.old.core.filer.swapper.under).sectors ≡ self.old.core.filer.swapper.layout.sectors }
+        requires size { (D.state self.old.core.filer.swapper.disk).sectors ≡ self.old.core.filer.swapper.layout.sectors }
         ensures clean { OnOk result ((page : ℕ) → IsDirty self.new.core.filer.swapper.pool (id_of which) page → ⊥) }
-        ensures sound { (x : List Sector) → Stands (D.state self.old.core.filer.swapper.under) self.old.core.filer.swapper.pool x → IfErr result (λ e. e ≡ halt.Disk) }
-        ensures counted { result ≡ Err halt.Disk → Rose (D.state self.old.core.filer.swapper.under).faults (D.state self.new.core.filer.swapper.under).faults }
+        ensures sound { (x : List Sector) → Stands (D.state self.old.core.filer.swapper.disk) self.old.core.filer.swapper.pool x → IfErr result (λ e. e ≡ halt.Disk) }
+        ensures counted { result ≡ Err halt.Disk → Rose (D.state self.old.core.filer.swapper.disk).faults (D.state self.new.core.filer.swapper.disk).faults }
         ensures cause { IfErr result (WriteHalts (state self.old.core) (state self.new.core)) }
-        ensures keeps_to { (o : Outset) → KeepsBare o self.old.core.filer → OnOk result (KeepsBare o self.new.core.filer) }
-        ensures reasons { (o : Outset) → KeepsBare o self.old.core.filer → IfErr result (ShowsReason o self.old.core.filer.swapper.layout (D.state self.new.core.filer.swapper.under)) }
-        ensures right { (o : Outset) → IfErr result (SparesEnd o (D.state self.new.core.filer.swapper.under)) }
-        ensures so { IfErr result (ShowsSo (D.state self.new.core.filer.swapper.under)) }
-        ensures swaps { Swaps (D.state self.old.core.filer.swapper.under) self.old.core.filer.swapper.pool (D.state self.new.core.filer.swapper.under) self.new.core.filer.swapper.pool }
+        ensures keeps_to { (o : InitialState) → KeepsBare o self.old.core.filer → OnOk result (KeepsBare o self.new.core.filer) }
+        ensures reasons { (o : InitialState) → KeepsBare o self.old.core.filer → IfErr result (ShowsReason o self.old.core.filer.swapper.layout (D.state self.new.core.filer.swapper.disk)) }
+        ensures right { (o : InitialState) → IfErr result (NeverBlamesEnd o (D.state self.new.core.filer.swapper.disk)) }
+        ensures evidence_seen { IfErr result (ShowsEvidence (D.state self.new.core.filer.swapper.disk)) }
+        ensures swaps { Swaps (D.state self.old.core.filer.swapper.disk) self.old.core.filer.swapper.pool (D.state self.new.core.filer.swapper.disk) self.new.core.filer.swapper.pool }
         ensures layout { self.new.core.filer.swapper.layout ≡ self.old.core.filer.swapper.layout }
         ensures volume { self.new.volume ≡ self.old.volume }
-        ensures cost { (D.state self.new.core.filer.swapper.under).transfers ≤ (D.state self.old.core.filer.swapper.under).transfers + 4096 }
+        ensures cost { (D.state self.new.core.filer.swapper.disk).transfers ≤ (D.state self.old.core.filer.swapper.disk).transfers + 4096 }
     {
         let swapper = self.core.filer.swapper_over();
         let layout = swapper.layout();
         let _slots = swapper.frames().frames();
-        match force(swapper, which.id(), 0, which.pages(&layout)) {
+        match flush(swapper, which.id(), 0, which.pages(&layout)) {
             Ok(()) => Ok(()),
             Err(halt) => Err(halt),
         }
@@ -171,19 +171,19 @@ impl<D: Disk, A: Allocator> SessionOver<D, A> {
 
     // Writes out the dirty pages of both maps.
     fn write_maps(&mut self) -> Result<(), Halt>
-        requires size { (D.state self.old.core.filer.swapper.under).sectors ≡ self.old.core.filer.swapper.layout.sectors }
+        requires size { (D.state self.old.core.filer.swapper.disk).sectors ≡ self.old.core.filer.swapper.layout.sectors }
         ensures clean { OnOk result (AreWritten self.new.core.filer.swapper.pool) }
-        ensures sound { (x : List Sector) → Stands (D.state self.old.core.filer.swapper.under) self.old.core.filer.swapper.pool x → IfErr result (λ e. e ≡ halt.Disk) }
-        ensures counted { result ≡ Err halt.Disk → Rose (D.state self.old.core.filer.swapper.under).faults (D.state self.new.core.filer.swapper.under).faults }
+        ensures sound { (x : List Sector) → Stands (D.state self.old.core.filer.swapper.disk) self.old.core.filer.swapper.pool x → IfErr result (λ e. e ≡ halt.Disk) }
+        ensures counted { result ≡ Err halt.Disk → Rose (D.state self.old.core.filer.swapper.disk).faults (D.state self.new.core.filer.swapper.disk).faults }
         ensures cause { IfErr result (After Made WriteHalts (state self.old.core) (state self.new.core)) }
-        ensures keeps_to { (o : Outset) → KeepsBare o self.old.core.filer → OnOk result (KeepsBare o self.new.core.filer) }
-        ensures reasons { (o : Outset) → KeepsBare o self.old.core.filer → IfErr result (ShowsReason o self.old.core.filer.swapper.layout (D.state self.new.core.filer.swapper.under)) }
-        ensures right { (o : Outset) → IfErr result (SparesEnd o (D.state self.new.core.filer.swapper.under)) }
-        ensures so { IfErr result (ShowsSo (D.state self.new.core.filer.swapper.under)) }
-        ensures swaps { Swaps (D.state self.old.core.filer.swapper.under) self.old.core.filer.swapper.pool (D.state self.new.core.filer.swapper.under) self.new.core.filer.swapper.pool }
+        ensures keeps_to { (o : InitialState) → KeepsBare o self.old.core.filer → OnOk result (KeepsBare o self.new.core.filer) }
+        ensures reasons { (o : InitialState) → KeepsBare o self.old.core.filer → IfErr result (ShowsReason o self.old.core.filer.swapper.layout (D.state self.new.core.filer.swapper.disk)) }
+        ensures right { (o : InitialState) → IfErr result (NeverBlamesEnd o (D.state self.new.core.filer.swapper.disk)) }
+        ensures evidence_seen { IfErr result (ShowsEvidence (D.state self.new.core.filer.swapper.disk)) }
+        ensures swaps { Swaps (D.state self.old.core.filer.swapper.disk) self.old.core.filer.swapper.pool (D.state self.new.core.filer.swapper.disk) self.new.core.filer.swapper.pool }
         ensures layout { self.new.core.filer.swapper.layout ≡ self.old.core.filer.swapper.layout }
         ensures volume { self.new.volume ≡ self.old.volume }
-        ensures cost { (D.state self.new.core.filer.swapper.under).transfers ≤ (D.state self.old.core.filer.swapper.under).transfers + 8192 }
+        ensures cost { (D.state self.new.core.filer.swapper.disk).transfers ≤ (D.state self.old.core.filer.swapper.disk).transfers + 8192 }
     {
         match self.write_map(Manager::AllocationMap) {
             Ok(()) => (),
@@ -197,15 +197,15 @@ impl<D: Disk, A: Allocator> SessionOver<D, A> {
 
     // Writes the root of the closed volume.
     fn write_clean(&mut self) -> Result<(), Halt>
-        requires size { (D.state self.old.core.filer.swapper.under).sectors ≡ self.old.core.filer.swapper.layout.sectors }
+        requires size { (D.state self.old.core.filer.swapper.disk).sectors ≡ self.old.core.filer.swapper.layout.sectors }
         requires opened { IsOpen self.old.core.filer.swapper.layout self.old.volume }
-        ensures made { (m : Machine) → IsReady m self.old.volume.root (D.state self.old.core.filer.swapper.under) → OnOk result (TellsShut m (D.state self.new.core.filer.swapper.under)) }
+        ensures made { (m : Machine) → IsReady m self.old.volume.root (D.state self.old.core.filer.swapper.disk) → OnOk result (RevealsShut m (D.state self.new.core.filer.swapper.disk)) }
         ensures fault { IfErr result (λ e. e ≡ halt.Disk) }
-        ensures counted { OnErr result (Rose (D.state self.old.core.filer.swapper.under).faults (D.state self.new.core.filer.swapper.under).faults) }
-        ensures stops { (m : Machine) → IsReady m self.old.volume.root (D.state self.old.core.filer.swapper.under) → ((d : List Sector) → (D.state self.old.core.filer.swapper.under).contents ≡ Some d → IsOpenStop m d)
-            → Throughout (IsStop m) (D.state self.old.core.filer.swapper.under) (D.state self.new.core.filer.swapper.under) }
-        ensures wrote { WroteAny (D.state self.old.core.filer.swapper.under) self.old.core.filer.swapper.pool (D.state self.new.core.filer.swapper.under) self.new.core.filer.swapper.pool }
-        ensures cost { (D.state self.new.core.filer.swapper.under).transfers ≤ (D.state self.old.core.filer.swapper.under).transfers + 1 }
+        ensures counted { OnErr result (Rose (D.state self.old.core.filer.swapper.disk).faults (D.state self.new.core.filer.swapper.disk).faults) }
+        ensures stops { (m : Machine) → IsReady m self.old.volume.root (D.state self.old.core.filer.swapper.disk) → ((d : List Sector) → (D.state self.old.core.filer.swapper.disk).contents ≡ Some d → IsOpenStop m d)
+            → Throughout (IsStop m) (D.state self.old.core.filer.swapper.disk) (D.state self.new.core.filer.swapper.disk) }
+        ensures wrote { WroteAny (D.state self.old.core.filer.swapper.disk) self.old.core.filer.swapper.pool (D.state self.new.core.filer.swapper.disk) self.new.core.filer.swapper.pool }
+        ensures cost { (D.state self.new.core.filer.swapper.disk).transfers ≤ (D.state self.old.core.filer.swapper.disk).transfers + 1 }
     {
         let root = closed(self.volume.root);
         let disk = self.core.filer.disk_over();
@@ -217,26 +217,26 @@ impl<D: Disk, A: Allocator> SessionOver<D, A> {
 
     // Closes the volume.
     fn close(&mut self) -> Result<(), Halt>
-        requires size { (D.state self.old.core.filer.swapper.under).sectors ≡ self.old.core.filer.swapper.layout.sectors }
+        requires size { (D.state self.old.core.filer.swapper.disk).sectors ≡ self.old.core.filer.swapper.layout.sectors }
         requires opened { IsOpen self.old.core.filer.swapper.layout self.old.volume }
         ensures closed { (m : Machine) → Runs self.old.core self.old.volume m
-            → OnOk result (HasShut m (D.state self.new.core.filer.swapper.under)) }
+            → OnOk result (HasShut m (D.state self.new.core.filer.swapper.disk)) }
         ensures sound { (m : Machine) → Runs self.old.core self.old.volume m
             → IfErr result (λ e. e ≡ halt.Disk) }
-        ensures synced { OnOk result ((D.state self.new.core.filer.swapper.under).synced ≡ true) }
+        ensures synced { OnOk result ((D.state self.new.core.filer.swapper.disk).synced ≡ true) }
         ensures stops { (m : Machine) → Runs self.old.core self.old.volume m
-            → Throughout (IsStop m) (D.state self.old.core.filer.swapper.under) (D.state self.new.core.filer.swapper.under) }
-        ensures counted { result ≡ Err halt.Disk → Rose (D.state self.old.core.filer.swapper.under).faults (D.state self.new.core.filer.swapper.under).faults }
+            → Throughout (IsStop m) (D.state self.old.core.filer.swapper.disk) (D.state self.new.core.filer.swapper.disk) }
+        ensures counted { result ≡ Err halt.Disk → Rose (D.state self.old.core.filer.swapper.disk).faults (D.state self.new.core.filer.swapper.disk).faults }
         ensures cause { IfErr result (EndHalts self.old.core.intervals (state self.old.core) (state self.new.core)) }
-        ensures reasons { (o : Outset) → KeepsOn o self.old.core.filer → IfErr result (ShowsReason o self.old.core.filer.swapper.layout (D.state self.new.core.filer.swapper.under)) }
-        ensures sees { (o : Outset) → KeepsOn o self.old.core.filer → SeesHome o self.old.core → IfErr result (SparesEnd o (D.state self.new.core.filer.swapper.under)) }
-        ensures so { IfErr result (ShowsSo (D.state self.new.core.filer.swapper.under)) }
-        ensures left_open { IsUnset (D.state self.old.core.filer.swapper.under) → IfErr result (LeavesOpen (D.state self.new.core.filer.swapper.under)) }
-        ensures wrote { WroteAny (D.state self.old.core.filer.swapper.under) self.old.core.filer.swapper.pool (D.state self.new.core.filer.swapper.under) self.new.core.filer.swapper.pool }
+        ensures reasons { (o : InitialState) → KeepsOn o self.old.core.filer → IfErr result (ShowsReason o self.old.core.filer.swapper.layout (D.state self.new.core.filer.swapper.disk)) }
+        ensures sees { (o : InitialState) → KeepsOn o self.old.core.filer → SeesHome o self.old.core → IfErr result (NeverBlamesEnd o (D.state self.new.core.filer.swapper.disk)) }
+        ensures evidence_seen { IfErr result (ShowsEvidence (D.state self.new.core.filer.swapper.disk)) }
+        ensures left_open { IsUnset (D.state self.old.core.filer.swapper.disk) → IfErr result (LeavesOpen (D.state self.new.core.filer.swapper.disk)) }
+        ensures wrote { WroteAny (D.state self.old.core.filer.swapper.disk) self.old.core.filer.swapper.pool (D.state self.new.core.filer.swapper.disk) self.new.core.filer.swapper.pool }
         ensures cost { (m : Machine) → Runs self.old.core self.old.volume m
-            → CostsOther (D.state self.old.core.filer.swapper.under) (D.state self.new.core.filer.swapper.under) }
+            → CostsOther (D.state self.old.core.filer.swapper.disk) (D.state self.new.core.filer.swapper.disk) }
     {
-        match self.let_all_go() {
+        match self.evict_all() {
             Ok(()) => (),
             Err(halt) => return Err(halt),
         }
@@ -252,7 +252,7 @@ impl<D: Disk, A: Allocator> SessionOver<D, A> {
             Ok(()) => (),
             Err(halt) => return Err(halt),
         }
-        match wait(&mut self.core) {
+        match sync(&mut self.core) {
             Ok(()) => Ok(()),
             Err(halt) => Err(halt),
         }
@@ -260,9 +260,9 @@ impl<D: Disk, A: Allocator> SessionOver<D, A> {
 
     /// The disk, as it stands: what is dirty in frames is lost, and the volume stays open.
     pub fn into_disk(self) -> D
-        ensures { result ≡ self.core.filer.swapper.under }
+        ensures { result ≡ self.core.filer.swapper.disk }
     {
-        let SessionOver {
+        let Session {
             core,
             volume: _,
             running: _,
@@ -274,7 +274,7 @@ impl<D: Disk, A: Allocator> SessionOver<D, A> {
     /// freed, both maps are written, then the root with its clean flag set, and all of it is on the medium. After a halt
     /// the volume is to be restored before it can be opened.
     pub fn finish(self) -> (Result<(), Halt>, D)
-        requires size { (D.state self.core.filer.swapper.under).sectors ≡ self.core.filer.swapper.layout.sectors }
+        requires size { (D.state self.core.filer.swapper.disk).sectors ≡ self.core.filer.swapper.layout.sectors }
         requires opened { IsOpen self.core.filer.swapper.layout self.volume }
         requires running { self.running ≡ true }
         ensures closed { (m : Machine) → Runs self.core self.volume m
@@ -283,16 +283,16 @@ impl<D: Disk, A: Allocator> SessionOver<D, A> {
             → IfErr result.0 (λ e. e ≡ halt.Disk) }
         ensures synced { OnOk result.0 ((D.state result.1).synced ≡ true) }
         ensures stops { (m : Machine) → Runs self.core self.volume m
-            → Throughout (IsStop m) (D.state self.core.filer.swapper.under) (D.state result.1) }
-        ensures counted { result.0 ≡ Err halt.Disk → Rose (D.state self.core.filer.swapper.under).faults (D.state result.1).faults }
+            → Throughout (IsStop m) (D.state self.core.filer.swapper.disk) (D.state result.1) }
+        ensures counted { result.0 ≡ Err halt.Disk → Rose (D.state self.core.filer.swapper.disk).faults (D.state result.1).faults }
         ensures cause { IfErr result.0 (EndHalts self.core.intervals (state self.core) (record (state self.core) { disk = D.state result.1 })) }
-        ensures reasons { (o : Outset) → KeepsOn o self.core.filer → IfErr result.0 (ShowsReason o self.core.filer.swapper.layout (D.state result.1)) }
-        ensures sees { (o : Outset) → KeepsOn o self.core.filer → SeesHome o self.core → IfErr result.0 (SparesEnd o (D.state result.1)) }
-        ensures so { IfErr result.0 (ShowsSo (D.state result.1)) }
-        ensures left_open { IsUnset (D.state self.core.filer.swapper.under) → IfErr result.0 (LeavesOpen (D.state result.1)) }
-        ensures wrote { WroteOn self.core.filer.swapper.pool (D.state self.core.filer.swapper.under) (D.state result.1) }
+        ensures reasons { (o : InitialState) → KeepsOn o self.core.filer → IfErr result.0 (ShowsReason o self.core.filer.swapper.layout (D.state result.1)) }
+        ensures sees { (o : InitialState) → KeepsOn o self.core.filer → SeesHome o self.core → IfErr result.0 (NeverBlamesEnd o (D.state result.1)) }
+        ensures evidence_seen { IfErr result.0 (ShowsEvidence (D.state result.1)) }
+        ensures left_open { IsUnset (D.state self.core.filer.swapper.disk) → IfErr result.0 (LeavesOpen (D.state result.1)) }
+        ensures wrote { WroteOn self.core.filer.swapper.pool (D.state self.core.filer.swapper.disk) (D.state result.1) }
         ensures cost { (m : Machine) → Runs self.core self.volume m
-            → CostsOther (D.state self.core.filer.swapper.under) (D.state result.1) }
+            → CostsOther (D.state self.core.filer.swapper.disk) (D.state result.1) }
     {
         let mut session = self;
         let closed = session.close();

@@ -2,12 +2,12 @@
 ghost use Rattle.std.specs.Prelude.{◌≡◌, ◌≤◌, length};
 ghost use Rattle.frame_pool.specs.Frames.{ArePages};
 
-use filer_kernel::FilerOver;
+use filer_kernel::Filer;
 use labelled_disk::Disk;
 use std::alloc::Allocator;
 
 // There are at most 4,096 frames, and the bytes of each are a page's.
-pub(crate) fn look_at_frames<D: Disk, A: Allocator>(filer: &mut FilerOver<D, A>)
+pub(crate) fn look_at_frames<D: Disk, A: Allocator>(filer: &mut Filer<D, A>)
     ensures few { length filer.old.swapper.pool ≤ 4096 }
     ensures pages { ArePages filer.old.swapper.pool }
     ensures same { filer.new ≡ filer.old }

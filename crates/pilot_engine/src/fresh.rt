@@ -11,18 +11,18 @@ ghost use Rattle.volume_root.specs.Format.{new_root};
 ghost use Rattle.volume_root.specs.Later.{IsLater};
 ghost use Rattle.pilot_engine.specs.declared.fault.StartFault.TheVariants as start_fault;
 ghost use Rattle.pilot_engine.specs.Fresh.{BeganVolume, HasFreshCause, IsFreshFault, MadeVolume, WroteOnNew};
-ghost use Rattle.pilot_engine.specs.NewMoments.{KeepsNew};
+ghost use Rattle.pilot_engine.specs.NewCrashStates.{KeepsNew};
 ghost use Rattle.pilot_engine.specs.Opening.{IsBare, IsDiskFault, IsEarly, IsOutside, IsSoAtStart, IsUnset, LeavesOpenAtStart};
 ghost use Rattle.running_words.specs.Running.{Runs};
 ghost use Rattle.running_words.specs.Session.{IsOpen};
 
 use crate::start::begin;
-use crate::{SessionOver, StartFault};
-use fault_core::CoreOver;
-use filer_kernel::FilerOver;
+use crate::{Session, StartFault};
+use fault_core::Core;
+use filer_kernel::Filer;
 use labelled_disk::{Disk, Halt, Layout, RootFault};
 use std::alloc::Allocator;
-use swapper_kernel::SwapperOver;
+use swapper_kernel::Swapper;
 use volume_root::{Root, format};
 
 // Takes the memory of so many frames over a disk that a volume can be made on.
@@ -30,13 +30,13 @@ fn frames_for<D: Disk, A: Allocator>(
     alloc: A,
     disk: D,
     frames: u32,
-) -> Result<(FilerOver<D, A>, Layout), (StartFault, D)>
+) -> Result<(Filer<D, A>, Layout), (StartFault, D)>
     requires least { 24 ≤ frames }
     requires most { frames ≤ 4096 }
     ensures count { IfOk result (λ r. IsCount (D.state disk).sectors) }
     ensures layout { IfOk result (λ r. r.1 ≡ r.0.swapper.layout) }
-    ensures size { IfOk result (λ r. (D.state r.0.swapper.under).sectors ≡ r.0.swapper.layout.sectors) }
-    ensures under { IfOk result (λ r. r.0.swapper.under ≡ disk) }
+    ensures size { IfOk result (λ r. (D.state r.0.swapper.disk).sectors ≡ r.0.swapper.layout.sectors) }
+    ensures disk { IfOk result (λ r. r.0.swapper.disk ≡ disk) }
     ensures bare { IfOk result (λ r. IsBare r.0.swapper.pool) }
     ensures no_runs { IfOk result (λ r. (n : ℕ) → runs_of n r.0.runs ≡ []) }
     ensures frames { IfOk result (λ r. length r.0.swapper.pool ≡ frames) }
@@ -47,21 +47,21 @@ fn frames_for<D: Disk, A: Allocator>(
         Ok(layout) => layout,
         Err(why) => return Err((StartFault::Root(why), disk)),
     };
-    match SwapperOver::over(alloc, disk, layout, frames) {
-        Ok(swapper) => Ok((FilerOver::over(swapper), layout)),
+    match Swapper::over(alloc, disk, layout, frames) {
+        Ok(swapper) => Ok((Filer::over(swapper), layout)),
         Err((_, disk)) => Err((StartFault::NoMemory, disk)),
     }
 }
 
 // Makes a volume of all sectors of the disk, with serial 1 and counter 1, and gives its root. No frame is over a sector.
-fn make_volume<D: Disk, A: Allocator>(filer: &mut FilerOver<D, A>) -> Result<Root, Halt>
-    requires count { IsCount (D.state filer.old.swapper.under).sectors }
-    ensures root { IfOk result (λ root. root ≡ new_root (D.state filer.old.swapper.under).sectors 1 1) }
-    ensures made { OnOk result (MadeVolume (D.state filer.old.swapper.under) (D.state filer.new.swapper.under)) }
-    ensures part { OnErr result (BeganVolume (D.state filer.old.swapper.under) (D.state filer.new.swapper.under)) }
+fn make_volume<D: Disk, A: Allocator>(filer: &mut Filer<D, A>) -> Result<Root, Halt>
+    requires count { IsCount (D.state filer.old.swapper.disk).sectors }
+    ensures root { IfOk result (λ root. root ≡ new_root (D.state filer.old.swapper.disk).sectors 1 1) }
+    ensures made { OnOk result (MadeVolume (D.state filer.old.swapper.disk) (D.state filer.new.swapper.disk)) }
+    ensures part { OnErr result (BeganVolume (D.state filer.old.swapper.disk) (D.state filer.new.swapper.disk)) }
     ensures fault { IfErr result (λ e. e ≡ halt.Disk) }
-    ensures counted { OnErr result (Rose (D.state filer.old.swapper.under).faults (D.state filer.new.swapper.under).faults) }
-    ensures later { IsLater (D.state filer.old.swapper.under) (D.state filer.new.swapper.under) }
+    ensures counted { OnErr result (Rose (D.state filer.old.swapper.disk).faults (D.state filer.new.swapper.disk).faults) }
+    ensures later { IsLater (D.state filer.old.swapper.disk) (D.state filer.new.swapper.disk) }
     ensures frames { filer.new.swapper.pool ≡ filer.old.swapper.pool }
     ensures layout { filer.new.swapper.layout ≡ filer.old.swapper.layout }
     ensures runs { filer.new.runs ≡ filer.old.runs }
@@ -79,16 +79,16 @@ fn make_volume<D: Disk, A: Allocator>(filer: &mut FilerOver<D, A>) -> Result<Roo
     }
 }
 
-impl<D: Disk, A: Allocator> SessionOver<D, A> {
+impl<D: Disk, A: Allocator> Session<D, A> {
     /// Makes a volume of all sectors of a disk, whatever it holds, with serial 1 and counter 1, and starts a session on it, with
     /// 24 to 4,096 frames. The memory for these, all that they ever have, is taken before anything is written. The disk is handed
     /// back where no session starts.
-    pub fn fresh(alloc: A, disk: D, frames: u32) -> Result<SessionOver<D, A>, (StartFault, D)>
+    pub fn fresh(alloc: A, disk: D, frames: u32) -> Result<Session<D, A>, (StartFault, D)>
         requires least { 24 ≤ frames }
         requires most { frames ≤ 4096 }
         ensures stands { (d : List Sector) → (D.state disk).contents ≡ Some d
             → IfOk result (λ s. Runs s.core s.volume (opened 1 1 (capacity (D.state disk).sectors))) }
-        ensures size { IfOk result (λ s. (D.state s.core.filer.swapper.under).sectors ≡ s.core.filer.swapper.layout.sectors) }
+        ensures size { IfOk result (λ s. (D.state s.core.filer.swapper.disk).sectors ≡ s.core.filer.swapper.layout.sectors) }
         ensures opened { IfOk result (λ s. IsOpen s.core.filer.swapper.layout s.volume) }
         ensures running { IfOk result (λ s. s.running ≡ true) }
         ensures frames { IfOk result (λ s. length s.core.filer.swapper.pool ≡ frames) }
@@ -100,16 +100,16 @@ impl<D: Disk, A: Allocator> SessionOver<D, A> {
         ensures counted { IfErr result (λ e. IsDiskFault e.0 → Rose (D.state disk).faults (D.state e.1).faults) }
         ensures sound { (d : List Sector) → (D.state disk).contents ≡ Some d → IsCount (D.state disk).sectors → IfErr result (λ e. IsOutside e.0) }
         ensures cause { IfErr result (λ e. HasFreshCause (D.state disk) (D.state e.1) e.0) }
-        ensures so { IfErr result (λ e. IsSoAtStart (D.state e.1) e.0) }
+        ensures evidence_seen { IfErr result (λ e. IsSoAtStart (D.state e.1) e.0) }
 
         // What was written, whether or not one starts.
-        ensures wrote { MatchResult result (λ s. WroteOnNew (D.state disk) (D.state s.core.filer.swapper.under)) (λ e. BeganVolume (D.state disk) (D.state e.1) ⊎ WroteOnNew (D.state disk) (D.state e.1)) }
-        ensures moments { (d : List Sector) → (D.state disk).contents ≡ Some d
-            → MatchResult result (λ s. KeepsNew (D.state disk) (D.state s.core.filer.swapper.under)) (λ e. BeganVolume (D.state disk) (D.state e.1) ⊎ KeepsNew (D.state disk) (D.state e.1)) }
-        ensures left_open { MatchResult result (λ s. IsUnset (D.state s.core.filer.swapper.under)) (λ e. LeavesOpenAtStart (D.state e.1) e.0) }
+        ensures wrote { MatchResult result (λ s. WroteOnNew (D.state disk) (D.state s.core.filer.swapper.disk)) (λ e. BeganVolume (D.state disk) (D.state e.1) ⊎ WroteOnNew (D.state disk) (D.state e.1)) }
+        ensures crash_states { (d : List Sector) → (D.state disk).contents ≡ Some d
+            → MatchResult result (λ s. KeepsNew (D.state disk) (D.state s.core.filer.swapper.disk)) (λ e. BeganVolume (D.state disk) (D.state e.1) ⊎ KeepsNew (D.state disk) (D.state e.1)) }
+        ensures left_open { MatchResult result (λ s. IsUnset (D.state s.core.filer.swapper.disk)) (λ e. LeavesOpenAtStart (D.state e.1) e.0) }
 
         // The disk is the same, later.
-        ensures later { MatchResult result (λ s. IsLater (D.state disk) (D.state s.core.filer.swapper.under)) (λ e. IsLater (D.state disk) (D.state e.1)) }
+        ensures later { MatchResult result (λ s. IsLater (D.state disk) (D.state s.core.filer.swapper.disk)) (λ e. IsLater (D.state disk) (D.state e.1)) }
     {
         let (mut filer, layout) = match frames_for(alloc, disk, frames) {
             Ok(opened) => opened,
@@ -120,8 +120,8 @@ impl<D: Disk, A: Allocator> SessionOver<D, A> {
             Err(halt) => return Err((StartFault::Halt(halt), filer.into_disk())),
         };
         match begin(&mut filer, layout, root) {
-            Ok(volume) => Ok(SessionOver {
-                core: CoreOver::over(filer, 1),
+            Ok(volume) => Ok(Session {
+                core: Core::over(filer, 1),
                 volume,
                 running: true,
             }),

@@ -22,4 +22,4 @@ mod step;
 
 pub use fault::StartFault;
 pub use laws::{sessions_have_room, sound_volumes_are_begun};
-pub use session::{Session, SessionOver};
+pub use session::{LentSession, Session};

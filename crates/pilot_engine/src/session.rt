@@ -1,16 +1,16 @@
 //! What a session holds.
-use fault_core::CoreOver;
+use fault_core::Core;
 use file_manager::Volume;
 use labelled_disk::Disk;
 use std::alloc::Allocator;
 
 /// A volume in use: its disk with frames over it and its spaces, its root, and how much of it is used.
 #[derive(Drop)]
-pub struct SessionOver<D: Disk, A: Allocator> {
-    pub(crate) core: CoreOver<D, A>,
+pub struct Session<D: Disk, A: Allocator> {
+    pub(crate) core: Core<D, A>,
     pub(crate) volume: Volume,
     pub(crate) running: bool,
 }
 
 /// A session on a disk that is lent.
-pub type Session<'d, D, A> = SessionOver<&'d mut D, A>;
+pub type LentSession<'d, D, A> = Session<&'d mut D, A>;

@@ -3,7 +3,7 @@ ghost use Rattle.std.specs.Prelude.{◌≡◌, ◌+◌, ◌-◌, ◌*◌, ◌<�
 ghost use Rattle.labelled_disk.specs.Calls.{Rose};
 ghost use Rattle.labelled_disk.specs.Label.{is_file_id};
 ghost use Rattle.labelled_disk.specs.declared.evidence.Halt.TheVariants as halt;
-ghost use Rattle.filer_kernel.specs.Evidence.{ShowsSo};
+ghost use Rattle.filer_kernel.specs.Evidence.{ShowsEvidence};
 ghost use Rattle.flat_machine.specs.declared.call.Call.TheVariants as call;
 ghost use Rattle.file_map.specs.FileMap.{most_records};
 ghost use Rattle.flat_machine.specs.Machine.{Machine};
@@ -17,11 +17,11 @@ ghost use Rattle.running_words.specs.Running.{Carried, Runs};
 ghost use Rattle.pilot_engine.specs.Seen.{CostsInside, IsSeenBy};
 ghost use Rattle.space_calls.specs.Halts.{OnFileHalts, OnNamedHalts};
 ghost use Rattle.pilot_engine.specs.Halting.{SizeHalts};
-ghost use Rattle.file_manager.specs.Reasons.{KeepsOn, Outset, ShowsReason};
+ghost use Rattle.file_manager.specs.Reasons.{KeepsOn, InitialState, ShowsReason};
 ghost use Rattle.file_manager.specs.Creating.{next_id};
-ghost use Rattle.pilot_engine.specs.Reasons.{SeesHome, IsSpared};
+ghost use Rattle.pilot_engine.specs.Reasons.{SeesHome, IsBlameless};
 
-use crate::SessionOver;
+use crate::Session;
 use crate::sight::Sight;
 use file_manager::{Volume, attributes_of};
 use flat_machine::{Refusal, Reply};
@@ -52,39 +52,39 @@ fn held(seen: Option<u32>, found: u32, pages: u32) -> Option<u32>
     if pages < found { seen } else { None }
 }
 
-impl<D: Disk, A: Allocator> SessionOver<D, A> {
-    // Gives a file that may be named so many pages: others of zeros behind those that it has, or the first of them alone. It is
+impl<D: Disk, A: Allocator> Session<D, A> {
+    // Gives a file that may be named so many pages: others of zeros after those that it has, or the first of them alone. It is
     // not cut where the window of a space shows it.
     fn resize(&mut self, id: FileId, pages: u32, seen: Option<u32>) -> Result<Reply, Halt>
-        requires size { (D.state self.old.core.filer.swapper.under).sectors ≡ self.old.core.filer.swapper.layout.sectors }
+        requires size { (D.state self.old.core.filer.swapper.disk).sectors ≡ self.old.core.filer.swapper.layout.sectors }
         requires opened { IsOpen self.old.core.filer.swapper.layout self.old.volume }
-        ensures carried { (spaces_of : TablesMeaning) (m : Machine) → IsSession spaces_of (D.state self.old.core.filer.swapper.under) self.old.core.filer.swapper.pool self.old.core.filer.swapper.layout self.old.core.filer.runs self.old.volume m
+        ensures carried { (spaces_of : TablesMeaning) (m : Machine) → IsSession spaces_of (D.state self.old.core.filer.swapper.disk) self.old.core.filer.swapper.pool self.old.core.filer.swapper.layout self.old.core.filer.runs self.old.volume m
             → IsSeenBy m id seen
-            → IfOk result (λ reply. Carries spaces_of m (call.SetSize id pages) reply (D.state self.new.core.filer.swapper.under) self.new.core.filer.swapper.pool self.new.core.filer.swapper.layout self.new.core.filer.runs self.new.volume) }
-        ensures sound { (spaces_of : TablesMeaning) (m : Machine) → IsSession spaces_of (D.state self.old.core.filer.swapper.under) self.old.core.filer.swapper.pool self.old.core.filer.swapper.layout self.old.core.filer.runs self.old.volume m
+            → IfOk result (λ reply. Carries spaces_of m (call.SetSize id pages) reply (D.state self.new.core.filer.swapper.disk) self.new.core.filer.swapper.pool self.new.core.filer.swapper.layout self.new.core.filer.runs self.new.volume) }
+        ensures sound { (spaces_of : TablesMeaning) (m : Machine) → IsSession spaces_of (D.state self.old.core.filer.swapper.disk) self.old.core.filer.swapper.pool self.old.core.filer.swapper.layout self.old.core.filer.runs self.old.volume m
             → IsSeenBy m id seen
             → IfErr result (λ e. e ≡ halt.Disk) }
-        ensures passes { (spaces_of : TablesMeaning) (m : Machine) → IsSession spaces_of (D.state self.old.core.filer.swapper.under) self.old.core.filer.swapper.pool self.old.core.filer.swapper.layout self.old.core.filer.runs self.old.volume m
+        ensures passes { (spaces_of : TablesMeaning) (m : Machine) → IsSession spaces_of (D.state self.old.core.filer.swapper.disk) self.old.core.filer.swapper.pool self.old.core.filer.swapper.layout self.old.core.filer.runs self.old.volume m
             → IsSeenBy m id seen
-            → Passes m (call.SetSize id pages) (D.state self.old.core.filer.swapper.under) (D.state self.new.core.filer.swapper.under) }
-        ensures counted { result ≡ Err halt.Disk → Rose (D.state self.old.core.filer.swapper.under).faults (D.state self.new.core.filer.swapper.under).faults }
+            → Passes m (call.SetSize id pages) (D.state self.old.core.filer.swapper.disk) (D.state self.new.core.filer.swapper.disk) }
+        ensures counted { result ≡ Err halt.Disk → Rose (D.state self.old.core.filer.swapper.disk).faults (D.state self.new.core.filer.swapper.disk).faults }
         ensures cause { IfErr result (OnFileHalts id (SizeHalts id pages) (state self.old.core) (state self.new.core)) }
-        ensures keeps_to { (o : Outset) → KeepsOn o self.old.core.filer → OnOk result (KeepsOn o self.new.core.filer) }
-        ensures reasons { (o : Outset) → KeepsOn o self.old.core.filer → IfErr result (ShowsReason o self.old.core.filer.swapper.layout (D.state self.new.core.filer.swapper.under)) }
-        ensures sees { (o : Outset) → KeepsOn o self.old.core.filer → SeesHome o self.old.core → MatchResult result (λ _. SeesHome o self.new.core) (IsSpared o (D.state self.new.core.filer.swapper.under)) }
-        ensures so { IfErr result (ShowsSo (D.state self.new.core.filer.swapper.under)) }
-        ensures wrote { Wrote (D.state self.old.core.filer.swapper.under) self.old.core.filer.swapper.pool (D.state self.new.core.filer.swapper.under) self.new.core.filer.swapper.pool }
+        ensures keeps_to { (o : InitialState) → KeepsOn o self.old.core.filer → OnOk result (KeepsOn o self.new.core.filer) }
+        ensures reasons { (o : InitialState) → KeepsOn o self.old.core.filer → IfErr result (ShowsReason o self.old.core.filer.swapper.layout (D.state self.new.core.filer.swapper.disk)) }
+        ensures sees { (o : InitialState) → KeepsOn o self.old.core.filer → SeesHome o self.old.core → MatchResult result (λ _. SeesHome o self.new.core) (IsBlameless o (D.state self.new.core.filer.swapper.disk)) }
+        ensures evidence_seen { IfErr result (ShowsEvidence (D.state self.new.core.filer.swapper.disk)) }
+        ensures wrote { Wrote (D.state self.old.core.filer.swapper.disk) self.old.core.filer.swapper.pool (D.state self.new.core.filer.swapper.disk) self.new.core.filer.swapper.pool }
         ensures open_still { IsOpen self.new.core.filer.swapper.layout self.new.volume }
-        ensures onward { next_id self.old.volume.root ≤ next_id self.new.volume.root }
+        ensures monotone { next_id self.old.volume.root ≤ next_id self.new.volume.root }
         ensures serial { self.new.volume.root.serial ≡ self.old.volume.root.serial }
         ensures layout { self.new.core.filer.swapper.layout ≡ self.old.core.filer.swapper.layout }
         ensures running { self.new.running ≡ self.old.running }
         ensures kept { kept self.new.core ≡ kept self.old.core }
         ensures intervals { self.new.core.intervals ≡ self.old.core.intervals }
-        ensures cost { (D.state self.new.core.filer.swapper.under).transfers ≤ (D.state self.old.core.filer.swapper.under).transfers + (158 + 4294967295 * (8 * self.old.core.filer.swapper.layout.vam + 100) + 102 * most_records self.old.core.filer.swapper.layout.sectors) }
-        ensures bounded { (spaces_of : TablesMeaning) (m : Machine) → IsSession spaces_of (D.state self.old.core.filer.swapper.under) self.old.core.filer.swapper.pool self.old.core.filer.swapper.layout self.old.core.filer.runs self.old.volume m
-            → CostsInside (D.state self.old.core.filer.swapper.under) (D.state self.new.core.filer.swapper.under) }
-        ensures own { RelabelsOwn id (D.state self.old.core.filer.swapper.under) (D.state self.new.core.filer.swapper.under) }
+        ensures cost { (D.state self.new.core.filer.swapper.disk).transfers ≤ (D.state self.old.core.filer.swapper.disk).transfers + (158 + 4294967295 * (8 * self.old.core.filer.swapper.layout.vam + 100) + 102 * most_records self.old.core.filer.swapper.layout.sectors) }
+        ensures bounded { (spaces_of : TablesMeaning) (m : Machine) → IsSession spaces_of (D.state self.old.core.filer.swapper.disk) self.old.core.filer.swapper.pool self.old.core.filer.swapper.layout self.old.core.filer.runs self.old.volume m
+            → CostsInside (D.state self.old.core.filer.swapper.disk) (D.state self.new.core.filer.swapper.disk) }
+        ensures own { RelabelsOwn id (D.state self.old.core.filer.swapper.disk) (D.state self.new.core.filer.swapper.disk) }
     {
         if !may_be_file(id) {
             return Ok(Reply::Refused(Refusal::File));
@@ -112,25 +112,25 @@ impl<D: Disk, A: Allocator> SessionOver<D, A> {
 
     // Gives a file so many pages, unless that cuts what a window shows.
     pub(crate) fn set_size(&mut self, id: FileId, pages: u32) -> Result<Reply, Halt>
-        requires size { (D.state self.old.core.filer.swapper.under).sectors ≡ self.old.core.filer.swapper.layout.sectors }
+        requires size { (D.state self.old.core.filer.swapper.disk).sectors ≡ self.old.core.filer.swapper.layout.sectors }
         requires opened { IsOpen self.old.core.filer.swapper.layout self.old.volume }
         ensures carried { (m : Machine) → Runs self.old.core self.old.volume m → IfOk result (Carried m (call.SetSize id pages) self.new.core self.new.volume) }
         ensures sound { (m : Machine) → Runs self.old.core self.old.volume m → IfErr result (λ e. e ≡ halt.Disk) }
-        ensures passes { (m : Machine) → Runs self.old.core self.old.volume m → Passes m (call.SetSize id pages) (D.state self.old.core.filer.swapper.under) (D.state self.new.core.filer.swapper.under) }
-        ensures counted { result ≡ Err halt.Disk → Rose (D.state self.old.core.filer.swapper.under).faults (D.state self.new.core.filer.swapper.under).faults }
+        ensures passes { (m : Machine) → Runs self.old.core self.old.volume m → Passes m (call.SetSize id pages) (D.state self.old.core.filer.swapper.disk) (D.state self.new.core.filer.swapper.disk) }
+        ensures counted { result ≡ Err halt.Disk → Rose (D.state self.old.core.filer.swapper.disk).faults (D.state self.new.core.filer.swapper.disk).faults }
         ensures cause { IfErr result (OnNamedHalts id self.old.core.intervals (SizeHalts id pages) (state self.old.core) (state self.new.core)) }
-        ensures keeps_to { (o : Outset) → KeepsOn o self.old.core.filer → OnOk result (KeepsOn o self.new.core.filer) }
-        ensures reasons { (o : Outset) → KeepsOn o self.old.core.filer → IfErr result (ShowsReason o self.old.core.filer.swapper.layout (D.state self.new.core.filer.swapper.under)) }
-        ensures sees { (o : Outset) → KeepsOn o self.old.core.filer → SeesHome o self.old.core → MatchResult result (λ _. SeesHome o self.new.core) (IsSpared o (D.state self.new.core.filer.swapper.under)) }
-        ensures so { IfErr result (ShowsSo (D.state self.new.core.filer.swapper.under)) }
-        ensures wrote { Wrote (D.state self.old.core.filer.swapper.under) self.old.core.filer.swapper.pool (D.state self.new.core.filer.swapper.under) self.new.core.filer.swapper.pool }
+        ensures keeps_to { (o : InitialState) → KeepsOn o self.old.core.filer → OnOk result (KeepsOn o self.new.core.filer) }
+        ensures reasons { (o : InitialState) → KeepsOn o self.old.core.filer → IfErr result (ShowsReason o self.old.core.filer.swapper.layout (D.state self.new.core.filer.swapper.disk)) }
+        ensures sees { (o : InitialState) → KeepsOn o self.old.core.filer → SeesHome o self.old.core → MatchResult result (λ _. SeesHome o self.new.core) (IsBlameless o (D.state self.new.core.filer.swapper.disk)) }
+        ensures evidence_seen { IfErr result (ShowsEvidence (D.state self.new.core.filer.swapper.disk)) }
+        ensures wrote { Wrote (D.state self.old.core.filer.swapper.disk) self.old.core.filer.swapper.pool (D.state self.new.core.filer.swapper.disk) self.new.core.filer.swapper.pool }
         ensures open_still { IsOpen self.new.core.filer.swapper.layout self.new.volume }
-        ensures onward { next_id self.old.volume.root ≤ next_id self.new.volume.root }
+        ensures monotone { next_id self.old.volume.root ≤ next_id self.new.volume.root }
         ensures serial { self.new.volume.root.serial ≡ self.old.volume.root.serial }
         ensures layout { self.new.core.filer.swapper.layout ≡ self.old.core.filer.swapper.layout }
         ensures running { self.new.running ≡ self.old.running }
-        ensures cost { (m : Machine) → Runs self.old.core self.old.volume m → CostsOther (D.state self.old.core.filer.swapper.under) (D.state self.new.core.filer.swapper.under) }
-        ensures own { RelabelsOwn id (D.state self.old.core.filer.swapper.under) (D.state self.new.core.filer.swapper.under) }
+        ensures cost { (m : Machine) → Runs self.old.core self.old.volume m → CostsOther (D.state self.old.core.filer.swapper.disk) (D.state self.new.core.filer.swapper.disk) }
+        ensures own { RelabelsOwn id (D.state self.old.core.filer.swapper.disk) (D.state self.new.core.filer.swapper.disk) }
     {
         match self.sight(id) {
             Ok(Sight::Hidden) => Ok(Reply::Refused(Refusal::File)),

@@ -2,7 +2,7 @@
 ghost use Rattle.std.specs.Prelude.{◌≡◌, ◌+◌, ◌≤◌, true, IfOk, IfErr, IsOk, OnOk, Err, None, MatchResult, List};
 ghost use Rattle.labelled_disk.specs.Calls.{Rose};
 ghost use Rattle.labelled_disk.specs.declared.evidence.Halt.TheVariants as halt;
-ghost use Rattle.filer_kernel.specs.Evidence.{ShowsSo};
+ghost use Rattle.filer_kernel.specs.Evidence.{ShowsEvidence};
 ghost use Rattle.flat_machine.specs.Form.{IsInForm};
 ghost use Rattle.flat_machine.specs.Machine.{Machine};
 ghost use Rattle.flat_machine.specs.References.{is_reference};
@@ -13,14 +13,14 @@ ghost use Rattle.running_words.specs.Session.{IsOpen, WroteIn};
 ghost use Rattle.running_words.specs.Stages.{Passes, may_dirty};
 ghost use Rattle.fault_core.specs.Core.{kept, state};
 ghost use Rattle.pilot_engine.specs.Advised.{IsAdvised};
-ghost use Rattle.pilot_engine.specs.Stepping.{IsResident, StepHalts, is_on_spaces, waits, lacking};
+ghost use Rattle.pilot_engine.specs.Stepping.{IsResident, StepHalts, is_on_spaces, waits, missing_page};
 ghost use Rattle.file_manager.specs.Creating.{next_id};
-ghost use Rattle.file_manager.specs.Reasons.{KeepsOn, Outset, ShowsReason, IsAhead, giving};
-ghost use Rattle.pilot_engine.specs.Reasons.{SeesHome, IsSpared};
-ghost use Rattle.fault_core.specs.Lack.{LacksPage, Sees};
+ghost use Rattle.file_manager.specs.Reasons.{KeepsOn, InitialState, ShowsReason, IsNotOlder, giving};
+ghost use Rattle.pilot_engine.specs.Reasons.{SeesHome, IsBlameless};
+ghost use Rattle.fault_core.specs.Lack.{MissesPage, Sees};
 ghost use Rattle.flat_machine.specs.declared.space.Space.{Space};
 
-use crate::SessionOver;
+use crate::Session;
 use flat_machine::{Call, Reply};
 use labelled_disk::{Disk, Halt};
 use space_calls::{
@@ -29,10 +29,10 @@ use space_calls::{
 };
 use std::alloc::Allocator;
 
-impl<D: Disk, A: Allocator> SessionOver<D, A> {
+impl<D: Disk, A: Allocator> Session<D, A> {
     // Carries out a call on spaces.
     pub(crate) fn answer_on_spaces(&mut self, call: &Call) -> Result<Reply, Halt>
-        requires size { (D.state self.old.core.filer.swapper.under).sectors ≡ self.old.core.filer.swapper.layout.sectors }
+        requires size { (D.state self.old.core.filer.swapper.disk).sectors ≡ self.old.core.filer.swapper.layout.sectors }
         requires opened { IsOpen self.old.core.filer.swapper.layout self.old.volume }
         requires on_spaces { is_on_spaces call.now ≡ true }
         requires in_form { IsInForm call.now }
@@ -41,29 +41,29 @@ impl<D: Disk, A: Allocator> SessionOver<D, A> {
         ensures sound { (m : Machine) → Runs self.old.core self.old.volume m
             → IfErr result (λ e. e ≡ halt.Disk) }
         ensures passes { (m : Machine) → Runs self.old.core self.old.volume m
-            → Passes m call.now (D.state self.old.core.filer.swapper.under) (D.state self.new.core.filer.swapper.under) }
+            → Passes m call.now (D.state self.old.core.filer.swapper.disk) (D.state self.new.core.filer.swapper.disk) }
         ensures forced { (m : Machine) → waits call.now ≡ true → refusal m call.now ≡ None → Runs self.old.core self.old.volume m
-            → OnOk result ((D.state self.new.core.filer.swapper.under).synced ≡ true) }
+            → OnOk result ((D.state self.new.core.filer.swapper.disk).synced ≡ true) }
         ensures advised { (m : Machine) → refusal m call.now ≡ None → Runs self.old.core self.old.volume m
             → OnOk result (IsAdvised m.spaces call.now (kept self.new.core) self.new.core.filer.swapper.pool) }
-        ensures counted { result ≡ Err halt.Disk → Rose (D.state self.old.core.filer.swapper.under).faults (D.state self.new.core.filer.swapper.under).faults }
+        ensures counted { result ≡ Err halt.Disk → Rose (D.state self.old.core.filer.swapper.disk).faults (D.state self.new.core.filer.swapper.disk).faults }
         ensures cause { IfErr result (StepHalts (next_id self.old.volume.root) call.now self.old.core.intervals (state self.old.core) (state self.new.core)) }
-        ensures missing { (ss : List Space) → Sees (state self.old.core) (kept self.old.core) self.old.core.intervals ss → IfErr result (LacksPage (lacking call.now ss)) }
-        ensures keeps_to { (o : Outset) → KeepsOn o self.old.core.filer → IsAhead o self.old.volume.root → OnOk result (KeepsOn (giving o (next_id self.new.volume.root)) self.new.core.filer) }
-        ensures reasons { (o : Outset) → KeepsOn o self.old.core.filer → IsAhead o self.old.volume.root → IfErr result (ShowsReason o self.old.core.filer.swapper.layout (D.state self.new.core.filer.swapper.under)) }
-        ensures sees { (o : Outset) → KeepsOn o self.old.core.filer → IsAhead o self.old.volume.root → SeesHome o self.old.core → MatchResult result (λ _. SeesHome o self.new.core) (IsSpared o (D.state self.new.core.filer.swapper.under)) }
-        ensures so { IfErr result (ShowsSo (D.state self.new.core.filer.swapper.under)) }
-        ensures wrote { WroteIn (may_dirty call.now) (D.state self.old.core.filer.swapper.under) self.old.core.filer.swapper.pool (D.state self.new.core.filer.swapper.under) self.new.core.filer.swapper.pool }
+        ensures missing { (ss : List Space) → Sees (state self.old.core) (kept self.old.core) self.old.core.intervals ss → IfErr result (MissesPage (missing_page call.now ss)) }
+        ensures keeps_to { (o : InitialState) → KeepsOn o self.old.core.filer → IsNotOlder o self.old.volume.root → OnOk result (KeepsOn (giving o (next_id self.new.volume.root)) self.new.core.filer) }
+        ensures reasons { (o : InitialState) → KeepsOn o self.old.core.filer → IsNotOlder o self.old.volume.root → IfErr result (ShowsReason o self.old.core.filer.swapper.layout (D.state self.new.core.filer.swapper.disk)) }
+        ensures sees { (o : InitialState) → KeepsOn o self.old.core.filer → IsNotOlder o self.old.volume.root → SeesHome o self.old.core → MatchResult result (λ _. SeesHome o self.new.core) (IsBlameless o (D.state self.new.core.filer.swapper.disk)) }
+        ensures evidence_seen { IfErr result (ShowsEvidence (D.state self.new.core.filer.swapper.disk)) }
+        ensures wrote { WroteIn (may_dirty call.now) (D.state self.old.core.filer.swapper.disk) self.old.core.filer.swapper.pool (D.state self.new.core.filer.swapper.disk) self.new.core.filer.swapper.pool }
         ensures open_still { IsOpen self.new.core.filer.swapper.layout self.new.volume }
-        ensures onward { next_id self.old.volume.root ≤ next_id self.new.volume.root }
+        ensures monotone { next_id self.old.volume.root ≤ next_id self.new.volume.root }
         ensures serial { self.new.volume.root.serial ≡ self.old.volume.root.serial }
         ensures layout { self.new.core.filer.swapper.layout ≡ self.old.core.filer.swapper.layout }
         ensures running { self.new.running ≡ self.old.running }
         ensures cost { (m : Machine) → Runs self.old.core self.old.volume m
-            → CostsOther (D.state self.old.core.filer.swapper.under) (D.state self.new.core.filer.swapper.under) }
-        ensures reference { is_reference call.now ≡ true → (D.state self.new.core.filer.swapper.under).transfers ≤ (D.state self.old.core.filer.swapper.under).transfers + 1680 }
+            → CostsOther (D.state self.old.core.filer.swapper.disk) (D.state self.new.core.filer.swapper.disk) }
+        ensures reference { is_reference call.now ≡ true → (D.state self.new.core.filer.swapper.disk).transfers ≤ (D.state self.old.core.filer.swapper.disk).transfers + 1680 }
         ensures idle { (m : Machine) → Runs self.old.core self.old.volume m → IsResident call.now (kept self.old.core) self.old.core.filer.swapper.pool
-            → IsOk result × (D.state self.new.core.filer.swapper.under ≡ D.state self.old.core.filer.swapper.under) }
+            → IsOk result × (D.state self.new.core.filer.swapper.disk ≡ D.state self.old.core.filer.swapper.disk) }
     {
         match call {
             Call::MakeSpace {

@@ -8,7 +8,7 @@ ghost use Rattle.labelled_disk.specs.Layout.{IsCount, layout_of};
 ghost use Rattle.file_map.specs.FileMap.{Triples, most_records};
 ghost use Rattle.labelled_disk.specs.Root.{LabelsRight, root_page};
 ghost use Rattle.labelled_disk.specs.Sectors.{Sector};
-ghost use Rattle.filer_kernel.specs.Evidence.{ShowsSo};
+ghost use Rattle.filer_kernel.specs.Evidence.{ShowsEvidence};
 ghost use Rattle.fault_core.specs.View.{TablesAre, view_of};
 ghost use Rattle.filer_kernel.specs.Cached.{runs_of};
 ghost use Rattle.flat_machine.specs.Start.{start};
@@ -23,19 +23,19 @@ ghost use Rattle.pilot_engine.specs.Opening.{root_alone, in_use, IsBare, StartsS
 ghost use Rattle.running_words.specs.Running.{IsRunning, Runs};
 ghost use Rattle.running_words.specs.Session.{IsOpen, IsSession};
 ghost use Rattle.pilot_engine.specs.Beginning.{HasStartCause, StartHalts, TablesHalts};
-ghost use Rattle.file_manager.specs.Reasons.{KeepsOn, Outset, ShowsReason, outset};
-ghost use Rattle.pilot_engine.specs.Reasons.{FromStart, IsBegun, SeesRoot, ShowsReasonAtStart, SparesFiles, SparesFilesAtStart};
+ghost use Rattle.file_manager.specs.Reasons.{KeepsOn, InitialState, ShowsReason, initial_state};
+ghost use Rattle.pilot_engine.specs.Reasons.{FromStart, IsBegun, SeesRoot, ShowsReasonAtStart, NeverBlamesFiles, NeverBlamesFilesAtStart};
 ghost use Rattle.space_calls.specs.Sees.{SeesFiles};
-ghost use Rattle.file_manager.specs.Creating.{IsOnward};
+ghost use Rattle.file_manager.specs.Creating.{IsMonotone};
 
 use crate::frames::look_at_frames;
-use crate::{SessionOver, StartFault};
-use fault_core::CoreOver;
+use crate::{Session, StartFault};
+use fault_core::Core;
 use file_manager::{Volume, make_tables, write_over};
-use filer_kernel::FilerOver;
+use filer_kernel::Filer;
 use labelled_disk::{Disk, Halt, Layout, RootFault};
 use std::alloc::Allocator;
-use swapper_kernel::SwapperOver;
+use swapper_kernel::Swapper;
 use volume_root::{Root, read_root};
 
 // The same root, of a volume in use.
@@ -61,21 +61,21 @@ fn used_of(layout: Layout, free: u32) -> u32
 }
 
 // Writes the tables of the root alone into the pages of the space tables, which were made.
-fn write_tables<D: Disk, A: Allocator>(filer: &mut FilerOver<D, A>) -> Result<(), Halt>
-    requires size { (D.state filer.old.swapper.under).sectors ≡ filer.old.swapper.layout.sectors }
-    ensures runs { (d : List Sector) (volume : Volume) → IsSession root_alone (D.state filer.old.swapper.under) filer.old.swapper.pool filer.old.swapper.layout filer.old.runs volume (start d)
+fn write_tables<D: Disk, A: Allocator>(filer: &mut Filer<D, A>) -> Result<(), Halt>
+    requires size { (D.state filer.old.swapper.disk).sectors ≡ filer.old.swapper.layout.sectors }
+    ensures runs { (d : List Sector) (volume : Volume) → IsSession root_alone (D.state filer.old.swapper.disk) filer.old.swapper.pool filer.old.swapper.layout filer.old.runs volume (start d)
         → OnOk result (IsRunning (view_of filer.new) [] 1 volume (start d)) }
-    ensures sound { (d : List Sector) (volume : Volume) → IsSession root_alone (D.state filer.old.swapper.under) filer.old.swapper.pool filer.old.swapper.layout filer.old.runs volume (start d)
+    ensures sound { (d : List Sector) (volume : Volume) → IsSession root_alone (D.state filer.old.swapper.disk) filer.old.swapper.pool filer.old.swapper.layout filer.old.runs volume (start d)
         → IfErr result (λ e. e ≡ halt.Disk) }
-    ensures makes { Makes volume_page [] (D.state filer.old.swapper.under) filer.old.swapper.pool (D.state filer.new.swapper.under) filer.new.swapper.pool }
-    ensures counted { result ≡ Err halt.Disk → Rose (D.state filer.old.swapper.under).faults (D.state filer.new.swapper.under).faults }
+    ensures makes { Makes volume_page [] (D.state filer.old.swapper.disk) filer.old.swapper.pool (D.state filer.new.swapper.disk) filer.new.swapper.pool }
+    ensures counted { result ≡ Err halt.Disk → Rose (D.state filer.old.swapper.disk).faults (D.state filer.new.swapper.disk).faults }
     ensures cause { IfErr result (TablesHalts (view_of filer.old) (view_of filer.new)) }
-    ensures keeps_to { (o : Outset) → KeepsOn o filer.old → OnOk result (KeepsOn o filer.new) }
-    ensures reasons { (o : Outset) → KeepsOn o filer.old → IfErr result (ShowsReason o filer.old.swapper.layout (D.state filer.new.swapper.under)) }
-    ensures sees { (b : List ℕ) → TablesAre (view_of filer.old) b → MatchResult result (λ _. SeesRoot (view_of filer.new)) SparesFiles }
-    ensures so { IfErr result (ShowsSo (D.state filer.new.swapper.under)) }
+    ensures keeps_to { (o : InitialState) → KeepsOn o filer.old → OnOk result (KeepsOn o filer.new) }
+    ensures reasons { (o : InitialState) → KeepsOn o filer.old → IfErr result (ShowsReason o filer.old.swapper.layout (D.state filer.new.swapper.disk)) }
+    ensures sees { (b : List ℕ) → TablesAre (view_of filer.old) b → MatchResult result (λ _. SeesRoot (view_of filer.new)) NeverBlamesFiles }
+    ensures evidence_seen { IfErr result (ShowsEvidence (D.state filer.new.swapper.disk)) }
     ensures layout { filer.new.swapper.layout ≡ filer.old.swapper.layout }
-    ensures cost { (D.state filer.new.swapper.under).transfers ≤ (D.state filer.old.swapper.under).transfers + 14392 }
+    ensures cost { (D.state filer.new.swapper.disk).transfers ≤ (D.state filer.old.swapper.disk).transfers + 14392 }
 {
     match table_calls::begin(filer) {
         Ok(()) => (),
@@ -88,35 +88,35 @@ fn write_tables<D: Disk, A: Allocator>(filer: &mut FilerOver<D, A>) -> Result<()
 /// Puts a volume with this root into use: the root is written with the clean flag 0, the pages of the space tables are made,
 /// and the tables of the root alone are written into them. No frame is there yet.
 pub(crate) fn begin<D: Disk, A: Allocator>(
-    filer: &mut FilerOver<D, A>,
+    filer: &mut Filer<D, A>,
     layout: Layout,
     root: Root,
 ) -> Result<Volume, Halt>
     requires same_layout { layout ≡ filer.old.swapper.layout }
-    requires size { (D.state filer.old.swapper.under).sectors ≡ filer.old.swapper.layout.sectors }
+    requires size { (D.state filer.old.swapper.disk).sectors ≡ filer.old.swapper.layout.sectors }
     requires valid { IsValidRoot filer.old.swapper.layout.sectors root }
     requires bare { IsBare filer.old.swapper.pool }
     requires no_runs { (n : ℕ) → runs_of n filer.old.runs ≡ [] }
-    ensures begun { (d : List Sector) → (D.state filer.old.swapper.under).contents ≡ Some d → Sound d → root ≡ root_in (root_page d)
+    ensures begun { (d : List Sector) → (D.state filer.old.swapper.disk).contents ≡ Some d → Sound d → root ≡ root_in (root_page d)
         → IfOk result (λ volume. IsRunning (view_of filer.new) [] 1 volume (start d)) }
-    ensures sound { (d : List Sector) → (D.state filer.old.swapper.under).contents ≡ Some d → Sound d → root ≡ root_in (root_page d) → IfErr result (λ e. e ≡ halt.Disk) }
+    ensures sound { (d : List Sector) → (D.state filer.old.swapper.disk).contents ≡ Some d → Sound d → root ≡ root_in (root_page d) → IfErr result (λ e. e ≡ halt.Disk) }
     ensures opened { IfOk result (IsOpen filer.new.swapper.layout) }
-    ensures starts { StartsSome root (D.state filer.old.swapper.under) filer.old.swapper.pool (D.state filer.new.swapper.under) filer.new.swapper.pool }
-    ensures counted { result ≡ Err halt.Disk → Rose (D.state filer.old.swapper.under).faults (D.state filer.new.swapper.under).faults }
+    ensures starts { StartsSome root (D.state filer.old.swapper.disk) filer.old.swapper.pool (D.state filer.new.swapper.disk) filer.new.swapper.pool }
+    ensures counted { result ≡ Err halt.Disk → Rose (D.state filer.old.swapper.disk).faults (D.state filer.new.swapper.disk).faults }
     ensures cause { IfErr result (StartHalts root (view_of filer.old) (view_of filer.new)) }
-    ensures keeps_to { (d : List Sector) (named : Triples) (ws : List DiskWrite) → IsBegun d named ws (D.state filer.old.swapper.under)
-        → IfOk result (λ volume. KeepsOn (outset d named (ws ++ (root_write (in_use root) ∷ []))) filer.new) }
-    ensures reasons { (d : List Sector) (named : Triples) (ws : List DiskWrite) → IsBegun d named ws (D.state filer.old.swapper.under)
-        → IfErr result (ShowsReason (outset d named (ws ++ (root_write (in_use root) ∷ []))) filer.old.swapper.layout (D.state filer.new.swapper.under)) }
-    ensures sees { (d : List Sector) (named : Triples) (ws : List DiskWrite) → IsBegun d named ws (D.state filer.old.swapper.under)
-        → MatchResult result (λ volume. SeesRoot (view_of filer.new)) SparesFiles }
-    ensures onward { IfOk result (λ volume. IsOnward root volume.root) }
-    ensures so { IfErr result (ShowsSo (D.state filer.new.swapper.under)) }
-    ensures left_open { MatchResult result (λ volume. IsUnset (D.state filer.new.swapper.under)) (LeavesOpen (D.state filer.new.swapper.under)) }
+    ensures keeps_to { (d : List Sector) (named : Triples) (ws : List DiskWrite) → IsBegun d named ws (D.state filer.old.swapper.disk)
+        → IfOk result (λ volume. KeepsOn (initial_state d named (ws ++ (root_write (in_use root) ∷ []))) filer.new) }
+    ensures reasons { (d : List Sector) (named : Triples) (ws : List DiskWrite) → IsBegun d named ws (D.state filer.old.swapper.disk)
+        → IfErr result (ShowsReason (initial_state d named (ws ++ (root_write (in_use root) ∷ []))) filer.old.swapper.layout (D.state filer.new.swapper.disk)) }
+    ensures sees { (d : List Sector) (named : Triples) (ws : List DiskWrite) → IsBegun d named ws (D.state filer.old.swapper.disk)
+        → MatchResult result (λ volume. SeesRoot (view_of filer.new)) NeverBlamesFiles }
+    ensures monotone { IfOk result (λ volume. IsMonotone root volume.root) }
+    ensures evidence_seen { IfErr result (ShowsEvidence (D.state filer.new.swapper.disk)) }
+    ensures left_open { MatchResult result (λ volume. IsUnset (D.state filer.new.swapper.disk)) (LeavesOpen (D.state filer.new.swapper.disk)) }
     ensures serial { root.serial < 2 ^ 32 }
     ensures counter { root.counter < 2 ^ 32 }
     ensures layout { filer.new.swapper.layout ≡ filer.old.swapper.layout }
-    ensures cost { (D.state filer.new.swapper.under).transfers ≤ (D.state filer.old.swapper.under).transfers + (14393 + 2 * filer.old.swapper.layout.vam + 2 * (1 + 51 * most_records filer.old.swapper.layout.sectors) + 96 * (8 * filer.old.swapper.layout.vam + 100)) }
+    ensures cost { (D.state filer.new.swapper.disk).transfers ≤ (D.state filer.old.swapper.disk).transfers + (14393 + 2 * filer.old.swapper.layout.vam + 2 * (1 + 51 * most_records filer.old.swapper.layout.sectors) + 96 * (8 * filer.old.swapper.layout.vam + 100)) }
 {
     let root = in_use(root);
     match write_over(filer, root) {
@@ -147,12 +147,12 @@ fn frames_over<D: Disk, A: Allocator>(
     alloc: A,
     disk: D,
     frames: u32,
-) -> Result<(FilerOver<D, A>, Layout, Root), (StartFault, D)>
+) -> Result<(Filer<D, A>, Layout, Root), (StartFault, D)>
     requires least { 24 ≤ frames }
     requires most { frames ≤ 4096 }
     ensures same_layout { IfOk result (λ r. r.1 ≡ r.0.swapper.layout) }
     ensures valid { IfOk result (λ r. IsValidRoot r.0.swapper.layout.sectors r.2) }
-    ensures size { IfOk result (λ r. (D.state r.0.swapper.under).sectors ≡ r.0.swapper.layout.sectors) }
+    ensures size { IfOk result (λ r. (D.state r.0.swapper.disk).sectors ≡ r.0.swapper.layout.sectors) }
     ensures bare { IfOk result (λ r. IsBare r.0.swapper.pool) }
     ensures no_runs { IfOk result (λ r. (n : ℕ) → runs_of n r.0.runs ≡ []) }
     ensures frames { IfOk result (λ r. length r.0.swapper.pool ≡ frames) }
@@ -164,7 +164,7 @@ fn frames_over<D: Disk, A: Allocator>(
     ensures judged { (d : List Sector) → (D.state disk).contents ≡ Some d → IfErr result (λ e. IsRightRefusal d e.0) }
     ensures early { IfErr result (λ e. IsEarly e.0) }
     ensures counted { IfErr result (λ e. IsDiskFault e.0 → Rose (D.state disk).faults (D.state e.1).faults) }
-    ensures reads { MatchResult result (λ r. ReadsAtMost 1 (D.state disk) (D.state r.0.swapper.under)) (λ e. ReadsAtMost 1 (D.state disk) (D.state e.1)) }
+    ensures reads { MatchResult result (λ r. ReadsAtMost 1 (D.state disk) (D.state r.0.swapper.disk)) (λ e. ReadsAtMost 1 (D.state disk) (D.state e.1)) }
 {
     let mut disk = disk;
     let root = match read_root(&mut disk, true) {
@@ -175,21 +175,21 @@ fn frames_over<D: Disk, A: Allocator>(
         Ok(layout) => layout,
         Err(why) => return Err((StartFault::Root(why), disk)),
     };
-    match SwapperOver::over(alloc, disk, layout, frames) {
-        Ok(swapper) => Ok((FilerOver::over(swapper), layout, root)),
+    match Swapper::over(alloc, disk, layout, frames) {
+        Ok(swapper) => Ok((Filer::over(swapper), layout, root)),
         Err((_, disk)) => Err((StartFault::NoMemory, disk)),
     }
 }
 
-impl<D: Disk, A: Allocator> SessionOver<D, A> {
+impl<D: Disk, A: Allocator> Session<D, A> {
     /// Starts a session on the volume of a disk, which was closed, with 24 to 4,096 frames. This takes all the memory that they
     /// ever have. The disk is handed back where no session starts.
-    pub fn over(alloc: A, disk: D, frames: u32) -> Result<SessionOver<D, A>, (StartFault, D)>
+    pub fn over(alloc: A, disk: D, frames: u32) -> Result<Session<D, A>, (StartFault, D)>
         requires least { 24 ≤ frames }
         requires most { frames ≤ 4096 }
         ensures stands { (d : List Sector) → (D.state disk).contents ≡ Some d → Sound d
             → IfOk result (λ s. Runs s.core s.volume (start d)) }
-        ensures size { IfOk result (λ s. (D.state s.core.filer.swapper.under).sectors ≡ s.core.filer.swapper.layout.sectors) }
+        ensures size { IfOk result (λ s. (D.state s.core.filer.swapper.disk).sectors ≡ s.core.filer.swapper.layout.sectors) }
         ensures opened { IfOk result (λ s. IsOpen s.core.filer.swapper.layout s.volume) }
         ensures running { IfOk result (λ s. s.running ≡ true) }
         ensures frames { IfOk result (λ s. length s.core.filer.swapper.pool ≡ frames) }
@@ -209,25 +209,25 @@ impl<D: Disk, A: Allocator> SessionOver<D, A> {
         ensures reasons { (d : List Sector) (named : Triples) (ws : List DiskWrite) → IsBegun d named ws (D.state disk)
             → IfErr result (λ e. FromStart d named ws (λ o. ShowsReasonAtStart o (layout_of (length d)) (D.state e.1) e.0)) }
         ensures sees { (d : List Sector) (named : Triples) (ws : List DiskWrite) → IsBegun d named ws (D.state disk)
-            → MatchResult result (λ s. SeesFiles no_page s.core) (λ e. SparesFilesAtStart e.0) }
-        ensures onward { (d : List Sector) → (D.state disk).contents ≡ Some d → IfOk result (λ s. IsOnward (root_in (root_page d)) s.volume.root) }
-        ensures so { IfErr result (λ e. IsSoAtStart (D.state e.1) e.0) }
+            → MatchResult result (λ s. SeesFiles no_page s.core) (λ e. NeverBlamesFilesAtStart e.0) }
+        ensures monotone { (d : List Sector) → (D.state disk).contents ≡ Some d → IfOk result (λ s. IsMonotone (root_in (root_page d)) s.volume.root) }
+        ensures evidence_seen { IfErr result (λ e. IsSoAtStart (D.state e.1) e.0) }
 
         // What was written, whether or not one starts.
-        ensures moments { (d : List Sector) → (D.state disk).contents ≡ Some d → LabelsRight d
-            → MatchResult result (λ s. KeepsFiles d (D.state disk) (D.state s.core.filer.swapper.under)) (λ e. KeepsFiles d (D.state disk) (D.state e.1)) }
-        ensures wrote { MatchResult result (λ s. WroteFirst (D.state disk) (D.state s.core.filer.swapper.under)) (λ e. WroteFirst (D.state disk) (D.state e.1)) }
-        ensures left_open { MatchResult result (λ s. IsUnset (D.state s.core.filer.swapper.under)) (λ e. LeavesOpenAtStart (D.state e.1) e.0) }
-        ensures cost { MatchResult result (λ s. CostsStart (D.state disk) (D.state s.core.filer.swapper.under)) (λ e. CostsStart (D.state disk) (D.state e.1)) }
-        ensures bounded { MatchResult result (λ s. CostsOther (D.state disk) (D.state s.core.filer.swapper.under)) (λ e. CostsOther (D.state disk) (D.state e.1)) }
+        ensures crash_states { (d : List Sector) → (D.state disk).contents ≡ Some d → LabelsRight d
+            → MatchResult result (λ s. KeepsFiles d (D.state disk) (D.state s.core.filer.swapper.disk)) (λ e. KeepsFiles d (D.state disk) (D.state e.1)) }
+        ensures wrote { MatchResult result (λ s. WroteFirst (D.state disk) (D.state s.core.filer.swapper.disk)) (λ e. WroteFirst (D.state disk) (D.state e.1)) }
+        ensures left_open { MatchResult result (λ s. IsUnset (D.state s.core.filer.swapper.disk)) (λ e. LeavesOpenAtStart (D.state e.1) e.0) }
+        ensures cost { MatchResult result (λ s. CostsStart (D.state disk) (D.state s.core.filer.swapper.disk)) (λ e. CostsStart (D.state disk) (D.state e.1)) }
+        ensures bounded { MatchResult result (λ s. CostsOther (D.state disk) (D.state s.core.filer.swapper.disk)) (λ e. CostsOther (D.state disk) (D.state e.1)) }
     {
         let (mut filer, layout, root) = match frames_over(alloc, disk, frames) {
             Ok(opened) => opened,
             Err(fault) => return Err(fault),
         };
         match begin(&mut filer, layout, root) {
-            Ok(volume) => Ok(SessionOver {
-                core: CoreOver::over(filer, 1),
+            Ok(volume) => Ok(Session {
+                core: Core::over(filer, 1),
                 volume,
                 running: true,
             }),

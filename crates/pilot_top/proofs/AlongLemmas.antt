@@ -3,14 +3,14 @@ use Rattle.std.proofs.Common.{◌≡◌, ◌⊎◌, inl, inr, ℕ, zero, suc, �
 use Rattle.std.specs.Prelude.{option_map}
 use Rattle.std.proofs.lemmas.Bool.{cases_lt}
 use Rattle.std.proofs.lemmas.Option.{same_Some, none-some}
-use Rattle.labelled_disk.specs.Calls.{TellsSame}
-use Rattle.labelled_disk.specs.Moment.{moment}
+use Rattle.labelled_disk.specs.Calls.{RevealsSame}
+use Rattle.labelled_disk.specs.CrashState.{crash_state}
 use Rattle.labelled_disk.specs.Sectors.{Sector}
 use Rattle.labelled_disk.specs.State.{DiskState}
 use Rattle.labelled_disk.specs.WriteRuns.{after_writes}
-use Rattle.labelled_disk.proofs.WriteRunLemmas.{appended_then, appended_none, moment-earlier, moment-end, moment-later}
+use Rattle.labelled_disk.proofs.WriteRunLemmas.{appended_then, appended_none, crash_state-earlier, crash_state-end, crash_state-later}
 use Rattle.pilot_engine.specs.Closing.{Throughout}
-use Rattle.pilot_top.specs.Moments.{Along, IsBy}
+use Rattle.pilot_top.specs.CrashStates.{Along, IsBy}
 
 -- Places.
 
@@ -68,12 +68,12 @@ module _ (P : ℕ → ℕ → List Sector → Type 0) (j i k h l g : ℕ) {a b c
   ends n (inr few) =
       by_then (one.line n) (one.step n) k h l g (one.last n) (by_then k h (two.line 0) (two.step 0) l g (two.first 0) (two.last 0))
 
-  holds : (d : List Sector) (n : ℕ) → a.contents ≡ Some d → (s : (length one.writes < n) ⊎ (n ≤ length one.writes)) → P (line_at n s) (step_at n s) (moment d (one.writes ++ two.writes) n)
-  holds d n told (inl past) =
+  holds : (d : List Sector) (n : ℕ) → a.contents ≡ Some d → (s : (length one.writes < n) ⊎ (n ≤ length one.writes)) → P (line_at n s) (step_at n s) (crash_state d (one.writes ++ two.writes) n)
+  holds d n revealed (inl past) =
       let at : n ≡ length one.writes + (n - length one.writes) = omega (arith, past) in
-      subst (P (two.line (n - length one.writes)) (two.step (n - length one.writes))) (sym (ap (moment d (one.writes ++ two.writes)) at ∙ moment-later d one.writes two.writes (n - length one.writes)))
-      (two.each (after_writes one.writes d) (n - length one.writes) (one.appended.contents ∙ ap (option_map (after_writes one.writes)) told))
-  holds d n told (inr few) = subst (P (one.line n) (one.step n)) (sym (moment-earlier d one.writes two.writes n few)) (one.each d n told)
+      subst (P (two.line (n - length one.writes)) (two.step (n - length one.writes))) (sym (ap (crash_state d (one.writes ++ two.writes)) at ∙ crash_state-later d one.writes two.writes (n - length one.writes)))
+      (two.each (after_writes one.writes d) (n - length one.writes) (one.appended.contents ∙ ap (option_map (after_writes one.writes)) revealed))
+  holds d n revealed (inr few) = subst (P (one.line n) (one.step n)) (sym (crash_state-earlier d one.writes two.writes n few)) (one.each d n revealed)
 
   pub along_then : Along P j i l g a c
   along_then = record {
@@ -84,12 +84,12 @@ module _ (P : ℕ → ℕ → List Sector → Type 0) (j i k h l g : ℕ) {a b c
     rise = λ n m le. rises n m le (cases_lt (length one.writes) n) (cases_lt (length one.writes) m);
     first = λ n. starts n (cases_lt (length one.writes) n);
     last = λ n. ends n (cases_lt (length one.writes) n);
-    each = λ d n told. holds d n told (cases_lt (length one.writes) n);
+    each = λ d n revealed. holds d n revealed (cases_lt (length one.writes) n);
   }
 
 -- Less is said, or the same otherwise.
 
--- another property of the same moments
+-- another property of the same crash states
 pub along_less : (P Q : ℕ → ℕ → List Sector → Type 0) (j i k h : ℕ) {a b : DiskState} → ((l g : ℕ) (d : List Sector) → IsBy j i l g → IsBy l g k h → P l g d → Q l g d) → Along P j i k h a b → Along Q j i k h a b
 along_less P Q j i k h less on = record {
   writes = on.writes;
@@ -99,7 +99,7 @@ along_less P Q j i k h less on = record {
   rise = on.rise;
   first = on.first;
   last = on.last;
-  each = λ d n told. less (on.line n) (on.step n) (moment d on.writes n) (on.first n) (on.last n) (on.each d n told);
+  each = λ d n revealed. less (on.line n) (on.step n) (crash_state d on.writes n) (on.first n) (on.last n) (on.each d n revealed);
 }
 
 -- wider bounds
@@ -126,7 +126,7 @@ along_shifted P Q s j i k h less on = record {
   rise = λ n m le. by_shifted s (on.line n) (on.step n) (on.line m) (on.step m) (on.rise n m le);
   first = λ n. by_shifted s j i (on.line n) (on.step n) (on.first n);
   last = λ n. by_shifted s (on.line n) (on.step n) k h (on.last n);
-  each = λ d n told. less (on.line n) (on.step n) (moment d on.writes n) (on.first n) (on.last n) (on.each d n told);
+  each = λ d n revealed. less (on.line n) (on.step n) (crash_state d on.writes n) (on.first n) (on.last n) (on.each d n revealed);
 }
 
 -- All at one place.
@@ -144,19 +144,19 @@ along_throughout P j i all = record {
 }
 
 -- no write
-pub along_none : (P : ℕ → ℕ → List Sector → Type 0) (j i : ℕ) {a b : DiskState} → TellsSame a b → ((d : List Sector) → a.contents ≡ Some d → P j i d) → Along P j i j i a b
-along_none P j i {a} same here = along_throughout P j i (record { writes = []; appended = appended_none same; each = λ d k told. subst (P j i) (sym (still d k)) (here d told) })
+pub along_none : (P : ℕ → ℕ → List Sector → Type 0) (j i : ℕ) {a b : DiskState} → RevealsSame a b → ((d : List Sector) → a.contents ≡ Some d → P j i d) → Along P j i j i a b
+along_none P j i {a} same here = along_throughout P j i (record { writes = []; appended = appended_none same; each = λ d k revealed. subst (P j i) (sym (still d k)) (here d revealed) })
   where
-    still : (d : List Sector) (k : ℕ) → moment d [] k ≡ d
+    still : (d : List Sector) (k : ℕ) → crash_state d [] k ≡ d
     still d zero = refl
     still d (suc k) = refl
 
--- the last moment
+-- the last crash state
 pub along_last : (P : ℕ → ℕ → List Sector → Type 0) (j i k h : ℕ) {a b : DiskState} (on : Along P j i k h a b) → (e : List Sector) → b.contents ≡ Some e → P (on.line (length on.writes)) (on.step (length on.writes)) e
-along_last P j i k h {a} on e told = from a.contents refl
+along_last P j i k h {a} on e revealed = from a.contents refl
   where
     from : (o : Option (List Sector)) → a.contents ≡ o → P (on.line (length on.writes)) (on.step (length on.writes)) e
-    from None is = absurd (none-some e (sym (on.appended.contents ∙ ap (option_map (after_writes on.writes)) is) ∙ told))
+    from None is = absurd (none-some e (sym (on.appended.contents ∙ ap (option_map (after_writes on.writes)) is) ∙ revealed))
     from (Some d) is =
-        let last : after_writes on.writes d ≡ e = same_Some (after_writes on.writes d) e (sym (on.appended.contents ∙ ap (option_map (after_writes on.writes)) is) ∙ told) in
-        subst (P (on.line (length on.writes)) (on.step (length on.writes))) (moment-end d on.writes ∙ last) (on.each d (length on.writes) is)
+        let last : after_writes on.writes d ≡ e = same_Some (after_writes on.writes d) e (sym (on.appended.contents ∙ ap (option_map (after_writes on.writes)) is) ∙ revealed) in
+        subst (P (on.line (length on.writes)) (on.step (length on.writes))) (crash_state-end d on.writes ∙ last) (on.each d (length on.writes) is)

@@ -3,13 +3,13 @@ use Rattle.std.proofs.Common.{◌≡◌, ◌⊎◌, inl, inr, ℕ, zero, suc, Li
 use Rattle.labelled_disk.specs.declared.evidence.Evidence.{Evidence}
 use Rattle.labelled_disk.specs.declared.evidence.Halt.{Halt}
 use Rattle.labelled_disk.specs.declared.evidence.Halt.TheVariants as halt
-use Rattle.labelled_disk.specs.Moment.{moment}
+use Rattle.labelled_disk.specs.CrashState.{crash_state}
 use Rattle.labelled_disk.specs.Sectors.{Sector}
 use Rattle.labelled_disk.specs.State.{DiskState}
 use Rattle.labelled_disk.proofs.WriteRunLemmas.{appended_none}
 use Rattle.file_manager.specs.declared.volume.Volume.{Volume}
 use Rattle.flat_machine.specs.Machine.{Machine}
-use Rattle.filer_kernel.specs.Evidence.{IsSo, ShowsSo}
+use Rattle.filer_kernel.specs.Evidence.{IsEvident, ShowsEvidence}
 use Rattle.pilot_engine.specs.Closing.{IsStop, Throughout}
 use Rattle.pilot_engine.specs.Opening.{IsUnset, LeavesOpen}
 use Rattle.swap_units.specs.declared.interval.Interval.{Interval}
@@ -20,17 +20,17 @@ use Rattle.pilot_top.specs.Stopping.{status_of, cause_of}
 use Rattle.pilot_top.specs.declared.last.Cause.TheVariants as cause
 use Rattle.pilot_top.specs.declared.status.Status.{Status}
 use Rattle.pilot_top.specs.declared.status.Status.TheVariants as status
-use Rattle.pilot_top.proofs.StagedLemmas.{AreInForm, stands_told}
+use Rattle.pilot_top.proofs.StagedLemmas.{AreInForm, stands_revealed}
 
 -- a session is left as it stands
 pub rest_stops : (m : Machine) {v : View} {kept : List Interval} {count : ℕ} {volume : Volume} → IsRunning v kept count volume m → AreInForm v.disk → Throughout (IsStop m) v.disk v.disk
 rest_stops m is form = record {
   writes = [];
   appended = appended_none (record { contents = refl; writes = refl });
-  each = λ d k told. subst (IsStop m) (sym (still d k)) (let at = stands_told m is form d told in record { told = at.told; same_serial = at.same_serial; same_counter = elim at.counter [ inl same ↦ same | inr same ↦ same ]; honest = at.honest });
+  each = λ d k revealed. subst (IsStop m) (sym (still d k)) (let at = stands_revealed m is form d revealed in record { revealed = at.revealed; same_serial = at.same_serial; same_counter = elim at.counter [ inl same ↦ same | inr same ↦ same ]; honest = at.honest });
 }
   where
-    still : (d : List Sector) (k : ℕ) → moment d [] k ≡ d
+    still : (d : List Sector) (k : ℕ) → crash_state d [] k ≡ d
     still d zero = refl
     still d (suc k) = refl
 
@@ -38,17 +38,17 @@ rest_stops m is form = record {
 pub not_damaged : (h : Halt) (s : Status) → h ≡ halt.Disk → s ≡ status_of h → ◌≡◌ {A = Option Status} (Some s) (Some status.Damaged) → ⊥
 not_damaged h s is same damaged = cc (ap status_of is, same, damaged)
 
--- what is told of damage
-pub damage_told : (h : Halt) (s : Status) (failed : Type 0) (u v : Option (List ℕ)) (disk : DiskState) → ShowsSo disk h → s ≡ status_of h → ◌≡◌ {A = Option Status} (Some s) (Some status.Damaged) → Puts failed u v (last_line (cause_of h))
-    → (e : Evidence) × IsSo disk e × Puts failed u v (last_line (cause.Damaged e))
-damage_told halt.Disk s failed u v disk so same damaged puts = absurd (cc (same, damaged))
-damage_told (halt.Damaged evidence) s failed u v disk so same damaged puts = (evidence, so, puts)
+-- what is reported of damage
+pub damage_revealed : (h : Halt) (s : Status) (failed : Type 0) (u v : Option (List ℕ)) (disk : DiskState) → ShowsEvidence disk h → s ≡ status_of h → ◌≡◌ {A = Option Status} (Some s) (Some status.Damaged) → Puts failed u v (last_line (cause_of h))
+    → (e : Evidence) × IsEvident disk e × Puts failed u v (last_line (cause.Damaged e))
+damage_revealed halt.Disk s failed u v disk evidence_seen same damaged puts = absurd (cc (same, damaged))
+damage_revealed (halt.Damaged evidence) s failed u v disk evidence_seen same damaged puts = (evidence, evidence_seen, puts)
 
 -- and its reason
-pub damage_reasoned : (h : Halt) (s : Status) (failed : Type 0) (u v : Option (List ℕ)) (disk : DiskState) (reasoned : Evidence → Type 0) → ShowsSo disk h → ((e : Evidence) → h ≡ halt.Damaged e → reasoned e)
-    → s ≡ status_of h → ◌≡◌ {A = Option Status} (Some s) (Some status.Damaged) → Puts failed u v (last_line (cause_of h)) → (e : Evidence) × IsSo disk e × reasoned e × Puts failed u v (last_line (cause.Damaged e))
-damage_reasoned halt.Disk s failed u v disk reasoned so reason same damaged puts = absurd (cc (same, damaged))
-damage_reasoned (halt.Damaged evidence) s failed u v disk reasoned so reason same damaged puts = (evidence, so, reason evidence refl, puts)
+pub damage_reasoned : (h : Halt) (s : Status) (failed : Type 0) (u v : Option (List ℕ)) (disk : DiskState) (reasoned : Evidence → Type 0) → ShowsEvidence disk h → ((e : Evidence) → h ≡ halt.Damaged e → reasoned e)
+    → s ≡ status_of h → ◌≡◌ {A = Option Status} (Some s) (Some status.Damaged) → Puts failed u v (last_line (cause_of h)) → (e : Evidence) × IsEvident disk e × reasoned e × Puts failed u v (last_line (cause.Damaged e))
+damage_reasoned halt.Disk s failed u v disk reasoned evidence_seen reason same damaged puts = absurd (cc (same, damaged))
+damage_reasoned (halt.Damaged evidence) s failed u v disk reasoned evidence_seen reason same damaged puts = (evidence, evidence_seen, reason evidence refl, puts)
 
 -- a damaged volume is left open
 pub left_damaged : (h : Halt) (s : Status) (disk : DiskState) → LeavesOpen disk h → s ≡ status_of h → ◌≡◌ {A = Option Status} (Some s) (Some status.Damaged) → IsUnset disk

@@ -6,7 +6,7 @@ use Rattle.labelled_disk.specs.State.{DiskState}
 use Rattle.flat_machine.specs.declared.call.Call.TheVariants.{Close}
 use Rattle.flat_machine.specs.Machine.{Machine}
 use Rattle.flat_machine.specs.Next.{next}
-use Rattle.session_words.specs.StandsFor.{TellsSettled}
+use Rattle.session_words.specs.StandsFor.{RevealsSettled}
 use Rattle.pilot_engine.specs.Closing.{HasShut}
 
 permanent_again : (files : List File) → filter (λ f. f.permanent) (filter (λ f. f.permanent) files) ≡ filter (λ f. f.permanent) files
@@ -24,15 +24,15 @@ close_twice m = ap (λ (fs : List File). record (next m Close) { files = fs }) (
 -- a volume that is shut for a machine is so for the machine after its close
 pub shut_again : (m : Machine) (disk : DiskState) → HasShut m disk → HasShut (next m Close) disk
 shut_again m disk shut = record {
-  tells = record {
-    sectors = shut.tells.sectors;
-    told = shut.tells.told;
+  reveals = record {
+    sectors = shut.reveals.sectors;
+    revealed = shut.reveals.revealed;
     shut = record {
-      sound = shut.tells.shut.sound;
-      same_serial = shut.tells.shut.same_serial;
-      same_counter = shut.tells.shut.same_counter;
-      same_room = shut.tells.shut.same_room;
-      told = subst (TellsSettled shut.tells.sectors) (sym (close_twice m)) shut.tells.shut.told;
+      sound = shut.reveals.shut.sound;
+      same_serial = shut.reveals.shut.same_serial;
+      same_counter = shut.reveals.shut.same_counter;
+      same_room = shut.reveals.shut.same_room;
+      revealed = subst (RevealsSettled shut.reveals.sectors) (sym (close_twice m)) shut.reveals.shut.revealed;
     };
   };
   synced = shut.synced;

@@ -11,7 +11,7 @@ use Rattle.labelled_disk.specs.File.{total_room}
 use Rattle.labelled_disk.specs.Layout.{IsCount, capacity}
 use Rattle.labelled_disk.specs.Sectors.{Sector}
 use Rattle.labelled_disk.specs.State.{DiskState}
-use Rattle.trace_io.specs.Stream.{IsFrontOf}
+use Rattle.trace_io.specs.Stream.{IsPrefixOf}
 use Rattle.command_words.specs.Meaning.{Means}
 use Rattle.command_words.specs.declared.words.Command.TheVariants as command
 use Rattle.volume_root.specs.declared.root.Root.{Root}
@@ -22,7 +22,7 @@ use Rattle.volume_convert.specs.declared.converting.Converted.{Converted}
 use Rattle.volume_convert.specs.declared.fault.ConvertFault.{ConvertFault}
 use Rattle.volume_convert.specs.declared.fault.ConvertFault.TheVariants as why
 use Rattle.volume_convert.specs.Answers.{AccordsOld, HasNoRoom, IsNoOldVolume, JudgesRoom, JudgesRoot, LeavesOthers}
-use Rattle.volume_convert.specs.Leaves.{AreMade, ArePartMade, CostsAtMost, IsConverted, IsTold, StaysConvertible}
+use Rattle.volume_convert.specs.Leaves.{AreMade, ArePartMade, CostsAtMost, IsConverted, IsRevealed, StaysConvertible}
 use Rattle.pilot_top.specs.Causes.{HasReason}
 use Rattle.pilot_top.specs.Converting.{ConvertedBy, IsConversionLine, IsOldVolume, conversion_line, converted_text}
 use Rattle.pilot_top.specs.Last.{last_line, Puts}
@@ -52,18 +52,18 @@ refused_so f (Err (why.Unfit wanted room)) right accords is = absurd (let e = sy
 refused_so f (Err why.Disk) right accords is = inr refl
 
 -- the line about a conversion is that of the disk
-line_is : (d : List Sector) (found : Converted) → IsTold d found → conversion_line found.files found.pages found.freed ≡ converted_text d
-line_is d found told = rw (told.files, told.pages, told.freed) refl
+line_is : (d : List Sector) (found : Converted) → IsRevealed d found → conversion_line found.files found.pages found.freed ≡ converted_text d
+line_is d found revealed = rw (revealed.files, revealed.pages, revealed.freed) refl
 
 -- what `convert` says of its answer
 abbrev pub IsAnswered : Result Converted ConvertFault → DiskState → DiskState → Type 0
 IsAnswered result old new = record {
   converted : OnOk result (IsConverted old new);
-  told : IfOk result (λ found. (d : List Sector) → old.contents ≡ Some d → IsTold d found);
+  revealed : IfOk result (λ found. (d : List Sector) → old.contents ≡ Some d → IsRevealed d found);
   synced : OnOk result (new.synced ≡ true);
   made : OnOk result (AreMade old new);
   part : result ≡ Err why.Disk → ArePartMade old new;
-  moments : StaysConvertible old new;
+  crash_states : StaysConvertible old new;
   root : JudgesRoot old result;
   room : JudgesRoom old result;
   unwritten : (e : ConvertFault) → result ≡ Err e → e ≢ why.Disk → OnlyReads old new;
@@ -75,35 +75,35 @@ IsAnswered result old new = record {
 
 module _ (result : Result Converted ConvertFault) (old new : DiskState) (all : IsAnswered result old new) (whole : (d : List Sector) → old.contents ≡ Some d → length d ≡ old.sectors) where
   counted : (d : List Sector) → old.contents ≡ Some d → IsOldCount old.sectors → IsOldCount (length d)
-  counted d told is = subst (λ (n : ℕ). IsOldCount n) (sym (whole d told)) is
+  counted d revealed is = subst (λ (n : ℕ). IsOldCount n) (sym (whole d revealed)) is
 
-  -- a root that is refused has no old volume behind it, and the other way round
+  -- a root that is refused has no old volume after it, and the other way round
   no_volume : (d : List Sector) → old.contents ≡ Some d → (f : RootFault) → result ≡ Err (why.Root f) → IsNoOldVolume d f
-  no_volume d told f is = elim (is_old_count_or old.sectors) [
+  no_volume d revealed f is = elim (is_old_count_or old.sectors) [
     | inl count ↦
-        let s = first_sector d (omega (arith, count.0, whole d told)) in
-        inr (counted d told count, s.0, s.1, subst (λ (r : Result Converted ConvertFault). AccordsOld r (judged_old (length d) s.0)) is (all.root.judged count d told s.0 s.1))
+        let s = first_sector d (omega (arith, count.0, whole d revealed)) in
+        inr (counted d revealed count, s.0, s.1, subst (λ (r : Result Converted ConvertFault). AccordsOld r (judged_old (length d) s.0)) is (all.root.judged count d revealed s.0 s.1))
     | inr none ↦
         let e = sym is ∙ all.root.count none in
-        inl (λ count. none (subst (λ (n : ℕ). IsOldCount n) (whole d told) count), cc e ∙ ap (λ (n : ℕ). fault.BadCount n) (sym (whole d told)))
+        inl (λ count. none (subst (λ (n : ℕ). IsOldCount n) (whole d revealed) count), cc e ∙ ap (λ (n : ℕ). fault.BadCount n) (sym (whole d revealed)))
   ]
 
   refuses : (d : List Sector) → old.contents ≡ Some d → (f : RootFault) → IsNoOldVolume d f → (result ≡ Err (why.Root f)) ⊎ (result ≡ Err why.Disk)
-  refuses d told f (inl none) =
-      inl (all.root.count (λ count. none.0 (counted d told count)) ∙ ap (λ (x : RootFault). Err (why.Root x)) (ap (λ (n : ℕ). fault.BadCount n) (sym (whole d told)) ∙ sym none.1))
-  refuses d told f (inr is) = refused_so f result (judged_old (length d) is.1) (all.root.judged (subst (λ (n : ℕ). IsOldCount n) (whole d told) is.0) d told is.1 is.2) is.3
+  refuses d revealed f (inl none) =
+      inl (all.root.count (λ count. none.0 (counted d revealed count)) ∙ ap (λ (x : RootFault). Err (why.Root x)) (ap (λ (n : ℕ). fault.BadCount n) (sym (whole d revealed)) ∙ sym none.1))
+  refuses d revealed f (inr is) = refused_so f result (judged_old (length d) is.1) (all.root.judged (subst (λ (n : ℕ). IsOldCount n) (whole d revealed) is.0) d revealed is.1 is.2) is.3
 
   -- an answer that is no refusal of the root comes of an old volume
   is_old : (r : Result Converted ConvertFault) → result ≡ r → ((f : RootFault) → r ≢ Err (why.Root f)) → r ≢ Err why.Disk → (d : List Sector) → old.contents ≡ Some d → IsOldVolume d
-  is_old r is no_root no_disk d told f none = elim (refuses d told f none) [
+  is_old r is no_root no_disk d revealed f none = elim (refuses d revealed f none) [
     | inl root ↦ no_root f (sym is ∙ root)
     | inr disk ↦ no_disk (sym is ∙ disk)
   ]
 
   -- files for which an answer shows room have it
   has_room : (found : Converted) → result ≡ Ok found → (d : List Sector) → old.contents ≡ Some d → HasNoRoom d → ⊥
-  has_room found is d told none =
-      let fits = subst (λ (r : Result Converted ConvertFault). OnOk r (total_room (files_old d) ≤ capacity (length d))) is (all.room.fits d told) in
+  has_room found is d revealed none =
+      let fits = subst (λ (r : Result Converted ConvertFault). OnOk r (total_room (files_old d) ≤ capacity (length d))) is (all.room.fits d revealed) in
       omega (arith, fits, none)
 
   -- an old volume's count of sectors is a volume's
@@ -132,50 +132,50 @@ module _ (result : Result Converted ConvertFault) (old new : DiskState) (all : I
       is_line = record { files = found.files; pages = found.pages; freed = found.freed; text_is = refl }
 
       same_line : (d : List Sector) → old.contents ≡ Some d → text ≡ converted_text d
-      same_line d told = line_is d found (subst (λ (r : Result Converted ConvertFault). IfOk r (λ x. (e : List Sector) → old.contents ≡ Some e → IsTold e x)) is all.told d told)
+      same_line d revealed = line_is d found (subst (λ (r : Result Converted ConvertFault). IfOk r (λ x. (e : List Sector) → old.contents ≡ Some e → IsRevealed e x)) is all.revealed d revealed)
 
       pub converted_done : (piece line : List ℕ) → piece ≡ line → line ≡ text → Appends t u piece → ConvertedBy status.Done before after
       converted_done piece line as_line as_text took = let put = subst (λ (x : List ℕ). Appends t u x) (as_line ∙ as_text) took in record {
         restored = λ ends. ok (IsConverted old new) all.converted;
         synced = λ ends. ok (new.synced ≡ true) all.synced;
-        line = λ done d told. subst (λ (x : List ℕ). Appends t u x) (same_line d told) put;
-        part_of_line = λ failed d told. absurd (cc failed);
+        line = λ done d revealed. subst (λ (x : List ℕ). Appends t u x) (same_line d revealed) put;
+        part_of_line = λ failed d revealed. absurd (cc failed);
         some_line = λ done. (text, is_line, put);
-        some_front = λ failed. absurd (cc failed);
+        some_prefix = λ failed. absurd (cc failed);
         by = λ ends. ok (AreMade old new) all.made;
         part = λ failed. absurd (cc failed);
         part_line = λ failed. absurd (cc failed);
-        moments = all.moments;
+        crash_states = all.crash_states;
         count = λ none. absurd (let e = sym is ∙ all.root.count none in cc e);
-        no_volume = λ d told opened. absurd (cc opened);
-        no_volume_refused = λ d f told none. absurd (volume_is_old d told f none);
-        no_volume_unwritten = λ d f told none. absurd (volume_is_old d told f none);
-        unfit = λ d told unfit. absurd (cc unfit);
-        unfit_refused = λ d told volume none. absurd (has_room found is d told none);
-        no_room_unwritten = λ d told none. absurd (has_room found is d told none);
-        complete = λ d told volume room disk_held sink_held. inl refl;
+        no_volume = λ d revealed opened. absurd (cc opened);
+        no_volume_refused = λ d f revealed none. absurd (volume_is_old d revealed f none);
+        no_volume_unwritten = λ d f revealed none. absurd (volume_is_old d revealed f none);
+        unfit = λ d revealed unfit. absurd (cc unfit);
+        unfit_refused = λ d revealed volume none. absurd (has_room found is d revealed none);
+        no_room_unwritten = λ d revealed none. absurd (has_room found is d revealed none);
+        complete = λ d revealed volume room disk_held sink_held. inl refl;
       }
 
-      pub converted_unheard : (piece line front : List ℕ) → piece ≡ line → line ≡ text → IsFrontOf front piece → Appends t u front → Rose m n → ConvertedBy status.StreamFault before after
-      converted_unheard piece line front as_line as_text begins put rose = let is_front = subst (λ (x : List ℕ). IsFrontOf front x) (as_line ∙ as_text) begins in record {
+      pub converted_unheard : (piece line prefix : List ℕ) → piece ≡ line → line ≡ text → IsPrefixOf prefix piece → Appends t u prefix → Rose m n → ConvertedBy status.StreamFault before after
+      converted_unheard piece line prefix as_line as_text begins put rose = let is_prefix = subst (λ (x : List ℕ). IsPrefixOf prefix x) (as_line ∙ as_text) begins in record {
         restored = λ ends. ok (IsConverted old new) all.converted;
         synced = λ ends. ok (new.synced ≡ true) all.synced;
-        line = λ done d told. absurd (cc done);
-        part_of_line = λ failed d told. (front, subst (λ (x : List ℕ). IsFrontOf front x) (same_line d told) is_front, put);
+        line = λ done d revealed. absurd (cc done);
+        part_of_line = λ failed d revealed. (prefix, subst (λ (x : List ℕ). IsPrefixOf prefix x) (same_line d revealed) is_prefix, put);
         some_line = λ done. absurd (cc done);
-        some_front = λ failed. (text, is_line, (front, is_front, put));
+        some_prefix = λ failed. (text, is_line, (prefix, is_prefix, put));
         by = λ ends. ok (AreMade old new) all.made;
         part = λ failed. absurd (cc failed);
         part_line = λ failed. absurd (cc failed);
-        moments = all.moments;
+        crash_states = all.crash_states;
         count = λ none. absurd (let e = sym is ∙ all.root.count none in cc e);
-        no_volume = λ d told opened. absurd (cc opened);
-        no_volume_refused = λ d f told none. absurd (volume_is_old d told f none);
-        no_volume_unwritten = λ d f told none. absurd (volume_is_old d told f none);
-        unfit = λ d told unfit. absurd (cc unfit);
-        unfit_refused = λ d told volume none. absurd (has_room found is d told none);
-        no_room_unwritten = λ d told none. absurd (has_room found is d told none);
-        complete = λ d told volume room disk_held sink_held. absurd (sink_held rose);
+        no_volume = λ d revealed opened. absurd (cc opened);
+        no_volume_refused = λ d f revealed none. absurd (volume_is_old d revealed f none);
+        no_volume_unwritten = λ d f revealed none. absurd (volume_is_old d revealed f none);
+        unfit = λ d revealed unfit. absurd (cc unfit);
+        unfit_refused = λ d revealed volume none. absurd (has_room found is d revealed none);
+        no_room_unwritten = λ d revealed none. absurd (has_room found is d revealed none);
+        complete = λ d revealed volume room disk_held sink_held. absurd (sink_held rose);
       }
 
     -- the root is refused
@@ -193,22 +193,22 @@ module _ (result : Result Converted ConvertFault) (old new : DiskState) (all : I
       converted_refused put = record {
         restored = λ ends. absurd (elim ends [ inl done ↦ cc done | inr failed ↦ cc failed ]);
         synced = λ ends. absurd (elim ends [ inl done ↦ cc done | inr failed ↦ cc failed ]);
-        line = λ done d told. absurd (cc done);
-        part_of_line = λ failed d told. absurd (cc failed);
+        line = λ done d revealed. absurd (cc done);
+        part_of_line = λ failed d revealed. absurd (cc failed);
         some_line = λ done. absurd (cc done);
-        some_front = λ failed. absurd (cc failed);
+        some_prefix = λ failed. absurd (cc failed);
         by = λ ends. absurd (elim ends [ inl done ↦ cc done | inr failed ↦ cc failed ]);
         part = λ failed. absurd (cc failed);
         part_line = λ failed. absurd (cc failed);
-        moments = all.moments;
+        crash_states = all.crash_states;
         count = λ none. inr (refl, names_count none put);
-        no_volume = λ d told opened. (f, no_volume d told f is, put);
-        no_volume_refused = λ d g told none. inl refl;
-        no_volume_unwritten = λ d g told none. reads;
-        unfit = λ d told unfit. absurd (cc unfit);
-        unfit_refused = λ d told volume none. absurd (volume f (no_volume d told f is));
-        no_room_unwritten = λ d told none. reads;
-        complete = λ d told volume room disk_held sink_held. absurd (volume f (no_volume d told f is));
+        no_volume = λ d revealed opened. (f, no_volume d revealed f is, put);
+        no_volume_refused = λ d g revealed none. inl refl;
+        no_volume_unwritten = λ d g revealed none. reads;
+        unfit = λ d revealed unfit. absurd (cc unfit);
+        unfit_refused = λ d revealed volume none. absurd (volume f (no_volume d revealed f is));
+        no_room_unwritten = λ d revealed none. reads;
+        complete = λ d revealed volume room disk_held sink_held. absurd (volume f (no_volume d revealed f is));
       }
 
       pub reason_refused : (words : List (String Global)) → Puts (Rose m n) t u (last_line (cause.Root f)) → HasReason words status.NotOpened before after
@@ -230,38 +230,38 @@ module _ (result : Result Converted ConvertFault) (old new : DiskState) (all : I
       converted_unfit put = record {
         restored = λ ends. absurd (elim ends [ inl done ↦ cc done | inr failed ↦ cc failed ]);
         synced = λ ends. absurd (elim ends [ inl done ↦ cc done | inr failed ↦ cc failed ]);
-        line = λ done d told. absurd (cc done);
-        part_of_line = λ failed d told. absurd (cc failed);
+        line = λ done d revealed. absurd (cc done);
+        part_of_line = λ failed d revealed. absurd (cc failed);
         some_line = λ done. absurd (cc done);
-        some_front = λ failed. absurd (cc failed);
+        some_prefix = λ failed. absurd (cc failed);
         by = λ ends. absurd (elim ends [ inl done ↦ cc done | inr failed ↦ cc failed ]);
         part = λ failed. absurd (cc failed);
         part_line = λ failed. absurd (cc failed);
-        moments = all.moments;
+        crash_states = all.crash_states;
         count = λ none. absurd (let e = sym is ∙ all.root.count none in cc e);
-        no_volume = λ d told opened. absurd (cc opened);
-        no_volume_refused = λ d f told none. absurd (volume_is_old d told f none);
-        no_volume_unwritten = λ d f told none. absurd (volume_is_old d told f none);
-        unfit = λ d told unfit.
-            let wants = subst (λ (k : ℕ). Puts (Rose m n) t u (last_line (cause.Unfit k room))) (all.room.unfit wanted room is d told) put in (
-              volume_is_old d told,
-              too_many d told,
+        no_volume = λ d revealed opened. absurd (cc opened);
+        no_volume_refused = λ d f revealed none. absurd (volume_is_old d revealed f none);
+        no_volume_unwritten = λ d f revealed none. absurd (volume_is_old d revealed f none);
+        unfit = λ d revealed unfit.
+            let wants = subst (λ (k : ℕ). Puts (Rose m n) t u (last_line (cause.Unfit k room))) (all.room.unfit wanted room is d revealed) put in (
+              volume_is_old d revealed,
+              too_many d revealed,
               all.unwritten (why.Unfit wanted room) is (λ e. cc e),
-              subst (λ (k : ℕ). Puts (Rose m n) t u (last_line (cause.Unfit (total_room (files_old d)) k))) (room_is d told) wants,
+              subst (λ (k : ℕ). Puts (Rose m n) t u (last_line (cause.Unfit (total_room (files_old d)) k))) (room_is d revealed) wants,
             );
-        unfit_refused = λ d told volume none. inl refl;
-        no_room_unwritten = λ d told none. all.unwritten (why.Unfit wanted room) is (λ e. cc e);
-        complete = λ d told volume fits disk_held sink_held. absurd (fits (too_many d told));
+        unfit_refused = λ d revealed volume none. inl refl;
+        no_room_unwritten = λ d revealed none. all.unwritten (why.Unfit wanted room) is (λ e. cc e);
+        complete = λ d revealed volume fits disk_held sink_held. absurd (fits (too_many d revealed));
       }
         where
           volume_is_old : (d : List Sector) → old.contents ≡ Some d → IsOldVolume d
           volume_is_old = is_old (Err (why.Unfit wanted room)) is (λ f e. cc e) (λ e. cc e)
 
           room_is : (d : List Sector) → old.contents ≡ Some d → room ≡ capacity (length d)
-          room_is d told = (all.room.wants wanted room is).0 ∙ ap capacity (sym (whole d told))
+          room_is d revealed = (all.room.wants wanted room is).0 ∙ ap capacity (sym (whole d revealed))
 
           too_many : (d : List Sector) → old.contents ≡ Some d → HasNoRoom d
-          too_many d told = omega (arith, all.room.unfit wanted room is d told, room_is d told, (all.room.wants wanted room is).1)
+          too_many d revealed = omega (arith, all.room.unfit wanted room is d revealed, room_is d revealed, (all.room.wants wanted room is).1)
 
       pub reason_unfit : (words : List (String Global)) → Means words command.Convert → Puts (Rose m n) t u (last_line (cause.Unfit wanted room)) → HasReason words status.Unfit before after
       reason_unfit words means put = record {
@@ -288,22 +288,22 @@ module _ (result : Result Converted ConvertFault) (old new : DiskState) (all : I
     converted_failed is put = record {
       restored = λ ends. absurd (elim ends [ inl done ↦ cc done | inr failed ↦ cc failed ]);
       synced = λ ends. absurd (elim ends [ inl done ↦ cc done | inr failed ↦ cc failed ]);
-      line = λ done d told. absurd (cc done);
-      part_of_line = λ failed d told. absurd (cc failed);
+      line = λ done d revealed. absurd (cc done);
+      part_of_line = λ failed d revealed. absurd (cc failed);
       some_line = λ done. absurd (cc done);
-      some_front = λ failed. absurd (cc failed);
+      some_prefix = λ failed. absurd (cc failed);
       by = λ ends. absurd (elim ends [ inl done ↦ cc done | inr failed ↦ cc failed ]);
       part = λ failed. all.part is;
       part_line = λ failed. put;
-      moments = all.moments;
+      crash_states = all.crash_states;
       count = λ none. absurd (let e = sym is ∙ all.root.count none in cc e);
-      no_volume = λ d told opened. absurd (cc opened);
-      no_volume_refused = λ d f told none. inr (inl refl);
-      no_volume_unwritten = λ d f told none. all.others d told (inl (f, none));
-      unfit = λ d told unfit. absurd (cc unfit);
-      unfit_refused = λ d told volume none. inr (inl refl);
-      no_room_unwritten = λ d told none. all.others d told (inr none);
-      complete = λ d told volume room disk_held sink_held. absurd (disk_held (all.cause is));
+      no_volume = λ d revealed opened. absurd (cc opened);
+      no_volume_refused = λ d f revealed none. inr (inl refl);
+      no_volume_unwritten = λ d f revealed none. all.others d revealed (inl (f, none));
+      unfit = λ d revealed unfit. absurd (cc unfit);
+      unfit_refused = λ d revealed volume none. inr (inl refl);
+      no_room_unwritten = λ d revealed none. all.others d revealed (inr none);
+      complete = λ d revealed volume room disk_held sink_held. absurd (disk_held (all.cause is));
     }
 
     -- there is no memory
@@ -311,20 +311,20 @@ module _ (result : Result Converted ConvertFault) (old new : DiskState) (all : I
     converted_without is = record {
       restored = λ ends. absurd (elim ends [ inl done ↦ cc done | inr failed ↦ cc failed ]);
       synced = λ ends. absurd (elim ends [ inl done ↦ cc done | inr failed ↦ cc failed ]);
-      line = λ done d told. absurd (cc done);
-      part_of_line = λ failed d told. absurd (cc failed);
+      line = λ done d revealed. absurd (cc done);
+      part_of_line = λ failed d revealed. absurd (cc failed);
       some_line = λ done. absurd (cc done);
-      some_front = λ failed. absurd (cc failed);
+      some_prefix = λ failed. absurd (cc failed);
       by = λ ends. absurd (elim ends [ inl done ↦ cc done | inr failed ↦ cc failed ]);
       part = λ failed. absurd (cc failed);
       part_line = λ failed. absurd (cc failed);
-      moments = all.moments;
+      crash_states = all.crash_states;
       count = λ none. inl refl;
-      no_volume = λ d told opened. absurd (cc opened);
-      no_volume_refused = λ d f told none. inr (inr refl);
-      no_volume_unwritten = λ d f told none. all.unwritten why.NoMemory is (λ e. cc e);
-      unfit = λ d told unfit. absurd (cc unfit);
-      unfit_refused = λ d told volume none. inr (inr refl);
-      no_room_unwritten = λ d told none. all.unwritten why.NoMemory is (λ e. cc e);
-      complete = λ d told volume room disk_held sink_held. inr refl;
+      no_volume = λ d revealed opened. absurd (cc opened);
+      no_volume_refused = λ d f revealed none. inr (inr refl);
+      no_volume_unwritten = λ d f revealed none. all.unwritten why.NoMemory is (λ e. cc e);
+      unfit = λ d revealed unfit. absurd (cc unfit);
+      unfit_refused = λ d revealed volume none. inr (inr refl);
+      no_room_unwritten = λ d revealed none. all.unwritten why.NoMemory is (λ e. cc e);
+      complete = λ d revealed volume room disk_held sink_held. inr refl;
     }

@@ -45,17 +45,17 @@ more_cost lines line a b c same first last =
 abbrev pub Spends : List TraceLine → DiskState → DiskState → Type 0
 Spends lines a b = b.transfers ≤ a.transfers + (other_bound a.sectors + sum_by (line_bound a.sectors) lines)
 
-front_sum : (n : ℕ) (lines more all : List TraceLine) → all ≡ lines ++ more → sum_by (line_bound n) lines ≤ sum_by (line_bound n) all
-front_sum n lines more all are = subst (λ (ls : List TraceLine). sum_by (line_bound n) lines ≤ sum_by (line_bound n) ls) (sym are) (omega (arith, sum_by-append (line_bound n) lines more))
+prefix_sum : (n : ℕ) (lines more all : List TraceLine) → all ≡ lines ++ more → sum_by (line_bound n) lines ≤ sum_by (line_bound n) all
+prefix_sum n lines more all are = subst (λ (ls : List TraceLine). sum_by (line_bound n) lines ≤ sum_by (line_bound n) ls) (sym are) (omega (arith, sum_by-append (line_bound n) lines more))
 
-pub front_spends : (lines more all : List TraceLine) (a b : DiskState) → all ≡ lines ++ more → CostsLines lines a b → Spends all a b
-front_spends lines more all a b are cost = omega (arith, cost, front_sum a.sectors lines more all are)
+pub prefix_spends : (lines more all : List TraceLine) (a b : DiskState) → all ≡ lines ++ more → CostsLines lines a b → Spends all a b
+prefix_spends lines more all a b are cost = omega (arith, cost, prefix_sum a.sectors lines more all are)
 
--- the session is ended behind them
+-- the session is ended after them
 pub end_spends : (lines more all : List TraceLine) (a b c : DiskState) → all ≡ lines ++ more → b.sectors ≡ a.sectors → CostsLines lines a b → CostsOther b c → Spends all a c
 end_spends lines more all a b c are same cost last =
     let here : c.transfers ≤ b.transfers + other_bound a.sectors = subst (λ (n : ℕ). c.transfers ≤ b.transfers + other_bound n) same last in
-    omega (arith, cost, here, front_sum a.sectors lines more all are)
+    omega (arith, cost, here, prefix_sum a.sectors lines more all are)
 
 -- the start is before them
 pub run_spends : (lines : List TraceLine) (a b c : DiskState) → b.sectors ≡ a.sectors → CostsOther a b → Spends lines b c → c.transfers ≤ a.transfers + run_bound a.sectors lines

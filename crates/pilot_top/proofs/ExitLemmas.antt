@@ -14,12 +14,12 @@ use Rattle.trace_io.specs.Lines.{TakesLine}
 use Rattle.trace_io.specs.Progress.{Progress}
 use Rattle.trace_io.specs.Reading.{is_last, reading, rest_of}
 use Rattle.trace_io.proofs.CourseLemmas.{HasRead-line}
-use Rattle.session_words.specs.StandsFor.{TellsSettled}
+use Rattle.session_words.specs.StandsFor.{RevealsSettled}
 use Rattle.running_words.specs.Bound.{CostsOther}
 use Rattle.pilot_engine.specs.Closing.{HasShut, IsStop, Throughout}
 use Rattle.pilot_top.specs.Ending.{closes, halts}
 use Rattle.pilot_top.specs.Headline.{HasFilesAt}
-use Rattle.pilot_top.specs.Moments.{Moments}
+use Rattle.pilot_top.specs.CrashStates.{CrashStates}
 use Rattle.pilot_top.specs.Stopping.{status_of}
 use Rattle.pilot_top.specs.Turn.{Answers, EndsTrace}
 use Rattle.pilot_top.specs.declared.status.Status.{Status}
@@ -29,12 +29,12 @@ use Rattle.pilot_top.specs.declared.turn.End.TheVariants as end
 use Rattle.pilot_top.proofs.ClosedTwice.{shut_again}
 use Rattle.pilot_top.proofs.CostLemmas.{Spends}
 use Rattle.pilot_top.proofs.EndLemmas.{End-halts, End-closes}
-use Rattle.pilot_top.proofs.FrontLemmas.{End-after, ended_by}
+use Rattle.pilot_top.proofs.PrefixLemmas.{End-after, ended_by}
 use Rattle.pilot_top.proofs.PlaceLemmas.{files_end, line_files}
 use Rattle.pilot_top.proofs.RestLemmas.{not_closed}
 use Rattle.pilot_top.proofs.StagedLemmas.{after_then}
 use Rattle.pilot_top.proofs.TopLemmas.{last_of, none-push}
-use Rattle.pilot_top.proofs.TurnedLemmas.{Made, Turned, ended_moments, more_costs, more_moments, of_reading, spends_reading, end_spends_reading, files_of_reading, files_of_begun}
+use Rattle.pilot_top.proofs.TurnedLemmas.{Made, Turned, ended_crash_states, more_costs, more_crash_states, of_reading, spends_reading, end_spends_reading, files_of_reading, files_of_begun}
 
 -- no session that stopped is done, or was stopped by a stream
 pub halt_not_done : (why : Halt) (s : Status) → s ≡ status_of why → s ≢ status.Done
@@ -67,28 +67,28 @@ takes_more line b c p q takes = elim takes.ends [
   | inr last ↦ let more = last.1 in omega (arith, takes.taken, ap length last.0, more)
 ]
 
--- The source tells its bytes, and the session stood for a machine.
+-- The source reveals its bytes, and the session stood for a machine.
 module _ (m : Machine) {x : List ℕ} {b t u : Option (List ℕ)} {p : Progress} {first now : Machine → Type 0} {old mid : DiskState} (turned : Turned (Some x) b t u p first now old mid) (is : first m) where
   abbrev lines : List TraceLine
   lines = turned.going.lines
 
   -- nothing was done since the last reply
-  pub still_moments : Moments m (reading x) old mid
-  still_moments = of_reading m turned.going.read (turned.along m is)
+  pub still_crash_states : CrashStates m (reading x) old mid
+  still_crash_states = of_reading m turned.going.read (turned.along m is)
 
   pub still_spends : Spends (reading x) old mid
   still_spends = spends_reading m turned.going.read old mid (turned.cost m is)
 
-  pub still_files : ((n : Machine) → now n → (e : List Sector) → mid.contents ≡ Some e → TellsSettled e n) → HasFilesAt m (reading x) mid (length lines) 0
-  still_files tells = files_of_reading m turned.going.read mid (files_end m lines mid (tells (last_of m lines) (turned.going.stands m is)))
+  pub still_files : ((n : Machine) → now n → (e : List Sector) → mid.contents ≡ Some e → RevealsSettled e n) → HasFilesAt m (reading x) mid (length lines) 0
+  still_files reveals = files_of_reading m turned.going.read mid (files_end m lines mid (reveals (last_of m lines) (turned.going.stands m is)))
 
   -- one line more was read
   module _ {c : Option (List ℕ)} {q : Progress} {line : TraceLine} (none : p.stopped ≡ None) (takes : TakesLine line b c p q) (goes : is_last line ≡ false) where
     read_more : HasRead (Some x) c q (lines ++ line ∷ [])
     read_more = HasRead-line (Some x) b c p q lines line turned.going.read none takes goes
 
-    pub line_moments : {new : DiskState} → Made now line mid new → Moments m (reading x) old new
-    line_moments made = of_reading m read_more (more_moments turned made m is)
+    pub line_crash_states : {new : DiskState} → Made now line mid new → CrashStates m (reading x) old new
+    line_crash_states made = of_reading m read_more (more_crash_states turned made m is)
 
     pub line_spends : {new : DiskState} → mid.sectors ≡ old.sectors → Made now line mid new → Spends (reading x) old new
     line_spends {new = new} same made = spends_reading m read_more old new (more_costs turned same made m is)
@@ -102,12 +102,12 @@ module _ (m : Machine) {x : List ℕ} {b t u : Option (List ℕ)} {p : Progress}
         (some.0, files_of_begun m lines line read_more new some.0 some.1)
 
     -- it has this reply
-    pub reply_files : {then : Machine → Type 0} {r : Reply} (new : DiskState) → Answers now then line r → ((n : Machine) → then n → (e : List Sector) → new.contents ≡ Some e → TellsSettled e n)
+    pub reply_files : {then : Machine → Type 0} {r : Reply} (new : DiskState) → Answers now then line r → ((n : Machine) → then n → (e : List Sector) → new.contents ≡ Some e → RevealsSettled e n)
         → HasFilesAt m (reading x) new (length (lines ++ line ∷ [])) 0
-    reply_files {then = then} new answers tells =
+    reply_files {then = then} new answers reveals =
         files_of_reading m read_more new
         (files_end m (lines ++ line ∷ []) new
-        (tells (last_of m (lines ++ line ∷ [])) (subst then (sym (after_then m lines (line ∷ []))) (answers.next (last_of m lines) (turned.going.stands m is) goes))))
+        (reveals (last_of m (lines ++ line ∷ [])) (subst then (sym (after_then m lines (line ∷ []))) (answers.next (last_of m lines) (turned.going.stands m is) goes))))
 
     -- and it doesn't end the trace
     pub line_not_close : c ≡ Some (rest_of x) → closes (reading x) ≡ true → ⊥
@@ -117,11 +117,11 @@ module _ (m : Machine) {x : List ℕ} {b t u : Option (List ℕ)} {p : Progress}
 
   -- the session is ended
   module _ (new : DiskState) where
-    pub stopped_files : ((e : List Sector) → new.contents ≡ Some e → TellsSettled e (last_of m lines)) → HasFilesAt m (reading x) new (length lines) 0
-    stopped_files told = files_of_reading m turned.going.read new (files_end m lines new told)
+    pub stopped_files : ((e : List Sector) → new.contents ≡ Some e → RevealsSettled e (last_of m lines)) → HasFilesAt m (reading x) new (length lines) 0
+    stopped_files revealed = files_of_reading m turned.going.read new (files_end m lines new revealed)
 
-    pub end_moments : Throughout (IsStop (last_of m lines)) mid new → Moments m (reading x) old new
-    end_moments stops = of_reading m turned.going.read (ended_moments turned m is stops)
+    pub end_crash_states : Throughout (IsStop (last_of m lines)) mid new → CrashStates m (reading x) old new
+    end_crash_states stops = of_reading m turned.going.read (ended_crash_states turned m is stops)
 
     pub end_spent : mid.sectors ≡ old.sectors → CostsOther mid new → Spends (reading x) old new
     end_spent same last = end_spends_reading m turned.going.read old mid new same (turned.cost m is) last

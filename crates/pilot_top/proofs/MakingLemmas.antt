@@ -27,9 +27,9 @@ module _ (serial counter : ℕ) (some_serial : 1 ≤ serial) (serial_fits : seri
       → ((d : List Sector) → old.contents ≡ Some d → new.contents ≡ Some (formatted (length d) serial counter))
       → Appended (format_writes old.sectors serial counter) old new → new.synced ≡ true → IsMade serial counter old new
   made old new result layout ok count whole contents writes synced = record {
-    empty = λ d e told then.
+    empty = λ d e revealed then.
         subst (λ (x : List Sector). IsEmptyVolume old.sectors serial counter x)
-        (ap (λ (n : ℕ). formatted n serial counter) (sym (whole d told)) ∙ same_Some (formatted (length d) serial counter) e (sym (contents d told) ∙ then))
+        (ap (λ (n : ℕ). formatted n serial counter) (sym (whole d revealed)) ∙ same_Some (formatted (length d) serial counter) e (sym (contents d revealed) ∙ then))
         (new_is_empty old.sectors serial counter (is_count old.sectors (λ none. absurd (let bad = count none in cc))) some_serial serial_fits some_counter counter_fits);
     writes = writes;
     synced = synced;

@@ -4,13 +4,13 @@ use Rattle.std.proofs.lemmas.List.{append_cancel_left}
 use Rattle.std.proofs.lemmas.Option.{same_Some}
 use Rattle.labelled_disk.proofs.CallLemmas.{only_reads_itself}
 use Rattle.labelled_disk.specs.declared.disk.DiskWrite.{DiskWrite}
-use Rattle.labelled_disk.specs.Moment.{moment}
+use Rattle.labelled_disk.specs.CrashState.{crash_state}
 use Rattle.labelled_disk.specs.Sectors.{Sector}
 use Rattle.labelled_disk.specs.State.{DiskState}
 use Rattle.labelled_disk.proofs.WriteRunLemmas.{appended_none}
 use Rattle.flat_machine.specs.Start.{start}
 use Rattle.trace_io.specs.Reading.{reading}
-use Rattle.scavenger.proofs.BetweenLemmas.{moments_of_none}
+use Rattle.scavenger.proofs.BetweenLemmas.{crash_states_of_none}
 use Rattle.volume_convert.specs.Leaves.{IsOldOrConverted, StaysConvertible}
 use Rattle.pilot_top.specs.Converting.{ConvertedBy}
 use Rattle.pilot_top.specs.Making.{Formatted}
@@ -19,39 +19,39 @@ use Rattle.pilot_top.specs.Running.{Ran}
 use Rattle.pilot_top.specs.Trying.{Tried}
 use Rattle.pilot_top.specs.World.{World}
 use Rattle.pilot_top.specs.declared.status.Status.TheVariants as status
-use Rattle.pilot_top.proofs.LawfulRuns.{lawfully_none}
-use Rattle.pilot_top.proofs.StagedLemmas.{from_nothing, moments_before}
+use Rattle.pilot_top.proofs.PermittedRuns.{lawfully_none}
+use Rattle.pilot_top.proofs.StagedLemmas.{from_nothing, crash_states_before}
 
 -- a disk to which nothing was written
-old_still : (d : List Sector) (k : ℕ) → IsOldOrConverted d (moment d [] k)
+old_still : (d : List Sector) (k : ℕ) → IsOldOrConverted d (crash_state d [] k)
 old_still d zero = inl (record { sectors = refl; root = refl; files = refl })
 old_still d (suc k) = inl (record { sectors = refl; root = refl; files = refl })
 
 never_written : (disk : DiskState) → StaysConvertible disk disk
-never_written disk d before writes told earlier later k =
+never_written disk d before writes revealed earlier later k =
     let none : [] ≡ writes = append_cancel_left before [] writes (append-nil before ∙ same_Some before (before ++ writes) (sym earlier ∙ later)) in
-    subst (λ (ws : List DiskWrite). IsOldOrConverted d (moment d ws k)) none (old_still d k)
+    subst (λ (ws : List DiskWrite). IsOldOrConverted d (crash_state d ws k)) none (old_still d k)
 
 module _ (w : World) where
   pub ran_nothing : Ran status.NoMemory w w
   ran_nothing = record {
-    answers = λ d b t told sound source sink. (source, sink);
+    answers = λ d b t revealed sound source sink. (source, sink);
     replied = λ b t source sink. (source, sink);
-    closed = λ d b told sound source done going. absurd (cc done);
-    closed_unheard = λ d b told sound source failed held rest closes. absurd (cc failed);
-    moments = λ d b told sound source. moments_before (start d) [] (reading b) (from_nothing d sound told);
-    some_moments = λ d told sound. ([], from_nothing d sound told);
+    closed = λ d b revealed sound source done going. absurd (cc done);
+    closed_unheard = λ d b revealed sound source failed held rest closes. absurd (cc failed);
+    crash_states = λ d b revealed sound source. crash_states_before (start d) [] (reading b) (from_nothing d sound revealed);
+    some_crash_states = λ d revealed sound. ([], from_nothing d sound revealed);
     stays_open = λ b source early. absurd early;
     untaken = λ b source failed some. absurd (cc failed);
     left_open = λ is. absurd (elim is [ inl long ↦ cc long | inr damaged ↦ cc damaged ]);
-    transfers = λ d b told sound source. omega arith;
-    lawful = lawfully_none (record { contents = refl; writes = refl });
+    transfers = λ d b revealed sound source. omega arith;
+    permitted = lawfully_none (record { contents = refl; writes = refl });
     damage = λ t sink is. absurd (cc is);
-    sound = λ d told sound. (λ is. cc is, λ is. cc is);
-    not_opened = λ d told is. absurd (cc is);
-    refused = λ d why told refused. inr (inr refl);
-    refused_unwritten = λ d why told refused. only_reads_itself w.disk;
-    complete = λ d b told sound source short disk_held source_held sink_held. inr refl;
+    sound = λ d revealed sound. (λ is. cc is, λ is. cc is);
+    not_opened = λ d revealed is. absurd (cc is);
+    refused = λ d why revealed refused. inr (inr refl);
+    refused_unwritten = λ d why revealed refused. only_reads_itself w.disk;
+    complete = λ d b revealed sound source short disk_held source_held sink_held. inr refl;
     short = λ b source done. absurd (cc done);
   }
 
@@ -67,55 +67,55 @@ module _ (w : World) where
 
   pub scavenged_nothing : Scavenged status.NoMemory w w
   scavenged_nothing = record {
-    restored = λ ends g told. absurd (elim ends [ inl done ↦ cc done | inr failed ↦ cc failed ]);
+    restored = λ ends g revealed. absurd (elim ends [ inl done ↦ cc done | inr failed ↦ cc failed ]);
     synced = λ ends. absurd (elim ends [ inl done ↦ cc done | inr failed ↦ cc failed ]);
-    told = λ done g told. absurd (cc done);
-    part_of_text = λ failed g told. absurd (cc failed);
+    revealed = λ done g revealed. absurd (cc done);
+    part_of_text = λ failed g revealed. absurd (cc failed);
     some_text = λ done. absurd (cc done);
-    some_front = λ failed. absurd (cc failed);
-    by = λ ends g told. absurd (elim ends [ inl done ↦ cc done | inr failed ↦ cc failed ]);
-    part = λ failed g told. absurd (cc failed);
+    some_prefix = λ failed. absurd (cc failed);
+    by = λ ends g revealed. absurd (elim ends [ inl done ↦ cc done | inr failed ↦ cc failed ]);
+    part = λ failed g revealed. absurd (cc failed);
     part_line = λ failed. absurd (cc failed);
-    moments = λ g first writes told earlier later k. moments_of_none g w.disk w.disk first writes earlier later k (record { contents = refl; writes = refl });
-    no_volume = λ g told is. absurd (cc is);
-    no_volume_refused = λ g why told refused. inr (inr refl);
-    no_volume_unwritten = λ g why told refused. only_reads_itself w.disk;
-    complete = λ g told opened disk_held sink_held. inr refl;
-    right_restored = λ g told right. inr (inr (inr refl));
+    crash_states = λ g first writes revealed earlier later k. crash_states_of_none g w.disk w.disk first writes earlier later k (record { contents = refl; writes = refl });
+    no_volume = λ g revealed is. absurd (cc is);
+    no_volume_refused = λ g why revealed refused. inr (inr refl);
+    no_volume_unwritten = λ g why revealed refused. only_reads_itself w.disk;
+    complete = λ g revealed opened disk_held sink_held. inr refl;
+    right_restored = λ g revealed right. inr (inr (inr refl));
   }
 
   pub converted_nothing : ConvertedBy status.NoMemory w w
   converted_nothing = record {
     restored = λ ends. absurd (elim ends [ inl done ↦ cc done | inr failed ↦ cc failed ]);
     synced = λ ends. absurd (elim ends [ inl done ↦ cc done | inr failed ↦ cc failed ]);
-    line = λ done d told. absurd (cc done);
-    part_of_line = λ failed d told. absurd (cc failed);
+    line = λ done d revealed. absurd (cc done);
+    part_of_line = λ failed d revealed. absurd (cc failed);
     some_line = λ done. absurd (cc done);
-    some_front = λ failed. absurd (cc failed);
+    some_prefix = λ failed. absurd (cc failed);
     by = λ ends. absurd (elim ends [ inl done ↦ cc done | inr failed ↦ cc failed ]);
     part = λ failed. absurd (cc failed);
     part_line = λ failed. absurd (cc failed);
-    moments = never_written w.disk;
+    crash_states = never_written w.disk;
     count = λ none. inl refl;
-    no_volume = λ d told opened. absurd (cc opened);
-    no_volume_refused = λ d why told refused. inr (inr refl);
-    no_volume_unwritten = λ d why told refused. only_reads_itself w.disk;
-    unfit = λ d told unfit. absurd (cc unfit);
-    unfit_refused = λ d told volume none. inr (inr refl);
-    no_room_unwritten = λ d told none. only_reads_itself w.disk;
-    complete = λ d told volume room disk_held sink_held. inr refl;
+    no_volume = λ d revealed opened. absurd (cc opened);
+    no_volume_refused = λ d why revealed refused. inr (inr refl);
+    no_volume_unwritten = λ d why revealed refused. only_reads_itself w.disk;
+    unfit = λ d revealed unfit. absurd (cc unfit);
+    unfit_refused = λ d revealed volume none. inr (inr refl);
+    no_room_unwritten = λ d revealed none. only_reads_itself w.disk;
+    complete = λ d revealed volume room disk_held sink_held. inr refl;
   }
 
   pub tried_nothing : (seed calls : ℕ) → Tried seed calls status.NoMemory w w
   tried_nothing seed calls = record {
-    line = λ d told done. absurd (cc done);
-    part_of_line = λ d told failed. absurd (cc failed);
+    line = λ d revealed done. absurd (cc done);
+    part_of_line = λ d revealed failed. absurd (cc failed);
     some_line = λ done. absurd (cc done);
-    some_front = λ failed. absurd (cc failed);
-    emptied = λ d told ends. absurd (elim ends [ inl done ↦ cc done | inr failed ↦ cc failed ]);
-    complete = λ d told count disk_held sink_held. inr refl;
+    some_prefix = λ failed. absurd (cc failed);
+    emptied = λ d revealed ends. absurd (elim ends [ inl done ↦ cc done | inr failed ↦ cc failed ]);
+    complete = λ d revealed count disk_held sink_held. inr refl;
     only_count = λ is. absurd (cc is);
-    lawful = inl (0, omega arith, appended_none (record { contents = refl; writes = refl }));
+    permitted = inl (0, omega arith, appended_none (record { contents = refl; writes = refl }));
     disk_line = λ failed. absurd (cc failed);
     damage_line = λ is. absurd (cc is);
   }

@@ -12,7 +12,7 @@ use Rattle.flat_machine.specs.Machine.{Machine}
 use Rattle.flat_machine.specs.Next.{change}
 use Rattle.flat_machine.specs.Refusal.{refusal}
 use Rattle.flat_machine.specs.Space.{space_at}
-use Rattle.pilot_top.specs.Moments.{IsBy}
+use Rattle.pilot_top.specs.CrashStates.{IsBy}
 
 -- no call gives the machine another serial
 spaced_serial : (m : Machine) (f : Space → Machine) → ((s : Space) → (f s).serial ≡ m.serial) → (o : Option Space) → (option_map_or f o m).serial ≡ m.serial
@@ -46,13 +46,13 @@ after_before m lines more zero few = refl
 after_before m [] more (suc k) few = absurd (omega (arith, few))
 after_before m (line ∷ lines) more (suc k) few = after_before (next_line m line) lines more k (omega (arith, few))
 
--- and go on from the one behind these
-after_behind : (m : Machine) (lines more : List TraceLine) (j : ℕ) → after m (lines ++ more) (length lines + j) ≡ after (after m lines (length lines)) more j
-after_behind m [] more j = ap (after m more) (let z : 0 + j ≡ j = omega arith in z)
-after_behind m (line ∷ lines) more j =
-    ap (after m (line ∷ (lines ++ more))) (let z : suc (length lines) + j ≡ suc (length lines + j) = omega arith in z) ∙ after_behind (next_line m line) lines more j
+-- and go on from the one after these
+after_after : (m : Machine) (lines more : List TraceLine) (j : ℕ) → after m (lines ++ more) (length lines + j) ≡ after (after m lines (length lines)) more j
+after_after m [] more j = ap (after m more) (let z : 0 + j ≡ j = omega arith in z)
+after_after m (line ∷ lines) more j =
+    ap (after m (line ∷ (lines ++ more))) (let z : suc (length lines) + j ≡ suc (length lines + j) = omega arith in z) ∙ after_after (next_line m line) lines more j
 
--- no line is left behind them
+-- no line is left after them
 after_end : (m : Machine) (lines : List TraceLine) → after m lines (suc (length lines)) ≡ after m lines (length lines)
 after_end m [] = refl
 after_end m (line ∷ lines) = after_end (next_line m line) lines
@@ -70,8 +70,8 @@ counter_before m lines more j i d (inr few) (inr same) =
     ∙ subst (λ (k : ℕ). (after m lines (suc k)).counter ≡ (after m lines k).counter) (sym few.0) (ap (λ (n : Machine). n.counter) (after_end m lines))
     ∙ sym (ap (λ (n : Machine). n.counter) (after_before m lines more j (let e = few.0 in omega (arith, e)))))
 
-pub counter_behind : (m : Machine) (lines more : List TraceLine) (j : ℕ) (d : List Sector) → HasCounter (after m lines (length lines)) more j d → HasCounter m (lines ++ more) (length lines + j) d
-counter_behind m lines more j d (inl same) = inl (same ∙ sym (ap (λ (n : Machine). n.counter) (after_behind m lines more j)))
-counter_behind m lines more j d (inr same) =
+pub counter_after : (m : Machine) (lines more : List TraceLine) (j : ℕ) (d : List Sector) → HasCounter (after m lines (length lines)) more j d → HasCounter m (lines ++ more) (length lines + j) d
+counter_after m lines more j d (inl same) = inl (same ∙ sym (ap (λ (n : Machine). n.counter) (after_after m lines more j)))
+counter_after m lines more j d (inr same) =
     let z : length lines + suc j ≡ suc (length lines + j) = omega arith in
-    inr (same ∙ sym (ap (λ (n : Machine). n.counter) (after_behind m lines more (suc j))) ∙ ap (λ (k : ℕ). (after m (lines ++ more) k).counter) z)
+    inr (same ∙ sym (ap (λ (n : Machine). n.counter) (after_after m lines more (suc j))) ∙ ap (λ (k : ℕ). (after m (lines ++ more) k).counter) z)

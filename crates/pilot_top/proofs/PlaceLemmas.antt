@@ -18,47 +18,47 @@ use Rattle.flat_machine.specs.Machine.{Machine}
 use Rattle.flat_machine.specs.Next.{next, change, change_file, resized}
 use Rattle.flat_machine.specs.Refusal.{refusal}
 use Rattle.flat_machine.proofs.StoreLemmas.{unrefused}
-use Rattle.session_words.specs.StandsFor.{TellsSettled}
+use Rattle.session_words.specs.StandsFor.{RevealsSettled}
 use Rattle.session_words.proofs.SizeLemmas.{changed_alike}
 use Rattle.pilot_engine.specs.Closing.{IsStop, Throughout}
 use Rattle.pilot_engine.proofs.RefusalLemmas.{no_file_missing, size_gone}
 use Rattle.running_words.specs.Stages.{last_step, stage, towards}
 use Rattle.pilot_top.specs.Headline.{HasFilesAt}
-use Rattle.pilot_top.specs.Moments.{IsBy, IsMoment, Moments, step_of, steps_of}
+use Rattle.pilot_top.specs.CrashStates.{IsBy, IsCrashState, CrashStates, step_of, steps_of}
 use Rattle.pilot_top.proofs.AlongLemmas.{along_last, along_throughout, by_most}
-use Rattle.pilot_top.proofs.StagedLemmas.{staged_before, staged_behind, staged_end, steps_before, steps_behind}
+use Rattle.pilot_top.proofs.StagedLemmas.{staged_before, staged_after, staged_end, steps_before, steps_after}
 
--- The last moment.
+-- The last crash state.
 
 -- at the last place of a run
-last_files : (m : Machine) (lines : List TraceLine) {a b : DiskState} (on : Moments m lines a b) (e : List Sector) → b.contents ≡ Some e → HasFilesAt m lines b (on.line (length on.writes)) (on.step (length on.writes))
-last_files m lines on e told =
-    ((along_last (IsMoment m lines) 0 0 (length lines) 0 on e told).within, λ f is. (along_last (IsMoment m lines) 0 0 (length lines) 0 on f is).told)
+last_files : (m : Machine) (lines : List TraceLine) {a b : DiskState} (on : CrashStates m lines a b) (e : List Sector) → b.contents ≡ Some e → HasFilesAt m lines b (on.line (length on.writes)) (on.step (length on.writes))
+last_files m lines on e revealed =
+    ((along_last (IsCrashState m lines) 0 0 (length lines) 0 on e revealed).within, λ f is. (along_last (IsCrashState m lines) 0 0 (length lines) 0 on f is).revealed)
 
 -- some place, up to the end of the lines
-pub some_files : (m : Machine) (lines : List TraceLine) {a b : DiskState} → Moments m lines a b → (k : ℕ) × (i : ℕ) × IsBy k i (length lines) 0 × HasFilesAt m lines b k i
+pub some_files : (m : Machine) (lines : List TraceLine) {a b : DiskState} → CrashStates m lines a b → (k : ℕ) × (i : ℕ) × IsBy k i (length lines) 0 × HasFilesAt m lines b k i
 some_files m lines {b = b} on = by b.contents refl
   where
     by : (o : Option (List Sector)) → b.contents ≡ o → (k : ℕ) × (i : ℕ) × IsBy k i (length lines) 0 × HasFilesAt m lines b k i
     by (Some e) is = (on.line (length on.writes), on.step (length on.writes), on.last (length on.writes), last_files m lines on e is)
-    by None is = (0, 0, by_most 0 (length lines) (omega arith), (omega arith, λ e told. absurd (none-some e (sym is ∙ told))))
+    by None is = (0, 0, by_most 0 (length lines) (omega arith), (omega arith, λ e revealed. absurd (none-some e (sym is ∙ revealed))))
 
 -- More lines.
 
 pub files_before : (m : Machine) (lines more : List TraceLine) (disk : DiskState) (k i : ℕ) → IsBy k i (length lines) 0 → HasFilesAt m lines disk k i → HasFilesAt m (lines ++ more) disk k i
-files_before m lines more disk k i by has = (steps_before m lines more k i by has.0, λ e told. subst (TellsSettled e) (sym (staged_before m lines more k i by)) (has.1 e told))
+files_before m lines more disk k i by has = (steps_before m lines more k i by has.0, λ e revealed. subst (RevealsSettled e) (sym (staged_before m lines more k i by)) (has.1 e revealed))
 
-pub files_behind : (m : Machine) (lines more : List TraceLine) (disk : DiskState) (k i : ℕ) → HasFilesAt (after m lines (length lines)) more disk k i → HasFilesAt m (lines ++ more) disk (length lines + k) i
-files_behind m lines more disk k i has =
-    (subst (λ (n : ℕ). i ≤ n) (sym (steps_behind m lines more k)) has.0, λ e told. subst (TellsSettled e) (sym (staged_behind m lines more k i)) (has.1 e told))
+pub files_after : (m : Machine) (lines more : List TraceLine) (disk : DiskState) (k i : ℕ) → HasFilesAt (after m lines (length lines)) more disk k i → HasFilesAt m (lines ++ more) disk (length lines + k) i
+files_after m lines more disk k i has =
+    (subst (λ (n : ℕ). i ≤ n) (sym (steps_after m lines more k)) has.0, λ e revealed. subst (RevealsSettled e) (sym (staged_after m lines more k i)) (has.1 e revealed))
 
--- behind all lines
-pub files_end : (m : Machine) (lines : List TraceLine) (disk : DiskState) → ((e : List Sector) → disk.contents ≡ Some e → TellsSettled e (after m lines (length lines))) → HasFilesAt m lines disk (length lines) 0
-files_end m lines disk has = (omega arith, λ e told. subst (TellsSettled e) (sym (staged_end m lines)) (has e told))
+-- after all lines
+pub files_end : (m : Machine) (lines : List TraceLine) (disk : DiskState) → ((e : List Sector) → disk.contents ≡ Some e → RevealsSettled e (after m lines (length lines))) → HasFilesAt m lines disk (length lines) 0
+files_end m lines disk has = (omega arith, λ e revealed. subst (RevealsSettled e) (sym (staged_end m lines)) (has e revealed))
 
 -- where a session was ended
-pub stop_told : (m : Machine) {a b : DiskState} → Throughout (IsStop m) a b → (e : List Sector) → b.contents ≡ Some e → TellsSettled e m
-stop_told m stops e told = (along_last (λ l g d. IsStop m d) 0 0 0 0 (along_throughout (λ l g d. IsStop m d) 0 0 stops) e told).told
+pub stop_revealed : (m : Machine) {a b : DiskState} → Throughout (IsStop m) a b → (e : List Sector) → b.contents ≡ Some e → RevealsSettled e m
+stop_revealed m stops e revealed = (along_last (λ l g d. IsStop m d) 0 0 0 0 (along_throughout (λ l g d. IsStop m d) 0 0 stops) e revealed).revealed
 
 -- A line that was begun and has no reply: the disk has what it has after some steps of it.
 
@@ -142,12 +142,12 @@ pub whole_line : (m : Machine) (line : TraceLine) → IsMachine m → (i : ℕ) 
 whole_line m None is = (0, omega arith, refl)
 whole_line m (Some c) is = whole_call m c is
 
--- of the moments of one line, the last is at a place before the line's end
-pub line_files : (m : Machine) (line : TraceLine) {a b : DiskState} → IsMachine m → Moments m (line ∷ []) a b → (i : ℕ) × HasFilesAt m (line ∷ []) b 0 i
+-- of the crash states of one line, the last is at a place before the line's end
+pub line_files : (m : Machine) (line : TraceLine) {a b : DiskState} → IsMachine m → CrashStates m (line ∷ []) a b → (i : ℕ) × HasFilesAt m (line ∷ []) b 0 i
 line_files m line {b = b} is on = let some = some_files m (line ∷ []) on in by some.0 some.1 some.2 some.3
   where
     by : (k i : ℕ) → IsBy k i 1 0 → HasFilesAt m (line ∷ []) b k i → (i : ℕ) × HasFilesAt m (line ∷ []) b 0 i
     by zero i before has = (i, has)
-    by (suc zero) i before has = let whole = whole_line m line is in (whole.0, (whole.1, λ e told. subst (TellsSettled e) (sym whole.2) (has.1 e told)))
+    by (suc zero) i before has = let whole = whole_line m line is in (whole.0, (whole.1, λ e revealed. subst (RevealsSettled e) (sym whole.2) (has.1 e revealed)))
     by (suc (suc k)) i (inl less) has = absurd (omega (arith, less))
     by (suc (suc k)) i (inr same) has = absurd (let e = same.0 in omega (arith, e))

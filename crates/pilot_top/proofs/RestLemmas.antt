@@ -40,7 +40,7 @@ rest_is : (s : List ℕ) → rest_of s ≡ join_with_byte 10 (drop (length (read
 unfolding rest_of
 rest_is s = refl
 
--- where all of a source is left behind its lines, it has none
+-- where all of a source is left after its lines, it has none
 none_there : (s : List ℕ) → rest_of s ≡ s → reading s ≡ []
 none_there [] same = reading-nil
 none_there (b ∷ s) same = by (reading (b ∷ s)) refl
@@ -56,9 +56,9 @@ none_there (b ∷ s) same = by (reading (b ∷ s)) refl
 -- Lines that were read, none of which ends the trace.
 
 module _ (x : List ℕ) (lines : List TraceLine) (none : list_any is_last lines ≡ false) where
-  -- what is left behind the lines is left behind all of them, so there are no others
-  behind_lines : (bytes s : List ℕ) → x ≡ bytes ++ s → AreLines bytes lines → s ≡ rest_of x → reading x ≡ lines
-  behind_lines bytes s are is left =
+  -- what is left after the lines is left after all of them, so there are no others
+  after_lines : (bytes s : List ℕ) → x ≡ bytes ++ s → AreLines bytes lines → s ≡ rest_of x → reading x ≡ lines
+  after_lines bytes s are is left =
       let reads : reading x ≡ lines ++ reading s = ap reading are ∙ is.reads s in
       let count : length (reading x) ≡ length lines + length (reading s) = ap length reads ∙ length-append lines (reading s) in
       let rest : rest_of x ≡ rest_of s =
@@ -75,7 +75,7 @@ module _ (x : List ℕ) (lines : List TraceLine) (none : list_any is_last lines 
     where
       from : (c : Option (List ℕ)) → Consumes (Some x) c read.bytes → c ≡ Some (rest_of x) → (s : Option Stop) → GoesOn s (Some x) c q.taken q.limit read.bytes lines → closes (reading x) ≡ false
       from None took left s goes = absurd took
-      from (Some s) took left None goes = ap closes (behind_lines read.bytes s took goes (same_Some s (rest_of x) left)) ∙ none_close lines none
+      from (Some s) took left None goes = ap closes (after_lines read.bytes s took goes (same_Some s (rest_of x) left)) ∙ none_close lines none
       from (Some s) took left (Some stop.End) goes = ap closes goes.0.items_are ∙ none_close lines none
       from (Some s) took left (Some stop.ReadFault) goes = absurd goes
       from (Some s) took left (Some stop.Long) goes = absurd goes

@@ -14,9 +14,9 @@ use Rattle.volume_root.specs.Flag.{IsRefused}
 use Rattle.pilot_engine.specs.declared.fault.StartFault.{StartFault}
 use Rattle.pilot_engine.specs.declared.fault.StartFault.TheVariants as start_fault
 use Rattle.pilot_engine.specs.Opening.{IsDiskFault, IsEarly, IsOutside, IsRightRefusal, IsSoAtStart, LeavesOpenAtStart}
-use Rattle.pilot_top.specs.Headline.{Answering, EndsEarly, HasFilesAt, HasWritten, IsLeftOpen, Run, TellsDamage}
+use Rattle.pilot_top.specs.Headline.{Answering, EndsEarly, HasFilesAt, HasWritten, IsLeftOpen, Run, RevealsDamage}
 use Rattle.pilot_top.specs.Last.{last_line, Puts}
-use Rattle.pilot_top.specs.Moments.{IsBy, Moments}
+use Rattle.pilot_top.specs.CrashStates.{IsBy, CrashStates}
 use Rattle.pilot_top.specs.Replied.{Replied}
 use Rattle.pilot_top.specs.Stopping.{StopsAs}
 use Rattle.pilot_top.specs.declared.last.Cause.TheVariants as cause
@@ -80,7 +80,7 @@ no_reply d b t took failed disk zero i by has wrote = (
   i,
   files_before (start d) [] (reading b) disk 0 i by has,
 )
-no_reply d b t took failed disk (suc k) i (inl behind) has wrote = absurd (omega (arith, behind))
+no_reply d b t took failed disk (suc k) i (inl beyond) has wrote = absurd (omega (arith, beyond))
 no_reply d b t took failed disk (suc k) i (inr same) has wrote = absurd (let e = same.0 in omega (arith, e))
 
 -- the root is read before the first write
@@ -116,12 +116,12 @@ module _ {K : Type 0} (f : StartFault) (s : Status) (old new : K) (took : K → 
     | inr (inr (inr damage)) ↦ subst (LeavesOpenAtStart disk) damage.1 left
   ]
 
-  pub run_refused : (d : List Sector) (b t : List ℕ) (left : Option (List ℕ)) (before after : DiskState) → Moments (start d) [] before after → IsOutside f → left ≡ Some b → took old ≡ Some t
+  pub run_refused : (d : List Sector) (b t : List ℕ) (left : Option (List ℕ)) (before after : DiskState) → CrashStates (start d) [] before after → IsOutside f → left ≡ Some b → took old ≡ Some t
       → Run s d b left t (took new) failed after
-  run_refused d b t left before after moments outside source sink = elim (how f s old new (Puts failed (took old) (took new)) stops) [
+  run_refused d b t left before after crash_states outside source sink = elim (how f s old new (Puts failed (took old) (took new)) stops) [
     | inl refusal ↦ absurd (refusal.2 (subst IsOutside refusal.1 outside))
     | inr (inl disk) ↦
-        let has = some_files (start d) [] moments in
+        let has = some_files (start d) [] crash_states in
         subst (λ (x : Status). Run x d b left t (took new) failed after) (sym disk.1)
         (subst (λ (l : Option (List ℕ)). Run status.DiskFault d b l t (took new) failed after) (sym source)
         (no_reply d b t (took new) failed after has.0 has.1 has.2 has.3 (put_alone failed t (took old) (took new) (last_line cause.DiskFault) sink disk.2)))
@@ -130,15 +130,15 @@ module _ {K : Type 0} (f : StartFault) (s : Status) (old new : K) (took : K → 
     | inr (inr (inr damage)) ↦ absurd (let e : halt.Damaged damage.0 ≡ halt.Disk = subst IsOutside damage.1 outside in cc e)
   ]
 
-  -- what is told of damage before any line, and its reason
+  -- what is reported of damage before any line, and its reason
   pub damage_first : (disk : DiskState) (reasoned : Evidence → Type 0) → IsSoAtStart disk f → ((e : Evidence) → f ≡ start_fault.Halt (halt.Damaged e) → reasoned e) → LeavesOpenAtStart disk f → (t : List ℕ) → took old ≡ Some t → s ≡ status.Damaged
-      → (told : TellsDamage t (took new) failed disk) × reasoned told.evidence
-  damage_first disk reasoned so reason left t sink is = elim (how f s old new (Puts failed (took old) (took new)) stops) [
+      → (revealed : RevealsDamage t (took new) failed disk) × reasoned revealed.evidence
+  damage_first disk reasoned evidence_seen reason left t sink is = elim (how f s old new (Puts failed (took old) (took new)) stops) [
     | inl refusal ↦ absurd (let e = sym refusal.3 ∙ is in cc e)
     | inr (inl fault) ↦ absurd (let e = sym fault.1 ∙ is in cc e)
     | inr (inr (inl memory)) ↦ absurd (let e = sym memory.1 ∙ is in cc e)
     | inr (inr (inr damage)) ↦ (
-      damage_alone failed t (took old) (took new) damage.0 disk (subst (IsSoAtStart disk) damage.1 so) (subst (LeavesOpenAtStart disk) damage.1 left) sink damage.3,
+      damage_alone failed t (took old) (took new) damage.0 disk (subst (IsSoAtStart disk) damage.1 evidence_seen) (subst (LeavesOpenAtStart disk) damage.1 left) sink damage.3,
       reason damage.0 damage.1,
     )
   ]
@@ -146,7 +146,7 @@ module _ {K : Type 0} (f : StartFault) (s : Status) (old new : K) (took : K → 
   -- nothing was taken, and no line has a reply
   pub replied_refused : (b t : List ℕ) (left : Option (List ℕ)) (disk : DiskState) (reasoned : Evidence → Type 0) → IsSoAtStart disk f → ((e : Evidence) → f ≡ start_fault.Halt (halt.Damaged e) → reasoned e) → LeavesOpenAtStart disk f
       → left ≡ Some b → took old ≡ Some t → Replied s b left t (took new) failed disk reasoned
-  replied_refused b t left disk reasoned so reason open_still source sink = elim (how f s old new (Puts failed (took old) (took new)) stops) [
+  replied_refused b t left disk reasoned evidence_seen reason open_still source sink = elim (how f s old new (Puts failed (took old) (took new)) stops) [
     | inl refusal ↦
         subst (λ (x : Status). Replied x b left t (took new) failed disk reasoned) (sym refusal.3)
         (source, refusal.0, put_alone failed t (took old) (took new) (last_line (cause.Root refusal.0)) sink refusal.4)
@@ -159,7 +159,7 @@ module _ {K : Type 0} (f : StartFault) (s : Status) (old new : K) (took : K → 
     | inr (inr (inl memory)) ↦ subst (λ (x : Status). Replied x b left t (took new) failed disk reasoned) (sym memory.1) (source, ap took memory.2 ∙ sink)
     | inr (inr (inr damage)) ↦
         subst (λ (x : Status). Replied x b left t (took new) failed disk reasoned) (sym damage.2) (
-          damage_alone failed t (took old) (took new) damage.0 disk (subst (IsSoAtStart disk) damage.1 so) (subst (LeavesOpenAtStart disk) damage.1 open_still) sink damage.3,
+          damage_alone failed t (took old) (took new) damage.0 disk (subst (IsSoAtStart disk) damage.1 evidence_seen) (subst (LeavesOpenAtStart disk) damage.1 open_still) sink damage.3,
           none_first (reading b),
           reason damage.0 damage.1,
         )

@@ -5,13 +5,13 @@ use Rattle.std.proofs.lemmas.Bool.{cases_lt}
 use Rattle.labelled_disk.specs.declared.disk.DiskWrite.{DiskWrite}
 use Rattle.labelled_disk.specs.declared.layout.RootFault.{RootFault}
 use Rattle.labelled_disk.specs.declared.layout.RootFault.TheVariants as fault
-use Rattle.labelled_disk.specs.Calls.{OnlyReads, TellsSame}
+use Rattle.labelled_disk.specs.Calls.{OnlyReads, RevealsSame}
 use Rattle.labelled_disk.specs.Layout.{IsCount}
 use Rattle.labelled_disk.specs.Root.{IsRoot}
 use Rattle.labelled_disk.specs.Sectors.{Sector}
 use Rattle.labelled_disk.specs.State.{DiskState}
 use Rattle.labelled_disk.specs.WriteRuns.{Appended}
-use Rattle.labelled_disk.proofs.CallLemmas.{tells_same_then}
+use Rattle.labelled_disk.proofs.CallLemmas.{reveals_same_then}
 use Rattle.labelled_disk.proofs.WriteRunLemmas.{appended_none, appended_then}
 use Rattle.volume_root.specs.declared.root.Root.{Root}
 use Rattle.volume_root.specs.Format.{PartMade}
@@ -77,14 +77,14 @@ module _ {T : Type 0} (n : ℕ) (g : List Sector) (whole : length g ≡ n) (resu
     | inr disk ↦ absurd (let e = sym is ∙ disk in cc e)
   ]
 
--- writes behind calls that wrote nothing
-pub made_behind : (a b c : DiskState) (writes : List DiskWrite) → OnlyReads a b → Appended writes b c → Appended writes a c
-made_behind a b c writes reads made = appended_then [] writes (appended_none (reads_same reads)) made
+-- writes after calls that wrote nothing
+pub made_after : (a b c : DiskState) (writes : List DiskWrite) → OnlyReads a b → Appended writes b c → Appended writes a c
+made_after a b c writes reads made = appended_then [] writes (appended_none (reads_same reads)) made
 
-pub part_behind : (g : List Sector) (a b c : DiskState) → OnlyReads a b → TellsSame b c ⊎ ((o : Orders) × AreFor g o × PartMade (scavenge_writes o) b c)
-    → TellsSame a c ⊎ ((o : Orders) × AreFor g o × PartMade (scavenge_writes o) a c)
-part_behind g a b c reads (inl same) = inl (tells_same_then (reads_same reads) same)
-part_behind g a b c reads (inr some) = inr (some.0, some.1, (some.2.0, some.2.1, made_behind a b c (take some.2.0 (scavenge_writes some.0)) reads some.2.2))
+pub part_after : (g : List Sector) (a b c : DiskState) → OnlyReads a b → RevealsSame b c ⊎ ((o : Orders) × AreFor g o × PartMade (scavenge_writes o) b c)
+    → RevealsSame a c ⊎ ((o : Orders) × AreFor g o × PartMade (scavenge_writes o) a c)
+part_after g a b c reads (inl same) = inl (reveals_same_then (reads_same reads) same)
+part_after g a b c reads (inr some) = inr (some.0, some.1, (some.2.0, some.2.1, made_after a b c (take some.2.0 (scavenge_writes some.0)) reads some.2.2))
 
 -- a fault that is handed on
 pub carried : {T U : Type 0} (e f : ScavengeFault) (a : Result T ScavengeFault) (b : Result U ScavengeFault) → a ≡ Err e → b ≡ Err e → a ≡ Err f → b ≡ Err f

@@ -1,10 +1,10 @@
--- What stands on the disk at each moment of the lines of a trace.
+-- What stands on the disk in each crash state of the lines of a trace.
 use Rattle.std.proofs.Common.{◌≡◌, inl, inr, ℕ, zero, suc, ◌+◌, List, [], ◌∷◌, ◌++◌, length, Option, Some, None, refl, sym, ◌∙◌, ap, subst, arith}
 use Rattle.std.specs.Prelude.{◌≤◌, slice_get}
 use Rattle.std.proofs.lemmas.Option.{same_Some}
 use Rattle.labelled_disk.specs.FilesOn.{files_on}
 use Rattle.labelled_disk.specs.File.{File}
-use Rattle.labelled_disk.specs.Moment.{moment}
+use Rattle.labelled_disk.specs.CrashState.{crash_state}
 use Rattle.labelled_disk.specs.Sectors.{Sector, AreSectors}
 use Rattle.labelled_disk.specs.State.{DiskState}
 use Rattle.swap_units.specs.declared.interval.Interval.{Interval}
@@ -16,19 +16,19 @@ use Rattle.flat_machine.specs.Settled.{Agrees, settled}
 use Rattle.flat_machine.specs.Start.{start}
 use Rattle.flat_machine.proofs.StartLemmas.{start_agrees}
 use Rattle.volume_root.specs.Sound.{Sound}
-use Rattle.session_words.specs.StandsFor.{TellsSettled}
+use Rattle.session_words.specs.StandsFor.{RevealsSettled}
 use Rattle.session_words.proofs.LooseLemmas.{stands_is_settled}
-use Rattle.session_words.proofs.SettledLemmas.{settled_is_told}
+use Rattle.session_words.proofs.SettledLemmas.{settled_is_revealed}
 use Rattle.pilot_engine.specs.Closing.{IsStop, Throughout}
 use Rattle.pilot_engine.specs.Opening.{KeepsFiles}
 use Rattle.fault_core.specs.View.{View}
 use Rattle.running_words.specs.Running.{IsRunning, exactly}
 use Rattle.running_words.specs.Stages.{Passes}
-use Rattle.pilot_top.specs.Moments.{Along, IsBy, IsMoment, Moments, staged, step_of, steps_of}
-use Rattle.pilot_top.proofs.NumberLemmas.{after_serial, counter_before, counter_behind}
+use Rattle.pilot_top.specs.CrashStates.{Along, IsBy, IsCrashState, CrashStates, staged, step_of, steps_of}
+use Rattle.pilot_top.proofs.NumberLemmas.{after_serial, counter_before, counter_after}
 use Rattle.pilot_top.proofs.AlongLemmas.{by_equal, by_most, along_less, along_none, along_shifted, along_then, along_throughout, along_wider}
 
--- disks that tell what they hold are in form
+-- disks that reveal what they hold are in form
 abbrev pub AreInForm : DiskState → Type 0
 AreInForm disk = (d : List Sector) → disk.contents ≡ Some d → AreSectors d
 
@@ -51,12 +51,12 @@ staged_before m (line ∷ lines) more zero i by = refl
 staged_before m (line ∷ lines) more (suc j) i (inl less) = staged_before (next_line m line) lines more j i (inl (omega (arith, less)))
 staged_before m (line ∷ lines) more (suc j) i (inr few) = staged_before (next_line m line) lines more j i (inr (let same = few.0 in omega (arith, same), few.1))
 
--- and go on from the machine behind these
-pub staged_behind : (m : Machine) (lines more : List TraceLine) (j i : ℕ) → staged m (lines ++ more) (length lines + j) i ≡ staged (after m lines (length lines)) more j i
-staged_behind m [] more j i = ap (λ (k : ℕ). staged m more k i) (let z : 0 + j ≡ j = omega arith in z)
-staged_behind m (line ∷ lines) more j i =
+-- and go on from the machine after these
+pub staged_after : (m : Machine) (lines more : List TraceLine) (j i : ℕ) → staged m (lines ++ more) (length lines + j) i ≡ staged (after m lines (length lines)) more j i
+staged_after m [] more j i = ap (λ (k : ℕ). staged m more k i) (let z : 0 + j ≡ j = omega arith in z)
+staged_after m (line ∷ lines) more j i =
     ap (λ (k : ℕ). staged m (line ∷ (lines ++ more)) k i) (let z : suc (length lines) + j ≡ suc (length lines + j) = omega arith in z)
-    ∙ staged_behind (next_line m line) lines more j i
+    ∙ staged_after (next_line m line) lines more j i
 
 -- So many steps the line at a place has.
 
@@ -74,13 +74,13 @@ steps_before m (line ∷ lines) more (suc j) i (inl less) few = steps_before (ne
 steps_before m (line ∷ lines) more (suc j) i (inr same) few = steps_before (next_line m line) lines more j i (inr (let e = same.0 in omega (arith, e), same.1)) few
 
 -- and have their own
-pub steps_behind : (m : Machine) (lines more : List TraceLine) (j : ℕ) → steps_at m (lines ++ more) (length lines + j) ≡ steps_at (after m lines (length lines)) more j
-steps_behind m [] more j = ap (λ (k : ℕ). steps_at m more k) (let z : 0 + j ≡ j = omega arith in z)
-steps_behind m (line ∷ lines) more j =
+pub steps_after : (m : Machine) (lines more : List TraceLine) (j : ℕ) → steps_at m (lines ++ more) (length lines + j) ≡ steps_at (after m lines (length lines)) more j
+steps_after m [] more j = ap (λ (k : ℕ). steps_at m more k) (let z : 0 + j ≡ j = omega arith in z)
+steps_after m (line ∷ lines) more j =
     ap (λ (k : ℕ). steps_at m (line ∷ (lines ++ more)) k) (let z : suc (length lines) + j ≡ suc (length lines + j) = omega arith in z)
-    ∙ steps_behind (next_line m line) lines more j
+    ∙ steps_after (next_line m line) lines more j
 
--- the machine behind all lines
+-- the machine after all lines
 pub staged_end : (m : Machine) (lines : List TraceLine) → staged m lines (length lines) 0 ≡ after m lines (length lines)
 staged_end m lines = step_none (after m lines (length lines)) (slice_get lines (length lines))
 
@@ -88,62 +88,62 @@ pub after_then : (m : Machine) (lines more : List TraceLine) → after m (lines 
 after_then m [] more = refl
 after_then m (line ∷ lines) more = after_then (next_line m line) lines more
 
--- Moments of lines in a row.
+-- Crash states of lines in a row.
 
 longer : (xs ys : List TraceLine) → length (xs ++ ys) ≡ length xs + length ys
 longer [] ys = let z : length ys ≡ 0 + length ys = omega arith in z
 longer (x ∷ xs) ys = ap suc (longer xs ys) ∙ (let z : suc (length xs + length ys) ≡ suc (length xs) + length ys = omega arith in z)
 
--- the same moment of more lines
-moment_before : (m : Machine) (lines more : List TraceLine) (j i : ℕ) (d : List Sector) → IsBy j i (length lines) 0 → IsMoment m lines j i d → IsMoment m (lines ++ more) j i d
-moment_before m lines more j i d by at = record {
+-- the same crash state of more lines
+crash_state_before : (m : Machine) (lines more : List TraceLine) (j i : ℕ) (d : List Sector) → IsBy j i (length lines) 0 → IsCrashState m lines j i d → IsCrashState m (lines ++ more) j i d
+crash_state_before m lines more j i d by at = record {
   within = steps_before m lines more j i by at.within;
-  told = subst (TellsSettled d) (sym (staged_before m lines more j i by)) at.told;
+  revealed = subst (RevealsSettled d) (sym (staged_before m lines more j i by)) at.revealed;
   same_serial = at.same_serial;
   counter = counter_before m lines more j i d by at.counter;
   honest = at.honest;
 }
 
-moment_behind : (m : Machine) (lines more : List TraceLine) (j i : ℕ) (d : List Sector) → IsMoment (after m lines (length lines)) more j i d → IsMoment m (lines ++ more) (length lines + j) i d
-moment_behind m lines more j i d at = record {
-  within = subst (λ (n : ℕ). i ≤ n) (sym (steps_behind m lines more j)) at.within;
-  told = subst (TellsSettled d) (sym (staged_behind m lines more j i)) at.told;
+crash_state_after : (m : Machine) (lines more : List TraceLine) (j i : ℕ) (d : List Sector) → IsCrashState (after m lines (length lines)) more j i d → IsCrashState m (lines ++ more) (length lines + j) i d
+crash_state_after m lines more j i d at = record {
+  within = subst (λ (n : ℕ). i ≤ n) (sym (steps_after m lines more j)) at.within;
+  revealed = subst (RevealsSettled d) (sym (staged_after m lines more j i)) at.revealed;
   same_serial = at.same_serial ∙ after_serial m lines (length lines);
-  counter = counter_behind m lines more j d at.counter;
+  counter = counter_after m lines more j d at.counter;
   honest = at.honest;
 }
 
 -- before more lines
-from_front : (m : Machine) (lines more : List TraceLine) {a b : DiskState} → Moments m lines a b → Along (IsMoment m (lines ++ more)) 0 0 (length lines) 0 a b
-from_front m lines more on = along_less (IsMoment m lines) (IsMoment m (lines ++ more)) 0 0 (length lines) 0 (λ l g d after_first before_last at. moment_before m lines more l g d before_last at) on
+from_prefix : (m : Machine) (lines more : List TraceLine) {a b : DiskState} → CrashStates m lines a b → Along (IsCrashState m (lines ++ more)) 0 0 (length lines) 0 a b
+from_prefix m lines more on = along_less (IsCrashState m lines) (IsCrashState m (lines ++ more)) 0 0 (length lines) 0 (λ l g d after_first before_last at. crash_state_before m lines more l g d before_last at) on
 
-pub moments_before : (m : Machine) (lines more : List TraceLine) {a b : DiskState} → Moments m lines a b → Moments m (lines ++ more) a b
-moments_before m lines more on =
-    along_wider (IsMoment m (lines ++ more)) 0 0 0 0 (length lines) 0 (length (lines ++ more)) 0 (by_equal 0 0 0 refl) (by_most (length lines) (length (lines ++ more)) (let e = longer lines more in omega (arith, e)))
-    (from_front m lines more on)
+pub crash_states_before : (m : Machine) (lines more : List TraceLine) {a b : DiskState} → CrashStates m lines a b → CrashStates m (lines ++ more) a b
+crash_states_before m lines more on =
+    along_wider (IsCrashState m (lines ++ more)) 0 0 0 0 (length lines) 0 (length (lines ++ more)) 0 (by_equal 0 0 0 refl) (by_most (length lines) (length (lines ++ more)) (let e = longer lines more in omega (arith, e)))
+    (from_prefix m lines more on)
 
 -- and then more lines
-pub moments_then : (m : Machine) (lines more : List TraceLine) {a b c : DiskState} → Moments m lines a b → Moments (after m lines (length lines)) more b c → Moments m (lines ++ more) a c
-moments_then m lines more on next =
-    along_then (IsMoment m (lines ++ more)) 0 0 (length lines) 0 (length (lines ++ more)) 0 (from_front m lines more on)
-    (along_wider (IsMoment m (lines ++ more)) (length lines + 0) 0 (length lines) 0 (length lines + length more) 0 (length (lines ++ more)) 0
+pub crash_states_then : (m : Machine) (lines more : List TraceLine) {a b c : DiskState} → CrashStates m lines a b → CrashStates (after m lines (length lines)) more b c → CrashStates m (lines ++ more) a c
+crash_states_then m lines more on next =
+    along_then (IsCrashState m (lines ++ more)) 0 0 (length lines) 0 (length (lines ++ more)) 0 (from_prefix m lines more on)
+    (along_wider (IsCrashState m (lines ++ more)) (length lines + 0) 0 (length lines) 0 (length lines + length more) 0 (length (lines ++ more)) 0
     (by_equal (length lines) (length lines + 0) 0 (omega arith)) (by_equal (length lines + length more) (length (lines ++ more)) 0 (sym (longer lines more)))
-    (along_shifted (IsMoment (after m lines (length lines)) more) (IsMoment m (lines ++ more)) (length lines) 0 0 (length more) 0
-    (λ l g d after_first before_last at. moment_behind m lines more l g d at) next))
+    (along_shifted (IsCrashState (after m lines (length lines)) more) (IsCrashState m (lines ++ more)) (length lines) 0 0 (length more) 0
+    (λ l g d after_first before_last at. crash_state_after m lines more l g d at) next))
 
 -- The ways in.
 
 -- a session is started
-pub from_start : (d : List Sector) {a b : DiskState} → Sound d → a.contents ≡ Some d → KeepsFiles d a b → Moments (start d) [] a b
-from_start d {a} sound told keeps = along_throughout (IsMoment (start d) []) 0 0 (record { writes = keeps.writes; appended = keeps.appended; each = λ e k there. subst (λ (x : List Sector). IsMoment (start d) [] 0 0 (moment x keeps.writes k)) (same_Some d e (sym told ∙ there)) (at k) })
+pub from_start : (d : List Sector) {a b : DiskState} → Sound d → a.contents ≡ Some d → KeepsFiles d a b → CrashStates (start d) [] a b
+from_start d {a} sound revealed keeps = along_throughout (IsCrashState (start d) []) 0 0 (record { writes = keeps.writes; appended = keeps.appended; each = λ e k there. subst (λ (x : List Sector). IsCrashState (start d) [] 0 0 (crash_state x keeps.writes k)) (same_Some d e (sym revealed ∙ there)) (at k) })
   where
-    agree : (k : ℕ) → Agrees (files_on (moment d keeps.writes k)) (settled (start d))
+    agree : (k : ℕ) → Agrees (files_on (crash_state d keeps.writes k)) (settled (start d))
     agree k = subst (λ (fs : List File). Agrees fs (settled (start d))) (sym (keeps.right k).files) (start_agrees d).1
 
-    at : (k : ℕ) → IsMoment (start d) [] 0 0 (moment d keeps.writes k)
+    at : (k : ℕ) → IsCrashState (start d) [] 0 0 (crash_state d keeps.writes k)
     at k = record {
       within = omega arith;
-      told = record { agrees = agree k; right = (keeps.right k).right };
+      revealed = record { agrees = agree k; right = (keeps.right k).right };
       same_serial = keeps.same_serial k;
       counter = inl (keeps.same_counter k);
       honest = λ set. elim (keeps.opened k) [
@@ -153,17 +153,17 @@ from_start d {a} sound told keeps = along_throughout (IsMoment (start d) []) 0 0
     }
 
 -- nothing is done
-pub from_nothing : (d : List Sector) {a : DiskState} → Sound d → a.contents ≡ Some d → Moments (start d) [] a a
-from_nothing d {a} sound told = along_none (IsMoment (start d) []) 0 0 (record { contents = refl; writes = refl }) (λ e there. subst (IsMoment (start d) [] 0 0) (same_Some d e (sym told ∙ there)) (record {
+pub from_nothing : (d : List Sector) {a : DiskState} → Sound d → a.contents ≡ Some d → CrashStates (start d) [] a a
+from_nothing d {a} sound revealed = along_none (IsCrashState (start d) []) 0 0 (record { contents = refl; writes = refl }) (λ e there. subst (IsCrashState (start d) [] 0 0) (same_Some d e (sym revealed ∙ there)) (record {
   within = omega arith;
-  told = record { agrees = (start_agrees d).1; right = sound.labels };
+  revealed = record { agrees = (start_agrees d).1; right = sound.labels };
   same_serial = refl;
   counter = inl refl;
   honest = λ set. sound;
 }))
 
 -- a call is carried out, or stops among its steps
-pub from_step : (m : Machine) (call : Call) {a b : DiskState} → Passes m call a b → Moments m (Some call ∷ []) a b
+pub from_step : (m : Machine) (call : Call) {a b : DiskState} → Passes m call a b → CrashStates m (Some call ∷ []) a b
 from_step m call passes = record {
   writes = passes.writes;
   appended = passes.appended;
@@ -172,31 +172,31 @@ from_step m call passes = record {
   rise = λ n k le. inr (refl, passes.rise n k le);
   first = λ n. inr (refl, omega arith);
   last = λ n. inl (omega arith);
-  each = λ d n told. record {
+  each = λ d n revealed. record {
     within = passes.within n;
-    told = passes.tells d n told;
-    same_serial = (passes.numbers d n told).same_serial;
-    counter = (passes.numbers d n told).counter;
-    honest = λ set. absurd (let unset = passes.open_flag d n told in omega (arith, set, unset));
+    revealed = passes.reveals d n revealed;
+    same_serial = (passes.numbers d n revealed).same_serial;
+    counter = (passes.numbers d n revealed).counter;
+    honest = λ set. absurd (let unset = passes.open_flag d n revealed in omega (arith, set, unset));
   };
 }
 
--- a session stands: its disk tells the settled files
-pub stands_told : (m : Machine) {v : View} {kept : List Interval} {count : ℕ} {volume : Volume} → IsRunning v kept count volume m → AreInForm v.disk → (d : List Sector) → v.disk.contents ≡ Some d → IsMoment m [] 0 0 d
-stands_told m {v = v} is form d told =
-    let here = stands_is_settled (exactly is.pages m.spaces) v.disk v.slots m d is.session.stands told (form d told) in
+-- a session stands: its disk reveals the settled files
+pub stands_revealed : (m : Machine) {v : View} {kept : List Interval} {count : ℕ} {volume : Volume} → IsRunning v kept count volume m → AreInForm v.disk → (d : List Sector) → v.disk.contents ≡ Some d → IsCrashState m [] 0 0 d
+stands_revealed m {v = v} is form d revealed =
+    let here = stands_is_settled (exactly is.pages m.spaces) v.disk v.slots m d is.session.stands revealed (form d revealed) in
     record {
       within = omega arith;
-      told = settled_is_told d m here;
+      revealed = settled_is_revealed d m here;
       same_serial = here.root.has_serial;
       counter = inl here.root.has_counter;
       honest = λ set. absurd (let unset = here.root.open_flag in omega (arith, set, unset));
     }
 
 -- and nothing is written
-pub from_rest : (m : Machine) (lines : List TraceLine) {v : View} {kept : List Interval} {count : ℕ} {volume : Volume} → IsRunning v kept count volume m → AreInForm v.disk → Moments m lines v.disk v.disk
-from_rest m lines is form = moments_before m [] lines (along_none (IsMoment m []) 0 0 (record { contents = refl; writes = refl }) (λ d told. stands_told m is form d told))
+pub from_rest : (m : Machine) (lines : List TraceLine) {v : View} {kept : List Interval} {count : ℕ} {volume : Volume} → IsRunning v kept count volume m → AreInForm v.disk → CrashStates m lines v.disk v.disk
+from_rest m lines is form = crash_states_before m [] lines (along_none (IsCrashState m []) 0 0 (record { contents = refl; writes = refl }) (λ d revealed. stands_revealed m is form d revealed))
 
 -- a session is ended
-pub from_end : (m : Machine) {a b : DiskState} → Throughout (IsStop m) a b → Moments m [] a b
-from_end m all = along_throughout (IsMoment m []) 0 0 (record { writes = all.writes; appended = all.appended; each = λ d k told. let at = all.each d k told in record { within = omega arith; told = at.told; same_serial = at.same_serial; counter = inl at.same_counter; honest = at.honest } })
+pub from_end : (m : Machine) {a b : DiskState} → Throughout (IsStop m) a b → CrashStates m [] a b
+from_end m all = along_throughout (IsCrashState m []) 0 0 (record { writes = all.writes; appended = all.appended; each = λ d k revealed. let at = all.each d k revealed in record { within = omega arith; revealed = at.revealed; same_serial = at.same_serial; counter = inl at.same_counter; honest = at.honest } })

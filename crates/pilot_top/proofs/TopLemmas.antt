@@ -14,7 +14,7 @@ use Rattle.flat_machine.specs.Text.{text}
 use Rattle.flat_machine.specs.Machine.{Machine}
 use Rattle.flat_machine.specs.After.{TraceLine, AllowsLine, AllowsAll, after, next_line, Transcript}
 use Rattle.flat_machine.specs.declared.call.Call.TheVariants as call
-use Rattle.trace_io.specs.Stream.{IsFrontOf}
+use Rattle.trace_io.specs.Stream.{IsPrefixOf}
 use Rattle.trace_io.specs.Progress.{Progress}
 use Rattle.trace_io.specs.Lines.{TakesLine, TakesPart}
 use Rattle.trace_io.specs.Reading.{is_last, reading, whole_reading, IsShort}
@@ -25,9 +25,9 @@ use Rattle.pilot_top.specs.Ending.{is_halt, halts}
 use Rattle.pilot_top.specs.Replied.{AreTo}
 use Rattle.pilot_top.specs.Turn.{Answers}
 use Rattle.pilot_top.specs.Last.{last_line, Puts}
-use Rattle.filer_kernel.specs.Evidence.{IsSo}
+use Rattle.filer_kernel.specs.Evidence.{IsEvident}
 use Rattle.labelled_disk.specs.State.{DiskState}
-use Rattle.pilot_top.specs.Headline.{Answered, HasWritten, IsLeftOpen, Taken, Unheard, Answering, TellsDamage}
+use Rattle.pilot_top.specs.Headline.{Answered, HasWritten, IsLeftOpen, Taken, Unheard, Answering, RevealsDamage}
 use Rattle.pilot_top.specs.declared.last.Cause.TheVariants as cause
 use Rattle.pilot_top.specs.declared.status.Status.TheVariants as status
 use Rattle.pilot_top.proofs.StagedLemmas.{after_then}
@@ -112,7 +112,7 @@ Going-start a t p first zero none = record {
   none_last = refl;
 }
 
--- the steps of a run, whether or not source and sink tell anything
+-- the steps of a run, whether or not source and sink reveal anything
 module _ (a b t u : Option (List ℕ)) (p : Progress) (first now : Machine → Type 0) (going : Going a b t u p first now) where
   more_script : (then : Machine → Type 0) (line : TraceLine) (r : Reply) → Answers now then line r → (m : Machine) → first m → Answered m (going.lines ++ line ∷ []) (going.out ++ text r)
   more_script then line r answers m is = answered_push m going.lines going.out line r (going.script m is) (answers.allowed (last_of m going.lines) (going.stands m is))
@@ -139,36 +139,36 @@ module _ (a b t u : Option (List ℕ)) (p : Progress) (first now : Machine → T
   unfolding Going-reply
   reply_lines c v q then line r none takes answers goes wrote = refl
 
-pub told_bytes : (t : List ℕ) (u : Option (List ℕ)) (out : List ℕ) → Appends (Some t) u out → u ≡ Some (t ++ out)
-told_bytes t None out wrote = absurd wrote
-told_bytes t (Some y) out wrote = ap Some wrote
+pub revealed_bytes : (t : List ℕ) (u : Option (List ℕ)) (out : List ℕ) → Appends (Some t) u out → u ≡ Some (t ++ out)
+revealed_bytes t None out wrote = absurd wrote
+revealed_bytes t (Some y) out wrote = ap Some wrote
 
-pub told_end : (x : List ℕ) (c : Option (List ℕ)) (bytes : List ℕ) → Consumes (Some x) c bytes → IsAtEnd c → c ≡ Some []
-told_end x None bytes took end = absurd took
-told_end x (Some s) bytes took end = ap Some end
+pub revealed_end : (x : List ℕ) (c : Option (List ℕ)) (bytes : List ℕ) → Consumes (Some x) c bytes → IsAtEnd c → c ≡ Some []
+revealed_end x None bytes took end = absurd took
+revealed_end x (Some s) bytes took end = ap Some end
 
-pub told_taken : (b : List ℕ) (c : Option (List ℕ)) (bytes : List ℕ) → Consumes (Some b) c bytes → (taken : Taken b c) × (taken.bytes ≡ bytes)
-told_taken b None bytes took = absurd took
-told_taken b (Some s) bytes took = (record { bytes = bytes; rest = s; all = took; left_is = refl }, refl)
+pub revealed_taken : (b : List ℕ) (c : Option (List ℕ)) (bytes : List ℕ) → Consumes (Some b) c bytes → (taken : Taken b c) × (taken.bytes ≡ bytes)
+revealed_taken b None bytes took = absurd took
+revealed_taken b (Some s) bytes took = (record { bytes = bytes; rest = s; all = took; left_is = refl }, refl)
 
 -- the lines read are the first of the trace's
-pub told_front : (b : List ℕ) (c : Option (List ℕ)) (p : Progress) (lines : List TraceLine) → HasRead (Some b) c p lines → p.stopped ≡ None → (more : List TraceLine) × (reading b ≡ lines ++ more)
-told_front b None p lines read none = absurd read.took
-told_front b (Some s) p lines read none =
+pub revealed_prefix : (b : List ℕ) (c : Option (List ℕ)) (p : Progress) (lines : List TraceLine) → HasRead (Some b) c p lines → p.stopped ≡ None → (more : List TraceLine) × (reading b ≡ lines ++ more)
+revealed_prefix b None p lines read none = absurd read.took
+revealed_prefix b (Some s) p lines read none =
     let are : AreLines read.bytes lines = rw none at read.goes_on in
     (reading s, ap reading read.took ∙ are.reads s)
 
--- a last line behind what was written
+-- a last line after what was written
 pub wrote_last : (failed : Type 0) (t : List ℕ) (u v : Option (List ℕ)) (out last : List ℕ) → Appends (Some t) u out → Puts failed u v last → HasWritten failed (t ++ out) v last
-wrote_last failed t u v out last wrote (inl more) = inl (told_bytes t v (out ++ last) (Appends-trans (Some t) u v out last wrote more) ∙ ap Some (sym (append_assoc t out last)))
+wrote_last failed t u v out last wrote (inl more) = inl (revealed_bytes t v (out ++ last) (Appends-trans (Some t) u v out last wrote more) ∙ ap Some (sym (append_assoc t out last)))
 wrote_last failed t u v out last wrote (inr more) =
-    inr (more.0, more.1, more.2, told_bytes t v (out ++ more.1) (Appends-trans (Some t) u v out more.1 wrote more.3) ∙ ap Some (sym (append_assoc t out more.1)))
+    inr (more.0, more.1, more.2, revealed_bytes t v (out ++ more.1) (Appends-trans (Some t) u v out more.1 wrote more.3) ∙ ap Some (sym (append_assoc t out more.1)))
 
 -- the ways out of a run from the machine m, whose source has the bytes x and whose sink has the bytes t
 module _ (m : Machine) (x t : List ℕ) (b u : Option (List ℕ)) (p : Progress) (first now : Machine → Type 0) (going : Going (Some x) b (Some t) u p first now) (is : first m) (failed : Type 0) (has : ℕ → ℕ → Type 0) where
   pub done_all : (c v : Option (List ℕ)) (taken limit : ℕ) (lines : List TraceLine) (out : List ℕ) → HasReadAll (Some x) c taken limit lines → Answered m lines out → Appends (Some t) v out
       → has (length (reading x)) 0 → Answering status.Done m x c t v failed has
-  done_all c v taken limit lines out all script wrote there = (out, rw all.items_are script, told_bytes t v out wrote, all.rest_is, there)
+  done_all c v taken limit lines out all script wrote there = (out, rw all.items_are script, revealed_bytes t v out wrote, all.rest_is, there)
 
   -- the line that ends the trace was answered
   pub Run-last : (c v : Option (List ℕ)) (q : Progress) (then : Machine → Type 0) (line : TraceLine) (r : Reply) → p.stopped ≡ None → TakesLine line b c p q → Answers now then line r
@@ -180,11 +180,11 @@ module _ (m : Machine) (x t : List ℕ) (b u : Option (List ℕ)) (p : Progress)
   -- a line was read, and the disk failed
   pub Run-disk : (c v : Option (List ℕ)) → p.stopped ≡ None → Puts failed u v (last_line cause.DiskFault) → (i : ℕ) → has (length going.lines) i → Answering status.DiskFault m x c t v failed has
   Run-disk c v none more i there =
-      let front = told_front x b p going.lines going.read none in (
+      let prefix = revealed_prefix x b p going.lines going.read none in (
         length going.lines,
         going.out,
-        rw front.1 (answered_more m going.lines front.0 going.out (going.script m is)),
-        before_last going.lines front.0 (reading x) front.1 going.none_last,
+        rw prefix.1 (answered_more m going.lines prefix.0 going.out (going.script m is)),
+        before_last going.lines prefix.0 (reading x) prefix.1 going.none_last,
         wrote_last failed t u v going.out (last_line cause.DiskFault) going.wrote more,
         i,
         there,
@@ -195,7 +195,7 @@ module _ (m : Machine) (x t : List ℕ) (b u : Option (List ℕ)) (p : Progress)
       → has (length going.lines) 0 → Answering status.Long m x c t v failed has
   Run-long c v q none takes full more there =
       let read = HasRead-part (Some x) b c p q stop.Long going.lines going.read none takes in
-      let taken = told_taken x c read.bytes read.took in (
+      let taken = revealed_taken x c read.bytes read.took in (
         taken.0,
         ap length taken.1 ∙ sym read.count ∙ full,
         going.out,
@@ -208,18 +208,18 @@ module _ (m : Machine) (x t : List ℕ) (b u : Option (List ℕ)) (p : Progress)
   pub Run-read_fault : (c : Option (List ℕ)) (q : Progress) → p.stopped ≡ None → TakesPart stop.ReadFault b c p q → has (length going.lines) 0 → Answering status.StreamFault m x c t u failed has
   Run-read_fault c q none takes there =
       let read = HasRead-part (Some x) b c p q stop.ReadFault going.lines going.read none takes in
-      let taken = told_taken x c read.bytes read.took in
-      inl (taken.0, going.out, rw (taken.1, read.items_are) (going.script m is), told_bytes t u going.out going.wrote, rw (taken.1, read.items_are) there)
+      let taken = revealed_taken x c read.bytes read.took in
+      inl (taken.0, going.out, rw (taken.1, read.items_are) (going.script m is), revealed_bytes t u going.out going.wrote, rw (taken.1, read.items_are) there)
 
   -- the sink failed on a reply
   pub Run-write_fault : (c v : Option (List ℕ)) (q : Progress) (then : Machine → Type 0) (line : TraceLine) (r : Reply) → p.stopped ≡ None → TakesLine line b c p q → Answers now then line r
-      → failed → (front : List ℕ) → IsFrontOf front (text r) → Appends u v front → has (length (going.lines ++ line ∷ [])) 0 → Answering status.StreamFault m x c t v failed has
-  Run-write_fault c v q then line r none takes answers rose front is_front wrote there =
+      → failed → (prefix : List ℕ) → IsPrefixOf prefix (text r) → Appends u v prefix → has (length (going.lines ++ line ∷ [])) 0 → Answering status.StreamFault m x c t v failed has
+  Run-write_fault c v q then line r none takes answers rose prefix is_prefix wrote there =
       elim (HasRead-item (Some x) b c p q going.lines line going.read none takes) [
         | inl read ↦
-            let taken = told_taken x c read.bytes read.took in
+            let taken = revealed_taken x c read.bytes read.took in
             inr (inl (rose, taken.0, unheard (whole_reading taken.0.bytes) (ap whole_reading taken.1 ∙ read.items_are), rw (taken.1, read.items_are) there))
-        | inr read ↦ inr (inr (rose, told_end x c read.0.bytes read.0.took read.1, unheard (reading x) read.0.items_are, rw read.0.items_are there))
+        | inr read ↦ inr (inr (rose, revealed_end x c read.0.bytes read.0.took read.1, unheard (reading x) read.0.items_are, rw read.0.items_are there))
       ]
     where
       unheard : (all : List TraceLine) → all ≡ going.lines ++ line ∷ [] → Unheard m all t v
@@ -231,32 +231,32 @@ module _ (m : Machine) (x t : List ℕ) (b u : Option (List ℕ)) (p : Progress)
         answered = going.script m is;
         reply = r;
         allowed = answers.allowed (last_of m going.lines) (going.stands m is);
-        front = front;
-        is_front = is_front;
-        took_is = told_bytes t v (going.out ++ front) (Appends-trans (Some t) u v going.out front going.wrote wrote) ∙ ap Some (sym (append_assoc t going.out front));
+        prefix = prefix;
+        is_prefix = is_prefix;
+        took_is = revealed_bytes t v (going.out ++ prefix) (Appends-trans (Some t) u v going.out prefix going.wrote wrote) ∙ ap Some (sym (append_assoc t going.out prefix));
       }
 
--- where the source tells its bytes
+-- where the source reveals its bytes
 pub Going-source : (a b t u : Option (List ℕ)) (p : Progress) (first now : Machine → Type 0) (x : List ℕ) → Going a b t u p first now → a ≡ Some x → Going (Some x) b t u p first now
 Going-source a b t u p first now x going source = subst (λ r. Going r b t u p first now) source going
 
--- where the sink tells its bytes
+-- where the sink reveals its bytes
 pub Going-sink : (a b t u : Option (List ℕ)) (p : Progress) (first now : Machine → Type 0) (y : List ℕ) → Going a b t u p first now → t ≡ Some y → Going a b (Some y) u p first now
 Going-sink a b t u p first now y going sink = subst (λ s. Going a b s u p first now) sink going
 
--- where source and sink tell their bytes
-pub Going-told : (a b t u : Option (List ℕ)) (p : Progress) (first now : Machine → Type 0) (x y : List ℕ) → Going a b t u p first now → a ≡ Some x → t ≡ Some y
+-- where source and sink reveal their bytes
+pub Going-revealed : (a b t u : Option (List ℕ)) (p : Progress) (first now : Machine → Type 0) (x y : List ℕ) → Going a b t u p first now → a ≡ Some x → t ≡ Some y
     → Going (Some x) b (Some y) u p first now
-Going-told a b t u p first now x y going source sink = subst (λ s. Going (Some x) b s u p first now) sink (subst (λ r. Going r b t u p first now) source going)
+Going-revealed a b t u p first now x y going source sink = subst (λ s. Going (Some x) b s u p first now) sink (subst (λ r. Going r b t u p first now) source going)
 
 -- Replies were written, and then what shows that the volume is damaged.
-module _ (a b u v : Option (List ℕ)) (t : List ℕ) (p : Progress) (first now : Machine → Type 0) (failed : Type 0) (e : Evidence) (disk : DiskState) (so : IsSo disk e) (open_still : IsLeftOpen disk) (going : Going a b (Some t) u p first now)
+module _ (a b u v : Option (List ℕ)) (t : List ℕ) (p : Progress) (first now : Machine → Type 0) (failed : Type 0) (e : Evidence) (disk : DiskState) (evidence_seen : IsEvident disk e) (open_still : IsLeftOpen disk) (going : Going a b (Some t) u p first now)
     (put : Puts failed u v (last_line (cause.Damaged e))) where
-  abbrev pub damage_told : TellsDamage t v failed disk
-  damage_told = record {
+  abbrev pub damage_revealed : RevealsDamage t v failed disk
+  damage_revealed = record {
     replies = going.replies;
     evidence = e;
-    so = so;
+    evidence_seen = evidence_seen;
     left_open = open_still;
     written = rw (sym going.said) (wrote_last failed t u v going.out (last_line (cause.Damaged e)) going.wrote put);
   }

@@ -9,8 +9,8 @@ use Rattle.labelled_disk.specs.State.{DiskState}
 use Rattle.flat_machine.specs.File.{File}
 use Rattle.flat_machine.specs.Machine.{Machine}
 use Rattle.flat_machine.specs.Settled.{Agrees, settled_file}
-use Rattle.trace_io.specs.Stream.{AppendsFront, IsFrontOf}
-use Rattle.filer_kernel.specs.Evidence.{IsSo}
+use Rattle.trace_io.specs.Stream.{AppendsPrefix, IsPrefixOf}
+use Rattle.filer_kernel.specs.Evidence.{IsEvident}
 use Rattle.pilot_engine.specs.Closing.{HasShut}
 use Rattle.pilot_engine.specs.Opening.{IsSoAtStart}
 use Rattle.pilot_engine.specs.declared.fault.StartFault.{StartFault}
@@ -23,25 +23,25 @@ use Rattle.pilot_top.specs.declared.status.Status.{Status}
 use Rattle.pilot_top.specs.declared.status.Status.TheVariants as status
 
 -- a text that was put where nothing had been
-pub line_told : {K : Type 0} (took : K → Option (List ℕ)) (k l : K) (w : Option (List ℕ)) (text line : List ℕ) → l ≡ k → text ≡ line → Appends (took l) w text → Appends (took k) w line
-line_told took k l w text line same is put = subst (λ (t : List ℕ). Appends (took k) w t) is (subst (λ x. Appends (took x) w text) same put)
+pub line_revealed : {K : Type 0} (took : K → Option (List ℕ)) (k l : K) (w : Option (List ℕ)) (text line : List ℕ) → l ≡ k → text ≡ line → Appends (took l) w text → Appends (took k) w line
+line_revealed took k l w text line same is put = subst (λ (t : List ℕ). Appends (took k) w t) is (subst (λ x. Appends (took x) w text) same put)
 
--- or a front of it
-pub front_told : {K : Type 0} (took : K → Option (List ℕ)) (k l : K) (w : Option (List ℕ)) (text line : List ℕ) → l ≡ k → text ≡ line → AppendsFront (took l) w text
-    → (front : List ℕ) × IsFrontOf front line × Appends (took k) w front
-front_told took k l w text line same is put = (put.0, subst (λ (t : List ℕ). IsFrontOf put.0 t) is put.1, subst (λ x. Appends (took x) w put.0) same put.2)
+-- or a prefix of it
+pub prefix_revealed : {K : Type 0} (took : K → Option (List ℕ)) (k l : K) (w : Option (List ℕ)) (text line : List ℕ) → l ≡ k → text ≡ line → AppendsPrefix (took l) w text
+    → (prefix : List ℕ) × IsPrefixOf prefix line × Appends (took k) w prefix
+prefix_revealed took k l w text line same is put = (put.0, subst (λ (t : List ℕ). IsPrefixOf put.0 t) is put.1, subst (λ x. Appends (took x) w put.0) same put.2)
 
--- what is told of damage where no session started is so
+-- what is reported of damage where no session started is so
 pub refused_damage : {K : Type 0} (f : StartFault) (s : Status) (old new : K) (took : K → Option (List ℕ)) (failed : Type 0) (disk : DiskState) → IsSoAtStart disk f → StopsAs f s old new (Puts failed (took old) (took new)) → s ≡ status.Damaged
-    → (e : Evidence) × IsSo disk e × Puts failed (took old) (took new) (last_line (cause.Damaged e))
-refused_damage (start_fault.Root fault.Disk) s old new took failed disk so stops is = absurd (cc (stops.0, is))
-refused_damage (start_fault.Root (fault.NotVolume what)) s old new took failed disk so stops is = absurd (cc (stops.0, is))
-refused_damage (start_fault.Root fault.Unclean) s old new took failed disk so stops is = absurd (cc (stops.0, is))
-refused_damage (start_fault.Root (fault.Version v)) s old new took failed disk so stops is = absurd (cc (stops.0, is))
-refused_damage (start_fault.Root (fault.BadCount n)) s old new took failed disk so stops is = absurd (cc (stops.0, is))
-refused_damage start_fault.NoMemory s old new took failed disk so stops is = absurd (cc (stops.0, is))
-refused_damage (start_fault.Halt halt.Disk) s old new took failed disk so stops is = absurd (cc (stops.0, is))
-refused_damage (start_fault.Halt (halt.Damaged e)) s old new took failed disk so stops is = (e, so, stops.1)
+    → (e : Evidence) × IsEvident disk e × Puts failed (took old) (took new) (last_line (cause.Damaged e))
+refused_damage (start_fault.Root fault.Disk) s old new took failed disk evidence_seen stops is = absurd (cc (stops.0, is))
+refused_damage (start_fault.Root (fault.NotVolume what)) s old new took failed disk evidence_seen stops is = absurd (cc (stops.0, is))
+refused_damage (start_fault.Root fault.Unclean) s old new took failed disk evidence_seen stops is = absurd (cc (stops.0, is))
+refused_damage (start_fault.Root (fault.Version v)) s old new took failed disk evidence_seen stops is = absurd (cc (stops.0, is))
+refused_damage (start_fault.Root (fault.BadCount n)) s old new took failed disk evidence_seen stops is = absurd (cc (stops.0, is))
+refused_damage start_fault.NoMemory s old new took failed disk evidence_seen stops is = absurd (cc (stops.0, is))
+refused_damage (start_fault.Halt halt.Disk) s old new took failed disk evidence_seen stops is = absurd (cc (stops.0, is))
+refused_damage (start_fault.Halt (halt.Damaged e)) s old new took failed disk evidence_seen stops is = (e, evidence_seen, stops.1)
 
 -- files that agree with none are none
 none_agree : (fs : List File) → Agrees fs [] → fs ≡ []
@@ -51,9 +51,9 @@ none_agree (f ∷ fs) agrees = absurd agrees
 -- where no file of the machine is permanent, the volume that was closed has none
 pub left_empty : (m : Machine) (disk : DiskState) → filter (λ (f : File). f.permanent) m.files ≡ [] → HasShut m disk → HasNoFile disk
 left_empty m disk none shut = record {
-  sectors = shut.tells.sectors;
-  told = shut.tells.told;
-  sound = shut.tells.shut.sound;
-  no_files = none_agree (files_on shut.tells.sectors) (subst (λ (fs : List File). Agrees (files_on shut.tells.sectors) (map (settled_file []) (filter (λ (f : File). f.permanent) fs))) none shut.tells.shut.told.agrees);
+  sectors = shut.reveals.sectors;
+  revealed = shut.reveals.revealed;
+  sound = shut.reveals.shut.sound;
+  no_files = none_agree (files_on shut.reveals.sectors) (subst (λ (fs : List File). Agrees (files_on shut.reveals.sectors) (map (settled_file []) (filter (λ (f : File). f.permanent) fs))) none shut.reveals.shut.revealed.agrees);
   synced = shut.synced;
 }

@@ -32,7 +32,7 @@ chosen P false x y p q = q
 
 -- a call that changes the files so
 keeps : (c : Call) → ((m : Machine) → AreTemporary m.files → AreTemporary (change m c).files) → Keeps c
-keeps c so m temps = chosen (λ (n : Machine). AreTemporary n.files) (is_none (refusal m c)) (change m c) m (so m temps) temps
+keeps c evidence_seen m temps = chosen (λ (n : Machine). AreTemporary n.files) (is_none (refusal m c)) (change m c) m (evidence_seen m temps) temps
 
 put : (f : File) (files : List File) → f.permanent ≡ false → AreTemporary files → AreTemporary (put_file f files)
 put f [] temp temps = (temp, tt)

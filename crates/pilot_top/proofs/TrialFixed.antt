@@ -22,7 +22,7 @@ use Rattle.trace_maker.proofs.FixedLemmas.{Keeps, chosen, keeps, replies_fixed}
 use Rattle.trace_maker.proofs.RoomLemmas.{InAnyRoom, after_room, allowed_room, in_any_room}
 use Rattle.pilot_top.specs.Trial.{IsTrial, after_calls, drawn_calls, empty_volume, first_calls}
 
--- the replies behind those to some calls
+-- the replies after those to some calls
 allowed_rest : (m : Machine) (xs ys : List Call) (rs ss : List Reply) → length rs ≡ length xs → AllowsAll m (map Some (xs ++ ys)) (rs ++ ss) → AllowsAll (after_calls m xs) (map Some ys) ss
 allowed_rest m [] ys [] ss long all = all
 allowed_rest m [] ys (r ∷ rs) ss long all = absurd (omega (arith, long))
@@ -93,7 +93,7 @@ four_made room enough =
     below : (k : ℕ) → k ≤ room → nat_lt room k ≡ false
     below k least = let a : nat_lt room k ≡ false = grind (arith, least) in a
 
--- the calls behind those
+-- the calls after those
 abbrev rest_calls : List Call
 rest_calls =
     MakeSpace 0 16 None ∷ MakeSpace 0 16 None ∷ MakeSpace 0 16 None ∷ MakeSpace 0 16 None

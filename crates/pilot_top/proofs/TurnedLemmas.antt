@@ -13,45 +13,45 @@ use Rattle.trace_io.specs.Reading.{is_last, reading}
 use Rattle.running_words.specs.Bound.{CostsOther}
 use Rattle.pilot_engine.specs.Closing.{IsStop, Throughout}
 use Rattle.pilot_top.specs.Headline.{CostsLine, CostsLines, HasFilesAt}
-use Rattle.pilot_top.specs.Moments.{Moments, Openly}
+use Rattle.pilot_top.specs.CrashStates.{CrashStates, Openly}
 use Rattle.pilot_top.specs.Turn.{Answers}
 use Rattle.pilot_top.proofs.AlongLemmas.{by_itself}
-use Rattle.pilot_top.proofs.CostLemmas.{Spends, end_spends, front_spends, more_cost, none_cost}
-use Rattle.pilot_top.proofs.FrontLemmas.{read_front}
-use Rattle.pilot_top.proofs.LawfulRuns.{openly_then}
-use Rattle.pilot_top.proofs.PlaceLemmas.{files_before, files_behind}
-use Rattle.pilot_top.proofs.StagedLemmas.{from_end, moments_before, moments_then}
+use Rattle.pilot_top.proofs.CostLemmas.{Spends, end_spends, prefix_spends, more_cost, none_cost}
+use Rattle.pilot_top.proofs.PrefixLemmas.{read_prefix}
+use Rattle.pilot_top.proofs.PermittedRuns.{openly_then}
+use Rattle.pilot_top.proofs.PlaceLemmas.{files_before, files_after}
+use Rattle.pilot_top.proofs.StagedLemmas.{from_end, crash_states_before, crash_states_then}
 use Rattle.pilot_top.proofs.TopLemmas.{Going, Going-start, Going-reply, last_of, reply_lines}
 
 -- what one line has written, and what it cost
 abbrev pub Made : (Machine → Type 0) → TraceLine → DiskState → DiskState → Type 0
-Made now line mid new = (m : Machine) → now m → Moments m (line ∷ []) mid new × CostsLine line mid new
+Made now line mid new = (m : Machine) → now m → CrashStates m (line ∷ []) mid new × CostsLine line mid new
 
--- So many lines are answered, and these are the moments of what was written in them, and what they cost.
+-- So many lines are answered, and these are the crash states of what was written in them, and what they cost.
 pub record Turned (a c t u : Option (List ℕ)) (p : Progress) (first now : Machine → Type 0) (old new : DiskState) : Type 0 where
   pub going : Going a c t u p first now
-  pub along : (m : Machine) → first m → Moments m going.lines old new
+  pub along : (m : Machine) → first m → CrashStates m going.lines old new
   pub cost : (m : Machine) → first m → CostsLines going.lines old new
-  pub lawful : Openly old new
+  pub permitted : Openly old new
 
-pub Turned-start : (a t : Option (List ℕ)) (p : Progress) (first : Machine → Type 0) (disk : DiskState) → p.taken ≡ 0 → p.stopped ≡ None → ((m : Machine) → first m → Moments m [] disk disk) → Openly disk disk
+pub Turned-start : (a t : Option (List ℕ)) (p : Progress) (first : Machine → Type 0) (disk : DiskState) → p.taken ≡ 0 → p.stopped ≡ None → ((m : Machine) → first m → CrashStates m [] disk disk) → Openly disk disk
     → Turned a a t t p first first disk disk
-Turned-start a t p first disk none stopped along lawful = record {
+Turned-start a t p first disk none stopped along permitted = record {
   going = Going-start a t p first none stopped;
   along = along;
   cost = λ m is. none_cost disk;
-  lawful = lawful;
+  permitted = permitted;
 }
 
 module _ {a b t u : Option (List ℕ)} {p : Progress} {first now : Machine → Type 0} {old mid : DiskState} (turned : Turned a b t u p first now old mid) where
   -- what one line more has written
-  pub more_moments : {new : DiskState} {line : TraceLine} → Made now line mid new → (m : Machine) → first m → Moments m (turned.going.lines ++ line ∷ []) old new
-  more_moments {line = line} made m is = moments_then m turned.going.lines (line ∷ []) (turned.along m is) (made (last_of m turned.going.lines) (turned.going.stands m is)).0
+  pub more_crash_states : {new : DiskState} {line : TraceLine} → Made now line mid new → (m : Machine) → first m → CrashStates m (turned.going.lines ++ line ∷ []) old new
+  more_crash_states {line = line} made m is = crash_states_then m turned.going.lines (line ∷ []) (turned.along m is) (made (last_of m turned.going.lines) (turned.going.stands m is)).0
 
   -- what the session's end has
-  pub ended_moments : (m : Machine) → first m → {new : DiskState} → Throughout (IsStop (last_of m turned.going.lines)) mid new → Moments m turned.going.lines old new
-  ended_moments m is {new = new} stops =
-      subst (λ (all : List TraceLine). Moments m all old new) (append-nil turned.going.lines) (moments_then m turned.going.lines [] (turned.along m is) (from_end (last_of m turned.going.lines) stops))
+  pub ended_crash_states : (m : Machine) → first m → {new : DiskState} → Throughout (IsStop (last_of m turned.going.lines)) mid new → CrashStates m turned.going.lines old new
+  ended_crash_states m is {new = new} stops =
+      subst (λ (all : List TraceLine). CrashStates m all old new) (append-nil turned.going.lines) (crash_states_then m turned.going.lines [] (turned.along m is) (from_end (last_of m turned.going.lines) stops))
 
   -- what a line more has cost
   pub more_costs : {new : DiskState} {line : TraceLine} → mid.sectors ≡ old.sectors → Made now line mid new → (m : Machine) → first m → CostsLines (turned.going.lines ++ line ∷ []) old new
@@ -60,21 +60,21 @@ module _ {a b t u : Option (List ℕ)} {p : Progress} {first now : Machine → T
   -- a line was answered, and others follow
   pub Turned-reply : {c v : Option (List ℕ)} {q : Progress} {then : Machine → Type 0} {new : DiskState} {line : TraceLine} {r : Reply} → mid.sectors ≡ old.sectors → p.stopped ≡ None → TakesLine line b c p q → Answers now then line r
       → is_last line ≡ false → Made now line mid new → Openly mid new → Appends u v (text r) → Turned a c t v q first then old new
-  Turned-reply {c = c} {v = v} {q = q} {then = then} {new = new} {line = line} {r = r} same none takes answers goes made lawful wrote = record {
+  Turned-reply {c = c} {v = v} {q = q} {then = then} {new = new} {line = line} {r = r} same none takes answers goes made permitted wrote = record {
     going = Going-reply a b t u p first now turned.going c v q then line r none takes answers goes wrote;
-    along = subst (λ (lines : List TraceLine). (m : Machine) → first m → Moments m lines old new) (sym (reply_lines a b t u p first now turned.going c v q then line r none takes answers goes wrote))
-        (more_moments made);
+    along = subst (λ (lines : List TraceLine). (m : Machine) → first m → CrashStates m lines old new) (sym (reply_lines a b t u p first now turned.going c v q then line r none takes answers goes wrote))
+        (more_crash_states made);
     cost = subst (λ (lines : List TraceLine). (m : Machine) → first m → CostsLines lines old new) (sym (reply_lines a b t u p first now turned.going c v q then line r none takes answers goes wrote))
         (more_costs same made);
-    lawful = openly_then turned.lawful lawful;
+    permitted = openly_then turned.permitted permitted;
   }
 
-  -- where the source tells its bytes, and the sink
+  -- where the source reveals its bytes, and the sink
   pub Turned-source : {x : List ℕ} → a ≡ Some x → Turned (Some x) b t u p first now old mid
   Turned-source source = subst (λ r. Turned r b t u p first now old mid) source turned
 
-  pub Turned-told : {x y : List ℕ} → a ≡ Some x → t ≡ Some y → Turned (Some x) b (Some y) u p first now old mid
-  Turned-told {x = x} source sink = subst (λ s. Turned (Some x) b s u p first now old mid) sink (Turned-source source)
+  pub Turned-revealed : {x y : List ℕ} → a ≡ Some x → t ≡ Some y → Turned (Some x) b (Some y) u p first now old mid
+  Turned-revealed {x = x} source sink = subst (λ s. Turned (Some x) b s u p first now old mid) sink (Turned-source source)
 
 -- for the same session under another name
 pub Turned-same : {S : Type 0} (disk : S → DiskState) (stands : S → Machine → Type 0) {s r : S} {a b t u : Option (List ℕ)} {p : Progress} {first : Machine → Type 0} {old : DiskState} → r ≡ s
@@ -84,28 +84,28 @@ Turned-same disk stands {a = a} {b = b} {t = t} {u = u} {p = p} {first = first} 
 -- The whole trace.
 
 module _ (m : Machine) {x : List ℕ} {c : Option (List ℕ)} {q : Progress} {lines : List TraceLine} (read : HasRead (Some x) c q lines) where
-  pub of_reading : {old new : DiskState} → Moments m lines old new → Moments m (reading x) old new
+  pub of_reading : {old new : DiskState} → CrashStates m lines old new → CrashStates m (reading x) old new
   of_reading {old = old} {new = new} on =
-      let front = read_front x c q lines read in
-      subst (λ (all : List TraceLine). Moments m all old new) (sym front.1) (moments_before m lines front.0 on)
+      let prefix = read_prefix x c q lines read in
+      subst (λ (all : List TraceLine). CrashStates m all old new) (sym prefix.1) (crash_states_before m lines prefix.0 on)
 
   pub spends_reading : (old new : DiskState) → CostsLines lines old new → Spends (reading x) old new
-  spends_reading old new cost = let front = read_front x c q lines read in front_spends lines front.0 (reading x) old new front.1 cost
+  spends_reading old new cost = let prefix = read_prefix x c q lines read in prefix_spends lines prefix.0 (reading x) old new prefix.1 cost
 
   pub end_spends_reading : (old mid new : DiskState) → mid.sectors ≡ old.sectors → CostsLines lines old mid → CostsOther mid new → Spends (reading x) old new
-  end_spends_reading old mid new same cost last = let front = read_front x c q lines read in end_spends lines front.0 (reading x) old mid new front.1 same cost last
+  end_spends_reading old mid new same cost last = let prefix = read_prefix x c q lines read in end_spends lines prefix.0 (reading x) old mid new prefix.1 same cost last
 
   pub files_of_reading : (disk : DiskState) → HasFilesAt m lines disk (length lines) 0 → HasFilesAt m (reading x) disk (length lines) 0
   files_of_reading disk has =
-      let front = read_front x c q lines read in
-      subst (λ (all : List TraceLine). HasFilesAt m all disk (length lines) 0) (sym front.1) (files_before m lines front.0 disk (length lines) 0 (by_itself (length lines) 0) has)
+      let prefix = read_prefix x c q lines read in
+      subst (λ (all : List TraceLine). HasFilesAt m all disk (length lines) 0) (sym prefix.1) (files_before m lines prefix.0 disk (length lines) 0 (by_itself (length lines) 0) has)
 
--- a line was begun behind these
+-- a line was begun after these
 pub files_of_begun : (m : Machine) {x : List ℕ} {c : Option (List ℕ)} {q : Progress} (lines : List TraceLine) (line : TraceLine) → HasRead (Some x) c q (lines ++ line ∷ []) → (disk : DiskState) (i : ℕ)
     → HasFilesAt (last_of m lines) (line ∷ []) disk 0 i → HasFilesAt m (reading x) disk (length lines) i
 files_of_begun m {x = x} {c = c} {q = q} lines line read disk i has =
-    let front = read_front x c q (lines ++ line ∷ []) read in
-    let here : HasFilesAt m (lines ++ line ∷ []) disk (length lines + 0) i = files_behind m lines (line ∷ []) disk 0 i has in
+    let prefix = read_prefix x c q (lines ++ line ∷ []) read in
+    let here : HasFilesAt m (lines ++ line ∷ []) disk (length lines + 0) i = files_after m lines (line ∷ []) disk 0 i has in
     let there : HasFilesAt m (lines ++ line ∷ []) disk (length lines) i = subst (λ (k : ℕ). HasFilesAt m (lines ++ line ∷ []) disk k i) (omega arith) here in
-    subst (λ (all : List TraceLine). HasFilesAt m all disk (length lines) i) (sym front.1)
-    (files_before m (lines ++ line ∷ []) front.0 disk (length lines) i (inl (omega (arith, length-append lines (line ∷ [])))) there)
+    subst (λ (all : List TraceLine). HasFilesAt m all disk (length lines) i) (sym prefix.1)
+    (files_before m (lines ++ line ∷ []) prefix.0 disk (length lines) i (inl (omega (arith, length-append lines (line ∷ [])))) there)

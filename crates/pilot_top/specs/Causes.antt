@@ -15,7 +15,7 @@ use Rattle.pilot_top.specs.declared.last.Cause.TheVariants as cause
 use Rattle.pilot_top.specs.declared.status.Status.{Status}
 use Rattle.pilot_top.specs.declared.status.Status.TheVariants as status
 
--- Whether the words mean a command is told so: where they mean none, by the line of usage, if there is memory to read them.
+-- Whether the words mean a command is revealed so: where they mean none, by the line of usage, if there is memory to read them.
 pub record Understands (words : List (String Global)) (s : Status) (before after : World) : Type 0 where
   pub usage : s ≡ status.Usage → IsNoCommand words
   pub no_command : IsNoCommand words → (s ≡ status.Usage) ⊎ (s ≡ status.NoMemory)
@@ -35,7 +35,7 @@ pub record HasReason (words : List (String Global)) (s : Status) (before after :
   pub long_run : s ≡ status.Long → (frames : ℕ) × Means words (command.Run frames)
   -- nothing was written, and the first word is a command
   pub memory : s ≡ status.NoMemory → StaysUnwritten before after × (c : Command) × Names words c
-  -- only a `run` ends so, and a `trial` on a disk that does not tell what it holds
+  -- only a `run` ends so, and a `trial` on a disk that does not reveal what it holds
   pub damaged : s ≡ status.Damaged
       → ((frames : ℕ) × Means words (command.Run frames)) ⊎ ((seed : ℕ) × (calls : ℕ) × (frames : ℕ) × Means words (command.Trial seed calls frames) × ((d : List Sector) → ¬ Holds before d))
   -- only a `convert` ends so: nothing was written, and the line has how many sectors are wanted, and that there are fewer

@@ -11,7 +11,7 @@ use Rattle.volume_root.specs.OldRoot.{IsOldCount}
 use Rattle.old_files.specs.OldFiles.{files_old}
 use Rattle.volume_convert.specs.Answers.{HasNoRoom, IsNoOldVolume}
 use Rattle.volume_convert.specs.Leaves.{AreMade, ArePartMade, IsConverted, StaysConvertible, old_unneeded}
-use Rattle.pilot_top.specs.World.{World, Holds, DiskFailed, SinkFailed, StaysUnwritten, Writes, WritesFront, WritesLast}
+use Rattle.pilot_top.specs.World.{World, Holds, DiskFailed, SinkFailed, StaysUnwritten, Writes, WritesPrefix, WritesLast}
 use Rattle.pilot_top.specs.declared.last.Cause.TheVariants as cause
 use Rattle.pilot_top.specs.declared.status.Status.{Status}
 use Rattle.pilot_top.specs.declared.status.Status.TheVariants as status
@@ -38,21 +38,21 @@ IsOldVolume d = (why : RootFault) → ¬ IsNoOldVolume d why
 
 -- A `convert` ended with this status, and left disk and sink so.
 pub record ConvertedBy (s : Status) (before after : World) : Type 0 where
-  -- The old files stay, on a sound volume of today, and what was found is told.
+  -- The old files stay, on a sound volume of today, and what was found is revealed.
   pub restored : (s ≡ status.Done) ⊎ (s ≡ status.StreamFault) → IsConverted before.disk after.disk
   pub synced : (s ≡ status.Done) ⊎ (s ≡ status.StreamFault) → after.disk.synced ≡ true
   pub line : s ≡ status.Done → (d : List Sector) → Holds before d → Writes before after (converted_text d)
   pub part_of_line : s ≡ status.StreamFault → (d : List Sector) → Holds before d
-      → WritesFront before after (converted_text d)
+      → WritesPrefix before after (converted_text d)
   -- Whatever the disk holds, it is the line of some conversion.
   pub some_line : s ≡ status.Done → (text : List ℕ) × IsConversionLine text × Writes before after text
-  pub some_front : s ≡ status.StreamFault → (text : List ℕ) × IsConversionLine text × WritesFront before after text
+  pub some_prefix : s ≡ status.StreamFault → (text : List ℕ) × IsConversionLine text × WritesPrefix before after text
   -- Which writes were made; and after each of them the volume is the old one with its files, or all of it is converted.
   pub by : (s ≡ status.Done) ⊎ (s ≡ status.StreamFault) → AreMade before.disk after.disk
   pub part : s ≡ status.DiskFault → ArePartMade before.disk after.disk
   pub part_line : s ≡ status.DiskFault → WritesLast before after cause.DiskFault
-  pub moments : StaysConvertible before.disk after.disk
-  -- A disk that has no old volume; the count of sectors is told whatever it holds.
+  pub crash_states : StaysConvertible before.disk after.disk
+  -- A disk that has no old volume; the count of sectors is revealed whatever it holds.
   pub count : ¬ IsOldCount before.disk.sectors
       → (s ≡ status.NoMemory)
       ⊎ ((s ≡ status.NotOpened) × WritesLast before after (cause.Root (fault.BadCount before.disk.sectors)))

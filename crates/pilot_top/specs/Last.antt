@@ -9,7 +9,7 @@ use Rattle.labelled_disk.specs.declared.layout.RootFault.TheVariants as fault
 use Rattle.labelled_disk.specs.declared.evidence.Evidence.{Evidence}
 use Rattle.labelled_disk.specs.declared.evidence.Evidence.TheVariants as evidence
 use Rattle.flat_machine.specs.Text.{id_text}
-use Rattle.trace_io.specs.Stream.{IsFrontOf}
+use Rattle.trace_io.specs.Stream.{IsPrefixOf}
 use Rattle.pilot_top.specs.declared.last.Cause.{Cause}
 use Rattle.pilot_top.specs.declared.last.Cause.TheVariants as cause
 
@@ -23,7 +23,7 @@ difference_word difference.Counter = codes "counter"
 difference_word (difference.Flag f) = codes "flag"
 difference_word (difference.Rest i) = codes "rest"
 
--- what stands behind `stopped ` where the volume can't be opened
+-- what stands after `stopped ` where the volume can't be opened
 abbrev pub root_words : RootFault → List ℕ
 root_words (fault.NotVolume what) = codes "notvolume " ++ difference_word what
 root_words fault.Unclean = codes "unclean"
@@ -31,7 +31,7 @@ root_words (fault.Version v) = codes "version " ++ decimal v
 root_words (fault.BadCount n) = codes "count " ++ decimal n
 root_words fault.Disk = codes "disk"
 
--- what stands behind `stopped damaged `: what was read, and where
+-- what stands after `stopped damaged `: what was read, and where
 abbrev pub evidence_words : Evidence → List ℕ
 evidence_words (evidence.Mismatch sector wanted found) =
     codes "label " ++ decimal sector ++ codes " " ++ id_text wanted.id ++ codes " " ++ decimal wanted.page ++ codes " " ++ id_text found.id ++ codes " " ++ decimal found.page
@@ -47,6 +47,6 @@ last_line (cause.Damaged e) = codes "stopped damaged " ++ evidence_words e ++ co
 last_line (cause.Unfit wanted room) = codes "stopped unfit " ++ decimal wanted ++ codes " " ++ decimal room ++ codes "\n"
 last_line (cause.Root why) = codes "stopped " ++ root_words why ++ codes "\n"
 
--- a sink took the text, or it failed, and took a front of it
+-- a sink took the text, or it failed, and took a prefix of it
 abbrev pub Puts : Type 0 → Option (List ℕ) → Option (List ℕ) → List ℕ → Type 0
-Puts failed old new text = Appends old new text ⊎ (failed × (front : List ℕ) × IsFrontOf front text × Appends old new front)
+Puts failed old new text = Appends old new text ⊎ (failed × (prefix : List ℕ) × IsPrefixOf prefix text × Appends old new prefix)

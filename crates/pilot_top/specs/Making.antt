@@ -7,7 +7,7 @@ use Rattle.labelled_disk.specs.State.{DiskState}
 use Rattle.labelled_disk.specs.WriteRuns.{Appended}
 use Rattle.volume_root.specs.Format.{PartMade, format_writes}
 use Rattle.volume_root.specs.FormatLaws.{IsEmptyVolume}
-use Rattle.pilot_top.specs.World.{World, DiskFailed, SinkFailed, Writes, WritesFront, WritesLast}
+use Rattle.pilot_top.specs.World.{World, DiskFailed, SinkFailed, Writes, WritesPrefix, WritesLast}
 use Rattle.pilot_top.specs.declared.last.Cause.TheVariants as cause
 use Rattle.pilot_top.specs.declared.status.Status.{Status}
 use Rattle.pilot_top.specs.declared.status.Status.TheVariants as status
@@ -26,7 +26,7 @@ pub record IsMade (serial counter : ℕ) (old new : DiskState) : Type 0 where
 pub record Formatted (serial counter : ℕ) (s : Status) (before after : World) : Type 0 where
   pub made : (s ≡ status.Done) ⊎ (s ≡ status.StreamFault) → IsMade serial counter before.disk after.disk
   pub line : s ≡ status.Done → Writes before after (made_line before.disk.sectors)
-  pub part_of_line : s ≡ status.StreamFault → WritesFront before after (made_line before.disk.sectors)
+  pub part_of_line : s ≡ status.StreamFault → WritesPrefix before after (made_line before.disk.sectors)
   pub part : s ≡ status.DiskFault → PartMade (format_writes before.disk.sectors serial counter) before.disk after.disk × WritesLast before after cause.DiskFault
   -- It does all its work where nothing failed, and refuses a count of sectors alone.
   pub complete : IsCount before.disk.sectors → ¬ DiskFailed before after → ¬ SinkFailed before after → (s ≡ status.Done) ⊎ (s ≡ status.NoMemory)

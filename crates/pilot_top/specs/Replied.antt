@@ -10,9 +10,9 @@ use Rattle.flat_machine.specs.declared.call.Reply.{Reply}
 use Rattle.flat_machine.specs.declared.call.Reply.TheVariants.{Done, Refused}
 use Rattle.flat_machine.specs.After.{TraceLine}
 use Rattle.flat_machine.specs.Text.{text}
-use Rattle.trace_io.specs.Stream.{IsFrontOf}
+use Rattle.trace_io.specs.Stream.{IsPrefixOf}
 use Rattle.trace_io.specs.Reading.{is_last, reading, whole_reading, rest_of}
-use Rattle.pilot_top.specs.Headline.{HasWritten, Taken, TellsDamage}
+use Rattle.pilot_top.specs.Headline.{HasWritten, Taken, RevealsDamage}
 use Rattle.pilot_top.specs.Last.{last_line}
 use Rattle.pilot_top.specs.declared.last.Cause.TheVariants as cause
 use Rattle.pilot_top.specs.declared.status.Status.{Status}
@@ -37,32 +37,32 @@ pub record AreToFirst (replies : List Reply) (lines : List TraceLine) : Type 0 w
   pub each : AreTo replies first
   pub none_last : list_any is_last first ≡ false
 
--- A sink that had the bytes t took replies to these lines but the last, and a front of the reply to that one.
+-- A sink that had the bytes t took replies to these lines but the last, and a prefix of the reply to that one.
 pub record IsCutShort (lines : List TraceLine) (t : List ℕ) (took : Option (List ℕ)) : Type 0 where
   pub replies : List Reply
   pub reply : Reply
   pub each : AreTo (replies ++ reply ∷ []) lines
-  pub front : List ℕ
-  pub is_front : IsFrontOf front (text reply)
-  pub took_is : took ≡ Some (t ++ flat_map text replies ++ front)
+  pub prefix : List ℕ
+  pub is_prefix : IsPrefixOf prefix (text reply)
+  pub took_is : took ≡ Some (t ++ flat_map text replies ++ prefix)
 
 -- A run that began with a source with the bytes b and a sink with the bytes t: what source and sink have now.
 -- `failed` says that the sink failed, `disk` is the disk as it was left, and `reasoned` says of evidence that it has its reason.
 abbrev pub Replied : Status → List ℕ → Option (List ℕ) → List ℕ → Option (List ℕ) → Type 0 → DiskState → (Evidence → Type 0) → Type 0
--- a reply to each line of the trace; what is left stands behind the last of them
+-- a reply to each line of the trace; what is left stands after the last of them
 Replied status.Done b left t took failed disk reasoned =
     (replies : List Reply) × AreTo replies (reading b) × (took ≡ Some (t ++ flat_map text replies)) × (left ≡ Some (rest_of b))
 -- replies to some first lines, but none to one that ends the trace, and the last line
 Replied status.DiskFault b left t took failed disk reasoned =
     (replies : List Reply) × AreToFirst replies (reading b) × HasWritten failed (t ++ flat_map text replies) took (last_line cause.DiskFault)
 -- the same, with what shows in the last line that the volume is damaged, and its reason
-Replied status.Damaged b left t took failed disk reasoned = (told : TellsDamage t took failed disk) × AreToFirst told.replies (reading b) × reasoned told.evidence
+Replied status.Damaged b left t took failed disk reasoned = (revealed : RevealsDamage t took failed disk) × AreToFirst revealed.replies (reading b) × reasoned revealed.evidence
 -- replies to the lines that are whole in the 2 ^ 32 bytes taken, and the last line
 Replied status.Long b left t took failed disk reasoned =
     (taken : Taken b left) × (length taken.bytes ≡ 2 ^ 32) × (replies : List Reply) × AreTo replies (whole_reading taken.bytes)
     × HasWritten failed (t ++ flat_map text replies) took (last_line cause.Long)
 -- replies to the lines that are whole in the bytes taken; or, where the sink failed, to those before the last of them, and a
--- front of the reply to that one; or, where nothing is left, the same of all lines
+-- prefix of the reply to that one; or, where nothing is left, the same of all lines
 Replied status.StreamFault b left t took failed disk reasoned =
     ((taken : Taken b left) × (replies : List Reply) × AreTo replies (whole_reading taken.bytes) × (took ≡ Some (t ++ flat_map text replies)))
     ⊎ (failed × (taken : Taken b left) × IsCutShort (whole_reading taken.bytes) t took)

@@ -33,7 +33,7 @@ pub record IsReport (text : List ℕ) : Type 0 where
 abbrev pub report_text : {A : Type 0} → Report A → List ℕ
 report_text report = lost_lines (lost_in report) ++ count_line report.files report.pages report.freed (length (lost_in report))
 
--- the lines about a disk: its lost sectors, rising, and then the counts
+-- the lines about a disk: its lost sectors, ascending, and then the counts
 abbrev pub restored_text : List Sector → List ℕ
 restored_text g =
     lost_lines (map (lost_at g) (lost_sectors false g))

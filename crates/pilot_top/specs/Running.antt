@@ -9,9 +9,9 @@ use Rattle.volume_root.specs.Flag.{IsRefused}
 use Rattle.volume_root.specs.Sound.{Sound}
 use Rattle.pilot_engine.specs.Closing.{HasShut}
 use Rattle.pilot_top.specs.Ending.{halts, closes}
-use Rattle.pilot_top.specs.Headline.{EndsEarly, IsLeftOpen, Run, TellsDamage, at_end, run_bound}
-use Rattle.pilot_top.specs.Moments.{Lawfully, Moments}
-use Rattle.pilot_top.specs.Outset.{FromOutset}
+use Rattle.pilot_top.specs.Headline.{EndsEarly, IsLeftOpen, Run, RevealsDamage, at_end, run_bound}
+use Rattle.pilot_top.specs.CrashStates.{Lawfully, CrashStates}
+use Rattle.pilot_top.specs.InitialState.{FromInitialState}
 use Rattle.pilot_top.specs.Replied.{Replied}
 use Rattle.pilot_top.specs.World.{World, Holds, Gives, Took, DiskFailed, SourceFailed, SinkFailed, StaysUnwritten, WritesLast}
 use Rattle.pilot_top.specs.declared.last.Cause.TheVariants as cause
@@ -23,30 +23,30 @@ pub record Ran (s : Status) (before after : World) : Type 0 where
   -- On a sound volume: the replies, what the source has left, and the files of the disk.
   pub answers : (d : List Sector) (b t : List ℕ) → Holds before d → Sound d → Gives before b → Took before t → Run s d b after.left t after.took (SinkFailed before after) after.disk
   -- Whatever the disk holds, replies to the lines that were read, and the last line where it stopped.
-  pub replied : (b t : List ℕ) → Gives before b → Took before t → Replied s b after.left t after.took (SinkFailed before after) after.disk (FromOutset before.disk after.disk)
+  pub replied : (b t : List ℕ) → Gives before b → Took before t → Replied s b after.left t after.took (SinkFailed before after) after.disk (FromInitialState before.disk after.disk)
   -- Where its end was not a `halt`, the volume is closed, sound, and on the medium; so it is where only the reply to `close`
   -- was not heard.
   pub closed : (d : List Sector) (b : List ℕ) → Holds before d → Sound d → Gives before b → s ≡ status.Done → halts (reading b) ≡ false → HasShut (at_end d (reading b)) after.disk
   pub closed_unheard : (d : List Sector) (b : List ℕ) → Holds before d → Sound d → Gives before b
       → s ≡ status.StreamFault → ¬ SourceFailed before after → Gives after (rest_of b) → closes (reading b) ≡ true → HasShut (at_end d (reading b)) after.disk
   -- After each of its writes, whenever it is stopped, the disk has the machine's settled files: of a trace that the source
-  -- tells, and else of some trace.
-  pub moments : (d : List Sector) (b : List ℕ) → Holds before d → Sound d → Gives before b → Moments (start d) (reading b) before.disk after.disk
-  pub some_moments : (d : List Sector) → Holds before d → Sound d → (lines : List TraceLine) × Moments (start d) lines before.disk after.disk
-  -- Where it ended before its session did, the volume is left open; so where lines are left behind the one that was answered
-  -- last, and where the trace is too long or the volume damaged, whatever the source tells.
+  -- reveals, and else of some trace.
+  pub crash_states : (d : List Sector) (b : List ℕ) → Holds before d → Sound d → Gives before b → CrashStates (start d) (reading b) before.disk after.disk
+  pub some_crash_states : (d : List Sector) → Holds before d → Sound d → (lines : List TraceLine) × CrashStates (start d) lines before.disk after.disk
+  -- Where it ended before its session did, the volume is left open; so where lines are left after the one that was answered
+  -- last, and where the trace is too long or the volume damaged, whatever the source reveals.
   pub stays_open : (b : List ℕ) → Gives before b → EndsEarly s (reading b) → IsLeftOpen after.disk
   pub untaken : (b : List ℕ) → Gives before b → s ≡ status.StreamFault → ¬ Gives after (rest_of b) → IsLeftOpen after.disk
   pub left_open : (s ≡ status.Long) ⊎ (s ≡ status.Damaged) → IsLeftOpen after.disk
   -- How many transfers its start, its lines and its end may make.
   pub transfers : (d : List Sector) (b : List ℕ) → Holds before d → Sound d → Gives before b → after.disk.transfers ≤ before.disk.transfers + run_bound before.disk.sectors (reading b)
-  -- Over any contents each write is lawful at its moment, and the volume stays open between the first and the last. What is told
-  -- of a damaged volume is so; and where the file map was in form at the start, a label was wanted there, or a page told as missing,
-  -- for a reason: the layout, what both maps said then, or what the run gave and gave up. No page of the space tables is told as broken
+  -- Over any contents each write is permitted where it is made, and the volume stays open between the first and the last. What is revealed
+  -- of a damaged volume is so; and where the file map was in form at the start, a label was wanted there, or a page reported as missing,
+  -- for a reason: the layout, what both maps said then, or what the run gave and gave up. No page of the space tables is reported as broken
   -- then, and a page of a file as missing only where it is the leader, which is or was at home, or is at most as high as such a page of that file.
-  pub lawful : Lawfully before.disk after.disk
-  pub damage : (t : List ℕ) → Took before t → s ≡ status.Damaged → (told : TellsDamage t after.took (SinkFailed before after) after.disk) × FromOutset before.disk after.disk told.evidence
-  -- A sound volume is not refused, and shows no damage, whatever source and sink tell.
+  pub permitted : Lawfully before.disk after.disk
+  pub damage : (t : List ℕ) → Took before t → s ≡ status.Damaged → (revealed : RevealsDamage t after.took (SinkFailed before after) after.disk) × FromInitialState before.disk after.disk revealed.evidence
+  -- A sound volume is not refused, and shows no damage, whatever source and sink reveal.
   pub sound : (d : List Sector) → Holds before d → Sound d → s ≢ status.NotOpened × s ≢ status.Damaged
   -- A volume that can't be opened.
   pub not_opened : (d : List Sector) → Holds before d → s ≡ status.NotOpened → (why : RootFault) × IsRefused d why × WritesLast before after (cause.Root why)

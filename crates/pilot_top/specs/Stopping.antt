@@ -1,4 +1,4 @@
--- How a session that stopped, or that did not start, is told.
+-- How a session that stopped, or that did not start, is revealed.
 use Rattle.std.specs.Prelude.{◌≡◌, ℕ, List}
 use Rattle.labelled_disk.specs.declared.evidence.Halt.{Halt}
 use Rattle.labelled_disk.specs.declared.evidence.Halt.TheVariants as halt

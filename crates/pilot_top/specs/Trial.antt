@@ -1,4 +1,4 @@
--- A trial: drawn calls on a new volume, and what is told of their replies.
+-- A trial: drawn calls on a new volume, and what is revealed of their replies.
 use Rattle.std.specs.Prelude.{◌≡◌, ◌⊎◌, ℕ, Bool, true, false, ◌%◌, ◌^◌, List, [], ◌∷◌, ◌++◌, codes, filter, flat_map, fold, length, map, sum_by, Some, None}
 use Rattle.std.specs.Fmt.{decimal}
 use Rattle.std.specs.List.{range_with_len}
@@ -18,7 +18,7 @@ use Rattle.flat_machine.specs.Start.{opened}
 use Rattle.trace_maker.specs.Calls.{call_of}
 use Rattle.volume_root.specs.Format.{PartMade, format_writes}
 use Rattle.volume_root.specs.Sound.{Sound}
-use Rattle.pilot_top.specs.Moments.{Lawfully}
+use Rattle.pilot_top.specs.CrashStates.{Lawfully}
 
 -- The calls.
 
@@ -51,7 +51,7 @@ pub record HasAnswered (m : Machine) (calls : List Call) (replies : List Reply) 
   pub stands : now (after_calls m calls)
 
 -- A trial that begins with this machine gets these replies to its drawn calls: the machine allows each of them where it stands,
--- behind allowed replies to the first calls.
+-- after allowed replies to the first calls.
 pub record IsTrialOf (m : Machine) (seed calls : ℕ) (replies : List Reply) : Type 0 where
   pub before : List Reply
   pub before_count : length before ≡ length first_calls
@@ -85,16 +85,16 @@ trial_line calls replies =
 
 -- The volume that is left.
 
--- the disk tells a sound volume without a file, and all of it is on the medium
+-- the disk reveals a sound volume without a file, and all of it is on the medium
 pub record HasNoFile (disk : DiskState) : Type 0 where
   pub sectors : List Sector
-  pub told : disk.contents ≡ Some sectors
+  pub revealed : disk.contents ≡ Some sectors
   pub sound : Sound sectors
   pub no_files : files_on sectors ≡ []
   pub synced : disk.synced ≡ true
 
--- Over any contents: of the writes that make the volume some first ones were made, and no others; or all of them, and behind
--- them lawful ones.
+-- Over any contents: of the writes that make the volume some first ones were made, and no others; or all of them, and after
+-- them permitted ones.
 abbrev pub TriesLawfully : DiskState → DiskState → Type 0
 TriesLawfully old new =
     PartMade (format_writes old.sectors 1 1) old new ⊎ ((made : DiskState) × Appended (format_writes old.sectors 1 1) old made × Lawfully made new)

@@ -4,11 +4,11 @@ use Rattle.std.specs.Io.KnownBytes.{Appends}
 use Rattle.labelled_disk.specs.Calls.{OnlyReads, Rose}
 use Rattle.labelled_disk.specs.Sectors.{Sector}
 use Rattle.labelled_disk.specs.State.{DiskState}
-use Rattle.trace_io.specs.Stream.{IsFrontOf}
+use Rattle.trace_io.specs.Stream.{IsPrefixOf}
 use Rattle.pilot_top.specs.Last.{last_line, Puts}
 use Rattle.pilot_top.specs.declared.last.Cause.{Cause}
 
--- The disk; the bytes that the source has left, and those that the sink took, where they tell them; and how often source and
+-- The disk; the bytes that the source has left, and those that the sink took, where they reveal them; and how often source and
 -- sink failed.
 pub record World : Type 0 where
   pub disk : DiskState
@@ -44,12 +44,12 @@ SinkFailed before after = Rose before.sink_faults after.sink_faults
 abbrev pub StaysUnwritten : World → World → Type 0
 StaysUnwritten before after = OnlyReads before.disk after.disk
 
--- the sink took the text; a front of it; or the line that says why the command stopped, or, as it failed, a front of that
+-- the sink took the text; a prefix of it; or the line that says why the command stopped, or, as it failed, a prefix of that
 abbrev pub Writes : World → World → List ℕ → Type 0
 Writes before after text = Appends before.took after.took text
 
-abbrev pub WritesFront : World → World → List ℕ → Type 0
-WritesFront before after text = (front : List ℕ) × IsFrontOf front text × Appends before.took after.took front
+abbrev pub WritesPrefix : World → World → List ℕ → Type 0
+WritesPrefix before after text = (prefix : List ℕ) × IsPrefixOf prefix text × Appends before.took after.took prefix
 
 abbrev pub WritesLast : World → World → Cause → Type 0
 WritesLast before after why = Puts (SinkFailed before after) before.took after.took (last_line why)

@@ -3,9 +3,9 @@ ghost use Rattle.std.specs.Prelude.{◌≡◌, ◌≢◌, ◌⊎◌, ◌≤◌, 
 ghost use Rattle.std.specs.Io.KnownBytes.{Appends};
 ghost use Rattle.labelled_disk.specs.declared.evidence.Evidence.{Evidence};
 ghost use Rattle.labelled_disk.specs.Calls.{Rose};
-ghost use Rattle.filer_kernel.specs.Evidence.{IsSo};
+ghost use Rattle.filer_kernel.specs.Evidence.{IsEvident};
 ghost use Rattle.flat_machine.specs.Machine.{Machine};
-ghost use Rattle.trace_io.specs.Stream.{IsFrontOf};
+ghost use Rattle.trace_io.specs.Stream.{IsPrefixOf};
 ghost use Rattle.running_words.specs.Bound.{CostsOther};
 ghost use Rattle.pilot_engine.specs.Closing.{HasShut, IsStop, Throughout, WroteOn};
 ghost use Rattle.pilot_engine.specs.Opening.{IsUnset};
@@ -13,7 +13,7 @@ ghost use Rattle.running_words.specs.Session.{IsOpen};
 ghost use Rattle.running_words.specs.Running.{Runs};
 ghost use Rattle.pilot_top.specs.Ending.{end_text};
 ghost use Rattle.pilot_top.specs.Last.{last_line, Puts};
-ghost use Rattle.pilot_top.specs.Outset.{FromEachOutset};
+ghost use Rattle.pilot_top.specs.InitialState.{FromEachInitialState};
 
 use crate::Status;
 use crate::last::Cause;
@@ -21,40 +21,40 @@ use crate::stopping::stop;
 use crate::turn::End;
 use flat_machine::Reply;
 use labelled_disk::Disk;
-use pilot_engine::SessionOver;
+use pilot_engine::Session;
 use std::alloc::Allocator;
 use trace_io::{Sink, write_reply};
 
 /// Ends the session, and hands the disk back, with the status where that failed.
 pub(crate) fn close<D: Disk, A: Allocator, K: Sink>(
-    session: SessionOver<D, A>,
+    session: Session<D, A>,
     sink: &mut K,
 ) -> (Option<Status>, D)
-    requires size { (D.state session.core.filer.swapper.under).sectors ≡ session.core.filer.swapper.layout.sectors }
+    requires size { (D.state session.core.filer.swapper.disk).sectors ≡ session.core.filer.swapper.layout.sectors }
     requires opened { IsOpen session.core.filer.swapper.layout session.volume }
     requires running { session.running ≡ true }
     ensures closed { (m : Machine) → Runs session.core session.volume m
         → result.0 ≡ None → HasShut m (D.state result.1) }
     ensures stops { (m : Machine) → Runs session.core session.volume m
-        → Throughout (IsStop m) (D.state session.core.filer.swapper.under) (D.state result.1) }
+        → Throughout (IsStop m) (D.state session.core.filer.swapper.disk) (D.state result.1) }
     ensures sound { (m : Machine) → Runs session.core session.volume m
         → result.0 ≢ Some Status.Damaged }
     ensures cost { (m : Machine) → Runs session.core session.volume m
-        → CostsOther (D.state session.core.filer.swapper.under) (D.state result.1) }
+        → CostsOther (D.state session.core.filer.swapper.disk) (D.state result.1) }
     ensures quiet { result.0 ≡ None → sink.new ≡ sink.old }
     ensures disk_line { result.0 ≡ Some Status.DiskFault
         → Puts (Rose (K.faults sink.old) (K.faults sink.new)) (K.took sink.old) (K.took sink.new)
         (last_line Cause.DiskFault) }
     ensures disk_cause { result.0 ≡ Some Status.DiskFault
-        → Rose (D.state session.core.filer.swapper.under).faults (D.state result.1).faults }
+        → Rose (D.state session.core.filer.swapper.disk).faults (D.state result.1).faults }
     ensures damage_line { result.0 ≡ Some Status.Damaged → (e : Evidence) × Puts (Rose (K.faults sink.old) (K.faults sink.new)) (K.took sink.old) (K.took sink.new)
         (last_line (Cause.Damaged e)) }
-    ensures so { result.0 ≡ Some Status.Damaged → (e : Evidence) × IsSo (D.state result.1) e × FromEachOutset session (D.state result.1) e × Puts (Rose (K.faults sink.old) (K.faults sink.new)) (K.took sink.old) (K.took sink.new)
+    ensures evidence_seen { result.0 ≡ Some Status.Damaged → (e : Evidence) × IsEvident (D.state result.1) e × FromEachInitialState session (D.state result.1) e × Puts (Rose (K.faults sink.old) (K.faults sink.new)) (K.took sink.old) (K.took sink.new)
         (last_line (Cause.Damaged e)) }
-    ensures left_open { IsUnset (D.state session.core.filer.swapper.under) → result.0 ≡ Some Status.Damaged → IsUnset (D.state result.1) }
+    ensures left_open { IsUnset (D.state session.core.filer.swapper.disk) → result.0 ≡ Some Status.Damaged → IsUnset (D.state result.1) }
     ensures ends { (result.0 ≡ None) ⊎ (result.0 ≡ Some Status.DiskFault)
         ⊎ (result.0 ≡ Some Status.Damaged) }
-    ensures wrote { WroteOn session.core.filer.swapper.pool (D.state session.core.filer.swapper.under) (D.state result.1) }
+    ensures wrote { WroteOn session.core.filer.swapper.pool (D.state session.core.filer.swapper.disk) (D.state result.1) }
     ensures later { K.faults sink.old ≤ K.faults sink.new }
 {
     let (closed, disk) = session.finish();
@@ -66,38 +66,38 @@ pub(crate) fn close<D: Disk, A: Allocator, K: Sink>(
 
 /// Ends the session, unless the trace was stopped, and writes the reply to the line that ended it.
 pub(crate) fn end_trace<D: Disk, A: Allocator, K: Sink>(
-    session: SessionOver<D, A>,
+    session: Session<D, A>,
     end: End,
     sink: &mut K,
 ) -> (Status, D)
-    requires size { (D.state session.core.filer.swapper.under).sectors ≡ session.core.filer.swapper.layout.sectors }
+    requires size { (D.state session.core.filer.swapper.disk).sectors ≡ session.core.filer.swapper.layout.sectors }
     requires opened { IsOpen session.core.filer.swapper.layout session.volume }
     requires running { session.running ≡ true }
     ensures closed { (m : Machine) → Runs session.core session.volume m
         → end ≢ End.Halt → (result.0 ≡ Status.Done) ⊎ (result.0 ≡ Status.StreamFault) → HasShut m (D.state result.1) }
     ensures stops { (m : Machine) → Runs session.core session.volume m
-        → Throughout (IsStop m) (D.state session.core.filer.swapper.under) (D.state result.1) }
+        → Throughout (IsStop m) (D.state session.core.filer.swapper.disk) (D.state result.1) }
     ensures sound { (m : Machine) → Runs session.core session.volume m
         → result.0 ≢ Status.Damaged }
-    ensures halted { end ≡ End.Halt → result.1 ≡ session.core.filer.swapper.under }
+    ensures halted { end ≡ End.Halt → result.1 ≡ session.core.filer.swapper.disk }
     ensures cost { (m : Machine) → Runs session.core session.volume m
-        → CostsOther (D.state session.core.filer.swapper.under) (D.state result.1) }
+        → CostsOther (D.state session.core.filer.swapper.disk) (D.state result.1) }
     ensures done { result.0 ≡ Status.Done → Appends (K.took sink.old) (K.took sink.new) (end_text end) }
-    ensures part { result.0 ≡ Status.StreamFault → (front : List ℕ) × IsFrontOf front (end_text end)
-        × Appends (K.took sink.old) (K.took sink.new) front }
+    ensures part { result.0 ≡ Status.StreamFault → (prefix : List ℕ) × IsPrefixOf prefix (end_text end)
+        × Appends (K.took sink.old) (K.took sink.new) prefix }
     ensures stream_cause { result.0 ≡ Status.StreamFault
         → Rose (K.faults sink.old) (K.faults sink.new) × (end ≢ End.Trace) }
     ensures disk_line { result.0 ≡ Status.DiskFault
         → Puts (Rose (K.faults sink.old) (K.faults sink.new)) (K.took sink.old) (K.took sink.new)
         (last_line Cause.DiskFault) }
     ensures disk_cause { result.0 ≡ Status.DiskFault
-        → Rose (D.state session.core.filer.swapper.under).faults (D.state result.1).faults }
-    ensures damage_line { result.0 ≡ Status.Damaged → (e : Evidence) × IsSo (D.state result.1) e × FromEachOutset session (D.state result.1) e × Puts (Rose (K.faults sink.old) (K.faults sink.new)) (K.took sink.old) (K.took sink.new)
+        → Rose (D.state session.core.filer.swapper.disk).faults (D.state result.1).faults }
+    ensures damage_line { result.0 ≡ Status.Damaged → (e : Evidence) × IsEvident (D.state result.1) e × FromEachInitialState session (D.state result.1) e × Puts (Rose (K.faults sink.old) (K.faults sink.new)) (K.took sink.old) (K.took sink.new)
         (last_line (Cause.Damaged e)) }
-    ensures left_open { IsUnset (D.state session.core.filer.swapper.under) → result.0 ≡ Status.Damaged → IsUnset (D.state result.1) }
+    ensures left_open { IsUnset (D.state session.core.filer.swapper.disk) → result.0 ≡ Status.Damaged → IsUnset (D.state result.1) }
     ensures ends { (result.0 ≡ Status.Done) ⊎ (result.0 ≡ Status.StreamFault)
         ⊎ (result.0 ≡ Status.DiskFault) ⊎ (result.0 ≡ Status.Damaged) }
-    ensures wrote { WroteOn session.core.filer.swapper.pool (D.state session.core.filer.swapper.under) (D.state result.1) }
+    ensures wrote { WroteOn session.core.filer.swapper.pool (D.state session.core.filer.swapper.disk) (D.state result.1) }
     ensures later { K.faults sink.old ≤ K.faults sink.new }
 {
     if end == End::Halt {

@@ -1,4 +1,4 @@
-//! An old volume is converted, and what was found is told.
+//! An old volume is converted, and what was found is revealed.
 ghost use Rattle.std.specs.Prelude.{◌≡◌, ◌≢◌, ℕ, List, Option, String};
 ghost use Rattle.std.specs.declared.alloc.Global.{Global};
 ghost use Rattle.command_words.specs.Meaning.{Means};
@@ -31,7 +31,7 @@ fn conversion_line(found: Converted) -> ArrayVec<u8, 64>
 }
 
 /// Brings the old volume of a disk to the version of today, and writes what was found. A root that is
-/// refused comes before want of memory.
+/// refused comes before running out of memory.
 pub(crate) fn convert_volume<A: Allocator + Clone, D: Disk, K: Sink>(
     alloc: A,
     disk: &mut D,

@@ -61,7 +61,7 @@ impl Counts {
     }
 
     // The first words of the line.
-    fn front(&self, calls: u32) -> ArrayVec<u8, 64>
+    fn prefix(&self, calls: u32) -> ArrayVec<u8, 64>
         ensures text { result.items ≡ codes "trial calls " ++ decimal calls ++ codes " errors " ++ decimal self.now.errors ++ codes " loaded " }
         ensures short { length result.items ≤ 48 }
     {
@@ -79,7 +79,7 @@ impl Counts {
         ensures { (replies : List Reply) → AreOf self.now replies → result.items ≡ trial_line calls replies }
     {
         let mut line = ArrayVec::new();
-        let _ = line.try_extend_from_slice(&self.front(calls));
+        let _ = line.try_extend_from_slice(&self.prefix(calls));
         let _ = line.try_extend_from_slice(Buffer::new().format(self.loaded).as_bytes());
         let _ = line.try_extend_from_slice(b" sum ");
         let _ = line.try_extend_from_slice(Buffer::new().format(self.sum).as_bytes());

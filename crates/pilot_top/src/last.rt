@@ -38,7 +38,7 @@ fn difference_word(what: Difference) -> &'static [u8]
     }
 }
 
-// The line of two parts behind `stopped `.
+// The line of two parts after `stopped `.
 fn line_of(word: &[u8], more: &[u8]) -> ArrayVec<u8, 32>
     requires { length word.now + length more.now ≤ 23 }
     ensures { result.items ≡ codes "stopped " ++ (word.now ++ more.now) ++ codes "\n" }

@@ -6,7 +6,7 @@ ghost use Rattle.labelled_disk.specs.Root.{LabelsRight};
 ghost use Rattle.labelled_disk.specs.Sectors.{Sector};
 ghost use Rattle.flat_machine.specs.declared.call.Reply.{Reply};
 ghost use Rattle.flat_machine.specs.Machine.{Machine};
-ghost use Rattle.session_words.specs.StandsFor.{TellsSettled};
+ghost use Rattle.session_words.specs.StandsFor.{RevealsSettled};
 ghost use Rattle.volume_root.specs.Sound.{Sound};
 ghost use Rattle.scavenger.specs.Restored.{IsRestored};
 ghost use Rattle.pilot_top.specs.Scavenging.{HasFilesOf};
@@ -17,8 +17,8 @@ ghost use Rattle.pilot_top.specs.Trial.{IsTrial};
 pub fn lost_maps_are_restored()
     ensures files { (e g h : List Sector) → LabelsRight e → OnlyMaps e g → IsRestored g h
         → HasFilesOf e h }
-    ensures run { (m : Machine) (e g h : List Sector) → TellsSettled e m
-        → OnlyMaps e g → IsRestored g h → Sound h × TellsSettled h m }
+    ensures run { (m : Machine) (e g h : List Sector) → RevealsSettled e m
+        → OnlyMaps e g → IsRestored g h → Sound h × RevealsSettled h m }
 {}
 
 /// A trial gets one list of replies, so its line is a function of seed and number of calls, whatever the frames and the sectors.

@@ -3,7 +3,7 @@ ghost use Rattle.std.specs.Prelude.{◌≡◌, ◌↔◌, ◌⊎◌, ℕ, ◌≤
 ghost use Rattle.labelled_disk.specs.Calls.{OnlyReads, Rose};
 ghost use Rattle.labelled_disk.specs.Layout.{IsCount};
 ghost use Rattle.std.specs.Io.KnownBytes.{Appends};
-ghost use Rattle.trace_io.specs.Stream.{IsFrontOf};
+ghost use Rattle.trace_io.specs.Stream.{IsPrefixOf};
 ghost use Rattle.volume_root.specs.Format.{format_writes, PartMade};
 ghost use Rattle.pilot_top.specs.Last.{last_line, Puts};
 ghost use Rattle.pilot_top.specs.Making.{made_line, IsMade};
@@ -43,8 +43,8 @@ pub(crate) fn make_volume<D: Disk, K: Sink>(
     ensures line { result ≡ Status.Done
         → Appends (K.took sink.old) (K.took sink.new) (made_line (D.state disk.old).sectors) }
     ensures part_of_line { result ≡ Status.StreamFault
-        → (front : List ℕ) × IsFrontOf front (made_line (D.state disk.old).sectors)
-        × Appends (K.took sink.old) (K.took sink.new) front }
+        → (prefix : List ℕ) × IsPrefixOf prefix (made_line (D.state disk.old).sectors)
+        × Appends (K.took sink.old) (K.took sink.new) prefix }
     ensures stream_cause { result ≡ Status.StreamFault
         → Rose (K.faults sink.old) (K.faults sink.new) }
 

@@ -1,7 +1,7 @@
 //! The lines about a restoration.
 ghost use Rattle.std.specs.Prelude.{◌≡◌, ◌≤◌, ◌++◌, codes, decimal, length, OnOk, OnErr};
 ghost use Rattle.std.specs.Io.KnownBytes.{Appends};
-ghost use Rattle.trace_io.specs.Stream.{AppendsFront, HasCause};
+ghost use Rattle.trace_io.specs.Stream.{AppendsPrefix, HasCause};
 ghost use Rattle.pilot_top.specs.Reporting.{lost_line, lost_lines, count_line, report_text};
 
 use crate::digits::id_digits;
@@ -26,7 +26,7 @@ fn lost_line(lost: &Lost) -> ArrayVec<u8, 64>
 }
 
 // The first words of that line.
-fn count_front(files: u32, pages: u32, freed: u32) -> ArrayVec<u8, 64>
+fn count_prefix(files: u32, pages: u32, freed: u32) -> ArrayVec<u8, 64>
     ensures text { result.items ≡ codes "scavenged " ++ decimal files ++ codes " " ++ decimal pages
         ++ codes " " ++ decimal freed ++ codes " " }
     ensures short { length result.items ≤ 43 }
@@ -45,7 +45,7 @@ fn count_front(files: u32, pages: u32, freed: u32) -> ArrayVec<u8, 64>
 fn count_line(files: u32, pages: u32, freed: u32, lost: usize) -> ArrayVec<u8, 64>
     ensures { result.items ≡ count_line files pages freed lost }
 {
-    let mut line = count_front(files, pages, freed);
+    let mut line = count_prefix(files, pages, freed);
     let _ = line.try_extend_from_slice(Buffer::new().format(lost).as_bytes());
     let _ = line.try_extend_from_slice(b"\n");
     line
@@ -54,7 +54,7 @@ fn count_line(files: u32, pages: u32, freed: u32, lost: usize) -> ArrayVec<u8, 6
 // A line for each of these sectors.
 fn put_lost<K: Sink>(sink: &mut K, lost: &[Lost]) -> Result<(), SinkFault>
     ensures ok { OnOk result (Appends (K.took sink.old) (K.took sink.new) (lost_lines lost.now)) }
-    ensures err { OnErr result (AppendsFront (K.took sink.old) (K.took sink.new) (lost_lines lost.now)) }
+    ensures err { OnErr result (AppendsPrefix (K.took sink.old) (K.took sink.new) (lost_lines lost.now)) }
     ensures cause { HasCause (K.faults sink.old) (K.faults sink.new) result }
 {
     for sector in lost {
@@ -69,7 +69,7 @@ pub(crate) fn put_report<A: Allocator, K: Sink>(
     report: &Report<A>,
 ) -> Result<(), SinkFault>
     ensures ok { OnOk result (Appends (K.took sink.old) (K.took sink.new) (report_text report.now)) }
-    ensures err { OnErr result (AppendsFront (K.took sink.old) (K.took sink.new) (report_text report.now)) }
+    ensures err { OnErr result (AppendsPrefix (K.took sink.old) (K.took sink.new) (report_text report.now)) }
     ensures cause { HasCause (K.faults sink.old) (K.faults sink.new) result }
 {
     let lost = report.lost();

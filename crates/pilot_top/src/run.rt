@@ -16,10 +16,10 @@ ghost use Rattle.pilot_engine.specs.Closing.{HasShut};
 ghost use Rattle.running_words.specs.Session.{IsOpen};
 ghost use Rattle.running_words.specs.Running.{Runs};
 ghost use Rattle.pilot_top.specs.Ending.{halts, closes};
-ghost use Rattle.pilot_top.specs.Headline.{Answering, EndsEarly, HasFilesAt, IsLeftOpen, Run, TellsDamage, at_end, line_bound, run_bound};
+ghost use Rattle.pilot_top.specs.Headline.{Answering, EndsEarly, HasFilesAt, IsLeftOpen, Run, RevealsDamage, at_end, line_bound, run_bound};
 ghost use Rattle.pilot_top.specs.Last.{last_line, Puts};
-ghost use Rattle.pilot_top.specs.Moments.{Lawfully, Moments, ShutsLast};
-ghost use Rattle.pilot_top.specs.Outset.{FromEachOutset, FromOutset};
+ghost use Rattle.pilot_top.specs.CrashStates.{Lawfully, CrashStates, ShutsLast};
+ghost use Rattle.pilot_top.specs.InitialState.{FromEachInitialState, FromInitialState};
 ghost use Rattle.pilot_top.specs.Replied.{Replied};
 
 use crate::Status;
@@ -28,7 +28,7 @@ use crate::last::{Cause, put_last};
 use crate::stopping::{refuse, stop};
 use crate::turn::{Turn, take_turn};
 use labelled_disk::{Disk, RootFault};
-use pilot_engine::SessionOver;
+use pilot_engine::Session;
 use std::alloc::Allocator;
 use trace_io::{Lines, Sink, Source, write_reply};
 
@@ -37,23 +37,23 @@ const LIMIT: u64 = 1 << 32;
 
 // Reads a trace, and writes a reply to each line, in a session that was started.
 fn answer_lines<D: Disk, A: Allocator, S: Source, K: Sink>(
-    session: SessionOver<D, A>,
+    session: Session<D, A>,
     source: &mut S,
     sink: &mut K,
 ) -> (Status, D)
-    requires size { (D.state session.core.filer.swapper.under).sectors ≡ session.core.filer.swapper.layout.sectors }
+    requires size { (D.state session.core.filer.swapper.disk).sectors ≡ session.core.filer.swapper.layout.sectors }
     requires opened { IsOpen session.core.filer.swapper.layout session.volume }
     requires running { session.running ≡ true }
     ensures answering { (m : Machine) (b t : List ℕ) → Runs session.core session.volume m
         → S.left source.old ≡ Some b → K.took sink.old ≡ Some t
         → Answering result.0 m b (S.left source.new) t (K.took sink.new)
         (Rose (K.faults sink.old) (K.faults sink.new)) (HasFilesAt m (reading b) (D.state result.1)) }
-    ensures replied { (b t : List ℕ) → IsLeftOpen (D.state session.core.filer.swapper.under)
+    ensures replied { (b t : List ℕ) → IsLeftOpen (D.state session.core.filer.swapper.disk)
         → S.left source.old ≡ Some b → K.took sink.old ≡ Some t
         → Replied result.0 b (S.left source.new) t (K.took sink.new)
-        (Rose (K.faults sink.old) (K.faults sink.new)) (D.state result.1) (FromEachOutset session (D.state result.1)) }
-    ensures moments { (m : Machine) (b : List ℕ) → Runs session.core session.volume m
-        → S.left source.old ≡ Some b → Moments m (reading b) (D.state session.core.filer.swapper.under) (D.state result.1) }
+        (Rose (K.faults sink.old) (K.faults sink.new)) (D.state result.1) (FromEachInitialState session (D.state result.1)) }
+    ensures crash_states { (m : Machine) (b : List ℕ) → Runs session.core session.volume m
+        → S.left source.old ≡ Some b → CrashStates m (reading b) (D.state session.core.filer.swapper.disk) (D.state result.1) }
     ensures closed { (m : Machine) (b : List ℕ) → Runs session.core session.volume m
         → S.left source.old ≡ Some b → result.0 ≡ Status.Done → halts (reading b) ≡ false
         → HasShut (after m (reading b) (length (reading b))) (D.state result.1) }
@@ -61,28 +61,28 @@ fn answer_lines<D: Disk, A: Allocator, S: Source, K: Sink>(
         → S.left source.old ≡ Some b → result.0 ≡ Status.StreamFault → ¬ Rose (S.faults source.old) (S.faults source.new)
         → S.left source.new ≡ Some (rest_of b) → closes (reading b) ≡ true
         → HasShut (after m (reading b) (length (reading b))) (D.state result.1) }
-    ensures some_moments { (m : Machine) → Runs session.core session.volume m
-        → (lines : List TraceLine) × Moments m lines (D.state session.core.filer.swapper.under) (D.state result.1) }
-    ensures stays_open { (b : List ℕ) → IsLeftOpen (D.state session.core.filer.swapper.under)
+    ensures some_crash_states { (m : Machine) → Runs session.core session.volume m
+        → (lines : List TraceLine) × CrashStates m lines (D.state session.core.filer.swapper.disk) (D.state result.1) }
+    ensures stays_open { (b : List ℕ) → IsLeftOpen (D.state session.core.filer.swapper.disk)
         → S.left source.old ≡ Some b → EndsEarly result.0 (reading b) → IsLeftOpen (D.state result.1) }
-    ensures untaken { (b : List ℕ) → IsLeftOpen (D.state session.core.filer.swapper.under)
+    ensures untaken { (b : List ℕ) → IsLeftOpen (D.state session.core.filer.swapper.disk)
         → S.left source.old ≡ Some b → result.0 ≡ Status.StreamFault → S.left source.new ≢ Some (rest_of b)
         → IsLeftOpen (D.state result.1) }
-    ensures left_open { IsLeftOpen (D.state session.core.filer.swapper.under)
+    ensures left_open { IsLeftOpen (D.state session.core.filer.swapper.disk)
         → (result.0 ≡ Status.Long) ⊎ (result.0 ≡ Status.Damaged) → IsLeftOpen (D.state result.1) }
     ensures transfers { (m : Machine) (b : List ℕ) → Runs session.core session.volume m
         → S.left source.old ≡ Some b
-        → (D.state result.1).transfers ≤ (D.state session.core.filer.swapper.under).transfers + (other_bound (D.state session.core.filer.swapper.under).sectors + sum_by (line_bound (D.state session.core.filer.swapper.under).sectors) (reading b)) }
+        → (D.state result.1).transfers ≤ (D.state session.core.filer.swapper.disk).transfers + (other_bound (D.state session.core.filer.swapper.disk).sectors + sum_by (line_bound (D.state session.core.filer.swapper.disk).sectors) (reading b)) }
     ensures sound { (m : Machine) → Runs session.core session.volume m
         → result.0 ≢ Status.Damaged }
-    ensures damage { (t : List ℕ) → IsLeftOpen (D.state session.core.filer.swapper.under)
+    ensures damage { (t : List ℕ) → IsLeftOpen (D.state session.core.filer.swapper.disk)
         → K.took sink.old ≡ Some t → result.0 ≡ Status.Damaged
-        → (told : TellsDamage t (K.took sink.new) (Rose (K.faults sink.old) (K.faults sink.new)) (D.state result.1))
-        × FromEachOutset session (D.state result.1) told.evidence }
-    ensures lawful { ShutsLast (D.state session.core.filer.swapper.under) (D.state result.1) }
-    ensures same_disk { Went (D.state session.core.filer.swapper.under) (D.state result.1) }
+        → (revealed : RevealsDamage t (K.took sink.new) (Rose (K.faults sink.old) (K.faults sink.new)) (D.state result.1))
+        × FromEachInitialState session (D.state result.1) revealed.evidence }
+    ensures permitted { ShutsLast (D.state session.core.filer.swapper.disk) (D.state result.1) }
+    ensures same_disk { Went (D.state session.core.filer.swapper.disk) (D.state result.1) }
     ensures disk_cause { result.0 ≡ Status.DiskFault
-        → Rose (D.state session.core.filer.swapper.under).faults (D.state result.1).faults }
+        → Rose (D.state session.core.filer.swapper.disk).faults (D.state result.1).faults }
     ensures stream_cause { result.0 ≡ Status.StreamFault
         → Rose (S.faults source.old) (S.faults source.new)
         ⊎ Rose (K.faults sink.old) (K.faults sink.new) }
@@ -131,10 +131,10 @@ pub(crate) fn run<A: Allocator, D: Disk, S: Source, K: Sink>(
         (Rose (K.faults sink.old) (K.faults sink.new)) (D.state result.1) }
     ensures replied { (b t : List ℕ) → S.left source.old ≡ Some b → K.took sink.old ≡ Some t
         → Replied result.0 b (S.left source.new) t (K.took sink.new)
-        (Rose (K.faults sink.old) (K.faults sink.new)) (D.state result.1) (FromOutset (D.state disk) (D.state result.1)) }
-    ensures moments { (d : List Sector) (b : List ℕ)
+        (Rose (K.faults sink.old) (K.faults sink.new)) (D.state result.1) (FromInitialState (D.state disk) (D.state result.1)) }
+    ensures crash_states { (d : List Sector) (b : List ℕ)
         → (D.state disk).contents ≡ Some d → Sound d → S.left source.old ≡ Some b
-        → Moments (start d) (reading b) (D.state disk) (D.state result.1) }
+        → CrashStates (start d) (reading b) (D.state disk) (D.state result.1) }
     ensures closed { (d : List Sector) (b : List ℕ)
         → (D.state disk).contents ≡ Some d → Sound d → S.left source.old ≡ Some b
         → result.0 ≡ Status.Done → halts (reading b) ≡ false
@@ -144,8 +144,8 @@ pub(crate) fn run<A: Allocator, D: Disk, S: Source, K: Sink>(
         → result.0 ≡ Status.StreamFault → ¬ Rose (S.faults source.old) (S.faults source.new)
         → S.left source.new ≡ Some (rest_of b) → closes (reading b) ≡ true
         → HasShut (at_end d (reading b)) (D.state result.1) }
-    ensures some_moments { (d : List Sector) → (D.state disk).contents ≡ Some d → Sound d
-        → (lines : List TraceLine) × Moments (start d) lines (D.state disk) (D.state result.1) }
+    ensures some_crash_states { (d : List Sector) → (D.state disk).contents ≡ Some d → Sound d
+        → (lines : List TraceLine) × CrashStates (start d) lines (D.state disk) (D.state result.1) }
     ensures stays_open { (b : List ℕ) → S.left source.old ≡ Some b
         → EndsEarly result.0 (reading b) → IsLeftOpen (D.state result.1) }
     ensures untaken { (b : List ℕ) → S.left source.old ≡ Some b → result.0 ≡ Status.StreamFault
@@ -157,9 +157,9 @@ pub(crate) fn run<A: Allocator, D: Disk, S: Source, K: Sink>(
     ensures sound { (d : List Sector) → (D.state disk).contents ≡ Some d → Sound d
         → result.0 ≢ Status.NotOpened × result.0 ≢ Status.Damaged }
     ensures damage { (t : List ℕ) → K.took sink.old ≡ Some t → result.0 ≡ Status.Damaged
-        → (told : TellsDamage t (K.took sink.new) (Rose (K.faults sink.old) (K.faults sink.new)) (D.state result.1))
-        × FromOutset (D.state disk) (D.state result.1) told.evidence }
-    ensures lawful { Lawfully (D.state disk) (D.state result.1) }
+        → (revealed : RevealsDamage t (K.took sink.new) (Rose (K.faults sink.old) (K.faults sink.new)) (D.state result.1))
+        × FromInitialState (D.state disk) (D.state result.1) revealed.evidence }
+    ensures permitted { Lawfully (D.state disk) (D.state result.1) }
     ensures same_disk { Went (D.state disk) (D.state result.1) }
 
     // The volume can't be opened.
@@ -194,7 +194,7 @@ pub(crate) fn run<A: Allocator, D: Disk, S: Source, K: Sink>(
         → result.0 ≡ Status.Long → ¬ IsShort (2 ^ 32) b }
     ensures no_other { result.0 ≢ Status.Usage × result.0 ≢ Status.Unfit }
 {
-    match SessionOver::over(alloc, disk, frames) {
+    match Session::over(alloc, disk, frames) {
         Ok(session) => answer_lines(session, source, sink),
         Err((fault, disk)) => (refuse(fault, sink), disk),
     }

@@ -1,12 +1,12 @@
-//! A volume is restored, and what was found is told.
+//! A volume is restored, and what was found is revealed.
 ghost use Rattle.std.specs.Prelude.{◌≡◌, ◌≢◌, ◌⊎◌, ◌++◌, ℕ, List, [], Some, Err, true, false, length, slice_get, IfOk, OnOk};
 ghost use Rattle.std.specs.Io.KnownBytes.{Appends};
-ghost use Rattle.labelled_disk.specs.Calls.{OnlyReads, Rose, TellsSame};
+ghost use Rattle.labelled_disk.specs.Calls.{OnlyReads, Rose, RevealsSame};
 ghost use Rattle.labelled_disk.specs.Layout.{IsCount};
-ghost use Rattle.labelled_disk.specs.Moment.{moment};
+ghost use Rattle.labelled_disk.specs.CrashState.{crash_state};
 ghost use Rattle.labelled_disk.specs.Sectors.{Sector};
 ghost use Rattle.labelled_disk.specs.WriteRuns.{Appended};
-ghost use Rattle.trace_io.specs.Stream.{IsFrontOf};
+ghost use Rattle.trace_io.specs.Stream.{IsPrefixOf};
 ghost use Rattle.volume_root.specs.Format.{PartMade};
 ghost use Rattle.volume_root.specs.RootPage.{judged};
 ghost use Rattle.scavenger.specs.Opening.{Accords};
@@ -77,12 +77,12 @@ fn restored<A: Allocator + Clone, D: Disk>(
         × Appended (scavenge_writes o) (D.state disk.old) (D.state disk.new)) }
     ensures part { result ≡ Err ScavengeFault.Disk
         → (g : List Sector) → (D.state disk.old).contents ≡ Some g
-        → TellsSame (D.state disk.old) (D.state disk.new) ⊎ ((o : Orders) × AreFor g o
+        → RevealsSame (D.state disk.old) (D.state disk.new) ⊎ ((o : Orders) × AreFor g o
         × PartMade (scavenge_writes o) (D.state disk.old) (D.state disk.new)) }
-    ensures moments { (g : List Sector) (before writes : List DiskWrite)
+    ensures crash_states { (g : List Sector) (before writes : List DiskWrite)
         → (D.state disk.old).contents ≡ Some g → (D.state disk.old).writes ≡ Some before
         → (D.state disk.new).writes ≡ Some (before ++ writes)
-        → (k : ℕ) → IsBetween g (moment g writes k) }
+        → (k : ℕ) → IsBetween g (crash_state g writes k) }
 
     // The disk has no volume that can be restored.
     ensures count { ¬ IsCount (D.state disk.old).sectors
@@ -108,7 +108,7 @@ fn restored<A: Allocator + Clone, D: Disk>(
 }
 
 /// Restores the volume of a disk, and writes what was found. A root that is refused comes before
-/// want of memory.
+/// running out of memory.
 pub(crate) fn restore_volume<A: Allocator + Clone, D: Disk, K: Sink>(
     alloc: A,
     disk: &mut D,
@@ -117,7 +117,7 @@ pub(crate) fn restore_volume<A: Allocator + Clone, D: Disk, K: Sink>(
     ensures ends { (result ≡ Status.Done) ⊎ (result ≡ Status.StreamFault)
         ⊎ (result ≡ Status.DiskFault) ⊎ (result ≡ Status.NotOpened) ⊎ (result ≡ Status.NoMemory) }
 
-    // What is restored, and told.
+    // What is restored, and revealed.
     ensures restored { (result ≡ Status.Done) ⊎ (result ≡ Status.StreamFault)
         → (g : List Sector) → (D.state disk.old).contents ≡ Some g
         → (h : List Sector) × ((D.state disk.new).contents ≡ Some h) × IsRestored g h }
@@ -127,13 +127,13 @@ pub(crate) fn restore_volume<A: Allocator + Clone, D: Disk, K: Sink>(
         → Appends (K.took sink.old) (K.took sink.new) (restored_text g) }
     ensures part_of_text { result ≡ Status.StreamFault → (g : List Sector)
         → (D.state disk.old).contents ≡ Some g
-        → (front : List ℕ) × IsFrontOf front (restored_text g)
-        × Appends (K.took sink.old) (K.took sink.new) front }
+        → (prefix : List ℕ) × IsPrefixOf prefix (restored_text g)
+        × Appends (K.took sink.old) (K.took sink.new) prefix }
     ensures some_text { result ≡ Status.Done → (text : List ℕ) × IsReport text
         × Appends (K.took sink.old) (K.took sink.new) text }
-    ensures some_front { result ≡ Status.StreamFault → (text : List ℕ) × IsReport text
-        × (front : List ℕ) × IsFrontOf front text
-        × Appends (K.took sink.old) (K.took sink.new) front }
+    ensures some_prefix { result ≡ Status.StreamFault → (text : List ℕ) × IsReport text
+        × (prefix : List ℕ) × IsPrefixOf prefix text
+        × Appends (K.took sink.old) (K.took sink.new) prefix }
     ensures stream_cause { result ≡ Status.StreamFault
         → Rose (K.faults sink.old) (K.faults sink.new) }
 
@@ -144,12 +144,12 @@ pub(crate) fn restore_volume<A: Allocator + Clone, D: Disk, K: Sink>(
         × Appended (scavenge_writes o) (D.state disk.old) (D.state disk.new) }
     ensures part { result ≡ Status.DiskFault
         → (g : List Sector) → (D.state disk.old).contents ≡ Some g
-        → TellsSame (D.state disk.old) (D.state disk.new) ⊎ ((o : Orders) × AreFor g o
+        → RevealsSame (D.state disk.old) (D.state disk.new) ⊎ ((o : Orders) × AreFor g o
         × PartMade (scavenge_writes o) (D.state disk.old) (D.state disk.new)) }
-    ensures moments { (g : List Sector) (before writes : List DiskWrite)
+    ensures crash_states { (g : List Sector) (before writes : List DiskWrite)
         → (D.state disk.old).contents ≡ Some g → (D.state disk.old).writes ≡ Some before
         → (D.state disk.new).writes ≡ Some (before ++ writes)
-        → (k : ℕ) → IsBetween g (moment g writes k) }
+        → (k : ℕ) → IsBetween g (crash_state g writes k) }
 
     // The disk has no volume that can be restored.
     ensures count { ¬ IsCount (D.state disk.old).sectors → result ≡ Status.NotOpened

@@ -1,4 +1,4 @@
-//! A trial: drawn calls are carried out in a session on a new volume, and what came of them is told in one line.
+//! A trial: drawn calls are carried out in a session on a new volume, and what came of them is revealed in one line.
 ghost use Rattle.std.specs.Prelude.{◌≡◌, ◌≢◌, ◌↔◌, ◌⊎◌, ◌<◌, ◌≤◌, ◌++◌, ℕ, List, Some, true, false, length, slice_get, IfOk, IfErr, OnOk, Err};
 ghost use Rattle.std.specs.Io.KnownBytes.{Appends};
 ghost use Rattle.labelled_disk.specs.declared.evidence.Evidence.{Evidence};
@@ -11,15 +11,15 @@ ghost use Rattle.flat_machine.specs.After.{ends_trace};
 ghost use Rattle.flat_machine.specs.Form.{IsInForm};
 ghost use Rattle.flat_machine.specs.Machine.{Machine};
 ghost use Rattle.swapper_kernel.specs.Goes.{Went};
-ghost use Rattle.filer_kernel.specs.Evidence.{IsSo, ShowsSo};
+ghost use Rattle.filer_kernel.specs.Evidence.{IsEvident, ShowsEvidence};
 ghost use Rattle.volume_root.specs.Later.{IsLater};
-ghost use Rattle.trace_io.specs.Stream.{IsFrontOf};
+ghost use Rattle.trace_io.specs.Stream.{IsPrefixOf};
 ghost use Rattle.pilot_engine.specs.Closing.{HasShut};
 ghost use Rattle.running_words.specs.Session.{IsOpen};
 ghost use Rattle.running_words.specs.Running.{Runs};
 ghost use Rattle.pilot_top.specs.Counting.{AreOf};
 ghost use Rattle.pilot_top.specs.Last.{last_line, Puts};
-ghost use Rattle.pilot_top.specs.Moments.{Openly, ShutsLast};
+ghost use Rattle.pilot_top.specs.CrashStates.{Openly, ShutsLast};
 ghost use Rattle.pilot_top.specs.Trial.{HasAnswered, HasNoFile, IsTrial, IsTrialOf, TriesLawfully, after_calls, drawn_calls, first_calls, trial_line};
 
 use crate::Status;
@@ -29,7 +29,7 @@ use crate::last::Cause;
 use crate::stopping::{refuse, stop};
 use flat_machine::Call;
 use labelled_disk::{Disk, Halt, RootFault};
-use pilot_engine::SessionOver;
+use pilot_engine::Session;
 use std::alloc::Allocator;
 use trace_io::Sink;
 use trace_maker::TraceMaker;
@@ -61,18 +61,18 @@ fn first_call(index: u32) -> Call
 }
 
 // Makes the files, the spaces and the windows.
-#[tactic(auto, using(crate::proofs::LawfulRuns::openly_itself))]
-fn prepare<D: Disk, A: Allocator>(session: &mut SessionOver<D, A>) -> Result<(), Halt>
-    requires size { (D.state session.old.core.filer.swapper.under).sectors ≡ session.old.core.filer.swapper.layout.sectors }
+#[tactic(auto, using(crate::proofs::PermittedRuns::openly_itself))]
+fn prepare<D: Disk, A: Allocator>(session: &mut Session<D, A>) -> Result<(), Halt>
+    requires size { (D.state session.old.core.filer.swapper.disk).sectors ≡ session.old.core.filer.swapper.layout.sectors }
     requires opened { IsOpen session.old.core.filer.swapper.layout session.old.volume }
     requires running { session.old.running ≡ true }
     ensures answered { (m : Machine) → Runs session.old.core session.old.volume m
         → OnOk result ((replies : List Reply) × HasAnswered m first_calls replies (Runs session.new.core session.new.volume)) }
     ensures sound { (m : Machine) → Runs session.old.core session.old.volume m → IfErr result (λ e. e ≡ halt.Disk) }
-    ensures counted { result ≡ Err halt.Disk → Rose (D.state session.old.core.filer.swapper.under).faults (D.state session.new.core.filer.swapper.under).faults }
-    ensures so { IfErr result (ShowsSo (D.state session.new.core.filer.swapper.under)) }
-    ensures lawful { Openly (D.state session.old.core.filer.swapper.under) (D.state session.new.core.filer.swapper.under) }
-    ensures went { Went (D.state session.old.core.filer.swapper.under) (D.state session.new.core.filer.swapper.under) }
+    ensures counted { result ≡ Err halt.Disk → Rose (D.state session.old.core.filer.swapper.disk).faults (D.state session.new.core.filer.swapper.disk).faults }
+    ensures evidence_seen { IfErr result (ShowsEvidence (D.state session.new.core.filer.swapper.disk)) }
+    ensures permitted { Openly (D.state session.old.core.filer.swapper.disk) (D.state session.new.core.filer.swapper.disk) }
+    ensures went { Went (D.state session.old.core.filer.swapper.disk) (D.state session.new.core.filer.swapper.disk) }
     ensures layout { session.new.core.filer.swapper.layout ≡ session.old.core.filer.swapper.layout }
     ensures open_still { IsOpen session.new.core.filer.swapper.layout session.new.volume }
     ensures goes_on { OnOk result (session.new.running ≡ true) }
@@ -87,23 +87,23 @@ fn prepare<D: Disk, A: Allocator>(session: &mut SessionOver<D, A>) -> Result<(),
 }
 
 // Carries the drawn calls out, so many, and counts what came of them.
-#[tactic(auto, using(crate::proofs::LawfulRuns::openly_itself))]
+#[tactic(auto, using(crate::proofs::PermittedRuns::openly_itself))]
 fn count_calls<D: Disk, A: Allocator>(
-    session: &mut SessionOver<D, A>,
+    session: &mut Session<D, A>,
     seed: u32,
     calls: u32,
 ) -> Result<Counts, Halt>
-    requires size { (D.state session.old.core.filer.swapper.under).sectors ≡ session.old.core.filer.swapper.layout.sectors }
+    requires size { (D.state session.old.core.filer.swapper.disk).sectors ≡ session.old.core.filer.swapper.layout.sectors }
     requires opened { IsOpen session.old.core.filer.swapper.layout session.old.volume }
     requires running { session.old.running ≡ true }
     ensures answered { IfOk result (λ counts. (replies : List Reply) × AreOf counts replies × (length replies ≡ calls)
         × ((m : Machine) → Runs session.old.core session.old.volume m
         → HasAnswered m (drawn_calls seed calls) replies (Runs session.new.core session.new.volume))) }
     ensures sound { (m : Machine) → Runs session.old.core session.old.volume m → IfErr result (λ e. e ≡ halt.Disk) }
-    ensures counted { result ≡ Err halt.Disk → Rose (D.state session.old.core.filer.swapper.under).faults (D.state session.new.core.filer.swapper.under).faults }
-    ensures so { IfErr result (ShowsSo (D.state session.new.core.filer.swapper.under)) }
-    ensures lawful { Openly (D.state session.old.core.filer.swapper.under) (D.state session.new.core.filer.swapper.under) }
-    ensures went { Went (D.state session.old.core.filer.swapper.under) (D.state session.new.core.filer.swapper.under) }
+    ensures counted { result ≡ Err halt.Disk → Rose (D.state session.old.core.filer.swapper.disk).faults (D.state session.new.core.filer.swapper.disk).faults }
+    ensures evidence_seen { IfErr result (ShowsEvidence (D.state session.new.core.filer.swapper.disk)) }
+    ensures permitted { Openly (D.state session.old.core.filer.swapper.disk) (D.state session.new.core.filer.swapper.disk) }
+    ensures went { Went (D.state session.old.core.filer.swapper.disk) (D.state session.new.core.filer.swapper.disk) }
     ensures layout { session.new.core.filer.swapper.layout ≡ session.old.core.filer.swapper.layout }
     ensures open_still { IsOpen session.new.core.filer.swapper.layout session.new.volume }
     ensures goes_on { OnOk result (session.new.running ≡ true) }
@@ -121,21 +121,21 @@ fn count_calls<D: Disk, A: Allocator>(
 
 // Carries all calls of a trial out.
 fn try_calls<D: Disk, A: Allocator>(
-    session: &mut SessionOver<D, A>,
+    session: &mut Session<D, A>,
     seed: u32,
     calls: u32,
 ) -> Result<Counts, Halt>
-    requires size { (D.state session.old.core.filer.swapper.under).sectors ≡ session.old.core.filer.swapper.layout.sectors }
+    requires size { (D.state session.old.core.filer.swapper.disk).sectors ≡ session.old.core.filer.swapper.layout.sectors }
     requires opened { IsOpen session.old.core.filer.swapper.layout session.old.volume }
     requires running { session.old.running ≡ true }
     ensures answered { IfOk result (λ counts. (replies : List Reply) × AreOf counts replies × (length replies ≡ calls)
         × ((m : Machine) → Runs session.old.core session.old.volume m → IsTrialOf m seed calls replies
         × Runs session.new.core session.new.volume (after_calls m (first_calls ++ drawn_calls seed calls)))) }
     ensures sound { (m : Machine) → Runs session.old.core session.old.volume m → IfErr result (λ e. e ≡ halt.Disk) }
-    ensures counted { result ≡ Err halt.Disk → Rose (D.state session.old.core.filer.swapper.under).faults (D.state session.new.core.filer.swapper.under).faults }
-    ensures so { IfErr result (ShowsSo (D.state session.new.core.filer.swapper.under)) }
-    ensures lawful { Openly (D.state session.old.core.filer.swapper.under) (D.state session.new.core.filer.swapper.under) }
-    ensures went { Went (D.state session.old.core.filer.swapper.under) (D.state session.new.core.filer.swapper.under) }
+    ensures counted { result ≡ Err halt.Disk → Rose (D.state session.old.core.filer.swapper.disk).faults (D.state session.new.core.filer.swapper.disk).faults }
+    ensures evidence_seen { IfErr result (ShowsEvidence (D.state session.new.core.filer.swapper.disk)) }
+    ensures permitted { Openly (D.state session.old.core.filer.swapper.disk) (D.state session.new.core.filer.swapper.disk) }
+    ensures went { Went (D.state session.old.core.filer.swapper.disk) (D.state session.new.core.filer.swapper.disk) }
     ensures layout { session.new.core.filer.swapper.layout ≡ session.old.core.filer.swapper.layout }
     ensures open_still { IsOpen session.new.core.filer.swapper.layout session.new.volume }
     ensures goes_on { OnOk result (session.new.running ≡ true) }
@@ -150,14 +150,14 @@ fn try_calls<D: Disk, A: Allocator>(
     }
 }
 
-// Carries a trial out in a session, ends the session, and then tells what came of it.
+// Carries a trial out in a session, ends the session, and then reveals what came of it.
 fn try_session<D: Disk, A: Allocator, K: Sink>(
-    session: SessionOver<D, A>,
+    session: Session<D, A>,
     seed: u32,
     calls: u32,
     sink: &mut K,
 ) -> (Status, D)
-    requires size { (D.state session.core.filer.swapper.under).sectors ≡ session.core.filer.swapper.layout.sectors }
+    requires size { (D.state session.core.filer.swapper.disk).sectors ≡ session.core.filer.swapper.layout.sectors }
     requires opened { IsOpen session.core.filer.swapper.layout session.volume }
     requires running { session.running ≡ true }
     ensures ends { (result.0 ≡ Status.Done) ⊎ (result.0 ≡ Status.StreamFault)
@@ -167,24 +167,24 @@ fn try_session<D: Disk, A: Allocator, K: Sink>(
         × Appends (K.took sink.old) (K.took sink.new) (trial_line calls replies) }
     ensures part_of_line { result.0 ≡ Status.StreamFault → (replies : List Reply) × (length replies ≡ calls)
         × ((m : Machine) → Runs session.core session.volume m → IsTrialOf m seed calls replies)
-        × (front : List ℕ) × IsFrontOf front (trial_line calls replies)
-        × Appends (K.took sink.old) (K.took sink.new) front }
+        × (prefix : List ℕ) × IsPrefixOf prefix (trial_line calls replies)
+        × Appends (K.took sink.old) (K.took sink.new) prefix }
     ensures left { (m : Machine) → Runs session.core session.volume m
         → (result.0 ≡ Status.Done) ⊎ (result.0 ≡ Status.StreamFault)
         → HasShut (after_calls m (first_calls ++ drawn_calls seed calls)) (D.state result.1) }
     ensures sound { (m : Machine) → Runs session.core session.volume m → result.0 ≢ Status.Damaged }
     ensures disk_cause { result.0 ≡ Status.DiskFault
-        → Rose (D.state session.core.filer.swapper.under).faults (D.state result.1).faults }
+        → Rose (D.state session.core.filer.swapper.disk).faults (D.state result.1).faults }
     ensures disk_line { result.0 ≡ Status.DiskFault
         → Puts (Rose (K.faults sink.old) (K.faults sink.new)) (K.took sink.old) (K.took sink.new)
         (last_line Cause.DiskFault) }
     ensures stream_cause { result.0 ≡ Status.StreamFault
         → Rose (K.faults sink.old) (K.faults sink.new) }
-    ensures damage_line { result.0 ≡ Status.Damaged → (e : Evidence) × IsSo (D.state result.1) e
+    ensures damage_line { result.0 ≡ Status.Damaged → (e : Evidence) × IsEvident (D.state result.1) e
         × Puts (Rose (K.faults sink.old) (K.faults sink.new)) (K.took sink.old) (K.took sink.new)
         (last_line (Cause.Damaged e)) }
-    ensures lawful { ShutsLast (D.state session.core.filer.swapper.under) (D.state result.1) }
-    ensures went { Went (D.state session.core.filer.swapper.under) (D.state result.1) }
+    ensures permitted { ShutsLast (D.state session.core.filer.swapper.disk) (D.state result.1) }
+    ensures went { Went (D.state session.core.filer.swapper.disk) (D.state result.1) }
 {
     let mut session = session;
     let counts = match try_calls(&mut session, seed, calls) {
@@ -221,8 +221,8 @@ pub(crate) fn run_trial<A: Allocator, D: Disk, K: Sink>(
         × Appends (K.took sink.old) (K.took sink.new) (trial_line calls replies) }
     ensures part_of_line { result.0 ≡ Status.StreamFault → (replies : List Reply) × (length replies ≡ calls)
         × ((d : List Sector) → (D.state disk).contents ≡ Some d → IsTrial (D.state disk).sectors seed calls replies)
-        × (front : List ℕ) × IsFrontOf front (trial_line calls replies)
-        × Appends (K.took sink.old) (K.took sink.new) front }
+        × (prefix : List ℕ) × IsPrefixOf prefix (trial_line calls replies)
+        × Appends (K.took sink.old) (K.took sink.new) prefix }
     ensures left { (d : List Sector) → (D.state disk).contents ≡ Some d
         → (result.0 ≡ Status.Done) ⊎ (result.0 ≡ Status.StreamFault)
         → HasNoFile (D.state result.1) }
@@ -240,7 +240,7 @@ pub(crate) fn run_trial<A: Allocator, D: Disk, K: Sink>(
     ensures memory { result.0 ≡ Status.NoMemory
         → OnlyReads (D.state disk) (D.state result.1) × (sink.new ≡ sink.old) }
 
-    // Disk or sink failed; on a disk that tells what it holds, no damage is found.
+    // Disk or sink failed; on a disk that reveals what it holds, no damage is found.
     ensures disk_cause { result.0 ≡ Status.DiskFault
         → Rose (D.state disk).faults (D.state result.1).faults }
     ensures disk_line { result.0 ≡ Status.DiskFault
@@ -249,13 +249,13 @@ pub(crate) fn run_trial<A: Allocator, D: Disk, K: Sink>(
     ensures stream_cause { result.0 ≡ Status.StreamFault
         → Rose (K.faults sink.old) (K.faults sink.new) }
     ensures sound { (d : List Sector) → (D.state disk).contents ≡ Some d → result.0 ≢ Status.Damaged }
-    ensures damage_line { result.0 ≡ Status.Damaged → (e : Evidence) × IsSo (D.state result.1) e
+    ensures damage_line { result.0 ≡ Status.Damaged → (e : Evidence) × IsEvident (D.state result.1) e
         × Puts (Rose (K.faults sink.old) (K.faults sink.new)) (K.took sink.old) (K.took sink.new)
         (last_line (Cause.Damaged e)) }
-    ensures lawful { TriesLawfully (D.state disk) (D.state result.1) }
+    ensures permitted { TriesLawfully (D.state disk) (D.state result.1) }
     ensures later { IsLater (D.state disk) (D.state result.1) }
 {
-    match SessionOver::fresh(alloc, disk, frames) {
+    match Session::fresh(alloc, disk, frames) {
         Ok(session) => try_session(session, seed, calls, sink),
         Err((fault, disk)) => (refuse(fault, sink), disk),
     }

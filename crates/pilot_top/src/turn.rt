@@ -2,21 +2,21 @@
 ghost use Rattle.std.specs.Prelude.{◌≡◌, ◌⊎◌, ◌≤◌, [], ◌∷◌, true, Some, None};
 ghost use Rattle.labelled_disk.specs.declared.evidence.Halt.TheVariants as halt;
 ghost use Rattle.labelled_disk.specs.Calls.{Rose};
-ghost use Rattle.filer_kernel.specs.Evidence.{ShowsSo};
-ghost use Rattle.file_manager.specs.Creating.{IsOnward, next_id};
-ghost use Rattle.file_manager.specs.Reasons.{KeepsOn, Outset, ShowsReason, IsAhead, giving};
+ghost use Rattle.filer_kernel.specs.Evidence.{ShowsEvidence};
+ghost use Rattle.file_manager.specs.Creating.{IsMonotone, next_id};
+ghost use Rattle.file_manager.specs.Reasons.{KeepsOn, InitialState, ShowsReason, IsNotOlder, giving};
 ghost use Rattle.flat_machine.specs.Machine.{Machine};
 ghost use Rattle.running_words.specs.Session.{IsOpen, WroteIn};
 ghost use Rattle.running_words.specs.Stages.{client_or_own};
 ghost use Rattle.running_words.specs.Running.{Runs};
 ghost use Rattle.pilot_top.specs.Headline.{CostsLine};
-ghost use Rattle.pilot_top.specs.Moments.{Moments};
+ghost use Rattle.pilot_top.specs.CrashStates.{CrashStates};
 ghost use Rattle.pilot_top.specs.Turn.{EndsAt, IsGoing, IsIdle, Turns};
-ghost use Rattle.pilot_engine.specs.Reasons.{IsSpared, SeesHome};
+ghost use Rattle.pilot_engine.specs.Reasons.{IsBlameless, SeesHome};
 
 use flat_machine::{Call, Refusal, Reply};
 use labelled_disk::{Disk, Halt};
-use pilot_engine::SessionOver;
+use pilot_engine::Session;
 use std::alloc::Allocator;
 use trace_io::{Line, Lines, Source, Stop};
 
@@ -56,37 +56,37 @@ fn end_at(call: &Call) -> Option<End>
 
 /// Reads a line, and carries out its call in the session.
 pub(crate) fn take_turn<D: Disk, A: Allocator, S: Source>(
-    session: &mut SessionOver<D, A>,
+    session: &mut Session<D, A>,
     lines: &mut Lines,
     source: &mut S,
 ) -> Turn
     requires stopped { (lines.old.stopped ≡ None) ⊎ (lines.old.stopped ≡ Some Stop.End) }
-    requires size { (D.state session.old.core.filer.swapper.under).sectors ≡ session.old.core.filer.swapper.layout.sectors }
+    requires size { (D.state session.old.core.filer.swapper.disk).sectors ≡ session.old.core.filer.swapper.layout.sectors }
     requires opened { IsOpen session.old.core.filer.swapper.layout session.old.volume }
     requires running { session.old.running ≡ true }
     ensures turns { Turns result (S.left source.old) (S.left source.new) lines.old lines.new
         (Runs session.old.core session.old.volume)
         (Runs session.new.core session.new.volume)
-        (λ m line. Moments m (line ∷ []) (D.state session.old.core.filer.swapper.under) (D.state session.new.core.filer.swapper.under)
-        × CostsLine line (D.state session.old.core.filer.swapper.under) (D.state session.new.core.filer.swapper.under)) }
+        (λ m line. CrashStates m (line ∷ []) (D.state session.old.core.filer.swapper.disk) (D.state session.new.core.filer.swapper.disk)
+        × CostsLine line (D.state session.old.core.filer.swapper.disk) (D.state session.new.core.filer.swapper.disk)) }
     ensures bound { lines.new.taken ≤ lines.new.limit }
     ensures idle { IsIdle result → session.new ≡ session.old }
     ensures going { IsGoing result → session.new.running ≡ true }
     ensures sound { (m : Machine) (why : Halt) → Runs session.old.core session.old.volume m
         → result ≡ Turn.Halts why → why ≡ halt.Disk }
-    ensures counted { result ≡ Turn.Halts halt.Disk → Rose (D.state session.old.core.filer.swapper.under).faults (D.state session.new.core.filer.swapper.under).faults }
-    ensures keeps_to { (o : Outset) → KeepsOn o session.old.core.filer → IsAhead o session.old.volume.root
+    ensures counted { result ≡ Turn.Halts halt.Disk → Rose (D.state session.old.core.filer.swapper.disk).faults (D.state session.new.core.filer.swapper.disk).faults }
+    ensures keeps_to { (o : InitialState) → KeepsOn o session.old.core.filer → IsNotOlder o session.old.volume.root
         → IsGoing result → KeepsOn (giving o (next_id session.new.volume.root)) session.new.core.filer }
-    ensures reasons { (o : Outset) → KeepsOn o session.old.core.filer → IsAhead o session.old.volume.root
+    ensures reasons { (o : InitialState) → KeepsOn o session.old.core.filer → IsNotOlder o session.old.volume.root
         → (why : Halt) → result ≡ Turn.Halts why
-        → ShowsReason o session.old.core.filer.swapper.layout (D.state session.new.core.filer.swapper.under) why }
-    ensures sees { (o : Outset) → KeepsOn o session.old.core.filer → IsAhead o session.old.volume.root
+        → ShowsReason o session.old.core.filer.swapper.layout (D.state session.new.core.filer.swapper.disk) why }
+    ensures sees { (o : InitialState) → KeepsOn o session.old.core.filer → IsNotOlder o session.old.volume.root
         → SeesHome o session.old.core → IsGoing result → SeesHome o session.new.core }
-    ensures right { (o : Outset) → KeepsOn o session.old.core.filer → IsAhead o session.old.volume.root
-        → SeesHome o session.old.core → (why : Halt) → result ≡ Turn.Halts why → IsSpared o (D.state session.new.core.filer.swapper.under) why }
-    ensures onward { IsOnward session.old.volume.root session.new.volume.root }
-    ensures so { (why : Halt) → result ≡ Turn.Halts why → ShowsSo (D.state session.new.core.filer.swapper.under) why }
-    ensures wrote { WroteIn client_or_own (D.state session.old.core.filer.swapper.under) session.old.core.filer.swapper.pool (D.state session.new.core.filer.swapper.under) session.new.core.filer.swapper.pool }
+    ensures right { (o : InitialState) → KeepsOn o session.old.core.filer → IsNotOlder o session.old.volume.root
+        → SeesHome o session.old.core → (why : Halt) → result ≡ Turn.Halts why → IsBlameless o (D.state session.new.core.filer.swapper.disk) why }
+    ensures monotone { IsMonotone session.old.volume.root session.new.volume.root }
+    ensures evidence_seen { (why : Halt) → result ≡ Turn.Halts why → ShowsEvidence (D.state session.new.core.filer.swapper.disk) why }
+    ensures wrote { WroteIn client_or_own (D.state session.old.core.filer.swapper.disk) session.old.core.filer.swapper.pool (D.state session.new.core.filer.swapper.disk) session.new.core.filer.swapper.pool }
     ensures open_still { IsOpen session.new.core.filer.swapper.layout session.new.volume }
     ensures layout { session.new.core.filer.swapper.layout ≡ session.old.core.filer.swapper.layout }
     ensures source_later { S.faults source.old ≤ S.faults source.new }

@@ -21,7 +21,7 @@ pub mod Keys
 pub mod StoredLemmas
 pub mod OneLemmas
 pub mod Codes
-pub mod TellLemmas
+pub mod RevealLemmas
 pub mod Exists
 pub mod Windows
 pub mod FitLemmas

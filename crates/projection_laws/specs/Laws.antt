@@ -58,8 +58,8 @@ pub record FirstsRise (xs : List Interval) : Type 0 where
   pub filled : (k : ℕ) (i : Interval) → slice_get xs k ≡ Some i → 1 ≤ i.pages
   pub rises : (k l : ℕ) (i j : Interval) → k < l → slice_get xs k ≡ Some i → slice_get xs l ≡ Some j → end_of i ≤ j.first
 
-abbrev pub FirstsAreRising : Type 0
-FirstsAreRising = (ss : List Space) (xs : List Interval) → AreIntervals ss xs → FirstsRise xs
+abbrev pub FirstsAreAscending : Type 0
+FirstsAreAscending = (ss : List Space) (xs : List Interval) → AreIntervals ss xs → FirstsRise xs
 
 -- there are at most two intervals for each space, less one
 abbrev pub FewIntervals : Type 0
@@ -146,12 +146,12 @@ GapIsFirst = (ss : List Space) (xs : List Interval) (p : Space) (pages : ℕ) �
 abbrev pub RootIsOne : Type 0
 RootIsOne = IsKept (root ∷ []) (interval_of (record { inner = Some (inner_of root); shown = None }) 0 root_pages ∷ [])
 
--- what an interval tells of each of its pages
-pub record Tells (ss : List Space) (x : Interval) (page : ℕ) : Type 0 where
+-- what an interval reveals of each of its pages
+pub record Reveals (ss : List Space) (x : Interval) (page : ℕ) : Type 0 where
   pub innermost_is : (s : Space) × (innermost ss page ≡ Some s) × (x.space ≡ s.handle) × (x.unit ≡ s.unit) × (x.start ≡ s.first)
   pub mapped_is : option_map (λ (s : Space). s.handle) (mapped_at ss page) ≡ (if x.mapped == 0 then None else Some x.mapped)
   pub shown : shown_at ss page ≡ (if x.mode == 0 then None else Some (record { file = x.id; page = x.page + (page - x.first) }))
   pub read_only : is_read_only ss page ≡ (x.mode == 1 || x.mode == 3)
 
-abbrev pub IntervalsTell : Type 0
-IntervalsTell = (ss : List Space) (xs : List Interval) (k page : ℕ) (x : Interval) → AreSpaces ss → AreIntervals ss xs → slice_get xs k ≡ Some x → Holds x page → Tells ss x page
+abbrev pub IntervalsReveal : Type 0
+IntervalsReveal = (ss : List Space) (xs : List Interval) (k page : ℕ) (x : Interval) → AreSpaces ss → AreIntervals ss xs → slice_get xs k ≡ Some x → Holds x page → Reveals ss x page

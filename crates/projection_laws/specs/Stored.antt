@@ -2,7 +2,7 @@
 use Rattle.std.specs.Prelude.{◌≡◌, ℕ, suc, ◌^◌, ◌<◌, ◌≤◌, ◌==◌, ◌||◌, nat_lt, if◌then◌else◌, List, [], ◌∷◌, ◌++◌, length, map, replicate, Option, Some, None, IfSome, slice_get}
 use Rattle.std.specs.Option.{option_map_or}
 use Rattle.byteorder.specs.Endian.{big_bytes}
-use Rattle.flat_mem.specs.Order.{IsInKeyOrder, IsLastAtMost, NoneAtMost, IsBehind}
+use Rattle.flat_mem.specs.Order.{IsInKeyOrder, IsLastAtMost, NoneAtMost, IsAfter}
 use Rattle.flat_machine.specs.declared.space.Space.{Space}
 use Rattle.flat_machine.specs.Space.{root_pages}
 use Rattle.flat_machine.specs.declared.space.Window.{Window}
@@ -103,8 +103,8 @@ LookedUpHolds = (ss : List Space) (xs : List Interval) (page k : ℕ) → AreInt
 abbrev pub SomeIsLookedUp : Type 0
 SomeIsLookedUp = (ss : List Space) (xs : List Interval) (page : ℕ) → AreIntervals ss xs → page < root_pages → NoneAtMost 4 (map bytes_of xs) (big_bytes 4 page) → ⊥
 
--- An entry goes directly behind the one at k, where its first page lies between that one's and the next one's.
-abbrev pub PlacedBehind : Type 0
-PlacedBehind = (xs : List Interval) (k at : ℕ) (i new : Interval) → ((j : ℕ) (x : Interval) → slice_get xs j ≡ Some x → x.first < 2 ^ 32) → new.first < 2 ^ 32
+-- An entry goes directly after the one at k, where its first page lies between that one's and the next one's.
+abbrev pub PlacedAfter : Type 0
+PlacedAfter = (xs : List Interval) (k at : ℕ) (i new : Interval) → ((j : ℕ) (x : Interval) → slice_get xs j ≡ Some x → x.first < 2 ^ 32) → new.first < 2 ^ 32
     → slice_get xs k ≡ Some i → i.first ≤ new.first → ((x : Interval) → slice_get xs (suc k) ≡ Some x → new.first < x.first)
-    → at ≤ length (map bytes_of xs) → IsBehind 4 (map bytes_of xs) (big_bytes 4 new.first) at → at ≡ suc k
+    → at ≤ length (map bytes_of xs) → IsAfter 4 (map bytes_of xs) (big_bytes 4 new.first) at → at ≡ suc k

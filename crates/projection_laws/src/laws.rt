@@ -1,12 +1,12 @@
 //! What is proved of the intervals of the projection, shown on functions that do nothing.
 
-ghost use Rattle.projection_laws.specs.Laws.{IntervalsTell, WindowsAreFormed};
+ghost use Rattle.projection_laws.specs.Laws.{IntervalsReveal, WindowsAreFormed};
 ghost use Rattle.projection_laws.specs.Laws.{AddedSplits, RemovedJoins, WindowReshows, UnitRefits, RootIsOne};
-ghost use Rattle.projection_laws.specs.Laws.{LastHolds, FirstsAreRising, FewIntervals, PutInSteps, JoinedInSteps};
+ghost use Rattle.projection_laws.specs.Laws.{LastHolds, FirstsAreAscending, FewIntervals, PutInSteps, JoinedInSteps};
 ghost use Rattle.projection_laws.specs.Laws.{PairedInSteps, IntervalsAreFormed, UnitsAgree, FitsInOne, GapIsFirst};
 ghost use Rattle.projection_laws.specs.Slots.{SlotWritten, SlotCleared, SlotChanged, SlotFound, SlotFree};
 ghost use Rattle.projection_laws.specs.Tests.{TestsOnSpaces, AddPasses, RemovePasses, MapPasses, WindowPasses};
-ghost use Rattle.projection_laws.specs.Stored.{EntriesRise, LookedUpHolds, SomeIsLookedUp, PlacedBehind, IntervalReadsBack, SlotReadsBack};
+ghost use Rattle.projection_laws.specs.Stored.{EntriesRise, LookedUpHolds, SomeIsLookedUp, PlacedAfter, IntervalReadsBack, SlotReadsBack};
 ghost use Rattle.projection_laws.specs.Worked.{WorkedRow};
 ghost use Rattle.projection_laws.specs.Fits.{WindowsStayFit};
 ghost use Rattle.projection_laws.specs.One.{IntervalsAreOne, IntervalsExist, InnermostExists, ModeIsWindow};
@@ -39,7 +39,7 @@ pub fn root_is_one()
 /// The last interval that begins at or before a page holds it.
 pub fn last_holds()
     ensures holds { LastHolds }
-    ensures rising { FirstsAreRising }
+    ensures ascending { FirstsAreAscending }
 {}
 
 /// There are at most two intervals for each space, less one.
@@ -90,7 +90,7 @@ pub fn entries_are_intervals()
     ensures rise { EntriesRise }
     ensures holds { LookedUpHolds }
     ensures some { SomeIsLookedUp }
-    ensures placed { PlacedBehind }
+    ensures placed { PlacedAfter }
 {}
 
 /// A record reads back what was written.
@@ -107,9 +107,9 @@ pub fn intervals_are_one()
     ensures mode { ModeIsWindow }
 {}
 
-/// What an interval tells of each of its pages.
-pub fn intervals_tell()
-    ensures { IntervalsTell }
+/// What an interval reveals of each of its pages.
+pub fn intervals_reveal()
+    ensures { IntervalsReveal }
 {}
 
 /// A space added and removed again, in numbers.

@@ -6,14 +6,14 @@ use Rattle.std.proofs.lemmas.Grind.{div_ceil_times}
 use Rattle.std.proofs.lemmas.List.FromFn.{fill_by_all}
 use Rattle.std.proofs.lemmas.List.Edits.{length-remove, get_or-remove_below, get_or-remove_above}
 use Rattle.flat_mem.specs.Order.{entry_at}
-use Rattle.record_table.specs.Table.{per_page, pages_of, entry, entries, TellsEntries}
-use Rattle.record_table.specs.Moves.{first_place_behind, MovesDown}
+use Rattle.record_table.specs.Table.{per_page, pages_of, entry, entries, RevealsEntries}
+use Rattle.record_table.specs.Moves.{first_place_after, MovesDown}
 use Rattle.record_table.proofs.Places.{per_page_some, length-entries, entry_of, below_from_product}
 
--- the memory tells bytes whose entries from the end on are those of the list of n - 1 entries. The others are the old ones, and the one at the end is carried
-pub record IsEmptying (e : ℕ) (tells : List ℕ → Type 0) (b : List ℕ) (xs : List (List ℕ)) (n end : ℕ) (carried : List ℕ) : Type 0 where
+-- the memory reveals bytes whose entries from the end on are those of the list of n - 1 entries. The others are the old ones, and the one at the end is carried
+pub record IsEmptying (e : ℕ) (reveals : List ℕ → Type 0) (b : List ℕ) (xs : List (List ℕ)) (n end : ℕ) (carried : List ℕ) : Type 0 where
   pub now : List ℕ
-  pub told : tells now
+  pub revealed : reveals now
   pub below : (i : ℕ) → i < end → entry e now i ≡ entry e b i
   pub done : (i : ℕ) → end ≤ i → i + 1 < n → entry e now i ≡ entry_at xs i
   pub carries : end < n → carried ≡ entry e b end
@@ -24,12 +24,12 @@ pub record IsEmptying (e : ℕ) (tells : List ℕ → Type 0) (b : List ℕ) (xs
 abbrev pub IsEnd : ℕ → ℕ → ℕ → ℕ → Type 0
 IsEnd e at n end = (at < end) → (end ≡ n) ⊎ ((s : ℕ) × (end ≡ s * per_page e))
 
--- the row that ends at or behind the end, and the place in it from which its entries are moved
+-- the row that ends at or after the end, and the place in it from which its entries are moved
 pub record IsRow (e at n end from : ℕ) : Type 0 where
   pub before : from < end
   pub at_least : at ≤ from
-  pub reaches : end ≤ first_place_behind e from
-  pub even : end < n → first_place_behind e from ≡ end
+  pub reaches : end ≤ first_place_after e from
+  pub even : end < n → first_place_after e from ≡ end
   pub pages : pages_of e end ≡ from / per_page e + 1
   pub row : (from ≡ at) ⊎ (from ≡ from / per_page e * per_page e)
 
@@ -105,20 +105,20 @@ module _ (e : ℕ) (b : List ℕ) (at n : ℕ) (within : at < n) where
   xs_above : (i : ℕ) → at ≤ i → i + 1 < n → entry_at xs i ≡ entry e b (i + 1)
   xs_above i from below = get_or-remove_above (entries e b n) at [] i from inside ∙ entry_of e b n (i + 1) below
 
-  pub empty_start : (tells : List ℕ → Type 0) (carried : List ℕ) → tells b → IsEmptying e tells b (remove (entries e b n) at) n n carried
-  empty_start tells carried told = record {
+  pub empty_start : (reveals : List ℕ → Type 0) (carried : List ℕ) → reveals b → IsEmptying e reveals b (remove (entries e b n) at) n n carried
+  empty_start reveals carried revealed = record {
     now = b;
-    told = told;
+    revealed = revealed;
     below = λ i _. refl;
     done = λ i past less. absurd (omega (arith, past, less));
     carries = λ less. absurd (omega (arith, less));
   }
 
-  pub empty_more : (tells tells_now : List ℕ → Type 0) (end from : ℕ) (carried taken : List ℕ) → IsRow e at n end from → (was : IsEmptying e tells b (remove (entries e b n) at) n end carried)
-      → MovesDown e tells_now was.now from carried taken → IsEmptying e tells_now b (remove (entries e b n) at) n from taken
-  empty_more tells tells_now end from carried taken row was moved = record {
+  pub empty_more : (reveals reveals_now : List ℕ → Type 0) (end from : ℕ) (carried taken : List ℕ) → IsRow e at n end from → (was : IsEmptying e reveals b (remove (entries e b n) at) n end carried)
+      → MovesDown e reveals_now was.now from carried taken → IsEmptying e reveals_now b (remove (entries e b n) at) n from taken
+  empty_more reveals reveals_now end from carried taken row was moved = record {
     now = moved.now;
-    told = moved.told;
+    revealed = moved.revealed;
     below = λ i before. moved.others i (inl before) ∙ was.below i (omega (arith, before, row.before));
     done = λ i past less. elim (cases_lt (i + 1) end) [
       | inl inner ↦ moved.moved i past (omega (arith, inner, row.reaches)) ∙ was.below (i + 1) inner ∙ sym (xs_above i (omega (arith, past, row.at_least)) less)
@@ -129,16 +129,16 @@ module _ (e : ℕ) (b : List ℕ) (at n : ℕ) (within : at < n) where
             | inl here ↦
                 let last : i + 1 ≡ end = omega (arith, not, here) in
                 moved.last i (last ∙ sym even) ∙ was.carries short ∙ ap (entry e b) (sym last) ∙ sym (xs_above i (omega (arith, past, row.at_least)) less)
-            | inr behind ↦ moved.others i (inr (omega (arith, even, behind))) ∙ was.done i behind less
+            | inr after ↦ moved.others i (inr (omega (arith, even, after))) ∙ was.done i after less
           ]
     ];
     carries = λ _. moved.out ∙ was.below from row.before;
   }
 
-  pub empty_end : (tells : List ℕ → Type 0) (end : ℕ) (carried : List ℕ) → end ≡ at → IsEmptying e tells b (remove (entries e b n) at) n end carried → TellsEntries e tells (n - 1) (remove (entries e b n) at)
-  empty_end tells end carried is was = record {
+  pub empty_end : (reveals : List ℕ → Type 0) (end : ℕ) (carried : List ℕ) → end ≡ at → IsEmptying e reveals b (remove (entries e b n) at) n end carried → RevealsEntries e reveals (n - 1) (remove (entries e b n) at)
+  empty_end reveals end carried is was = record {
     bytes = was.now;
-    told = was.told;
+    revealed = was.revealed;
     are = sym (fill_by_all (entry e was.now) xs (n - 1) [] (omega (arith, length-remove (entries e b n) at inside, length-entries e b n))
         (λ k less. elim (cases_lt k at) [
           | inl before ↦ xs_below k before ∙ sym (was.below k (omega (arith, before, is)))
@@ -156,7 +156,7 @@ module _ (e : ℕ) (some : 1 ≤ e) (most : e ≤ 64) where
       let below : pages_of e (q * per_page e) < q + 1 = below_from_product (pages_of e (q * per_page e)) (q + 1) (per_page e) (omega (arith, times.1)) in
       omega (arith, above, below)
 
-  -- behind the place of the one that is taken out, whole pages are left
+  -- after the place of the one that is taken out, whole pages are left
   pub even_end : (at n end from : ℕ) → IsRow e at n end from → IsEnd e at n from
   even_end at n end from row more = elim row.row [
     | inl is ↦ absurd (omega (arith, is, more))

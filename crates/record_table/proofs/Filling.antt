@@ -6,14 +6,14 @@ use Rattle.std.proofs.lemmas.Grind.{div_ceil_times}
 use Rattle.std.proofs.lemmas.List.FromFn.{fill_by_all}
 use Rattle.std.proofs.lemmas.List.Edits.{length-insert, get_or-insert_below, get_or-insert_at, get_or-insert_above}
 use Rattle.flat_mem.specs.Order.{entry_at}
-use Rattle.record_table.specs.Table.{per_page, capacity_of, pages_of, entry, entries, TellsEntries}
-use Rattle.record_table.specs.Moves.{first_place_behind, MovesUp}
+use Rattle.record_table.specs.Table.{per_page, capacity_of, pages_of, entry, entries, RevealsEntries}
+use Rattle.record_table.specs.Moves.{first_place_after, MovesUp}
 use Rattle.record_table.proofs.Places.{per_page_some, length-entries, entry_of, below_from_product}
 
--- the memory tells bytes whose first entries, up to the place, are those of the list of n + 1 entries. The others are the old ones, and the next of the list is carried
-pub record IsFilling (e : ℕ) (tells : List ℕ → Type 0) (b : List ℕ) (xs : List (List ℕ)) (n place : ℕ) (carried : List ℕ) : Type 0 where
+-- the memory reveals bytes whose first entries, up to the place, are those of the list of n + 1 entries. The others are the old ones, and the next of the list is carried
+pub record IsFilling (e : ℕ) (reveals : List ℕ → Type 0) (b : List ℕ) (xs : List (List ℕ)) (n place : ℕ) (carried : List ℕ) : Type 0 where
   pub now : List ℕ
-  pub told : tells now
+  pub revealed : reveals now
   pub below : (i : ℕ) → i < place → i ≤ n → entry e now i ≡ entry_at xs i
   pub rest : (i : ℕ) → place ≤ i → entry e now i ≡ entry e b i
   pub carries : place ≤ n → carried ≡ entry_at xs place
@@ -27,15 +27,15 @@ module _ (e : ℕ) (some : 1 ≤ e) (most : e ≤ 64) where
   p_some : 0 < p
   p_some = per_page_some e some most
 
-  pub behind_place : (i : ℕ) → i < first_place_behind e i
-  behind_place i = omega (arith, div-add-mod' i p, mod_below i p p_some)
+  pub after_place : (i : ℕ) → i < first_place_after e i
+  after_place i = omega (arith, div-add-mod' i p, mod_below i p p_some)
 
-  pub next_is : (i : ℕ) → (i - i % p) + p ≡ first_place_behind e i
+  pub next_is : (i : ℕ) → (i - i % p) + p ≡ first_place_after e i
   next_is i = omega (arith, div-add-mod' i p)
 
-  pub next_row : (i : ℕ) → first_place_behind e i / p ≡ i / p + 1
+  pub next_row : (i : ℕ) → first_place_after e i / p ≡ i / p + 1
   next_row i =
-      let even : first_place_behind e i ≡ first_place_behind e i + 0 = omega arith in
+      let even : first_place_after e i ≡ first_place_after e i + 0 = omega arith in
       ap (λ (x : ℕ). x / p) even ∙ div-mul-add (i / p + 1) p 0 p_some
 
   -- the row of a place is one of those that hold the entries up to it
@@ -75,20 +75,20 @@ module _ (e : ℕ) (some : 1 ≤ e) (most : e ≤ 64) (b : List ℕ) (at n : ℕ
   xs_above : (i : ℕ) → at ≤ i → i < n → entry_at xs (i + 1) ≡ entry e b i
   xs_above i from below = get_or-insert_above (entries e b n) at new [] i from inside ∙ entry_of e b n i below
 
-  pub fill_start : (tells : List ℕ → Type 0) → tells b → IsFilling e tells b (insert (entries e b n) at new) n at new
-  fill_start tells told = record {
+  pub fill_start : (reveals : List ℕ → Type 0) → reveals b → IsFilling e reveals b (insert (entries e b n) at new) n at new
+  fill_start reveals revealed = record {
     now = b;
-    told = told;
+    revealed = revealed;
     below = λ i before _. sym (xs_below i before);
     rest = λ i _. refl;
     carries = λ _. sym xs_here;
   }
 
-  pub fill_more : (tells tells_now : List ℕ → Type 0) (place : ℕ) (carried taken : List ℕ) → at ≤ place → place ≤ n → (was : IsFilling e tells b (insert (entries e b n) at new) n place carried)
-      → MovesUp e tells_now was.now place carried taken → IsFilling e tells_now b (insert (entries e b n) at new) n (first_place_behind e place) taken
-  fill_more tells tells_now place carried taken from inside_count was moved = record {
+  pub fill_more : (reveals reveals_now : List ℕ → Type 0) (place : ℕ) (carried taken : List ℕ) → at ≤ place → place ≤ n → (was : IsFilling e reveals b (insert (entries e b n) at new) n place carried)
+      → MovesUp e reveals_now was.now place carried taken → IsFilling e reveals_now b (insert (entries e b n) at new) n (first_place_after e place) taken
+  fill_more reveals reveals_now place carried taken from inside_count was moved = record {
     now = moved.now;
-    told = moved.told;
+    revealed = moved.revealed;
     below = λ i less in_list. elim (cases_lt i place) [
       | inl before ↦ moved.others i (inl before) ∙ was.below i before in_list
       | inr not ↦ elim (cases_eq i place) [
@@ -99,17 +99,17 @@ module _ (e : ℕ) (some : 1 ≤ e) (most : e ≤ 64) (b : List ℕ) (at n : ℕ
             ∙ sym (ap (entry_at xs) next ∙ xs_above (i - 1) (omega (arith, from, not, other)) (omega (arith, in_list, not, other)))
       ]
     ];
-    rest = λ i past. moved.others i (inr past) ∙ was.rest i (omega (arith, past, behind_place e some most place));
+    rest = λ i past. moved.others i (inr past) ∙ was.rest i (omega (arith, past, after_place e some most place));
     carries = λ more.
-        let next : first_place_behind e place ≡ (first_place_behind e place - 1) + 1 = omega (arith, behind_place e some most place) in
-        moved.out (first_place_behind e place - 1) (sym next) ∙ was.rest (first_place_behind e place - 1) (omega (arith, behind_place e some most place))
-        ∙ sym (ap (entry_at xs) next ∙ xs_above (first_place_behind e place - 1) (omega (arith, from, behind_place e some most place)) (omega (arith, more, behind_place e some most place)));
+        let next : first_place_after e place ≡ (first_place_after e place - 1) + 1 = omega (arith, after_place e some most place) in
+        moved.out (first_place_after e place - 1) (sym next) ∙ was.rest (first_place_after e place - 1) (omega (arith, after_place e some most place))
+        ∙ sym (ap (entry_at xs) next ∙ xs_above (first_place_after e place - 1) (omega (arith, from, after_place e some most place)) (omega (arith, more, after_place e some most place)));
   }
 
-  pub fill_end : (tells : List ℕ → Type 0) (place : ℕ) (carried : List ℕ) → n < place → IsFilling e tells b (insert (entries e b n) at new) n place carried → TellsEntries e tells (n + 1) (insert (entries e b n) at new)
-  fill_end tells place carried past was = record {
+  pub fill_end : (reveals : List ℕ → Type 0) (place : ℕ) (carried : List ℕ) → n < place → IsFilling e reveals b (insert (entries e b n) at new) n place carried → RevealsEntries e reveals (n + 1) (insert (entries e b n) at new)
+  fill_end reveals place carried past was = record {
     bytes = was.now;
-    told = was.told;
+    revealed = was.revealed;
     are = sym (fill_by_all (entry e was.now) xs (n + 1) [] (length-insert (entries e b n) at new inside ∙ ap (λ (k : ℕ). k + 1) (length-entries e b n))
         (λ k less. sym (was.below k (omega (arith, less, past)) (omega (arith, less)))));
   }

@@ -6,7 +6,7 @@ use Rattle.flat_mem.specs.Memory.{part, overwritten}
 use Rattle.flat_mem.specs.Parts.{part-part, part-overwritten_below, part-overwritten_above, part-overwritten_same}
 use Rattle.record_table.specs.Table.{place, per_page, entry}
 use Rattle.record_table.specs.Pages.{IsPushed, IsPulled}
-use Rattle.record_table.specs.Moves.{first_place_behind, MovesUp, MovesDown}
+use Rattle.record_table.specs.Moves.{first_place_after, MovesUp, MovesDown}
 use Rattle.record_table.proofs.Places.{place_in_page, per_page_some, ends_in_page, below_from_product}
 
 module _ (e : ℕ) (some : 1 ≤ e) (most : e ≤ 64) where
@@ -30,12 +30,12 @@ module _ (e : ℕ) (some : 1 ≤ e) (most : e ≤ 64) where
   in_other_page b page q i long fits (inl before) =
       let row : i / per_page e < q = below_from_product (i / per_page e) q (per_page e) (omega (arith, div-add-mod' i (per_page e), before)) in
       part-overwritten_below b page (512 * q) _ e (omega (arith, row, ends_in_page e i page_some)) (omega (arith, long, fits))
-  in_other_page b page q i long fits (inr behind) =
-      let row : q + 1 < i / per_page e + 1 = below_from_product (q + 1) (i / per_page e + 1) (per_page e) (omega (arith, div-add-mod' i (per_page e), mod_below i (per_page e) page_some, behind)) in
+  in_other_page b page q i long fits (inr after) =
+      let row : q + 1 < i / per_page e + 1 = below_from_product (q + 1) (i / per_page e + 1) (per_page e) (omega (arith, div-add-mod' i (per_page e), mod_below i (per_page e) page_some, after)) in
       part-overwritten_above b page (512 * q) _ e (omega (arith, long, row)) (omega (arith, long, fits))
 
-  module _ (b page piece taken : List ℕ) (at : ℕ) (tells : List ℕ → Type 0) (long : length page ≡ 512) (fits : 512 * (at / per_page e) + 512 ≤ length b)
-      (told : tells (overwritten b (512 * (at / per_page e)) page)) where
+  module _ (b page piece taken : List ℕ) (at : ℕ) (reveals : List ℕ → Type 0) (long : length page ≡ 512) (fits : 512 * (at / per_page e) + 512 ≤ length b)
+      (revealed : reveals (overwritten b (512 * (at / per_page e)) page)) where
     abbrev now : List ℕ
     now = overwritten b (512 * (at / per_page e)) page
 
@@ -48,25 +48,25 @@ module _ (e : ℕ) (some : 1 ≤ e) (most : e ≤ 64) where
     inside : at % per_page e < per_page e
     inside = mod_below at (per_page e) page_some
 
-    written : (i : ℕ) → first ≤ i → i < first_place_behind e at → entry e now i ≡ part page (e * (i - first)) e
+    written : (i : ℕ) → first ≤ i → i < first_place_after e at → entry e now i ≡ part page (e * (i - first)) e
     written i from below =
         in_slot now (at / per_page e) i from below ∙ ap (λ (x : List ℕ). part x (e * (i - first)) e) (part-overwritten_same b page (512 * (at / per_page e)) 512 long (omega (arith, long, fits)))
 
     -- an entry whose slot stays
-    stays : (i : ℕ) → first ≤ i → i < first_place_behind e at → part page (e * (i - first)) e ≡ part (part b (512 * (at / per_page e)) 512) (e * (i - first)) e → entry e now i ≡ entry e b i
+    stays : (i : ℕ) → first ≤ i → i < first_place_after e at → part page (e * (i - first)) e ≡ part (part b (512 * (at / per_page e)) 512) (e * (i - first)) e → entry e now i ≡ entry e b i
     stays i from below same = written i from below ∙ same ∙ sym (in_slot b (at / per_page e) i from below)
 
-    others : ((j : ℕ) → j < at % per_page e → part page (e * j) e ≡ part (part b (512 * (at / per_page e)) 512) (e * j) e) → (i : ℕ) → (i < at) ⊎ (first_place_behind e at ≤ i) → entry e now i ≡ entry e b i
-    others below i (inr behind) = in_other_page b page (at / per_page e) i long fits (inr behind)
+    others : ((j : ℕ) → j < at % per_page e → part page (e * j) e ≡ part (part b (512 * (at / per_page e)) 512) (e * j) e) → (i : ℕ) → (i < at) ⊎ (first_place_after e at ≤ i) → entry e now i ≡ entry e b i
+    others below i (inr after) = in_other_page b page (at / per_page e) i long fits (inr after)
     others below i (inl before) = elim (cases_lt i first) [
-      | inl front ↦ in_other_page b page (at / per_page e) i long fits (inl front)
+      | inl prefix ↦ in_other_page b page (at / per_page e) i long fits (inl prefix)
       | inr from ↦ stays i from (omega (arith, before, split, inside)) (below (i - first) (omega (arith, before, split, from)))
     ]
 
-    pub moves_up : IsPushed e (at % per_page e) (part b (512 * (at / per_page e)) 512) page piece taken → MovesUp e tells b at piece taken
+    pub moves_up : IsPushed e (at % per_page e) (part b (512 * (at / per_page e)) 512) page piece taken → MovesUp e reveals b at piece taken
     moves_up pushed = record {
       now = now;
-      told = told;
+      revealed = revealed;
       others = others pushed.below;
       here =
           let slot : at - first ≡ at % per_page e = omega (arith, split) in
@@ -80,10 +80,10 @@ module _ (e : ℕ) (some : 1 ≤ e) (most : e ≤ 64) where
           pushed.out (i - first) (omega (arith, last, page_some)) ∙ sym (in_slot b (at / per_page e) i (omega (arith, last, page_some)) (omega (arith, last)));
     }
 
-    pub moves_down : IsPulled e (at % per_page e) (part b (512 * (at / per_page e)) 512) page piece taken → MovesDown e tells b at piece taken
+    pub moves_down : IsPulled e (at % per_page e) (part b (512 * (at / per_page e)) 512) page piece taken → MovesDown e reveals b at piece taken
     moves_down pulled = record {
       now = now;
-      told = told;
+      revealed = revealed;
       others = others pulled.below;
       moved = λ i from more.
           let slot : (i + 1) - first ≡ (i - first) + 1 = omega (arith, from, split) in

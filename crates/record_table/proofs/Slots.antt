@@ -6,11 +6,11 @@ use Rattle.flat_mem.specs.Parts.{length-part, length-overwritten, part-part, par
 use Rattle.record_table.specs.Table.{per_page}
 use Rattle.record_table.specs.Pages.{IsPushed, IsPulled}
 
--- a piece put at o in front of the bytes up to the end, whose last e fall out
+-- a piece put at o before the bytes up to the end, whose last e fall out
 abbrev pub pushed : List ℕ → List ℕ → ℕ → ℕ → ℕ → List ℕ
 pushed page piece o e end = overwritten (overwritten page (o + e) (part page o ((end - e) - o))) o piece
 
--- the e bytes from o on taken out, and the piece put behind the others up to the end
+-- the e bytes from o on taken out, and the piece put after the others up to the end
 abbrev pub pulled : List ℕ → List ℕ → ℕ → ℕ → ℕ → List ℕ
 pulled page piece o e end = overwritten (overwritten page o (part page (o + e) (end - (o + e)))) (end - e) piece
 
@@ -19,7 +19,7 @@ module _ (page piece : List ℕ) (o e end : ℕ) (long : length page ≡ 512) (w
   abbrev early : List ℕ
   early = part page o ((end - e) - o)
 
-  -- those behind the first e from o on
+  -- those after the first e from o on
   abbrev late : List ℕ
   late = part page (o + e) (end - (o + e))
 

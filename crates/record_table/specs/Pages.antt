@@ -17,7 +17,7 @@ pub record IsPushed (e slot : ℕ) (page new piece taken : List ℕ) : Type 0 wh
   pub above : (i : ℕ) → slot ≤ i → i + 1 < per_page e → part new (e * (i + 1)) e ≡ part page (e * i) e
   pub out : (i : ℕ) → i + 1 ≡ per_page e → taken ≡ part page (e * i) e
 
--- a page with one slot taken out, those behind it moved one slot down, and the piece in the last one
+-- a page with one slot taken out, those after it moved one slot down, and the piece in the last one
 pub record IsPulled (e slot : ℕ) (page new piece taken : List ℕ) : Type 0 where
   pub below : (i : ℕ) → i < slot → part new (e * i) e ≡ part page (e * i) e
   pub moved : (i : ℕ) → slot ≤ i → i + 1 < per_page e → part new (e * i) e ≡ part page (e * (i + 1)) e

@@ -1,7 +1,7 @@
 //! Entries moved by one place, each page read and written once.
 ghost use Rattle.std.specs.Prelude.{◌≡◌, ℕ, ◌+◌, ◌-◌, ◌*◌, ◌<◌, ◌≤◌, ◌/◌, ◌%◌, ◌^◌, List, length, IfErr, OnOk, insert, remove};
 ghost use Rattle.flat_mem.specs.Memory.{overwritten};
-ghost use Rattle.record_table.specs.Table.{per_page, capacity_of, pages_of, entries, TellsEntries};
+ghost use Rattle.record_table.specs.Table.{per_page, capacity_of, pages_of, entries, RevealsEntries};
 ghost use Rattle.record_table.specs.Pages.{IsPushed, IsPulled};
 ghost use Rattle.record_table.specs.Moves.{MovesUp, MovesDown};
 
@@ -33,7 +33,7 @@ fn push<const E: usize>(page: &mut Page, slot: usize, carried: &mut [u8; E])
     carried.copy_from_slice(&old[end - E..end]);
 }
 
-// Takes the entry of a slot out of a page, moves those behind it one slot down, and puts `carried` into the last slot.
+// Takes the entry of a slot out of a page, moves those after it one slot down, and puts `carried` into the last slot.
 // `carried` is then the entry that was taken out.
 fn pull<const E: usize>(page: &mut Page, slot: usize, carried: &mut [u8; E])
     requires some { 1 ≤ E }
@@ -59,7 +59,7 @@ fn push_page<M: FlatMem, const E: usize>(
     requires some { 1 ≤ E }
     requires most { E ≤ 64 }
     requires inside { at < capacity_of E (M.size mem.old) }
-    ensures moved { (b : List ℕ) → M.tells mem.old b → OnOk result (MovesUp E (M.tells mem.new) b at carried.old carried.new) }
+    ensures moved { (b : List ℕ) → M.reveals mem.old b → OnOk result (MovesUp E (M.reveals mem.new) b at carried.old carried.new) }
     ensures long { length carried.new ≡ E }
     ensures kept { M.beside mem.old mem.new }
     ensures cause { IfErr result (λ e. M.accounted mem.old mem.new e) }
@@ -73,7 +73,7 @@ fn push_page<M: FlatMem, const E: usize>(
     write_page(mem, index, &page)
 }
 
-// Pulls the entry at the place `at` out of its page, with `carried` behind the others.
+// Pulls the entry at the place `at` out of its page, with `carried` after the others.
 fn pull_page<M: FlatMem, const E: usize>(
     mem: &mut M,
     at: u32,
@@ -82,7 +82,7 @@ fn pull_page<M: FlatMem, const E: usize>(
     requires some { 1 ≤ E }
     requires most { E ≤ 64 }
     requires inside { at < capacity_of E (M.size mem.old) }
-    ensures moved { (b : List ℕ) → M.tells mem.old b → OnOk result (MovesDown E (M.tells mem.new) b at carried.old carried.new) }
+    ensures moved { (b : List ℕ) → M.reveals mem.old b → OnOk result (MovesDown E (M.reveals mem.new) b at carried.old carried.new) }
     ensures long { length carried.new ≡ E }
     ensures kept { M.beside mem.old mem.new }
     ensures cause { IfErr result (λ e. M.accounted mem.old mem.new e) }
@@ -108,8 +108,8 @@ pub fn put_at<M: FlatMem, const E: usize>(
     requires small { M.size mem.old ≤ 2 ^ 31 }
     requires order { at ≤ count }
     requires inside { count < capacity_of E (M.size mem.old) }
-    ensures put { (b : List ℕ) → M.tells mem.old b
-        → OnOk result (TellsEntries E (M.tells mem.new) (count + 1) (insert (entries E b count) at new.now)) }
+    ensures put { (b : List ℕ) → M.reveals mem.old b
+        → OnOk result (RevealsEntries E (M.reveals mem.new) (count + 1) (insert (entries E b count) at new.now)) }
     ensures kept { M.beside mem.old mem.new }
     ensures cause { IfErr result (λ e. M.accounted mem.old mem.new e) }
     // one read and one write a page
@@ -125,7 +125,7 @@ pub fn put_at<M: FlatMem, const E: usize>(
     Ok(())
 }
 
-/// Takes the entry at the index `at` out of a table, and moves those behind it one place down.
+/// Takes the entry at the index `at` out of a table, and moves those after it one place down.
 pub fn take_out<M: FlatMem, const E: usize>(
     mem: &mut M,
     at: u32,
@@ -135,8 +135,8 @@ pub fn take_out<M: FlatMem, const E: usize>(
     requires most { E ≤ 64 }
     requires order { at < count }
     requires inside { count ≤ capacity_of E (M.size mem.old) }
-    ensures taken { (b : List ℕ) → M.tells mem.old b
-        → OnOk result (TellsEntries E (M.tells mem.new) (count - 1) (remove (entries E b count) at)) }
+    ensures taken { (b : List ℕ) → M.reveals mem.old b
+        → OnOk result (RevealsEntries E (M.reveals mem.new) (count - 1) (remove (entries E b count) at)) }
     ensures kept { M.beside mem.old mem.new }
     ensures cause { IfErr result (λ e. M.accounted mem.old mem.new e) }
     // one read and one write a page

@@ -28,9 +28,9 @@ use Rattle.filer_kernel.specs.declared.cached.CachedRuns.{CachedRuns}
 use Rattle.filer_kernel.specs.Cached.{runs_of}
 use Rattle.filer_kernel.specs.NamedLaws.{maps_named_once}
 use Rattle.filer_kernel.specs.PlaceLaws.{data_first, map_kept, one_sector}
-use Rattle.filer_kernel.specs.Tables.{BesideTables, IsTablePage, TablesTell, in_tables}
+use Rattle.filer_kernel.specs.Tables.{BesideTables, IsTablePage, TablesReveal, in_tables}
 use Rattle.filer_kernel.specs.Triples.{MapIs}
-use Rattle.space_tables.specs.Stored.{TellSpaces}
+use Rattle.space_tables.specs.Stored.{RevealSpaces}
 use Rattle.session_words.specs.FrameLaws.{HasFrames, is_shown}
 use Rattle.session_words.specs.Parts.{DirtyAreLoose, HasTables, TablesMeaning}
 use Rattle.session_words.proofs.CallLemmas.{call_laws, kind_tables}
@@ -39,7 +39,7 @@ use Rattle.file_manager.specs.Book.{AreTrue}
 use Rattle.file_manager.specs.declared.volume.Volume.{Volume}
 use Rattle.file_manager.proofs.BookLemmas.{known_after, true_by_map}
 use Rattle.fault_core.specs.Reach.{BringsOwn}
-use Rattle.fault_core.specs.Told.{IsTabled, Known}
+use Rattle.fault_core.specs.Revealed.{IsTabled, Known}
 use Rattle.fault_core.specs.View.{View, TablesAre}
 use Rattle.running_words.specs.Running.{IsRunning, exactly}
 use Rattle.running_words.specs.RunningLaws.{IsWhole}
@@ -71,7 +71,7 @@ tables_cut : (spaces : List Space) (layout : Layout) (y : List Sector) (named : 
     → ((k : ℕ) → k < 96 → IsTablePage layout named y k (part bytes (512 * k) 512)) → HasTables (exactly (cut 96 bytes) spaces) y spaces
 tables_cut spaces layout y named bytes is size map tabled pages = record {
   pages = cut 96 bytes;
-  told = own_pages (cut 96 bytes) spaces;
+  revealed = own_pages (cut 96 bytes) spaces;
   count = cut_length 96 bytes;
   each = λ k s kind.
       let three : s.0.id ≡ 3 = kind_tables (length y) k s.0 kind.is in
@@ -96,7 +96,7 @@ tabled_still layout x y named also labels once tabled k s from here three =
     subst (λ (l : Label). (l.page < 96) × (also 3 l.page k ≡ true)) was.2 (own.0, once 3 was.0.0.page k ∙ own.1)
 
 -- the tables' pages, in the one memory that stands
-moved_pages : (d : DiskState) (s : Slots) (l : Layout) (k : CachedRuns) (b : List ℕ) (t : TablesTell d s l k b) (x : Layout) (n : List Sector) → n ≡ t.memory → l ≡ x → (j : ℕ) → j < 96 → IsTablePage x t.triples n j (part b (512 * j) 512)
+moved_pages : (d : DiskState) (s : Slots) (l : Layout) (k : CachedRuns) (b : List ℕ) (t : TablesReveal d s l k b) (x : Layout) (n : List Sector) → n ≡ t.memory → l ≡ x → (j : ℕ) → j < 96 → IsTablePage x t.triples n j (part b (512 * j) 512)
 moved_pages d s l k b t x n same layout =
     subst (λ (y : Layout). (j : ℕ) → j < 96 → IsTablePage y t.triples n j (part b (512 * j) 512)) layout
     (subst (λ (o : List Sector). (j : ℕ) → j < 96 → IsTablePage l t.triples o j (part b (512 * j) 512)) (sym same) t.page)
@@ -104,30 +104,30 @@ moved_pages d s l k b t x n same layout =
 -- Pages of the space tables changed, whatever they meant before.
 module _ (before_of : TablesMeaning) (v w : View) (now : ℕ) (volume : Volume) (m : Machine) (spaces : List Space) (whole : IsWhole v) (form : AreInForm w.disk) (frames : ArePages w.slots)
     (s : IsSession before_of v.disk v.slots v.layout v.runs volume m) (was : List ℕ) (k : Known v s.stands.memory s.stands.is.named was)
-    (b : BesideTables v.disk v.slots v.layout v.runs w.disk w.slots w.layout w.runs) (tells : TellSpaces (TablesAre w) now spaces) where
+    (b : BesideTables v.disk v.slots v.layout v.runs w.disk w.slots w.layout w.runs) (reveals : RevealSpaces (TablesAre w) now spaces) where
   pub session_changed : (unforced : List FilePage) → IsMachine (record m { spaces = spaces; unforced = unforced }) → HasFrames w.slots spaces → DirtyAreLoose w.slots unforced
       → IsRunning w [] now volume (record m { spaces = spaces; unforced = unforced })
   session_changed unforced is has loose =
       let x : List Sector = s.stands.memory in
       let mid = b.goes.memory x s.stands.stands in
       let y : List Sector = mid.0 in
-      let t = tells.hold.told in
-      let bytes : List ℕ = tells.hold.bytes in
+      let t = reveals.hold.revealed in
+      let bytes : List ℕ = reveals.hold.bytes in
       let long : length y ≡ v.layout.sectors = same_length x y mid.2.labels ∙ k.long in
       let same : y ≡ t.memory = one_memory w.disk w.slots y t.memory mid.1 t.stands in
       let map : MapIs v.layout t.triples y = subst (λ (z : List Sector). MapIs v.layout t.triples z) (sym same) (subst (λ (l : Layout). MapIs l t.triples t.memory) b.layout t.map) in
       let once = maps_named_once v.layout y y s.stands.is.named t.triples whole.layout (t.size ∙ ap (λ (l : Layout). l.sectors) b.layout) mid.1 mid.1 (map_kept v.layout s.stands.is.named x y whole.layout mid.2 k.map) map in
       let tables = tables_cut spaces v.layout y t.triples bytes whole.layout long map (tabled_still v.layout x y s.stands.is.named t.triples mid.2.labels once k.tabled) (moved_pages w.disk w.slots w.layout w.runs bytes t v.layout y same b.layout) in
-      let sectors : AreSectors y = memory_in_form w.disk w.slots y mid.1 (form mid.1.sectors mid.1.told) frames in
+      let sectors : AreSectors y = memory_in_form w.disk w.slots y mid.1 (form mid.1.sectors mid.1.revealed) frames in
       record {
         pages = cut 96 bytes;
         tables = record {
-          slots = tells.slots;
-          xs = tells.xs;
-          hold = record { bytes = bytes; told = sym (joined_cut 96 bytes t.count); are = tells.hold.are };
-          right = tells.right;
-          counted = tells.counted;
-          spaces = tells.spaces;
+          slots = reveals.slots;
+          xs = reveals.xs;
+          hold = record { bytes = bytes; revealed = sym (joined_cut 96 bytes t.count); are = reveals.hold.are };
+          right = reveals.right;
+          counted = reveals.counted;
+          spaces = reveals.spaces;
         };
         session = record {
           stands = record {
@@ -152,10 +152,10 @@ module _ (before_of : TablesMeaning) (v w : View) (now : ℕ) (volume : Volume) 
       }
 
 module _ (v w : View) (kept : List Interval) (count now : ℕ) (volume : Volume) (m : Machine) (spaces : List Space) (whole : IsWhole v) (form : AreInForm w.disk) (frames : ArePages w.slots)
-    (r : IsRunning v kept count volume m) (b : BesideTables v.disk v.slots v.layout v.runs w.disk w.slots w.layout w.runs) (tells : TellSpaces (TablesAre w) now spaces) where
+    (r : IsRunning v kept count volume m) (b : BesideTables v.disk v.slots v.layout v.runs w.disk w.slots w.layout w.runs) (reveals : RevealSpaces (TablesAre w) now spaces) where
   pub changed_to : (unforced : List FilePage) → IsMachine (record m { spaces = spaces; unforced = unforced }) → HasFrames w.slots spaces → DirtyAreLoose w.slots unforced
       → IsRunning w [] now volume (record m { spaces = spaces; unforced = unforced })
-  changed_to = session_changed (exactly r.pages m.spaces) v w now volume m spaces whole form frames r.session _ (known v kept count volume m whole r).known b tells
+  changed_to = session_changed (exactly r.pages m.spaces) v w now volume m spaces whole form frames r.session _ (known v kept count volume m whole r).known b reveals
 
   -- where what windows show is still shown, what is unforced stays
   pub reshaped_to : BringsOwn v.slots w.slots → IsMachine (record m { spaces = spaces }) → ((id page : ℕ) → is_shown m.spaces id page ≡ true → is_shown spaces id page ≡ true) → IsRunning w [] now volume (record m { spaces = spaces })
@@ -170,13 +170,13 @@ module _ (v w : View) (kept : List Interval) (count now : ℕ) (volume : Volume)
       loose id page dirty = elim (b.goes.makes.dirty id page dirty) [ inl was ↦ r.session.stands.dirty id page was | inr own ↦ volume_loose m.unforced id page (tables_own id page own) ]
 
 pub changed : (v w : View) (kept : List Interval) (count now : ℕ) (volume : Volume) (m : Machine) (spaces : List Space) (unforced : List FilePage) → IsWhole v → AreInForm w.disk → ArePages w.slots → IsRunning v kept count volume m
-    → BesideTables v.disk v.slots v.layout v.runs w.disk w.slots w.layout w.runs → TellSpaces (TablesAre w) now spaces
+    → BesideTables v.disk v.slots v.layout v.runs w.disk w.slots w.layout w.runs → RevealSpaces (TablesAre w) now spaces
     → IsMachine (record m { spaces = spaces; unforced = unforced }) → HasFrames w.slots spaces → DirtyAreLoose w.slots unforced
     → IsRunning w [] now volume (record m { spaces = spaces; unforced = unforced })
-changed v w kept count now volume m spaces unforced whole form frames r b tells is has loose = changed_to v w kept count now volume m spaces whole form frames r b tells unforced is has loose
+changed v w kept count now volume m spaces unforced whole form frames r b reveals is has loose = changed_to v w kept count now volume m spaces whole form frames r b reveals unforced is has loose
 
 pub reshaped : (v w : View) (kept : List Interval) (count now : ℕ) (volume : Volume) (m : Machine) (spaces : List Space) → IsWhole v → AreInForm w.disk → ArePages w.slots → IsRunning v kept count volume m
-    → BesideTables v.disk v.slots v.layout v.runs w.disk w.slots w.layout w.runs → BringsOwn v.slots w.slots → TellSpaces (TablesAre w) now spaces
+    → BesideTables v.disk v.slots v.layout v.runs w.disk w.slots w.layout w.runs → BringsOwn v.slots w.slots → RevealSpaces (TablesAre w) now spaces
     → IsMachine (record m { spaces = spaces }) → ((id page : ℕ) → is_shown m.spaces id page ≡ true → is_shown spaces id page ≡ true)
     → IsRunning w [] now volume (record m { spaces = spaces })
-reshaped v w kept count now volume m spaces whole form frames r b came tells is still = reshaped_to v w kept count now volume m spaces whole form frames r b tells came is still
+reshaped v w kept count now volume m spaces whole form frames r b came reveals is still = reshaped_to v w kept count now volume m spaces whole form frames r b reveals came is still

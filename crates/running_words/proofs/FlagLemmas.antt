@@ -7,8 +7,8 @@ use Rattle.labelled_disk.specs.declared.disk.DiskWrite.TheVariants as write
 use Rattle.labelled_disk.specs.declared.label.Label.{Label}
 use Rattle.labelled_disk.specs.declared.label.Wanted.{Wanted}
 use Rattle.labelled_disk.specs.Label.{names}
-use Rattle.labelled_disk.specs.Lawful.{Lawful}
-use Rattle.labelled_disk.specs.Moment.{moment, written}
+use Rattle.labelled_disk.specs.Permitted.{Permitted}
+use Rattle.labelled_disk.specs.CrashState.{crash_state, written}
 use Rattle.labelled_disk.specs.Root.{root_page, short_at}
 use Rattle.labelled_disk.specs.Runs.{growth, creation, freeing, zero_bytes}
 use Rattle.labelled_disk.specs.Sectors.{Sector, AreSectors}
@@ -91,23 +91,23 @@ page_flag d sector t f is (Some old) = by (f old)
     by true = rest_flag d is
     by false = is
 
-pub rows_flag : (ws : List DiskWrite) (d : List Sector) (k : ℕ) → AreOpen ws → ((j : ℕ) (w : DiskWrite) → slice_get ws j ≡ Some w → Lawful (moment d ws j) w) → short_at (root_page d) 10 ≡ 0
-    → short_at (root_page (moment d ws k)) 10 ≡ 0
-rows_flag [] d zero opens lawful is = is
-rows_flag [] d (suc k) opens lawful is = is
-rows_flag (w ∷ ws) d zero opens lawful is = is
-rows_flag (write.Whole sector label page ∷ ws) d (suc k) opens lawful is =
-    rows_flag ws (written (write.Whole sector label page) d) k opens.1 (λ j v here. lawful (suc j) v here) (whole_flag d sector (label, page) opens.0 is)
-rows_flag (write.LabelOnly sector label ∷ ws) d (suc k) opens lawful is =
-    rows_flag ws (written (write.LabelOnly sector label) d) k opens (λ j v here. lawful (suc j) v here) (label_flag d sector label is)
-rows_flag (write.Page zero wanted page ∷ ws) d (suc k) opens lawful is = absurd (let past = (lawful 0 (write.Page zero wanted page) refl).not_root in omega (arith, past))
-rows_flag (write.Page (suc n) wanted page ∷ ws) d (suc k) opens lawful is =
-    rows_flag ws (written (write.Page (suc n) wanted page) d) k opens (λ j v here. lawful (suc j) v here)
+pub rows_flag : (ws : List DiskWrite) (d : List Sector) (k : ℕ) → AreOpen ws → ((j : ℕ) (w : DiskWrite) → slice_get ws j ≡ Some w → Permitted (crash_state d ws j) w) → short_at (root_page d) 10 ≡ 0
+    → short_at (root_page (crash_state d ws k)) 10 ≡ 0
+rows_flag [] d zero opens permitted is = is
+rows_flag [] d (suc k) opens permitted is = is
+rows_flag (w ∷ ws) d zero opens permitted is = is
+rows_flag (write.Whole sector label page ∷ ws) d (suc k) opens permitted is =
+    rows_flag ws (written (write.Whole sector label page) d) k opens.1 (λ j v here. permitted (suc j) v here) (whole_flag d sector (label, page) opens.0 is)
+rows_flag (write.LabelOnly sector label ∷ ws) d (suc k) opens permitted is =
+    rows_flag ws (written (write.LabelOnly sector label) d) k opens (λ j v here. permitted (suc j) v here) (label_flag d sector label is)
+rows_flag (write.Page zero wanted page ∷ ws) d (suc k) opens permitted is = absurd (let past = (permitted 0 (write.Page zero wanted page) refl).not_root in omega (arith, past))
+rows_flag (write.Page (suc n) wanted page ∷ ws) d (suc k) opens permitted is =
+    rows_flag ws (written (write.Page (suc n) wanted page) d) k opens (λ j v here. permitted (suc j) v here)
     (page_flag d n (λ old. (old.0, page)) (λ old. names old.0 wanted) is (slice_get d (suc n)))
 
 pub flag_open : {run : List DiskWrite} {old new : DiskState} {before : Slots} (wrote : Wrote volume_page run old before new) → AreOpen run → (d : List Sector) (k : ℕ) → old.contents ≡ Some d → short_at (root_page d) 10 ≡ 0
-    → short_at (root_page (moment d wrote.writes k)) 10 ≡ 0
-flag_open wrote opens d k told is = rows_flag wrote.writes d k (open_writes wrote.writes (subst AreOpen (sym wrote.labels) opens)) (λ j w here. wrote.lawful d j w told here) is
+    → short_at (root_page (crash_state d wrote.writes k)) 10 ≡ 0
+flag_open wrote opens d k revealed is = rows_flag wrote.writes d k (open_writes wrote.writes (subst AreOpen (sym wrote.labels) opens)) (λ j w here. wrote.permitted d j w revealed here) is
 
 -- a root with the flag 0 is written, whatever stood there
 pub root_flag : (d : List Sector) (root : Root) → root.clean ≡ false → short_at (root_page (written (root_write root) d)) 10 ≡ 0
@@ -115,21 +115,21 @@ root_flag [] root unset = refl
 root_flag (s ∷ rest) root unset = (root_open root [] unset tt).0
 
 -- where such a root is the first of what is written, the flag is 0 from then on
-pub opened_by : (ws : List DiskWrite) (root : Root) → root.clean ≡ false → BeginWith (root_write root) ws → AreOpen ws → (d : List Sector) → ((j : ℕ) (w : DiskWrite) → slice_get ws j ≡ Some w → Lawful (moment d ws j) w)
-    → (k : ℕ) → (moment d ws k ≡ d) ⊎ (short_at (root_page (moment d ws k)) 10 ≡ 0)
-opened_by ws root unset (inl none) opens d lawful k = inl (ap (λ (xs : List DiskWrite). moment d xs k) none ∙ still k)
+pub opened_by : (ws : List DiskWrite) (root : Root) → root.clean ≡ false → BeginWith (root_write root) ws → AreOpen ws → (d : List Sector) → ((j : ℕ) (w : DiskWrite) → slice_get ws j ≡ Some w → Permitted (crash_state d ws j) w)
+    → (k : ℕ) → (crash_state d ws k ≡ d) ⊎ (short_at (root_page (crash_state d ws k)) 10 ≡ 0)
+opened_by ws root unset (inl none) opens d permitted k = inl (ap (λ (xs : List DiskWrite). crash_state d xs k) none ∙ still k)
   where
-    still : (k : ℕ) → moment d [] k ≡ d
+    still : (k : ℕ) → crash_state d [] k ≡ d
     still zero = refl
     still (suc k) = refl
-opened_by ws root unset (inr some) opens d lawful k =
-    subst (λ (xs : List DiskWrite). (moment d xs k ≡ d) ⊎ (short_at (root_page (moment d xs k)) 10 ≡ 0)) (sym some.1)
-    (from (subst AreOpen some.1 opens) (subst (λ (xs : List DiskWrite). (j : ℕ) (w : DiskWrite) → slice_get xs j ≡ Some w → Lawful (moment d xs j) w) some.1 lawful) k)
+opened_by ws root unset (inr some) opens d permitted k =
+    subst (λ (xs : List DiskWrite). (crash_state d xs k ≡ d) ⊎ (short_at (root_page (crash_state d xs k)) 10 ≡ 0)) (sym some.1)
+    (from (subst AreOpen some.1 opens) (subst (λ (xs : List DiskWrite). (j : ℕ) (w : DiskWrite) → slice_get xs j ≡ Some w → Permitted (crash_state d xs j) w) some.1 permitted) k)
   where
-    from : AreOpen (root_write root ∷ some.0) → ((j : ℕ) (w : DiskWrite) → slice_get (root_write root ∷ some.0) j ≡ Some w → Lawful (moment d (root_write root ∷ some.0) j) w) → (k : ℕ)
-        → (moment d (root_write root ∷ some.0) k ≡ d) ⊎ (short_at (root_page (moment d (root_write root ∷ some.0) k)) 10 ≡ 0)
-    from opens lawful zero = inl refl
-    from opens lawful (suc k) = inr (rows_flag some.0 (written (root_write root) d) k opens.1 (λ j v here. lawful (suc j) v here) (root_flag d root unset))
+    from : AreOpen (root_write root ∷ some.0) → ((j : ℕ) (w : DiskWrite) → slice_get (root_write root ∷ some.0) j ≡ Some w → Permitted (crash_state d (root_write root ∷ some.0) j) w) → (k : ℕ)
+        → (crash_state d (root_write root ∷ some.0) k ≡ d) ⊎ (short_at (root_page (crash_state d (root_write root ∷ some.0) k)) 10 ≡ 0)
+    from opens permitted zero = inl refl
+    from opens permitted (suc k) = inr (rows_flag some.0 (written (root_write root) d) k opens.1 (λ j v here. permitted (suc j) v here) (root_flag d root unset))
 
 -- writes without one of page bytes are label writes alone
 pub labels_alone : (ws : List DiskWrite) → ((k sector : ℕ) (wanted : Wanted) (bytes : List ℕ) → slice_get ws k ≡ Some (write.Page sector wanted bytes) → ⊥) → ws ≡ filter (λ w. not (is_page_write w)) ws
@@ -140,4 +140,4 @@ labels_alone (write.Page sector wanted page ∷ ws) none = absurd (none zero sec
 
 -- the clean flag of a session's disk is 0
 pub flag_at : (spaces_of : TablesMeaning) (old : DiskState) (before : Slots) (m : Machine) → StandsFor spaces_of old before m → (d : List Sector) → old.contents ≡ Some d → AreSectors d → short_at (root_page d) 10 ≡ 0
-flag_at spaces_of old before m stands d told are = (stands_is_settled spaces_of old before m d stands told are).root.open_flag
+flag_at spaces_of old before m stands d revealed are = (stands_is_settled spaces_of old before m d stands revealed are).root.open_flag

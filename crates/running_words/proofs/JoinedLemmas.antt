@@ -56,7 +56,7 @@ cut_at (suc n) b (suc k) below =
 -- ---- What the pages mean.
 
 pub only_pages : (pages others : List (List ℕ)) (a b : List Space) → exactly pages a others ≡ Some b → others ≡ pages
-only_pages pages others a b told = either (pointwise (pointwise nat_eq) others pages) refl told
+only_pages pages others a b revealed = either (pointwise (pointwise nat_eq) others pages) refl revealed
   where
     either : (t : Bool) → pointwise (pointwise nat_eq) others pages ≡ t → (if t then Some a else None) ≡ Some b → others ≡ pages
     either true e h = (pointwise_decides bytes_decides others pages).0 e

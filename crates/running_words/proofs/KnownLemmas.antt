@@ -44,7 +44,7 @@ use Rattle.session_words.proofs.ShownLemmas.{shown_laws}
 use Rattle.file_manager.specs.Book.{AreTrue}
 use Rattle.file_manager.specs.declared.volume.Volume.{Volume}
 use Rattle.file_manager.proofs.BookLemmas.{map_named}
-use Rattle.fault_core.specs.Told.{IsStored, IsTabled, Known, Told}
+use Rattle.fault_core.specs.Revealed.{IsStored, IsTabled, Known, Revealed}
 use Rattle.fault_core.specs.View.{View}
 use Rattle.running_words.specs.Running.{IsRunning, exactly}
 use Rattle.running_words.specs.RunningLaws.{IsWhole}
@@ -66,8 +66,8 @@ before_first n first k is = elim (cases_lt k first) [
   | inr from ↦ inl from
   | inl before ↦ elim (cases_eq k 0) [
     | inl root ↦ inr (inl root)
-    | inr behind ↦ elim (cases_lt k (1 + vam n)) [
-      | inl low ↦ inr (inr (inl (k - 1, omega (arith, low, behind), omega (arith, behind))))
+    | inr after ↦ elim (cases_lt k (1 + vam n)) [
+      | inl low ↦ inr (inr (inl (k - 1, omega (arith, low, after), omega (arith, after))))
       | inr high ↦ inr (inr (inr (k - 1 - vam n, omega (arith, high, before, is), omega (arith, high))))
     ]
   ]
@@ -255,7 +255,7 @@ session_known spaces_of v volume m whole s pages same =
     }
 
 pub known : (v : View) (kept : List Interval) (count : ℕ) (volume : Volume) (m : Machine) → IsWhole v → (r : IsRunning v kept count volume m)
-    → Told v kept count r.session.stands.memory r.session.stands.is.named m.spaces
+    → Revealed v kept count r.session.stands.memory r.session.stands.is.named m.spaces
 known v kept count volume m whole r =
     let s = r.session in
     let x : List Sector = s.stands.memory in
@@ -263,7 +263,7 @@ known v kept count volume m whole r =
     let f = s.stands.is.by in
     record {
       bytes = concat r.pages;
-      known = session_known spaces_of v volume m whole s r.pages (only_pages r.pages f.tables.pages m.spaces m.spaces f.tables.told);
+      known = session_known spaces_of v volume m whole s r.pages (only_pages r.pages f.tables.pages m.spaces m.spaces f.tables.revealed);
       tables = r.tables;
       cached = r.cached;
       stored = shown_stored spaces_of v.layout x s.stands.is.named m whole.layout (s.kept x s.stands.stands).long f;

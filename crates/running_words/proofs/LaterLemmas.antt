@@ -13,7 +13,7 @@ use Rattle.swapper_kernel.specs.GoesLaws.{makes_wider}
 use Rattle.swapper_kernel.specs.Homes.{IsLayout}
 use Rattle.swapper_kernel.specs.Stands.{Stands, labels_of}
 use Rattle.filer_kernel.specs.Tables.{table_pages}
-use Rattle.space_tables.specs.Stored.{TellSpaces}
+use Rattle.space_tables.specs.Stored.{RevealSpaces}
 use Rattle.session_words.specs.FrameLaws.{BringsKnown}
 use Rattle.session_words.specs.Parts.{HasTriples}
 use Rattle.session_words.specs.StandsFor.{StandsFor}
@@ -24,7 +24,7 @@ use Rattle.file_manager.specs.declared.volume.Volume.{Volume}
 use Rattle.file_manager.proofs.BookLemmas.{true_by_map}
 use Rattle.filer_kernel.specs.MapOnce.{named_once}
 use Rattle.fault_core.specs.Reach.{Reaches}
-use Rattle.fault_core.specs.Told.{IsIntervalOf, Known, Told}
+use Rattle.fault_core.specs.Revealed.{IsIntervalOf, Known, Revealed}
 use Rattle.fault_core.specs.View.{View}
 use Rattle.running_words.specs.Running.{IsRunning, exactly}
 use Rattle.running_words.specs.RunningLaws.{IsWhole}
@@ -44,27 +44,27 @@ known_kept w x y named b k triples stands =
     (record { long = k.long; true_runs = true_by_map (labels_of x) named _ triples k.runs })
 
 pub asked : (v w : View) (kept later : List Interval) (count : ℕ) (volume : Volume) (m : Machine) → IsWhole v → (r : IsRunning v kept count volume m) → Reaches v w → BringsKnown m.spaces v.slots w.slots
-    → Told w later count r.session.stands.memory r.session.stands.is.named m.spaces → IsRunning w later count volume m
-asked v w kept later count volume m whole r h brings told =
+    → Revealed w later count r.session.stands.memory r.session.stands.is.named m.spaces → IsRunning w later count volume m
+asked v w kept later count volume m whole r h brings revealed =
     let s = r.session in
     let x : List Sector = s.stands.memory in
     let searched : Searches v.disk v.slots w.disk w.slots = record {
       makes = makes_wider volume_page tables_own h.goes.makes;
       memory = λ n stands.
           let same : n ≡ x = one_memory v.disk v.slots n x stands s.stands.stands in
-          (n, subst (Stands w.disk w.slots) (sym same) told.known.stands, refl);
+          (n, subst (Stands w.disk w.slots) (sym same) revealed.known.stands, refl);
     } in
     record {
       pages = r.pages;
       tables = r.tables;
       session = record {
         stands = swap_stands (exactly r.pages m.spaces) v.disk w.disk v.slots w.slots m searched brings s.stands;
-        kept = λ y stands. known_kept w x y s.stands.is.named told.bytes told.known s.stands.is.by.triples stands;
+        kept = λ y stands. known_kept w x y s.stands.is.named revealed.bytes revealed.known s.stands.is.by.triples stands;
         same_serial = s.same_serial;
         same_counter = s.same_counter;
         same_used = s.same_used;
       };
-      cached = told.cached;
+      cached = revealed.cached;
     }
 
 -- where no label was written
@@ -72,31 +72,31 @@ pub quiet : (call : Call) (v w : View) (kept : List Interval) (count : ℕ) (vol
     → Passes m call v.disk w.disk
 quiet call v w kept count volume m form r makes = no_step (exactly r.pages m.spaces) v.disk w.disk v.slots w.slots m call r.session.stands makes form
 
--- a told map names what the memory's does
-told_names : (w : View) (y : List Sector) (named also : Triples) (b : List ℕ) → IsLayout w.layout → Known w y named b → MapNames y also → also ≡ named
-told_names w y named also b is k map =
+-- a revealed map names what the memory's does
+revealed_names : (w : View) (y : List Sector) (named also : Triples) (b : List ℕ) → IsLayout w.layout → Known w y named b → MapNames y also → also ≡ named
+revealed_names w y named also b is k map =
     let mine : MapNames y named = (shown_laws.names w.layout y k.map.bytes named is k.long k.sectors k.map.shows).0 k.map.names in
     let few : length y < 2 ^ 32 = let small = is.0.1 in omega (arith, small, k.long) in
     λ i id page sector. named_once y named also few mine map id page sector i
 
 pub moved : (v w : View) (kept later : List Interval) (count : ℕ) (volume : Volume) (m n : Machine) → IsWhole v → (r : IsRunning v kept count volume m) → n.spaces ≡ m.spaces
     → n.serial ≡ m.serial → n.counter ≡ m.counter → used n ≡ used m → StandsFor (exactly r.pages m.spaces) w.disk w.slots n
-    → ((x : List Sector) → Stands w.disk w.slots x → Told w later count x r.session.stands.is.named m.spaces) → w.layout ≡ v.layout → IsRunning w later count volume n
-moved v w kept later count volume m n whole r spaces serial counter room stands tells layout =
+    → ((x : List Sector) → Stands w.disk w.slots x → Revealed w later count x r.session.stands.is.named m.spaces) → w.layout ≡ v.layout → IsRunning w later count volume n
+moved v w kept later count volume m n whole r spaces serial counter room stands reveals layout =
     let s = r.session in
     let y : List Sector = stands.memory in
-    let told = tells y stands.stands in
+    let revealed = reveals y stands.stands in
     let is : IsLayout w.layout = subst IsLayout (sym layout) whole.layout in
-    let same : stands.is.named ≡ s.stands.is.named = told_names w y s.stands.is.named stands.is.named told.bytes is told.known stands.is.map in
+    let same : stands.is.named ≡ s.stands.is.named = revealed_names w y s.stands.is.named stands.is.named revealed.bytes is revealed.known stands.is.map in
     record {
       pages = r.pages;
-      tables = subst (λ (ss : List Space). TellSpaces (λ b. b ≡ concat r.pages) count ss) (sym spaces) r.tables;
+      tables = subst (λ (ss : List Space). RevealSpaces (λ b. b ≡ concat r.pages) count ss) (sym spaces) r.tables;
       session = record {
         stands = subst (λ (ss : List Space). StandsFor (exactly r.pages ss) w.disk w.slots n) (sym spaces) stands;
-        kept = λ z there. known_kept w y z s.stands.is.named told.bytes told.known (subst (λ (t : Triples). HasTriples t (labels_of y)) same stands.is.by.triples) there;
+        kept = λ z there. known_kept w y z s.stands.is.named revealed.bytes revealed.known (subst (λ (t : Triples). HasTriples t (labels_of y)) same stands.is.by.triples) there;
         same_serial = s.same_serial ∙ sym serial;
         same_counter = s.same_counter ∙ sym counter;
         same_used = s.same_used ∙ sym room;
       };
-      cached = λ x one. subst (λ (ss : List Space). IsIntervalOf ss x) (sym spaces) (told.cached x one);
+      cached = λ x one. subst (λ (ss : List Space). IsIntervalOf ss x) (sym spaces) (revealed.cached x one);
     }

@@ -1,4 +1,4 @@
--- Each moment of a call on a file tells the settled files of one of its stages.
+-- Each crash state of a call on a file reveals the settled files of one of its stages.
 use Rattle.std.proofs.Common.{◌≡◌, ◌≢◌, ℕ, zero, suc, ◌+◌, ◌-◌, ◌<◌, ◌≤◌, Bool, true, false, cond, List, [], ◌∷◌, length, take_all, append-nil, Option, Some, None, refl, sym, ◌∙◌, ap, subst, arith}
 use Rattle.std.specs.Prelude.{nat_lt, slice_get, ◌==◌, is_none, if◌then◌else◌, option_map}
 use Rattle.std.specs.Option.{option_map_or}
@@ -8,7 +8,7 @@ use Rattle.labelled_disk.specs.declared.disk.DiskWrite.TheVariants.{LabelOnly}
 use Rattle.labelled_disk.specs.File.{File, Page, size, file_at}
 use Rattle.labelled_disk.specs.FilesOn.{leads_file}
 use Rattle.labelled_disk.specs.Label.{names, leader_page, is_file_id}
-use Rattle.labelled_disk.specs.Moment.{moment}
+use Rattle.labelled_disk.specs.CrashState.{crash_state}
 use Rattle.labelled_disk.specs.Runs.{growth, freeing, AreUnused, IsAt, ArePagesDown, ArePagesUp, lengthened, shortened}
 use Rattle.labelled_disk.specs.Sectors.{Sector}
 use Rattle.labelled_disk.specs.State.{DiskState}
@@ -27,10 +27,10 @@ use Rattle.swapper_kernel.specs.Goes.{Makes}
 use Rattle.swapper_kernel.specs.Stands.{labels_of}
 use Rattle.session_words.specs.Parts.{TablesMeaning, shape_of}
 use Rattle.session_words.specs.RunStops.{with_change, deleted_after, changed_after}
-use Rattle.session_words.specs.StandsFor.{StandsFor, TellsSettled}
+use Rattle.session_words.specs.StandsFor.{StandsFor, RevealsSettled}
 use Rattle.session_words.specs.Volume.{volume_page}
 use Rattle.session_words.proofs.FoundLemmas.{above_reserved}
-use Rattle.session_words.proofs.MomentLemmas.{few_labels}
+use Rattle.session_words.proofs.CrashStateLemmas.{few_labels}
 use Rattle.session_words.proofs.RunStopLemmas.{run_stops}
 use Rattle.session_words.proofs.SettledLemmas.{machine_shapes}
 use Rattle.session_words.proofs.SizeLemmas.{changed_alike}
@@ -68,17 +68,17 @@ whole_stage m n c after f none some zero = none
 whole_stage m n c after f none some (suc k) = some k ∙ sym after
 
 module _ (spaces_of : TablesMeaning) (old new : DiskState) (before after : Slots) (m : Machine) (stands : StandsFor spaces_of old before m) (form : AreInForm old) where
-  -- a call that is whole or absent, whose stages are told
+  -- a call that is whole or absent, whose stages are revealed
   whole : (c : Call) (n : Machine) → stage m c 1 ≡ n → last_step m c ≡ 1 → (run : List DiskWrite) (makes : Makes volume_page run old before new after) (f : ℕ → Machine) → f 0 ≡ m → ((j : ℕ) → f (suc j) ≡ n)
-      → AreOpen run → RootsHave (PageNumbers m c) run → ((d : List Sector) (k : ℕ) → old.contents ≡ Some d → TellsSettled (moment d makes.wrote.writes k) (f (label_count makes.wrote.writes k))) → Passes m c old new
-  whole c n after_one last run makes f none some opens have tells = record {
+      → AreOpen run → RootsHave (PageNumbers m c) run → ((d : List Sector) (k : ℕ) → old.contents ≡ Some d → RevealsSettled (crash_state d makes.wrote.writes k) (f (label_count makes.wrote.writes k))) → Passes m c old new
+  whole c n after_one last run makes f none some opens have reveals = record {
     writes = makes.wrote.writes;
     appended = makes.wrote.appended;
     steps = λ k. one_step (label_count makes.wrote.writes k);
     rise = λ j k le. one_rises _ _ (label_count_rises makes.wrote.writes j k le);
     within = λ k. omega (arith, last, one_most (label_count makes.wrote.writes k));
-    tells = λ d k told. subst (TellsSettled (moment d makes.wrote.writes k)) (whole_stage m n c after_one f none some (label_count makes.wrote.writes k)) (tells d k told);
-    open_flag = λ d k told. flag_open makes.wrote opens d k told (flag_at spaces_of old before m stands d told (form d told));
+    reveals = λ d k revealed. subst (RevealsSettled (crash_state d makes.wrote.writes k)) (whole_stage m n c after_one f none some (label_count makes.wrote.writes k)) (reveals d k revealed);
+    open_flag = λ d k revealed. flag_open makes.wrote opens d k revealed (flag_at spaces_of old before m stands d revealed (form d revealed));
     numbers = numbers_stay spaces_of old new before m c stands form makes.wrote have;
   }
 
@@ -88,17 +88,17 @@ module _ (spaces_of : TablesMeaning) (old new : DiskState) (before after : Slots
     permanent_passes free makes =
         whole (call.MakePermanent id) (with_change id (λ f. record f { permanent = true }) m) (unrefused m (call.MakePermanent id) free) refl (LabelOnly leader (permanent_label s.0) ∷ []) makes
         (λ k. changed_after id (λ f. record f { permanent = true }) k m) refl (λ j. refl) tt tt
-        (λ d k told.
-        let at = on_disk spaces_of old before m stands d told leader s here client in
-        run_stops.permanent_stops m id leader f (s.0, at.0) old new before d makes.wrote (begun spaces_of old before m d stands told (form d told)) found at.1 (leads_here id s.0 at.0 of_file named) k)
+        (λ d k revealed.
+        let at = on_disk spaces_of old before m stands d revealed leader s here client in
+        run_stops.permanent_stops m id leader f (s.0, at.0) old new before d makes.wrote (begun spaces_of old before m d stands revealed (form d revealed)) found at.1 (leads_here id s.0 at.0 of_file named) k)
 
     pub immutable_passes : refusal m (call.MakeImmutable id) ≡ None → Makes volume_page (LabelOnly leader (immutable_label s.0) ∷ []) old before new after → Passes m (call.MakeImmutable id) old new
     immutable_passes free makes =
         whole (call.MakeImmutable id) (with_change id (λ f. record f { immutable = true }) m) (unrefused m (call.MakeImmutable id) free) refl (LabelOnly leader (immutable_label s.0) ∷ []) makes
         (λ k. changed_after id (λ f. record f { immutable = true }) k m) refl (λ j. refl) tt tt
-        (λ d k told.
-        let at = on_disk spaces_of old before m stands d told leader s here client in
-        run_stops.immutable_stops m id leader f (s.0, at.0) old new before d makes.wrote (begun spaces_of old before m d stands told (form d told)) found at.1 (leads_here id s.0 at.0 of_file named) k)
+        (λ d k revealed.
+        let at = on_disk spaces_of old before m stands d revealed leader s here client in
+        run_stops.immutable_stops m id leader f (s.0, at.0) old new before d makes.wrote (begun spaces_of old before m d stands revealed (form d revealed)) found at.1 (leads_here id s.0 at.0 of_file named) k)
 
   -- what is freed of a file that goes, as any disk with the memory's labels has it
   abbrev pub FreesAll : ℕ → ℕ → List ℕ → Type 0
@@ -109,9 +109,9 @@ module _ (spaces_of : TablesMeaning) (old new : DiskState) (before after : Slots
   delete_passes id leader f is found free frees makes =
       whole (call.Delete id) (record m { files = without_file id m.files }) (unrefused m (call.Delete id) free) refl (freeing (leader ∷ is)) makes (λ k. deleted_after id k m) refl (λ j. refl) (freeing_open (leader ∷ is))
       (freeing_have (PageNumbers m (call.Delete id)) (leader ∷ is))
-      (λ d k told.
-      let facts = frees d (same_labels old before stands.memory d stands.stands told) in
-      run_stops.deletion_stops m id leader f is old new before d makes.wrote (begun spaces_of old before m d stands told (form d told)) found facts.0 facts.1 k)
+      (λ d k revealed.
+      let facts = frees d (same_labels old before stands.memory d stands.stands revealed) in
+      run_stops.deletion_stops m id leader f is old new before d makes.wrote (begun spaces_of old before m d stands revealed (form d revealed)) found facts.0 facts.1 k)
 
   -- Another size, which is not refused: as many steps as labels were written.
   module _ (id pages : ℕ) (f : File) (found : file_at m.files id ≡ Some f) (free : refusal m (call.SetSize id pages) ≡ None) where
@@ -141,8 +141,8 @@ module _ (spaces_of : TablesMeaning) (old new : DiskState) (before after : Slots
 
     stepwise : (run : List DiskWrite) (makes : Makes volume_page run old before new after) (c : ℕ → File → File) → ((k : ℕ) (w : File) → (c k w).id ≡ w.id) → ((k : ℕ) → c k f ≡ towards pages k f) → c 0 f ≡ f
         → length run ≤ (pages - size f) + (size f - pages) → AreOpen run → RootsHave (PageNumbers m (call.SetSize id pages)) run
-        → ((d : List Sector) (k : ℕ) → old.contents ≡ Some d → TellsSettled (moment d makes.wrote.writes k) (with_change id (c (label_count makes.wrote.writes k)) m)) → Passes m (call.SetSize id pages) old new
-    stepwise run makes c ids same none few opens have tells = record {
+        → ((d : List Sector) (k : ℕ) → old.contents ≡ Some d → RevealsSettled (crash_state d makes.wrote.writes k) (with_change id (c (label_count makes.wrote.writes k)) m)) → Passes m (call.SetSize id pages) old new
+    stepwise run makes c ids same none few opens have reveals = record {
       writes = makes.wrote.writes;
       appended = makes.wrote.appended;
       steps = λ k. label_count makes.wrote.writes k;
@@ -153,8 +153,8 @@ module _ (spaces_of : TablesMeaning) (old new : DiskState) (before after : Slots
           ∙ ap (λ (o : Option File). option_map_or (λ w. (pages - size w) + (size w - pages)) o 0) found in
           let count = few_labels run old new before makes.wrote k in
           omega (arith, at, count, few);
-      tells = λ d k told. subst (TellsSettled (moment d makes.wrote.writes k)) (sized c ids same none (label_count makes.wrote.writes k)) (tells d k told);
-      open_flag = λ d k told. flag_open makes.wrote opens d k told (flag_at spaces_of old before m stands d told (form d told));
+      reveals = λ d k revealed. subst (RevealsSettled (crash_state d makes.wrote.writes k)) (sized c ids same none (label_count makes.wrote.writes k)) (reveals d k revealed);
+      open_flag = λ d k revealed. flag_open makes.wrote opens d k revealed (flag_at spaces_of old before m stands d revealed (form d revealed));
       numbers = numbers_stay spaces_of old new before m (call.SetSize id pages) stands form makes.wrote have;
     }
 
@@ -170,7 +170,7 @@ module _ (spaces_of : TablesMeaning) (old new : DiskState) (before after : Slots
     grow_passes is more few room unused makes =
         stepwise (growth id f.kind (size f) is) makes lengthened (λ k w. refl) longer refl_long (omega (arith, few, growth_long id f.kind (size f) is)) (growth_open id f.kind (size f) is)
         (growth_have (PageNumbers m (call.SetSize id pages)) id f.kind (size f) is no_root)
-        (λ d k told. run_stops.growth_stops m id f is old new before d makes.wrote (begun spaces_of old before m d stands told (form d told)) found (unused d (same_labels old before stands.memory d stands.stands told)) room k)
+        (λ d k revealed. run_stops.growth_stops m id f is old new before d makes.wrote (begun spaces_of old before m d stands revealed (form d revealed)) found (unused d (same_labels old before stands.memory d stands.stands revealed)) room k)
       where
         longer : (k : ℕ) → lengthened k f ≡ towards pages k f
         longer k = let a : nat_lt pages (size f) ≡ false = grind (arith, nat_tests) in rw a refl
@@ -182,7 +182,7 @@ module _ (spaces_of : TablesMeaning) (old new : DiskState) (before after : Slots
         → Makes volume_page (freeing is) old before new after → Passes m (call.SetSize id pages) old new
     shrink_passes is fewer few down makes =
         stepwise (freeing is) makes shortened (λ k w. refl) shorter refl_short (omega (arith, few, freeing_long is)) (freeing_open is) (freeing_have (PageNumbers m (call.SetSize id pages)) is)
-        (λ d k told. run_stops.shrinking_stops m id f is old new before d makes.wrote (begun spaces_of old before m d stands told (form d told)) found (down d (same_labels old before stands.memory d stands.stands told)) k)
+        (λ d k revealed. run_stops.shrinking_stops m id f is old new before d makes.wrote (begun spaces_of old before m d stands revealed (form d revealed)) found (down d (same_labels old before stands.memory d stands.stands revealed)) k)
       where
         shorter : (k : ℕ) → shortened k f ≡ towards pages k f
         shorter k = let a : nat_lt pages (size f) ≡ true = grind (arith, nat_tests) in rw a refl

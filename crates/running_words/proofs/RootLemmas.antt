@@ -6,8 +6,8 @@ use Rattle.labelled_disk.specs.declared.disk.DiskWrite.{DiskWrite}
 use Rattle.labelled_disk.specs.declared.disk.DiskWrite.TheVariants as write
 use Rattle.labelled_disk.specs.declared.label.Label.{Label}
 use Rattle.labelled_disk.specs.Label.{names}
-use Rattle.labelled_disk.specs.Lawful.{Lawful}
-use Rattle.labelled_disk.specs.Moment.{moment, written}
+use Rattle.labelled_disk.specs.Permitted.{Permitted}
+use Rattle.labelled_disk.specs.CrashState.{crash_state, written}
 use Rattle.labelled_disk.specs.Root.{number_at, root_page}
 use Rattle.labelled_disk.specs.Runs.{growth, creation, freeing}
 use Rattle.labelled_disk.specs.Sectors.{Sector, AreSectors}
@@ -66,13 +66,13 @@ module _ (P : List ℕ → Type 0) where
   pub root_have : (root : Root) (ws : List DiskWrite) → P (root_bytes root) → RootsHave P ws → RootsHave P (root_write root ∷ ws)
   root_have root ws is have = (λ four. is, have)
 
-  -- What one lawful write makes of sector 0.
+  -- What one permitted write makes of sector 0.
 
-  whole_have : (d : List Sector) (sector : ℕ) (label : Label) (page : List ℕ) → Lawful d (write.Whole sector label page) → (label.id ≡ 4 → P page) → P (root_page d) → P (root_page (slice_set d sector (label, page)))
-  whole_have [] sector label page lawful have is = is
+  whole_have : (d : List Sector) (sector : ℕ) (label : Label) (page : List ℕ) → Permitted d (write.Whole sector label page) → (label.id ≡ 4 → P page) → P (root_page d) → P (root_page (slice_set d sector (label, page)))
+  whole_have [] sector label page permitted have is = is
   whole_have (s ∷ rest) zero label page (inl root) have is = have (ap (λ (l : Label). l.id) root.root_label)
   whole_have (s ∷ rest) zero label page (inr fresh) have is = absurd (let at = fresh.old.1.is_data in let positive = first_positive false 0 0 (length (s ∷ rest)) in omega (arith, at, positive))
-  whole_have (s ∷ rest) (suc n) label page lawful have is = is
+  whole_have (s ∷ rest) (suc n) label page permitted have is = is
 
   label_have : (d : List Sector) (sector : ℕ) (label : Label) → P (root_page d) → P (root_page (written (write.LabelOnly sector label) d))
   label_have [] sector label is = is
@@ -96,23 +96,23 @@ module _ (P : List ℕ → Type 0) where
       by true = rest_have d is
       by false = is
 
-  -- and what lawful writes in a row make of it
-  pub rows_have : (ws : List DiskWrite) (d : List Sector) (k : ℕ) → RootsHave P ws → ((j : ℕ) (w : DiskWrite) → slice_get ws j ≡ Some w → Lawful (moment d ws j) w) → P (root_page d) → P (root_page (moment d ws k))
-  rows_have [] d zero have lawful is = is
-  rows_have [] d (suc k) have lawful is = is
-  rows_have (w ∷ ws) d zero have lawful is = is
-  rows_have (write.Whole sector label page ∷ ws) d (suc k) have lawful is =
-      rows_have ws (written (write.Whole sector label page) d) k have.1 (λ j v here. lawful (suc j) v here) (whole_have d sector label page (lawful 0 (write.Whole sector label page) refl) have.0 is)
-  rows_have (write.LabelOnly sector label ∷ ws) d (suc k) have lawful is =
-      rows_have ws (written (write.LabelOnly sector label) d) k have (λ j v here. lawful (suc j) v here) (label_have d sector label is)
-  rows_have (write.Page zero wanted page ∷ ws) d (suc k) have lawful is = absurd (let past = (lawful 0 (write.Page zero wanted page) refl).not_root in omega (arith, past))
-  rows_have (write.Page (suc n) wanted page ∷ ws) d (suc k) have lawful is =
-      rows_have ws (written (write.Page (suc n) wanted page) d) k have (λ j v here. lawful (suc j) v here)
+  -- and what permitted writes in a row make of it
+  pub rows_have : (ws : List DiskWrite) (d : List Sector) (k : ℕ) → RootsHave P ws → ((j : ℕ) (w : DiskWrite) → slice_get ws j ≡ Some w → Permitted (crash_state d ws j) w) → P (root_page d) → P (root_page (crash_state d ws k))
+  rows_have [] d zero have permitted is = is
+  rows_have [] d (suc k) have permitted is = is
+  rows_have (w ∷ ws) d zero have permitted is = is
+  rows_have (write.Whole sector label page ∷ ws) d (suc k) have permitted is =
+      rows_have ws (written (write.Whole sector label page) d) k have.1 (λ j v here. permitted (suc j) v here) (whole_have d sector label page (permitted 0 (write.Whole sector label page) refl) have.0 is)
+  rows_have (write.LabelOnly sector label ∷ ws) d (suc k) have permitted is =
+      rows_have ws (written (write.LabelOnly sector label) d) k have (λ j v here. permitted (suc j) v here) (label_have d sector label is)
+  rows_have (write.Page zero wanted page ∷ ws) d (suc k) have permitted is = absurd (let past = (permitted 0 (write.Page zero wanted page) refl).not_root in omega (arith, past))
+  rows_have (write.Page (suc n) wanted page ∷ ws) d (suc k) have permitted is =
+      rows_have ws (written (write.Page (suc n) wanted page) d) k have (λ j v here. permitted (suc j) v here)
       (page_have d n (λ old. (old.0, page)) (λ old. names old.0 wanted) is (slice_get d (suc n)))
 
   pub have_at : {run : List DiskWrite} {old new : DiskState} {before : Slots} (wrote : Wrote volume_page run old before new) → RootsHave P run → (d : List Sector) (k : ℕ) → old.contents ≡ Some d → P (root_page d)
-      → P (root_page (moment d wrote.writes k))
-  have_at wrote have d k told is = rows_have wrote.writes d k (have_writes wrote.writes (subst (RootsHave P) (sym wrote.labels) have)) (λ j w here. wrote.lawful d j w told here) is
+      → P (root_page (crash_state d wrote.writes k))
+  have_at wrote have d k revealed is = rows_have wrote.writes d k (have_writes wrote.writes (subst (RootsHave P) (sym wrote.labels) have)) (λ j w here. wrote.permitted d j w revealed here) is
 
 -- The numbers of a machine.
 
@@ -123,13 +123,13 @@ pub record PageNumbers (m : Machine) (call : Call) (page : List ℕ) : Type 0 wh
 
 -- a session's disk has the numbers of its machine
 pub numbers_at : (spaces_of : TablesMeaning) (old : DiskState) (before : Slots) (m : Machine) (call : Call) → StandsFor spaces_of old before m → (d : List Sector) → old.contents ≡ Some d → AreSectors d → PageNumbers m call (root_page d)
-numbers_at spaces_of old before m call stands d told are =
-    let root = (stands_is_settled spaces_of old before m d stands told are).root in
+numbers_at spaces_of old before m call stands d revealed are =
+    let root = (stands_is_settled spaces_of old before m d stands revealed are).root in
     record { same_serial = root.has_serial; counter = inl root.has_counter }
 
--- and each moment has them
+-- and each crash state has them
 pub numbers_stay : (spaces_of : TablesMeaning) (old new : DiskState) (before : Slots) (m : Machine) (call : Call) → StandsFor spaces_of old before m → ((d : List Sector) → old.contents ≡ Some d → AreSectors d) → {run : List DiskWrite} {slots : Slots}
-    → (wrote : Wrote volume_page run old slots new) → RootsHave (PageNumbers m call) run → (d : List Sector) (k : ℕ) → old.contents ≡ Some d → HasNumbers m call (moment d wrote.writes k)
-numbers_stay spaces_of old new before m call stands form wrote have d k told =
-    let page = have_at (PageNumbers m call) wrote have d k told (numbers_at spaces_of old before m call stands d told (form d told)) in
+    → (wrote : Wrote volume_page run old slots new) → RootsHave (PageNumbers m call) run → (d : List Sector) (k : ℕ) → old.contents ≡ Some d → HasNumbers m call (crash_state d wrote.writes k)
+numbers_stay spaces_of old new before m call stands form wrote have d k revealed =
+    let page = have_at (PageNumbers m call) wrote have d k revealed (numbers_at spaces_of old before m call stands d revealed (form d revealed)) in
     record { same_serial = page.same_serial; counter = page.counter }

@@ -32,10 +32,10 @@ same_elements (x ∷ xs) [] same = absurd (none-some x (sym (same zero)))
 same_elements {X} (x ∷ xs) (y ∷ ys) same =
     ap (λ (a : X). a ∷ xs) (same_Some x y (same zero)) ∙ ap (λ (l : List X). y ∷ l) (same_elements xs ys (λ i. same (suc i)))
 
--- the label of a sector that is told
-label_told : (o : Option Sector) (w : Wanted) → IsSomeAnd o (λ s. IsTrue (names s.0 w)) → IsSomeAnd (option_map (λ s. s.0) o) (λ l. IsTrue (names l w))
-label_told (Some s) w is = is
-label_told None w is = is
+-- the label of a sector that is revealed
+label_revealed : (o : Option Sector) (w : Wanted) → IsSomeAnd o (λ s. IsTrue (names s.0 w)) → IsSomeAnd (option_map (λ s. s.0) o) (λ l. IsTrue (names l w))
+label_revealed (Some s) w is = is
+label_revealed None w is = is
 
 module _ (spaces_of : TablesMeaning) (disk : DiskState) (slots : Slots) (layout : Layout) (runs : CachedRuns) (volume : Volume) (m : Machine) (s : IsSession spaces_of disk slots layout runs volume m) where
   -- what the calls on files know
@@ -50,7 +50,7 @@ module _ (spaces_of : TablesMeaning) (disk : DiskState) (slots : Slots) (layout 
           sectors = by.sectors;
           long = kept.long;
           files = machine_shapes m by.machine (length x) (slice_get x 0) by.root;
-          root_label = subst (λ (o : Option Label). IsSomeAnd o (λ l. IsTrue (names l (record { id = 4; page = 0 })))) (sym (slice_get-map (λ (t : Sector). t.0) x 0)) (label_told (slice_get x 0) (record { id = 4; page = 0 }) by.root.valid.label);
+          root_label = subst (λ (o : Option Label). IsSomeAnd o (λ l. IsTrue (names l (record { id = 4; page = 0 })))) (sym (slice_get-map (λ (t : Sector). t.0) x 0)) (label_revealed (slice_get x 0) (record { id = 4; page = 0 }) by.root.valid.label);
           map_labels = by.map_labels;
           labels = by.labels;
           bits = by.bits;

@@ -1,4 +1,4 @@
--- Each moment of a store tells the settled files of the machine after it: the cells of the pages that it touches are any in these.
+-- Each crash state of a store reveals the settled files of the machine after it: the cells of the pages that it touches are any in these.
 use Rattle.std.proofs.Common.{◌≡◌, ◌≢◌, inl, inr, ℕ, zero, suc, ◌+◌, ◌/◌, ◌%◌, ◌<◌, ◌≤◌, Bool, true, false, List, [], ◌∷◌, length, Option, Some, None, refl, sym, ◌∙◌, ap, subst, arith}
 use Rattle.std.specs.Prelude.{slice_get, slice_set, slice_index_or, option_map, ◌==◌, if◌then◌else◌}
 use Rattle.std.specs.Option.{option_map_or}
@@ -8,10 +8,10 @@ use Rattle.labelled_disk.specs.declared.disk.DiskWrite.{DiskWrite}
 use Rattle.labelled_disk.specs.declared.disk.DiskWrite.TheVariants as write
 use Rattle.labelled_disk.specs.declared.label.Wanted.{Wanted}
 use Rattle.labelled_disk.specs.File.{File, Page, byte, file_at}
-use Rattle.labelled_disk.specs.Moment.{moment}
+use Rattle.labelled_disk.specs.CrashState.{crash_state}
 use Rattle.labelled_disk.specs.Sectors.{Sector}
 use Rattle.labelled_disk.proofs.Finds.{get_set_other}
-use Rattle.labelled_disk.proofs.RisingLemmas.{at_id}
+use Rattle.labelled_disk.proofs.AscendingLemmas.{at_id}
 use Rattle.frame_pool.specs.Frames.{Frame, Slots}
 use Rattle.flat_machine.specs.declared.call.Call.TheVariants.{Store}
 use Rattle.flat_machine.specs.declared.space.FilePage.{FilePage}
@@ -33,7 +33,7 @@ use Rattle.swapper_kernel.specs.Homes.{home_at}
 use Rattle.swapper_kernel.specs.Stands.{labels_of}
 use Rattle.session_words.specs.CellLaws.{IsTouchedOrOwn}
 use Rattle.session_words.specs.Parts.{DirtyAreLoose, HasLabelsUpto, Shapes, is_loose}
-use Rattle.session_words.specs.StandsFor.{IsSettled, TellsSettled}
+use Rattle.session_words.specs.StandsFor.{IsSettled, RevealsSettled}
 use Rattle.session_words.specs.Volume.{volume_page}
 use Rattle.session_words.proofs.LooseLemmas.{stands_is_settled, volume_loose}
 use Rattle.session_words.proofs.ShapeLemmas.{changed_from, stored_shapes}
@@ -173,7 +173,7 @@ frame_written (write.Whole sector label page ∷ ws) (suc k) f has = frame_writt
 frame_written (write.LabelOnly sector label ∷ ws) (suc k) f has = frame_written ws k f has
 frame_written (write.Page sector wanted page ∷ ws) (suc k) f has = frame_written ws k f has
 
--- ---- The moments.
+-- ---- The crash states.
 
 pub store_passes : (address : ℕ) (bytes : List ℕ) (v w : View) (kept : List Interval) (count : ℕ) (volume : Volume) (m : Machine) → AreInForm v.disk → IsTyped (Store address bytes) → length bytes ≤ 512
     → refusal m (Store address bytes) ≡ None → IsRunning v kept count volume m → Makes (IsTouchedOrOwn m.spaces address (length bytes)) [] v.disk v.slots w.disk w.slots → Passes m (Store address bytes) v.disk w.disk
@@ -193,7 +193,7 @@ store_passes address bytes v w kept count volume m form typed few accepted r mak
       writes = ws;
       appended = makes.wrote.appended;
       form = makes.wrote.form;
-      lawful = makes.wrote.lawful;
+      permitted = makes.wrote.permitted;
       labels = makes.wrote.labels;
       of_dirty = λ k sector wanted page here. inl (written_dirty ws k sector wanted page here);
     } in
@@ -203,10 +203,10 @@ store_passes address bytes v w kept count volume m form typed few accepted r mak
       steps = λ k. 1;
       rise = λ j k le. omega arith;
       within = λ k. omega arith;
-      tells = λ d k told.
-          let settled_now : IsSettled d m = stands_is_settled (exactly r.pages m.spaces) v.disk v.slots m d s told (form d told) in
-          subst (λ (x : Machine). TellsSettled (moment d ws k) x) (sym (unrefused m (Store address bytes) accepted))
-          (quiet_at n v.disk w.disk (frames_of ws) d wrote (settled_later m address bytes typed few accepted s.is.by.machine d settled_now) all_loose told k);
-      open_flag = λ d k told. flag_open wrote tt d k told (stands_is_settled (exactly r.pages m.spaces) v.disk v.slots m d s told (form d told)).root.open_flag;
+      reveals = λ d k revealed.
+          let settled_now : IsSettled d m = stands_is_settled (exactly r.pages m.spaces) v.disk v.slots m d s revealed (form d revealed) in
+          subst (λ (x : Machine). RevealsSettled (crash_state d ws k) x) (sym (unrefused m (Store address bytes) accepted))
+          (quiet_at n v.disk w.disk (frames_of ws) d wrote (settled_later m address bytes typed few accepted s.is.by.machine d settled_now) all_loose revealed k);
+      open_flag = λ d k revealed. flag_open wrote tt d k revealed (stands_is_settled (exactly r.pages m.spaces) v.disk v.slots m d s revealed (form d revealed)).root.open_flag;
       numbers = numbers_stay (exactly r.pages m.spaces) v.disk w.disk v.slots m (Store address bytes) s form wrote tt;
     }

@@ -5,5 +5,5 @@ pub mod Running
 pub mod RunningLaws
 pub mod Moving
 pub mod MovingLaws
-pub mod Spared
-pub mod SparedLaws
+pub mod Blameless
+pub mod BlamelessLaws

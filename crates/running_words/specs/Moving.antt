@@ -9,7 +9,7 @@ use Rattle.swapper_kernel.specs.Differs.{Differs}
 use Rattle.swapper_kernel.specs.Goes.{Goes, Pages}
 use Rattle.filer_kernel.specs.Causes.{IsGiven}
 use Rattle.filer_kernel.specs.Triples.{MapIs, AreOf, IsOneOf}
-use Rattle.file_manager.specs.Reasons.{Outset, HasTables, KeepsTo}
+use Rattle.file_manager.specs.Reasons.{InitialState, HasTables, KeepsTo}
 use Rattle.fault_core.specs.Reach.{IsReached}
 use Rattle.fault_core.specs.Touch.{on_data}
 use Rattle.fault_core.specs.View.{View, kept_by}
@@ -27,6 +27,6 @@ pub record Moves (v w : View) : Type 0 where
   pub given : (r : Run) → IsOneOf r (kept_by w) → IsGiven v.layout v.disk v.slots (kept_by v) r
   pub runs_are : (m : List Sector) (named : Triples) → Stands v.disk v.slots m → MapIs v.layout named m → AreOf named (kept_by v) → AreOf named (kept_by w)
 
--- what is seen keeps to the outset, the file map naming these triples, all pages of the space tables among them, whose bytes are not told
-abbrev pub ViewKeepsTo : Outset → View → Triples → Type 0
+-- what is seen keeps to the initial state, the file map naming these triples, all pages of the space tables among them, whose bytes are not revealed
+abbrev pub ViewKeepsTo : InitialState → View → Triples → Type 0
 ViewKeepsTo o v named = KeepsTo o v.layout (kept_by v) v.disk v.slots named × HasTables o named

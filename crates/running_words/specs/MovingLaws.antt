@@ -1,4 +1,4 @@
--- What goes with calls that write no label: their changes in a row, and that what is seen keeps to the outset.
+-- What goes with calls that write no label: their changes in a row, and that what is seen keeps to the initial state.
 use Rattle.std.proofs.Common.{◌≡◌, ◌⊎◌, inl, inr, ℕ, ◌+◌, ◌*◌, ◌<◌, true, false, List, Option, None, refl, sym, ◌∙◌, ap, subst, arith}
 use Rattle.std.specs.Prelude.{[], IfSome}
 use Rattle.std.proofs.lemmas.Bool.{true≢false}
@@ -40,7 +40,7 @@ use Rattle.file_manager.specs.LaterLaws.{shows_later, shows_before}
 use Rattle.file_manager.specs.ShownLaws.{run_home_named, in_form}
 use Rattle.file_manager.specs.KeepLaws.{keeps_after, over_after}
 use Rattle.file_manager.specs.WriteLaws.{no_roots}
-use Rattle.file_manager.specs.Reasons.{Outset, AreTabled, IsAtHome, KeepsTo, HasReason, ShowsReason}
+use Rattle.file_manager.specs.Reasons.{InitialState, AreTabled, IsAtHome, KeepsTo, HasReason, ShowsReason}
 use Rattle.fault_core.specs.Reach.{IsReached, Reaches, FindEvidence, ReachHalts, TouchHalts}
 use Rattle.fault_core.specs.ReachLaws.{touch_of_reach}
 use Rattle.fault_core.specs.Touch.{on_data, Touches}
@@ -95,9 +95,9 @@ module _ (layout : Layout) (is : IsLayout layout) where
 
   -- what the pages of the file map show afterwards they showed before
   sight_earlier : {pages : Pages} {a b : DiskState} {s t : Slots} → Goes (Differs (on_data layout)) pages [] a s b t → (sight : Sight) → MapShows layout b t sight → MapShows layout a s sight
-  sight_earlier goes sight shows bytes tells =
-      let now = goes.memory tells.memory tells.stands in
-      shows bytes (record { memory = now.0; stands = now.1; shows = shows_still FileMap tells.memory now.0 bytes now.2 tells.shows; size = goes.makes.went.sectors ∙ tells.size })
+  sight_earlier goes sight shows bytes reveals =
+      let now = goes.memory reveals.memory reveals.stands in
+      shows bytes (record { memory = now.0; stands = now.1; shows = shows_still FileMap reveals.memory now.0 bytes now.2 reveals.shows; size = goes.makes.went.sectors ∙ reveals.size })
 
 -- ---- One call, and then another.
 
@@ -131,9 +131,9 @@ moves_then u v w is h k = record {
       k.runs_are mid.0 named mid.1 (rw h.layout (map_still u.layout is named m mid.0 mid.2 map)) (h.runs_are m named stands map are);
 }
 
--- ---- The outset.
+-- ---- The initial state.
 
-module _ (o : Outset) (v : View) (named : Triples) (is : IsLayout v.layout) (keeps : KeepsTo o v.layout (kept_by v) v.disk v.slots named) where
+module _ (o : InitialState) (v : View) (named : Triples) (is : IsLayout v.layout) (keeps : KeepsTo o v.layout (kept_by v) v.disk v.slots named) where
   -- a page that is reached is one of a map, or is named
   reached_named : (home : Home) → IsReached v home → IsMapsHome v.layout home ⊎ (named home.id home.page home.sector ≡ true)
   reached_named home reached = elim reached [
@@ -170,9 +170,9 @@ module _ (o : Outset) (v : View) (named : Triples) (is : IsLayout v.layout) (kee
         (kept_by w) (h.runs_are keeps.memory named keeps.stands keeps.map keeps.kept)
         held_named (unframed_moved w.slots h.brings) (over_after {x = v.layout} named named keeps.over held_named (λ page sector is. is)) keeps.marks (marks_still v.layout is keeps.marks keeps.memory now.0 now.2 keeps.bits) (λ sector from below free. inl (free, λ k write at takes. none-some write at))
         (λ home from may one. inl one) (λ home from may. inr (λ k write at gives. none-some write at)) (λ sector from below used. inl (used, λ k write at up. none-some write at))
-        (no_roots o.next) (λ home turn write at gives. absurd (none-some write at)) (λ told. subst (λ (t : Option (List ℕ)). IfSome t (AreTabled v.layout named now.0)) (sym untold) tt)
+        (no_roots o.next) (λ home turn write at gives. absurd (none-some write at)) (λ revealed. subst (λ (t : Option (List ℕ)). IfSome t (AreTabled v.layout named now.0)) (sym untold) tt)
 
-module _ (o : Outset) (v : View) (named : Triples) (is : IsLayout v.layout) (keeps : ViewKeepsTo o v named) where
+module _ (o : InitialState) (v : View) (named : Triples) (is : IsLayout v.layout) (keeps : ViewKeepsTo o v named) where
   -- a page that the file map does not name is missing with reason
   pub unnamed_missing : (id page : ℕ) → MayBeMissing id page → ((m : List Sector) (triples : Triples) → Stands v.disk v.slots m → MapIs v.layout triples m → IsNowhere triples id page) → HasReason o v.layout v.disk (Missing id page)
   unnamed_missing id page (inl (tables, below)) nowhere =
@@ -183,7 +183,7 @@ module _ (o : Outset) (v : View) (named : Triples) (is : IsLayout v.layout) (kee
     λ sector from.
         elim (keeps.0.rest (record { sector = sector; id = id; page = page }) from client) [
           | inl is_named ↦ absurd (true≢false (sym is_named ∙ nowhere keeps.0.memory named keeps.0.stands keeps.0.map sector))
-          | inr let_go ↦ let_go
+          | inr evict ↦ evict
         ],
   )
 
@@ -206,30 +206,30 @@ module _ (o : Outset) (v : View) (named : Triples) (is : IsLayout v.layout) (kee
     halt_shows (Damaged evidence) cause = evidence_shows evidence cause
 
 -- what is seen afterwards keeps to it too, whether or not the space tables are named
-pub keeps_bare : (o : Outset) (v w : View) (named : Triples) → IsLayout v.layout → o.tables ≡ None → KeepsTo o v.layout (kept_by v) v.disk v.slots named → Moves v w → KeepsTo o w.layout (kept_by w) w.disk w.slots named
+pub keeps_bare : (o : InitialState) (v w : View) (named : Triples) → IsLayout v.layout → o.tables ≡ None → KeepsTo o v.layout (kept_by v) v.disk v.slots named → Moves v w → KeepsTo o w.layout (kept_by w) w.disk w.slots named
 keeps_bare o v w named is untold keeps h = subst (λ (l : Layout). KeepsTo o l (kept_by w) w.disk w.slots named) (sym h.layout) (keeps_there o v named is keeps w h untold)
 
 -- and where they are
-pub keeps_moved : (o : Outset) (v w : View) (named : Triples) → IsLayout v.layout → ViewKeepsTo o v named → Moves v w → ViewKeepsTo o w named
+pub keeps_moved : (o : InitialState) (v w : View) (named : Triples) → IsLayout v.layout → ViewKeepsTo o v named → Moves v w → ViewKeepsTo o w named
 keeps_moved o v w named is keeps h = (keeps_bare o v w named is keeps.1.1 keeps.0 h, keeps.1)
 
 -- a reason that stands after it stood before
-pub moved_before : (o : Outset) (v w : View) (named : Triples) → ViewKeepsTo o v named → Moves v w → (halt : Halt) → ShowsReason o v.layout w.disk halt → ShowsReason o v.layout v.disk halt
+pub moved_before : (o : InitialState) (v w : View) (named : Triples) → ViewKeepsTo o v named → Moves v w → (halt : Halt) → ShowsReason o v.layout w.disk halt → ShowsReason o v.layout v.disk halt
 moved_before o v w named keeps h halt shows = shows_before o h.goes.makes keeps.0.since v.layout halt shows
 
 -- what stops a search for pages has a reason, already before it
-pub touch_shows : (o : Outset) (v w : View) (named : Triples) (breaks : ℕ → Type 0) → IsLayout v.layout → ViewKeepsTo o v named → (halt : Halt) → TouchHalts breaks v w halt → ShowsReason o v.layout v.disk halt
+pub touch_shows : (o : InitialState) (v w : View) (named : Triples) (breaks : ℕ → Type 0) → IsLayout v.layout → ViewKeepsTo o v named → (halt : Halt) → TouchHalts breaks v w halt → ShowsReason o v.layout v.disk halt
 touch_shows o v w named breaks is keeps halt halts = halt_shows o v named is keeps breaks w halt halts
 
 -- and what stops one for pages of the space tables alone
-pub reach_shows : (o : Outset) (v w : View) (named : Triples) (breaks : ℕ → Type 0) → IsLayout v.layout → ViewKeepsTo o v named → (halt : Halt) → ReachHalts breaks v w halt → ShowsReason o v.layout v.disk halt
+pub reach_shows : (o : InitialState) (v w : View) (named : Triples) (breaks : ℕ → Type 0) → IsLayout v.layout → ViewKeepsTo o v named → (halt : Halt) → ReachHalts breaks v w halt → ShowsReason o v.layout v.disk halt
 reach_shows o v w named breaks is keeps halt halts = touch_shows o v w named breaks is keeps halt (touch_of_reach breaks v w halt halts)
 
 -- and after it
-pub touch_reasons : (o : Outset) (v w : View) (named : Triples) (breaks : ℕ → Type 0) {pages : Pages} → IsLayout v.layout → ViewKeepsTo o v named → Makes pages [] v.disk v.slots w.disk w.slots
+pub touch_reasons : (o : InitialState) (v w : View) (named : Triples) (breaks : ℕ → Type 0) {pages : Pages} → IsLayout v.layout → ViewKeepsTo o v named → Makes pages [] v.disk v.slots w.disk w.slots
     → (halt : Halt) → TouchHalts breaks v w halt → ShowsReason o v.layout w.disk halt
 touch_reasons o v w named breaks is keeps makes halt halts = shows_later o makes keeps.0.since v.layout halt (touch_shows o v w named breaks is keeps halt halts)
 
-pub reach_reasons : (o : Outset) (v w : View) (named : Triples) (breaks : ℕ → Type 0) {pages : Pages} → IsLayout v.layout → ViewKeepsTo o v named → Makes pages [] v.disk v.slots w.disk w.slots
+pub reach_reasons : (o : InitialState) (v w : View) (named : Triples) (breaks : ℕ → Type 0) {pages : Pages} → IsLayout v.layout → ViewKeepsTo o v named → Makes pages [] v.disk v.slots w.disk w.slots
     → (halt : Halt) → ReachHalts breaks v w halt → ShowsReason o v.layout w.disk halt
 reach_reasons o v w named breaks is keeps makes halt halts = shows_later o makes keeps.0.since v.layout halt (reach_shows o v w named breaks is keeps halt halts)

@@ -10,13 +10,13 @@ use Rattle.flat_machine.specs.Machine.{Machine}
 use Rattle.flat_machine.specs.Allows.{Allows}
 use Rattle.flat_machine.specs.Next.{next}
 use Rattle.swap_units.specs.declared.interval.Interval.{Interval}
-use Rattle.space_tables.specs.Stored.{TellSpaces}
+use Rattle.space_tables.specs.Stored.{RevealSpaces}
 use Rattle.session_words.specs.Parts.{TablesMeaning}
 use Rattle.file_manager.specs.declared.volume.Volume.{Volume}
-use Rattle.fault_core.specs.declared.core_over.CoreOver.{CoreOver}
+use Rattle.fault_core.specs.declared.core_over.Core.{Core}
 use Rattle.fault_core.specs.Core.{kept, state}
 use Rattle.fault_core.specs.Kept.{IsKept}
-use Rattle.fault_core.specs.Told.{IsIntervalOf}
+use Rattle.fault_core.specs.Revealed.{IsIntervalOf}
 use Rattle.fault_core.specs.View.{View}
 use Rattle.running_words.specs.Session.{IsSession}
 
@@ -28,16 +28,16 @@ exactly pages spaces others = if pointwise (pointwise nat_eq) others pages then 
 -- many intervals, and the intervals that are kept are among them.
 pub record IsRunning (v : View) (kept : List Interval) (count : ℕ) (volume : Volume) (m : Machine) : Type 0 where
   pub pages : List (List ℕ)
-  pub tables : TellSpaces (λ b. b ≡ concat pages) count m.spaces
+  pub tables : RevealSpaces (λ b. b ≡ concat pages) count m.spaces
   pub session : IsSession (exactly pages m.spaces) v.disk v.slots v.layout v.runs volume m
   pub cached : (x : Interval) → IsKept kept x → IsIntervalOf m.spaces x
 
 module _ {D A : Type 0} {G : Ghosts D} where
   -- a core and a volume stand for a machine
-  abbrev pub Runs : CoreOver D A G → Volume → Machine → Type 0
+  abbrev pub Runs : Core D A G → Volume → Machine → Type 0
   Runs c volume m = IsRunning (state c) (kept c) c.intervals volume m
 
   -- the machine allows the reply, and core and volume stand for the machine after the call
-  pub record Carried (m : Machine) (call : Call) (core : CoreOver D A G) (volume : Volume) (reply : Reply) : Type 0 where
+  pub record Carried (m : Machine) (call : Call) (core : Core D A G) (volume : Volume) (reply : Reply) : Type 0 where
     pub allowed : Allows m call reply
     pub runs : Runs core volume (next m call)

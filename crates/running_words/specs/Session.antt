@@ -25,7 +25,7 @@ use Rattle.session_words.specs.Volume.{volume_page}
 use Rattle.file_manager.specs.declared.volume.Volume.{Volume}
 use Rattle.file_manager.specs.Book.{AreTrue}
 
--- the disk's sectors are in form, where it tells them
+-- the disk's sectors are in form, where it reveals them
 abbrev pub AreInForm : DiskState → Type 0
 AreInForm old = (d : List Sector) → old.contents ≡ Some d → AreSectors d
 
@@ -69,7 +69,7 @@ AreOpen (write.Whole sector label page ∷ ws) = (short_at page 10 ≡ 0) × Are
 AreOpen (write.LabelOnly sector label ∷ ws) = AreOpen ws
 AreOpen (write.Page sector wanted page ∷ ws) = AreOpen ws
 
--- over any contents: the writes were lawful, each at its moment, none of them sets the clean flag, and no page but these
+-- over any contents: the writes were permitted, each where it is made, none of them sets the clean flag, and no page but these
 -- became dirty
 pub record WroteIn (pages : Pages) (old : DiskState) (before : Slots) (new : DiskState) (after : Slots) : Type 0 where
   pub labels : List DiskWrite

@@ -3,7 +3,7 @@ use Rattle.std.specs.Prelude.{◌≡◌, ◌⊎◌, ℕ, zero, suc, ◌+◌, ◌
 use Rattle.labelled_disk.specs.declared.disk.DiskWrite.{DiskWrite}
 use Rattle.std.specs.Option.{option_map_or}
 use Rattle.labelled_disk.specs.File.{File, size, file_at}
-use Rattle.labelled_disk.specs.Moment.{moment}
+use Rattle.labelled_disk.specs.CrashState.{crash_state}
 use Rattle.labelled_disk.specs.Root.{counter_of, root_page, serial_of, short_at}
 use Rattle.labelled_disk.specs.Runs.{lengthened, shortened}
 use Rattle.labelled_disk.specs.Sectors.{Sector}
@@ -15,7 +15,7 @@ use Rattle.flat_machine.specs.declared.call.Call.TheVariants as call
 use Rattle.flat_machine.specs.Machine.{Machine}
 use Rattle.flat_machine.specs.Next.{next, change_file}
 use Rattle.flat_machine.specs.Refusal.{refusal}
-use Rattle.session_words.specs.StandsFor.{TellsSettled}
+use Rattle.session_words.specs.StandsFor.{RevealsSettled}
 use Rattle.session_words.specs.Volume.{volume_page}
 use Rattle.swapper_kernel.specs.Goes.{Pages}
 
@@ -40,7 +40,7 @@ pub record HasNumbers (m : Machine) (call : Call) (d : List Sector) : Type 0 whe
   pub same_serial : serial_of d ≡ m.serial
   pub counter : (counter_of d ≡ m.counter) ⊎ (counter_of d ≡ (next m call).counter)
 
--- At each moment of the writes the disk tells the settled files of the machine after some steps of the call, and with
+-- In each crash state of the writes the disk reveals the settled files of the machine after some steps of the call, and with
 -- each write there are as many steps or more. The clean flag is not set, and the root has the machine's numbers.
 pub record Passes (m : Machine) (call : Call) (old new : DiskState) : Type 0 where
   pub writes : List DiskWrite
@@ -48,9 +48,9 @@ pub record Passes (m : Machine) (call : Call) (old new : DiskState) : Type 0 whe
   pub steps : ℕ → ℕ
   pub rise : (j k : ℕ) → j ≤ k → steps j ≤ steps k
   pub within : (k : ℕ) → steps k ≤ last_step m call
-  pub tells : (d : List Sector) (k : ℕ) → old.contents ≡ Some d → TellsSettled (moment d writes k) (stage m call (steps k))
-  pub open_flag : (d : List Sector) (k : ℕ) → old.contents ≡ Some d → short_at (root_page (moment d writes k)) 10 ≡ 0
-  pub numbers : (d : List Sector) (k : ℕ) → old.contents ≡ Some d → HasNumbers m call (moment d writes k)
+  pub reveals : (d : List Sector) (k : ℕ) → old.contents ≡ Some d → RevealsSettled (crash_state d writes k) (stage m call (steps k))
+  pub open_flag : (d : List Sector) (k : ℕ) → old.contents ≡ Some d → short_at (root_page (crash_state d writes k)) 10 ≡ 0
+  pub numbers : (d : List Sector) (k : ℕ) → old.contents ≡ Some d → HasNumbers m call (crash_state d writes k)
 
 -- a page of the volume's own, or of a client's file
 abbrev pub client_or_own : Pages

@@ -16,7 +16,7 @@ use Rattle.scavenger.specs.Naming.{among, map_run}
 abbrev triple : ℕ → ℕ → ℕ → Triple
 triple id page sector = record { id = id; page = page; sector = sector }
 
--- Lists, one behind the other.
+-- Lists, one after the other.
 
 pub get_left : {X : Type 0} (xs ys : List X) (k : ℕ) (x : X) → slice_get xs k ≡ Some x → slice_get (xs ++ ys) k ≡ Some x
 get_left [] ys k x here = absurd (none-some x here)

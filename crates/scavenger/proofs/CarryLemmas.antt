@@ -15,7 +15,7 @@ use Rattle.labelled_disk.specs.Runs.{freeing}
 use Rattle.labelled_disk.specs.Sectors.{free_label}
 use Rattle.labelled_disk.specs.State.{DiskState}
 use Rattle.page_tree.specs.Page.{page_at}
-use Rattle.label_survey.specs.declared.standing.Standing.{Standing}
+use Rattle.label_survey.specs.declared.sector_state.SectorState.{SectorState}
 use Rattle.label_survey.specs.Survey.{is_freed, places_by}
 use Rattle.scavenger.specs.Carries.{Carries}
 use Rattle.scavenger.specs.Orders.{map_writes}
@@ -56,57 +56,57 @@ module _ (id first : ℕ) (bytes : List ℕ) where
 
 -- The sectors that are freed.
 
-dropped_one : (xs : List Standing) (i : ℕ) (x : Standing) → slice_get xs i ≡ Some x → drop i xs ≡ x ∷ drop (i + 1) xs
+dropped_one : (xs : List SectorState) (i : ℕ) (x : SectorState) → slice_get xs i ≡ Some x → drop i xs ≡ x ∷ drop (i + 1) xs
 dropped_one [] i x here = absurd (none-some x here)
-dropped_one (y ∷ xs) zero x here = ap (λ (z : Standing). z ∷ xs) (same_Some y x here)
+dropped_one (y ∷ xs) zero x here = ap (λ (z : SectorState). z ∷ xs) (same_Some y x here)
 dropped_one (y ∷ xs) (suc i) x here = let s : suc i + 1 ≡ suc (i + 1) = omega arith in dropped_one xs i x here ∙ ap (λ (m : ℕ). x ∷ drop m (y ∷ xs)) (sym s)
 
--- the writes so far and those for the standings from i on are all
-pub record IsSoFar (first : ℕ) (standings : List Standing) (a b : DiskState) (i : ℕ) : Type 0 where
+-- the writes so far and those for the sector states from i on are all
+pub record IsSoFar (first : ℕ) (sector_states : List SectorState) (a b : DiskState) (i : ℕ) : Type 0 where
   pub done : List DiskWrite
   pub made : Carries {E = DiskError} done a (Ok tt) b
-  pub all : done ++ freeing (places_by is_freed (first + i) (drop i standings)) ≡ freeing (places_by is_freed first standings)
+  pub all : done ++ freeing (places_by is_freed (first + i) (drop i sector_states)) ≡ freeing (places_by is_freed first sector_states)
 
-module _ (first : ℕ) (standings : List Standing) where
-  pub none_so_far : (a : DiskState) → Carries {E = DiskError} [] a (Ok tt) a → IsSoFar first standings a a 0
-  none_so_far a none = record { done = []; made = none; all = let z : first + 0 ≡ first = omega arith in ap (λ (m : ℕ). freeing (places_by is_freed m standings)) z }
+module _ (first : ℕ) (sector_states : List SectorState) where
+  pub none_so_far : (a : DiskState) → Carries {E = DiskError} [] a (Ok tt) a → IsSoFar first sector_states a a 0
+  none_so_far a none = record { done = []; made = none; all = let z : first + 0 ≡ first = omega arith in ap (λ (m : ℕ). freeing (places_by is_freed m sector_states)) z }
 
-  module _ (a b : DiskState) (i : ℕ) (x : Standing) (here : slice_get standings i ≡ Some x) (so_far : IsSoFar first standings a b i) where
+  module _ (a b : DiskState) (i : ℕ) (x : SectorState) (here : slice_get sector_states i ≡ Some x) (so_far : IsSoFar first sector_states a b i) where
     abbrev ahead : List DiskWrite
-    ahead = freeing (places_by is_freed (first + (i + 1)) (drop (i + 1) standings))
+    ahead = freeing (places_by is_freed (first + (i + 1)) (drop (i + 1) sector_states))
 
-    next : (t : Bool) → is_freed x ≡ t → freeing (places_by is_freed (first + i) (drop i standings)) ≡ freeing (cond t ((first + i) ∷ places_by is_freed (first + (i + 1)) (drop (i + 1) standings)) (places_by is_freed (first + (i + 1)) (drop (i + 1) standings)))
+    next : (t : Bool) → is_freed x ≡ t → freeing (places_by is_freed (first + i) (drop i sector_states)) ≡ freeing (cond t ((first + i) ∷ places_by is_freed (first + (i + 1)) (drop (i + 1) sector_states)) (places_by is_freed (first + (i + 1)) (drop (i + 1) sector_states)))
     next t is =
         let s : first + i + 1 ≡ first + (i + 1) = omega arith in
-        ap (λ (xs : List Standing). freeing (places_by is_freed (first + i) xs)) (dropped_one standings i x here)
-        ∙ ap (λ (u : Bool). freeing (cond u ((first + i) ∷ places_by is_freed (first + i + 1) (drop (i + 1) standings)) (places_by is_freed (first + i + 1) (drop (i + 1) standings)))) is
-        ∙ ap (λ (m : ℕ). freeing (cond t ((first + i) ∷ places_by is_freed m (drop (i + 1) standings)) (places_by is_freed m (drop (i + 1) standings)))) s
+        ap (λ (xs : List SectorState). freeing (places_by is_freed (first + i) xs)) (dropped_one sector_states i x here)
+        ∙ ap (λ (u : Bool). freeing (cond u ((first + i) ∷ places_by is_freed (first + i + 1) (drop (i + 1) sector_states)) (places_by is_freed (first + i + 1) (drop (i + 1) sector_states)))) is
+        ∙ ap (λ (m : ℕ). freeing (cond t ((first + i) ∷ places_by is_freed m (drop (i + 1) sector_states)) (places_by is_freed m (drop (i + 1) sector_states)))) s
 
-    pub passed_one : is_freed x ≡ false → IsSoFar first standings a b (i + 1)
+    pub passed_one : is_freed x ≡ false → IsSoFar first sector_states a b (i + 1)
     passed_one is = record { done = so_far.done; made = so_far.made; all = ap (λ (ws : List DiskWrite). so_far.done ++ ws) (sym (next false is)) ∙ so_far.all }
 
     abbrev frees : DiskWrite
     frees = LabelOnly (first + i) free_label
 
-    with_one : is_freed x ≡ true → (so_far.done ++ frees ∷ []) ++ ahead ≡ freeing (places_by is_freed first standings)
+    with_one : is_freed x ≡ true → (so_far.done ++ frees ∷ []) ++ ahead ≡ freeing (places_by is_freed first sector_states)
     with_one is = append_assoc so_far.done (frees ∷ []) ahead ∙ ap (λ (ws : List DiskWrite). so_far.done ++ ws) (sym (next true is)) ∙ so_far.all
 
-    pub freed_one : (c : DiskState) → is_freed x ≡ true → Writes frees b (Ok tt) c → IsSoFar first standings a c (i + 1)
+    pub freed_one : (c : DiskState) → is_freed x ≡ true → Writes frees b (Ok tt) c → IsSoFar first sector_states a c (i + 1)
     freed_one c is writes = record {
       done = so_far.done ++ frees ∷ [];
       made = carries_then so_far.done (frees ∷ []) a b c (Ok tt) so_far.made (carries_one frees b c (Ok tt) writes);
       all = with_one is;
     }
 
-    pub freed_stopped : (c : DiskState) (e f : DiskError) → is_freed x ≡ true → Writes frees b (Err e) c → Carries (freeing (places_by is_freed first standings)) a (Err f) c
+    pub freed_stopped : (c : DiskState) (e f : DiskError) → is_freed x ≡ true → Writes frees b (Err e) c → Carries (freeing (places_by is_freed first sector_states)) a (Err f) c
     freed_stopped c e f is writes =
-        carries_as ((so_far.done ++ frees ∷ []) ++ ahead) (freeing (places_by is_freed first standings)) a c (Err f) (with_one is)
+        carries_as ((so_far.done ++ frees ∷ []) ++ ahead) (freeing (places_by is_freed first sector_states)) a c (Err f) (with_one is)
         (carries_stopped (so_far.done ++ frees ∷ []) ahead a c e f (carries_then so_far.done (frees ∷ []) a b c (Err e) so_far.made (carries_one frees b c (Err e) writes)))
 
-  pub all_freed : (a b : DiskState) (i : ℕ) → length standings ≤ i → IsSoFar first standings a b i → Carries {E = DiskError} (freeing (places_by is_freed first standings)) a (Ok tt) b
+  pub all_freed : (a b : DiskState) (i : ℕ) → length sector_states ≤ i → IsSoFar first sector_states a b i → Carries {E = DiskError} (freeing (places_by is_freed first sector_states)) a (Ok tt) b
   all_freed a b i full so_far =
-      carries_as so_far.done (freeing (places_by is_freed first standings)) a b (Ok tt)
-      (sym (nothing so_far.done) ∙ ap (λ (xs : List Standing). so_far.done ++ freeing (places_by is_freed (first + i) xs)) (sym (drop_all i standings full)) ∙ so_far.all) so_far.made
+      carries_as so_far.done (freeing (places_by is_freed first sector_states)) a b (Ok tt)
+      (sym (nothing so_far.done) ∙ ap (λ (xs : List SectorState). so_far.done ++ freeing (places_by is_freed (first + i) xs)) (sym (drop_all i sector_states full)) ∙ so_far.all) so_far.made
     where
       nothing : (ws : List DiskWrite) → ws ++ [] ≡ ws
       nothing [] = refl

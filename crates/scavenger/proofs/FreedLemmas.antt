@@ -7,19 +7,19 @@ use Rattle.labelled_disk.specs.declared.disk.DiskWrite.{DiskWrite}
 use Rattle.labelled_disk.specs.FilesOn.{files_on, files_by}
 use Rattle.labelled_disk.specs.Layout.{data_sectors}
 use Rattle.labelled_disk.specs.Lowest.{is_needed}
-use Rattle.labelled_disk.specs.Moment.{moment}
+use Rattle.labelled_disk.specs.CrashState.{crash_state}
 use Rattle.labelled_disk.specs.Root.{LabelsRight}
 use Rattle.labelled_disk.specs.Runs.{freeing, sector_of}
 use Rattle.labelled_disk.specs.Sectors.{Sector}
 use Rattle.labelled_disk.specs.WriteRuns.{after_writes}
 use Rattle.labelled_disk.proofs.WriteLemmas as writes
-use Rattle.labelled_disk.proofs.WriteRunLemmas.{moment-end}
+use Rattle.labelled_disk.proofs.WriteRunLemmas.{crash_state-end}
 use Rattle.label_laws.specs.Counts.{needs_place, unneeded_sectors}
-use Rattle.label_laws.specs.Unneeded.{IsUnneeded, AreFreeOrNeeded, FreedMoments, FreedStayRight}
+use Rattle.label_laws.specs.Unneeded.{IsUnneeded, AreFreeOrNeeded, FreedCrashStates, FreedStayRight}
 use Rattle.label_laws.proofs.CountLemmas.{list_laws}
 use Rattle.label_laws.proofs.MixedLemmas.{sector_stays}
 use Rattle.scavenger.proofs.LowLemmas.{IsLow}
-use Rattle.scavenger.proofs.MomentLemmas.{AtEach}
+use Rattle.scavenger.proofs.CrashStateLemmas.{AtEach}
 
 -- The files and the root are the same, and labels stay right.
 pub record IsSameVolume (d e : List Sector) : Type 0 where
@@ -54,7 +54,7 @@ freed_elsewhere P j apart is all zero = tt
 freed_elsewhere P j apart [] all (suc k) = tt
 freed_elsewhere P j apart (i ∷ is) all (suc k) = (apart i all.0, freed_elsewhere P j apart is all.1 k)
 
-module _ (moments : FreedMoments false) (right : FreedStayRight false) (d : List Sector) where
+module _ (crash_states : FreedCrashStates false) (right : FreedStayRight false) (d : List Sector) where
   abbrev is : List ℕ
   is = unneeded_sectors false d
 
@@ -64,9 +64,9 @@ module _ (moments : FreedMoments false) (right : FreedStayRight false) (d : List
   each : AllByRecursion (IsUnneeded false d) is
   each = (list_laws false).each d
 
-  pub freed_moments : AtEach (IsSameVolume d) d (freeing is)
-  freed_moments k =
-      let same = moments d is each k in
+  pub freed_crash_states : AtEach (IsSameVolume d) d (freeing is)
+  freed_crash_states k =
+      let same = crash_states d is each k in
       record {
         sectors = same.sectors;
         files = same.files;
@@ -74,11 +74,11 @@ module _ (moments : FreedMoments false) (right : FreedStayRight false) (d : List
         right = λ r. right.volume d is each r k;
       }
 
-  at_last : moment d (freeing is) (length is) ≡ freed
-  at_last = ap (moment d (freeing is)) (sym (length_freeing is)) ∙ moment-end d (freeing is)
+  at_last : crash_state d (freeing is) (length is) ≡ freed
+  at_last = ap (crash_state d (freeing is)) (sym (length_freeing is)) ∙ crash_state-end d (freeing is)
 
   pub freed_needs : (j : ℕ) → is_needed false (data_sectors freed) j ≡ is_needed false (data_sectors d) j
-  freed_needs j = ap (λ (e : List Sector). is_needed false (data_sectors e) j) (sym at_last) ∙ (moments d is each (length is)).needed j
+  freed_needs j = ap (λ (e : List Sector). is_needed false (data_sectors e) j) (sym at_last) ∙ (crash_states d is each (length is)).needed j
 
   pub free_or_needed : AreFreeOrNeeded false freed
   free_or_needed = subst (AreFreeOrNeeded false) at_last ((list_laws false).freed d)
@@ -86,6 +86,6 @@ module _ (moments : FreedMoments false) (right : FreedStayRight false) (d : List
   -- a sector that a file needs stays
   pub needed_stays : (i : ℕ) → needs_place false d i ≡ true → slice_get freed i ≡ slice_get d i
   needed_stays i needed =
-      ap (λ (e : List Sector). slice_get e i) (sym (moment-end d (freeing is)))
+      ap (λ (e : List Sector). slice_get e i) (sym (crash_state-end d (freeing is)))
       ∙ sector_stays d (freeing is) (length (freeing is)) i
       (freed_elsewhere (IsUnneeded false d) i (λ j u e. true≢false (sym needed ∙ ap (needs_place false d) (sym e) ∙ u.unneeded)) is each (length (freeing is)))

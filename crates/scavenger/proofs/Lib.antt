@@ -1,5 +1,5 @@
 pub mod RowLemmas
-mod MomentLemmas
+mod CrashStateLemmas
 pub mod LowLemmas
 mod FreedLemmas
 mod FoundLemmas

@@ -9,7 +9,7 @@ use Rattle.labelled_disk.specs.declared.disk.DiskWrite.TheVariants.{Whole}
 use Rattle.labelled_disk.specs.declared.label.Label.{Label}
 use Rattle.labelled_disk.specs.Label.{names, page_label}
 use Rattle.labelled_disk.specs.Layout.{data_sectors, first_data}
-use Rattle.labelled_disk.specs.Moment.{written, moment}
+use Rattle.labelled_disk.specs.CrashState.{written, crash_state}
 use Rattle.labelled_disk.specs.Root.{LabelsRight}
 use Rattle.labelled_disk.specs.Sectors.{Sector}
 use Rattle.labelled_disk.specs.WriteRuns.{after_writes}
@@ -19,7 +19,7 @@ use Rattle.labelled_disk.proofs.WriteRunLemmas.{after_writes-append}
 use Rattle.label_laws.specs.MapLabels.{map_page, MapRelabelled}
 use Rattle.page_tree.specs.Page.{page_at}
 use Rattle.scavenger.specs.Orders.{map_writes}
-use Rattle.scavenger.proofs.MomentLemmas.{AtEach}
+use Rattle.scavenger.proofs.CrashStateLemmas.{AtEach}
 
 -- The data sectors and the root are the same, and labels stay right.
 pub record IsLow (d e : List Sector) : Type 0 where
@@ -60,12 +60,12 @@ module _ (relabelled : MapRelabelled false) where
         right = λ r. (relabelled d m.place t r m.above m.below m.named).right;
       })
 
-  pub low_moments : (n : ℕ) (writes : List DiskWrite) → AllByRecursion (IsMapWrite n) writes → (d : List Sector) → length d ≡ n → AtEach (IsLow d) d writes
-  low_moments n writes all d long zero = low_itself d
-  low_moments n [] all d long (suc k) = low_itself d
-  low_moments n (w ∷ writes) all d long (suc k) =
+  pub low_crash_states : (n : ℕ) (writes : List DiskWrite) → AllByRecursion (IsMapWrite n) writes → (d : List Sector) → length d ≡ n → AtEach (IsLow d) d writes
+  low_crash_states n writes all d long zero = low_itself d
+  low_crash_states n [] all d long (suc k) = low_itself d
+  low_crash_states n (w ∷ writes) all d long (suc k) =
       let one = low_one d w (subst (λ (m : ℕ). IsMapWrite m w) (sym long) all.0) in
-      low_then one (low_moments n writes all.1 (written w d) (one.sectors ∙ long) k)
+      low_then one (low_crash_states n writes all.1 (written w d) (one.sectors ∙ long) k)
 
 -- each element of a list by a function
 each_made : {X : Type 0} (P : X → Type 0) (f : ℕ → X) (a n : ℕ) → ((i : ℕ) → a ≤ i → i < a + n → P (f i)) → AllByRecursion P (map f (range_with_len a n))

@@ -10,8 +10,8 @@ use Rattle.std.proofs.lemmas.Option.{same_Some, none-some, slice_get-get_or, sli
 use Rattle.labelled_disk.specs.Layout.{vam}
 use Rattle.alloc_map.specs.Bits.{is_used, IsMarked}
 use Rattle.alloc_map.specs.Runs.{IsDataRun, IsLowestFree, IsLongestFree}
-use Rattle.label_survey.specs.declared.standing.Standing.{Standing}
-use Rattle.label_survey.specs.declared.standing.Standing.TheVariants.{Free}
+use Rattle.label_survey.specs.declared.sector_state.SectorState.{SectorState}
+use Rattle.label_survey.specs.declared.sector_state.SectorState.TheVariants.{Free}
 use Rattle.label_survey.specs.Survey.{is_kept}
 use Rattle.scavenger.specs.Marks.{marks, IsMarkedSoFar}
 
@@ -43,9 +43,9 @@ whole_run n b run free lowest longest form = (first, all)
       | inr long ↦ omega (arith, long, form.few)
     ]
 
-module _ (n first : ℕ) (standings : List Standing) where
+module _ (n first : ℕ) (sector_states : List SectorState) where
   -- all sectors are marked
-  pub begun : (old now : List ℕ) → length old ≡ 512 * vam n → first ≤ n → ((i : ℕ) → is_used old i ≡ false) → IsMarked true old now 0 n → IsMarkedSoFar n first standings 0 now
+  pub begun : (old now : List ℕ) → length old ≡ 512 * vam n → first ≤ n → ((i : ℕ) → is_used old i ≡ false) → IsMarked true old now 0 n → IsMarkedSoFar n first sector_states 0 now
   begun old now size within free marked = record {
     size = marked.same_length ∙ size;
     low = λ s below. marked.marked s (omega arith) (omega (arith, below, within));
@@ -54,18 +54,18 @@ module _ (n first : ℕ) (standings : List Standing) where
     past = λ s over. marked.others s (inr over) ∙ free s;
   }
 
-  module _ (k : ℕ) (x : Standing) (here : slice_get standings k ≡ Some x) (within : first + length standings ≡ n) where
+  module _ (k : ℕ) (x : SectorState) (here : slice_get sector_states k ≡ Some x) (within : first + length sector_states ≡ n) where
     below_n : first + k < n
-    below_n = omega (arith, within, slice_get_within standings k x here)
+    below_n = omega (arith, within, slice_get_within sector_states k x here)
 
     -- one that is kept
-    pub passed : (b : List ℕ) → is_kept x ≡ true → IsMarkedSoFar n first standings k b → IsMarkedSoFar n first standings (k + 1) b
+    pub passed : (b : List ℕ) → is_kept x ≡ true → IsMarkedSoFar n first sector_states k b → IsMarkedSoFar n first sector_states (k + 1) b
     passed b keeps so_far = record {
       size = so_far.size;
       low = so_far.low;
       kept = λ j y below at. elim (cases_eq j k) [
         | inl same ↦
-            let it : x ≡ y = same_Some x y (sym here ∙ ap (slice_get standings) (sym same) ∙ at) in
+            let it : x ≡ y = same_Some x y (sym here ∙ ap (slice_get sector_states) (sym same) ∙ at) in
             ap (λ (m : ℕ). is_used b (first + m)) same ∙ so_far.rest (first + k) (omega arith) below_n ∙ sym keeps ∙ ap is_kept it
         | inr apart ↦ so_far.kept j y (omega (arith, below, apart)) at
       ];
@@ -74,13 +74,13 @@ module _ (n first : ℕ) (standings : List Standing) where
     }
 
     -- one that is not
-    pub freed : (b c : List ℕ) → is_kept x ≡ false → IsMarkedSoFar n first standings k b → IsMarked false b c (first + k) (first + k + 1) → IsMarkedSoFar n first standings (k + 1) c
+    pub freed : (b c : List ℕ) → is_kept x ≡ false → IsMarkedSoFar n first sector_states k b → IsMarked false b c (first + k) (first + k + 1) → IsMarkedSoFar n first sector_states (k + 1) c
     freed b c drops so_far marked = record {
       size = marked.same_length ∙ so_far.size;
       low = λ s below. marked.others s (inl (omega (arith, below))) ∙ so_far.low s below;
       kept = λ j y below at. elim (cases_eq j k) [
         | inl same ↦
-            let it : x ≡ y = same_Some x y (sym here ∙ ap (slice_get standings) (sym same) ∙ at) in
+            let it : x ≡ y = same_Some x y (sym here ∙ ap (slice_get sector_states) (sym same) ∙ at) in
             ap (λ (m : ℕ). is_used c (first + m)) same ∙ marked.marked (first + k) (omega arith) (omega arith) ∙ sym drops ∙ ap is_kept it
         | inr apart ↦ marked.others (first + j) (inl (omega (arith, below, apart))) ∙ so_far.kept j y (omega (arith, below, apart)) at
       ];
@@ -89,21 +89,21 @@ module _ (n first : ℕ) (standings : List Standing) where
     }
 
   -- all of them
-  pub all_marked : (b : List ℕ) → first + length standings ≡ n → IsMarkedSoFar n first standings (length standings) b → (i : ℕ) → is_used b i ≡ marks first standings i
+  pub all_marked : (b : List ℕ) → first + length sector_states ≡ n → IsMarkedSoFar n first sector_states (length sector_states) b → (i : ℕ) → is_used b i ≡ marks first sector_states i
   all_marked b within so_far i = elim (cases_lt i first) [
-    | inl below ↦ so_far.low i below ∙ sym (ap (λ (t : Bool). t || option_map_or is_kept (slice_get standings (i - first)) false) (lt-ltb i first below))
-    | inr from ↦ at_data from (slice_get standings (i - first)) refl ∙ sym (ap (λ (t : Bool). t || option_map_or is_kept (slice_get standings (i - first)) false) (lt-leb (suc i) first (omega (arith, from))))
+    | inl below ↦ so_far.low i below ∙ sym (ap (λ (t : Bool). t || option_map_or is_kept (slice_get sector_states (i - first)) false) (lt-ltb i first below))
+    | inr from ↦ at_data from (slice_get sector_states (i - first)) refl ∙ sym (ap (λ (t : Bool). t || option_map_or is_kept (slice_get sector_states (i - first)) false) (lt-leb (suc i) first (omega (arith, from))))
   ]
     where
-      at_data : first ≤ i → (o : Option Standing) → slice_get standings (i - first) ≡ o → is_used b i ≡ option_map_or is_kept (slice_get standings (i - first)) false
+      at_data : first ≤ i → (o : Option SectorState) → slice_get sector_states (i - first) ≡ o → is_used b i ≡ option_map_or is_kept (slice_get sector_states (i - first)) false
       at_data from (Some x) e =
           let back : i ≡ first + (i - first) = omega (arith, from) in
-          ap (is_used b) back ∙ so_far.kept (i - first) x (slice_get_within standings (i - first) x e) e ∙ sym (ap (λ (t : Option Standing). option_map_or is_kept t false) e)
+          ap (is_used b) back ∙ so_far.kept (i - first) x (slice_get_within sector_states (i - first) x e) e ∙ sym (ap (λ (t : Option SectorState). option_map_or is_kept t false) e)
       at_data from None e = elim (cases_lt i n) [
         | inl below ↦
-            let there = slice_get-get_or standings (i - first) Free (omega (arith, from, below, within)) in
-            absurd (none-some (slice_index_or standings (i - first) Free) (sym e ∙ there))
-        | inr over ↦ so_far.past i over ∙ sym (ap (λ (t : Option Standing). option_map_or is_kept t false) e)
+            let there = slice_get-get_or sector_states (i - first) Free (omega (arith, from, below, within)) in
+            absurd (none-some (slice_index_or sector_states (i - first) Free) (sym e ∙ there))
+        | inr over ↦ so_far.past i over ∙ sym (ap (λ (t : Option SectorState). option_map_or is_kept t false) e)
       ]
 
 -- the same change of bytes that are the same ones

@@ -9,7 +9,7 @@ use Rattle.std.proofs.lemmas.Option.{same_Some, none-some, slice_get_within}
 use Rattle.labelled_disk.specs.Layout.{IsCount, capacity, first_data, vam, vfm}
 use Rattle.labelled_disk.specs.Sectors.{Sector}
 use Rattle.page_tree.specs.Page.{page_at}
-use Rattle.page_tree.specs.Tells.{TellsTree}
+use Rattle.page_tree.specs.Reveals.{RevealsTree}
 use Rattle.file_map.specs.declared.error.MapError.{MapError}
 use Rattle.file_map.specs.declared.error.MapError.TheVariants.{Full, Malformed}
 use Rattle.file_map.specs.Cause.{IsFullOr}
@@ -51,24 +51,24 @@ not_full n bytes run count is_count is_run room few full =
     ceil_small : (m : ℕ) → vam m ≤ m / 4096 + 1
     ceil_small m = omega arith
 
--- Triples that are a front, a run, and a back.
-module _ (n : ℕ) (triples front back : List Triple) (are : AreTriples n triples) (r : LabelRun) (long : 1 ≤ r.pages) (split : front ++ (triples_of r ++ back) ≡ triples) where
-  in_front : (k : ℕ) (t : Triple) → slice_get front k ≡ Some t → slice_get triples k ≡ Some t
-  in_front k t here = ap (λ (ts : List Triple). slice_get ts k) (sym split) ∙ get_left front (triples_of r ++ back) k t here
+-- Triples that are a prefix, a run, and a back.
+module _ (n : ℕ) (triples prefix back : List Triple) (are : AreTriples n triples) (r : LabelRun) (long : 1 ≤ r.pages) (split : prefix ++ (triples_of r ++ back) ≡ triples) where
+  before : (k : ℕ) (t : Triple) → slice_get prefix k ≡ Some t → slice_get triples k ≡ Some t
+  before k t here = ap (λ (ts : List Triple). slice_get ts k) (sym split) ∙ get_left prefix (triples_of r ++ back) k t here
 
   abbrev member : ℕ → Triple
   member k = record { id = r.id; page = r.first + k; sector = r.sector + k }
 
-  in_row : (k : ℕ) → k < r.pages → slice_get triples (length front + k) ≡ Some (member k)
+  in_row : (k : ℕ) → k < r.pages → slice_get triples (length prefix + k) ≡ Some (member k)
   in_row k low =
-      ap (λ (ts : List Triple). slice_get ts (length front + k)) (sym split) ∙ get_right front (triples_of r ++ back) k
+      ap (λ (ts : List Triple). slice_get ts (length prefix + k)) (sym split) ∙ get_right prefix (triples_of r ++ back) k
       ∙ get_left (triples_of r) back k (member k) (row_there r.id r.first r.sector r.pages k low)
 
   -- the run may be one of the volume
   pub run_fits : r.id < 2 ^ 64 → IsRun n (map_run r)
   run_fits id_fits =
-      let first = are.each (length front + 0) (member 0) (in_row 0 (omega (arith, long))) in
-      let last = are.each (length front + (r.pages - 1)) (member (r.pages - 1)) (in_row (r.pages - 1) (omega (arith, long))) in
+      let first = are.each (length prefix + 0) (member 0) (in_row 0 (omega (arith, long))) in
+      let last = are.each (length prefix + (r.pages - 1)) (member (r.pages - 1)) (in_row (r.pages - 1) (omega (arith, long))) in
       record {
         of_file = inr first.of_file;
         id_fits = id_fits;
@@ -79,45 +79,45 @@ module _ (n : ℕ) (triples front back : List Triple) (are : AreTriples n triple
       }
 
   -- none of its pages is named so far
-  pub is_new : IsNew (among front) (map_run r)
-  is_new page sector held = either (among front r.id page sector) refl
+  pub is_new : IsNew (among prefix) (map_run r)
+  is_new page sector held = either (among prefix r.id page sector) refl
     where
-      either : (b : Bool) → among front r.id page sector ≡ b → b ≡ false
+      either : (b : Bool) → among prefix r.id page sector ≡ b → b ≡ false
       either false e = refl
       either true e =
           let parts = and_parts (eqb r.id r.id) (nat_le r.first page && nat_lt page (r.first + r.pages)) held in
           let range = and_parts (nat_le r.first page) (nat_lt page (r.first + r.pages)) parts.1 in
           let from = leb-true r.first page range.0 in
           let below = ltb-true page (r.first + r.pages) range.1 in
-          let found = among_is front r.id page sector e in
+          let found = among_is prefix r.id page sector e in
           let k : ℕ = page - r.first in
-          let same = are.apart found.0 (length front + k) (record { id = r.id; page = page; sector = sector }) (member k) (in_front found.0 _ found.1) (in_row k (omega (arith, from, below))) refl (omega (arith, from)) in
-          absurd (omega (arith, same, slice_get_within front found.0 _ found.1))
+          let same = are.apart found.0 (length prefix + k) (record { id = r.id; page = page; sector = sector }) (member k) (before found.0 _ found.1) (in_row k (omega (arith, from, below))) refl (omega (arith, from)) in
+          absurd (omega (arith, same, slice_get_within prefix found.0 _ found.1))
 
   -- each sector is named once so far
-  pub once : AreOnce (among front)
+  pub once : AreOnce (among prefix)
   once id page other number sector one two =
-      let a = among_is front id page sector one in
-      let b = among_is front other number sector two in
-      let same = are.once a.0 b.0 (record { id = id; page = page; sector = sector }) (record { id = other; page = number; sector = sector }) (in_front a.0 _ a.1) (in_front b.0 _ b.1) refl in
-      let equal = same_Some _ _ (sym a.1 ∙ ap (slice_get front) same ∙ b.1) in
+      let a = among_is prefix id page sector one in
+      let b = among_is prefix other number sector two in
+      let same = are.once a.0 b.0 (record { id = id; page = page; sector = sector }) (record { id = other; page = number; sector = sector }) (before a.0 _ a.1) (before b.0 _ b.1) refl in
+      let equal = same_Some _ _ (sym a.1 ∙ ap (slice_get prefix) same ∙ b.1) in
       (ap (λ (t : Triple). t.id) equal, ap (λ (t : Triple). t.page) equal)
 
   -- and the first sector of the run is not
-  pub elsewhere : (id page sector : ℕ) → among front id page sector ≡ true → sector ≢ r.sector
+  pub elsewhere : (id page sector : ℕ) → among prefix id page sector ≡ true → sector ≢ r.sector
   elsewhere id page sector named at =
-      let a = among_is front id page sector named in
-      let same = are.once a.0 (length front + 0) (record { id = id; page = page; sector = sector }) (member 0) (in_front a.0 _ a.1) (in_row 0 (omega (arith, long))) (omega (arith, at)) in
-      omega (arith, same, slice_get_within front a.0 _ a.1)
+      let a = among_is prefix id page sector named in
+      let same = are.once a.0 (length prefix + 0) (record { id = id; page = page; sector = sector }) (member 0) (before a.0 _ a.1) (in_row 0 (omega (arith, long))) (omega (arith, at)) in
+      omega (arith, same, slice_get_within prefix a.0 _ a.1)
 
-  pub has_room : (bytes : List ℕ) → IsNaming n (among front) bytes → HasRoomFor n bytes (map_run r)
-  has_room bytes naming = record { named = among front; naming = naming; is_new = is_new; once = once; elsewhere = elsewhere }
+  pub has_room : (bytes : List ℕ) → IsNaming n (among prefix) bytes → HasRoomFor n bytes (map_run r)
+  has_room bytes naming = record { named = among prefix; naming = naming; is_new = is_new; once = once; elsewhere = elsewhere }
 
--- with the run they are those of the longer front
-pub with_run_is : (front : List Triple) (r : LabelRun) (id page sector : ℕ) → among (front ++ triples_of r) id page sector ≡ with_run (among front) (map_run r) id page sector
-with_run_is front r id page sector =
-    list_any-append (λ (t : Triple). eqb t.id id && (eqb t.page page && eqb t.sector sector)) front (triples_of r)
-    ∙ ap (λ (b : Bool). among front id page sector || b) (sym (run_names_row r id page sector))
+-- with the run they are those of the longer prefix
+pub with_run_is : (prefix : List Triple) (r : LabelRun) (id page sector : ℕ) → among (prefix ++ triples_of r) id page sector ≡ with_run (among prefix) (map_run r) id page sector
+with_run_is prefix r id page sector =
+    list_any-append (λ (t : Triple). eqb t.id id && (eqb t.page page && eqb t.sector sector)) prefix (triples_of r)
+    ∙ ap (λ (b : Bool). among prefix id page sector || b) (sym (run_names_row r id page sector))
 
 -- Runs one by one.
 
@@ -133,7 +133,7 @@ taken_runs runs k r here = let s : k + 1 ≡ suc k = omega arith in ap (λ (m : 
     more (q ∷ runs) zero here = nothing (triples_of q) ∙ ap triples_of (same_Some q r here)
     more (q ∷ runs) (suc k) here = ap (λ (l : List Triple). triples_of q ++ l) (more runs k here) ∙ sym (append_assoc (triples_of q) (all_triples (take k runs)) (triples_of r))
 
--- the triples before a run, its own, and those behind it
+-- the triples before a run, its own, and those after it
 pub split_runs : (runs : List LabelRun) (k : ℕ) (r : LabelRun) → slice_get runs k ≡ Some r → all_triples (take k runs) ++ (triples_of r ++ all_triples (drop (suc k) runs)) ≡ all_triples runs
 split_runs [] k r here = absurd (none-some r here)
 split_runs (q ∷ runs) zero r here = ap (λ (p : LabelRun). triples_of p ++ all_triples runs) (sym (same_Some q r here))
@@ -145,23 +145,23 @@ long_run [] k r all here = absurd (none-some r here)
 long_run (q ∷ runs) zero r all here = subst IsLong (same_Some q r here) all.0
 long_run (q ∷ runs) (suc k) r all here = long_run runs k r all.1 here
 
--- The map as a memory tells it.
+-- The map as a memory reveals it.
 
-pub to_map : (n s : ℕ) (bytes c : List ℕ) (named : Triples) → s ≡ n → c ≡ bytes → IsNaming n named bytes → AreNamed s (TellsTree 24 12 (length c / 512) (λ b. b ≡ c)) named
+pub to_map : (n s : ℕ) (bytes c : List ℕ) (named : Triples) → s ≡ n → c ≡ bytes → IsNaming n named bytes → AreNamed s (RevealsTree 24 12 (length c / 512) (λ b. b ≡ c)) named
 to_map n s bytes c named same_count same is =
     let pages : vfm n ≡ length c / 512 = omega (arith, is.size, ap (λ (b : List ℕ). length b) same) in
-    subst (λ (m : ℕ). AreNamed m (TellsTree 24 12 (length c / 512) (λ b. b ≡ c)) named) (sym same_count)
-    (subst (λ (m : ℕ). AreNamed n (TellsTree 24 12 m (λ b. b ≡ c)) named) pages
-    (subst (λ (x : List ℕ). AreNamed n (TellsTree 24 12 (vfm n) (λ b. b ≡ x)) named) (sym same) is.names))
+    subst (λ (m : ℕ). AreNamed m (RevealsTree 24 12 (length c / 512) (λ b. b ≡ c)) named) (sym same_count)
+    (subst (λ (m : ℕ). AreNamed n (RevealsTree 24 12 m (λ b. b ≡ c)) named) pages
+    (subst (λ (x : List ℕ). AreNamed n (RevealsTree 24 12 (vfm n) (λ b. b ≡ x)) named) (sym same) is.names))
 
-pub from_map : (n s : ℕ) (bytes c : List ℕ) (named : Triples) → s ≡ n → c ≡ bytes → length c ≡ 512 * vfm n → AreNamed s (TellsTree 24 12 (length c / 512) (λ b. b ≡ c)) named → IsNaming n named bytes
+pub from_map : (n s : ℕ) (bytes c : List ℕ) (named : Triples) → s ≡ n → c ≡ bytes → length c ≡ 512 * vfm n → AreNamed s (RevealsTree 24 12 (length c / 512) (λ b. b ≡ c)) named → IsNaming n named bytes
 from_map n s bytes c named same_count same size is = record {
   size = sym (ap (λ (b : List ℕ). length b) same) ∙ size;
   names =
       let pages : length c / 512 ≡ vfm n = omega (arith, size) in
-      subst (λ (x : List ℕ). AreNamed n (TellsTree 24 12 (vfm n) (λ b. b ≡ x)) named) same
-      (subst (λ (m : ℕ). AreNamed n (TellsTree 24 12 m (λ b. b ≡ c)) named) pages
-      (subst (λ (m : ℕ). AreNamed m (TellsTree 24 12 (length c / 512) (λ b. b ≡ c)) named) same_count is));
+      subst (λ (x : List ℕ). AreNamed n (RevealsTree 24 12 (vfm n) (λ b. b ≡ x)) named) same
+      (subst (λ (m : ℕ). AreNamed n (RevealsTree 24 12 m (λ b. b ≡ c)) named) pages
+      (subst (λ (m : ℕ). AreNamed m (RevealsTree 24 12 (length c / 512) (λ b. b ≡ c)) named) same_count is));
 }
 
 -- a map of zeros names nothing
@@ -173,7 +173,7 @@ naming_nothing n pages bytes count same zeros =
     let first : page_at bytes 0 ≡ replicate 512 0 =
     ap (λ (m : ℕ). take 512 (drop m bytes)) start ∙ ap (take 512) zeros ∙ (let zero : ℕ = 0 in take-replicate 512 (512 * pages) zero few) in
     from_map n n bytes bytes no_triples refl refl long
-    (subst (λ (m : ℕ). AreNamed n (TellsTree 24 12 (m / 512) (λ b. b ≡ bytes)) no_triples) (sym long)
+    (subst (λ (m : ℕ). AreNamed n (RevealsTree 24 12 (m / 512) (λ b. b ≡ bytes)) no_triples) (sym long)
     (zero_map n (512 * vfm n) (λ b. b ≡ bytes) bytes count refl refl first))
 
 -- Why a run that was refused would have been.
@@ -190,5 +190,5 @@ names_of d n a bytes long alike is =
     let now = naming_alike n a (staying d) bytes alike is in
     record {
       size = now.size ∙ ap (λ (m : ℕ). 512 * vfm m) (sym long);
-      named = subst (λ (m : ℕ). AreNamed m (TellsTree 24 12 (vfm m) (λ b. b ≡ bytes)) (staying d)) (sym long) now.names;
+      named = subst (λ (m : ℕ). AreNamed m (RevealsTree 24 12 (vfm m) (λ b. b ≡ bytes)) (staying d)) (sym long) now.names;
     }

@@ -17,10 +17,10 @@ use Rattle.volume_root.specs.RootPage.{first_of, judged, root_in, tests}
 use Rattle.labelled_disk.proofs.WriteLemmas as writes
 use Rattle.label_laws.specs.Counts.{IsLost, needs_place, lost_sectors}
 use Rattle.label_laws.proofs.CountLemmas.{list_laws}
-use Rattle.label_survey.specs.declared.standing.Standing.{Standing}
+use Rattle.label_survey.specs.declared.sector_state.SectorState.{SectorState}
 use Rattle.label_survey.specs.declared.triples.Triple.{Triple}
 use Rattle.label_survey.specs.Laws.{KeptAreNeeded, NeededAreFiles}
-use Rattle.label_survey.specs.Standings.{standing, AreStandings}
+use Rattle.label_survey.specs.SectorStates.{sector_state, AreSectorStates}
 use Rattle.label_survey.specs.Survey.{is_kept}
 use Rattle.label_survey.specs.Triples.{AreNeeded}
 use Rattle.scavenger.specs.declared.report.Lost.{Lost}
@@ -60,10 +60,10 @@ same_long f [] (y ∷ ys) each = absurd (none-some (f 0 y) (each 0))
 same_long f (x ∷ xs) [] each = absurd (none-some x (sym (each 0)))
 same_long f (x ∷ xs) (y ∷ ys) each = ap suc (same_long (λ i. f (suc i)) xs ys (λ i. each (suc i)))
 
--- there is a standing for each of its labels
-pub stand_each : (d : List Sector) (n : ℕ) (labels : List Label) (standings : List Standing) → HasLabels d n labels → AreStandings d standings → length standings ≡ length labels
-stand_each d n labels standings has are =
-    let long = same_long (standing d) standings (data_sectors d) are in
+-- there is a sector state for each of its labels
+pub stand_each : (d : List Sector) (n : ℕ) (labels : List Label) (sector_states : List SectorState) → HasLabels d n labels → AreSectorStates d sector_states → length sector_states ≡ length labels
+stand_each d n labels sector_states has are =
+    let long = same_long (sector_state d) sector_states (data_sectors d) are in
     omega (arith, long, length-map (data_sectors d) (λ (s : Sector). s.0), ap length has.are)
 
 -- Triples.
@@ -118,25 +118,25 @@ names_stay d triples needed id page sector = same_bools (staying d id page secto
 pub none_needed : (xs : List Sector) (j : ℕ) → slice_get xs j ≡ None → is_needed false xs j ≡ false
 none_needed xs j none = rw none refl
 
-pub marks_stay : KeptAreNeeded → (d : List Sector) (standings : List Standing) → AreStandings d standings → (i : ℕ) → marks (first_data (length d)) standings i ≡ stays d i
-marks_stay kept d standings are i = elim (cases_lt i (first_data (length d))) [
+pub marks_stay : KeptAreNeeded → (d : List Sector) (sector_states : List SectorState) → AreSectorStates d sector_states → (i : ℕ) → marks (first_data (length d)) sector_states i ≡ stays d i
+marks_stay kept d sector_states are i = elim (cases_lt i (first_data (length d))) [
   | inl low ↦
-      ap (λ (b : Bool). b || option_map_or is_kept (slice_get standings (i - first_data (length d))) false) (lt-ltb i (first_data (length d)) low)
+      ap (λ (b : Bool). b || option_map_or is_kept (slice_get sector_states (i - first_data (length d))) false) (lt-ltb i (first_data (length d)) low)
       ∙ sym (ap (λ (b : Bool). b || needs_place false d i) (lt-ltb i (first_data (length d)) low))
-  | inr from ↦ ap (λ (b : Bool). nat_lt i (first_data (length d)) || b) (at_data from (slice_get standings (i - first_data (length d))) refl)
+  | inr from ↦ ap (λ (b : Bool). nat_lt i (first_data (length d)) || b) (at_data from (slice_get sector_states (i - first_data (length d))) refl)
 ]
   where
-    at_data : first_data (length d) ≤ i → (o : Option Standing) → slice_get standings (i - first_data (length d)) ≡ o → option_map_or is_kept (slice_get standings (i - first_data (length d))) false ≡ needs_place false d i
+    at_data : first_data (length d) ≤ i → (o : Option SectorState) → slice_get sector_states (i - first_data (length d)) ≡ o → option_map_or is_kept (slice_get sector_states (i - first_data (length d))) false ≡ needs_place false d i
     at_data from (Some x) e =
         let back : first_data (length d) + (i - first_data (length d)) ≡ i = omega (arith, from) in
-        ap (λ (o : Option Standing). option_map_or is_kept o false) e ∙ kept d standings (i - first_data (length d)) x are e ∙ ap (needs_place false d) back
+        ap (λ (o : Option SectorState). option_map_or is_kept o false) e ∙ kept d sector_states (i - first_data (length d)) x are e ∙ ap (needs_place false d) back
     at_data from None e =
-        ap (λ (o : Option Standing). option_map_or is_kept o false) e
+        ap (λ (o : Option SectorState). option_map_or is_kept o false) e
         ∙ sym (none_needed (data_sectors d) (i - first_data (length d)) (nothing (slice_get (data_sectors d) (i - first_data (length d))) (sym e ∙ are (i - first_data (length d)))))
       where
-        nothing : (o : Option Sector) → None ≡ option_map (standing d (i - first_data (length d))) o → o ≡ None
+        nothing : (o : Option Sector) → None ≡ option_map (sector_state d (i - first_data (length d))) o → o ≡ None
         nothing None q = refl
-        nothing (Some s) q = absurd (none-some (standing d (i - first_data (length d)) s) q)
+        nothing (Some s) q = absurd (none-some (sector_state d (i - first_data (length d)) s) q)
 
 -- Lost sectors.
 

@@ -12,7 +12,7 @@ use Rattle.labelled_disk.specs.Layout.{IsCount, capacity, data_sectors, first_da
 use Rattle.labelled_disk.specs.File.{File, total_room}
 use Rattle.labelled_disk.specs.FilesOn.{files_on, files_by, disk_file}
 use Rattle.labelled_disk.specs.Lowest.{is_needed}
-use Rattle.labelled_disk.specs.Moment.{written, moment}
+use Rattle.labelled_disk.specs.CrashState.{written, crash_state}
 use Rattle.labelled_disk.specs.Right.{IsGiven}
 use Rattle.labelled_disk.specs.Root.{IsRoot, HasMaps, LabelsRight, page_in, root_page, serial_of, counter_of, short_at, number_at}
 use Rattle.labelled_disk.specs.Runs.{freeing}
@@ -26,7 +26,7 @@ use Rattle.alloc_map.specs.Bits.{is_used}
 use Rattle.file_map.specs.FileMap.{AreNamed}
 use Rattle.file_map.specs.InSectors.{label_triples, map_bytes as file_bytes}
 use Rattle.page_tree.specs.Page.{page_at}
-use Rattle.page_tree.specs.Tells.{TellsTree}
+use Rattle.page_tree.specs.Reveals.{RevealsTree}
 use Rattle.volume_root.specs.declared.root.Root.{Root}
 use Rattle.volume_root.specs.Flag.{with_flag, flag_write}
 use Rattle.volume_root.specs.RootPage.{IsValidRoot, root_write, root_bytes}
@@ -36,7 +36,7 @@ use Rattle.volume_root.proofs.WrittenLemmas.{flag_read, serial_read, counter_rea
 use Rattle.label_laws.specs.Counts.{places, needs_place, unneeded_sectors}
 use Rattle.label_laws.specs.MapLabels.{map_page, MapRelabelled}
 use Rattle.label_laws.specs.SoundParts.{IsSoundButRoom, SoundByRoom}
-use Rattle.label_laws.specs.Unneeded.{AreFreeOrNeeded, FreedMoments, FreedStayRight}
+use Rattle.label_laws.specs.Unneeded.{AreFreeOrNeeded, FreedCrashStates, FreedStayRight}
 use Rattle.label_laws.proofs.FileLemmas.{free_none}
 use Rattle.label_survey.specs.Counter.{IsRaised}
 use Rattle.label_survey.specs.Laws.{NeededAreFiles}
@@ -44,12 +44,12 @@ use Rattle.scavenger.specs.Orders.{Orders, AreFor, closed, map_writes, scavenge_
 use Rattle.scavenger.specs.Restored.{IsBetween, IsRestored, ScavengingRestores}
 use Rattle.scavenger.specs.Stays.{stays, staying}
 use Rattle.scavenger.proofs.FoundLemmas.{gathered, taken_as_needed, named_alike}
-use Rattle.scavenger.proofs.FreedLemmas.{IsSameVolume, same_volume_then, low_same_volume, freed, freed_moments, freed_needs, free_or_needed, needed_stays}
+use Rattle.scavenger.proofs.FreedLemmas.{IsSameVolume, same_volume_then, low_same_volume, freed, freed_crash_states, freed_needs, free_or_needed, needed_stays}
 use Rattle.scavenger.proofs.LayoutLemmas.{first_is, first_within}
-use Rattle.scavenger.proofs.LowLemmas.{IsLow, low_then, low_moments, map_writes_are, map_written, map_there, map_other, labelled_so}
-use Rattle.scavenger.proofs.MomentLemmas.{AtEach, each_then, at_end}
+use Rattle.scavenger.proofs.LowLemmas.{IsLow, low_then, low_crash_states, map_writes_are, map_written, map_there, map_other, labelled_so}
+use Rattle.scavenger.proofs.CrashStateLemmas.{AtEach, each_then, at_end}
 
--- the files of g, and labels that are right where those of g were; a moment whose clean flag is 1 is g or h
+-- the files of g, and labels that are right where those of g were; a crash state whose clean flag is 1 is g or h
 pub record IsOnTheWay (g h now : List Sector) : Type 0 where
   pub files : files_on now ≡ files_on g
   pub right : LabelsRight g → LabelsRight now
@@ -67,7 +67,7 @@ on_way_between g h now restored way = record {
 
 -- The laws of labels that are used.
 pub record Laws : Type 0 where
-  pub freed_moments : FreedMoments false
+  pub freed_crash_states : FreedCrashStates false
   pub freed_right : FreedStayRight false
   pub relabelled : MapRelabelled false
   pub by_room : SoundByRoom
@@ -115,8 +115,8 @@ abbrev unneeded_of : ℕ → List Sector → List ℕ
 unneeded_of n xs = places (λ i s. not (is_free s.0) && not (is_needed false xs (i - first_data n))) (first_data n) xs
 
 -- the writes after the opening, on a volume of m sectors
-abbrev behind : Orders → ℕ → List ℕ → List DiskWrite
-behind o m freed = freeing freed ++ (map_writes 1 1 o.bits (vam m) ++ (map_writes 2 (1 + vam m) o.names (vfm m) ++ root_write (closed o) ∷ []))
+abbrev after : Orders → ℕ → List ℕ → List DiskWrite
+after o m freed = freeing freed ++ (map_writes 1 1 o.bits (vam m) ++ (map_writes 2 (1 + vam m) o.names (vfm m) ++ root_write (closed o) ∷ []))
 
 -- From a disk that is open: its unneeded sectors are freed, both maps are written, and the root is closed.
 module _ (laws : Laws) (g e : List Sector) (o : Orders) (has : IsRoot (length g) (slice_get g 0)) (is_for : AreFor g o) (opened : IsOpened g e) where
@@ -128,7 +128,7 @@ module _ (laws : Laws) (g e : List Sector) (o : Orders) (has : IsRoot (length g)
       is_for.freed ∙ sym (ap (λ (m : ℕ). unneeded_of m (data_sectors e)) opened.sectors ∙ ap (λ (xs : List Sector). unneeded_of n xs) opened.same_data)
 
   abbrev e2 : List Sector
-  e2 = freed laws.freed_moments laws.freed_right e
+  e2 = freed laws.freed_crash_states laws.freed_right e
 
   abbrev e3 : List Sector
   e3 = map_written 1 1 o.bits e2 (vam n)
@@ -152,13 +152,13 @@ module _ (laws : Laws) (g e : List Sector) (o : Orders) (has : IsRoot (length g)
   last = root_write (closed o)
 
   abbrev row : List DiskWrite
-  row = behind o n (unneeded_sectors false e)
+  row = after o n (unneeded_sectors false e)
 
   same_count : o.root.sectors ≡ n
   same_count = ap (λ (r : Root). r.sectors) is_for.root ∙ has.count
 
-  pub same_row : behind o o.root.sectors o.freed ≡ row
-  same_row = ap (λ (m : ℕ). behind o m o.freed) same_count ∙ ap (behind o n) same_unneeded
+  pub same_row : after o o.root.sectors o.freed ≡ row
+  same_row = ap (λ (m : ℕ). after o m o.freed) same_count ∙ ap (after o n) same_unneeded
 
   pub row_end : after_writes row e ≡ h
   row_end =
@@ -171,16 +171,16 @@ module _ (laws : Laws) (g e : List Sector) (o : Orders) (has : IsRoot (length g)
 
   -- lengths
   long2 : length e2 ≡ n
-  long2 = (at_end (IsSameVolume e) e (freeing (unneeded_sectors false e)) (freed_moments laws.freed_moments laws.freed_right e)).sectors ∙ opened.sectors
+  long2 = (at_end (IsSameVolume e) e (freeing (unneeded_sectors false e)) (freed_crash_states laws.freed_crash_states laws.freed_right e)).sectors ∙ opened.sectors
 
   bits_low : AtEach (IsLow e2) e2 bits_writes
-  bits_low = low_moments laws.relabelled n bits_writes (map_writes_are n 1 1 o.bits (vam n) (omega arith) (omega (arith, first_is n)) (low_page n)) e2 long2
+  bits_low = low_crash_states laws.relabelled n bits_writes (map_writes_are n 1 1 o.bits (vam n) (omega arith) (omega (arith, first_is n)) (low_page n)) e2 long2
 
   low3 : IsLow e2 e3
   low3 = at_end (IsLow e2) e2 bits_writes bits_low
 
   names_low : AtEach (IsLow e3) e3 names_writes
-  names_low = low_moments laws.relabelled n names_writes (map_writes_are n 2 (1 + vam n) o.names (vfm n) (omega arith) (omega (arith, first_is n)) (λ k low. high_page n k)) e3 (low3.sectors ∙ long2)
+  names_low = low_crash_states laws.relabelled n names_writes (map_writes_are n 2 (1 + vam n) o.names (vfm n) (omega arith) (omega (arith, first_is n)) (λ k low. high_page n k)) e3 (low3.sectors ∙ long2)
 
   low4 : IsLow e2 e4
   low4 = low_then low3 (at_end (IsLow e3) e3 names_writes names_low)
@@ -189,12 +189,12 @@ module _ (laws : Laws) (g e : List Sector) (o : Orders) (has : IsRoot (length g)
   long4 = low4.sectors ∙ long2
 
   volume2 : IsSameVolume e e2
-  volume2 = at_end (IsSameVolume e) e (freeing (unneeded_sectors false e)) (freed_moments laws.freed_moments laws.freed_right e)
+  volume2 = at_end (IsSameVolume e) e (freeing (unneeded_sectors false e)) (freed_crash_states laws.freed_crash_states laws.freed_right e)
 
-  -- each moment is on the way, or the end
-  pub row_moments : (k : ℕ) → IsSameVolume e (moment e row k) ⊎ (moment e row k ≡ h)
-  row_moments = each_then P e (freeing (unneeded_sectors false e)) (bits_writes ++ (names_writes ++ last ∷ []))
-      (λ k. inl (freed_moments laws.freed_moments laws.freed_right e k))
+  -- each crash state is on the way, or the end
+  pub row_crash_states : (k : ℕ) → IsSameVolume e (crash_state e row k) ⊎ (crash_state e row k ≡ h)
+  row_crash_states = each_then P e (freeing (unneeded_sectors false e)) (bits_writes ++ (names_writes ++ last ∷ []))
+      (λ k. inl (freed_crash_states laws.freed_crash_states laws.freed_right e k))
       (each_then P e2 bits_writes (names_writes ++ last ∷ [])
       (λ k. inl (same_volume_then volume2 (low_same_volume (bits_low k))))
       (each_then P e3 names_writes (last ∷ [])
@@ -284,13 +284,13 @@ module _ (laws : Laws) (g e : List Sector) (o : Orders) (has : IsRoot (length g)
 
   all_settled : AreFreeOrNeeded false h
   all_settled = subst (λ (xs : List Sector). (i : ℕ) (s : Sector) → slice_get xs i ≡ Some s → (is_free s.0 ≡ true) ⊎ (is_needed false xs i ≡ true)) (sym same_data)
-      (free_or_needed laws.freed_moments laws.freed_right e)
+      (free_or_needed laws.freed_crash_states laws.freed_right e)
 
   same_needs : (i : ℕ) → needs_place false h i ≡ needs_place false g i
   same_needs i =
       ap (λ (m : ℕ). is_needed false (data_sectors h) (i - first_data m)) long_h
       ∙ ap (λ (xs : List Sector). is_needed false xs (i - first_data n)) same_data
-      ∙ freed_needs laws.freed_moments laws.freed_right e (i - first_data n)
+      ∙ freed_needs laws.freed_crash_states laws.freed_right e (i - first_data n)
       ∙ ap (λ (xs : List Sector). is_needed false xs (i - first_data n)) opened.same_data
 
   file_not_free : (l : Label) → is_file l ≡ true → is_free l ≡ false
@@ -338,7 +338,7 @@ module _ (laws : Laws) (g e : List Sector) (o : Orders) (has : IsRoot (length g)
   stays_there : (i : ℕ) → first_data n ≤ i → needs_place false g i ≡ true → slice_get h i ≡ slice_get g i
   stays_there i from needed =
       data_there i from
-      ∙ needed_stays laws.freed_moments laws.freed_right e i (needs_before i ∙ needed)
+      ∙ needed_stays laws.freed_crash_states laws.freed_right e i (needs_before i ∙ needed)
       ∙ opened.others i (λ q. omega (arith, q, from, first_there))
 
   same_names : (id page sector : ℕ) → label_triples h id page sector ≡ staying g id page sector
@@ -348,7 +348,7 @@ module _ (laws : Laws) (g e : List Sector) (o : Orders) (has : IsRoot (length g)
       (λ from needed. stays_there sector (leb-true (first_data n) sector from) needed)
       (λ from s here. needed_or_free sector s (record { is_data = subst (λ (m : ℕ). first_data m ≤ sector) (sym long_h) (leb-true (first_data n) sector from); here = here }))
 
-  named_at_n : AreNamed n (TellsTree 24 12 (vfm n) (λ b. b ≡ o.names)) (label_triples h)
+  named_at_n : AreNamed n (RevealsTree 24 12 (vfm n) (λ b. b ≡ o.names)) (label_triples h)
   named_at_n = record {
     runs = is_for.names.named.runs;
     listed = is_for.names.named.listed;
@@ -359,8 +359,8 @@ module _ (laws : Laws) (g e : List Sector) (o : Orders) (has : IsRoot (length g)
 
   has_file_map : HasFileMap h
   has_file_map =
-      subst (λ (m : ℕ). AreNamed m (TellsTree 24 12 (vfm m) (λ b. b ≡ file_bytes h)) (label_triples h)) (sym long_h)
-      (subst (λ (c : List ℕ). AreNamed n (TellsTree 24 12 (vfm n) (λ b. b ≡ c)) (label_triples h)) (sym names_are) named_at_n)
+      subst (λ (m : ℕ). AreNamed m (RevealsTree 24 12 (vfm m) (λ b. b ≡ file_bytes h)) (label_triples h)) (sym long_h)
+      (subst (λ (c : List ℕ). AreNamed n (RevealsTree 24 12 (vfm n) (λ b. b ≡ c)) (label_triples h)) (sym names_are) named_at_n)
 
   -- All parts.
 
@@ -406,7 +406,7 @@ module _ (laws : Laws) (g e : List Sector) (o : Orders) (has : IsRoot (length g)
     right = λ right. (sound_by_room.1 right.files.room, no_raise right);
   }
 
-  -- The moments, as the disk before sees them.
+  -- The crash states, as the disk before sees them.
 
   on_the_way : (now : List Sector) → IsSameVolume e now ⊎ (now ≡ h) → IsOnTheWay g h now
   on_the_way now (inl same) = record {
@@ -416,35 +416,35 @@ module _ (laws : Laws) (g e : List Sector) (o : Orders) (has : IsRoot (length g)
   }
   on_the_way now (inr end) = subst (IsOnTheWay g h) (sym end) (record { files = same_files; right = λ r. (sound_by_room.1 r.files.room).labels; clean = λ flag. inr refl })
 
-  pub each_on_the_way : (k : ℕ) → IsOnTheWay g h (moment e (behind o o.root.sectors o.freed) k)
-  each_on_the_way k = subst (λ (ws : List DiskWrite). IsOnTheWay g h (moment e ws k)) (sym same_row) (on_the_way (moment e row k) (row_moments k))
+  pub each_on_the_way : (k : ℕ) → IsOnTheWay g h (crash_state e (after o o.root.sectors o.freed) k)
+  each_on_the_way k = subst (λ (ws : List DiskWrite). IsOnTheWay g h (crash_state e ws k)) (sym same_row) (on_the_way (crash_state e row k) (row_crash_states k))
 
-  pub ends_so : after_writes (behind o o.root.sectors o.freed) e ≡ h
+  pub ends_so : after_writes (after o o.root.sectors o.freed) e ≡ h
   ends_so = ap (λ (ws : List DiskWrite). after_writes ws e) same_row ∙ row_end
 
 -- the disk before all
 at_first : (g h : List Sector) → IsOnTheWay g h g
 at_first g h = record { files = refl; right = λ r. r; clean = λ flag. inl refl }
 
--- the moments of one write and a row
-first_then : (g end : List Sector) (w : DiskWrite) (ws : List DiskWrite) → ((k : ℕ) → IsOnTheWay g end (moment (written w g) ws k)) → (k : ℕ) → IsOnTheWay g end (moment g (w ∷ ws) k)
+-- the crash states of one write and a row
+first_then : (g end : List Sector) (w : DiskWrite) (ws : List DiskWrite) → ((k : ℕ) → IsOnTheWay g end (crash_state (written w g) ws k)) → (k : ℕ) → IsOnTheWay g end (crash_state g (w ∷ ws) k)
 first_then g end w ws each zero = at_first g end
 first_then g end w ws each (suc k) = each k
 
 module _ (laws : Laws) (g : List Sector) (o : Orders) (are : AreSectors g) (has : IsRoot (length g) (slice_get g 0)) (is_for : AreFor g o) where
-  -- these are the writes, this is the end, and each moment is on the way to it
-  by_row : (ws : List DiskWrite) (end : List Sector) → scavenge_writes o ≡ ws → after_writes ws g ≡ end → IsRestored g end → ((k : ℕ) → IsOnTheWay g end (moment g ws k)) → ScavengingRestores g o
+  -- these are the writes, this is the end, and each crash state is on the way to it
+  by_row : (ws : List DiskWrite) (end : List Sector) → scavenge_writes o ≡ ws → after_writes ws g ≡ end → IsRestored g end → ((k : ℕ) → IsOnTheWay g end (crash_state g ws k)) → ScavengingRestores g o
   by_row ws end same ends restored each =
       let so : after_writes (scavenge_writes o) g ≡ end = ap (λ (vs : List DiskWrite). after_writes vs g) same ∙ ends in
-      let all : (k : ℕ) → IsOnTheWay g end (moment g (scavenge_writes o) k) = λ k. subst (λ (vs : List DiskWrite). IsOnTheWay g end (moment g vs k)) (sym same) (each k) in
+      let all : (k : ℕ) → IsOnTheWay g end (crash_state g (scavenge_writes o) k) = λ k. subst (λ (vs : List DiskWrite). IsOnTheWay g end (crash_state g vs k)) (sym same) (each k) in
       record {
         restored = subst (IsRestored g) (sym so) restored;
-        moments = λ k. on_way_between g end (moment g (scavenge_writes o) k) restored (all k);
-        ends = λ k. subst (λ (x : List Sector). short_at (root_page (moment g (scavenge_writes o) k)) 10 ≡ 1 → (moment g (scavenge_writes o) k ≡ g) ⊎ (moment g (scavenge_writes o) k ≡ x)) (sym so) (all k).clean;
+        crash_states = λ k. on_way_between g end (crash_state g (scavenge_writes o) k) restored (all k);
+        ends = λ k. subst (λ (x : List Sector). short_at (root_page (crash_state g (scavenge_writes o) k)) 10 ≡ 1 → (crash_state g (scavenge_writes o) k ≡ g) ⊎ (crash_state g (scavenge_writes o) k ≡ x)) (sym so) (all k).clean;
       }
 
   abbrev rest : List DiskWrite
-  rest = behind o o.root.sectors o.freed
+  rest = after o o.root.sectors o.freed
 
   flag_is : (b : Bool) → eqb (short_at (root_page g) 10) 1 ≡ b → o.root.clean ≡ b
   flag_is b e = ap (λ (r : Root). r.clean) is_for.root ∙ e

@@ -4,7 +4,7 @@ use Rattle.std.proofs.lemmas.List.{take_all, take-append-le}
 use Rattle.std.proofs.Math.Seq.{take-append-add}
 use Rattle.labelled_disk.specs.declared.disk.DiskError.{DiskError}
 use Rattle.labelled_disk.specs.declared.disk.DiskWrite.{DiskWrite}
-use Rattle.labelled_disk.specs.Calls.{Moves, Rose, Settles, TellsSame, TellsWrite, Writes}
+use Rattle.labelled_disk.specs.Calls.{Moves, Rose, Syncs, RevealsSame, RevealsWrite, Writes}
 use Rattle.labelled_disk.specs.State.{DiskState}
 use Rattle.labelled_disk.specs.WriteRuns.{Appended}
 use Rattle.labelled_disk.proofs.CallLemmas.{rose_earlier}
@@ -59,9 +59,9 @@ carries_none a = record {
 }
 
 -- one write that was made
-pub carries_made : {E : Type 0} (w : DiskWrite) (a b : DiskState) → TellsWrite w a b → Moves a b → Carries {E = E} (w ∷ []) a (Ok tt) b
-carries_made w a b tells moves = record {
-  all = appended_one w tells;
+pub carries_made : {E : Type 0} (w : DiskWrite) (a b : DiskState) → RevealsWrite w a b → Moves a b → Carries {E = E} (w ∷ []) a (Ok tt) b
+carries_made w a b reveals moves = record {
+  all = appended_one w reveals;
   part = tt;
   cause = tt;
   later = moved_later moves;
@@ -69,16 +69,16 @@ carries_made w a b tells moves = record {
 }
 
 -- one write that failed, and was made or not
-pub carries_failed : {E : Type 0} (e : E) (w : DiskWrite) (a b : DiskState) → (TellsSame a b ⊎ TellsWrite w a b) → Rose a.faults b.faults → Moves a b → Carries (w ∷ []) a (Err e) b
-carries_failed e w a b tells rose moves = record {
+pub carries_failed : {E : Type 0} (e : E) (w : DiskWrite) (a b : DiskState) → (RevealsSame a b ⊎ RevealsWrite w a b) → Rose a.faults b.faults → Moves a b → Carries (w ∷ []) a (Err e) b
+carries_failed e w a b reveals rose moves = record {
   all = tt;
-  part = either tells;
+  part = either reveals;
   cause = rose;
   later = moved_later moves;
   transfers = omega (arith, moves.transfers.by_one);
 }
   where
-    either : (TellsSame a b ⊎ TellsWrite w a b) → PartMade (w ∷ []) a b
+    either : (RevealsSame a b ⊎ RevealsWrite w a b) → PartMade (w ∷ []) a b
     either (inl same) = (0, omega arith, appended_none same)
     either (inr made) = all_made (w ∷ []) a b (appended_one w made)
 
@@ -123,7 +123,7 @@ pub carries_err : {E : Type 0} (writes : List DiskWrite) (a b : DiskState) (r : 
 carries_err writes a b r e same carries = subst (λ (x : _). Carries writes a x b) (sym same) carries
 
 -- a row that was made, and is on the medium
-pub carries_settled : {E F : Type 0} (writes : List DiskWrite) (a b c : DiskState) → Carries {E = E} writes a (Ok tt) b → Settles b (Ok tt) c → Carries {E = F} writes a (Ok tt) c
+pub carries_settled : {E F : Type 0} (writes : List DiskWrite) (a b c : DiskState) → Carries {E = E} writes a (Ok tt) b → Syncs b (Ok tt) c → Carries {E = F} writes a (Ok tt) c
 carries_settled writes a b c made settled = record {
   all = appended_no_more writes made.all settled.same;
   part = tt;
@@ -133,7 +133,7 @@ carries_settled writes a b c made settled = record {
 }
 
 -- or is not
-pub carries_unsettled : {E F : Type 0} (f : F) (e : DiskError) (writes : List DiskWrite) (a b c : DiskState) → Carries {E = E} writes a (Ok tt) b → Settles b (Err e) c → Carries writes a (Err f) c
+pub carries_unsettled : {E F : Type 0} (f : F) (e : DiskError) (writes : List DiskWrite) (a b c : DiskState) → Carries {E = E} writes a (Ok tt) b → Syncs b (Err e) c → Carries writes a (Err f) c
 carries_unsettled f e writes a b c made settled = record {
   all = tt;
   part = all_made writes a c (appended_no_more writes made.all settled.same);

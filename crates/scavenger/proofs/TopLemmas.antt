@@ -1,4 +1,4 @@
--- What the writes of a restoration leave, behind calls that wrote nothing.
+-- What the writes of a restoration leave, after calls that wrote nothing.
 use Rattle.std.proofs.Common.{◌≡◌, List, ◌++◌, length, take, Some, Result, Ok, Err, sym, ◌∙◌, ap, subst}
 use Rattle.std.specs.Prelude.{slice_get, option_map, IfErr, OnErr}
 use Rattle.labelled_disk.specs.declared.disk.DiskWrite.{DiskWrite}
@@ -17,20 +17,20 @@ use Rattle.scavenger.specs.Orders.{Orders, AreFor, scavenge_writes}
 use Rattle.scavenger.specs.Restored.{IsRestored, RestoresEach}
 
 -- writes after calls that wrote nothing
-pub appended_behind : (ws : List DiskWrite) (a b c : DiskState) → OnlyReads a b → Appended ws b c → Appended ws a c
-appended_behind ws a b c only made = record {
+pub appended_after : (ws : List DiskWrite) (a b c : DiskState) → OnlyReads a b → Appended ws b c → Appended ws a c
+appended_after ws a b c only made = record {
   contents = made.contents ∙ ap (option_map (after_writes ws)) only.contents;
-  told = made.told ∙ ap (option_map (λ (earlier : List DiskWrite). earlier ++ ws)) only.writes;
+  revealed = made.revealed ∙ ap (option_map (λ (earlier : List DiskWrite). earlier ++ ws)) only.writes;
 }
 
 -- the disk afterwards is restored
 pub restored_by : RestoresEach → (a c : DiskState) (g : List Sector) (o : Orders) → a.contents ≡ Some g → AreSectors g → IsRoot (length g) (slice_get g 0) → AreFor g o → Appended (scavenge_writes o) a c
     → (h : List Sector) × (c.contents ≡ Some h) × IsRestored g h
-restored_by law a c g o told are has is_for made =
-    (after_writes (scavenge_writes o) g, made.contents ∙ ap (option_map (after_writes (scavenge_writes o))) told, (law g o are has is_for).restored)
+restored_by law a c g o revealed are has is_for made =
+    (after_writes (scavenge_writes o) g, made.contents ∙ ap (option_map (after_writes (scavenge_writes o))) revealed, (law g o are has is_for).restored)
 
-pub part_behind : (ws : List DiskWrite) (a b c : DiskState) → OnlyReads a b → PartMade ws b c → PartMade ws a c
-part_behind ws a b c only part = (part.0, part.1, appended_behind (take part.0 ws) a b c only part.2)
+pub part_after : (ws : List DiskWrite) (a b c : DiskState) → OnlyReads a b → PartMade ws b c → PartMade ws a c
+part_after ws a b c only part = (part.0, part.1, appended_after (take part.0 ws) a b c only part.2)
 
 -- what holds of an error
 pub on_err : {T E : Type 0} {P : Type 0} (r : Result T E) (e : E) → r ≡ Err e → OnErr r P → P

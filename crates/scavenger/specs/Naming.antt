@@ -2,7 +2,7 @@
 use Rattle.std.specs.Prelude.{◌≡◌, ◌≢◌, ℕ, ◌*◌, ◌≤◌, ◌<◌, ◌^◌, ◌&&◌, ◌==◌, true, List, length, slice_get, Some}
 use Rattle.std.specs.List.{list_any}
 use Rattle.labelled_disk.specs.Layout.{vfm, first_data}
-use Rattle.page_tree.specs.Tells.{TellsTree}
+use Rattle.page_tree.specs.Reveals.{RevealsTree}
 use Rattle.file_map.specs.declared.run.Run.{Run}
 use Rattle.file_map.specs.FileMap.{Triples, AreNamed, IsNew}
 use Rattle.file_map.specs.Laws.{AreOnce}
@@ -29,7 +29,7 @@ pub record AreTriples (n : ℕ) (triples : List Triple) : Type 0 where
 -- the bytes are those of a file map of a volume of n sectors, which names these triples
 pub record IsNaming (n : ℕ) (named : Triples) (bytes : List ℕ) : Type 0 where
   pub size : length bytes ≡ 512 * vfm n
-  pub names : AreNamed n (TellsTree 24 12 (vfm n) (λ b. b ≡ bytes)) named
+  pub names : AreNamed n (RevealsTree 24 12 (vfm n) (λ b. b ≡ bytes)) named
 
 -- the map names some triples, each of another sector, and neither a page of this run nor its first sector
 pub record HasRoomFor (n : ℕ) (bytes : List ℕ) (run : Run) : Type 0 where

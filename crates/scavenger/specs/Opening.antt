@@ -6,7 +6,7 @@ use Rattle.scavenger.specs.declared.fault.ScavengeFault.{ScavengeFault}
 use Rattle.scavenger.specs.declared.fault.ScavengeFault.TheVariants as why
 
 -- The answer fits how the root is judged: a refusal is this refusal, and where the root is accepted no other comes than one
--- for want of memory. Where the disk failed, nothing is said.
+-- since it is out of memory. Where the disk failed, nothing is said.
 abbrev pub Accords : {T : Type 0} → Result T ScavengeFault → Result Root RootFault → Type 0
 Accords (Ok x) right = (root : Root) × (right ≡ Ok root)
 Accords (Err (why.Root fault)) right = right ≡ Err fault

@@ -41,7 +41,7 @@ scavenge_writes o =
     opening o.root ++ (freeing o.freed ++ (map_writes 1 1 o.bits (vam o.root.sectors)
     ++ (map_writes 2 (1 + vam o.root.sectors) o.names (vfm o.root.sectors) ++ root_write (closed o) ∷ [])))
 
--- They are those for a disk of these sectors: its root, all its unneeded sectors, rising, what stays in both maps, and a
+-- They are those for a disk of these sectors: its root, all its unneeded sectors, ascending, what stays in both maps, and a
 -- counter above its files.
 pub record AreFor (g : List Sector) (o : Orders) : Type 0 where
   pub root : o.root ≡ root_in (root_page g)

@@ -12,7 +12,7 @@ module _ {A : Type 0} where
   abbrev pub orders : Root → ℕ → Plan A → Orders
   orders root first plan = record {
     root = root;
-    freed = places_by is_freed first plan.standings.items;
+    freed = places_by is_freed first plan.sector_states.items;
     bits = vec_mem_bytes plan.bits;
     names = vec_mem_bytes plan.names;
     counter = plan.counter;
@@ -20,6 +20,6 @@ module _ {A : Type 0} where
 
   -- its parts are those of a volume of n sectors
   pub record IsSized (n : ℕ) (plan : Plan A) : Type 0 where
-    pub standings : length plan.standings.items ≡ n - first_data n
+    pub sector_states : length plan.sector_states.items ≡ n - first_data n
     pub bits : length (vec_mem_bytes plan.bits) ≡ 512 * vam n
     pub names : length (vec_mem_bytes plan.names) ≡ 512 * vfm n

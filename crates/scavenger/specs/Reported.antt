@@ -1,4 +1,4 @@
--- What a report tells of a disk.
+-- What a report reveals of a disk.
 use Rattle.std.specs.Prelude.{◌≡◌, ℕ, ◌-◌, false, List, length, map, slice_get}
 use Rattle.std.specs.Option.{option_map_or}
 use Rattle.labelled_disk.specs.declared.label.Label.{Label}
@@ -20,7 +20,7 @@ labelled first labels sector = option_map_or (λ l. record { sector = sector; id
 abbrev pub lost_in : {A : Type 0} → Report A → List Lost
 lost_in report = report.lost.items
 
--- how many files and pages stay, how many sectors are freed, and, rising, which of these have the label of a file that stays
+-- how many files and pages stay, how many sectors are freed, and, ascending, which of these have the label of a file that stays
 pub record Reports {A : Type 0} (g : List Sector) (report : Report A) : Type 0 where
   pub files : report.files ≡ length (files_on g)
   pub pages : report.pages ≡ total_pages (files_on g)

@@ -1,10 +1,10 @@
--- What is restored, and what stands at each moment before.
+-- What is restored, and what stands in each crash state before.
 use Rattle.std.specs.Prelude.{◌≡◌, ◌↔◌, ◌⊎◌, ◌≤◌, ℕ, List, length, slice_get}
 use Rattle.labelled_disk.specs.Sectors.{Sector, AreSectors}
 use Rattle.labelled_disk.specs.Layout.{capacity}
 use Rattle.labelled_disk.specs.File.{total_room}
 use Rattle.labelled_disk.specs.FilesOn.{files_on}
-use Rattle.labelled_disk.specs.Moment.{moment}
+use Rattle.labelled_disk.specs.CrashState.{crash_state}
 use Rattle.labelled_disk.specs.Root.{IsRoot, LabelsRight, root_page, short_at, serial_of, counter_of}
 use Rattle.labelled_disk.specs.WriteRuns.{after_writes}
 use Rattle.volume_root.specs.Sound.{Sound}
@@ -23,7 +23,7 @@ pub record IsRestored (g h : List Sector) : Type 0 where
   pub sound : Sound h ↔ (total_room (files_on g) ≤ capacity (length g))
   pub right : LabelsRight g → Sound h × (counter_of h ≡ counter_of g)
 
--- A moment of a restoration of g: it has the files of g, and labels that are right where those of g were; and where its
+-- A crash state of a restoration of g: it has the files of g, and labels that are right where those of g were; and where its
 -- clean flag is 1, it is g, or it is restored.
 pub record IsBetween (g now : List Sector) : Type 0 where
   pub files : files_on now ≡ files_on g
@@ -31,12 +31,12 @@ pub record IsBetween (g now : List Sector) : Type 0 where
   pub clean : short_at (root_page now) 10 ≡ 1 → (now ≡ g) ⊎ IsRestored g now
 
 -- so it is for each disk with a valid root, whatever its labels are; and where the clean flag is 1, the disk is the one before
--- these writes, or the one behind them all
+-- these writes, or the one after them all
 pub record ScavengingRestores (g : List Sector) (o : Orders) : Type 0 where
   pub restored : IsRestored g (after_writes (scavenge_writes o) g)
-  pub moments : (k : ℕ) → IsBetween g (moment g (scavenge_writes o) k)
-  pub ends : (k : ℕ) → short_at (root_page (moment g (scavenge_writes o) k)) 10 ≡ 1
-      → (moment g (scavenge_writes o) k ≡ g) ⊎ (moment g (scavenge_writes o) k ≡ after_writes (scavenge_writes o) g)
+  pub crash_states : (k : ℕ) → IsBetween g (crash_state g (scavenge_writes o) k)
+  pub ends : (k : ℕ) → short_at (root_page (crash_state g (scavenge_writes o) k)) 10 ≡ 1
+      → (crash_state g (scavenge_writes o) k ≡ g) ⊎ (crash_state g (scavenge_writes o) k ≡ after_writes (scavenge_writes o) g)
 
 abbrev pub RestoresEach : Type 0
 RestoresEach = (g : List Sector) (o : Orders) → AreSectors g → IsRoot (length g) (slice_get g 0) → AreFor g o → ScavengingRestores g o

@@ -6,7 +6,7 @@ use Rattle.labelled_disk.specs.Sectors.{Sector}
 use Rattle.labelled_disk.specs.Layout.{vam, vfm, first_data, data_sectors}
 use Rattle.label_laws.specs.Counts.{needs_place}
 use Rattle.alloc_map.specs.Bits.{is_used}
-use Rattle.page_tree.specs.Tells.{TellsTree}
+use Rattle.page_tree.specs.Reveals.{RevealsTree}
 use Rattle.file_map.specs.FileMap.{Triples, AreNamed}
 
 -- these are the labels of the data sectors of a disk of n sectors
@@ -32,4 +32,4 @@ pub record AreBits (d : List Sector) (bytes : List ℕ) : Type 0 where
 -- the bytes of a file map that names the pages that stay, and no others
 pub record AreNames (d : List Sector) (bytes : List ℕ) : Type 0 where
   pub size : length bytes ≡ 512 * vfm (length d)
-  pub named : AreNamed (length d) (TellsTree 24 12 (vfm (length d)) (λ b. b ≡ bytes)) (staying d)
+  pub named : AreNamed (length d) (RevealsTree 24 12 (vfm (length d)) (λ b. b ≡ bytes)) (staying d)

@@ -7,7 +7,7 @@ ghost use Rattle.scavenger.specs.Marks.{marks, IsMarkedSoFar};
 
 use alloc_map::{AllocError, AllocMap};
 use flat_mem::VecMem;
-use label_survey::Standing;
+use label_survey::SectorState;
 use labelled_disk::{Layout, NoMemory};
 use std::alloc::Allocator;
 
@@ -38,15 +38,15 @@ fn free_one<A: Allocator>(map: &mut VecMem<A>, sectors: u32, sector: u32)
 }
 
 // Marks each data sector free that is not kept, where all sectors are used.
-fn free_rest<A: Allocator>(map: &mut VecMem<A>, layout: &Layout, standings: &[Standing])
-    requires all { layout.now.first + length standings.now ≡ layout.now.sectors }
-    requires full { IsMarkedSoFar layout.now.sectors layout.now.first standings.now 0
+fn free_rest<A: Allocator>(map: &mut VecMem<A>, layout: &Layout, sector_states: &[SectorState])
+    requires all { layout.now.first + length sector_states.now ≡ layout.now.sectors }
+    requires full { IsMarkedSoFar layout.now.sectors layout.now.first sector_states.now 0
         (vec_mem_bytes map.old) }
-    ensures { IsMarkedSoFar layout.now.sectors layout.now.first standings.now
-        (length standings.now) (vec_mem_bytes map.new) }
+    ensures { IsMarkedSoFar layout.now.sectors layout.now.first sector_states.now
+        (length sector_states.now) (vec_mem_bytes map.new) }
 {
-    for i in 0..standings.len() {
-        if !standings[i].is_kept() {
+    for i in 0..sector_states.len() {
+        if !sector_states[i].is_kept() {
             free_one(map, layout.sectors, layout.first + i as u32);
         }
     }
@@ -56,19 +56,19 @@ fn free_rest<A: Allocator>(map: &mut VecMem<A>, layout: &Layout, standings: &[St
 pub(crate) fn make_bits<A: Allocator>(
     alloc: A,
     layout: &Layout,
-    standings: &[Standing],
+    sector_states: &[SectorState],
 ) -> Result<VecMem<A>, NoMemory>
     requires counted { IsCount layout.now.sectors }
     requires layout { layout.now ≡ layout_of layout.now.sectors }
-    requires all { length standings.now ≡ layout.now.sectors - first_data layout.now.sectors }
+    requires all { length sector_states.now ≡ layout.now.sectors - first_data layout.now.sectors }
     ensures size { IfOk result (λ map. length (vec_mem_bytes map) ≡ 512 * vam layout.now.sectors) }
     ensures used { IfOk result (λ map. (i : ℕ)
-        → is_used (vec_mem_bytes map) i ≡ marks layout.now.first standings.now i) }
+        → is_used (vec_mem_bytes map) i ≡ marks layout.now.first sector_states.now i) }
 {
     let Ok(mut map) = VecMem::zeroed(alloc, layout.vam) else {
         return Err(NoMemory);
     };
     mark_all(&mut map, layout.sectors);
-    free_rest(&mut map, layout, standings);
+    free_rest(&mut map, layout, sector_states);
     Ok(map)
 }

@@ -8,7 +8,7 @@ pub enum ScavengeFault {
     /// The volume is refused, and was not written.
     #[error("{0}")]
     Root(RootFault),
-    /// The disk failed. Some first ones of the writes may have been made.
+    /// The disk failed. Some prefix of the writes may have been made.
     #[error("the disk failed")]
     Disk,
     /// Nothing was written.

@@ -2,15 +2,15 @@
 ghost use Rattle.scavenger.specs.Restored.{RestoresEach};
 
 use label_laws::{map_labels, sound_when_closed, unneeded_are_freed};
-use label_survey::standings_tell;
+use label_survey::sector_states_reveal;
 
 /// The writes of a restoration restore each disk with a valid root, and keep its files at each
-/// moment.
+/// crash state.
 pub fn scavenging_restores()
     ensures { RestoresEach }
 {
     unneeded_are_freed();
     map_labels();
     sound_when_closed();
-    standings_tell();
+    sector_states_reveal();
 }

@@ -4,7 +4,7 @@ ghost use Rattle.labelled_disk.specs.Layout.{IsCount, layout_of, first_data};
 ghost use Rattle.labelled_disk.specs.Root.{root_page};
 ghost use Rattle.labelled_disk.specs.Sectors.{Sector};
 ghost use Rattle.volume_root.specs.RootPage.{IsValidRoot, root_in};
-ghost use Rattle.label_survey.specs.Standings.{AreStandings};
+ghost use Rattle.label_survey.specs.SectorStates.{AreSectorStates};
 ghost use Rattle.scavenger.specs.Carries.{Carries};
 ghost use Rattle.scavenger.specs.Orders.{AreFor, scavenge_writes};
 ghost use Rattle.scavenger.specs.Stays.{HasLabels};
@@ -13,7 +13,7 @@ use crate::bits::make_bits;
 use crate::names::make_names;
 use crate::writing::{close_root, free_sectors, open_root, write_map};
 use flat_mem::VecMem;
-use label_survey::{Standing, needed_triples, raise_counter, standings_tell};
+use label_survey::{SectorState, needed_triples, raise_counter, sector_states_reveal};
 use labelled_disk::{Disk, DiskError, Label, Layout, NoMemory};
 use std::alloc::Allocator;
 use volume_root::Root;
@@ -21,7 +21,7 @@ use volume_root::Root;
 /// What is to be written on a volume, beside its root.
 #[derive(Drop)]
 pub struct Plan<A: Allocator> {
-    standings: Vec<Standing, A>,
+    sector_states: Vec<SectorState, A>,
     bits: VecMem<A>,
     names: VecMem<A>,
     counter: u32,
@@ -31,33 +31,33 @@ impl<A: Allocator + Clone> Plan<A> {
     ghost use Rattle.scavenger.specs.Plan.{orders, IsSized};
 
     /// The plan for a volume with this root and these labels, each data sector being what its
-    /// standing says.
+    /// sector state says.
     pub fn of(
         alloc: A,
         layout: &Layout,
         root: &Root,
         labels: Vec<Label, A>,
-        standings: Vec<Standing, A>,
+        sector_states: Vec<SectorState, A>,
     ) -> Result<Plan<A>, NoMemory>
         requires counted { IsCount layout.now.sectors }
         requires layout { layout.now ≡ layout_of layout.now.sectors }
         requires all { length labels.items ≡ layout.now.sectors - first_data layout.now.sectors }
-        requires standings { (d : List Sector) → HasLabels d layout.now.sectors labels.items
-            → AreStandings d standings.items }
+        requires sector_states { (d : List Sector) → HasLabels d layout.now.sectors labels.items
+            → AreSectorStates d sector_states.items }
         ensures sized { IfOk result (IsSized layout.now.sectors) }
         ensures counter { IfOk result (λ plan. root.now.counter ≤ plan.counter) }
         ensures plan { IfOk result (λ plan. (d : List Sector)
             → HasLabels d layout.now.sectors labels.items → root.now ≡ root_in (root_page d)
             → AreFor d (orders root.now layout.now.first plan)) }
     {
-        standings_tell();
-        let triples = needed_triples(alloc.clone()?, layout.first, &labels, &standings)?;
+        sector_states_reveal();
+        let triples = needed_triples(alloc.clone()?, layout.first, &labels, &sector_states)?;
         drop(labels);
         let counter = raise_counter(root.serial, root.counter, &triples);
         let names = make_names(alloc.clone()?, layout, triples)?;
-        let bits = make_bits(alloc, layout, &standings)?;
+        let bits = make_bits(alloc, layout, &sector_states)?;
         Ok(Plan {
-            standings,
+            sector_states,
             bits,
             names,
             counter,
@@ -80,14 +80,14 @@ impl<A: Allocator + Clone> Plan<A> {
             (D.state disk.old) result (D.state disk.new) }
     {
         let Plan {
-            standings,
+            sector_states,
             mut bits,
             mut names,
             counter,
         } = self;
         open_root(disk, root)?;
-        free_sectors(disk, layout.first, &standings)?;
-        drop(standings);
+        free_sectors(disk, layout.first, &sector_states)?;
+        drop(sector_states);
         write_map(disk, 1, 1, layout.vam, &mut bits)?;
         drop(bits);
         write_map(disk, 2, 1 + layout.vam, layout.vfm, &mut names)?;

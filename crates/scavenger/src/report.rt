@@ -1,8 +1,8 @@
-//! What a restoration tells of a volume.
+//! What a restoration reveals of a volume.
 ghost use Rattle.std.specs.Prelude.{◌≡◌, ℕ, ◌+◌, ◌≤◌, ◌<◌, ◌^◌, [], IfOk, OnOk, List, length, map, slice_get, Some};
 ghost use Rattle.labelled_disk.specs.Layout.{first_data};
 ghost use Rattle.labelled_disk.specs.Sectors.{Sector};
-ghost use Rattle.label_survey.specs.Survey.{Tells};
+ghost use Rattle.label_survey.specs.Survey.{Reveals};
 ghost use Rattle.scavenger.specs.Stays.{HasLabels};
 
 use label_survey::Survey;
@@ -81,8 +81,8 @@ impl<A: Allocator> Report<A> {
         requires empty { lost_in self.old ≡ [] }
         requires first { first ≡ first_data (first + length labels.now) }
         requires few { first + length labels.now < 2 ^ 32 }
-        requires tells { (d : List Sector) → HasLabels d (first + length labels.now) labels.now
-            → Tells d survey.now.standings.items survey.now.tally survey.now.lost.items }
+        requires reveals { (d : List Sector) → HasLabels d (first + length labels.now) labels.now
+            → Reveals d survey.now.sector_states.items survey.now.tally survey.now.lost.items }
         ensures { OnOk result ((d : List Sector) → HasLabels d (first + length labels.now) labels.now
             → Reports d self.new) }
     {
@@ -92,7 +92,7 @@ impl<A: Allocator> Report<A> {
         self.list(first, labels, &survey.lost)
     }
 
-    /// The lost sectors, rising.
+    /// The lost sectors, ascending.
     pub fn lost(&self) -> &[Lost]
         ensures { result.now ≡ lost_in self.now }
     {

@@ -1,8 +1,8 @@
 //! A volume is restored from its labels.
 ghost use Rattle.std.specs.Prelude.{◌≡◌, ◌⊎◌, ℕ, ◌-◌, ◌≤◌, List, [], ◌++◌, Some, Err, true, false, length, slice_get, IfOk, IfErr, OnOk};
-ghost use Rattle.labelled_disk.specs.Calls.{OnlyReads, ReadsAtMost, Rose, TellsSame};
+ghost use Rattle.labelled_disk.specs.Calls.{OnlyReads, ReadsAtMost, Rose, RevealsSame};
 ghost use Rattle.labelled_disk.specs.Layout.{IsCount, layout_of, first_data};
-ghost use Rattle.labelled_disk.specs.Moment.{moment};
+ghost use Rattle.labelled_disk.specs.CrashState.{crash_state};
 ghost use Rattle.labelled_disk.specs.Root.{root_page};
 ghost use Rattle.labelled_disk.specs.Sectors.{Sector};
 ghost use Rattle.labelled_disk.specs.WriteRuns.{Appended};
@@ -48,8 +48,8 @@ fn plan_of<A: Allocator + Clone>(
 {
     let survey = survey_labels(alloc.clone()?, layout.first, &labels)?;
     report.fill(layout.first, &labels, &survey)?;
-    let Survey { standings, .. } = survey;
-    Plan::of(alloc, layout, root, labels, standings)
+    let Survey { sector_states, .. } = survey;
+    Plan::of(alloc, layout, root, labels, sector_states)
 }
 
 // Reads all labels, and plans.
@@ -108,17 +108,17 @@ fn finish<A: Allocator + Clone, D: Disk>(
     let Ok(()) = plan.carry_out(disk, layout, root) else {
         return Err(ScavengeFault::Disk);
     };
-    let Ok(()) = disk.settle() else {
+    let Ok(()) = disk.sync() else {
         return Err(ScavengeFault::Disk);
     };
     Ok(())
 }
 
-/// Restores a volume from its labels, whatever stands in its maps, and tells in an empty report
+/// Restores a volume from its labels, whatever stands in its maps, and reveals in an empty report
 /// what was found. The permanent files stay as they are; each other data sector is freed.
 ///
 /// All labels are read, and both maps are made in memory, before the first write. Then the root is
-/// written with the clean flag 0, if that was 1; each freed sector, rising, gets a free label; each
+/// written with the clean flag 0, if that was 1; each freed sector, ascending, gets a free label; each
 /// sector of both maps its label and its new page; and the root comes last, clean.
 ///
 /// On a volume of 65,536 sectors this takes some 7 MB at most, and 105 bytes for each sector of a
@@ -130,7 +130,7 @@ pub fn scavenge<A: Allocator + Clone, D: Disk>(
 ) -> Result<(), ScavengeFault>
     requires empty { lost_in report.old ≡ [] }
 
-    // What is restored, and what is told of it.
+    // What is restored, and what is revealed of it.
     ensures restored { OnOk result ((g : List Sector) → (D.state disk.old).contents ≡ Some g
         → (h : List Sector) × ((D.state disk.new).contents ≡ Some h) × IsRestored g h) }
     ensures report { OnOk result ((g : List Sector) → (D.state disk.old).contents ≡ Some g
@@ -143,14 +143,14 @@ pub fn scavenge<A: Allocator + Clone, D: Disk>(
         × Appended (scavenge_writes o) (D.state disk.old) (D.state disk.new)) }
     ensures part { result ≡ Err ScavengeFault.Disk
         → (g : List Sector) → (D.state disk.old).contents ≡ Some g
-        → TellsSame (D.state disk.old) (D.state disk.new) ⊎ ((o : Orders) × AreFor g o
+        → RevealsSame (D.state disk.old) (D.state disk.new) ⊎ ((o : Orders) × AreFor g o
         × PartMade (scavenge_writes o) (D.state disk.old) (D.state disk.new)) }
 
-    // What stands at each moment of its writes, whatever it answers.
-    ensures moments { (g : List Sector) (before writes : List DiskWrite)
+    // What stands in each crash state of its writes, whatever it answers.
+    ensures crash_states { (g : List Sector) (before writes : List DiskWrite)
         → (D.state disk.old).contents ≡ Some g → (D.state disk.old).writes ≡ Some before
         → (D.state disk.new).writes ≡ Some (before ++ writes)
-        → (k : ℕ) → IsBetween g (moment g writes k) }
+        → (k : ℕ) → IsBetween g (crash_state g writes k) }
 
     // The root that was read is refused.
     ensures count { ¬ IsCount (D.state disk.old).sectors

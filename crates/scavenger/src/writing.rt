@@ -9,7 +9,7 @@ ghost use Rattle.scavenger.specs.Carries.{Carries};
 ghost use Rattle.scavenger.specs.Orders.{opening, map_writes};
 
 use flat_mem::{FlatMem, VecMem};
-use label_survey::Standing;
+use label_survey::SectorState;
 use labelled_disk::{Disk, DiskError, FileId, Label, Page};
 use std::alloc::Allocator;
 use volume_root::{Root, write_root};
@@ -52,23 +52,23 @@ pub(crate) fn close_root<D: Disk>(disk: &mut D, root: &Root, counter: u32) -> Re
         counter,
         ..*root
     };
-    disk.settle()?;
+    disk.sync()?;
     put_root(disk, &closed)
 }
 
-/// Writes a free label over each sector that is freed, rising; the first of them all is sector
+/// Writes a free label over each sector that is freed, ascending; the first of them all is sector
 /// `first`.
 pub fn free_sectors<D: Disk>(
     disk: &mut D,
     first: u32,
-    standings: &[Standing],
+    sector_states: &[SectorState],
 ) -> Result<(), DiskError>
-    requires { first + length standings.now ≤ (D.state disk.old).sectors }
-    ensures { Carries (freeing (places_by is_freed first standings.now))
+    requires { first + length sector_states.now ≤ (D.state disk.old).sectors }
+    ensures { Carries (freeing (places_by is_freed first sector_states.now))
         (D.state disk.old) result (D.state disk.new) }
 {
-    for i in 0..standings.len() {
-        if standings[i].is_freed() {
+    for i in 0..sector_states.len() {
+        if sector_states[i].is_freed() {
             disk.write_label(first + i as u32, &Label::FREE)?;
         }
     }
@@ -87,7 +87,7 @@ fn page_of<A: Allocator>(map: &mut VecMem<A>, index: u32) -> Page
     }
 }
 
-/// Writes the pages of a map with their labels, rising; page 0 stands in sector `first`.
+/// Writes the pages of a map with their labels, ascending; page 0 stands in sector `first`.
 pub(crate) fn write_map<A: Allocator, D: Disk>(
     disk: &mut D,
     id: FileId,

@@ -8,7 +8,7 @@ use Rattle.std.proofs.lemmas.Bool.{true≢false}
 use Rattle.std.proofs.lemmas.List.{length-map}
 use Rattle.labelled_disk.specs.Sectors.{Sector}
 use Rattle.labelled_disk.specs.File.{File, Page, Cell, byte, any_page, file_at}
-use Rattle.labelled_disk.proofs.RisingLemmas.{at_id}
+use Rattle.labelled_disk.proofs.AscendingLemmas.{at_id}
 use Rattle.flat_machine.specs.declared.space.Space.{Space}
 use Rattle.flat_machine.specs.declared.call.Call.{Call}
 use Rattle.flat_machine.specs.declared.call.Refusal.{Refusal}

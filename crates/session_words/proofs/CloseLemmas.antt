@@ -11,10 +11,10 @@ use Rattle.labelled_disk.specs.Lowest.{is_needed}
 use Rattle.labelled_disk.specs.Sectors.{Sector}
 use Rattle.labelled_disk.specs.File.{File, file_at}
 use Rattle.labelled_disk.specs.FilesOn.{disk_file}
-use Rattle.labelled_disk.specs.Rising.{BothBy}
+use Rattle.labelled_disk.specs.Ascending.{BothBy}
 use Rattle.labelled_disk.specs.Root.{serial_of, counter_of}
 use Rattle.labelled_disk.proofs.LowestLemmas as lowest
-use Rattle.labelled_disk.proofs.RisingLemmas.{at_id, each_at}
+use Rattle.labelled_disk.proofs.AscendingLemmas.{at_id, each_at}
 use Rattle.flat_machine.specs.declared.call.Call.TheVariants.{Close}
 use Rattle.flat_machine.specs.Machine.{Machine, IsFileId}
 use Rattle.flat_machine.specs.Next.{next}
@@ -31,7 +31,7 @@ use Rattle.session_words.proofs.FoundLemmas.{above_reserved, file_id_of, file_la
 use Rattle.session_words.proofs.FreeLemmas.{pages_gone, leaders_gone, bits_freed, triples_freed, map_labels_gone, sector_kept, root_kept}
 use Rattle.session_words.proofs.LooseLemmas.{kind_file}
 use Rattle.session_words.proofs.PlaceLemmas.{same_pages}
-use Rattle.session_words.proofs.SettledLemmas.{Tells, both, right_all, settled_is_told, machine_shapes, shape_at}
+use Rattle.session_words.proofs.SettledLemmas.{Reveals, both, right_all, settled_is_revealed, machine_shapes, shape_at}
 
 module _ (spaces_of : TablesMeaning) (x y : List Sector) (m : Machine) (h : IsFor spaces_of x m) (d : Frees (is_closing m.files) x y) where
   high : (id : ℕ) (f : File) → file_at m.files id ≡ Some f → 16 ≤ id
@@ -133,7 +133,7 @@ module _ (spaces_of : TablesMeaning) (x y : List Sector) (m : Machine) (h : IsFo
           let file = shape_at (filter (λ f. f.permanent) m.files) s.0.id f.0 f.1 in
           let given = (machine_shapes (next m Close) settled_after.machine (length y) (slice_get y 0) settled_after.root).given s.0.id f.0 f.1 in
           let g = on_disk s.0.id file.0 file.1 in
-          inr (lowest.right_are_needed false (serial_of y) (counter_of y) y i s g.0 (settled_is_told y (next m Close) settled_after).right.files here (file_label s.0 given owns.named) g.1)
+          inr (lowest.right_are_needed false (serial_of y) (counter_of y) y i s g.0 (settled_is_revealed y (next m Close) settled_after).right.files here (file_label s.0 given owns.named) g.1)
         where
           tables_gone : (p : ℕ) → is_owned_upto 0 (shapes_of (filter (λ f. f.permanent) m.files)) 3 p ≡ false
           tables_gone p =
@@ -141,9 +141,9 @@ module _ (spaces_of : TablesMeaning) (x y : List Sector) (m : Machine) (h : IsFo
               ∙ ap (λ (o : Option Shape). option_map_or (λ (f : Shape). p == leader_page || nat_lt p f.size) o false) (shape_after 3 ∙ ap (λ (o : Option File). option_map shape_of (if_permanent o)) no_three)
 
           on_disk : (id : ℕ) (f : File) → file_at (filter (λ f. f.permanent) m.files) id ≡ Some f → (g : File) × (disk_file false y id ≡ Some g)
-          on_disk id f found = of (disk_file true y id) refl (subst (λ (o : Option File). BothBy (Tells y (next m Close) settled_after) (disk_file true y id) o) found (both y (next m Close) settled_after id))
+          on_disk id f found = of (disk_file true y id) refl (subst (λ (o : Option File). BothBy (Reveals y (next m Close) settled_after) (disk_file true y id) o) found (both y (next m Close) settled_after id))
             where
-              of : (o : Option File) → disk_file true y id ≡ o → BothBy (Tells y (next m Close) settled_after) o (Some f) → (g : File) × (disk_file false y id ≡ Some g)
+              of : (o : Option File) → disk_file true y id ≡ o → BothBy (Reveals y (next m Close) settled_after) o (Some f) → (g : File) × (disk_file false y id ≡ Some g)
               of None q k = absurd k
               of (Some g) q k =
                   let mark : g.permanent ≡ true = ap (λ (s : Shape). s.permanent) k.same_shape ∙ (was_file id f found).1 in
@@ -153,7 +153,7 @@ module _ (spaces_of : TablesMeaning) (x y : List Sector) (m : Machine) (h : IsFo
   closed = record {
     can_open = record {
       sectors = d.sectors;
-      right = (settled_is_told y (next m Close) settled_after).right;
+      right = (settled_is_revealed y (next m Close) settled_after).right;
       free_or_needed = free_or_needed;
       bits = bits_freed (is_closing m.files) reserved x y d h.by.bits;
       named = λ i p s. not (is_closing m.files i p) && h.named i p s;
@@ -161,7 +161,7 @@ module _ (spaces_of : TablesMeaning) (x y : List Sector) (m : Machine) (h : IsFo
       triples = triples_freed (is_closing m.files) reserved x y d h.named h.by.triples;
     };
     root = settled_after.root;
-    told = settled_is_told y (next m Close) settled_after;
+    revealed = settled_is_revealed y (next m Close) settled_after;
   }
 
 pub closed_law : (spaces_of : TablesMeaning) → Closed spaces_of

@@ -12,7 +12,7 @@ use Rattle.labelled_disk.specs.Sectors.{Sector}
 use Rattle.labelled_disk.specs.File.{File, file_at}
 use Rattle.labelled_disk.specs.FilesOn.{put_file}
 use Rattle.labelled_disk.specs.Runs.{lengthened}
-use Rattle.labelled_disk.proofs.RisingLemmas.{at_id, at_put, rising_put, same_by_look_up}
+use Rattle.labelled_disk.proofs.AscendingLemmas.{at_id, at_put, ascending_put, same_by_look_up}
 use Rattle.labelled_disk.proofs.WriteLemmas.{first_positive}
 use Rattle.file_map.specs.FileMap.{Triples}
 use Rattle.flat_machine.specs.declared.call.Call.TheVariants.{Create}
@@ -23,7 +23,7 @@ use Rattle.flat_machine.specs.Refusal.{refusal, no_room, no_ids}
 use Rattle.flat_machine.specs.Next.{next, new_id, new_file, with_new_file, change_file}
 use Rattle.flat_machine.proofs.FileLemmas.{look_up_changed, one_id, changed_here, unchanged}
 use Rattle.flat_machine.proofs.KeepNew.{none_new}
-use Rattle.flat_machine.proofs.Lists.{rising_map}
+use Rattle.flat_machine.proofs.Lists.{ascending_map}
 use Rattle.flat_machine.proofs.NextLemmas.{next_keeps_machine}
 use Rattle.flat_machine.proofs.TestLemmas.{two_none, then_none}
 use Rattle.swapper_kernel.specs.Stands.{labels_of}
@@ -44,7 +44,7 @@ use Rattle.session_words.proofs.CallLemmas.{kind_tables}
 use Rattle.session_words.proofs.GrownLemmas.{page_label_named, grown_get, map_labels_grown}
 use Rattle.session_words.proofs.GrowLemmas.{all_grown}
 use Rattle.session_words.proofs.PlaceLemmas.{labels_created}
-use Rattle.session_words.proofs.RootLabelLemmas.{behind_root, free_then, labels_then, map_labels_then, bits_then, triples_then}
+use Rattle.session_words.proofs.RootLabelLemmas.{after_root, free_then, labels_then, map_labels_then, bits_then, triples_then}
 use Rattle.session_words.proofs.BookLemmas.{bits_set, triples_made}
 use Rattle.session_words.proofs.SettledLemmas.{machine_shapes}
 
@@ -103,13 +103,13 @@ module _ (spaces_of : TablesMeaning) (marks : ℕ → Bool) (named : Triples) (x
 
   -- a data sector that is no leader is as before
   kept : (kind_is : Kind) → maps_alone kind_is ≡ false → (k : ℕ) (t : Sector) → first_data (length y) ≤ k → HasKind y k t kind_is → HasKind x k t kind_is ⊎ (t.0 ≡ page_label (new_id m) kind leader_page)
-  kept kind_is other k t behind has = elim (grown_get (new_id m) kind leader_page (leader ∷ []) (slice_set (labels_of x) 0 root_label) k t.0 (ap (λ (l : List Label). slice_get l k) (sym g.labels) ∙ label_here y k t has.here)) [
+  kept kind_is other k t beyond has = elim (grown_get (new_id m) kind leader_page (leader ∷ []) (slice_set (labels_of x) 0 root_label) k t.0 (ap (λ (l : List Label). slice_get l k) (sym g.labels) ∙ label_here y k t has.here)) [
     | inr (j, at, new) ↦ inr (only_leader j t.0 at new)
     | inl (was, nowhere) ↦
-        let s = sector_of_label x k t.0 (sym (behind_root (labels_of x) root_label k (λ e. let low = first_positive false 0 0 (length y) in omega (arith, e, behind, low))) ∙ was) in
+        let s = sector_of_label x k t.0 (sym (after_root (labels_of x) root_label k (λ e. let low = first_positive false 0 0 (length y) in omega (arith, e, beyond, low))) ∙ was) in
         let same_kind : kind_of (length x) k t.0 ≡ kind_is = ap (λ (n : ℕ). kind_of n k t.0) (sym long_y) ∙ has.is in
         let low = first_positive false 0 0 (length y) in
-        let same : s.0 ≡ t = same_Some s.0 t (sym (g.pages k s.0 s.1 (λ e. omega (arith, e, behind, low)) (λ e. nowhere 0 (ap (λ (n : ℕ). Some n) (sym e))) (ap (λ (l : Label). maps_alone (kind_of (length x) k l)) s.2 ∙ ap maps_alone same_kind ∙ other)) ∙ has.here) in
+        let same : s.0 ≡ t = same_Some s.0 t (sym (g.pages k s.0 s.1 (λ e. omega (arith, e, beyond, low)) (λ e. nowhere 0 (ap (λ (n : ℕ). Some n) (sym e))) (ap (λ (l : Label). maps_alone (kind_of (length x) k l)) s.2 ∙ ap maps_alone same_kind ∙ other)) ∙ has.here) in
         inl (record { here = s.1 ∙ ap (λ (z : Sector). Some z) same; is = same_kind })
   ]
     where
@@ -146,8 +146,8 @@ module _ (spaces_of : TablesMeaning) (marks : ℕ → Bool) (named : Triples) (x
         (triples_made (slice_set (labels_of x) 0 root_label) named (λ j p s. (j == new_id m && p == leader_page && s == leader) || named j p s) leader free.label (page_label (new_id m) kind leader_page) (triples_then (labels_of x) root_label named h.triples) free.there free.free taken (λ j p s. refl));
     cells = record {
       agrees = λ k t w p has now page firm.
-          let behind = kind_is_data (length y) k t.0 a_file (λ e. true≢false (ap files_alone e)) (λ e. true≢false (ap files_alone e)) (λ e. true≢false (ap files_alone e)) has.is in
-          elim (kept a_file refl k t behind has) [
+          let beyond = kind_is_data (length y) k t.0 a_file (λ e. true≢false (ap files_alone e)) (λ e. true≢false (ap files_alone e)) (λ e. true≢false (ap files_alone e)) has.is in
+          elim (kept a_file refl k t beyond has) [
             | inr new ↦
                 let is_new : new_file m 0 kind ≡ w = same_Some (new_file m 0 kind) w (sym here ∙ ap (file_at (put_file (new_file m 0 kind) m.files)) (ap (λ (l : Label). l.id) (sym new)) ∙ now) in
                 absurd (none-some p (ap (λ (f : File). slice_get f.pages t.0.page) is_new ∙ page))
@@ -156,11 +156,11 @@ module _ (spaces_of : TablesMeaning) (marks : ℕ → Bool) (named : Triples) (x
     };
     tables = record {
       pages = h.tables.pages;
-      told = h.tables.told;
+      revealed = h.tables.revealed;
       count = h.tables.count;
       each = λ k t has.
-          let behind = kind_is_data (length y) k t.0 the_tables (λ e. true≢false (ap tables_alone e)) (λ e. true≢false (ap tables_alone e)) (λ e. true≢false (ap tables_alone e)) has.is in
-          elim (kept the_tables refl k t behind has) [
+          let beyond = kind_is_data (length y) k t.0 the_tables (λ e. true≢false (ap tables_alone e)) (λ e. true≢false (ap tables_alone e)) (λ e. true≢false (ap tables_alone e)) has.is in
+          elim (kept the_tables refl k t beyond has) [
             | inr new ↦ absurd (not_three (sym (ap (λ (l : Label). l.id) new) ∙ kind_tables (length y) k t.0 has.is))
             | inl was ↦ h.tables.each k t was
           ];
@@ -171,8 +171,8 @@ module _ (spaces_of : TablesMeaning) (marks : ℕ → Bool) (named : Triples) (x
 created_files : (m : Machine) (n kind : ℕ) → IsMachine m → change_file (new_id m) (lengthened n) (put_file (new_file m 0 kind) m.files) ≡ put_file (new_file m n kind) m.files
 created_files m n kind is =
     same_by_look_up (change_file (new_id m) (lengthened n) (put_file (new_file m 0 kind) m.files)) (put_file (new_file m n kind) m.files)
-    (rising_map (λ w. w.id) (λ w. if w.id == new_id m then lengthened n w else w) (one_id (new_id m) (lengthened n) (λ w. refl)) (put_file (new_file m 0 kind) m.files) (rising_put (new_file m 0 kind) m.files is.ids_rise))
-    (rising_put (new_file m n kind) m.files is.ids_rise)
+    (ascending_map (λ w. w.id) (λ w. if w.id == new_id m then lengthened n w else w) (one_id (new_id m) (lengthened n) (λ w. refl)) (put_file (new_file m 0 kind) m.files) (ascending_put (new_file m 0 kind) m.files is.ids_rise))
+    (ascending_put (new_file m n kind) m.files is.ids_rise)
     (λ j. look_up_changed (λ w. if w.id == new_id m then lengthened n w else w) (one_id (new_id m) (lengthened n) (λ w. refl)) (put_file (new_file m 0 kind) m.files) j
     ∙ ap (option_map (λ w. if w.id == new_id m then lengthened n w else w)) (at_put (new_file m 0 kind) m.files j) ∙ either j (new_id m == j) refl ∙ sym (at_put (new_file m n kind) m.files j))
   where

@@ -9,7 +9,7 @@ use Rattle.labelled_disk.specs.declared.label.Label.{Label}
 use Rattle.labelled_disk.specs.Label.{leader_page}
 use Rattle.labelled_disk.specs.Sectors.{Sector}
 use Rattle.labelled_disk.specs.File.{File, Page, size, file_at}
-use Rattle.labelled_disk.proofs.RisingLemmas.{at_id}
+use Rattle.labelled_disk.proofs.AscendingLemmas.{at_id}
 use Rattle.flat_machine.specs.Machine.{Machine}
 use Rattle.flat_machine.specs.IsMachine.{IsMachine}
 use Rattle.flat_machine.specs.Next.{change_file}
@@ -136,7 +136,7 @@ module _ (spaces_of : TablesMeaning) (x y : List Sector) (m : Machine) (id n : â
     cells = cells_cut;
     tables = record {
       pages = h.by.tables.pages;
-      told = h.by.tables.told;
+      revealed = h.by.tables.revealed;
       count = h.by.tables.count;
       each = Î» k t has.
           let three = kind_tables (length y) k t.0 has.is in

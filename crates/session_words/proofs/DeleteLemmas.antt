@@ -8,7 +8,7 @@ use Rattle.labelled_disk.specs.declared.label.Label.{Label}
 use Rattle.labelled_disk.specs.Label.{leader_page}
 use Rattle.labelled_disk.specs.Sectors.{Sector}
 use Rattle.labelled_disk.specs.File.{File, file_at}
-use Rattle.labelled_disk.proofs.RisingLemmas.{at_id, each_at}
+use Rattle.labelled_disk.proofs.AscendingLemmas.{at_id, each_at}
 use Rattle.flat_machine.specs.declared.call.Call.TheVariants.{Delete}
 use Rattle.flat_machine.specs.Machine.{Machine, IsFileId}
 use Rattle.flat_machine.specs.IsMachine.{IsMachine}
@@ -88,7 +88,7 @@ module _ (spaces_of : TablesMeaning) (x y : List Sector) (id : ℕ) (m : Machine
     };
     tables = record {
       pages = h.by.tables.pages;
-      told = h.by.tables.told;
+      revealed = h.by.tables.revealed;
       count = h.by.tables.count;
       each = λ k t has.
           let three = kind_tables (length y) k t.0 has.is in

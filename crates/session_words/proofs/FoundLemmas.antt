@@ -225,7 +225,7 @@ module _ (n : ℕ) (d : List Sector) (shapes : Shapes) (h : HasLabelsUpto n (lab
         let place = found_at (leads_file true id) xs s leader.1 in
         let same : s.0.id ≡ id = w.leader_id true id s place.2 in
         let pages : pages_from (page_at xs s.0.id) 0 leader_page ≡ pages_from (page_at xs id) 0 leader_page = ap (λ (n : ℕ). pages_from (page_at xs n) 0 leader_page) same in
-        let l = h.leaders.tell (first_data (length d) + place.0) s.0 f (from_data place.0 s place.1) (ap shapes same ∙ is) (w.leader_number true id s place.2) in (
+        let l = h.leaders.reveal (first_data (length d) + place.0) s.0 f (from_data place.0 s place.1) (ap shapes same ∙ is) (w.leader_number true id s place.2) in (
           file_by xs s.0,
           record {
             found = ap (λ (o : Option Sector). option_map (file_by xs) (option_map (λ (t : Sector). t.0) o)) leader.1;

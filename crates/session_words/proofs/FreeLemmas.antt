@@ -79,16 +79,16 @@ module _ (labels : List Label) (gone : ℕ → ℕ → Bool) where
       not_false true e = absurd (false≢true e)
       not_false false e = refl
 
-  -- leaders that tell of the files what they told
+  -- leaders that reveal of the files what they revealed
   pub leaders_gone : (shapes later : Shapes) → ((i : ℕ) (g : Shape) → later i ≡ Some g → (f : Shape) × (shapes i ≡ Some f) × (f.kind ≡ g.kind) × (f.permanent ≡ g.permanent) × (f.immutable ≡ g.immutable))
       → ((i : ℕ) (f : Shape) → shapes i ≡ Some f → 16 ≤ i) → HasLeaders labels shapes → HasLeaders (map (free_where gone) labels) later
   leaders_gone shapes later from given h = record {
-    tell = λ k l g has found leader.
+    reveal = λ k l g has found leader.
         let f = from l.id g found in
         ⊎_elim
         (λ (z : l.id ≡ 0). let low = given l.id f.0 f.1 in absurd (omega (arith, z, low)))
         (λ (z : l.id ≢ 0).
-        let t = h.tell k l f.0 (has_kept k l has (ne_eqb l.id 0 z)).0 f.1 leader in
+        let t = h.reveal k l f.0 (has_kept k l has (ne_eqb l.id 0 z)).0 f.1 leader in
         record { kind = t.kind ∙ f.2; permanent = t.permanent ∙ f.3; immutable = t.immutable ∙ f.4 })
         (cases_eq l.id 0);
   }

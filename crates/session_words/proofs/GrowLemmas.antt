@@ -12,7 +12,7 @@ use Rattle.labelled_disk.specs.Sectors.{Sector}
 use Rattle.labelled_disk.specs.File.{File, Page, byte, zero_page, size, file_at}
 use Rattle.labelled_disk.specs.Runs.{zero_bytes, lengthened}
 use Rattle.labelled_disk.proofs.WriteLemmas.{first_positive}
-use Rattle.labelled_disk.proofs.RisingLemmas.{at_id}
+use Rattle.labelled_disk.proofs.AscendingLemmas.{at_id}
 use Rattle.file_map.specs.FileMap.{Triples}
 use Rattle.flat_machine.specs.Machine.{Machine}
 use Rattle.flat_machine.specs.IsMachine.{IsMachine}
@@ -36,7 +36,7 @@ use Rattle.session_words.proofs.CallLemmas.{kind_tables}
 use Rattle.session_words.proofs.SettledLemmas.{machine_shapes}
 use Rattle.session_words.proofs.GrownLemmas.{book_grown, free_are_data, grown_get, grown_long, map_labels_grown, with_here}
 
--- pages with zero pages behind them
+-- pages with zero pages after them
 pub get_longer : (ps : List Page) (n k : ℕ) (p : Page) → slice_get (ps ++ replicate n zero_page) k ≡ Some p → ((k < length ps) × (slice_get ps k ≡ Some p)) ⊎ (p ≡ zero_page)
 get_longer [] zero k p at = absurd (none-some p at)
 get_longer [] (suc n) zero p at = inr (sym (same_Some zero_page p at))
@@ -199,7 +199,7 @@ module _ (spaces_of : TablesMeaning) (marks later : ℕ → Bool) (named : Tripl
         cells = cells_grown;
         tables = record {
           pages = h.tables.pages;
-          told = h.tables.told;
+          revealed = h.tables.revealed;
           count = h.tables.count;
           each = λ k t has. elim (sector_kept the_tables refl k t has) [
             | inl was ↦ h.tables.each k t was

@@ -13,7 +13,7 @@ pub mod CellLemmas
 pub mod PlaceLemmas
 pub mod BookLemmas
 pub mod FilesLemmas
-pub mod MomentLemmas
+pub mod CrashStateLemmas
 pub mod SameLabelLemmas
 pub mod StopLemmas
 pub mod CallLemmas

@@ -11,7 +11,7 @@ use Rattle.labelled_disk.specs.declared.disk.DiskWrite.TheVariants as write
 use Rattle.labelled_disk.specs.Label.{is_file, names}
 use Rattle.labelled_disk.specs.Sectors.{Sector}
 use Rattle.labelled_disk.specs.State.{DiskState}
-use Rattle.labelled_disk.specs.Moment.{written, moment}
+use Rattle.labelled_disk.specs.CrashState.{written, crash_state}
 use Rattle.labelled_disk.specs.Runs.{IsWriteInForm}
 use Rattle.labelled_disk.proofs.Finds.{get_set_other}
 use Rattle.labelled_disk.proofs.RunLemmas.{sectors_stay}
@@ -28,7 +28,7 @@ use Rattle.swapper_kernel.specs.Differs.{Differs}
 use Rattle.session_words.specs.Parts.{HasRoot, HasLabelsUpto, HasMapLabels, TablesMeaning, is_loose, is_loose_at, DirtyAreLoose, shapes_of}
 use Rattle.session_words.specs.FrameLaws.{HasFrames}
 use Rattle.session_words.specs.StandsFor.{IsFor, StandsFor, IsSettled}
-use Rattle.session_words.specs.SettledLaws.{LooseMayDiffer, LooseWritten, StandsIsSettled, SwapStands, SwapMoments}
+use Rattle.session_words.specs.SettledLaws.{LooseMayDiffer, LooseWritten, StandsIsSettled, SwapStands, SwapCrashStates}
 use Rattle.swapper_kernel.specs.DiffersLaws.{same_length, same_back, same_place, differs_itself}
 use Rattle.swapper_kernel.proofs.KindLemmas.{data_kind, kind_is_data}
 use Rattle.session_words.proofs.FoundLemmas.{above_reserved, file_id_of}
@@ -162,8 +162,8 @@ for_is_settled spaces_of memory m h = record {
 
 module _ (spaces_of : TablesMeaning) where
   pub stands_is_settled : StandsIsSettled spaces_of
-  stands_is_settled disk slots m d h told are =
-      let same : h.stands.sectors ≡ d = same_Some h.stands.sectors d (sym h.stands.told ∙ told) in
+  stands_is_settled disk slots m d h revealed are =
+      let same : h.stands.sectors ≡ d = same_Some h.stands.sectors d (sym h.stands.revealed ∙ revealed) in
       loose_may_differ h.memory d m (for_is_settled spaces_of h.memory m h.is)
       (subst (λ (x : List Sector). Differs (is_loose_at m.unforced) h.memory x) same (merged_differs m.unforced h.stands.sectors slots h.memory h.stands.merged h.dirty)) are
 
@@ -191,7 +191,7 @@ module _ (m : Machine) where
   each_loose : (ws : List DiskWrite) (d : List Sector) → IsSettled d m → ((k : ℕ) (w : DiskWrite) → slice_get ws k ≡ Some w → IsWriteInForm w)
       → filter (λ w. not (is_page_write w)) ws ≡ []
       → ((k sector : ℕ) (wanted : Wanted) (bytes : List ℕ) → slice_get ws k ≡ Some (write.Page sector wanted bytes) → is_loose m.unforced wanted.id wanted.page ≡ true)
-      → (k : ℕ) → IsSettled (moment d ws k) m
+      → (k : ℕ) → IsSettled (crash_state d ws k) m
   each_loose ws d h form none loose zero = h
   each_loose [] d h form none loose (suc k) = h
   each_loose (write.Whole sector label bytes ∷ ws) d h form none loose (suc k) = absurd (no_more none)
@@ -206,7 +206,7 @@ module _ (m : Machine) where
       each_loose ws (written (write.Page sector wanted bytes) d) (loose_written d m sector wanted bytes h (loose 0 sector wanted bytes refl) (form 0 (write.Page sector wanted bytes) refl))
       (λ j w at. form (suc j) w at) none (λ j s v b at. loose (suc j) s v b at) k
 
-pub swap_moments : (spaces_of : TablesMeaning) → SwapMoments spaces_of
-swap_moments spaces_of old new before after m d swaps h told are k below =
-    each_loose m swaps.makes.wrote.writes d (stands_is_settled spaces_of old before m d h told are) swaps.makes.wrote.form swaps.makes.wrote.labels
+pub swap_crash_states : (spaces_of : TablesMeaning) → SwapCrashStates spaces_of
+swap_crash_states spaces_of old new before after m d swaps h revealed are k below =
+    each_loose m swaps.makes.wrote.writes d (stands_is_settled spaces_of old before m d h revealed are) swaps.makes.wrote.form swaps.makes.wrote.labels
     (λ j sector wanted bytes at. elim (swaps.makes.wrote.of_dirty j sector wanted bytes at) [ inl was ↦ h.dirty wanted.id wanted.page was | inr own ↦ volume_loose m.unforced wanted.id wanted.page own ]) k

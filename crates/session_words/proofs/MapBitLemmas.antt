@@ -90,7 +90,7 @@ bits_by_page d are h = record {
         (λ (l : 1 ≤ length d). l)
         (cases_lt (length d) 1)
 
--- behind the map's pages there are no bits
+-- after the map's pages there are no bits
 beyond : (d : List Sector) → AreSectors d → (k : ℕ) → 4096 * vam (length d) ≤ k → is_used (sound.map_bytes d) k ≡ false
 unfolding is_used
 beyond d are k far =

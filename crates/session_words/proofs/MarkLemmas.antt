@@ -12,7 +12,7 @@ use Rattle.labelled_disk.specs.Layout.{vam, vfm}
 use Rattle.labelled_disk.specs.Root.{page_in}
 use Rattle.labelled_disk.specs.Sectors.{Sector}
 use Rattle.labelled_disk.specs.File.{File, Page, file_at}
-use Rattle.labelled_disk.proofs.RisingLemmas.{at_id}
+use Rattle.labelled_disk.proofs.AscendingLemmas.{at_id}
 use Rattle.alloc_map.specs.Bits.{is_used}
 use Rattle.file_map.specs.InSectors.{map_bytes}
 use Rattle.flat_machine.specs.declared.call.Call.TheVariants.{MakePermanent, MakeImmutable}
@@ -161,14 +161,14 @@ module _ (spaces_of : TablesMeaning) (id : ℕ) (mark : Label → Label) (change
 
   leaders_marked : HasLeaders (map (marked_label id mark) (labels_of x)) (shapes_of (change_file id change m.files))
   leaders_marked = record {
-    tell = λ k l sh has told leader.
+    reveal = λ k l sh has revealed leader.
         let w = has_from id mark change is given (labels_of x) k l has in
-        let file = shape_at (change_file id change m.files) l.id sh told in
+        let file = shape_at (change_file id change m.files) l.id sh revealed in
         let before = changed_from (λ v. if v.id == id then change v else v) ids m.files l.id file.0 file.1 in
         let old_id : w.0.id ≡ l.id = id_from id mark change is given (labels_of x) w.0 l w.2 in
         let old_page : w.0.page ≡ l.page = page_from id mark change is given (labels_of x) w.0 l w.2 in
         let lead : IsLeader w.0 (shape_of before.0) =
-        h.by.labels.leaders.tell k w.0 (shape_of before.0) w.1 (ap (shapes_of m.files) old_id ∙ ap (λ (o : Option File). option_map shape_of o) before.1) (old_page ∙ leader) in
+        h.by.labels.leaders.reveal k w.0 (shape_of before.0) w.1 (ap (shapes_of m.files) old_id ∙ ap (λ (o : Option File). option_map shape_of o) before.1) (old_page ∙ leader) in
         let at : before.0.id ≡ l.id = at_id m.files l.id before.0 before.1 in
         subst (IsLeader l) (ap shape_of (sym before.2) ∙ file.2)
         (⊎_elim
@@ -209,7 +209,7 @@ module _ (spaces_of : TablesMeaning) (id : ℕ) (mark : Label → Label) (change
     };
     tables = record {
       pages = h.by.tables.pages;
-      told = h.by.tables.told;
+      revealed = h.by.tables.revealed;
       count = h.by.tables.count;
       each = λ k t has.
           let three = kind_tables (length y) k t.0 has.is in

@@ -181,8 +181,8 @@ module _ (id : ℕ) (mark : Label → Label) (change : File → File) (is : IsMa
 
     pub triples_marked : (named : Triples) → HasTriples named labels → HasTriples named (map (marked_label id mark) labels)
     triples_marked named h = record {
-      only = λ i p s told.
-          let t = h.only i p s told in
+      only = λ i p s revealed.
+          let t = h.only i p s revealed in
           record { label = marked_label id mark t.label; there = has_to s t.label t.there; taken = free_same t.label ∙ t.taken; same_id = id_same t.label ∙ t.same_id; same_page = page_same t.label ∙ t.same_page };
       all = λ i p s t.
           let w = has_from s t.label t.there in

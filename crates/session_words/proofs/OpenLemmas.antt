@@ -14,7 +14,7 @@ use Rattle.labelled_disk.specs.Root.{page_in, serial_of, counter_of}
 use Rattle.labelled_disk.specs.Sectors.{Sector}
 use Rattle.labelled_disk.specs.File.{byte}
 use Rattle.labelled_disk.specs.FilesOn.{files_on, disk_file}
-use Rattle.labelled_disk.proofs.LowestLemmas.{files_are_as_told}
+use Rattle.labelled_disk.proofs.LowestLemmas.{files_are_as_revealed}
 use Rattle.labelled_disk.proofs.WriteLemmas as laws
 use Rattle.alloc_map.specs.Bits.{is_used}
 use Rattle.file_map.specs.FileMap.{Triples}
@@ -61,9 +61,9 @@ tables_grown (i ∷ is) n m shapes labels marks named long none free h =
     (record {
       pages = subst (λ (k : ℕ). HasPages (slice_set labels i (page_label 3 0 n)) (is_owned_upto k shapes)) (let z : suc n ≡ n + 1 = omega arith in z) (start_laws.table labels i n shapes h.pages made);
       leaders = record {
-        tell = λ k l f has found leader. elim (label_set labels i free.0.label (page_label 3 0 n) free.0.there k l has) [
+        reveal = λ k l f has found leader. elim (label_set labels i free.0.label (page_label 3 0 n) free.0.there k l has) [
           | inl (at, same) ↦ absurd (none-some f (sym none ∙ ap (λ (x : Label). shapes x.id) same ∙ found))
-          | inr (other, was) ↦ h.leaders.tell k l f was found leader
+          | inr (other, was) ↦ h.leaders.reveal k l f was found leader
         ];
       };
       bits = bits_set labels marks (λ k. k == i || marks k) i (page_label 3 0 n) free.0.label h.bits free.0.there
@@ -80,7 +80,7 @@ tables_grown (i ∷ is) n m shapes labels marks named long none free h =
     made : IsMade labels i (table_label n) (is_owned_upto n shapes)
     made = record { old = free.0.label; there = free.0.there; free = free.0.free; taken = refl; named = page_label_named 3 0 n; fresh = fresh }
 
--- Another root, and the same behind it.
+-- Another root, and the same after it.
 
 module _ (d x : List Sector) (c : FlagCleared d x) where
   label_same : (k : ℕ) → k ≢ 0 → slice_get (labels_of x) k ≡ slice_get (labels_of d) k
@@ -123,15 +123,15 @@ module _ (d x : List Sector) (c : FlagCleared d x) where
 
   triples_too : (named : Triples) → HasTriples named (labels_of d) → HasTriples named (labels_of x)
   triples_too named h = record {
-    only = λ i p s told. let q = h.only i p s told in record { label = q.label; there = forth s q.label q.there; taken = q.taken; same_id = q.same_id; same_page = q.same_page };
+    only = λ i p s revealed. let q = h.only i p s revealed in record { label = q.label; there = forth s q.label q.there; taken = q.taken; same_id = q.same_id; same_page = q.same_page };
     all = λ i p s q. h.all i p s (record { label = q.label; there = back s q.label q.there; taken = q.taken; same_id = q.same_id; same_page = q.same_page });
   }
 
-  same_behind : (a b : List Sector) → length b ≡ length a → ((k : ℕ) → k ≢ 0 → slice_get b k ≡ slice_get a k) → (n : ℕ) → drop (suc n) b ≡ drop (suc n) a
-  same_behind [] [] long same n = refl
-  same_behind [] (t ∷ b) long same n = absurd (omega arith)
-  same_behind (s ∷ a) [] long same n = absurd (omega arith)
-  same_behind (s ∷ a) (t ∷ b) long same n = ap (drop n) (all_same a b (omega arith) (λ k. same (suc k) (λ e. omega (arith, e))))
+  same_after : (a b : List Sector) → length b ≡ length a → ((k : ℕ) → k ≢ 0 → slice_get b k ≡ slice_get a k) → (n : ℕ) → drop (suc n) b ≡ drop (suc n) a
+  same_after [] [] long same n = refl
+  same_after [] (t ∷ b) long same n = absurd (omega arith)
+  same_after (s ∷ a) [] long same n = absurd (omega arith)
+  same_after (s ∷ a) (t ∷ b) long same n = ap (drop n) (all_same a b (omega arith) (λ k. same (suc k) (λ e. omega (arith, e))))
     where
       all_same : (a b : List Sector) → length b ≡ length a → ((k : ℕ) → slice_get b k ≡ slice_get a k) → b ≡ a
       all_same [] [] long same = refl
@@ -144,7 +144,7 @@ module _ (d x : List Sector) (c : FlagCleared d x) where
       let one : (n : ℕ) → 1 + n ≡ suc n = λ n. omega arith in
       ap (λ (n : ℕ). flat_map (λ (s : Sector). s.1) (take (vfm n) (drop (1 + vam n) x))) c.long
       ∙ ap (λ (n : ℕ). flat_map (λ (s : Sector). s.1) (take (vfm (length d)) (drop n x))) (one (vam (length d)))
-      ∙ ap (λ (l : List Sector). flat_map (λ (s : Sector). s.1) (take (vfm (length d)) l)) (same_behind d x c.long c.others (vam (length d)))
+      ∙ ap (λ (l : List Sector). flat_map (λ (s : Sector). s.1) (take (vfm (length d)) l)) (same_after d x c.long c.others (vam (length d)))
       ∙ ap (λ (n : ℕ). flat_map (λ (s : Sector). s.1) (take (vfm (length d)) (drop n d))) (sym (one (vam (length d))))
 
 bytes_agree : (bs : List ℕ) → PageAgrees (map byte bs) (map byte bs)
@@ -169,7 +169,7 @@ module _ (spaces_of : TablesMeaning) (d x y z : List Sector) (is : List ℕ) (o 
       let files = start_laws.files d o.right o.free_or_needed in
       let began : Tabled 0 (shapes_of (files_on d)) (labels_of x) (is_marked x) o.named = record {
         pages = pages_too d x c (is_owned_upto 0 (shapes_of (files_on d))) files.pages;
-        leaders = record { tell = λ k l f has found leader. files.leaders.tell k l f (back d x c k l has) found leader };
+        leaders = record { reveal = λ k l f has found leader. files.leaders.reveal k l f (back d x c k l has) found leader };
         bits = bits_too d x c o.bits;
         triples = triples_too d x c o.named o.triples;
       } in
@@ -221,8 +221,8 @@ module _ (spaces_of : TablesMeaning) (d x y z : List Sector) (is : List ℕ) (o 
         let q = sector_of_label x k s.0 was in
         let same_kind : kind_of (length x) k s.0 ≡ a_file = ap (λ (n : ℕ). kind_of n k s.0) (sym long_y) ∙ has.is in
         let same : q.0 ≡ s = same_Some q.0 s (sym (t.grown.pages k q.0 q.1 nowhere (ap (λ (l : Label). maps_alone (kind_of (length x) k l)) q.2 ∙ ap maps_alone same_kind)) ∙ has.here) in
-        let behind = kind_is_data (length x) k s.0 a_file (λ e. true≢false (ap files_alone e)) (λ e. true≢false (ap files_alone e)) (λ e. true≢false (ap files_alone e)) same_kind in
-        sym (c.others k (not_root d x c (length x) k behind)) ∙ q.1 ∙ ap (λ (v : Sector). Some v) same
+        let after = kind_is_data (length x) k s.0 a_file (λ e. true≢false (ap files_alone e)) (λ e. true≢false (ap files_alone e)) (λ e. true≢false (ap files_alone e)) same_kind in
+        sym (c.others k (not_root d x c (length x) k after)) ∙ q.1 ∙ ap (λ (v : Sector). Some v) same
   ]
 
   cells_here : HasCells but_none y (files_on d)
@@ -231,13 +231,13 @@ module _ (spaces_of : TablesMeaning) (d x y z : List Sector) (is : List ℕ) (o 
         let here = was_there k s has in
         let file : is_file s.0 ≡ true = kind_file (length y) k s.0 has.is in
         let on : disk_file false d s.0.id ≡ Some f = sym (laws.look_up false 0 0 d s.0.id) ∙ found in
-        let told = (files_are_as_told false d).told s.0.id f on in
+        let revealed = (files_are_as_revealed false d).revealed s.0.id f on in
         let within = slice_get_within f.pages s.0.page p page in
-        let behind : first_data (length d) ≤ k =
+        let after : first_data (length d) ≤ k =
         subst (λ (n : ℕ). first_data n ≤ k) (long_y ∙ c.long) (kind_is_data (length y) k s.0 a_file (λ e. true≢false (ap files_alone e)) (λ e. true≢false (ap files_alone e)) (λ e. true≢false (ap files_alone e)) has.is) in
-        let stands = page_stands false (serial_of d) (counter_of d) d k s s.0.id s.0.page f o.right.files (record { is_data = behind; here = here })
+        let stands = page_stands false (serial_of d) (counter_of d) d k s s.0.id s.0.page f o.right.files (record { is_data = after; here = here })
         (and_from (is_file s.0 && s.0.id == s.0.id) (s.0.page == s.0.page) (and_from (is_file s.0) (s.0.id == s.0.id) file (eq-eqb s.0.id s.0.id refl)) (eq-eqb s.0.page s.0.page refl))
-        (λ e. omega (arith, e, within, told.0.numbered)) on in
+        (λ e. omega (arith, e, within, revealed.0.numbered)) on in
         subst (PageAgrees (map byte s.1)) (same_Some (map byte s.1) p (sym stands ∙ page)) (bytes_agree s.1);
   }
 

@@ -11,7 +11,7 @@ use Rattle.labelled_disk.specs.Layout.{first_data}
 use Rattle.labelled_disk.specs.Sectors.{Sector, IsSector, AreSectors}
 use Rattle.labelled_disk.specs.File.{File, Page, Cell, byte, file_at}
 use Rattle.labelled_disk.proofs.Finds.{get_set_same, get_set_other}
-use Rattle.labelled_disk.proofs.RisingLemmas.{at_id}
+use Rattle.labelled_disk.proofs.AscendingLemmas.{at_id}
 use Rattle.flat_mem.specs.Memory.{overwritten}
 use Rattle.frame_pool.specs.ListLaws.{set_own}
 use Rattle.flat_machine.specs.declared.space.Space.{Space}

@@ -15,8 +15,8 @@ module _ (labels : List Label) (root : Label) where
   long : length (slice_set labels 0 root) ≡ length labels
   long = length-set labels 0 root
 
-  pub behind_root : (k : ℕ) → k ≢ 0 → slice_get (slice_set labels 0 root) k ≡ slice_get labels k
-  behind_root k other = get_set_other labels 0 k root other
+  pub after_root : (k : ℕ) → k ≢ 0 → slice_get (slice_set labels 0 root) k ≡ slice_get labels k
+  after_root k other = get_set_other labels 0 k root other
 
   not_root : (n k : ℕ) → first_data n ≤ k → k ≢ 0
   not_root n k above e = let low = first_positive false 0 0 n in omega (arith, low, above, e)
@@ -25,13 +25,13 @@ module _ (labels : List Label) (root : Label) where
   pub has_then : (k : ℕ) (l : Label) → HasLabel labels k l → HasLabel (slice_set labels 0 root) k l
   has_then k l has = record {
     is_data = subst (λ (n : ℕ). first_data n ≤ k) (sym long) has.is_data;
-    here = behind_root k (not_root (length labels) k has.is_data) ∙ has.here;
+    here = after_root k (not_root (length labels) k has.is_data) ∙ has.here;
   }
 
   pub has_before : (k : ℕ) (l : Label) → HasLabel (slice_set labels 0 root) k l → HasLabel labels k l
   has_before k l has =
       let above : first_data (length labels) ≤ k = subst (λ (n : ℕ). first_data n ≤ k) long has.is_data in
-      record { is_data = above; here = sym (behind_root k (not_root (length labels) k above)) ∙ has.here }
+      record { is_data = above; here = sym (after_root k (not_root (length labels) k above)) ∙ has.here }
 
   pub free_then : (k : ℕ) → IsFree labels k → IsFree (slice_set labels 0 root) k
   free_then k free = record { label = free.label; there = has_then k free.label free.there; free = free.free }
@@ -51,18 +51,18 @@ module _ (labels : List Label) (root : Label) where
   pub labels_then : (n : ℕ) (shapes : Shapes) → HasLabelsUpto n labels shapes → HasLabelsUpto n (slice_set labels 0 root) shapes
   labels_then n shapes h = record {
     pages = pages_then _ h.pages;
-    leaders = record { tell = λ k l f has. h.leaders.tell k l f (has_before k l has) };
+    leaders = record { reveal = λ k l f has. h.leaders.reveal k l f (has_before k l has) };
   }
 
   pub map_labels_then : HasMapLabels labels → HasMapLabels (slice_set labels 0 root)
   map_labels_then h = record {
     allocation = λ k below.
         let some : 1 + k ≢ 0 = λ e. omega (arith, e) in
-        subst (λ (o : Option Label). IsSomeAnd o (λ l. IsTrue (names l (record { id = 1; page = k })))) (sym (behind_root (1 + k) some)) (h.allocation k (subst (λ (n : ℕ). k < vam n) long below));
+        subst (λ (o : Option Label). IsSomeAnd o (λ l. IsTrue (names l (record { id = 1; page = k })))) (sym (after_root (1 + k) some)) (h.allocation k (subst (λ (n : ℕ). k < vam n) long below));
     file_map = λ k below.
         let some : 1 + vam (length labels) + k ≢ 0 = λ e. omega (arith, e) in
         subst (λ (n : ℕ). IsSomeAnd (slice_get (slice_set labels 0 root) (1 + vam n + k)) (λ l. IsTrue (names l (record { id = 2; page = k })))) (sym long)
-        (subst (λ (o : Option Label). IsSomeAnd o (λ l. IsTrue (names l (record { id = 2; page = k })))) (sym (behind_root (1 + vam (length labels) + k) some)) (h.file_map k (subst (λ (n : ℕ). k < vfm n) long below)));
+        (subst (λ (o : Option Label). IsSomeAnd o (λ l. IsTrue (names l (record { id = 2; page = k })))) (sym (after_root (1 + vam (length labels) + k) some)) (h.file_map k (subst (λ (n : ℕ). k < vfm n) long below)));
   }
 
   pub bits_then : (marks : ℕ → Bool) → MarksFit marks labels → MarksFit marks (slice_set labels 0 root)

@@ -1,4 +1,4 @@
--- At each moment of a call that writes labels, the disk tells the settled files of a machine.
+-- In each crash state of a call that writes labels, the disk reveals the settled files of a machine.
 use Rattle.std.proofs.Common.{◌≡◌, ◌≢◌, ℕ, zero, suc, ◌+◌, ◌≤◌, Bool, true, false, not, List, [], ◌∷◌, length, Option, Some, None, refl, sym, ◌∙◌, ap, subst, arith}
 use Rattle.std.specs.Prelude.{slice_get, option_map, nat_lt, nat_le, ◌==◌, if◌then◌else◌}
 use Rattle.std.specs.Option.{option_map_or}
@@ -10,12 +10,12 @@ use Rattle.labelled_disk.specs.declared.disk.DiskWrite.{DiskWrite}
 use Rattle.labelled_disk.specs.declared.disk.DiskWrite.TheVariants.{LabelOnly}
 use Rattle.labelled_disk.specs.Layout.{first_data}
 use Rattle.labelled_disk.specs.Sectors.{Sector}
-use Rattle.labelled_disk.specs.Moment.{moment, written}
+use Rattle.labelled_disk.specs.CrashState.{crash_state, written}
 use Rattle.labelled_disk.specs.State.{DiskState}
 use Rattle.labelled_disk.specs.File.{File, file_at, size, total_room}
 use Rattle.labelled_disk.specs.FilesOn.{disk_file, files_among, files_on, is_page, leads_file}
 use Rattle.labelled_disk.specs.Right.{FilesRight}
-use Rattle.labelled_disk.specs.Rising.{AreRising, BothBy}
+use Rattle.labelled_disk.specs.Ascending.{AreAscending, BothBy}
 use Rattle.labelled_disk.specs.Root.{LabelsRight, serial_of, counter_of}
 use Rattle.labelled_disk.specs.Runs.{growth, freeing, sector_of, AreUnused, IsAt, ArePagesDown, ArePagesUp, lengthened, shortened}
 use Rattle.labelled_disk.specs.WriteLaws.{HasData, Changed}
@@ -24,18 +24,18 @@ use Rattle.labelled_disk.specs.Label.{is_file}
 use Rattle.labelled_disk.proofs.RunLemmas as run
 use Rattle.labelled_disk.proofs.SectorWrites as w
 use Rattle.labelled_disk.proofs.WriteLemmas as laws
-use Rattle.labelled_disk.proofs.RisingLemmas.{at_id, each_at, same_by_look_up}
+use Rattle.labelled_disk.proofs.AscendingLemmas.{at_id, each_at, same_by_look_up}
 use Rattle.frame_pool.specs.Frames.{Slots}
 use Rattle.flat_machine.specs.declared.space.FilePage.{FilePage}
 use Rattle.flat_machine.specs.Machine.{Machine, IsFileId, used}
 use Rattle.flat_machine.specs.Next.{change_file, without_file}
 use Rattle.flat_machine.specs.Settled.{Agrees, settled}
 use Rattle.flat_machine.proofs.FileLemmas.{look_up_changed, one_id, changed_here, unchanged}
-use Rattle.flat_machine.proofs.Lists.{rising_map, rising_filter}
+use Rattle.flat_machine.proofs.Lists.{ascending_map, ascending_filter}
 use Rattle.label_laws.specs.Marks.{permanent_label, immutable_label}
 use Rattle.label_laws.specs.Shape as shapes
 use Rattle.label_laws.specs.MixedVolumes.{label_count}
-use Rattle.label_laws.proofs.LawfulLemmas.{moments_are_sectors}
+use Rattle.label_laws.proofs.PermittedLemmas.{crash_states_are_sectors}
 use Rattle.label_laws.proofs.MarkLemmas.{marks_of_files}
 use Rattle.label_laws.proofs.PageLemmas.{pages_by_sectors}
 use Rattle.label_laws.proofs.ShapeLemmas.{labels_give_shape, same_by_pages}
@@ -44,13 +44,13 @@ use Rattle.swapper_kernel.specs.Goes.{Wrote}
 use Rattle.session_words.specs.Volume.{volume_page}
 use Rattle.swapper_kernel.specs.Differs.{Differs}
 use Rattle.session_words.specs.Parts.{DirtyAreLoose, Shape, is_loose_at}
-use Rattle.session_words.specs.StandsFor.{TellsSettled}
+use Rattle.session_words.specs.StandsFor.{RevealsSettled}
 use Rattle.session_words.specs.RunStops.{Begins, with_change, deleted_after, changed_after, RunStops}
 use Rattle.session_words.proofs.FoundLemmas.{above_reserved, file_id_of}
 use Rattle.session_words.proofs.FilesLemmas.{at_without}
-use Rattle.session_words.proofs.SettledLemmas.{Tells, both, right_all, zipped, same_rooms, settled_is_told}
-use Rattle.session_words.proofs.StandLemmas.{Stands, AllStand, changed_stand, settled_stand, settled_any, settled_rising, told_but_loose, lengthened_stands, shortened_stands, permanent_stands, immutable_stands}
-use Rattle.session_words.proofs.MomentLemmas.{moments_are_like, few_labels}
+use Rattle.session_words.proofs.SettledLemmas.{Reveals, both, right_all, zipped, same_rooms, settled_is_revealed}
+use Rattle.session_words.proofs.StandLemmas.{Stands, AllStand, changed_stand, settled_stand, settled_any, settled_ascending, revealed_but_loose, lengthened_stands, shortened_stands, permanent_stands, immutable_stands}
+use Rattle.session_words.proofs.CrashStateLemmas.{crash_states_are_like, few_labels}
 use Rattle.session_words.proofs.StopLemmas.{loose_agree, loose_right}
 
 growth_long : (id kind page : ℕ) (is : List ℕ) → length (growth id kind page is) ≡ length is
@@ -84,16 +84,16 @@ module _ (m : Machine) (order : List DiskWrite) (old new : DiskState) (before : 
       (subst (λ (c : ℕ). FilesRight true m.serial c d) (sym b.settled_disk.root.has_counter) (right_all d m b.settled_disk))
 
   labels_here : LabelsRight d
-  labels_here = (settled_is_told d m b.settled_disk).right
+  labels_here = (settled_is_revealed d m b.settled_disk).right
 
   high : (id : ℕ) (f : File) → file_at m.files id ≡ Some f → 16 ≤ id
   high id f found = let given = (each_at (λ w. IsFileId m.serial m.counter w.id) m.files b.settled_disk.machine.ids_given id f found).above_reserved in omega (arith, given, at_id m.files id f found)
 
   -- the file on the disk
-  on_disk : (id : ℕ) (f : File) → file_at m.files id ≡ Some f → (g : File) × (disk_file true d id ≡ Some g) × Tells d m b.settled_disk g f
-  on_disk id f found = by (disk_file true d id) refl (subst (λ (o : Option File). BothBy (Tells d m b.settled_disk) (disk_file true d id) o) found (both d m b.settled_disk id))
+  on_disk : (id : ℕ) (f : File) → file_at m.files id ≡ Some f → (g : File) × (disk_file true d id ≡ Some g) × Reveals d m b.settled_disk g f
+  on_disk id f found = by (disk_file true d id) refl (subst (λ (o : Option File). BothBy (Reveals d m b.settled_disk) (disk_file true d id) o) found (both d m b.settled_disk id))
     where
-      by : (o : Option File) → disk_file true d id ≡ o → BothBy (Tells d m b.settled_disk) o (Some f) → (g : File) × (disk_file true d id ≡ Some g) × Tells d m b.settled_disk g f
+      by : (o : Option File) → disk_file true d id ≡ o → BothBy (Reveals d m b.settled_disk) o (Some f) → (g : File) × (disk_file true d id ≡ Some g) × Reveals d m b.settled_disk g f
       by None e h = absurd h
       by (Some g) e h = (g, e, h)
 
@@ -103,27 +103,27 @@ module _ (m : Machine) (order : List DiskWrite) (old new : DiskState) (before : 
       (subst (λ (o : Option File). BothBy (Stands m.unforced) o (file_at m.files id)) there (settled_stand d m b.settled_disk id))
 
   room_here : total_room (files_among true d) ≡ used m
-  room_here = same_rooms (Tells d m b.settled_disk) (λ f g t. ap (λ (s : Shape). s.size) t.same_shape) (files_among true d) m.files (zipped d m b.settled_disk)
+  room_here = same_rooms (Reveals d m b.settled_disk) (λ f g t. ap (λ (s : Shape). s.size) t.same_shape) (files_among true d) m.files (zipped d m b.settled_disk)
 
-  -- at a moment that differs from one of the order's in loose pages alone
-  at_moment : (e : List Sector) (later : Machine) (k : ℕ) → moment d order (label_count wrote.writes k) ≡ e → later.unforced ≡ m.unforced → FilesRight true (serial_of d) (counter_of d) e → LabelsRight e → AreRising later.files
-      → ((id : ℕ) (f : File) → file_at later.files id ≡ Some f → 16 ≤ id) → AllStand later.unforced e later.files → TellsSettled (moment d wrote.writes k) later
-  at_moment e later k is same right labels rise above all =
-      told_but_loose (serial_of d) (counter_of d) e (moment d wrote.writes k) later right labels rise above all
-      (subst (λ (u : List FilePage). Differs (is_loose_at u) e (moment d wrote.writes k)) (sym same)
-      (subst (λ (x : List Sector). Differs (is_loose_at m.unforced) x (moment d wrote.writes k)) is (moments_are_like m.unforced order old new before d wrote b.dirty b.told k)))
-      (moments_are_sectors d wrote.writes k b.settled_disk.sectors wrote.form)
+  -- in a crash state that differs from one of the order's in loose pages alone
+  at_crash_state : (e : List Sector) (later : Machine) (k : ℕ) → crash_state d order (label_count wrote.writes k) ≡ e → later.unforced ≡ m.unforced → FilesRight true (serial_of d) (counter_of d) e → LabelsRight e → AreAscending later.files
+      → ((id : ℕ) (f : File) → file_at later.files id ≡ Some f → 16 ≤ id) → AllStand later.unforced e later.files → RevealsSettled (crash_state d wrote.writes k) later
+  at_crash_state e later k is same right labels rise above all =
+      revealed_but_loose (serial_of d) (counter_of d) e (crash_state d wrote.writes k) later right labels rise above all
+      (subst (λ (u : List FilePage). Differs (is_loose_at u) e (crash_state d wrote.writes k)) (sym same)
+      (subst (λ (x : List Sector). Differs (is_loose_at m.unforced) x (crash_state d wrote.writes k)) is (crash_states_are_like m.unforced order old new before d wrote b.dirty b.revealed k)))
+      (crash_states_are_sectors d wrote.writes k b.settled_disk.sectors wrote.form)
 
   -- after a change of one file, on the disk and in the machine
   after_change : (id : ℕ) (f : File) (c : File → File) (k : ℕ) (g : File) → ((w : File) → (c w).id ≡ w.id) → file_at m.files id ≡ Some f → AllByRecursion (λ one. first_data (length d) ≤ sector_of one) order
-      → Changed true (serial_of d) (counter_of d) d (moment d order (label_count wrote.writes k)) id (Some g) → Stands m.unforced g (c f)
-      → TellsSettled (moment d wrote.writes k) (with_change id c m)
+      → Changed true (serial_of d) (counter_of d) d (crash_state d order (label_count wrote.writes k)) id (Some g) → Stands m.unforced g (c f)
+      → RevealsSettled (crash_state d wrote.writes k) (with_change id c m)
   after_change id f c k g ids found low changed stands =
-      at_moment (moment d order (label_count wrote.writes k)) (with_change id c m) k refl refl changed.right
-      (run.data_runs false d order (label_count wrote.writes k) labels_here low (permanent_right (serial_of d) (counter_of d) (moment d order (label_count wrote.writes k)) changed.right))
-      (rising_map (λ w. w.id) (λ w. if w.id == id then c w else w) (one_id id c ids) m.files b.settled_disk.machine.ids_rise)
+      at_crash_state (crash_state d order (label_count wrote.writes k)) (with_change id c m) k refl refl changed.right
+      (run.data_runs false d order (label_count wrote.writes k) labels_here low (permanent_right (serial_of d) (counter_of d) (crash_state d order (label_count wrote.writes k)) changed.right))
+      (ascending_map (λ w. w.id) (λ w. if w.id == id then c w else w) (one_id id c ids) m.files b.settled_disk.machine.ids_rise)
       (λ i w at. above i w (file_at m.files i) refl (sym (look_up_changed (λ w. if w.id == id then c w else w) (one_id id c ids) m.files i) ∙ at))
-      (changed_stand m.unforced (serial_of d) (counter_of d) d (moment d order (label_count wrote.writes k)) m.files (change_file id c m.files) id (Some g) (settled_stand d m b.settled_disk) changed
+      (changed_stand m.unforced (serial_of d) (counter_of d) d (crash_state d order (label_count wrote.writes k)) m.files (change_file id c m.files) id (Some g) (settled_stand d m b.settled_disk) changed
       (λ other apart. look_up_changed (λ w. if w.id == id then c w else w) (one_id id c ids) m.files other ∙ others other apart (file_at m.files other) refl)
       (subst (λ (o : Option File). BothBy (Stands m.unforced) (Some g) o) (sym here) stands))
     where
@@ -141,18 +141,18 @@ module _ (m : Machine) (order : List DiskWrite) (old new : DiskState) (before : 
       above i w (Some v) e is = high i v e
 
   -- where no label was written yet
-  at_start : (k : ℕ) → label_count wrote.writes k ≡ 0 → TellsSettled (moment d wrote.writes k) m
+  at_start : (k : ℕ) → label_count wrote.writes k ≡ 0 → RevealsSettled (crash_state d wrote.writes k) m
   at_start k none =
-      at_moment d m k (ap (moment d order) none) refl right_here labels_here b.settled_disk.machine.ids_rise high (settled_stand d m b.settled_disk)
+      at_crash_state d m k (ap (crash_state d order) none) refl right_here labels_here b.settled_disk.machine.ids_rise high (settled_stand d m b.settled_disk)
 
   after_deletion : (id j k : ℕ) → label_count wrote.writes k ≡ suc j → AllByRecursion (λ one. first_data (length d) ≤ sector_of one) order
-      → Changed true (serial_of d) (counter_of d) d (moment d order (suc j)) id None → TellsSettled (moment d wrote.writes k) (record m { files = without_file id m.files })
+      → Changed true (serial_of d) (counter_of d) d (crash_state d order (suc j)) id None → RevealsSettled (crash_state d wrote.writes k) (record m { files = without_file id m.files })
   after_deletion id j k count low changed =
-      at_moment (moment d order (suc j)) (record m { files = without_file id m.files }) k (ap (moment d order) count) refl changed.right
-      (run.data_runs false d order (suc j) labels_here low (permanent_right (serial_of d) (counter_of d) (moment d order (suc j)) changed.right))
-      (rising_filter (λ f. f.id) (λ f. not (f.id == id)) m.files b.settled_disk.machine.ids_rise)
+      at_crash_state (crash_state d order (suc j)) (record m { files = without_file id m.files }) k (ap (crash_state d order) count) refl changed.right
+      (run.data_runs false d order (suc j) labels_here low (permanent_right (serial_of d) (counter_of d) (crash_state d order (suc j)) changed.right))
+      (ascending_filter (λ f. f.id) (λ f. not (f.id == id)) m.files b.settled_disk.machine.ids_rise)
       (λ i w at. above i w (i == id) (sym (at_without id m.files i) ∙ at))
-      (changed_stand m.unforced (serial_of d) (counter_of d) d (moment d order (suc j)) m.files (without_file id m.files) id None (settled_stand d m b.settled_disk) changed
+      (changed_stand m.unforced (serial_of d) (counter_of d) d (crash_state d order (suc j)) m.files (without_file id m.files) id None (settled_stand d m b.settled_disk) changed
       (λ other apart. at_without id m.files other ∙ ap (λ (x : Bool). if x then None else file_at m.files other) (ne_eqb other id apart))
       (subst (λ (o : Option File). BothBy (Stands m.unforced) None o) (sym (at_without id m.files id ∙ ap (λ (x : Bool). if x then None else file_at m.files id) (eq-eqb id id refl))) tt))
     where
@@ -162,40 +162,40 @@ module _ (m : Machine) (order : List DiskWrite) (old new : DiskState) (before : 
 
 -- a file is deleted
 delete_stop : (m : Machine) (id leader : ℕ) (f : File) (is : List ℕ) (old new : DiskState) (before : Slots) (d : List Sector) (wrote : Wrote volume_page (freeing (leader ∷ is)) old before new) → Begins before old d m
-    → file_at m.files id ≡ Some f → IsAt (leads_file true id) d leader → ArePagesUp d id 0 is → (k n : ℕ) → label_count wrote.writes k ≡ n → TellsSettled (moment d wrote.writes k) (deleted_after id n m)
+    → file_at m.files id ≡ Some f → IsAt (leads_file true id) d leader → ArePagesUp d id 0 is → (k n : ℕ) → label_count wrote.writes k ≡ n → RevealsSettled (crash_state d wrote.writes k) (deleted_after id n m)
 delete_stop m id leader f is old new before d wrote b found led pages k zero count = at_start m (freeing (leader ∷ is)) old new before d wrote b k count
 delete_stop m id leader f is old new before d wrote b found led pages k (suc j) count =
     let g = on_disk m (freeing (leader ∷ is)) old new before d wrote b id f found in
     let few = few_labels (freeing (leader ∷ is)) old new before wrote k in
     after_deletion m (freeing (leader ∷ is)) old new before d wrote b id j k count (led.there.is_data, up_data d id 0 is pages)
-    (run.deletion_moments true (serial_of d) (counter_of d) d id leader g.0 is (right_here m (freeing (leader ∷ is)) old new before d wrote b) g.1 led pages j (omega (arith, few, count, freeing_long is)))
+    (run.deletion_crash_states true (serial_of d) (counter_of d) d id leader g.0 is (right_here m (freeing (leader ∷ is)) old new before d wrote b) g.1 led pages j (omega (arith, few, count, freeing_long is)))
 
 -- a leader is marked
 mark_stop : (m : Machine) (id leader : ℕ) (f : File) (s : Sector) (mark : Label) (c : File → File) (old new : DiskState) (before : Slots) (d : List Sector) (wrote : Wrote volume_page (LabelOnly leader mark ∷ []) old before new) → Begins before old d m
     → ((w : File) → (c w).id ≡ w.id) → ((g : File) → Stands m.unforced g f → Stands m.unforced (c g) (c f)) → file_at m.files id ≡ Some f → HasData d leader s
     → ((g : File) → disk_file true d id ≡ Some g → Changed true (serial_of d) (counter_of d) d (written (LabelOnly leader mark) d) id (Some (c g)))
-    → (k n : ℕ) → label_count wrote.writes k ≡ n → TellsSettled (moment d wrote.writes k) (changed_after id c n m)
+    → (k n : ℕ) → label_count wrote.writes k ≡ n → RevealsSettled (crash_state d wrote.writes k) (changed_after id c n m)
 mark_stop m id leader f s mark c old new before d wrote b ids stands found there changed k zero count = at_start m (LabelOnly leader mark ∷ []) old new before d wrote b k count
 mark_stop m id leader f s mark c old new before d wrote b ids stands found there changed k (suc j) count =
     let g = on_disk m (LabelOnly leader mark ∷ []) old new before d wrote b id f found in
     let few = few_labels (LabelOnly leader mark ∷ []) old new before wrote k in
     let single : label_count wrote.writes k ≡ 1 = omega (arith, few, count) in
     after_change m (LabelOnly leader mark ∷ []) old new before d wrote b id f c k (c g.0) ids found (there.is_data, tt)
-    (subst (λ (n : ℕ). Changed true (serial_of d) (counter_of d) d (moment d (LabelOnly leader mark ∷ []) n) id (Some (c g.0))) (sym single) (changed g.0 g.1))
+    (subst (λ (n : ℕ). Changed true (serial_of d) (counter_of d) d (crash_state d (LabelOnly leader mark ∷ []) n) id (Some (c g.0))) (sym single) (changed g.0 g.1))
     (stands g.0 (stands_here m (LabelOnly leader mark ∷ []) old new before d wrote b id f g.0 found g.1))
 
 -- label writes that keep the permanent files
 quiet_stop : (m : Machine) (order : List DiskWrite) (old new : DiskState) (before : Slots) (d : List Sector) (wrote : Wrote volume_page order old before new) → Begins before old d m
-    → ((k : ℕ) → k ≤ length order → StaysRight false d (moment d order k)) → (k : ℕ) → TellsSettled (moment d wrote.writes k) m
+    → ((k : ℕ) → k ≤ length order → StaysRight false d (crash_state d order k)) → (k : ℕ) → RevealsSettled (crash_state d wrote.writes k) m
 quiet_stop m order old new before d wrote b stays k =
     let kept = stays (label_count wrote.writes k) (few_labels order old new before wrote k) in
-    let differs = moments_are_like m.unforced order old new before d wrote b.dirty b.told k in
+    let differs = crash_states_are_like m.unforced order old new before d wrote b.dirty b.revealed k in
     record {
-      agrees = loose_agree m.unforced (moment d order (label_count wrote.writes k)) (moment d wrote.writes k) (settled m) differs (moments_are_sectors d wrote.writes k b.settled_disk.sectors wrote.form)
-          (settled_rising m.unforced m.files b.settled_disk.machine.ids_rise)
+      agrees = loose_agree m.unforced (crash_state d order (label_count wrote.writes k)) (crash_state d wrote.writes k) (settled m) differs (crash_states_are_sectors d wrote.writes k b.settled_disk.sectors wrote.form)
+          (settled_ascending m.unforced m.files b.settled_disk.machine.ids_rise)
           (settled_any m.unforced m.files b.settled_disk.machine.ids_rise (λ id f found. high m order old new before d wrote b id f found))
-          (subst (λ (fs : List File). Agrees fs (settled m)) (sym kept.files) (settled_is_told d m b.settled_disk).agrees);
-      right = loose_right m.unforced (moment d order (label_count wrote.writes k)) (moment d wrote.writes k) differs kept.right;
+          (subst (λ (fs : List File). Agrees fs (settled m)) (sym kept.files) (settled_is_revealed d m b.settled_disk).agrees);
+      right = loose_right m.unforced (crash_state d order (label_count wrote.writes k)) (crash_state d wrote.writes k) differs kept.right;
     }
 
 -- where no page of a file is loose, the files are the same
@@ -224,13 +224,13 @@ files_same d e differs =
         ∙ ap (λ (o : Option File). option_map_or (λ (x : File). slice_get x.pages p) o None) b))
 
 start_stop : (order : List DiskWrite) (old new : DiskState) (before : Slots) (d : List Sector) (wrote : Wrote volume_page order old before new) → DirtyAreLoose before [] → old.contents ≡ Some d
-    → ((k : ℕ) → k ≤ length order → StaysRight false d (moment d order k)) → (k : ℕ) → StaysRight false d (moment d wrote.writes k)
-start_stop order old new before d wrote dirty told stays k =
+    → ((k : ℕ) → k ≤ length order → StaysRight false d (crash_state d order k)) → (k : ℕ) → StaysRight false d (crash_state d wrote.writes k)
+start_stop order old new before d wrote dirty revealed stays k =
     let kept = stays (label_count wrote.writes k) (few_labels order old new before wrote k) in
-    let differs = moments_are_like [] order old new before d wrote dirty told k in
+    let differs = crash_states_are_like [] order old new before d wrote dirty revealed k in
     record {
-      files = files_same (moment d order (label_count wrote.writes k)) (moment d wrote.writes k) differs ∙ kept.files;
-      right = loose_right [] (moment d order (label_count wrote.writes k)) (moment d wrote.writes k) differs kept.right;
+      files = files_same (crash_state d order (label_count wrote.writes k)) (crash_state d wrote.writes k) differs ∙ kept.files;
+      right = loose_right [] (crash_state d order (label_count wrote.writes k)) (crash_state d wrote.writes k) differs kept.right;
     }
 
 pub run_stops : RunStops
@@ -242,8 +242,8 @@ run_stops = record {
       let sizes : size f ≡ size g.0 = ap (λ (s : Shape). s.size) (sym g.2.same_shape) in
       let rooms = room_here m order old new before d wrote b in
       after_change m order old new before d wrote b id f (lengthened (label_count wrote.writes k)) k (lengthened (label_count wrote.writes k) g.0) (λ w. refl) found (unused_data d id f.kind (size f) is unused)
-      (subst (λ (n : ℕ). Changed true (serial_of d) (counter_of d) d (moment d (growth id f.kind n is) (label_count wrote.writes k)) id (Some (lengthened (label_count wrote.writes k) g.0))) (sym sizes)
-      (run.growth_moments true (serial_of d) (counter_of d) d id f.kind g.0 is (right_here m order old new before d wrote b) g.1 unused (omega (arith, room, rooms, b.settled_disk.root.has_room)) (label_count wrote.writes k)
+      (subst (λ (n : ℕ). Changed true (serial_of d) (counter_of d) d (crash_state d (growth id f.kind n is) (label_count wrote.writes k)) id (Some (lengthened (label_count wrote.writes k) g.0))) (sym sizes)
+      (run.growth_crash_states true (serial_of d) (counter_of d) d id f.kind g.0 is (right_here m order old new before d wrote b) g.1 unused (omega (arith, room, rooms, b.settled_disk.root.has_room)) (label_count wrote.writes k)
       (omega (arith, few, growth_long id f.kind (size f) is))))
       (lengthened_stands m.unforced (label_count wrote.writes k) g.0 f (stands_here m order old new before d wrote b id f g.0 found g.1));
   shrinking_stops = λ m id f is old new before d wrote b found pages k.
@@ -252,7 +252,7 @@ run_stops = record {
       let few = few_labels order old new before wrote k in
       let sizes : size f ≡ size g.0 = ap (λ (s : Shape). s.size) (sym g.2.same_shape) in
       after_change m order old new before d wrote b id f (shortened (label_count wrote.writes k)) k (shortened (label_count wrote.writes k) g.0) (λ w. refl) found (down_data d id (size f) is pages)
-      (run.shrinking_moments true (serial_of d) (counter_of d) d id g.0 is (right_here m order old new before d wrote b) g.1 (subst (λ (n : ℕ). ArePagesDown d id n is) sizes pages) (label_count wrote.writes k)
+      (run.shrinking_crash_states true (serial_of d) (counter_of d) d id g.0 is (right_here m order old new before d wrote b) g.1 (subst (λ (n : ℕ). ArePagesDown d id n is) sizes pages) (label_count wrote.writes k)
       (omega (arith, few, freeing_long is)))
       (shortened_stands m.unforced (label_count wrote.writes k) g.0 f (stands_here m order old new before d wrote b id f g.0 found g.1));
   deletion_stops = λ m id leader f is old new before d wrote b found led pages k. delete_stop m id leader f is old new before d wrote b found led pages k (label_count wrote.writes k) refl;

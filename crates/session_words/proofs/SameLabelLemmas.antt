@@ -8,7 +8,7 @@ use Rattle.labelled_disk.specs.Layout.{data_sectors, first_data}
 use Rattle.labelled_disk.specs.Sectors.{Sector}
 use Rattle.labelled_disk.specs.File.{File, Page, file_at}
 use Rattle.labelled_disk.specs.FilesOn.{pages_from}
-use Rattle.labelled_disk.specs.Rising.{BothBy}
+use Rattle.labelled_disk.specs.Ascending.{BothBy}
 use Rattle.labelled_disk.proofs.Pages.{pages_more, pages_end, pages_zero}
 use Rattle.swapper_kernel.specs.Stands.{labels_of}
 use Rattle.swapper_kernel.specs.DiffersLaws.{same_length}

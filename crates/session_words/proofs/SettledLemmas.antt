@@ -1,4 +1,4 @@
--- A disk that has all of a machine but what is unforced tells its settled files.
+-- A disk that has all of a machine but what is unforced reveals its settled files.
 use Rattle.std.proofs.Common.{◌≡◌, ◌≢◌, inl, inr, ℕ, suc, ◌+◌, ◌<◌, ◌≤◌, true, false, List, [], ◌∷◌, map, length, Option, Some, None, refl, sym, ◌∙◌, ap, subst, arith, eqb}
 use Rattle.std.specs.Prelude.{slice_get, option_map, nat_le, ◌%◌, ◌/◌, ◌^◌, IsTrue, IsSomeAnd, All}
 use Rattle.std.specs.List.{AllByRecursion, AllZip}
@@ -14,19 +14,19 @@ use Rattle.labelled_disk.specs.Sectors.{Sector}
 use Rattle.labelled_disk.specs.File.{File, Page, byte, size, file_at, room_of, total_room}
 use Rattle.labelled_disk.specs.FilesOn.{disk_file, files_among}
 use Rattle.labelled_disk.specs.Right.{FilesRight, IsWhole, IsGiven}
-use Rattle.labelled_disk.specs.Rising.{BothBy}
+use Rattle.labelled_disk.specs.Ascending.{BothBy}
 use Rattle.labelled_disk.specs.Root.{HasMaps, counter_of}
-use Rattle.labelled_disk.proofs.RisingLemmas.{each_at, at_id, zip_by_look_up}
+use Rattle.labelled_disk.proofs.AscendingLemmas.{each_at, at_id, zip_by_look_up}
 use Rattle.labelled_disk.proofs.WriteLemmas as laws
 use Rattle.flat_machine.specs.Machine.{Machine, IsFile, IsFileId, IsByteOrAny}
 use Rattle.flat_machine.specs.IsMachine.{IsMachine}
 use Rattle.flat_machine.specs.Settled.{settled, Agrees, FileStandsFor, PageAgrees, is_unforced}
-use Rattle.flat_machine.proofs.SettledLemmas.{standing_files_agree}
+use Rattle.flat_machine.proofs.SettledLemmas.{sector_state_files_agree}
 use Rattle.swapper_kernel.specs.Stands.{labels_of}
 use Rattle.session_words.specs.Parts.{HasRoot, Shape, Shapes, shape_of, shapes_of}
 use Rattle.session_words.specs.Found.{AreShapes, HasPage}
-use Rattle.session_words.specs.StandsFor.{IsSettled, TellsSettled}
-use Rattle.session_words.specs.SettledLaws.{SettledIsTold}
+use Rattle.session_words.specs.StandsFor.{IsSettled, RevealsSettled}
+use Rattle.session_words.specs.SettledLaws.{SettledIsRevealed}
 use Rattle.label_laws.proofs.PermanentLemmas.{permanent_among, permanent_right}
 use Rattle.session_words.proofs.FoundLemmas.{file_found, file_missing, file_of, once_in}
 
@@ -94,42 +94,42 @@ module _ (d : List Sector) (m : Machine) (h : IsSettled d m) where
   are = machine_shapes m h.machine (length d) (slice_get d 0) h.root
 
   -- a file that is found is the machine's but for cells
-  pub record Tells (f g : File) : Type 0 where
+  pub record Reveals (f g : File) : Type 0 where
     pub same_id : f.id ≡ g.id
     pub same_shape : shape_of f ≡ shape_of g
     pub machine_file : file_at m.files g.id ≡ Some g
     pub pages : (j : ℕ) (p : Page) → slice_get f.pages j ≡ Some p → HasPage d g.id j p
 
-  pub both : (id : ℕ) → BothBy Tells (disk_file true d id) (file_at m.files id)
+  pub both : (id : ℕ) → BothBy Reveals (disk_file true d id) (file_at m.files id)
   both id = either (file_at m.files id) refl
     where
-      either : (o : Option File) → file_at m.files id ≡ o → BothBy Tells (disk_file true d id) o
-      either None e = subst (λ (o : Option File). BothBy Tells o None) (sym (file_missing h.table_pages d (shapes_of m.files) h.labels are id (ap (λ (o : Option File). option_map shape_of o) e))) tt
+      either : (o : Option File) → file_at m.files id ≡ o → BothBy Reveals (disk_file true d id) o
+      either None e = subst (λ (o : Option File). BothBy Reveals o None) (sym (file_missing h.table_pages d (shapes_of m.files) h.labels are id (ap (λ (o : Option File). option_map shape_of o) e))) tt
       either (Some g) e =
           let is : shapes_of m.files id ≡ Some (shape_of g) = ap (λ (o : Option File). option_map shape_of o) e in
           let x = file_found h.table_pages d (shapes_of m.files) h.labels are id (shape_of g) is in
           let same : g.id ≡ id = at_id m.files id g e in
-          let tells : Tells x.0 g = record {
+          let reveals : Reveals x.0 g = record {
             same_id = x.1.same_id ∙ sym same;
             same_shape = x.1.same_shape;
             machine_file = ap (file_at m.files) same ∙ e;
             pages = λ j p at. subst (λ (n : ℕ). HasPage d n j p) (sym same) (x.1.pages j p at);
           } in
-          subst (λ (o : Option File). BothBy Tells o (Some g)) (sym x.1.found) tells
+          subst (λ (o : Option File). BothBy Reveals o (Some g)) (sym x.1.found) reveals
 
-  looked : (id : ℕ) → BothBy Tells (file_at (files_among true d) id) (file_at m.files id)
-  looked id = subst (λ (o : Option File). BothBy Tells o (file_at m.files id)) (sym (laws.look_up true 0 0 d id)) (both id)
+  looked : (id : ℕ) → BothBy Reveals (file_at (files_among true d) id) (file_at m.files id)
+  looked id = subst (λ (o : Option File). BothBy Reveals o (file_at m.files id)) (sym (laws.look_up true 0 0 d id)) (both id)
 
-  pub zipped : AllZip Tells (files_among true d) m.files
-  zipped = zip_by_look_up Tells (λ f g t. t.same_id) (files_among true d) m.files (laws.files_on_rise true 0 0 d) h.machine.ids_rise looked
+  pub zipped : AllZip Reveals (files_among true d) m.files
+  zipped = zip_by_look_up Reveals (λ f g t. t.same_id) (files_among true d) m.files (laws.files_on_rise true 0 0 d) h.machine.ids_rise looked
 
   -- each file that is found is one of the machine's
-  from_disk : (id : ℕ) (f : File) → disk_file true d id ≡ Some f → (g : File) × (file_at m.files id ≡ Some g) × Tells f g
+  from_disk : (id : ℕ) (f : File) → disk_file true d id ≡ Some f → (g : File) × (file_at m.files id ≡ Some g) × Reveals f g
   from_disk id f is = either (file_at m.files id) refl
     where
-      either : (o : Option File) → file_at m.files id ≡ o → (g : File) × (file_at m.files id ≡ Some g) × Tells f g
-      either None e = absurd (subst (λ (o : Option File). BothBy Tells (Some f) o) e (subst (λ (o : Option File). BothBy Tells o (file_at m.files id)) is (both id)))
-      either (Some g) e = (g, e, subst (λ (o : Option File). BothBy Tells (Some f) o) e (subst (λ (o : Option File). BothBy Tells o (file_at m.files id)) is (both id)))
+      either : (o : Option File) → file_at m.files id ≡ o → (g : File) × (file_at m.files id ≡ Some g) × Reveals f g
+      either None e = absurd (subst (λ (o : Option File). BothBy Reveals (Some f) o) e (subst (λ (o : Option File). BothBy Reveals o (file_at m.files id)) is (both id)))
+      either (Some g) e = (g, e, subst (λ (o : Option File). BothBy Reveals (Some f) o) e (subst (λ (o : Option File). BothBy Reveals o (file_at m.files id)) is (both id)))
 
   whole : (id : ℕ) (f : File) → disk_file true d id ≡ Some f → IsWhole (data_sectors d) f
   whole id f is =
@@ -157,7 +157,7 @@ module _ (d : List Sector) (m : Machine) (h : IsSettled d m) where
         let g = from_disk id f is in
         let same : id ≡ f.id = sym (g.2.same_id ∙ at_id m.files id g.0 g.1) in
         subst (λ (n : ℕ). n / 2 ^ 32 ≡ m.serial → n % 2 ^ 32 < m.counter) same (id_given id g.0 g.1).given_out);
-    room = omega (arith, same_rooms Tells (λ f g t. ap (λ (s : Shape). s.size) t.same_shape) (files_among true d) m.files zipped, h.machine.room, h.root.has_room);
+    room = omega (arith, same_rooms Reveals (λ f g t. ap (λ (s : Shape). s.size) t.same_shape) (files_among true d) m.files zipped, h.machine.room, h.root.has_room);
   }
 
   are_files : AllByRecursion IsFile (files_among true d)
@@ -173,7 +173,7 @@ module _ (d : List Sector) (m : Machine) (h : IsSettled d m) where
             subst (AllByRecursion IsByteOrAny) (sym x.bytes) (all_bytes x.s.1 (h.sectors x.place x.s x.there.here).bytes));
       })
 
-  stand : (f g : File) → Tells f g → FileStandsFor m.unforced f g
+  stand : (f g : File) → Reveals f g → FileStandsFor m.unforced f g
   stand f g t = record {
     same_id = t.same_id;
     same_kind = ap (λ (s : Shape). s.kind) t.same_shape;
@@ -187,11 +187,11 @@ module _ (d : List Sector) (m : Machine) (h : IsSettled d m) where
         ((λ i. is_unforced m.unforced (x.same_id i) (x.same_page i)) ∙ firm));
   }
 
-  standing : (o p : Option File) → BothBy Tells o p → BothBy (FileStandsFor m.unforced) o p
-  standing None None b = tt
-  standing None (Some g) b = absurd b
-  standing (Some f) None b = absurd b
-  standing (Some f) (Some g) b = stand f g b
+  sector_state : (o p : Option File) → BothBy Reveals o p → BothBy (FileStandsFor m.unforced) o p
+  sector_state None None b = tt
+  sector_state None (Some g) b = absurd b
+  sector_state (Some f) None b = absurd b
+  sector_state (Some f) (Some g) b = stand f g b
 
   -- labels by themselves, or of sectors
   named : (k : ℕ) (w : Wanted) → IsSomeAnd (slice_get (labels_of d) k) (λ l. IsTrue (names l w)) → IsSomeAnd (slice_get d k) (λ s. IsTrue (names s.0 w))
@@ -211,12 +211,12 @@ module _ (d : List Sector) (m : Machine) (h : IsSettled d m) where
             (h.map_labels.file_map k (subst (λ (n : ℕ). k < vfm n) (sym long) below)));
       }
 
-  pub tells_settled : TellsSettled d m
-  tells_settled =
+  pub reveals_settled : RevealsSettled d m
+  reveals_settled =
       let among = permanent_among m.serial m.counter d right_all in
       record {
         agrees = subst (λ (fs : List File). Agrees fs (settled m)) (sym among)
-            (standing_files_agree (files_among true d) m (laws.files_on_rise true 0 0 d) are_files h.machine (λ id. standing (file_at (files_among true d) id) (file_at m.files id) (looked id)));
+            (sector_state_files_agree (files_among true d) m (laws.files_on_rise true 0 0 d) are_files h.machine (λ id. sector_state (file_at (files_among true d) id) (file_at m.files id) (looked id)));
         right = record {
           has_root = h.root.valid;
           has_maps = maps;
@@ -224,5 +224,5 @@ module _ (d : List Sector) (m : Machine) (h : IsSettled d m) where
         };
       }
 
-pub settled_is_told : SettledIsTold
-settled_is_told d m h = tells_settled d m h
+pub settled_is_revealed : SettledIsRevealed
+settled_is_revealed d m h = reveals_settled d m h

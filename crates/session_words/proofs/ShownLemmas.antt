@@ -10,7 +10,7 @@ use Rattle.labelled_disk.specs.Layout.{vam, vfm, first_data, layout_of}
 use Rattle.labelled_disk.specs.Root.{page_in}
 use Rattle.labelled_disk.specs.Sectors.{Sector, AreSectors}
 use Rattle.alloc_map.specs.Bits.{is_used}
-use Rattle.page_tree.specs.Tells.{TellsTree}
+use Rattle.page_tree.specs.Reveals.{RevealsTree}
 use Rattle.file_map.specs.FileMap.{Triples, AreNamed}
 use Rattle.file_map.specs.InSectors.{map_bytes, MapNames}
 use Rattle.swapper_kernel.specs.declared.manager.Manager.{Manager}
@@ -64,8 +64,8 @@ module _ (layout : Layout) (m : List Sector) (is : IsLayout layout) (size : leng
   only_bytes shown h = shown_once FileMap layout m shown (map_bytes m) h map_shown
 
   -- what is named by the bytes that are shown
-  same_names : (shown : List ℕ) (named : Triples) → Shows FileMap m layout shown → AreNamed layout.sectors (TellsTree 24 12 layout.vfm (λ b. b ≡ shown)) named ≡ MapNames m named
-  same_names shown named h = λ i. AreNamed (laid i).sectors (TellsTree 24 12 (laid i).vfm (λ b. b ≡ only_bytes shown h i)) named
+  same_names : (shown : List ℕ) (named : Triples) → Shows FileMap m layout shown → AreNamed layout.sectors (RevealsTree 24 12 layout.vfm (λ b. b ≡ shown)) named ≡ MapNames m named
+  same_names shown named h = λ i. AreNamed (laid i).sectors (RevealsTree 24 12 (laid i).vfm (λ b. b ≡ only_bytes shown h i)) named
 
 -- a sector of a map is of its kind
 in_kind : (which : Manager) (n k : ℕ) (l : Label) → in_map which (layout_of n) k l ≡ true → kind_of n k l ≡ kind_of_map which

@@ -4,16 +4,16 @@ use Rattle.std.specs.Prelude.{option_map, ◌==◌, if◌then◌else◌}
 use Rattle.std.proofs.lemmas.Option.{same_Some}
 use Rattle.std.proofs.lemmas.Bool.{cases_eq}
 use Rattle.labelled_disk.specs.File.{File, Page, file_at, size, zero_page}
-use Rattle.labelled_disk.specs.Rising.{AreRising}
+use Rattle.labelled_disk.specs.Ascending.{AreAscending}
 use Rattle.labelled_disk.specs.Runs.{lengthened}
-use Rattle.labelled_disk.proofs.RisingLemmas.{at_id, same_by_look_up}
+use Rattle.labelled_disk.proofs.AscendingLemmas.{at_id, same_by_look_up}
 use Rattle.flat_machine.specs.declared.call.Call.TheVariants.{SetSize}
 use Rattle.flat_machine.specs.Machine.{Machine}
 use Rattle.flat_machine.specs.IsMachine.{IsMachine}
 use Rattle.flat_machine.specs.Refusal.{refusal}
 use Rattle.flat_machine.specs.Next.{next, change_file, resized}
 use Rattle.flat_machine.proofs.FileLemmas.{look_up_changed, one_id, changed_here, unchanged}
-use Rattle.flat_machine.proofs.Lists.{rising_map}
+use Rattle.flat_machine.proofs.Lists.{ascending_map}
 use Rattle.flat_machine.proofs.NextLemmas.{next_keeps_machine}
 use Rattle.session_words.specs.Volume.{volume_page}
 use Rattle.session_words.specs.Parts.{TablesMeaning}
@@ -28,12 +28,12 @@ use Rattle.session_words.proofs.GrowLemmas.{grow_laws}
 use Rattle.session_words.proofs.LooseLemmas.{volume_loose, goes_stands}
 
 -- two changes of one file that are the same there
-pub changed_alike : (id : ℕ) (f : File) (c d : File → File) → ((w : File) → (c w).id ≡ w.id) → ((w : File) → (d w).id ≡ w.id) → c f ≡ d f → (fs : List File) → AreRising fs → file_at fs id ≡ Some f
+pub changed_alike : (id : ℕ) (f : File) (c d : File → File) → ((w : File) → (c w).id ≡ w.id) → ((w : File) → (d w).id ≡ w.id) → c f ≡ d f → (fs : List File) → AreAscending fs → file_at fs id ≡ Some f
     → change_file id c fs ≡ change_file id d fs
 changed_alike id f c d ids other same fs rise found =
     same_by_look_up (change_file id c fs) (change_file id d fs)
-    (rising_map (λ w. w.id) (λ w. if w.id == id then c w else w) (one_id id c ids) fs rise)
-    (rising_map (λ w. w.id) (λ w. if w.id == id then d w else w) (one_id id d other) fs rise)
+    (ascending_map (λ w. w.id) (λ w. if w.id == id then c w else w) (one_id id c ids) fs rise)
+    (ascending_map (λ w. w.id) (λ w. if w.id == id then d w else w) (one_id id d other) fs rise)
     (λ j. look_up_changed (λ w. if w.id == id then c w else w) (one_id id c ids) fs j ∙ either j (file_at fs j) refl
     ∙ sym (look_up_changed (λ w. if w.id == id then d w else w) (one_id id d other) fs j))
   where

@@ -9,27 +9,27 @@ use Rattle.labelled_disk.specs.Sectors.{Sector, AreSectors}
 use Rattle.labelled_disk.specs.File.{File, Page, byte, any_page, zero_page, file_at, size}
 use Rattle.labelled_disk.specs.FilesOn.{disk_file, files_on}
 use Rattle.labelled_disk.specs.Right.{FilesRight}
-use Rattle.labelled_disk.specs.Rising.{AreRising, BothBy}
+use Rattle.labelled_disk.specs.Ascending.{AreAscending, BothBy}
 use Rattle.labelled_disk.specs.Root.{LabelsRight}
 use Rattle.labelled_disk.specs.Runs.{lengthened, shortened}
 use Rattle.labelled_disk.specs.WriteLaws.{Changed}
-use Rattle.labelled_disk.proofs.RisingLemmas.{zip_by_look_up, at_id}
+use Rattle.labelled_disk.proofs.AscendingLemmas.{zip_by_look_up, at_id}
 use Rattle.labelled_disk.proofs.WriteLemmas as laws
 use Rattle.flat_machine.specs.declared.space.FilePage.{FilePage}
 use Rattle.flat_machine.specs.Machine.{Machine}
 use Rattle.flat_machine.specs.Next.{with_any}
 use Rattle.flat_machine.specs.Settled.{FileAgrees, PageAgrees, CellAgrees, Agrees, is_unforced, settled, settled_file}
 use Rattle.flat_machine.proofs.FileLemmas.{look_up_changed}
-use Rattle.flat_machine.proofs.Lists.{rising_map}
+use Rattle.flat_machine.proofs.Lists.{ascending_map}
 use Rattle.label_laws.specs.AllPermanent.{if_permanent}
-use Rattle.label_laws.proofs.PermanentLemmas.{at_permanents, rising_permanents, one}
+use Rattle.label_laws.proofs.PermanentLemmas.{at_permanents, ascending_permanents, one}
 use Rattle.swapper_kernel.specs.Differs.{Differs}
 use Rattle.session_words.specs.Parts.{Shape, is_loose_at}
-use Rattle.session_words.specs.StandsFor.{IsSettled, TellsSettled}
+use Rattle.session_words.specs.StandsFor.{IsSettled, RevealsSettled}
 use Rattle.session_words.specs.StopLaws.{AreAnyWhereUnforced}
 use Rattle.session_words.proofs.CellLemmas.{any_agrees, page_with_any}
 use Rattle.session_words.proofs.GrowLemmas.{get_longer}
-use Rattle.session_words.proofs.SettledLemmas.{Tells, both}
+use Rattle.session_words.proofs.SettledLemmas.{Reveals, both}
 use Rattle.session_words.proofs.SameLabelLemmas.{zip_by_place, zip_at, zip_long}
 use Rattle.session_words.proofs.StopLemmas.{loose_agree, loose_right}
 
@@ -181,21 +181,21 @@ module _ (unforced : List FilePage) where
       by false true e = absurd (false≢true e)
       by false false e = tt
 
-  settled_at_id : (files : List File) → AreRising files → (id : ℕ) → file_at (map (settled_file unforced) (filter (λ f. f.permanent) files)) id ≡ option_map (settled_file unforced) (if_permanent (file_at files id))
+  settled_at_id : (files : List File) → AreAscending files → (id : ℕ) → file_at (map (settled_file unforced) (filter (λ f. f.permanent) files)) id ≡ option_map (settled_file unforced) (if_permanent (file_at files id))
   settled_at_id files rise id = look_up_changed (settled_file unforced) (λ f. refl) (filter (λ f. f.permanent) files) id ∙ ap (option_map (settled_file unforced)) (at_permanents files rise id)
 
-  pub settled_rising : (files : List File) → AreRising files → AreRising (map (settled_file unforced) (filter (λ f. f.permanent) files))
-  settled_rising files rise = rising_map (λ f. f.id) (settled_file unforced) (λ f. refl) (filter (λ f. f.permanent) files) (rising_permanents files rise)
+  pub settled_ascending : (files : List File) → AreAscending files → AreAscending (map (settled_file unforced) (filter (λ f. f.permanent) files))
+  settled_ascending files rise = ascending_map (λ f. f.id) (settled_file unforced) (λ f. refl) (filter (λ f. f.permanent) files) (ascending_permanents files rise)
 
-  pub all_agree : (serial counter : ℕ) (e : List Sector) (files : List File) → FilesRight true serial counter e → AreRising files → AllStand e files
+  pub all_agree : (serial counter : ℕ) (e : List Sector) (files : List File) → FilesRight true serial counter e → AreAscending files → AllStand e files
       → Agrees (files_on e) (map (settled_file unforced) (filter (λ f. f.permanent) files))
   all_agree serial counter e files right rise all =
-      zip_by_look_up FileAgrees (λ f g a. a.same_id) (files_on e) (map (settled_file unforced) (filter (λ f. f.permanent) files)) (laws.files_on_rise false 0 0 e) (settled_rising files rise)
+      zip_by_look_up FileAgrees (λ f g a. a.same_id) (files_on e) (map (settled_file unforced) (filter (λ f. f.permanent) files)) (laws.files_on_rise false 0 0 e) (settled_ascending files rise)
       (λ id. subst (λ (o : Option File). BothBy FileAgrees o (file_at (map (settled_file unforced) (filter (λ f. f.permanent) files)) id)) (sym (laws.look_up false 0 0 e id ∙ one serial counter e right id))
       (subst (λ (o : Option File). BothBy FileAgrees (if_permanent (disk_file true e id)) o) (sym (settled_at_id files rise id)) (permanent_both (disk_file true e id) (file_at files id) (all id))))
 
   -- the settled files are any where they are unforced
-  pub settled_any : (files : List File) → AreRising files → ((id : ℕ) (f : File) → file_at files id ≡ Some f → 16 ≤ id) → AreAnyWhereUnforced unforced (map (settled_file unforced) (filter (λ f. f.permanent) files))
+  pub settled_any : (files : List File) → AreAscending files → ((id : ℕ) (f : File) → file_at files id ≡ Some f → 16 ≤ id) → AreAnyWhereUnforced unforced (map (settled_file unforced) (filter (λ f. f.permanent) files))
   settled_any files rise high id k g q at here loose = either (file_at files id) refl (sym (settled_at_id files rise id) ∙ at)
     where
       unforced_page : 16 ≤ id → is_unforced unforced id k ≡ true
@@ -221,7 +221,7 @@ module _ (unforced : List FilePage) where
 pub settled_stand : (d : List Sector) (m : Machine) → IsSettled d m → AllStand m.unforced d m.files
 settled_stand d m h id = by (disk_file true d id) (file_at m.files id) (both d m h id)
   where
-    stand : (g f : File) → Tells d m h g f → Stands m.unforced g f
+    stand : (g f : File) → Reveals d m h g f → Stands m.unforced g f
     stand g f t = record {
       agrees = record {
         same_id = t.same_id;
@@ -243,16 +243,16 @@ settled_stand d m h id = by (disk_file true d id) (file_at m.files id) (both d m
             (h.cells.agrees x.place x.s f q x.there (ap (file_at m.files) x.same_id ∙ t.machine_file) (ap (slice_get f.pages) x.same_page ∙ bt)
             ((λ i. is_unforced m.unforced (x.same_id i) (x.same_page i)) ∙ e))
 
-    by : (o p : Option File) → BothBy (Tells d m h) o p → BothBy (Stands m.unforced) o p
+    by : (o p : Option File) → BothBy (Reveals d m h) o p → BothBy (Stands m.unforced) o p
     by None None b = tt
     by None (Some f) b = absurd b
     by (Some g) None b = absurd b
     by (Some g) (Some f) b = stand g f b
 
 -- a disk whose files stand for those of a machine, but for loose pages
-pub told_but_loose : (serial counter : ℕ) (e now : List Sector) (m : Machine) → FilesRight true serial counter e → LabelsRight e → AreRising m.files → ((id : ℕ) (f : File) → file_at m.files id ≡ Some f → 16 ≤ id)
-    → AllStand m.unforced e m.files → Differs (is_loose_at m.unforced) e now → AreSectors now → TellsSettled now m
-told_but_loose serial counter e now m right labels rise high all differs are = record {
-  agrees = loose_agree m.unforced e now (settled m) differs are (settled_rising m.unforced m.files rise) (settled_any m.unforced m.files rise high) (all_agree m.unforced serial counter e m.files right rise all);
+pub revealed_but_loose : (serial counter : ℕ) (e now : List Sector) (m : Machine) → FilesRight true serial counter e → LabelsRight e → AreAscending m.files → ((id : ℕ) (f : File) → file_at m.files id ≡ Some f → 16 ≤ id)
+    → AllStand m.unforced e m.files → Differs (is_loose_at m.unforced) e now → AreSectors now → RevealsSettled now m
+revealed_but_loose serial counter e now m right labels rise high all differs are = record {
+  agrees = loose_agree m.unforced e now (settled m) differs are (settled_ascending m.unforced m.files rise) (settled_any m.unforced m.files rise high) (all_agree m.unforced serial counter e m.files right rise all);
   right = loose_right m.unforced e now differs labels;
 }

@@ -16,7 +16,7 @@ use Rattle.labelled_disk.specs.File.{File, size}
 use Rattle.labelled_disk.specs.FilesOn.{is_of, is_page, leads_file, file_among, files_on, disk_file}
 use Rattle.labelled_disk.specs.Right.{IsWhole}
 use Rattle.labelled_disk.specs.Root.{LabelsRight}
-use Rattle.labelled_disk.proofs.LowestLemmas.{files_are_as_told}
+use Rattle.labelled_disk.proofs.LowestLemmas.{files_are_as_revealed}
 use Rattle.labelled_disk.proofs.SectorWrites as w
 use Rattle.labelled_disk.proofs.WriteLemmas as laws
 use Rattle.swapper_kernel.specs.Stands.{labels_of}
@@ -179,15 +179,15 @@ module _ (d : List Sector) (right : LabelsRight d) (needed : (i : ℕ) (s : Sect
           subst (IsOwned (is_owned_upto 0 (shapes_of (files_on d)))) at.3 (record { is = file_owned at.1.0.id at.1.0.page f.0 f.1 f.3; named = file_names at.1.0 f.2 });
       all = λ id page owned.
           let f = owned_file id page owned in
-          let told = ((files_are_as_told false d).told id f.0 f.1) in
+          let revealed = ((files_are_as_revealed false d).revealed id f.0 f.1) in
           elim f.2 [
             | inl leader ↦
-                let low = told.0.leader in
+                let low = revealed.0.leader in
                 let passes = low.2.passes in
-                at_place id page low.0 low.1 low.2.here (subst (λ (n : ℕ). is_of n low.1 ≡ true) told.1 (laws.leader_of false 0 0 f.0.id low.1 passes)) (w.leader_number false f.0.id low.1 passes ∙ sym leader)
+                at_place id page low.0 low.1 low.2.here (subst (λ (n : ℕ). is_of n low.1 ≡ true) revealed.1 (laws.leader_of false 0 0 f.0.id low.1 passes)) (w.leader_number false f.0.id low.1 passes ∙ sym leader)
             | inr below ↦
-                let low = told.0.page page below in
-                at_place id page low.0 low.1 low.2.here (subst (λ (n : ℕ). is_of n low.1 ≡ true) told.1 (w.page_of false f.0.id page low.1 low.2.passes)) (w.page_number false f.0.id page low.1 low.2.passes)
+                let low = revealed.0.page page below in
+                at_place id page low.0 low.1 low.2.here (subst (λ (n : ℕ). is_of n low.1 ≡ true) revealed.1 (w.page_of false f.0.id page low.1 low.2.passes)) (w.page_number false f.0.id page low.1 low.2.passes)
           ];
       once = λ i j a b at_a at_b taken same_id same_page.
           let p = of_label i a at_a in
@@ -198,14 +198,14 @@ module _ (d : List Sector) (right : LabelsRight d) (needed : (i : ℕ) (s : Sect
           p.4 ∙ ap (λ (n : ℕ). first_data (length d) + n) same ∙ sym q.4;
     };
     leaders = record {
-      tell = λ k l sh has found leader.
+      reveal = λ k l sh has found leader.
           let p = of_label k l has in
           let f = file_by_shape l.id sh found in
-          let told = (files_are_as_told false d).told l.id f.0 f.1 in
-          let low = told.0.leader in
+          let revealed = (files_are_as_revealed false d).revealed l.id f.0 f.1 in
+          let low = revealed.0.leader in
           let is_file_low = and_parts (is_file low.1.0) (low.1.0.id == f.0.id) (laws.leader_of false 0 0 f.0.id low.1 low.2.passes) in
           let high = above_reserved low.1.0.id (file_id_of low.1.0 is_file_low.0) in
-          let ids : low.1.0.id ≡ l.id = eqb-true low.1.0.id f.0.id is_file_low.1 ∙ told.1 in
+          let ids : low.1.0.id ≡ l.id = eqb-true low.1.0.id f.0.id is_file_low.1 ∙ revealed.1 in
           let own = file_there p.0 p.1 p.2 (ne_eqb p.1.0.id 0 (λ z. omega (arith, z, high, ids, ap (λ (x : Label). x.id) p.3))) in
           let same = one_place low.0 p.0 low.1 p.1 low.2.here p.2 is_file_low.0 own.2 f.0 (ap (disk_file false d) ids ∙ f.1) (ids ∙ ap (λ (x : Label). x.id) (sym p.3))
           (w.leader_number false f.0.id low.1 low.2.passes ∙ sym leader ∙ ap (λ (x : Label). x.page) (sym p.3)) in

@@ -87,5 +87,5 @@ module _ (spaces_of : TablesMeaning) (m n : List Sector) (kinds : Kind → Bool)
     map = λ named other. names_alike m n (long m n kinds same) (same_map_bytes m n kinds same other) named;
     triples = λ named. subst (HasTriples named) (sym same.labels);
     cells = λ but files other h. record { agrees = λ k s f p has. h.agrees k s f p (kind_back kinds a_file m n same other k s has) };
-    tables = λ spaces other h. record { pages = h.pages; told = h.told; count = h.count; each = λ k s has. h.each k s (kind_back kinds the_tables m n same other k s has) };
+    tables = λ spaces other h. record { pages = h.pages; revealed = h.revealed; count = h.count; each = λ k s has. h.each k s (kind_back kinds the_tables m n same other k s has) };
   }

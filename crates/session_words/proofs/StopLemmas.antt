@@ -12,11 +12,11 @@ use Rattle.labelled_disk.specs.Sectors.{Sector, AreSectors}
 use Rattle.labelled_disk.specs.File.{File, Page, byte, any_page, file_at, size, total_room}
 use Rattle.labelled_disk.specs.Right.{IsWhole, IsGiven}
 use Rattle.labelled_disk.specs.FilesOn.{is_of, disk_file, file_by, files_on, is_page, page_at, pages_from}
-use Rattle.labelled_disk.specs.Rising.{BothBy}
+use Rattle.labelled_disk.specs.Ascending.{BothBy}
 use Rattle.labelled_disk.specs.Root.{serial_of, counter_of}
 use Rattle.labelled_disk.proofs.RootLemmas.{right_still}
 use Rattle.labelled_disk.proofs.Pages.{pages_each}
-use Rattle.labelled_disk.proofs.RisingLemmas.{zip_by_look_up}
+use Rattle.labelled_disk.proofs.AscendingLemmas.{zip_by_look_up}
 use Rattle.labelled_disk.proofs.SectorWrites as w
 use Rattle.labelled_disk.proofs.WriteLemmas as laws
 use Rattle.flat_machine.specs.declared.space.FilePage.{FilePage}
@@ -30,7 +30,7 @@ use Rattle.swapper_kernel.specs.DiffersLaws.{same_length, same_place, other_sect
 use Rattle.session_words.proofs.LooseLemmas.{firm_root, names_id}
 use Rattle.session_words.proofs.CellLemmas.{any_agrees}
 use Rattle.session_words.proofs.SameLabelLemmas.{found_both, pages_long, same_data_labels, zip_at, zip_by_place, zip_long, zip_looked}
-use Rattle.session_words.proofs.MomentLemmas.{few_labels, moments_are_like}
+use Rattle.session_words.proofs.CrashStateLemmas.{few_labels, crash_states_are_like}
 
 module _ (unforced : List FilePage) (d e : List Sector) (differs : Differs (is_loose_at unforced) d e) (are : AreSectors e) where
   start : data_sectors e ≡ drop (first_data (length d)) e
@@ -114,8 +114,8 @@ module _ (unforced : List FilePage) (d e : List Sector) (differs : Differs (is_l
       }
 
 pub loose_agree : LooseAgree
-loose_agree unforced d e gs differs are rising any_there all =
-    zip_by_look_up FileAgrees (λ f g a. a.same_id) (files_on e) gs (laws.files_on_rise false 0 0 e) rising
+loose_agree unforced d e gs differs are ascending any_there all =
+    zip_by_look_up FileAgrees (λ f g a. a.same_id) (files_on e) gs (laws.files_on_rise false 0 0 e) ascending
     (λ id. subst (λ (o : Option File). BothBy FileAgrees o (file_at gs id)) (sym (laws.look_up false 0 0 e id))
     (file_agrees unforced d e differs are gs any_there id
     (subst (λ (o : Option File). BothBy FileAgrees o (file_at gs id)) (laws.look_up false 0 0 d id) (zip_looked FileAgrees (λ f g a. a.same_id) (files_on d) gs all id))))
@@ -198,4 +198,4 @@ loose_right unforced d e differs right =
     right
 
 pub stop_laws : StopLaws
-stop_laws = record { moments = moments_are_like; few = few_labels; agree = loose_agree; right = loose_right }
+stop_laws = record { crash_states = crash_states_are_like; few = few_labels; agree = loose_agree; right = loose_right }

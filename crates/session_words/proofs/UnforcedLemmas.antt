@@ -6,7 +6,7 @@ use Rattle.std.specs.List.{list_any}
 use Rattle.std.proofs.lemmas.Option.{same_Some, none-some}
 use Rattle.std.proofs.lemmas.Bool.{eq-eqb, false≢true}
 use Rattle.labelled_disk.specs.File.{File, file_at, size}
-use Rattle.labelled_disk.proofs.RisingLemmas.{at_id, each_at}
+use Rattle.labelled_disk.proofs.AscendingLemmas.{at_id, each_at}
 use Rattle.flat_machine.specs.declared.space.Space.{Space}
 use Rattle.flat_machine.specs.declared.space.FilePage.{FilePage}
 use Rattle.flat_machine.specs.Machine.{Machine, IsFileId}

@@ -9,7 +9,7 @@ use Rattle.flat_machine.specs.Next.{next}
 use Rattle.session_words.specs.Parts.{HasRoot, TablesMeaning}
 use Rattle.session_words.specs.FreeLaws.{Frees}
 use Rattle.session_words.specs.OpenLaws.{CanOpen}
-use Rattle.session_words.specs.StandsFor.{IsFor, TellsSettled}
+use Rattle.session_words.specs.StandsFor.{IsFor, RevealsSettled}
 
 -- the page is one of the space tables, or of a temporary file
 abbrev pub is_closing : List File → ℕ → ℕ → Bool
@@ -20,7 +20,7 @@ is_closing files id page = id == 3 || option_map_or (λ f. not f.permanent) (fil
 pub record IsClosed (m : Machine) (y : List Sector) : Type 0 where
   pub can_open : CanOpen y
   pub root : HasRoot (length y) (slice_get y 0) m.serial m.counter m.capacity
-  pub told : TellsSettled y (next m Close)
+  pub revealed : RevealsSettled y (next m Close)
 
 abbrev pub Closed : TablesMeaning → Type 0
 Closed spaces_of = (x y : List Sector) (m : Machine) → IsFor spaces_of x m → Frees (is_closing m.files) x y → IsClosed m y

@@ -18,7 +18,7 @@ use Rattle.swapper_kernel.specs.Goes.{IsDirty}
 
 -- Files without their cells.
 
--- what a leader and the number of pages tell of a file
+-- what a leader and the number of pages reveal of a file
 pub record Shape : Type 0 where
   pub kind : ℕ
   pub permanent : Bool
@@ -74,7 +74,7 @@ pub record HasPlace (labels : List Label) (id page : ℕ) : Type 0 where
   pub same_id : label.id ≡ id
   pub same_page : label.page ≡ page
 
--- the label tells type and marks
+-- the label reveals type and marks
 pub record IsLeader (label : Label) (f : Shape) : Type 0 where
   pub kind : label.kind ≡ f.kind
   pub permanent : is_permanent label ≡ f.permanent
@@ -86,9 +86,9 @@ pub record HasPages (labels : List Label) (owned : ℕ → ℕ → Bool) : Type 
   pub all : (id page : ℕ) → owned id page ≡ true → HasPlace labels id page
   pub once : (i j : ℕ) (a b : Label) → HasLabel labels i a → HasLabel labels j b → is_free a ≡ false → a.id ≡ b.id → a.page ≡ b.page → i ≡ j
 
--- the leaders tell the files
+-- the leaders reveal the files
 pub record HasLeaders (labels : List Label) (shapes : Shapes) : Type 0 where
-  pub tell : (k : ℕ) (l : Label) (f : Shape) → HasLabel labels k l → shapes l.id ≡ Some f → l.page ≡ leader_page → IsLeader l f
+  pub reveal : (k : ℕ) (l : Label) (f : Shape) → HasLabel labels k l → shapes l.id ≡ Some f → l.page ≡ leader_page → IsLeader l f
 
 -- the labels are those of so many pages of the space tables, and of files
 pub record HasLabelsUpto (n : ℕ) (labels : List Label) (shapes : Shapes) : Type 0 where
@@ -146,7 +146,7 @@ pub record HasCells (but : ℕ → ℕ → Bool) (memory : List Sector) (files :
 abbrev pub but_none : ℕ → ℕ → Bool
 but_none id page = false
 
--- The space tables. What 96 pages tell is a parameter.
+-- The space tables. What 96 pages reveal is a parameter.
 
 -- what the pages of file 3 mean
 abbrev pub TablesMeaning : Type 0
@@ -155,7 +155,7 @@ TablesMeaning = List (List ℕ) → Option (List Space)
 -- the pages of file 3 mean these spaces
 pub record HasTables (spaces_of : TablesMeaning) (memory : List Sector) (spaces : List Space) : Type 0 where
   pub pages : List (List ℕ)
-  pub told : spaces_of pages ≡ Some spaces
+  pub revealed : spaces_of pages ≡ Some spaces
   pub count : length pages ≡ 96
   pub each : (k : ℕ) (s : Sector) → HasKind memory k s the_tables → slice_get pages s.0.page ≡ Some s.1
 

@@ -1,10 +1,10 @@
--- At each moment of a call that writes labels, the disk tells the settled files of a machine: that of before, that of
+-- In each crash state of a call that writes labels, the disk reveals the settled files of a machine: that of before, that of
 -- after, or for another size one between. It is the same for both as long as no label was written more.
 use Rattle.std.specs.Prelude.{◌≡◌, ℕ, zero, suc, ◌+◌, ◌≤◌, true, false, List, [], ◌∷◌, length, Some}
 use Rattle.labelled_disk.specs.declared.disk.DiskWrite.{DiskWrite}
 use Rattle.labelled_disk.specs.declared.disk.DiskWrite.TheVariants.{LabelOnly}
 use Rattle.labelled_disk.specs.Sectors.{Sector}
-use Rattle.labelled_disk.specs.Moment.{moment}
+use Rattle.labelled_disk.specs.CrashState.{crash_state}
 use Rattle.labelled_disk.specs.State.{DiskState}
 use Rattle.labelled_disk.specs.File.{File, file_at, size}
 use Rattle.labelled_disk.specs.FilesOn.{leads_file}
@@ -19,13 +19,13 @@ use Rattle.label_laws.specs.MixedVolumes.{label_count}
 use Rattle.swapper_kernel.specs.Goes.{Wrote}
 use Rattle.session_words.specs.Volume.{volume_page}
 use Rattle.session_words.specs.Parts.{DirtyAreLoose}
-use Rattle.session_words.specs.StandsFor.{IsSettled, TellsSettled}
+use Rattle.session_words.specs.StandsFor.{IsSettled, RevealsSettled}
 
 -- The call began on a disk that was settled, with dirty frames of loose pages alone.
 pub record Begins (before : Slots) (old : DiskState) (d : List Sector) (m : Machine) : Type 0 where
   pub settled_disk : IsSettled d m
   pub dirty : DirtyAreLoose before m.unforced
-  pub told : old.contents ≡ Some d
+  pub revealed : old.contents ≡ Some d
 
 -- the machine with a change of one file
 abbrev pub with_change : ℕ → (File → File) → Machine → Machine
@@ -45,25 +45,25 @@ pub record RunStops : Type 0 where
   -- as many pages more as labels were written
   pub growth_stops : (m : Machine) (id : ℕ) (f : File) (is : List ℕ) (old new : DiskState) (before : Slots) (d : List Sector) (wrote : Wrote volume_page (growth id f.kind (size f) is) old before new) → Begins before old d m
       → file_at m.files id ≡ Some f → AreUnused d is → length is + used m ≤ m.capacity
-      → (k : ℕ) → TellsSettled (moment d wrote.writes k) (with_change id (lengthened (label_count wrote.writes k)) m)
+      → (k : ℕ) → RevealsSettled (crash_state d wrote.writes k) (with_change id (lengthened (label_count wrote.writes k)) m)
   -- as many fewer
   pub shrinking_stops : (m : Machine) (id : ℕ) (f : File) (is : List ℕ) (old new : DiskState) (before : Slots) (d : List Sector) (wrote : Wrote volume_page (freeing is) old before new) → Begins before old d m
       → file_at m.files id ≡ Some f → ArePagesDown d id (size f) is
-      → (k : ℕ) → TellsSettled (moment d wrote.writes k) (with_change id (shortened (label_count wrote.writes k)) m)
+      → (k : ℕ) → RevealsSettled (crash_state d wrote.writes k) (with_change id (shortened (label_count wrote.writes k)) m)
   -- a file of either kind is deleted
   pub deletion_stops : (m : Machine) (id leader : ℕ) (f : File) (is : List ℕ) (old new : DiskState) (before : Slots) (d : List Sector) (wrote : Wrote volume_page (freeing (leader ∷ is)) old before new) → Begins before old d m
       → file_at m.files id ≡ Some f → IsAt (leads_file true id) d leader → ArePagesUp d id 0 is
-      → (k : ℕ) → TellsSettled (moment d wrote.writes k) (deleted_after id (label_count wrote.writes k) m)
+      → (k : ℕ) → RevealsSettled (crash_state d wrote.writes k) (deleted_after id (label_count wrote.writes k) m)
   -- a leader is marked
   pub permanent_stops : (m : Machine) (id leader : ℕ) (f : File) (s : Sector) (old new : DiskState) (before : Slots) (d : List Sector) (wrote : Wrote volume_page (LabelOnly leader (permanent_label s.0) ∷ []) old before new) → Begins before old d m
       → file_at m.files id ≡ Some f → HasData d leader s → leads_file true id s ≡ true
-      → (k : ℕ) → TellsSettled (moment d wrote.writes k) (changed_after id (λ f. record f { permanent = true }) (label_count wrote.writes k) m)
+      → (k : ℕ) → RevealsSettled (crash_state d wrote.writes k) (changed_after id (λ f. record f { permanent = true }) (label_count wrote.writes k) m)
   pub immutable_stops : (m : Machine) (id leader : ℕ) (f : File) (s : Sector) (old new : DiskState) (before : Slots) (d : List Sector) (wrote : Wrote volume_page (LabelOnly leader (immutable_label s.0) ∷ []) old before new) → Begins before old d m
       → file_at m.files id ≡ Some f → HasData d leader s → leads_file true id s ≡ true
-      → (k : ℕ) → TellsSettled (moment d wrote.writes k) (changed_after id (λ f. record f { immutable = true }) (label_count wrote.writes k) m)
+      → (k : ℕ) → RevealsSettled (crash_state d wrote.writes k) (changed_after id (λ f. record f { immutable = true }) (label_count wrote.writes k) m)
   -- label writes that keep the permanent files: of a creation, of a temporary file's end, of a close
   pub quiet_stops : (m : Machine) (order : List DiskWrite) (old new : DiskState) (before : Slots) (d : List Sector) (wrote : Wrote volume_page order old before new) → Begins before old d m
-      → ((k : ℕ) → k ≤ length order → StaysRight false d (moment d order k)) → (k : ℕ) → TellsSettled (moment d wrote.writes k) m
+      → ((k : ℕ) → k ≤ length order → StaysRight false d (crash_state d order k)) → (k : ℕ) → RevealsSettled (crash_state d wrote.writes k) m
   -- the same where no page of a file is unforced, as at a start: the permanent files are those of before
   pub start_stops : (order : List DiskWrite) (old new : DiskState) (before : Slots) (d : List Sector) (wrote : Wrote volume_page order old before new) → DirtyAreLoose before [] → old.contents ≡ Some d
-      → ((k : ℕ) → k ≤ length order → StaysRight false d (moment d order k)) → (k : ℕ) → StaysRight false d (moment d wrote.writes k)
+      → ((k : ℕ) → k ≤ length order → StaysRight false d (crash_state d order k)) → (k : ℕ) → StaysRight false d (crash_state d wrote.writes k)

@@ -3,7 +3,7 @@ use Rattle.std.specs.Prelude.{◌≡◌, ◌↔◌, ℕ, ◌*◌, ◌<◌, Bool,
 use Rattle.labelled_disk.specs.declared.layout.Layout.{Layout}
 use Rattle.labelled_disk.specs.Sectors.{Sector, AreSectors}
 use Rattle.alloc_map.specs.Bits.{is_used}
-use Rattle.page_tree.specs.Tells.{TellsTree}
+use Rattle.page_tree.specs.Reveals.{RevealsTree}
 use Rattle.file_map.specs.FileMap.{Triples, AreNamed}
 use Rattle.file_map.specs.InSectors.{map_bytes, MapNames}
 use Rattle.swapper_kernel.specs.declared.manager.Manager.{Manager}
@@ -27,6 +27,6 @@ pub record ShownLaws : Type 0 where
   pub bytes : (layout : Layout) (m : List Sector) (shown : List ℕ) → IsLayout layout → length m ≡ layout.sectors → AreSectors m → Shows FileMap m layout shown ↔ (shown ≡ map_bytes m)
   -- so what they name, the memory's map does
   pub names : (layout : Layout) (m : List Sector) (shown : List ℕ) (named : Triples) → IsLayout layout → length m ≡ layout.sectors → AreSectors m → Shows FileMap m layout shown
-      → AreNamed layout.sectors (TellsTree 24 12 layout.vfm (λ b. b ≡ shown)) named ↔ MapNames m named
+      → AreNamed layout.sectors (RevealsTree 24 12 layout.vfm (λ b. b ≡ shown)) named ↔ MapNames m named
   -- the bits that are shown are those of the memory
   pub bits : (layout : Layout) (m : List Sector) (shown : List ℕ) (k : ℕ) → Shows AllocationMap m layout shown → k < 4096 * layout.vam → is_used shown k ≡ is_marked m k

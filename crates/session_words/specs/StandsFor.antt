@@ -52,6 +52,6 @@ pub record IsSettled (d : List Sector) (m : Machine) : Type 0 where
   pub cells : HasCells (is_unforced m.unforced) d m.files
 
 -- the files on the disk are the settled ones, and its labels are right
-pub record TellsSettled (d : List Sector) (m : Machine) : Type 0 where
+pub record RevealsSettled (d : List Sector) (m : Machine) : Type 0 where
   pub agrees : Agrees (files_on d) (settled m)
   pub right : LabelsRight d

@@ -3,10 +3,10 @@ use Rattle.std.specs.Prelude.{◌≡◌, ℕ, ◌≤◌, true, List, length, Som
 use Rattle.labelled_disk.specs.declared.disk.DiskWrite.{DiskWrite}
 use Rattle.labelled_disk.specs.Sectors.{Sector, AreSectors}
 use Rattle.labelled_disk.specs.State.{DiskState}
-use Rattle.labelled_disk.specs.Moment.{moment}
+use Rattle.labelled_disk.specs.CrashState.{crash_state}
 use Rattle.labelled_disk.specs.File.{File, Page, any_page, file_at}
 use Rattle.labelled_disk.specs.FilesOn.{files_on}
-use Rattle.labelled_disk.specs.Rising.{AreRising}
+use Rattle.labelled_disk.specs.Ascending.{AreAscending}
 use Rattle.labelled_disk.specs.Root.{LabelsRight}
 use Rattle.frame_pool.specs.Frames.{Slots}
 use Rattle.flat_machine.specs.declared.space.FilePage.{FilePage}
@@ -17,10 +17,10 @@ use Rattle.session_words.specs.Volume.{volume_page}
 use Rattle.swapper_kernel.specs.Differs.{Differs}
 use Rattle.session_words.specs.Parts.{DirtyAreLoose, is_loose, is_loose_at}
 
--- each moment of a call's writes is one of its label writes alone, that of as many, but for the bytes of loose pages
-abbrev pub MomentsAreLike : Type 0
-MomentsAreLike = (unforced : List FilePage) (run : List DiskWrite) (old new : DiskState) (before : Slots) (d : List Sector) (wrote : Wrote volume_page run old before new) → DirtyAreLoose before unforced
-    → old.contents ≡ Some d → (k : ℕ) → Differs (is_loose_at unforced) (moment d run (label_count wrote.writes k)) (moment d wrote.writes k)
+-- each crash state of a call's writes is one of its label writes alone, that of as many, but for the bytes of loose pages
+abbrev pub CrashStatesAreLike : Type 0
+CrashStatesAreLike = (unforced : List FilePage) (run : List DiskWrite) (old new : DiskState) (before : Slots) (d : List Sector) (wrote : Wrote volume_page run old before new) → DirtyAreLoose before unforced
+    → old.contents ≡ Some d → (k : ℕ) → Differs (is_loose_at unforced) (crash_state d run (label_count wrote.writes k)) (crash_state d wrote.writes k)
 
 -- and there are no more of them than the run has
 abbrev pub FewLabels : Type 0
@@ -32,7 +32,7 @@ AreAnyWhereUnforced unforced gs = (id k : ℕ) (g : File) (q : Page) → file_at
 
 -- whatever bytes stand in loose pages, the files agree with those whose cells are any there
 abbrev pub LooseAgree : Type 0
-LooseAgree = (unforced : List FilePage) (d e : List Sector) (gs : List File) → Differs (is_loose_at unforced) d e → AreSectors e → AreRising gs → AreAnyWhereUnforced unforced gs
+LooseAgree = (unforced : List FilePage) (d e : List Sector) (gs : List File) → Differs (is_loose_at unforced) d e → AreSectors e → AreAscending gs → AreAnyWhereUnforced unforced gs
     → Agrees (files_on d) gs → Agrees (files_on e) gs
 
 -- whatever bytes stand in loose pages, labels that are right stay so
@@ -40,7 +40,7 @@ abbrev pub LooseRight : Type 0
 LooseRight = (unforced : List FilePage) (d e : List Sector) → Differs (is_loose_at unforced) d e → LabelsRight d → LabelsRight e
 
 pub record StopLaws : Type 0 where
-  pub moments : MomentsAreLike
+  pub crash_states : CrashStatesAreLike
   pub few : FewLabels
   pub agree : LooseAgree
   pub right : LooseRight

@@ -33,14 +33,14 @@ pub fn parts_stay()
     ensures { (spaces_of : TablesMeaning) (m n : List Sector) (kinds : Kind → Bool) (same : SameBut kinds m n) → Stays spaces_of m n kinds same }
 {}
 
-/// Labels that are those of some files tell these files, and no others.
-pub fn labels_tell_files()
+/// Labels that are those of some files reveal these files, and no others.
+pub fn labels_reveal_files()
     ensures found { (d : List Sector) (shapes : Shapes) → HasLabels (labels_of d) shapes → AreShapes shapes → (id : ℕ) (f : Shape) → shapes id ≡ Some f → (g : File) × IsFound d id f g }
     ensures missing { (d : List Sector) (shapes : Shapes) → HasLabels (labels_of d) shapes → AreShapes shapes → (id : ℕ) → shapes id ≡ None → disk_file true d id ≡ None }
 {}
 
-/// The disk tells the settled files of the machine that it and its frames stand for, at each moment of swapping too.
-pub fn disk_tells_settled()
+/// The disk reveals the settled files of the machine that it and its frames stand for, in each crash state of swapping too.
+pub fn disk_reveals_settled()
     ensures { (spaces_of : TablesMeaning) → SettledLaws spaces_of }
 {}
 
@@ -114,8 +114,8 @@ pub fn files_marked()
     ensures { (spaces_of : TablesMeaning) → MarkLaws spaces_of }
 {}
 
-/// At each moment of a call that writes labels, the disk tells the settled files of a machine.
-pub fn stops_tell_settled()
+/// In each crash state of a call that writes labels, the disk reveals the settled files of a machine.
+pub fn stops_reveal_settled()
     ensures { RunStops }
 {}
 

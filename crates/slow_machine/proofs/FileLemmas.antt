@@ -1,11 +1,11 @@
--- Files stay in rising identifiers, and within the capacity.
+-- Files stay in ascending identifiers, and within the capacity.
 use Rattle.std.proofs.Common.{◌≡◌, ℕ, zero, suc, ◌+◌, ◌-◌, ◌<◌, ◌≤◌, Bool, true, false, cond, List, [], ◌∷◌, ◌++◌, map, filter, length, take, replicate, Option, Some, None, refl, sym, ap, subst, arith}
 use Rattle.std.proofs.lemmas.Bool.Decides.{nat_tests}
 use Rattle.std.specs.Prelude.{nat_lt, IfSome, is_none, option_and_then, ◌==◌, if◌then◌else◌}
 use Rattle.std.specs.List.{AllByRecursion}
 use Rattle.std.specs.Bool.{then_some}
 use Rattle.std.specs.Option.{option_map_or}
-use Rattle.labelled_disk.specs.Rising.{AreRising}
+use Rattle.labelled_disk.specs.Ascending.{AreAscending}
 use Rattle.flat_machine.specs.declared.call.Call.TheVariants.{SetSize}
 use Rattle.flat_machine.specs.declared.call.Refusal.TheVariants as why
 use Rattle.flat_machine.specs.File.{File, Page, size, room_of, total_room, file_at, zero_page}
@@ -17,14 +17,14 @@ use Rattle.flat_machine.specs.Refusal.{Test, first_of, refusal, no_file, is_immu
 use Rattle.flat_machine.specs.Next.{change_file, without_file, resized, with_byte, store_byte, store_bytes, killed_file, without_anonymous}
 use Rattle.slow_machine.proofs.RoomLemmas.{room_from, from_more, replicated}
 
--- Rising order.
+-- Ascending order.
 
 same_ids : (g : File → File) → ((f : File) → (g f).id ≡ f.id) → (fs : List File) → map (λ f. f.id) (map g fs) ≡ map (λ f. f.id) fs
 same_ids g k [] = refl
 same_ids g k (f ∷ fs) = λ t. k f t ∷ same_ids g k fs t
 
-pub rising_map : (g : File → File) → ((f : File) → (g f).id ≡ f.id) → (fs : List File) → AreRising fs → AreRising (map g fs)
-rising_map g k fs h = rw (same_ids g k fs) h
+pub ascending_map : (g : File → File) → ((f : File) → (g f).id ≡ f.id) → (fs : List File) → AreAscending fs → AreAscending (map g fs)
+ascending_map g k fs h = rw (same_ids g k fs) h
 
 pub one_id : (id : ℕ) (g : File → File) → ((f : File) → (g f).id ≡ f.id) → (f : File) → (if f.id == id then g f else f).id ≡ f.id
 one_id id g k f = either (f.id == id)
@@ -41,35 +41,35 @@ above_filter p low (f ∷ fs) h = kept (p f) (above_filter p low fs h.1)
     kept true t = (h.0, t)
     kept false t = t
 
-pub rising_filter : (p : File → Bool) (fs : List File) → AreRising fs → AreRising (filter p fs)
-rising_filter p [] h = tt
-rising_filter p (f ∷ fs) h = kept (p f) (rising_filter p fs h.1)
+pub ascending_filter : (p : File → Bool) (fs : List File) → AreAscending fs → AreAscending (filter p fs)
+ascending_filter p [] h = tt
+ascending_filter p (f ∷ fs) h = kept (p f) (ascending_filter p fs h.1)
   where
-    kept : (b : Bool) → AreRising (filter p fs) → AreRising (cond b (f ∷ filter p fs) (filter p fs))
+    kept : (b : Bool) → AreAscending (filter p fs) → AreAscending (cond b (f ∷ filter p fs) (filter p fs))
     kept true t = (above_filter p f.id fs h.0, t)
     kept false t = t
 
-pub rising_changed : (id : ℕ) (g : File → File) → ((f : File) → (g f).id ≡ f.id) → (fs : List File) → AreRising fs → AreRising (change_file id g fs)
-rising_changed id g k fs h = rising_map (λ f. if f.id == id then g f else f) (one_id id g k) fs h
+pub ascending_changed : (id : ℕ) (g : File → File) → ((f : File) → (g f).id ≡ f.id) → (fs : List File) → AreAscending fs → AreAscending (change_file id g fs)
+ascending_changed id g k fs h = ascending_map (λ f. if f.id == id then g f else f) (one_id id g k) fs h
 
-pub rising_killed : (ss : List Space) (range : Space) (fs : List File) → AreRising fs → AreRising (map (killed_file ss range) fs)
-rising_killed ss range fs h = rising_map (killed_file ss range) (λ f. refl) fs h
+pub ascending_killed : (ss : List Space) (range : Space) (fs : List File) → AreAscending fs → AreAscending (map (killed_file ss range) fs)
+ascending_killed ss range fs h = ascending_map (killed_file ss range) (λ f. refl) fs h
 
-pub rising_without : (o : Option Window) (fs : List File) → AreRising fs → AreRising (option_map_or (λ w. without_anonymous w fs) o fs)
-rising_without None fs h = h
-rising_without (Some w) fs h = either w.anonymous
+pub ascending_without : (o : Option Window) (fs : List File) → AreAscending fs → AreAscending (option_map_or (λ w. without_anonymous w fs) o fs)
+ascending_without None fs h = h
+ascending_without (Some w) fs h = either w.anonymous
   where
-    either : (b : Bool) → AreRising (cond b (without_file w.file fs) fs)
-    either true = rising_filter _ fs h
+    either : (b : Bool) → AreAscending (cond b (without_file w.file fs) fs)
+    either true = ascending_filter _ fs h
     either false = h
 
-byte_rising : (o : Option Spot) (b : ℕ) (fs : List File) → AreRising fs → AreRising (option_map_or (λ spot. change_file spot.file (with_byte spot b) fs) o fs)
-byte_rising None b fs h = h
-byte_rising (Some spot) b fs h = rising_map _ (one_id spot.file (with_byte spot b) (λ f. refl)) fs h
+byte_ascending : (o : Option Spot) (b : ℕ) (fs : List File) → AreAscending fs → AreAscending (option_map_or (λ spot. change_file spot.file (with_byte spot b) fs) o fs)
+byte_ascending None b fs h = h
+byte_ascending (Some spot) b fs h = ascending_map _ (one_id spot.file (with_byte spot b) (λ f. refl)) fs h
 
-pub rising_stored : (spaces : List Space) (address : ℕ) (bytes : List ℕ) (fs : List File) → AreRising fs → AreRising (store_bytes spaces address bytes fs)
-rising_stored spaces address [] fs h = h
-rising_stored spaces address (b ∷ bs) fs h = rising_stored spaces (address + 1) bs (store_byte spaces address b fs) (byte_rising (spot_at spaces address) b fs h)
+pub ascending_stored : (spaces : List Space) (address : ℕ) (bytes : List ℕ) (fs : List File) → AreAscending fs → AreAscending (store_bytes spaces address bytes fs)
+ascending_stored spaces address [] fs h = h
+ascending_stored spaces address (b ∷ bs) fs h = ascending_stored spaces (address + 1) bs (store_byte spaces address b fs) (byte_ascending (spot_at spaces address) b fs h)
 
 -- A file that gets another size.
 
@@ -89,7 +89,7 @@ none_above id low g (f ∷ fs) l h = rw (other_above id low f.id l h.0) (ap (λ 
 id_of : (a b : ℕ) → a == b ≡ true → b ≤ a
 id_of a b e = grind (arith, nat_tests)
 
-resized_from : (id pages : ℕ) (fs : List File) (a : ℕ) → AreRising fs
+resized_from : (id pages : ℕ) (fs : List File) (a : ℕ) → AreAscending fs
     → IfSome (file_at fs id) (λ f. room_from a (change_file id (resized pages) fs) + size f ≡ room_from a fs + pages)
 resized_from id pages [] a r = tt
 resized_from id pages (f ∷ fs) a r = either (f.id == id) refl (resized_from id pages fs (a + room_of f) r.1)
@@ -122,7 +122,7 @@ named true (Some f) e n = cc
 named false None e n = cc
 named false (Some f) e n = cc
 
-pub room_resized : (m : Machine) (id pages : ℕ) → AreRising m.files → refusal m (SetSize id pages) ≡ None
+pub room_resized : (m : Machine) (id pages : ℕ) → AreAscending m.files → refusal m (SetSize id pages) ≡ None
     → total_room (change_file id (resized pages) m.files) ≤ m.capacity
 room_resized m id pages r e =
     let p = four_none (no_file m id) (is_immutable m id) (cut_while_mapped m id pages) (no_room_as m id pages) e in
@@ -137,18 +137,18 @@ room_resized m id pages r e =
 
 -- The same of a list that is the changed one.
 
-pub rising_stored_by : (gs : List File) (spaces : List Space) (address : ℕ) (bytes : List ℕ) (fs : List File)
-    → gs ≡ store_bytes spaces address bytes fs → AreRising fs → AreRising gs
-rising_stored_by gs spaces address bytes fs e h = subst (λ (l : List File). AreRising l) (sym e) (rising_stored spaces address bytes fs h)
+pub ascending_stored_by : (gs : List File) (spaces : List Space) (address : ℕ) (bytes : List ℕ) (fs : List File)
+    → gs ≡ store_bytes spaces address bytes fs → AreAscending fs → AreAscending gs
+ascending_stored_by gs spaces address bytes fs e h = subst (λ (l : List File). AreAscending l) (sym e) (ascending_stored spaces address bytes fs h)
 
-pub rising_killed_by : (gs : List File) (ss : List Space) (range : Space) (fs : List File)
-    → gs ≡ map (killed_file ss range) fs → AreRising fs → AreRising gs
-rising_killed_by gs ss range fs e h = subst (λ (l : List File). AreRising l) (sym e) (rising_killed ss range fs h)
+pub ascending_killed_by : (gs : List File) (ss : List Space) (range : Space) (fs : List File)
+    → gs ≡ map (killed_file ss range) fs → AreAscending fs → AreAscending gs
+ascending_killed_by gs ss range fs e h = subst (λ (l : List File). AreAscending l) (sym e) (ascending_killed ss range fs h)
 
-pub rising_resized_by : (gs : List File) (id pages : ℕ) (fs : List File) → gs ≡ change_file id (resized pages) fs → AreRising fs → AreRising gs
-rising_resized_by gs id pages fs e h = subst (λ (l : List File). AreRising l) (sym e) (rising_changed id (resized pages) (λ f. refl) fs h)
+pub ascending_resized_by : (gs : List File) (id pages : ℕ) (fs : List File) → gs ≡ change_file id (resized pages) fs → AreAscending fs → AreAscending gs
+ascending_resized_by gs id pages fs e h = subst (λ (l : List File). AreAscending l) (sym e) (ascending_changed id (resized pages) (λ f. refl) fs h)
 
-pub room_resized_by : (n m : Machine) (gs : List File) (id pages : ℕ) → n ≡ m → gs ≡ change_file id (resized pages) n.files → AreRising n.files
+pub room_resized_by : (n m : Machine) (gs : List File) (id pages : ℕ) → n ≡ m → gs ≡ change_file id (resized pages) n.files → AreAscending n.files
     → refusal m (SetSize id pages) ≡ None → total_room gs ≤ n.capacity
 room_resized_by n m gs id pages v e h r =
     let k : refusal n (SetSize id pages) ≡ None = subst (λ (l : Machine). refusal l (SetSize id pages) ≡ None) (sym v) r in

@@ -45,7 +45,7 @@ gap_push p xs n = rw (filter-append p xs (n ∷ [])) (either (p n))
     either true = least_push (filter p xs) n
     either false = ap least (append_empty (filter p xs))
 
--- the lowest gap that begins with the parent or behind one of these spaces
+-- the lowest gap that begins with the parent or after one of these spaces
 abbrev pub gap_so_far : List Space → Space → ℕ → List Space → Option ℕ
 gap_so_far spaces parent pages done = least (filter (fits spaces parent pages) (gap_starts done parent))
 

@@ -1,4 +1,4 @@
--- The place of a new element among rising ones.
+-- The place of a new element among ascending ones.
 use Rattle.std.proofs.Common.{◌≡◌, ℕ, suc, ◌+◌, ◌≤◌, Bool, true, false, not, cond, List, [], ◌∷◌, length, Some, None, refl, ap, arith}
 use Rattle.std.proofs.lemmas.Bool.Decides.{nat_tests}
 use Rattle.std.specs.Prelude.{nat_lt, nat_le, insert, slice_get, slice_set, ◌==◌}
@@ -7,9 +7,9 @@ use Rattle.flat_machine.specs.File.{File, put_file}
 use Rattle.std.specs.List.{position_or_len, position, prefix_len}
 
 -- a first place, or the length where there is none
-front_bound : {X : Type 0} (p : X → Bool) (xs : List X) → prefix_len p xs ≤ length xs
-front_bound p [] = omega arith
-front_bound p (x ∷ xs) = either (p x) (front_bound p xs)
+prefix_bound : {X : Type 0} (p : X → Bool) (xs : List X) → prefix_len p xs ≤ length xs
+prefix_bound p [] = omega arith
+prefix_bound p (x ∷ xs) = either (p x) (prefix_bound p xs)
   where
     either : (b : Bool) → prefix_len p xs ≤ length xs → cond b (1 + prefix_len p xs) 0 ≤ suc (length xs)
     either true h = omega arith
@@ -33,9 +33,9 @@ pub some_place : {X : Type 0} (p : X → Bool) (xs : List X) (i : ℕ) → Some 
 some_place p xs i e = place_from (position_or_len p xs) (length xs) i e
 
 pub none_place : {X : Type 0} (p : X → Bool) (xs : List X) → position p xs ≡ None → length xs ≡ position_or_len p xs
-none_place p xs e = no_place_from (position_or_len p xs) (length xs) (front_bound (λ x. not (p x)) xs) e
+none_place p xs e = no_place_from (position_or_len p xs) (length xs) (prefix_bound (λ x. not (p x)) xs) e
 
--- A file put among rising identifiers.
+-- A file put among ascending identifiers.
 
 -- the element at a place has the identifier
 abbrev names : ℕ → List File → ℕ → Bool

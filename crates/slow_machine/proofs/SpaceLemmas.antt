@@ -1,4 +1,4 @@
--- Spaces in rising handles: the lowest unused handle, and what changes of the list keep.
+-- Spaces in ascending handles: the lowest unused handle, and what changes of the list keep.
 use Rattle.std.proofs.Common.{◌≡◌, ◌≢◌, ℕ, zero, suc, ◌+◌, ◌<◌, ◌≤◌, Bool, true, false, not, ◌||◌, cond, List, [], ◌∷◌, map, filter, drop, get_or, length, refl, ◌∙◌, ap, arith}
 use Rattle.std.proofs.lemmas.Bool.Decides.{nat_tests}
 use Rattle.std.specs.Prelude.{insert, nat_lt, Option, option_map, ◌==◌, if◌then◌else◌}
@@ -6,7 +6,7 @@ use Rattle.std.specs.List.{position_or_len, list_any, AllByRecursion}
 use Rattle.flat_machine.specs.declared.space.Space.{Space}
 use Rattle.flat_machine.specs.declared.space.Window.{Window}
 use Rattle.flat_machine.specs.Space.{root, end, root_pages}
-use Rattle.flat_machine.specs.Machine.{IsRising}
+use Rattle.flat_machine.specs.Machine.{IsAscending}
 use Rattle.flat_machine.specs.Next.{is_unused, lowest_unused, put_space, change_space, set_window, set_mode, with_mode, without_space}
 use Rattle.slow_machine.specs.Lists.{AreSpaces}
 use Rattle.slow_machine.proofs.LeastLemmas.{lowest_unused_is_least}
@@ -14,7 +14,7 @@ use Rattle.slow_machine.proofs.LeastLemmas.{lowest_unused_is_least}
 abbrev pub handles : List Space → List ℕ
 handles ss = map (λ s. s.handle) ss
 
--- the first number from low on that the rising handles skip
+-- the first number from low on that the ascending handles skip
 abbrev pub walk : ℕ → List Space → ℕ
 walk low [] = low
 walk low (s ∷ ss) = if s.handle == low then walk (low + 1) ss else low
@@ -59,7 +59,7 @@ above_unused : (ss : List Space) (k : ℕ) → AllByRecursion (λ y. k < y) (han
 above_unused [] k h = refl
 above_unused (s ∷ ss) k h = neither _ _ (other_below k s.handle h.0) (above_unused ss k h.1)
 
-walk_unused : (ss : List Space) (low : ℕ) → IsRising (handles ss) → AllByRecursion (λ y. low ≤ y) (handles ss) → list_any (λ s. s.handle == walk low ss) ss ≡ false
+walk_unused : (ss : List Space) (low : ℕ) → IsAscending (handles ss) → AllByRecursion (λ y. low ≤ y) (handles ss) → list_any (λ s. s.handle == walk low ss) ss ≡ false
 walk_unused [] low r h = refl
 walk_unused (s ∷ ss) low r h = either (s.handle == low) refl (walk_unused ss (low + 1) r.1)
   where
@@ -99,7 +99,7 @@ from_zero : (ns : List ℕ) → AllByRecursion (λ y. 0 ≤ y) ns
 from_zero [] = tt
 from_zero (n ∷ ns) = (omega arith, from_zero ns)
 
-pub lowest_is_walk : (ss : List Space) → IsRising (handles ss) → is_unused ss 0 ≡ false → walk 0 ss ≡ lowest_unused ss
+pub lowest_is_walk : (ss : List Space) → IsAscending (handles ss) → is_unused ss 0 ≡ false → walk 0 ss ≡ lowest_unused ss
 lowest_is_walk ss r z =
     let u : is_unused ss (walk 0 ss) ≡ true = turned _ (walk_unused ss 0 r (from_zero (handles ss))) in
     let least = lowest_unused_is_least ss (walk 0 ss) z u in
@@ -143,12 +143,12 @@ not_or : (a b : Bool) → not (a || b) ≡ true → (a ≡ false) × (not b ≡ 
 not_or true b h = absurd (cc)
 not_or false b h = (refl, h)
 
-put_rises : (x : Space) (ss : List Space) → IsRising (handles ss) → is_unused ss x.handle ≡ true → IsRising (handles (put_space x ss))
+put_rises : (x : Space) (ss : List Space) → IsAscending (handles ss) → is_unused ss x.handle ≡ true → IsAscending (handles (put_space x ss))
 put_rises x [] r u = (tt, tt)
 put_rises x (s ∷ ss) r u = either (nat_lt x.handle s.handle) refl (put_rises x ss r.1)
   where
-    either : (b : Bool) → nat_lt x.handle s.handle ≡ b → (is_unused ss x.handle ≡ true → IsRising (handles (put_space x ss)))
-        → IsRising (handles (cond b (x ∷ s ∷ ss) (s ∷ put_space x ss)))
+    either : (b : Bool) → nat_lt x.handle s.handle ≡ b → (is_unused ss x.handle ≡ true → IsAscending (handles (put_space x ss)))
+        → IsAscending (handles (cond b (x ∷ s ∷ ss) (s ∷ put_space x ss)))
     either true e f =
         let l : x.handle < s.handle = lt_from _ _ e in
         ((l, weaker (λ y. s.handle < y) (λ y. x.handle < y) (λ k p. omega arith) (handles ss) r.0), r)
@@ -266,11 +266,11 @@ above_filter p low (x ∷ xs) h = kept (p x) (above_filter p low xs h.1)
     kept true t = (h.0, t)
     kept false t = t
 
-rises_filter : (p : Space → Bool) (xs : List Space) → IsRising (handles xs) → IsRising (handles (filter p xs))
+rises_filter : (p : Space → Bool) (xs : List Space) → IsAscending (handles xs) → IsAscending (handles (filter p xs))
 rises_filter p [] h = tt
 rises_filter p (x ∷ xs) h = kept (p x) (rises_filter p xs h.1)
   where
-    kept : (b : Bool) → IsRising (handles (filter p xs)) → IsRising (handles (cond b (x ∷ filter p xs) (filter p xs)))
+    kept : (b : Bool) → IsAscending (handles (filter p xs)) → IsAscending (handles (cond b (x ∷ filter p xs) (filter p xs)))
     kept true t = (above_filter p x.handle xs h.0, t)
     kept false t = t
 

@@ -155,7 +155,7 @@ impl<A: Allocator + Clone> SlowMachine<A> {
             return;
         };
         files::remove_anonymous(&mut self.files, found.window);
-        unforced::settle_window(&found, &mut self.unforced);
+        unforced::force_window(&found, &mut self.unforced);
         spaces::set_window(&mut self.spaces, found.handle, None);
     }
 
@@ -165,7 +165,7 @@ impl<A: Allocator + Clone> SlowMachine<A> {
         let Some(found) = look::space_at(&self.spaces, space) else {
             return;
         };
-        unforced::settle_unless(writable, &found, &mut self.unforced);
+        unforced::force_unless(writable, &found, &mut self.unforced);
         spaces::set_mode(&mut self.spaces, found.handle, writable);
     }
 
@@ -194,7 +194,7 @@ impl<A: Allocator + Clone> SlowMachine<A> {
         ensures { self.new ≡ change self.old (call_of.ForceOut space) }
     {
         if let Some(range) = look::space_at(&self.spaces, space) {
-            unforced::settle_range(&self.spaces, &range, &mut self.unforced);
+            unforced::force_range(&self.spaces, &range, &mut self.unforced);
         }
     }
 

@@ -19,7 +19,7 @@ fn first_from<A: Allocator>(files: &[StoredFile<A>], id: FileId) -> Option<usize
     files.iter().position(|f| id <= f.id())
 }
 
-/// Where a file of that identifier stands among the rising identifiers.
+/// Where a file of that identifier stands among the ascending identifiers.
 #[tactic(auto, using(crate::proofs::PlaceLemmas::some_place))]
 fn place_of<A: Allocator>(files: &[StoredFile<A>], id: FileId) -> usize
     ensures is { result ≡ position_or_len (λ f. nat_le id f.id) files.now }
@@ -42,7 +42,7 @@ fn names<A: Allocator>(files: &[StoredFile<A>], place: usize, id: FileId) -> boo
     }
 }
 
-/// Puts a file in its place among the rising identifiers, or in that of one with its identifier.
+/// Puts a file in its place among the ascending identifiers, or in that of one with its identifier.
 pub fn put<A: Allocator>(
     files: &mut Vec<StoredFile<A>, A>,
     file: StoredFile<A>,

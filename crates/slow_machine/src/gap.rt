@@ -2,7 +2,7 @@
 
 ghost use Rattle.std.specs.Prelude.{◌≡◌, ◌≤◌, length, map, false};
 ghost use Rattle.std.specs.List.{AllByRecursion};
-ghost use Rattle.flat_machine.specs.Machine.{IsRising};
+ghost use Rattle.flat_machine.specs.Machine.{IsAscending};
 ghost use Rattle.flat_machine.specs.Space as of_space;
 ghost use Rattle.flat_machine.specs.Refusal as of_call;
 ghost use Rattle.flat_machine.specs.Next as after;
@@ -29,13 +29,13 @@ fn is_clear(spaces: &[Space], parent: &Space, pages: u32, first: u32) -> bool
 pub fn fits(spaces: &[Space], parent: &Space, pages: u32, first: u32) -> bool
     ensures { result ≡ of_call.fits spaces.now parent.now pages first }
 {
-    let behind = u64::from(first) + u64::from(pages);
+    let after = u64::from(first) + u64::from(pages);
     let clear = is_clear(spaces, parent, pages, first);
-    parent.first <= first && behind <= parent.end() && clear
+    parent.first <= first && after <= parent.end() && clear
 }
 
-/// The lowest gap so far, or the one behind this space.
-fn with_gap_behind(
+/// The lowest gap so far, or the one after this space.
+fn with_gap_after(
     spaces: &[Space],
     parent: &Space,
     pages: u32,
@@ -45,13 +45,13 @@ fn with_gap_behind(
     requires { of_space.end s.now ≤ of_space.root_pages }
     ensures { result ≡ gap_with spaces.now parent.now pages lowest s.now }
 {
-    let behind = s.end() as u32;
-    if !is_child_of(parent.handle, s) || !fits(spaces, parent, pages, behind) {
+    let after = s.end() as u32;
+    if !is_child_of(parent.handle, s) || !fits(spaces, parent, pages, after) {
         return lowest;
     }
     match lowest {
-        Some(gap) if gap <= behind => Some(gap),
-        _ => Some(behind),
+        Some(gap) if gap <= after => Some(gap),
+        _ => Some(after),
     }
 }
 
@@ -65,14 +65,14 @@ pub fn lowest_gap(spaces: &[Space], parent: &Space, pages: u32) -> Option<u32>
         lowest = Some(parent.first);
     }
     for s in spaces {
-        lowest = with_gap_behind(spaces, parent, pages, lowest, s);
+        lowest = with_gap_after(spaces, parent, pages, lowest, s);
     }
     lowest
 }
 
 /// The lowest unused handle, where the handles rise.
 pub fn lowest_unused(spaces: &[Space]) -> u32
-    requires rise { IsRising (map (λ s. s.handle) spaces.now) }
+    requires rise { IsAscending (map (λ s. s.handle) spaces.now) }
     requires root_there { after.is_unused spaces.now 0 ≡ false }
     requires few { length spaces.now ≤ 512 }
     ensures { result ≡ after.lowest_unused spaces.now }

@@ -34,7 +34,7 @@ pub struct SlowMachine<A: Allocator> {
 
 impl<A: Allocator> Model for SlowMachine<A> {
     ghost use Rattle.std.specs.Prelude.{◌≤◌};
-    ghost use Rattle.labelled_disk.specs.Rising.{AreRising};
+    ghost use Rattle.labelled_disk.specs.Ascending.{AreAscending};
     ghost use Rattle.flat_machine.specs.File.{total_room};
     ghost use Rattle.slow_machine.specs.Lists.{AreSpaces};
     ghost use Rattle.flat_machine.specs.Machine.{Machine};
@@ -43,7 +43,7 @@ impl<A: Allocator> Model for SlowMachine<A> {
 
     ghost view = { λ a. record { files = a.files.items; spaces = a.spaces.items; serial = a.serial; counter = a.counter; capacity = a.capacity; unforced = a.unforced.items } };
 
-    ghost invariant = { λ a. (total_room a.files.items ≤ a.capacity) × AreRising a.files.items × AreSpaces a.spaces.items };
+    ghost invariant = { λ a. (total_room a.files.items ≤ a.capacity) × AreAscending a.files.items × AreSpaces a.spaces.items };
 }
 
 impl<A: Allocator + Clone> SlowMachine<A> {
@@ -123,7 +123,7 @@ impl<A: Allocator + Clone> SlowMachine<A> {
         Ok(Reply::Done)
     }
 
-    /// The reply to a call, with 0 for bytes that may be any. After want of memory the machine is
+    /// The reply to a call, with 0 for bytes that may be any. After running out of memory the machine is
     /// as before.
     #[tactic(auto, using(crate::proofs::StepLemmas::refused_step, crate::proofs::StepLemmas::unrefused_step))]
     pub fn step(&mut self, call: &Call) -> Result<Reply, NoMemory>

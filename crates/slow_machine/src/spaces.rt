@@ -29,7 +29,7 @@ fn first_above(spaces: &[Space], handle: u32) -> Option<usize>
     spaces.iter().position(|s| handle < s.handle)
 }
 
-/// Where a space of that handle stands among the rising handles.
+/// Where a space of that handle stands among the ascending handles.
 #[tactic(auto, using(crate::proofs::PlaceLemmas::some_place))]
 fn place_of(spaces: &[Space], handle: u32) -> usize
     ensures is { result ≡ position_or_len (λ s. nat_lt handle s.handle) spaces.now }
@@ -41,7 +41,7 @@ fn place_of(spaces: &[Space], handle: u32) -> usize
     }
 }
 
-/// Puts a space in its place among the rising handles.
+/// Puts a space in its place among the ascending handles.
 pub fn put<A: Allocator>(spaces: &mut Vec<Space, A>, space: Space) -> Result<(), AllocError>
     ensures ok { OnOk result (spaces.new.items ≡ after.put_space space spaces.old.items) }
     ensures err { OnErr result (spaces.new.items ≡ spaces.old.items) }

@@ -68,23 +68,23 @@ pub fn mark_both<A: Allocator>(
 }
 
 /// Takes the pages away that the window of the space shows.
-pub fn settle_window<A: Allocator>(space: &Space, unforced: &mut Vec<FilePage, A>)
+pub fn force_window<A: Allocator>(space: &Space, unforced: &mut Vec<FilePage, A>)
     ensures { unforced.new.items ≡ after.without_window_of space.now unforced.old.items }
 {
     unforced.retain(|u| !window::shows(space, u));
 }
 
 /// Takes the pages away that the window of the space shows, where it is no longer writable.
-pub fn settle_unless<A: Allocator>(writable: bool, space: &Space, unforced: &mut Vec<FilePage, A>)
+pub fn force_unless<A: Allocator>(writable: bool, space: &Space, unforced: &mut Vec<FilePage, A>)
     ensures { unforced.new.items ≡ (if writable then unforced.old.items else after.without_window_of space.now unforced.old.items) }
 {
     if !writable {
-        settle_window(space, unforced);
+        force_window(space, unforced);
     }
 }
 
 /// Takes the pages away that some window shows in the range.
-pub fn settle_range<A: Allocator>(spaces: &[Space], range: &Space, unforced: &mut Vec<FilePage, A>)
+pub fn force_range<A: Allocator>(spaces: &[Space], range: &Space, unforced: &mut Vec<FilePage, A>)
     ensures { unforced.new.items ≡ after.without_shown_within spaces.now range.now unforced.old.items }
 {
     unforced.retain(|u| !window::is_shown_within(spaces, range, u));

@@ -13,19 +13,19 @@ use Rattle.frame_pool.specs.Frames.{Slots}
 use Rattle.space_tables.proofs.Asks.{space_is}
 use Rattle.swap_units.specs.declared.interval.Interval.{Interval}
 use Rattle.labelled_disk.specs.declared.disk.Disk.{Ghosts}
-use Rattle.fault_core.specs.declared.core_over.CoreOver.{CoreOver}
+use Rattle.fault_core.specs.declared.core_over.Core.{Core}
 use Rattle.fault_core.specs.Activate.{AreBrought, IsActive}
 use Rattle.fault_core.specs.Core.{kept, state}
 use Rattle.running_words.specs.RunningLaws.{IsWhole}
-use Rattle.table_calls.specs.Answers.{Asked, Tells}
+use Rattle.table_calls.specs.Answers.{Asked, Reveals}
 use Rattle.space_calls.proofs.CameLemmas.{Came, came_own}
 
 -- the disk fits the layout
-pub whole_core : {D A : Type 0} {G : Ghosts D} (c : CoreOver D A G) → (state c).disk.sectors ≡ (state c).layout.sectors → IsWhole (state c)
+pub whole_core : {D A : Type 0} {G : Ghosts D} (c : Core D A G) → (state c).disk.sectors ≡ (state c).layout.sectors → IsWhole (state c)
 whole_core c size = record { layout = c.filer.swapper.accepted; size = size }
 
 -- the tables were asked
-pub came_asked : {D A : Type 0} {G : Ghosts D} {old new : CoreOver D A G} → Asked old new → Came (state old) (state new) (kept old) (kept new) old.intervals new.intervals
+pub came_asked : {D A : Type 0} {G : Ghosts D} {old new : Core D A G} → Asked old new → Came (state old) (state new) (kept old) (kept new) old.intervals new.intervals
 came_asked a = came_own a.reaches a.came a.same a.intervals
 
 -- the pages of the space
@@ -33,11 +33,11 @@ abbrev pub IsRangeOf : List Space → ℕ → ℕ × ℕ → Type 0
 IsRangeOf ss space run = (s : Space) × (space_at ss space ≡ Some s) × (run ≡ (s.first, s.pages))
 
 -- they refused, or gave it
-pub asked_word : (ss : List Space) (space : ℕ) (r : Result (ℕ × ℕ) Refusal) (word : Refusal) → r ≡ Err word → Tells (no_space ss space) (IsRangeOf ss space) r → no_space ss space ≡ Some word
-asked_word ss space r word is told = (subst (Tells (no_space ss space) (IsRangeOf ss space)) is told).0
+pub asked_word : (ss : List Space) (space : ℕ) (r : Result (ℕ × ℕ) Refusal) (word : Refusal) → r ≡ Err word → Reveals (no_space ss space) (IsRangeOf ss space) r → no_space ss space ≡ Some word
+asked_word ss space r word is revealed = (subst (Reveals (no_space ss space) (IsRangeOf ss space)) is revealed).0
 
-pub asked_range : (ss : List Space) (space : ℕ) (r : Result (ℕ × ℕ) Refusal) (run : ℕ × ℕ) → r ≡ Ok run → Tells (no_space ss space) (IsRangeOf ss space) r → (no_space ss space ≡ None) × IsRangeOf ss space run
-asked_range ss space r run is told = subst (Tells (no_space ss space) (IsRangeOf ss space)) is told
+pub asked_range : (ss : List Space) (space : ℕ) (r : Result (ℕ × ℕ) Refusal) (run : ℕ × ℕ) → r ≡ Ok run → Reveals (no_space ss space) (IsRangeOf ss space) r → (no_space ss space ≡ None) × IsRangeOf ss space run
+asked_range ss space r run is revealed = subst (Reveals (no_space ss space) (IsRangeOf ss space)) is revealed
 
 -- it changes nothing
 pub activate_stays : (m : Machine) (space : ℕ) → m ≡ next m (call.Activate space)

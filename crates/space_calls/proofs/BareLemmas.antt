@@ -20,12 +20,12 @@ use Rattle.projection_laws.specs.Spaces.{AreSpaces}
 use Rattle.projection_laws.proofs.Finds.{last_holds}
 use Rattle.projection_laws.proofs.Inside.{found_showing, holds_by, in_the_root}
 use Rattle.projection_laws.proofs.OneLemmas.{intervals_are_one}
-use Rattle.projection_laws.proofs.TellLemmas.{intervals_tell}
+use Rattle.projection_laws.proofs.RevealLemmas.{intervals_reveal}
 use Rattle.swapper_kernel.specs.Homes.{IsLayout}
 use Rattle.space_tables.specs.SpaceTables.{IsIntervalAt}
-use Rattle.space_tables.specs.Stored.{TellSpaces}
+use Rattle.space_tables.specs.Stored.{RevealSpaces}
 use Rattle.file_manager.specs.declared.volume.Volume.{Volume}
-use Rattle.fault_core.specs.declared.core_over.CoreOver.{CoreOver}
+use Rattle.fault_core.specs.declared.core_over.Core.{Core}
 use Rattle.fault_core.specs.Core.{Knows}
 use Rattle.running_words.specs.Running.{Runs}
 use Rattle.space_calls.proofs.RunLemmas.{knows}
@@ -70,17 +70,17 @@ module _ (ss : List Space) (xs : List Interval) (index : ℕ) (x : Interval) (ar
       let here : slice_get xs 0 ≡ Some x = sym (ap (λ (k : ℕ). slice_get xs k) is_first) ∙ there in
       last_holds ss xs 0 page x are inside here (omega (arith, begins)) (λ j e. let within = slice_get_within xs 1 j e in absurd (omega (arith, within, single)))
 
-pub bare_tables : {tells : List ℕ → Type 0} {count : ℕ} {ss : List Space} → TellSpaces tells count ss → (x : Interval) → IsIntervalAt ss 0 x → count ≡ 1 → x.mode ≡ 0 → list_any is_mapped ss ≡ false
-bare_tables {ss = ss} told x at one bare =
-    let are : AreSpaces ss = subst AreSpaces told.spaces told.right.spaces in
-    let intervals : AreIntervals ss told.xs = subst (λ (ts : List Space). AreIntervals ts told.xs) told.spaces told.right.intervals in
-    let same : at.xs ≡ told.xs = intervals_are_one ss at.xs told.xs at.projection intervals in
-    let single : length at.xs ≡ 1 = ap length same ∙ told.counted ∙ one in
+pub bare_tables : {reveals : List ℕ → Type 0} {count : ℕ} {ss : List Space} → RevealSpaces reveals count ss → (x : Interval) → IsIntervalAt ss 0 x → count ≡ 1 → x.mode ≡ 0 → list_any is_mapped ss ≡ false
+bare_tables {ss = ss} revealed x at one bare =
+    let are : AreSpaces ss = subst AreSpaces revealed.spaces revealed.right.spaces in
+    let intervals : AreIntervals ss revealed.xs = subst (λ (ts : List Space). AreIntervals ts revealed.xs) revealed.spaces revealed.right.intervals in
+    let same : at.xs ≡ revealed.xs = intervals_are_one ss at.xs revealed.xs at.projection intervals in
+    let single : length at.xs ≡ 1 = ap length same ∙ revealed.counted ∙ one in
     let low = at.holds.0 in
     let begins : x.first ≡ 0 = omega (arith, low) in
     none_mapped ss are (λ page inside.
     let high = holds_all ss at.xs at.index x at.projection single at.there begins page inside in
-    (intervals_tell ss at.xs at.index page x are at.projection at.there (omega (arith, begins), high)).shown
+    (intervals_reveal ss at.xs at.index page x are at.projection at.there (omega (arith, begins), high)).shown
     ∙ ap (λ (b : Bool). if b then None else Some (record { file = x.id; page = x.page + (page - x.first) })) (ap (λ (n : ℕ). n == 0) bare))
 
 -- ---- No window is found.
@@ -96,11 +96,11 @@ none_windowed test ss none = by (find (has_window test) ss) refl
     by None e = e
     by (Some s) e = let found = find_in (has_window test) ss s e in absurd (bare s.window (not_any is_mapped ss none s found.0) found.1)
 
--- ---- What a core tells of it.
+-- ---- What a core reveals of it.
 
-module _ {D A : Type 0} {G : Ghosts D} (c : CoreOver D A G) (layout : IsLayout c.filer.swapper.layout) (size : (G.state c.filer.swapper.under).sectors ≡ c.filer.swapper.layout.sectors) where
+module _ {D A : Type 0} {G : Ghosts D} (c : Core D A G) (layout : IsLayout c.filer.swapper.layout) (size : (G.state c.filer.swapper.disk).sectors ≡ c.filer.swapper.layout.sectors) where
   pub bare_core : (volume : Volume) (m : Machine) → Runs c volume m → (x : Interval) (o : Option Interval) → o ≡ Some x → ((memory : List Sector) (named : Triples) (ss : List Space) → Knows c memory named ss → IfSome o (IsIntervalAt ss 0)) → c.intervals ≡ 1
       → (x.mode == 0) ≡ true → list_any is_mapped m.spaces ≡ false
-  bare_core volume m r x o is tells one bare =
-      let at : IsIntervalAt m.spaces 0 x = subst (λ (o : Option Interval). IfSome o (IsIntervalAt m.spaces 0)) is (tells _ _ m.spaces (knows c layout size volume m r)) in
+  bare_core volume m r x o is reveals one bare =
+      let at : IsIntervalAt m.spaces 0 x = subst (λ (o : Option Interval). IfSome o (IsIntervalAt m.spaces 0)) is (reveals _ _ m.spaces (knows c layout size volume m r)) in
       bare_tables r.tables x at one (eqb-true x.mode 0 bare)

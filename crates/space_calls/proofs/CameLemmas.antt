@@ -16,11 +16,11 @@ use Rattle.swapper_kernel.specs.Homes.{IsLayout}
 use Rattle.session_words.specs.FrameLaws.{BringsKnown}
 use Rattle.session_words.specs.Volume.{volume_page}
 use Rattle.file_manager.specs.declared.volume.Volume.{Volume}
-use Rattle.fault_core.specs.declared.core_over.CoreOver.{CoreOver}
+use Rattle.fault_core.specs.declared.core_over.Core.{Core}
 use Rattle.fault_core.specs.Core.{state}
 use Rattle.fault_core.specs.Moves.{client_page}
 use Rattle.fault_core.specs.Reach.{Reaches, BringsOwn}
-use Rattle.fault_core.specs.Told.{Told}
+use Rattle.fault_core.specs.Revealed.{Revealed}
 use Rattle.fault_core.specs.Touch.{Touches}
 use Rattle.fault_core.specs.View.{View}
 use Rattle.fault_core.proofs.ReachLemmas.{reaches_then}
@@ -46,21 +46,21 @@ wrote_so makes = record { labels = []; makes = makes; opens = tt }
 -- Pages were found and brought in, or were written out or given up, and the same is known.
 pub record Came (v w : View) (kept later : List Interval) (count now : ℕ) : Type 0 where
   pub reaches : Reaches v w
-  pub brings : (x : List Sector) (named : Triples) (ss : List Space) → Told v kept count x named ss → BringsKnown ss v.slots w.slots
-  pub known : (x : List Sector) (named : Triples) (ss : List Space) → Told v kept count x named ss → Told w later now x named ss
+  pub brings : (x : List Sector) (named : Triples) (ss : List Space) → Revealed v kept count x named ss → BringsKnown ss v.slots w.slots
+  pub known : (x : List Sector) (named : Triples) (ss : List Space) → Revealed v kept count x named ss → Revealed w later now x named ss
   pub same_count : now ≡ count
 
 -- where pages of the volume's own came alone
 pub came_own : {v w : View} {kept later : List Interval} {count now : ℕ} → Reaches v w → BringsOwn v.slots w.slots
-    → ((x : List Sector) (named : Triples) (ss : List Space) → Told v kept count x named ss → Told w later now x named ss) → now ≡ count → Came v w kept later count now
-came_own {v} {w} reaches came known same = record { reaches = reaches; brings = λ x named ss told. own_came ss v.slots w.slots came; known = known; same_count = same }
+    → ((x : List Sector) (named : Triples) (ss : List Space) → Revealed v kept count x named ss → Revealed w later now x named ss) → now ≡ count → Came v w kept later count now
+came_own {v} {w} reaches came known same = record { reaches = reaches; brings = λ x named ss revealed. own_came ss v.slots w.slots came; known = known; same_count = same }
 
 -- one after the other
 pub came_then : (v w z : View) {kept later last : List Interval} {count now end : ℕ} → IsLayout v.layout → Came v w kept later count now → Came w z later last now end → Came v z kept last count end
 came_then v w z is h k = record {
   reaches = reaches_then v w is h.reaches z k.reaches;
-  brings = λ x named ss told. brings_then (h.brings x named ss told) (k.brings x named ss (h.known x named ss told));
-  known = λ x named ss told. k.known x named ss (h.known x named ss told);
+  brings = λ x named ss revealed. brings_then (h.brings x named ss revealed) (k.brings x named ss (h.known x named ss revealed));
+  known = λ x named ss revealed. k.known x named ss (h.known x named ss revealed);
   same_count = k.same_count ∙ h.same_count;
 }
 
@@ -73,7 +73,7 @@ whole_after whole h = record {
 
 module _ (laws : RunningLaws) {v : View} {kept : List Interval} {count : ℕ} (whole : IsWhole v) {volume : Volume} {m : Machine} (r : IsRunning v kept count volume m) where
   -- what is known of the core
-  pub knows : Told v kept count r.session.stands.memory r.session.stands.is.named m.spaces
+  pub knows : Revealed v kept count r.session.stands.memory r.session.stands.is.named m.spaces
   knows = laws.known v kept count volume m whole r
 
   -- the core stands for the same machine
@@ -83,12 +83,12 @@ module _ (laws : RunningLaws) {v : View} {kept : List Interval} {count : ℕ} (w
       let named = r.session.stands.is.named in
       subst (λ (n : ℕ). IsRunning w later n volume m) (sym came.same_count)
       (laws.asked v w kept later count volume m whole r came.reaches (came.brings x named m.spaces knows)
-      (subst (λ (n : ℕ). Told w later n x named m.spaces) came.same_count (came.known x named m.spaces knows)))
+      (subst (λ (n : ℕ). Revealed w later n x named m.spaces) came.same_count (came.known x named m.spaces knows)))
 
-  -- each moment tells the files of before
-  pub still_tells : (w : View) → AreInForm v.disk → (call : Call) → Makes volume_page [] v.disk v.slots w.disk w.slots → Passes m call v.disk w.disk
-  still_tells w form call makes = laws.quiet call v w kept count volume m form r makes
+  -- each crash state reveals the files of before
+  pub still_reveals : (w : View) → AreInForm v.disk → (call : Call) → Makes volume_page [] v.disk v.slots w.disk w.slots → Passes m call v.disk w.disk
+  still_reveals w form call makes = laws.quiet call v w kept count volume m form r makes
 
 -- of a core
-pub whole_of : {D A : Type 0} {G : Ghosts D} (core : CoreOver D A G) → (G.state core.filer.swapper.under).sectors ≡ core.filer.swapper.layout.sectors → IsWhole (state core)
+pub whole_of : {D A : Type 0} {G : Ghosts D} (core : Core D A G) → (G.state core.filer.swapper.disk).sectors ≡ core.filer.swapper.layout.sectors → IsWhole (state core)
 whole_of core size = record { layout = core.filer.swapper.accepted; size = size }

@@ -14,10 +14,10 @@ use Rattle.flat_machine.specs.Machine.{Machine}
 use Rattle.flat_machine.specs.Next.{change, next}
 use Rattle.flat_machine.specs.Refusal.{refusal}
 use Rattle.swapper_kernel.specs.Homes.{IsLayout}
-use Rattle.space_tables.specs.Stored.{TellSpaces}
+use Rattle.space_tables.specs.Stored.{RevealSpaces}
 use Rattle.session_words.specs.FrameLaws.{is_shown}
 use Rattle.file_manager.specs.declared.volume.Volume.{Volume}
-use Rattle.fault_core.specs.declared.core_over.CoreOver.{CoreOver}
+use Rattle.fault_core.specs.declared.core_over.Core.{Core}
 use Rattle.fault_core.specs.Core.{state}
 use Rattle.fault_core.specs.View.{TablesAre}
 use Rattle.table_calls.specs.Answers.{Changes, Retabled}
@@ -48,7 +48,7 @@ module _ (m : Machine) (call : Call) where
   pub next_refused : (word : Refusal) → refusal m call ≡ Some word → next m call ≡ m
   next_refused word some = ap (λ (o : Option Refusal). if is_none o then change m call else m) some
 
-module _ {D A : Type 0} {G : Ghosts D} (d : CoreOver D A G) (volume : Volume) (m : Machine) (call : Call) where
+module _ {D A : Type 0} {G : Ghosts D} (d : Core D A G) (volume : Volume) (m : Machine) (call : Call) where
   -- a call that is refused leaves the machine
   pub refused_carried : (word : Refusal) → refusal m call ≡ Some word → Runs d volume m → Carried m call d volume (reply.Refused word)
   refused_carried word some r = record { allowed = allowed_refused m call word some; runs = subst (λ (n : Machine). Runs d volume n) (sym (next_refused m call word some)) r }
@@ -59,19 +59,19 @@ module _ {D A : Type 0} {G : Ghosts D} (d : CoreOver D A G) (volume : Volume) (m
 
 -- ---- Calls that change the tables alone: what windows show is still shown.
 
-module _ {D A : Type 0} {G : Ghosts D} (c d e : CoreOver D A G) (layout : IsLayout c.filer.swapper.layout) (size : (G.state c.filer.swapper.under).sectors ≡ c.filer.swapper.layout.sectors)
-    (form : AreInForm (G.state d.filer.swapper.under)) (pages : ArePages e.filer.swapper.pool) (same : e ≡ d) (retabled : Retabled c d) (volume : Volume) (m : Machine) (r : Runs c volume m) (call : Call) where
+module _ {D A : Type 0} {G : Ghosts D} (c d e : Core D A G) (layout : IsLayout c.filer.swapper.layout) (size : (G.state c.filer.swapper.disk).sectors ≡ c.filer.swapper.layout.sectors)
+    (form : AreInForm (G.state d.filer.swapper.disk)) (pages : ArePages e.filer.swapper.pool) (same : e ≡ d) (retabled : Retabled c d) (volume : Volume) (m : Machine) (r : Runs c volume m) (call : Call) where
   pages_then : ArePages d.filer.swapper.pool
-  pages_then = subst (λ (x : CoreOver D A G). ArePages x.filer.swapper.pool) same pages
+  pages_then = subst (λ (x : Core D A G). ArePages x.filer.swapper.pool) same pages
 
-  pub tables_refused : (word : Refusal) → refusal m call ≡ Some word → TellSpaces (TablesAre (state d)) d.intervals m.spaces → Carried m call e volume (reply.Refused word)
-  tables_refused word some tells =
-      subst (λ (x : CoreOver D A G). Carried m call x volume (reply.Refused word)) (sym same)
-      (refused_carried d volume m call word some (reshaped_runs c layout size d form pages_then volume m retabled m.spaces tells r r.session.stands.is.by.machine (λ id page shown. shown)))
+  pub tables_refused : (word : Refusal) → refusal m call ≡ Some word → RevealSpaces (TablesAre (state d)) d.intervals m.spaces → Carried m call e volume (reply.Refused word)
+  tables_refused word some reveals =
+      subst (λ (x : Core D A G). Carried m call x volume (reply.Refused word)) (sym same)
+      (refused_carried d volume m call word some (reshaped_runs c layout size d form pages_then volume m retabled m.spaces reveals r r.session.stands.is.by.machine (λ id page shown. shown)))
 
   pub tables_done : (answer : Reply) (spaces : List Space) → refusal m call ≡ None → Answers m call answer → change m call ≡ record m { spaces = spaces } → IsMachine (next m call)
-      → ((id page : ℕ) → is_shown m.spaces id page ≡ true → is_shown spaces id page ≡ true) → TellSpaces (TablesAre (state d)) d.intervals spaces → Carried m call e volume answer
-  tables_done answer spaces none answers changed is still tells =
+      → ((id page : ℕ) → is_shown m.spaces id page ≡ true → is_shown spaces id page ≡ true) → RevealSpaces (TablesAre (state d)) d.intervals spaces → Carried m call e volume answer
+  tables_done answer spaces none answers changed is still reveals =
       let machine : IsMachine (record m { spaces = spaces }) = subst IsMachine (next_done m call none ∙ changed) is in
-      subst (λ (x : CoreOver D A G). Carried m call x volume answer) (sym same)
-      (done_carried d volume m call answer none answers (subst (λ (n : Machine). Runs d volume n) (sym changed) (reshaped_runs c layout size d form pages_then volume m retabled spaces tells r machine still)))
+      subst (λ (x : Core D A G). Carried m call x volume answer) (sym same)
+      (done_carried d volume m call answer none answers (subst (λ (n : Machine). Runs d volume n) (sym changed) (reshaped_runs c layout size d form pages_then volume m retabled spaces reveals r machine still)))

@@ -3,13 +3,13 @@ use Rattle.std.specs.Prelude.{◌≡◌, ◌≤◌}
 use Rattle.std.specs.Coded.{le_prop}
 use Rattle.labelled_disk.specs.declared.disk.Disk.{Ghosts}
 use Rattle.descriptor_cache.specs.Cache.{kept_in}
-use Rattle.swapper_kernel.specs.declared.swapper.SwapperOver.{SwapperOver}
-use Rattle.fault_core.specs.declared.core_over.CoreOver.{CoreOver}
+use Rattle.swapper_kernel.specs.declared.swapper.Swapper.{Swapper}
+use Rattle.fault_core.specs.declared.core_over.Core.{Core}
 use Rattle.fault_core.specs.Kept.{AreFormed, are_formed_once}
 
 -- its swapper is the same
-pub same_swapper : {D A : Type 0} {disk : Ghosts D} (s : SwapperOver D A disk) (c : CoreOver D A disk) (a : 1 ≤ c.intervals) (b : c.intervals ≤ 1023) (e : AreFormed (kept_in c.descriptors)) → s ≡ c.filer.swapper
-    → ◌≡◌ {A = CoreOver D A disk} (record { filer = record { swapper = s; runs = c.filer.runs }; descriptors = c.descriptors; intervals = c.intervals; some = a; few = b; formed = e }) c
+pub same_swapper : {D A : Type 0} {disk : Ghosts D} (s : Swapper D A disk) (c : Core D A disk) (a : 1 ≤ c.intervals) (b : c.intervals ≤ 1023) (e : AreFormed (kept_in c.descriptors)) → s ≡ c.filer.swapper
+    → ◌≡◌ {A = Core D A disk} (record { filer = record { swapper = s; runs = c.filer.runs }; descriptors = c.descriptors; intervals = c.intervals; some = a; few = b; formed = e }) c
 same_swapper s c a b e same i = record {
   filer = record { swapper = same i; runs = c.filer.runs };
   descriptors = c.descriptors;

@@ -18,7 +18,7 @@ use Rattle.filer_kernel.specs.TableOnce.{map_over, tables_stay}
 use Rattle.filer_kernel.specs.Triples.{AreOf, IsOneOf}
 use Rattle.file_manager.specs.Looking.{Looks}
 use Rattle.fault_core.specs.Reach.{IsReached, Reaches, ReachHalts}
-use Rattle.fault_core.specs.Told.{BreaksTables}
+use Rattle.fault_core.specs.Revealed.{BreaksTables}
 use Rattle.fault_core.specs.View.{View, kept_by}
 use Rattle.fault_core.proofs.ReachLemmas.{halts_before, reaches_itself}
 use Rattle.table_calls.specs.Answers.{TablesBreak, TablesSay}
@@ -34,8 +34,8 @@ look_reaches v w looks layout = record {
   layout = layout;
   given = λ r one. looks.given r (subst (λ (l : Layout). IsOneOf r (runs_of l.sectors w.runs)) layout one);
   runs_are = λ m named stands map are. subst (λ (l : Layout). AreOf named (runs_of l.sectors w.runs)) (sym layout) (looks.runs_are m named stands map are);
-  told = λ b tells.
-      tables_stay layout looks.goes.makes.went.sectors (λ m named stands map. let now = looks.goes.memory m stands in subst (Stands w.disk w.slots) now.2 now.1) (λ m named stands map are. looks.runs_are m named stands map are) b tells (map_over v.layout tells.triples looks.brings);
+  revealed = λ b reveals.
+      tables_stay layout looks.goes.makes.went.sectors (λ m named stands map. let now = looks.goes.memory m stands in subst (Stands w.disk w.slots) now.2 now.1) (λ m named stands map are. looks.runs_are m named stands map are) b reveals (map_over v.layout reveals.triples looks.brings);
 }
 
 -- ---- The tables, asked after pages were brought in.
@@ -44,7 +44,7 @@ module _ (v w : View) (is : IsLayout v.layout) (reaches : Reaches v w) (count no
   look_up_before : (asked page : ℕ) → BreaksTables w now asked page → BreaksTables v count asked page
   look_up_before asked page breaks = record {
     in_root = breaks.in_root;
-    breaks = λ b told. subst (λ (j : ℕ). BreaksLookUp asked j b page) same (breaks.breaks b (reaches.told b told));
+    breaks = λ b revealed. subst (λ (j : ℕ). BreaksLookUp asked j b page) same (breaks.breaks b (reaches.revealed b revealed));
   }
 
   -- page 0 could not be looked up
@@ -53,18 +53,18 @@ module _ (v w : View) (is : IsLayout v.layout) (reaches : Reaches v w) (count no
 
   -- the search of a window failed
   pub search_sight : (e : Halt) → PathHalts w z e → SightHalts count v z e
-  search_sight e halts = halts_before v w is reaches (TablesBreak w BreaksHierarchy) (BreaksSight v count) (λ page breaks. inr (λ b told. breaks b (reaches.told b told))) z z (omega arith) e halts
+  search_sight e halts = halts_before v w is reaches (TablesBreak w BreaksHierarchy) (BreaksSight v count) (λ page breaks. inr (λ b revealed. breaks b (reaches.revealed b revealed))) z z (omega arith) e halts
 
   -- either
   pub later_sight : (e : Halt) → SightHalts now w z e → SightHalts count v z e
   later_sight e halts = halts_before v w is reaches (BreaksSight w now) (BreaksSight v count) (λ page breaks. elim breaks [
     | inl first ↦ inl (look_up_before 0 page first)
-    | inr any ↦ inr (λ b told. any b (reaches.told b told))
+    | inr any ↦ inr (λ b revealed. any b (reaches.revealed b revealed))
   ]) z z (omega arith) e halts
 
 -- the tables could not be asked before they changed
 pub path_change : (v : View) (is : IsLayout v.layout) (count : ℕ) (w : View) (e : Halt) → PathHalts v w e → ChangeHalts count v w e
-path_change v is count w e halts = halts_before v v is (reaches_itself v) (TablesBreak v BreaksHierarchy) (TablesBreak v (Breaks count)) (λ page breaks b told. inl (breaks b told)) w w (omega arith) e halts
+path_change v is count w e halts = halts_before v v is (reaches_itself v) (TablesBreak v BreaksHierarchy) (TablesBreak v (Breaks count)) (λ page breaks b revealed. inl (breaks b revealed)) w w (omega arith) e halts
 
 -- where there are as many intervals
 pub counted_change : (v w : View) (count now : ℕ) → now ≡ count → (e : Halt) → ChangeHalts now v w e → ChangeHalts count v w e

@@ -17,7 +17,7 @@ use Rattle.fault_core.specs.declared.reference.Access.TheVariants.{Done, NoMap, 
 use Rattle.fault_core.specs.Access.{access_of}
 use Rattle.fault_core.specs.Moves.{Loads}
 use Rattle.fault_core.specs.ReferenceLaws.{reply_to, word_of}
-use Rattle.fault_core.specs.Told.{Told}
+use Rattle.fault_core.specs.Revealed.{Revealed}
 use Rattle.fault_core.specs.View.{View}
 use Rattle.file_manager.specs.declared.volume.Volume.{Volume}
 use Rattle.file_map.specs.FileMap.{Triples}
@@ -68,20 +68,20 @@ load_allowed spaces_of x m address count bytes a h long is loads =
 module _ (laws : RunningLaws) {v w : View} {kept later : List Interval} {count now : ℕ} (whole : IsWhole v) {volume : Volume} {m : Machine} (r : IsRunning v kept count volume m) (came : Came v w kept later count now) where
   -- whatever the load came to
   pub load_carried : (address so_many n : ℕ) (bytes : List ℕ) (a b : Access) → length bytes ≡ n → length bytes ≡ so_many → a ≡ b
-      → ((x : List Sector) (named : Triples) (ss : List Space) → Told v kept count x named ss → a ≡ access_of ss false address n)
-      → ((x : List Sector) (named : Triples) (ss : List Space) → Told v kept count x named ss → a ≡ Done → Loads ss address bytes x)
+      → ((x : List Sector) (named : Triples) (ss : List Space) → Revealed v kept count x named ss → a ≡ access_of ss false address n)
+      → ((x : List Sector) (named : Triples) (ss : List Space) → Revealed v kept count x named ss → a ≡ Done → Loads ss address bytes x)
       → Allows m (Load address so_many) (reply_to (reply.Bytes bytes) b) × IsRunning w later now volume (next m (Load address so_many))
   load_carried address so_many n bytes a b width long is access loads =
       let x = r.session.stands.memory in
       let named = r.session.stands.is.named in
-      let told = knows laws whole r in (
+      let revealed = knows laws whole r in (
         load_allowed (exactly r.pages m.spaces) x m address so_many bytes b r.session.stands.is long
-            (sym is ∙ access x named m.spaces told ∙ ap (λ (k : ℕ). access_of m.spaces false address k) (sym width ∙ long)) (λ done. loads x named m.spaces told (is ∙ done)),
+            (sym is ∙ access x named m.spaces revealed ∙ ap (λ (k : ℕ). access_of m.spaces false address k) (sym width ∙ long)) (λ done. loads x named m.spaces revealed (is ∙ done)),
         subst (λ (k : Machine). IsRunning w later now volume k) (load_stays m address so_many) (still_runs laws whole r came),
       )
 
 module _ (laws : RunningLaws) {v : View} {kept : List Interval} {count : ℕ} (whole : IsWhole v) {volume : Volume} {m : Machine} (r : IsRunning v kept count volume m) where
   pub load_not_refused : (address so_many n : ℕ) (a b : Access) → n ≡ so_many → a ≡ b
-      → ((x : List Sector) (named : Triples) (ss : List Space) → Told v kept count x named ss → a ≡ access_of ss false address n) → refusal m (Load address so_many) ≡ None → IsDone b
+      → ((x : List Sector) (named : Triples) (ss : List Space) → Revealed v kept count x named ss → a ≡ access_of ss false address n) → refusal m (Load address so_many) ≡ None → IsDone b
   load_not_refused address so_many n a b long is access free =
       load_is_done m address so_many b (sym is ∙ access r.session.stands.memory r.session.stands.is.named m.spaces (knows laws whole r) ∙ ap (λ (k : ℕ). access_of m.spaces false address k) long) free

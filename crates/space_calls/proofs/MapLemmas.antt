@@ -23,7 +23,7 @@ use Rattle.projection_laws.specs.Laws.{WindowFits}
 use Rattle.projection_laws.specs.Spaces.{MayHaveWindow}
 use Rattle.projection_laws.specs.Tests.{map_row, no_space, path_mapped}
 use Rattle.projection_laws.proofs.Passes.{map_passes, tests_on_spaces}
-use Rattle.table_calls.specs.Answers.{Tells}
+use Rattle.table_calls.specs.Answers.{Reveals}
 use Rattle.file_manager.specs.declared.attributes.Attributes.{Attributes}
 use Rattle.space_calls.specs.Mapping.{IsInReach}
 use Rattle.space_calls.specs.Naming.{IsNameable}
@@ -77,17 +77,17 @@ module _ (m : Machine) (id : ℕ) where
   file_found : (f : File) → nameable m id ≡ Some f → no_file m id ≡ None
   file_found f some = ap (λ (o : Option File). then_some (is_none o) why.File) some
 
-  told_none : (o : Option File) → IsNameable o None → o ≡ None
-  told_none None told = refl
-  told_none (Some f) told = absurd told
+  revealed_none : (o : Option File) → IsNameable o None → o ≡ None
+  revealed_none None revealed = refl
+  revealed_none (Some f) revealed = absurd revealed
 
-  told_some : (o : Option File) (a : Attributes) → IsNameable o (Some a) → (f : File) × (o ≡ Some f) × (a.pages ≡ size f) × (a.immutable ≡ f.immutable)
-  told_some None a told = absurd told
-  told_some (Some f) a told = (f, refl, told.0, told.3)
+  revealed_some : (o : Option File) (a : Attributes) → IsNameable o (Some a) → (f : File) × (o ≡ Some f) × (a.pages ≡ size f) × (a.immutable ≡ f.immutable)
+  revealed_some None a revealed = absurd revealed
+  revealed_some (Some f) a revealed = (f, refl, revealed.0, revealed.3)
 
   named : (a : Attributes) → IsNameable (nameable m id) (Some a) → IsNamed m id a
-  named a told =
-      let found = told_some (nameable m id) a told in
+  named a revealed =
+      let found = revealed_some (nameable m id) a revealed in
       let f = file_there m id (file_found found.0 found.1) in
       record { f = found.0; nameable_is = found.1; there = sym (named_where m id f.2) ∙ found.1; long = found.2; immutable = found.3 }
 
@@ -114,13 +114,13 @@ module _ (m : Machine) (handle id page : ℕ) (writable : Bool) where
 
     module _ (other : handle ≢ 0) where
       pub no_such_file : IsNameable (nameable m id) None → refusal m (call.Map handle id page writable) ≡ Some why.File
-      no_such_file told =
+      no_such_file revealed =
           agreed ∙ third_says (no_space m.spaces handle) (is_root handle) (no_file m id) (first_of (map_row m.spaces handle)) (past_end m handle id page) (if writable then is_immutable m id else None) why.File
-          there (not_the_root handle other) (file_missing m id (told_none m id (nameable m id) told))
+          there (not_the_root handle other) (file_missing m id (revealed_none m id (nameable m id) revealed))
 
-      module _ (a : Attributes) (told : IsNameable (nameable m id) (Some a)) where
+      module _ (a : Attributes) (revealed : IsNameable (nameable m id) (Some a)) where
         found : IsNamed m id a
-        found = named m id a told
+        found = named m id a revealed
 
         pub path_taken : (word : Refusal) → first_of (map_row m.spaces handle) ≡ Some word → refusal m (call.Map handle id page writable) ≡ Some word
         path_taken word e =
@@ -195,8 +195,8 @@ may_be_given m handle id page writable is none reach =
 -- ---- The answer of the tests.
 
 module _ (m : Machine) (handle id page : ℕ) (writable : Bool) (o : Result Unit Refusal) where
-  pub map_passed : (u : Unit {0}) → o ≡ Ok u → Tells (refusal m (call.Map handle id page writable)) (λ v. IsInReach m handle page) o → (refusal m (call.Map handle id page writable) ≡ None) × IsInReach m handle page
-  map_passed u is told = answered (refusal m (call.Map handle id page writable)) (λ v. IsInReach m handle page) (Unit {0}) o u is told
+  pub map_passed : (u : Unit {0}) → o ≡ Ok u → Reveals (refusal m (call.Map handle id page writable)) (λ v. IsInReach m handle page) o → (refusal m (call.Map handle id page writable) ≡ None) × IsInReach m handle page
+  map_passed u is revealed = answered (refusal m (call.Map handle id page writable)) (λ v. IsInReach m handle page) (Unit {0}) o u is revealed
 
-  pub map_stopped : (word : Refusal) → o ≡ Err word → Tells (refusal m (call.Map handle id page writable)) (λ v. IsInReach m handle page) o → refusal m (call.Map handle id page writable) ≡ Some word
-  map_stopped word is told = (declined (refusal m (call.Map handle id page writable)) (λ v. IsInReach m handle page) (Unit {0}) o word is told).0
+  pub map_stopped : (word : Refusal) → o ≡ Err word → Reveals (refusal m (call.Map handle id page writable)) (λ v. IsInReach m handle page) o → refusal m (call.Map handle id page writable) ≡ Some word
+  map_stopped word is revealed = (declined (refusal m (call.Map handle id page writable)) (λ v. IsInReach m handle page) (Unit {0}) o word is revealed).0

@@ -24,7 +24,7 @@ use Rattle.fault_core.specs.Access.{access_of}
 use Rattle.fault_core.specs.Moves.{StoresAs}
 use Rattle.fault_core.specs.Range.{AreClean}
 use Rattle.fault_core.specs.Reach.{BringsOwn}
-use Rattle.fault_core.specs.Told.{Told}
+use Rattle.fault_core.specs.Revealed.{Revealed}
 use Rattle.fault_core.specs.View.{View}
 use Rattle.fault_core.proofs.AnswerLemmas.{stores_lead}
 use Rattle.fault_core.proofs.ForcedLemmas.{forced_ranges}
@@ -36,38 +36,38 @@ use Rattle.space_calls.proofs.CameLemmas.{Came, knows}
 use Rattle.space_calls.proofs.SameBooks.{KeepsBooks, force_keeps, kill_keeps, store_keeps}
 
 module _ (laws : RunningLaws) {v w : View} {kept later : List Interval} {count now : ℕ} (whole : IsWhole v) {volume : Volume} {m : Machine} (r : IsRunning v kept count volume m) (same : now ≡ count) (layout : w.layout ≡ v.layout) where
-  moved_to : (n : Machine) → KeepsBooks m n → StandsFor (exactly r.pages m.spaces) w.disk w.slots n → ((x : List Sector) → Stands w.disk w.slots x → Told w later now x r.session.stands.is.named m.spaces) → IsRunning w later now volume n
+  moved_to : (n : Machine) → KeepsBooks m n → StandsFor (exactly r.pages m.spaces) w.disk w.slots n → ((x : List Sector) → Stands w.disk w.slots x → Revealed w later now x r.session.stands.is.named m.spaces) → IsRunning w later now volume n
   moved_to n keeps stands known =
       subst (λ (c : ℕ). IsRunning w later c volume n) (sym same)
       (laws.moved v w kept later count volume m n whole r keeps.spaces keeps.serial keeps.counter keeps.room stands
-      (λ x is. subst (λ (c : ℕ). Told w later c x r.session.stands.is.named m.spaces) same (known x is)) layout)
+      (λ x is. subst (λ (c : ℕ). Revealed w later c x r.session.stands.is.named m.spaces) same (known x is)) layout)
 
   pub store_runs : (address : ℕ) (bytes : List ℕ) → IsTyped (call.Store address bytes) → Done ≡ access_of m.spaces true address (length bytes)
       → Goes (StoresAs Done m.spaces address bytes) (IsTouchedOrOwn m.spaces address (length bytes)) [] v.disk v.slots w.disk w.slots → BringsKnown m.spaces v.slots w.slots
-      → ((x : List Sector) → Stands w.disk w.slots x → Told w later now x r.session.stands.is.named m.spaces) → IsRunning w later now volume (next m (call.Store address bytes))
+      → ((x : List Sector) → Stands w.disk w.slots x → Revealed w later now x r.session.stands.is.named m.spaces) → IsRunning w later now volume (next m (call.Store address bytes))
   store_runs address bytes typed done goes came known =
       moved_to (next m (call.Store address bytes)) (store_keeps m address bytes)
       (stores_lead (exactly r.pages m.spaces) address bytes v.disk w.disk v.slots w.slots m typed done goes came r.session.stands) known
 
   pub kill_runs : (space : ℕ) (s : Space) → refusal m (call.Kill space) ≡ None → space_at m.spaces space ≡ Some s → Goes (Kills m.spaces s) volume_page [] v.disk v.slots w.disk w.slots → BringsOwn v.slots w.slots
-      → ((x : List Sector) → Stands w.disk w.slots x → Told w later now x r.session.stands.is.named m.spaces) → IsRunning w later now volume (next m (call.Kill space))
+      → ((x : List Sector) → Stands w.disk w.slots x → Revealed w later now x r.session.stands.is.named m.spaces) → IsRunning w later now volume (next m (call.Kill space))
   kill_runs space s free there goes came known =
       moved_to (next m (call.Kill space)) (kill_keeps m space)
       (kill_stands (exactly r.pages m.spaces) space s v.disk w.disk v.slots w.slots m free there goes (own_came m.spaces v.slots w.slots came) r.session.stands) known
 
 module _ (laws : RunningLaws) {v w : View} {kept later : List Interval} {count now : ℕ} (whole : IsWhole v) {volume : Volume} {m : Machine} (r : IsRunning v kept count volume m) (came : Came v w kept later count now) where
-  pub force_runs : (space : ℕ) (s : Space) → refusal m (call.ForceOut space) ≡ None → space_at m.spaces space ≡ Some s → AreClean m.spaces w.slots s.first (s.first + s.pages)
+  pub flush_runs : (space : ℕ) (s : Space) → refusal m (call.ForceOut space) ≡ None → space_at m.spaces space ≡ Some s → AreClean m.spaces w.slots s.first (s.first + s.pages)
       → IsRunning w later now volume (next m (call.ForceOut space))
-  force_runs space s free there rest =
+  flush_runs space s free there rest =
       let x = r.session.stands.memory in
       let named = r.session.stands.is.named in
-      let told = knows laws whole r in
-      let after = came.known x named m.spaces told in
-      let are : AreSpaces m.spaces = subst AreSpaces told.tables.spaces told.tables.right.spaces in
+      let revealed = knows laws whole r in
+      let after = came.known x named m.spaces revealed in
+      let are : AreSpaces m.spaces = subst AreSpaces revealed.tables.spaces revealed.tables.right.spaces in
       moved_to laws whole r came.same_count came.reaches.layout (next m (call.ForceOut space)) (force_keeps m space)
-      (force_stands (exactly r.pages m.spaces) space s v.disk w.disk v.slots w.slots m free there (reaches_searches v w x named told.bytes whole.layout came.reaches told.known)
-      (forced_ranges m.spaces s w.slots are rest) (came.brings x named m.spaces told) r.session.stands)
-      (λ y is. subst (λ (z : List Sector). Told w later now z named m.spaces) (same_memory w.disk w.slots x y after.known.stands is) after)
+      (force_stands (exactly r.pages m.spaces) space s v.disk w.disk v.slots w.slots m free there (reaches_searches v w x named revealed.bytes whole.layout came.reaches revealed.known)
+      (forced_ranges m.spaces s w.slots are rest) (came.brings x named m.spaces revealed) r.session.stands)
+      (λ y is. subst (λ (z : List Sector). Revealed w later now z named m.spaces) (same_memory w.disk w.slots x y after.known.stands is) after)
 
 -- the range that the tables gave is that of the space
 pub range_is : (P : ℕ → ℕ → Type 0) (s : Space) (run : ℕ × ℕ) → run ≡ (s.first, s.pages) → P run.0 (run.0 + run.1) → P s.first (s.first + s.pages)

@@ -13,8 +13,8 @@ pub moves_tables : (v w : View) → BesideTables v.disk v.slots v.layout v.runs 
 moves_tables v w h = moves_of_reshapes v w (reshapes_tables v w h)
 
 -- pages were found before
-pub moves_behind : (u v w : View) → IsLayout u.layout → Reaches u v → Moves v w → Moves u w
-moves_behind u v w is h k = moves_then u v w is (moves_of_reaches u v h) k
+pub moves_after : (u v w : View) → IsLayout u.layout → Reaches u v → Moves v w → Moves u w
+moves_after u v w is h k = moves_then u v w is (moves_of_reaches u v h) k
 
 -- pages are found afterwards
 pub moves_before : (u v w : View) → IsLayout u.layout → Moves u v → Reaches v w → Moves u w
@@ -22,4 +22,4 @@ moves_before u v w is h k = moves_then u v w is h (moves_of_reaches v w k)
 
 -- pages are found, and then others
 pub moves_twice : (u v w : View) → IsLayout u.layout → Reaches u v → Reaches v w → Moves u w
-moves_twice u v w is h k = moves_behind u v w is h (moves_of_reaches v w k)
+moves_twice u v w is h k = moves_after u v w is h (moves_of_reaches v w k)

@@ -14,7 +14,7 @@ use Rattle.flat_machine.proofs.Lists.{In, any_not, in_any, find_in, not_found, o
 use Rattle.flat_machine.proofs.SpaceLemmas.{two_at}
 use Rattle.session_words.specs.Parts.{Shape, shape_of, shapes_of}
 use Rattle.file_manager.specs.declared.attributes.Attributes.{Attributes}
-use Rattle.file_manager.specs.Attributes.{IsAttributesOf, shape_told}
+use Rattle.file_manager.specs.Attributes.{IsAttributesOf, shape_revealed}
 use Rattle.space_tables.specs.declared.shown.Shown.{Shown}
 use Rattle.space_tables.specs.Shows.{IsFirstWith, shows, window_of}
 use Rattle.space_calls.specs.Naming.{IsNameable, IsSeen}
@@ -83,21 +83,21 @@ module _ (m : Machine) (id : ℕ) where
             (subst (λ (o : Option Window). option_map_or (λ v. v.anonymous && option_map_or (λ u. u.file == v.file) o false) t.window false ≡ false) shown
             (two_at _ m.spaces is.anonymous_alone t s among there other))
 
--- ---- What is told of it.
+-- ---- What is revealed of it.
 
--- the shape that attributes tell is the file's
-same_attributes : (f : File) (a : Attributes) → shape_of f ≡ shape_told a → IsNameable (Some f) (Some a)
+-- the shape that attributes reveal is the file's
+same_attributes : (f : File) (a : Attributes) → shape_of f ≡ shape_revealed a → IsNameable (Some f) (Some a)
 same_attributes f a same = (sym (ap (λ (s : Shape). s.size) same), sym (ap (λ (s : Shape). s.kind) same), sym (ap (λ (s : Shape). s.permanent) same), sym (ap (λ (s : Shape). s.immutable) same))
 
-shape_nameable : (o : Option File) (told : Option Attributes) → IsAttributesOf (option_map shape_of o) told → IsNameable o told
-shape_nameable (Some f) (Some a) same = same_attributes f a (same_Some (shape_of f) (shape_told a) same)
+shape_nameable : (o : Option File) (revealed : Option Attributes) → IsAttributesOf (option_map shape_of o) revealed → IsNameable o revealed
+shape_nameable (Some f) (Some a) same = same_attributes f a (same_Some (shape_of f) (shape_revealed a) same)
 shape_nameable (Some f) None same = absurd (none-some (shape_of f) (sym same))
-shape_nameable None (Some a) same = absurd (none-some (shape_told a) same)
+shape_nameable None (Some a) same = absurd (none-some (shape_revealed a) same)
 shape_nameable None None same = tt
 
 -- no window shows the file, or none that is anonymous
-told_nameable : (m : Machine) (id : ℕ) (told : Option Attributes) → nameable m id ≡ file_at m.files id → IsAttributesOf (shapes_of m.files id) told → IsNameable (nameable m id) told
-told_nameable m id told is same = rw is (shape_nameable (file_at m.files id) told same)
+revealed_nameable : (m : Machine) (id : ℕ) (revealed : Option Attributes) → nameable m id ≡ file_at m.files id → IsAttributesOf (shapes_of m.files id) revealed → IsNameable (nameable m id) revealed
+revealed_nameable m id revealed is same = rw is (shape_nameable (file_at m.files id) revealed same)
 
 hidden_nameable : (m : Machine) (id : ℕ) → nameable m id ≡ None → IsNameable (nameable m id) None
 hidden_nameable m id none = rw none tt
@@ -117,8 +117,8 @@ seen_past m id handle shown o is same first = first_sees m id is (handle, shown)
 pub seen_bare : (m : Machine) (id : ℕ) (o : Option (ℕ × Shown)) → o ≡ None → IsFirstWith (shows id false) m.spaces o → IsSeen m id true
 seen_bare m id o same first = none_shows m id (subst (λ (o : Option (ℕ × Shown)). IsFirstWith (shows id false) m.spaces o) same first)
 
-pub seen_told : (m : Machine) (id : ℕ) (seen : Bool) (told : Option Attributes) → seen ≡ true → IsSeen m id seen → IsAttributesOf (shapes_of m.files id) told → IsNameable (nameable m id) told
-seen_told m id seen told is sees same = told_nameable m id told (subst (λ (b : Bool). IsSeen m id b) is sees) same
+pub seen_revealed : (m : Machine) (id : ℕ) (seen : Bool) (revealed : Option Attributes) → seen ≡ true → IsSeen m id seen → IsAttributesOf (shapes_of m.files id) revealed → IsNameable (nameable m id) revealed
+seen_revealed m id seen revealed is sees same = revealed_nameable m id revealed (subst (λ (b : Bool). IsSeen m id b) is sees) same
 
 pub seen_not : (m : Machine) (id : ℕ) (seen : Bool) → seen ≡ false → IsSeen m id seen → IsNameable (nameable m id) None
 seen_not m id seen is sees = hidden_nameable m id (subst (λ (b : Bool). IsSeen m id b) is sees)

@@ -16,7 +16,7 @@ use Rattle.flat_machine.proofs.SpaceEdits.{in_put}
 use Rattle.swapper_kernel.specs.Goes.{Pages}
 use Rattle.space_tables.specs.declared.shown.Shown.{Shown}
 use Rattle.space_tables.specs.Shows.{window_of}
-use Rattle.fault_core.specs.declared.core_over.CoreOver.{CoreOver}
+use Rattle.fault_core.specs.declared.core_over.Core.{Core}
 use Rattle.fault_core.specs.Core.{kept, state}
 use Rattle.fault_core.specs.Lack.{Sees}
 use Rattle.space_calls.specs.FilesLaws.{on_wider, shown_here, shown_or, window_of_one, window_on_file}
@@ -79,7 +79,7 @@ window_given_on ss are space shown x at =
 
 -- ---- Answers.
 
-module _ {D A : Type 0} {G : Ghosts D} (old new : CoreOver D A G) where
+module _ {D A : Type 0} {G : Ghosts D} (old new : Core D A G) where
   -- what is so for whatever spaces are seen
   pub each_still_on : {R : Type 0} (result : Result R Halt) → ((ss : List Space) → Sees (state old) (kept old) old.intervals ss → OnOk result (SeesFiles (IsShown ss) new)) → OnOk result (StillOn old new)
   each_still_on (Ok answer) each = each
@@ -93,6 +93,6 @@ module _ {D A : Type 0} {G : Ghosts D} (old new : CoreOver D A G) where
       let given = each ss s in
       let now : List Space = given.1.0 in
       let set : Pages = λ file last. IsShown ss file last ⊎ ((file ≡ id) × IsLastFrom ss space page last) in
-      let told : Pages = λ file last. IsShown ss file last ⊎ ((reply ≡ Done) × (file ≡ id) × IsLastFrom ss space page last) in
-      (now, (given.1.1.0, on_wider set told (λ file last one. elim one [ inl was ↦ inl was | inr new ↦ inr (given.0, new.0, new.1) ]) now given.1.1.1))
+      let revealed : Pages = λ file last. IsShown ss file last ⊎ ((reply ≡ Done) × (file ≡ id) × IsLastFrom ss space page last) in
+      (now, (given.1.1.0, on_wider set revealed (λ file last one. elim one [ inl was ↦ inl was | inr new ↦ inr (given.0, new.0, new.1) ]) now given.1.1.1))
   given_still_on space id page (Err e) each = tt

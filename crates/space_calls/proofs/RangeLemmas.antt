@@ -19,12 +19,12 @@ use Rattle.swapper_kernel.specs.HaltLaws.{brings_itself, rose_wider}
 use Rattle.swapper_kernel.specs.Homes.{IsLayout}
 use Rattle.fault_core.specs.Kill.{BreaksWithin}
 use Rattle.filer_kernel.specs.Evidence.{MayBeMissing}
-use Rattle.fault_core.specs.Lack.{LacksPage, range_units}
+use Rattle.fault_core.specs.Lack.{MissesPage, range_units}
 use Rattle.fault_core.specs.Reach.{BringsOwn, Reaches, ReachHalts, TouchHalts}
 use Rattle.fault_core.specs.View.{View}
 use Rattle.fault_core.proofs.ReachLemmas.{finds_before, halts_before, reaches_itself}
-use Rattle.fault_core.proofs.LackLemmas.{lacks_wider}
-use Rattle.table_calls.specs.Answers.{IfGiven, TablesBreak, TablesSay, Tells}
+use Rattle.fault_core.proofs.LackLemmas.{misses_wider}
+use Rattle.table_calls.specs.Answers.{IfGiven, TablesBreak, TablesSay, Reveals}
 use Rattle.space_calls.specs.Ranges.{BreaksInSpace, BreaksRange, space_units}
 
 -- the run is that of the space of this handle
@@ -33,14 +33,14 @@ IsSpaceRun ss space run = (s : Space) × (space_at ss space ≡ Some s) × (run 
 
 -- what is so of an answer that was given
 pub given_so : {A : Type 0} (P : A → Type 0) (answer : A) (r : Result A Refusal) → r ≡ Ok answer → IfGiven P r → P answer
-given_so P answer r is so = subst (IfGiven P) is so
+given_so P answer r is evidence_seen = subst (IfGiven P) is evidence_seen
 
 module _ (ss : List Space) (space : ℕ) where
-  pub found_run : (run : ℕ × ℕ) (r : Result (ℕ × ℕ) Refusal) → r ≡ Ok run → Tells (no_space ss space) (IsSpaceRun ss space) r → (no_space ss space ≡ None) × IsSpaceRun ss space run
-  found_run run r is tells = subst (Tells (no_space ss space) (IsSpaceRun ss space)) is tells
+  pub found_run : (run : ℕ × ℕ) (r : Result (ℕ × ℕ) Refusal) → r ≡ Ok run → Reveals (no_space ss space) (IsSpaceRun ss space) r → (no_space ss space ≡ None) × IsSpaceRun ss space run
+  found_run run r is reveals = subst (Reveals (no_space ss space) (IsSpaceRun ss space)) is reveals
 
-  pub found_word : (word : Refusal) (r : Result (ℕ × ℕ) Refusal) → r ≡ Err word → Tells (no_space ss space) (IsSpaceRun ss space) r → no_space ss space ≡ Some word
-  found_word word r is tells = (subst (Tells (no_space ss space) (IsSpaceRun ss space)) is tells).0
+  pub found_word : (word : Refusal) (r : Result (ℕ × ℕ) Refusal) → r ≡ Err word → Reveals (no_space ss space) (IsSpaceRun ss space) r → no_space ss space ≡ Some word
+  found_word word r is reveals = (subst (Reveals (no_space ss space) (IsSpaceRun ss space)) is reveals).0
 
   -- where there is the space, it was not refused
   pub never_refused : (s : Space) (word : Refusal) → space_at ss space ≡ Some s → no_space ss space ≡ Some word → ⊥
@@ -64,9 +64,9 @@ module _ (ss : List Space) (space : ℕ) where
       subst (λ (q : ℕ × ℕ). P q.0 (q.0 + q.1)) pages is
 
   -- what is missing of the swap units of the run is so of those of the space
-  pub run_lacks : (run : ℕ × ℕ) → IsSpaceRun ss space run → (e : Halt) → LacksPage (range_units ss run.0 (run.0 + run.1)) e → LacksPage (space_units ss space) e
-  run_lacks run (s, at, pages) e h =
-      lacks_wider (range_units ss run.0 (run.0 + run.1)) (space_units ss space) (λ id page one. (s, (at, subst (λ (q : ℕ × ℕ). range_units ss q.0 (q.0 + q.1) id page) pages one))) e h
+  pub run_misses : (run : ℕ × ℕ) → IsSpaceRun ss space run → (e : Halt) → MissesPage (range_units ss run.0 (run.0 + run.1)) e → MissesPage (space_units ss space) e
+  run_misses run (s, at, pages) e h =
+      misses_wider (range_units ss run.0 (run.0 + run.1)) (space_units ss space) (λ id page one. (s, (at, subst (λ (q : ℕ × ℕ). range_units ss q.0 (q.0 + q.1) id page) pages one))) e h
 
 -- advice changes nothing
 pub deactivate_stays : (m : Machine) (space : ℕ) → m ≡ next m (call.Deactivate space)
@@ -95,7 +95,7 @@ module _ (v w : View) (is : IsLayout v.layout) (space : ℕ) where
       below = within.below;
       breaks = record {
         in_root = within.breaks.in_root;
-        breaks = λ b told. subst (λ (j : ℕ). BreaksLookUp within.asked j b page) same (within.breaks.breaks b (reaches.told b told));
+        breaks = λ b revealed. subst (λ (j : ℕ). BreaksLookUp within.asked j b page) same (within.breaks.breaks b (reaches.revealed b revealed));
       };
     }
 

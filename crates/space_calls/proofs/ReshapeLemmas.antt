@@ -36,8 +36,8 @@ reshapes_tables v w h = record {
 }
 
 -- after pages were found
-pub reshapes_behind : (v w x : View) → IsLayout v.layout → Reaches v w → Reshapes w x → Reshapes v x
-reshapes_behind v w x is h k = record {
+pub reshapes_after : (v w x : View) → IsLayout v.layout → Reaches v w → Reshapes w x → Reshapes v x
+reshapes_after v w x is h k = record {
   goes = goes_then (Differs (in_tables v.layout)) (Differs (in_tables v.layout)) (Differs (in_tables v.layout)) (λ m n o first last. differs_then (in_tables v.layout) m n o first last) h.goes
       (subst (λ (l : Layout). Goes (Differs (in_tables l)) table_pages [] w.disk w.slots x.disk x.slots) h.layout k.goes);
   brings = brings_then h.brings (brings_wider (IsReached v) (came_before v w is (touches_of no_page h)) k.brings);

@@ -17,16 +17,16 @@ use Rattle.swap_units.specs.declared.interval.Interval.{Interval}
 use Rattle.swapper_kernel.specs.Goes.{Makes}
 use Rattle.swapper_kernel.specs.GoesLaws.{makes_wider}
 use Rattle.swapper_kernel.specs.Homes.{IsLayout}
-use Rattle.space_tables.specs.Stored.{TellSpaces}
+use Rattle.space_tables.specs.Stored.{RevealSpaces}
 use Rattle.session_words.specs.FrameLaws.{BringsKnown, HasFrames, is_shown}
 use Rattle.session_words.specs.Parts.{DirtyAreLoose, shapes_of}
 use Rattle.session_words.specs.Volume.{volume_page}
 use Rattle.file_manager.specs.Book.{Books}
 use Rattle.file_manager.specs.declared.volume.Volume.{Volume}
-use Rattle.fault_core.specs.declared.core_over.CoreOver.{CoreOver}
+use Rattle.fault_core.specs.declared.core_over.Core.{Core}
 use Rattle.fault_core.specs.Core.{kept, state, Knows}
 use Rattle.fault_core.specs.Reach.{Reaches, BringsOwn}
-use Rattle.fault_core.specs.Told.{Told}
+use Rattle.fault_core.specs.Revealed.{Revealed}
 use Rattle.fault_core.specs.View.{View, TablesAre}
 use Rattle.table_calls.specs.Answers.{Asked, Retabled}
 use Rattle.running_words.specs.Running.{exactly, IsRunning, Runs}
@@ -47,9 +47,9 @@ nothing_labelled makes = record { labels = []; makes = makes; opens = tt }
 
 -- ---- Results.
 
-pub if_told : {X E : Type 0} (r : Result X E) (P Q : X → Type 0) (F : E → Type 0) → MatchResult r P F → ((x : X) → P x → Q x) → IfOk r Q
-if_told (Ok x) P Q F h wider = wider x h
-if_told (Err e) P Q F h wider = tt
+pub if_revealed : {X E : Type 0} (r : Result X E) (P Q : X → Type 0) (F : E → Type 0) → MatchResult r P F → ((x : X) → P x → Q x) → IfOk r Q
+if_revealed (Ok x) P Q F h wider = wider x h
+if_revealed (Err e) P Q F h wider = tt
 
 pub if_failed : {X E : Type 0} (r : Result X E) (P : X → Type 0) (F : E → Type 0) → MatchResult r P F → IfErr r F
 if_failed (Ok x) P F h = tt
@@ -73,12 +73,12 @@ looked_runs {v = v} {w = w} {volume = volume} {m = m} r makes brings books layou
 
 module _ {D A : Type 0} {G : Ghosts D} where
   -- a core of which the same is seen
-  pub same_runs : (c d : CoreOver D A G) (volume : Volume) (m : Machine) → state d ≡ state c → kept d ≡ kept c → d.intervals ≡ c.intervals → Runs c volume m → Runs d volume m
+  pub same_runs : (c d : Core D A G) (volume : Volume) (m : Machine) → state d ≡ state c → kept d ≡ kept c → d.intervals ≡ c.intervals → Runs c volume m → Runs d volume m
   same_runs c d volume m view intervals count r =
       subst (λ (v : View). IsRunning v (kept d) d.intervals volume m) (sym view) (subst (λ (k : List Interval). IsRunning (state c) k d.intervals volume m) (sym intervals)
       (subst (λ (n : ℕ). IsRunning (state c) (kept c) n volume m) (sym count) r))
 
-  module _ (c : CoreOver D A G) (layout : IsLayout c.filer.swapper.layout) (size : (G.state c.filer.swapper.under).sectors ≡ c.filer.swapper.layout.sectors) where
+  module _ (c : Core D A G) (layout : IsLayout c.filer.swapper.layout) (size : (G.state c.filer.swapper.disk).sectors ≡ c.filer.swapper.layout.sectors) where
     whole : IsWhole (state c)
     whole = record { layout = layout; size = size }
 
@@ -87,70 +87,70 @@ module _ {D A : Type 0} {G : Ghosts D} where
     knows volume m r = running_laws.known (state c) (kept c) c.intervals volume m whole r
 
     -- a core of which as much is known
-    pub reached_runs : (d : CoreOver D A G) (volume : Volume) (m : Machine) (r : Runs c volume m) → Reaches (state c) (state d) → BringsOwn c.filer.swapper.pool d.filer.swapper.pool → d.intervals ≡ c.intervals
+    pub reached_runs : (d : Core D A G) (volume : Volume) (m : Machine) (r : Runs c volume m) → Reaches (state c) (state d) → BringsOwn c.filer.swapper.pool d.filer.swapper.pool → d.intervals ≡ c.intervals
         → Knows d r.session.stands.memory r.session.stands.is.named m.spaces → Runs d volume m
     reached_runs d volume m r reaches came count known =
         let brought : BringsKnown m.spaces (state c).slots (state d).slots = known_brought (exactly r.pages m.spaces) m c.filer.swapper.pool d.filer.swapper.pool came in
         subst (λ (n : ℕ). IsRunning (state d) (kept d) n volume m) (sym count)
         (running_laws.asked (state c) (state d) (kept c) (kept d) c.intervals volume m whole r reaches brought
-        (subst (λ (n : ℕ). Told (state d) (kept d) n r.session.stands.memory r.session.stands.is.named m.spaces) count known))
+        (subst (λ (n : ℕ). Revealed (state d) (kept d) n r.session.stands.memory r.session.stands.is.named m.spaces) count known))
 
     -- the tables were asked
-    pub asked_runs : (d : CoreOver D A G) (volume : Volume) (m : Machine) → Asked c d → Runs c volume m → Runs d volume m
+    pub asked_runs : (d : Core D A G) (volume : Volume) (m : Machine) → Asked c d → Runs c volume m → Runs d volume m
     asked_runs d volume m asked r = reached_runs d volume m r asked.reaches asked.came asked.intervals (asked.same _ _ m.spaces (knows volume m r))
 
-    module _ (d : CoreOver D A G) (form : AreInForm (G.state d.filer.swapper.under)) (pages : ArePages d.filer.swapper.pool) (volume : Volume) (m : Machine) (retabled : Retabled c d) (spaces : List Space)
-        (tells : TellSpaces (TablesAre (state d)) d.intervals spaces) (r : Runs c volume m) where
+    module _ (d : Core D A G) (form : AreInForm (G.state d.filer.swapper.disk)) (pages : ArePages d.filer.swapper.pool) (volume : Volume) (m : Machine) (retabled : Retabled c d) (spaces : List Space)
+        (reveals : RevealSpaces (TablesAre (state d)) d.intervals spaces) (r : Runs c volume m) where
       -- the tables were changed, and what windows show is still shown
       pub reshaped_runs : IsMachine (record m { spaces = spaces }) → ((id page : ℕ) → is_shown m.spaces id page ≡ true → is_shown spaces id page ≡ true) → Runs d volume (record m { spaces = spaces })
       reshaped_runs is still =
           subst (λ (k : List Interval). IsRunning (state d) k d.intervals volume (record m { spaces = spaces })) (sym retabled.kept)
-          (running_laws.reshaped (state c) (state d) (kept c) c.intervals d.intervals volume m spaces whole form pages r retabled.beside retabled.came tells is still)
+          (running_laws.reshaped (state c) (state d) (kept c) c.intervals d.intervals volume m spaces whole form pages r retabled.beside retabled.came reveals is still)
 
       -- and pages became settled
       pub changed_runs : (unforced : List FilePage) → IsMachine (record m { spaces = spaces; unforced = unforced }) → HasFrames d.filer.swapper.pool spaces → DirtyAreLoose d.filer.swapper.pool unforced
           → Runs d volume (record m { spaces = spaces; unforced = unforced })
       changed_runs unforced is frames loose =
           subst (λ (k : List Interval). IsRunning (state d) k d.intervals volume (record m { spaces = spaces; unforced = unforced })) (sym retabled.kept)
-          (running_laws.changed (state c) (state d) (kept c) c.intervals d.intervals volume m spaces unforced whole form pages r retabled.beside tells is frames loose)
+          (running_laws.changed (state c) (state d) (kept c) c.intervals d.intervals volume m spaces unforced whole form pages r retabled.beside reveals is frames loose)
 
-  -- each moment tells the settled files of before
-  pub quiet_passes : (c d : CoreOver D A G) (volume : Volume) (m : Machine) (call : Call) → AreInForm (G.state c.filer.swapper.under) → Runs c volume m
-      → Makes volume_page [] (G.state c.filer.swapper.under) c.filer.swapper.pool (G.state d.filer.swapper.under) d.filer.swapper.pool
-      → Passes m call (G.state c.filer.swapper.under) (G.state d.filer.swapper.under)
+  -- each crash state reveals the settled files of before
+  pub quiet_passes : (c d : Core D A G) (volume : Volume) (m : Machine) (call : Call) → AreInForm (G.state c.filer.swapper.disk) → Runs c volume m
+      → Makes volume_page [] (G.state c.filer.swapper.disk) c.filer.swapper.pool (G.state d.filer.swapper.disk) d.filer.swapper.pool
+      → Passes m call (G.state c.filer.swapper.disk) (G.state d.filer.swapper.disk)
   quiet_passes c d volume m call form r makes = running_laws.quiet call (state c) (state d) (kept c) c.intervals volume m form r makes
 
   -- ---- What tables that were changed or asked did to the frames.
 
-  pub retabled_makes : (c d : CoreOver D A G) → Retabled c d → Makes volume_page [] (G.state c.filer.swapper.under) c.filer.swapper.pool (G.state d.filer.swapper.under) d.filer.swapper.pool
+  pub retabled_makes : (c d : Core D A G) → Retabled c d → Makes volume_page [] (G.state c.filer.swapper.disk) c.filer.swapper.pool (G.state d.filer.swapper.disk) d.filer.swapper.pool
   retabled_makes c d retabled = makes_wider volume_page tables_own retabled.beside.goes.makes
 
-  pub retabled_then : (c d e : CoreOver D A G) → Retabled c d → e ≡ d → Makes volume_page [] (G.state c.filer.swapper.under) c.filer.swapper.pool (G.state e.filer.swapper.under) e.filer.swapper.pool
+  pub retabled_then : (c d e : Core D A G) → Retabled c d → e ≡ d → Makes volume_page [] (G.state c.filer.swapper.disk) c.filer.swapper.pool (G.state e.filer.swapper.disk) e.filer.swapper.pool
   retabled_then c d e retabled same =
-      subst (λ (x : CoreOver D A G). Makes volume_page [] (G.state c.filer.swapper.under) c.filer.swapper.pool (G.state x.filer.swapper.under) x.filer.swapper.pool) (sym same) (retabled_makes c d retabled)
+      subst (λ (x : Core D A G). Makes volume_page [] (G.state c.filer.swapper.disk) c.filer.swapper.pool (G.state x.filer.swapper.disk) x.filer.swapper.pool) (sym same) (retabled_makes c d retabled)
 
-  pub asked_makes : (c d : CoreOver D A G) → Asked c d → Makes volume_page [] (G.state c.filer.swapper.under) c.filer.swapper.pool (G.state d.filer.swapper.under) d.filer.swapper.pool
+  pub asked_makes : (c d : Core D A G) → Asked c d → Makes volume_page [] (G.state c.filer.swapper.disk) c.filer.swapper.pool (G.state d.filer.swapper.disk) d.filer.swapper.pool
   asked_makes c d asked = makes_wider volume_page tables_own asked.reaches.goes.makes
 
   -- the disk still has as many sectors as the layout
-  pub size_kept : (c d : CoreOver D A G) → Makes volume_page [] (G.state c.filer.swapper.under) c.filer.swapper.pool (G.state d.filer.swapper.under) d.filer.swapper.pool
-      → d.filer.swapper.layout ≡ c.filer.swapper.layout → (G.state c.filer.swapper.under).sectors ≡ c.filer.swapper.layout.sectors → (G.state d.filer.swapper.under).sectors ≡ d.filer.swapper.layout.sectors
+  pub size_kept : (c d : Core D A G) → Makes volume_page [] (G.state c.filer.swapper.disk) c.filer.swapper.pool (G.state d.filer.swapper.disk) d.filer.swapper.pool
+      → d.filer.swapper.layout ≡ c.filer.swapper.layout → (G.state c.filer.swapper.disk).sectors ≡ c.filer.swapper.layout.sectors → (G.state d.filer.swapper.disk).sectors ≡ d.filer.swapper.layout.sectors
   size_kept c d makes layout size = makes.went.sectors ∙ size ∙ ap (λ (l : Layout). l.sectors) (sym layout)
 
   -- ---- The same core.
 
-  pub moved_runs : (c e : CoreOver D A G) (volume : Volume) (m : Machine) → e ≡ c → Runs c volume m → Runs e volume m
-  moved_runs c e volume m same r = subst (λ (x : CoreOver D A G). Runs x volume m) (sym same) r
+  pub moved_runs : (c e : Core D A G) (volume : Volume) (m : Machine) → e ≡ c → Runs c volume m → Runs e volume m
+  moved_runs c e volume m same r = subst (λ (x : Core D A G). Runs x volume m) (sym same) r
 
-  pub moved_size : (c e : CoreOver D A G) → e ≡ c → (G.state c.filer.swapper.under).sectors ≡ c.filer.swapper.layout.sectors → (G.state e.filer.swapper.under).sectors ≡ e.filer.swapper.layout.sectors
-  moved_size c e same size = subst (λ (x : CoreOver D A G). (G.state x.filer.swapper.under).sectors ≡ x.filer.swapper.layout.sectors) (sym same) size
+  pub moved_size : (c e : Core D A G) → e ≡ c → (G.state c.filer.swapper.disk).sectors ≡ c.filer.swapper.layout.sectors → (G.state e.filer.swapper.disk).sectors ≡ e.filer.swapper.layout.sectors
+  moved_size c e same size = subst (λ (x : Core D A G). (G.state x.filer.swapper.disk).sectors ≡ x.filer.swapper.layout.sectors) (sym same) size
 
-  pub moved_reaches : (c e d : CoreOver D A G) → e ≡ c → Reaches (state e) (state d) → Makes volume_page [] (G.state c.filer.swapper.under) c.filer.swapper.pool (G.state d.filer.swapper.under) d.filer.swapper.pool
+  pub moved_reaches : (c e d : Core D A G) → e ≡ c → Reaches (state e) (state d) → Makes volume_page [] (G.state c.filer.swapper.disk) c.filer.swapper.pool (G.state d.filer.swapper.disk) d.filer.swapper.pool
   moved_reaches c e d same reaches =
-      subst (λ (x : CoreOver D A G). Makes volume_page [] (G.state x.filer.swapper.under) x.filer.swapper.pool (G.state d.filer.swapper.under) d.filer.swapper.pool) same (makes_wider volume_page tables_own reaches.goes.makes)
+      subst (λ (x : Core D A G). Makes volume_page [] (G.state x.filer.swapper.disk) x.filer.swapper.pool (G.state d.filer.swapper.disk) d.filer.swapper.pool) same (makes_wider volume_page tables_own reaches.goes.makes)
 
   -- what was written is on the medium
-  pub settled_runs : (c d : CoreOver D A G) → IsLayout c.filer.swapper.layout → (G.state c.filer.swapper.under).sectors ≡ c.filer.swapper.layout.sectors → (volume : Volume) (m : Machine) → Runs c volume m → Reaches (state c) (state d)
+  pub settled_runs : (c d : Core D A G) → IsLayout c.filer.swapper.layout → (G.state c.filer.swapper.disk).sectors ≡ c.filer.swapper.layout.sectors → (volume : Volume) (m : Machine) → Runs c volume m → Reaches (state c) (state d)
       → d.filer.swapper.pool ≡ c.filer.swapper.pool → d.intervals ≡ c.intervals → ((x : List Sector) (named : Triples) (ss : List Space) → Knows c x named ss → Knows d x named ss) → Runs d volume m
   settled_runs c d layout size volume m r reaches frames count same =
       let came : BringsOwn c.filer.swapper.pool d.filer.swapper.pool = subst (λ (s : Slots). BringsOwn c.filer.swapper.pool s) (sym frames) (brings_itself (λ home. (1 ≤ home.id) × (home.id ≤ 3)) c.filer.swapper.pool) in

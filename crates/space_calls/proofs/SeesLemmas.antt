@@ -1,4 +1,4 @@
--- Calls on spaces where nothing is known but that the tables are told and in form.
+-- Calls on spaces where nothing is known but that the tables are revealed and in form.
 use Rattle.std.proofs.Common.{◌≡◌, inl, inr, ℕ, ◌≤◌, ◌<◌, Bool, true, false, List, Option, Some, None, Result, Ok, Err, refl, sym, ◌∙◌, subst, arith}
 use Rattle.std.specs.Prelude.{IfOk, IfSome, nat_lt}
 use Rattle.std.proofs.lemmas.Bool.Decides.{nat_tests}
@@ -21,7 +21,7 @@ use Rattle.projection_laws.proofs.Passes.{map_passes, window_passes}
 use Rattle.swap_units.specs.declared.interval.Interval.{Interval}
 use Rattle.fault_core.specs.Lack.{Sees}
 use Rattle.fault_core.specs.Reach.{Reaches}
-use Rattle.fault_core.specs.Spares.{SparesTables}
+use Rattle.fault_core.specs.NeverBlames.{NeverBlamesTables}
 use Rattle.fault_core.specs.View.{View}
 use Rattle.fault_core.proofs.LackLemmas.{sees_after}
 use Rattle.table_calls.specs.Answers.{Changes, IsDone}
@@ -47,12 +47,12 @@ pub set_so : (P X : Type 0) → (P → X) → (r : Result Unit Refusal) → IsDo
 set_so P X f (Ok answer) h = f h
 set_so P X f (Err word) h = absurd h
 
--- a look at a file tells no page of the tables as broken, nor as missing
-pub look_spares : (v w : View) (id : ℕ) (e : Halt) → LookHalts id v w e → SparesTables e
-look_spares v w id Disk h = tt
-look_spares v w id (Damaged (Mismatch sector wanted found)) h = tt
-look_spares v w id (Damaged (Malformed window page)) h = λ three. elim h [ inl map ↦ let two = map.0 in absurd (omega (arith, two, three)) | inr leader ↦ absurd leader.other ]
-look_spares v w id (Damaged (Missing number page)) h = elim h [ inl map ↦ absurd map | inr leader ↦ absurd leader.other ]
+-- a look at a file reveals no page of the tables as broken, nor as missing
+pub look_never_blames : (v w : View) (id : ℕ) (e : Halt) → LookHalts id v w e → NeverBlamesTables e
+look_never_blames v w id Disk h = tt
+look_never_blames v w id (Damaged (Mismatch sector wanted found)) h = tt
+look_never_blames v w id (Damaged (Malformed window page)) h = λ three. elim h [ inl map ↦ let two = map.0 in absurd (omega (arith, two, three)) | inr leader ↦ absurd leader.other ]
+look_never_blames v w id (Damaged (Missing number page)) h = elim h [ inl map ↦ absurd map | inr leader ↦ absurd leader.other ]
 
 -- ---- The space of a window.
 
@@ -89,20 +89,20 @@ module _ {v : View} {cached : List Interval} {count : ℕ} {ss : List Space} (s 
 -- ---- Answers.
 
 -- a fault of the disk names no page
-pub fault_spares : (e : Halt) → e ≡ Disk → SparesTables e
-fault_spares e is = subst SparesTables (sym is) tt
+pub fault_never_blames : (e : Halt) → e ≡ Disk → NeverBlamesTables e
+fault_never_blames e is = subst NeverBlamesTables (sym is) tt
 
-abbrev TellsNone : Result (Option Attributes) Halt → Type 0
-TellsNone (Ok None) = Unit {0}
-TellsNone (Ok (Some found)) = ⊥
-TellsNone (Err e) = ⊥
+abbrev RevealsNone : Result (Option Attributes) Halt → Type 0
+RevealsNone (Ok None) = Unit {0}
+RevealsNone (Ok (Some found)) = ⊥
+RevealsNone (Err e) = ⊥
 
--- a file that is told is a client's
+-- a file that is revealed is a client's
 pub client_so : (id : ℕ) (r : Result (Option Attributes) Halt) → (id < 16 → r ≡ Ok None) → IfOk r (λ o. IfSome o (λ a. 16 ≤ id))
 client_so id (Err e) low = tt
 client_so id (Ok None) low = tt
 client_so id (Ok (Some found)) low = by (nat_lt id 16) refl
   where
     by : (b : Bool) → nat_lt id 16 ≡ b → 16 ≤ id
-    by true e = absurd (subst TellsNone (sym (low (grind (arith, nat_tests, e)))) tt)
+    by true e = absurd (subst RevealsNone (sym (low (grind (arith, nat_tests, e)))) tt)
     by false e = grind (arith, nat_tests, e)

@@ -1,7 +1,7 @@
--- A disk that is settled tells the same, and a core over it knows the same.
+-- A disk that is settled reveals the same, and a core over it knows the same.
 use Rattle.std.proofs.Common.{inl, ℕ, List, [], Result, ◌∙◌, refl, arith}
 use Rattle.labelled_disk.specs.declared.disk.DiskError.{DiskError}
-use Rattle.labelled_disk.specs.Calls.{Settles, TellsSame}
+use Rattle.labelled_disk.specs.Calls.{Syncs, RevealsSame}
 use Rattle.labelled_disk.specs.Sectors.{Sector}
 use Rattle.labelled_disk.specs.State.{DiskState}
 use Rattle.file_map.specs.FileMap.{Triples}
@@ -14,15 +14,15 @@ use Rattle.swapper_kernel.specs.HaltLaws.{brings_itself}
 use Rattle.swapper_kernel.specs.Stands.{Stands}
 use Rattle.filer_kernel.specs.Tables.{in_tables, table_pages}
 use Rattle.fault_core.specs.Reach.{IsReached, Reaches}
-use Rattle.fault_core.specs.Told.{Told}
+use Rattle.fault_core.specs.Revealed.{Revealed}
 use Rattle.fault_core.specs.View.{View, TablesAre}
 
-module _ (v : View) (disk : DiskState) (went : Went v.disk disk) (same : TellsSame v.disk disk) where
+module _ (v : View) (disk : DiskState) (went : Went v.disk disk) (same : RevealsSame v.disk disk) where
   now_view : View
   now_view = record v { disk = disk }
 
   stands_settled : (x : List Sector) → Stands v.disk v.slots x → Stands disk v.slots x
-  stands_settled x s = record { sectors = s.sectors; told = same.contents ∙ s.told; merged = s.merged }
+  stands_settled x s = record { sectors = s.sectors; revealed = same.contents ∙ s.revealed; merged = s.merged }
 
   settled_makes : (pages : Pages) → Makes pages [] v.disk v.slots disk v.slots
   settled_makes pages = record { went = went; dirty = λ id page is. inl is; wrote = wrote_none pages v.slots same; count = refl }
@@ -47,11 +47,11 @@ module _ (v : View) (disk : DiskState) (went : Went v.disk disk) (same : TellsSa
     layout = refl;
     given = λ r one. inl one;
     runs_are = λ x named s map are. are;
-    told = tables_settled;
+    revealed = tables_settled;
   }
 
-  pub settled_told : (kept : List Interval) (count : ℕ) (x : List Sector) (named : Triples) (ss : List Space) → Told v kept count x named ss → Told (record v { disk = disk }) kept count x named ss
-  settled_told kept count x named ss t = record {
+  pub settled_revealed : (kept : List Interval) (count : ℕ) (x : List Sector) (named : Triples) (ss : List Space) → Revealed v kept count x named ss → Revealed (record v { disk = disk }) kept count x named ss
+  settled_revealed kept count x named ss t = record {
     bytes = t.bytes;
     known = record {
       stands = stands_settled x t.known.stands;
@@ -72,5 +72,5 @@ module _ (v : View) (disk : DiskState) (went : Went v.disk disk) (same : TellsSa
   }
 
 -- the same disk later
-pub settled_went : (old new : DiskState) (result : Result (Unit {0}) DiskError) → Settles old result new → Went old new
+pub settled_went : (old new : DiskState) (result : Result (Unit {0}) DiskError) → Syncs old result new → Went old new
 settled_went old new result s = record { sectors = s.sectors; lent = s.lent; faults = s.faults; transfers = omega (arith, s.transfers) }

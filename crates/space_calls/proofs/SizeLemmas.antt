@@ -37,11 +37,11 @@ reaches_over ss are handle id page size named x at fits is =
 -- what is so of the triples where pages were found and brought in was so before
 pub found_later : (v w : View) → IsLayout v.layout → Reaches v w → (named : Triples) (X : Type 0) → ((m : List Sector) → Stands w.disk w.slots m → MapIs w.layout named m → AreOf named (kept_by w) → X)
     → (m : List Sector) → Stands v.disk v.slots m → MapIs v.layout named m → AreOf named (kept_by v) → X
-found_later v w is h named X so m stands map are =
+found_later v w is h named X evidence_seen m stands map are =
     let moves = moves_of_reaches v w h in
     let now = moves.goes.memory m stands in
     let kept : MapIs v.layout named now.0 = map_still v.layout is named m now.0 now.2 map in
-    so now.0 now.1 (subst (λ (l : Layout). MapIs l named now.0) (sym h.layout) kept) (h.runs_are m named stands map are)
+    evidence_seen now.0 now.1 (subst (λ (l : Layout). MapIs l named now.0) (sym h.layout) kept) (h.runs_are m named stands map are)
 
 -- what is so anyway is so where it is done
 pub where_done : (result : Result Reply Halt) (X : Type 0) → X → IfOk result (λ reply. reply ≡ Done → X)

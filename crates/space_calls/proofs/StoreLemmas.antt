@@ -1,4 +1,4 @@
--- A store that is refused brings pages in at most, and each moment of any tells the files of before or of after.
+-- A store that is refused brings pages in at most, and each crash state of any reveals the files of before or of after.
 use Rattle.std.proofs.Common.{◌≡◌, ◌≢◌, ◌≤◌, ◌<◌, ℕ, suc, true, List, [], ◌∷◌, length, Some, None, refl, sym, ◌∙◌, ap, subst, arith, slice_index_or}
 use Rattle.labelled_disk.specs.Sectors.{Sector}
 use Rattle.file_map.specs.FileMap.{Triples}
@@ -24,7 +24,7 @@ use Rattle.fault_core.specs.Access.{access_of}
 use Rattle.fault_core.specs.Moves.{StoresAs}
 use Rattle.fault_core.specs.Reach.{Reaches}
 use Rattle.fault_core.specs.ReferenceLaws.{reply_to, word_of}
-use Rattle.fault_core.specs.Told.{Told}
+use Rattle.fault_core.specs.Revealed.{Revealed}
 use Rattle.fault_core.specs.View.{View}
 use Rattle.fault_core.proofs.AllowedLemmas.{stores_tested}
 use Rattle.fault_core.proofs.AnswerLemmas.{stores_answered}
@@ -42,13 +42,13 @@ other_than_done a other same = other (subst IsDone (sym same) tt)
 
 -- where a memory stays, it is known
 pub refused_came : {v w : View} {kept later : List Interval} {count now : ℕ} → Reaches v w
-    → ((x : List Sector) (named : Triples) (ss : List Space) → Told v kept count x named ss → BringsKnown ss v.slots w.slots)
-    → ((x : List Sector) (named : Triples) (ss : List Space) → Told v kept count x named ss → Stands w.disk w.slots x)
-    → ((x n : List Sector) (named : Triples) (ss : List Space) → Told v kept count x named ss → Stands w.disk w.slots n → Told w later now n named ss) → now ≡ count → Came v w kept later count now
+    → ((x : List Sector) (named : Triples) (ss : List Space) → Revealed v kept count x named ss → BringsKnown ss v.slots w.slots)
+    → ((x : List Sector) (named : Triples) (ss : List Space) → Revealed v kept count x named ss → Stands w.disk w.slots x)
+    → ((x n : List Sector) (named : Triples) (ss : List Space) → Revealed v kept count x named ss → Stands w.disk w.slots n → Revealed w later now n named ss) → now ≡ count → Came v w kept later count now
 refused_came reaches brings stays known same = record {
   reaches = reaches;
   brings = brings;
-  known = λ x named ss told. known x x named ss told (stays x named ss told);
+  known = λ x named ss revealed. known x x named ss revealed (stays x named ss revealed);
   same_count = same;
 }
 
@@ -66,10 +66,10 @@ stays_where v w a b ss address bytes x same refused stands goes =
 
 module _ (laws : RunningLaws) {v : View} {kept : List Interval} {count : ℕ} (whole : IsWhole v) {volume : Volume} {m : Machine} (r : IsRunning v kept count volume m) (form : AreInForm v.disk) where
   -- whatever it came to
-  pub store_tells : (w : View) (address : ℕ) (bytes : List ℕ) → IsTyped (call.Store address bytes) → length bytes ≤ 64
+  pub store_reveals : (w : View) (address : ℕ) (bytes : List ℕ) → IsTyped (call.Store address bytes) → length bytes ≤ 64
       → Makes (IsTouchedOrOwn m.spaces address (length bytes)) [] v.disk v.slots w.disk w.slots → (access_of m.spaces true address (length bytes) ≢ Done → Reaches v w)
       → Passes m (call.Store address bytes) v.disk w.disk
-  store_tells w address bytes typed few makes tested = by (access_of m.spaces true address (length bytes)) refl
+  store_reveals w address bytes typed few makes tested = by (access_of m.spaces true address (length bytes)) refl
     where
       found : Reaches v w → Passes m (call.Store address bytes) v.disk w.disk
       found reaches = laws.quiet (call.Store address bytes) v w kept count volume m form r (reached_makes reaches)
@@ -82,11 +82,11 @@ module _ (laws : RunningLaws) {v : View} {kept : List Interval} {count : ℕ} (w
 -- a store to the cells of its pages
 module _ (laws : RunningLaws) {v : View} {kept : List Interval} {count : ℕ} (whole : IsWhole v) {volume : Volume} {m : Machine} (r : IsRunning v kept count volume m) where
   pub store_allowed : (address : ℕ) (bytes : List ℕ) (a b : Access) → a ≡ b
-      → ((x : List Sector) (named : Triples) (ss : List Space) → Told v kept count x named ss → a ≡ access_of ss true address (length bytes)) → Allows m (call.Store address bytes) (reply_to reply.Done b)
+      → ((x : List Sector) (named : Triples) (ss : List Space) → Revealed v kept count x named ss → a ≡ access_of ss true address (length bytes)) → Allows m (call.Store address bytes) (reply_to reply.Done b)
   store_allowed address bytes a b is access = stores_answered m address bytes b (sym is ∙ access r.session.stands.memory r.session.stands.is.named m.spaces (knows laws whole r))
 
   pub store_not_refused : (address : ℕ) (bytes : List ℕ) (a b : Access) → a ≡ b
-      → ((x : List Sector) (named : Triples) (ss : List Space) → Told v kept count x named ss → a ≡ access_of ss true address (length bytes)) → refusal m (call.Store address bytes) ≡ None → IsDone b
+      → ((x : List Sector) (named : Triples) (ss : List Space) → Revealed v kept count x named ss → a ≡ access_of ss true address (length bytes)) → refusal m (call.Store address bytes) ≡ None → IsDone b
   store_not_refused address bytes a b is access free =
       store_is_done m address bytes b (sym is ∙ access r.session.stands.memory r.session.stands.is.named m.spaces (knows laws whole r)) free
 
@@ -96,7 +96,7 @@ module _ (laws : RunningLaws) {v : View} {kept : List Interval} {count : ℕ} (w
 
   -- the word of one that came to this
   pub store_word : (address : ℕ) (bytes : List ℕ) (a b : Access) → a ≡ b
-      → ((x : List Sector) (named : Triples) (ss : List Space) → Told v kept count x named ss → a ≡ access_of ss true address (length bytes)) → refusal m (call.Store address bytes) ≡ word_of b
+      → ((x : List Sector) (named : Triples) (ss : List Space) → Revealed v kept count x named ss → a ≡ access_of ss true address (length bytes)) → refusal m (call.Store address bytes) ≡ word_of b
   store_word address bytes a b is access =
       stores_tested m address bytes ∙ ap word_of (sym (access r.session.stands.memory r.session.stands.is.named m.spaces (knows laws whole r)) ∙ is)
 

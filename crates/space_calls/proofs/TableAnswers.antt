@@ -1,4 +1,4 @@
--- What the tables told of a space, and what they refused.
+-- What the tables revealed of a space, and what they refused.
 use Rattle.std.proofs.Common.{◌≡◌, ℕ, List, Some, None, Result, Ok, Err, subst}
 use Rattle.flat_machine.specs.declared.call.Refusal.{Refusal}
 use Rattle.flat_machine.specs.declared.space.Space.{Space}
@@ -7,7 +7,7 @@ use Rattle.flat_machine.specs.Space.{space_at}
 use Rattle.projection_laws.specs.Tests.{map_row, no_space, window_row}
 use Rattle.space_tables.specs.declared.shown.Shown.{Shown}
 use Rattle.space_tables.specs.Shows.{window_of}
-use Rattle.table_calls.specs.Answers.{IsDone, Tells}
+use Rattle.table_calls.specs.Answers.{IsDone, Reveals}
 use Rattle.space_calls.proofs.CarryLemmas.{answered, declined}
 
 -- first page and pages of the space of that handle
@@ -20,24 +20,24 @@ IsShownBy ss handle shown = (s : Space) × (space_at ss handle ≡ Some s) × (s
 
 module _ (ss : List Space) (handle : ℕ) where
   module _ (o : Result (ℕ × ℕ) Refusal) where
-    pub bounds_told : (run : ℕ × ℕ) → o ≡ Ok run → Tells (no_space ss handle) (IsRunOf ss handle) o → (no_space ss handle ≡ None) × IsRunOf ss handle run
-    bounds_told run is told = answered (no_space ss handle) (IsRunOf ss handle) (Unit {0}) o run is told
+    pub bounds_revealed : (run : ℕ × ℕ) → o ≡ Ok run → Reveals (no_space ss handle) (IsRunOf ss handle) o → (no_space ss handle ≡ None) × IsRunOf ss handle run
+    bounds_revealed run is revealed = answered (no_space ss handle) (IsRunOf ss handle) (Unit {0}) o run is revealed
 
-    pub bounds_refused : (word : Refusal) → o ≡ Err word → Tells (no_space ss handle) (IsRunOf ss handle) o → no_space ss handle ≡ Some word
-    bounds_refused word is told = (declined (no_space ss handle) (IsRunOf ss handle) (Unit {0}) o word is told).0
+    pub bounds_refused : (word : Refusal) → o ≡ Err word → Reveals (no_space ss handle) (IsRunOf ss handle) o → no_space ss handle ≡ Some word
+    bounds_refused word is revealed = (declined (no_space ss handle) (IsRunOf ss handle) (Unit {0}) o word is revealed).0
 
-    pub map_told : (run : ℕ × ℕ) → o ≡ Ok run → Tells (first_of (map_row ss handle)) (IsRunOf ss handle) o → (first_of (map_row ss handle) ≡ None) × IsRunOf ss handle run
-    map_told run is told = answered (first_of (map_row ss handle)) (IsRunOf ss handle) (Unit {0}) o run is told
+    pub map_revealed : (run : ℕ × ℕ) → o ≡ Ok run → Reveals (first_of (map_row ss handle)) (IsRunOf ss handle) o → (first_of (map_row ss handle) ≡ None) × IsRunOf ss handle run
+    map_revealed run is revealed = answered (first_of (map_row ss handle)) (IsRunOf ss handle) (Unit {0}) o run is revealed
 
-    pub map_refused : (word : Refusal) → o ≡ Err word → Tells (first_of (map_row ss handle)) (IsRunOf ss handle) o → first_of (map_row ss handle) ≡ Some word
-    map_refused word is told = (declined (first_of (map_row ss handle)) (IsRunOf ss handle) (Unit {0}) o word is told).0
+    pub map_refused : (word : Refusal) → o ≡ Err word → Reveals (first_of (map_row ss handle)) (IsRunOf ss handle) o → first_of (map_row ss handle) ≡ Some word
+    map_refused word is revealed = (declined (first_of (map_row ss handle)) (IsRunOf ss handle) (Unit {0}) o word is revealed).0
 
   module _ (o : Result Shown Refusal) where
-    pub shown_told : (shown : Shown) → o ≡ Ok shown → Tells (first_of (window_row ss handle)) (IsShownBy ss handle) o → (first_of (window_row ss handle) ≡ None) × IsShownBy ss handle shown
-    shown_told shown is told = answered (first_of (window_row ss handle)) (IsShownBy ss handle) (Unit {0}) o shown is told
+    pub shown_revealed : (shown : Shown) → o ≡ Ok shown → Reveals (first_of (window_row ss handle)) (IsShownBy ss handle) o → (first_of (window_row ss handle) ≡ None) × IsShownBy ss handle shown
+    shown_revealed shown is revealed = answered (first_of (window_row ss handle)) (IsShownBy ss handle) (Unit {0}) o shown is revealed
 
-    pub shown_refused : (word : Refusal) → o ≡ Err word → Tells (first_of (window_row ss handle)) (IsShownBy ss handle) o → first_of (window_row ss handle) ≡ Some word
-    shown_refused word is told = (declined (first_of (window_row ss handle)) (IsShownBy ss handle) (Unit {0}) o word is told).0
+    pub shown_refused : (word : Refusal) → o ≡ Err word → Reveals (first_of (window_row ss handle)) (IsShownBy ss handle) o → first_of (window_row ss handle) ≡ Some word
+    shown_refused word is revealed = (declined (first_of (window_row ss handle)) (IsShownBy ss handle) (Unit {0}) o word is revealed).0
 
 -- ---- A window that was set.
 

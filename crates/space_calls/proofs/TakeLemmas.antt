@@ -28,7 +28,7 @@ use Rattle.space_tables.specs.Shows.{window_of}
 use Rattle.session_words.specs.FrameLaws.{HasFrames}
 use Rattle.session_words.specs.Parts.{DirtyAreLoose}
 use Rattle.file_manager.specs.declared.volume.Volume.{Volume}
-use Rattle.fault_core.specs.declared.core_over.CoreOver.{CoreOver}
+use Rattle.fault_core.specs.declared.core_over.Core.{Core}
 use Rattle.fault_core.specs.Range.{AreClean, AreGone}
 use Rattle.running_words.specs.Running.{Carried, Runs}
 use Rattle.space_calls.specs.Unmapping.{without_window}
@@ -62,7 +62,7 @@ module _ (m : Machine) (k : ℕ) (writable : Bool) where
 
 -- ---- What is known of the window.
 
-module _ {D A : Type 0} {G : Ghosts D} (l : CoreOver D A G) (volume : Volume) (m : Machine) (r : Runs l volume m) (k : ℕ) (shown : Shown) (s : Space) (at : space_at m.spaces k ≡ Some s) (has : s.window ≡ Some (window_of shown)) where
+module _ {D A : Type 0} {G : Ghosts D} (l : Core D A G) (volume : Volume) (m : Machine) (r : Runs l volume m) (k : ℕ) (shown : Shown) (s : Space) (at : space_at m.spaces k ≡ Some s) (has : s.window ≡ Some (window_of shown)) where
   is : IsMachine m
   is = r.session.stands.is.by.machine
 
@@ -125,15 +125,15 @@ module _ {D A : Type 0} {G : Ghosts D} (l : CoreOver D A G) (volume : Volume) (m
   -- ---- Whether it may.
 
   pub mode_refused : (b : Bool) → is_immutable m shown.id ≡ then_some b why.Immutable → refusal m (call.Protect k true) ≡ then_some b why.Immutable
-  mode_refused b told =
+  mode_refused b revealed =
       last_decides m k true row (then_some b why.Immutable) (ap (λ (o : Option Space). option_and_then (λ t. option_and_then (λ w. is_immutable m w.file) t.window) o) at
-      ∙ ap (λ (o : Option Window). option_and_then (λ w. is_immutable m w.file) o) has ∙ told)
+      ∙ ap (λ (o : Option Window). option_and_then (λ w. is_immutable m w.file) o) has ∙ revealed)
 
   pub read_only_allowed : refusal m (call.Protect k false) ≡ None
   read_only_allowed = last_decides m k false row None refl
 
   module _ (writable : Bool) (none : refusal m (call.Protect k writable) ≡ None) where
     -- the machine's next
-    pub mode_carried : (d : CoreOver D A G) → Runs d volume (record m { spaces = set_window k (Some (with_mode writable (window_of shown))) m.spaces; unforced = if writable then m.unforced else without_window_of s m.unforced })
+    pub mode_carried : (d : Core D A G) → Runs d volume (record m { spaces = set_window k (Some (with_mode writable (window_of shown))) m.spaces; unforced = if writable then m.unforced else without_window_of s m.unforced })
         → Carried m (call.Protect k writable) d volume reply.Done
     mode_carried d runs = done_carried d volume m (call.Protect k writable) reply.Done none refl (subst (λ (n : Machine). Runs d volume n) (sym (mode_next writable)) runs)

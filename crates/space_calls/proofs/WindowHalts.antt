@@ -17,13 +17,13 @@ module _ (v w : View) (is : IsLayout v.layout) (space : ℕ) (reaches : Reaches 
   -- the record of the space could not be read, after pages were brought in
   pub slot_halt : (z : View) (e : Halt) → ReachHalts (TablesBreak w (λ b page. BreaksSlot b page space)) w z e → ReachHalts (TablesBreak v (λ b page. BreaksSlot b page space)) v z e
   slot_halt z e halts =
-      halts_before v w is reaches (TablesBreak w (λ b page. BreaksSlot b page space)) (TablesBreak v (λ b page. BreaksSlot b page space)) (λ page breaks b told. breaks b (reaches.told b told)) z z (omega arith) e halts
+      halts_before v w is reaches (TablesBreak w (λ b page. BreaksSlot b page space)) (TablesBreak v (λ b page. BreaksSlot b page space)) (λ page breaks b revealed. breaks b (reaches.revealed b revealed)) z z (omega arith) e halts
 
   module _ (count now : ℕ) (same : now ≡ count) (z : View) where
     -- the space could not be looked up
     pub slot_window : (e : Halt) → ReachHalts (TablesBreak w (λ b page. BreaksSlot b page space)) w z e → ReachHalts (BreaksWindow v count space) v z e
     slot_window e halts =
-        halts_before v w is reaches (TablesBreak w (λ b page. BreaksSlot b page space)) (BreaksWindow v count space) (λ page breaks. inl (inl (λ b told. breaks b (reaches.told b told)))) z z (omega arith) e halts
+        halts_before v w is reaches (TablesBreak w (λ b page. BreaksSlot b page space)) (BreaksWindow v count space) (λ page breaks. inl (inl (λ b revealed. breaks b (reaches.revealed b revealed)))) z z (omega arith) e halts
 
     -- a page of its range could not be
     pub range_window : (run : ℕ × ℕ) → TablesSay v (λ b. IsRunAt b space) run → (e : Halt) → ReachHalts (BreaksWithin w now run.0 (run.0 + run.1)) w z e → ReachHalts (BreaksWindow v count space) v z e
@@ -31,7 +31,7 @@ module _ (v w : View) (is : IsLayout v.layout) (space : ℕ) (reaches : Reaches 
         halts_before v w is reaches (BreaksWithin w now run.0 (run.0 + run.1)) (BreaksWindow v count space) (λ page within. inl (inr (in_space v w is space reaches count now same z run read page within))) z z (omega arith) e halts
 
     change_before : (page : ℕ) → TablesBreak w (Breaks now) page → TablesBreak v (Breaks count) page
-    change_before page breaks b told = subst (λ (j : ℕ). Breaks j b page) same (breaks b (reaches.told b told))
+    change_before page breaks b revealed = subst (λ (j : ℕ). Breaks j b page) same (breaks b (reaches.revealed b revealed))
 
     -- the tables could not be changed
     pub change_halt : (e : Halt) → ReachHalts (TablesBreak w (Breaks now)) w z e → ReachHalts (BreaksWindow v count space) v z e

@@ -22,9 +22,9 @@ use Rattle.session_words.specs.FrameLaws.{HasFrames}
 use Rattle.session_words.specs.Parts.{DirtyAreLoose}
 use Rattle.session_words.proofs.KnownLemmas.{frames_brought}
 use Rattle.session_words.proofs.LooseLemmas.{volume_loose}
-use Rattle.space_tables.specs.Stored.{TellSpaces}
+use Rattle.space_tables.specs.Stored.{RevealSpaces}
 use Rattle.file_manager.specs.declared.volume.Volume.{Volume}
-use Rattle.fault_core.specs.declared.core_over.CoreOver.{CoreOver}
+use Rattle.fault_core.specs.declared.core_over.Core.{Core}
 use Rattle.fault_core.specs.Core.{state}
 use Rattle.fault_core.specs.View.{TablesAre}
 use Rattle.table_calls.specs.Answers.{IsDone, Retabled}
@@ -37,29 +37,29 @@ use Rattle.space_calls.proofs.RunLemmas.{changed_runs, reshaped_runs}
 use Rattle.space_calls.proofs.ShownLemmas.{given_shown, unmapped_bare}
 use Rattle.space_calls.proofs.TableAnswers.{was_done}
 
-module _ {D A : Type 0} {G : Ghosts D} (c d e : CoreOver D A G) (layout : IsLayout c.filer.swapper.layout) (size : (G.state c.filer.swapper.under).sectors ≡ c.filer.swapper.layout.sectors)
-    (form : AreInForm (G.state d.filer.swapper.under)) (pages : ArePages e.filer.swapper.pool) (same : e ≡ d) (retabled : Retabled c d) (volume : Volume) (m : Machine) (r : Runs c volume m)
+module _ {D A : Type 0} {G : Ghosts D} (c d e : Core D A G) (layout : IsLayout c.filer.swapper.layout) (size : (G.state c.filer.swapper.disk).sectors ≡ c.filer.swapper.layout.sectors)
+    (form : AreInForm (G.state d.filer.swapper.disk)) (pages : ArePages e.filer.swapper.pool) (same : e ≡ d) (retabled : Retabled c d) (volume : Volume) (m : Machine) (r : Runs c volume m)
     (handle : ℕ) (x : Space) (may : MayHaveWindow m.spaces x) (named : x.handle ≡ handle) where
   at : space_at m.spaces handle ≡ Some x
   at = subst (λ (n : ℕ). space_at m.spaces n ≡ Some x) named may.there
 
   pub window_given : x.window ≡ None → (shown : Shown) → IsMachine (record m { spaces = set_window handle (Some (window_of shown)) m.spaces }) → (o : Result Unit Refusal) → o ≡ Ok tt
-      → IsDone (TellSpaces (TablesAre (state d)) d.intervals (set_window handle (Some (window_of shown)) m.spaces)) o
+      → IsDone (RevealSpaces (TablesAre (state d)) d.intervals (set_window handle (Some (window_of shown)) m.spaces)) o
       → (◌≡◌ {A = Reply} reply.Done reply.Done) × Runs e volume (record m { spaces = set_window handle (Some (window_of shown)) m.spaces })
   window_given bare shown is o ok done =
       let spaces = set_window handle (Some (window_of shown)) m.spaces in
-      let tells = was_done (TellSpaces (TablesAre (state d)) d.intervals (set_window handle (Some (window_of shown)) m.spaces)) o ok done in
+      let reveals = was_done (RevealSpaces (TablesAre (state d)) d.intervals (set_window handle (Some (window_of shown)) m.spaces)) o ok done in
       let are = spaces_of m r.session.stands.is.by.machine in (
         refl,
-        subst (λ (y : CoreOver D A G). Runs y volume (record m { spaces = set_window handle (Some (window_of shown)) m.spaces })) (sym same)
-            (reshaped_runs c layout size d form (subst (λ (y : CoreOver D A G). ArePages y.filer.swapper.pool) same pages) volume m retabled spaces tells r is
+        subst (λ (y : Core D A G). Runs y volume (record m { spaces = set_window handle (Some (window_of shown)) m.spaces })) (sym same)
+            (reshaped_runs c layout size d form (subst (λ (y : Core D A G). ArePages y.filer.swapper.pool) same pages) volume m retabled spaces reveals r is
             (λ id page before. given_shown m.spaces id page before are handle x at (unmapped_bare m.spaces id page before are handle x at bare) (Some (window_of shown)))),
       )
 
 -- ---- Another window, or none.
 
-module _ {D A : Type 0} {G : Ghosts D} (c d e : CoreOver D A G) (layout : IsLayout c.filer.swapper.layout) (size : (G.state c.filer.swapper.under).sectors ≡ c.filer.swapper.layout.sectors)
-    (form : AreInForm (G.state d.filer.swapper.under)) (pages : ArePages e.filer.swapper.pool) (same : e ≡ d) (retabled : Retabled c d) (volume : Volume) (m : Machine) (r : Runs c volume m)
+module _ {D A : Type 0} {G : Ghosts D} (c d e : Core D A G) (layout : IsLayout c.filer.swapper.layout) (size : (G.state c.filer.swapper.disk).sectors ≡ c.filer.swapper.layout.sectors)
+    (form : AreInForm (G.state d.filer.swapper.disk)) (pages : ArePages e.filer.swapper.pool) (same : e ≡ d) (retabled : Retabled c d) (volume : Volume) (m : Machine) (r : Runs c volume m)
     (spaces : List Space) (unforced : List FilePage) (is : IsMachine (record m { spaces = spaces; unforced = unforced })) (frames : HasFrames c.filer.swapper.pool spaces) (loose : DirtyAreLoose c.filer.swapper.pool unforced) where
   frames_then : HasFrames d.filer.swapper.pool spaces
   frames_then = frames_brought c.filer.swapper.pool d.filer.swapper.pool spaces (known_brought (exactly r.pages m.spaces) (record m { spaces = spaces }) c.filer.swapper.pool d.filer.swapper.pool retabled.came) frames
@@ -67,14 +67,14 @@ module _ {D A : Type 0} {G : Ghosts D} (c d e : CoreOver D A G) (layout : IsLayo
   loose_then : DirtyAreLoose d.filer.swapper.pool unforced
   loose_then id page dirty = elim (retabled.beside.goes.makes.dirty id page dirty) [ inl was ↦ loose id page was | inr own ↦ volume_loose unforced id page (tables_own id page own) ]
 
-  pub window_changed : (o : Result Unit Refusal) → IsDone (TellSpaces (TablesAre (state d)) d.intervals spaces) o → IsDone (Runs e volume (record m { spaces = spaces; unforced = unforced })) o
-  window_changed (Ok u) tells =
-      subst (λ (y : CoreOver D A G). Runs y volume (record m { spaces = spaces; unforced = unforced })) (sym same)
-      (changed_runs c layout size d form (subst (λ (y : CoreOver D A G). ArePages y.filer.swapper.pool) same pages) volume m retabled spaces tells r unforced is frames_then loose_then)
+  pub window_changed : (o : Result Unit Refusal) → IsDone (RevealSpaces (TablesAre (state d)) d.intervals spaces) o → IsDone (Runs e volume (record m { spaces = spaces; unforced = unforced })) o
+  window_changed (Ok u) reveals =
+      subst (λ (y : Core D A G). Runs y volume (record m { spaces = spaces; unforced = unforced })) (sym same)
+      (changed_runs c layout size d form (subst (λ (y : Core D A G). ArePages y.filer.swapper.pool) same pages) volume m retabled spaces reveals r unforced is frames_then loose_then)
   window_changed (Err word) no_way = no_way
 
 -- the machine's next after a call that maps a space
-pub window_carried : {D A : Type 0} {G : Ghosts D} (d : CoreOver D A G) (volume : Volume) (m : Machine) (handle id page : ℕ) (writable : Bool) → refusal m (call.Map handle id page writable) ≡ None
+pub window_carried : {D A : Type 0} {G : Ghosts D} (d : Core D A G) (volume : Volume) (m : Machine) (handle id page : ℕ) (writable : Bool) → refusal m (call.Map handle id page writable) ≡ None
     → (answer : Reply) → answer ≡ reply.Done → Runs d volume (record m { spaces = set_window handle (Some (record { file = id; first = page; writable = writable; anonymous = false })) m.spaces })
     → Carried m (call.Map handle id page writable) d volume answer
 window_carried d volume m handle id page writable none answer is runs = done_carried d volume m (call.Map handle id page writable) answer none is runs

@@ -18,7 +18,7 @@ use Rattle.flat_machine.proofs.Lists.{In, all_in, any_in, find_in, in_all, in_an
 use Rattle.swapper_kernel.specs.Goes.{Pages}
 use Rattle.space_tables.specs.declared.shown.Shown.{Shown}
 use Rattle.space_tables.specs.Shows.{window_of}
-use Rattle.fault_core.specs.declared.core_over.CoreOver.{CoreOver}
+use Rattle.fault_core.specs.declared.core_over.Core.{Core}
 use Rattle.fault_core.specs.Lack.{shown_unit, shown_units}
 use Rattle.space_calls.specs.Mapping.{IsLastFrom}
 use Rattle.space_calls.specs.Ranges.{space_units}
@@ -131,15 +131,15 @@ last_once ss space page a b (s, at, is) (t, there, also) = is ∙ ap (λ (x : Sp
 -- ---- Calls.
 
 module _ {D A : Type 0} {G : Ghosts D} where
-  pub sees_any : (pages : Pages) (core : CoreOver D A G) → SeesFiles pages core → SeesOn core
+  pub sees_any : (pages : Pages) (core : Core D A G) → SeesFiles pages core → SeesOn core
   sees_any pages core s = (s.0, s.1.0)
 
   -- last pages that are some that windows showed, all of which were among these, or that are among these anyway
-  later_on : (pages more : Pages) (core : CoreOver D A G) (ss : List Space) → AreOn pages ss → ((id page : ℕ) → more id page → pages id page) → SeesFiles (λ id page. IsShown ss id page ⊎ more id page) core → SeesFiles pages core
+  later_on : (pages more : Pages) (core : Core D A G) (ss : List Space) → AreOn pages ss → ((id page : ℕ) → more id page → pages id page) → SeesFiles (λ id page. IsShown ss id page ⊎ more id page) core → SeesFiles pages core
   later_on pages more core ss on too (now, (sees, are)) =
       (now, (sees, on_wider (λ id page. IsShown ss id page ⊎ more id page) pages (λ id page one. elim one [ inl was ↦ shown_files pages ss on id page was | inr new ↦ too id page new ]) now are))
 
-  module _ (old new : CoreOver D A G) where
+  module _ (old new : Core D A G) where
     -- where the last pages that all windows showed were among these, they still are
     pub still_on : StillOn old new → (pages : Pages) → SeesFiles pages old → SeesFiles pages new
     still_on still pages (ss, (sees, on)) = let later = still ss sees in (later.0, (later.1.0, on_wider (IsShown ss) pages (shown_files pages ss on) later.0 later.1.1))
@@ -156,7 +156,7 @@ module _ {D A : Type 0} {G : Ghosts D} where
     map_for_files space id page (Err e) still pages seen = tt
 
   -- and where the last page that the space shows of the file is one of them
-  pub given_for_files : (core : CoreOver D A G) (space id page : ℕ) (result : Result Reply Halt) (ss : List Space) → IfOk result (λ reply. (reply ≡ Done) × SeesFiles (λ file last. IsShown ss file last ⊎ ((file ≡ id) × IsLastFrom ss space page last)) core)
+  pub given_for_files : (core : Core D A G) (space id page : ℕ) (result : Result Reply Halt) (ss : List Space) → IfOk result (λ reply. (reply ≡ Done) × SeesFiles (λ file last. IsShown ss file last ⊎ ((file ≡ id) × IsLastFrom ss space page last)) core)
       → (pages : Pages) → AreOn pages ss → ((last : ℕ) → IsLastFrom ss space page last → pages id last) → OnOk result (SeesFiles pages core)
   given_for_files core space id page (Ok reply) ss given pages on is =
       later_on pages (λ file last. (file ≡ id) × IsLastFrom ss space page last) core ss on (λ file last one. subst (λ (n : ℕ). pages n last) (sym one.0) (is last one.1)) given.1

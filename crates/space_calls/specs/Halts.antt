@@ -7,7 +7,7 @@ use Rattle.space_tables.specs.declared.shown.Shown.{Shown}
 use Rattle.space_tables.specs.Shows.{IsShownAt}
 use Rattle.file_manager.specs.Finding.{FileHalts}
 use Rattle.fault_core.specs.Reach.{Reaches, ReachHalts}
-use Rattle.fault_core.specs.Told.{BreaksTables}
+use Rattle.fault_core.specs.Revealed.{BreaksTables}
 use Rattle.fault_core.specs.View.{View, kept_by}
 use Rattle.table_calls.specs.Answers.{TablesBreak, TablesSay}
 use Rattle.space_calls.specs.Ranges.{BreaksWindow}
@@ -83,7 +83,7 @@ MapFileHalts space id count v w e = SlotHalts space v w e ⊎ After Reaches (OnN
 abbrev pub WritableHalts : ℕ → ℕ → View → View → Halt → Type 0
 WritableHalts id count v w e = OnFileHalts id (ChangeHalts count) v w e
 
--- so it is with the file that the space shows: the one that its record says, where the tables are told
+-- so it is with the file that the space shows: the one that its record says, where the tables are revealed
 abbrev pub ShownHalts : ℕ → ℕ → View → View → Halt → Type 0
 ShownHalts space count v w e = (shown : Shown) × TablesSay v (λ b. IsShownAt b space) shown × After Reaches (WritableHalts shown.id count) v w e
 

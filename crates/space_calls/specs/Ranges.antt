@@ -10,7 +10,7 @@ use Rattle.fault_core.specs.Lack.{range_units}
 use Rattle.fault_core.specs.View.{View}
 use Rattle.table_calls.specs.Answers.{TablesBreak, TablesSay}
 
--- A page of them breaks its form for the look-up of a page of the space's range. Where the tables are told, that range is the one
+-- A page of them breaks its form for the look-up of a page of the space's range. Where the tables are revealed, that range is the one
 -- that the record of the space says.
 pub record BreaksInSpace (v : View) (count space page : ℕ) : Type 0 where
   pub first : ℕ

@@ -1,4 +1,4 @@
--- What stops a call on spaces, or a look at a file, has a reason, where disk and frames keep to the outset.
+-- What stops a call on spaces, or a look at a file, has a reason, where disk and frames keep to the initial state.
 use Rattle.std.proofs.Common.{◌⊎◌, inl, inr, ℕ, true, false, Option, sym, subst, arith}
 use Rattle.std.proofs.lemmas.Bool.Decides.{nat_tests}
 use Rattle.std.specs.Prelude.{Bool, []}
@@ -21,7 +21,7 @@ use Rattle.filer_kernel.specs.Tables.{in_tables}
 use Rattle.file_manager.specs.Finding.{IsNoLeader}
 use Rattle.file_manager.specs.LaterLaws.{shows_later}
 use Rattle.file_manager.specs.ShownLaws.{run_home_named, in_form}
-use Rattle.file_manager.specs.Reasons.{Outset, IsAtHome, HasReason, ShowsReason}
+use Rattle.file_manager.specs.Reasons.{InitialState, IsAtHome, HasReason, ShowsReason}
 use Rattle.fault_core.specs.Reach.{Reaches, ReachHalts, TouchHalts}
 use Rattle.fault_core.specs.Touch.{on_data}
 use Rattle.fault_core.specs.View.{View, kept_by}
@@ -33,13 +33,13 @@ use Rattle.space_calls.specs.Halts.{After, MakeSpaceHalts, RemoveSpaceHalts, Pla
 use Rattle.space_calls.specs.Ranges.{BreaksWindow}
 use Rattle.space_calls.specs.Unmapping.{Reshapes}
 
--- a halt of a call has its reason already before the call, where what is seen keeps to the outset
+-- a halt of a call has its reason already before the call, where what is seen keeps to the initial state
 abbrev pub HasReasonBefore : (View → View → Halt → Type 0) → Type 0
-HasReasonBefore P = (o : Outset) (v w : View) (named : Triples) → IsLayout v.layout → ViewKeepsTo o v named → (halt : Halt) → P v w halt → ShowsReason o v.layout v.disk halt
+HasReasonBefore P = (o : InitialState) (v w : View) (named : Triples) → IsLayout v.layout → ViewKeepsTo o v named → (halt : Halt) → P v w halt → ShowsReason o v.layout v.disk halt
 
 -- after the call, which wrote no label, it has one
 abbrev pub HasReasonAfter : (View → View → Halt → Type 0) → Type 1
-HasReasonAfter P = (o : Outset) (v w : View) (named : Triples) (pages : Pages) → IsLayout v.layout → ViewKeepsTo o v named → Makes pages [] v.disk v.slots w.disk w.slots
+HasReasonAfter P = (o : InitialState) (v w : View) (named : Triples) (pages : Pages) → IsLayout v.layout → ViewKeepsTo o v named → Makes pages [] v.disk v.slots w.disk w.slots
     → (halt : Halt) → P v w halt → ShowsReason o v.layout w.disk halt
 
 -- ---- Calls in a row.
@@ -60,20 +60,20 @@ pub after_it : (P : View → View → Halt → Type 0) → HasReasonBefore P →
 after_it P reasons o v w named pages is keeps makes halt halts = shows_later o makes keeps.0.since v.layout halt (reasons o v w named is keeps halt halts)
 
 -- a call went before that wrote no label
-moved_shows : (leaves : View → View → Type 0) (P : View → View → Halt → Type 0) (o : Outset) (v w : View) (named : Triples) → IsLayout v.layout → ViewKeepsTo o v named
+moved_shows : (leaves : View → View → Type 0) (P : View → View → Halt → Type 0) (o : InitialState) (v w : View) (named : Triples) → IsLayout v.layout → ViewKeepsTo o v named
     → ((u : View) → leaves v u → Moves v u) → (halt : Halt) → ((u : View) → leaves v u → ViewKeepsTo o u named → P u w halt → ShowsReason o v.layout u.disk halt)
     → After leaves P v w halt → ShowsReason o v.layout v.disk halt
 moved_shows leaves P o v w named is keeps moves halt reasons (u, left, halts) =
     let moved = moves u left in
     moved_before o v u named keeps moved halt (reasons u left (keeps_moved o v u named is keeps moved) halts)
 
-pub moved_reasons : (leaves : View → View → Type 0) (P : View → View → Halt → Type 0) (o : Outset) (v w : View) (named : Triples) {pages : Pages} → IsLayout v.layout → ViewKeepsTo o v named
+pub moved_reasons : (leaves : View → View → Type 0) (P : View → View → Halt → Type 0) (o : InitialState) (v w : View) (named : Triples) {pages : Pages} → IsLayout v.layout → ViewKeepsTo o v named
     → Makes pages [] v.disk v.slots w.disk w.slots → ((u : View) → leaves v u → Moves v u) → (halt : Halt) → ((u : View) → leaves v u → ViewKeepsTo o u named → P u w halt → ShowsReason o v.layout u.disk halt)
     → After leaves P v w halt → ShowsReason o v.layout w.disk halt
 moved_reasons leaves P o v w named is keeps makes moves halt reasons halts = shows_later o makes keeps.0.since v.layout halt (moved_shows leaves P o v w named is keeps moves halt reasons halts)
 
 -- pages were found before
-pub after_reasons : (P : View → View → Halt → Type 0) (o : Outset) (v w : View) (named : Triples) {pages : Pages} → IsLayout v.layout → ViewKeepsTo o v named
+pub after_reasons : (P : View → View → Halt → Type 0) (o : InitialState) (v w : View) (named : Triples) {pages : Pages} → IsLayout v.layout → ViewKeepsTo o v named
     → Makes pages [] v.disk v.slots w.disk w.slots → (halt : Halt) → ((u : View) → Reaches v u → ViewKeepsTo o u named → P u w halt → ShowsReason o v.layout u.disk halt)
     → After Reaches P v w halt → ShowsReason o v.layout w.disk halt
 after_reasons P o v w named is keeps makes halt reasons halts = moved_reasons Reaches P o v w named is keeps makes (λ u h. moves_of_reaches v u h) halt reasons halts
@@ -102,7 +102,7 @@ reach_before breaks o v w named is keeps halt halts = reach_shows o v w named (b
 pub touch_before : (breaks : View → ℕ → Type 0) → HasReasonBefore (λ v w e. TouchHalts (breaks v) v w e)
 touch_before breaks o v w named is keeps halt halts = touch_shows o v w named (breaks v) is keeps halt halts
 
-module _ (o : Outset) (v : View) (named : Triples) (is : IsLayout v.layout) (keeps : ViewKeepsTo o v named) (id : ℕ) where
+module _ (o : InitialState) (v : View) (named : Triples) (is : IsLayout v.layout) (keeps : ViewKeepsTo o v named) (id : ℕ) where
   searched : (e : Evidence) → MapEvidence v.layout v.disk v.slots e → HasReason o v.layout v.disk e
   searched (Mismatch sector wanted found) cause = elim cause.reason [
     | inl held ↦ elim (keeps.0.frames (home_at sector wanted) held) [ inl own ↦ inl own | inr at ↦ inr (inl at) ]

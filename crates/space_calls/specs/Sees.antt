@@ -1,4 +1,4 @@
--- Cores that see the space tables: they are told, and in form.
+-- Cores that see the space tables: they are revealed, and in form.
 use Rattle.std.specs.Prelude.{◌≡◌, ◌⊎◌, ◌==◌, ◌&&◌, ◌+◌, ◌-◌, ℕ, true, List, IfSome}
 use Rattle.std.specs.List.{AllByRecursion, list_any}
 use Rattle.labelled_disk.specs.declared.disk.Disk.{Ghosts}
@@ -6,7 +6,7 @@ use Rattle.flat_machine.specs.declared.space.Space.{Space}
 use Rattle.flat_machine.specs.declared.space.Window.{Window}
 use Rattle.flat_machine.specs.Space.{has_window}
 use Rattle.swapper_kernel.specs.Goes.{Pages}
-use Rattle.fault_core.specs.declared.core_over.CoreOver.{CoreOver}
+use Rattle.fault_core.specs.declared.core_over.Core.{Core}
 use Rattle.fault_core.specs.Core.{kept, state}
 use Rattle.fault_core.specs.Lack.{Sees}
 
@@ -23,22 +23,22 @@ abbrev pub IsShown : List Space → Pages
 IsShown spaces id page = list_any (λ s. has_window (λ w. (w.file == id) && (last_shown s w == page)) s) spaces ≡ true
 
 module _ {D A : Type 0} {G : Ghosts D} where
-  -- the tables are told, and those of some spaces
-  abbrev pub SeesOn : CoreOver D A G → Type 0
+  -- the tables are revealed, and those of some spaces
+  abbrev pub SeesOn : Core D A G → Type 0
   SeesOn core = (ss : List Space) × Sees (state core) (kept core) core.intervals ss
 
   -- those of some spaces, and the last pages that their windows show are among these
-  abbrev pub SeesFiles : Pages → CoreOver D A G → Type 0
+  abbrev pub SeesFiles : Pages → Core D A G → Type 0
   SeesFiles pages core = (ss : List Space) × (Sees (state core) (kept core) core.intervals ss × AreOn pages ss)
 
   -- those of whatever spaces they were, they still are
-  abbrev pub StillSees : CoreOver D A G → CoreOver D A G → Type 0
+  abbrev pub StillSees : Core D A G → Core D A G → Type 0
   StillSees old new = (ss : List Space) → Sees (state old) (kept old) old.intervals ss → Sees (state new) (kept new) new.intervals ss
 
   -- they are those of some spaces, and the last pages that their windows show are some that windows showed
-  abbrev pub StillOn : CoreOver D A G → CoreOver D A G → Type 0
+  abbrev pub StillOn : Core D A G → Core D A G → Type 0
   StillOn old new = (ss : List Space) → Sees (state old) (kept old) old.intervals ss → SeesFiles (IsShown ss) new
 
   -- or some of these
-  abbrev pub StillOnOr : (List Space → Pages) → CoreOver D A G → CoreOver D A G → Type 0
+  abbrev pub StillOnOr : (List Space → Pages) → Core D A G → Core D A G → Type 0
   StillOnOr pages old new = (ss : List Space) → Sees (state old) (kept old) old.intervals ss → SeesFiles (λ id page. IsShown ss id page ⊎ pages ss id page) new

@@ -15,35 +15,35 @@ ghost use Rattle.running_words.specs.Bound.{CostsOther};
 ghost use Rattle.running_words.specs.Running.{Carried, Runs};
 ghost use Rattle.running_words.specs.Session.{WroteIn};
 ghost use Rattle.running_words.specs.Stages.{Passes};
-ghost use Rattle.filer_kernel.specs.Evidence.{ShowsSo};
+ghost use Rattle.filer_kernel.specs.Evidence.{ShowsEvidence};
 ghost use Rattle.space_calls.specs.Ranges.{BreaksRange, space_units};
 ghost use Rattle.running_words.specs.Moving.{Moves};
-ghost use Rattle.fault_core.specs.Spares.{SparesTables};
+ghost use Rattle.fault_core.specs.NeverBlames.{NeverBlamesTables};
 ghost use Rattle.space_calls.specs.Sees.{SeesOn, StillOn};
-ghost use Rattle.fault_core.specs.Lack.{LacksPage, Sees};
+ghost use Rattle.fault_core.specs.Lack.{MissesPage, Sees};
 
-use fault_core::CoreOver;
+use fault_core::Core;
 use flat_machine::Reply;
 use labelled_disk::{Disk, Halt};
 use std::alloc::Allocator;
 use table_calls::bounds;
 
 /// Brings in the swap units of the pages of a space, at most half of the frames.
-pub fn activate<D: Disk, A: Allocator>(core: &mut CoreOver<D, A>, space: u32) -> Result<Reply, Halt>
-    requires size { (D.state core.old.filer.swapper.under).sectors ≡ core.old.filer.swapper.layout.sectors }
+pub fn activate<D: Disk, A: Allocator>(core: &mut Core<D, A>, space: u32) -> Result<Reply, Halt>
+    requires size { (D.state core.old.filer.swapper.disk).sectors ≡ core.old.filer.swapper.layout.sectors }
     ensures carried { (volume : Volume) (m : Machine) → Runs core.old volume m → IfOk result (Carried m (call.Activate space) core.new volume) }
     ensures sound { (volume : Volume) (m : Machine) → Runs core.old volume m → IfErr result (λ e. e ≡ halt.Disk) }
-    ensures passes { (volume : Volume) (m : Machine) → Runs core.old volume m → Passes m (call.Activate space) (D.state core.old.filer.swapper.under) (D.state core.new.filer.swapper.under) }
-    ensures counted { result ≡ Err halt.Disk → Rose (D.state core.old.filer.swapper.under).faults (D.state core.new.filer.swapper.under).faults }
+    ensures passes { (volume : Volume) (m : Machine) → Runs core.old volume m → Passes m (call.Activate space) (D.state core.old.filer.swapper.disk) (D.state core.new.filer.swapper.disk) }
+    ensures counted { result ≡ Err halt.Disk → Rose (D.state core.old.filer.swapper.disk).faults (D.state core.new.filer.swapper.disk).faults }
     ensures cause { IfErr result (TouchHalts (BreaksRange (state core.old) core.old.intervals space) (state core.old) (state core.new)) }
-    ensures missing { (ss : List Space) → Sees (state core.old) (kept core.old) core.old.intervals ss → IfErr result (LacksPage (space_units ss space)) }
-    ensures so { IfErr result (ShowsSo (D.state core.new.filer.swapper.under)) }
-    ensures wrote { WroteIn (volume_page) (D.state core.old.filer.swapper.under) core.old.filer.swapper.pool (D.state core.new.filer.swapper.under) core.new.filer.swapper.pool }
+    ensures missing { (ss : List Space) → Sees (state core.old) (kept core.old) core.old.intervals ss → IfErr result (MissesPage (space_units ss space)) }
+    ensures evidence_seen { IfErr result (ShowsEvidence (D.state core.new.filer.swapper.disk)) }
+    ensures wrote { WroteIn (volume_page) (D.state core.old.filer.swapper.disk) core.old.filer.swapper.pool (D.state core.new.filer.swapper.disk) core.new.filer.swapper.pool }
     ensures sees { OnOk result (StillOn core.old core.new) }
-    ensures right { SeesOn core.old → IfErr result SparesTables }
+    ensures right { SeesOn core.old → IfErr result NeverBlamesTables }
     ensures moves { Moves (state core.old) (state core.new) }
     ensures layout { core.new.filer.swapper.layout ≡ core.old.filer.swapper.layout }
-    ensures cost { CostsOther (D.state core.old.filer.swapper.under) (D.state core.new.filer.swapper.under) }
+    ensures cost { CostsOther (D.state core.old.filer.swapper.disk) (D.state core.new.filer.swapper.disk) }
     ensures whole { (volume : Volume) (m : Machine) (s : Space) → Runs core.old volume m → space_at m.spaces space ≡ Some s → OnOk result (IsActive m.spaces (kept core.new) core.new.filer.swapper.pool s.first (s.first + s.pages)) }
     ensures brought { (volume : Volume) (m : Machine) (s : Space) → Runs core.old volume m → space_at m.spaces space ≡ Some s → OnOk result ((units : ℕ) × AreBrought m.spaces (kept core.new) core.new.filer.swapper.pool s.first (s.first + s.pages) (length core.old.filer.swapper.pool / 2) units) }
 {

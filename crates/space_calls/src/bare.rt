@@ -1,4 +1,4 @@
-//! Whether no space is mapped, where that is cheap to tell.
+//! Whether no space is mapped, where that is cheap to reveal.
 ghost use Rattle.std.specs.Prelude.{◌≡◌, ◌≤◌, ◌+◌, true, false, Err, IfOk, IfErr};
 ghost use Rattle.std.specs.Prelude.{[]};
 ghost use Rattle.std.specs.List.{list_any};
@@ -10,34 +10,34 @@ ghost use Rattle.session_words.specs.Volume.{volume_page};
 ghost use Rattle.swapper_kernel.specs.Goes.{Makes};
 ghost use Rattle.file_manager.specs.declared.volume.Volume.{Volume};
 ghost use Rattle.running_words.specs.Running.{Runs};
-ghost use Rattle.filer_kernel.specs.Evidence.{ShowsSo};
+ghost use Rattle.filer_kernel.specs.Evidence.{ShowsEvidence};
 ghost use Rattle.fault_core.specs.Core.{state};
 ghost use Rattle.fault_core.specs.Reach.{Reaches, ReachHalts};
-ghost use Rattle.fault_core.specs.Told.{BreaksTables};
-ghost use Rattle.fault_core.specs.Spares.{SparesTables};
+ghost use Rattle.fault_core.specs.Revealed.{BreaksTables};
+ghost use Rattle.fault_core.specs.NeverBlames.{NeverBlamesTables};
 ghost use Rattle.space_calls.specs.Sees.{SeesOn, StillSees};
 
-use fault_core::CoreOver;
+use fault_core::Core;
 use labelled_disk::{Disk, Halt};
 use std::alloc::Allocator;
 
 // Whether the projection is one interval, which shows nothing. From the second time on that costs nothing, since the core
 // keeps the interval.
-pub(crate) fn shows_nothing<D: Disk, A: Allocator>(core: &mut CoreOver<D, A>) -> Result<bool, Halt>
-    requires size { (D.state core.old.filer.swapper.under).sectors ≡ core.old.filer.swapper.layout.sectors }
+pub(crate) fn shows_nothing<D: Disk, A: Allocator>(core: &mut Core<D, A>) -> Result<bool, Halt>
+    requires size { (D.state core.old.filer.swapper.disk).sectors ≡ core.old.filer.swapper.layout.sectors }
     ensures answer { (volume : Volume) (m : Machine) → Runs core.old volume m → IfOk result (λ none. none ≡ true → list_any is_mapped m.spaces ≡ false) }
     ensures runs { (volume : Volume) (m : Machine) → Runs core.old volume m → Runs core.new volume m }
     ensures sound { (volume : Volume) (m : Machine) → Runs core.old volume m → IfErr result (λ e. e ≡ halt.Disk) }
-    ensures counted { result ≡ Err halt.Disk → Rose (D.state core.old.filer.swapper.under).faults (D.state core.new.filer.swapper.under).faults }
+    ensures counted { result ≡ Err halt.Disk → Rose (D.state core.old.filer.swapper.disk).faults (D.state core.new.filer.swapper.disk).faults }
     ensures cause { IfErr result (ReachHalts (BreaksTables (state core.old) core.old.intervals 0) (state core.old) (state core.new)) }
-    ensures so { IfErr result (ShowsSo (D.state core.new.filer.swapper.under)) }
+    ensures evidence_seen { IfErr result (ShowsEvidence (D.state core.new.filer.swapper.disk)) }
     ensures still { StillSees core.old core.new }
-    ensures right { SeesOn core.old → IfErr result SparesTables }
+    ensures right { SeesOn core.old → IfErr result NeverBlamesTables }
     ensures reaches { Reaches (state core.old) (state core.new) }
-    ensures makes { Makes volume_page [] (D.state core.old.filer.swapper.under) core.old.filer.swapper.pool (D.state core.new.filer.swapper.under) core.new.filer.swapper.pool }
+    ensures makes { Makes volume_page [] (D.state core.old.filer.swapper.disk) core.old.filer.swapper.pool (D.state core.new.filer.swapper.disk) core.new.filer.swapper.pool }
     ensures layout { core.new.filer.swapper.layout ≡ core.old.filer.swapper.layout }
     ensures intervals { core.new.intervals ≡ core.old.intervals }
-    ensures cost { (D.state core.new.filer.swapper.under).transfers ≤ (D.state core.old.filer.swapper.under).transfers + 196 }
+    ensures cost { (D.state core.new.filer.swapper.disk).transfers ≤ (D.state core.old.filer.swapper.disk).transfers + 196 }
 {
     if core.interval_count() != 1 {
         return Ok(false);

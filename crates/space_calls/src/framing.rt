@@ -2,12 +2,12 @@
 ghost use Rattle.std.specs.Prelude.{◌≡◌, ◌≤◌, length};
 ghost use Rattle.frame_pool.specs.Frames.{ArePages};
 
-use fault_core::CoreOver;
+use fault_core::Core;
 use labelled_disk::Disk;
 use std::alloc::Allocator;
 
 // How many frames there are, at most 4,096. Each has the bytes of a page.
-pub(crate) fn frame_count<D: Disk, A: Allocator>(core: &mut CoreOver<D, A>) -> u32
+pub(crate) fn frame_count<D: Disk, A: Allocator>(core: &mut Core<D, A>) -> u32
     ensures count { result ≡ length core.new.filer.swapper.pool }
     ensures most { length core.new.filer.swapper.pool ≤ 4096 }
     ensures pages { ArePages core.new.filer.swapper.pool }

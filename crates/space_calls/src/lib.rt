@@ -8,8 +8,8 @@ mod mapping;
 mod naming;
 mod range;
 mod reference;
-mod settle;
 mod spaces;
+mod sync;
 mod unmapping;
 mod windows;
 
@@ -18,6 +18,6 @@ pub use mapping::{give_window, map};
 pub use naming::{named_file, window_on};
 pub use range::{deactivate, force_out, kill};
 pub use reference::{load, store};
-pub use settle::settle as wait;
 pub use spaces::{make_space, place, remove_space, set_units};
+pub use sync::sync;
 pub use unmapping::{protect, take_window};

@@ -20,14 +20,14 @@ ghost use Rattle.projection_laws.specs.Spaces.{MayHaveWindow};
 ghost use Rattle.space_tables.specs.Shows.{window_of};
 ghost use Rattle.swapper_kernel.specs.Goes.{Makes};
 ghost use Rattle.flat_machine.specs.declared.call.Reply.TheVariants as answer;
-ghost use Rattle.table_calls.specs.Answers.{Tells, IfGiven};
+ghost use Rattle.table_calls.specs.Answers.{Reveals, IfGiven};
 ghost use Rattle.space_calls.specs.Mapping.{IsInReach, MayShow, IsLastFrom, ReachesOver};
-ghost use Rattle.filer_kernel.specs.Evidence.{ShowsSo};
+ghost use Rattle.filer_kernel.specs.Evidence.{ShowsEvidence};
 ghost use Rattle.fault_core.specs.Core.{state, kept};
 ghost use Rattle.fault_core.specs.Reach.{Reaches};
 ghost use Rattle.space_calls.specs.Halts.{ChangeHalts, MapFileHalts};
 ghost use Rattle.running_words.specs.Moving.{Moves};
-ghost use Rattle.fault_core.specs.Spares.{SparesTables};
+ghost use Rattle.fault_core.specs.NeverBlames.{NeverBlamesTables};
 ghost use Rattle.space_calls.specs.Sees.{SeesOn, StillSees, SeesFiles, IsShown, StillOnOr};
 ghost use Rattle.fault_core.specs.Lack.{Sees};
 ghost use Rattle.labelled_disk.specs.Sectors.{Sector};
@@ -38,7 +38,7 @@ ghost use Rattle.fault_core.specs.View.{kept_by};
 
 use crate::framing::frame_count;
 use crate::naming::named_file;
-use fault_core::CoreOver;
+use fault_core::Core;
 use file_manager::Attributes;
 use flat_machine::{Refusal, Reply};
 use labelled_disk::{Disk, FileId, Halt};
@@ -48,25 +48,25 @@ use table_calls::{bounds, can_map, set_window};
 
 /// Gives a space that may have one a window, which no other space on its path has.
 pub fn give_window<D: Disk, A: Allocator>(
-    core: &mut CoreOver<D, A>,
+    core: &mut Core<D, A>,
     space: u32,
     shown: Shown,
 ) -> Result<Reply, Halt>
-    requires size { (D.state core.old.filer.swapper.under).sectors ≡ core.old.filer.swapper.layout.sectors }
+    requires size { (D.state core.old.filer.swapper.disk).sectors ≡ core.old.filer.swapper.layout.sectors }
     ensures given { (volume : Volume) (m : Machine) (x : Space) → Runs core.old volume m → MayHaveWindow m.spaces x → x.handle ≡ space → x.window ≡ None → WindowFits x.pages (window_of shown)
         → IsMachine (record m { spaces = set_window space (Some (window_of shown)) m.spaces })
         → IfOk result (λ reply. (reply ≡ answer.Done) × Runs core.new volume (record m { spaces = set_window space (Some (window_of shown)) m.spaces })) }
     ensures sound { (volume : Volume) (m : Machine) (x : Space) → Runs core.old volume m → MayHaveWindow m.spaces x → x.handle ≡ space → x.window ≡ None → WindowFits x.pages (window_of shown) → IfErr result (λ e. e ≡ halt.Disk) }
-    ensures counted { result ≡ Err halt.Disk → Rose (D.state core.old.filer.swapper.under).faults (D.state core.new.filer.swapper.under).faults }
+    ensures counted { result ≡ Err halt.Disk → Rose (D.state core.old.filer.swapper.disk).faults (D.state core.new.filer.swapper.disk).faults }
     ensures cause { IfErr result (ChangeHalts core.old.intervals (state core.old) (state core.new)) }
-    ensures so { IfErr result (ShowsSo (D.state core.new.filer.swapper.under)) }
-    ensures makes { Makes volume_page [] (D.state core.old.filer.swapper.under) core.old.filer.swapper.pool (D.state core.new.filer.swapper.under) core.new.filer.swapper.pool }
+    ensures evidence_seen { IfErr result (ShowsEvidence (D.state core.new.filer.swapper.disk)) }
+    ensures makes { Makes volume_page [] (D.state core.old.filer.swapper.disk) core.old.filer.swapper.pool (D.state core.new.filer.swapper.disk) core.new.filer.swapper.pool }
     ensures sees { (ss : List Space) (x : Space) → Sees (state core.old) (kept core.old) core.old.intervals ss → MayHaveWindow ss x → x.handle ≡ space → WindowFits x.pages (window_of shown)
         → IfOk result (λ reply. (reply ≡ answer.Done) × SeesFiles (λ file last. IsShown ss file last ⊎ ((file ≡ shown.id) × IsLastFrom ss space shown.page last)) core.new) }
-    ensures right { SeesOn core.old → IfErr result SparesTables }
+    ensures right { SeesOn core.old → IfErr result NeverBlamesTables }
     ensures moves { Moves (state core.old) (state core.new) }
     ensures layout { core.new.filer.swapper.layout ≡ core.old.filer.swapper.layout }
-    ensures cost { (D.state core.new.filer.swapper.under).transfers ≤ (D.state core.old.filer.swapper.under).transfers + 57344 }
+    ensures cost { (D.state core.new.filer.swapper.disk).transfers ≤ (D.state core.old.filer.swapper.disk).transfers + 57344 }
 {
     let answer = match set_window(core, space, Some(shown)) {
         Ok(answer) => answer,
@@ -88,29 +88,29 @@ fn page_count(found: Attributes) -> u32
 
 // The tests of a call that shows a file in a space.
 fn may_map<D: Disk, A: Allocator>(
-    core: &mut CoreOver<D, A>,
+    core: &mut Core<D, A>,
     space: u32,
     id: FileId,
     page: u32,
     writable: bool,
 ) -> Result<Result<(), Refusal>, Halt>
-    requires size { (D.state core.old.filer.swapper.under).sectors ≡ core.old.filer.swapper.layout.sectors }
-    ensures answer { (volume : Volume) (m : Machine) → Runs core.old volume m → IfOk result (Tells (refusal m (call.Map space id page writable)) (λ _. IsInReach m space page)) }
+    requires size { (D.state core.old.filer.swapper.disk).sectors ≡ core.old.filer.swapper.layout.sectors }
+    ensures answer { (volume : Volume) (m : Machine) → Runs core.old volume m → IfOk result (Reveals (refusal m (call.Map space id page writable)) (λ _. IsInReach m space page)) }
     ensures runs { (volume : Volume) (m : Machine) → Runs core.old volume m → Runs core.new volume m }
     ensures sound { (volume : Volume) (m : Machine) → Runs core.old volume m → IfErr result (λ e. e ≡ halt.Disk) }
-    ensures counted { result ≡ Err halt.Disk → Rose (D.state core.old.filer.swapper.under).faults (D.state core.new.filer.swapper.under).faults }
+    ensures counted { result ≡ Err halt.Disk → Rose (D.state core.old.filer.swapper.disk).faults (D.state core.new.filer.swapper.disk).faults }
     ensures cause { IfErr result (MapFileHalts space id core.old.intervals (state core.old) (state core.new)) }
-    ensures so { IfErr result (ShowsSo (D.state core.new.filer.swapper.under)) }
+    ensures evidence_seen { IfErr result (ShowsEvidence (D.state core.new.filer.swapper.disk)) }
     ensures still { StillSees core.old core.new }
     ensures seen { (ss : List Space) → Sees (state core.old) (kept core.old) core.old.intervals ss → IfOk result (IfGiven (λ _. MayShow ss space id page writable)) }
-    ensures right { SeesOn core.old → IfErr result SparesTables }
-    ensures found { (ss : List Space) (m : List Sector) (named : Triples) → Sees (state core.old) (kept core.old) core.old.intervals ss → Stands (D.state core.old.filer.swapper.under) core.old.filer.swapper.pool m → MapIs core.old.filer.swapper.layout named m → AreOf named (kept_by (state core.old))
+    ensures right { SeesOn core.old → IfErr result NeverBlamesTables }
+    ensures found { (ss : List Space) (m : List Sector) (named : Triples) → Sees (state core.old) (kept core.old) core.old.intervals ss → Stands (D.state core.old.filer.swapper.disk) core.old.filer.swapper.pool m → MapIs core.old.filer.swapper.layout named m → AreOf named (kept_by (state core.old))
         → IfOk result (IfGiven (λ _. ReachesOver ss space id page named)) }
     ensures reaches { Reaches (state core.old) (state core.new) }
-    ensures makes { Makes volume_page [] (D.state core.old.filer.swapper.under) core.old.filer.swapper.pool (D.state core.new.filer.swapper.under) core.new.filer.swapper.pool }
+    ensures makes { Makes volume_page [] (D.state core.old.filer.swapper.disk) core.old.filer.swapper.pool (D.state core.new.filer.swapper.disk) core.new.filer.swapper.pool }
     ensures layout { core.new.filer.swapper.layout ≡ core.old.filer.swapper.layout }
     ensures intervals { core.new.intervals ≡ core.old.intervals }
-    ensures cost { (D.state core.new.filer.swapper.under).transfers ≤ (D.state core.old.filer.swapper.under).transfers + 28953 }
+    ensures cost { (D.state core.new.filer.swapper.disk).transfers ≤ (D.state core.old.filer.swapper.disk).transfers + 28953 }
 {
     match bounds(core, space) {
         Ok(Ok(_)) => (),
@@ -141,27 +141,27 @@ fn may_map<D: Disk, A: Allocator>(
 
 /// Shows a file in a space, from this page of the file on.
 pub fn map<D: Disk, A: Allocator>(
-    core: &mut CoreOver<D, A>,
+    core: &mut Core<D, A>,
     space: u32,
     id: FileId,
     page: u32,
     writable: bool,
 ) -> Result<Reply, Halt>
-    requires size { (D.state core.old.filer.swapper.under).sectors ≡ core.old.filer.swapper.layout.sectors }
+    requires size { (D.state core.old.filer.swapper.disk).sectors ≡ core.old.filer.swapper.layout.sectors }
     ensures carried { (volume : Volume) (m : Machine) → Runs core.old volume m → IfOk result (Carried m (call.Map space id page writable) core.new volume) }
     ensures sound { (volume : Volume) (m : Machine) → Runs core.old volume m → IfErr result (λ e. e ≡ halt.Disk) }
-    ensures passes { (volume : Volume) (m : Machine) → Runs core.old volume m → Passes m (call.Map space id page writable) (D.state core.old.filer.swapper.under) (D.state core.new.filer.swapper.under) }
-    ensures counted { result ≡ Err halt.Disk → Rose (D.state core.old.filer.swapper.under).faults (D.state core.new.filer.swapper.under).faults }
+    ensures passes { (volume : Volume) (m : Machine) → Runs core.old volume m → Passes m (call.Map space id page writable) (D.state core.old.filer.swapper.disk) (D.state core.new.filer.swapper.disk) }
+    ensures counted { result ≡ Err halt.Disk → Rose (D.state core.old.filer.swapper.disk).faults (D.state core.new.filer.swapper.disk).faults }
     ensures cause { IfErr result (MapFileHalts space id core.old.intervals (state core.old) (state core.new)) }
-    ensures so { IfErr result (ShowsSo (D.state core.new.filer.swapper.under)) }
-    ensures wrote { WroteIn (volume_page) (D.state core.old.filer.swapper.under) core.old.filer.swapper.pool (D.state core.new.filer.swapper.under) core.new.filer.swapper.pool }
+    ensures evidence_seen { IfErr result (ShowsEvidence (D.state core.new.filer.swapper.disk)) }
+    ensures wrote { WroteIn (volume_page) (D.state core.old.filer.swapper.disk) core.old.filer.swapper.pool (D.state core.new.filer.swapper.disk) core.new.filer.swapper.pool }
     ensures sees { IfOk result (λ reply. StillOnOr (λ ss file last. (reply ≡ answer.Done) × (file ≡ id) × IsLastFrom ss space page last) core.old core.new) }
-    ensures found { (ss : List Space) (m : List Sector) (named : Triples) → Sees (state core.old) (kept core.old) core.old.intervals ss → Stands (D.state core.old.filer.swapper.under) core.old.filer.swapper.pool m → MapIs core.old.filer.swapper.layout named m → AreOf named (kept_by (state core.old))
+    ensures found { (ss : List Space) (m : List Sector) (named : Triples) → Sees (state core.old) (kept core.old) core.old.intervals ss → Stands (D.state core.old.filer.swapper.disk) core.old.filer.swapper.pool m → MapIs core.old.filer.swapper.layout named m → AreOf named (kept_by (state core.old))
         → IfOk result (λ reply. reply ≡ answer.Done → ReachesOver ss space id page named) }
-    ensures right { SeesOn core.old → IfErr result SparesTables }
+    ensures right { SeesOn core.old → IfErr result NeverBlamesTables }
     ensures moves { Moves (state core.old) (state core.new) }
     ensures layout { core.new.filer.swapper.layout ≡ core.old.filer.swapper.layout }
-    ensures cost { CostsOther (D.state core.old.filer.swapper.under) (D.state core.new.filer.swapper.under) }
+    ensures cost { CostsOther (D.state core.old.filer.swapper.disk) (D.state core.new.filer.swapper.disk) }
 {
     match may_map(core, space, id, page, writable) {
         Ok(Ok(())) => (),

@@ -17,11 +17,11 @@ ghost use Rattle.flat_machine.specs.Machine.{nameable};
 ghost use Rattle.swapper_kernel.specs.Goes.{Makes};
 ghost use Rattle.space_tables.specs.Shows.{IsFirstWith, shows};
 ghost use Rattle.space_calls.specs.Naming.{IsNameable, IsSeen};
-ghost use Rattle.filer_kernel.specs.Evidence.{ShowsSo};
+ghost use Rattle.filer_kernel.specs.Evidence.{ShowsEvidence};
 ghost use Rattle.fault_core.specs.Core.{state};
 ghost use Rattle.fault_core.specs.Reach.{Reaches};
 ghost use Rattle.space_calls.specs.Halts.{NamedHalts, SightHalts};
-ghost use Rattle.fault_core.specs.Spares.{SparesTables};
+ghost use Rattle.fault_core.specs.NeverBlames.{NeverBlamesTables};
 ghost use Rattle.space_calls.specs.Sees.{SeesOn, StillSees};
 ghost use Rattle.labelled_disk.specs.Sectors.{Sector};
 ghost use Rattle.file_map.specs.FileMap.{Triples, IsSize};
@@ -30,7 +30,7 @@ ghost use Rattle.filer_kernel.specs.Triples.{AreOf, MapIs};
 ghost use Rattle.fault_core.specs.View.{kept_by};
 
 use crate::bare::shows_nothing;
-use fault_core::CoreOver;
+use fault_core::Core;
 use file_manager::{Attributes, attributes_of};
 use labelled_disk::{Disk, FileId, Halt};
 use space_tables::Shown;
@@ -39,24 +39,24 @@ use table_calls::shows_file;
 
 /// The lowest handle whose space shows a file, and what it shows there; or only one that shows it writable.
 pub fn window_on<D: Disk, A: Allocator>(
-    core: &mut CoreOver<D, A>,
+    core: &mut Core<D, A>,
     id: FileId,
     writable_only: bool,
 ) -> Result<Option<(u32, Shown)>, Halt>
-    requires size { (D.state core.old.filer.swapper.under).sectors ≡ core.old.filer.swapper.layout.sectors }
+    requires size { (D.state core.old.filer.swapper.disk).sectors ≡ core.old.filer.swapper.layout.sectors }
     ensures answer { (volume : Volume) (m : Machine) → Runs core.old volume m → IfOk result (IsFirstWith (shows id writable_only) m.spaces) }
     ensures runs { (volume : Volume) (m : Machine) → Runs core.old volume m → Runs core.new volume m }
     ensures sound { (volume : Volume) (m : Machine) → Runs core.old volume m → IfErr result (λ e. e ≡ halt.Disk) }
-    ensures counted { result ≡ Err halt.Disk → Rose (D.state core.old.filer.swapper.under).faults (D.state core.new.filer.swapper.under).faults }
+    ensures counted { result ≡ Err halt.Disk → Rose (D.state core.old.filer.swapper.disk).faults (D.state core.new.filer.swapper.disk).faults }
     ensures cause { IfErr result (SightHalts core.old.intervals (state core.old) (state core.new)) }
-    ensures so { IfErr result (ShowsSo (D.state core.new.filer.swapper.under)) }
+    ensures evidence_seen { IfErr result (ShowsEvidence (D.state core.new.filer.swapper.disk)) }
     ensures still { StillSees core.old core.new }
-    ensures right { SeesOn core.old → IfErr result SparesTables }
+    ensures right { SeesOn core.old → IfErr result NeverBlamesTables }
     ensures reaches { Reaches (state core.old) (state core.new) }
-    ensures makes { Makes volume_page [] (D.state core.old.filer.swapper.under) core.old.filer.swapper.pool (D.state core.new.filer.swapper.under) core.new.filer.swapper.pool }
+    ensures makes { Makes volume_page [] (D.state core.old.filer.swapper.disk) core.old.filer.swapper.pool (D.state core.new.filer.swapper.disk) core.new.filer.swapper.pool }
     ensures layout { core.new.filer.swapper.layout ≡ core.old.filer.swapper.layout }
     ensures intervals { core.new.intervals ≡ core.old.intervals }
-    ensures cost { (D.state core.new.filer.swapper.under).transfers ≤ (D.state core.old.filer.swapper.under).transfers + 14532 }
+    ensures cost { (D.state core.new.filer.swapper.disk).transfers ≤ (D.state core.old.filer.swapper.disk).transfers + 14532 }
 {
     match shows_nothing(core) {
         Ok(true) => return Ok(None),
@@ -67,21 +67,21 @@ pub fn window_on<D: Disk, A: Allocator>(
 }
 
 // Whether no anonymous window shows the file: the calls on files then see it, if it is there.
-fn may_be_named<D: Disk, A: Allocator>(core: &mut CoreOver<D, A>, id: FileId) -> Result<bool, Halt>
-    requires size { (D.state core.old.filer.swapper.under).sectors ≡ core.old.filer.swapper.layout.sectors }
+fn may_be_named<D: Disk, A: Allocator>(core: &mut Core<D, A>, id: FileId) -> Result<bool, Halt>
+    requires size { (D.state core.old.filer.swapper.disk).sectors ≡ core.old.filer.swapper.layout.sectors }
     ensures answer { (volume : Volume) (m : Machine) → Runs core.old volume m → IfOk result (IsSeen m id) }
     ensures runs { (volume : Volume) (m : Machine) → Runs core.old volume m → Runs core.new volume m }
     ensures sound { (volume : Volume) (m : Machine) → Runs core.old volume m → IfErr result (λ e. e ≡ halt.Disk) }
-    ensures counted { result ≡ Err halt.Disk → Rose (D.state core.old.filer.swapper.under).faults (D.state core.new.filer.swapper.under).faults }
+    ensures counted { result ≡ Err halt.Disk → Rose (D.state core.old.filer.swapper.disk).faults (D.state core.new.filer.swapper.disk).faults }
     ensures cause { IfErr result (SightHalts core.old.intervals (state core.old) (state core.new)) }
-    ensures so { IfErr result (ShowsSo (D.state core.new.filer.swapper.under)) }
+    ensures evidence_seen { IfErr result (ShowsEvidence (D.state core.new.filer.swapper.disk)) }
     ensures still { StillSees core.old core.new }
-    ensures right { SeesOn core.old → IfErr result SparesTables }
+    ensures right { SeesOn core.old → IfErr result NeverBlamesTables }
     ensures reaches { Reaches (state core.old) (state core.new) }
-    ensures makes { Makes volume_page [] (D.state core.old.filer.swapper.under) core.old.filer.swapper.pool (D.state core.new.filer.swapper.under) core.new.filer.swapper.pool }
+    ensures makes { Makes volume_page [] (D.state core.old.filer.swapper.disk) core.old.filer.swapper.pool (D.state core.new.filer.swapper.disk) core.new.filer.swapper.pool }
     ensures layout { core.new.filer.swapper.layout ≡ core.old.filer.swapper.layout }
     ensures intervals { core.new.intervals ≡ core.old.intervals }
-    ensures cost { (D.state core.new.filer.swapper.under).transfers ≤ (D.state core.old.filer.swapper.under).transfers + 14532 }
+    ensures cost { (D.state core.new.filer.swapper.disk).transfers ≤ (D.state core.old.filer.swapper.disk).transfers + 14532 }
 {
     match window_on(core, id, false) {
         Ok(Some((_, shown))) => Ok(!shown.anonymous),
@@ -92,26 +92,26 @@ fn may_be_named<D: Disk, A: Allocator>(core: &mut CoreOver<D, A>, id: FileId) ->
 
 /// Size, type and marks of the file that has this identifier and may be named: no anonymous window shows it.
 pub fn named_file<D: Disk, A: Allocator>(
-    core: &mut CoreOver<D, A>,
+    core: &mut Core<D, A>,
     id: FileId,
 ) -> Result<Option<Attributes>, Halt>
-    requires size { (D.state core.old.filer.swapper.under).sectors ≡ core.old.filer.swapper.layout.sectors }
+    requires size { (D.state core.old.filer.swapper.disk).sectors ≡ core.old.filer.swapper.layout.sectors }
     ensures answer { (volume : Volume) (m : Machine) → Runs core.old volume m → IfOk result (IsNameable (nameable m id)) }
     ensures runs { (volume : Volume) (m : Machine) → Runs core.old volume m → Runs core.new volume m }
     ensures sound { (volume : Volume) (m : Machine) → Runs core.old volume m → IfErr result (λ e. e ≡ halt.Disk) }
-    ensures counted { result ≡ Err halt.Disk → Rose (D.state core.old.filer.swapper.under).faults (D.state core.new.filer.swapper.under).faults }
+    ensures counted { result ≡ Err halt.Disk → Rose (D.state core.old.filer.swapper.disk).faults (D.state core.new.filer.swapper.disk).faults }
     ensures cause { IfErr result (NamedHalts id core.old.intervals (state core.old) (state core.new)) }
-    ensures so { IfErr result (ShowsSo (D.state core.new.filer.swapper.under)) }
+    ensures evidence_seen { IfErr result (ShowsEvidence (D.state core.new.filer.swapper.disk)) }
     ensures still { StillSees core.old core.new }
     ensures client { IfOk result (λ o. IfSome o (λ _. 16 ≤ id)) }
-    ensures size { (m : List Sector) (named : Triples) → Stands (D.state core.old.filer.swapper.under) core.old.filer.swapper.pool m → MapIs core.old.filer.swapper.layout named m → AreOf named (kept_by (state core.old))
+    ensures size { (m : List Sector) (named : Triples) → Stands (D.state core.old.filer.swapper.disk) core.old.filer.swapper.pool m → MapIs core.old.filer.swapper.layout named m → AreOf named (kept_by (state core.old))
         → IfOk result (λ o. IfSome o (λ found. IsSize named id found.pages)) }
-    ensures right { SeesOn core.old → IfErr result SparesTables }
+    ensures right { SeesOn core.old → IfErr result NeverBlamesTables }
     ensures reaches { Reaches (state core.old) (state core.new) }
-    ensures makes { Makes volume_page [] (D.state core.old.filer.swapper.under) core.old.filer.swapper.pool (D.state core.new.filer.swapper.under) core.new.filer.swapper.pool }
+    ensures makes { Makes volume_page [] (D.state core.old.filer.swapper.disk) core.old.filer.swapper.pool (D.state core.new.filer.swapper.disk) core.new.filer.swapper.pool }
     ensures layout { core.new.filer.swapper.layout ≡ core.old.filer.swapper.layout }
     ensures intervals { core.new.intervals ≡ core.old.intervals }
-    ensures cost { (D.state core.new.filer.swapper.under).transfers ≤ (D.state core.old.filer.swapper.under).transfers + 14561 }
+    ensures cost { (D.state core.new.filer.swapper.disk).transfers ≤ (D.state core.old.filer.swapper.disk).transfers + 14561 }
 {
     match may_be_named(core, id) {
         Ok(true) => (),

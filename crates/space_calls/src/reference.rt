@@ -15,41 +15,41 @@ ghost use Rattle.fault_core.specs.Core.{kept, state};
 ghost use Rattle.fault_core.specs.Reach.{TouchHalts};
 ghost use Rattle.fault_core.specs.Unit.{IsReady};
 ghost use Rattle.running_words.specs.Stages.{client_or_own};
-ghost use Rattle.filer_kernel.specs.Evidence.{ShowsSo};
+ghost use Rattle.filer_kernel.specs.Evidence.{ShowsEvidence};
 ghost use Rattle.running_words.specs.Moving.{Moves};
-ghost use Rattle.fault_core.specs.Spares.{SparesTables};
+ghost use Rattle.fault_core.specs.NeverBlames.{NeverBlamesTables};
 ghost use Rattle.space_calls.specs.Sees.{SeesOn, StillOn};
-ghost use Rattle.fault_core.specs.Lack.{LacksPage, Sees, shown_units};
+ghost use Rattle.fault_core.specs.Lack.{MissesPage, Sees, shown_units};
 ghost use Rattle.flat_machine.specs.declared.space.Space.{Space};
 
-use fault_core::{Access, CoreOver};
+use fault_core::{Access, Core};
 use flat_machine::{Piece, Refusal, Reply};
 use labelled_disk::{Disk, Halt};
 use std::alloc::Allocator;
 
 /// Loads 1 to 64 bytes from an address on.
 pub fn load<D: Disk, A: Allocator>(
-    core: &mut CoreOver<D, A>,
+    core: &mut Core<D, A>,
     address: u32,
     count: u8,
 ) -> Result<Reply, Halt>
-    requires size { (D.state core.old.filer.swapper.under).sectors ≡ core.old.filer.swapper.layout.sectors }
+    requires size { (D.state core.old.filer.swapper.disk).sectors ≡ core.old.filer.swapper.layout.sectors }
     requires some { 1 ≤ count }
     requires few { count ≤ 64 }
     ensures carried { (volume : Volume) (m : Machine) → Runs core.old volume m → IfOk result (Carried m (call.Load address count) core.new volume) }
     ensures sound { (volume : Volume) (m : Machine) → Runs core.old volume m → IfErr result (λ e. e ≡ halt.Disk) }
-    ensures passes { (volume : Volume) (m : Machine) → Runs core.old volume m → Passes m (call.Load address count) (D.state core.old.filer.swapper.under) (D.state core.new.filer.swapper.under) }
-    ensures counted { result ≡ Err halt.Disk → Rose (D.state core.old.filer.swapper.under).faults (D.state core.new.filer.swapper.under).faults }
-    ensures wrote { WroteIn (volume_page) (D.state core.old.filer.swapper.under) core.old.filer.swapper.pool (D.state core.new.filer.swapper.under) core.new.filer.swapper.pool }
+    ensures passes { (volume : Volume) (m : Machine) → Runs core.old volume m → Passes m (call.Load address count) (D.state core.old.filer.swapper.disk) (D.state core.new.filer.swapper.disk) }
+    ensures counted { result ≡ Err halt.Disk → Rose (D.state core.old.filer.swapper.disk).faults (D.state core.new.filer.swapper.disk).faults }
+    ensures wrote { WroteIn (volume_page) (D.state core.old.filer.swapper.disk) core.old.filer.swapper.pool (D.state core.new.filer.swapper.disk) core.new.filer.swapper.pool }
     ensures sees { OnOk result (StillOn core.old core.new) }
-    ensures right { SeesOn core.old → IfErr result SparesTables }
+    ensures right { SeesOn core.old → IfErr result NeverBlamesTables }
     ensures moves { Moves (state core.old) (state core.new) }
     ensures layout { core.new.filer.swapper.layout ≡ core.old.filer.swapper.layout }
-    ensures cost { (D.state core.new.filer.swapper.under).transfers ≤ (D.state core.old.filer.swapper.under).transfers + 1680 }
+    ensures cost { (D.state core.new.filer.swapper.disk).transfers ≤ (D.state core.old.filer.swapper.disk).transfers + 1680 }
     ensures ready { (volume : Volume) (m : Machine) → Runs core.old volume m → refusal m (call.Load address count) ≡ None → OnOk result (IsReady (kept core.new) core.new.filer.swapper.pool (last_page address count)) }
     ensures cause { IfErr result (TouchHalts (BreaksFor (state core.old) core.old.intervals address count) (state core.old) (state core.new)) }
-    ensures missing { (ss : List Space) → Sees (state core.old) (kept core.old) core.old.intervals ss → IfErr result (LacksPage (shown_units ss address count)) }
-    ensures so { IfErr result (ShowsSo (D.state core.new.filer.swapper.under)) }
+    ensures missing { (ss : List Space) → Sees (state core.old) (kept core.old) core.old.intervals ss → IfErr result (MissesPage (shown_units ss address count)) }
+    ensures evidence_seen { IfErr result (ShowsEvidence (D.state core.new.filer.swapper.disk)) }
     ensures idle { (volume : Volume) (m : Machine) → Runs core.old volume m → IsReady (kept core.old) core.old.filer.swapper.pool (address / 512) → IsReady (kept core.old) core.old.filer.swapper.pool (last_page address count)
         → IsOk result × (core.new.filer ≡ core.old.filer) × (kept core.new ≡ kept core.old) }
 {
@@ -65,29 +65,29 @@ pub fn load<D: Disk, A: Allocator>(
 
 /// Stores 1 to 64 bytes from an address on. One that is refused changes nothing.
 pub fn store<D: Disk, A: Allocator>(
-    core: &mut CoreOver<D, A>,
+    core: &mut Core<D, A>,
     address: u32,
     bytes: &[u8],
 ) -> Result<Reply, Halt>
-    requires size { (D.state core.old.filer.swapper.under).sectors ≡ core.old.filer.swapper.layout.sectors }
+    requires size { (D.state core.old.filer.swapper.disk).sectors ≡ core.old.filer.swapper.layout.sectors }
     requires some { 1 ≤ length bytes.now }
     requires few { length bytes.now ≤ 64 }
     ensures carried { (volume : Volume) (m : Machine) → Runs core.old volume m → IfOk result (Carried m (call.Store address bytes.now) core.new volume) }
     ensures sound { (volume : Volume) (m : Machine) → Runs core.old volume m → IfErr result (λ e. e ≡ halt.Disk) }
-    ensures passes { (volume : Volume) (m : Machine) → Runs core.old volume m → Passes m (call.Store address bytes.now) (D.state core.old.filer.swapper.under) (D.state core.new.filer.swapper.under) }
-    ensures counted { result ≡ Err halt.Disk → Rose (D.state core.old.filer.swapper.under).faults (D.state core.new.filer.swapper.under).faults }
-    ensures wrote { WroteIn (client_or_own) (D.state core.old.filer.swapper.under) core.old.filer.swapper.pool (D.state core.new.filer.swapper.under) core.new.filer.swapper.pool }
+    ensures passes { (volume : Volume) (m : Machine) → Runs core.old volume m → Passes m (call.Store address bytes.now) (D.state core.old.filer.swapper.disk) (D.state core.new.filer.swapper.disk) }
+    ensures counted { result ≡ Err halt.Disk → Rose (D.state core.old.filer.swapper.disk).faults (D.state core.new.filer.swapper.disk).faults }
+    ensures wrote { WroteIn (client_or_own) (D.state core.old.filer.swapper.disk) core.old.filer.swapper.pool (D.state core.new.filer.swapper.disk) core.new.filer.swapper.pool }
     ensures sees { OnOk result (StillOn core.old core.new) }
-    ensures right { SeesOn core.old → IfErr result SparesTables }
+    ensures right { SeesOn core.old → IfErr result NeverBlamesTables }
     ensures moves { Moves (state core.old) (state core.new) }
     ensures layout { core.new.filer.swapper.layout ≡ core.old.filer.swapper.layout }
-    ensures cost { (D.state core.new.filer.swapper.under).transfers ≤ (D.state core.old.filer.swapper.under).transfers + 1680 }
+    ensures cost { (D.state core.new.filer.swapper.disk).transfers ≤ (D.state core.old.filer.swapper.disk).transfers + 1680 }
     ensures ready { (volume : Volume) (m : Machine) → Runs core.old volume m → refusal m (call.Store address bytes.now) ≡ None → OnOk result (IsReady (kept core.new) core.new.filer.swapper.pool (last_page address (length bytes.now))) }
     ensures cause { IfErr result (TouchHalts (BreaksFor (state core.old) core.old.intervals address (length bytes.now)) (state core.old) (state core.new)) }
-    ensures missing { (ss : List Space) → Sees (state core.old) (kept core.old) core.old.intervals ss → IfErr result (LacksPage (shown_units ss address (length bytes.now))) }
-    ensures so { IfErr result (ShowsSo (D.state core.new.filer.swapper.under)) }
+    ensures missing { (ss : List Space) → Sees (state core.old) (kept core.old) core.old.intervals ss → IfErr result (MissesPage (shown_units ss address (length bytes.now))) }
+    ensures evidence_seen { IfErr result (ShowsEvidence (D.state core.new.filer.swapper.disk)) }
     ensures idle { (volume : Volume) (m : Machine) → Runs core.old volume m → IsReady (kept core.old) core.old.filer.swapper.pool (address / 512) → IsReady (kept core.old) core.old.filer.swapper.pool (last_page address (length bytes.now))
-        → IsOk result × (D.state core.new.filer.swapper.under ≡ D.state core.old.filer.swapper.under) × (kept core.new ≡ kept core.old) }
+        → IsOk result × (D.state core.new.filer.swapper.disk ≡ D.state core.old.filer.swapper.disk) × (kept core.new ≡ kept core.old) }
 {
     match core.store(address, bytes) {
         Ok(Access::Done) => Ok(Reply::Done),

@@ -12,15 +12,15 @@ ghost use Rattle.running_words.specs.Bound.{CostsOther};
 ghost use Rattle.running_words.specs.Running.{Carried, Runs};
 ghost use Rattle.running_words.specs.Session.{WroteIn};
 ghost use Rattle.running_words.specs.Stages.{Passes};
-ghost use Rattle.filer_kernel.specs.Evidence.{ShowsSo};
+ghost use Rattle.filer_kernel.specs.Evidence.{ShowsEvidence};
 ghost use Rattle.fault_core.specs.Core.{state};
 ghost use Rattle.space_calls.specs.Halts.{ChangeHalts, MakeSpaceHalts, PlaceHalts, RemoveSpaceHalts};
 ghost use Rattle.running_words.specs.Moving.{Moves};
-ghost use Rattle.fault_core.specs.Spares.{SparesTables};
+ghost use Rattle.fault_core.specs.NeverBlames.{NeverBlamesTables};
 ghost use Rattle.space_calls.specs.Sees.{SeesOn, StillOn};
 
 use crate::framing::frame_count;
-use fault_core::CoreOver;
+use fault_core::Core;
 use flat_machine::Reply;
 use labelled_disk::{Disk, Halt};
 use std::alloc::Allocator;
@@ -28,24 +28,24 @@ use table_calls::{add, place as innermost, remove, set_unit};
 
 /// Makes a space inside its parent, at a page or in the lowest gap that is long enough.
 pub fn make_space<D: Disk, A: Allocator>(
-    core: &mut CoreOver<D, A>,
+    core: &mut Core<D, A>,
     parent: u32,
     pages: u32,
     first: Option<u32>,
 ) -> Result<Reply, Halt>
-    requires size { (D.state core.old.filer.swapper.under).sectors ≡ core.old.filer.swapper.layout.sectors }
+    requires size { (D.state core.old.filer.swapper.disk).sectors ≡ core.old.filer.swapper.layout.sectors }
     ensures carried { (volume : Volume) (m : Machine) → Runs core.old volume m → IfOk result (Carried m (call.MakeSpace parent pages first) core.new volume) }
     ensures sound { (volume : Volume) (m : Machine) → Runs core.old volume m → IfErr result (λ e. e ≡ halt.Disk) }
-    ensures passes { (volume : Volume) (m : Machine) → Runs core.old volume m → Passes m (call.MakeSpace parent pages first) (D.state core.old.filer.swapper.under) (D.state core.new.filer.swapper.under) }
-    ensures counted { result ≡ Err halt.Disk → Rose (D.state core.old.filer.swapper.under).faults (D.state core.new.filer.swapper.under).faults }
+    ensures passes { (volume : Volume) (m : Machine) → Runs core.old volume m → Passes m (call.MakeSpace parent pages first) (D.state core.old.filer.swapper.disk) (D.state core.new.filer.swapper.disk) }
+    ensures counted { result ≡ Err halt.Disk → Rose (D.state core.old.filer.swapper.disk).faults (D.state core.new.filer.swapper.disk).faults }
     ensures cause { IfErr result (MakeSpaceHalts parent pages first core.old.intervals (state core.old) (state core.new)) }
-    ensures so { IfErr result (ShowsSo (D.state core.new.filer.swapper.under)) }
-    ensures wrote { WroteIn (volume_page) (D.state core.old.filer.swapper.under) core.old.filer.swapper.pool (D.state core.new.filer.swapper.under) core.new.filer.swapper.pool }
+    ensures evidence_seen { IfErr result (ShowsEvidence (D.state core.new.filer.swapper.disk)) }
+    ensures wrote { WroteIn (volume_page) (D.state core.old.filer.swapper.disk) core.old.filer.swapper.pool (D.state core.new.filer.swapper.disk) core.new.filer.swapper.pool }
     ensures sees { OnOk result (StillOn core.old core.new) }
-    ensures right { SeesOn core.old → IfErr result SparesTables }
+    ensures right { SeesOn core.old → IfErr result NeverBlamesTables }
     ensures moves { Moves (state core.old) (state core.new) }
     ensures layout { core.new.filer.swapper.layout ≡ core.old.filer.swapper.layout }
-    ensures cost { CostsOther (D.state core.old.filer.swapper.under) (D.state core.new.filer.swapper.under) }
+    ensures cost { CostsOther (D.state core.old.filer.swapper.disk) (D.state core.new.filer.swapper.disk) }
 {
     let answer = match add(core, parent, pages, first) {
         Ok(answer) => answer,
@@ -59,23 +59,20 @@ pub fn make_space<D: Disk, A: Allocator>(
 }
 
 /// Removes a space that has no children and is not mapped.
-pub fn remove_space<D: Disk, A: Allocator>(
-    core: &mut CoreOver<D, A>,
-    space: u32,
-) -> Result<Reply, Halt>
-    requires size { (D.state core.old.filer.swapper.under).sectors ≡ core.old.filer.swapper.layout.sectors }
+pub fn remove_space<D: Disk, A: Allocator>(core: &mut Core<D, A>, space: u32) -> Result<Reply, Halt>
+    requires size { (D.state core.old.filer.swapper.disk).sectors ≡ core.old.filer.swapper.layout.sectors }
     ensures carried { (volume : Volume) (m : Machine) → Runs core.old volume m → IfOk result (Carried m (call.RemoveSpace space) core.new volume) }
     ensures sound { (volume : Volume) (m : Machine) → Runs core.old volume m → IfErr result (λ e. e ≡ halt.Disk) }
-    ensures passes { (volume : Volume) (m : Machine) → Runs core.old volume m → Passes m (call.RemoveSpace space) (D.state core.old.filer.swapper.under) (D.state core.new.filer.swapper.under) }
-    ensures counted { result ≡ Err halt.Disk → Rose (D.state core.old.filer.swapper.under).faults (D.state core.new.filer.swapper.under).faults }
+    ensures passes { (volume : Volume) (m : Machine) → Runs core.old volume m → Passes m (call.RemoveSpace space) (D.state core.old.filer.swapper.disk) (D.state core.new.filer.swapper.disk) }
+    ensures counted { result ≡ Err halt.Disk → Rose (D.state core.old.filer.swapper.disk).faults (D.state core.new.filer.swapper.disk).faults }
     ensures cause { IfErr result (RemoveSpaceHalts space core.old.intervals (state core.old) (state core.new)) }
-    ensures so { IfErr result (ShowsSo (D.state core.new.filer.swapper.under)) }
-    ensures wrote { WroteIn (volume_page) (D.state core.old.filer.swapper.under) core.old.filer.swapper.pool (D.state core.new.filer.swapper.under) core.new.filer.swapper.pool }
+    ensures evidence_seen { IfErr result (ShowsEvidence (D.state core.new.filer.swapper.disk)) }
+    ensures wrote { WroteIn (volume_page) (D.state core.old.filer.swapper.disk) core.old.filer.swapper.pool (D.state core.new.filer.swapper.disk) core.new.filer.swapper.pool }
     ensures sees { OnOk result (StillOn core.old core.new) }
-    ensures right { SeesOn core.old → IfErr result SparesTables }
+    ensures right { SeesOn core.old → IfErr result NeverBlamesTables }
     ensures moves { Moves (state core.old) (state core.new) }
     ensures layout { core.new.filer.swapper.layout ≡ core.old.filer.swapper.layout }
-    ensures cost { CostsOther (D.state core.old.filer.swapper.under) (D.state core.new.filer.swapper.under) }
+    ensures cost { CostsOther (D.state core.old.filer.swapper.disk) (D.state core.new.filer.swapper.disk) }
 {
     let answer = match remove(core, space) {
         Ok(answer) => answer,
@@ -89,20 +86,20 @@ pub fn remove_space<D: Disk, A: Allocator>(
 }
 
 /// The innermost space at a page.
-pub fn place<D: Disk, A: Allocator>(core: &mut CoreOver<D, A>, page: u32) -> Result<Reply, Halt>
-    requires size { (D.state core.old.filer.swapper.under).sectors ≡ core.old.filer.swapper.layout.sectors }
+pub fn place<D: Disk, A: Allocator>(core: &mut Core<D, A>, page: u32) -> Result<Reply, Halt>
+    requires size { (D.state core.old.filer.swapper.disk).sectors ≡ core.old.filer.swapper.layout.sectors }
     ensures carried { (volume : Volume) (m : Machine) → Runs core.old volume m → IfOk result (Carried m (call.Place page) core.new volume) }
     ensures sound { (volume : Volume) (m : Machine) → Runs core.old volume m → IfErr result (λ e. e ≡ halt.Disk) }
-    ensures passes { (volume : Volume) (m : Machine) → Runs core.old volume m → Passes m (call.Place page) (D.state core.old.filer.swapper.under) (D.state core.new.filer.swapper.under) }
-    ensures counted { result ≡ Err halt.Disk → Rose (D.state core.old.filer.swapper.under).faults (D.state core.new.filer.swapper.under).faults }
+    ensures passes { (volume : Volume) (m : Machine) → Runs core.old volume m → Passes m (call.Place page) (D.state core.old.filer.swapper.disk) (D.state core.new.filer.swapper.disk) }
+    ensures counted { result ≡ Err halt.Disk → Rose (D.state core.old.filer.swapper.disk).faults (D.state core.new.filer.swapper.disk).faults }
     ensures cause { IfErr result (PlaceHalts page core.old.intervals (state core.old) (state core.new)) }
-    ensures so { IfErr result (ShowsSo (D.state core.new.filer.swapper.under)) }
-    ensures wrote { WroteIn (volume_page) (D.state core.old.filer.swapper.under) core.old.filer.swapper.pool (D.state core.new.filer.swapper.under) core.new.filer.swapper.pool }
+    ensures evidence_seen { IfErr result (ShowsEvidence (D.state core.new.filer.swapper.disk)) }
+    ensures wrote { WroteIn (volume_page) (D.state core.old.filer.swapper.disk) core.old.filer.swapper.pool (D.state core.new.filer.swapper.disk) core.new.filer.swapper.pool }
     ensures sees { OnOk result (StillOn core.old core.new) }
-    ensures right { SeesOn core.old → IfErr result SparesTables }
+    ensures right { SeesOn core.old → IfErr result NeverBlamesTables }
     ensures moves { Moves (state core.old) (state core.new) }
     ensures layout { core.new.filer.swapper.layout ≡ core.old.filer.swapper.layout }
-    ensures cost { CostsOther (D.state core.old.filer.swapper.under) (D.state core.new.filer.swapper.under) }
+    ensures cost { CostsOther (D.state core.old.filer.swapper.disk) (D.state core.new.filer.swapper.disk) }
 {
     match innermost(core, page) {
         Ok(Ok((handle, first, pages))) => Ok(Reply::Place {
@@ -117,23 +114,23 @@ pub fn place<D: Disk, A: Allocator>(core: &mut CoreOver<D, A>, page: u32) -> Res
 
 /// Sets the number of pages that are swapped together.
 pub fn set_units<D: Disk, A: Allocator>(
-    core: &mut CoreOver<D, A>,
+    core: &mut Core<D, A>,
     space: u32,
     pages: u32,
 ) -> Result<Reply, Halt>
-    requires size { (D.state core.old.filer.swapper.under).sectors ≡ core.old.filer.swapper.layout.sectors }
+    requires size { (D.state core.old.filer.swapper.disk).sectors ≡ core.old.filer.swapper.layout.sectors }
     ensures carried { (volume : Volume) (m : Machine) → Runs core.old volume m → IfOk result (Carried m (call.Units space pages) core.new volume) }
     ensures sound { (volume : Volume) (m : Machine) → Runs core.old volume m → IfErr result (λ e. e ≡ halt.Disk) }
-    ensures passes { (volume : Volume) (m : Machine) → Runs core.old volume m → Passes m (call.Units space pages) (D.state core.old.filer.swapper.under) (D.state core.new.filer.swapper.under) }
-    ensures counted { result ≡ Err halt.Disk → Rose (D.state core.old.filer.swapper.under).faults (D.state core.new.filer.swapper.under).faults }
+    ensures passes { (volume : Volume) (m : Machine) → Runs core.old volume m → Passes m (call.Units space pages) (D.state core.old.filer.swapper.disk) (D.state core.new.filer.swapper.disk) }
+    ensures counted { result ≡ Err halt.Disk → Rose (D.state core.old.filer.swapper.disk).faults (D.state core.new.filer.swapper.disk).faults }
     ensures cause { IfErr result (ChangeHalts core.old.intervals (state core.old) (state core.new)) }
-    ensures so { IfErr result (ShowsSo (D.state core.new.filer.swapper.under)) }
-    ensures wrote { WroteIn (volume_page) (D.state core.old.filer.swapper.under) core.old.filer.swapper.pool (D.state core.new.filer.swapper.under) core.new.filer.swapper.pool }
+    ensures evidence_seen { IfErr result (ShowsEvidence (D.state core.new.filer.swapper.disk)) }
+    ensures wrote { WroteIn (volume_page) (D.state core.old.filer.swapper.disk) core.old.filer.swapper.pool (D.state core.new.filer.swapper.disk) core.new.filer.swapper.pool }
     ensures sees { OnOk result (StillOn core.old core.new) }
-    ensures right { SeesOn core.old → IfErr result SparesTables }
+    ensures right { SeesOn core.old → IfErr result NeverBlamesTables }
     ensures moves { Moves (state core.old) (state core.new) }
     ensures layout { core.new.filer.swapper.layout ≡ core.old.filer.swapper.layout }
-    ensures cost { CostsOther (D.state core.old.filer.swapper.under) (D.state core.new.filer.swapper.under) }
+    ensures cost { CostsOther (D.state core.old.filer.swapper.disk) (D.state core.new.filer.swapper.disk) }
 {
     let answer = match set_unit(core, space, pages) {
         Ok(answer) => answer,

@@ -18,22 +18,22 @@ ghost use Rattle.flat_machine.specs.Space.{space_at};
 ghost use Rattle.space_tables.specs.Shows.{window_of, IsShownAt};
 ghost use Rattle.projection_laws.specs.Tests.{window_row};
 ghost use Rattle.swapper_kernel.specs.Goes.{Makes};
-ghost use Rattle.table_calls.specs.Answers.{IfGiven, TablesSay, Tells};
+ghost use Rattle.table_calls.specs.Answers.{IfGiven, TablesSay, Reveals};
 ghost use Rattle.flat_machine.specs.declared.call.Reply.TheVariants as reply;
 ghost use Rattle.space_calls.specs.Halts.{ProtectHalts, TakeWindowHalts, WritableHalts};
 ghost use Rattle.space_calls.specs.Unmapping.{IsGivenUp, IsRefused, IsTaken, Reshapes, ShowsIn};
-ghost use Rattle.filer_kernel.specs.Evidence.{ShowsSo};
+ghost use Rattle.filer_kernel.specs.Evidence.{ShowsEvidence};
 ghost use Rattle.fault_core.specs.Core.{state, kept};
 ghost use Rattle.fault_core.specs.Reach.{ReachHalts};
 ghost use Rattle.space_calls.specs.Ranges.{BreaksPart};
 ghost use Rattle.running_words.specs.Moving.{Moves};
-ghost use Rattle.fault_core.specs.Spares.{SparesTables};
+ghost use Rattle.fault_core.specs.NeverBlames.{NeverBlamesTables};
 ghost use Rattle.space_calls.specs.Sees.{SeesOn, SeesFiles, IsShown, StillOn};
 ghost use Rattle.fault_core.specs.Lack.{Sees};
 
-use crate::settle::settle;
-use crate::windows::{change_window, find_window, force_range, let_range_go, shows_immutable};
-use fault_core::CoreOver;
+use crate::sync::sync;
+use crate::windows::{change_window, evict_range, find_window, flush_range, shows_immutable};
+use fault_core::Core;
 use flat_machine::{Refusal, Reply};
 use labelled_disk::{Disk, Halt};
 use space_tables::Shown;
@@ -41,32 +41,32 @@ use std::alloc::Allocator;
 
 /// Takes the window of a space away, and gives what it showed. What was stored through it is on the medium. The file stays.
 pub fn take_window<D: Disk, A: Allocator>(
-    core: &mut CoreOver<D, A>,
+    core: &mut Core<D, A>,
     space: u32,
 ) -> Result<Result<Shown, Refusal>, Halt>
-    requires size { (D.state core.old.filer.swapper.under).sectors ≡ core.old.filer.swapper.layout.sectors }
-    ensures taken { (volume : Volume) (m : Machine) → Runs core.old volume m → IfOk result (Tells (first_of (window_row m.spaces space)) (IsTaken m space (λ n. Runs core.new volume n))) }
+    requires size { (D.state core.old.filer.swapper.disk).sectors ≡ core.old.filer.swapper.layout.sectors }
+    ensures taken { (volume : Volume) (m : Machine) → Runs core.old volume m → IfOk result (Reveals (first_of (window_row m.spaces space)) (IsTaken m space (λ n. Runs core.new volume n))) }
     ensures refused { (volume : Volume) (m : Machine) → Runs core.old volume m → IfOk result (IsRefused (Runs core.new volume m)) }
     ensures read { IfOk result (IfGiven (TablesSay (state core.old) (λ b. IsShownAt b space))) }
     ensures seen { (ss : List Space) → Sees (state core.old) (kept core.old) core.old.intervals ss → IfOk result (IfGiven (ShowsIn ss space)) }
     ensures sound { (volume : Volume) (m : Machine) → Runs core.old volume m → IfErr result (λ e. e ≡ halt.Disk) }
-    ensures counted { result ≡ Err halt.Disk → Rose (D.state core.old.filer.swapper.under).faults (D.state core.new.filer.swapper.under).faults }
+    ensures counted { result ≡ Err halt.Disk → Rose (D.state core.old.filer.swapper.disk).faults (D.state core.new.filer.swapper.disk).faults }
     ensures cause { IfErr result (TakeWindowHalts space core.old.intervals (state core.old) (state core.new)) }
-    ensures so { IfErr result (ShowsSo (D.state core.new.filer.swapper.under)) }
+    ensures evidence_seen { IfErr result (ShowsEvidence (D.state core.new.filer.swapper.disk)) }
     ensures sees { OnOk result (StillOn core.old core.new) }
-    ensures right { SeesOn core.old → IfErr result SparesTables }
+    ensures right { SeesOn core.old → IfErr result NeverBlamesTables }
     ensures reshapes { Reshapes (state core.old) (state core.new) }
-    ensures makes { Makes volume_page [] (D.state core.old.filer.swapper.under) core.old.filer.swapper.pool (D.state core.new.filer.swapper.under) core.new.filer.swapper.pool }
-    ensures synced { IfOk result (IsGivenUp ((D.state core.new.filer.swapper.under).synced ≡ true)) }
+    ensures makes { Makes volume_page [] (D.state core.old.filer.swapper.disk) core.old.filer.swapper.pool (D.state core.new.filer.swapper.disk) core.new.filer.swapper.pool }
+    ensures synced { IfOk result (IsGivenUp ((D.state core.new.filer.swapper.disk).synced ≡ true)) }
     ensures layout { core.new.filer.swapper.layout ≡ core.old.filer.swapper.layout }
-    ensures cost { (D.state core.new.filer.swapper.under).transfers ≤ (D.state core.old.filer.swapper.under).transfers + 2 ^ 23 }
+    ensures cost { (D.state core.new.filer.swapper.disk).transfers ≤ (D.state core.old.filer.swapper.disk).transfers + 2 ^ 23 }
 {
     let (shown, first, pages) = match find_window(core, space) {
         Ok(Ok(found)) => found,
         Ok(Err(word)) => return Ok(Err(word)),
         Err(halt) => return Err(halt),
     };
-    match let_range_go(core, first, pages) {
+    match evict_range(core, first, pages) {
         Ok(()) => (),
         Err(halt) => return Err(halt),
     }
@@ -75,7 +75,7 @@ pub fn take_window<D: Disk, A: Allocator>(
         Ok(Err(word)) => return Ok(Err(word)),
         Err(halt) => return Err(halt),
     }
-    match settle(core) {
+    match sync(core) {
         Ok(()) => Ok(Ok(shown)),
         Err(halt) => Err(halt),
     }
@@ -83,22 +83,22 @@ pub fn take_window<D: Disk, A: Allocator>(
 
 // Lets stores through the window of a space, which shows this, unless its file is immutable.
 fn protect_writable<D: Disk, A: Allocator>(
-    core: &mut CoreOver<D, A>,
+    core: &mut Core<D, A>,
     space: u32,
     shown: Shown,
 ) -> Result<Reply, Halt>
-    requires size { (D.state core.old.filer.swapper.under).sectors ≡ core.old.filer.swapper.layout.sectors }
+    requires size { (D.state core.old.filer.swapper.disk).sectors ≡ core.old.filer.swapper.layout.sectors }
     ensures carried { (volume : Volume) (m : Machine) (s : Space) → Runs core.old volume m → space_at m.spaces space ≡ Some s → s.window ≡ Some (window_of shown) → IfOk result (Carried m (call.Protect space true) core.new volume) }
     ensures sound { (volume : Volume) (m : Machine) (s : Space) → Runs core.old volume m → space_at m.spaces space ≡ Some s → s.window ≡ Some (window_of shown) → IfErr result (λ e. e ≡ halt.Disk) }
-    ensures counted { result ≡ Err halt.Disk → Rose (D.state core.old.filer.swapper.under).faults (D.state core.new.filer.swapper.under).faults }
+    ensures counted { result ≡ Err halt.Disk → Rose (D.state core.old.filer.swapper.disk).faults (D.state core.new.filer.swapper.disk).faults }
     ensures cause { IfErr result (WritableHalts shown.id core.old.intervals (state core.old) (state core.new)) }
-    ensures so { IfErr result (ShowsSo (D.state core.new.filer.swapper.under)) }
-    ensures makes { Makes volume_page [] (D.state core.old.filer.swapper.under) core.old.filer.swapper.pool (D.state core.new.filer.swapper.under) core.new.filer.swapper.pool }
+    ensures evidence_seen { IfErr result (ShowsEvidence (D.state core.new.filer.swapper.disk)) }
+    ensures makes { Makes volume_page [] (D.state core.old.filer.swapper.disk) core.old.filer.swapper.pool (D.state core.new.filer.swapper.disk) core.new.filer.swapper.pool }
     ensures sees { (ss : List Space) (s : Space) → Sees (state core.old) (kept core.old) core.old.intervals ss → space_at ss space ≡ Some s → s.window ≡ Some (window_of shown) → OnOk result (SeesFiles (IsShown ss) core.new) }
-    ensures right { SeesOn core.old → IfErr result SparesTables }
+    ensures right { SeesOn core.old → IfErr result NeverBlamesTables }
     ensures moves { Moves (state core.old) (state core.new) }
     ensures layout { core.new.filer.swapper.layout ≡ core.old.filer.swapper.layout }
-    ensures cost { (D.state core.new.filer.swapper.under).transfers ≤ (D.state core.old.filer.swapper.under).transfers + 57373 }
+    ensures cost { (D.state core.new.filer.swapper.disk).transfers ≤ (D.state core.old.filer.swapper.disk).transfers + 57373 }
 {
     match shows_immutable(core, shown.id) {
         Ok(true) => return Ok(Reply::Refused(Refusal::Immutable)),
@@ -118,28 +118,28 @@ fn protect_writable<D: Disk, A: Allocator>(
 
 // Lets no store through the window of a space, which shows this in these pages. What was stored is on the medium.
 fn protect_read_only<D: Disk, A: Allocator>(
-    core: &mut CoreOver<D, A>,
+    core: &mut Core<D, A>,
     space: u32,
     shown: Shown,
     first: u32,
     pages: u32,
 ) -> Result<Reply, Halt>
-    requires size { (D.state core.old.filer.swapper.under).sectors ≡ core.old.filer.swapper.layout.sectors }
+    requires size { (D.state core.old.filer.swapper.disk).sectors ≡ core.old.filer.swapper.layout.sectors }
     ensures carried { (volume : Volume) (m : Machine) (s : Space) → Runs core.old volume m → space_at m.spaces space ≡ Some s → s.window ≡ Some (window_of shown) → first ≡ s.first → pages ≡ s.pages → IfOk result (Carried m (call.Protect space false) core.new volume) }
     ensures sound { (volume : Volume) (m : Machine) (s : Space) → Runs core.old volume m → space_at m.spaces space ≡ Some s → s.window ≡ Some (window_of shown) → first ≡ s.first → pages ≡ s.pages → IfErr result (λ e. e ≡ halt.Disk) }
-    ensures synced { (volume : Volume) (m : Machine) (s : Space) → Runs core.old volume m → space_at m.spaces space ≡ Some s → s.window ≡ Some (window_of shown) → first ≡ s.first → pages ≡ s.pages → OnOk result ((D.state core.new.filer.swapper.under).synced ≡ true) }
-    ensures settled { IfOk result (λ answer. answer ≡ reply.Done → (D.state core.new.filer.swapper.under).synced ≡ true) }
-    ensures counted { result ≡ Err halt.Disk → Rose (D.state core.old.filer.swapper.under).faults (D.state core.new.filer.swapper.under).faults }
+    ensures synced { (volume : Volume) (m : Machine) (s : Space) → Runs core.old volume m → space_at m.spaces space ≡ Some s → s.window ≡ Some (window_of shown) → first ≡ s.first → pages ≡ s.pages → OnOk result ((D.state core.new.filer.swapper.disk).synced ≡ true) }
+    ensures settled { IfOk result (λ answer. answer ≡ reply.Done → (D.state core.new.filer.swapper.disk).synced ≡ true) }
+    ensures counted { result ≡ Err halt.Disk → Rose (D.state core.old.filer.swapper.disk).faults (D.state core.new.filer.swapper.disk).faults }
     ensures cause { IfErr result (ReachHalts (BreaksPart (state core.old) core.old.intervals first (first + pages)) (state core.old) (state core.new)) }
-    ensures so { IfErr result (ShowsSo (D.state core.new.filer.swapper.under)) }
-    ensures makes { Makes volume_page [] (D.state core.old.filer.swapper.under) core.old.filer.swapper.pool (D.state core.new.filer.swapper.under) core.new.filer.swapper.pool }
+    ensures evidence_seen { IfErr result (ShowsEvidence (D.state core.new.filer.swapper.disk)) }
+    ensures makes { Makes volume_page [] (D.state core.old.filer.swapper.disk) core.old.filer.swapper.pool (D.state core.new.filer.swapper.disk) core.new.filer.swapper.pool }
     ensures sees { (ss : List Space) (s : Space) → Sees (state core.old) (kept core.old) core.old.intervals ss → space_at ss space ≡ Some s → s.window ≡ Some (window_of shown) → OnOk result (SeesFiles (IsShown ss) core.new) }
-    ensures right { SeesOn core.old → IfErr result SparesTables }
+    ensures right { SeesOn core.old → IfErr result NeverBlamesTables }
     ensures moves { Moves (state core.old) (state core.new) }
     ensures layout { core.new.filer.swapper.layout ≡ core.old.filer.swapper.layout }
-    ensures cost { (D.state core.new.filer.swapper.under).transfers ≤ (D.state core.old.filer.swapper.under).transfers + 4452352 }
+    ensures cost { (D.state core.new.filer.swapper.disk).transfers ≤ (D.state core.old.filer.swapper.disk).transfers + 4452352 }
 {
-    match force_range(core, first, pages) {
+    match flush_range(core, first, pages) {
         Ok(()) => (),
         Err(halt) => return Err(halt),
     }
@@ -152,7 +152,7 @@ fn protect_read_only<D: Disk, A: Allocator>(
         Ok(Err(word)) => return Ok(Reply::Refused(word)),
         Err(halt) => return Err(halt),
     }
-    match settle(core) {
+    match sync(core) {
         Ok(()) => Ok(Reply::Done),
         Err(halt) => Err(halt),
     }
@@ -160,25 +160,25 @@ fn protect_read_only<D: Disk, A: Allocator>(
 
 /// Makes the window of a space writable or read-only. What was stored through one that gets read-only is on the medium.
 pub fn protect<D: Disk, A: Allocator>(
-    core: &mut CoreOver<D, A>,
+    core: &mut Core<D, A>,
     space: u32,
     writable: bool,
 ) -> Result<Reply, Halt>
-    requires size { (D.state core.old.filer.swapper.under).sectors ≡ core.old.filer.swapper.layout.sectors }
+    requires size { (D.state core.old.filer.swapper.disk).sectors ≡ core.old.filer.swapper.layout.sectors }
     ensures carried { (volume : Volume) (m : Machine) → Runs core.old volume m → IfOk result (Carried m (call.Protect space writable) core.new volume) }
     ensures sound { (volume : Volume) (m : Machine) → Runs core.old volume m → IfErr result (λ e. e ≡ halt.Disk) }
-    ensures passes { (volume : Volume) (m : Machine) → Runs core.old volume m → Passes m (call.Protect space writable) (D.state core.old.filer.swapper.under) (D.state core.new.filer.swapper.under) }
-    ensures counted { result ≡ Err halt.Disk → Rose (D.state core.old.filer.swapper.under).faults (D.state core.new.filer.swapper.under).faults }
+    ensures passes { (volume : Volume) (m : Machine) → Runs core.old volume m → Passes m (call.Protect space writable) (D.state core.old.filer.swapper.disk) (D.state core.new.filer.swapper.disk) }
+    ensures counted { result ≡ Err halt.Disk → Rose (D.state core.old.filer.swapper.disk).faults (D.state core.new.filer.swapper.disk).faults }
     ensures cause { IfErr result (ProtectHalts space writable core.old.intervals (state core.old) (state core.new)) }
-    ensures so { IfErr result (ShowsSo (D.state core.new.filer.swapper.under)) }
-    ensures wrote { WroteIn (volume_page) (D.state core.old.filer.swapper.under) core.old.filer.swapper.pool (D.state core.new.filer.swapper.under) core.new.filer.swapper.pool }
+    ensures evidence_seen { IfErr result (ShowsEvidence (D.state core.new.filer.swapper.disk)) }
+    ensures wrote { WroteIn (volume_page) (D.state core.old.filer.swapper.disk) core.old.filer.swapper.pool (D.state core.new.filer.swapper.disk) core.new.filer.swapper.pool }
     ensures sees { OnOk result (StillOn core.old core.new) }
-    ensures right { SeesOn core.old → IfErr result SparesTables }
+    ensures right { SeesOn core.old → IfErr result NeverBlamesTables }
     ensures moves { Moves (state core.old) (state core.new) }
     ensures layout { core.new.filer.swapper.layout ≡ core.old.filer.swapper.layout }
-    ensures cost { CostsOther (D.state core.old.filer.swapper.under) (D.state core.new.filer.swapper.under) }
-    ensures synced { (volume : Volume) (m : Machine) → Runs core.old volume m → writable ≡ false → refusal m (call.Protect space writable) ≡ None → OnOk result ((D.state core.new.filer.swapper.under).synced ≡ true) }
-    ensures settled { writable ≡ false → IfOk result (λ answer. answer ≡ reply.Done → (D.state core.new.filer.swapper.under).synced ≡ true) }
+    ensures cost { CostsOther (D.state core.old.filer.swapper.disk) (D.state core.new.filer.swapper.disk) }
+    ensures synced { (volume : Volume) (m : Machine) → Runs core.old volume m → writable ≡ false → refusal m (call.Protect space writable) ≡ None → OnOk result ((D.state core.new.filer.swapper.disk).synced ≡ true) }
+    ensures settled { writable ≡ false → IfOk result (λ answer. answer ≡ reply.Done → (D.state core.new.filer.swapper.disk).synced ≡ true) }
 {
     let (shown, first, pages) = match find_window(core, space) {
         Ok(Ok(found)) => found,

@@ -17,12 +17,12 @@ use Rattle.projection_laws.specs.Sight.{Interval}
 use Rattle.projection_laws.specs.Slots.{listed}
 use Rattle.projection_laws.specs.Tests.{no_space, path_mapped, not_mapped}
 use Rattle.projection_laws.proofs.SlotLemmas.{slot_found}
-use Rattle.projection_laws.proofs.TellLemmas.{intervals_tell}
+use Rattle.projection_laws.proofs.RevealLemmas.{intervals_reveal}
 use Rattle.space_tables.specs.declared.error.SpaceError.{SpaceError}
 use Rattle.space_tables.specs.declared.error.SpaceError.TheVariants.{Refused, Malformed, Mem}
 use Rattle.space_tables.specs.Answer.{FromMemory, IfMalformed, Refuses, Answers, Replies}
 use Rattle.space_tables.specs.Form.{interval_record, is_interval_record, BreaksInterval, BreaksProjection, Breaks}
-use Rattle.space_tables.specs.Stored.{HoldTables, TellSpaces}
+use Rattle.space_tables.specs.Stored.{HoldTables, RevealSpaces}
 
 -- ---- tests in a row
 
@@ -108,19 +108,19 @@ window_test ss h s o e f = ap (λ (q : Option Space). option_and_then (λ (s : S
 pub inside_root : (page : ℕ) → page < root_pages → past_root page ≡ None
 inside_root page l = let t : nat_le root_pages page ≡ false = grind (arith, nat_tests) in ap (λ (b : Bool). then_some b why.Range) t
 
--- ---- what the tables tell
+-- ---- what the tables reveal
 
-pub still_tell : {M : Type 0} (tells : M → List ℕ → Type 0) (m n : M) → ((b : List ℕ) → tells m b → tells n b) → (count : ℕ) (ss : List Space) → TellSpaces (tells m) count ss → TellSpaces (tells n) count ss
-still_tell tells m n stay count ss t = record {
+pub still_reveal : {M : Type 0} (reveals : M → List ℕ → Type 0) (m n : M) → ((b : List ℕ) → reveals m b → reveals n b) → (count : ℕ) (ss : List Space) → RevealSpaces (reveals m) count ss → RevealSpaces (reveals n) count ss
+still_reveal reveals m n stay count ss t = record {
   slots = t.slots;
   xs = t.xs;
-  hold = record { bytes = t.hold.bytes; told = stay t.hold.bytes t.hold.told; are = t.hold.are };
+  hold = record { bytes = t.hold.bytes; revealed = stay t.hold.bytes t.hold.revealed; are = t.hold.are };
   right = t.right;
   counted = t.counted;
   spaces = t.spaces;
 }
 
-module _ (tells : List ℕ → Type 0) (n : ℕ) (ss : List Space) (t : TellSpaces tells n ss) where
+module _ (reveals : List ℕ → Type 0) (n : ℕ) (ss : List Space) (t : RevealSpaces reveals n ss) where
   pub found_at : (h : ℕ) (o : Option Space) → slice_get t.slots h ≡ Some o → space_at ss h ≡ o
   found_at h o e = ap (λ (rs : List Space). space_at rs h) (sym t.spaces) ∙ slot_found t.slots h t.right.numbered ∙ ap (λ (q : Option (Option Space)). option_and_then (λ r. r) q) e
 
@@ -132,11 +132,11 @@ module _ (tells : List ℕ → Type 0) (n : ℕ) (ss : List Space) (t : TellSpac
   -- the interval that holds a page names its innermost space
   pub names_innermost : (k page : ℕ) (x : Interval) → slice_get t.xs k ≡ Some x → Holds x page → (s : Space) × (innermost ss page ≡ Some s) × (space_at ss x.space ≡ Some s)
   names_innermost k page x e holds =
-      let tell = (intervals_tell (listed t.slots) t.xs k page x t.right.spaces t.right.intervals e holds).innermost_is in
-      let there = find_in _ (listed t.slots) tell.0 tell.1 in
-      let at = look_up (λ s. s.handle) (listed t.slots) t.right.spaces.rise tell.0 there.0 x.space (sym tell.2) in (
-        tell.0,
-        ap (λ (rs : List Space). innermost rs page) (sym t.spaces) ∙ tell.1,
+      let reveal = (intervals_reveal (listed t.slots) t.xs k page x t.right.spaces t.right.intervals e holds).innermost_is in
+      let there = find_in _ (listed t.slots) reveal.0 reveal.1 in
+      let at = look_up (λ s. s.handle) (listed t.slots) t.right.spaces.rise reveal.0 there.0 x.space (sym reveal.2) in (
+        reveal.0,
+        ap (λ (rs : List Space). innermost rs page) (sym t.spaces) ∙ reveal.1,
         ap (λ (rs : List Space). space_at rs x.space) (sym t.spaces) ∙ at,
       )
 

@@ -14,29 +14,29 @@ use Rattle.projection_laws.specs.Stored.{bytes_of, slot_bytes}
 use Rattle.projection_laws.proofs.SlotLemmas.{slot_written}
 use Rattle.projection_laws.proofs.RootLemmas.{root_is_one}
 use Rattle.space_tables.specs.Form.{slot_record, interval_record}
-use Rattle.space_tables.specs.Stored.{AreTables, HoldTables, TellSpaces}
+use Rattle.space_tables.specs.Stored.{AreTables, HoldTables, RevealSpaces}
 use Rattle.space_tables.specs.Begin.{root_interval, bare_slots}
 use Rattle.space_tables.proofs.Writes.{other}
 
 -- The records of the handles below this one are zeros, and the first interval is the root's.
-pub record IsBare (tells : List ℕ → Type 0) (n : ℕ) : Type 0 where
+pub record IsBare (reveals : List ℕ → Type 0) (n : ℕ) : Type 0 where
   pub bytes : List ℕ
-  pub told : tells bytes
+  pub revealed : reveals bytes
   pub zeros : (j : ℕ) → j < n → slot_record bytes j ≡ replicate 32 0
   pub interval : interval_record bytes 0 ≡ bytes_of root_interval
 
-pub bare_start : (tells : List ℕ → Type 0) (b r : List ℕ) → tells (overwritten b (32 * 512) r) → r ≡ bytes_of root_interval → 49152 ≤ length b → IsBare tells 0
-bare_start tells b r told is long = record {
+pub bare_start : (reveals : List ℕ → Type 0) (b r : List ℕ) → reveals (overwritten b (32 * 512) r) → r ≡ bytes_of root_interval → 49152 ≤ length b → IsBare reveals 0
+bare_start reveals b r revealed is long = record {
   bytes = overwritten b (32 * 512) r;
-  told = told;
+  revealed = revealed;
   zeros = λ j below. absurd (omega (arith, below));
   interval = part-overwritten_same b r (32 * 512) 32 (ap length is) (omega (arith, ap length is, long)) ∙ is;
 }
 
-pub bare_more : (tells now : List ℕ → Type 0) (n : ℕ) (h : IsBare tells n) → n < 512 → 49152 ≤ length h.bytes → now (overwritten h.bytes (32 * n) (replicate 32 0)) → IsBare now (n + 1)
-bare_more tells now n h below long told = record {
+pub bare_more : (reveals now : List ℕ → Type 0) (n : ℕ) (h : IsBare reveals n) → n < 512 → 49152 ≤ length h.bytes → now (overwritten h.bytes (32 * n) (replicate 32 0)) → IsBare now (n + 1)
+bare_more reveals now n h below long revealed = record {
   bytes = overwritten h.bytes (32 * n) (replicate 32 0);
-  told = told;
+  revealed = revealed;
   zeros = λ j less. by j less (cases_eq j n);
   interval = other h.bytes (replicate 32 0) n (512 + 0) refl (omega (arith, below, long)) (λ q. omega (arith, q, below)) ∙ h.interval;
 }
@@ -70,10 +70,10 @@ unfolding bare_slots
 none_numbered m zero = tt
 none_numbered m (suc n) = (tt, none_numbered (suc m) n)
 
-pub bare_end : (tells : List ℕ → Type 0) (n : ℕ) → n ≡ 512 → IsBare tells n → HoldTables tells (bare_slots 512) (root_interval ∷ [])
-bare_end tells n all h = record {
+pub bare_end : (reveals : List ℕ → Type 0) (n : ℕ) → n ≡ 512 → IsBare reveals n → HoldTables reveals (bare_slots 512) (root_interval ∷ [])
+bare_end reveals n all h = record {
   bytes = h.bytes;
-  told = h.told;
+  revealed = h.revealed;
   are = record {
     handles = length_bare 512;
     hierarchy = λ j o e. let r = bare_is_none 512 j o e in h.zeros j (omega (arith, r.0, all)) ∙ sym (zeros o r.1);
@@ -88,8 +88,8 @@ bare_end tells n all h = record {
     one zero x e = h.interval ∙ ap bytes_of (same_Some root_interval x e)
     one (suc k) x e = absurd (none-some x e)
 
-pub begins : (tells : List ℕ → Type 0) → HoldTables tells (slice_set (bare_slots 512) 0 (Some root)) (root_interval ∷ []) → TellSpaces tells 1 (root ∷ [])
-begins tells h =
+pub begins : (reveals : List ℕ → Type 0) → HoldTables reveals (slice_set (bare_slots 512) 0 (Some root)) (root_interval ∷ []) → RevealSpaces reveals 1 (root ∷ [])
+begins reveals h =
     let written = slot_written (bare_slots 512) root (none_numbered 0 512) (bare_first 511) in
     let spaces : listed (slice_set (bare_slots 512) 0 (Some root)) ≡ root ∷ [] = written.spaces ∙ ap (put_space root) (none_listed 512) in record {
       slots = slice_set (bare_slots 512) 0 (Some root);

@@ -7,10 +7,10 @@ use Rattle.std.proofs.lemmas.Option.{slice_get-map, get_or_from_slice_get, slice
 use Rattle.flat_mem.specs.Memory.{part}
 use Rattle.flat_mem.specs.Order.{entry_at, key_at}
 use Rattle.flat_mem.specs.Parts.{part-part}
-use Rattle.flat_mem.specs.Part.{IsSameBeside, TellsPart, IsKept}
+use Rattle.flat_mem.specs.Part.{IsSameBeside, RevealsPart, IsKept}
 use Rattle.flat_mem.specs.PartLaws.{others_kept}
 use Rattle.flat_mem.specs.declared.part.Part.{Part}
-use Rattle.record_table.specs.Table.{place, entry, entries, TellsEntries}
+use Rattle.record_table.specs.Table.{place, entry, entries, RevealsEntries}
 use Rattle.flat_machine.specs.declared.space.Space.{Space}
 use Rattle.projection_laws.specs.Sight.{Interval}
 use Rattle.projection_laws.specs.Stored.{bytes_of}
@@ -63,7 +63,7 @@ slot_kept : (w v : List ℕ) → IsSameBeside 32 64 w v → (h : ℕ) → h < 51
 slot_kept w v same h below =
     let inside : 32 * h + 32 ≤ 16384 = omega (arith, below) in
     let at : 0 + 32 * h ≡ 32 * h = omega arith in
-    ap (λ (n : ℕ). part v n 32) (sym at) ∙ sym (part-part v 0 16384 (32 * h) 32 inside) ∙ ap (λ (b : List ℕ). part b (32 * h) 32) same.front ∙ part-part w 0 16384 (32 * h) 32 inside ∙ ap (λ (n : ℕ). part w n 32) at
+    ap (λ (n : ℕ). part v n 32) (sym at) ∙ sym (part-part v 0 16384 (32 * h) 32 inside) ∙ ap (λ (b : List ℕ). part b (32 * h) 32) same.prefix ∙ part-part w 0 16384 (32 * h) 32 inside ∙ ap (λ (n : ℕ). part w n 32) at
 
 -- the hierarchy stays where the projection is changed
 pub tables_moved : (w v : List ℕ) (slots : List (Option Space)) (xs ys : List Interval) (n : ℕ) → AreTables w slots xs → IsSameBeside 32 64 w v → entries 32 (part v 16384 32768) n ≡ map bytes_of ys → n ≤ 1024
@@ -85,17 +85,17 @@ map_remove [] i l = absurd (omega (arith, l))
 map_remove (y ∷ ys) zero l = refl
 map_remove (y ∷ ys) (suc i) l = ap (λ (bs : List (List ℕ)). bytes_of y ∷ bs) (map_remove ys i (omega (arith, l)))
 
-module _ {M X : Type 0} (tells : M → List ℕ → Type 0) (beside : M → M → Type 0) (once : (m : M) (w v : List ℕ) → tells m w → tells m v → w ≡ v) where
-  -- what the whole memory tells, where the table in its pages lists entries
-  pub told_whole : (p q : Part M X) (n : ℕ) (w : List ℕ) (ys : List (List ℕ)) → p.first ≡ 32 → p.pages ≡ 64 → IsKept tells beside p q → tells p.mem w → TellsEntries 32 (TellsPart tells q) n ys
-      → (v : List ℕ) × tells q.mem v × IsSameBeside 32 64 w v × (entries 32 (part v 16384 32768) n ≡ ys)
-  told_whole p q n w ys first pages kept before listed =
-      let told = listed.told in
+module _ {M X : Type 0} (reveals : M → List ℕ → Type 0) (beside : M → M → Type 0) (once : (m : M) (w v : List ℕ) → reveals m w → reveals m v → w ≡ v) where
+  -- what the whole memory reveals, where the table in its pages lists entries
+  pub revealed_whole : (p q : Part M X) (n : ℕ) (w : List ℕ) (ys : List (List ℕ)) → p.first ≡ 32 → p.pages ≡ 64 → IsKept reveals beside p q → reveals p.mem w → RevealsEntries 32 (RevealsPart reveals q) n ys
+      → (v : List ℕ) × reveals q.mem v × IsSameBeside 32 64 w v × (entries 32 (part v 16384 32768) n ≡ ys)
+  revealed_whole p q n w ys first pages kept before listed =
+      let revealed = listed.revealed in
       let first_now : q.first ≡ 32 = sym kept.first ∙ first in
       let pages_now : q.pages ≡ 64 = sym kept.pages ∙ pages in
-      let bytes_are : listed.bytes ≡ part told.whole 16384 32768 = rw (first_now, pages_now) at told.is in (
-        told.whole,
-        told.told,
-        rw (first, pages) at (others_kept tells beside once p q w told.whole kept before told.told),
+      let bytes_are : listed.bytes ≡ part revealed.whole 16384 32768 = rw (first_now, pages_now) at revealed.is in (
+        revealed.whole,
+        revealed.revealed,
+        rw (first, pages) at (others_kept reveals beside once p q w revealed.whole kept before revealed.revealed),
         rw bytes_are at listed.are,
       )

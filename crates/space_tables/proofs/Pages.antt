@@ -30,23 +30,23 @@ first_of (x ∷ xs) (suc at) = first_of xs at
 pub first_byte : (page : List ℕ) (at : ℕ) → field 1 0 (part page at 32) ≡ get_or page at 0
 first_byte page at = let same = first_of page at in omega (arith, same)
 
--- a record whose first byte is 0 tells that no space stands there
+-- a record whose first byte is 0 reveals that no space stands there
 pub none_there : (h : ℕ) (r : List ℕ) → field 1 0 r ≡ 0 → Some None ≡ (if is_slot_record r then Some (slot_in h r) else None)
 none_there h r none = rw (eq-eqb (field 1 0 r) 0 none) refl
 
--- what the record of a handle tells stands at the handle
-pub told_at : (b : List ℕ) (slots : List (Option Space)) (xs : List Interval) → AreTables b slots xs → AreReadable slots xs → (h : ℕ) → h < 512 → (o : Option (Option Space))
+-- what the record of a handle reveals stands at the handle
+pub revealed_at : (b : List ℕ) (slots : List (Option Space)) (xs : List Interval) → AreTables b slots xs → AreReadable slots xs → (h : ℕ) → h < 512 → (o : Option (Option Space))
     → o ≡ (if is_slot_record (slot_record b h) then Some (slot_in h (slot_record b h)) else None) → o ≡ slice_get slots h
-told_at b slots xs are ok h below o is = is ∙ slot_read b slots xs are ok h (slot_record b h) below refl
+revealed_at b slots xs are ok h below o is = is ∙ slot_read b slots xs are ok h (slot_record b h) below refl
 
 -- handles of one page have that page
 pub same_page : (b : List ℕ) (from h : ℕ) (page : List ℕ) → page ≡ slot_page b from → from ≤ h → h < from - from % 16 + 16 → page ≡ slot_page b h
 same_page b from h page is above below = let same : from / 16 ≡ h / 16 = omega (arith, above, below) in is ∙ ap (λ (n : ℕ). part b (512 * n) 512) same
 
 -- a record's first byte is 0 exactly where no space stands at the handle
-pub first_tells : (b : List ℕ) (slots : List (Option Space)) (xs : List Interval) (h : ℕ) (page : List ℕ) → page ≡ slot_page b h → AreTables b slots xs → h < 512
+pub first_reveals : (b : List ℕ) (slots : List (Option Space)) (xs : List Interval) (h : ℕ) (page : List ℕ) → page ≡ slot_page b h → AreTables b slots xs → h < 512
     → (get_or page (h % 16 * 32) 0 ≡ 0 → slice_get slots h ≡ Some None) × (slice_get slots h ≡ Some None → get_or page (h % 16 * 32) 0 ≡ 0)
-first_tells b slots xs h page is are below = by (get_or_at slots h (omega (arith, below, are.handles)))
+first_reveals b slots xs h page is are below = by (get_or_at slots h (omega (arith, below, are.handles)))
   where
     by : (o : Option Space) × (slice_get slots h ≡ Some o) → (get_or page (h % 16 * 32) 0 ≡ 0 → slice_get slots h ≡ Some None) × (slice_get slots h ≡ Some None → get_or page (h % 16 * 32) 0 ≡ 0)
     by (None, e) =

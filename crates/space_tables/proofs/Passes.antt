@@ -17,8 +17,8 @@ pub kept_false : (test : Space → Bool) (s : Space) → false ≡ test s → ke
 kept_false test s e = ap (λ (b : Bool). if b then Some s else None) (sym e)
 
 -- where the bytes stay, so do the tables
-pub still_hold : {M : Type 0} (tells : M → List ℕ → Type 0) (m n : M) → ((b : List ℕ) → tells m b → tells n b) → (slots : List (Option Space)) (xs : List Interval) → HoldTables (tells m) slots xs → HoldTables (tells n) slots xs
-still_hold tells m n stay slots xs h = record { bytes = h.bytes; told = stay h.bytes h.told; are = h.are }
+pub still_hold : {M : Type 0} (reveals : M → List ℕ → Type 0) (m n : M) → ((b : List ℕ) → reveals m b → reveals n b) → (slots : List (Option Space)) (xs : List Interval) → HoldTables (reveals m) slots xs → HoldTables (reveals n) slots xs
+still_hold reveals m n stay slots xs h = record { bytes = h.bytes; revealed = stay h.bytes h.revealed; are = h.are }
 
 here : (test : Space → Bool) (s t : Space) (rest : List Space) (b : Bool) → test s ≡ b → Some t ≡ cond b (Some s) None → Some t ≡ find test (s ∷ rest)
 here test s t rest true e is = is ∙ sym (ap (λ (b : Bool). cond b (Some s) (find test rest)) e)
@@ -34,17 +34,17 @@ found_here test (q ∷ os) (suc h) p s e is = found_here test os h p s e is
 next_is : (h : ℕ) → suc h ≡ h + 1
 next_is h = omega arith
 
-behind : (test : Space → Bool) (s : Space) (rest : List Space) (b : Bool) → test s ≡ b → None ≡ cond b (Some s) None → find test (s ∷ rest) ≡ find test rest
-behind test s rest true e is = absurd (none-some s is)
-behind test s rest false e is = ap (λ (b : Bool). cond b (Some s) (find test rest)) e
+after : (test : Space → Bool) (s : Space) (rest : List Space) (b : Bool) → test s ≡ b → None ≡ cond b (Some s) None → find test (s ∷ rest) ≡ find test rest
+after test s rest true e is = absurd (none-some s is)
+after test s rest false e is = ap (λ (b : Bool). cond b (Some s) (find test rest)) e
 
 later : (test : Space → Bool) (slots : List (Option Space)) (h : ℕ) (p : Option Space) → slice_get slots h ≡ Some p → None ≡ kept test p → find test (listed (drop h slots)) ≡ find test (listed (drop (suc h) slots))
 later test [] h p e is = absurd (none-some p e)
 later test (None ∷ os) zero p e is = refl
-later test (Some s ∷ os) zero p e is = behind test s (listed os) (test s) refl (is ∙ ap (kept test) (sym (same_Some (Some s) p e)))
+later test (Some s ∷ os) zero p e is = after test s (listed os) (test s) refl (is ∙ ap (kept test) (sym (same_Some (Some s) p e)))
 later test (q ∷ os) (suc h) p e is = later test os h p e is
 
--- it is found behind it
+-- it is found after it
 pub found_later : (test : Space → Bool) (slots : List (Option Space)) (h : ℕ) (p : Option Space) → slice_get slots h ≡ Some p → None ≡ kept test p → find test (listed (drop h slots)) ≡ find test (listed (drop (h + 1) slots))
 found_later test slots h p e is = later test slots h p e is ∙ ap (λ (n : ℕ). find test (listed (drop n slots))) (next_is h)
 

@@ -26,7 +26,7 @@ use Rattle.space_tables.specs.declared.error.SpaceError.TheVariants.{Refused, Ma
 use Rattle.space_tables.specs.Answer.{IfMem, IfMalformed}
 use Rattle.space_tables.specs.Change.{put_in}
 use Rattle.space_tables.specs.Scan.{AreTaken, IsLowestFree}
-use Rattle.space_tables.specs.Stored.{HoldTables, AreRight, TellSpaces}
+use Rattle.space_tables.specs.Stored.{HoldTables, AreRight, RevealSpaces}
 use Rattle.space_tables.proofs.ReadBack.{get_or_at}
 use Rattle.space_tables.proofs.Right.{in_list}
 use Rattle.space_tables.proofs.Sets.{in_slot}
@@ -40,7 +40,7 @@ around [] k i m fs bs e = absurd (none-some i e)
 around (x ∷ xs) zero i m fs bs e = sym (assoc fs (m ∷ bs) xs)
 around (x ∷ xs) (suc k) i m fs bs e = ap (λ (ws : List Interval). x ∷ ws) (around xs k i m fs bs e)
 
--- the one at an index is written over, and others are put in behind it and before it
+-- the one at an index is written over, and others are put in after it and before it
 pub put_around : (xs : List Interval) (k : ℕ) (i m : Interval) (fs bs : List Interval) → slice_get xs k ≡ Some i → put_in (put_in (slice_set xs k m) (k + 1) bs) k fs ≡ replaced xs k (fs ++ (m ∷ bs))
 put_around xs k i m fs bs e =
     let n : k + 1 ≡ suc k = omega arith in ap (λ (j : ℕ). put_in (put_in (slice_set xs k m) j bs) k fs) n ∙ around xs k i m fs bs e
@@ -63,7 +63,7 @@ around_mid (f ∷ fs) bs m = let l = around_mid fs bs m in omega (arith, l)
 -- so many parts more than one
 pub parts_more : (x : Space) (i : Interval) (m : ℕ) → m ≤ 2 → (x.first - i.first ≡ 0 → m ≤ 1) → (end_of i - end x ≡ 0 → m ≤ 1) → (x.first - i.first ≡ 0 → end_of i - end x ≡ 0 → m ≡ 0)
     → m + 1 ≤ length (pieces x i)
-parts_more x i m two front back none = by (cases_eq (x.first - i.first) 0) (cases_eq (end_of i - end x) 0)
+parts_more x i m two prefix back none = by (cases_eq (x.first - i.first) 0) (cases_eq (end_of i - end x) 0)
   where
     f : Interval
     f = cut i i.first (x.first - i.first)
@@ -76,7 +76,7 @@ parts_more x i m two front back none = by (cases_eq (x.first - i.first) 0) (case
 
     by : (x.first - i.first ≡ 0) ⊎ (x.first - i.first ≢ 0) → (end_of i - end x ≡ 0) ⊎ (end_of i - end x ≢ 0) → m + 1 ≤ length (pieces x i)
     by (inl a) (inl d) = let l = long in let n = none a d in omega (arith, l, n)
-    by (inl a) (inr d) = let l = long in let o = one_part k d in let n = front a in omega (arith, l, o, n)
+    by (inl a) (inr d) = let l = long in let o = one_part k d in let n = prefix a in omega (arith, l, o, n)
     by (inr a) (inl d) = let l = long in let o = one_part f a in let n = back d in omega (arith, l, o, n)
     by (inr a) (inr d) = let l = long in let o = one_part f a in let p = one_part k d in omega (arith, l, o, p, two)
 
@@ -111,9 +111,9 @@ some_size pages n = let t : (pages == 0) ≡ false = grind (arith, nat_tests) in
 pub zero_size : (pages : ℕ) → pages ≡ 0 → no_size pages ≡ Some why.Size
 zero_size pages e = ap no_size e
 
-module _ (tells : List ℕ → Type 0) (n : ℕ) (ss : List Space) (t : TellSpaces tells n ss) where
+module _ (reveals : List ℕ → Type 0) (n : ℕ) (ss : List Space) (t : RevealSpaces reveals n ss) where
   root_stands : slice_get t.slots 0 ≡ Some (Some root)
-  root_stands = in_slot tells n ss t 0 root (ap (λ (rs : List Space). space_at rs 0) (sym t.spaces) ∙ t.right.spaces.has_root)
+  root_stands = in_slot reveals n ss t 0 root (ap (λ (rs : List Space). space_at rs 0) (sym t.spaces) ∙ t.right.spaces.has_root)
 
   pub all_taken : IsLowestFree t.slots None → no_spaces ss ≡ Some why.Spaces
   all_taken taken =
@@ -154,10 +154,10 @@ is_made ss h parent pages at u first e f k = λ t. record { handle = e t; parent
 
 -- ---- the tables with a space more
 
-pub added : (tells now : List ℕ → Type 0) (n m : ℕ) (ss : List Space) (t : TellSpaces tells n ss) (x p : Space) (k : ℕ) (i : Interval) → MayBeAdded ss x p → slice_get t.slots x.handle ≡ Some None
+pub added : (reveals now : List ℕ → Type 0) (n m : ℕ) (ss : List Space) (t : RevealSpaces reveals n ss) (x p : Space) (k : ℕ) (i : Interval) → MayBeAdded ss x p → slice_get t.slots x.handle ≡ Some None
     → slice_get t.xs k ≡ Some i → i.first ≤ x.first → x.first < end_of i
-    → HoldTables now (slice_set t.slots x.handle (Some x)) (replaced t.xs k (pieces x i)) → length (replaced t.xs k (pieces x i)) ≡ m → TellSpaces now m (put_space x ss)
-added tells now n m ss t x p k i may free e low high hold long =
+    → HoldTables now (slice_set t.slots x.handle (Some x)) (replaced t.xs k (pieces x i)) → length (replaced t.xs k (pieces x i)) ≡ m → RevealSpaces now m (put_space x ss)
+added reveals now n m ss t x p k i may free e low high hold long =
     let also : MayBeAdded (listed t.slots) x p = subst (λ (rs : List Space). MayBeAdded rs x p) (sym t.spaces) may in
     let written = slot_written t.slots x t.right.numbered free in
     let split = added_splits (listed t.slots) x p t.xs k i t.right.spaces also t.right.intervals e low high in record {

@@ -39,13 +39,13 @@ module _ (test : Interval → Bool) where
       let same = same_Some y x e in ap (λ (b : Bool). cond b (Some y) (find test ys)) (ap test same ∙ is) ∙ ap Some same
   gap_here (y ∷ ys) (suc k) x e is = gap_here ys k x e is
 
-  behind : (xs : List Interval) (k : ℕ) (x : Interval) → slice_get xs k ≡ Some x → test x ≡ false → find test (drop k xs) ≡ find test (drop (suc k) xs)
-  behind [] k x e is = absurd (none-some x e)
-  behind (y ∷ ys) zero x e is = ap (λ (b : Bool). cond b (Some y) (find test ys)) (ap test (same_Some y x e) ∙ is)
-  behind (y ∷ ys) (suc k) x e is = behind ys k x e is
+  after : (xs : List Interval) (k : ℕ) (x : Interval) → slice_get xs k ≡ Some x → test x ≡ false → find test (drop k xs) ≡ find test (drop (suc k) xs)
+  after [] k x e is = absurd (none-some x e)
+  after (y ∷ ys) zero x e is = ap (λ (b : Bool). cond b (Some y) (find test ys)) (ap test (same_Some y x e) ∙ is)
+  after (y ∷ ys) (suc k) x e is = after ys k x e is
 
   pub gap_later : (xs : List Interval) (k : ℕ) (x : Interval) → slice_get xs k ≡ Some x → test x ≡ false → find test (drop k xs) ≡ find test (drop (k + 1) xs)
-  gap_later xs k x e is = behind xs k x e is ∙ ap (λ (n : ℕ). find test (drop n xs)) (next_is k)
+  gap_later xs k x e is = after xs k x e is ∙ ap (λ (n : ℕ). find test (drop n xs)) (next_is k)
 
   nothing_left : (n : ℕ) (xs : List Interval) → length xs ≤ n → drop n xs ≡ []
   nothing_left zero [] l = refl

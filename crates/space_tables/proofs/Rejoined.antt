@@ -58,9 +58,9 @@ first_alone xs zero l e = refl
 first_alone xs (suc k) l e = absurd (there xs k (omega (arith, l)) (sym e))
 
 module _ (xs : List Interval) where
-  pub paired_behind : (k : ℕ) → 1 ≤ k → paired_before xs k ≡ paired xs (k - 1)
-  paired_behind zero l = absurd (omega (arith, l))
-  paired_behind (suc k) l = let n : k ≡ suc k - 1 = omega arith in ap (paired xs) n
+  pub paired_after : (k : ℕ) → 1 ≤ k → paired_before xs k ≡ paired xs (k - 1)
+  paired_after zero l = absurd (omega (arith, l))
+  paired_after (suc k) l = let n : k ≡ suc k - 1 = omega arith in ap (paired xs) n
 
   pub before_is : (k : ℕ) → 1 ≤ k → slice_get xs (k - 1) ≡ one_before xs k
   before_is zero l = absurd (omega (arith, l))

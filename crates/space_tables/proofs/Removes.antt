@@ -28,7 +28,7 @@ use Rattle.projection_laws.proofs.FitLemmas.{windows_stay_fit}
 use Rattle.space_tables.specs.declared.error.SpaceError.{SpaceError}
 use Rattle.space_tables.specs.declared.error.SpaceError.TheVariants.{Refused, Malformed, Mem}
 use Rattle.space_tables.specs.Answer.{Refuses}
-use Rattle.space_tables.specs.Stored.{HoldTables, TellSpaces}
+use Rattle.space_tables.specs.Stored.{HoldTables, RevealSpaces}
 use Rattle.space_tables.proofs.Sets.{in_slot, same_space}
 
 -- ---- tests
@@ -46,12 +46,12 @@ own_test ss h s o e f =
 
 -- ---- the tables
 
-pub removed : (tells now : List ℕ → Type 0) (n m : ℕ) (ss : List Space) (t : TellSpaces tells n ss) (x p : Space) (k : ℕ) (i : Interval) → MayBeRemoved ss x p
+pub removed : (reveals now : List ℕ → Type 0) (n m : ℕ) (ss : List Space) (t : RevealSpaces reveals n ss) (x p : Space) (k : ℕ) (i : Interval) → MayBeRemoved ss x p
     → slice_get t.xs k ≡ Some i → i.first ≤ x.first → x.first < end_of i
-    → HoldTables now (slice_set t.slots x.handle None) (rejoined t.xs k (inside p i)) → length (rejoined t.xs k (inside p i)) ≡ m → TellSpaces now m (without_space x.handle ss)
-removed tells now n m ss t x p k i may e low high hold long =
+    → HoldTables now (slice_set t.slots x.handle None) (rejoined t.xs k (inside p i)) → length (rejoined t.xs k (inside p i)) ≡ m → RevealSpaces now m (without_space x.handle ss)
+removed reveals now n m ss t x p k i may e low high hold long =
     let also : MayBeRemoved (listed t.slots) x p = subst (λ (rs : List Space). MayBeRemoved rs x p) (sym t.spaces) may in
-    let cleared = slot_cleared t.slots x.handle (Some x) t.right.numbered (in_slot tells n ss t x.handle x may.there) in
+    let cleared = slot_cleared t.slots x.handle (Some x) t.right.numbered (in_slot reveals n ss t x.handle x may.there) in
     let joined = removed_joins (listed t.slots) x p t.xs k i t.right.spaces also t.right.intervals e low high in record {
       slots = slice_set t.slots x.handle None;
       xs = rejoined t.xs k (inside p i);
@@ -80,12 +80,12 @@ may_be ss h x are row at =
     let pass = remove_passes ss h are row in
     let same : x ≡ pass.0 = same_space ss h x pass.0 at pass.3.there pass.2 in (pass.1, subst (λ (y : Space). MayBeRemoved ss y pass.1) (sym same) pass.3)
 
-pub removed_at : (tells now : List ℕ → Type 0) (n m : ℕ) (ss : List Space) (t : TellSpaces tells n ss) (x p : Space) (k h : ℕ) (i : Interval) → MayBeRemoved ss x p → x.handle ≡ h
+pub removed_at : (reveals now : List ℕ → Type 0) (n m : ℕ) (ss : List Space) (t : RevealSpaces reveals n ss) (x p : Space) (k h : ℕ) (i : Interval) → MayBeRemoved ss x p → x.handle ≡ h
     → slice_get t.xs k ≡ Some i → i.first ≤ x.first → x.first < end_of i
-    → HoldTables now (slice_set t.slots h None) (rejoined t.xs k (inside p i)) → length (rejoined t.xs k (inside p i)) ≡ m → TellSpaces now m (without_space h ss)
-removed_at tells now n m ss t x p k h i may own e low high hold long =
-    subst (λ (j : ℕ). TellSpaces now m (without_space j ss)) own
-    (removed tells now n m ss t x p k i may e low high (subst (λ (j : ℕ). HoldTables now (slice_set t.slots j None) (rejoined t.xs k (inside p i))) (sym own) hold) long)
+    → HoldTables now (slice_set t.slots h None) (rejoined t.xs k (inside p i)) → length (rejoined t.xs k (inside p i)) ≡ m → RevealSpaces now m (without_space h ss)
+removed_at reveals now n m ss t x p k h i may own e low high hold long =
+    subst (λ (j : ℕ). RevealSpaces now m (without_space j ss)) own
+    (removed reveals now n m ss t x p k i may e low high (subst (λ (j : ℕ). HoldTables now (slice_set t.slots j None) (rejoined t.xs k (inside p i))) (sym own) hold) long)
 
 pub first_inside : (s : Space) → space_in_form s ≡ true → s.first < root_pages
 first_inside s e =

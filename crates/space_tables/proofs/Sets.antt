@@ -17,7 +17,7 @@ use Rattle.projection_laws.proofs.Other.{window_reshows, unit_refits}
 use Rattle.projection_laws.proofs.FitLemmas.{windows_stay_fit}
 use Rattle.space_tables.specs.declared.change.Change.TheVariants.{Window as Show}
 use Rattle.space_tables.specs.Change.{Counts}
-use Rattle.space_tables.specs.Stored.{HoldTables, TellSpaces}
+use Rattle.space_tables.specs.Stored.{HoldTables, RevealSpaces}
 use Rattle.space_tables.proofs.Changed.{length_map}
 
 -- the space of a handle stands in its slot
@@ -26,18 +26,18 @@ stands None s e = absurd (none-some s e)
 stands (Some None) s e = absurd (none-some s e)
 stands (Some (Some t)) s e = ap Some e
 
-pub in_slot : (tells : List ℕ → Type 0) (n : ℕ) (ss : List Space) (t : TellSpaces tells n ss) (h : ℕ) (s : Space) → space_at ss h ≡ Some s → slice_get t.slots h ≡ Some (Some s)
-in_slot tells n ss t h s e = stands (slice_get t.slots h) s (sym (slot_found t.slots h t.right.numbered) ∙ ap (λ (rs : List Space). space_at rs h) t.spaces ∙ e)
+pub in_slot : (reveals : List ℕ → Type 0) (n : ℕ) (ss : List Space) (t : RevealSpaces reveals n ss) (h : ℕ) (s : Space) → space_at ss h ≡ Some s → slice_get t.slots h ≡ Some (Some s)
+in_slot reveals n ss t h s e = stands (slice_get t.slots h) s (sym (slot_found t.slots h t.right.numbered) ∙ ap (λ (rs : List Space). space_at rs h) t.spaces ∙ e)
 
 pub handle_is : (ss : List Space) (h : ℕ) (s : Space) → space_at ss h ≡ Some s → s.handle ≡ h
 handle_is ss h s e = eqb-true s.handle h (find_in (λ t. t.handle == h) ss s e).1
 
-module _ (tells now : List ℕ → Type 0) (n : ℕ) (ss : List Space) (t : TellSpaces tells n ss) where
+module _ (reveals now : List ℕ → Type 0) (n : ℕ) (ss : List Space) (t : RevealSpaces reveals n ss) where
   pub unit_set : (h u : ℕ) (s : Space) → space_at ss h ≡ Some s → h ≢ 0 → 1 ≤ u → u ≤ 16 → HoldTables now (slice_set t.slots h (Some (record s { unit = u }))) (map (refitted h u) t.xs)
-      → TellSpaces now n (change_space h (λ s. record s { unit = u }) ss)
+      → RevealSpaces now n (change_space h (λ s. record s { unit = u }) ss)
   unit_set h u s e apart low high hold =
       let own = handle_is ss h s e in
-      let slot : slice_get t.slots s.handle ≡ Some (Some s) = ap (slice_get t.slots) own ∙ in_slot tells n ss t h s e in
+      let slot : slice_get t.slots s.handle ≡ Some (Some s) = ap (slice_get t.slots) own ∙ in_slot reveals n ss t h s e in
       let written = slot_changed t.slots s (λ s. record s { unit = u }) t.right.numbered slot refl in
       let spaces : listed (slice_set t.slots h (Some (record s { unit = u }))) ≡ change_space h (λ s. record s { unit = u }) (listed t.slots) =
       subst (λ (j : ℕ). listed (slice_set t.slots j (Some (record s { unit = u }))) ≡ change_space j (λ s. record s { unit = u }) (listed t.slots)) own written.spaces in
@@ -56,9 +56,9 @@ module _ (tells now : List ℕ → Type 0) (n : ℕ) (ss : List Space) (t : Tell
       }
 
   pub window_set : (x : Space) (w : Option Window) → MayHaveWindow ss x → IfSome w (WindowFits x.pages) → HoldTables now (slice_set t.slots x.handle (Some (record x { window = w }))) (map (reshown_in x (through x w)) t.xs)
-      → TellSpaces now n (set_window x.handle w ss)
+      → RevealSpaces now n (set_window x.handle w ss)
   window_set x w may fits hold =
-      let slot : slice_get t.slots x.handle ≡ Some (Some x) = in_slot tells n ss t x.handle x may.there in
+      let slot : slice_get t.slots x.handle ≡ Some (Some x) = in_slot reveals n ss t x.handle x may.there in
       let written = slot_changed t.slots x (λ s. record s { window = w }) t.right.numbered slot refl in
       let spaces : listed (slice_set t.slots x.handle (Some (record x { window = w }))) ≡ set_window x.handle w (listed t.slots) = written.spaces in
       let also : MayHaveWindow (listed t.slots) x = subst (λ (rs : List Space). MayHaveWindow rs x) (sym t.spaces) may in
@@ -77,9 +77,9 @@ module _ (tells now : List ℕ → Type 0) (n : ℕ) (ss : List Space) (t : Tell
       }
 
   pub window_set_at : (x : Space) (w : Option Window) (h : ℕ) → x.handle ≡ h → MayHaveWindow ss x → IfSome w (WindowFits x.pages) → HoldTables now (slice_set t.slots h (Some (record x { window = w }))) (map (reshown_in x (through x w)) t.xs)
-      → TellSpaces now n (set_window h w ss)
+      → RevealSpaces now n (set_window h w ss)
   window_set_at x w h own may fits hold =
-      subst (λ (j : ℕ). TellSpaces now n (set_window j w ss)) own
+      subst (λ (j : ℕ). RevealSpaces now n (set_window j w ss)) own
       (window_set x w may fits (subst (λ (j : ℕ). HoldTables now (slice_set t.slots j (Some (record x { window = w }))) (map (reshown_in x (through x w)) t.xs)) (sym own) hold))
 
 pub counts : (x : Space) (w : Option Window) → IfSome w (WindowFits x.pages) → Counts (Show x w)

@@ -97,9 +97,9 @@ pub record Misses (count : ℕ) (b : List ℕ) (page k asked : ℕ) : Type 0 whe
   pub misses : has_page asked (interval_in (interval_record b k)) ≡ false
 
 -- The page has the first record, whose key is above the page that was looked up.
-pub record BeginsBehind (b : List ℕ) (page asked : ℕ) : Type 0 where
+pub record BeginsAfter (b : List ℕ) (page asked : ℕ) : Type 0 where
   pub on : page ≡ 32
-  pub behind : at_most (key_in b 0) (to_be_bytes w32 asked) ≡ false
+  pub after : at_most (key_in b 0) (to_be_bytes w32 asked) ≡ false
 
 -- a page of the hierarchy breaks its form
 abbrev pub BreaksHierarchy : List ℕ → ℕ → Type 0
@@ -115,7 +115,7 @@ Breaks count b page = BreaksHierarchy b page ⊎ BreaksProjection count b page
 
 -- a page of the projection breaks its form, or has no interval for the page that was looked up
 abbrev pub BreaksLookUp : ℕ → ℕ → List ℕ → ℕ → Type 0
-BreaksLookUp asked count b page = BreaksProjection count b page ⊎ (((k : ℕ) × Misses count b page k asked) ⊎ BeginsBehind b page asked)
+BreaksLookUp asked count b page = BreaksProjection count b page ⊎ (((k : ℕ) × Misses count b page k asked) ⊎ BeginsAfter b page asked)
 
 -- so does a page of either
 abbrev pub BreaksFor : ℕ → ℕ → List ℕ → ℕ → Type 0

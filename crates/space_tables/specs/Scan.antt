@@ -25,7 +25,7 @@ abbrev pub IsFirstOn : (Space → Bool) → List (Option Space) → ℕ → Opti
 IsFirstOn test slots first (Some s) = Some s ≡ find test (listed (drop first slots))
 IsFirstOn test slots first None = find test (listed (drop first slots)) ≡ find test (listed (drop (first + 16) slots))
 
--- the handle behind those whose records stand in one page with this one's
+-- the handle after those whose records stand in one page with this one's
 abbrev pub end_on : ℕ → ℕ
 end_on handle = handle - handle % 16 + 16
 

@@ -5,7 +5,7 @@ use Rattle.flat_machine.specs.declared.space.Space.{Space}
 use Rattle.swap_units.specs.Unit.{Holds}
 use Rattle.projection_laws.specs.Sight.{Interval, AreIntervals}
 use Rattle.space_tables.specs.declared.tables.SpaceTables.{SpaceTables}
-use Rattle.space_tables.specs.Stored.{TellSpaces}
+use Rattle.space_tables.specs.Stored.{RevealSpaces}
 
 module _ {M X : Type 0} {G : Ghosts M X} where
   -- the memory that they stand in
@@ -16,9 +16,9 @@ module _ {M X : Type 0} {G : Ghosts M X} where
   abbrev pub interval_count : SpaceTables M X G → ℕ
   interval_count t = t.intervals
 
-  -- their memory tells that they are those of these spaces
-  abbrev pub Tells : SpaceTables M X G → List Space → Type 0
-  Tells t ss = TellSpaces (G.tells t.mem) t.intervals ss
+  -- their memory reveals that they are those of these spaces
+  abbrev pub Reveals : SpaceTables M X G → List Space → Type 0
+  Reveals t ss = RevealSpaces (G.reveals t.mem) t.intervals ss
 
 -- the interval of the projection of these spaces that holds the page
 pub record IsIntervalAt (ss : List Space) (page : ℕ) (x : Interval) : Type 0 where

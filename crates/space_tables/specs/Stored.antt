@@ -14,10 +14,10 @@ pub record AreTables (b : List ℕ) (slots : List (Option Space)) (xs : List Int
   pub hierarchy : (h : ℕ) (o : Option Space) → slice_get slots h ≡ Some o → slot_record b h ≡ slot_bytes o
   pub projection : (k : ℕ) (x : Interval) → slice_get xs k ≡ Some x → interval_record b k ≡ bytes_of x
 
--- a memory tells bytes that are these tables
-pub record HoldTables (tells : List ℕ → Type 0) (slots : List (Option Space)) (xs : List Interval) : Type 0 where
+-- a memory reveals bytes that are these tables
+pub record HoldTables (reveals : List ℕ → Type 0) (slots : List (Option Space)) (xs : List Interval) : Type 0 where
   pub bytes : List ℕ
-  pub told : tells bytes
+  pub revealed : reveals bytes
   pub are : AreTables bytes slots xs
 
 -- the record of the interval reads back
@@ -37,17 +37,17 @@ pub record AreRight (slots : List (Option Space)) (xs : List Interval) : Type 0 
   pub windows : WindowsFit (listed slots)
   pub intervals : AreIntervals (listed slots) xs
 
--- A memory tells the tables of these spaces, with so many intervals: their projection.
-pub record TellSpaces (tells : List ℕ → Type 0) (count : ℕ) (ss : List Space) : Type 0 where
+-- A memory reveals the tables of these spaces, with so many intervals: their projection.
+pub record RevealSpaces (reveals : List ℕ → Type 0) (count : ℕ) (ss : List Space) : Type 0 where
   pub slots : List (Option Space)
   pub xs : List Interval
-  pub hold : HoldTables tells slots xs
+  pub hold : HoldTables reveals slots xs
   pub right : AreRight slots xs
   pub counted : length xs ≡ count
   pub spaces : listed slots ≡ ss
 
--- A memory tells bytes, and the records of the projection from an index on are those of others.
-pub record TellsRest (tells : List ℕ → Type 0) (b : List ℕ) (from : ℕ) : Type 0 where
+-- A memory reveals bytes, and the records of the projection from an index on are those of others.
+pub record RevealsRest (reveals : List ℕ → Type 0) (b : List ℕ) (from : ℕ) : Type 0 where
   pub bytes : List ℕ
-  pub told : tells bytes
+  pub revealed : reveals bytes
   pub rest : (k : ℕ) → from ≤ k → interval_record bytes k ≡ interval_record b k

@@ -7,7 +7,7 @@ ghost use Rattle.projection_laws.specs.Tests.{no_space, map_row};
 ghost use Rattle.projection_laws.specs.Stored.{slot_in};
 ghost use Rattle.space_tables.specs.Form.{slot_record, space_in_form, BreaksSlot, BreaksHierarchy, BreaksFor};
 ghost use Rattle.space_tables.specs.Answer.{IfMem, IfMalformed, Replies};
-ghost use Rattle.space_tables.specs.Stored.{TellSpaces};
+ghost use Rattle.space_tables.specs.Stored.{RevealSpaces};
 
 use crate::records::slot;
 use crate::scan::{Test, find_space};
@@ -21,12 +21,12 @@ pub const ROOT_PAGES: u32 = 8126464;
 /// The space of a handle.
 pub fn existing<M: FlatMem>(mem: &mut M, handle: u32) -> Result<Space, SpaceError<M::Error>>
     requires size { 49152 ≤ M.size mem.old }
-    ensures answer { (count : ℕ) (ss : List Space) → TellSpaces (M.tells mem.old) count ss
+    ensures answer { (count : ℕ) (ss : List Space) → RevealSpaces (M.reveals mem.old) count ss
         → Replies (no_space ss handle) (λ s. space_at ss handle ≡ Some s) result }
-    ensures read { (b : List ℕ) → M.tells mem.old b → IfOk result (λ s. slot_in handle (slot_record b handle) ≡ Some s) }
+    ensures read { (b : List ℕ) → M.reveals mem.old b → IfOk result (λ s. slot_in handle (slot_record b handle) ≡ Some s) }
     ensures form { IfOk result (λ s. (space_in_form s ≡ true) × (s.handle ≡ handle) × (handle < 512)) }
-    ensures malformed { (b : List ℕ) → M.tells mem.old b → IfErr result (IfMalformed (λ page. BreaksSlot b page handle)) }
-    ensures unchanged { (b : List ℕ) → M.tells mem.old b → M.tells mem.new b }
+    ensures malformed { (b : List ℕ) → M.reveals mem.old b → IfErr result (IfMalformed (λ page. BreaksSlot b page handle)) }
+    ensures unchanged { (b : List ℕ) → M.reveals mem.old b → M.reveals mem.new b }
     ensures kept { M.beside mem.old mem.new }
     ensures cause { IfErr result (IfMem (M.accounted mem.old mem.new)) }
     ensures cost { M.spent mem.new ≤ M.spent mem.old + M.cost }
@@ -45,11 +45,11 @@ pub fn place<M: FlatMem>(mem: &mut M, count: u32, page: u32) -> Result<Space, Sp
     requires size { 49152 ≤ M.size mem.old }
     requires some { 1 ≤ count }
     requires few { count ≤ 1023 }
-    ensures answer { (ss : List Space) → TellSpaces (M.tells mem.old) count ss
+    ensures answer { (ss : List Space) → RevealSpaces (M.reveals mem.old) count ss
         → Replies (first_of (past_root page ∷ [])) (λ s. innermost ss page ≡ Some s) result }
     ensures form { IfOk result (λ s. space_in_form s ≡ true) }
-    ensures malformed { (b : List ℕ) → M.tells mem.old b → IfErr result (IfMalformed (BreaksFor page count b)) }
-    ensures unchanged { (b : List ℕ) → M.tells mem.old b → M.tells mem.new b }
+    ensures malformed { (b : List ℕ) → M.reveals mem.old b → IfErr result (IfMalformed (BreaksFor page count b)) }
+    ensures unchanged { (b : List ℕ) → M.reveals mem.old b → M.reveals mem.new b }
     ensures kept { M.beside mem.old mem.new }
     ensures cause { IfErr result (IfMem (M.accounted mem.old mem.new)) }
     ensures cost { M.spent mem.new ≤ M.spent mem.old + 8 * M.cost }
@@ -64,12 +64,12 @@ pub fn place<M: FlatMem>(mem: &mut M, count: u32, page: u32) -> Result<Space, Sp
 /// The space of a handle, where it can be mapped.
 pub fn unmapped<M: FlatMem>(mem: &mut M, handle: u32) -> Result<Space, SpaceError<M::Error>>
     requires size { 49152 ≤ M.size mem.old }
-    ensures answer { (count : ℕ) (ss : List Space) → TellSpaces (M.tells mem.old) count ss
+    ensures answer { (count : ℕ) (ss : List Space) → RevealSpaces (M.reveals mem.old) count ss
         → Replies (first_of (map_row ss handle)) (λ s. space_at ss handle ≡ Some s) result }
-    ensures read { (b : List ℕ) → M.tells mem.old b → IfOk result (λ s. slot_in handle (slot_record b handle) ≡ Some s) }
+    ensures read { (b : List ℕ) → M.reveals mem.old b → IfOk result (λ s. slot_in handle (slot_record b handle) ≡ Some s) }
     ensures form { IfOk result (λ s. space_in_form s ≡ true) }
-    ensures malformed { (b : List ℕ) → M.tells mem.old b → IfErr result (IfMalformed (BreaksHierarchy b)) }
-    ensures unchanged { (b : List ℕ) → M.tells mem.old b → M.tells mem.new b }
+    ensures malformed { (b : List ℕ) → M.reveals mem.old b → IfErr result (IfMalformed (BreaksHierarchy b)) }
+    ensures unchanged { (b : List ℕ) → M.reveals mem.old b → M.reveals mem.new b }
     ensures kept { M.beside mem.old mem.new }
     ensures cause { IfErr result (IfMem (M.accounted mem.old mem.new)) }
     ensures cost { M.spent mem.new ≤ M.spent mem.old + 513 * M.cost }

@@ -2,7 +2,7 @@
 ghost use Rattle.std.specs.Prelude.{◌≡◌, ℕ, ◌+◌, ◌*◌, ◌≤◌, List, [], ◌∷◌, IfErr, OnOk};
 ghost use Rattle.flat_machine.specs.Space.{root};
 ghost use Rattle.space_tables.specs.Answer.{FromMemory, IfMem};
-ghost use Rattle.space_tables.specs.Stored.{HoldTables, TellSpaces};
+ghost use Rattle.space_tables.specs.Stored.{HoldTables, RevealSpaces};
 ghost use Rattle.space_tables.specs.Begin.{root_interval, bare_slots};
 
 use crate::SpaceError;
@@ -16,7 +16,7 @@ use swap_units::Interval;
 // Writes that no space stands at any handle, and the interval of the root.
 fn clear<M: FlatMem>(mem: &mut M) -> Result<(), SpaceError<M::Error>>
     requires size { 49152 ≤ M.size mem.old }
-    ensures cleared { (b : List ℕ) → M.tells mem.old b → OnOk result (HoldTables (M.tells mem.new) (bare_slots 512) (root_interval ∷ [])) }
+    ensures cleared { (b : List ℕ) → M.reveals mem.old b → OnOk result (HoldTables (M.reveals mem.new) (bare_slots 512) (root_interval ∷ [])) }
     ensures memory { IfErr result FromMemory }
     ensures kept { M.beside mem.old mem.new }
     ensures cause { IfErr result (IfMem (M.accounted mem.old mem.new)) }
@@ -45,7 +45,7 @@ fn clear<M: FlatMem>(mem: &mut M) -> Result<(), SpaceError<M::Error>>
 /// Sets up the root, over any bytes.
 pub fn begin<M: FlatMem>(mem: &mut M) -> Result<(), SpaceError<M::Error>>
     requires size { 49152 ≤ M.size mem.old }
-    ensures begun { (b : List ℕ) → M.tells mem.old b → OnOk result (TellSpaces (M.tells mem.new) 1 (root ∷ [])) }
+    ensures begun { (b : List ℕ) → M.reveals mem.old b → OnOk result (RevealSpaces (M.reveals mem.new) 1 (root ∷ [])) }
     ensures memory { IfErr result FromMemory }
     ensures kept { M.beside mem.old mem.new }
     ensures cause { IfErr result (IfMem (M.accounted mem.old mem.new)) }

@@ -32,12 +32,12 @@ fn look_up_record<M: FlatMem>(
 ) -> Result<Look, M::Error>
     requires size { 49152 ≤ M.size mem.old }
     requires few { count ≤ 1023 }
-    ensures answer { (w : List ℕ) → M.tells mem.old w
+    ensures answer { (w : List ℕ) → M.reveals mem.old w
         → IfOk result (IsAnswer 4 (entries 32 (part w 16384 32768) count) count (to_be_bytes w32 page) into.new) }
-    ensures before { (w : List ℕ) → M.tells mem.old w → result ≡ Ok Before → 0 < count → at_most (part w 16384 4) (to_be_bytes w32 page) ≡ false }
-    ensures turn { (w : List ℕ) → M.tells mem.old w → IfOk result (TurnsAt 4 (entries 32 (part w 16384 32768) count) (to_be_bytes w32 page)) }
+    ensures before { (w : List ℕ) → M.reveals mem.old w → result ≡ Ok Before → 0 < count → at_most (part w 16384 4) (to_be_bytes w32 page) ≡ false }
+    ensures turn { (w : List ℕ) → M.reveals mem.old w → IfOk result (TurnsAt 4 (entries 32 (part w 16384 32768) count) (to_be_bytes w32 page)) }
     ensures form { IfOk result (IsWithin (Given count) count) }
-    ensures unchanged { (w : List ℕ) → M.tells mem.old w → M.tells mem.new w }
+    ensures unchanged { (w : List ℕ) → M.reveals mem.old w → M.reveals mem.new w }
     ensures kept { M.beside mem.old mem.new }
     ensures cause { IfErr result (λ e. M.accounted mem.old mem.new e) }
     ensures cost { M.spent mem.new ≤ M.spent mem.old + 7 * M.cost }
@@ -56,13 +56,13 @@ pub fn find<M: FlatMem>(
     requires size { 49152 ≤ M.size mem.old }
     requires some { 1 ≤ count }
     requires few { count ≤ 1023 }
-    ensures found { (slots : List (Option Space)) (xs : List Interval) → HoldTables (M.tells mem.old) slots xs → AreRight slots xs
+    ensures found { (slots : List (Option Space)) (xs : List Interval) → HoldTables (M.reveals mem.old) slots xs → AreRight slots xs
         → length xs ≡ count → page < root_pages → MatchResult result (λ at. slice_get xs at.0 ≡ Some at.1) FromMemory }
     ensures form { IfOk result (λ at. (at.0 < count) × (in_form at.1 ≡ true) × (has_page page at.1 ≡ true)) }
-    ensures read { (b : List ℕ) → M.tells mem.old b → IfOk result (λ at. at.1 ≡ interval_in (interval_record b at.0)) }
-    ensures malformed { (b : List ℕ) → M.tells mem.old b → IfErr result (IfMalformed (BreaksLookUp page count b)) }
+    ensures read { (b : List ℕ) → M.reveals mem.old b → IfOk result (λ at. at.1 ≡ interval_in (interval_record b at.0)) }
+    ensures malformed { (b : List ℕ) → M.reveals mem.old b → IfErr result (IfMalformed (BreaksLookUp page count b)) }
     ensures refused { IfErr result NotRefused }
-    ensures unchanged { (b : List ℕ) → M.tells mem.old b → M.tells mem.new b }
+    ensures unchanged { (b : List ℕ) → M.reveals mem.old b → M.reveals mem.new b }
     ensures kept { M.beside mem.old mem.new }
     ensures cause { IfErr result (IfMem (M.accounted mem.old mem.new)) }
     ensures cost { M.spent mem.new ≤ M.spent mem.old + 7 * M.cost }
@@ -92,8 +92,8 @@ fn insert_record<M: FlatMem>(
     requires size { 49152 ≤ M.size mem.old }
     requires order { at ≤ count }
     requires few { count ≤ 1022 }
-    ensures inserted { (slots : List (Option Space)) (xs : List Interval) (x : Interval) → HoldTables (M.tells mem.old) slots xs → length xs ≡ count → bytes.now ≡ bytes_of x
-        → OnOk result (HoldTables (M.tells mem.new) slots (insert xs at x)) }
+    ensures inserted { (slots : List (Option Space)) (xs : List Interval) (x : Interval) → HoldTables (M.reveals mem.old) slots xs → length xs ≡ count → bytes.now ≡ bytes_of x
+        → OnOk result (HoldTables (M.reveals mem.new) slots (insert xs at x)) }
     ensures room { result ≢ Err TableError.Full }
     ensures kept { M.beside mem.old mem.new }
     ensures cause { IfErr result (IfTableMem (M.accounted mem.old mem.new)) }
@@ -113,8 +113,8 @@ pub fn insert<M: FlatMem>(
     requires size { 49152 ≤ M.size mem.old }
     requires order { at ≤ count }
     requires few { count ≤ 1022 }
-    ensures inserted { (slots : List (Option Space)) (xs : List Interval) → HoldTables (M.tells mem.old) slots xs → length xs ≡ count
-        → OnOk result (HoldTables (M.tells mem.new) slots (insert xs at interval.now)) }
+    ensures inserted { (slots : List (Option Space)) (xs : List Interval) → HoldTables (M.reveals mem.old) slots xs → length xs ≡ count
+        → OnOk result (HoldTables (M.reveals mem.new) slots (insert xs at interval.now)) }
     ensures memory { IfErr result FromMemory }
     ensures kept { M.beside mem.old mem.new }
     ensures cause { IfErr result (IfMem (M.accounted mem.old mem.new)) }
@@ -127,13 +127,13 @@ pub fn insert<M: FlatMem>(
     }
 }
 
-// Takes the record at an index out, and moves those behind it one place down.
+// Takes the record at an index out, and moves those after it one place down.
 fn remove_record<M: FlatMem>(mem: &mut M, count: u32, at: u32) -> Result<(), M::Error>
     requires size { 49152 ≤ M.size mem.old }
     requires order { at < count }
     requires few { count ≤ 1023 }
-    ensures removed { (slots : List (Option Space)) (xs : List Interval) → HoldTables (M.tells mem.old) slots xs → length xs ≡ count
-        → OnOk result (HoldTables (M.tells mem.new) slots (remove xs at)) }
+    ensures removed { (slots : List (Option Space)) (xs : List Interval) → HoldTables (M.reveals mem.old) slots xs → length xs ≡ count
+        → OnOk result (HoldTables (M.reveals mem.new) slots (remove xs at)) }
     ensures kept { M.beside mem.old mem.new }
     ensures cause { IfErr result (λ e. M.accounted mem.old mem.new e) }
     ensures cost { M.spent mem.new ≤ M.spent mem.old + 128 * M.cost }
@@ -142,13 +142,13 @@ fn remove_record<M: FlatMem>(mem: &mut M, count: u32, at: u32) -> Result<(), M::
     table.remove(at)
 }
 
-/// Takes the interval at an index out, and moves those behind it one place down.
+/// Takes the interval at an index out, and moves those after it one place down.
 pub fn remove<M: FlatMem>(mem: &mut M, count: u32, at: u32) -> Result<(), SpaceError<M::Error>>
     requires size { 49152 ≤ M.size mem.old }
     requires order { at < count }
     requires few { count ≤ 1023 }
-    ensures removed { (slots : List (Option Space)) (xs : List Interval) → HoldTables (M.tells mem.old) slots xs → length xs ≡ count
-        → OnOk result (HoldTables (M.tells mem.new) slots (remove xs at)) }
+    ensures removed { (slots : List (Option Space)) (xs : List Interval) → HoldTables (M.reveals mem.old) slots xs → length xs ≡ count
+        → OnOk result (HoldTables (M.reveals mem.new) slots (remove xs at)) }
     ensures memory { IfErr result FromMemory }
     ensures kept { M.beside mem.old mem.new }
     ensures cause { IfErr result (IfMem (M.accounted mem.old mem.new)) }

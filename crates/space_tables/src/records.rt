@@ -6,7 +6,7 @@ ghost use Rattle.projection_laws.specs.Sight.{Interval};
 ghost use Rattle.projection_laws.specs.Stored.{interval_in, slot_bytes, slot_in};
 ghost use Rattle.space_tables.specs.Form.{slot_record, slot_page, interval_record, is_slot_record, in_form, space_in_form, BreaksSlot, BreaksInterval};
 ghost use Rattle.space_tables.specs.Answer.{FromMemory, NotRefused, IfMem, IfMalformed};
-ghost use Rattle.space_tables.specs.Stored.{AreTables, HoldTables, AreReadable, IsReadable, TellsRest};
+ghost use Rattle.space_tables.specs.Stored.{AreTables, HoldTables, AreReadable, IsReadable, RevealsRest};
 
 use crate::SpaceError;
 use crate::code::{Record, interval_bytes, read_interval, read_slot};
@@ -18,9 +18,9 @@ use swap_units::Interval;
 fn load<M: FlatMem>(mem: &mut M, index: u32, into: &mut Record) -> Result<(), SpaceError<M::Error>>
     requires size { 49152 ≤ M.size mem.old }
     requires inside { index < 1536 }
-    ensures read { (b : List ℕ) → M.tells mem.old b → OnOk result (into.new ≡ part b (32 * index) 32) }
+    ensures read { (b : List ℕ) → M.reveals mem.old b → OnOk result (into.new ≡ part b (32 * index) 32) }
     ensures memory { IfErr result FromMemory }
-    ensures unchanged { (b : List ℕ) → M.tells mem.old b → M.tells mem.new b }
+    ensures unchanged { (b : List ℕ) → M.reveals mem.old b → M.reveals mem.new b }
     ensures kept { M.beside mem.old mem.new }
     ensures cause { IfErr result (IfMem (M.accounted mem.old mem.new)) }
     ensures cost { M.spent mem.new ≤ M.spent mem.old + M.cost }
@@ -39,9 +39,9 @@ pub fn store<M: FlatMem>(
 ) -> Result<(), SpaceError<M::Error>>
     requires size { 49152 ≤ M.size mem.old }
     requires inside { index < 1536 }
-    ensures written { (b : List ℕ) → M.tells mem.old b → OnOk result (M.tells mem.new (overwritten b (32 * index) bytes.now)) }
+    ensures written { (b : List ℕ) → M.reveals mem.old b → OnOk result (M.reveals mem.new (overwritten b (32 * index) bytes.now)) }
     ensures memory { IfErr result FromMemory }
-    ensures unchanged { (b : List ℕ) → M.tells mem.old b → OnErr result (M.tells mem.new b) }
+    ensures unchanged { (b : List ℕ) → M.reveals mem.old b → OnErr result (M.reveals mem.new b) }
     ensures kept { M.beside mem.old mem.new }
     ensures cause { IfErr result (IfMem (M.accounted mem.old mem.new)) }
     ensures cost { M.spent mem.new ≤ M.spent mem.old + M.cost }
@@ -56,13 +56,13 @@ pub fn store<M: FlatMem>(
 pub fn slot<M: FlatMem>(mem: &mut M, handle: u32) -> Result<Option<Space>, SpaceError<M::Error>>
     requires size { 49152 ≤ M.size mem.old }
     requires inside { handle < 512 }
-    ensures slot { (slots : List (Option Space)) (xs : List Interval) → HoldTables (M.tells mem.old) slots xs → AreReadable slots xs
+    ensures slot { (slots : List (Option Space)) (xs : List Interval) → HoldTables (M.reveals mem.old) slots xs → AreReadable slots xs
         → MatchResult result (λ o. slice_get slots handle ≡ Some o) FromMemory }
-    ensures read { (b : List ℕ) → M.tells mem.old b → IfOk result (λ o. o ≡ slot_in handle (slot_record b handle)) }
+    ensures read { (b : List ℕ) → M.reveals mem.old b → IfOk result (λ o. o ≡ slot_in handle (slot_record b handle)) }
     ensures form { IfOk result (λ o. IfSome o (λ s. (space_in_form s ≡ true) × (s.handle ≡ handle))) }
-    ensures malformed { (b : List ℕ) → M.tells mem.old b → IfErr result (IfMalformed (λ page. BreaksSlot b page handle)) }
+    ensures malformed { (b : List ℕ) → M.reveals mem.old b → IfErr result (IfMalformed (λ page. BreaksSlot b page handle)) }
     ensures refused { IfErr result NotRefused }
-    ensures unchanged { (b : List ℕ) → M.tells mem.old b → M.tells mem.new b }
+    ensures unchanged { (b : List ℕ) → M.reveals mem.old b → M.reveals mem.new b }
     ensures kept { M.beside mem.old mem.new }
     ensures cause { IfErr result (IfMem (M.accounted mem.old mem.new)) }
     ensures cost { M.spent mem.new ≤ M.spent mem.old + M.cost }
@@ -86,10 +86,10 @@ pub fn load_page<M: FlatMem>(
 ) -> Result<(), SpaceError<M::Error>>
     requires size { 49152 ≤ M.size mem.old }
     requires inside { handle < 512 }
-    ensures read { (b : List ℕ) → M.tells mem.old b → OnOk result (page.new ≡ slot_page b handle) }
+    ensures read { (b : List ℕ) → M.reveals mem.old b → OnOk result (page.new ≡ slot_page b handle) }
     ensures memory { IfErr result FromMemory }
     ensures refused { IfErr result NotRefused }
-    ensures unchanged { (b : List ℕ) → M.tells mem.old b → M.tells mem.new b }
+    ensures unchanged { (b : List ℕ) → M.reveals mem.old b → M.reveals mem.new b }
     ensures kept { M.beside mem.old mem.new }
     ensures cause { IfErr result (IfMem (M.accounted mem.old mem.new)) }
     ensures cost { M.spent mem.new ≤ M.spent mem.old + M.cost }
@@ -129,13 +129,13 @@ pub fn has_space_on(page: &Page, handle: u32) -> bool
 pub fn interval<M: FlatMem>(mem: &mut M, index: u32) -> Result<Interval, SpaceError<M::Error>>
     requires size { 49152 ≤ M.size mem.old }
     requires inside { index < 1024 }
-    ensures interval { (slots : List (Option Space)) (xs : List Interval) (x : Interval) → HoldTables (M.tells mem.old) slots xs
+    ensures interval { (slots : List (Option Space)) (xs : List Interval) (x : Interval) → HoldTables (M.reveals mem.old) slots xs
         → slice_get xs index ≡ Some x → IsReadable x → MatchResult result (λ y. y ≡ x) FromMemory }
-    ensures read { (b : List ℕ) → M.tells mem.old b → IfOk result (λ x. x ≡ interval_in (interval_record b index)) }
+    ensures read { (b : List ℕ) → M.reveals mem.old b → IfOk result (λ x. x ≡ interval_in (interval_record b index)) }
     ensures form { IfOk result (λ x. in_form x ≡ true) }
-    ensures malformed { (b : List ℕ) (count : ℕ) → M.tells mem.old b → index < count → IfErr result (IfMalformed (λ page. BreaksInterval count b page index)) }
+    ensures malformed { (b : List ℕ) (count : ℕ) → M.reveals mem.old b → index < count → IfErr result (IfMalformed (λ page. BreaksInterval count b page index)) }
     ensures refused { IfErr result NotRefused }
-    ensures unchanged { (b : List ℕ) → M.tells mem.old b → M.tells mem.new b }
+    ensures unchanged { (b : List ℕ) → M.reveals mem.old b → M.reveals mem.new b }
     ensures kept { M.beside mem.old mem.new }
     ensures cause { IfErr result (IfMem (M.accounted mem.old mem.new)) }
     ensures cost { M.spent mem.new ≤ M.spent mem.old + M.cost }
@@ -158,9 +158,9 @@ pub fn put_slot<M: FlatMem>(
 ) -> Result<(), SpaceError<M::Error>>
     requires size { 49152 ≤ M.size mem.old }
     requires inside { handle < 512 }
-    ensures written { (slots : List (Option Space)) (xs : List Interval) (o : Option Space) → HoldTables (M.tells mem.old) slots xs → bytes.now ≡ slot_bytes o
-        → OnOk result (HoldTables (M.tells mem.new) (slice_set slots handle o) xs) }
-    ensures rest { (b : List ℕ) → M.tells mem.old b → OnOk result (TellsRest (M.tells mem.new) b 0) }
+    ensures written { (slots : List (Option Space)) (xs : List Interval) (o : Option Space) → HoldTables (M.reveals mem.old) slots xs → bytes.now ≡ slot_bytes o
+        → OnOk result (HoldTables (M.reveals mem.new) (slice_set slots handle o) xs) }
+    ensures rest { (b : List ℕ) → M.reveals mem.old b → OnOk result (RevealsRest (M.reveals mem.new) b 0) }
     ensures memory { IfErr result FromMemory }
     ensures kept { M.beside mem.old mem.new }
     ensures cause { IfErr result (IfMem (M.accounted mem.old mem.new)) }
@@ -177,9 +177,9 @@ pub fn put_interval<M: FlatMem>(
 ) -> Result<(), SpaceError<M::Error>>
     requires size { 49152 ≤ M.size mem.old }
     requires inside { index < 1024 }
-    ensures written { (slots : List (Option Space)) (xs : List Interval) → HoldTables (M.tells mem.old) slots xs
-        → index < length xs → OnOk result (HoldTables (M.tells mem.new) slots (slice_set xs index interval.now)) }
-    ensures rest { (b : List ℕ) → M.tells mem.old b → OnOk result (TellsRest (M.tells mem.new) b (index + 1)) }
+    ensures written { (slots : List (Option Space)) (xs : List Interval) → HoldTables (M.reveals mem.old) slots xs
+        → index < length xs → OnOk result (HoldTables (M.reveals mem.new) slots (slice_set xs index interval.now)) }
+    ensures rest { (b : List ℕ) → M.reveals mem.old b → OnOk result (RevealsRest (M.reveals mem.new) b (index + 1)) }
     ensures memory { IfErr result FromMemory }
     ensures kept { M.beside mem.old mem.new }
     ensures cause { IfErr result (IfMem (M.accounted mem.old mem.new)) }

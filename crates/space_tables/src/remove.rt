@@ -7,7 +7,7 @@ ghost use Rattle.flat_machine.specs.Refusal.{first_of};
 ghost use Rattle.projection_laws.specs.Tests.{remove_row};
 ghost use Rattle.space_tables.specs.Form.{space_in_form, first_in_slot, BreaksHierarchy, BreaksFor};
 ghost use Rattle.space_tables.specs.Answer.{IfMem, IfMalformed, Answers, Replies};
-ghost use Rattle.space_tables.specs.Stored.{TellSpaces};
+ghost use Rattle.space_tables.specs.Stored.{RevealSpaces};
 
 use crate::ask::existing;
 use crate::join::rejoin;
@@ -21,12 +21,12 @@ use flat_mem::FlatMem;
 // The space of a handle, where it can be removed.
 fn removable<M: FlatMem>(mem: &mut M, handle: u32) -> Result<Space, SpaceError<M::Error>>
     requires size { 49152 ≤ M.size mem.old }
-    ensures answer { (count : ℕ) (ss : List Space) → TellSpaces (M.tells mem.old) count ss
+    ensures answer { (count : ℕ) (ss : List Space) → RevealSpaces (M.reveals mem.old) count ss
         → Replies (first_of (remove_row ss handle)) (λ s. space_at ss handle ≡ Some s) result }
     ensures form { IfOk result (λ s. (space_in_form s ≡ true) × (handle < 512)) }
-    ensures read { (b : List ℕ) → M.tells mem.old b → IfOk result (λ s. s.first ≡ first_in_slot b handle) }
-    ensures malformed { (b : List ℕ) → M.tells mem.old b → IfErr result (IfMalformed (BreaksHierarchy b)) }
-    ensures unchanged { (b : List ℕ) → M.tells mem.old b → M.tells mem.new b }
+    ensures read { (b : List ℕ) → M.reveals mem.old b → IfOk result (λ s. s.first ≡ first_in_slot b handle) }
+    ensures malformed { (b : List ℕ) → M.reveals mem.old b → IfErr result (IfMalformed (BreaksHierarchy b)) }
+    ensures unchanged { (b : List ℕ) → M.reveals mem.old b → M.reveals mem.new b }
     ensures kept { M.beside mem.old mem.new }
     ensures cause { IfErr result (IfMem (M.accounted mem.old mem.new)) }
     ensures cost { M.spent mem.new ≤ M.spent mem.old + 513 * M.cost }
@@ -49,10 +49,10 @@ pub fn remove<M: FlatMem>(mem: &mut M, count: u32, handle: u32) -> Result<u32, S
     requires size { 49152 ≤ M.size mem.old }
     requires some { 1 ≤ count }
     requires few { count ≤ 1023 }
-    ensures answer { (ss : List Space) → TellSpaces (M.tells mem.old) count ss → Answers (first_of (remove_row ss handle))
-        (λ n. TellSpaces (M.tells mem.new) n (without_space handle ss)) (TellSpaces (M.tells mem.new) count ss) result }
+    ensures answer { (ss : List Space) → RevealSpaces (M.reveals mem.old) count ss → Answers (first_of (remove_row ss handle))
+        (λ n. RevealSpaces (M.reveals mem.new) n (without_space handle ss)) (RevealSpaces (M.reveals mem.new) count ss) result }
     ensures form { IfOk result (λ n. (1 ≤ n) × (n ≤ 1023)) }
-    ensures malformed { (b : List ℕ) → M.tells mem.old b → IfErr result (IfMalformed (BreaksFor (first_in_slot b handle) count b)) }
+    ensures malformed { (b : List ℕ) → M.reveals mem.old b → IfErr result (IfMalformed (BreaksFor (first_in_slot b handle) count b)) }
     ensures kept { M.beside mem.old mem.new }
     ensures cause { IfErr result (IfMem (M.accounted mem.old mem.new)) }
     ensures cost { M.spent mem.new ≤ M.spent mem.old + 783 * M.cost }

@@ -86,19 +86,19 @@ fn first_on(page: &Page, first: u32, test: &Test) -> Option<Option<Space>>
     Some(None)
 }
 
-/// The first space, in rising handles, that passes the test.
+/// The first space, in ascending handles, that passes the test.
 pub fn find_space<M: FlatMem>(
     mem: &mut M,
     test: &Test,
 ) -> Result<Option<Space>, SpaceError<M::Error>>
     requires size { 49152 ≤ M.size mem.old }
-    ensures found { (slots : List (Option Space)) (xs : List Interval) → HoldTables (M.tells mem.old) slots xs → AreReadable slots xs
+    ensures found { (slots : List (Option Space)) (xs : List Interval) → HoldTables (M.reveals mem.old) slots xs → AreReadable slots xs
         → MatchResult result (λ o. o ≡ find (passes test.now) (listed slots)) FromMemory }
-    ensures read { (b : List ℕ) → M.tells mem.old b → IfOk result (λ o. IfSome o (λ s. slot_in s.handle (slot_record b s.handle) ≡ Some s)) }
+    ensures read { (b : List ℕ) → M.reveals mem.old b → IfOk result (λ o. IfSome o (λ s. slot_in s.handle (slot_record b s.handle) ≡ Some s)) }
     ensures form { IfOk result (λ o. IfSome o (λ s. (space_in_form s ≡ true) × (passes test.now s ≡ true) × (s.handle < 512))) }
-    ensures malformed { (b : List ℕ) → M.tells mem.old b → IfErr result (IfMalformed (BreaksHierarchy b)) }
+    ensures malformed { (b : List ℕ) → M.reveals mem.old b → IfErr result (IfMalformed (BreaksHierarchy b)) }
     ensures refused { IfErr result NotRefused }
-    ensures unchanged { (b : List ℕ) → M.tells mem.old b → M.tells mem.new b }
+    ensures unchanged { (b : List ℕ) → M.reveals mem.old b → M.reveals mem.new b }
     ensures kept { M.beside mem.old mem.new }
     ensures cause { IfErr result (IfMem (M.accounted mem.old mem.new)) }
     ensures cost { M.spent mem.new ≤ M.spent mem.old + 512 * M.cost }
@@ -139,12 +139,12 @@ fn free_on(page: &Page, from: u32) -> Option<u32>
 /// The lowest handle from 1 on that no space has.
 pub fn free_handle<M: FlatMem>(mem: &mut M) -> Result<Option<u32>, SpaceError<M::Error>>
     requires size { 49152 ≤ M.size mem.old }
-    ensures free { (slots : List (Option Space)) (xs : List Interval) → HoldTables (M.tells mem.old) slots xs → AreReadable slots xs
+    ensures free { (slots : List (Option Space)) (xs : List Interval) → HoldTables (M.reveals mem.old) slots xs → AreReadable slots xs
         → MatchResult result (IsLowestFree slots) FromMemory }
     ensures form { IfOk result (λ o. IfSome o (λ h. (1 ≤ h) × (h < 512))) }
     ensures memory { IfErr result FromMemory }
     ensures refused { IfErr result NotRefused }
-    ensures unchanged { (b : List ℕ) → M.tells mem.old b → M.tells mem.new b }
+    ensures unchanged { (b : List ℕ) → M.reveals mem.old b → M.reveals mem.new b }
     ensures kept { M.beside mem.old mem.new }
     ensures cause { IfErr result (IfMem (M.accounted mem.old mem.new)) }
     ensures cost { M.spent mem.new ≤ M.spent mem.old + 511 * M.cost }

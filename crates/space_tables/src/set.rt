@@ -8,7 +8,7 @@ ghost use Rattle.projection_laws.specs.Spaces.{MayHaveWindow};
 ghost use Rattle.projection_laws.specs.Tests.{unit_row};
 ghost use Rattle.space_tables.specs.Form.{Breaks};
 ghost use Rattle.space_tables.specs.Answer.{FromMemory, IfMem, IfMalformed, Answers};
-ghost use Rattle.space_tables.specs.Stored.{TellSpaces};
+ghost use Rattle.space_tables.specs.Stored.{RevealSpaces};
 
 use crate::SpaceError;
 use crate::ask::existing;
@@ -27,9 +27,9 @@ pub fn set_unit<M: FlatMem>(
 ) -> Result<(), SpaceError<M::Error>>
     requires size { 49152 ≤ M.size mem.old }
     requires few { count ≤ 1023 }
-    ensures answer { (ss : List Space) → TellSpaces (M.tells mem.old) count ss → Answers (first_of (unit_row ss handle unit))
-        (λ _. TellSpaces (M.tells mem.new) count (change_space handle (λ s. record s { unit = unit }) ss)) (TellSpaces (M.tells mem.new) count ss) result }
-    ensures malformed { (b : List ℕ) → M.tells mem.old b → IfErr result (IfMalformed (Breaks count b)) }
+    ensures answer { (ss : List Space) → RevealSpaces (M.reveals mem.old) count ss → Answers (first_of (unit_row ss handle unit))
+        (λ _. RevealSpaces (M.reveals mem.new) count (change_space handle (λ s. record s { unit = unit }) ss)) (RevealSpaces (M.reveals mem.new) count ss) result }
+    ensures malformed { (b : List ℕ) → M.reveals mem.old b → IfErr result (IfMalformed (Breaks count b)) }
     ensures kept { M.beside mem.old mem.new }
     ensures cause { IfErr result (IfMem (M.accounted mem.old mem.new)) }
     ensures cost { M.spent mem.new ≤ M.spent mem.old + 2048 * M.cost }
@@ -55,9 +55,9 @@ pub fn set_window<M: FlatMem>(
 ) -> Result<(), SpaceError<M::Error>>
     requires size { 49152 ≤ M.size mem.old }
     requires few { count ≤ 1023 }
-    ensures done { (ss : List Space) (x : Space) → TellSpaces (M.tells mem.old) count ss → MayHaveWindow ss x → x.handle ≡ handle → IfSome window (WindowFits x.pages)
-        → MatchResult result (λ _. TellSpaces (M.tells mem.new) count (set_window handle window ss)) FromMemory }
-    ensures malformed { (b : List ℕ) → M.tells mem.old b → IfErr result (IfMalformed (Breaks count b)) }
+    ensures done { (ss : List Space) (x : Space) → RevealSpaces (M.reveals mem.old) count ss → MayHaveWindow ss x → x.handle ≡ handle → IfSome window (WindowFits x.pages)
+        → MatchResult result (λ _. RevealSpaces (M.reveals mem.new) count (set_window handle window ss)) FromMemory }
+    ensures malformed { (b : List ℕ) → M.reveals mem.old b → IfErr result (IfMalformed (Breaks count b)) }
     ensures kept { M.beside mem.old mem.new }
     ensures cause { IfErr result (IfMem (M.accounted mem.old mem.new)) }
     ensures cost { M.spent mem.new ≤ M.spent mem.old + 2048 * M.cost }

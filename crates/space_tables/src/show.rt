@@ -4,7 +4,7 @@ ghost use Rattle.flat_machine.specs.declared.space.Space.{Space};
 ghost use Rattle.space_tables.specs.Form.{BreaksHierarchy};
 ghost use Rattle.space_tables.specs.Answer.{FromMemory, NotRefused, IfMem, IfMalformed};
 ghost use Rattle.space_tables.specs.Shows.{window_of, shows, IsFirstWith, IsShownAt};
-ghost use Rattle.space_tables.specs.Stored.{TellSpaces};
+ghost use Rattle.space_tables.specs.Stored.{RevealSpaces};
 
 use crate::SpaceError;
 use crate::scan::{Test, find_space};
@@ -19,13 +19,13 @@ pub fn showing<M: FlatMem>(
     writable_only: bool,
 ) -> Result<Option<(u32, Shown)>, SpaceError<M::Error>>
     requires size { 49152 ≤ M.size mem.old }
-    ensures answer { (count : ℕ) (ss : List Space) → TellSpaces (M.tells mem.old) count ss → IfOk result (IsFirstWith (shows id writable_only) ss) }
-    ensures right { (count : ℕ) (ss : List Space) → TellSpaces (M.tells mem.old) count ss → IfErr result FromMemory }
+    ensures answer { (count : ℕ) (ss : List Space) → RevealSpaces (M.reveals mem.old) count ss → IfOk result (IsFirstWith (shows id writable_only) ss) }
+    ensures right { (count : ℕ) (ss : List Space) → RevealSpaces (M.reveals mem.old) count ss → IfErr result FromMemory }
     ensures form { IfOk result (λ o. IfSome o (λ at. (16 ≤ at.1.id) × (at.1.id ≡ id) × (writable_only ≡ true → at.1.writable ≡ true))) }
-    ensures read { (b : List ℕ) → M.tells mem.old b → IfOk result (λ o. IfSome o (λ at. IsShownAt b at.0 at.1)) }
-    ensures malformed { (b : List ℕ) → M.tells mem.old b → IfErr result (IfMalformed (BreaksHierarchy b)) }
+    ensures read { (b : List ℕ) → M.reveals mem.old b → IfOk result (λ o. IfSome o (λ at. IsShownAt b at.0 at.1)) }
+    ensures malformed { (b : List ℕ) → M.reveals mem.old b → IfErr result (IfMalformed (BreaksHierarchy b)) }
     ensures refused { IfErr result NotRefused }
-    ensures unchanged { (b : List ℕ) → M.tells mem.old b → M.tells mem.new b }
+    ensures unchanged { (b : List ℕ) → M.reveals mem.old b → M.reveals mem.new b }
     ensures kept { M.beside mem.old mem.new }
     ensures cause { IfErr result (IfMem (M.accounted mem.old mem.new)) }
     ensures cost { M.spent mem.new ≤ M.spent mem.old + 512 * M.cost }

@@ -62,8 +62,8 @@ fn put_part<M: FlatMem>(
     requires form { in_form i.now ≡ true }
     requires inside { (i.now.first ≤ first) × (first + pages ≤ end_of i.now) }
     requires few { (count ≤ 1023) × (pages ≢ 0 → count ≤ 1022) }
-    ensures put { (slots : List (Option Space)) (xs : List Interval) → HoldTables (M.tells mem.old) slots xs → length xs ≡ count
-        → IfOk result (λ n. HoldTables (M.tells mem.new) slots (put_in xs at (some_pages (cut i.now first pages))) × (length (put_in xs at (some_pages (cut i.now first pages))) ≡ n)) }
+    ensures put { (slots : List (Option Space)) (xs : List Interval) → HoldTables (M.reveals mem.old) slots xs → length xs ≡ count
+        → IfOk result (λ n. HoldTables (M.reveals mem.new) slots (put_in xs at (some_pages (cut i.now first pages))) × (length (put_in xs at (some_pages (cut i.now first pages))) ≡ n)) }
     ensures count { IfOk result (λ n. (count ≤ n) × (n ≤ count + 1) × (n ≤ 1023) × (pages ≡ 0 → n ≡ count)) }
     ensures memory { IfErr result FromMemory }
     ensures kept { M.beside mem.old mem.new }
@@ -78,16 +78,16 @@ fn put_part<M: FlatMem>(
 }
 
 // How many intervals more there are, where so many pages are left on either side.
-fn more(front: u32, back: u32) -> u32
+fn more(prefix: u32, back: u32) -> u32
     ensures most { result ≤ 2 }
-    ensures front { front ≢ 0 → 1 ≤ result }
+    ensures prefix { prefix ≢ 0 → 1 ≤ result }
     ensures back { back ≢ 0 → 1 ≤ result }
-    ensures both { front ≢ 0 → back ≢ 0 → 2 ≤ result }
-    ensures no_front { front ≡ 0 → result ≤ 1 }
+    ensures both { prefix ≢ 0 → back ≢ 0 → 2 ≤ result }
+    ensures no_prefix { prefix ≡ 0 → result ≤ 1 }
     ensures no_back { back ≡ 0 → result ≤ 1 }
-    ensures neither { front ≡ 0 → back ≡ 0 → result ≡ 0 }
+    ensures neither { prefix ≡ 0 → back ≡ 0 → result ≡ 0 }
 {
-    u32::from(front != 0) + u32::from(back != 0)
+    u32::from(prefix != 0) + u32::from(back != 0)
 }
 
 /// Splits the interval at an index where a space comes into it. Gives how many intervals there are then.
@@ -105,8 +105,8 @@ pub fn split<M: FlatMem>(
     requires handle { x.now.handle ≤ 511 }
     requires some { 1 ≤ x.now.pages }
     requires inside { (i.now.first ≤ x.now.first) × (end x.now ≤ end_of i.now) }
-    ensures split { (slots : List (Option Space)) (xs : List Interval) → HoldTables (M.tells mem.old) slots xs → length xs ≡ count → slice_get xs index ≡ Some i.now
-        → IfOk result (λ n. HoldTables (M.tells mem.new) slots (replaced xs index (pieces x.now i.now)) × (length (replaced xs index (pieces x.now i.now)) ≡ n)) }
+    ensures split { (slots : List (Option Space)) (xs : List Interval) → HoldTables (M.reveals mem.old) slots xs → length xs ≡ count → slice_get xs index ≡ Some i.now
+        → IfOk result (λ n. HoldTables (M.reveals mem.new) slots (replaced xs index (pieces x.now i.now)) × (length (replaced xs index (pieces x.now i.now)) ≡ n)) }
     ensures memory { count ≤ 1021 → IfErr result FromMemory }
     ensures count { IfOk result (λ n. (1 ≤ n) × (n ≤ 1023)) }
     ensures malformed { IfErr result (IfMalformed (IsOverfull count x.now i.now)) }
@@ -115,13 +115,13 @@ pub fn split<M: FlatMem>(
     ensures cause { IfErr result (IfMem (M.accounted mem.old mem.new)) }
     ensures cost { M.spent mem.new ≤ M.spent mem.old + 257 * M.cost }
 {
-    let behind = x.first + x.pages;
-    let front = x.first - i.first;
-    let back = i.first + i.pages - behind;
-    if count + more(front, back) > 1023 {
+    let after = x.first + x.pages;
+    let prefix = x.first - i.first;
+    let back = i.first + i.pages - after;
+    if count + more(prefix, back) > 1023 {
         return Err(SpaceError::Malformed { page: 32 });
     }
     put_interval(mem, index, &inside(x, &cut(i, x.first, x.pages)))?;
-    let count = put_part(mem, count, index + 1, i, behind, back)?;
-    put_part(mem, count, index, i, i.first, front)
+    let count = put_part(mem, count, index + 1, i, after, back)?;
+    put_part(mem, count, index, i, i.first, prefix)
 }

@@ -1,6 +1,6 @@
 -- What holds of a swapper that was lent holds of the one that came back.
 use Rattle.std.specs.Prelude.{◌≡◌}
 
--- told by four of its parts, as the goal names them
+-- revealed by four of its parts, as the goal names them
 pub lent : {W X Y Z : Type 0} (P : W → X → Y → Z → Type 0) (v w : W) (a b : X) (s t : Y) (x y : Z) → v ≡ w → a ≡ b → s ≡ t → x ≡ y → P w b t y → P v a s x
 lent P v w a b s t x y which disk slots layout h = rw (which, disk, slots, layout) h

@@ -8,9 +8,9 @@ use Rattle.labelled_disk.specs.declared.disk.DiskWrite.{DiskWrite}
 use Rattle.labelled_disk.specs.declared.disk.DiskWrite.TheVariants as write
 use Rattle.labelled_disk.specs.Sectors.{Sector}
 use Rattle.labelled_disk.specs.State.{DiskState}
-use Rattle.labelled_disk.specs.Calls.{TellsWrite, Moves}
-use Rattle.labelled_disk.specs.Moment.{written, moment}
-use Rattle.labelled_disk.specs.Lawful.{Lawful}
+use Rattle.labelled_disk.specs.Calls.{RevealsWrite, Moves}
+use Rattle.labelled_disk.specs.CrashState.{written, crash_state}
+use Rattle.labelled_disk.specs.Permitted.{Permitted}
 use Rattle.labelled_disk.specs.Runs.{IsWriteInForm}
 use Rattle.labelled_disk.proofs.WriteRunLemmas.{appended_one}
 use Rattle.frame_pool.specs.Frames.{Frame, Slots, Has}
@@ -41,42 +41,42 @@ merged_labelled (write.LabelOnly sector label) k sectors slots m s is was free h
     rw (at_disk, at_memory) ((move_laws sectors slots m).relabelled sector s (label, s.1) here (λ i f has at. free i f has (at ∙ is)) h)
 merged_labelled (write.Page sector wanted page) k sectors slots m s is was free h = absurd is
 
-module _ (old new : DiskState) (slots : Slots) (w : DiskWrite) (sector : ℕ) (is : IsLabelled w sector) (form : IsWriteInForm w) (made : TellsWrite w old new) (moves : Moves old new) where
+module _ (old new : DiskState) (slots : Slots) (w : DiskWrite) (sector : ℕ) (is : IsLabelled w sector) (form : IsWriteInForm w) (made : RevealsWrite w old new) (moves : Moves old new) where
   one : (k : ℕ) (x : DiskWrite) → slice_get (w ∷ []) k ≡ Some x → (P : DiskWrite → Type 0) → P w → P x
   one zero x at P h = subst P (same_Some w x at) h
   one (suc k) x at P h = absurd (none-some x at)
 
   -- whatever stands in frames, one label was written
-  pub label_written : ((d : List Sector) → old.contents ≡ Some d → Lawful d w) → Makes no_page (w ∷ []) old slots new slots
-  label_written lawful = record {
+  pub label_written : ((d : List Sector) → old.contents ≡ Some d → Permitted d w) → Makes no_page (w ∷ []) old slots new slots
+  label_written permitted = record {
     went = record { sectors = moves.sectors; lent = moves.lent; faults = moves.faults; transfers = moves.transfers.later };
     dirty = λ id page d. inl d;
     wrote = record {
       writes = w ∷ [];
       appended = appended_one w made;
       form = λ k x at. one k x at IsWriteInForm form;
-      lawful = λ d k x told at. law d k x told at;
+      permitted = λ d k x revealed at. law d k x revealed at;
       labels = is_alone w sector is;
       of_dirty = λ k place wanted bytes at. absurd (true≢false (one k (write.Page place wanted bytes) at (λ (x : DiskWrite). is_page_write x ≡ false) (no_page_write w sector is)));
     };
     count = refl;
   }
     where
-      law : (d : List Sector) (k : ℕ) (x : DiskWrite) → old.contents ≡ Some d → slice_get (w ∷ []) k ≡ Some x → Lawful (moment d (w ∷ []) k) x
-      law d zero x told at = subst (Lawful d) (same_Some w x at) (lawful d told)
-      law d (suc k) x told at = absurd (none-some x at)
+      law : (d : List Sector) (k : ℕ) (x : DiskWrite) → old.contents ≡ Some d → slice_get (w ∷ []) k ≡ Some x → Permitted (crash_state d (w ∷ []) k) x
+      law d zero x revealed at = subst (Permitted d) (same_Some w x at) (permitted d revealed)
+      law d (suc k) x revealed at = absurd (none-some x at)
 
-pub beside_frames : (old new : DiskState) (slots : Slots) (w : DiskWrite) (sector : ℕ) → IsLabelled w sector → IsWriteInForm w → TellsWrite w old new → Moves old new
-    → ((d : List Sector) → old.contents ≡ Some d → Lawful d w × ((s : Sector) × (slice_get d sector ≡ Some s)))
+pub beside_frames : (old new : DiskState) (slots : Slots) (w : DiskWrite) (sector : ℕ) → IsLabelled w sector → IsWriteInForm w → RevealsWrite w old new → Moves old new
+    → ((d : List Sector) → old.contents ≡ Some d → Permitted d w × ((s : Sector) × (slice_get d sector ≡ Some s)))
     → ((i : ℕ) (f : Frame) → Has slots i f → f.home.sector ≢ sector) → Goes (λ m n. n ≡ written w m) no_page (w ∷ []) old slots new slots
-beside_frames old new slots w sector is form made moves lawful free = record {
-  makes = label_written old new slots w sector is form made moves (λ d told. (lawful d told).0);
+beside_frames old new slots w sector is form made moves permitted free = record {
+  makes = label_written old new slots w sector is form made moves (λ d revealed. (permitted d revealed).0);
   memory = λ m h.
-      let there = (lawful h.sectors h.told).1 in (
+      let there = (permitted h.sectors h.revealed).1 in (
         written w m,
         record {
           sectors = written w h.sectors;
-          told = made.contents ∙ ap (option_map (written w)) h.told;
+          revealed = made.contents ∙ ap (option_map (written w)) h.revealed;
           merged = merged_labelled w sector h.sectors slots m there.0 is there.1 free h.merged;
         },
         refl,

@@ -45,7 +45,7 @@ module _ (disk : DiskState) (slots after : Slots) (i : ℕ) (f : Frame) (at : �
           slice_set m f.home.sector (home.label, overwritten f.bytes at bytes),
           record {
             sectors = stands.sectors;
-            told = stands.told;
+            revealed = stands.revealed;
             merged = rw (is ∙ sym (changed_is slots i f at bytes has)) ((move_laws stands.sectors slots m).changed i f (home.label, f.bytes) at bytes has distinct home.keeps stands.merged);
           },
           record { s = s; here = home.keeps; named = home.named; is = refl },
@@ -78,7 +78,7 @@ module _ (disk : DiskState) (slots : Slots) (i : ℕ) (f : Frame) (has : Has slo
           slice_set m f.home.sector d.0,
           record {
             sectors = stands.sectors;
-            told = stands.told;
+            revealed = stands.revealed;
             merged = (move_laws stands.sectors slots m).dropped i f d.0 has distinct d.1 stands.merged;
           },
           differs_there m f.home.sector home.label f.bytes d.0 home.keeps d.2 home.named,

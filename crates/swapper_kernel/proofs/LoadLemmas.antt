@@ -4,7 +4,7 @@ use Rattle.std.proofs.Common.{refl, sym, ◌∙◌, ap, subst, inl, inr}
 use Rattle.std.proofs.lemmas.Option.{same_Some, none-some}
 use Rattle.std.proofs.lemmas.Bool.{true≢false}
 use Rattle.labelled_disk.specs.declared.label.Label.{Label}
-use Rattle.labelled_disk.specs.Calls.{TellsSame, Moves}
+use Rattle.labelled_disk.specs.Calls.{RevealsSame, Moves}
 use Rattle.labelled_disk.specs.Label.{names}
 use Rattle.labelled_disk.specs.Sectors.{Sector}
 use Rattle.labelled_disk.specs.State.{DiskState, Holds}
@@ -49,12 +49,12 @@ module _ (s after : Slots) (i : ℕ) (home : Home) (bytes : List ℕ) (below : i
         ];
   }
 
-  module _ {old new : DiskState} (clean : (g : Frame) → Has s i g → g.dirty ≡ false) (nowhere : IsNowhere s home.id home.page) (label : Label) (holds : Holds old home.sector (label, bytes)) (same : TellsSame old new) where
+  module _ {old new : DiskState} (clean : (g : Frame) → Has s i g → g.dirty ≡ false) (nowhere : IsNowhere s home.id home.page) (label : Label) (holds : Holds old home.sector (label, bytes)) (same : RevealsSame old new) where
     pub swaps : names label (wanted_at home) ≡ true → Moves old new → Swaps old s new after
     swaps named moves =
         let inside : i < length (slice_set s i None) = subst (λ (n : ℕ). i < n) (sym (length_of_set s i None)) below in
         rw is (swaps_then (step_laws.read old new s same moves) (swaps_then (step_laws.cleared new s i below clean)
-        (step_laws.put new (slice_set s i None) i home label bytes inside (empty_cleared s i below) (nowhere_cleared s i home.id home.page below nowhere) (λ d told. holds d (sym same.contents ∙ told)) named)))
+        (step_laws.put new (slice_set s i None) i home label bytes inside (empty_cleared s i below) (nowhere_cleared s i home.id home.page below nowhere) (λ d revealed. holds d (sym same.contents ∙ revealed)) named)))
 
     pub steps : {change : Homes} → names label (wanted_at home) ≡ true → ((g : Frame) → Has s i g → (j : ℕ) → IsEmpty s j → ⊥) → Steps (λ h. h ≡ home) change old s new after
     steps named full = steps_filled s after i (new_frame home bytes) (record {
@@ -71,11 +71,11 @@ module _ (s after : Slots) (i : ℕ) (home : Home) (bytes : List ℕ) (below : i
 -- The label that was read is another than that of the given home.
 pub given_other : (s : Slots) (home : Home) (disk : DiskState) (label : Label) (bytes : List ℕ) → names label (wanted_at home) ≡ false
     → Holds disk home.sector (label, bytes) → IsOther (held_or s (λ h. h ≡ home)) disk home.sector (wanted_at home) label
-given_other s home disk label bytes other holds = record { there = λ d told. ap (option_map (λ (t : Sector). t.0)) (holds d told); other = other; reason = inr refl }
+given_other s home disk label bytes other holds = record { there = λ d revealed. ap (option_map (λ (t : Sector). t.0)) (holds d revealed); other = other; reason = inr refl }
 
 -- But not where frames and disk stand for a memory whose label there names the page.
 pub named_holds : {disk : DiskState} (s : Slots) (home : Home) (m : List Sector) (label : Label) (bytes : List ℕ) → Stands disk s m → IsNamed m home → Holds disk home.sector (label, bytes) → names label (wanted_at home) ≡ false → ⊥
 named_holds s home m label bytes h named holds other =
     let d = other_sector h.sectors m h.merged.labels home.sector named.sector named.here in
-    let same : label ≡ d.0.0 = ap (λ (t : Sector). t.0) (same_Some {A = Sector} (label, bytes) d.0 (sym (holds h.sectors h.told) ∙ d.1)) in
+    let same : label ≡ d.0.0 = ap (λ (t : Sector). t.0) (same_Some {A = Sector} (label, bytes) d.0 (sym (holds h.sectors h.revealed) ∙ d.1)) in
     true≢false (sym named.named ∙ ap (λ (l : Label). names l (wanted_at home)) (sym d.2 ∙ sym same) ∙ other)

@@ -5,7 +5,7 @@ use Rattle.std.proofs.lemmas.Option.{same_Some}
 use Rattle.std.proofs.lemmas.Bool.{true≢false}
 use Rattle.labelled_disk.specs.declared.label.Label.{Label}
 use Rattle.labelled_disk.specs.declared.disk.DiskWrite.TheVariants as write
-use Rattle.labelled_disk.specs.Calls.{TellsSame, TellsWrite, Moves}
+use Rattle.labelled_disk.specs.Calls.{RevealsSame, RevealsWrite, Moves}
 use Rattle.labelled_disk.specs.Label.{names}
 use Rattle.labelled_disk.specs.Sectors.{Sector}
 use Rattle.labelled_disk.specs.State.{DiskState, NamesThere, HasLabel}
@@ -25,32 +25,32 @@ use Rattle.swapper_kernel.proofs.StepLemmas.{step_laws}
 -- A frame of the slots, its home and bytes as the pool gives them.
 module _ {old new : DiskState} (s : Slots) (i : ℕ) (home : Home) (page : List ℕ) (f : Frame) (has : Has s i f) (at : f.home ≡ home) (dirty : f.dirty ≡ true) (bytes : page ≡ f.bytes) (fits : IsPageBytes page)
     (inside : 0 < home.sector) (moves : Moves old new) where
-  pub swaps_ok : TellsWrite (write.Page home.sector (wanted_at home) page) old new → NamesThere old home.sector (wanted_at home) true → Swaps old s new (slice_set s i (Some (clean f)))
-  swaps_ok tells named = rw (← cleaned_is s i f has) (step_laws.out old new s i f has dirty (rw at inside) (rw (← bytes) fits) (rw (at, ← bytes) tells) (rw at named) moves)
+  pub swaps_ok : RevealsWrite (write.Page home.sector (wanted_at home) page) old new → NamesThere old home.sector (wanted_at home) true → Swaps old s new (slice_set s i (Some (clean f)))
+  swaps_ok reveals named = rw (← cleaned_is s i f has) (step_laws.out old new s i f has dirty (rw at inside) (rw (← bytes) fits) (rw (at, ← bytes) reveals) (rw at named) moves)
 
-  pub swaps_failed : TellsSame old new ⊎ (TellsWrite (write.Page home.sector (wanted_at home) page) old new × NamesThere old home.sector (wanted_at home) true) → Swaps old s new s
+  pub swaps_failed : RevealsSame old new ⊎ (RevealsWrite (write.Page home.sector (wanted_at home) page) old new × NamesThere old home.sector (wanted_at home) true) → Swaps old s new s
   swaps_failed (inl same) = step_laws.read old new s same moves
   swaps_failed (inr both) = step_laws.written old new s i f has dirty (rw at inside) (rw (← bytes) fits) (rw (at, ← bytes) both.0) (rw at both.1) moves
 
-  pub steps_ok : {come change : Homes} → TellsWrite (write.Page home.sector (wanted_at home) page) old new → NamesThere old home.sector (wanted_at home) true → Steps come change old s new (slice_set s i (Some (clean f)))
-  steps_ok tells named = steps_out s _ i f (clean f) (record {
+  pub steps_ok : {come change : Homes} → RevealsWrite (write.Page home.sector (wanted_at home) page) old new → NamesThere old home.sector (wanted_at home) true → Steps come change old s new (slice_set s i (Some (clean f)))
+  steps_ok reveals named = steps_out s _ i f (clean f) (record {
     has = has;
     dirty = dirty;
     home = refl;
     bytes = refl;
-    tells = rw (at, ← bytes) tells;
+    reveals = rw (at, ← bytes) reveals;
     named = rw at named;
     is = refl;
   })
 
-  pub steps_failed : {come change : Homes} → TellsSame old new ⊎ (TellsWrite (write.Page home.sector (wanted_at home) page) old new × NamesThere old home.sector (wanted_at home) true) → Steps come change old s new s
+  pub steps_failed : {come change : Homes} → RevealsSame old new ⊎ (RevealsWrite (write.Page home.sector (wanted_at home) page) old new × NamesThere old home.sector (wanted_at home) true) → Steps come change old s new s
   steps_failed (inl same) = steps_none s same
   steps_failed (inr both) = steps_out s s i f f (record {
     has = has;
     dirty = dirty;
     home = refl;
     bytes = refl;
-    tells = rw (at, ← bytes) both.0;
+    reveals = rw (at, ← bytes) both.0;
     named = rw at both.1;
     is = sym (set_own s i (Some f) has.is);
   })
@@ -66,7 +66,7 @@ pub never_other : {disk : DiskState} (s : Slots) (i : ℕ) (f : Frame) (home : H
 never_other s i f home m found has at h other there =
     let kept = h.merged.frames i f has in
     let d = other_sector h.sectors m h.merged.labels f.home.sector (kept.label, f.bytes) kept.keeps in
-    let here : Some found ≡ Some d.0.0 = sym (there h.sectors h.told) ∙ ap (λ (x : Home). option_map (λ (t : Sector). t.0) (slice_get h.sectors x.sector)) (sym at) ∙ ap (option_map (λ (t : Sector). t.0)) d.1 in
+    let here : Some found ≡ Some d.0.0 = sym (there h.sectors h.revealed) ∙ ap (λ (x : Home). option_map (λ (t : Sector). t.0) (slice_get h.sectors x.sector)) (sym at) ∙ ap (option_map (λ (t : Sector). t.0)) d.1 in
     let label : found ≡ kept.label = same_Some found d.0.0 here ∙ d.2 in
     true≢false (sym kept.named ∙ ap (λ (l : Label). names l (wanted_at f.home)) (sym label) ∙ ap (λ (x : Home). names found (wanted_at x)) at ∙ other)
 

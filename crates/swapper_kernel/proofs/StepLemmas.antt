@@ -10,9 +10,9 @@ use Rattle.labelled_disk.specs.declared.disk.DiskWrite.TheVariants as write
 use Rattle.labelled_disk.specs.Label.{names}
 use Rattle.labelled_disk.specs.Sectors.{Sector}
 use Rattle.labelled_disk.specs.State.{DiskState, Holds, NamesThere}
-use Rattle.labelled_disk.specs.Calls.{TellsSame, TellsWrite, Moves}
-use Rattle.labelled_disk.specs.Moment.{written, moment}
-use Rattle.labelled_disk.specs.Lawful.{Lawful, IsPageWrite}
+use Rattle.labelled_disk.specs.Calls.{RevealsSame, RevealsWrite, Moves}
+use Rattle.labelled_disk.specs.CrashState.{written, crash_state}
+use Rattle.labelled_disk.specs.Permitted.{Permitted, IsPageWrite}
 use Rattle.labelled_disk.specs.Runs.{IsWriteInForm}
 use Rattle.labelled_disk.proofs.WriteRunLemmas.{appended_one}
 use Rattle.frame_pool.specs.declared.home.Home.{Home}
@@ -29,10 +29,10 @@ use Rattle.swapper_kernel.proofs.BesideLemmas.{label_written, beside_frames}
 pub went_by : {a b : DiskState} → Moves a b → Went a b
 went_by m = record { sectors = m.sectors; lent = m.lent; faults = m.faults; transfers = m.transfers.later }
 
-pub stands_told : {old new : DiskState} {slots : Slots} {m : List Sector} → new.contents ≡ old.contents → Stands old slots m → Stands new slots m
-stands_told same h = record { sectors = h.sectors; told = same ∙ h.told; merged = h.merged }
+pub stands_revealed : {old new : DiskState} {slots : Slots} {m : List Sector} → new.contents ≡ old.contents → Stands old slots m → Stands new slots m
+stands_revealed same h = record { sectors = h.sectors; revealed = same ∙ h.revealed; merged = h.merged }
 
-step_read : (old new : DiskState) (slots : Slots) → TellsSame old new → Moves old new → Swaps old slots new slots
+step_read : (old new : DiskState) (slots : Slots) → RevealsSame old new → Moves old new → Swaps old slots new slots
 step_read old new slots same moves = record {
   makes = record {
     went = went_by moves;
@@ -40,11 +40,11 @@ step_read old new slots same moves = record {
     wrote = wrote_none no_page slots same;
     count = refl;
   };
-  memory = λ m stands. (m, stands_told same.contents stands, refl);
+  memory = λ m stands. (m, stands_revealed same.contents stands, refl);
 }
 
 module _ (old new : DiskState) (slots : Slots) (i : ℕ) (f : Frame) (has : Has slots i f) (dirty : f.dirty ≡ true) (some : 0 < f.home.sector) (form : IsWriteInForm (write.Page f.home.sector (wanted_at f.home) f.bytes))
-    (made : TellsWrite (write.Page f.home.sector (wanted_at f.home) f.bytes) old new) (named : NamesThere old f.home.sector (wanted_at f.home) true) (moves : Moves old new) where
+    (made : RevealsWrite (write.Page f.home.sector (wanted_at f.home) f.bytes) old new) (named : NamesThere old f.home.sector (wanted_at f.home) true) (moves : Moves old new) where
   named_sector : (o : Option Sector) (w : Wanted) → option_map (λ s. names s.0 w) o ≡ Some true → (s : Sector) × (o ≡ Some s) × (names s.0 w ≡ true)
   named_sector None w e = absurd (none-some true e)
   named_sector (Some s) w e = (s, refl, same_Some (names s.0 w) true e)
@@ -54,7 +54,7 @@ module _ (old new : DiskState) (slots : Slots) (i : ℕ) (f : Frame) (has : Has 
     writes = write.Page f.home.sector (wanted_at f.home) f.bytes ∷ [];
     appended = appended_one (write.Page f.home.sector (wanted_at f.home) f.bytes) made;
     form = λ k w at. one k w at (IsWriteInForm) form;
-    lawful = λ d k w told at. law d k w told at;
+    permitted = λ d k w revealed at. law d k w revealed at;
     labels = refl;
     of_dirty = λ k sector wanted bytes at. inl (of k sector wanted bytes at);
   }
@@ -64,12 +64,12 @@ module _ (old new : DiskState) (slots : Slots) (i : ℕ) (f : Frame) (has : Has 
       one (suc k) w at P h = absurd (none-some w at)
 
       law : (d : List Sector) (k : ℕ) (w : DiskWrite) → old.contents ≡ Some d → slice_get (write.Page f.home.sector (wanted_at f.home) f.bytes ∷ []) k ≡ Some w
-          → Lawful (moment d (write.Page f.home.sector (wanted_at f.home) f.bytes ∷ []) k) w
-      law d zero w told at =
-          let s = named_sector (slice_get d f.home.sector) (wanted_at f.home) (named d told) in
-          let lawful : IsPageWrite d f.home.sector (wanted_at f.home) = record { not_root = some; old = s } in
-          subst (Lawful d) (same_Some (write.Page f.home.sector (wanted_at f.home) f.bytes) w at) lawful
-      law d (suc k) w told at = absurd (none-some w at)
+          → Permitted (crash_state d (write.Page f.home.sector (wanted_at f.home) f.bytes ∷ []) k) w
+      law d zero w revealed at =
+          let s = named_sector (slice_get d f.home.sector) (wanted_at f.home) (named d revealed) in
+          let permitted : IsPageWrite d f.home.sector (wanted_at f.home) = record { not_root = some; old = s } in
+          subst (Permitted d) (same_Some (write.Page f.home.sector (wanted_at f.home) f.bytes) w at) permitted
+      law d (suc k) w revealed at = absurd (none-some w at)
 
       wanted_of : DiskWrite → Wanted
       wanted_of (write.Whole sector label bytes) = record { id = 0; page = 0 }
@@ -85,7 +85,7 @@ module _ (old new : DiskState) (slots : Slots) (i : ℕ) (f : Frame) (has : Has 
   stands_written : (m : List Sector) → Stands old slots m → Stands new slots m
   stands_written m h = record {
     sectors = written (write.Page f.home.sector (wanted_at f.home) f.bytes) h.sectors;
-    told = made.contents ∙ ap (option_map (written (write.Page f.home.sector (wanted_at f.home) f.bytes))) h.told;
+    revealed = made.contents ∙ ap (option_map (written (write.Page f.home.sector (wanted_at f.home) f.bytes))) h.revealed;
     merged = (move_laws h.sectors slots m).written_out i f has h.merged;
   }
 
@@ -117,7 +117,7 @@ module _ (old new : DiskState) (slots : Slots) (i : ℕ) (f : Frame) (has : Has 
       m,
       record {
         sectors = written (write.Page f.home.sector (wanted_at f.home) f.bytes) h.sectors;
-        told = made.contents ∙ ap (option_map (written (write.Page f.home.sector (wanted_at f.home) f.bytes))) h.told;
+        revealed = made.contents ∙ ap (option_map (written (write.Page f.home.sector (wanted_at f.home) f.bytes))) h.revealed;
         merged = (move_laws (written (write.Page f.home.sector (wanted_at f.home) f.bytes) h.sectors) slots m).cleaned i f has (written_there h.sectors slots m h.merged i f has)
             ((move_laws h.sectors slots m).written_out i f has h.merged);
       },
@@ -139,7 +139,7 @@ step_cleared disk slots i below none = record {
     wrote = wrote_none no_page slots (record { contents = refl; writes = refl });
     count = length-set slots i None;
   };
-  memory = λ m h. (m, record { sectors = h.sectors; told = h.told; merged = (move_laws h.sectors slots m).cleared i below none h.merged }, refl);
+  memory = λ m h. (m, record { sectors = h.sectors; revealed = h.revealed; merged = (move_laws h.sectors slots m).cleared i below none h.merged }, refl);
 }
 
 step_put : (disk : DiskState) (slots : Slots) (i : ℕ) (home : Home) (label : Label) (bytes : List ℕ) → i < length slots → frame_at slots i ≡ None → IsNowhere slots home.id home.page
@@ -158,8 +158,8 @@ step_put disk slots i home label bytes below empty nowhere holds named = record 
     m,
     record {
       sectors = h.sectors;
-      told = h.told;
-      merged = (move_laws h.sectors slots m).put i home label bytes below empty nowhere (holds h.sectors h.told) named h.merged;
+      revealed = h.revealed;
+      merged = (move_laws h.sectors slots m).put i home label bytes below empty nowhere (holds h.sectors h.revealed) named h.merged;
     },
     refl,
   );

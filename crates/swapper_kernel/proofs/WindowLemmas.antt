@@ -27,7 +27,7 @@ use Rattle.swapper_kernel.specs.Steps.{Steps}
 use Rattle.swapper_kernel.specs.CourseLaws.{steps_wider}
 use Rattle.swapper_kernel.specs.Halts.{Halts}
 use Rattle.swapper_kernel.specs.HaltLaws.{brings_wider, halts_wider}
-use Rattle.swapper_kernel.specs.Window.{IsPage, Shows, Tells, Beside, IsAccounted, in_map, map_pages}
+use Rattle.swapper_kernel.specs.Window.{IsPage, Shows, Reveals, Beside, IsAccounted, in_map, map_pages}
 
 le_total : (a b : ℕ) → (a ≤ b) ⊎ (b ≤ a)
 le_total a b = elim (leb_tells a b) [ inl (_, le) ↦ inl le | inr (_, gt) ↦ inr (omega arith) ]
@@ -114,25 +114,25 @@ beside_changed which {x = x} page below same i f has at from bytes fits is goes 
   layout = same;
 }
 
-pub tells_swapped : (which : Manager) {a b : DiskState} {s t : Slots} {x y : Layout} → y ≡ x → Swaps a s b t → (bytes : List ℕ) → Tells which a s x bytes → Tells which b t y bytes
-tells_swapped which same h bytes tells = record {
-  memory = tells.memory;
-  stands = swaps_stands h tells.memory tells.stands;
-  shows = rw same tells.shows;
-  size = h.makes.went.sectors ∙ tells.size ∙ ap (λ (l : Layout). l.sectors) (sym same);
+pub reveals_swapped : (which : Manager) {a b : DiskState} {s t : Slots} {x y : Layout} → y ≡ x → Swaps a s b t → (bytes : List ℕ) → Reveals which a s x bytes → Reveals which b t y bytes
+reveals_swapped which same h bytes reveals = record {
+  memory = reveals.memory;
+  stands = swaps_stands h reveals.memory reveals.stands;
+  shows = rw same reveals.shows;
+  size = h.makes.went.sectors ∙ reveals.size ∙ ap (λ (l : Layout). l.sectors) (sym same);
 }
 
-pub tells_changed : (which : Manager) {a b : DiskState} {s t : Slots} {x y : Layout} (page : ℕ) → page < pages_of which x → y ≡ x → (home : Home) → home ≡ map_home which x page
+pub reveals_changed : (which : Manager) {a b : DiskState} {s t : Slots} {x y : Layout} (page : ℕ) → page < pages_of which x → y ≡ x → (home : Home) → home ≡ map_home which x page
     → (from : ℕ) (new : List ℕ) → from + length new ≤ 512 → Goes (ChangesAt home from new) (this_page home.id home.page) [] a s b t
-    → (at : ℕ) → 512 * page + from ≡ at → (bytes : List ℕ) → Tells which a s x bytes → Tells which b t y (overwritten bytes at new)
-tells_changed which {x = x} page below same home home_is from new fits goes at at_is bytes tells =
-    let now = goes.memory tells.memory tells.stands in
-    let shown = change_shows which x page from new home tells.memory now.0 below home_is fits now.2 bytes tells.shows in
+    → (at : ℕ) → 512 * page + from ≡ at → (bytes : List ℕ) → Reveals which a s x bytes → Reveals which b t y (overwritten bytes at new)
+reveals_changed which {x = x} page below same home home_is from new fits goes at at_is bytes reveals =
+    let now = goes.memory reveals.memory reveals.stands in
+    let shown = change_shows which x page from new home reveals.memory now.0 below home_is fits now.2 bytes reveals.shows in
     record {
       memory = now.0;
       stands = now.1;
       shows = rw (same, ← at_is) shown;
-      size = goes.makes.went.sectors ∙ tells.size ∙ ap (λ (l : Layout). l.sectors) (sym same);
+      size = goes.makes.went.sectors ∙ reveals.size ∙ ap (λ (l : Layout). l.sectors) (sym same);
     }
 
 -- a frame of the map has the page that is shown

@@ -10,7 +10,7 @@ use Rattle.flat_mem.specs.Memory.{part}
 use Rattle.swapper_kernel.specs.declared.manager.Manager.{Manager}
 use Rattle.swapper_kernel.specs.declared.manager.Manager.TheVariants.{AllocationMap, FileMap}
 use Rattle.swapper_kernel.specs.Maps.{pages_of, start_of}
-use Rattle.swapper_kernel.specs.Window.{IsPage, Tells, Beside, in_map}
+use Rattle.swapper_kernel.specs.Window.{IsPage, Reveals, Beside, in_map}
 
 -- a page of the one map is none of the other's
 apart : (which also : Manager) (layout : Layout) (k : ℕ) (l : Label) → which ≢ also → k < pages_of also layout → in_map which layout (start_of also layout + k) l ≡ false
@@ -21,17 +21,17 @@ apart FileMap FileMap layout k l other below = absurd (other refl)
 
 -- the bytes of the other map stay
 pub other_map_stays : (which also : Manager) (old new : DiskState) (before after : Slots) (place : Layout) (b : List ℕ) → which ≢ also
-    → Beside which old before place new after place → Tells also old before place b → Tells also new after place b
-other_map_stays which also old new before after place b other beside tells =
-    let next = beside.goes.memory tells.memory tells.stands in
+    → Beside which old before place new after place → Reveals also old before place b → Reveals also new after place b
+other_map_stays which also old new before after place b other beside reveals =
+    let next = beside.goes.memory reveals.memory reveals.stands in
     record {
       memory = next.0;
       stands = next.1;
       shows = record {
-        count = tells.shows.count;
+        count = reveals.shows.count;
         page = λ k below.
-            let was : IsPage tells.memory (start_of also place + k) (part b (512 * k) 512) = tells.shows.page k below in
+            let was : IsPage reveals.memory (start_of also place + k) (part b (512 * k) 512) = reveals.shows.page k below in
             record { label = was.label; keeps = next.2.pages (start_of also place + k) (was.label, part b (512 * k) 512) was.keeps (apart which also place k was.label other below) };
       };
-      size = beside.goes.makes.went.sectors ∙ tells.size;
+      size = beside.goes.makes.went.sectors ∙ reveals.size;
     }

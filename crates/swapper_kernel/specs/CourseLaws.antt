@@ -3,20 +3,20 @@ use Rattle.std.specs.Prelude.{◌≡◌, ℕ, List, [], ◌∷◌, ◌++◌, Som
 use Rattle.std.proofs.Common.{refl, ◌∙◌, ap}
 use Rattle.labelled_disk.specs.declared.disk.DiskWrite.{DiskWrite}
 use Rattle.labelled_disk.specs.declared.disk.DiskWrite.TheVariants.{Page}
-use Rattle.labelled_disk.specs.Calls.{TellsSame}
-use Rattle.labelled_disk.specs.Moment.{written}
+use Rattle.labelled_disk.specs.Calls.{RevealsSame}
+use Rattle.labelled_disk.specs.CrashState.{written}
 use Rattle.labelled_disk.specs.State.{DiskState}
 use Rattle.frame_pool.specs.declared.home.Home.{Home}
 use Rattle.frame_pool.specs.Frames.{Frame, Slots}
 use Rattle.swapper_kernel.specs.Homes.{Homes, wanted_at}
 use Rattle.swapper_kernel.specs.Steps.{Step, Fills, WritesOut, Alters, IsStep, IsCourse, Steps, fills, writes_out, alters}
 
-same_step : (come change : Homes) (k : Step) (a b m : DiskState) (s t u : Slots) → TellsSame a b → t ≡ s → IsStep come change k b t m u → IsStep come change k a s m u
+same_step : (come change : Homes) (k : Step) (a b m : DiskState) (s t u : Slots) → RevealsSame a b → t ≡ s → IsStep come change k b t m u → IsStep come change k a s m u
 same_step come change (fills i f) a b m s t u same is h = record {
   may = h.may;
   same = record { contents = h.same.contents ∙ same.contents; writes = h.same.writes ∙ same.writes };
   clean = h.clean;
-  page = (h.page.0, (λ sectors told. h.page.1 sectors (same.contents ∙ told)), h.page.2);
+  page = (h.page.0, (λ sectors revealed. h.page.1 sectors (same.contents ∙ revealed)), h.page.2);
   fresh = rw (← is) h.fresh;
   below = rw (← is) h.below;
   leaves = rw (← is) h.leaves;
@@ -27,11 +27,11 @@ same_step come change (writes_out i f g) a b m s t u same is h = record {
   dirty = h.dirty;
   home = h.home;
   bytes = h.bytes;
-  tells = record {
-    contents = h.tells.contents ∙ ap (option_map (written (Page f.home.sector (wanted_at f.home) f.bytes))) same.contents;
-    writes = h.tells.writes ∙ ap (option_map (λ (l : List DiskWrite). l ++ Page f.home.sector (wanted_at f.home) f.bytes ∷ [])) same.writes;
+  reveals = record {
+    contents = h.reveals.contents ∙ ap (option_map (written (Page f.home.sector (wanted_at f.home) f.bytes))) same.contents;
+    writes = h.reveals.writes ∙ ap (option_map (λ (l : List DiskWrite). l ++ Page f.home.sector (wanted_at f.home) f.bytes ∷ [])) same.writes;
   };
-  named = λ sectors told. h.named sectors (same.contents ∙ told);
+  named = λ sectors revealed. h.named sectors (same.contents ∙ revealed);
   is = h.is ∙ ap (λ (l : Slots). slice_set l i (Some g)) is;
 }
 same_step come change (alters i f g) a b m s t u same is h = record {
@@ -74,7 +74,7 @@ one_step : (come change : Homes) (k : Step) (a b : DiskState) (s t : Slots) → 
 one_step come change k a b s t h = record { steps = k ∷ []; course = (b, t, h, (record { contents = refl; writes = refl }, refl)) }
 
 -- nothing but counts
-pub steps_none : {come change : Homes} {a b : DiskState} (s : Slots) → TellsSame a b → Steps come change a s b s
+pub steps_none : {come change : Homes} {a b : DiskState} (s : Slots) → RevealsSame a b → Steps come change a s b s
 steps_none s same = record { steps = []; course = (same, refl) }
 
 pub steps_filled : {come change : Homes} {a b : DiskState} (s t : Slots) (i : ℕ) (f : Frame) → Fills come i f a s b t → Steps come change a s b t

@@ -68,7 +68,7 @@ set_labels [] i s page here = refl
 set_labels (x ∷ xs) zero s page here = ap (λ (l : Label). l ∷ labels_of xs) (ap (λ (t : Sector). t.0) (sym (same_Some x s here)))
 set_labels (x ∷ xs) (suc i) s page here = ap (λ (ls : List Label). x.0 ∷ ls) (set_labels xs i s page here)
 
--- a label that names a page tells it
+-- a label that names a page reveals it
 pub names_id : (l : Label) (w : Wanted) → names l w ≡ true → l.id ≡ w.id
 names_id l w named = grind (arith, nat_tests)
 

@@ -6,8 +6,8 @@ use Rattle.labelled_disk.specs.declared.disk.DiskWrite.{DiskWrite}
 use Rattle.labelled_disk.specs.declared.disk.DiskWrite.TheVariants as write
 use Rattle.labelled_disk.specs.Sectors.{Sector}
 use Rattle.labelled_disk.specs.State.{DiskState}
-use Rattle.labelled_disk.specs.Moment.{moment}
-use Rattle.labelled_disk.specs.Lawful.{Lawful}
+use Rattle.labelled_disk.specs.CrashState.{crash_state}
+use Rattle.labelled_disk.specs.Permitted.{Permitted}
 use Rattle.labelled_disk.specs.Runs.{IsWriteInForm}
 use Rattle.labelled_disk.specs.WriteRuns.{Appended}
 use Rattle.frame_pool.specs.Frames.{Frame, Slots, Has}
@@ -47,13 +47,13 @@ is_page_write (write.Whole sector label bytes) = false
 is_page_write (write.LabelOnly sector label) = false
 is_page_write (write.Page sector wanted bytes) = true
 
--- Writes were made, each lawful at its moment. Those of labels are this run, in order. The bytes of a page were written
+-- Writes were made, each permitted where it is made. Those of labels are this run, in order. The bytes of a page were written
 -- only where a dirty frame had it before, or it is one of these pages.
 pub record Wrote (pages : Pages) (run : List DiskWrite) (old : DiskState) (before : Slots) (new : DiskState) : Type 0 where
   pub writes : List DiskWrite
   pub appended : Appended writes old new
   pub form : (k : ℕ) (w : DiskWrite) → slice_get writes k ≡ Some w → IsWriteInForm w
-  pub lawful : (d : List Sector) (k : ℕ) (w : DiskWrite) → old.contents ≡ Some d → slice_get writes k ≡ Some w → Lawful (moment d writes k) w
+  pub permitted : (d : List Sector) (k : ℕ) (w : DiskWrite) → old.contents ≡ Some d → slice_get writes k ≡ Some w → Permitted (crash_state d writes k) w
   pub labels : filter (λ w. not (is_page_write w)) writes ≡ run
   pub of_dirty : (k sector : ℕ) (wanted : Wanted) (bytes : List ℕ) → slice_get writes k ≡ Some (write.Page sector wanted bytes)
       → IsDirty before wanted.id wanted.page ⊎ pages wanted.id wanted.page

@@ -7,11 +7,11 @@ use Rattle.labelled_disk.specs.declared.disk.DiskWrite.{DiskWrite}
 use Rattle.labelled_disk.specs.declared.disk.DiskWrite.TheVariants as write
 use Rattle.labelled_disk.specs.Sectors.{Sector}
 use Rattle.labelled_disk.specs.State.{DiskState}
-use Rattle.labelled_disk.specs.Calls.{TellsSame}
-use Rattle.labelled_disk.specs.Moment.{moment}
-use Rattle.labelled_disk.specs.Lawful.{Lawful}
+use Rattle.labelled_disk.specs.Calls.{RevealsSame}
+use Rattle.labelled_disk.specs.CrashState.{crash_state}
+use Rattle.labelled_disk.specs.Permitted.{Permitted}
 use Rattle.labelled_disk.specs.WriteRuns.{after_writes}
-use Rattle.labelled_disk.proofs.WriteRunLemmas.{appended_none, appended_then, moment-earlier, after_writes-append, moment-later}
+use Rattle.labelled_disk.proofs.WriteRunLemmas.{appended_none, appended_then, crash_state-earlier, after_writes-append, crash_state-later}
 use Rattle.frame_pool.specs.Frames.{Slots}
 use Rattle.swapper_kernel.specs.Stands.{Stands}
 use Rattle.swapper_kernel.specs.Goes.{Change, Pages, IsDirty, Went, Wrote, Makes, Goes, Same, no_page, Swaps, is_page_write}
@@ -46,10 +46,10 @@ wrote_then {a = a} dirty h k = record {
     | inl (_, here) ↦ h.form i w here
     | inr (j, _, here) ↦ k.form j w here
   ];
-  lawful = λ d i w told at. elim (get_append h.writes k.writes i w at) [
-    | inl (below, here) ↦ subst (λ (now : List Sector). Lawful now w) (sym (moment-earlier d h.writes k.writes i (omega arith))) (h.lawful d i w told here)
-    | inr (j, past, here) ↦ subst (λ (now : List Sector). Lawful now w) (sym (ap (moment d (h.writes ++ k.writes)) past ∙ moment-later d h.writes k.writes j))
-        (k.lawful (after_writes h.writes d) j w (h.appended.contents ∙ ap (option_map (after_writes h.writes)) told) here)
+  permitted = λ d i w revealed at. elim (get_append h.writes k.writes i w at) [
+    | inl (below, here) ↦ subst (λ (now : List Sector). Permitted now w) (sym (crash_state-earlier d h.writes k.writes i (omega arith))) (h.permitted d i w revealed here)
+    | inr (j, past, here) ↦ subst (λ (now : List Sector). Permitted now w) (sym (ap (crash_state d (h.writes ++ k.writes)) past ∙ crash_state-later d h.writes k.writes j))
+        (k.permitted (after_writes h.writes d) j w (h.appended.contents ∙ ap (option_map (after_writes h.writes)) revealed) here)
   ];
   labels = filter-append (λ w. not (is_page_write w)) h.writes k.writes ∙ (λ i. h.labels i ++ k.labels i);
   of_dirty = λ i sector wanted bytes at. elim (get_append h.writes k.writes i (write.Page sector wanted bytes) at) [
@@ -62,12 +62,12 @@ wrote_then {a = a} dirty h k = record {
 }
 
 -- nothing was written
-pub wrote_none : {old new : DiskState} (pages : Pages) (slots : Slots) → TellsSame old new → Wrote pages [] old slots new
+pub wrote_none : {old new : DiskState} (pages : Pages) (slots : Slots) → RevealsSame old new → Wrote pages [] old slots new
 wrote_none pages slots same = record {
   writes = [];
   appended = appended_none same;
   form = λ k w at. absurd (none-some w at);
-  lawful = λ d k w told at. absurd (none-some w at);
+  permitted = λ d k w revealed at. absurd (none-some w at);
   labels = refl;
   of_dirty = λ k sector wanted bytes at. absurd (none-some (write.Page sector wanted bytes) at);
 }
@@ -109,7 +109,7 @@ makes_wider more pages_too h = record {
     writes = h.wrote.writes;
     appended = h.wrote.appended;
     form = h.wrote.form;
-    lawful = h.wrote.lawful;
+    permitted = h.wrote.permitted;
     labels = h.wrote.labels;
     of_dirty = λ k sector wanted bytes at. elim (h.wrote.of_dirty k sector wanted bytes at) [ inl was ↦ inl was | inr new ↦ inr (pages_too wanted.id wanted.page new) ];
   };
@@ -131,7 +131,7 @@ append_none (x ∷ xs) = ap (λ (l : List DiskWrite). x ∷ l) (append_none xs)
 pub swaps_wider : {a b : DiskState} {s t : Slots} (pages : Pages) → Swaps a s b t → Goes Same pages [] a s b t
 swaps_wider pages h = goes_wider Same Same pages (λ m n is. is) (λ id page no. absurd no) h
 
--- swapping before a call, and behind it, is part of it
+-- swapping before a call, and after it, is part of it
 pub goes_swapping : (P : Change) (pages : Pages) (run : List DiskWrite) {a b c d : DiskState} {s t u v : Slots} → Swaps a s b t → Goes P pages run b t c u → Swaps c u d v → Goes P pages run a s d v
 goes_swapping P pages run {a = a} {d = d} {s = s} {v = v} first middle last =
     subst (λ (r : List DiskWrite). Goes P pages r a s d v) (append_none run)

@@ -13,7 +13,7 @@ use Rattle.labelled_disk.specs.declared.evidence.Halt.{Halt}
 use Rattle.labelled_disk.specs.declared.evidence.Halt.TheVariants.{Disk, Damaged}
 use Rattle.labelled_disk.specs.Calls.{Rose}
 use Rattle.labelled_disk.specs.Label.{names}
-use Rattle.labelled_disk.specs.Moment.{written}
+use Rattle.labelled_disk.specs.CrashState.{written}
 use Rattle.labelled_disk.specs.Sectors.{Sector}
 use Rattle.labelled_disk.specs.State.{DiskState, HasLabel}
 use Rattle.labelled_disk.specs.WriteRuns.{after_writes}
@@ -47,9 +47,9 @@ pages_written (write.Page sector wanted bytes ∷ writes) sectors none =
 
 -- a label that stands after writes of pages stood before them
 pub label_before : {pages : Pages} {a b : DiskState} {s : Slots} → Wrote pages [] a s b → (sector : ℕ) (label : Label) → HasLabel b sector label → HasLabel a sector label
-label_before wrote sector label there d told =
+label_before wrote sector label there d revealed =
     let now = after_writes wrote.writes d in
-    let after = there now (wrote.appended.contents ∙ ap (option_map (after_writes wrote.writes)) told) in
+    let after = there now (wrote.appended.contents ∙ ap (option_map (after_writes wrote.writes)) revealed) in
     sym (slice_get-map (λ (x : Sector). x.0) d sector) ∙ ap (λ (l : List Label). slice_get l sector) (sym (pages_written wrote.writes d wrote.labels)) ∙ slice_get-map (λ (x : Sector). x.0) now sector ∙ after
 
 pub rose_wider : (a b c d : ℕ) → a ≤ b → c ≤ d → Rose b c → Rose a d

@@ -6,14 +6,14 @@ use mir.Syntax.{named}
 use Rattle.std.specs.Prelude.{[]}
 use Rattle.std.specs.declared.alloc.Allocator.{Ghosts as AllocatorGhosts}
 use Rattle.labelled_disk.specs.declared.disk.Disk.{Ghosts as DiskGhosts}
-use Rattle.labelled_disk.specs.contracts.disk.RefMutDisk.TheImpl.{ghosts as behind, no_dict}
-use Rattle.swapper_kernel.specs.declared.swapper.SwapperOver.{SwapperOver}
-use Rattle.swapper_kernel.specs.contracts.swapper.SwapperOver.{the_row}
+use Rattle.labelled_disk.specs.contracts.disk.RefMutDisk.TheImpl.{ghosts as after, no_dict}
+use Rattle.swapper_kernel.specs.declared.swapper.Swapper.{Swapper}
+use Rattle.swapper_kernel.specs.contracts.swapper.Swapper.{the_row}
 
 -- the swapper ends with the disk that was left
-abbrev pub LendsUnder : (D A : RattleType) (disk : DiskGhosts D.Denot) (alloc : AllocatorGhosts A.Denot) → MutBor (SwapperOver D.Denot A.Denot disk) → MutBor D.Denot → Fml
-LendsUnder D A disk alloc s r = Lends (the_row D A disk alloc) D s r (λ w. record s.now { under = w })
+abbrev pub LendsDisk : (D A : RattleType) (disk : DiskGhosts D.Denot) (alloc : AllocatorGhosts A.Denot) → MutBor (Swapper D.Denot A.Denot disk) → MutBor D.Denot → Fml
+LendsDisk D A disk alloc s r = Lends (the_row D A disk alloc) D s r (λ w. record s.now { disk = w })
 
--- the same behind a reference: what the reference held ends as the disk that was left
-abbrev pub LendsBehind : (D A : RattleType) (disk : DiskGhosts D.Denot) (alloc : AllocatorGhosts A.Denot) → MutBor (SwapperOver (MutBor D.Denot) A.Denot (behind D disk no_dict)) → MutBor D.Denot → Fml
-LendsBehind D A disk alloc s r = Lends (the_row (MutRef (named 1) [] D) A (behind D disk no_dict) alloc) D s r (λ w. record s.now { under = at_last s.now.under w })
+-- the same through a reference: what the reference held ends as the disk that was left
+abbrev pub LendsThrough : (D A : RattleType) (disk : DiskGhosts D.Denot) (alloc : AllocatorGhosts A.Denot) → MutBor (Swapper (MutBor D.Denot) A.Denot (after D disk no_dict)) → MutBor D.Denot → Fml
+LendsThrough D A disk alloc s r = Lends (the_row (MutRef (named 1) [] D) A (after D disk no_dict) alloc) D s r (λ w. record s.now { disk = at_last s.now.disk w })

@@ -14,7 +14,7 @@ use Rattle.swapper_kernel.specs.declared.manager.Manager.{Manager}
 use Rattle.swapper_kernel.specs.Stands.{IsHome, IsClean, IsMerged, Stands}
 use Rattle.swapper_kernel.specs.Maps.{pages_of, start_of}
 use Rattle.swapper_kernel.specs.DiffersLaws.{label_here}
-use Rattle.swapper_kernel.specs.Window.{IsPage, Tells}
+use Rattle.swapper_kernel.specs.Window.{IsPage, Reveals}
 
 -- a dirty frame over the sector
 pub record IsOver (slots : Slots) (sector : ℕ) : Type 0 where
@@ -63,7 +63,7 @@ merged_once sectors slots m n h l k = elim (over_or_clean slots k) [
 
 pub stands_once : (disk : DiskState) (slots : Slots) (m n : List Sector) → Stands disk slots m → Stands disk slots n → (k : ℕ) → slice_get m k ≡ slice_get n k
 stands_once disk slots m n h l =
-    let same : l.sectors ≡ h.sectors = same_Some l.sectors h.sectors (sym l.told ∙ h.told) in
+    let same : l.sectors ≡ h.sectors = same_Some l.sectors h.sectors (sym l.revealed ∙ h.revealed) in
     merged_once h.sectors slots m n h.merged (subst (λ (x : List Sector). IsMerged x slots n) same l.merged)
 
 byte_at : (b : List ℕ) (q r d : ℕ) → r < 512 → get_or b (q + r) d ≡ get_or (part b q 512) r d
@@ -76,8 +76,8 @@ byte_in b k d =
     let below : k % 512 < 512 = omega arith in
     ap (λ (n : ℕ). get_or b n d) place ∙ byte_at b (512 * (k / 512)) (k % 512) d below
 
-pub tells_once : (which : Manager) (disk : DiskState) (slots : Slots) (layout : Layout) (b c : List ℕ) → Tells which disk slots layout b → Tells which disk slots layout c → b ≡ c
-tells_once which disk slots layout b c h l =
+pub reveals_once : (which : Manager) (disk : DiskState) (slots : Slots) (layout : Layout) (b c : List ℕ) → Reveals which disk slots layout b → Reveals which disk slots layout c → b ≡ c
+reveals_once which disk slots layout b c h l =
     same_lists b c (h.shows.count ∙ sym l.shows.count) (λ k d below.
     let page : k / 512 < pages_of which layout = omega (arith, h.shows.count, below) in
     byte_in b k d ∙ ap (λ (x : List ℕ). get_or x (k % 512) d) (same_page (k / 512) page) ∙ sym (byte_in c k d))

@@ -27,8 +27,8 @@ pub record IsMerged (sectors : List Sector) (slots : Slots) (memory : List Secto
   pub frames : (i : ℕ) (f : Frame) → Has slots i f → IsHome memory f
   pub clean : (k : ℕ) → IsClean slots k → slice_get memory k ≡ slice_get sectors k
 
--- the disk tells its contents, and with the frames these are this memory
+-- the disk reveals its contents, and with the frames these are this memory
 pub record Stands (disk : DiskState) (slots : Slots) (memory : List Sector) : Type 0 where
   pub sectors : List Sector
-  pub told : disk.contents ≡ Some sectors
+  pub revealed : disk.contents ≡ Some sectors
   pub merged : IsMerged sectors slots memory

@@ -4,11 +4,11 @@ use Rattle.labelled_disk.specs.declared.label.Label.{Label}
 use Rattle.labelled_disk.specs.declared.disk.DiskWrite.{DiskWrite}
 use Rattle.labelled_disk.specs.declared.disk.DiskWrite.TheVariants as write
 use Rattle.labelled_disk.specs.Sectors.{Sector}
-use Rattle.labelled_disk.specs.Moment.{written}
-use Rattle.labelled_disk.specs.Lawful.{Lawful}
+use Rattle.labelled_disk.specs.CrashState.{written}
+use Rattle.labelled_disk.specs.Permitted.{Permitted}
 use Rattle.labelled_disk.specs.Label.{names}
 use Rattle.labelled_disk.specs.State.{DiskState, Holds, NamesThere}
-use Rattle.labelled_disk.specs.Calls.{TellsSame, TellsWrite, Moves}
+use Rattle.labelled_disk.specs.Calls.{RevealsSame, RevealsWrite, Moves}
 use Rattle.labelled_disk.specs.Runs.{IsWriteInForm}
 use Rattle.frame_pool.specs.declared.home.Home.{Home}
 use Rattle.frame_pool.specs.Frames.{Frame, Slots, Has, IsNowhere, frame_at, new_frame, cleaned_at}
@@ -23,20 +23,20 @@ IsLabelled (write.Page sector wanted page) k = ⊥
 
 pub record StepLaws : Type 0 where
   -- a sector was written whole, or its label alone, whatever stands in frames
-  pub label_written : (old new : DiskState) (slots : Slots) (w : DiskWrite) (sector : ℕ) → IsLabelled w sector → IsWriteInForm w → TellsWrite w old new → Moves old new
-      → ((d : List Sector) → old.contents ≡ Some d → Lawful d w) → Makes no_page (w ∷ []) old slots new slots
+  pub label_written : (old new : DiskState) (slots : Slots) (w : DiskWrite) (sector : ℕ) → IsLabelled w sector → IsWriteInForm w → RevealsWrite w old new → Moves old new
+      → ((d : List Sector) → old.contents ≡ Some d → Permitted d w) → Makes no_page (w ∷ []) old slots new slots
   -- a sector under no frame was written whole, or its label alone: the memory changes as the disk does
-  pub beside_frames : (old new : DiskState) (slots : Slots) (w : DiskWrite) (sector : ℕ) → IsLabelled w sector → IsWriteInForm w → TellsWrite w old new → Moves old new
-      → ((d : List Sector) → old.contents ≡ Some d → Lawful d w × ((s : Sector) × (slice_get d sector ≡ Some s)))
+  pub beside_frames : (old new : DiskState) (slots : Slots) (w : DiskWrite) (sector : ℕ) → IsLabelled w sector → IsWriteInForm w → RevealsWrite w old new → Moves old new
+      → ((d : List Sector) → old.contents ≡ Some d → Permitted d w × ((s : Sector) × (slice_get d sector ≡ Some s)))
       → ((i : ℕ) (f : Frame) → Has slots i f → f.home.sector ≢ sector) → Goes (λ m n. n ≡ written w m) no_page (w ∷ []) old slots new slots
   -- the disk was read, or failed
-  pub read : (old new : DiskState) (slots : Slots) → TellsSame old new → Moves old new → Swaps old slots new slots
+  pub read : (old new : DiskState) (slots : Slots) → RevealsSame old new → Moves old new → Swaps old slots new slots
   -- a dirty frame was written to its home, whole, and stays dirty: the call failed
   pub written : (old new : DiskState) (slots : Slots) (i : ℕ) (f : Frame) → Has slots i f → f.dirty ≡ true → 0 < f.home.sector → IsWriteInForm (write.Page f.home.sector (wanted_at f.home) f.bytes)
-      → TellsWrite (write.Page f.home.sector (wanted_at f.home) f.bytes) old new → NamesThere old f.home.sector (wanted_at f.home) true → Moves old new → Swaps old slots new slots
+      → RevealsWrite (write.Page f.home.sector (wanted_at f.home) f.bytes) old new → NamesThere old f.home.sector (wanted_at f.home) true → Moves old new → Swaps old slots new slots
   -- it was written, and is clean
   pub out : (old new : DiskState) (slots : Slots) (i : ℕ) (f : Frame) → Has slots i f → f.dirty ≡ true → 0 < f.home.sector → IsWriteInForm (write.Page f.home.sector (wanted_at f.home) f.bytes)
-      → TellsWrite (write.Page f.home.sector (wanted_at f.home) f.bytes) old new → NamesThere old f.home.sector (wanted_at f.home) true → Moves old new → Swaps old slots new (cleaned_at slots i)
+      → RevealsWrite (write.Page f.home.sector (wanted_at f.home) f.bytes) old new → NamesThere old f.home.sector (wanted_at f.home) true → Moves old new → Swaps old slots new (cleaned_at slots i)
   -- a clean frame was given up
   pub cleared : (disk : DiskState) (slots : Slots) (i : ℕ) → i < length slots → ((f : Frame) → Has slots i f → f.dirty ≡ false) → Swaps disk slots disk (slice_set slots i None)
   -- the page of a home, as the disk has it, was put into an empty slot

@@ -2,7 +2,7 @@
 use Rattle.std.specs.Prelude.{◌≡◌, ℕ, ◌<◌, true, false, List, [], ◌∷◌, length, Some, slice_set}
 use Rattle.labelled_disk.specs.declared.label.Label.{Label}
 use Rattle.labelled_disk.specs.declared.disk.DiskWrite.TheVariants.{Page}
-use Rattle.labelled_disk.specs.Calls.{TellsSame, TellsWrite}
+use Rattle.labelled_disk.specs.Calls.{RevealsSame, RevealsWrite}
 use Rattle.labelled_disk.specs.Label.{names}
 use Rattle.labelled_disk.specs.State.{DiskState, NamesThere, Holds}
 use Rattle.frame_pool.specs.Frames.{Frame, Slots, Has, IsNowhere, IsEmpty}
@@ -18,7 +18,7 @@ pub data Step : Type 0 where
 -- clean and no slot is empty.
 pub record Fills (come : Homes) (i : ℕ) (f : Frame) (a : DiskState) (s : Slots) (b : DiskState) (t : Slots) : Type 0 where
   pub may : come f.home
-  pub same : TellsSame a b
+  pub same : RevealsSame a b
   pub clean : f.dirty ≡ false
   pub page : (label : Label) × Holds a f.home.sector (label, f.bytes) × (names label (wanted_at f.home) ≡ true)
   pub fresh : IsNowhere s f.home.id f.home.page
@@ -32,7 +32,7 @@ pub record WritesOut (i : ℕ) (f g : Frame) (a : DiskState) (s : Slots) (b : Di
   pub dirty : f.dirty ≡ true
   pub home : g.home ≡ f.home
   pub bytes : g.bytes ≡ f.bytes
-  pub tells : TellsWrite (Page f.home.sector (wanted_at f.home) f.bytes) a b
+  pub reveals : RevealsWrite (Page f.home.sector (wanted_at f.home) f.bytes) a b
   pub named : NamesThere a f.home.sector (wanted_at f.home) true
   pub is : t ≡ slice_set s i (Some g)
 
@@ -42,7 +42,7 @@ pub record Alters (change : Homes) (i : ℕ) (f g : Frame) (a : DiskState) (s : 
   pub has : Has s i f
   pub home : g.home ≡ f.home
   pub dirty : g.dirty ≡ true
-  pub same : TellsSame a b
+  pub same : RevealsSame a b
   pub is : t ≡ slice_set s i (Some g)
 
 abbrev pub IsStep : Homes → Homes → Step → DiskState → Slots → DiskState → Slots → Type 0
@@ -52,7 +52,7 @@ IsStep come change (alters i f g) a s b t = Alters change i f g a s b t
 
 -- the one state comes from the other by these steps; counts of the disk change at will
 abbrev pub IsCourse : Homes → Homes → List Step → DiskState → Slots → DiskState → Slots → Type 0
-IsCourse come change [] a s b t = TellsSame a b × (t ≡ s)
+IsCourse come change [] a s b t = RevealsSame a b × (t ≡ s)
 IsCourse come change (k ∷ ks) a s b t = (m : DiskState) × (u : Slots) × IsStep come change k a s m u × IsCourse come change ks m u b t
 
 -- by some steps; pages of the homes that may come are put into slots, and frames of the homes that may change do

@@ -1,4 +1,4 @@
--- Where a disk tells its contents, the pages of a map are told.
+-- Where a disk reveals its contents, the pages of a map are revealed.
 use Rattle.std.specs.Prelude.{◌≡◌, ℕ, ◌<◌, ◌≤◌, ◌+◌, ◌*◌, ◌-◌, List, [], ◌∷◌, ◌++◌, length, take, drop, Some, slice_get, get_or}
 use Rattle.std.proofs.Common.{refl, sym, ◌∙◌, ap, arith, zero, suc}
 use Rattle.std.proofs.Math.Seq.{drop-append-add}
@@ -16,7 +16,7 @@ use Rattle.swapper_kernel.specs.declared.manager.Manager.TheVariants.{Allocation
 use Rattle.swapper_kernel.specs.Maps.{pages_of, start_of}
 use Rattle.swapper_kernel.specs.Homes.{IsLayout}
 use Rattle.swapper_kernel.specs.Stands.{Stands}
-use Rattle.swapper_kernel.specs.Window.{Shows, Tells, map_bytes, bytes_of}
+use Rattle.swapper_kernel.specs.Window.{Shows, Reveals, map_bytes, bytes_of}
 
 -- the page of each sector is 512 bytes
 abbrev AreWhole : List Sector → Type 0
@@ -109,7 +109,7 @@ shows_there which layout m is size sectors = record {
         let inside : k < n = omega (arith, below, long) in
         (sectors (from + k) s (sym (run_get m from n k fits inside) ∙ there)).whole_page
 
--- a disk of the layout's size that tells its contents, with the frames over it, tells the pages of a map
-pub tells_there : (which : Manager) (disk : DiskState) (slots : Slots) (layout : Layout) (m : List Sector) → IsLayout layout → disk.sectors ≡ layout.sectors → Stands disk slots m
-    → length m ≡ layout.sectors → AreSectors m → Tells which disk slots layout (map_bytes which layout m)
-tells_there which disk slots layout m is size stands long sectors = record { memory = m; stands = stands; shows = shows_there which layout m is long sectors; size = size }
+-- a disk of the layout's size that reveals its contents, with the frames over it, reveals the pages of a map
+pub reveals_there : (which : Manager) (disk : DiskState) (slots : Slots) (layout : Layout) (m : List Sector) → IsLayout layout → disk.sectors ≡ layout.sectors → Stands disk slots m
+    → length m ≡ layout.sectors → AreSectors m → Reveals which disk slots layout (map_bytes which layout m)
+reveals_there which disk slots layout m is size stands long sectors = record { memory = m; stands = stands; shows = shows_there which layout m is long sectors; size = size }

@@ -40,8 +40,8 @@ map_bytes which layout memory = bytes_of (take (pages_of which layout) (drop (st
 abbrev pub size_in : Manager → ℕ → Layout → ℕ
 size_in which sectors layout = if sectors == layout.sectors then 512 * pages_of which layout else 0
 
--- the disk tells its contents, and with the frames over it the pages of the map are these bytes
-pub record Tells (which : Manager) (disk : DiskState) (slots : Slots) (layout : Layout) (b : List ℕ) : Type 0 where
+-- the disk reveals its contents, and with the frames over it the pages of the map are these bytes
+pub record Reveals (which : Manager) (disk : DiskState) (slots : Slots) (layout : Layout) (b : List ℕ) : Type 0 where
   pub memory : List Sector
   pub stands : Stands disk slots memory
   pub shows : Shows which memory layout b

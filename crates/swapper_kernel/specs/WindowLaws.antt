@@ -19,7 +19,7 @@ use Rattle.swapper_kernel.specs.DiffersLaws.{differs_itself, differs_then, other
 use Rattle.swapper_kernel.specs.GoesLaws.{goes_itself, goes_then}
 use Rattle.swapper_kernel.specs.HaltLaws.{brings_itself, brings_then, halts_later}
 use Rattle.swapper_kernel.specs.CourseLaws.{steps_itself, steps_then}
-use Rattle.swapper_kernel.specs.Window.{Tells, Beside, IsAccounted, size_in, in_map, map_pages}
+use Rattle.swapper_kernel.specs.Window.{Reveals, Beside, IsAccounted, size_in, in_map, map_pages}
 
 pub size_is : (which : Manager) (sectors : ℕ) (layout : Layout) → sectors ≡ layout.sectors → size_in which sectors layout ≡ 512 * pages_of which layout
 size_is which sectors layout same = ap (λ (b : Bool). if b then 512 * pages_of which layout else 0) (eq-eqb sectors layout.sectors same)
@@ -31,8 +31,8 @@ size_right which sectors layout n some below = elim (eqb_tells sectors layout.se
   | inr (test, _) ↦ absurd (let no : size_in which sectors layout ≡ 0 = ap (λ (b : Bool). if b then 512 * pages_of which layout else 0) test in omega (arith, no, some, below))
 ]
 
-pub told_size : {which : Manager} {disk : DiskState} {slots : Slots} {layout : Layout} {b : List ℕ} → Tells which disk slots layout b → length b ≡ size_in which disk.sectors layout
-told_size {which = which} {disk = disk} {layout = layout} tells = tells.shows.count ∙ sym (size_is which disk.sectors layout tells.size)
+pub revealed_size : {which : Manager} {disk : DiskState} {slots : Slots} {layout : Layout} {b : List ℕ} → Reveals which disk slots layout b → length b ≡ size_in which disk.sectors layout
+revealed_size {which = which} {disk = disk} {layout = layout} reveals = reveals.shows.count ∙ sym (size_is which disk.sectors layout reveals.size)
 
 pub beside_itself : (which : Manager) (d : DiskState) (s : Slots) (layout : Layout) → Beside which d s layout d s layout
 beside_itself which d s layout = record {

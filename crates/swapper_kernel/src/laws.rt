@@ -10,7 +10,7 @@ ghost use Rattle.swapper_kernel.specs.Homes.{IsLayout};
 ghost use Rattle.swapper_kernel.specs.MoveLaws.{MoveLaws};
 ghost use Rattle.swapper_kernel.specs.Stands.{Stands};
 ghost use Rattle.swapper_kernel.specs.StepLaws.{StepLaws};
-ghost use Rattle.swapper_kernel.specs.Window.{Tells, map_bytes};
+ghost use Rattle.swapper_kernel.specs.Window.{Reveals, map_bytes};
 
 /// Swapping twice is swapping, and so is doing nothing.
 pub fn swaps_keep_memory()
@@ -28,10 +28,10 @@ pub fn swapper_steps()
     ensures { StepLaws }
 {}
 
-/// Where a disk of the layout's size tells its contents, the window over a map tells its bytes: the pages of the map, one
+/// Where a disk of the layout's size reveals its contents, the window over a map reveals its bytes: the pages of the map, one
 /// after the other.
-pub fn maps_are_told()
+pub fn maps_are_revealed()
     ensures there { (which : Manager) (disk : DiskState) (slots : Slots) (layout : Layout) (m : List Sector)
         → IsLayout layout → disk.sectors ≡ layout.sectors → Stands disk slots m → length m ≡ layout.sectors → AreSectors m
-        → Tells which disk slots layout (map_bytes which layout m) }
+        → Reveals which disk slots layout (map_bytes which layout m) }
 {}

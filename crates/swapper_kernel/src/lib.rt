@@ -7,7 +7,7 @@ mod manager;
 mod swapper;
 mod window;
 
-pub use laws::{frames_move, maps_are_told, swapper_steps, swaps_keep_memory};
+pub use laws::{frames_move, maps_are_revealed, swapper_steps, swaps_keep_memory};
 pub use manager::Manager;
-pub use swapper::{Swapper, SwapperOver};
-pub use window::{Window0, Window0Over};
+pub use swapper::{LentSwapper, Swapper};
+pub use window::{LentMapMemory, MapMemory};

@@ -11,8 +11,8 @@ use std::alloc::Allocator;
 /// Frames over a disk that is held by value. Every call that moves sectors asks that the disk has as many sectors as
 /// the layout: a disk that was lent might be another one.
 #[derive(Drop)]
-pub struct SwapperOver<D: Disk, A: Allocator> {
-    pub(crate) under: D,
+pub struct Swapper<D: Disk, A: Allocator> {
+    pub(crate) disk: D,
     pub(crate) pool: FramePool<A>,
     pub(crate) layout: Layout,
     ghost accepted: { IsLayout layout },
@@ -21,9 +21,9 @@ pub struct SwapperOver<D: Disk, A: Allocator> {
 }
 
 /// Frames over a disk that is lent.
-pub type Swapper<'d, D, A> = SwapperOver<&'d mut D, A>;
+pub type LentSwapper<'d, D, A> = Swapper<&'d mut D, A>;
 
-impl<D: Disk, A: Allocator> SwapperOver<D, A> {
+impl<D: Disk, A: Allocator> Swapper<D, A> {
     /// Empty frames over a disk, 24 to 4,096. This takes all the memory that they ever have. The disk is handed back
     /// where there is none.
     pub fn over(
@@ -31,35 +31,31 @@ impl<D: Disk, A: Allocator> SwapperOver<D, A> {
         disk: D,
         layout: Layout,
         frames: u32,
-    ) -> Result<SwapperOver<D, A>, (NoMemory, D)>
+    ) -> Result<Swapper<D, A>, (NoMemory, D)>
         requires layout { IsLayout layout }
         requires least { 24 ≤ frames }
         requires most { frames ≤ 4096 }
-        ensures under { IfOk result (λ s. s.under ≡ disk) }
+        ensures disk { IfOk result (λ s. s.disk ≡ disk) }
         ensures empty { IfOk result (λ s. s.pool ≡ replicate frames None) }
         ensures layout { IfOk result (λ s. s.layout ≡ layout) }
         ensures back { IfErr result (λ e. e.1 ≡ disk) }
     {
         match FramePool::with_frames(alloc, frames) {
-            Ok(pool) => Ok(SwapperOver {
-                under: disk,
-                pool,
-                layout,
-            }),
+            Ok(pool) => Ok(Swapper { disk, pool, layout }),
             Err(fault) => Err((fault, disk)),
         }
     }
 
     /// Gives the frames up, and the disk back. What is dirty is lost.
     pub fn into_disk(self) -> D
-        ensures { result ≡ self.under }
+        ensures { result ≡ self.disk }
     {
-        let SwapperOver {
-            under,
+        let Swapper {
+            disk,
             pool: _,
             layout: _,
         } = self;
-        under
+        disk
     }
 
     /// The frames.
@@ -80,9 +76,9 @@ impl<D: Disk, A: Allocator> SwapperOver<D, A> {
 
     /// Whether the disk has as many sectors as the layout, which every call that moves sectors asks for.
     pub fn fits(&self) -> bool
-        ensures { result ≡ ((D.state self.now.under).sectors == self.now.layout.sectors) }
+        ensures { result ≡ ((D.state self.now.disk).sectors == self.now.layout.sectors) }
     {
-        self.under.sectors() == self.layout.sectors
+        self.disk.sectors() == self.layout.sectors
     }
 
     /// The layout of the volume.
@@ -93,22 +89,22 @@ impl<D: Disk, A: Allocator> SwapperOver<D, A> {
     }
 }
 
-impl<D: Disk, A: Allocator> SwapperOver<D, A> {
+impl<D: Disk, A: Allocator> Swapper<D, A> {
     ghost use Rattle.std.specs.Borrow.{sem};
-    ghost use Rattle.swapper_kernel.specs.Lending.{LendsUnder};
+    ghost use Rattle.swapper_kernel.specs.Lending.{LendsDisk};
 
     /// The disk, as it is held.
     pub fn disk_over(&mut self) -> &mut D
-        ensures value { result.now ≡ self.old.under }
-        ensures* lends { sem 𝓛 (LendsUnder D.row A.row D.Disk A.Allocator self.entry result) }
+        ensures value { result.now ≡ self.old.disk }
+        ensures* lends { sem 𝓛 (LendsDisk D.row A.row D.Disk A.Allocator self.entry result) }
     {
-        &mut self.under
+        &mut self.disk
     }
 }
 
-impl<'d, D: Disk, A: Allocator> SwapperOver<&'d mut D, A> {
+impl<'d, D: Disk, A: Allocator> Swapper<&'d mut D, A> {
     ghost use Rattle.std.specs.Borrow.{sem};
-    ghost use Rattle.swapper_kernel.specs.Lending.{LendsBehind};
+    ghost use Rattle.swapper_kernel.specs.Lending.{LendsThrough};
 
     /// Empty frames over a disk that is lent, 24 to 4,096. This takes all the memory that they ever have.
     pub fn new(
@@ -116,27 +112,23 @@ impl<'d, D: Disk, A: Allocator> SwapperOver<&'d mut D, A> {
         disk: &'d mut D,
         layout: Layout,
         frames: u32,
-    ) -> Result<Swapper<'d, D, A>, NoMemory>
+    ) -> Result<LentSwapper<'d, D, A>, NoMemory>
         requires layout { IsLayout layout }
         requires least { 24 ≤ frames }
         requires most { frames ≤ 4096 }
-        ensures under { IfOk result (λ s. s.under.now ≡ disk.old) }
+        ensures disk { IfOk result (λ s. s.disk.now ≡ disk.old) }
         ensures empty { IfOk result (λ s. s.pool ≡ replicate frames None) }
         ensures layout { IfOk result (λ s. s.layout ≡ layout) }
     {
         let pool = FramePool::with_frames(alloc, frames)?;
-        Ok(SwapperOver {
-            under: disk,
-            pool,
-            layout,
-        })
+        Ok(Swapper { disk, pool, layout })
     }
 
     /// The disk that is lent.
     pub fn disk(&mut self) -> &mut D
-        ensures value { result.now ≡ self.old.under.now }
-        ensures* lends { sem 𝓛 (LendsBehind D.row A.row D.Disk A.Allocator self.entry result) }
+        ensures value { result.now ≡ self.old.disk.now }
+        ensures* lends { sem 𝓛 (LendsThrough D.row A.row D.Disk A.Allocator self.entry result) }
     {
-        self.under
+        self.disk
     }
 }

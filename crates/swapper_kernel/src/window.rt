@@ -4,29 +4,29 @@ ghost use Rattle.frame_pool.specs.Frames.{Frame, Has, frame_at};
 ghost use Rattle.flat_mem.specs.Memory.{part};
 ghost use Rattle.swapper_kernel.specs.Window.{size_in};
 
-use crate::{Manager, SwapperOver};
+use crate::{Manager, Swapper};
 use flat_mem::FlatMem;
 use labelled_disk::{Disk, Halt};
 use std::alloc::Allocator;
 
 /// The pages of a map, through the frames. Each access takes at most two transfers.
 #[derive(Drop)]
-pub struct Window0Over<'s, D: Disk, A: Allocator> {
-    pub(crate) swapper: &'s mut SwapperOver<D, A>,
+pub struct MapMemory<'s, D: Disk, A: Allocator> {
+    pub(crate) swapper: &'s mut Swapper<D, A>,
     pub(crate) which: Manager,
 }
 
 /// The pages of a map, where the disk is lent.
-pub type Window0<'s, 'd, D, A> = Window0Over<'s, &'d mut D, A>;
+pub type LentMapMemory<'s, 'd, D, A> = MapMemory<'s, &'d mut D, A>;
 
-impl<D: Disk, A: Allocator> SwapperOver<D, A> {
+impl<D: Disk, A: Allocator> Swapper<D, A> {
     /// The pages of a map as a memory. It has no bytes on a disk of another size than the layout's.
-    pub fn window0<'s>(&'s mut self, which: Manager) -> Window0Over<'s, D, A>
+    pub fn map_memory<'s>(&'s mut self, which: Manager) -> MapMemory<'s, D, A>
         ensures same_reference { result.swapper.ghost_name ≡ self.entry.ghost_name }
         ensures value { result.swapper.now ≡ self.old }
         ensures which { result.which ≡ which }
     {
-        Window0Over {
+        MapMemory {
             swapper: self,
             which,
         }
@@ -34,9 +34,9 @@ impl<D: Disk, A: Allocator> SwapperOver<D, A> {
 
     /// How many bytes a map has: none on a disk of another size.
     fn window_len(&self, which: Manager) -> u64
-        ensures { result ≡ size_in which (D.state self.now.under).sectors self.now.layout }
+        ensures { result ≡ size_in which (D.state self.now.disk).sectors self.now.layout }
     {
-        if self.under.sectors() == self.layout.sectors {
+        if self.disk.sectors() == self.layout.sectors {
             512 * u64::from(which.pages(&self.layout))
         } else {
             0
@@ -55,12 +55,12 @@ impl<D: Disk, A: Allocator> SwapperOver<D, A> {
     }
 }
 
-impl<'s, D: Disk, A: Allocator> FlatMem for Window0Over<'s, D, A> {
+impl<'s, D: Disk, A: Allocator> FlatMem for MapMemory<'s, D, A> {
     ghost use Rattle.std.specs.Prelude.{◌≡◌, ℕ, ◌+◌, ◌*◌, ◌/◌, ◌≤◌, List};
     ghost use Rattle.std.proofs.Common.{ap};
-    ghost use Rattle.swapper_kernel.specs.Window.{Tells, Beside, IsAccounted, size_in};
-    ghost use Rattle.swapper_kernel.specs.WindowLaws.{beside_itself, beside_then, accounted_then, told_size, same_size_in};
-    ghost use Rattle.swapper_kernel.specs.OnceLaws.{tells_once};
+    ghost use Rattle.swapper_kernel.specs.Window.{Reveals, Beside, IsAccounted, size_in};
+    ghost use Rattle.swapper_kernel.specs.WindowLaws.{beside_itself, beside_then, accounted_then, revealed_size, same_size_in};
+    ghost use Rattle.swapper_kernel.specs.OnceLaws.{reveals_once};
 
     type Error = Halt;
 
@@ -68,23 +68,23 @@ impl<'s, D: Disk, A: Allocator> FlatMem for Window0Over<'s, D, A> {
 
     ghost cost = { 2 };
 
-    ghost size = { λ w. size_in w.which (D.state w.swapper.now.under).sectors w.swapper.now.layout };
+    ghost size = { λ w. size_in w.which (D.state w.swapper.now.disk).sectors w.swapper.now.layout };
 
-    ghost tells = { λ w b. Tells w.which (D.state w.swapper.now.under) w.swapper.now.pool w.swapper.now.layout b };
+    ghost reveals = { λ w b. Reveals w.which (D.state w.swapper.now.disk) w.swapper.now.pool w.swapper.now.layout b };
 
-    ghost spent = { λ w. (D.state w.swapper.now.under).transfers };
+    ghost spent = { λ w. (D.state w.swapper.now.disk).transfers };
 
-    ghost beside = { λ a b. (a.swapper.ghost_name ≡ b.swapper.ghost_name) × (a.which ≡ b.which) × Beside a.which (D.state a.swapper.now.under) a.swapper.now.pool a.swapper.now.layout (D.state b.swapper.now.under) b.swapper.now.pool b.swapper.now.layout };
+    ghost beside = { λ a b. (a.swapper.ghost_name ≡ b.swapper.ghost_name) × (a.which ≡ b.which) × Beside a.which (D.state a.swapper.now.disk) a.swapper.now.pool a.swapper.now.layout (D.state b.swapper.now.disk) b.swapper.now.pool b.swapper.now.layout };
 
-    ghost accounted = { λ a b e. IsAccounted a.which (D.state a.swapper.now.under) a.swapper.now.pool a.swapper.now.layout (D.state b.swapper.now.under) e };
+    ghost accounted = { λ a b e. IsAccounted a.which (D.state a.swapper.now.disk) a.swapper.now.pool a.swapper.now.layout (D.state b.swapper.now.disk) e };
 
-    ghost told_once = { λ w b c h k. tells_once _ _ _ _ b c h k };
+    ghost revealed_once = { λ w b c h k. reveals_once _ _ _ _ b c h k };
 
-    ghost told_length = { λ w b h. told_size h };
+    ghost revealed_length = { λ w b h. revealed_size h };
 
     ghost same_size = { λ a b h. same_size_in h.1 h.2 };
 
-    ghost beside_itself = { λ w. (Prim.cc, Prim.cc, beside_itself w.which (D.state w.swapper.now.under) w.swapper.now.pool w.swapper.now.layout) };
+    ghost beside_itself = { λ w. (Prim.cc, Prim.cc, beside_itself w.which (D.state w.swapper.now.disk) w.swapper.now.pool w.swapper.now.layout) };
 
     ghost beside_through = { λ a b c h k. (Prim.cc, Prim.cc, beside_then h.1 h.2 k.2) };
 
@@ -98,7 +98,7 @@ impl<'s, D: Disk, A: Allocator> FlatMem for Window0Over<'s, D, A> {
         if into.is_empty() {
             return Ok(());
         }
-        let slot = self.swapper.touch0(self.which, (at / 512) as u32)?;
+        let slot = self.swapper.fetch_map_page(self.which, (at / 512) as u32)?;
         self.swapper.copy_out(slot, (at % 512) as usize, into);
         Ok(())
     }
@@ -107,7 +107,7 @@ impl<'s, D: Disk, A: Allocator> FlatMem for Window0Over<'s, D, A> {
         if bytes.is_empty() {
             return Ok(());
         }
-        let slot = self.swapper.touch0(self.which, (at / 512) as u32)?;
+        let slot = self.swapper.fetch_map_page(self.which, (at / 512) as u32)?;
         self.swapper.change(slot, (at % 512) as u32, bytes);
         Ok(())
     }

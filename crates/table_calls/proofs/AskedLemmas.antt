@@ -3,12 +3,12 @@ use Rattle.std.proofs.Common.{◌≡◌, inl, ℕ, List, sym, subst}
 use Rattle.labelled_disk.specs.declared.disk.Disk.{Ghosts}
 use Rattle.swap_units.specs.declared.interval.Interval.{Interval}
 use Rattle.filer_kernel.specs.Tables.{BesideTables}
-use Rattle.fault_core.specs.declared.core_over.CoreOver.{CoreOver}
+use Rattle.fault_core.specs.declared.core_over.Core.{Core}
 use Rattle.fault_core.specs.Core.{kept, state}
 use Rattle.fault_core.specs.Kept.{IsKept}
-use Rattle.fault_core.specs.Told.{Told}
+use Rattle.fault_core.specs.Revealed.{Revealed}
 use Rattle.fault_core.specs.View.{View, TablesAre}
-use Rattle.fault_core.proofs.ToldLemmas.{told_after}
+use Rattle.fault_core.proofs.RevealedLemmas.{revealed_after}
 use Rattle.fault_core.proofs.TurnLemmas.{reaches_tables, own_tables}
 use Rattle.fault_core.proofs.YieldLemmas.{tables_yield}
 use Rattle.table_calls.specs.Answers.{Asked}
@@ -17,7 +17,7 @@ use Rattle.table_calls.specs.Answers.{Asked}
 abbrev pub Beside : View → View → Type 0
 Beside v w = BesideTables v.disk v.slots v.layout v.runs w.disk w.slots w.layout w.runs
 
-pub asked : {D A : Type 0} {G : Ghosts D} (old new : CoreOver D A G) → Beside (state old) (state new) → ((b : List ℕ) → TablesAre (state old) b → TablesAre (state new) b)
+pub asked : {D A : Type 0} {G : Ghosts D} (old new : Core D A G) → Beside (state old) (state new) → ((b : List ℕ) → TablesAre (state old) b → TablesAre (state new) b)
     → kept new ≡ kept old → new.intervals ≡ old.intervals → Asked old new
 asked old new beside same keeps count =
     let reaches = reaches_tables (state old) (state new) beside same in
@@ -27,6 +27,6 @@ asked old new beside same keeps count =
       stay = tables_yield (state old) (state new) beside;
       kept = keeps;
       intervals = count;
-      same = λ m named ss knows. subst (λ (n : ℕ). Told (state new) (kept new) n m named ss) (sym count)
-          (told_after knows (state new) (kept new) old.filer.swapper.accepted reaches (λ x one. inl (subst (λ (l : List Interval). IsKept l x) keeps one)));
+      same = λ m named ss knows. subst (λ (n : ℕ). Revealed (state new) (kept new) n m named ss) (sym count)
+          (revealed_after knows (state new) (kept new) old.filer.swapper.accepted reaches (λ x one. inl (subst (λ (l : List Interval). IsKept l x) keeps one)));
     }

@@ -11,12 +11,12 @@ use Rattle.swap_units.specs.declared.interval.Interval.{Interval}
 use Rattle.space_tables.specs.declared.error.SpaceError.{SpaceError}
 use Rattle.space_tables.specs.declared.error.SpaceError.TheVariants.{Refused, Malformed, Mem}
 use Rattle.space_tables.specs.Answer.{FromMemory, IfMem, IfMalformed, Answers}
-use Rattle.space_tables.specs.Stored.{TellSpaces}
+use Rattle.space_tables.specs.Stored.{RevealSpaces}
 use Rattle.filer_kernel.specs.Tables.{IsTableAccounted}
 use Rattle.fault_core.specs.View.{View, TablesAre}
 use Rattle.fault_core.specs.Reach.{ReachHalts}
-use Rattle.fault_core.specs.Told.{Told}
-use Rattle.fault_core.proofs.ToldLemmas.{spaces_in, tables_told}
+use Rattle.fault_core.specs.Revealed.{Revealed}
+use Rattle.fault_core.proofs.RevealedLemmas.{spaces_in, tables_revealed}
 use Rattle.fault_core.proofs.TurnLemmas.{tables_halt}
 use Rattle.table_calls.specs.Answers.{refused_or_halted, Changes, IfGiven, IsDone, TablesBreak, TablesSay}
 
@@ -71,15 +71,15 @@ module _ {A : Type 0} where
 
   -- where the tables are those of spaces, no page is malformed
   pub sound : (r : Result A (SpaceError Halt)) {v : View} (w : View) {kept : List Interval} {count : ℕ} {m : List Sector} {named : Triples} {ss : List Space}
-      → Told v kept count m named ss → IfErr r IsWhole → IfErr r (IfMem (Accounted v w)) → IfErr (refused_or_halted r) (λ e. e ≡ Disk)
+      → Revealed v kept count m named ss → IfErr r IsWhole → IfErr r (IfMem (Accounted v w)) → IfErr (refused_or_halted r) (λ e. e ≡ Disk)
   sound (Ok answer) w knows right cause = tt
   sound (Err (Refused word)) w knows right cause = tt
   sound (Err (Malformed page)) w knows right cause = absurd right
-  sound (Err (Mem halt)) w knows right cause = cause.sound _ _ knows.known.stands knows.known.map_labels (tables_told knows)
+  sound (Err (Mem halt)) w knows right cause = cause.sound _ _ knows.known.stands knows.known.map_labels (tables_revealed knows)
 
 -- the tables are those of the spaces that are known
-pub known_spaces : {v : View} {kept : List Interval} {count : ℕ} {m : List Sector} {named : Triples} {ss : List Space} → Told v kept count m named ss → TellSpaces (TablesAre v) count ss
-known_spaces knows = spaces_in _ _ _ knows.bytes (tables_told knows) knows.tables
+pub known_spaces : {v : View} {kept : List Interval} {count : ℕ} {m : List Sector} {named : Triples} {ss : List Space} → Revealed v kept count m named ss → RevealSpaces (TablesAre v) count ss
+known_spaces knows = spaces_in _ _ _ knows.bytes (tables_revealed knows) knows.tables
 
 -- where an error comes from the memory alone, an answer is no refusal
 pub done : (r : Result (Unit {0}) (SpaceError Halt)) (X : Type 0) → MatchResult r (λ _. X) FromMemory → IfOk (refused_or_halted r) (IsDone X)

@@ -1,4 +1,4 @@
--- Calls where nothing is known but that the tables are told and in form.
+-- Calls where nothing is known but that the tables are revealed and in form.
 use Rattle.std.proofs.Common.{ℕ, List, [], Option, Result, Ok, Err, refl}
 use Rattle.std.specs.Prelude.{IfOk, IfErr, MatchResult}
 use Rattle.std.proofs.lemmas.Option.{none-some}
@@ -10,31 +10,31 @@ use Rattle.space_tables.specs.declared.error.SpaceError.{SpaceError}
 use Rattle.space_tables.specs.declared.error.SpaceError.TheVariants.{Refused, Malformed, Mem}
 use Rattle.space_tables.specs.Answer.{Answers, FromMemory, IfMem}
 use Rattle.space_tables.specs.Form.{Breaks}
-use Rattle.space_tables.specs.Stored.{TellSpaces}
+use Rattle.space_tables.specs.Stored.{RevealSpaces}
 use Rattle.filer_kernel.proofs.Outcomes.{err_wider}
 use Rattle.fault_core.specs.Lack.{Sees}
 use Rattle.fault_core.specs.Reach.{ReachHalts, no_break}
-use Rattle.fault_core.specs.Spares.{SparesTables}
+use Rattle.fault_core.specs.NeverBlames.{NeverBlamesTables}
 use Rattle.fault_core.specs.View.{View, TablesAre}
-use Rattle.fault_core.proofs.SparesLemmas.{form_is_right, spares_told}
-use Rattle.fault_core.proofs.ToldLemmas.{spaces_in}
+use Rattle.fault_core.proofs.NeverBlamesLemmas.{form_is_right, never_blames_revealed}
+use Rattle.fault_core.proofs.RevealedLemmas.{spaces_in}
 use Rattle.fault_core.proofs.TurnLemmas.{tables_halt}
 use Rattle.table_calls.specs.Answers.{refused_or_halted, Changes, IsDone, TablesBreak}
 use Rattle.table_calls.proofs.HaltingLemmas.{Accounted, IsWhole}
 
 -- the tables are those of the spaces that are seen
-pub seen_spaces : {v : View} {kept : List Interval} {count : ℕ} {ss : List Space} → Sees v kept count ss → TellSpaces (TablesAre v) count ss
-seen_spaces s = spaces_in _ _ _ s.bytes s.told s.tables
+pub seen_spaces : {v : View} {kept : List Interval} {count : ℕ} {ss : List Space} → Sees v kept count ss → RevealSpaces (TablesAre v) count ss
+seen_spaces s = spaces_in _ _ _ s.bytes s.revealed s.tables
 
--- where the tables of spaces are told, and no interval is kept, they are seen
-pub sees_told : {v : View} {count : ℕ} {ss : List Space} → TellSpaces (TablesAre v) count ss → Sees v [] count ss
-sees_told t = record {
+-- where the tables of spaces are revealed, and no interval is kept, they are seen
+pub sees_revealed : {v : View} {count : ℕ} {ss : List Space} → RevealSpaces (TablesAre v) count ss → Sees v [] count ss
+sees_revealed t = record {
   bytes = t.hold.bytes;
-  told = t.hold.told;
+  revealed = t.hold.revealed;
   tables = record {
     slots = t.slots;
     xs = t.xs;
-    hold = record { bytes = t.hold.bytes; told = refl; are = t.hold.are };
+    hold = record { bytes = t.hold.bytes; revealed = refl; are = t.hold.are };
     right = t.right;
     counted = t.counted;
     spaces = t.spaces;
@@ -50,18 +50,18 @@ module _ {A : Type 0} where
   changed (Err (Malformed page)) refusal P Q stays leaves f g h = tt
   changed (Err (Mem halt)) refusal P Q stays leaves f g h = tt
 
-  -- no page is malformed, so none is told as broken, nor as missing
-  pub spared : (r : Result A (SpaceError Halt)) {v : View} {b : List ℕ} (w : View) → TablesAre v b → IfErr r IsWhole → IfErr r (IfMem (Accounted v w)) → IfErr (refused_or_halted r) SparesTables
-  spared (Ok answer) w told right cause = tt
-  spared (Err (Refused word)) w told right cause = tt
-  spared (Err (Malformed page)) w told right cause = absurd right
-  spared (Err (Mem halt)) {v = v} w told right cause = spares_told told no_break (λ page none. absurd none) w halt (tables_halt v w no_break halt cause)
+  -- no page is malformed, so none is reported as broken, nor as missing
+  pub blameless : (r : Result A (SpaceError Halt)) {v : View} {b : List ℕ} (w : View) → TablesAre v b → IfErr r IsWhole → IfErr r (IfMem (Accounted v w)) → IfErr (refused_or_halted r) NeverBlamesTables
+  blameless (Ok answer) w revealed right cause = tt
+  blameless (Err (Refused word)) w revealed right cause = tt
+  blameless (Err (Malformed page)) w revealed right cause = absurd right
+  blameless (Err (Mem halt)) {v = v} w revealed right cause = never_blames_revealed revealed no_break (λ page none. absurd none) w halt (tables_halt v w no_break halt cause)
 
   -- nor where a page of them would break its form
-  pub spared_form : (r : Result (Result A Refusal) Halt) {v : View} {kept : List Interval} {count : ℕ} {ss : List Space} (w : View) → Sees v kept count ss → IfErr r (ReachHalts (TablesBreak v (Breaks count)) v w) → IfErr r SparesTables
-  spared_form r {v = v} {count = count} w s cause =
-      err_wider r (ReachHalts (TablesBreak v (Breaks count)) v w) SparesTables
-      (λ e halts. spares_told s.told (TablesBreak v (Breaks count)) (λ page breaks. form_is_right s.tables page (breaks s.bytes s.told)) w e halts) cause
+  pub blameless_form : (r : Result (Result A Refusal) Halt) {v : View} {kept : List Interval} {count : ℕ} {ss : List Space} (w : View) → Sees v kept count ss → IfErr r (ReachHalts (TablesBreak v (Breaks count)) v w) → IfErr r NeverBlamesTables
+  blameless_form r {v = v} {count = count} w s cause =
+      err_wider r (ReachHalts (TablesBreak v (Breaks count)) v w) NeverBlamesTables
+      (λ e halts. never_blames_revealed s.revealed (TablesBreak v (Breaks count)) (λ page breaks. form_is_right s.tables page (breaks s.bytes s.revealed)) w e halts) cause
 
 -- where an error comes from the memory alone, an answer is no refusal
 pub done_so : (r : Result (Unit {0}) (SpaceError Halt)) (X Y : Type 0) → (X → Y) → MatchResult r (λ _. X) FromMemory → IfOk (refused_or_halted r) (IsDone Y)

@@ -11,12 +11,12 @@ use Rattle.flat_machine.specs.declared.space.Space.{Space}
 use Rattle.space_tables.specs.declared.error.SpaceError.{SpaceError}
 use Rattle.space_tables.specs.declared.error.SpaceError.TheVariants.{Refused, Malformed, Mem}
 use Rattle.filer_kernel.specs.Tables.{BesideTables}
-use Rattle.fault_core.specs.declared.core_over.CoreOver.{CoreOver}
+use Rattle.fault_core.specs.declared.core_over.Core.{Core}
 use Rattle.fault_core.specs.Core.{kept, state, Knows}
 use Rattle.fault_core.specs.Reach.{Reaches, BringsOwn, StayOrYield}
 use Rattle.fault_core.specs.View.{View, TablesAre}
 
--- what the tables answered, where a refusal is told from a halt: a page that breaks its form is one of the space tables
+-- what the tables answered, where a refusal is revealed from a halt: a page that breaks its form is one of the space tables
 abbrev pub refused_or_halted : {A : Type 0} → Result A (SpaceError Halt) → Result (Result A Refusal) Halt
 refused_or_halted (Ok answer) = Ok (Ok answer)
 refused_or_halted (Err (Refused word)) = Ok (Err word)
@@ -29,8 +29,8 @@ Changes refusal P stays (Ok answer) = (refusal ≡ None) × P answer
 Changes refusal P stays (Err word) = (refusal ≡ Some word) × stays
 
 -- of a call that only asks
-abbrev pub Tells : {A : Type 0} → Option Refusal → (A → Type 0) → Result A Refusal → Type 0
-Tells refusal P result = Changes refusal P (Unit {0}) result
+abbrev pub Reveals : {A : Type 0} → Option Refusal → (A → Type 0) → Result A Refusal → Type 0
+Reveals refusal P result = Changes refusal P (Unit {0}) result
 
 -- a fact of the answer that is no refusal
 abbrev pub IfGiven : {A : Type 0} → (A → Type 0) → Result A Refusal → Type 0
@@ -42,17 +42,17 @@ abbrev pub IsDone : Type 0 → Result Unit Refusal → Type 0
 IsDone P (Ok answer) = P
 IsDone P (Err word) = ⊥
 
--- a page of the space tables breaks its form so, where they are told
+-- a page of the space tables breaks its form so, where they are revealed
 abbrev pub TablesBreak : View → (List ℕ → ℕ → Type 0) → ℕ → Type 0
 TablesBreak v breaks page = (b : List ℕ) → TablesAre v b → breaks b page
 
--- the bytes of the space tables say so of an answer, where they are told
+-- the bytes of the space tables say so of an answer, where they are revealed
 abbrev pub TablesSay : {A : Type 0} → View → (List ℕ → A → Type 0) → A → Type 0
 TablesSay v says answer = (b : List ℕ) → TablesAre v b → says b answer
 
 module _ {D A : Type 0} {G : Ghosts D} where
   -- Pages were found and brought in, and nothing that is known has changed.
-  pub record Asked (old new : CoreOver D A G) : Type 0 where
+  pub record Asked (old new : Core D A G) : Type 0 where
     pub reaches : Reaches (state old) (state new)
     pub came : BringsOwn old.filer.swapper.pool new.filer.swapper.pool
     pub stay : StayOrYield old.filer.swapper.pool new.filer.swapper.pool
@@ -61,7 +61,7 @@ module _ {D A : Type 0} {G : Ghosts D} where
     pub same : (m : List Sector) (named : Triples) (spaces : List Space) → Knows old m named spaces → Knows new m named spaces
 
   -- Pages of the space tables alone may have changed, and no interval is kept any more.
-  pub record Retabled (old new : CoreOver D A G) : Type 0 where
+  pub record Retabled (old new : Core D A G) : Type 0 where
     pub beside : BesideTables (state old).disk (state old).slots (state old).layout (state old).runs (state new).disk (state new).slots (state new).layout (state new).runs
     pub came : BringsOwn old.filer.swapper.pool new.filer.swapper.pool
     pub kept : kept new ≡ []

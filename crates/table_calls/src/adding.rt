@@ -9,19 +9,19 @@ ghost use Rattle.flat_machine.specs.Next.{put_space, without_space};
 ghost use Rattle.projection_laws.specs.Tests.{add_row, made, remove_row};
 ghost use Rattle.space_tables.specs.Form.{first_in_slot, BreaksHierarchy, BreaksFor, BreaksAt, MakesTooMany};
 ghost use Rattle.space_tables.specs.Answer.{IfMem, IfMalformed, Answers};
-ghost use Rattle.space_tables.specs.Stored.{TellSpaces};
+ghost use Rattle.space_tables.specs.Stored.{RevealSpaces};
 ghost use Rattle.filer_kernel.specs.Tables.{BesideTables, IsTableAccounted};
 ghost use Rattle.fault_core.specs.View.{view_of, TablesAre};
 ghost use Rattle.fault_core.specs.Reach.{ReachHalts};
 ghost use Rattle.fault_core.specs.Lack.{Sees};
-ghost use Rattle.fault_core.specs.Spares.{SparesTables};
+ghost use Rattle.fault_core.specs.NeverBlames.{NeverBlamesTables};
 ghost use Rattle.fault_core.specs.Core.{kept, state, Knows};
 ghost use Rattle.table_calls.specs.Answers.{Changes, Retabled, TablesBreak};
 
 use crate::halting::refused_or_halted;
 use crate::opening::opened;
-use fault_core::CoreOver;
-use filer_kernel::{FilerOver, Window1Over};
+use fault_core::Core;
+use filer_kernel::{Filer, TableMemory};
 use flat_machine::Refusal;
 use labelled_disk::{Disk, Halt};
 use space_tables::{SpaceError, SpaceTables};
@@ -29,23 +29,23 @@ use std::alloc::Allocator;
 
 // Changes the tables that stand in a filer's space tables. Gives how many intervals there are now besides.
 fn add_in<D: Disk, A: Allocator>(
-    filer: &mut FilerOver<D, A>,
+    filer: &mut Filer<D, A>,
     intervals: u32,
     parent: u32,
     pages: u32,
     first: Option<u32>,
 ) -> (Result<(u32, u32), SpaceError<Halt>>, u32)
-    requires size { (D.state filer.old.swapper.under).sectors ≡ filer.old.swapper.layout.sectors }
+    requires size { (D.state filer.old.swapper.disk).sectors ≡ filer.old.swapper.layout.sectors }
     requires some { 1 ≤ intervals }
     requires few { intervals ≤ 1023 }
-    ensures answer { (ss : List Space) → TellSpaces (TablesAre (view_of filer.old)) intervals ss → Answers (first_of (add_row ss parent pages first)) (λ at. TellSpaces (TablesAre (view_of filer.new)) result.1 (put_space (made ss parent pages first) ss) × (at.0 ≡ (made ss parent pages first).handle) × (at.1 ≡ (made ss parent pages first).first)) (TellSpaces (TablesAre (view_of filer.new)) result.1 ss) result.0 }
+    ensures answer { (ss : List Space) → RevealSpaces (TablesAre (view_of filer.old)) intervals ss → Answers (first_of (add_row ss parent pages first)) (λ at. RevealSpaces (TablesAre (view_of filer.new)) result.1 (put_space (made ss parent pages first) ss) × (at.0 ≡ (made ss parent pages first).handle) × (at.1 ≡ (made ss parent pages first).first)) (RevealSpaces (TablesAre (view_of filer.new)) result.1 ss) result.0 }
     ensures malformed { (b : List ℕ) → TablesAre (view_of filer.old) b → IfErr result.0 (IfMalformed (λ page. BreaksHierarchy b page ⊎ (BreaksAt first intervals b page ⊎ MakesTooMany intervals b parent pages first page))) }
-    ensures cause { IfErr result.0 (IfMem (IsTableAccounted (D.state filer.old.swapper.under) filer.old.swapper.pool filer.old.swapper.layout filer.old.runs (D.state filer.new.swapper.under))) }
+    ensures cause { IfErr result.0 (IfMem (IsTableAccounted (D.state filer.old.swapper.disk) filer.old.swapper.pool filer.old.swapper.layout filer.old.runs (D.state filer.new.swapper.disk))) }
     ensures count { (1 ≤ result.1) × (result.1 ≤ 1023) }
-    ensures kept { BesideTables (D.state filer.old.swapper.under) filer.old.swapper.pool filer.old.swapper.layout filer.old.runs (D.state filer.new.swapper.under) filer.new.swapper.pool filer.new.swapper.layout filer.new.runs }
-    ensures cost { (D.state filer.new.swapper.under).transfers ≤ (D.state filer.old.swapper.under).transfers + 50204 }
+    ensures kept { BesideTables (D.state filer.old.swapper.disk) filer.old.swapper.pool filer.old.swapper.layout filer.old.runs (D.state filer.new.swapper.disk) filer.new.swapper.pool filer.new.swapper.layout filer.new.runs }
+    ensures cost { (D.state filer.new.swapper.disk).transfers ≤ (D.state filer.old.swapper.disk).transfers + 50204 }
 {
-    let mut tables = SpaceTables::<Window1Over<D, A>>::over(filer.window1(), intervals);
+    let mut tables = SpaceTables::<TableMemory<D, A>>::over(filer.table_memory(), intervals);
     let answer = tables.add(parent, pages, first);
     (answer, tables.intervals())
 }
@@ -53,21 +53,21 @@ fn add_in<D: Disk, A: Allocator>(
 /// Adds a space of so many pages inside a parent, at the given first page or in the lowest gap that is long enough.
 /// Gives its handle and its first page.
 pub fn add<D: Disk, A: Allocator>(
-    core: &mut CoreOver<D, A>,
+    core: &mut Core<D, A>,
     parent: u32,
     pages: u32,
     first: Option<u32>,
 ) -> Result<Result<(u32, u32), Refusal>, Halt>
-    requires size { (D.state core.old.filer.swapper.under).sectors ≡ core.old.filer.swapper.layout.sectors }
+    requires size { (D.state core.old.filer.swapper.disk).sectors ≡ core.old.filer.swapper.layout.sectors }
     ensures answer { (m : List Sector) (named : Triples) (ss : List Space) → Knows core.old m named ss
-        → IfOk result (Changes (first_of (add_row ss parent pages first)) (λ at. TellSpaces (TablesAre (state core.new)) core.new.intervals (put_space (made ss parent pages first) ss) × (at.0 ≡ (made ss parent pages first).handle) × (at.1 ≡ (made ss parent pages first).first)) (TellSpaces (TablesAre (state core.new)) core.new.intervals ss)) }
+        → IfOk result (Changes (first_of (add_row ss parent pages first)) (λ at. RevealSpaces (TablesAre (state core.new)) core.new.intervals (put_space (made ss parent pages first) ss) × (at.0 ≡ (made ss parent pages first).handle) × (at.1 ≡ (made ss parent pages first).first)) (RevealSpaces (TablesAre (state core.new)) core.new.intervals ss)) }
     ensures cause { IfErr result (ReachHalts (TablesBreak (state core.old) (λ b page. BreaksHierarchy b page ⊎ (BreaksAt first core.old.intervals b page ⊎ MakesTooMany core.old.intervals b parent pages first page))) (state core.old) (state core.new)) }
     ensures sees { (ss : List Space) → Sees (state core.old) (kept core.old) core.old.intervals ss
         → IfOk result (Changes (first_of (add_row ss parent pages first)) (λ at. Sees (state core.new) (kept core.new) core.new.intervals (put_space (made ss parent pages first) ss) × (at.0 ≡ (made ss parent pages first).handle) × (at.1 ≡ (made ss parent pages first).first)) (Sees (state core.new) (kept core.new) core.new.intervals ss)) }
-    ensures right { (ss : List Space) → Sees (state core.old) (kept core.old) core.old.intervals ss → IfErr result SparesTables }
+    ensures right { (ss : List Space) → Sees (state core.old) (kept core.old) core.old.intervals ss → IfErr result NeverBlamesTables }
     ensures sound { (m : List Sector) (named : Triples) (ss : List Space) → Knows core.old m named ss → IfErr result (λ e. e ≡ halt.Disk) }
     ensures retabled { Retabled core.old core.new }
-    ensures cost { (D.state core.new.filer.swapper.under).transfers ≤ (D.state core.old.filer.swapper.under).transfers + 50204 }
+    ensures cost { (D.state core.new.filer.swapper.disk).transfers ≤ (D.state core.old.filer.swapper.disk).transfers + 50204 }
 {
     let intervals = opened(core);
     let (answer, intervals) = add_in(&mut core.filer, intervals, parent, pages, first);
@@ -77,40 +77,40 @@ pub fn add<D: Disk, A: Allocator>(
 
 // Changes the tables that stand in a filer's space tables. Gives how many intervals there are now besides.
 fn remove_in<D: Disk, A: Allocator>(
-    filer: &mut FilerOver<D, A>,
+    filer: &mut Filer<D, A>,
     intervals: u32,
     space: u32,
 ) -> (Result<(), SpaceError<Halt>>, u32)
-    requires size { (D.state filer.old.swapper.under).sectors ≡ filer.old.swapper.layout.sectors }
+    requires size { (D.state filer.old.swapper.disk).sectors ≡ filer.old.swapper.layout.sectors }
     requires some { 1 ≤ intervals }
     requires few { intervals ≤ 1023 }
-    ensures answer { (ss : List Space) → TellSpaces (TablesAre (view_of filer.old)) intervals ss → Answers (first_of (remove_row ss space)) (λ _. TellSpaces (TablesAre (view_of filer.new)) result.1 (without_space space ss)) (TellSpaces (TablesAre (view_of filer.new)) result.1 ss) result.0 }
+    ensures answer { (ss : List Space) → RevealSpaces (TablesAre (view_of filer.old)) intervals ss → Answers (first_of (remove_row ss space)) (λ _. RevealSpaces (TablesAre (view_of filer.new)) result.1 (without_space space ss)) (RevealSpaces (TablesAre (view_of filer.new)) result.1 ss) result.0 }
     ensures malformed { (b : List ℕ) → TablesAre (view_of filer.old) b → IfErr result.0 (IfMalformed (λ page. BreaksFor (first_in_slot b space) intervals b page)) }
-    ensures cause { IfErr result.0 (IfMem (IsTableAccounted (D.state filer.old.swapper.under) filer.old.swapper.pool filer.old.swapper.layout filer.old.runs (D.state filer.new.swapper.under))) }
+    ensures cause { IfErr result.0 (IfMem (IsTableAccounted (D.state filer.old.swapper.disk) filer.old.swapper.pool filer.old.swapper.layout filer.old.runs (D.state filer.new.swapper.disk))) }
     ensures count { (1 ≤ result.1) × (result.1 ≤ 1023) }
-    ensures kept { BesideTables (D.state filer.old.swapper.under) filer.old.swapper.pool filer.old.swapper.layout filer.old.runs (D.state filer.new.swapper.under) filer.new.swapper.pool filer.new.swapper.layout filer.new.runs }
-    ensures cost { (D.state filer.new.swapper.under).transfers ≤ (D.state filer.old.swapper.under).transfers + 21924 }
+    ensures kept { BesideTables (D.state filer.old.swapper.disk) filer.old.swapper.pool filer.old.swapper.layout filer.old.runs (D.state filer.new.swapper.disk) filer.new.swapper.pool filer.new.swapper.layout filer.new.runs }
+    ensures cost { (D.state filer.new.swapper.disk).transfers ≤ (D.state filer.old.swapper.disk).transfers + 21924 }
 {
-    let mut tables = SpaceTables::<Window1Over<D, A>>::over(filer.window1(), intervals);
+    let mut tables = SpaceTables::<TableMemory<D, A>>::over(filer.table_memory(), intervals);
     let answer = tables.remove(space);
     (answer, tables.intervals())
 }
 
 /// Removes a space that has no children and is not mapped.
 pub fn remove<D: Disk, A: Allocator>(
-    core: &mut CoreOver<D, A>,
+    core: &mut Core<D, A>,
     space: u32,
 ) -> Result<Result<(), Refusal>, Halt>
-    requires size { (D.state core.old.filer.swapper.under).sectors ≡ core.old.filer.swapper.layout.sectors }
+    requires size { (D.state core.old.filer.swapper.disk).sectors ≡ core.old.filer.swapper.layout.sectors }
     ensures answer { (m : List Sector) (named : Triples) (ss : List Space) → Knows core.old m named ss
-        → IfOk result (Changes (first_of (remove_row ss space)) (λ _. TellSpaces (TablesAre (state core.new)) core.new.intervals (without_space space ss)) (TellSpaces (TablesAre (state core.new)) core.new.intervals ss)) }
+        → IfOk result (Changes (first_of (remove_row ss space)) (λ _. RevealSpaces (TablesAre (state core.new)) core.new.intervals (without_space space ss)) (RevealSpaces (TablesAre (state core.new)) core.new.intervals ss)) }
     ensures cause { IfErr result (ReachHalts (TablesBreak (state core.old) (λ b page. BreaksFor (first_in_slot b space) core.old.intervals b page)) (state core.old) (state core.new)) }
     ensures sees { (ss : List Space) → Sees (state core.old) (kept core.old) core.old.intervals ss
         → IfOk result (Changes (first_of (remove_row ss space)) (λ _. Sees (state core.new) (kept core.new) core.new.intervals (without_space space ss)) (Sees (state core.new) (kept core.new) core.new.intervals ss)) }
-    ensures right { (ss : List Space) → Sees (state core.old) (kept core.old) core.old.intervals ss → IfErr result SparesTables }
+    ensures right { (ss : List Space) → Sees (state core.old) (kept core.old) core.old.intervals ss → IfErr result NeverBlamesTables }
     ensures sound { (m : List Sector) (named : Triples) (ss : List Space) → Knows core.old m named ss → IfErr result (λ e. e ≡ halt.Disk) }
     ensures retabled { Retabled core.old core.new }
-    ensures cost { (D.state core.new.filer.swapper.under).transfers ≤ (D.state core.old.filer.swapper.under).transfers + 21924 }
+    ensures cost { (D.state core.new.filer.swapper.disk).transfers ≤ (D.state core.old.filer.swapper.disk).transfers + 21924 }
 {
     let intervals = opened(core);
     let (answer, intervals) = remove_in(&mut core.filer, intervals, space);

@@ -12,19 +12,19 @@ ghost use Rattle.projection_laws.specs.Tests.{unit_row};
 ghost use Rattle.space_tables.specs.Form.{Breaks};
 ghost use Rattle.space_tables.specs.Shows.{window_of};
 ghost use Rattle.space_tables.specs.Answer.{FromMemory, IfMem, IfMalformed, Answers};
-ghost use Rattle.space_tables.specs.Stored.{TellSpaces};
+ghost use Rattle.space_tables.specs.Stored.{RevealSpaces};
 ghost use Rattle.filer_kernel.specs.Tables.{BesideTables, IsTableAccounted};
 ghost use Rattle.fault_core.specs.View.{view_of, TablesAre};
 ghost use Rattle.fault_core.specs.Reach.{ReachHalts};
 ghost use Rattle.fault_core.specs.Lack.{Sees};
-ghost use Rattle.fault_core.specs.Spares.{SparesTables};
+ghost use Rattle.fault_core.specs.NeverBlames.{NeverBlamesTables};
 ghost use Rattle.fault_core.specs.Core.{kept, state, Knows};
 ghost use Rattle.table_calls.specs.Answers.{Changes, IsDone, Retabled, TablesBreak};
 
 use crate::halting::refused_or_halted;
 use crate::opening::opened;
-use fault_core::CoreOver;
-use filer_kernel::{FilerOver, Window1Over};
+use fault_core::Core;
+use filer_kernel::{Filer, TableMemory};
 use flat_machine::Refusal;
 use labelled_disk::{Disk, Halt};
 use space_tables::{Shown, SpaceError, SpaceTables};
@@ -32,41 +32,41 @@ use std::alloc::Allocator;
 
 // Changes the tables that stand in a filer's space tables. There are as many intervals afterwards.
 fn set_unit_in<D: Disk, A: Allocator>(
-    filer: &mut FilerOver<D, A>,
+    filer: &mut Filer<D, A>,
     intervals: u32,
     space: u32,
     unit: u32,
 ) -> Result<(), SpaceError<Halt>>
-    requires size { (D.state filer.old.swapper.under).sectors ≡ filer.old.swapper.layout.sectors }
+    requires size { (D.state filer.old.swapper.disk).sectors ≡ filer.old.swapper.layout.sectors }
     requires some { 1 ≤ intervals }
     requires few { intervals ≤ 1023 }
-    ensures answer { (ss : List Space) → TellSpaces (TablesAre (view_of filer.old)) intervals ss → Answers (first_of (unit_row ss space unit)) (λ _. TellSpaces (TablesAre (view_of filer.new)) intervals (change_space space (λ s. record s { unit = unit }) ss)) (TellSpaces (TablesAre (view_of filer.new)) intervals ss) result }
+    ensures answer { (ss : List Space) → RevealSpaces (TablesAre (view_of filer.old)) intervals ss → Answers (first_of (unit_row ss space unit)) (λ _. RevealSpaces (TablesAre (view_of filer.new)) intervals (change_space space (λ s. record s { unit = unit }) ss)) (RevealSpaces (TablesAre (view_of filer.new)) intervals ss) result }
     ensures malformed { (b : List ℕ) → TablesAre (view_of filer.old) b → IfErr result (IfMalformed (λ page. Breaks intervals b page)) }
-    ensures cause { IfErr result (IfMem (IsTableAccounted (D.state filer.old.swapper.under) filer.old.swapper.pool filer.old.swapper.layout filer.old.runs (D.state filer.new.swapper.under))) }
-    ensures kept { BesideTables (D.state filer.old.swapper.under) filer.old.swapper.pool filer.old.swapper.layout filer.old.runs (D.state filer.new.swapper.under) filer.new.swapper.pool filer.new.swapper.layout filer.new.runs }
-    ensures cost { (D.state filer.new.swapper.under).transfers ≤ (D.state filer.old.swapper.under).transfers + 57344 }
+    ensures cause { IfErr result (IfMem (IsTableAccounted (D.state filer.old.swapper.disk) filer.old.swapper.pool filer.old.swapper.layout filer.old.runs (D.state filer.new.swapper.disk))) }
+    ensures kept { BesideTables (D.state filer.old.swapper.disk) filer.old.swapper.pool filer.old.swapper.layout filer.old.runs (D.state filer.new.swapper.disk) filer.new.swapper.pool filer.new.swapper.layout filer.new.runs }
+    ensures cost { (D.state filer.new.swapper.disk).transfers ≤ (D.state filer.old.swapper.disk).transfers + 57344 }
 {
-    let mut tables = SpaceTables::<Window1Over<D, A>>::over(filer.window1(), intervals);
+    let mut tables = SpaceTables::<TableMemory<D, A>>::over(filer.table_memory(), intervals);
     tables.set_unit(space, unit)
 }
 
 /// Gives a space another unit size, 1 to 16 pages.
 pub fn set_unit<D: Disk, A: Allocator>(
-    core: &mut CoreOver<D, A>,
+    core: &mut Core<D, A>,
     space: u32,
     unit: u32,
 ) -> Result<Result<(), Refusal>, Halt>
-    requires size { (D.state core.old.filer.swapper.under).sectors ≡ core.old.filer.swapper.layout.sectors }
+    requires size { (D.state core.old.filer.swapper.disk).sectors ≡ core.old.filer.swapper.layout.sectors }
     ensures answer { (m : List Sector) (named : Triples) (ss : List Space) → Knows core.old m named ss
-        → IfOk result (Changes (first_of (unit_row ss space unit)) (λ _. TellSpaces (TablesAre (state core.new)) core.new.intervals (change_space space (λ s. record s { unit = unit }) ss)) (TellSpaces (TablesAre (state core.new)) core.new.intervals ss)) }
+        → IfOk result (Changes (first_of (unit_row ss space unit)) (λ _. RevealSpaces (TablesAre (state core.new)) core.new.intervals (change_space space (λ s. record s { unit = unit }) ss)) (RevealSpaces (TablesAre (state core.new)) core.new.intervals ss)) }
     ensures cause { IfErr result (ReachHalts (TablesBreak (state core.old) (λ b page. Breaks core.old.intervals b page)) (state core.old) (state core.new)) }
     ensures sees { (ss : List Space) → Sees (state core.old) (kept core.old) core.old.intervals ss
         → IfOk result (Changes (first_of (unit_row ss space unit)) (λ _. Sees (state core.new) (kept core.new) core.new.intervals (change_space space (λ s. record s { unit = unit }) ss)) (Sees (state core.new) (kept core.new) core.new.intervals ss)) }
-    ensures right { (ss : List Space) → Sees (state core.old) (kept core.old) core.old.intervals ss → IfErr result SparesTables }
+    ensures right { (ss : List Space) → Sees (state core.old) (kept core.old) core.old.intervals ss → IfErr result NeverBlamesTables }
     ensures sound { (m : List Sector) (named : Triples) (ss : List Space) → Knows core.old m named ss → IfErr result (λ e. e ≡ halt.Disk) }
     ensures retabled { Retabled core.old core.new }
     ensures intervals { core.new.intervals ≡ core.old.intervals }
-    ensures cost { (D.state core.new.filer.swapper.under).transfers ≤ (D.state core.old.filer.swapper.under).transfers + 57344 }
+    ensures cost { (D.state core.new.filer.swapper.disk).transfers ≤ (D.state core.old.filer.swapper.disk).transfers + 57344 }
 {
     let intervals = opened(core);
     refused_or_halted(set_unit_in(&mut core.filer, intervals, space, unit))
@@ -74,44 +74,44 @@ pub fn set_unit<D: Disk, A: Allocator>(
 
 // Changes the tables that stand in a filer's space tables.
 fn set_window_in<D: Disk, A: Allocator>(
-    filer: &mut FilerOver<D, A>,
+    filer: &mut Filer<D, A>,
     intervals: u32,
     space: u32,
     shown: Option<Shown>,
 ) -> Result<(), SpaceError<Halt>>
-    requires size { (D.state filer.old.swapper.under).sectors ≡ filer.old.swapper.layout.sectors }
+    requires size { (D.state filer.old.swapper.disk).sectors ≡ filer.old.swapper.layout.sectors }
     requires some { 1 ≤ intervals }
     requires few { intervals ≤ 1023 }
-    ensures done { (ss : List Space) (x : Space) → TellSpaces (TablesAre (view_of filer.old)) intervals ss → MayHaveWindow ss x → x.handle ≡ space → IfSome shown (λ w. WindowFits x.pages (window_of w))
-        → MatchResult result (λ _. TellSpaces (TablesAre (view_of filer.new)) intervals (set_window space (option_map window_of shown) ss)) FromMemory }
+    ensures done { (ss : List Space) (x : Space) → RevealSpaces (TablesAre (view_of filer.old)) intervals ss → MayHaveWindow ss x → x.handle ≡ space → IfSome shown (λ w. WindowFits x.pages (window_of w))
+        → MatchResult result (λ _. RevealSpaces (TablesAre (view_of filer.new)) intervals (set_window space (option_map window_of shown) ss)) FromMemory }
     ensures malformed { (b : List ℕ) → TablesAre (view_of filer.old) b → IfErr result (IfMalformed (Breaks intervals b)) }
-    ensures cause { IfErr result (IfMem (IsTableAccounted (D.state filer.old.swapper.under) filer.old.swapper.pool filer.old.swapper.layout filer.old.runs (D.state filer.new.swapper.under))) }
-    ensures kept { BesideTables (D.state filer.old.swapper.under) filer.old.swapper.pool filer.old.swapper.layout filer.old.runs (D.state filer.new.swapper.under) filer.new.swapper.pool filer.new.swapper.layout filer.new.runs }
-    ensures cost { (D.state filer.new.swapper.under).transfers ≤ (D.state filer.old.swapper.under).transfers + 57344 }
+    ensures cause { IfErr result (IfMem (IsTableAccounted (D.state filer.old.swapper.disk) filer.old.swapper.pool filer.old.swapper.layout filer.old.runs (D.state filer.new.swapper.disk))) }
+    ensures kept { BesideTables (D.state filer.old.swapper.disk) filer.old.swapper.pool filer.old.swapper.layout filer.old.runs (D.state filer.new.swapper.disk) filer.new.swapper.pool filer.new.swapper.layout filer.new.runs }
+    ensures cost { (D.state filer.new.swapper.disk).transfers ≤ (D.state filer.old.swapper.disk).transfers + 57344 }
 {
-    let mut tables = SpaceTables::<Window1Over<D, A>>::over(filer.window1(), intervals);
+    let mut tables = SpaceTables::<TableMemory<D, A>>::over(filer.table_memory(), intervals);
     tables.set_window(space, shown)
 }
 
 /// Gives a space another window, or none. Where the space is mapped, or no space on its path is, that is done; else, or where
-/// no tables are told, the call may be refused.
+/// no tables are revealed, the call may be refused.
 pub fn set_window<D: Disk, A: Allocator>(
-    core: &mut CoreOver<D, A>,
+    core: &mut Core<D, A>,
     space: u32,
     shown: Option<Shown>,
 ) -> Result<Result<(), Refusal>, Halt>
-    requires size { (D.state core.old.filer.swapper.under).sectors ≡ core.old.filer.swapper.layout.sectors }
+    requires size { (D.state core.old.filer.swapper.disk).sectors ≡ core.old.filer.swapper.layout.sectors }
     ensures done { (m : List Sector) (named : Triples) (ss : List Space) (x : Space) → Knows core.old m named ss → MayHaveWindow ss x → x.handle ≡ space → IfSome shown (λ w. WindowFits x.pages (window_of w))
-        → IfOk result (IsDone (TellSpaces (TablesAre (state core.new)) core.new.intervals (set_window space (option_map window_of shown) ss))) }
+        → IfOk result (IsDone (RevealSpaces (TablesAre (state core.new)) core.new.intervals (set_window space (option_map window_of shown) ss))) }
     ensures sound { (m : List Sector) (named : Triples) (ss : List Space) (x : Space) → Knows core.old m named ss → MayHaveWindow ss x → x.handle ≡ space → IfSome shown (λ w. WindowFits x.pages (window_of w))
         → IfErr result (λ e. e ≡ halt.Disk) }
     ensures cause { IfErr result (ReachHalts (TablesBreak (state core.old) (Breaks core.old.intervals)) (state core.old) (state core.new)) }
     ensures sees { (ss : List Space) (x : Space) → Sees (state core.old) (kept core.old) core.old.intervals ss → MayHaveWindow ss x → x.handle ≡ space → IfSome shown (λ w. WindowFits x.pages (window_of w))
         → IfOk result (IsDone (Sees (state core.new) (kept core.new) core.new.intervals (set_window space (option_map window_of shown) ss))) }
-    ensures right { (ss : List Space) → Sees (state core.old) (kept core.old) core.old.intervals ss → IfErr result SparesTables }
+    ensures right { (ss : List Space) → Sees (state core.old) (kept core.old) core.old.intervals ss → IfErr result NeverBlamesTables }
     ensures retabled { Retabled core.old core.new }
     ensures intervals { core.new.intervals ≡ core.old.intervals }
-    ensures cost { (D.state core.new.filer.swapper.under).transfers ≤ (D.state core.old.filer.swapper.under).transfers + 57344 }
+    ensures cost { (D.state core.new.filer.swapper.disk).transfers ≤ (D.state core.old.filer.swapper.disk).transfers + 57344 }
 {
     let intervals = opened(core);
     refused_or_halted(set_window_in(&mut core.filer, intervals, space, shown))

@@ -21,7 +21,7 @@ fn broken(page: u32) -> Halt
     })
 }
 
-/// Tells a refusal, which the client is given, from a halt.
+/// Reveals a refusal, which the client is given, from a halt.
 pub(crate) fn refused_or_halted<T>(
     answer: Result<T, SpaceError<Halt>>,
 ) -> Result<Result<T, Refusal>, Halt>

@@ -105,7 +105,7 @@ fn root_page(version: u8) -> Page {
 const MADE: u64 = 36;
 
 // An old volume of 256 sectors without a file, whose file map is empty, written sector by sector.
-// The disk fails at the transfers with these numbers, and it tells its writes.
+// The disk fails at the transfers with these numbers, and it reveals its writes.
 fn old_volume(alloc: Global, version: u8, fails: &[u64]) -> Result<MemoryDisk<Global>, Fail> {
     let mut disk = MemoryDisk::failing(alloc, 256, fails, 2000)?;
     put(&mut disk, 0, &own(4, 0), &root_page(version))?;

@@ -7,7 +7,7 @@ use std::fs;
 use std::fs::File;
 
 /// How many sectors an image has, or why there is none.
-fn told(rt: &HostRuntime, image: Result<ImageDisk<File>, NoImage>) -> Result<String> {
+fn revealed(rt: &HostRuntime, image: Result<ImageDisk<File>, NoImage>) -> Result<String> {
     match image {
         Ok(disk) => Ok(format!(in rt.alloc(); "{} sectors", disk.sectors())?),
         Err(why) => Ok(format!(in rt.alloc(); "{why}")?),
@@ -57,11 +57,11 @@ fn size(rt: &HostRuntime, name: &str) -> Result<String> {
 pub(crate) fn answer(rt: &HostRuntime, verb: &str, rest: &str) -> Result<String> {
     let (name, words) = rest.split_once(' ').unwrap_or((rest, ""));
     match verb {
-        "new" => told(rt, new_image(rt, words.parse()?, name)),
-        "open" => told(rt, open_image(rt, name)),
+        "new" => revealed(rt, new_image(rt, words.parse()?, name)),
+        "open" => revealed(rt, open_image(rt, name)),
         "twice" => {
             let held = open_image(rt, name)?;
-            let second = told(rt, open_image(rt, name))?;
+            let second = revealed(rt, open_image(rt, name))?;
             drop(held);
             Ok(second)
         }

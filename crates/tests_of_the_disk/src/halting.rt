@@ -79,7 +79,7 @@ fn mark<T: Drop, E: Drop>(done: Result<T, E>) -> char {
     if done.is_ok() { '+' } else { '!' }
 }
 
-/// What becomes of a write, a read, a write of a label, one of a page and a settling over three sectors: a mark for each, and how many
+/// What becomes of a write, a read, a write of a label, one of a page and a syncing over three sectors: a mark for each, and how many
 /// faults, transfers and calls there were.
 fn marks<F: FileExt + OpenFile>(rt: &HostRuntime, disk: &mut ImageDisk<F>) -> Result<String> {
     let mut text = String::new(rt.alloc());
@@ -89,7 +89,7 @@ fn marks<F: FileExt + OpenFile>(rt: &HostRuntime, disk: &mut ImageDisk<F>) -> Re
         text.push(mark(disk.read(0, &mut page)))?;
         text.push(mark(disk.write_label(2, &LEADER)))?;
         text.push(mark(disk.write_data(1, WANTED, &page)))?;
-        text.push(mark(disk.settle()))?;
+        text.push(mark(disk.sync()))?;
     }
     let (faults, transfers) = (disk.faults(), disk.transfers());
     text.push_str(&format!(in rt.alloc(); " {faults} {transfers}")?)?;
@@ -100,7 +100,7 @@ fn marks<F: FileExt + OpenFile>(rt: &HostRuntime, disk: &mut ImageDisk<F>) -> Re
 fn place<F: FileExt + OpenFile>(rt: &HostRuntime, disk: &ImageDisk<F>) -> Result<String> {
     Ok(match disk.trouble() {
         Some(Trouble::Sector { sector, .. }) => format!(in rt.alloc(); "sector {sector}")?,
-        Some(Trouble::Settling(_)) => String::from_str(rt.alloc(), "settling")?,
+        Some(Trouble::Syncing(_)) => String::from_str(rt.alloc(), "settling")?,
         None => String::from_str(rt.alloc(), "nowhere")?,
     })
 }

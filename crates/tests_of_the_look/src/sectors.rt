@@ -3,7 +3,7 @@
 use anyhow::{Context, Result};
 use labelled_disk::{Disk, Label};
 
-/// Sets bytes of a page from one on, which are told by hexadecimal digits.
+/// Sets bytes of a page from one on, which are revealed by hexadecimal digits.
 pub(crate) fn set<D: Disk>(disk: &mut D, sector: u32, at: usize, digits: &str) -> Result<()> {
     let mut page = [0; 512];
     if sector < disk.sectors() {
@@ -16,7 +16,7 @@ pub(crate) fn set<D: Disk>(disk: &mut D, sector: u32, at: usize, digits: &str) -
     Ok(())
 }
 
-/// Labels a sector, and those behind it up to another with the next pages, and sets the first bytes of the first:
+/// Labels a sector, and those after it up to another with the next pages, and sets the first bytes of the first:
 /// `SECTOR LAST LABEL DIGITS`.
 pub(crate) fn put<D: Disk>(disk: &mut D, line: &str) -> Result<()> {
     let (first, rest) = line.split_once(' ').context("no last sector")?;

@@ -4,7 +4,7 @@ use anyhow::{Context, Result};
 use std::alloc::Global;
 use trace_io::{Line, Lines, MemorySink, MemorySource, write_call};
 
-/// The bytes of a line, which may be told by hexadecimal digits behind `=`.
+/// The bytes of a line, which may be revealed by hexadecimal digits after `=`.
 fn bytes_of(alloc: Global, line: &str) -> Result<Vec<u8>> {
     let mut bytes = Vec::new(alloc);
     match line.strip_prefix('=') {
@@ -46,7 +46,7 @@ fn read(alloc: Global, trace: &[u8]) -> Result<(String, String)> {
     Ok((first, second))
 }
 
-/// The title, and the first row whose line says something else, with a line feed behind it or without.
+/// The title, and the first row whose line says something else, with a line feed after it or without.
 pub(crate) fn report(alloc: Global, title: &str, rows: &str) -> Result<String> {
     for row in rows.lines() {
         let (line, wanted) = row.rsplit_once('|').context("a row has no bar")?;

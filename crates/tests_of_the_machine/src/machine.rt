@@ -7,7 +7,7 @@ use std::alloc::Global;
 use std::str::from_utf8;
 use trace_io::{Line, Lines, MemorySink, MemorySource, write_reply};
 
-/// The machine that these numbers begin, and the title behind them.
+/// The machine that these numbers begin, and the title after them.
 fn begun<'a>(alloc: Global, head: &'a str) -> Result<(SlowMachine<Global>, &'a str)> {
     let (serial, rest) = head.split_once(' ').context("no serial")?;
     let (counter, rest) = rest.split_once(' ').context("no counter")?;

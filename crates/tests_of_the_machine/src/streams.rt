@@ -33,7 +33,7 @@ impl Write for Halting {
     }
 }
 
-// What becomes of pieces, each a byte behind the one before, and what a writer took of them.
+// What becomes of pieces, each a byte after the one before, and what a writer took of them.
 fn written(alloc: Global, calls: u8, pieces: &[&[u8]]) -> Result<String> {
     let mut halting = Halting {
         bytes: Vec::new(alloc),

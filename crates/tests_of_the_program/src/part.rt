@@ -85,7 +85,7 @@ impl Part {
         Ok(part)
     }
 
-    /// A run of 24 frames with these lines, of which each is behind a bar but the first.
+    /// A run of 24 frames with these lines, of which each is after a bar but the first.
     pub(crate) fn of_look(alloc: Global, lines: &str) -> Result<Part> {
         let mut part = Part::of_words(alloc, "24", "0 run")?;
         for line in lines.split('|') {
@@ -204,10 +204,10 @@ impl Part {
 
 /// A text with another in the place of a mark, which stands there once at most.
 fn replaced(alloc: Global, text: &str, mark: &str, by: &str) -> Result<String, AllocError> {
-    let (before, behind) = text.split_once(mark).unwrap_or((text, ""));
+    let (before, after) = text.split_once(mark).unwrap_or((text, ""));
     let by = if before.len() < text.len() { by } else { "" };
     let mut whole = String::from_str(alloc, before)?;
     whole.push_str(by)?;
-    whole.push_str(behind)?;
+    whole.push_str(after)?;
     Ok(whole)
 }

@@ -51,7 +51,7 @@ fn set_page<D: Disk>(disk: &mut D, sector: u32, from: u32, to: u32, byte: u8) ->
     Ok(())
 }
 
-/// Sets bytes of pages: `SECTOR END AT END BYTE`, each END being one behind the last.
+/// Sets bytes of pages: `SECTOR END AT END BYTE`, each END being one after the last.
 fn set_bytes<D: Disk>(alloc: Global, disk: &mut D, words: &str) -> Result<()> {
     let mut numbers = Vec::new(alloc);
     for word in words.split(' ') {

@@ -17,7 +17,7 @@ enum Kind {
     Sink,
 }
 
-/// The call that fails, counted from 1: of the disk behind the making of the volume, or of a stream in each command.
+/// The call that fails, counted from 1: of the disk after the making of the volume, or of a stream in each command.
 #[derive(Clone, Copy)]
 struct Stop {
     kind: Kind,

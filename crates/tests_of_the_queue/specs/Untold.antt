@@ -1,7 +1,7 @@
--- A disk that tells nothing.
+-- A disk that reveals nothing.
 use Rattle.std.specs.Prelude.{None}
 use Rattle.labelled_disk.specs.State.{DiskState}
 
--- the same disk, which tells neither what it holds nor its writes
+-- the same disk, which reveals neither what it holds nor its writes
 abbrev pub untold : DiskState → DiskState
 untold disk = record disk { contents = None; writes = None }

@@ -29,7 +29,7 @@ fn answer<D: Disk>(disk: &mut D, number: u32) -> (Result<Label, DiskError>, Page
         }
         56..=58 => disk.write_label(sector, &label),
         59..=60 => disk.write(sector, &label, &page),
-        _ => disk.settle(),
+        _ => disk.sync(),
     };
     (done.map(|_| label), found)
 }
@@ -49,7 +49,7 @@ fn first_difference<D: Disk, E: Disk, A: Allocator + Clone>(
             difference = Some(turn);
         }
     }
-    if queue.settle().is_err() || queue.waiting() > 0 {
+    if queue.sync().is_err() || queue.waiting() > 0 {
         difference = Some(20_000);
     }
     let _ = queue.into_disk();

@@ -1,4 +1,4 @@
-//! A disk that tells nothing, on which a label changes.
+//! A disk that reveals nothing, on which a label changes.
 ghost use Rattle.std.proofs.lemmas.Option.{none-some};
 ghost use Rattle.tests_of_the_queue.specs.Untold.{untold};
 
@@ -8,7 +8,7 @@ use std::alloc::Allocator;
 use std::test::Fail;
 use write_queue::QueueOver;
 
-/// A disk that tells nothing of what it holds. A write of a page in one sector finds the label of no file.
+/// A disk that reveals nothing of what it holds. A write of a page in one sector finds the label of no file.
 #[derive(Drop)]
 struct FickleDisk<D: Disk> {
     disk: D,
@@ -18,9 +18,9 @@ struct FickleDisk<D: Disk> {
 impl<D: Disk> Disk for FickleDisk<D> {
     ghost state = { λ d. untold (D.state d.disk) };
 
-    ghost whole = { λ d all told. absurd (none-some all told) };
+    ghost whole = { λ d all revealed. absurd (none-some all revealed) };
 
-    ghost in_form = { λ d all told. absurd (none-some all told) };
+    ghost in_form = { λ d all revealed. absurd (none-some all revealed) };
 
     ghost few = { λ d. D.few d.disk };
 
@@ -47,8 +47,8 @@ impl<D: Disk> Disk for FickleDisk<D> {
         self.disk.write_data(sector, wanted, page)
     }
 
-    fn settle(&mut self) -> Result<(), DiskError> {
-        self.disk.settle()
+    fn sync(&mut self) -> Result<(), DiskError> {
+        self.disk.sync()
     }
 
     fn transfers(&self) -> u64 {
@@ -61,7 +61,7 @@ impl<D: Disk> Disk for FickleDisk<D> {
 }
 
 #[test]
-fn a_changed_label_is_told(rt: HostRuntime) -> Result<(), Fail> {
+fn a_changed_label_is_revealed(rt: HostRuntime) -> Result<(), Fail> {
     let disk = FickleDisk {
         disk: labelled(rt.alloc(), &[], 128)?,
         fickle: 40,
@@ -74,7 +74,7 @@ fn a_changed_label_is_told(rt: HostRuntime) -> Result<(), Fail> {
         assert_eq!(rt; queue.write_data(sector, wanted(sector), &[7; 512]), Ok(()));
     }
     assert_eq!(rt; queue.changed(), None);
-    assert_eq!(rt; queue.settle(), Err(DiskError::Failed));
+    assert_eq!(rt; queue.sync(), Err(DiskError::Failed));
     assert_eq!(rt; queue.changed(), Some((40, wanted(40), Label::FREE)));
     assert_eq!(rt; queue.faults(), 1);
     assert_eq!(rt; queue.waiting(), 2);

@@ -1,4 +1,4 @@
-//! Tests of a queue in front of a disk, over its public calls.
+//! Tests of a queue before a disk, over its public calls.
 #![tactic(auto)]
 
 #[cfg(test)]

@@ -19,8 +19,8 @@ enum Step {
     Label(u32),
     /// So many pages wait.
     Waiting(u32),
-    Settle,
-    SettleFails,
+    Sync,
+    SyncFails,
 }
 
 use Step::*;
@@ -39,17 +39,17 @@ static ROWS: [Row; 5] = [
             Store(36, 7),
             Store(50, 7),
             Waiting(3),
-            Settle,
+            Sync,
             Store(60, 9),
             Store(37, 9),
             Store(45, 9),
             Read(60, 9),
-            Settle,
+            Sync,
             Waiting(0),
         ],
         &[36, 40, 50, 60, 37, 45],
     ),
-    // A full queue writes the first page of the sweep out, and a label is written behind what waits.
+    // A full queue writes the first page of the sweep out, and a label is written after what waits.
     (
         2,
         &[],
@@ -58,7 +58,7 @@ static ROWS: [Row; 5] = [
             Store(36, 7),
             Store(50, 7),
             Waiting(2),
-            Settle,
+            Sync,
             Store(52, 8),
             Label(53),
         ],
@@ -68,7 +68,7 @@ static ROWS: [Row; 5] = [
     (
         2,
         &[],
-        &[Store(9, 1), Store(9, 2), Store(9, 3), Read(9, 3), Settle],
+        &[Store(9, 1), Store(9, 2), Store(9, 3), Read(9, 3), Sync],
         &[9],
     ),
     // The disk fails in the middle of a sweep, and then works.
@@ -79,10 +79,10 @@ static ROWS: [Row; 5] = [
             Store(40, 7),
             Store(36, 7),
             Store(50, 7),
-            SettleFails,
+            SyncFails,
             Waiting(2),
             Read(40, 7),
-            Settle,
+            Sync,
             Waiting(0),
         ],
         &[36, 40, 50],
@@ -97,7 +97,7 @@ static ROWS: [Row; 5] = [
             StoreFails(50),
             Waiting(2),
             Store(50, 7),
-            Settle,
+            Sync,
         ],
         &[36, 40, 50],
     ),
@@ -121,8 +121,8 @@ fn comes_true<D: Disk, A: Allocator>(queue: &mut QueueOver<D, A>, step: Step) ->
         }
         Label(sector) if sector < sectors => queue.write_label(sector, &label(sector)).is_ok(),
         Waiting(count) => queue.waiting() == count,
-        Settle => queue.settle().is_ok(),
-        SettleFails => queue.settle() == Err(DiskError::Failed),
+        Sync => queue.sync().is_ok(),
+        SyncFails => queue.sync() == Err(DiskError::Failed),
         _ => false,
     }
 }

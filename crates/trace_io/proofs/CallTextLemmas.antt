@@ -8,7 +8,7 @@ use Rattle.std.proofs.Math.Seq.{get_or-append_right}
 use Rattle.flat_machine.specs.declared.call.Call.{Call}
 use Rattle.flat_machine.specs.declared.call.Call.TheVariants as call
 use Rattle.flat_machine.specs.Form.{IsInForm}
-use Rattle.trace_io.specs.Stream.{Lacks}
+use Rattle.trace_io.specs.Stream.{Misses}
 use Rattle.trace_io.specs.Grammar.{only_id, only_number, number_and_type, id_and_number, two_numbers, number_and_mode, number_and_count, number_and_bytes, place, window, nothing, verb_of, with_fields, call_of_words, call_of}
 use Rattle.trace_io.specs.CallText.{call_words, call_text, HasFields, IsWritable, trace_text}
 use Rattle.trace_io.specs.Reading.{reading, is_last, through_last}
@@ -23,30 +23,30 @@ HasWords [] = ⊥
 HasWords (w ∷ []) = IsWord w
 HasWords (w ∷ v ∷ ws) = IsWord w × HasWords (v ∷ ws)
 
-word-lacks : (c : ℕ) (word : List ℕ) → c ≤ 32 → IsWord word → Lacks c word
-word-lacks c word low passes k l = let above : nat_lt 32 (get_or word k 0) ≡ true = passes k 0 l in grind arith
+word-misses : (c : ℕ) (word : List ℕ) → c ≤ 32 → IsWord word → Misses c word
+word-misses c word low passes k l = let above : nat_lt 32 (get_or word k 0) ≡ true = passes k 0 l in grind arith
 
 -- words with a space between each two are cut at these
 split-join : (ws : List (List ℕ)) → HasWords ws → slice_split (λ b. eqb b 32) (join_with_byte 32 ws) ≡ ws
 split-join [] are = absurd are
-split-join (w ∷ []) are = split_none 32 w (word-lacks 32 w (omega arith) are)
-split-join (w ∷ v ∷ ws) are = split_first 32 w (join_with_byte 32 (v ∷ ws)) (word-lacks 32 w (omega arith) are.0) ∙ ap (λ r. w ∷ r) (split-join (v ∷ ws) are.1)
+split-join (w ∷ []) are = split_none 32 w (word-misses 32 w (omega arith) are)
+split-join (w ∷ v ∷ ws) are = split_first 32 w (join_with_byte 32 (v ∷ ws)) (word-misses 32 w (omega arith) are.0) ∙ ap (λ r. w ∷ r) (split-join (v ∷ ws) are.1)
 
-Lacks-cons : (c x : ℕ) (xs : List ℕ) → x ≢ c → Lacks c xs → Lacks c (x ∷ xs)
-Lacks-cons c x xs other rest zero l = other
-Lacks-cons c x xs other rest (suc k) l = rest k (omega arith)
+Misses-cons : (c x : ℕ) (xs : List ℕ) → x ≢ c → Misses c xs → Misses c (x ∷ xs)
+Misses-cons c x xs other rest zero l = other
+Misses-cons c x xs other rest (suc k) l = rest k (omega arith)
 
-Lacks-append : (c : ℕ) (xs ys : List ℕ) → Lacks c xs → Lacks c ys → Lacks c (xs ++ ys)
-Lacks-append c xs ys front back k l = elim (cases_lt k (length xs)) [
-  | inl below ↦ rw (get_or_append_left xs ys 0 k below) (front k below)
+Misses-append : (c : ℕ) (xs ys : List ℕ) → Misses c xs → Misses c ys → Misses c (xs ++ ys)
+Misses-append c xs ys prefix back k l = elim (cases_lt k (length xs)) [
+  | inl below ↦ rw (get_or_append_left xs ys 0 k below) (prefix k below)
   | inr past ↦ rw (get_or-append_right xs ys k 0 past) (back (k - length xs) (omega (arith, length-append xs ys)))
 ]
 
-Lacks-join : (ws : List (List ℕ)) → HasWords ws → Lacks 10 (join_with_byte 32 ws)
-Lacks-join [] are = absurd are
-Lacks-join (w ∷ []) are = word-lacks 10 w (omega arith) are
-Lacks-join (w ∷ v ∷ ws) are =
-    Lacks-append 10 w (32 ∷ join_with_byte 32 (v ∷ ws)) (word-lacks 10 w (omega arith) are.0) (Lacks-cons 10 32 (join_with_byte 32 (v ∷ ws)) (omega arith) (Lacks-join (v ∷ ws) are.1))
+Misses-join : (ws : List (List ℕ)) → HasWords ws → Misses 10 (join_with_byte 32 ws)
+Misses-join [] are = absurd are
+Misses-join (w ∷ []) are = word-misses 10 w (omega arith) are
+Misses-join (w ∷ v ∷ ws) are =
+    Misses-append 10 w (32 ∷ join_with_byte 32 (v ∷ ws)) (word-misses 10 w (omega arith) are.0) (Misses-cons 10 32 (join_with_byte 32 (v ∷ ws)) (omega arith) (Misses-join (v ∷ ws) are.1))
 
 call-words : (c : Call) → HasFields c → HasWords (call_words c)
 call-words (call.Create pages kind) fits = (word_of (codes "create") refl, (decimal-word pages fits.0, decimal-word kind (omega (arith, fits.1))))
@@ -108,9 +108,9 @@ pub call_of-text : (c : Call) → IsInForm c → HasFields c → call_of (call_t
 unfolding call_text
 call_of-text c form fits = ap call_of_words (split-join (call_words c) (call-words c fits)) ∙ words-read c form fits
 
-pub text-lacks : (c : Call) → HasFields c → Lacks 10 (call_text c)
+pub text-misses : (c : Call) → HasFields c → Misses 10 (call_text c)
 unfolding call_text
-text-lacks c fits = Lacks-join (call_words c) (call-words c fits)
+text-misses c fits = Misses-join (call_words c) (call-words c fits)
 
 pub text-short : (c : Call) → IsInForm c → HasFields c → length (call_text c) ≤ 255
 text-short c form fits = elim (cases_lt 255 (length (call_text c))) [
@@ -125,6 +125,6 @@ trace-read (c ∷ calls) are =
     let line = call_text c in
     let is = call_of-text c are.0.0 are.0.1 in
     ap reading (append_assoc line (10 ∷ []) (trace_text calls))
-    ∙ reading-line line (trace_text calls) (text-lacks c are.0.1)
+    ∙ reading-line line (trace_text calls) (text-misses c are.0.1)
     ∙ ap (λ item. item ∷ cond (is_last item) [] (reading (trace_text calls))) is
     ∙ ap (λ rest. Some c ∷ cond (is_last (Some c)) [] rest) (trace-read calls are.1)

@@ -6,7 +6,7 @@ use Rattle.flat_machine.specs.declared.call.Call.{Call}
 use Rattle.trace_io.specs.Reading.{is_last}
 use Rattle.trace_io.specs.Progress.{Progress}
 use Rattle.trace_io.specs.Course.{HasRead, HasReadAll, HasReadWhole}
-use Rattle.trace_io.specs.Trace.{TakesFront, Reads, TakesItem, TakesSomeLines}
+use Rattle.trace_io.specs.Trace.{TakesPrefix, Reads, TakesItem, TakesSomeLines}
 use Rattle.trace_io.specs.Lines.{TakesLine}
 use Rattle.trace_io.specs.declared.progress.Stop.{Stop}
 use Rattle.trace_io.specs.declared.progress.Stop.TheVariants as stop
@@ -17,9 +17,9 @@ pub Reads-all : (a c : Option (List ℕ)) (taken limit : ℕ) (items : List (Opt
 Reads-all None c taken limit items all = tt
 Reads-all (Some b) c taken limit items all = (sym all.items_are, all.rest_is, all.short)
 
-pub Reads-front : (b : List ℕ) (c : Option (List ℕ)) (taken : ℕ) (items : List (Option Call)) → HasReadWhole (Some b) c taken items → (front : TakesFront b c items) × (length front.bytes ≡ taken)
-Reads-front b None taken items whole = absurd whole.took
-Reads-front b (Some s) taken items whole =
+pub Reads-prefix : (b : List ℕ) (c : Option (List ℕ)) (taken : ℕ) (items : List (Option Call)) → HasReadWhole (Some b) c taken items → (prefix : TakesPrefix b c items) × (length prefix.bytes ≡ taken)
+Reads-prefix b None taken items whole = absurd whole.took
+Reads-prefix b (Some s) taken items whole =
     (record { bytes = whole.bytes; rest = s; all = whole.took; left_is = refl; items_are = sym whole.items_are }, sym whole.count)
 
 -- what was read when no more lines come
@@ -32,12 +32,12 @@ Reads-stop (Some bytes) b c p q items stop.End limit read (inr ended) is =
     let all : HasReadAll (Some bytes) b p.taken p.limit items × IsAtEnd b = rw ended.0 at read.goes_on in
     rw (sym is, ended.1) (Reads-all (Some bytes) b p.taken p.limit items all.0)
 Reads-stop (Some bytes) b c p q items stop.ReadFault limit read takes is =
-    let front = Reads-front bytes c q.taken items (HasRead-part (Some bytes) b c p q stop.ReadFault items read takes.0 takes.1) in
-    (front.0, omega (arith, front.1, takes.2, takes.1.limit, is))
+    let prefix = Reads-prefix bytes c q.taken items (HasRead-part (Some bytes) b c p q stop.ReadFault items read takes.0 takes.1) in
+    (prefix.0, omega (arith, prefix.1, takes.2, takes.1.limit, is))
 Reads-stop (Some bytes) b c p q items stop.Long limit read takes is =
-    let front = Reads-front bytes c q.taken items (HasRead-part (Some bytes) b c p q stop.Long items read takes.0 takes.1) in
+    let prefix = Reads-prefix bytes c q.taken items (HasRead-part (Some bytes) b c p q stop.Long items read takes.0 takes.1) in
     let same : limit ≡ q.limit = sym is ∙ sym takes.1.limit in
-    (front.0, front.1 ∙ (takes.2 ∙ sym same), rw same (HasRead-long bytes b c p q items read takes.0 takes.1 takes.2))
+    (prefix.0, prefix.1 ∙ (takes.2 ∙ sym same), rw same (HasRead-long bytes b c p q items read takes.0 takes.1 takes.2))
 
 -- what was read with the line that ends the trace
 pub Reads-last : (a b c : Option (List ℕ)) (p q : Progress) (items all : List (Option Call)) (item : Option Call) (limit : ℕ) → HasRead a b p items → TakesItem (Ok item) b c p q → p.limit ≡ limit

@@ -9,7 +9,7 @@ use Rattle.trace_io.specs.declared.progress.Stop.{Stop}
 use Rattle.trace_io.specs.declared.progress.Stop.TheVariants as stop
 
 -- Of a source with the bytes b these were taken, the others are left, and the items are the lines that are whole in them.
-pub record TakesFront (b : List ℕ) (left : Option (List ℕ)) (items : List (Option Call)) : Type 0 where
+pub record TakesPrefix (b : List ℕ) (left : Option (List ℕ)) (items : List (Option Call)) : Type 0 where
   pub bytes : List ℕ
   pub rest : List ℕ
   pub all : b ≡ bytes ++ rest
@@ -25,14 +25,14 @@ pub record TakesSomeLines (limit : ℕ) (b : List ℕ) (left : Option (List ℕ)
   pub left_is : left ≡ Some rest
   pub some : 0 < length bytes
   pub within : length bytes ≤ limit
-  pub ends : ((front : List ℕ) × (bytes ≡ front ++ 10 ∷ [])) ⊎ (rest ≡ [])
+  pub ends : ((prefix : List ℕ) × (bytes ≡ prefix ++ 10 ∷ [])) ⊎ (rest ≡ [])
 
 -- what was read of a source with the bytes b, and what it has left, by why no more was read
 abbrev pub Reads : Stop → ℕ → List ℕ → Option (List ℕ) → List (Option Call) → Type 0
--- all lines, and what is left stands behind the last of them
+-- all lines, and what is left stands after the last of them
 Reads stop.End limit b left items = (items ≡ reading b) × (left ≡ Some (rest_of b)) × IsShort limit b
-Reads stop.ReadFault limit b left items = (front : TakesFront b left items) × (length front.bytes < limit)
-Reads stop.Long limit b left items = (front : TakesFront b left items) × (length front.bytes ≡ limit) × (IsShort limit b → ⊥)
+Reads stop.ReadFault limit b left items = (prefix : TakesPrefix b left items) × (length prefix.bytes < limit)
+Reads stop.Long limit b left items = (prefix : TakesPrefix b left items) × (length prefix.bytes ≡ limit) × (IsShort limit b → ⊥)
 
 -- a line was taken, or no more lines come
 abbrev pub TakesItem : Result (Option Call) Stop → Option (List ℕ) → Option (List ℕ) → Progress → Progress → Type 0

@@ -214,7 +214,7 @@ fn window_call(verb: Verb, rest: Option<&[u8]>) -> Option<Call>
     }
 }
 
-// The call of a verb and the words behind it.
+// The call of a verb and the words after it.
 #[tactic(auto, unfolding(crate::specs::Grammar::with_fields))]
 fn with_fields(verb: Verb, rest: Option<&[u8]>) -> Option<Call>
     ensures { result ≡ with_fields verb (rest_words rest.entry) }
@@ -249,7 +249,7 @@ fn with_fields(verb: Verb, rest: Option<&[u8]>) -> Option<Call>
     }
 }
 
-// What a verb says with the words behind it.
+// What a verb says with the words after it.
 fn said(verb: Verb, rest: Option<&[u8]>) -> Line
     ensures { result ≡ line_of (with_fields verb (rest_words rest.entry)) }
 {

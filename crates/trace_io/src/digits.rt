@@ -3,7 +3,7 @@ ghost use Rattle.std.specs.Prelude.{◌≡◌, ◌<◌, ◌*◌, length, slice_i
 ghost use Rattle.std.specs.List.{list_all, AllPass};
 ghost use Rattle.hex.specs.Hex.{is_hex_digit, decode_of, hex_digit_value, lower_digits, encode_lower};
 
-// Looks at each byte, also behind one that is no digit.
+// Looks at each byte, also after one that is no digit.
 pub(crate) fn are_hex_digits(word: &[u8]) -> bool
     ensures { result ≡ list_all is_hex_digit word.now }
 {

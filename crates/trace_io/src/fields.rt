@@ -1,4 +1,4 @@
-//! The fields of a call, by the words behind the first. The last field is read from all that is
+//! The fields of a call, by the words after the first. The last field is read from all that is
 //! left: where a space is in it, it is no field of any kind.
 ghost use Rattle.std.specs.Prelude.{◌≡◌};
 ghost use Rattle.trace_io.specs.Grammar.{only_id, only_number, number_and_type, id_and_number, two_numbers, number_and_mode, number_and_count, number_and_bytes, place, window, nothing};

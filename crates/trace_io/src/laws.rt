@@ -2,7 +2,7 @@
 ghost use Rattle.std.specs.Prelude.{◌≡◌, ◌≤◌, List, length, map, Some};
 ghost use Rattle.std.specs.List.{AllByRecursion};
 ghost use Rattle.flat_machine.specs.declared.call.Call.{Call};
-ghost use Rattle.trace_io.specs.Stream.{Lacks};
+ghost use Rattle.trace_io.specs.Stream.{Misses};
 ghost use Rattle.trace_io.specs.Grammar.{call_of};
 ghost use Rattle.trace_io.specs.Reading.{reading, through_last};
 ghost use Rattle.trace_io.specs.CallText.{call_text, trace_text, IsWritable};
@@ -12,7 +12,7 @@ ghost use Rattle.trace_io.specs.CallText.{call_text, trace_text, IsWritable};
 /// as two calls, and no two as one.
 pub fn calls_are_read_back()
     ensures reads { (c : Call) → IsWritable c → call_of (call_text c) ≡ Some c }
-    ensures lacks { (c : Call) → IsWritable c → Lacks 10 (call_text c) }
+    ensures misses { (c : Call) → IsWritable c → Misses 10 (call_text c) }
     ensures short { (c : Call) → IsWritable c → length (call_text c) ≤ 255 }
     ensures trace { (calls : List Call) → AllByRecursion IsWritable calls
         → reading (trace_text calls) ≡ through_last (map Some calls) }

@@ -3,7 +3,7 @@ ghost use Rattle.std.specs.Prelude.{◌≡◌, ◌≤◌, ◌<◌, ℕ, List, le
 ghost use Rattle.trace_io.specs.Stream.{Rose};
 ghost use Rattle.trace_io.specs.Grammar.{call_of};
 ghost use Rattle.trace_io.specs.Form.{GivesForm};
-ghost use Rattle.trace_io.specs.Scan.{Scans, TakesFront, Keeps255};
+ghost use Rattle.trace_io.specs.Scan.{Scans, TakesPrefix, Keeps255};
 ghost use Rattle.trace_io.specs.Lines.{TakesNext, answer_of, line_of};
 
 use crate::progress::{Line, Stop};
@@ -13,7 +13,7 @@ use std::marker::Model;
 const LINE: usize = 255;
 
 /// Reads a trace line by line, and takes at most as many bytes as its limit. Lines end with a line
-/// feed; what stands behind the last line feed is a line too, where it has a byte.
+/// feed; what stands after the last line feed is a line too, where it has a byte.
 #[derive(Drop)]
 pub struct Lines {
     buffer: [u8; LINE],
@@ -49,10 +49,10 @@ pub(crate) struct Scan {
     end: Ending,
 }
 
-// Takes the front of a line that is at hand, but no more than the buffer and the room have space
+// Takes the prefix of a line that is at hand, but no more than the buffer and the room have space
 // for, and gives its length.
-fn take_front<S: Source>(source: &mut S, buffer: &mut [u8; LINE], room: u64) -> u64
-    ensures front { TakesFront (S.left source.old) (S.left source.new) buffer.new result }
+fn take_prefix<S: Source>(source: &mut S, buffer: &mut [u8; LINE], room: u64) -> u64
+    ensures prefix { TakesPrefix (S.left source.old) (S.left source.new) buffer.new result }
     ensures within { result ≤ room }
     ensures faults { S.faults source.new ≡ S.faults source.old }
 {
@@ -60,15 +60,15 @@ fn take_front<S: Source>(source: &mut S, buffer: &mut [u8; LINE], room: u64) -> 
     source.take_before(b'\n', &mut buffer[..most]) as u64
 }
 
-// Takes bytes to the next line feed, but no more than there is room for, and keeps the front of
+// Takes bytes to the next line feed, but no more than there is room for, and keeps the prefix of
 // them.
 fn take_line<S: Source>(source: &mut S, buffer: &mut [u8; LINE], room: u64) -> Scan
     ensures scan { Scans (S.left source.old) (S.left source.new) buffer.new room result }
     ensures faults { S.faults source.old ≤ S.faults source.new }
     ensures fault { result.end ≡ Ending.Fault → Rose (S.faults source.old) (S.faults source.new) }
 {
-    let front = take_front(source, buffer, room);
-    for size in front..room {
+    let prefix = take_prefix(source, buffer, room);
+    for size in prefix..room {
         let Ok(got) = source.next() else {
             return Scan {
                 size,
@@ -100,7 +100,7 @@ fn take_line<S: Source>(source: &mut S, buffer: &mut [u8; LINE], room: u64) -> S
     }
 }
 
-// What a line says, of which the buffer has the front.
+// What a line says, of which the buffer has the prefix.
 fn line_in(buffer: &[u8; LINE], size: u64) -> Line
     ensures form { GivesForm result }
     ensures line { (line : List ℕ) → length line ≡ size → Keeps255 buffer.now line

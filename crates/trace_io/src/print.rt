@@ -1,7 +1,7 @@
 //! The lines of calls, for clients that write traces.
 ghost use Rattle.std.specs.Prelude.{◌≡◌, ◌≤◌, [], length, OnOk, OnErr};
 ghost use Rattle.std.specs.Io.KnownBytes.{Appends};
-ghost use Rattle.trace_io.specs.Stream.{HasCause, AppendsFront};
+ghost use Rattle.trace_io.specs.Stream.{HasCause, AppendsPrefix};
 ghost use Rattle.trace_io.specs.CallText.{call_text, call_line};
 
 use crate::text::Text;
@@ -130,10 +130,10 @@ fn put_call(line: &mut Text, call: &Call)
     }
 }
 
-/// Writes the line of a call, or at an error a front of it.
+/// Writes the line of a call, or at an error a prefix of it.
 pub fn write_call<K: Sink>(sink: &mut K, call: &Call) -> Result<(), SinkFault>
     ensures ok { OnOk result (Appends (K.took sink.old) (K.took sink.new) (call_line call.now)) }
-    ensures err { OnErr result (AppendsFront (K.took sink.old) (K.took sink.new) (call_line call.now)) }
+    ensures err { OnErr result (AppendsPrefix (K.took sink.old) (K.took sink.new) (call_line call.now)) }
     ensures cause { HasCause (K.faults sink.old) (K.faults sink.new) result }
 {
     let mut line = Text::new();

@@ -1,7 +1,7 @@
 //! The lines of replies.
 ghost use Rattle.std.specs.Prelude.{◌≡◌, ◌≤◌, [], ◌++◌, length, OnOk, OnErr, codes};
 ghost use Rattle.std.specs.Io.KnownBytes.{Appends};
-ghost use Rattle.trace_io.specs.Stream.{HasCause, AppendsFront};
+ghost use Rattle.trace_io.specs.Stream.{HasCause, AppendsPrefix};
 ghost use Rattle.flat_machine.specs.Text.{reply_text, refusal_text, text};
 
 use crate::text::Text;
@@ -110,11 +110,11 @@ fn put_refusal(line: &mut Text, why: Refusal)
     }
 }
 
-/// Writes the line of a reply, or at an error a front of it.
+/// Writes the line of a reply, or at an error a prefix of it.
 #[tactic(auto, unfolding(flat_machine::specs::Text::text))]
 pub fn write_reply<K: Sink>(sink: &mut K, reply: &Reply) -> Result<(), SinkFault>
     ensures ok { OnOk result (Appends (K.took sink.old) (K.took sink.new) (text reply.now)) }
-    ensures err { OnErr result (AppendsFront (K.took sink.old) (K.took sink.new) (text reply.now)) }
+    ensures err { OnErr result (AppendsPrefix (K.took sink.old) (K.took sink.new) (text reply.now)) }
     ensures cause { HasCause (K.faults sink.old) (K.faults sink.new) result }
 {
     let mut line = Text::new();

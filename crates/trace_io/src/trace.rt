@@ -43,7 +43,7 @@ pub fn read_trace<S: Source, A: Allocator>(
 ) -> Result<(Vec<Option<Call>, A>, Stop), NoMemory>
     ensures reads { IfOk result (λ r. IfSome (S.left source.old) (λ b.
         Reads r.1 limit b (S.left source.new) r.0.items)) }
-    // Without memory some lines were taken, and what is left stands behind them.
+    // Without memory some lines were taken, and what is left stands after them.
     ensures memory { OnErr result (IfSome (S.left source.old) (λ b.
         TakesSomeLines limit b (S.left source.new))) }
     ensures fault { IfOk result (λ r. r.1 ≡ Stop.ReadFault → Rose (S.faults source.old) (S.faults source.new)) }

@@ -17,7 +17,7 @@ address_by w = w % 32768
 abbrev pub count_by : ℕ → ℕ
 count_by u = 1 + u % 64
 
--- so many bytes that rise by one, from that of the value on; 0 stands behind 255
+-- so many bytes that rise by one, from that of the value on; 0 stands after 255
 abbrev pub bytes_by : ℕ → List ℕ
 bytes_by u = map (λ n. n % 256) (range_with_len u (count_by u))
 

@@ -14,6 +14,6 @@ number seed (suc j) = number_after (number seed j)
 abbrev pub value_of : ℕ → ℕ
 value_of x = x / 2 ^ 33
 
--- value j: the first number that gives one stands behind the seed
+-- value j: the first number that gives one stands after the seed
 abbrev pub value : ℕ → ℕ → ℕ
 value seed j = value_of (number seed (suc j))

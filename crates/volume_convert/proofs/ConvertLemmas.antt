@@ -8,11 +8,11 @@ use Rattle.labelled_disk.specs.declared.disk.DiskWrite.TheVariants.{Whole}
 use Rattle.labelled_disk.specs.declared.label.Label.{Label}
 use Rattle.labelled_disk.specs.declared.layout.RootFault.{RootFault}
 use Rattle.labelled_disk.specs.declared.layout.RootFault.TheVariants as fault
-use Rattle.labelled_disk.specs.Calls.{OnlyReads, TellsSame}
+use Rattle.labelled_disk.specs.Calls.{OnlyReads, RevealsSame}
 use Rattle.labelled_disk.specs.Label.{page_label}
 use Rattle.labelled_disk.specs.File.{total_room}
 use Rattle.labelled_disk.specs.Layout.{capacity, first_data, vam, vfm}
-use Rattle.labelled_disk.specs.Moment.{moment}
+use Rattle.labelled_disk.specs.CrashState.{crash_state}
 use Rattle.labelled_disk.specs.Runs.{freeing}
 use Rattle.labelled_disk.specs.Sectors.{Sector, AreSectors}
 use Rattle.labelled_disk.specs.State.{DiskState}
@@ -29,7 +29,7 @@ use Rattle.scavenger.specs.Restored.{RestoresEach}
 use Rattle.scavenger.proofs.BetweenLemmas.{reads_same}
 use Rattle.scavenger.proofs.LayoutLemmas.{first_is}
 use Rattle.scavenger.proofs.RowLemmas.{carries_part}
-use Rattle.scavenger.proofs.TopLemmas.{appended_behind, part_behind}
+use Rattle.scavenger.proofs.TopLemmas.{appended_after, part_after}
 use Rattle.old_files.specs.OldFiles.{files_old}
 use Rattle.old_files.specs.Placing.{leader_of, old_leaders}
 use Rattle.convert_laws.specs.Converted.{Conversion as Orders, closed_today, convert_writes, both_maps}
@@ -43,11 +43,11 @@ use Rattle.volume_convert.specs.Leaves.{most_transfers}
 use Rattle.volume_convert.specs.Planned.{orders_of, all_writes, IsPlannedFor}
 use Rattle.volume_convert.proofs.SettledLemmas.{made_long}
 
--- Moments.
+-- Crash states.
 
-told_writes : (made : List DiskWrite) (a c : DiskState) (before writes : List DiskWrite) → Appended made a c → a.writes ≡ Some before → c.writes ≡ Some (before ++ writes) → made ≡ writes
-told_writes made a c before writes appended told later =
-    append_cancel_left before made writes (same_Some (before ++ made) (before ++ writes) (sym (appended.told ∙ ap (option_map (λ (earlier : List DiskWrite). earlier ++ made)) told) ∙ later))
+revealed_writes : (made : List DiskWrite) (a c : DiskState) (before writes : List DiskWrite) → Appended made a c → a.writes ≡ Some before → c.writes ≡ Some (before ++ writes) → made ≡ writes
+revealed_writes made a c before writes appended revealed later =
+    append_cancel_left before made writes (same_Some (before ++ made) (before ++ writes) (sym (appended.revealed ∙ ap (option_map (λ (earlier : List DiskWrite). earlier ++ made)) revealed) ∙ later))
 
 take_both : (k m : ℕ) (ws : List DiskWrite) → (j : ℕ) × (take k (take m ws) ≡ take j ws)
 take_both zero m ws = (0, refl)
@@ -58,14 +58,14 @@ take_both (suc k) (suc m) (w ∷ ws) = let rest = take_both k m ws in (suc rest.
 old_itself : (d : List Sector) → IsOldOrConverted d d
 old_itself d = inl (record { sectors = refl; root = refl; files = refl })
 
-old_none : (d : List Sector) (k : ℕ) → IsOldOrConverted d (moment d [] k)
+old_none : (d : List Sector) (k : ℕ) → IsOldOrConverted d (crash_state d [] k)
 old_none d zero = old_itself d
 old_none d (suc k) = old_itself d
 
 -- nothing was written
-pub moments_of_none : (a c : DiskState) → OnlyReads a c → (d : List Sector) (before writes : List DiskWrite) → a.writes ≡ Some before → c.writes ≡ Some (before ++ writes) → (k : ℕ) → IsOldOrConverted d (moment d writes k)
-moments_of_none a c only d before writes earlier later k =
-    subst (λ (ws : List DiskWrite). IsOldOrConverted d (moment d ws k)) (told_writes [] a c before writes (appended_none (reads_same only)) earlier later) (old_none d k)
+pub crash_states_of_none : (a c : DiskState) → OnlyReads a c → (d : List Sector) (before writes : List DiskWrite) → a.writes ≡ Some before → c.writes ≡ Some (before ++ writes) → (k : ℕ) → IsOldOrConverted d (crash_state d writes k)
+crash_states_of_none a c only d before writes earlier later k =
+    subst (λ (ws : List DiskWrite). IsOldOrConverted d (crash_state d ws k)) (revealed_writes [] a c before writes (appended_none (reads_same only)) earlier later) (old_none d k)
 
 -- Counts.
 
@@ -83,7 +83,7 @@ maps_long id first bytes n = made_long (λ i. Whole (first + i) (page_label id 0
 
 writes_long : (d : List Sector) (o : Orders) → IsFor d o → o.root.sectors ≡ length d → length (convert_writes o) ≤ length (old_unneeded d) + length (files_old d) + (first_data (length d) - 1) + 1
 writes_long d o is count =
-    let settle = ap (λ (ws : List DiskWrite). length ws) is.settle in
+    let arrange = ap (λ (ws : List DiskWrite). length ws) is.arrange in
     let split = length-append (freeing (old_unneeded d)) (leader_writes (old_spare d) (old_leaders d)) in
     let freed = freeing_long (old_unneeded d) in
     let led = leaders_long (old_spare d) (old_leaders d) in
@@ -93,18 +93,18 @@ writes_long d o is count =
     let names = maps_long 2 (1 + vam o.root.sectors) o.names (vfm o.root.sectors) in
     let first = first_is (length d) in
     let sizes = ap (λ (n : ℕ). 1 + vam n + vfm n) count in
-    let two = length-append o.settle (both_maps o) in
-    let all = length-append (o.settle ++ both_maps o) (root_write (closed_today o) ∷ []) in
-    omega (arith, settle, split, freed, led, files, maps, bits, names, first, sizes, two, all)
+    let two = length-append o.arrange (both_maps o) in
+    let all = length-append (o.arrange ++ both_maps o) (root_write (closed_today o) ∷ []) in
+    omega (arith, arrange, split, freed, led, files, maps, bits, names, first, sizes, two, all)
 
--- A conversion that is carried out behind calls that only read.
-module _ {A : Type 0} (restores : RestoresEach) (converts : ConversionsConvert) (a b c : DiskState) (only : OnlyReads a b) (d : List Sector) (told : a.contents ≡ Some d) (form : AreSectors d) (root : Root) (first : ℕ)
+-- A conversion that is carried out after calls that only read.
+module _ {A : Type 0} (restores : RestoresEach) (converts : ConversionsConvert) (a b c : DiskState) (only : OnlyReads a b) (d : List Sector) (revealed : a.contents ≡ Some d) (form : AreSectors d) (root : Root) (first : ℕ)
     (conversion : Conversion A) (valid : IsValidOldRoot (length d) root) (room : total_room (files_old d) ≤ capacity (length d)) (planned : IsPlannedFor d root first conversion) where
   laws_hold : ConvertsAll d (orders_of root first conversion)
   laws_hold = converts restores d (orders_of root first conversion) form valid room planned.for_it
 
   made_all : Appended (all_writes root first conversion) b c → Appended (convert_writes (orders_of root first conversion)) a c
-  made_all made = appended_behind (convert_writes (orders_of root first conversion)) a b c only (subst (λ (ws : List DiskWrite). Appended ws b c) planned.writes made)
+  made_all made = appended_after (convert_writes (orders_of root first conversion)) a b c only (subst (λ (ws : List DiskWrite). Appended ws b c) planned.writes made)
 
   pub all_made : Appended (all_writes root first conversion) b c → (o : Orders) × IsFor d o × Appended (convert_writes o) a c
   all_made made = (orders_of root first conversion, planned.for_it, made_all made)
@@ -112,22 +112,22 @@ module _ {A : Type 0} (restores : RestoresEach) (converts : ConversionsConvert) 
   pub is_converted : Appended (all_writes root first conversion) b c → (h : List Sector) × (c.contents ≡ Some h) × IsConvertedTo d h
   is_converted made = (
     after_writes (convert_writes (orders_of root first conversion)) d,
-    (made_all made).contents ∙ ap (option_map (after_writes (convert_writes (orders_of root first conversion)))) told,
+    (made_all made).contents ∙ ap (option_map (after_writes (convert_writes (orders_of root first conversion)))) revealed,
     laws_hold.converted,
   )
 
   made_part : PartMade (all_writes root first conversion) b c → PartMade (convert_writes (orders_of root first conversion)) a c
-  made_part part = part_behind (convert_writes (orders_of root first conversion)) a b c only (subst (λ (ws : List DiskWrite). PartMade ws b c) planned.writes part)
+  made_part part = part_after (convert_writes (orders_of root first conversion)) a b c only (subst (λ (ws : List DiskWrite). PartMade ws b c) planned.writes part)
 
-  pub part_made : PartMade (all_writes root first conversion) b c → TellsSame a c ⊎ ((o : Orders) × IsFor d o × PartMade (convert_writes o) a c)
+  pub part_made : PartMade (all_writes root first conversion) b c → RevealsSame a c ⊎ ((o : Orders) × IsFor d o × PartMade (convert_writes o) a c)
   part_made part = inr (orders_of root first conversion, planned.for_it, made_part part)
 
-  pub moments_of : {E : Type 0} (r : Result (Unit {0}) E) → Carries (all_writes root first conversion) b r c → (before writes : List DiskWrite) → a.writes ≡ Some before → c.writes ≡ Some (before ++ writes) → (k : ℕ) → IsOldOrConverted d (moment d writes k)
-  moments_of r carries before writes earlier later k =
+  pub crash_states_of : {E : Type 0} (r : Result (Unit {0}) E) → Carries (all_writes root first conversion) b r c → (before writes : List DiskWrite) → a.writes ≡ Some before → c.writes ≡ Some (before ++ writes) → (k : ℕ) → IsOldOrConverted d (crash_state d writes k)
+  crash_states_of r carries before writes earlier later k =
       let part = made_part (carries_part (all_writes root first conversion) b c r carries) in
       let both = take_both k part.0 (convert_writes (orders_of root first conversion)) in
-      subst (λ (ws : List DiskWrite). IsOldOrConverted d (moment d ws k)) (told_writes (take part.0 (convert_writes (orders_of root first conversion))) a c before writes part.2 earlier later)
-      (subst (λ (ws : List DiskWrite). IsOldOrConverted d (after_writes ws d)) (sym both.1) (laws_hold.moments both.0))
+      subst (λ (ws : List DiskWrite). IsOldOrConverted d (crash_state d ws k)) (revealed_writes (take part.0 (convert_writes (orders_of root first conversion))) a c before writes part.2 earlier later)
+      (subst (λ (ws : List DiskWrite). IsOldOrConverted d (after_writes ws d)) (sym both.1) (laws_hold.crash_states both.0))
 
   -- the transfers of all calls
   pub costs : {E : Type 0} (r : Result (Unit {0}) E) → (read : b.transfers ≤ a.transfers + 1 + (length d - first_data (length d))) → Carries (all_writes root first conversion) b r c → c.transfers ≤ a.transfers + most_transfers d
@@ -141,7 +141,7 @@ module _ {A : Type 0} (restores : RestoresEach) (converts : ConversionsConvert) 
   is_no_other judges whole (inr none) = omega (arith, none, room)
   is_no_other judges whole (inl (f, inl count)) = count.0 valid.accepted
   is_no_other judges whole (inl (f, inr judged)) =
-      let right = judges.judged (subst (λ (n : ℕ). IsOldCount n) whole judged.0) d told judged.1 judged.2 in
+      let right = judges.judged (subst (λ (n : ℕ). IsOldCount n) whole judged.0) d revealed judged.1 judged.2 in
       ok_err right.0 f (sym right.1 ∙ judged.3)
     where
       ok_err : (r : Root) (g : RootFault) → ◌≡◌ {A = Result Root RootFault} (Ok r) (Err g) → ⊥
@@ -154,7 +154,7 @@ pub judges_err : {T U : Type 0} (a : DiskState) (e : ConvertFault) → JudgesRoo
 judges_err {T} {U} a e judges = record {
   count = λ none. ap (λ (f : ConvertFault). Err f) (same_error e (why.Root (fault.BadCount a.sectors)) (judges.count none));
   bad_count = λ n is. judges.bad_count n (ap (λ (f : ConvertFault). Err f) (same_error_of e (why.Root (fault.BadCount n)) is));
-  judged = λ count d told s here. moved e (judged_old (length d) s) (judges.judged count d told s here);
+  judged = λ count d revealed s here. moved e (judged_old (length d) s) (judges.judged count d revealed s here);
 }
   where
     error_in : {V : Type 0} → ConvertFault → Result V ConvertFault → ConvertFault
@@ -186,12 +186,12 @@ no_refusal T e (inl is) = subst (λ (f : ConvertFault). IsNoRefusal {T = T} (Err
 no_refusal T e (inr (inl is)) = subst (λ (f : ConvertFault). IsNoRefusal {T = T} (Err f)) (sym is) tt
 no_refusal T e (inr (inr is)) = subst (λ (f : ConvertFault). IsNoRefusal {T = T} (Err f)) (sym is.2) tt
 
--- an answer behind a root that was taken
+-- an answer after a root that was taken
 pub judges_later : {T : Type 0} (a : DiskState) (root : Root) → JudgesRoot {T = Root} a (Ok root) → IsOldCount a.sectors → (r : Result T ConvertFault) → IsNoRefusal r → JudgesRoot a r
 judges_later {T} a root judges accepted r none = record {
   count = λ no_count. absurd (no_count accepted);
   bad_count = λ n is. absurd (subst (λ (x : Result T ConvertFault). IsNoRefusal x) is none);
-  judged = λ count d told s here. accords r none (judged_old (length d) s) (judges.judged count d told s here);
+  judged = λ count d revealed s here. accords r none (judged_old (length d) s) (judges.judged count d revealed s here);
 }
   where
     accords : (x : Result T ConvertFault) → IsNoRefusal x → (right : Result Root RootFault) → (other : Root) × (right ≡ Ok other) → AccordsOld x right
@@ -213,7 +213,7 @@ pub room_of_none : {T : Type 0} (a : DiskState) (e : ConvertFault) → IsNoUnfit
 room_of_none {T} a e none = record {
   wants = λ wanted room is. absurd (subst (λ (x : Result T ConvertFault). IsNoUnfit x) is none);
   unfit = λ wanted room is. absurd (subst (λ (x : Result T ConvertFault). IsNoUnfit x) is none);
-  fits = λ d told. tt;
+  fits = λ d revealed. tt;
 }
 
 pub room_of_ok : {T : Type 0} (a : DiskState) (x : T) → ((d : List Sector) → a.contents ≡ Some d → total_room (files_old d) ≤ capacity (length d)) → JudgesRoom {T = T} a (Ok x)
@@ -223,12 +223,12 @@ room_of_ok {T} a x fits = record {
   fits = fits;
 }
 
--- an error of a plan's, behind calls that only read
+-- an error of a plan's, after calls that only read
 pub room_of_err : {T U : Type 0} (a b : DiskState) (e : ConvertFault) → OnlyReads a b → JudgesRoom {T = T} b (Err e) → JudgesRoom {T = U} a (Err e)
 room_of_err {T} {U} a b e only judges = record {
   wants = λ wanted room is. (let w = judges.wants wanted room (so wanted room is) in (w.0 ∙ ap capacity only.sectors, w.1));
-  unfit = λ wanted room is d told. judges.unfit wanted room (so wanted room is) d (only.contents ∙ told);
-  fits = λ d told. tt;
+  unfit = λ wanted room is d revealed. judges.unfit wanted room (so wanted room is) d (only.contents ∙ revealed);
+  fits = λ d revealed. tt;
 }
   where
     error_in : ConvertFault → Result U ConvertFault → ConvertFault

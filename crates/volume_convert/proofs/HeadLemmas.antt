@@ -13,35 +13,35 @@ use Rattle.labelled_disk.specs.File.{File, file_at, size}
 use Rattle.labelled_disk.specs.FilesOn.{is_page}
 use Rattle.labelled_disk.specs.Layout.{data_sectors}
 use Rattle.labelled_disk.specs.Lowest.{is_first}
-use Rattle.labelled_disk.specs.Rising.{AreRising}
+use Rattle.labelled_disk.specs.Ascending.{AreAscending}
 use Rattle.labelled_disk.specs.Sectors.{Sector}
 use Rattle.labelled_disk.proofs.Finds.{found_at, find_none}
-use Rattle.labelled_disk.proofs.RisingLemmas.{same_by_look_up}
-use Rattle.label_survey.specs.declared.standing.Standing.{Standing}
-use Rattle.label_survey.specs.Standings.{standing, AreStandings}
+use Rattle.labelled_disk.proofs.AscendingLemmas.{same_by_look_up}
+use Rattle.label_survey.specs.declared.sector_state.SectorState.{SectorState}
+use Rattle.label_survey.specs.SectorStates.{sector_state, AreSectorStates}
 use Rattle.label_survey.specs.Survey.{is_leader}
 use Rattle.old_files.specs.OldFiles.{heads, heads_file, head_among, old_file_by, old_file_among, old_file, files_old, is_old_needed}
 use Rattle.old_files.specs.Placing.{leader_of, old_leaders}
 use Rattle.old_files.specs.Reread.{reread, all_reread}
 use Rattle.old_files.proofs.LeaderLemmas.{leader_same, head_is, looked_up}
 use Rattle.old_files.proofs.OldLemmas.{old_files_are_those}
-use Rattle.old_files.proofs.SettleLemmas.{part_of}
+use Rattle.old_files.proofs.ArrangeLemmas.{part_of}
 use Rattle.volume_convert.specs.declared.heads.Head.{Head}
 use Rattle.volume_convert.specs.Heads.{head_of, leader_by, heads_from, AreHeads, AreHeadsUp, leaders_by}
 use Rattle.volume_convert.proofs.StandLemmas.{stands, leader_is}
 
 -- Collected.
 
-pub record IsFrom (ls : List Label) (xs : List Standing) (h : Head) : Type 0 where
+pub record IsFrom (ls : List Label) (xs : List SectorState) (h : Head) : Type 0 where
   pub k : ℕ
   pub l : Label
-  pub x : Standing
+  pub x : SectorState
   pub here : slice_get ls k ≡ Some l
   pub there : slice_get xs k ≡ Some x
   pub leads : is_leader x ≡ true
   pub is : h ≡ head_of l
 
-each_from : (ls : List Label) (xs : List Standing) (j : ℕ) (h : Head) → slice_get (heads_from ls xs) j ≡ Some h → IsFrom ls xs h
+each_from : (ls : List Label) (xs : List SectorState) (j : ℕ) (h : Head) → slice_get (heads_from ls xs) j ≡ Some h → IsFrom ls xs h
 each_from [] xs j h at = absurd (none-some h at)
 each_from (l ∷ ls) [] j h at = absurd (none-some h at)
 each_from (l ∷ ls) (x ∷ xs) j h at = either (is_leader x) refl (λ i e. each_from ls xs i h e) j at
@@ -55,7 +55,7 @@ each_from (l ∷ ls) (x ∷ xs) j h at = either (is_leader x) refl (λ i e. each
     either true e more (suc i) at = later (more i at)
     either false e more i at = later (more i at)
 
-all_from : (ls : List Label) (xs : List Standing) (k : ℕ) (l : Label) (x : Standing) → slice_get ls k ≡ Some l → slice_get xs k ≡ Some x → is_leader x ≡ true → (j : ℕ) × (slice_get (heads_from ls xs) j ≡ Some (head_of l))
+all_from : (ls : List Label) (xs : List SectorState) (k : ℕ) (l : Label) (x : SectorState) → slice_get ls k ≡ Some l → slice_get xs k ≡ Some x → is_leader x ≡ true → (j : ℕ) × (slice_get (heads_from ls xs) j ≡ Some (head_of l))
 all_from [] xs k l x here there leads = absurd (none-some l here)
 all_from (m ∷ ls) [] k l x here there leads = absurd (none-some x there)
 all_from (m ∷ ls) (y ∷ xs) zero l x here there leads = either (is_leader y) (ap is_leader (same_Some y x there) ∙ leads) (ap head_of (same_Some m l here))
@@ -74,8 +74,8 @@ all_from (m ∷ ls) (y ∷ xs) (suc k) l x here there leads = either (is_leader 
 abbrev is_of_id : ℕ → Head → ℕ
 is_of_id id h = cond (eqb h.id id) 1 0
 
-abbrev AreApart : List Label → List Standing → Type 0
-AreApart ls xs = (i j : ℕ) (l m : Label) (x y : Standing) → slice_get ls i ≡ Some l → slice_get ls j ≡ Some m → slice_get xs i ≡ Some x → slice_get xs j ≡ Some y
+abbrev AreApart : List Label → List SectorState → Type 0
+AreApart ls xs = (i j : ℕ) (l m : Label) (x y : SectorState) → slice_get ls i ≡ Some l → slice_get ls j ≡ Some m → slice_get xs i ≡ Some x → slice_get xs j ≡ Some y
     → is_leader x ≡ true → is_leader y ≡ true → l.id ≡ m.id → i ≡ j
 
 none_of : (id : ℕ) (hs : List Head) → ((k : ℕ) (h : Head) → slice_get hs k ≡ Some h → h.id ≢ id) → sum_by (is_of_id id) hs ≡ 0
@@ -86,7 +86,7 @@ none_of id (h ∷ hs) none =
     let sum = sum_by-cons (is_of_id id) h hs in
     omega (arith, more, here, sum)
 
-one_of : (id : ℕ) (ls : List Label) (xs : List Standing) → AreApart ls xs → sum_by (is_of_id id) (heads_from ls xs) ≤ 1
+one_of : (id : ℕ) (ls : List Label) (xs : List SectorState) → AreApart ls xs → sum_by (is_of_id id) (heads_from ls xs) ≤ 1
 one_of id [] xs apart = omega arith
 one_of id (l ∷ ls) [] apart = omega arith
 one_of id (l ∷ ls) (x ∷ xs) apart = either (is_leader x) refl (one_of id ls xs (λ i j m n y z a b c e f g same. (let s = apart (suc i) (suc j) m n y z a b c e f g same in omega (arith, s)))) (cases_eq l.id id)
@@ -116,8 +116,8 @@ counted id (x ∷ xs) zero b here is =
     omega (arith, one, sum)
 counted id (x ∷ xs) (suc k) b here is = let more = counted id xs k b here is in let sum = sum_by-cons (is_of_id id) x xs in omega (arith, more, sum)
 
--- rising identifiers, where each comes once and none is behind a higher one
-rises : (file : Head → File) → ((h : Head) → (file h).id ≡ h.id) → (hs : List Head) → ((id : ℕ) → sum_by (is_of_id id) hs ≤ 1) → AreHeadsUp hs → AreRising (map file hs)
+-- ascending identifiers, where each comes once and none is after a higher one
+rises : (file : Head → File) → ((h : Head) → (file h).id ≡ h.id) → (hs : List Head) → ((id : ℕ) → sum_by (is_of_id id) hs ≤ 1) → AreHeadsUp hs → AreAscending (map file hs)
 rises file own [] once up = tt
 rises file own (h ∷ hs) once up = (above hs (λ k g at. by_index k g at), rises file own hs (λ id. (let sum = sum_by-cons (is_of_id id) h hs in let o = once id in omega (arith, sum, o))) (λ i j a b l at_i at_j. up (suc i) (suc j) a b (omega (arith, l)) at_i at_j))
   where
@@ -162,7 +162,7 @@ found_first test (x ∷ xs) s is = either (test x) is (found_first test xs s)
 
 -- Of an old volume.
 
-module _ (d : List Sector) (few : length d < leader_page) (labels : List Label) (standings : List Standing) (labelled : labels ≡ map (λ s. s.0) (data_sectors d)) (are : AreStandings (all_reread d) standings) where
+module _ (d : List Sector) (few : length d < leader_page) (labels : List Label) (sector_states : List SectorState) (labelled : labels ≡ map (λ s. s.0) (data_sectors d)) (are : AreSectorStates (all_reread d) sector_states) where
   abbrev xs : List Sector
   xs = data_sectors d
 
@@ -174,10 +174,10 @@ module _ (d : List Sector) (few : length d < leader_page) (labels : List Label) 
       by (Some s) e h = (s, e, same_Some s.0 l (sym (ap (λ (o : Option Sector). option_map (λ (s : Sector). s.0) o) e) ∙ h))
 
   -- a sector that stands as a leader is the first page 0 of its file
-  head_at : (k : ℕ) (s : Sector) (x : Standing) → slice_get xs k ≡ Some s → slice_get standings k ≡ Some x → is_leader x ≡ true → (is_first (heads_file s.0.id) xs k ≡ true) × (head_among xs s.0.id ≡ Some s)
+  head_at : (k : ℕ) (s : Sector) (x : SectorState) → slice_get xs k ≡ Some s → slice_get sector_states k ≡ Some x → is_leader x ≡ true → (is_first (heads_file s.0.id) xs k ≡ true) × (head_among xs s.0.id ≡ Some s)
   head_at k s x at there leads =
-      let is : standing (all_reread d) k (reread s) ≡ x = same_Some (standing (all_reread d) k (reread s)) x (sym (ap (option_map (λ (t : Sector). standing (all_reread d) k (reread t))) at) ∙ sym (stands d few standings are k) ∙ there) in
-      let both = and_parts (is_old_needed xs k) (eqb s.0.page 0) (sym (leader_is d few standings are k s) ∙ ap is_leader is ∙ leads) in
+      let is : sector_state (all_reread d) k (reread s) ≡ x = same_Some (sector_state (all_reread d) k (reread s)) x (sym (ap (option_map (λ (t : Sector). sector_state (all_reread d) k (reread t))) at) ∙ sym (stands d few sector_states are k) ∙ there) in
+      let both = and_parts (is_old_needed xs k) (eqb s.0.page 0) (sym (leader_is d few sector_states are k s) ∙ ap is_leader is ∙ leads) in
       let zero_page : s.0.page ≡ 0 = eqb-true s.0.page 0 both.1 in
       elim (part_of xs k s at both.0).what [
         | inl first ↦ (first, first_found (heads_file s.0.id) xs k s at first)
@@ -185,7 +185,7 @@ module _ (d : List Sector) (few : length d < leader_page) (labels : List Label) 
       ]
 
   -- and the first page 0 of a file stands as a leader
-  leads_at : (id : ℕ) (s : Sector) → head_among xs id ≡ Some s → (k : ℕ) × (slice_get xs k ≡ Some s) × (x : Standing) × (slice_get standings k ≡ Some x) × (is_leader x ≡ true)
+  leads_at : (id : ℕ) (s : Sector) → head_among xs id ≡ Some s → (k : ℕ) × (slice_get xs k ≡ Some s) × (x : SectorState) × (slice_get sector_states k ≡ Some x) × (is_leader x ≡ true)
   leads_at id s head =
       let f = found_first (heads_file id) xs s head in
       let passes = (found_at (heads_file id) xs s head).2 in
@@ -199,9 +199,9 @@ module _ (d : List Sector) (few : length d < leader_page) (labels : List Label) 
       let zero_page : eqb s.0.page 0 ≡ true = page_zero s passes in (
         f.0,
         f.1,
-        standing (all_reread d) f.0 (reread s),
-        stands d few standings are f.0 ∙ ap (option_map (λ (t : Sector). standing (all_reread d) f.0 (reread t))) f.1,
-        leader_is d few standings are f.0 s ∙ and_from (is_old_needed xs f.0) (eqb s.0.page 0) needs zero_page,
+        sector_state (all_reread d) f.0 (reread s),
+        stands d few sector_states are f.0 ∙ ap (option_map (λ (t : Sector). sector_state (all_reread d) f.0 (reread t))) f.1,
+        leader_is d few sector_states are f.0 s ∙ and_from (is_old_needed xs f.0) (eqb s.0.page 0) needs zero_page,
       )
     where
       or_left : (a b : Bool) → a ≡ true → (a || b) ≡ true
@@ -211,7 +211,7 @@ module _ (d : List Sector) (few : length d < leader_page) (labels : List Label) 
       page_zero : (t : Sector) → heads_file id t ≡ true → eqb t.0.page 0 ≡ true
       page_zero t h = (and_parts (is_file t.0) (eqb t.0.page 0) (and_parts (is_file t.0 && eqb t.0.page 0) (is_permanent t.0) (and_parts (heads t) (eqb t.0.id id) h).0).0).1
 
-  apart : AreApart labels standings
+  apart : AreApart labels sector_states
   apart i j l m x y at_i at_j x_at y_at lead_x lead_y same =
       let a = sector_at i l at_i in
       let b = sector_at j m at_j in
@@ -222,7 +222,7 @@ module _ (d : List Sector) (few : length d < leader_page) (labels : List Label) 
       ∙ ap (λ (n : ℕ). position_or_len (heads_file n) xs) ids
       ∙ eqb-true (position_or_len (heads_file b.0.0.id) xs) j q.0
 
-  module _ (hs : List Head) (sorted : AreHeads labels standings hs) where
+  module _ (hs : List Head) (sorted : AreHeads labels sector_states hs) where
     -- each is the head of a file
     pub each : (k : ℕ) (h : Head) → slice_get hs k ≡ Some h → (s : Sector) × (head_among xs h.id ≡ Some s) × (h ≡ head_of s.0)
     each k h at =
@@ -232,26 +232,26 @@ module _ (d : List Sector) (few : length d < leader_page) (labels : List Label) 
         let is : h ≡ head_of a.0.0 = f.is ∙ ap head_of (sym a.2) in
         (a.0, ap (λ (g : Head). head_among xs g.id) is ∙ p.1, is)
       where
-        given : All (IsFrom labels standings) (heads_from labels standings)
-        given k h l = each_from labels standings k (slice_index_or (heads_from labels standings) k h) (slice_get-get_or (heads_from labels standings) k h l)
+        given : All (IsFrom labels sector_states) (heads_from labels sector_states)
+        given k h l = each_from labels sector_states k (slice_index_or (heads_from labels sector_states) k h) (slice_get-get_or (heads_from labels sector_states) k h l)
 
-        from : (k : ℕ) (h : Head) → slice_get hs k ≡ Some h → IsFrom labels standings h
-        from k h at = subst (IsFrom labels standings) (get_or_from_slice_get hs k h h at) (All-permutation (IsFrom labels standings) (heads_from labels standings) hs sorted.moved given k h (slice_get_within hs k h at))
+        from : (k : ℕ) (h : Head) → slice_get hs k ≡ Some h → IsFrom labels sector_states h
+        from k h at = subst (IsFrom labels sector_states) (get_or_from_slice_get hs k h h at) (All-permutation (IsFrom labels sector_states) (heads_from labels sector_states) hs sorted.moved given k h (slice_get_within hs k h at))
 
     -- each file has its head
     pub all_heads : (id : ℕ) (s : Sector) → head_among xs id ≡ Some s → (k : ℕ) × (slice_get hs k ≡ Some (head_of s.0))
     all_heads id s head =
         let a = leads_at id s head in
         let label : slice_get labels a.0 ≡ Some s.0 = ap (λ (ls : List Label). slice_get ls a.0) labelled ∙ slice_get-map (λ (t : Sector). t.0) xs a.0 ∙ ap (option_map (λ (t : Sector). t.0)) a.1 in
-        let from = all_from labels standings a.0 s.0 a.2 label a.3 a.4 in
-        let has = Contains-permutation (heads_from labels standings) hs (head_of s.0) sorted.moved (from.0, slice_get_within (heads_from labels standings) from.0 (head_of s.0) from.1, get_or_from_slice_get (heads_from labels standings) from.0 (head_of s.0) (head_of s.0) from.1) in
+        let from = all_from labels sector_states a.0 s.0 a.2 label a.3 a.4 in
+        let has = Contains-permutation (heads_from labels sector_states) hs (head_of s.0) sorted.moved (from.0, slice_get_within (heads_from labels sector_states) from.0 (head_of s.0) from.1, get_or_from_slice_get (heads_from labels sector_states) from.0 (head_of s.0) (head_of s.0) from.1) in
         (has.0, slice_get-get_or hs has.0 (head_of s.0) has.1 ∙ ap (λ (h : Head). Some h) has.2)
 
     abbrev file : Head → File
     file h = old_file_by xs (leader_by h)
 
-    rising : AreRising (map file hs)
-    rising = rises file (λ h. refl) hs (λ id. (let same = sum_by-IsPermutation (is_of_id id) (heads_from labels standings) hs sorted.moved in let one = one_of id labels standings apart in omega (arith, same, one))) sorted.up
+    ascending : AreAscending (map file hs)
+    ascending = rises file (λ h. refl) hs (λ id. (let same = sum_by-IsPermutation (is_of_id id) (heads_from labels sector_states) hs sorted.moved in let one = one_of id labels sector_states apart in omega (arith, same, one))) sorted.up
 
     looks : (id : ℕ) → file_at (map file hs) id ≡ file_at (files_old d) id
     looks id = by (head_among xs id) refl ∙ sym ((old_files_are_those d).each id)
@@ -274,12 +274,12 @@ module _ (d : List Sector) (few : length d < leader_page) (labels : List Label) 
             let a = all_heads id s e in
             let own : s.0.id ≡ id = (head_is id s (found_at (heads_file id) xs s e).2).1 in
             let at : slice_get (map file hs) a.0 ≡ Some (file (head_of s.0)) = slice_get-map file hs a.0 ∙ ap (option_map file) a.1 in
-            ap (λ (n : ℕ). file_at (map file hs) n) (sym own) ∙ looked_up (map file hs) rising a.0 (file (head_of s.0)) at
+            ap (λ (n : ℕ). file_at (map file hs) n) (sym own) ∙ looked_up (map file hs) ascending a.0 (file (head_of s.0)) at
             ∙ sym (ap (λ (o : Option Sector). option_map (old_file_by xs) (option_map (λ t. t.0) o)) e)
 
     -- so their leaders are those of the old files
     pub leaders_are : leaders_by hs ≡ old_leaders d
-    leaders_are = mapped hs (λ k h at. file_label h (each k h at)) ∙ ap (map leader_of) (same_by_look_up (map file hs) (files_old d) rising (old_files_are_those d).rise looks)
+    leaders_are = mapped hs (λ k h at. file_label h (each k h at)) ∙ ap (map leader_of) (same_by_look_up (map file hs) (files_old d) ascending (old_files_are_those d).rise looks)
       where
         file_label : (h : Head) → (s : Sector) × (head_among xs h.id ≡ Some s) × (h ≡ head_of s.0) → leader_by h ≡ leader_of (file h)
         file_label h s =

@@ -9,7 +9,7 @@ use Rattle.labelled_disk.specs.declared.disk.DiskWrite.TheVariants.{Whole}
 use Rattle.labelled_disk.specs.declared.label.Label.{Label}
 use Rattle.labelled_disk.specs.Calls.{Writes}
 use Rattle.labelled_disk.specs.State.{DiskState}
-use Rattle.label_survey.specs.declared.standing.Standing.{Standing}
+use Rattle.label_survey.specs.declared.sector_state.SectorState.{SectorState}
 use Rattle.label_survey.specs.Survey.{is_kept, places_by}
 use Rattle.label_survey.proofs.SortLemmas.{append_nil}
 use Rattle.scavenger.specs.Carries.{Carries}
@@ -33,13 +33,13 @@ no_leaders : (places : List ℕ) → leader_writes places [] ≡ []
 no_leaders [] = refl
 no_leaders (p ∷ places) = refl
 
-module _ (first : ℕ) (standings : List Standing) (heads : List Head) where
+module _ (first : ℕ) (sector_states : List SectorState) (heads : List Head) where
   abbrev pub all_writes : List DiskWrite
-  all_writes = leader_writes (places_by is_spare first standings) (leaders_by heads)
+  all_writes = leader_writes (places_by is_spare first sector_states) (leaders_by heads)
 
   -- the writes that are left from this sector and this leader on
   abbrev left : ℕ → ℕ → List DiskWrite
-  left i placed = leader_writes (places_by is_spare (first + i) (drop i standings)) (leaders_by (drop placed heads))
+  left i placed = leader_writes (places_by is_spare (first + i) (drop i sector_states)) (leaders_by (drop placed heads))
 
   pub record IsSoFar (a b : DiskState) (i placed : ℕ) : Type 0 where
     pub done : List DiskWrite
@@ -51,20 +51,20 @@ module _ (first : ℕ) (standings : List Standing) (heads : List Head) where
   none_so_far a = record {
     done = [];
     made = carries_none a;
-    all = let z : first + 0 ≡ first = omega arith in ap (λ (m : ℕ). leader_writes (places_by is_spare m standings) (leaders_by heads)) z;
+    all = let z : first + 0 ≡ first = omega arith in ap (λ (m : ℕ). leader_writes (places_by is_spare m sector_states) (leaders_by heads)) z;
     few = omega arith;
   }
 
-  module _ (a b : DiskState) (i placed : ℕ) (x : Standing) (here : slice_get standings i ≡ Some x) (so_far : IsSoFar a b i placed) where
+  module _ (a b : DiskState) (i placed : ℕ) (x : SectorState) (here : slice_get sector_states i ≡ Some x) (so_far : IsSoFar a b i placed) where
     abbrev ahead : List ℕ
-    ahead = places_by is_spare (first + (i + 1)) (drop (i + 1) standings)
+    ahead = places_by is_spare (first + (i + 1)) (drop (i + 1) sector_states)
 
-    next : (t : Bool) → is_kept x ≡ t → places_by is_spare (first + i) (drop i standings) ≡ cond (not t) ((first + i) ∷ ahead) ahead
+    next : (t : Bool) → is_kept x ≡ t → places_by is_spare (first + i) (drop i sector_states) ≡ cond (not t) ((first + i) ∷ ahead) ahead
     next t is =
         let s : first + i + 1 ≡ first + (i + 1) = omega arith in
-        ap (λ (xs : List Standing). places_by is_spare (first + i) xs) (dropped_one standings i x here)
-        ∙ ap (λ (u : Bool). cond (not u) ((first + i) ∷ places_by is_spare (first + i + 1) (drop (i + 1) standings)) (places_by is_spare (first + i + 1) (drop (i + 1) standings))) is
-        ∙ ap (λ (m : ℕ). cond (not t) ((first + i) ∷ places_by is_spare m (drop (i + 1) standings)) (places_by is_spare m (drop (i + 1) standings))) s
+        ap (λ (xs : List SectorState). places_by is_spare (first + i) xs) (dropped_one sector_states i x here)
+        ∙ ap (λ (u : Bool). cond (not u) ((first + i) ∷ places_by is_spare (first + i + 1) (drop (i + 1) sector_states)) (places_by is_spare (first + i + 1) (drop (i + 1) sector_states))) is
+        ∙ ap (λ (m : ℕ). cond (not t) ((first + i) ∷ places_by is_spare m (drop (i + 1) sector_states)) (places_by is_spare m (drop (i + 1) sector_states))) s
 
     -- a sector that is kept
     pub passed_kept : is_kept x ≡ true → IsSoFar a b (i + 1) placed
@@ -83,7 +83,7 @@ module _ (first : ℕ) (standings : List Standing) (heads : List Head) where
     passed_full full = record {
       done = so_far.done;
       made = so_far.made;
-      all = ap (λ (ws : List DiskWrite). so_far.done ++ ws) (none_left full ahead ∙ sym (none_left full (places_by is_spare (first + i) (drop i standings)))) ∙ so_far.all;
+      all = ap (λ (ws : List DiskWrite). so_far.done ++ ws) (none_left full ahead ∙ sym (none_left full (places_by is_spare (first + i) (drop i sector_states)))) ∙ so_far.all;
       few = so_far.few;
     }
 
@@ -115,7 +115,7 @@ module _ (first : ℕ) (standings : List Standing) (heads : List Head) where
           carries_as ((so_far.done ++ one ∷ []) ++ left (i + 1) (placed + 1)) all_writes a c (Err f) all_with
           (carries_stopped (so_far.done ++ one ∷ []) (left (i + 1) (placed + 1)) a c e f (carries_then so_far.done (one ∷ []) a b c (Err e) so_far.made (as_one l is (Err e) c writes)))
 
-  pub all_led : (a b : DiskState) (i placed : ℕ) → length standings ≤ i → IsSoFar a b i placed → Carries {E = DiskError} all_writes a (Ok tt) b
+  pub all_led : (a b : DiskState) (i placed : ℕ) → length sector_states ≤ i → IsSoFar a b i placed → Carries {E = DiskError} all_writes a (Ok tt) b
   all_led a b i placed full so_far =
       carries_as so_far.done all_writes a b (Ok tt)
-      (sym (append_nil so_far.done) ∙ ap (λ (xs : List Standing). so_far.done ++ leader_writes (places_by is_spare (first + i) xs) (leaders_by (drop placed heads))) (sym (drop_all i standings full)) ∙ so_far.all) so_far.made
+      (sym (append_nil so_far.done) ∙ ap (λ (xs : List SectorState). so_far.done ++ leader_writes (places_by is_spare (first + i) xs) (leaders_by (drop placed heads))) (sym (drop_all i sector_states full)) ∙ so_far.all) so_far.made

@@ -1,4 +1,4 @@
--- Labels and standings as the loops make them, one by one.
+-- Labels and sector states as the loops make them, one by one.
 use Rattle.std.proofs.Common.{◌≡◌, ℕ, zero, suc, ◌+◌, Bool, true, false, cond, List, [], ◌∷◌, ◌++◌, drop, length, map, Option, Some, None, Result, Ok, Err, refl, sym, ◌∙◌, ap, arith, ltb, slice_index_or}
 use Rattle.std.specs.Prelude.{IfOk, IfSome, is_some, option_map, slice_get}
 use Rattle.std.specs.List.{range_with_len}
@@ -9,8 +9,8 @@ use Rattle.std.proofs.lemmas.Option.{slice_get-get_or, slice_get-map, slice_get_
 use Rattle.labelled_disk.specs.declared.label.Label.{Label}
 use Rattle.labelled_disk.specs.Layout.{data_sectors, first_data}
 use Rattle.labelled_disk.specs.Sectors.{Sector}
-use Rattle.label_survey.specs.declared.standing.Standing.{Standing}
-use Rattle.label_survey.specs.declared.standing.Standing.TheVariants.{Free}
+use Rattle.label_survey.specs.declared.sector_state.SectorState.{SectorState}
+use Rattle.label_survey.specs.declared.sector_state.SectorState.TheVariants.{Free}
 use Rattle.label_survey.specs.Survey.{is_kept}
 use Rattle.old_files.specs.Reread.{all_reread, label_before, reread}
 use Rattle.volume_convert.specs.declared.heads.Head.{Head}
@@ -44,13 +44,13 @@ pub one_mapped : {X : Type 0} (f : ℕ → X) (i : ℕ) (old new : List X) (x : 
 one_mapped {X} f i old new x so_far pushed is =
     pushed ∙ ap (λ (xs : List X). xs ++ x ∷ []) so_far ∙ ap (λ (y : X). map f (range_with_len 0 i) ++ y ∷ []) is ∙ sym (map-range_with_len_more f 0 i i (omega arith))
 
-gap_by : (xs : List Standing) (i : ℕ) (b : Bool) → is_kept (slice_index_or xs i Free) ≡ b → gaps_in xs (i + 1) ≡ gaps_in xs i + cond b 0 1
+gap_by : (xs : List SectorState) (i : ℕ) (b : Bool) → is_kept (slice_index_or xs i Free) ≡ b → gaps_in xs (i + 1) ≡ gaps_in xs i + cond b 0 1
 gap_by xs i b is = let s : i + 1 ≡ suc i = omega arith in ap (gaps_in xs) s ∙ ap (λ (t : Bool). gaps_in xs i + cond t 0 1) is
 
-pub gap_more : (xs : List Standing) (i gaps next : ℕ) → gaps ≡ gaps_in xs i → next ≡ gaps + 1 → is_kept (slice_index_or xs i Free) ≡ false → next ≡ gaps_in xs (i + 1)
+pub gap_more : (xs : List SectorState) (i gaps next : ℕ) → gaps ≡ gaps_in xs i → next ≡ gaps + 1 → is_kept (slice_index_or xs i Free) ≡ false → next ≡ gaps_in xs (i + 1)
 gap_more xs i gaps next was is kept = let more = gap_by xs i false kept in omega (arith, was, is, more)
 
-pub gap_same : (xs : List Standing) (i gaps next : ℕ) → gaps ≡ gaps_in xs i → next ≡ gaps → is_kept (slice_index_or xs i Free) ≡ true → next ≡ gaps_in xs (i + 1)
+pub gap_same : (xs : List SectorState) (i gaps next : ℕ) → gaps ≡ gaps_in xs i → next ≡ gaps → is_kept (slice_index_or xs i Free) ≡ true → next ≡ gaps_in xs (i + 1)
 gap_same xs i gaps next was is kept = let more = gap_by xs i true kept in omega (arith, was, is, more)
 
 -- The head that is read, as the leader that is wanted.

@@ -1,4 +1,4 @@
--- Lists that are written over from the front on, each element by its place.
+-- Lists that are written over from the prefix on, each element by its place.
 use Rattle.std.proofs.Common.{◌≡◌, ℕ, zero, suc, ◌+◌, ◌<◌, ◌≤◌, false, List, [], ◌∷◌, ◌++◌, drop, length, map, Option, Some, None, refl, sym, ◌∙◌, ap, arith}
 use Rattle.std.specs.Prelude.{slice_get, slice_index_or, slice_set, option_map}
 use Rattle.std.specs.List.{range_with_len}

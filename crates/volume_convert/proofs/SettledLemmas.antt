@@ -1,4 +1,4 @@
--- The labels and the standings of a volume whose leaders stand.
+-- The labels and the sector states of a volume whose leaders stand.
 use Rattle.std.proofs.Common.{◌≡◌, ◌⊎◌, inl, inr, ℕ, zero, suc, ◌+◌, ◌<◌, ◌≤◌, Bool, true, false, not, ◌&&◌, ◌||◌, List, [], ◌∷◌, ◌++◌, length, map, take, drop, Option, Some, None, refl, sym, ◌∙◌, ap, subst, arith, eqb, length-append}
 use Rattle.std.specs.Prelude.{slice_get, slice_index_or, option_map, nat_lt, replicate, if◌then◌else◌}
 use Rattle.std.specs.List.{range_with_len}
@@ -17,27 +17,27 @@ use Rattle.labelled_disk.specs.Sectors.{Sector, free_label}
 use Rattle.labelled_disk.specs.WriteRuns.{after_writes}
 use Rattle.labelled_disk.proofs.WriteLemmas as laws
 use Rattle.volume_root.specs.OldRoot.{IsOldCount}
-use Rattle.label_survey.specs.declared.standing.Standing.{Standing}
-use Rattle.label_survey.specs.declared.standing.Standing.TheVariants.{Free, Leader, Page}
-use Rattle.label_survey.specs.Standings.{standing, AreStandings}
+use Rattle.label_survey.specs.declared.sector_state.SectorState.{SectorState}
+use Rattle.label_survey.specs.declared.sector_state.SectorState.TheVariants.{Free, Leader, Page}
+use Rattle.label_survey.specs.SectorStates.{sector_state, AreSectorStates}
 use Rattle.label_survey.specs.Survey.{is_freed, is_kept}
 use Rattle.scavenger.specs.Stays.{HasLabels}
 use Rattle.scavenger.proofs.LayoutLemmas.{first_within}
 use Rattle.old_files.specs.OldFiles.{files_old, is_old_needed}
 use Rattle.old_files.specs.Placing.{old_leaders, spare_below, IsPlaced}
 use Rattle.old_files.specs.Reread.{reread, all_reread}
-use Rattle.old_files.specs.Settling.{IsSettled}
+use Rattle.old_files.specs.Arranging.{IsSettled}
 use Rattle.old_files.proofs.LeaderLemmas.{old_leaders_are}
 use Rattle.old_files.proofs.NeedLemmas.{settled_are_needed}
 use Rattle.old_files.proofs.PlacingLemmas.{placed_are_settled, free_is_none}
-use Rattle.old_files.proofs.SettleLemmas.{page_of_needed}
+use Rattle.old_files.proofs.ArrangeLemmas.{page_of_needed}
 use Rattle.old_files.proofs.StayLemmas.{not_first, get_some}
 use Rattle.convert_laws.specs.Orders.{first_writes}
 use Rattle.convert_laws.proofs.ForLemmas.{enough, needed_is_file, leader_file}
 use Rattle.convert_laws.proofs.WriteLemmas.{then_at, then_get}
 use Rattle.volume_convert.specs.declared.heads.Head.{Head}
 use Rattle.volume_convert.specs.Heads.{AreHeads, leaders_by, leader_by}
-use Rattle.volume_convert.specs.Settled.{gaps_in, settled_label, settled_label_at, settled_labels, settled_standing, settled_standing_at, settled_standings}
+use Rattle.volume_convert.specs.Settled.{gaps_in, settled_label, settled_label_at, settled_labels, settled_sector_state, settled_sector_state_at, settled_sector_states}
 use Rattle.volume_convert.proofs.HeadLemmas.{leaders_are}
 use Rattle.volume_convert.proofs.StandLemmas.{stands, kept_is, freed_is}
 
@@ -112,8 +112,8 @@ not_needed ys i y at none =
     by (Some f) = none_of (is_first (leads_file false y.0.id) ys i) (nat_lt y.0.page (size f)) (is_first (is_page y.0.id y.0.page) ys i) leads page
 
 -- An old volume with these labels.
-module _ (n : ℕ) (labels : List Label) (standings : List Standing) (hs : List Head) (accepted : IsOldCount n) (same : length standings ≡ length labels) (sorted : AreHeads labels standings hs)
-    (d : List Sector) (has : HasLabels d n labels) (are : AreStandings (all_reread d) standings) where
+module _ (n : ℕ) (labels : List Label) (sector_states : List SectorState) (hs : List Head) (accepted : IsOldCount n) (same : length sector_states ≡ length labels) (sorted : AreHeads labels sector_states hs)
+    (d : List Sector) (has : HasLabels d n labels) (are : AreSectorStates (all_reread d) sector_states) where
   abbrev xs : List Sector
   xs = data_sectors d
 
@@ -124,35 +124,35 @@ module _ (n : ℕ) (labels : List Label) (standings : List Standing) (hs : List 
   xs_long = ap (λ (l : List Label). length l) has.are ∙ length-map xs (λ (s : Sector). s.0)
 
   pub leaders : leaders_by hs ≡ old_leaders d
-  leaders = leaders_are d few labels standings has.are are hs sorted
+  leaders = leaders_are d few labels sector_states has.are are hs sorted
 
-  standing_at : (i : ℕ) (s : Sector) → slice_get xs i ≡ Some s → slice_index_or standings i Free ≡ standing (all_reread d) i (reread s)
-  standing_at i s at = get_or_from_slice_get standings i (standing (all_reread d) i (reread s)) Free (stands d few standings are i ∙ ap (option_map (λ (t : Sector). standing (all_reread d) i (reread t))) at)
+  sector_state_at : (i : ℕ) (s : Sector) → slice_get xs i ≡ Some s → slice_index_or sector_states i Free ≡ sector_state (all_reread d) i (reread s)
+  sector_state_at i s at = get_or_from_slice_get sector_states i (sector_state (all_reread d) i (reread s)) Free (stands d few sector_states are i ∙ ap (option_map (λ (t : Sector). sector_state (all_reread d) i (reread t))) at)
 
   label_at : (i : ℕ) (s : Sector) → slice_get xs i ≡ Some s → slice_index_or labels i free_label ≡ s.0
   label_at i s at = get_or_from_slice_get labels i s.0 free_label (ap (λ (ls : List Label). slice_get ls i) has.are ∙ slice_get-map (λ (t : Sector). t.0) xs i ∙ ap (option_map (λ (t : Sector). t.0)) at)
 
-  kept_at : (i : ℕ) (s : Sector) → slice_get xs i ≡ Some s → is_kept (slice_index_or standings i Free) ≡ is_old_needed xs i
-  kept_at i s at = ap is_kept (standing_at i s at) ∙ kept_is d few standings are i s
+  kept_at : (i : ℕ) (s : Sector) → slice_get xs i ≡ Some s → is_kept (slice_index_or sector_states i Free) ≡ is_old_needed xs i
+  kept_at i s at = ap is_kept (sector_state_at i s at) ∙ kept_is d few sector_states are i s
 
-  pub gaps_are : (i : ℕ) → i ≤ length xs → gaps_in standings i ≡ spare_below xs i
+  pub gaps_are : (i : ℕ) → i ≤ length xs → gaps_in sector_states i ≡ spare_below xs i
   gaps_are zero l = refl
   gaps_are (suc i) l =
       let s = get_some xs i (omega (arith, l)) in
-      ap (λ (k : ℕ). k + (if is_kept (slice_index_or standings i Free) then 0 else 1)) (gaps_are i (omega (arith, l)))
+      ap (λ (k : ℕ). k + (if is_kept (slice_index_or sector_states i Free) then 0 else 1)) (gaps_are i (omega (arith, l)))
       ∙ ap (λ (b : Bool). spare_below xs i + (if b then 0 else 1)) (kept_at i s.0 s.1)
 
   -- the label of a sector then
   pub label_is : (i : ℕ) (s : Sector) → slice_get xs i ≡ Some s
-      → settled_label_at labels standings (leaders_by hs) i ≡ (if is_old_needed xs i then s.0 else option_map_or (λ h. h) (slice_get (old_leaders d) (spare_below xs i)) (if is_free s.0 then s.0 else free_label))
+      → settled_label_at labels sector_states (leaders_by hs) i ≡ (if is_old_needed xs i then s.0 else option_map_or (λ h. h) (slice_get (old_leaders d) (spare_below xs i)) (if is_free s.0 then s.0 else free_label))
   label_is i s at =
       let within = slice_get_within xs i s at in
-      ap (λ (m : Label). settled_label (slice_get (leaders_by hs) (gaps_in standings i)) (slice_index_or standings i Free) m) (label_at i s at)
-      ∙ ap (λ (x : Standing). settled_label (slice_get (leaders_by hs) (gaps_in standings i)) x s.0) (standing_at i s at)
-      ∙ ap (λ (k : ℕ). settled_label (slice_get (leaders_by hs) k) (standing (all_reread d) i (reread s)) s.0) (gaps_are i (omega (arith, within)))
-      ∙ ap (λ (ls : List Label). settled_label (slice_get ls (spare_below xs i)) (standing (all_reread d) i (reread s)) s.0) leaders
-      ∙ ap (λ (b : Bool). if b then s.0 else option_map_or (λ h. h) (slice_get (old_leaders d) (spare_below xs i)) (if is_freed (standing (all_reread d) i (reread s)) then free_label else s.0)) (kept_is d few standings are i s)
-      ∙ ap (λ (b : Bool). if is_old_needed xs i then s.0 else option_map_or (λ h. h) (slice_get (old_leaders d) (spare_below xs i)) (if b then free_label else s.0)) (freed_is d few standings are i s)
+      ap (λ (m : Label). settled_label (slice_get (leaders_by hs) (gaps_in sector_states i)) (slice_index_or sector_states i Free) m) (label_at i s at)
+      ∙ ap (λ (x : SectorState). settled_label (slice_get (leaders_by hs) (gaps_in sector_states i)) x s.0) (sector_state_at i s at)
+      ∙ ap (λ (k : ℕ). settled_label (slice_get (leaders_by hs) k) (sector_state (all_reread d) i (reread s)) s.0) (gaps_are i (omega (arith, within)))
+      ∙ ap (λ (ls : List Label). settled_label (slice_get ls (spare_below xs i)) (sector_state (all_reread d) i (reread s)) s.0) leaders
+      ∙ ap (λ (b : Bool). if b then s.0 else option_map_or (λ h. h) (slice_get (old_leaders d) (spare_below xs i)) (if is_freed (sector_state (all_reread d) i (reread s)) then free_label else s.0)) (kept_is d few sector_states are i s)
+      ∙ ap (λ (b : Bool). if is_old_needed xs i then s.0 else option_map_or (λ h. h) (slice_get (old_leaders d) (spare_below xs i)) (if b then free_label else s.0)) (freed_is d few sector_states are i s)
       ∙ turn (is_old_needed xs i) (is_free s.0)
     where
       turn : (b f : Bool) → (if b then s.0 else option_map_or (λ h. h) (slice_get (old_leaders d) (spare_below xs i)) (if not f && not b then free_label else s.0))
@@ -162,15 +162,15 @@ module _ (n : ℕ) (labels : List Label) (standings : List Standing) (hs : List 
       turn false false = refl
 
   -- what a sector is then
-  pub standing_is : (i : ℕ) (s : Sector) → slice_get xs i ≡ Some s
-      → settled_standing_at standings (length hs) i ≡ (if is_old_needed xs i then Page else (if nat_lt (spare_below xs i) (length hs) then Leader else Free))
-  standing_is i s at =
+  pub sector_state_is : (i : ℕ) (s : Sector) → slice_get xs i ≡ Some s
+      → settled_sector_state_at sector_states (length hs) i ≡ (if is_old_needed xs i then Page else (if nat_lt (spare_below xs i) (length hs) then Leader else Free))
+  sector_state_is i s at =
       let within = slice_get_within xs i s at in
-      ap (λ (k : ℕ). settled_standing (nat_lt k (length hs)) (slice_index_or standings i Free)) (gaps_are i (omega (arith, within)))
+      ap (λ (k : ℕ). settled_sector_state (nat_lt k (length hs)) (slice_index_or sector_states i Free)) (gaps_are i (omega (arith, within)))
       ∙ ap (λ (b : Bool). if b then Page else (if nat_lt (spare_below xs i) (length hs) then Leader else Free)) (kept_at i s at)
 
   -- of a disk with the new labels, of which these are kept
-  module _ (d2 : List Sector) (has2 : HasLabels d2 n (settled_labels labels standings (leaders_by hs))) where
+  module _ (d2 : List Sector) (has2 : HasLabels d2 n (settled_labels labels sector_states (leaders_by hs))) where
     abbrev ys : List Sector
     ys = data_sectors d2
 
@@ -178,15 +178,15 @@ module _ (n : ℕ) (labels : List Label) (standings : List Standing) (hs : List 
         × (y.0 ≡ (if is_old_needed xs i then s.0 else option_map_or (λ h. h) (slice_get (old_leaders d) (spare_below xs i)) (if is_free s.0 then s.0 else free_label)))
     new_at i y at =
         let within : i < length labels = (let w = slice_get_within ys i y at in let l = ap (λ (ls : List Label). length ls) has2.are in
-        omega (arith, w, l, made_long (settled_label_at labels standings (leaders_by hs)) 0 (length labels), length-map ys (λ (s : Sector). s.0))) in
+        omega (arith, w, l, made_long (settled_label_at labels sector_states (leaders_by hs)) 0 (length labels), length-map ys (λ (s : Sector). s.0))) in
         let s = get_some xs i (omega (arith, within, xs_long)) in
-        let made = get_made (settled_label_at labels standings (leaders_by hs)) 0 (length labels) i within in
+        let made = get_made (settled_label_at labels sector_states (leaders_by hs)) 0 (length labels) i within in
         let z : 0 + i ≡ i = omega arith in
-        let label : slice_get (settled_labels labels standings (leaders_by hs)) i ≡ Some y.0 = ap (λ (ls : List Label). slice_get ls i) has2.are ∙ slice_get-map (λ (t : Sector). t.0) ys i ∙ ap (option_map (λ (t : Sector). t.0)) at in
-        (s.0, s.1, same_Some y.0 (settled_label_at labels standings (leaders_by hs) (0 + i)) (sym label ∙ made) ∙ ap (settled_label_at labels standings (leaders_by hs)) z ∙ label_is i s.0 s.1)
+        let label : slice_get (settled_labels labels sector_states (leaders_by hs)) i ≡ Some y.0 = ap (λ (ls : List Label). slice_get ls i) has2.are ∙ slice_get-map (λ (t : Sector). t.0) ys i ∙ ap (option_map (λ (t : Sector). t.0)) at in
+        (s.0, s.1, same_Some y.0 (settled_label_at labels sector_states (leaders_by hs) (0 + i)) (sym label ∙ made) ∙ ap (settled_label_at labels sector_states (leaders_by hs)) z ∙ label_is i s.0 s.1)
 
     pub ys_long : length ys ≡ length xs
-    ys_long = omega (arith, ap (λ (ls : List Label). length ls) has2.are, made_long (settled_label_at labels standings (leaders_by hs)) 0 (length labels), length-map ys (λ (s : Sector). s.0), xs_long)
+    ys_long = omega (arith, ap (λ (ls : List Label). length ls) has2.are, made_long (settled_label_at labels sector_states (leaders_by hs)) 0 (length labels), length-map ys (λ (s : Sector). s.0), xs_long)
 
     pub placed : ((i : ℕ) (y : Sector) → slice_get ys i ≡ Some y → is_old_needed xs i ≡ true → slice_get xs i ≡ Some y) → total_room (files_old d) ≤ capacity (length d) → IsPlaced xs ys (old_leaders d)
     placed kept room = record {
@@ -218,8 +218,8 @@ module _ (n : ℕ) (labels : List Label) (standings : List Standing) (hs : List 
             free true f = f
             free false f = refl
 
-    -- the standings of the settled labels
-    pub settled_stand : IsPlaced xs ys (old_leaders d) → AreStandings d2 (settled_standings standings (length hs))
+    -- the sector states of the settled labels
+    pub settled_stand : IsPlaced xs ys (old_leaders d) → AreSectorStates d2 (settled_sector_states sector_states (length hs))
     settled_stand is i = by (slice_get ys i) refl
       where
         settled : IsSettled xs ys
@@ -234,7 +234,7 @@ module _ (n : ℕ) (labels : List Label) (standings : List Standing) (hs : List 
         count_same : length (old_leaders d) ≡ length hs
         count_same = ap (λ (ls : List Label). length ls) (sym leaders) ∙ length-map hs leader_by
 
-        says : (y : Sector) → slice_get ys i ≡ Some y → (b : Bool) → is_old_needed xs i ≡ b → (if b then Page else (if nat_lt (spare_below xs i) (length hs) then Leader else Free)) ≡ standing d2 i y
+        says : (y : Sector) → slice_get ys i ≡ Some y → (b : Bool) → is_old_needed xs i ≡ b → (if b then Page else (if nat_lt (spare_below xs i) (length hs) then Leader else Free)) ≡ sector_state d2 i y
         says y at true e =
             let here = sym (is.kept i e) ∙ at in
             let n = needs y at (needed_is_file xs i y here e) in
@@ -256,20 +256,20 @@ module _ (n : ℕ) (labels : List Label) (standings : List Standing) (hs : List 
               rw (ge, n, free.1) refl
         ]
 
-        by : (o : Option Sector) → slice_get ys i ≡ o → slice_get (settled_standings standings (length hs)) i ≡ option_map (standing d2 i) (slice_get ys i)
+        by : (o : Option Sector) → slice_get ys i ≡ o → slice_get (settled_sector_states sector_states (length hs)) i ≡ option_map (sector_state d2 i) (slice_get ys i)
         by None e =
-            let l = made_long (settled_standing_at standings (length hs)) 0 (length standings) in
-            past_none (settled_standings standings (length hs)) i (omega (arith, l, same, xs_long, ys_long, past_end ys i e)) ∙ sym (ap (option_map (standing d2 i)) e)
+            let l = made_long (settled_sector_state_at sector_states (length hs)) 0 (length sector_states) in
+            past_none (settled_sector_states sector_states (length hs)) i (omega (arith, l, same, xs_long, ys_long, past_end ys i e)) ∙ sym (ap (option_map (sector_state d2 i)) e)
         by (Some y) e =
             let s = (new_at i y e) in
             let within = slice_get_within ys i y e in
-            let made = get_made (settled_standing_at standings (length hs)) 0 (length standings) i (omega (arith, within, same, xs_long, ys_long)) in
+            let made = get_made (settled_sector_state_at sector_states (length hs)) 0 (length sector_states) i (omega (arith, within, same, xs_long, ys_long)) in
             let z : 0 + i ≡ i = omega arith in
-            made ∙ ap (λ (k : ℕ). Some (settled_standing_at standings (length hs) k)) z ∙ ap (λ (x : Standing). Some x) (standing_is i s.0 s.1 ∙ says y e (is_old_needed xs i) refl) ∙ sym (ap (option_map (standing d2 i)) e)
+            made ∙ ap (λ (k : ℕ). Some (settled_sector_state_at sector_states (length hs) k)) z ∙ ap (λ (x : SectorState). Some x) (sector_state_is i s.0 s.1 ∙ says y e (is_old_needed xs i) refl) ∙ sym (ap (option_map (sector_state d2 i)) e)
 
   -- the labels that the first writes leave
-  pub labels_then : first_data (length d) ≤ length d → map (λ (s : Sector). s.0) (data_sectors (after_writes (first_writes d) d)) ≡ settled_labels labels standings (leaders_by hs)
-  labels_then within = laws.same_elements false 0 0 (map (λ (s : Sector). s.0) (data_sectors (after_writes (first_writes d) d))) (settled_labels labels standings (leaders_by hs)) (λ i.
+  pub labels_then : first_data (length d) ≤ length d → map (λ (s : Sector). s.0) (data_sectors (after_writes (first_writes d) d)) ≡ settled_labels labels sector_states (leaders_by hs)
+  labels_then within = laws.same_elements false 0 0 (map (λ (s : Sector). s.0) (data_sectors (after_writes (first_writes d) d))) (settled_labels labels sector_states (leaders_by hs)) (λ i.
       slice_get-map (λ (s : Sector). s.0) (data_sectors (after_writes (first_writes d) d)) i ∙ ap (option_map (λ (s : Sector). s.0)) (then_get d within i) ∙ by i (slice_get xs i) refl)
     where
       first_of : (b f : Bool) (o : Option Label) (s : Sector)
@@ -279,28 +279,28 @@ module _ (n : ℕ) (labels : List Label) (standings : List Standing) (hs : List 
       first_of false true None s = refl
       first_of false false None s = refl
 
-      by : (i : ℕ) (o : Option Sector) → slice_get xs i ≡ o → option_map (λ (s : Sector). s.0) (option_map (then_at d within i) (slice_get xs i)) ≡ slice_get (settled_labels labels standings (leaders_by hs)) i
+      by : (i : ℕ) (o : Option Sector) → slice_get xs i ≡ o → option_map (λ (s : Sector). s.0) (option_map (then_at d within i) (slice_get xs i)) ≡ slice_get (settled_labels labels sector_states (leaders_by hs)) i
       by i None e =
           ap (λ (o : Option Sector). option_map (λ (s : Sector). s.0) (option_map (then_at d within i) o)) e
-          ∙ sym (past_none (settled_labels labels standings (leaders_by hs)) i (let l = made_long (settled_label_at labels standings (leaders_by hs)) 0 (length labels) in omega (arith, l, xs_long, past_end xs i e)))
+          ∙ sym (past_none (settled_labels labels sector_states (leaders_by hs)) i (let l = made_long (settled_label_at labels sector_states (leaders_by hs)) 0 (length labels) in omega (arith, l, xs_long, past_end xs i e)))
       by i (Some s) e =
           let l = slice_get_within xs i s e in
-          let made = get_made (settled_label_at labels standings (leaders_by hs)) 0 (length labels) i (omega (arith, l, xs_long)) in
+          let made = get_made (settled_label_at labels sector_states (leaders_by hs)) 0 (length labels) i (omega (arith, l, xs_long)) in
           let z : 0 + i ≡ i = omega arith in
           ap (λ (o : Option Sector). option_map (λ (s : Sector). s.0) (option_map (then_at d within i) o)) e
           ∙ ap (λ (m : Label). Some m) (first_of (is_old_needed xs i) (is_free s.0) (slice_get (old_leaders d) (spare_below xs i)) s ∙ sym (label_is i s e))
-          ∙ sym (ap (λ (k : ℕ). Some (settled_label_at labels standings (leaders_by hs) k)) z) ∙ sym made
+          ∙ sym (ap (λ (k : ℕ). Some (settled_label_at labels sector_states (leaders_by hs) k)) z) ∙ sym made
 
 -- Any disk with the settled labels.
-module _ (n : ℕ) (labels : List Label) (standings : List Standing) (hs : List Head) (accepted : IsOldCount n) (same : length standings ≡ length labels) (sorted : AreHeads labels standings hs)
-    (stand : (d : List Sector) → HasLabels d n labels → AreStandings (all_reread d) standings) (room : (d : List Sector) → HasLabels d n labels → total_room (files_old d) ≤ capacity n)
-    (d2 : List Sector) (has2 : HasLabels d2 n (settled_labels labels standings (leaders_by hs))) where
+module _ (n : ℕ) (labels : List Label) (sector_states : List SectorState) (hs : List Head) (accepted : IsOldCount n) (same : length sector_states ≡ length labels) (sorted : AreHeads labels sector_states hs)
+    (stand : (d : List Sector) → HasLabels d n labels → AreSectorStates (all_reread d) sector_states) (room : (d : List Sector) → HasLabels d n labels → total_room (files_old d) ≤ capacity n)
+    (d2 : List Sector) (has2 : HasLabels d2 n (settled_labels labels sector_states (leaders_by hs))) where
   -- the one with the labels before
   abbrev before : List Sector
   before = take (first_data (length d2)) d2 ++ relabelled labels (data_sectors d2)
 
   long : length labels ≡ length (data_sectors d2)
-  long = omega (arith, ap (λ (ls : List Label). length ls) has2.are, made_long (settled_label_at labels standings (leaders_by hs)) 0 (length labels), length-map (data_sectors d2) (λ (s : Sector). s.0))
+  long = omega (arith, ap (λ (ls : List Label). length ls) has2.are, made_long (settled_label_at labels sector_states (leaders_by hs)) 0 (length labels), length-map (data_sectors d2) (λ (s : Sector). s.0))
 
   within : first_data (length d2) ≤ length d2
   within = first_within (length d2) (omega (arith, has2.sectors, accepted.0), omega (arith, has2.sectors, accepted.1))
@@ -325,16 +325,16 @@ module _ (n : ℕ) (labels : List Label) (standings : List Standing) (hs : List 
     are = sym (ap (map (λ (s : Sector). s.0)) before_data ∙ relabelled_labels labels (data_sectors d2) long);
   }
 
-  pub settled_stand_all : AreStandings d2 (settled_standings standings (length hs))
+  pub settled_stand_all : AreSectorStates d2 (settled_sector_states sector_states (length hs))
   settled_stand_all =
-      settled_stand n labels standings hs accepted same sorted (take (first_data (length d2)) d2 ++ relabelled labels (data_sectors d2)) before_has (stand (take (first_data (length d2)) d2 ++ relabelled labels (data_sectors d2)) before_has) d2 has2
-      (placed n labels standings hs accepted same sorted (take (first_data (length d2)) d2 ++ relabelled labels (data_sectors d2)) before_has (stand (take (first_data (length d2)) d2 ++ relabelled labels (data_sectors d2)) before_has) d2 has2 kept
+      settled_stand n labels sector_states hs accepted same sorted (take (first_data (length d2)) d2 ++ relabelled labels (data_sectors d2)) before_has (stand (take (first_data (length d2)) d2 ++ relabelled labels (data_sectors d2)) before_has) d2 has2
+      (placed n labels sector_states hs accepted same sorted (take (first_data (length d2)) d2 ++ relabelled labels (data_sectors d2)) before_has (stand (take (first_data (length d2)) d2 ++ relabelled labels (data_sectors d2)) before_has) d2 has2 kept
       (subst (λ (k : ℕ). total_room (files_old (take (first_data (length d2)) d2 ++ relabelled labels (data_sectors d2))) ≤ capacity k) (sym before_has.sectors) (room (take (first_data (length d2)) d2 ++ relabelled labels (data_sectors d2)) before_has)))
     where
       kept : (i : ℕ) (y : Sector) → slice_get (data_sectors d2) i ≡ Some y → is_old_needed (data_sectors (take (first_data (length d2)) d2 ++ relabelled labels (data_sectors d2))) i ≡ true
           → slice_get (data_sectors (take (first_data (length d2)) d2 ++ relabelled labels (data_sectors d2))) i ≡ Some y
       kept i y at needs =
-          let w = new_at n labels standings hs accepted same sorted (take (first_data (length d2)) d2 ++ relabelled labels (data_sectors d2)) before_has (stand (take (first_data (length d2)) d2 ++ relabelled labels (data_sectors d2)) before_has) d2 has2 i y at in
+          let w = new_at n labels sector_states hs accepted same sorted (take (first_data (length d2)) d2 ++ relabelled labels (data_sectors d2)) before_has (stand (take (first_data (length d2)) d2 ++ relabelled labels (data_sectors d2)) before_has) d2 has2 i y at in
           let own : y.0 ≡ w.0.0 = w.2 ∙ ap (λ (b : Bool). if b then w.0.0 else option_map_or (λ h. h) (slice_get (old_leaders (take (first_data (length d2)) d2 ++ relabelled labels (data_sectors d2))) (spare_below (data_sectors (take (first_data (length d2)) d2 ++ relabelled labels (data_sectors d2))) i)) (if is_free w.0.0 then w.0.0 else free_label)) needs in
           let label : slice_get labels i ≡ Some w.0.0 = ap (λ (ls : List Label). slice_get ls i) before_has.are ∙ slice_get-map (λ (t : Sector). t.0) (data_sectors (take (first_data (length d2)) d2 ++ relabelled labels (data_sectors d2))) i ∙ ap (option_map (λ (t : Sector). t.0)) w.1 in
           ap (λ (l : List Sector). slice_get l i) before_data ∙ relabelled_same labels (data_sectors d2) i w.0.0 y label at own

@@ -3,7 +3,7 @@ use Rattle.std.specs.Prelude.{◌≡◌, ◌⊎◌, ℕ, ◌<◌, ◌≤◌, if�
 use Rattle.std.specs.List.Sorted.{IsPermutation}
 use Rattle.labelled_disk.specs.declared.label.Label.{Label}
 use Rattle.labelled_disk.specs.Label.{leader_page}
-use Rattle.label_survey.specs.declared.standing.Standing.{Standing}
+use Rattle.label_survey.specs.declared.sector_state.SectorState.{SectorState}
 use Rattle.label_survey.specs.Survey.{is_leader}
 use Rattle.volume_convert.specs.declared.heads.Head.{Head}
 
@@ -16,8 +16,8 @@ abbrev pub leader_by : Head → Label
 leader_by h = record { id = h.id; page = leader_page; kind = h.kind; flags = h.flags; last = 0 }
 
 -- of those sectors that are the first page of a file
-abbrev pub heads_from : List Label → List Standing → List Head
-heads_from [] standings = []
+abbrev pub heads_from : List Label → List SectorState → List Head
+heads_from [] sector_states = []
 heads_from (l ∷ ls) [] = []
 heads_from (l ∷ ls) (x ∷ xs) = if is_leader x then head_of l ∷ heads_from ls xs else heads_from ls xs
 
@@ -30,9 +30,9 @@ AreHeadsUp heads = (i j : ℕ) (a b : Head) → i ≤ j → slice_get heads i �
     → IsHeadUpTo a b
 
 -- these, sorted
-pub record AreHeads (labels : List Label) (standings : List Standing) (heads : List Head) : Type 0 where
+pub record AreHeads (labels : List Label) (sector_states : List SectorState) (heads : List Head) : Type 0 where
   pub up : AreHeadsUp heads
-  pub moved : IsPermutation (heads_from labels standings) heads
+  pub moved : IsPermutation (heads_from labels sector_states) heads
 
 -- the labels of their leaders
 abbrev pub leaders_by : List Head → List Label

@@ -1,11 +1,11 @@
--- What a conversion leaves of an old volume, what it tells, and what stands at each moment of it.
+-- What a conversion leaves of an old volume, what it reveals, and what stands in each crash state of it.
 use Rattle.std.specs.Prelude.{◌≡◌, ◌⊎◌, ℕ, ◌+◌, ◌-◌, ◌≤◌, List, ◌++◌, length, Some}
 use Rattle.labelled_disk.specs.declared.disk.DiskWrite.{DiskWrite}
-use Rattle.labelled_disk.specs.Calls.{TellsSame}
+use Rattle.labelled_disk.specs.Calls.{RevealsSame}
 use Rattle.labelled_disk.specs.Sectors.{Sector}
 use Rattle.labelled_disk.specs.State.{DiskState}
 use Rattle.labelled_disk.specs.Layout.{first_data}
-use Rattle.labelled_disk.specs.Moment.{moment}
+use Rattle.labelled_disk.specs.CrashState.{crash_state}
 use Rattle.labelled_disk.specs.WriteRuns.{Appended}
 use Rattle.volume_root.specs.Format.{PartMade}
 use Rattle.label_laws.specs.Counts.{total_pages}
@@ -16,12 +16,12 @@ pub use Rattle.convert_laws.specs.Orders.{old_unneeded}
 use Rattle.volume_convert.specs.declared.converting.Converted.{Converted}
 
 -- how many files and pages there are, and how many sectors are freed
-pub record IsTold (d : List Sector) (told : Converted) : Type 0 where
-  pub files : told.files ≡ length (files_old d)
-  pub pages : told.pages ≡ total_pages (files_old d)
-  pub freed : told.freed ≡ length (old_unneeded d)
+pub record IsRevealed (d : List Sector) (revealed : Converted) : Type 0 where
+  pub files : revealed.files ≡ length (files_old d)
+  pub pages : revealed.pages ≡ total_pages (files_old d)
+  pub freed : revealed.freed ≡ length (old_unneeded d)
 
--- the disk told its sectors, and tells those of their conversion
+-- the disk revealed its sectors, and reveals those of their conversion
 abbrev pub IsConverted : DiskState → DiskState → Type 0
 IsConverted old new = (d : List Sector) → old.contents ≡ Some d
     → (h : List Sector) × (new.contents ≡ Some h) × IsConvertedTo d h
@@ -34,13 +34,13 @@ AreMade old new = (d : List Sector) → old.contents ≡ Some d
 -- none was made, or some first ones
 abbrev pub ArePartMade : DiskState → DiskState → Type 0
 ArePartMade old new = (d : List Sector) → old.contents ≡ Some d
-    → TellsSame old new ⊎ ((c : Conversion) × IsFor d c × PartMade (convert_writes c) old new)
+    → RevealsSame old new ⊎ ((c : Conversion) × IsFor d c × PartMade (convert_writes c) old new)
 
 -- after each write that was made since, the disk is old or converted
 abbrev pub StaysConvertible : DiskState → DiskState → Type 0
 StaysConvertible old new = (d : List Sector) (before writes : List DiskWrite) → old.contents ≡ Some d
     → old.writes ≡ Some before
-    → new.writes ≡ Some (before ++ writes) → (k : ℕ) → IsOldOrConverted d (moment d writes k)
+    → new.writes ≡ Some (before ++ writes) → (k : ℕ) → IsOldOrConverted d (crash_state d writes k)
 
 -- one for the root, one for each data sector, one for each freed sector, one for each file, one for each map sector,
 -- one for the root

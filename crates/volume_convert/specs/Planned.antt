@@ -14,20 +14,20 @@ use Rattle.convert_laws.specs.Conversions.{IsFor}
 use Rattle.convert_laws.specs.Orders.{leader_writes}
 use Rattle.volume_convert.specs.declared.plan.Conversion.{Conversion}
 use Rattle.volume_convert.specs.Heads.{leaders_by}
-use Rattle.volume_convert.specs.Leaves.{IsTold}
+use Rattle.volume_convert.specs.Leaves.{IsRevealed}
 use Rattle.volume_convert.specs.Settled.{is_spare}
 
 module _ {A : Type 0} where
   -- free labels and leaders, the first data sector being sector `first`
-  abbrev pub settling : ℕ → Conversion A → List DiskWrite
-  settling first c = freeing (places_by is_freed first c.standings.items)
-      ++ leader_writes (places_by is_spare first c.standings.items) (leaders_by c.heads.items)
+  abbrev pub arranging : ℕ → Conversion A → List DiskWrite
+  arranging first c = freeing (places_by is_freed first c.sector_states.items)
+      ++ leader_writes (places_by is_spare first c.sector_states.items) (leaders_by c.heads.items)
 
   -- the orders of a conversion
   abbrev pub orders_of : Root → ℕ → Conversion A → Orders
   orders_of root first c = record {
     root = root;
-    settle = settling first c;
+    arrange = arranging first c;
     bits = vec_mem_bytes c.maps.bits;
     names = vec_mem_bytes c.maps.names;
     counter = c.maps.counter;
@@ -36,16 +36,16 @@ module _ {A : Type 0} where
   -- all that is written: free labels and leaders, and what is written where these stand on a volume of today that is
   -- open
   abbrev pub all_writes : Root → ℕ → Conversion A → List DiskWrite
-  all_writes root first c = settling first c ++ scavenge_writes (orders (today root) first c.maps)
+  all_writes root first c = arranging first c ++ scavenge_writes (orders (today root) first c.maps)
 
   -- its parts are those of a volume of n sectors with this root
   pub record IsFit (n : ℕ) (root : Root) (c : Conversion A) : Type 0 where
     pub sized : IsSized n c.maps
-    pub standings : length c.standings.items ≡ n - first_data n
+    pub sector_states : length c.sector_states.items ≡ n - first_data n
     pub counter : root.counter ≤ c.maps.counter
 
   -- it is that of this disk
   pub record IsPlannedFor (d : List Sector) (root : Root) (first : ℕ) (c : Conversion A) : Type 0 where
     pub for_it : IsFor d (orders_of root first c)
     pub writes : all_writes root first c ≡ convert_writes (orders_of root first c)
-    pub told : IsTold d c.told
+    pub revealed : IsRevealed d c.revealed

@@ -11,7 +11,7 @@ ghost use Rattle.volume_root.specs.RootPage.{root_in};
 ghost use Rattle.scavenger.specs.Carries.{Carries};
 ghost use Rattle.old_files.specs.OldFiles.{files_old};
 ghost use Rattle.volume_convert.specs.Answers.{AccordsOld, JudgesRoom, JudgesRoot, LeavesOthers};
-ghost use Rattle.volume_convert.specs.Leaves.{AreMade, ArePartMade, CostsAtMost, IsConverted, IsTold, StaysConvertible};
+ghost use Rattle.volume_convert.specs.Leaves.{AreMade, ArePartMade, CostsAtMost, IsConverted, IsRevealed, StaysConvertible};
 ghost use Rattle.volume_convert.specs.Planned.{all_writes, IsFit, IsPlannedFor};
 
 use crate::ConvertFault;
@@ -105,7 +105,7 @@ fn finish<A: Allocator + Clone, D: Disk>(
     let Ok(()) = conversion.carry_out(disk, layout, root) else {
         return Err(ConvertFault::Disk);
     };
-    let Ok(()) = disk.settle() else {
+    let Ok(()) = disk.sync() else {
         return Err(ConvertFault::Disk);
     };
     Ok(())
@@ -115,7 +115,7 @@ fn finish<A: Allocator + Clone, D: Disk>(
 /// stay as they are; each other data sector is freed, and each file gets a leader.
 ///
 /// All labels are read, and all that is written is made in memory, before the first write. Then each
-/// freed sector, rising, gets a free label; each leader, files in rising identifiers, the lowest free
+/// freed sector, ascending, gets a free label; each leader, files in ascending identifiers, the lowest free
 /// sector; each sector of both maps its label and its new page; and the root comes last, clean and of
 /// version 3. A volume that was left in between is still an old one with the same files: it is
 /// converted again.
@@ -123,10 +123,10 @@ pub fn convert<A: Allocator + Clone, D: Disk>(
     alloc: A,
     disk: &mut D,
 ) -> Result<Converted, ConvertFault>
-    // What it leaves, and what is told of it.
+    // What it leaves, and what is revealed of it.
     ensures converted { OnOk result (IsConverted (D.state disk.old) (D.state disk.new)) }
-    ensures told { IfOk result (λ told. (d : List Sector) → (D.state disk.old).contents ≡ Some d
-        → IsTold d told) }
+    ensures revealed { IfOk result (λ revealed. (d : List Sector) → (D.state disk.old).contents ≡ Some d
+        → IsRevealed d revealed) }
     ensures synced { OnOk result ((D.state disk.new).synced ≡ true) }
 
     // The writes: all of them, or where the disk failed none or some first ones; and what stands
@@ -134,7 +134,7 @@ pub fn convert<A: Allocator + Clone, D: Disk>(
     ensures made { OnOk result (AreMade (D.state disk.old) (D.state disk.new)) }
     ensures part { result ≡ Err ConvertFault.Disk
         → ArePartMade (D.state disk.old) (D.state disk.new) }
-    ensures moments { StaysConvertible (D.state disk.old) (D.state disk.new) }
+    ensures crash_states { StaysConvertible (D.state disk.old) (D.state disk.new) }
 
     // The root is refused, or the files have no room; nothing is written but where it answers Ok or
     // the disk failed.
@@ -156,7 +156,7 @@ pub fn convert<A: Allocator + Clone, D: Disk>(
         unreachable!();
     };
     let conversion = make_plan(alloc, disk, &layout, &root)?;
-    let told = conversion.told;
+    let revealed = conversion.revealed;
     finish(conversion, disk, &layout, &root)?;
-    Ok(told)
+    Ok(revealed)
 }

@@ -5,7 +5,7 @@ ghost use Rattle.label_survey.specs.Survey.{is_leader};
 ghost use Rattle.volume_convert.specs.Heads.{head_of, leader_by, heads_from, AreHeads, AreHeadsUp};
 
 use crate::reread::LEADER;
-use label_survey::Standing;
+use label_survey::SectorState;
 use labelled_disk::{FileId, Label, NoMemory};
 use std::alloc::{AllocError, Allocator};
 
@@ -42,30 +42,30 @@ impl Head {
     }
 }
 
-fn is_leader(standing: Standing) -> bool
-    ensures { result ≡ is_leader standing }
+fn is_leader(sector_state: SectorState) -> bool
+    ensures { result ≡ is_leader sector_state }
 {
-    match standing {
-        Standing::Leader => true,
-        Standing::Page => false,
-        Standing::Free => false,
-        Standing::Lost => false,
-        Standing::Stray => false,
+    match sector_state {
+        SectorState::Leader => true,
+        SectorState::Page => false,
+        SectorState::Free => false,
+        SectorState::Lost => false,
+        SectorState::Orphan => false,
     }
 }
 
 fn collect_heads<A: Allocator>(
     alloc: A,
     labels: &[Label],
-    standings: &[Standing],
+    sector_states: &[SectorState],
     count: usize,
 ) -> Result<Vec<Head, A>, AllocError>
-    requires same_length { length standings.now ≡ length labels.now }
-    ensures { IfOk result (λ heads. heads.items ≡ heads_from labels.now standings.now) }
+    requires same_length { length sector_states.now ≡ length labels.now }
+    ensures { IfOk result (λ heads. heads.items ≡ heads_from labels.now sector_states.now) }
 {
     let mut heads = Vec::with_capacity(alloc, count)?;
     for i in 0..labels.len() {
-        if is_leader(standings[i]) {
+        if is_leader(sector_states[i]) {
             heads.push(Head::of(&labels[i]))?;
         }
     }
@@ -79,17 +79,17 @@ fn sort_heads(heads: &mut [Head])
     heads.sort_unstable();
 }
 
-/// The files, of which there are so many, in rising identifiers: 16 bytes for each.
+/// The files, of which there are so many, in ascending identifiers: 16 bytes for each.
 pub(crate) fn heads_of<A: Allocator>(
     alloc: A,
     labels: &[Label],
-    standings: &[Standing],
+    sector_states: &[SectorState],
     count: usize,
 ) -> Result<Vec<Head, A>, NoMemory>
-    requires same_length { length standings.now ≡ length labels.now }
-    ensures { IfOk result (λ heads. AreHeads labels.now standings.now heads.items) }
+    requires same_length { length sector_states.now ≡ length labels.now }
+    ensures { IfOk result (λ heads. AreHeads labels.now sector_states.now heads.items) }
 {
-    let mut heads = collect_heads(alloc, labels, standings, count)?;
+    let mut heads = collect_heads(alloc, labels, sector_states, count)?;
     sort_heads(&mut heads);
     Ok(heads)
 }

@@ -6,21 +6,21 @@ ghost use Rattle.labelled_disk.specs.Root.{root_page};
 ghost use Rattle.labelled_disk.specs.Sectors.{Sector, AreSectors};
 ghost use Rattle.volume_root.specs.OldRoot.{IsOldCount, IsValidOldRoot};
 ghost use Rattle.volume_root.specs.RootPage.{root_in};
-ghost use Rattle.label_survey.specs.Standings.{AreStandings};
+ghost use Rattle.label_survey.specs.SectorStates.{AreSectorStates};
 ghost use Rattle.scavenger.specs.Carries.{Carries};
 ghost use Rattle.scavenger.specs.Stays.{HasLabels};
 ghost use Rattle.convert_laws.specs.Converted.{today};
 ghost use Rattle.old_files.specs.OldFiles.{files_old};
 ghost use Rattle.old_files.specs.Reread.{all_reread};
-ghost use Rattle.volume_convert.specs.Leaves.{IsTold};
+ghost use Rattle.volume_convert.specs.Leaves.{IsRevealed};
 
 use crate::ConvertFault;
+use crate::arranging::{arrange_labels, settled_sector_states};
 use crate::converting::Converted;
 use crate::heads::{Head, heads_of};
 use crate::leaders::write_leaders;
-use crate::reread::find_old_standings;
-use crate::settling::{settle_labels, settled_standings};
-use label_survey::{Standing, tally_sectors};
+use crate::reread::find_old_sector_states;
+use label_survey::{SectorState, tally_sectors};
 use labelled_disk::{Disk, DiskError, Label, Layout, NoMemory};
 use scavenger::{Plan, free_sectors};
 use std::alloc::Allocator;
@@ -29,12 +29,12 @@ use volume_root::Root;
 /// What is to be written, beside the root that was read.
 #[derive(Drop)]
 pub(crate) struct Conversion<A: Allocator> {
-    /// What each data sector is, page 0 of a file being told as its leader.
-    standings: Vec<Standing, A>,
+    /// What each data sector is, page 0 of a file being reported as its leader.
+    sector_states: Vec<SectorState, A>,
     heads: Vec<Head, A>,
     /// Both maps and the counter of the volume once it has leaders.
     maps: Plan<A>,
-    pub told: Converted,
+    pub revealed: Converted,
 }
 
 // The root of today, not yet closed.
@@ -48,15 +48,15 @@ fn today(root: &Root) -> Root
     }
 }
 
-// What is told of a volume whose data sectors are these: page 0 of a file is a page too.
-fn told_of(standings: &[Standing]) -> Converted
-    requires few { length standings.now < 2 ^ 20 }
-    ensures told { (d : List Sector) → length d ≤ 65536 → AreStandings (all_reread d) standings.now
-        → IsTold d result }
-    ensures files { result.files ≤ length standings.now }
-    ensures pages { result.pages ≤ length standings.now }
+// What is revealed of a volume whose data sectors are these: page 0 of a file is a page too.
+fn revealed_of(sector_states: &[SectorState]) -> Converted
+    requires few { length sector_states.now < 2 ^ 20 }
+    ensures revealed { (d : List Sector) → length d ≤ 65536 → AreSectorStates (all_reread d) sector_states.now
+        → IsRevealed d result }
+    ensures files { result.files ≤ length sector_states.now }
+    ensures pages { result.pages ≤ length sector_states.now }
 {
-    let tally = tally_sectors(standings);
+    let tally = tally_sectors(sector_states);
     Converted {
         files: tally.files,
         pages: tally.files + tally.pages,
@@ -65,13 +65,13 @@ fn told_of(standings: &[Standing]) -> Converted
 }
 
 // Whether files and pages have room.
-fn judge_room(told: Converted, capacity: u32) -> Result<(), ConvertFault>
-    requires fit { told.files + told.pages < 2 ^ 32 }
-    ensures fits { IfOk result (λ x. told.files + told.pages ≤ capacity) }
-    ensures unfit { IfErr result (λ why. (why ≡ ConvertFault.Unfit (told.files + told.pages) capacity)
-        × (capacity < told.files + told.pages)) }
+fn judge_room(revealed: Converted, capacity: u32) -> Result<(), ConvertFault>
+    requires fit { revealed.files + revealed.pages < 2 ^ 32 }
+    ensures fits { IfOk result (λ x. revealed.files + revealed.pages ≤ capacity) }
+    ensures unfit { IfErr result (λ why. (why ≡ ConvertFault.Unfit (revealed.files + revealed.pages) capacity)
+        × (capacity < revealed.files + revealed.pages)) }
 {
-    let wanted = told.files + told.pages;
+    let wanted = revealed.files + revealed.pages;
     if wanted > capacity {
         return Err(ConvertFault::Unfit { wanted, capacity });
     }
@@ -87,35 +87,40 @@ impl<A: Allocator + Clone> Conversion<A> {
         layout: &Layout,
         root: &Root,
         labels: Vec<Label, A>,
-        standings: Vec<Standing, A>,
-        told: Converted,
+        sector_states: Vec<SectorState, A>,
+        revealed: Converted,
     ) -> Result<Conversion<A>, NoMemory>
         requires counted { IsOldCount layout.now.sectors }
         requires layout { layout.now ≡ layout_of layout.now.sectors }
         requires valid { IsValidOldRoot layout.now.sectors root.now }
         requires all { length labels.items ≡ layout.now.sectors - first_data layout.now.sectors }
-        requires same_length { length standings.items ≡ length labels.items }
-        requires standings { (d : List Sector) → HasLabels d layout.now.sectors labels.items
-            → AreStandings (all_reread d) standings.items }
-        requires told { (d : List Sector) → HasLabels d layout.now.sectors labels.items
-            → IsTold d told }
-        requires room { told.files + told.pages ≤ capacity layout.now.sectors }
+        requires same_length { length sector_states.items ≡ length labels.items }
+        requires sector_states { (d : List Sector) → HasLabels d layout.now.sectors labels.items
+            → AreSectorStates (all_reread d) sector_states.items }
+        requires revealed { (d : List Sector) → HasLabels d layout.now.sectors labels.items
+            → IsRevealed d revealed }
+        requires room { revealed.files + revealed.pages ≤ capacity layout.now.sectors }
         ensures fit { IfOk result (IsFit layout.now.sectors root.now) }
         ensures planned { IfOk result (λ conversion. (d : List Sector)
             → HasLabels d layout.now.sectors labels.items → AreSectors d
             → root.now ≡ root_in (root_page d)
             → IsPlannedFor d root.now layout.now.first conversion) }
     {
-        let heads = heads_of(alloc.clone()?, &labels, &standings, told.files as usize)?;
-        let settled = settled_standings(alloc.clone()?, &standings, heads.len())?;
+        let heads = heads_of(
+            alloc.clone()?,
+            &labels,
+            &sector_states,
+            revealed.files as usize,
+        )?;
+        let settled = settled_sector_states(alloc.clone()?, &sector_states, heads.len())?;
         let mut labels = labels;
-        settle_labels(&mut labels, &standings, &heads);
+        arrange_labels(&mut labels, &sector_states, &heads);
         let maps = Plan::of(alloc, layout, &today(root), labels, settled)?;
         Ok(Conversion {
-            standings,
+            sector_states,
             heads,
             maps,
-            told,
+            revealed,
         })
     }
 
@@ -148,12 +153,12 @@ impl<A: Allocator + Clone> Conversion<A> {
         let Ok(own) = alloc.clone() else {
             return Err(ConvertFault::NoMemory);
         };
-        let Ok(standings) = find_old_standings(own, &labels) else {
+        let Ok(sector_states) = find_old_sector_states(own, &labels) else {
             return Err(ConvertFault::NoMemory);
         };
-        let told = told_of(&standings);
-        judge_room(told, layout.capacity)?;
-        match Conversion::make(alloc, layout, root, labels, standings, told) {
+        let revealed = revealed_of(&sector_states);
+        judge_room(revealed, layout.capacity)?;
+        match Conversion::make(alloc, layout, root, labels, sector_states, revealed) {
             Ok(conversion) => Ok(conversion),
             Err(_) => Err(ConvertFault::NoMemory),
         }
@@ -173,14 +178,14 @@ impl<A: Allocator + Clone> Conversion<A> {
             (D.state disk.old) result (D.state disk.new) }
     {
         let Conversion {
-            standings,
+            sector_states,
             heads,
             maps,
             ..
         } = self;
-        free_sectors(disk, layout.first, &standings)?;
-        write_leaders(disk, layout.first, &standings, &heads)?;
-        drop(standings);
+        free_sectors(disk, layout.first, &sector_states)?;
+        write_leaders(disk, layout.first, &sector_states, &heads)?;
+        drop(sector_states);
         drop(heads);
         maps.carry_out(disk, layout, &today(root))
     }

@@ -3,10 +3,10 @@
 ghost use Rattle.std.specs.Prelude.{◌≡◌, ◌<◌, ◌^◌, List, length, map, IfOk};
 ghost use Rattle.labelled_disk.specs.Layout.{data_sectors};
 ghost use Rattle.labelled_disk.specs.Sectors.{Sector};
-ghost use Rattle.label_survey.specs.Standings.{AreStandings};
+ghost use Rattle.label_survey.specs.SectorStates.{AreSectorStates};
 ghost use Rattle.old_files.specs.Reread.{all_reread, label_before, page_before};
 
-use label_survey::{Standing, find_standings};
+use label_survey::{SectorState, find_sector_states};
 use labelled_disk::{Label, NoMemory};
 use std::alloc::{AllocError, Allocator};
 
@@ -47,18 +47,18 @@ fn reread_labels<A: Allocator>(alloc: A, labels: &[Label]) -> Result<Vec<Label, 
     Ok(reread)
 }
 
-/// What each data sector of an old volume is, by the labels of them all: page 0 of a file is told
+/// What each data sector of an old volume is, by the labels of them all: page 0 of a file is revealed
 /// as its leader.
-pub(crate) fn find_old_standings<A: Allocator + Clone>(
+pub(crate) fn find_old_sector_states<A: Allocator + Clone>(
     alloc: A,
     labels: &[Label],
-) -> Result<Vec<Standing, A>, NoMemory>
+) -> Result<Vec<SectorState, A>, NoMemory>
     requires few { length labels.now < 2 ^ 32 }
-    ensures standings { IfOk result (λ standings. (d : List Sector)
+    ensures sector_states { IfOk result (λ sector_states. (d : List Sector)
         → labels.now ≡ map (λ s. s.0) (data_sectors d)
-        → AreStandings (all_reread d) standings.items) }
-    ensures len { IfOk result (λ standings. length standings.items ≡ length labels.now) }
+        → AreSectorStates (all_reread d) sector_states.items) }
+    ensures len { IfOk result (λ sector_states. length sector_states.items ≡ length labels.now) }
 {
     let reread = reread_labels(alloc.clone()?, labels)?;
-    find_standings(alloc, &reread)
+    find_sector_states(alloc, &reread)
 }

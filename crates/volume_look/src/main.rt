@@ -7,7 +7,7 @@ mod output;
 mod status;
 
 use crate::image::{NoImage, open_image};
-use crate::output::{answer, tell};
+use crate::output::{answer, reveal};
 use crate::status::Status;
 use image_disk::ImageDisk;
 use look_text::{Request, request_of};
@@ -28,7 +28,7 @@ fn hold_streams(rt: &HostRuntime) -> io::Result<(File, File, File)> {
     Ok((hold_stream(rt)?, hold_stream(rt)?, hold_stream(rt)?))
 }
 
-/// The words behind the program's name, or how the program ends without them.
+/// The words after the program's name, or how the program ends without them.
 fn words_of(rt: &HostRuntime) -> Result<Vec<String>, Status> {
     let args = env::args(rt).map_err(|error| match error.kind() {
         io::ErrorKind::OutOfMemory => Status::NoMemory,
@@ -94,8 +94,8 @@ fn run(rt: &HostRuntime, held: io::Result<()>) -> Status {
         Err(status) => return status,
     };
     match words.as_slice() {
-        [word] if asks_for_help(word.as_str()) => tell(rt, about::HELP),
-        [word] if word.as_str() == "--version" => tell(rt, about::VERSION),
+        [word] if asks_for_help(word.as_str()) => reveal(rt, about::HELP),
+        [word] if word.as_str() == "--version" => reveal(rt, about::VERSION),
         [image, rest @ ..] => match request_of(rest) {
             Some(request) => on_image(rt, held, image.as_str(), request),
             None => usage(rt),

@@ -11,7 +11,7 @@ use std::io::{self, Write};
 use volume_view::{LookFault, View, read_page, sector_of};
 
 /// Writes a text to standard output.
-pub(crate) fn tell(rt: &HostRuntime, text: &str) -> Status {
+pub(crate) fn reveal(rt: &HostRuntime, text: &str) -> Status {
     match print!(rt; "{text}") {
         Ok(()) => Status::Done,
         Err(why) => {
@@ -27,11 +27,11 @@ fn no_memory(rt: &HostRuntime) -> Status {
 }
 
 /// Writes what a look at the whole volume found; how that stands is how the program ends.
-fn tell_view(rt: &HostRuntime, view: &View<Global>, text: Result<String, AllocError>) -> Status {
+fn reveal_view(rt: &HostRuntime, view: &View<Global>, text: Result<String, AllocError>) -> Status {
     let Ok(text) = text else {
         return no_memory(rt);
     };
-    match tell(rt, text.as_str()) {
+    match reveal(rt, text.as_str()) {
         Status::Done => view.condition().into(),
         status => status,
     }
@@ -104,8 +104,8 @@ fn page_at<D: Disk>(disk: &mut D, sector: u32) -> Option<Result<Page, LookFault>
     Some(read_page(disk, sector))
 }
 
-/// Writes the bytes of a page behind the text of its file.
-fn tell_page(
+/// Writes the bytes of a page after the text of its file.
+fn reveal_page(
     rt: &HostRuntime,
     image: &str,
     page: Result<Page, LookFault>,
@@ -113,7 +113,7 @@ fn tell_page(
 ) -> Status {
     match page {
         Ok(page) => match write_page(text, &page) {
-            Ok(()) => tell(rt, text.as_str()),
+            Ok(()) => reveal(rt, text.as_str()),
             Err(_) => no_memory(rt),
         },
         Err(_) => {
@@ -125,7 +125,7 @@ fn tell_page(
 }
 
 /// Writes the runs of a file, and the bytes of a page where one is asked for.
-fn tell_file(
+fn reveal_file(
     rt: &HostRuntime,
     image: &str,
     disk: &mut ImageDisk<File>,
@@ -143,14 +143,14 @@ fn tell_file(
         Ok(FileText::Written { pages }) => pages,
     };
     let Some(page) = page else {
-        return tell(rt, text.as_str());
+        return reveal(rt, text.as_str());
     };
     let found = match page_sector(view, id, pages, page) {
         Some(sector) => page_at(disk, sector),
         None => None,
     };
     match found {
-        Some(bytes) => tell_page(rt, image, bytes, &mut text),
+        Some(bytes) => reveal_page(rt, image, bytes, &mut text),
         None => {
             let _ = eprintln!(rt; "look: {image:?}: file {id:016x} has no page {page}");
             Status::NoFile
@@ -159,7 +159,7 @@ fn tell_file(
 }
 
 /// Writes on standard error what makes a volume of today of an old one, where the root is refused as one.
-fn tell_renewal(rt: &HostRuntime, image: &str, view: &View<Global>) {
+fn reveal_renewal(rt: &HostRuntime, image: &str, view: &View<Global>) {
     match view.root {
         Err(RootFault::Version(version)) if version == 1 || version == 2 => {
             let _ = eprintln!(rt;
@@ -179,13 +179,13 @@ pub(crate) fn answer(
     request: Request<'_>,
 ) -> Status {
     let status = match request {
-        Request::Listing => tell_view(rt, view, listing(rt.alloc(), view)),
-        Request::Json => tell_view(rt, view, json(rt.alloc(), view)),
+        Request::Listing => reveal_view(rt, view, listing(rt.alloc(), view)),
+        Request::Json => reveal_view(rt, view, json(rt.alloc(), view)),
         Request::Picture { path } => put_picture(rt, path, view),
-        Request::File { id, page } => tell_file(rt, image, disk, view, id, page),
+        Request::File { id, page } => reveal_file(rt, image, disk, view, id, page),
     };
     if matches!(status, Status::Refused | Status::NoFile) {
-        tell_renewal(rt, image, view);
+        reveal_renewal(rt, image, view);
     }
     status
 }

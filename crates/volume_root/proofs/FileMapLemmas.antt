@@ -11,7 +11,7 @@ use Rattle.labelled_disk.specs.Layout.{IsCount, first_data, vam, vfm}
 use Rattle.labelled_disk.specs.Sectors.{Sector}
 use Rattle.labelled_disk.proofs.WriteLemmas.{get_drop, first_positive}
 use Rattle.page_tree.specs.Page.{page_at}
-use Rattle.page_tree.specs.Tells.{TellsTree}
+use Rattle.page_tree.specs.Reveals.{RevealsTree}
 use Rattle.file_map.specs.FileMap.{Triples, AreNamed, no_triples}
 use Rattle.file_map.specs.InSectors.{label_triples, map_bytes}
 use Rattle.file_map.proofs.Empty.{zero_map}
@@ -60,8 +60,8 @@ module _ (d : List Sector) (free : (i : ℕ) (s : Sector) → first_data (length
       let place : 1 + vam (length d) + 0 ≡ 1 + vam (length d) = omega arith in
       let here = get_drop (1 + vam (length d)) d 0 ∙ ap (slice_get d) place ∙ there in
       let first = first_page (vfm (length d)) (drop (1 + vam (length d)) d) s some here (ap length zeros) ∙ zeros in
-      subst (λ (k : ℕ). AreNamed (length d) (TellsTree 24 12 k (λ b. b ≡ map_bytes d)) (label_triples d)) pages
-      (named_alike (length d) (TellsTree 24 12 (512 * vfm (length d) / 512) (λ b. b ≡ map_bytes d)) no_triples (label_triples d) nothing_named
+      subst (λ (k : ℕ). AreNamed (length d) (RevealsTree 24 12 k (λ b. b ≡ map_bytes d)) (label_triples d)) pages
+      (named_alike (length d) (RevealsTree 24 12 (512 * vfm (length d) / 512) (λ b. b ≡ map_bytes d)) no_triples (label_triples d) nothing_named
       (zero_map (length d) (512 * vfm (length d)) (λ b. b ≡ map_bytes d) (map_bytes d) count refl refl first))
 
 -- Another sector 0.
@@ -73,11 +73,11 @@ module _ (s t : Sector) (rest : List Sector) where
   abbrev n : ℕ
   n = length (s ∷ rest)
 
-  behind : (u : Sector) → drop (1 + vam n) (u ∷ rest) ≡ drop (vam n) rest
-  behind u = let e : 1 + vam n ≡ suc (vam n) = omega arith in ap (λ (k : ℕ). drop k (u ∷ rest)) e
+  after : (u : Sector) → drop (1 + vam n) (u ∷ rest) ≡ drop (vam n) rest
+  after u = let e : 1 + vam n ≡ suc (vam n) = omega arith in ap (λ (k : ℕ). drop k (u ∷ rest)) e
 
   bytes_kept : map_bytes (t ∷ rest) ≡ map_bytes (s ∷ rest)
-  bytes_kept = ap (λ (xs : List Sector). flat_map (λ (u : Sector). u.1) (take (vfm n) xs)) (behind t ∙ sym (behind s))
+  bytes_kept = ap (λ (xs : List Sector). flat_map (λ (u : Sector). u.1) (take (vfm n) xs)) (after t ∙ sym (after s))
 
   names_kept : (id page sector : ℕ) → label_triples (t ∷ rest) id page sector ≡ label_triples (s ∷ rest) id page sector
   names_kept id page zero =
@@ -88,5 +88,5 @@ module _ (s t : Sector) (rest : List Sector) where
   -- the map names the same, and so do the labels
   pub file_map_kept : HasFileMap (s ∷ rest) → HasFileMap (t ∷ rest)
   file_map_kept names =
-      named_alike n (TellsTree 24 12 (vfm n) (λ b. b ≡ map_bytes (t ∷ rest))) (label_triples (s ∷ rest)) (label_triples (t ∷ rest)) names_kept
-      (subst (λ (m : List ℕ). AreNamed n (TellsTree 24 12 (vfm n) (λ b. b ≡ m)) (label_triples (s ∷ rest))) (sym bytes_kept) names)
+      named_alike n (RevealsTree 24 12 (vfm n) (λ b. b ≡ map_bytes (t ∷ rest))) (label_triples (s ∷ rest)) (label_triples (t ∷ rest)) names_kept
+      (subst (λ (m : List ℕ). AreNamed n (RevealsTree 24 12 (vfm n) (λ b. b ≡ m)) (label_triples (s ∷ rest))) (sym bytes_kept) names)

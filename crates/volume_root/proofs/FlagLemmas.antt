@@ -56,8 +56,8 @@ module _ (s t : Sector) (rest : List Sector) where
       here : (i : ℕ) (u : Sector) → HasData (t ∷ rest) i u → slice_get (s ∷ rest) i ≡ Some u
       here i u there =
           let first = writes.first_positive false 0 0 (length (s ∷ rest)) in
-          let behind : first_data (length (s ∷ rest)) ≤ i = there.is_data in
-          sym (get_set_other (s ∷ rest) 0 i t (λ e. omega (arith, e, first, behind))) ∙ there.here
+          let after : first_data (length (s ∷ rest)) ≤ i = there.is_data in
+          sym (get_set_other (s ∷ rest) 0 i t (λ e. omega (arith, e, first, after))) ∙ there.here
 
 -- Another flag.
 
@@ -102,8 +102,8 @@ module _ (s : Sector) (rest : List Sector) (bytes : All (λ b. b < 256) s.1) (ha
     map = λ clean. refl;
     file_map = λ clean names. file_map_kept s (now_first clean) rest names;
     again = λ before now. refl;
-    lawful_first = λ clean. inl (record { place = refl; root_label = refl; valid = has_root clean });
-    lawful = λ before now. inl (record { place = refl; root_label = refl; valid = has_root now });
+    permitted_first = λ clean. inl (record { place = refl; root_label = refl; valid = has_root clean });
+    permitted = λ before now. inl (record { place = refl; root_label = refl; valid = has_root now });
     right = still_right;
     sound = λ sound. sound_kept s (now_first true) rest (still_right true sound.labels) (flag_read (flagged true)) sound;
   }

@@ -7,7 +7,7 @@ use Rattle.labelled_disk.specs.Label.{is_file, is_file_id, is_free}
 use Rattle.labelled_disk.specs.Sectors.{Sector}
 use Rattle.labelled_disk.specs.Layout.{data_sectors, first_data}
 use Rattle.labelled_disk.specs.FilesOn.{is_of, is_page}
-use Rattle.labelled_disk.proofs.LowestLemmas.{files_are_as_told}
+use Rattle.labelled_disk.proofs.LowestLemmas.{files_are_as_revealed}
 use Rattle.labelled_disk.proofs.WriteLemmas.{get_drop}
 use Rattle.file_map.specs.InSectors.{label_triples}
 use Rattle.volume_root.specs.Mapped.{SoundAreMapped}
@@ -31,9 +31,9 @@ names_sector d id k i s here passes =
 pub sound_are_mapped : SoundAreMapped
 sound_are_mapped d sound = record {
   named = label_triples d;
-  told = sound.file_map;
+  revealed = sound.file_map;
   each = λ id k f is below.
-      let page = ((files_are_as_told false d).told id f is).0.page k below in
+      let page = ((files_are_as_revealed false d).revealed id f is).0.page k below in
       record {
         place = first_data (length d) + page.0;
         s = page.1;

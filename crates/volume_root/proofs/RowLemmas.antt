@@ -1,4 +1,4 @@
--- Sectors in rows, one row behind the other, and pages with few bytes.
+-- Sectors in rows, one row after the other, and pages with few bytes.
 use Rattle.std.proofs.Common.{◌≡◌, ◌⊎◌, inl, inr, ℕ, zero, suc, ◌+◌, ◌-◌, ◌<◌, ◌≤◌, Bool, true, List, [], ◌∷◌, ◌++◌, length, take, drop, replicate, Some, refl, sym, ◌∙◌, ap, arith, ltb}
 use Rattle.std.specs.Prelude.{slice_get, All, ◌&&◌}
 use Rattle.std.specs.List.{AllByRecursion}

@@ -59,17 +59,17 @@ all_have = refl
 bit_here : (i : ℕ) (s : Sector) → slice_get three_files i ≡ Some s → is_used map_page i ≡ is_taken i s
 bit_here i s here = let place : 0 + i ≡ i = omega arith in subst (λ (k : ℕ). is_used map_page k ≡ is_taken k s) place (bit_of 0 three_files all_have i s here)
 
--- behind the bytes that are written out are zeros
-zeros_behind : (bytes : List ℕ) (n k : ℕ) → length bytes ≤ k → get_or (bytes ++ replicate n 0) k 0 ≡ 0
-zeros_behind [] zero k past = refl
-zeros_behind [] (suc n) zero past = refl
-zeros_behind [] (suc n) (suc k) past = zeros_behind [] n k (omega arith)
-zeros_behind (b ∷ bytes) n zero past = absurd (omega (arith, past))
-zeros_behind (b ∷ bytes) n (suc k) past = zeros_behind bytes n k (omega (arith, past))
+-- after the bytes that are written out are zeros
+zeros_after : (bytes : List ℕ) (n k : ℕ) → length bytes ≤ k → get_or (bytes ++ replicate n 0) k 0 ≡ 0
+zeros_after [] zero k past = refl
+zeros_after [] (suc n) zero past = refl
+zeros_after [] (suc n) (suc k) past = zeros_after [] n k (omega arith)
+zeros_after (b ∷ bytes) n zero past = absurd (omega (arith, past))
+zeros_after (b ∷ bytes) n (suc k) past = zeros_after bytes n k (omega (arith, past))
 
 free_past : (i : ℕ) → 256 ≤ i → is_used map_page i ≡ false
 unfolding is_used
-free_past i past = ap (λ (x : ℕ). eqb (bit_at x (7 - i % 8)) 1) (zeros_behind bits 494 (i / 8) (omega (arith, past))) ∙ ap (λ (x : ℕ). eqb x 1) (bit_at-zero (7 - i % 8))
+free_past i past = ap (λ (x : ℕ). eqb (bit_at x (7 - i % 8)) 1) (zeros_after bits 494 (i / 8) (omega (arith, past))) ∙ ap (λ (x : ℕ). eqb x 1) (bit_at-zero (7 - i % 8))
 
 pub has_bits : HasBits three_files
 has_bits = record {

@@ -34,7 +34,7 @@ each_run = (
   ),
 )
 
--- each run ends before those behind it begin
+-- each run ends before those after it begin
 abbrev IsSpread : List Run → Type 0
 IsSpread [] = Unit {0}
 IsSpread (r ∷ rs) = AllByRecursion (λ s. rank_of r + r.pages ≤ rank_of s) rs × IsSpread rs
@@ -53,10 +53,10 @@ spread = spread_at runs (
 )
 
 apart : (r s : Run) (id page : ℕ) → rank_of r + r.pages ≤ rank_of s → holds r id page ≡ true → holds s id page ≡ true → ⊥
-apart r s id page behind one other =
+apart r s id page after one other =
     let a = has_page r id page one in
     let b = has_page s id page other in
-    omega (arith, behind, a.same, a.from, a.below, b.same, b.from, b.below)
+    omega (arith, after, a.same, a.from, a.below, b.same, b.from, b.below)
 
 pub runs_are : AreRuns 256 runs
 runs_are = record {
@@ -75,21 +75,21 @@ runs_are = record {
 abbrev items : List Item
 items = map (record_item 12) (map run_bytes runs)
 
--- no key is above those behind it
-abbrev IsRisingRow : List Item → Type 0
-IsRisingRow [] = Unit {0}
-IsRisingRow (x ∷ xs) = AllByRecursion (λ y. at_most x.key y.key ≡ true) xs × IsRisingRow xs
+-- no key is above those after it
+abbrev IsAscendingRow : List Item → Type 0
+IsAscendingRow [] = Unit {0}
+IsAscendingRow (x ∷ xs) = AllByRecursion (λ y. at_most x.key y.key ≡ true) xs × IsAscendingRow xs
 
-rising_at : (xs : List Item) → IsRisingRow xs → AreInKeyOrder xs
-rising_at [] rise i j order below = absurd (omega (arith, below))
-rising_at (x ∷ xs) rise zero zero order below = at_most_itself x.key
-rising_at (x ∷ xs) rise zero (suc j) order below = All-from_recursion (λ (y : Item). at_most x.key y.key ≡ true) xs rise.0 j no_item (omega (arith, below))
-rising_at (x ∷ xs) rise (suc i) zero order below = absurd (omega (arith, order))
-rising_at (x ∷ xs) rise (suc i) (suc j) order below = rising_at xs rise.1 i j (omega (arith, order)) (omega (arith, below))
+ascending_at : (xs : List Item) → IsAscendingRow xs → AreInKeyOrder xs
+ascending_at [] rise i j order below = absurd (omega (arith, below))
+ascending_at (x ∷ xs) rise zero zero order below = at_most_itself x.key
+ascending_at (x ∷ xs) rise zero (suc j) order below = All-from_recursion (λ (y : Item). at_most x.key y.key ≡ true) xs rise.0 j no_item (omega (arith, below))
+ascending_at (x ∷ xs) rise (suc i) zero order below = absurd (omega (arith, order))
+ascending_at (x ∷ xs) rise (suc i) (suc j) order below = ascending_at xs rise.1 i j (omega (arith, order)) (omega (arith, below))
 
-rising : AreInKeyOrder items
+ascending : AreInKeyOrder items
 unfolding run_bytes at_most
-rising = rising_at items ((refl, (refl, (refl, (refl, tt)))), ((refl, (refl, (refl, tt))), ((refl, (refl, tt)), ((refl, tt), (tt, tt)))))
+ascending = ascending_at items ((refl, (refl, (refl, (refl, tt)))), ((refl, (refl, (refl, tt))), ((refl, (refl, tt)), ((refl, tt), (tt, tt)))))
 
 leaf : IsLeaf 24 12 (page_of leaf_start) items
 unfolding page_of run_bytes
@@ -136,7 +136,7 @@ tree b first second = record {
   header = subst (λ (page : List ℕ). IsHeader page 34 5 1 (node ∷ []) 0 1) (sym first) header;
   tower = record {
     none = λ none. absurd (omega (arith, none));
-    rising = rising;
+    ascending = ascending;
     listed = listed;
     stored = stored;
     filled = λ l p some below inside. absurd (omega (arith, some, below));

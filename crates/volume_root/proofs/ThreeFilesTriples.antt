@@ -11,7 +11,7 @@ use Rattle.labelled_disk.specs.Layout.{first_data, data_sectors, vfm}
 use Rattle.labelled_disk.specs.Sectors.{Sector}
 use Rattle.labelled_disk.proofs.WriteLemmas.{get_drop}
 use Rattle.page_tree.specs.Page.{page_at}
-use Rattle.page_tree.specs.Tells.{TellsTree}
+use Rattle.page_tree.specs.Reveals.{RevealsTree}
 use Rattle.page_tree.proofs.Listed.{lists_tree}
 use Rattle.file_map.specs.Run.{sector_at, run_bytes}
 use Rattle.file_map.specs.FileMap.{AreNamed, names_triple, run_at}
@@ -46,7 +46,7 @@ data_sector i s here = elim (in_rows (replicate 96 free_sector) (file_sectors ++
   | inl before ↦ inl (in_replicate 96 free_sector i s before)
   | inr more ↦ elim (in_rows file_sectors (replicate 118 free_sector) more.0 s more.2) [
     | inl own ↦ inr (record { j = more.0; place = more.1; is = own })
-    | inr behind ↦ inl (in_replicate 118 free_sector behind.0 s behind.2)
+    | inr after ↦ inl (in_replicate 118 free_sector after.0 s after.2)
   ]
 ]
 
@@ -137,11 +137,11 @@ file_map =
     let rest : List ℕ = flat_map (λ (s : Sector). s.1) (unused_pages 2 32) in
     let first = ap (λ (b : List ℕ). page_at b 0) map_is ∙ first_of_pages (page_of header_start) (page_of leaf_start ++ rest) header_size in
     let second = ap (λ (b : List ℕ). page_at b 1) map_is ∙ second_of_pages (page_of header_start) (page_of leaf_start) rest header_size leaf_size in
-    let names : AreNamed 256 (TellsTree 24 12 34 (λ b. b ≡ map_bytes three_files)) (label_triples three_files) = record {
+    let names : AreNamed 256 (RevealsTree 24 12 34 (λ b. b ≡ map_bytes three_files)) (label_triples three_files) = record {
       runs = runs;
       listed = lists_tree 24 12 34 (λ b. b ≡ map_bytes three_files) (map_bytes three_files) (map run_bytes runs) refl (tree (map_bytes three_files) first second);
       form = runs_are;
       few = omega arith;
       are = λ id page place. both_ways (label_triples three_files id page place) (names_triple runs id page place) (names_label id page place) (names_run id page place);
     } in
-    subst (λ (n : ℕ). AreNamed n (TellsTree 24 12 (vfm n) (λ b. b ≡ map_bytes three_files)) (label_triples three_files)) (sym size) names
+    subst (λ (n : ℕ). AreNamed n (RevealsTree 24 12 (vfm n) (λ b. b ≡ map_bytes three_files)) (label_triples three_files)) (sym size) names

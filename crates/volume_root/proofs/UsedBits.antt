@@ -80,7 +80,7 @@ module _ (used : ℕ) (sector : ℕ → Sector) where
       ∙ joined (used_byte used) 0 (512 * n) 512
       ∙ ap (λ (k : ℕ). map (used_byte used) (range_with_len 0 k)) size
 
--- a byte of the map, also behind its end where all used sectors are in it
+-- a byte of the map, also after its end where all used sectors are in it
 pub byte_of : (used n k : ℕ) → used ≤ 8 * n → slice_index (map (used_byte used) (range_with_len 0 n)) k ≡ used_byte used k
 byte_of used n k few = either (ltb k n) refl
   where

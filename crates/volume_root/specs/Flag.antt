@@ -3,10 +3,10 @@ use Rattle.std.specs.Prelude.{◌≡◌, ◌≢◌, ◌⊎◌, ℕ, Bool, true, 
 use Rattle.labelled_disk.specs.declared.disk.DiskWrite.{DiskWrite}
 use Rattle.labelled_disk.specs.declared.layout.RootFault.{RootFault}
 use Rattle.labelled_disk.specs.declared.layout.RootFault.TheVariants as fault
-use Rattle.labelled_disk.specs.Moment.{written}
+use Rattle.labelled_disk.specs.CrashState.{written}
 use Rattle.labelled_disk.specs.Sectors.{Sector, AreSectors}
 use Rattle.labelled_disk.specs.FilesOn.{files_on}
-use Rattle.labelled_disk.specs.Lawful.{Lawful}
+use Rattle.labelled_disk.specs.Permitted.{Permitted}
 use Rattle.labelled_disk.specs.Layout.{IsCount, data_sectors}
 use Rattle.labelled_disk.specs.Root.{IsRoot, LabelsRight, root_page, serial_of, counter_of, short_at}
 use Rattle.volume_root.specs.declared.root.Root.{Root}
@@ -32,7 +32,7 @@ IsRefused d why =
     ⊎ (IsCount (length d) × (s : Sector) × (slice_get d 0 ≡ Some s) × (judged true (length d) s ≡ Err why))
 
 -- Sectors with a valid root have one with each flag, and the volume is the same: nothing but sector 0 changes. Each of
--- the two writes, over these sectors or those with either flag, is lawful: of the few kinds that keep a volume repairable.
+-- the two writes, over these sectors or those with either flag, is permitted: of the few kinds that keep a volume repairable.
 pub record FlagLaws (d : List Sector) : Type 0 where
   pub sectors : (clean : Bool) → length (with_flag clean d) ≡ length d
   pub others : (clean : Bool) (i : ℕ) → i ≢ 0 → slice_get (with_flag clean d) i ≡ slice_get d i
@@ -44,8 +44,8 @@ pub record FlagLaws (d : List Sector) : Type 0 where
   pub map : (clean : Bool) → map_bytes (with_flag clean d) ≡ map_bytes d
   pub file_map : (clean : Bool) → HasFileMap d → HasFileMap (with_flag clean d)
   pub again : (before now : Bool) → written (flag_write now d) (with_flag before d) ≡ with_flag now d
-  pub lawful_first : (clean : Bool) → Lawful d (flag_write clean d)
-  pub lawful : (before now : Bool) → Lawful (with_flag before d) (flag_write now d)
+  pub permitted_first : (clean : Bool) → Permitted d (flag_write clean d)
+  pub permitted : (before now : Bool) → Permitted (with_flag before d) (flag_write now d)
   pub right : (clean : Bool) → LabelsRight d → LabelsRight (with_flag clean d)
   pub sound : Sound d → Sound (with_flag true d)
 

@@ -46,11 +46,11 @@ new_root n serial counter = record { version = 3; clean = true; sectors = n; ser
 abbrev pub formatted : ℕ → ℕ → ℕ → List Sector
 formatted n serial counter = slice_set (new_sectors (layout_of n) n) 0 (root_label, root_bytes (new_root n serial counter))
 
--- the writes of these sectors, rising
+-- the writes of these sectors, ascending
 abbrev pub new_writes : Layout → ℕ → List DiskWrite
 new_writes layout k = map (λ i. Whole i (new_sector layout i).0 (new_sector layout i).1) (range_with_len 0 k)
 
--- the writes that make a new volume of n sectors: each sector, rising, sector 0 as a free one; then the root
+-- the writes that make a new volume of n sectors: each sector, ascending, sector 0 as a free one; then the root
 abbrev pub format_writes : ℕ → ℕ → ℕ → List DiskWrite
 format_writes n serial counter = new_writes (layout_of n) n ++ root_write (new_root n serial counter) ∷ []
 

@@ -1,4 +1,4 @@
--- What the file map of a sound volume tells of the volume's files.
+-- What the file map of a sound volume reveals of the volume's files.
 use Rattle.std.specs.Prelude.{◌≡◌, ℕ, ◌<◌, false, true, List, map, slice_get, Some}
 use Rattle.labelled_disk.specs.Sectors.{Sector}
 use Rattle.labelled_disk.specs.File.{File, byte, size}
@@ -16,10 +16,10 @@ pub record IsMapped (d : List Sector) (named : Triples) (f : File) (k : ℕ) : T
   pub there : HasData d place s
   pub bytes : slice_get f.pages k ≡ Some (map byte s.1)
 
--- the map's pages tell a map, which names a sector for each page of each file
+-- the map's pages reveal a map, which names a sector for each page of each file
 pub record FilesAreMapped (d : List Sector) : Type 0 where
   pub named : Triples
-  pub told : MapNames d named
+  pub revealed : MapNames d named
   pub each : (id k : ℕ) (f : File) → disk_file false d id ≡ Some f → k < size f → IsMapped d named f k
 
 -- so it is on each sound volume

@@ -25,7 +25,7 @@ abbrev pub first_from : ℕ → List ℕ → Option ℕ
 first_from i [] = None
 first_from i (b ∷ bs) = if b == 0 then first_from (i + 1) bs else Some i
 
--- the place of the first byte behind the fields that is not 0
+-- the place of the first byte after the fields that is not 0
 abbrev pub first_rest : List ℕ → Option ℕ
 first_rest page = first_from 24 (drop 24 page)
 
@@ -77,7 +77,7 @@ has_counter page = then_some (number_at page 20 == 0) (fault.NotVolume differenc
 abbrev pub is_flagged : List ℕ → Test
 is_flagged page = then_some (nat_lt 1 (short_at page 10)) (fault.NotVolume (difference.Flag (short_at page 10)))
 
--- the bytes behind the fields are 0
+-- the bytes after the fields are 0
 abbrev pub is_rest : List ℕ → Test
 is_rest page = option_map (λ i. fault.NotVolume (difference.Rest i)) (first_rest page)
 
@@ -110,7 +110,7 @@ IsUnlessFault result right = result ≡ right
 abbrev pub number_bytes : Root → List ℕ
 number_bytes root = big_bytes 4 root.sectors ++ big_bytes 4 root.serial ++ big_bytes 4 root.counter
 
--- the text that all roots begin with, and the fields behind it
+-- the text that all roots begin with, and the fields after it
 abbrev pub root_fields : Root → List ℕ
 root_fields root = codes "PILOTVOL" ++ big_bytes 2 root.version ++ big_bytes 2 (if root.clean then 1 else 0) ++ number_bytes root
 

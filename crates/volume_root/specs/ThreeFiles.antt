@@ -9,7 +9,7 @@ use Rattle.file_map.specs.declared.run.Run.{Run}
 use Rattle.file_map.specs.Run.{run_bytes}
 use Rattle.volume_root.specs.Sound.{Sound}
 
--- a page with these first bytes, and zeros behind them
+-- a page with these first bytes, and zeros after them
 unfoldable pub page_of : List ℕ → List ℕ
 page_of bytes = bytes ++ replicate (512 - length bytes) 0
 
@@ -50,13 +50,13 @@ unused_pages k (suc n) = sector 2 k 0 0 [] ∷ unused_pages (k + 1) n
 abbrev pub free_sector : Sector
 free_sector = sector 0 0 0 0 []
 
--- a leader and its two pages behind it, a page and its leader, a leader alone
+-- a leader and its two pages after it, a page and its leader, a leader alone
 abbrev pub file_sectors : List Sector
 file_sectors =
     sector 30064771073 leader_page 9 3 [] ∷ sector 30064771073 0 9 0 (65 ∷ 66 ∷ []) ∷ sector 30064771073 1 9 0 (67 ∷ []) ∷ sector 30064771074 0 5 0 (68 ∷ [])
     ∷ sector 30064771074 leader_page 5 1 [] ∷ sector 30064771075 leader_page 0 1 [] ∷ []
 
--- Root, allocation map and file map; then the data sectors, of which the 96 of the space tables and those behind the
+-- Root, allocation map and file map; then the data sectors, of which the 96 of the space tables and those after the
 -- files are free.
 unfoldable pub three_files : List Sector
 three_files =

@@ -81,7 +81,7 @@ fn write_sector<D: Disk>(
     disk.write(sector, &label, &page)
 }
 
-// Writes each sector, rising, as a new volume has it before its root.
+// Writes each sector, ascending, as a new volume has it before its root.
 fn write_sectors<D: Disk>(disk: &mut D, layout: &Layout) -> Result<(), RootFault>
     requires sectors { layout.now.sectors ≡ (D.state disk.old).sectors }
     requires vam { layout.now.vam ≤ 256 }
@@ -105,7 +105,7 @@ fn write_sectors<D: Disk>(disk: &mut D, layout: &Layout) -> Result<(), RootFault
 }
 
 /// Makes a new volume of all sectors of the disk, clean and without a file. Each sector is written,
-/// rising, sector 0 as a free one; then the root, and the disk is settled.
+/// ascending, sector 0 as a free one; then the root, and the disk is settled.
 pub fn format<D: Disk>(disk: &mut D, serial: u32, counter: u32) -> Result<Layout, RootFault>
     requires serial { 1 ≤ serial }
     requires counter { 1 ≤ counter }
@@ -144,7 +144,7 @@ pub fn format<D: Disk>(disk: &mut D, serial: u32, counter: u32) -> Result<Layout
         counter,
     };
     write_root(disk, &root)?;
-    let Ok(()) = disk.settle() else {
+    let Ok(()) = disk.sync() else {
         return Err(RootFault::Disk);
     };
     Ok(layout)

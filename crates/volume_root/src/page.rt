@@ -8,7 +8,7 @@ use byteorder::{BigEndian, ByteOrder};
 /// The page begins with this text.
 pub(crate) const MAGIC: &[u8; 8] = b"PILOTVOL";
 
-/// Behind this many bytes of fields the page is zero.
+/// After this many bytes of fields the page is zero.
 pub(crate) const FIELDS: usize = 24;
 
 pub(crate) fn has_magic(page: &[u8]) -> bool
@@ -32,7 +32,7 @@ pub(crate) fn number_at(page: &[u8], at: usize) -> u32
     BigEndian::read_u32(&page[at..])
 }
 
-/// The place of the first byte behind the fields that is not 0.
+/// The place of the first byte after the fields that is not 0.
 pub(crate) fn first_rest(page: &[u8]) -> Option<u16>
     requires { length page.now ≡ 512 }
     ensures { result ≡ first_rest page.now }

@@ -133,7 +133,7 @@ pub(crate) fn judge(
 
 /// Reads the root of a volume, and tests it in a fixed order: the disk's count of sectors, the
 /// label, the magic text, the version, the root's own count, serial, counter, clean flag, the bytes
-/// behind, and where `clean_only` is set that the volume was closed. The first test that fails is
+/// after, and where `clean_only` is set that the volume was closed. The first test that fails is
 /// the answer.
 pub fn read_root<D: Disk>(disk: &mut D, clean_only: bool) -> Result<Root, RootFault>
     ensures count { ¬ IsCount (D.state disk.old).sectors → result ≡ Err (RootFault.BadCount (D.state disk.old).sectors) }

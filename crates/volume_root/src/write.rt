@@ -1,7 +1,7 @@
 //! The root of a volume, as it is written.
 ghost use Rattle.std.specs.Prelude.{◌≡◌, ◌≤◌, ◌⊎◌, ◌++◌, drop, length};
 ghost use Rattle.std.specs.Prelude.{IfErr, OnOk, OnErr};
-ghost use Rattle.labelled_disk.specs.Calls.{Moves, Rose, TellsSame, TellsWrite};
+ghost use Rattle.labelled_disk.specs.Calls.{Moves, Rose, RevealsSame, RevealsWrite};
 ghost use Rattle.volume_root.specs.RootPage.{IsValidRoot, root_bytes, root_write};
 ghost use Rattle.volume_root.specs.RootPage.{number_bytes, root_fields};
 
@@ -41,10 +41,10 @@ fn page_of(root: &Root) -> Page
 /// volume on this disk.
 pub fn write_root<D: Disk>(disk: &mut D, root: &Root) -> Result<(), RootFault>
     requires { IsValidRoot (D.state disk.old).sectors root.now }
-    ensures ok { OnOk result (TellsWrite (root_write root.now)
+    ensures ok { OnOk result (RevealsWrite (root_write root.now)
         (D.state disk.old) (D.state disk.new)) }
-    ensures err { OnErr result (TellsSame (D.state disk.old) (D.state disk.new)
-        ⊎ TellsWrite (root_write root.now) (D.state disk.old) (D.state disk.new)) }
+    ensures err { OnErr result (RevealsSame (D.state disk.old) (D.state disk.new)
+        ⊎ RevealsWrite (root_write root.now) (D.state disk.old) (D.state disk.new)) }
     ensures err_disk { IfErr result (λ fault. fault ≡ RootFault.Disk) }
     ensures cause { OnErr result (Rose (D.state disk.old).faults (D.state disk.new).faults) }
     ensures moves { Moves (D.state disk.old) (D.state disk.new) }

@@ -20,7 +20,7 @@ use Rattle.volume_view.proofs.ListLemmas.{dropped}
 
 -- ---- the map of a disk
 
--- no bit behind the bytes is set
+-- no bit after the bytes is set
 pub past_free : (b : List ℕ) (i : ℕ) → length b * 8 ≤ i → is_used b i ≡ false
 unfolding is_used
 past_free b i past =

@@ -11,17 +11,17 @@ use Rattle.labelled_disk.specs.Sectors.{Sector}
 use Rattle.labelled_disk.specs.Layout.{data_sectors, first_data}
 use Rattle.labelled_disk.specs.File.{File, file_at, size}
 use Rattle.labelled_disk.specs.FilesOn.{leads, leads_file, is_page, file_among, files_on, disk_file}
-use Rattle.labelled_disk.specs.Lowest.{FilesAreAsTold, is_first, is_needed}
-use Rattle.labelled_disk.specs.Rising.{IsRising, AreRising}
+use Rattle.labelled_disk.specs.Lowest.{FilesAreAsRevealed, is_first, is_needed}
+use Rattle.labelled_disk.specs.Ascending.{IsAscending, AreAscending}
 use Rattle.labelled_disk.specs.WriteLaws.{HasData, FilesAreThose}
-use Rattle.labelled_disk.proofs.RisingLemmas.{at_low, at_head, at_tail}
+use Rattle.labelled_disk.proofs.AscendingLemmas.{at_low, at_head, at_tail}
 use Rattle.label_laws.specs.Counts.{needs_place}
 use Rattle.label_survey.specs.declared.triples.Triple.{Triple}
 use Rattle.label_survey.specs.Triples.{IsUpTo, triple_of}
 use Rattle.volume_view.specs.declared.files.FileLine.{FileLine}
 use Rattle.volume_view.specs.Files.{IsLineOf, AreLinesOf}
 use Rattle.volume_view.specs.Listed.{AreSorted, IsLineAt, IsPages, AreLinesTo}
-use Rattle.volume_view.proofs.ListLemmas.{dropped, in_pushed, pushed_front, pushed_last}
+use Rattle.volume_view.proofs.ListLemmas.{dropped, in_pushed, pushed_prefix, pushed_last}
 
 -- ---- the lowest sector that passes
 
@@ -76,7 +76,7 @@ page_parts id k s h =
     let inner = and_parts (is_file s.0) (eqb s.0.id id) outer.0 in
     (eqb-true s.0.id id inner.1, eqb-true s.0.page k outer.1)
 
-module _ (d : List Sector) (told : FilesAreAsTold false d) where
+module _ (d : List Sector) (revealed : FilesAreAsRevealed false d) where
   abbrev first : ℕ
   first = first_data (length d)
 
@@ -96,10 +96,10 @@ module _ (d : List Sector) (told : FilesAreAsTold false d) where
     -- the leader of each file is among the triples
     leader_listed : (id : ℕ) (f : File) → disk_file false d id ≡ Some f → (k : ℕ) × (t : Triple) × (slice_get triples k ≡ Some t) × (t.id ≡ id) × (t.page ≡ leader_page)
     leader_listed id f is =
-        let as_told = told.told id f is in
-        let l = as_told.0.leader in
+        let as_revealed = revealed.revealed id f is in
+        let l = as_revealed.0.leader in
         let parts = leads_parts f.id l.1 l.2.passes in
-        let same : l.1.0.id ≡ id = parts.2 ∙ as_told.1 in
+        let same : l.1.0.id ≡ id = parts.2 ∙ as_revealed.1 in
         let lowest = first_if (leads_file false f.id) (data_sectors d) l.0 l.1 l.2.here l.2.passes l.2.none_below in
         let moved : is_first (leads_file false l.1.0.id) (data_sectors d) l.0 ≡ true = subst (λ (n : ℕ). is_first (leads_file false n) (data_sectors d) l.0 ≡ true) (sym parts.2) lowest in
         let needs = at_place l.0 ∙ needed_by l.0 l.1 (Some f) l.2.here (ap (disk_file false d) same ∙ is) ∙ or_left (is_first (leads_file false l.1.0.id) (data_sectors d) l.0) _ moved in
@@ -109,10 +109,10 @@ module _ (d : List Sector) (told : FilesAreAsTold false d) where
     -- and so is each page
     page_listed : (id m : ℕ) (f : File) → disk_file false d id ≡ Some f → m < size f → (k : ℕ) × (t : Triple) × (slice_get triples k ≡ Some t) × (t.id ≡ id) × (t.page ≡ m)
     page_listed id m f is below =
-        let as_told = told.told id f is in
-        let p = as_told.0.page m below in
+        let as_revealed = revealed.revealed id f is in
+        let p = as_revealed.0.page m below in
         let parts = page_parts f.id m p.1 p.2.passes in
-        let same : p.1.0.id ≡ id = parts.0 ∙ as_told.1 in
+        let same : p.1.0.id ≡ id = parts.0 ∙ as_revealed.1 in
         let lowest = first_if (is_page f.id m) (data_sectors d) p.0 p.1 p.2.here p.2.passes p.2.none_below in
         let moved : is_first (is_page p.1.0.id p.1.0.page) (data_sectors d) p.0 ≡ true =
         subst (λ (n : ℕ). is_first (is_page n p.1.0.page) (data_sectors d) p.0 ≡ true) (sym parts.0) (subst (λ (n : ℕ). is_first (is_page f.id n) (data_sectors d) p.0 ≡ true) (sym parts.1) lowest) in
@@ -162,7 +162,7 @@ module _ (d : List Sector) (told : FilesAreAsTold false d) where
             }
 
     numbered : (id : ℕ) (f : File) → disk_file false d id ≡ Some f → size f ≤ leader_page
-    numbered id f is = (told.told id f is).0.numbered
+    numbered id f is = (revealed.revealed id f is).0.numbered
 
     -- a page of the file stands before its leader
     page_before : (j k : ℕ) (u t : Triple) → slice_get triples j ≡ Some u → slice_get triples k ≡ Some t → u.id ≡ t.id → t.page ≡ leader_page → u.page < leader_page → j < k
@@ -233,18 +233,18 @@ module _ (d : List Sector) (told : FilesAreAsTold false d) where
     pages_none k none t f at lead is = sym (size_first t f (ap (slice_get triples) (sym none) ∙ at) lead is)
 
     module _ (k : ℕ) (last here : Triple) (some : 1 ≤ k) (before : slice_get triples (k - 1) ≡ Some last) (at : slice_get triples k ≡ Some here) where
-      behind : (t : Triple) → slice_get triples k ≡ Some t → slice_get triples (k - 1 + 1) ≡ Some t
-      behind t there = let e : k - 1 + 1 ≡ k = omega (arith, some) in ap (slice_get triples) e ∙ there
+      after : (t : Triple) → slice_get triples k ≡ Some t → slice_get triples (k - 1 + 1) ≡ Some t
+      after t there = let e : k - 1 + 1 ≡ k = omega (arith, some) in ap (slice_get triples) e ∙ there
 
       pub pages_after : last.id ≡ here.id → last.page < leader_page → IsPages d triples k (last.page + 1)
       pages_after same low t f there lead is =
           let it = same_Some here t (sym at ∙ there) in
-          size_after (k - 1) last t f before (behind t there) lead is (same ∙ ap (λ (u : Triple). u.id) it) low
+          size_after (k - 1) last t f before (after t there) lead is (same ∙ ap (λ (u : Triple). u.id) it) low
 
       pub pages_other : (last.id ≡ here.id → last.page < leader_page → ⊥) → IsPages d triples k 0
       pages_other other t f there lead is =
           let it = same_Some here t (sym at ∙ there) in
-          sym (size_none (k - 1) last t f before (behind t there) lead is (λ same low. other (same ∙ ap (λ (u : Triple). u.id) (sym it)) low))
+          sym (size_none (k - 1) last t f before (after t there) lead is (λ same low. other (same ∙ ap (λ (u : Triple). u.id) (sym it)) low))
 
     -- ---- a line
 
@@ -254,9 +254,9 @@ module _ (d : List Sector) (told : FilesAreAsTold false d) where
           → line.id ≡ t.id → ((f : File) → disk_file false d t.id ≡ Some f → line.pages ≡ size f) → line.kind ≡ label.kind → line.immutable ≡ is_immutable label → line.leader ≡ t.sector → IsLineAt d triples k (Some line)
       line_there k t line label at lead labelled_so id pages kind immutable leader =
           let own = of_file k t at in
-          let as_told = told.told t.id own.f own.there in
-          let l = as_told.0.leader in
-          let lowest : is_first (leads_file false t.id) (data_sectors d) l.0 ≡ true = subst (λ (i : ℕ). is_first (leads_file false i) (data_sectors d) l.0 ≡ true) as_told.1 (first_if (leads_file false own.f.id) (data_sectors d) l.0 l.1 l.2.here l.2.passes l.2.none_below) in
+          let as_revealed = revealed.revealed t.id own.f own.there in
+          let l = as_revealed.0.leader in
+          let lowest : is_first (leads_file false t.id) (data_sectors d) l.0 ≡ true = subst (λ (i : ℕ). is_first (leads_file false i) (data_sectors d) l.0 ≡ true) as_revealed.1 (first_if (leads_file false own.f.id) (data_sectors d) l.0 l.1 l.2.here l.2.passes l.2.none_below) in
           elim own.kind [
             | inr less ↦ absurd (omega (arith, less, lead, numbered t.id own.f own.there))
             | inl leading ↦
@@ -265,7 +265,7 @@ module _ (d : List Sector) (told : FilesAreAsTold false d) where
                 let by_disk : slice_get labels (t.sector - n) ≡ Some l.1.0 =
                 ap (λ (m : List Label). slice_get m (t.sector - n)) are ∙ slice_get-map (λ (s : Sector). s.0) (data_sectors d) (t.sector - n) ∙ ap (λ (m : ℕ). option_map (λ (s : Sector). s.0) (slice_get (data_sectors d) (t.sector - m))) from ∙ ap (option_map (λ (s : Sector). s.0)) there in
                 let label_is : label ≡ l.1.0 = same_Some label l.1.0 (sym labelled_so ∙ by_disk) in
-                let passes : leads_file false own.f.id own.s ≡ true = subst (λ (i : ℕ). leads_file false i own.s ≡ true) (sym as_told.1) leading.0 in (
+                let passes : leads_file false own.f.id own.s ≡ true = subst (λ (i : ℕ). leads_file false i own.s ≡ true) (sym as_revealed.1) leading.0 in (
                   t,
                   at,
                   lead,
@@ -274,7 +274,7 @@ module _ (d : List Sector) (told : FilesAreAsTold false d) where
                     f = own.f;
                     there = ap (disk_file false d) id ∙ own.there;
                     is = record {
-                      id = id ∙ sym as_told.1;
+                      id = id ∙ sym as_revealed.1;
                       pages = pages own.f own.there;
                       kind = kind ∙ ap (λ (m : Label). m.kind) label_is ∙ sym l.3;
                       permanent = l.4 ∙ (leads_parts own.f.id l.1 l.2.passes).1;
@@ -301,7 +301,7 @@ module _ (d : List Sector) (told : FilesAreAsTold false d) where
     -- ---- the lines so far
 
     pub lines_none : AreLinesTo d triples 0 []
-    lines_none = record { each = λ j line at. absurd (none-some line at); all = λ i t below. absurd (omega (arith, below)); rising = tt }
+    lines_none = record { each = λ j line at. absurd (none-some line at); all = λ i t below. absurd (omega (arith, below)); ascending = tt }
 
     module _ (k : ℕ) (lines : List FileLine) (so_far : AreLinesTo d triples k lines) where
       pub lines_same : IsLineAt d triples k None → AreLinesTo d triples (k + 1) lines
@@ -311,7 +311,7 @@ module _ (d : List Sector) (told : FilesAreAsTold false d) where
           | inl same ↦ absurd (no_leader t (ap (slice_get triples) (sym same) ∙ at) lead)
           | inr apart ↦ so_far.all i t (omega (arith, below, apart)) at lead
         ];
-        rising = so_far.rising;
+        ascending = so_far.ascending;
       }
 
       pub lines_more : (line : FileLine) (new : List FileLine) → IsLineAt d triples k (Some line) → new ≡ lines ++ line ∷ [] → AreLinesTo d triples (k + 1) new
@@ -326,9 +326,9 @@ module _ (d : List Sector) (told : FilesAreAsTold false d) where
               (length lines, line, ap (λ (l : List FileLine). slice_get l (length lines)) pushed ∙ pushed_last lines line, is.3 ∙ ap (λ (u : Triple). u.id) it)
           | inr apart ↦
               let old = so_far.all i t (omega (arith, below, apart)) at lead in
-              (old.0, old.1, ap (λ (l : List FileLine). slice_get l old.0) pushed ∙ pushed_front lines line old.0 old.1 old.2, old.3)
+              (old.0, old.1, ap (λ (l : List FileLine). slice_get l old.0) pushed ∙ pushed_prefix lines line old.0 old.1 old.2, old.3)
         ];
-        rising = subst (λ (l : List FileLine). IsRising (map (λ x. x.id) l)) (sym pushed) (rises lines line so_far.rising (λ j other at. above j other at));
+        ascending = subst (λ (l : List FileLine). IsAscending (map (λ x. x.id) l)) (sym pushed) (rises lines line so_far.ascending (λ j other at. above j other at));
       }
         where
           above : (j : ℕ) (other : FileLine) → slice_get lines j ≡ Some other → other.id < line.id
@@ -341,7 +341,7 @@ module _ (d : List Sector) (told : FilesAreAsTold false d) where
                     absurd (omega (arith, twice, was.1))
               ]
 
-          rises : (xs : List FileLine) (x : FileLine) → IsRising (map (λ l. l.id) xs) → ((j : ℕ) (other : FileLine) → slice_get xs j ≡ Some other → other.id < x.id) → IsRising (map (λ l. l.id) (xs ++ x ∷ []))
+          rises : (xs : List FileLine) (x : FileLine) → IsAscending (map (λ l. l.id) xs) → ((j : ℕ) (other : FileLine) → slice_get xs j ≡ Some other → other.id < x.id) → IsAscending (map (λ l. l.id) (xs ++ x ∷ []))
           rises [] x up below = (tt, tt)
           rises (y ∷ xs) x up below = (all_more xs up.0, rises xs x up.1 (λ j other at. below (suc j) other at))
             where
@@ -353,8 +353,8 @@ module _ (d : List Sector) (told : FilesAreAsTold false d) where
 
 -- a line for each file, and a file for each line
 record AreBoth (d : List Sector) (lines : List FileLine) (files : List File) : Type 0 where
-  up : IsRising (map (λ l. l.id) lines)
-  rise : AreRising files
+  up : IsAscending (map (λ l. l.id) lines)
+  rise : AreAscending files
   each : (j : ℕ) (line : FileLine) → slice_get lines j ≡ Some line → (f : File) × (file_at files line.id ≡ Some f) × IsLineOf d line f
   all : (id : ℕ) (f : File) → file_at files id ≡ Some f → (j : ℕ) × (line : FileLine) × (slice_get lines j ≡ Some line) × (line.id ≡ id)
 
@@ -368,7 +368,7 @@ upto_first x xs h zero line at = let it = same_Some x line at in omega (arith, a
 upto_first x xs h (suc j) line at = let more = above_first x xs h j line at in omega (arith, more)
 
 -- what is looked up is not below the first
-found_from : (f : File) (fs : List File) (id : ℕ) (g : File) → AreRising (f ∷ fs) → file_at (f ∷ fs) id ≡ Some g → f.id ≤ id
+found_from : (f : File) (fs : List File) (id : ℕ) (g : File) → AreAscending (f ∷ fs) → file_at (f ∷ fs) id ≡ Some g → f.id ≤ id
 found_from f fs id g rise at = elim (cases_lt id f.id) [
   | inl less ↦
       let none = at_tail f fs id (λ e. omega (arith, e, less)) ∙ at_low fs f.id id rise.0 (omega (arith, less)) in
@@ -416,13 +416,13 @@ lines_of d (x ∷ xs) (f ∷ fs) both = (head, lines_of d xs fs tail)
             absurd (none-some g (sym (at_low fs f.id id both.rise.0 low) ∙ at))
 
 -- the lines of all leaders are those of the files
-pub all_lines : (d : List Sector) (told : FilesAreAsTold false d) (those : FilesAreThose false d) (triples : List Triple) (sorted : AreSorted d triples) (k : ℕ) (lines : List FileLine) → length triples ≤ k → AreLinesTo d triples k lines → AreLinesOf d lines (files_on d)
-all_lines d told those triples sorted k lines long are = lines_of d lines (files_on d) record {
-  up = are.rising;
+pub all_lines : (d : List Sector) (revealed : FilesAreAsRevealed false d) (those : FilesAreThose false d) (triples : List Triple) (sorted : AreSorted d triples) (k : ℕ) (lines : List FileLine) → length triples ≤ k → AreLinesTo d triples k lines → AreLinesOf d lines (files_on d)
+all_lines d revealed those triples sorted k lines long are = lines_of d lines (files_on d) record {
+  up = are.ascending;
   rise = those.rise;
   each = λ j line at. let is = (are.each j line at).2.4 in (is.f, those.each line.id ∙ is.there, is.is);
   all = λ id f at.
-      let leader = leader_listed d told triples sorted id f (sym (those.each id) ∙ at) in
+      let leader = leader_listed d revealed triples sorted id f (sym (those.each id) ∙ at) in
       let found = are.all leader.0 leader.1 (omega (arith, long, slice_get_within triples leader.0 leader.1 leader.2)) leader.2 leader.4 in
       (found.0, found.1, found.2, found.3 ∙ leader.3);
 }

@@ -30,20 +30,20 @@ pub record IsLed (n : ℕ) (b page : List ℕ) (pages : ℕ) (h : Header) (runs 
 header_is : (page : List ℕ) (h : Header) → IsHeaderOf page h → h ≡ record { count = count_in page; root = root_in page; top = top_in page; free = free_in page; levels = levels_in page }
 header_is page h is = λ i. record { count = is.count i; root = is.root i; top = is.top i; free = is.free i; levels = is.levels i }
 
-abbrev told : (b : List ℕ) → Header
-told b = record { count = count_in (page_at b 0); root = root_in (page_at b 0); top = top_in (page_at b 0); free = free_in (page_at b 0); levels = levels_in (page_at b 0) }
+abbrev revealed : (b : List ℕ) → Header
+revealed b = record { count = count_in (page_at b 0); root = root_in (page_at b 0); top = top_in (page_at b 0); free = free_in (page_at b 0); levels = levels_in (page_at b 0) }
 
 module _ (n : ℕ) (b page : List ℕ) (pages : ℕ) (h : Header) (read_page : page ≡ page_at b 0) (is : IsHeaderOf page h) (pages_are : pages ≡ vfm n) where
-  same : h ≡ told b
+  same : h ≡ revealed b
   same = subst (λ (p : List ℕ). h ≡ record { count = count_in p; root = root_in p; top = top_in p; free = free_in p; levels = levels_in p }) read_page (header_is page h is)
 
   -- what a walk over a map in form meets
-  pub led : (runs : List Run) (free : List ℕ) → IsLed n b (page_at b 0) (vfm n) (told b) runs free → IsLed n b page pages h runs free
+  pub led : (runs : List Run) (free : List ℕ) → IsLed n b (page_at b 0) (vfm n) (revealed b) runs free → IsLed n b page pages h runs free
   led runs free walk =
       subst (λ (x : Header). IsLed n b page pages x runs free) (sym same)
-      (subst (λ (x : List ℕ). IsLed n b x pages (told b) runs free) (sym read_page) (subst (λ (m : ℕ). IsLed n b (page_at b 0) m (told b) runs free) (sym pages_are) walk))
+      (subst (λ (x : List ℕ). IsLed n b x pages (revealed b) runs free) (sym read_page) (subst (λ (m : ℕ). IsLed n b (page_at b 0) m (revealed b) runs free) (sym pages_are) walk))
 
-  pub followed : (runs : List Run) (free : List ℕ) → IsLed n b page pages h runs free → IsLed n b (page_at b 0) (vfm n) (told b) runs free
+  pub followed : (runs : List Run) (free : List ℕ) → IsLed n b page pages h runs free → IsLed n b (page_at b 0) (vfm n) (revealed b) runs free
   followed runs free walk =
       subst (λ (x : Header). IsLed n b (page_at b 0) (vfm n) x runs free) same
       (subst (λ (x : List ℕ). IsLed n b x (vfm n) h runs free) read_page (subst (λ (m : ℕ). IsLed n b page m h runs free) pages_are walk))
@@ -82,7 +82,7 @@ walk_has_form n b page pages h runs free read_page is pages_are walk =
       header = at.header;
       passed = record { inner = at.inner; leaves = at.leaves };
       listed = refl;
-      rising = subst (λ (l : List (List ℕ)). AreInKeyOrder (map (record_item 12) l)) at.read.listed (items_rise n records runs at.read);
+      ascending = subst (λ (l : List (List ℕ)). AreInKeyOrder (map (record_item 12) l)) at.read.listed (items_rise n records runs at.read);
       count = at.counted.same ∙ long;
       capacity = omega (arith, long, at.counted.capacity);
       chain = at.chain;

@@ -21,9 +21,9 @@ heads_bare : (ns : List Node) → AreBare (heads ns)
 heads_bare [] = tt
 heads_bare (n ∷ ns) = (refl, refl, heads_plain ns)
 
-plain_front : (xs ys : List Item) → ArePlain (xs ++ ys) → ArePlain xs
-plain_front [] ys plain = tt
-plain_front (x ∷ xs) ys plain = (plain.0, plain_front xs ys plain.1)
+plain_prefix : (xs ys : List Item) → ArePlain (xs ++ ys) → ArePlain xs
+plain_prefix [] ys plain = tt
+plain_prefix (x ∷ xs) ys plain = (plain.0, plain_prefix xs ys plain.1)
 
 plain_back : (xs ys : List Item) → ArePlain (xs ++ ys) → ArePlain ys
 plain_back [] ys plain = plain
@@ -36,7 +36,7 @@ plain_at (x ∷ xs) (suc i) plain = plain_at xs i plain.1
 
 bare_parts : (xs ys : List Item) → 1 ≤ length xs → AreBare (xs ++ ys) → ((item_at xs 0).key ≡ []) × ArePlain xs × ArePlain ys
 bare_parts [] ys some bare = absurd (omega (arith, some))
-bare_parts (x ∷ xs) ys some bare = (bare.0, (bare.1, plain_front xs ys bare.2), plain_back xs ys bare.2)
+bare_parts (x ∷ xs) ys some bare = (bare.0, (bare.1, plain_prefix xs ys bare.2), plain_back xs ys bare.2)
 
 -- the children of a page are what the page lists
 children_same : (page key : List ℕ) (items : List Item) → IsInner 12 page items → (item_at items 0).key ≡ key → ArePlain items → values (child_at key page) (suc (filled page)) ≡ items
@@ -62,7 +62,7 @@ AllInner b ns = (p : ℕ) → p < length ns → IsInner 12 (page_at b (node_at n
 below_tail : (b : List ℕ) (ns : List Node) → AllInner b ns → ArePlain (items_of ns) → flat_map (children_in b) (map head_of ns) ≡ items_of ns
 below_tail b [] are plain = refl
 below_tail b (n ∷ ns) are plain =
-    ap (λ l. l ++ flat_map (children_in b) (map head_of ns)) (children_same (page_at b n.page) (item_at n.items 0).key n.items (are 0 (omega arith)) refl (plain_front n.items (items_of ns) plain))
+    ap (λ l. l ++ flat_map (children_in b) (map head_of ns)) (children_same (page_at b n.page) (item_at n.items 0).key n.items (are 0 (omega arith)) refl (plain_prefix n.items (items_of ns) plain))
     ∙ ap (λ l. n.items ++ l) (below_tail b ns (λ p below. are (suc p) (omega (arith, below))) (plain_back n.items (items_of ns) plain))
 
 -- so the level below is what they list
@@ -336,7 +336,7 @@ walk_of pages b records tree = record {
   };
   passed = is_passed pages b records tree (levels_in (page_at b 0)) (root_in (page_at b 0)) (top_in (page_at b 0)) tree.header.levels_is tree.header.top_is root one;
   listed = is_listed pages b records tree (levels_in (page_at b 0)) (root_in (page_at b 0)) (top_in (page_at b 0)) tree.header.levels_is tree.header.top_is root one;
-  rising = tree.tower.rising;
+  ascending = tree.tower.ascending;
   count = tree.header.count_is;
   capacity = tree.capacity;
   chain = subst (λ (n : ℕ). IsChain b n tree.free) (sym tree.header.free_is) tree.chain;

@@ -29,8 +29,8 @@ chain_same b first [] (p ∷ ps) x y x_none y_none = let one = mark p 0 (sym y.0
 chain_same b first (p ∷ ps) [] x y x_none y_none = let one = mark p 0 (sym x.0 ∙ y) in absurd (omega (arith, one, frees_cons 0 p ps, x_none))
 chain_same b first (p ∷ ps) (q ∷ qs) x y x_none y_none =
     let same : p ≡ q = sym x.0 ∙ y.0 in
-    let behind : IsChain b (next_in (page_at b p)) qs = subst (λ (m : ℕ). IsChain b (next_in (page_at b m)) qs) (sym same) y.2 in
-    ap (λ m. m ∷ ps) same ∙ ap (λ l. q ∷ l) (chain_same b (next_in (page_at b p)) ps qs x.2 behind (omega (arith, x_none, frees_cons 0 p ps)) (omega (arith, y_none, frees_cons 0 q qs)))
+    let after : IsChain b (next_in (page_at b p)) qs = subst (λ (m : ℕ). IsChain b (next_in (page_at b m)) qs) (sym same) y.2 in
+    ap (λ m. m ∷ ps) same ∙ ap (λ l. q ∷ l) (chain_same b (next_in (page_at b p)) ps qs x.2 after (omega (arith, x_none, frees_cons 0 p ps)) (omega (arith, y_none, frees_cons 0 q qs)))
 
 -- without the header
 pub inside_some : (pages : ℕ) (ps : List ℕ) → AreInside pages ps → frees 0 ps ≡ 0
@@ -43,13 +43,13 @@ inside_some pages (p ∷ ps) inside =
 -- so far a list of free pages was followed to this page
 pub record IsFollowed (b : List ℕ) (pages first at : ℕ) (met : List ℕ) : Type 0 where
   pub inside : AreInside pages met
-  pub behind : (tail : List ℕ) → IsChain b at tail → IsChain b first (met ++ tail)
+  pub after : (tail : List ℕ) → IsChain b at tail → IsChain b first (met ++ tail)
   pub ahead : (free : List ℕ) → IsChain b first free → frees 0 free ≡ 0 → (tail : List ℕ) × (free ≡ met ++ tail) × IsChain b at tail
 
 pub followed_none : (b : List ℕ) (pages first : ℕ) → IsFollowed b pages first first []
 followed_none b pages first = record {
   inside = λ k q at. absurd (none-some q at);
-  behind = λ tail chain. chain;
+  after = λ tail chain. chain;
   ahead = λ free chain some. (free, refl, chain);
 }
 
@@ -63,15 +63,15 @@ tail_some met tail none = let sum = frees_append 0 met tail in omega (arith, non
 
 -- what stands at a page that is not 0
 pub record IsNextFree (b : List ℕ) (at : ℕ) (tail : List ℕ) : Type 0 where
-  pub behind : List ℕ
-  pub is : tail ≡ at ∷ behind
+  pub after : List ℕ
+  pub is : tail ≡ at ∷ after
   pub kind : kind_of (page_at b at) ≡ 0
-  pub chain : IsChain b (next_in (page_at b at)) behind
+  pub chain : IsChain b (next_in (page_at b at)) after
 
 pub next_there : (b : List ℕ) (at : ℕ) (tail : List ℕ) → at ≢ 0 → IsChain b at tail → IsNextFree b at tail
 next_there b at [] some chain = absurd (some chain)
 next_there b at (p ∷ ps) some chain = record {
-  behind = ps;
+  after = ps;
   is = ap (λ m. m ∷ ps) (sym chain.0);
   kind = ap (λ m. kind_of (page_at b m)) chain.0 ∙ chain.1;
   chain = subst (λ m. IsChain b (next_in (page_at b m)) ps) (sym chain.0) chain.2;
@@ -83,11 +83,11 @@ followed_more b pages first at next met is some within kind next_is = record {
     | inl old ↦ is.inside k q old
     | inr last ↦ (omega (arith, last, some), omega (arith, last, within))
   ];
-  behind = λ tail chain. subst (IsChain b first) (sym (append_one met tail at)) (is.behind (at ∷ tail) (refl, kind, subst (λ m. IsChain b m tail) next_is chain));
+  after = λ tail chain. subst (IsChain b first) (sym (append_one met tail at)) (is.after (at ∷ tail) (refl, kind, subst (λ m. IsChain b m tail) next_is chain));
   ahead = λ free chain none.
       let so_far = is.ahead free chain none in
       let more = next_there b at so_far.0 some so_far.2 in
-      (more.behind, so_far.1 ∙ ap (λ l. met ++ l) more.is ∙ sym (append_one met more.behind at), subst (λ m. IsChain b m more.behind) (sym next_is) more.chain);
+      (more.after, so_far.1 ∙ ap (λ l. met ++ l) more.is ∙ sym (append_one met more.after at), subst (λ m. IsChain b m more.after) (sym next_is) more.chain);
 }
 
 append_nil : (xs : List ℕ) → xs ++ [] ≡ xs
@@ -97,7 +97,7 @@ append_nil (x ∷ xs) = ap (λ l. x ∷ l) (append_nil xs)
 -- at its end
 pub followed_end : (b : List ℕ) (pages first at : ℕ) (met : List ℕ) → IsFollowed b pages first at met → at ≡ 0 → IsFreeList b pages first met
 followed_end b pages first at met is end = record {
-  chain = subst (IsChain b first) (append_nil met) (is.behind [] end);
+  chain = subst (IsChain b first) (append_nil met) (is.after [] end);
   inside = is.inside;
 }
 
@@ -106,8 +106,8 @@ pub followed_broken : (b : List ℕ) (pages first at : ℕ) (met free : List ℕ
 followed_broken b pages first at met free is some broken list =
     let so_far = is.ahead free list.chain (inside_some pages free list.inside) in
     let more = next_there b at so_far.0 some so_far.2 in
-    let there : free ≡ met ++ at ∷ more.behind = so_far.1 ∙ ap (λ l. met ++ l) more.is in
-    let here = list.inside (length met) at (ap (λ l. slice_get l (length met)) there ∙ at_length met more.behind at) in
+    let there : free ≡ met ++ at ∷ more.after = so_far.1 ∙ ap (λ l. met ++ l) more.is in
+    let here = list.inside (length met) at (ap (λ l. slice_get l (length met)) there ∙ at_length met more.after at) in
     broken here.1 more.kind
   where
     at_length : (xs ys : List ℕ) (x : ℕ) → slice_get (xs ++ x ∷ ys) (length xs) ≡ Some x
@@ -119,5 +119,5 @@ pub followed_long : (b : List ℕ) (pages first at : ℕ) (met free : List ℕ) 
 followed_long b pages first at met free is some list =
     let so_far = is.ahead free list.chain (inside_some pages free list.inside) in
     let more = next_there b at so_far.0 some so_far.2 in
-    let long = ap length (so_far.1 ∙ ap (λ l. met ++ l) more.is) ∙ length-append met (at ∷ more.behind) in
+    let long = ap length (so_far.1 ∙ ap (λ l. met ++ l) more.is) ∙ length-append met (at ∷ more.after) in
     omega (arith, long)

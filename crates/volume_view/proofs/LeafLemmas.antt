@@ -16,7 +16,7 @@ use Rattle.volume_view.proofs.WalkLemmas.{values_more}
 use Rattle.volume_view.proofs.ReadLemmas.{read_same, read_more, read_less, read_values, read_part}
 use Rattle.volume_view.proofs.LevelLemmas.{child_of, flat_more}
 
--- one value more, behind the records before
+-- one value more, after the records before
 value_more : (records : List (List ℕ)) (f : ℕ → List ℕ) (i : ℕ) → records ++ values f (suc i) ≡ (records ++ values f i) ++ f i ∷ []
 value_more records f i = ap (λ l. records ++ l) (values_more f i) ∙ sym (append_assoc records (values f i) (f i ∷ []))
 
@@ -31,8 +31,8 @@ module _ (n : ℕ) (few : n < 2 ^ 32) (records : List (List ℕ)) (f : ℕ → L
 
   pub read_broken : (count : ℕ) (all : List Run) → i < count → (Follows last (run_in bytes) → IsRecord n bytes → ⊥) → AreRead n (records ++ values f count) all → ⊥
   read_broken count all below broken whole =
-      let front = read_values n records f count (suc i) all (omega (arith, below)) whole in
-      let less = read_less n (records ++ values f i) (f i) _ (subst (λ (l : List (List ℕ)). AreRead n l (take (length records + suc i) all)) (value_more records f i) front) in
+      let prefix = read_values n records f count (suc i) all (omega (arith, below)) whole in
+      let less = read_less n (records ++ values f i) (f i) _ (subst (λ (l : List (List ℕ)). AreRead n l (take (length records + suc i) all)) (value_more records f i) prefix) in
       let same = read_same n few (records ++ values f i) less.runs runs less.read so_far in
       let is : bytes ≡ run_bytes less.run = bytes_are ∙ less.same in
       let back : run_in bytes ≡ less.run = ap run_in is ∙ run_back n less.run few less.form in
@@ -50,9 +50,9 @@ module _ (n : ℕ) (b c page : List ℕ) (level : List Child) (j : ℕ) (below :
   pub leaf_read : (new : List Run) → AreRead n (flat_map (records_in b) (take j (items_of level)) ++ values (record_at 24 page) (filled page)) new → AreRead n (flat_map (records_in b) (take (j + 1) (items_of level))) new
   leaf_read new is = subst (λ (l : List (List ℕ)). AreRead n l new) level_more is
 
-  pub leaf_broken : (all : List Run) → ((front : List Run) → AreRead n (flat_map (records_in b) (take j (items_of level)) ++ values (record_at 24 page) (filled page)) front → ⊥) → AreRead n (flat_map (records_in b) (items_of level)) all → ⊥
+  pub leaf_broken : (all : List Run) → ((prefix : List Run) → AreRead n (flat_map (records_in b) (take j (items_of level)) ++ values (record_at 24 page) (filled page)) prefix → ⊥) → AreRead n (flat_map (records_in b) (items_of level)) all → ⊥
   leaf_broken all broken whole =
       let parts : flat_map (records_in b) (items_of level) ≡ flat_map (records_in b) (take (j + 1) (items_of level)) ++ flat_map (records_in b) (drop (j + 1) (items_of level)) =
       ap (flat_map (records_in b)) (sym (take-append-drop (j + 1) (items_of level))) ∙ flat_map-append (records_in b) (take (j + 1) (items_of level)) (drop (j + 1) (items_of level)) in
-      let front = read_part n _ _ all (subst (λ (l : List (List ℕ)). AreRead n l all) parts whole) in
-      broken _ (subst (λ (l : List (List ℕ)). AreRead n l (take (length (flat_map (records_in b) (take (j + 1) (items_of level))) + 0) all)) (sym level_more) front)
+      let prefix = read_part n _ _ all (subst (λ (l : List (List ℕ)). AreRead n l all) parts whole) in
+      broken _ (subst (λ (l : List (List ℕ)). AreRead n l (take (length (flat_map (records_in b) (take (j + 1) (items_of level))) + 0) all)) (sym level_more) prefix)

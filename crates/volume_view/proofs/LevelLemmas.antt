@@ -74,7 +74,7 @@ pub used_all : (b : List ℕ) (levels root : ℕ) → pages_used b (tops levels 
 used_all b zero root = refl
 used_all b (suc d) root = let same : suc (suc d - 1) ≡ suc d = omega arith in ap (pages_used b (tops (suc d) root)) same
 
--- the bytes behind the header's numbers
+-- the bytes after the header's numbers
 tail_at : (page : List ℕ) (k : ℕ) → k < 495 → get_or (take 495 (drop 17 page)) k 0 ≡ get_or page (17 + k) 0
 tail_at page k below = get_or-take 495 (drop 17 page) k 0 below ∙ get_or-drop 17 page k 0
 

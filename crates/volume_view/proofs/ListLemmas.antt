@@ -3,7 +3,7 @@ use Rattle.std.proofs.Common.{◌≡◌, ◌⊎◌, inl, inr, ℕ, zero, suc, �
 use Rattle.std.specs.Prelude.{slice_get}
 use Rattle.std.proofs.lemmas.Option.{same_Some, none-some}
 
--- an element behind the first n
+-- an element after the first n
 pub dropped : {X : Type 0} (xs : List X) (n k : ℕ) → slice_get (drop n xs) k ≡ slice_get xs (n + k)
 dropped xs zero k = let z : 0 + k ≡ k = omega arith in ap (slice_get xs) (sym z)
 dropped [] (suc n) k = refl
@@ -16,10 +16,10 @@ in_pushed [] x (suc k) y at = absurd (none-some y at)
 in_pushed (z ∷ xs) x zero y at = inl at
 in_pushed (z ∷ xs) x (suc k) y at = in_pushed xs x k y at
 
-pub pushed_front : {X : Type 0} (xs : List X) (x : X) (k : ℕ) (y : X) → slice_get xs k ≡ Some y → slice_get (xs ++ x ∷ []) k ≡ Some y
-pushed_front [] x k y at = absurd (none-some y at)
-pushed_front (z ∷ xs) x zero y at = at
-pushed_front (z ∷ xs) x (suc k) y at = pushed_front xs x k y at
+pub pushed_prefix : {X : Type 0} (xs : List X) (x : X) (k : ℕ) (y : X) → slice_get xs k ≡ Some y → slice_get (xs ++ x ∷ []) k ≡ Some y
+pushed_prefix [] x k y at = absurd (none-some y at)
+pushed_prefix (z ∷ xs) x zero y at = at
+pushed_prefix (z ∷ xs) x (suc k) y at = pushed_prefix xs x k y at
 
 -- an element of the longer list that isn't the last
 pub pushed_below : {X : Type 0} (xs : List X) (x : X) (k : ℕ) (y : X) → k < length xs → slice_get (xs ++ x ∷ []) k ≡ Some y → slice_get xs k ≡ Some y

@@ -63,8 +63,8 @@ module _ (n : ℕ) (records : List (List ℕ)) (runs : List Run) (is : AreRead n
     | inr other ↦ let far = apart j k (omega (arith, order, other)) below in omega (arith, far)
   ]
 
-  rising : IsInKeyOrder 12 (map run_bytes runs)
-  rising j k order below =
+  ascending : IsInKeyOrder 12 (map run_bytes runs)
+  ascending j k order below =
       let short : k < length runs = omega (arith, below, length-map runs run_bytes) in
       let a = form_at j (omega (arith, order, short)) in
       let c = form_at k short in
@@ -78,7 +78,7 @@ module _ (n : ℕ) (records : List (List ℕ)) (runs : List Run) (is : AreRead n
       let long = length-map (map run_bytes runs) (record_item 12) in
       let one = get_or-map (record_item 12) (map run_bytes runs) j [] no_item (omega (arith, order, below, long)) in
       let two = get_or-map (record_item 12) (map run_bytes runs) k [] no_item (omega (arith, below, long)) in
-      ap (λ (x : Item). at_most x.key (item_at (map (record_item 12) (map run_bytes runs)) k).key) one ∙ ap (λ (x : Item). at_most (key_at 12 (map run_bytes runs) j) x.key) two ∙ rising j k order (omega (arith, below, long))
+      ap (λ (x : Item). at_most x.key (item_at (map (record_item 12) (map run_bytes runs)) k).key) one ∙ ap (λ (x : Item). at_most (key_at 12 (map run_bytes runs) j) x.key) two ∙ ascending j k order (omega (arith, below, long))
 
   -- a walk that met them met a map in form
   pub has_form : (bytes : List ℕ) (free : List ℕ) → IsWalked (vfm n) bytes records free → length runs ≤ most_records n → HasForm n bytes
@@ -87,9 +87,9 @@ module _ (n : ℕ) (records : List (List ℕ)) (runs : List Run) (is : AreRead n
     of_map = record {
       listed = record {
         bytes = bytes;
-        told = refl;
+        revealed = refl;
         tree = subst (IsTree 24 12 (vfm n) bytes) (sym is.listed) (tree_of (vfm n) bytes records free walked);
-        rising = rising;
+        ascending = ascending;
       };
       form = runs_are;
     };
@@ -109,13 +109,13 @@ pub form_is_met : (n : ℕ) (bytes : List ℕ) → n < 2 ^ 32 → HasForm n byte
 form_is_met n bytes few form = record {
   runs = form.runs;
   records = map run_bytes form.runs;
-  free = (subst (λ (b : List ℕ). IsTree 24 12 (vfm n) b (map run_bytes form.runs)) form.of_map.listed.told form.of_map.listed.tree).free;
+  free = (subst (λ (b : List ℕ). IsTree 24 12 (vfm n) b (map run_bytes form.runs)) form.of_map.listed.revealed form.of_map.listed.tree).free;
   read = record {
     listed = refl;
     form = λ j r at. subst (IsRun n) (is_at form.runs j r at) (form.of_map.form.each j (slice_get_within form.runs j r at));
     follow = λ k below. step_follows n bytes form.runs few form.of_map k below;
   };
-  walked = walk_of (vfm n) bytes (map run_bytes form.runs) (subst (λ (b : List ℕ). IsTree 24 12 (vfm n) b (map run_bytes form.runs)) form.of_map.listed.told form.of_map.listed.tree);
+  walked = walk_of (vfm n) bytes (map run_bytes form.runs) (subst (λ (b : List ℕ). IsTree 24 12 (vfm n) b (map run_bytes form.runs)) form.of_map.listed.revealed form.of_map.listed.tree);
   few = form.few;
 }
   where

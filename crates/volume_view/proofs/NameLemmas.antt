@@ -9,7 +9,7 @@ use Rattle.labelled_disk.specs.declared.label.Label.{Label}
 use Rattle.labelled_disk.specs.Label.{is_free}
 use Rattle.labelled_disk.specs.Sectors.{Sector}
 use Rattle.labelled_disk.specs.Layout.{first_data, data_sectors, vfm}
-use Rattle.page_tree.specs.Tells.{TellsTree}
+use Rattle.page_tree.specs.Reveals.{RevealsTree}
 use Rattle.file_map.specs.declared.run.Run.{Run as MapRun}
 use Rattle.file_map.specs.Run.{holds, sector_at}
 use Rattle.file_map.specs.FileMap.{Triples, AreNamed, AreRuns, IsFound, IsNowhere, names_triple, run_names, run_at, no_run}
@@ -28,7 +28,7 @@ use Rattle.volume_view.specs.Rows.{AreJoined}
 use Rattle.volume_view.specs.Records.{IsNoMemory}
 use Rattle.volume_view.specs.declared.stop.Stop.{Stop}
 use Rattle.volume_view.specs.declared.stop.Stop.TheVariants.{Broken}
-use Rattle.volume_view.proofs.ListLemmas.{dropped, in_pushed, pushed_front, pushed_last, pushed_below, one_more}
+use Rattle.volume_view.proofs.ListLemmas.{dropped, in_pushed, pushed_prefix, pushed_last, pushed_below, one_more}
 
 -- ---- what a map in form names
 
@@ -41,10 +41,10 @@ module _ (n : ℕ) (lists : List (List ℕ) → Type 0) (named : Triples) (is : 
       let same = is.form.once x.index y.index id page x.below y.below x.held y.held in
       x.place ∙ ap (λ (j : ℕ). sector_at (run_at is.runs j) page) same ∙ sym y.place
 
-  -- a run that was found tells whether the page stands in this sector
-  pub found_tells : (id page sector : ℕ) (r : MapRun) (answer : Bool) → IsFound named id page (Some r) → (answer ≡ true → sector_at r page ≡ sector) → (answer ≡ false → sector_at r page ≢ sector) → answer ≡ named id page sector
-  found_tells id page sector r true found hit miss = sym (ap (named id page) (sym (hit refl)) ∙ found.1 page found.0)
-  found_tells id page sector r false found hit miss = either (named id page sector) refl
+  -- a run that was found reveals whether the page stands in this sector
+  pub found_reveals : (id page sector : ℕ) (r : MapRun) (answer : Bool) → IsFound named id page (Some r) → (answer ≡ true → sector_at r page ≡ sector) → (answer ≡ false → sector_at r page ≢ sector) → answer ≡ named id page sector
+  found_reveals id page sector r true found hit miss = sym (ap (named id page) (sym (hit refl)) ∙ found.1 page found.0)
+  found_reveals id page sector r false found hit miss = either (named id page sector) refl
     where
       either : (b : Bool) → named id page sector ≡ b → false ≡ b
       either false e = refl
@@ -64,7 +64,7 @@ module _ (one other : Triples) where
 
 module _ (ts new : List Triple) (t : Triple) (pushed : new ≡ ts ++ t ∷ []) where
   pub listed_more : (u : Triple) → IsListed ts u → IsListed new u
-  listed_more u old = (old.0, ap (λ (l : List Triple). slice_get l old.0) pushed ∙ pushed_front ts t old.0 u old.1)
+  listed_more u old = (old.0, ap (λ (l : List Triple). slice_get l old.0) pushed ∙ pushed_prefix ts t old.0 u old.1)
 
   pub listed_last : IsListed new t
   listed_last = (length ts, ap (λ (l : List Triple). slice_get l (length ts)) pushed ∙ pushed_last ts t)
@@ -95,11 +95,11 @@ once_more ts new t so_far fresh pushed j k u at_j at_k = elim (cases_lt j (lengt
       | inr last ↦ last
     ]
 
-abbrev AreRising : List Triple → Type 0
-AreRising ts = (j k : ℕ) (a b : Triple) → j < k → slice_get ts j ≡ Some a → slice_get ts k ≡ Some b → a.sector < b.sector
+abbrev AreAscending : List Triple → Type 0
+AreAscending ts = (j k : ℕ) (a b : Triple) → j < k → slice_get ts j ≡ Some a → slice_get ts k ≡ Some b → a.sector < b.sector
 
-rising_more : (ts new : List Triple) (t : Triple) → AreRising ts → ((j : ℕ) (u : Triple) → slice_get ts j ≡ Some u → u.sector < t.sector) → new ≡ ts ++ t ∷ [] → AreRising new
-rising_more ts new t so_far above pushed j k a b before at_j at_k =
+ascending_more : (ts new : List Triple) (t : Triple) → AreAscending ts → ((j : ℕ) (u : Triple) → slice_get ts j ≡ Some u → u.sector < t.sector) → new ≡ ts ++ t ∷ [] → AreAscending new
+ascending_more ts new t so_far above pushed j k a b before at_j at_k =
     let there = ap (λ (l : List Triple). slice_get l k) (sym pushed) ∙ at_k in
     let within = slice_get_within (ts ++ t ∷ []) k b there in
     let low = pushed_below ts t j a (omega (arith, before, within, length-append ts (t ∷ []))) (ap (λ (l : List Triple). slice_get l j) (sym pushed) ∙ at_j) in
@@ -112,7 +112,7 @@ rising_more ts new t so_far above pushed j k a b before at_j at_k =
 pub record IsUnmappedTo (first : ℕ) (labels : List Label) (k : ℕ) (named : Triples) (ts : List Triple) : Type 0 where
   pub each : AllOnlyIn (labelled first labels) named ts
   pub all : (i : ℕ) (l : Label) → i < k → slice_get labels i ≡ Some l → is_free l ≡ false → named l.id l.page (first + i) ≡ false → IsListed ts (record { id = l.id; page = l.page; sector = first + i })
-  pub rising : AreRising ts
+  pub ascending : AreAscending ts
   pub below : (j : ℕ) (t : Triple) → slice_get ts j ≡ Some t → t.sector < first + k
 
 and_true : (a b : Bool) → a ≡ true → b ≡ true → (a && b) ≡ true
@@ -164,7 +164,7 @@ module _ (first : ℕ) (labels : List Label) where
   unmapped_none named = record {
     each = only_none (labelled first labels) named;
     all = λ i l below. absurd (omega (arith, below));
-    rising = λ j k a b before at. absurd (none-some a at);
+    ascending = λ j k a b before at. absurd (none-some a at);
     below = λ j t at. absurd (none-some t at);
   }
 
@@ -182,7 +182,7 @@ module _ (first : ℕ) (labels : List Label) where
             ]
         | inr apart ↦ so_far.all i m (omega (arith, below, apart)) at used missing
       ];
-      rising = so_far.rising;
+      ascending = so_far.ascending;
       below = λ j t at. omega (arith, so_far.below j t at);
     }
 
@@ -199,7 +199,7 @@ module _ (first : ℕ) (labels : List Label) where
                 subst (IsListed new) page (listed_last ts new t pushed)
             | inr apart ↦ listed_more ts new t pushed _ (so_far.all i m (omega (arith, below, apart)) at free absent)
           ];
-          rising = rising_more ts new t so_far.rising (λ j u at. omega (arith, so_far.below j u at, at_sector)) pushed;
+          ascending = ascending_more ts new t so_far.ascending (λ j u at. omega (arith, so_far.below j u at, at_sector)) pushed;
           below = λ j u at. elim (in_pushed ts t j u (ap (λ (q : List Triple). slice_get q j) (sym pushed) ∙ at)) [
             | inl old ↦ omega (arith, so_far.below j u old)
             | inr last ↦ omega (arith, at_sector, ap (λ (q : Triple). q.sector) last)
@@ -225,7 +225,7 @@ module _ (first : ℕ) (labels : List Label) where
         ap (λ (i : ℕ). named i at.l.page (first + (t.sector - first))) at.same_id ∙ ap (λ (p : ℕ). named t.id p (first + (t.sector - first))) at.same_page ∙ ap (named t.id t.page) place ∙ only.1 in
         let page : record { id = at.l.id; page = at.l.page; sector = first + (t.sector - first) } ≡ t = λ x. record { id = at.same_id x; page = at.same_page x; sector = place x } in
         subst (IsListed (all_triples runs)) page (so_far.all (t.sector - first) at.l (omega (arith, all, slice_get_within labels (t.sector - first) at.l at.here)) at.here at.used missing);
-    rising = so_far.rising;
+    ascending = so_far.ascending;
   }
 
 -- ---- pages of the map without a label
@@ -338,16 +338,16 @@ names_split [] r id page sector h = inr h
 names_split (x ∷ xs) r id page sector h = elim (or_split (run_names x id page sector) _ h) [
   | inl here ↦ inl (or_first (run_names x id page sector) _ here)
   | inr there ↦ elim (names_split xs r id page sector there) [
-    | inl front ↦ inl (or_second (run_names x id page sector) _ front)
+    | inl prefix ↦ inl (or_second (run_names x id page sector) _ prefix)
     | inr last ↦ inr last
   ]
 ]
 
-names_front : (xs : List MapRun) (r : MapRun) (id page sector : ℕ) → names_triple xs id page sector ≡ true → names_triple (xs ++ r ∷ []) id page sector ≡ true
-names_front [] r id page sector h = absurd (false≢true h)
-names_front (x ∷ xs) r id page sector h = elim (or_split (run_names x id page sector) _ h) [
+names_prefix : (xs : List MapRun) (r : MapRun) (id page sector : ℕ) → names_triple xs id page sector ≡ true → names_triple (xs ++ r ∷ []) id page sector ≡ true
+names_prefix [] r id page sector h = absurd (false≢true h)
+names_prefix (x ∷ xs) r id page sector h = elim (or_split (run_names x id page sector) _ h) [
   | inl here ↦ or_first (run_names x id page sector) _ here
-  | inr there ↦ or_second (run_names x id page sector) _ (names_front xs r id page sector there)
+  | inr there ↦ or_second (run_names x id page sector) _ (names_prefix xs r id page sector there)
 ]
 
 names_last : (xs : List MapRun) (r : MapRun) (id page sector : ℕ) → names_triple (r ∷ []) id page sector ≡ true → names_triple (xs ++ r ∷ []) id page sector ≡ true
@@ -360,16 +360,16 @@ unlabelled_none said left = record { differ = λ named covers h. h; counted = re
 -- a run more
 pub unlabelled_more : (runs : List MapRun) (j : ℕ) (r : MapRun) (said : Triples) (left then_left now : ℕ) (a b c : List Triple) → slice_get runs j ≡ Some r → AddsUnlabelled (take j runs) said left then_left a b
     → AddsUnlabelled (r ∷ []) said then_left now b c → AddsUnlabelled (take (j + 1) runs) said left now a c
-unlabelled_more runs j r said left then_left now a b c here front last =
+unlabelled_more runs j r said left then_left now a b c here prefix last =
     let s : j + 1 ≡ suc j = omega arith in
     let longer : take (j + 1) runs ≡ take j runs ++ r ∷ [] = ap (λ (m : ℕ). take m runs) s ∙ one_more runs j r here in
     subst (λ (l : List MapRun). AddsUnlabelled l said left now a c) (sym longer) record {
-      differ = λ named covers h. last.differ named (λ id page sector k. covers id page sector (names_last (take j runs) r id page sector k)) (front.differ named (λ id page sector k. covers id page sector (names_front (take j runs) r id page sector k)) h);
-      counted = omega (arith, front.counted, last.counted);
-      fewer = omega (arith, front.fewer, last.fewer);
-      kept = λ t h. last.kept t (front.kept t h);
+      differ = λ named covers h. last.differ named (λ id page sector k. covers id page sector (names_last (take j runs) r id page sector k)) (prefix.differ named (λ id page sector k. covers id page sector (names_prefix (take j runs) r id page sector k)) h);
+      counted = omega (arith, prefix.counted, last.counted);
+      fewer = omega (arith, prefix.fewer, last.fewer);
+      kept = λ t h. last.kept t (prefix.kept t h);
       all = λ some t only. elim (names_split (take j runs) r t.id t.page t.sector only.0) [
-        | inl k ↦ last.kept t (front.all (omega (arith, some, last.fewer)) t (k, only.1))
+        | inl k ↦ last.kept t (prefix.all (omega (arith, some, last.fewer)) t (k, only.1))
         | inr k ↦ last.all some t (k, only.1)
       ];
     }
@@ -478,7 +478,7 @@ module _ (named other : Triples) (same : (id page sector : ℕ) → named id pag
   unlabelled_said n map_names runs is = record { joined = is.joined; each = λ k t at. only_second map_names t (is.each k t at); most = is.most; all = λ few t only. is.all few t (back_second map_names t only) }
 
   unmapped_said : (map_names : Triples) (runs : List Run) → IsUnmapped map_names named runs → IsUnmapped map_names other runs
-  unmapped_said map_names runs is = record { joined = is.joined; each = λ k t at. only_first map_names t (is.each k t at); all = λ t only. is.all t (back_first map_names t only); rising = is.rising }
+  unmapped_said map_names runs is = record { joined = is.joined; each = λ k t at. only_first map_names t (is.each k t at); all = λ t only. is.all t (back_first map_names t only); ascending = is.ascending }
 
   pub comparison_alike : {A : Type 0} (n : ℕ) (map_names : Triples) (ds : NameDifferences A) → IsComparison n map_names named ds → IsComparison n map_names other ds
   comparison_alike n map_names ds is = record {
@@ -514,14 +514,14 @@ labels_say d labels n from are id page sector = ap (λ (m : ℕ). labelled m lab
     through None = refl
     through (Some s) = refl
 
--- ---- the map as a memory tells it
+-- ---- the map as a memory reveals it
 
-pub to_map : (n m : ℕ) (bytes c : List ℕ) (named : Triples) → m ≡ n → c ≡ bytes → length c ≡ 512 * vfm n → NamesIn n bytes named → AreNamed m (TellsTree 24 12 (length c / 512) (λ b. b ≡ c)) named
+pub to_map : (n m : ℕ) (bytes c : List ℕ) (named : Triples) → m ≡ n → c ≡ bytes → length c ≡ 512 * vfm n → NamesIn n bytes named → AreNamed m (RevealsTree 24 12 (length c / 512) (λ b. b ≡ c)) named
 to_map n m bytes c named same_count same size is =
     let pages : vfm n ≡ length c / 512 = omega (arith, size) in
-    subst (λ (k : ℕ). AreNamed k (TellsTree 24 12 (length c / 512) (λ b. b ≡ c)) named) (sym same_count)
-    (subst (λ (k : ℕ). AreNamed n (TellsTree 24 12 k (λ b. b ≡ c)) named) pages
-    (subst (λ (x : List ℕ). AreNamed n (TellsTree 24 12 (vfm n) (λ b. b ≡ x)) named) (sym same) is))
+    subst (λ (k : ℕ). AreNamed k (RevealsTree 24 12 (length c / 512) (λ b. b ≡ c)) named) (sym same_count)
+    (subst (λ (k : ℕ). AreNamed n (RevealsTree 24 12 k (λ b. b ≡ c)) named) pages
+    (subst (λ (x : List ℕ). AreNamed n (RevealsTree 24 12 (vfm n) (λ b. b ≡ x)) named) (sym same) is))
 
 pub found_some : (named : Triples) (id page : ℕ) (o : Option MapRun) (r : MapRun) → o ≡ Some r → IsFound named id page o → IsFound named id page (Some r)
 found_some named id page o r is found = subst (IsFound named id page) is found
@@ -535,8 +535,8 @@ never_broken {X} e page is says = subst (λ (x : MapError X). FromMemory x) is s
 -- the map of a disk, in the memory that it was read into
 pub names_in : (d : List Sector) (n : ℕ) (bytes : List ℕ) (named : Triples) → length d ≡ n → bytes ≡ map_bytes d → MapNames d named → NamesIn n bytes named
 names_in d n bytes named long same is =
-    subst (λ (k : ℕ). AreNamed k (TellsTree 24 12 (vfm k) (λ b. b ≡ bytes)) named) long
-    (subst (λ (x : List ℕ). AreNamed (length d) (TellsTree 24 12 (vfm (length d)) (λ b. b ≡ x)) named) (sym same) is)
+    subst (λ (k : ℕ). AreNamed k (RevealsTree 24 12 (vfm k) (λ b. b ≡ bytes)) named) long
+    (subst (λ (x : List ℕ). AreNamed (length d) (RevealsTree 24 12 (vfm (length d)) (λ b. b ≡ x)) named) (sym same) is)
 
 pub never_stopped : (e : Stop) (page : ℕ) → e ≡ Broken page → IsNoMemory e → ⊥
 never_stopped e page is says = subst IsNoMemory is says

@@ -132,7 +132,7 @@ lines_given d root (first ∷ lines) (f ∷ files) are given (suc k) line at = l
 
 -- ---- the whole
 
-module _ {A : Type 0} (rooms_tell : SoundByRoom) (roots_pass : (n : ℕ) (s : Sector) → ValidIsJudged n s) (d : List Sector) (s : Sector) (view : View A) (is : IsView d view) (here : slice_get d 0 ≡ Some s) where
+module _ {A : Type 0} (rooms_reveal : SoundByRoom) (roots_pass : (n : ℕ) (s : Sector) → ValidIsJudged n s) (d : List Sector) (s : Sector) (view : View A) (is : IsView d view) (here : slice_get d 0 ≡ Some s) where
   tally_room : view.found.survey.tally.files + view.found.survey.tally.pages ≡ total_room (files_on d)
   tally_room = omega (arith, is.found.survey.tallies.files, is.found.survey.tallies.pages, rooms (files_on d))
 
@@ -161,7 +161,7 @@ module _ {A : Type 0} (rooms_tell : SoundByRoom) (roots_pass : (n : ℕ) (s : Se
         bits = is.bits.agrees.0 right.bits;
         file_map = is.agrees.0 right.names;
       } in
-      (rooms_tell d but_room).1 (omega (arith, placed.room, tally_room, capacity_is))
+      (rooms_reveal d but_room).1 (omega (arith, placed.room, tally_room, capacity_is))
 
   pub sound_right : Sound d → SaysRight view
   sound_right sound = record {

@@ -1,4 +1,4 @@
--- Pages that are laid one behind the other.
+-- Pages that are laid one after the other.
 use Rattle.std.proofs.Common.{◌≡◌, inl, inr, Bool, true, false, ◌&&◌, Option, subst, ℕ, zero, suc, ◌+◌, ◌-◌, ◌*◌, ◌<◌, List, [], ◌∷◌, ◌++◌, length, take, drop, replicate, Some, refl, sym, ◌∙◌, ap, arith}
 use Rattle.std.specs.Prelude.{◌↔◌, slice_get, IsSomeAnd, IsTrue}
 use Rattle.std.proofs.lemmas.Bool.{cases_eq, and_parts, false≢true}
@@ -23,22 +23,22 @@ page_more d first k label page here =
     ∙ flat_map-append (λ (t : Sector). t.1) (take k (drop first d)) ((label, page) ∷ [])
     ∙ ap (λ (b : List ℕ). bytes_of d first k ++ b) (nothing_more page)
 
-take_front : (xs ys : List ℕ) → take (length xs) (xs ++ ys) ≡ xs
-take_front [] ys = refl
-take_front (x ∷ xs) ys = ap (λ (l : List ℕ). x ∷ l) (take_front xs ys)
+take_prefix : (xs ys : List ℕ) → take (length xs) (xs ++ ys) ≡ xs
+take_prefix [] ys = refl
+take_prefix (x ∷ xs) ys = ap (λ (l : List ℕ). x ∷ l) (take_prefix xs ys)
 
-drop_front : (xs ys : List ℕ) (n : ℕ) → drop (length xs + n) (xs ++ ys) ≡ drop n ys
-drop_front [] ys n = let z : 0 + n ≡ n = omega arith in ap (λ (m : ℕ). drop m ys) z
-drop_front (x ∷ xs) ys n = let s : suc (length xs) + n ≡ suc (length xs + n) = omega arith in ap (λ (m : ℕ). drop m (x ∷ (xs ++ ys))) s ∙ drop_front xs ys n
+drop_prefix : (xs ys : List ℕ) (n : ℕ) → drop (length xs + n) (xs ++ ys) ≡ drop n ys
+drop_prefix [] ys n = let z : 0 + n ≡ n = omega arith in ap (λ (m : ℕ). drop m ys) z
+drop_prefix (x ∷ xs) ys n = let s : suc (length xs) + n ≡ suc (length xs + n) = omega arith in ap (λ (m : ℕ). drop m (x ∷ (xs ++ ys))) s ∙ drop_prefix xs ys n
 
 -- a page over the first of the zeros
 laid_over : (xs page zeros rest : List ℕ) (at : ℕ) → length xs ≡ at → length page ≡ length zeros → overwritten (xs ++ (zeros ++ rest)) at page ≡ (xs ++ page) ++ rest
 laid_over xs page zeros rest at long size =
     let past : at + length page ≡ length xs + (length zeros + 0) = omega (arith, long, size) in
-    let front : take at (xs ++ (zeros ++ rest)) ≡ xs = ap (λ (m : ℕ). take m (xs ++ (zeros ++ rest))) (sym long) ∙ take_front xs (zeros ++ rest) in
+    let prefix : take at (xs ++ (zeros ++ rest)) ≡ xs = ap (λ (m : ℕ). take m (xs ++ (zeros ++ rest))) (sym long) ∙ take_prefix xs (zeros ++ rest) in
     let back : drop (at + length page) (xs ++ (zeros ++ rest)) ≡ rest =
-    ap (λ (m : ℕ). drop m (xs ++ (zeros ++ rest))) past ∙ drop_front xs (zeros ++ rest) (length zeros + 0) ∙ drop_front zeros rest 0 in
-    ap (λ (l : List ℕ). (l ++ page) ++ drop (at + length page) (xs ++ (zeros ++ rest))) front ∙ ap (λ (l : List ℕ). (xs ++ page) ++ l) back
+    ap (λ (m : ℕ). drop m (xs ++ (zeros ++ rest))) past ∙ drop_prefix xs (zeros ++ rest) (length zeros + 0) ∙ drop_prefix zeros rest 0 in
+    ap (λ (l : List ℕ). (l ++ page) ++ drop (at + length page) (xs ++ (zeros ++ rest))) prefix ∙ ap (λ (l : List ℕ). (xs ++ page) ++ l) back
 
 abbrev zeros : ℕ → List ℕ
 zeros n = replicate {A = ℕ} n 0
@@ -50,7 +50,7 @@ zeros_split (suc a) b = let s : suc a + b ≡ suc (a + b) = omega arith in ap ze
 fewer_zeros : (n k : ℕ) → k < n → zeros (512 * (n - k)) ≡ zeros 512 ++ zeros (512 * (n - (k + 1)))
 fewer_zeros n k below = let e : 512 * (n - k) ≡ 512 + 512 * (n - (k + 1)) = omega (arith, below) in ap zeros e ∙ zeros_split 512 (512 * (n - (k + 1)))
 
--- the pages so far, and zeros behind them
+-- the pages so far, and zeros after them
 pub laid_more : (d : List Sector) (first n k : ℕ) (label : Label) (page old new : List ℕ) → k < n → length old ≡ 512 * n → length page ≡ 512 → slice_get d (first + k) ≡ Some (label, page)
     → old ≡ bytes_of d first k ++ zeros (512 * (n - k)) → new ≡ overwritten old (512 * k) page → new ≡ bytes_of d first (k + 1) ++ zeros (512 * (n - (k + 1)))
 laid_more d first n k label page old new below size whole here so_far is =

@@ -58,8 +58,8 @@ other_file r id page apart = λ sector fits listed. apart (sym (in_run r id page
 pub page_before : (r : Run) (id page : ℕ) → page < r.first → IsPlace (triples_of r) id page None
 page_before r id page before = λ sector fits listed. omega (arith, before, (in_run r id page sector listed).from)
 
-pub page_behind : (r : Run) (id page : ℕ) → r.first + r.pages ≤ page → IsPlace (triples_of r) id page None
-page_behind r id page behind = λ sector fits listed. omega (arith, behind, (in_run r id page sector listed).below)
+pub page_after : (r : Run) (id page : ℕ) → r.first + r.pages ≤ page → IsPlace (triples_of r) id page None
+page_after r id page after = λ sector fits listed. omega (arith, after, (in_run r id page sector listed).below)
 
 -- the sum of the run's sector and the distance to the page, where it is a number
 pub place_in : (r : Run) (id page : ℕ) (sum : Option ℕ) → r.id ≡ id → r.first ≤ page → page - r.first < r.pages → SomeIff sum (r.sector + (page - r.first) < 2 ^ 32) (r.sector + (page - r.first)) → IsPlace (triples_of r) id page sum

@@ -13,7 +13,7 @@ use Rattle.volume_view.specs.Form.{AreRead}
 use Rattle.volume_view.specs.Walk.{values}
 use Rattle.volume_view.proofs.ListLemmas.{in_pushed}
 
--- records tell their runs
+-- records reveal their runs
 rest : {A : Type 0} → List A → List A
 rest [] = []
 rest (x ∷ xs) = xs
@@ -24,8 +24,8 @@ same_runs n few [] [] r_form q_form same = refl
 same_runs n few [] (q ∷ qs) r_form q_form same = let long = ap length same in absurd (omega (arith, long))
 same_runs n few (r ∷ rs) [] r_form q_form same = let long = ap length same in absurd (omega (arith, long))
 same_runs n few (r ∷ rs) (q ∷ qs) r_form q_form same =
-    let front : run_bytes r ≡ run_bytes q = ap (λ (l : List (List ℕ)). get_or l 0 []) same in
-    let one : r ≡ q = sym (run_back n r few (r_form 0 r refl)) ∙ ap run_in front ∙ run_back n q few (q_form 0 q refl) in
+    let prefix : run_bytes r ≡ run_bytes q = ap (λ (l : List (List ℕ)). get_or l 0 []) same in
+    let one : r ≡ q = sym (run_back n r few (r_form 0 r refl)) ∙ ap run_in prefix ∙ run_back n q few (q_form 0 q refl) in
     ap (λ (x : Run). x ∷ rs) one ∙ ap (λ (l : List Run). q ∷ l) (same_runs n few rs qs (λ j x at. r_form (suc j) x at) (λ j x at. q_form (suc j) x at) (ap rest same))
 
 pub read_same : (n : ℕ) → n < 2 ^ 32 → (records : List (List ℕ)) (rs qs : List Run) → AreRead n records rs → AreRead n records qs → rs ≡ qs
@@ -38,14 +38,14 @@ pub read_none : (n : ℕ) → AreRead n [] []
 read_none n = record { listed = refl; form = λ j r at. absurd (none-some r at); follow = λ k below. absurd (omega (arith, below)) }
 
 -- the first of a list with one more
-front_at : {A : Type 0} (xs ys : List A) (k : ℕ) (d : A) → k < length xs → get_or (xs ++ ys) k d ≡ get_or xs k d
-front_at [] ys k d below = absurd (omega (arith, below))
-front_at (x ∷ xs) ys zero d below = refl
-front_at (x ∷ xs) ys (suc k) d below = front_at xs ys k d (omega (arith, below))
+prefix_at : {A : Type 0} (xs ys : List A) (k : ℕ) (d : A) → k < length xs → get_or (xs ++ ys) k d ≡ get_or xs k d
+prefix_at [] ys k d below = absurd (omega (arith, below))
+prefix_at (x ∷ xs) ys zero d below = refl
+prefix_at (x ∷ xs) ys (suc k) d below = prefix_at xs ys k d (omega (arith, below))
 
-last_front : (rs : List Run) (r : Run) (k : ℕ) → k ≤ length rs → last_of (rs ++ r ∷ []) k ≡ last_of rs k
-last_front rs r zero below = refl
-last_front rs r (suc k) below = front_at rs (r ∷ []) k no_run (omega (arith, below))
+last_prefix : (rs : List Run) (r : Run) (k : ℕ) → k ≤ length rs → last_of (rs ++ r ∷ []) k ≡ last_of rs k
+last_prefix rs r zero below = refl
+last_prefix rs r (suc k) below = prefix_at rs (r ∷ []) k no_run (omega (arith, below))
 
 -- one record more
 pub read_more : (n : ℕ) (records : List (List ℕ)) (rs : List Run) (x : List ℕ) (r : Run) → AreRead n records rs → IsRun n r → x ≡ run_bytes r → Follows (last_of rs (length rs)) r → AreRead n (records ++ x ∷ []) (rs ++ r ∷ [])
@@ -57,12 +57,12 @@ read_more n records rs x r is form same follows = record {
   ];
   follow = λ k below. elim (cases_lt k (length rs)) [
     | inl low ↦
-        subst (λ (p : Run). Follows p (run_at (rs ++ r ∷ []) k)) (sym (last_front rs r k (omega (arith, low))))
-        (subst (Follows (last_of rs k)) (sym (front_at rs (r ∷ []) k no_run low)) (is.follow k low))
+        subst (λ (p : Run). Follows p (run_at (rs ++ r ∷ []) k)) (sym (last_prefix rs r k (omega (arith, low))))
+        (subst (Follows (last_of rs k)) (sym (prefix_at rs (r ∷ []) k no_run low)) (is.follow k low))
     | inr high ↦
         let long = length-append rs (r ∷ []) in
         let at : length rs ≡ k = omega (arith, high, below, long) in
-        subst (λ (p : Run). Follows p (run_at (rs ++ r ∷ []) k)) (sym (last_front rs r k (omega (arith, at))))
+        subst (λ (p : Run). Follows p (run_at (rs ++ r ∷ []) k)) (sym (last_prefix rs r k (omega (arith, at))))
         (subst (Follows (last_of rs k)) (sym (get_or_push rs r no_run k at)) (subst (λ (m : ℕ). Follows (last_of rs m) r) at follows))
   ];
 }
@@ -99,8 +99,8 @@ last_taken : (rs : List Run) (m k : ℕ) → k ≤ m → last_of (take m rs) k �
 last_taken rs m zero below = refl
 last_taken rs m (suc k) below = take_at rs m k no_run (omega (arith, below))
 
-pub read_front : (n : ℕ) (records : List (List ℕ)) (rs : List Run) (m : ℕ) → AreRead n records rs → AreRead n (take m records) (take m rs)
-read_front n records rs m is = record {
+pub read_prefix : (n : ℕ) (records : List (List ℕ)) (rs : List Run) (m : ℕ) → AreRead n records rs → AreRead n (take m records) (take m rs)
+read_prefix n records rs m is = record {
   listed = map_taken run_bytes rs m ∙ ap (take m) is.listed;
   form = λ j r at. is.form j r (taken_some rs m j r at);
   follow = λ k below.
@@ -128,8 +128,8 @@ read_less n records x all is =
     let m = length records in
     let long = read_long n (records ++ x ∷ []) all is ∙ length-append records (x ∷ []) in
     let below : m < length all = omega (arith, long) in
-    let front : take m (records ++ x ∷ []) ≡ records = let z : m + 0 ≡ m = omega arith in ap (λ k. take k (records ++ x ∷ [])) (sym z) ∙ take_append records (x ∷ []) 0 ∙ append_none records in
-    let read = subst (λ (l : List (List ℕ)). AreRead n l (take m all)) front (read_front n (records ++ x ∷ []) all m is) in
+    let prefix : take m (records ++ x ∷ []) ≡ records = let z : m + 0 ≡ m = omega arith in ap (λ k. take k (records ++ x ∷ [])) (sym z) ∙ take_append records (x ∷ []) 0 ∙ append_none records in
+    let read = subst (λ (l : List (List ℕ)). AreRead n l (take m all)) prefix (read_prefix n (records ++ x ∷ []) all m is) in
     let count = read_long n records (take m all) read in
     record {
       runs = take m all;
@@ -149,13 +149,13 @@ take_values f n zero most = refl
 take_values f zero (suc m) most = absurd (omega (arith, most))
 take_values f (suc n) (suc m) most = ap (λ l. f 0 ∷ l) (take_values (λ i. f (suc i)) n m (omega (arith, most)))
 
--- of records behind these, the first so many
+-- of records after these, the first so many
 pub read_values : (n : ℕ) (records : List (List ℕ)) (f : ℕ → List ℕ) (count m : ℕ) (all : List Run) → m ≤ count → AreRead n (records ++ values f count) all → AreRead n (records ++ values f m) (take (length records + m) all)
 read_values n records f count m all most is =
-    subst (λ (l : List (List ℕ)). AreRead n l (take (length records + m) all)) (take_append records (values f count) m ∙ ap (λ l. records ++ l) (take_values f count m most)) (read_front n (records ++ values f count) all (length records + m) is)
+    subst (λ (l : List (List ℕ)). AreRead n l (take (length records + m) all)) (take_append records (values f count) m ∙ ap (λ l. records ++ l) (take_values f count m most)) (read_prefix n (records ++ values f count) all (length records + m) is)
 
 pub read_part : (n : ℕ) (xs ys : List (List ℕ)) (all : List Run) → AreRead n (xs ++ ys) all → AreRead n xs (take (length xs + 0) all)
-read_part n xs ys all is = subst (λ (l : List (List ℕ)). AreRead n l (take (length xs + 0) all)) (take_append xs ys 0 ∙ append_none xs) (read_front n (xs ++ ys) all (length xs + 0) is)
+read_part n xs ys all is = subst (λ (l : List (List ℕ)). AreRead n l (take (length xs + 0) all)) (take_append xs ys 0 ∙ append_none xs) (read_prefix n (xs ++ ys) all (length xs + 0) is)
   where
     append_none : (xs : List (List ℕ)) → xs ++ [] ≡ xs
     append_none [] = refl

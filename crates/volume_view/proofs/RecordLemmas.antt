@@ -1,12 +1,12 @@
--- A walk over the records of a file map, each behind the one before.
+-- A walk over the records of a file map, each after the one before.
 use Rattle.std.proofs.Common.{◌≡◌, inl, inr, ℕ, zero, suc, ◌+◌, ◌*◌, ◌<◌, ◌≤◌, ◌^◌, true, false, List, [], ◌∷◌, ◌++◌, length, map, take, Option, Some, None, sym, ◌∙◌, ap, subst, arith}
 use Rattle.std.specs.Prelude.{is_some, ◌/◌}
 use Rattle.std.proofs.lemmas.Bool.{cases_lt}
 use Rattle.std.proofs.lemmas.List.{length-map}
 use Rattle.std.proofs.lemmas.Option.{slice_get-get_or}
-use Rattle.flat_mem.specs.Order.{at_most, entry_at, IsBehind}
+use Rattle.flat_mem.specs.Order.{at_most, entry_at, IsAfter}
 use Rattle.page_tree.specs.Answer.{IsNextEntry, FromMemory}
-use Rattle.page_tree.specs.Tells.{TellsTree}
+use Rattle.page_tree.specs.Reveals.{RevealsTree}
 use Rattle.page_tree.specs.declared.error.TreeError.{TreeError}
 use Rattle.page_tree.specs.declared.error.TreeError.TheVariants.{Malformed}
 use Rattle.labelled_disk.specs.Layout.{vfm}
@@ -20,7 +20,7 @@ use Rattle.volume_view.proofs.ListLemmas.{one_more}
 
 module _ (n : ℕ) (bytes : List ℕ) (runs : List Run) (few : n < 2 ^ 32) (is : AreRunsOfMap n bytes runs) where
   pub sorted : AreSorted n runs
-  sorted = record { form = is.form; rising = is.listed.rising }
+  sorted = record { form = is.form; ascending = is.listed.ascending }
 
   long : length (map run_bytes runs) ≡ length runs
   long = length-map runs run_bytes
@@ -33,7 +33,7 @@ module _ (n : ℕ) (bytes : List ℕ) (runs : List Run) (few : n < 2 ^ 32) (is :
   first_fits zero within = omega arith
   first_fits (suc j) within = let form = is.form.each j (omega (arith, within)) in omega (arith, form.some, form.pages_fit)
 
-  -- the runs from k on begin behind the last of those before, and the others do not
+  -- the runs from k on begin after the last of those before, and the others do not
   above_last : (k i : ℕ) → k ≤ i → i < length runs → rank_of (last_of runs k) < rank_of (run_at runs i)
   above_last zero i from below = elim (is.form.each i below).of_file [
     | inl three ↦ omega (arith, three)
@@ -48,17 +48,17 @@ module _ (n : ℕ) (bytes : List ℕ) (runs : List Run) (few : n < 2 ^ 32) (is :
   upto_last zero i below within = absurd (omega (arith, below))
   upto_last (suc j) i below within = ordered n runs sorted i j (omega (arith, below)) (omega (arith, within))
 
-  -- the search for the record behind the last gives the next
-  pub step_found : (k i : ℕ) → k ≤ length runs → i < length (map run_bytes runs) → IsBehind 12 (map run_bytes runs) (key_bytes (last_of runs k).id (last_of runs k).first) i → i ≡ k
-  step_found k i within below behind = elim (cases_lt i k) [
+  -- the search for the record after the last gives the next
+  pub step_found : (k i : ℕ) → k ≤ length runs → i < length (map run_bytes runs) → IsAfter 12 (map run_bytes runs) (key_bytes (last_of runs k).id (last_of runs k).first) i → i ≡ k
+  step_found k i within below after = elim (cases_lt i k) [
     | inl low ↦
         let up = upto_last k i low within in
-        let more = high_rank n runs sorted (last_of runs k).id (last_of runs k).first (id_fits k within) (first_fits k within) i (omega (arith, below, long)) (behind.above i (omega arith) below) in
+        let more = high_rank n runs sorted (last_of runs k).id (last_of runs k).first (id_fits k within) (first_fits k within) i (omega (arith, below, long)) (after.above i (omega arith) below) in
         absurd (omega (arith, up, more))
     | inr not_low ↦ elim (cases_lt k i) [
       | inl high ↦
           let up = above_last k k (omega arith) (omega (arith, high, below, long)) in
-          let less = low_rank n runs sorted (last_of runs k).id (last_of runs k).first (id_fits k within) (first_fits k within) k (omega (arith, high, below, long)) (behind.below k high) in
+          let less = low_rank n runs sorted (last_of runs k).id (last_of runs k).first (id_fits k within) (first_fits k within) k (omega (arith, high, below, long)) (after.below k high) in
           absurd (omega (arith, up, less))
       | inr not_high ↦ omega (arith, not_low, not_high)
     ]
@@ -93,12 +93,12 @@ module _ (n : ℕ) (bytes : List ℕ) (runs : List Run) (few : n < 2 ^ 32) (is :
   pub found_step : (k : ℕ) (key entry : List ℕ) (last r : Run) → k ≤ length runs → last ≡ last_of runs k → key ≡ key_bytes last.id last.first → IsNextEntry 12 (map run_bytes runs) key entry true → IsRun n r → entry ≡ run_bytes r
       → IsStep runs k (Some r)
   found_step k key entry last r within last_is key_is answer form same =
-      let at = step_found k answer.0 within answer.1 (subst (λ (x : List ℕ). IsBehind 12 (map run_bytes runs) x answer.0) (key_is ∙ ap (λ (q : Run). key_bytes q.id q.first) last_is) answer.2) in
+      let at = step_found k answer.0 within answer.1 (subst (λ (x : List ℕ). IsAfter 12 (map run_bytes runs) x answer.0) (key_is ∙ ap (λ (q : Run). key_bytes q.id q.first) last_is) answer.2) in
       (omega (arith, at, answer.1, long), run_is n runs is.form few answer.0 entry r answer.1 answer.3 form same ∙ ap (run_at runs) at)
 
   pub found_record : (k : ℕ) (key entry : List ℕ) (last : Run) → k ≤ length runs → last ≡ last_of runs k → key ≡ key_bytes last.id last.first → IsNextEntry 12 (map run_bytes runs) key entry true → IsRecord n entry × Follows last (run_in entry)
   found_record k key entry last within last_is key_is answer =
-      let at = step_found k answer.0 within answer.1 (subst (λ (x : List ℕ). IsBehind 12 (map run_bytes runs) x answer.0) (key_is ∙ ap (λ (q : Run). key_bytes q.id q.first) last_is) answer.2) in
+      let at = step_found k answer.0 within answer.1 (subst (λ (x : List ℕ). IsAfter 12 (map run_bytes runs) x answer.0) (key_is ∙ ap (λ (q : Run). key_bytes q.id q.first) last_is) answer.2) in
       let record_is = in_form_at n runs is.form few answer.0 entry answer.1 answer.3 in
       let run_there = run_is n runs is.form few answer.0 entry (run_in entry) answer.1 answer.3 record_is.form record_is.same in
       let below : k < length runs = omega (arith, at, answer.1, long) in
@@ -114,11 +114,11 @@ taken_more runs found new k r below is so_far pushed =
     let s : k + 1 ≡ suc k = omega arith in
     pushed ∙ ap (λ (l : List Run). l ++ r ∷ []) so_far ∙ ap (λ (q : Run). take k runs ++ q ∷ []) is ∙ sym (ap (λ (m : ℕ). take m runs) s ∙ one_more runs k (run_at runs k) (slice_get-get_or runs k no_run below))
 
--- the map as a tree over this memory tells it
-pub to_tree : (n : ℕ) (bytes c : List ℕ) (xs : List (List ℕ)) → c ≡ bytes → length c ≡ 512 * vfm n → TellsTree 24 12 (vfm n) (λ b. b ≡ bytes) xs → TellsTree 24 12 (length c / 512) (λ b. b ≡ c) xs
+-- the map as a tree over this memory reveals it
+pub to_tree : (n : ℕ) (bytes c : List ℕ) (xs : List (List ℕ)) → c ≡ bytes → length c ≡ 512 * vfm n → RevealsTree 24 12 (vfm n) (λ b. b ≡ bytes) xs → RevealsTree 24 12 (length c / 512) (λ b. b ≡ c) xs
 to_tree n bytes c xs same size is =
     let pages : vfm n ≡ length c / 512 = omega (arith, size) in
-    subst (λ (m : ℕ). TellsTree 24 12 m (λ b. b ≡ c) xs) pages (subst (λ (x : List ℕ). TellsTree 24 12 (vfm n) (λ b. b ≡ x) xs) (sym same) is)
+    subst (λ (m : ℕ). RevealsTree 24 12 m (λ b. b ≡ c) xs) pages (subst (λ (x : List ℕ). RevealsTree 24 12 (vfm n) (λ b. b ≡ x) xs) (sym same) is)
 
 -- an error of the tree that is malformed is not the memory's
 pub never_malformed : {X : Type 0} (e : TreeError X) (page : ℕ) → e ≡ Malformed page → FromMemory e → ⊥

@@ -6,7 +6,7 @@ use Rattle.std.proofs.lemmas.Option.{same_Some, slice_get_within}
 use Rattle.labelled_disk.specs.declared.label.Label.{Label}
 use Rattle.labelled_disk.specs.Label.{is_free}
 use Rattle.labelled_disk.specs.Sectors.{Sector}
-use Rattle.page_tree.specs.Tells.{StandsIn}
+use Rattle.page_tree.specs.Reveals.{StandsIn}
 use Rattle.file_map.specs.declared.run.Run.{Run}
 use Rattle.file_map.specs.Run.{IsRun, holds, sector_at, run_bytes}
 use Rattle.file_map.specs.FileMap.{Triples}

@@ -28,7 +28,7 @@ row_more id page sector (suc n) =
     ∙ ap (λ (m : ℕ). triples_in_row id (page + 1) (sector + 1) n ++ record { id = id; page = m; sector = sector + 1 + n } ∷ []) p
     ∙ ap (λ (m : ℕ). triples_in_row id (page + 1) (sector + 1) n ++ record { id = id; page = page + suc n; sector = m } ∷ []) s)
 
--- the run with the page behind its last
+-- the run with the page after its last
 abbrev longer : Run → Run
 longer r = record r { pages = r.pages + 1 }
 
@@ -91,7 +91,7 @@ last_within (r ∷ runs) last =
     let within = last_within runs last in
     omega (arith, sum, within)
 
--- the last run has room for the page behind it, by its sector or by how many pages there are
+-- the last run has room for the page after it, by its sector or by how many pages there are
 pub longer_fits : (runs : List Run) (last : Run) (t : Triple) → goes_on last t ≡ true → (t.sector + 1 < 2 ^ 32) ⊎ (length (all_triples (runs ++ last ∷ [])) + 1 < 2 ^ 32) → last.pages + 1 < 2 ^ 32
 longer_fits runs last t goes few = elim few [
   | inl low ↦

@@ -342,7 +342,7 @@ module _ (pages : ℕ) (b : List ℕ) (records : List (List ℕ)) (free : List �
     };
     tower = record {
       none = λ none. is.listed ∙ no_records b levels root none;
-      rising = is.rising;
+      ascending = is.ascending;
       listed = settled b pages top levels root is.passed records is.listed;
       stored = stored b pages top levels root is.passed;
       filled = filled_enough b pages top levels root is.passed;

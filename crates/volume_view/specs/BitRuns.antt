@@ -9,7 +9,7 @@ IsIn r i = (r.first ≤ i) × (i < r.first + r.sectors)
 abbrev pub IsInSome : List BitRun → ℕ → Type 0
 IsInSome runs i = (k : ℕ) × (r : BitRun) × (slice_get runs k ≡ Some r) × IsIn r i
 
--- the map has the sector as told, and it is the other way round
+-- the map has the sector as revealed, and it is the other way round
 pub record IsWrong (says right : ℕ → Bool) (used : Bool) (i : ℕ) : Type 0 where
   pub map_says : says i ≡ used
   pub other : right i ≢ used
@@ -19,15 +19,15 @@ pub record IsWrongRun (says right : ℕ → Bool) (r : BitRun) : Type 0 where
   pub some : 1 ≤ r.sectors
   pub each : (i : ℕ) → IsIn r i → IsWrong says right r.used i
 
--- the second run begins behind the end of the first, and where it begins there, the map says the other of it
-abbrev pub IsBehind : BitRun → BitRun → Type 0
-IsBehind a b = (a.first + a.sectors ≤ b.first) × (a.first + a.sectors ≡ b.first → a.used ≢ b.used)
+-- the second run begins after the end of the first, and where it begins there, the map says the other of it
+abbrev pub IsAfter : BitRun → BitRun → Type 0
+IsAfter a b = (a.first + a.sectors ≤ b.first) × (a.first + a.sectors ≡ b.first → a.used ≢ b.used)
 
 -- the runs rise, and each is as long as it can be
 abbrev pub AreBitsApart : List BitRun → Type 0
 AreBitsApart [] = Unit {0}
 AreBitsApart (a ∷ []) = Unit {0}
-AreBitsApart (a ∷ b ∷ runs) = IsBehind a b × AreBitsApart (b ∷ runs)
+AreBitsApart (a ∷ b ∷ runs) = IsAfter a b × AreBitsApart (b ∷ runs)
 
 -- of the first n sectors, these are exactly those of which the map says the opposite of what is right
 pub record AreCompared (says right : ℕ → Bool) (n : ℕ) (runs : List BitRun) : Type 0 where

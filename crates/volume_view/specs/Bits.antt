@@ -19,7 +19,7 @@ taken first labels i = nat_lt i first || option_map_or (λ l. not (is_free l)) (
 abbrev pub is_taken : List Sector → ℕ → Bool
 is_taken d i = nat_lt i (first_data (length d)) || option_map_or (λ s. not (is_free s.0)) (slice_get d i) false
 
--- the runs are of exactly the sectors of which the map says something else, rising, each as long as it can be; there
+-- the runs are of exactly the sectors of which the map says something else, ascending, each as long as it can be; there
 -- is none
 -- exactly where the map has the bits of a sound volume
 pub record AreWrongBits (d : List Sector) (runs : List BitRun) : Type 0 where

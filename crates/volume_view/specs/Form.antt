@@ -13,7 +13,7 @@ pub record HasForm (n : ℕ) (bytes : List ℕ) : Type 0 where
   pub of_map : AreRunsOfMap n bytes runs
   pub few : length runs ≤ most_records n
 
--- these runs are told by these records, each begins behind the end of the one before, and each is in form on a volume
+-- these runs are revealed by these records, each begins after the end of the one before, and each is in form on a volume
 -- of n sectors
 pub record AreRead (n : ℕ) (records : List (List ℕ)) (runs : List Run) : Type 0 where
   pub listed : map run_bytes runs ≡ records

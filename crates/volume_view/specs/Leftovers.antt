@@ -4,8 +4,8 @@ use Rattle.labelled_disk.specs.Label.{is_free}
 use Rattle.labelled_disk.specs.Sectors.{Sector}
 use Rattle.labelled_disk.specs.WriteLaws.{HasData}
 use Rattle.label_laws.specs.Counts.{needs_place, is_of_some_file}
-use Rattle.label_survey.specs.declared.standing.Standing.{Standing}
-use Rattle.label_survey.specs.declared.standing.Standing.TheVariants.{Free, Stray, Lost, Leader, Page}
+use Rattle.label_survey.specs.declared.sector_state.SectorState.{SectorState}
+use Rattle.label_survey.specs.declared.sector_state.SectorState.TheVariants.{Free, Orphan, Lost, Leader, Page}
 use Rattle.label_survey.specs.declared.runs.Run.{Run}
 use Rattle.label_survey.specs.declared.triples.Triple.{Triple}
 use Rattle.label_survey.specs.Runs.{all_triples}
@@ -13,12 +13,12 @@ use Rattle.label_survey.specs.Triples.{triple_of}
 use Rattle.volume_view.specs.Rows.{AreJoined}
 
 -- the sector is neither free, nor needed, nor lost
-abbrev pub is_stray : Standing → Bool
-is_stray Stray = true
-is_stray Free = false
-is_stray Lost = false
-is_stray Leader = false
-is_stray Page = false
+abbrev pub is_orphan : SectorState → Bool
+is_orphan Orphan = true
+is_orphan Free = false
+is_orphan Lost = false
+is_orphan Leader = false
+is_orphan Page = false
 
 -- a restoration frees the sector, and its label is not one of a file that stays
 pub record IsLeft (d : List Sector) (i : ℕ) (s : Sector) : Type 0 where

@@ -5,7 +5,7 @@ use Rattle.page_tree.specs.Page.{count_in, root_in, top_in, free_in, levels_in}
 use Rattle.volume_view.specs.declared.header.Header.{Header}
 use Rattle.volume_view.specs.declared.levels.Child.{Child}
 
--- the numbers that the page tells, as a header
+-- the numbers that the page reveals, as a header
 pub record IsHeaderOf (page : List ℕ) (header : Header) : Type 0 where
   pub count : header.count ≡ count_in page
   pub root : header.root ≡ root_in page

@@ -13,7 +13,7 @@ pub mod Recorded
 pub mod Files
 pub mod Listed
 pub mod Leftovers
-pub mod Strays
+pub mod Orphans
 pub mod Found
 pub mod View
 pub mod Order

@@ -4,7 +4,7 @@ use Rattle.labelled_disk.specs.Label.{leader_page}
 use Rattle.labelled_disk.specs.Sectors.{Sector}
 use Rattle.labelled_disk.specs.File.{File, size}
 use Rattle.labelled_disk.specs.FilesOn.{disk_file}
-use Rattle.labelled_disk.specs.Rising.{IsRising}
+use Rattle.labelled_disk.specs.Ascending.{IsAscending}
 use Rattle.label_survey.specs.declared.triples.Triple.{Triple}
 use Rattle.label_survey.specs.Triples.{AreNeeded, AreUp}
 use Rattle.volume_view.specs.declared.files.FileLine.{FileLine}
@@ -32,10 +32,10 @@ IsLineAt d triples k (Some line) = (t : Triple) × (slice_get triples k ≡ Some
     × (line.id ≡ t.id) × IsLine d line
 IsLineAt d triples k None = (t : Triple) → slice_get triples k ≡ Some t → t.page ≢ leader_page
 
--- the lines of the leaders among the first k triples, in rising identifiers
+-- the lines of the leaders among the first k triples, in ascending identifiers
 pub record AreLinesTo (d : List Sector) (triples : List Triple) (k : ℕ) (lines : List FileLine) : Type 0 where
   pub each : (j : ℕ) (line : FileLine) → slice_get lines j ≡ Some line
       → (i : ℕ) × (i < k) × IsLineAt d triples i (Some line)
   pub all : (i : ℕ) (t : Triple) → i < k → slice_get triples i ≡ Some t → t.page ≡ leader_page
       → (j : ℕ) × (line : FileLine) × (slice_get lines j ≡ Some line) × (line.id ≡ t.id)
-  pub rising : IsRising (map (λ l. l.id) lines)
+  pub ascending : IsAscending (map (λ l. l.id) lines)

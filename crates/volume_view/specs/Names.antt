@@ -5,7 +5,7 @@ use Rattle.labelled_disk.specs.declared.label.Label.{Label}
 use Rattle.labelled_disk.specs.Label.{is_free}
 use Rattle.labelled_disk.specs.Layout.{vfm}
 use Rattle.labelled_disk.specs.Sectors.{Sector}
-use Rattle.page_tree.specs.Tells.{TellsTree}
+use Rattle.page_tree.specs.Reveals.{RevealsTree}
 use Rattle.file_map.specs.declared.run.Run.{Run as MapRun}
 use Rattle.file_map.specs.FileMap.{Triples, AreNamed, names_triple}
 use Rattle.file_map.specs.InSectors.{label_triples}
@@ -24,7 +24,7 @@ labelled first labels id page sector = nat_le first sector
 
 -- the map in these bytes is in form on a volume of n sectors, and names these pages
 abbrev pub NamesIn : ℕ → List ℕ → Triples → Type 0
-NamesIn n bytes named = AreNamed n (TellsTree 24 12 (vfm n) (λ b. b ≡ bytes)) named
+NamesIn n bytes named = AreNamed n (RevealsTree 24 12 (vfm n) (λ b. b ≡ bytes)) named
 
 -- all that the second names, the first names too
 abbrev pub Covers : Triples → Triples → Type 0
@@ -59,13 +59,13 @@ IsDifferenceAt named l sector (Some t) = (is_free l ≡ false) × (named l.id l.
     × (t ≡ record { id = l.id; page = l.page; sector = sector })
 IsDifferenceAt named l sector None = (is_free l ≡ true) ⊎ (named l.id l.page sector ≡ true)
 
--- exactly the pages that the labels name and the map doesn't, in rising sectors, in runs that are as long as they can
+-- exactly the pages that the labels name and the map doesn't, in ascending sectors, in runs that are as long as they can
 -- be
 pub record IsUnmapped (named said : Triples) (runs : List Run) : Type 0 where
   pub joined : AreJoined runs
   pub each : AllOnlyIn said named (all_triples runs)
   pub all : (t : Triple) → IsOnlyIn said named t → IsListed (all_triples runs) t
-  pub rising : (j k : ℕ) (a b : Triple) → j < k → slice_get (all_triples runs) j ≡ Some a
+  pub ascending : (j k : ℕ) (a b : Triple) → j < k → slice_get (all_triples runs) j ≡ Some a
       → slice_get (all_triples runs) k ≡ Some b → a.sector < b.sector
 
 -- pages that the map names and the labels don't: n at most, and all of them, where they are fewer than n; in runs that
@@ -99,10 +99,10 @@ pub record IsComparison {A : Type 0} (n : ℕ) (named said : Triples) (differenc
   pub once : AreOnce (all_triples differences.unlabelled.items)
   pub agrees : AreNone differences ↔ AreAlike named said
 
--- what is told of a map in form that names these pages
-abbrev pub IsToldOf : {A : Type 0} → Triples → List Sector → Names A → Type 0
-IsToldOf named d (Malformed page) = ⊥
-IsToldOf named d (Read in_form differences) = IsComparison (length d) named (label_triples d) differences
+-- what is revealed of a map in form that names these pages
+abbrev pub IsRevealedOf : {A : Type 0} → Triples → List Sector → Names A → Type 0
+IsRevealedOf named d (Malformed page) = ⊥
+IsRevealedOf named d (Read in_form differences) = IsComparison (length d) named (label_triples d) differences
 
 -- it is said that the map names what the labels name
 abbrev pub SaysAlike : {A : Type 0} → Names A → Type 0

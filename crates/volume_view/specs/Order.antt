@@ -1,4 +1,4 @@
--- Whether a volume is sound, as a look tells.
+-- Whether a volume is sound, as a look reveals.
 use Rattle.std.specs.Prelude.{◌≡◌, ℕ, ◌+◌, ◌/◌, ◌%◌, ◌^◌, ◌<◌, ◌≤◌, Bool, true, false, List, [], length, slice_get, Option, Some, None, Result, Ok, Err}
 use Rattle.labelled_disk.specs.declared.layout.RootFault.{RootFault}
 use Rattle.labelled_disk.specs.Root.{short_at}
@@ -27,7 +27,7 @@ IsCondition d s condition.NotClosed = HasRoot d s × ¬ IsClosed s
 IsCondition d s condition.Damaged = HasRoot d s × IsClosed s × ¬ Sound d
 IsCondition d s condition.Refused = ¬ HasRoot d s
 
--- whether the root tells that the volume was closed, where there is one
+-- whether the root reveals that the volume was closed, where there is one
 abbrev pub closed_by : Result Root RootFault → Option Bool
 closed_by (Ok root) = Some root.clean
 closed_by (Err why) = None

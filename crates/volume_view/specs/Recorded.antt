@@ -1,7 +1,7 @@
 -- What the records of a file map say, whatever its form is.
 use Rattle.std.specs.Prelude.{◌≡◌, ℕ, true, List, length, slice_get, Some}
 use Rattle.page_tree.specs.Page.{page_at, count_in}
-use Rattle.page_tree.specs.Tells.{StandsIn}
+use Rattle.page_tree.specs.Reveals.{StandsIn}
 use Rattle.file_map.specs.declared.run.Run.{Run}
 use Rattle.file_map.specs.Run.{IsRun, run_bytes}
 use Rattle.file_map.specs.FileMap.{Triples, run_names, names_triple}

@@ -1,7 +1,7 @@
 -- The runs of a file map that stands in bytes.
 use Rattle.std.specs.Prelude.{◌≡◌, ◌⊎◌, ℕ, zero, suc, ◌+◌, ◌<◌, ◌≤◌, List, map, length, slice_get, Option, Some, None}
 use Rattle.labelled_disk.specs.Layout.{vfm}
-use Rattle.page_tree.specs.Tells.{TellsTree}
+use Rattle.page_tree.specs.Reveals.{RevealsTree}
 use Rattle.file_map.specs.declared.run.Run.{Run}
 use Rattle.file_map.specs.Run.{IsRun, run_bytes}
 use Rattle.file_map.specs.FileMap.{AreRuns, run_at, no_run}
@@ -10,10 +10,10 @@ use Rattle.volume_view.specs.declared.stop.Stop.TheVariants.{NoMemory, Broken}
 
 -- the bytes are a tree in form, whose records are those of these runs, which are in form on a volume of n sectors
 pub record AreRunsOfMap (n : ℕ) (bytes : List ℕ) (runs : List Run) : Type 0 where
-  pub listed : TellsTree 24 12 (vfm n) (λ b. b ≡ bytes) (map run_bytes runs)
+  pub listed : RevealsTree 24 12 (vfm n) (λ b. b ≡ bytes) (map run_bytes runs)
   pub form : AreRuns n runs
 
--- the run begins behind the end of the other, by identifier and page
+-- the run begins after the end of the other, by identifier and page
 abbrev pub Follows : Run → Run → Type 0
 Follows last run = (last.id < run.id) ⊎ ((last.id ≡ run.id) × (last.first + last.pages ≤ run.first))
 

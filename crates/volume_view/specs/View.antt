@@ -11,10 +11,10 @@ use Rattle.volume_view.specs.declared.view.View.{View}
 use Rattle.volume_view.specs.Bits.{AreWrongBits}
 use Rattle.volume_view.specs.Form.{HasForm}
 use Rattle.volume_view.specs.Found.{IsFound}
-use Rattle.volume_view.specs.Names.{IsToldOf, SaysForm, SaysAlike, SaysAgree}
+use Rattle.volume_view.specs.Names.{IsRevealedOf, SaysForm, SaysAlike, SaysAgree}
 use Rattle.volume_view.specs.Recorded.{AreReadAlike}
 
--- The layout, the root as it is judged, the labels, what they tell, and both maps beside them. The file map is said
+-- The layout, the root as it is judged, the labels, what they reveal, and both maps beside them. The file map is said
 -- to agree exactly where it has all that a sound volume asks of it, and to be in form exactly where it is, whatever
 -- its bytes are. One that has the form of a map is read as what it names. Where it is said to name what the labels
 -- name, whatever its form is, the records that were read are labelled, and what is labelled is recorded.
@@ -25,7 +25,7 @@ pub record IsView {A : Type 0} (d : List Sector) (view : View A) : Type 0 where
   pub labels : view.labels.items ≡ map (λ s. s.0) (data_sectors d)
   pub found : IsFound d view.found
   pub bits : AreWrongBits d view.bits.items
-  pub names : (named : Triples) → MapNames d named → IsToldOf named d view.names
+  pub names : (named : Triples) → MapNames d named → IsRevealedOf named d view.names
   pub form : SaysForm view.names (HasForm (length d) (map_bytes d))
   pub maps_labelled : (view.maps_labelled ≡ true) ↔ HasMaps (length d) d
   pub agrees : SaysAgree view.names ↔ HasFileMap d

@@ -106,7 +106,7 @@ pub record IsWalked (pages : ℕ) (b : List ℕ) (records : List (List ℕ)) (fr
   pub passed : IsPassed b pages (top_in (page_at b 0)) (levels_in (page_at b 0)) (root_in (page_at b 0))
   pub listed : records ≡ flat_map (records_in b)
       (level_at b (tops (levels_in (page_at b 0)) (root_in (page_at b 0))) (levels_in (page_at b 0) - 1))
-  pub rising : AreInKeyOrder (map (record_item 12) records)
+  pub ascending : AreInKeyOrder (map (record_item 12) records)
   pub count : count_in (page_at b 0) ≡ length records
   pub capacity : length records ≤ 9 * (pages - 8)
   pub chain : IsChain b (free_in (page_at b 0)) free

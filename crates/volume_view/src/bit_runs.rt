@@ -13,7 +13,7 @@ pub struct BitRun {
     pub used: bool,
 }
 
-// Whether the sector is the one behind the run, and the map says the same of it.
+// Whether the sector is the one after the run, and the map says the same of it.
 fn goes_on(run: &BitRun, sector: u32, used: bool) -> bool
     ensures yes { result ≡ true
         → (run.now.first + run.now.sectors ≡ sector) × (run.now.used ≡ used) }
@@ -23,7 +23,7 @@ fn goes_on(run: &BitRun, sector: u32, used: bool) -> bool
     u64::from(run.first) + u64::from(run.sectors) == u64::from(sector) && run.used == used
 }
 
-/// Adds a sector behind those of the runs: to the last run where it goes that on, or as a run of its own.
+/// Adds a sector after those of the runs: to the last run where it goes that on, or as a run of its own.
 pub(crate) fn add_sector<A: Allocator>(
     runs: &mut Vec<BitRun, A>,
     sector: u32,

@@ -74,7 +74,7 @@ fn compare_bits<A: Allocator>(
     Ok(runs)
 }
 
-/// The runs of sectors, rising, of which the allocation map says something else than the labels. Where
+/// The runs of sectors, ascending, of which the allocation map says something else than the labels. Where
 /// a label of its pages isn't right, `labelled` is false afterwards.
 pub(crate) fn look_at_bits<A: Allocator + Clone, D: Disk>(
     alloc: A,

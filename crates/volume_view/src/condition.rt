@@ -27,7 +27,7 @@ pub enum Condition {
     Refused,
 }
 
-// Whether the root tells that the volume was closed, where there is one.
+// Whether the root reveals that the volume was closed, where there is one.
 fn closed_by(root: &Result<Root, RootFault>) -> Option<bool>
     ensures { result ≡ closed_by root.now }
 {

@@ -8,7 +8,7 @@ use std::alloc::Allocator;
 /// The pages that a file map and labels have not in common, as runs.
 #[derive(Drop)]
 pub struct NameDifferences<A: Allocator> {
-    /// The labels of the sectors name these pages, and the map doesn't name them there: in rising sectors.
+    /// The labels of the sectors name these pages, and the map doesn't name them there: in ascending sectors.
     pub unmapped: Vec<Run, A>,
     /// The map names these pages there, and the labels of the sectors don't: all of them, or as many
     /// as the volume has sectors.

@@ -7,13 +7,13 @@ ghost use Rattle.volume_view.specs.Files.{AreLinesOf};
 ghost use Rattle.volume_view.specs.Listed.{AreSorted, IsLineAt, IsPages};
 
 use label_survey::Triple;
-use labelled_disk::{FileId, Label, files_are_as_told, files_are_looked_up};
+use labelled_disk::{FileId, Label, files_are_as_revealed, files_are_looked_up};
 use std::alloc::{AllocError, Allocator};
 
 /// The page number of a leader.
 const LEADER: u32 = 0xffff_ffff;
 
-/// A permanent file, as its leader and its pages tell it.
+/// A permanent file, as its leader and its pages reveal it.
 #[derive(Clone, Copy, Debug, PartialEq, Eq)]
 pub struct FileLine {
     pub id: FileId,
@@ -29,7 +29,7 @@ fn pages_before(triples: &[Triple], k: usize) -> u32
     requires { k < length triples.now }
     ensures { (d : List Sector) → AreSorted d triples.now → IsPages d triples.now k result }
 {
-    files_are_as_told();
+    files_are_as_revealed();
     if k == 0 {
         return 0;
     }
@@ -61,7 +61,7 @@ fn line_of(first: u32, labels: &[Label], triples: &[Triple], k: usize) -> Option
         → labels.now ≡ map (λ s. s.0) (data_sectors d) → AreSorted d triples.now
         → IsLineAt d triples.now k result }
 {
-    files_are_as_told();
+    files_are_as_revealed();
     let triple = &triples[k];
     if triple.page != LEADER {
         return None;
@@ -89,7 +89,7 @@ pub(crate) fn list_files<A: Allocator>(
         → labels.now ≡ map (λ s. s.0) (data_sectors d) → AreSorted d triples.now
         → AreLinesOf d lines.items (files_on d)) }
 {
-    files_are_as_told();
+    files_are_as_revealed();
     files_are_looked_up();
     let mut files = Vec::new(alloc);
     for k in 0..triples.len() {

@@ -9,7 +9,7 @@ use byteorder::{BigEndian, ByteOrder};
 use flat_mem::VecMem;
 use std::alloc::{AllocError, Allocator};
 
-// The next free page behind this one, or none where it is outside or no free page.
+// The next free page after this one, or none where it is outside or no free page.
 fn next_free<A: Allocator>(map: &mut VecMem<A>, pages: u32, at: u32) -> Option<u32>
     requires size { length (vec_mem_bytes map.old) ≡ 512 * pages }
     ensures next { IfSome result (λ next. next ≡ next_in (page_at (vec_mem_bytes map.old) at)) }

@@ -36,7 +36,7 @@ pub(crate) fn load_page<A: Allocator>(map: &mut VecMem<A>, index: u32) -> Page
     }
 }
 
-/// The header that a page tells.
+/// The header that a page reveals.
 pub(crate) fn header_of(page: &Page) -> Header
     ensures { IsHeaderOf page.now result }
 {
@@ -49,7 +49,7 @@ pub(crate) fn header_of(page: &Page) -> Header
     }
 }
 
-// Whether the bytes behind the header's numbers are zeros.
+// Whether the bytes after the header's numbers are zeros.
 fn is_blank(page: &Page) -> bool
     ensures yes { result ≡ true → IsBlank page.now }
     ensures no { result ≡ false → ¬ IsBlank page.now }

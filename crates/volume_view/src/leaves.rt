@@ -12,7 +12,7 @@ ghost use Rattle.volume_view.specs.Walk.{values, records_in, IsLeafForm, IsLeafP
 
 use crate::header::load_page;
 use crate::levels::{Child, filled_of};
-use crate::record::read_behind;
+use crate::record::read_after;
 use file_map::Run;
 use flat_mem::VecMem;
 use labelled_disk::{Layout, Page};
@@ -115,7 +115,7 @@ fn add_runs<A: Allocator>(
     for i in 0..filled_of(page) {
         let bytes = record_of(page, i);
         let last = last_run(runs);
-        let Some(run) = read_behind(last, &bytes, layout.first, layout.sectors) else {
+        let Some(run) = read_after(last, &bytes, layout.first, layout.sectors) else {
             return Ok(false);
         };
         runs.push(run)?;

@@ -3,25 +3,25 @@ ghost use Rattle.std.specs.Prelude.{◌≡◌, ◌+◌, ◌<◌, ◌^◌, List, 
 ghost use Rattle.std.specs.List.Sorted.{IsPermutation};
 ghost use Rattle.labelled_disk.specs.Layout.{data_sectors, first_data};
 ghost use Rattle.labelled_disk.specs.Sectors.{Sector};
-ghost use Rattle.label_survey.specs.Standings.{AreStandings};
-ghost use Rattle.volume_view.specs.Leftovers.{is_stray, AreLeftovers};
-ghost use Rattle.volume_view.specs.Strays.{AreStrays};
+ghost use Rattle.label_survey.specs.SectorStates.{AreSectorStates};
+ghost use Rattle.volume_view.specs.Leftovers.{is_orphan, AreLeftovers};
+ghost use Rattle.volume_view.specs.Orphans.{AreOrphans};
 
 use crate::rows::join_pages;
-use label_survey::{Run, Standing, Triple};
+use label_survey::{Run, SectorState, Triple};
 use labelled_disk::Label;
 use std::alloc::{AllocError, Allocator};
 
 // Whether the sector is neither free nor of a permanent file.
-fn is_stray(standing: Standing) -> bool
-    ensures { result ≡ is_stray standing }
+fn is_orphan(sector_state: SectorState) -> bool
+    ensures { result ≡ is_orphan sector_state }
 {
-    match standing {
-        Standing::Stray => true,
-        Standing::Free => false,
-        Standing::Lost => false,
-        Standing::Leader => false,
-        Standing::Page => false,
+    match sector_state {
+        SectorState::Orphan => true,
+        SectorState::Free => false,
+        SectorState::Lost => false,
+        SectorState::Leader => false,
+        SectorState::Page => false,
     }
 }
 
@@ -36,16 +36,16 @@ fn collect_leftovers<A: Allocator>(
     alloc: A,
     first: u32,
     labels: &[Label],
-    standings: &[Standing],
+    sector_states: &[SectorState],
 ) -> Result<Vec<Triple, A>, AllocError>
     requires few { first + length labels.now < 2 ^ 32 }
-    requires same_length { length standings.now ≡ length labels.now }
+    requires same_length { length sector_states.now ≡ length labels.now }
     ensures { IfOk result (λ triples.
-        AreStrays first labels.now standings.now (length labels.now) triples.items) }
+        AreOrphans first labels.now sector_states.now (length labels.now) triples.items) }
 {
     let mut triples = Vec::new(alloc);
     for i in 0..labels.len() {
-        if is_stray(standings[i]) {
+        if is_orphan(sector_states[i]) {
             let label = &labels[i];
             triples.push(Triple {
                 id: label.id,
@@ -62,15 +62,15 @@ pub(crate) fn leftovers_of<A: Allocator + Clone>(
     alloc: A,
     first: u32,
     labels: &[Label],
-    standings: &[Standing],
+    sector_states: &[SectorState],
 ) -> Result<Vec<Run, A>, AllocError>
     requires few { first + length labels.now < 2 ^ 32 }
-    requires same_length { length standings.now ≡ length labels.now }
+    requires same_length { length sector_states.now ≡ length labels.now }
     ensures { IfOk result (λ runs. (d : List Sector) → first ≡ first_data (length d)
-        → labels.now ≡ map (λ s. s.0) (data_sectors d) → AreStandings d standings.now
+        → labels.now ≡ map (λ s. s.0) (data_sectors d) → AreSectorStates d sector_states.now
         → AreLeftovers d runs.items) }
 {
-    let mut triples = collect_leftovers(alloc.clone()?, first, labels, standings)?;
+    let mut triples = collect_leftovers(alloc.clone()?, first, labels, sector_states)?;
     sort_triples(&mut triples);
     Ok(join_pages(alloc, &triples)?)
 }

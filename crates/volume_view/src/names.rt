@@ -8,7 +8,7 @@ ghost use Rattle.file_map.specs.FileMap.{Triples};
 ghost use Rattle.file_map.specs.InSectors.{MapNames, label_triples, map_bytes};
 ghost use Rattle.volume_root.specs.Sound.{HasFileMap};
 ghost use Rattle.volume_view.specs.Form.{HasForm};
-ghost use Rattle.volume_view.specs.Names.{labelled, AreNone, NamesIn, IsComparison, IsToldOf, SaysForm, SaysAlike, SaysAgree};
+ghost use Rattle.volume_view.specs.Names.{labelled, AreNone, NamesIn, IsComparison, IsRevealedOf, SaysForm, SaysAlike, SaysAgree};
 ghost use Rattle.volume_view.specs.Pages.{IsDiskOrMemory, SaysNamed};
 ghost use Rattle.volume_view.specs.Recorded.{AreReadAlike};
 ghost use Rattle.volume_view.specs.Records.{IsNoMemory};
@@ -85,9 +85,9 @@ pub(crate) fn look_at_names<A: Allocator + Clone, D: Disk>(
     requires layout { layout.now ≡ layout_of (D.state disk.old).sectors }
     requires all { length labels.now
         ≡ (D.state disk.old).sectors - first_data (D.state disk.old).sectors }
-    ensures told { IfOk result (λ names. (d : List Sector) → (D.state disk.old).contents ≡ Some d
+    ensures revealed { IfOk result (λ names. (d : List Sector) → (D.state disk.old).contents ≡ Some d
         → labels.now ≡ map (λ s. s.0) (data_sectors d)
-        → (named : Triples) → MapNames d named → IsToldOf named d names) }
+        → (named : Triples) → MapNames d named → IsRevealedOf named d names) }
     ensures form { IfOk result (λ names. (d : List Sector) → (D.state disk.old).contents ≡ Some d
         → labels.now ≡ map (λ s. s.0) (data_sectors d)
         → SaysForm names (HasForm (length d) (map_bytes d))) }

@@ -24,7 +24,7 @@ fn put_page<A: Allocator>(mem: &mut VecMem<A>, index: u32, page: &Page)
     }
 }
 
-/// The pages of a map in so many sectors from this one on, one behind the other. Where a label isn't
+/// The pages of a map in so many sectors from this one on, one after the other. Where a label isn't
 /// that of its page, `labelled` is false afterwards. The memory is taken before the first is read.
 pub(crate) fn read_pages<A: Allocator, D: Disk>(
     alloc: A,

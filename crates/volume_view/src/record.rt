@@ -17,7 +17,7 @@ pub(crate) fn key_of(run: Run) -> [u8; 12]
     [i0, i1, i2, i3, i4, i5, i6, i7, p0, p1, p2, p3]
 }
 
-// The run that a record tells, whatever its form is.
+// The run that a record reveals, whatever its form is.
 #[tactic(auto, unfolding(file_map::specs::Run::run_in))]
 fn run_of(bytes: &[u8]) -> Run
     requires { length bytes.now ≡ 24 }
@@ -55,7 +55,7 @@ fn ends_in_zeros(bytes: &[u8; 24]) -> bool
     u32::from_be_bytes([bytes[20], bytes[21], bytes[22], bytes[23]]) == 0
 }
 
-// The run that a record tells, or none where the record breaks its form on a volume of so many
+// The run that a record reveals, or none where the record breaks its form on a volume of so many
 // sectors, of which `first` is the first data sector.
 fn read_record(bytes: &[u8; 24], first: u32, sectors: u32) -> Option<Run>
     requires { first ≡ first_data sectors }
@@ -70,7 +70,7 @@ fn read_record(bytes: &[u8; 24], first: u32, sectors: u32) -> Option<Run>
     None
 }
 
-// Whether a run begins behind the end of the one before it, by identifier and page.
+// Whether a run begins after the end of the one before it, by identifier and page.
 fn follows(last: Run, run: Run) -> bool
     ensures all { Follows last run → result ≡ true }
     ensures right { result ≡ true → Follows last run }
@@ -79,9 +79,9 @@ fn follows(last: Run, run: Run) -> bool
     run.id > last.id || run.id == last.id && u64::from(run.first) >= end
 }
 
-/// The run that a record tells, or none where the record breaks its form, or doesn't begin behind
+/// The run that a record reveals, or none where the record breaks its form, or doesn't begin after
 /// the end of the last run.
-pub(crate) fn read_behind(last: Run, bytes: &[u8; 24], first: u32, sectors: u32) -> Option<Run>
+pub(crate) fn read_after(last: Run, bytes: &[u8; 24], first: u32, sectors: u32) -> Option<Run>
     requires { first ≡ first_data sectors }
     ensures form { IfSome result (λ run. IsRun sectors run) }
     ensures same { IfSome result (λ run. bytes.now ≡ run_bytes run) }

@@ -7,7 +7,7 @@ ghost use Rattle.page_tree.specs.Page.{page_at, count_in};
 ghost use Rattle.volume_view.specs.Recorded.{AllStand, StandsInLeaf};
 ghost use Rattle.volume_view.specs.Records.{AreRunsOfMap, AreAllInForm, IsInForm, IsNoMemory, IsStep, last_of};
 
-use crate::record::{key_of, read_behind};
+use crate::record::{key_of, read_after};
 use crate::stop::Stop;
 use file_map::Run;
 use flat_mem::VecMem;
@@ -32,7 +32,7 @@ fn count_of<A: Allocator>(map: &mut VecMem<A>, sectors: u32) -> Result<u32, Stop
     }
 }
 
-// The run of the first record behind that of the last run, or none where there is no such record.
+// The run of the first record after that of the last run, or none where there is no such record.
 fn next_run<A: Allocator>(
     map: &mut VecMem<A>,
     layout: &Layout,
@@ -51,7 +51,7 @@ fn next_run<A: Allocator>(
 {
     let mut bytes = [0; 24];
     match PageTree::<&mut VecMem<A>, 24, 12>::over(map).look_after_at(&key_of(last), &mut bytes) {
-        Ok(Some(page)) => match read_behind(last, &bytes, layout.first, layout.sectors) {
+        Ok(Some(page)) => match read_after(last, &bytes, layout.first, layout.sectors) {
             Some(run) => Ok(Some(run)),
             None => Err(Stop::Broken { page }),
         },
@@ -62,7 +62,7 @@ fn next_run<A: Allocator>(
     }
 }
 
-// The runs that were read, where there is no record behind that of the last.
+// The runs that were read, where there is no record after that of the last.
 fn end_of<A: Allocator>(
     map: &mut VecMem<A>,
     layout: &Layout,
@@ -86,7 +86,7 @@ fn end_of<A: Allocator>(
     }
 }
 
-/// The runs of the map, as many as its header counts, each behind the one before. Where there are
+/// The runs of the map, as many as its header counts, each after the one before. Where there are
 /// fewer or more, the header is what breaks the form.
 pub(crate) fn read_runs<A: Allocator>(
     alloc: A,

@@ -27,7 +27,7 @@ fn run_of(page: Triple) -> Run
     }
 }
 
-/// Adds a page behind those of the runs: to the last run where it goes that on, or as a run of its own.
+/// Adds a page after those of the runs: to the last run where it goes that on, or as a run of its own.
 pub(crate) fn add_page<A: Allocator>(runs: &mut Vec<Run, A>, page: Triple) -> Result<(), AllocError>
     requires few { (page.sector + 1 < 2 ^ 32)
         ⊎ (length (all_triples runs.old.items) + 1 < 2 ^ 32) }

@@ -23,10 +23,10 @@ pub struct View<A: Allocator> {
     pub layout: Layout,
     /// The root, closed or not, or why there is none.
     pub root: Result<Root, RootFault>,
-    /// The labels of the data sectors, rising.
+    /// The labels of the data sectors, ascending.
     pub labels: Vec<Label, A>,
     pub found: Found<A>,
-    /// The sectors, rising, of which the allocation map says something else than the labels.
+    /// The sectors, ascending, of which the allocation map says something else than the labels.
     pub bits: Vec<BitRun, A>,
     pub names: Names<A>,
     /// The labels of both maps' sectors are those of their pages.

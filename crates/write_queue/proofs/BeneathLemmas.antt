@@ -7,11 +7,11 @@ use Rattle.labelled_disk.specs.declared.disk.DiskError.TheVariants.{Wrong}
 use Rattle.labelled_disk.specs.declared.disk.DiskWrite.{DiskWrite}
 use Rattle.labelled_disk.specs.declared.label.Label.{Label}
 use Rattle.labelled_disk.specs.declared.label.Wanted.{Wanted}
-use Rattle.labelled_disk.specs.Calls.{Reads, TellsSame, TellsWrite, Writes}
+use Rattle.labelled_disk.specs.Calls.{Reads, RevealsSame, RevealsWrite, Writes}
 use Rattle.labelled_disk.specs.Label.{names}
 use Rattle.labelled_disk.specs.State.{DiskState}
 use Rattle.labelled_disk.specs.WriteRuns.{Appended}
-use Rattle.labelled_disk.proofs.CallLemmas.{tells_same_itself, tells_same_then, tells_write_later}
+use Rattle.labelled_disk.proofs.CallLemmas.{reveals_same_itself, reveals_same_then, reveals_write_later}
 use Rattle.labelled_disk.proofs.WriteRunLemmas.{appended_one, appended_then, appended_no_more}
 use Rattle.write_queue.specs.declared.entry.Entry.{Entry}
 use Rattle.write_queue.specs.Beneath.{Empties, FirstOut, IsStill, Meets, MetNone, MetOther, PassesOn, ReadsOne, StopsAfter, TakesIn}
@@ -74,7 +74,7 @@ emptied old (Err e) new s met = record { swept = s.swept; sweeps = s.sweeps; hea
     either (inr made) = inr (s.part.0, s.part.1, made)
 
 -- and no more was written then
-pub emptied_then : (old mid : View) (x : Unit {0}) (under : DiskState) (r : Result (Unit {0}) DiskError) → Empties old (Ok x) mid → TellsSame mid.under under → Empties old r (over mid under)
+pub emptied_then : (old mid : View) (x : Unit {0}) (under : DiskState) (r : Result (Unit {0}) DiskError) → Empties old (Ok x) mid → RevealsSame mid.under under → Empties old r (over mid under)
 emptied_then old mid x under (Ok y) e same = record {
   swept = e.swept;
   sweeps = e.sweeps;
@@ -115,7 +115,7 @@ passed w old mid x under (Err y) e made = record {
   met = (tt, inl e.met.0);
 }
   where
-    either : TellsSame mid.under under ⊎ TellsWrite w mid.under under
+    either : RevealsSame mid.under under ⊎ RevealsWrite w mid.under under
         → StopsAfter e.swept old (over mid under) ⊎ ((mid.waiting ≡ []) × Appended (map page_write e.swept ++ w ∷ []) old.under under)
     either (inl same) = inl (inl (appended_no_more (map page_write e.swept) e.all.1 same))
     either (inr t) = inr (e.all.0, appended_then (map page_write e.swept) (w ∷ []) e.all.1 (appended_one w t))
@@ -127,7 +127,7 @@ takes_wrong v place e f wanted page once is at differs =
     let same : e ≡ f = same_Some e f (sym is ∙ at) in
     record {
       taken = tt;
-      left = record { waiting = refl; head = refl; beneath = inl (tells_same_itself v.under) };
+      left = record { waiting = refl; head = refl; beneath = inl (reveals_same_itself v.under) };
       waits = λ x waits.
           let one : f ≡ x = same_Some f x (sym (stands_waiting v.waiting once place f at e.sector (ap (λ (y : Entry). y.sector) (sym same))) ∙ waits) in
           (sym (ap (λ (y : Entry). if names y.label wanted then Ok tt else Err (Wrong y.label)) (sym one) ∙ ap (λ (b : _). if b then Ok tt else Err (Wrong f.label)) differs), refl);
@@ -152,7 +152,7 @@ takes_again v place e f wanted page once is at named =
         has_page = refl;
         rest = v.waiting;
         put = waiting-set v.waiting place f new at refl once;
-        made = inl (record { waiting = refl; head = refl; same = tells_same_itself v.under }, (λ none. absurd (none-some f (sym none ∙ there))));
+        made = inl (record { waiting = refl; head = refl; same = reveals_same_itself v.under }, (λ none. absurd (none-some f (sym none ∙ there))));
       };
       left = tt;
       waits = λ x waits.
@@ -163,7 +163,7 @@ takes_again v place e f wanted page once is at named =
     }
 
 -- the label beneath was not read, or doesn't name the page
-pub takes_none : (v : View) (under : DiskState) (sector : ℕ) (wanted : Wanted) (page : List ℕ) (y : DiskError) → waiting_at v.waiting sector ≡ None → TellsSame v.under under
+pub takes_none : (v : View) (under : DiskState) (sector : ℕ) (wanted : Wanted) (page : List ℕ) (y : DiskError) → waiting_at v.waiting sector ≡ None → RevealsSame v.under under
     → under.transfers ≤ v.under.transfers + 1 → TakesIn sector wanted page v (Err y) (over v under)
 takes_none v under sector wanted page y free same few = record {
   taken = tt;
@@ -174,7 +174,7 @@ takes_none v under sector wanted page y free same few = record {
 }
 
 -- the label was read, and no room could be made
-pub takes_no_room : (v : View) (under : DiskState) (new : View) (sector : ℕ) (wanted : Wanted) (page : List ℕ) (y : DiskError) → waiting_at v.waiting sector ≡ None → TellsSame v.under under
+pub takes_no_room : (v : View) (under : DiskState) (new : View) (sector : ℕ) (wanted : Wanted) (page : List ℕ) (y : DiskError) → waiting_at v.waiting sector ≡ None → RevealsSame v.under under
     → under.transfers ≤ v.under.transfers + 1 → new.under.transfers ≤ under.transfers + 1 → RoomMade (over v under) (Err y) new → TakesIn sector wanted page v (Err y) new
 takes_no_room v under new sector wanted page y free same few more room = record {
   taken = tt;
@@ -184,13 +184,13 @@ takes_no_room v under new sector wanted page y free same few more room = record 
   few = omega (arith, few, more);
 }
   where
-    either : TellsSame under new.under ⊎ ((first : Entry) × (length v.waiting ≡ v.room) × IsFirst v.head v.waiting first × TellsWrite (page_write first) under new.under)
-        → TellsSame v.under new.under ⊎ ((first : Entry) × (length v.waiting ≡ v.room) × IsFirst v.head v.waiting first × TellsWrite (page_write first) v.under new.under)
-    either (inl s) = inl (tells_same_then same s)
-    either (inr w) = inr (w.0, w.1, w.2, tells_write_later (page_write w.0) same w.3)
+    either : RevealsSame under new.under ⊎ ((first : Entry) × (length v.waiting ≡ v.room) × IsFirst v.head v.waiting first × RevealsWrite (page_write first) under new.under)
+        → RevealsSame v.under new.under ⊎ ((first : Entry) × (length v.waiting ≡ v.room) × IsFirst v.head v.waiting first × RevealsWrite (page_write first) v.under new.under)
+    either (inl s) = inl (reveals_same_then same s)
+    either (inr w) = inr (w.0, w.1, w.2, reveals_write_later (page_write w.0) same w.3)
 
 -- the label was read and room was made, and one page more waits
-pub takes_more : (v : View) (under : DiskState) (mid : View) (e : Entry) → waiting_at v.waiting e.sector ≡ None → TellsSame v.under under
+pub takes_more : (v : View) (under : DiskState) (mid : View) (e : Entry) → waiting_at v.waiting e.sector ≡ None → RevealsSame v.under under
     → under.transfers ≤ v.under.transfers + 1 → mid.under.transfers ≤ under.transfers + 1 → RoomMade (over v under) (Ok tt) mid → IsOnce mid.waiting → waiting_at mid.waiting e.sector ≡ None
     → TakesIn e.sector e.wanted e.page v (Ok tt) (with_waiting mid (mid.waiting ++ e ∷ []))
 takes_more v under mid e free same few more room once none = record {
@@ -212,7 +212,7 @@ takes_more v under mid e free same few more room once none = record {
     either : (IsStill (over v under) mid.waiting mid × (length v.waiting < v.room)) ⊎ FirstOut (over v under) mid.waiting mid
         → (IsStill v mid.waiting (with_waiting mid (mid.waiting ++ e ∷ [])) × (waiting_at v.waiting e.sector ≡ None → length v.waiting < v.room))
         ⊎ (FirstOut v mid.waiting (with_waiting mid (mid.waiting ++ e ∷ [])) × (waiting_at v.waiting e.sector ≡ None))
-    either (inl still) = inl (record { waiting = still.0.waiting; head = still.0.head; same = tells_same_then same still.0.same }, (λ n. still.1))
+    either (inl still) = inl (record { waiting = still.0.waiting; head = still.0.head; same = reveals_same_then same still.0.same }, (λ n. still.1))
     either (inr out) = inr (
       record {
         full = out.full;
@@ -220,14 +220,14 @@ takes_more v under mid e free same few more room once none = record {
         is_first = out.is_first;
         less = out.less;
         head = out.head;
-        wrote = tells_write_later (page_write out.first) same out.wrote;
+        wrote = reveals_write_later (page_write out.first) same out.wrote;
       },
       free,
     )
 
 -- there was room
 pub room_there : (v : View) → length v.waiting < v.room → RoomMade v (Ok tt) v
-room_there v room = record { made = inl (record { waiting = refl; head = refl; same = tells_same_itself v.under }, room); left = tt; met = ((refl, refl), tt) }
+room_there v room = record { made = inl (record { waiting = refl; head = refl; same = reveals_same_itself v.under }, room); left = tt; met = ((refl, refl), tt) }
 
 -- the first page was written out, or it waits still
 pub room_out : (old : View) (r : Result (Unit {0}) DiskError) (new : View) → length old.waiting ≡ old.room → WritesOut old.head old.waiting old.under r new.under new.waiting new.head → Meets old r new → RoomMade old r new
@@ -238,7 +238,7 @@ room_out old (Ok x) new full out met = record {
 }
 room_out old (Err y) new full out met = record { made = tt; left = record { waiting = out.stays.0; head = out.stays.1; beneath = either out.stays.2 }; met = met }
   where
-    either : TellsSame old.under new.under ⊎ TellsWrite (page_write out.first) old.under new.under
-        → TellsSame old.under new.under ⊎ ((first : Entry) × (length old.waiting ≡ old.room) × IsFirst old.head old.waiting first × TellsWrite (page_write first) old.under new.under)
+    either : RevealsSame old.under new.under ⊎ RevealsWrite (page_write out.first) old.under new.under
+        → RevealsSame old.under new.under ⊎ ((first : Entry) × (length old.waiting ≡ old.room) × IsFirst old.head old.waiting first × RevealsWrite (page_write first) old.under new.under)
     either (inl same) = inl same
     either (inr wrote) = inr (out.first, full, out.is_first, wrote)

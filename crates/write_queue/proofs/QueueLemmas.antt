@@ -7,19 +7,19 @@ use Rattle.labelled_disk.specs.declared.disk.DiskError.{DiskError}
 use Rattle.labelled_disk.specs.declared.disk.DiskError.TheVariants as err
 use Rattle.labelled_disk.specs.declared.disk.DiskWrite.{DiskWrite}
 use Rattle.labelled_disk.specs.declared.disk.DiskWrite.TheVariants.{Page}
-use Rattle.labelled_disk.proofs.CallLemmas.{tells_write_later, tells_same_then, rose_earlier}
+use Rattle.labelled_disk.proofs.CallLemmas.{reveals_write_later, reveals_same_then, rose_earlier}
 use Rattle.labelled_disk.specs.Label.{names}
-use Rattle.labelled_disk.specs.Calls.{Moved, Moves, Rose, TellsSame, TellsWrite, Reads, Writes, WritesData}
+use Rattle.labelled_disk.specs.Calls.{Moved, Moves, Rose, RevealsSame, RevealsWrite, Reads, Writes, WritesData}
 use Rattle.labelled_disk.specs.Sectors.{Sector, IsSector}
 use Rattle.labelled_disk.specs.State.{DiskState, Holds, NamesThere}
 use Rattle.write_queue.specs.declared.entry.Entry.{Entry}
 use Rattle.write_queue.specs.Entries.{AreWaiting, IsOnce, Waits, waiting_at, laid}
 use Rattle.write_queue.specs.Inside.{LabelsStay, MakesRoom}
 use Rattle.write_queue.specs.Queue.{StandsBeneath, queued}
-use Rattle.write_queue.specs.QueueLaws.{told_before}
+use Rattle.write_queue.specs.QueueLaws.{revealed_before}
 use Rattle.write_queue.specs.View.{View}
 use Rattle.write_queue.proofs.LaidLemmas.{labels-laid, laid-none}
-use Rattle.write_queue.proofs.WaitLemmas.{told_put, told_waiting, told_beneath, told_through, waits_again}
+use Rattle.write_queue.proofs.WaitLemmas.{revealed_put, revealed_waiting, revealed_beneath, revealed_through, waits_again}
 use Rattle.write_queue.proofs.ListLemmas.{stands_waiting, waiting-set, waiting-added}
 use Rattle.std.proofs.lemmas.Option.{same_Some}
 
@@ -32,19 +32,19 @@ pub data_wrong : (under : DiskState) (es : List Entry) (transfers own : ℕ) (e 
 data_wrong under es transfers own e wanted page waits w differs = record {
   written = tt;
   named = tt;
-  wrong = (differs, (λ d told. ap (option_map (λ (s : Sector). s.0)) (told_waiting under es e waits w d told)), record { contents = refl; writes = refl });
+  wrong = (differs, (λ d revealed. ap (option_map (λ (s : Sector). s.0)) (revealed_waiting under es e waits w d revealed)), record { contents = refl; writes = refl });
   whole_or_absent = tt;
   cause = tt;
   moves = moves_itself (queued under es transfers own);
 }
 
--- a page waits, and it is told
+-- a page waits, and it is revealed
 pub data_put : (under : DiskState) (es fs : List Entry) (transfers own : ℕ) (f : Entry) → ((k : ℕ) → waiting_at fs k ≡ (if f.sector == k then Some f else waiting_at es k)) → Waits under f
     → WritesData f.sector f.wanted f.page (queued under es transfers own) (Ok tt) (queued under fs transfers own)
 data_put under es fs transfers own f put w = record {
-  written = record { contents = told_put under es fs f put w; writes = refl };
-  named = λ d told.
-      let t = told_before (laid es) under.contents d told in
+  written = record { contents = revealed_put under es fs f put w; writes = refl };
+  named = λ d revealed.
+      let t = revealed_before (laid es) under.contents d revealed in
       named t.0 d t.2 (w.stands t.0 t.1);
   wrong = tt;
   whole_or_absent = tt;
@@ -61,15 +61,15 @@ data_put under es fs transfers own f put w = record {
     named : (b d : List Sector) → laid es b ≡ d → option_map (λ (s : Sector). s.0) (slice_get b f.sector) ≡ Some f.label → option_map (λ (s : Sector). names s.0 f.wanted) (slice_get d f.sector) ≡ Some true
     named b d is label = says (slice_get d f.sector) (ap (λ (x : List Sector). option_map (λ (s : Sector). s.0) (slice_get x f.sector)) (sym is) ∙ labels-laid es b f.sector ∙ label)
 
--- the call begins later, where all was as it is told now
-module _ (old mid new : DiskState) (same : TellsSame old mid) (sectors : mid.sectors ≡ old.sectors) (lent : mid.lent ≡ old.lent) (moved : Moved old.transfers new.transfers) (faults : old.faults ≤ mid.faults) where
+-- the call begins later, where all was as it is revealed now
+module _ (old mid new : DiskState) (same : RevealsSame old mid) (sectors : mid.sectors ≡ old.sectors) (lent : mid.lent ≡ old.lent) (moved : Moved old.transfers new.transfers) (faults : old.faults ≤ mid.faults) where
   moves-from : Moves mid new → Moves old new
   moves-from m = record { sectors = m.sectors ∙ sectors; lent = m.lent ∙ lent; transfers = moved; faults = omega (arith, faults, m.faults) }
 
   pub data_from : (n : ℕ) (wanted : Wanted) (page : List ℕ) (r : Result (Unit {0}) DiskError) → WritesData n wanted page mid r new → WritesData n wanted page old r new
   data_from n wanted page (Ok x) w = record {
-    written = tells_write_later (Page n wanted page) same w.written;
-    named = λ d told. w.named d (same.contents ∙ told);
+    written = reveals_write_later (Page n wanted page) same w.written;
+    named = λ d revealed. w.named d (same.contents ∙ revealed);
     wrong = tt;
     whole_or_absent = tt;
     cause = tt;
@@ -84,13 +84,13 @@ module _ (old mid new : DiskState) (same : TellsSame old mid) (sectors : mid.sec
     moves = moves-from w.moves;
   }
     where
-      either : TellsSame mid new ⊎ (TellsWrite (Page n wanted page) mid new × NamesThere mid n wanted true) → TellsSame old new ⊎ (TellsWrite (Page n wanted page) old new × NamesThere old n wanted true)
-      either (inl s) = inl (tells_same_then same s)
-      either (inr w) = inr (tells_write_later (Page n wanted page) same w.0, (λ d told. w.1 d (same.contents ∙ told)))
+      either : RevealsSame mid new ⊎ (RevealsWrite (Page n wanted page) mid new × NamesThere mid n wanted true) → RevealsSame old new ⊎ (RevealsWrite (Page n wanted page) old new × NamesThere old n wanted true)
+      either (inl s) = inl (reveals_same_then same s)
+      either (inr w) = inr (reveals_write_later (Page n wanted page) same w.0, (λ d revealed. w.1 d (same.contents ∙ revealed)))
   data_from n wanted page (Err (err.Wrong found)) w = record {
     written = tt;
     named = tt;
-    wrong = (w.wrong.0, (λ d told. w.wrong.1 d (same.contents ∙ told)), tells_same_then same w.wrong.2);
+    wrong = (w.wrong.0, (λ d revealed. w.wrong.1 d (same.contents ∙ revealed)), reveals_same_then same w.wrong.2);
     whole_or_absent = tt;
     cause = tt;
     moves = moves-from w.moves;
@@ -98,7 +98,7 @@ module _ (old mid new : DiskState) (same : TellsSame old mid) (sectors : mid.sec
 
   pub writes_from : (w : DiskWrite) (r : Result (Unit {0}) DiskError) → Writes w mid r new → Writes w old r new
   writes_from w (Ok x) h = record {
-    written = tells_write_later w same h.written;
+    written = reveals_write_later w same h.written;
     whole_or_absent = tt;
     moves = moves-from h.moves;
     fails = record { failed = tt; cause = tt };
@@ -110,9 +110,9 @@ module _ (old mid new : DiskState) (same : TellsSame old mid) (sectors : mid.sec
     fails = record { failed = h.fails.failed; cause = rose_earlier old.faults mid.faults new.faults faults h.fails.cause };
   }
     where
-      either : TellsSame mid new ⊎ TellsWrite w mid new → TellsSame old new ⊎ TellsWrite w old new
-      either (inl s) = inl (tells_same_then same s)
-      either (inr t) = inr (tells_write_later w same t)
+      either : RevealsSame mid new ⊎ RevealsWrite w mid new → RevealsSame old new ⊎ RevealsWrite w old new
+      either (inl s) = inl (reveals_same_then same s)
+      either (inr t) = inr (reveals_write_later w same t)
 
 -- the same, by the place where it waits
 pub data_wrong_at : (under : DiskState) (es : List Entry) (transfers own place : ℕ) (e f : Entry) (wanted : Wanted) (page : List ℕ) → AreWaiting under es → slice_get es place ≡ Some e → slice_get es place ≡ Some f
@@ -139,7 +139,7 @@ data_other u v es t own sector label found wanted page read free differs = recor
   named = tt;
   wrong = (
     differs,
-    (λ d told. ap (option_map (λ (s : Sector). s.0)) (told_beneath u es sector (label, found) free read.found d told)),
+    (λ d revealed. ap (option_map (λ (s : Sector). s.0)) (revealed_beneath u es sector (label, found) free read.found d revealed)),
     record { contents = ap (option_map (laid es)) read.same.contents; writes = refl },
   );
   whole_or_absent = tt;
@@ -154,7 +154,7 @@ waits_read u v w sector label found wanted page read inside named form sectors s
   inside = omega (arith, inside, sectors, read.moves.sectors);
   in_form = form;
   named = named;
-  stands = stay sector label (λ d told. ap (option_map (λ (s : Sector). s.0)) (read.found d (sym read.same.contents ∙ told)));
+  stands = stay sector label (λ d revealed. ap (option_map (λ (s : Sector). s.0)) (read.found d (sym read.same.contents ∙ revealed)));
 }
 
 -- a page was taken in, after the label was read and room was made
@@ -162,10 +162,10 @@ pub data_taken : (u v w : DiskState) (es left : List Entry) (t own more sector :
     → option_map (laid left) w.contents ≡ option_map (laid es) v.contents → MakesRoom v es w left → min (v.faults + own) (2 ^ 64 - 1) ≤ min (w.faults + more) (2 ^ 64 - 1) → IsOnce left
     → waiting_at es sector ≡ None → Waits w (record { sector = sector; wanted = wanted; label = label; page = page })
     → WritesData sector wanted page (queued u es t own) (Ok tt) (queued w (left ++ (record { sector = sector; wanted = wanted; label = label; page = page }) ∷ []) t more)
-data_taken u v w es left t own more sector label found wanted page read told made faults once free waits =
+data_taken u v w es left t own more sector label found wanted page read revealed made faults once free waits =
     let e : Entry = record { sector = sector; wanted = wanted; label = label; page = page } in
     data_from (queued u es t own) (queued w left t more) (queued w (left ++ e ∷ []) t more)
-    (record { contents = told ∙ ap (option_map (laid es)) read.same.contents; writes = refl })
+    (record { contents = revealed ∙ ap (option_map (laid es)) read.same.contents; writes = refl })
     (made.sectors ∙ read.moves.sectors) (made.lent ∙ read.moves.lent) (record { later = omega arith; by_one = omega arith })
     (omega (arith, faults, read.moves.faults)) sector wanted page (Ok tt)
     (data_put w left (left ++ e ∷ []) t more e (waiting-added left e (made.free sector free) once) waits)
@@ -177,7 +177,7 @@ reads_waiting u es t own counted place sector e f moved are is there at =
     let same : e ≡ f = same_Some e f (sym is ∙ at) in
     let here : f.sector ≡ sector = ap (λ (x : Entry). x.sector) (sym same) ∙ there in
     record {
-      found = λ d told. ap (λ (k : ℕ). slice_get d k) (sym here) ∙ told_waiting u es f (stands_waiting es are.once place f at f.sector refl) (are.each place f at) d told;
+      found = λ d revealed. ap (λ (k : ℕ). slice_get d k) (sym here) ∙ revealed_waiting u es f (stands_waiting es are.once place f at f.sector refl) (are.each place f at) d revealed;
       same = record { contents = refl; writes = refl };
       moves = record { sectors = refl; lent = refl; transfers = moved; faults = omega arith };
       fails = record { failed = tt; cause = tt };
@@ -206,7 +206,7 @@ reads_beneath u v es t own counted sector page r moved free read = record {
 }
   where
     found : (r : Result Label DiskError) → IfOk r (λ label. Holds u sector (label, page)) → IfOk r (λ label. Holds (queued u es t own) sector (label, page))
-    found (Ok label) holds = told_beneath u es sector (label, page) free holds
+    found (Ok label) holds = revealed_beneath u es sector (label, page) free holds
     found (Err e) holds = tt
 
     cause : (r : Result Label DiskError) → OnErr r (Rose u.faults v.faults) → OnErr r (Rose (min (u.faults + own) (2 ^ 64 - 1)) (min (v.faults + own) (2 ^ 64 - 1)))
@@ -216,7 +216,7 @@ reads_beneath u v es t own counted sector page r moved free read = record {
 -- a write is passed on, where nothing waits
 pub writes_beneath : (u v : DiskState) (own : ℕ) (w : DiskWrite) (t counted : ℕ) (r : Result (Unit {0}) DiskError) → Moved t counted → Writes w u r v → Writes w (queued u [] t own) r (queued v [] counted own)
 writes_beneath u v own w t counted (Ok x) moved h = record {
-  written = record { contents = told_through u v w h.written; writes = refl };
+  written = record { contents = revealed_through u v w h.written; writes = refl };
   whole_or_absent = tt;
   moves = record { sectors = h.moves.sectors; lent = h.moves.lent; transfers = moved; faults = omega (arith, h.moves.faults) };
   fails = record { failed = tt; cause = tt };
@@ -228,18 +228,18 @@ writes_beneath u v own w t counted (Err e) moved h = record {
   fails = record { failed = h.fails.failed; cause = (let rose = h.fails.cause in omega (arith, rose)) };
 }
   where
-    either : TellsSame u v ⊎ TellsWrite w u v → TellsSame (queued u [] t own) (queued v [] counted own) ⊎ TellsWrite w (queued u [] t own) (queued v [] counted own)
+    either : RevealsSame u v ⊎ RevealsWrite w u v → RevealsSame (queued u [] t own) (queued v [] counted own) ⊎ RevealsWrite w (queued u [] t own) (queued v [] counted own)
     either (inl s) = inl (record { contents = ap (option_map (laid [])) s.contents; writes = refl })
-    either (inr made) = inr (record { contents = told_through u v w made; writes = refl })
+    either (inr made) = inr (record { contents = revealed_through u v w made; writes = refl })
 
 -- a write is passed on, after all that waited was written
 pub writes_swept : (u mid v : DiskState) (es left : List Entry) (t own counted more : ℕ) (w : DiskWrite) (r : Result (Unit {0}) DiskError) → left ≡ []
     → option_map (laid left) mid.contents ≡ option_map (laid es) u.contents → mid.sectors ≡ u.sectors → mid.lent ≡ u.lent → Moved t counted
     → min (u.faults + own) (2 ^ 64 - 1) ≤ min (mid.faults + more) (2 ^ 64 - 1) → Writes w mid r v → Writes w (queued u es t own) r (queued v left counted more)
-writes_swept u mid v es left t own counted more w r none told sectors lent moved faults made =
+writes_swept u mid v es left t own counted more w r none revealed sectors lent moved faults made =
     subst (λ (l : List Entry). option_map (laid l) mid.contents ≡ option_map (laid es) u.contents → Writes w (queued u es t own) r (queued v l counted more)) (sym none)
     (λ same. writes_from (queued u es t own) (queued mid [] counted more) (queued v [] counted more) (record { contents = same; writes = refl }) sectors lent moved faults w r
-    (writes_beneath mid v more w counted counted r (record { later = omega arith; by_one = omega arith }) made)) told
+    (writes_beneath mid v more w counted counted r (record { later = omega arith; by_one = omega arith }) made)) revealed
 
 -- another page waits, and the call was counted before
 pub data_replaced : (u v : DiskState) (es fs : List Entry) (t own counted later more place sector : ℕ) (e : Entry) (wanted : Wanted) (page : List ℕ) (r : Result (Unit {0}) DiskError) → Moved t counted → later ≡ counted
@@ -256,7 +256,7 @@ data_later u v es fs t own counted later more n wanted page r moved same w =
     data_from (queued u es t own) (queued u es counted own) (queued v fs later more) (record { contents = refl; writes = refl }) refl refl
     (record { later = omega (arith, moved.later, same); by_one = omega (arith, moved.by_one, same) }) (omega arith) n wanted page r w
 
--- where the queue is synced nothing waits, and what it tells is what stands beneath
+-- where the queue is synced nothing waits, and what it reveals is what stands beneath
 pub synced_beneath : (v : View) (t : ℕ) → (queued v.under v.waiting t v.own).synced ≡ true → StandsBeneath (queued v.under v.waiting t v.own) v
 synced_beneath v t is =
     let b = both (length v.waiting == 0) v.under.synced is in

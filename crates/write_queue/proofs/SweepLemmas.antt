@@ -74,12 +74,12 @@ rise-more e xs first rest (suc j) (suc k) a b p q less = rest j k a b p q (omega
 sweep_more : (head : ℕ) (es : List Entry) (e : Entry) (swept : List Entry) → AreShort es → (is : Sweeps head es (e ∷ swept) []) → IsSweep e.sector is.0 swept → IsSweep head es (e ∷ swept)
 sweep_more head es e swept short is r = either (leb_tells head e.sector)
   where
-    -- each other one waited too, elsewhere, and is behind the first
+    -- each other one waited too, elsewhere, and is after the first
     other : (f : Entry) → IsIn f swept → (waiting_at es f.sector ≡ Some f) × (e.sector ≢ f.sector)
     other f at = among es is.0 e is.2 f (some_swept e.sector is.0 swept [] is.4 f at.0 at.1)
 
-    behind : (f : Entry) → IsIn f swept → sweep_key head e.sector ≤ sweep_key head f.sector
-    behind f at = is.1.least f.sector f (other f at).0
+    after : (f : Entry) → IsIn f swept → sweep_key head e.sector ≤ sweep_key head f.sector
+    after f at = is.1.least f.sector f (other f at).0
 
     in-above : (f : Entry) → IsIn f r.above → IsIn f swept
     in-above f at = subst (IsIn f) (sym r.all) (in-left f r.above r.below at)
@@ -119,7 +119,7 @@ sweep_more head es e swept short is r = either (leb_tells head e.sector)
           where
             low : ((leb head f.sector ≡ true) × (head ≤ f.sector)) ⊎ ((leb head f.sector ≡ false) × (f.sector < head)) → f.sector < head
             low (inr is) = is.1
-            low (inl is) = absurd (omega (arith, behind f (in-below f (k, here)), at-or-above head e.sector at.1, at-or-above head f.sector is.1, r.below_head k f here))
+            low (inl is) = absurd (omega (arith, after f (in-below f (k, here)), at-or-above head e.sector at.1, at-or-above head f.sector is.1, r.below_head k f here))
     either (inr at) = record {
       above = [];
       below = e ∷ r.above;
@@ -136,7 +136,7 @@ sweep_more head es e swept short is r = either (leb_tells head e.sector)
         none (f ∷ l) is =
             let here : slice_get r.below 0 ≡ Some f = ap (λ (x : List Entry). slice_get x 0) is in
             let low : f.sector < e.sector = r.below_head 0 f here in
-            absurd (omega (arith, behind f (in-below f (0, here)), below head e.sector at.1, below head f.sector (omega (arith, low, at.1)), low))
+            absurd (omega (arith, after f (in-below f (0, here)), below head e.sector at.1, below head f.sector (omega (arith, low, at.1)), low))
 
         below-head : (k : ℕ) (f : Entry) → slice_get (e ∷ r.above) k ≡ Some f → f.sector < head
         below-head zero f here = subst (λ (x : Entry). x.sector < head) (same_Some e f here) at.1
@@ -144,7 +144,7 @@ sweep_more head es e swept short is r = either (leb_tells head e.sector)
           where
             low : ((leb head f.sector ≡ true) × (head ≤ f.sector)) ⊎ ((leb head f.sector ≡ false) × (f.sector < head)) → f.sector < head
             low (inr is) = is.1
-            low (inl is) = absurd (omega (arith, behind f (in-above f (k, here)), below head e.sector at.1, at-or-above head f.sector is.1, short f.sector f (other f (in-above f (k, here))).0))
+            low (inl is) = absurd (omega (arith, after f (in-above f (k, here)), below head e.sector at.1, at-or-above head f.sector is.1, short f.sector f (other f (in-above f (k, here))).0))
 
 pub sweep : SweepsRise
 sweep head es [] short is = record {

@@ -1,4 +1,4 @@
--- What waits in front of a disk, while that changes.
+-- What waits before a disk, while that changes.
 use Rattle.std.proofs.Common.{◌≡◌, ◌≢◌, ◌⊎◌, inl, inr, ℕ, map, min, ◌-◌, ◌^◌, ◌+◌, ◌<◌, ◌≤◌, List, [], ◌∷◌, ◌++◌, length, get_or, Option, Some, None, refl, sym, ◌∙◌, ap, subst, arith, true, false, Bool, Result, Ok, Err}
 use Rattle.std.specs.Prelude.{slice_get, slice_set, swap_remove, option_map, ◌==◌, if◌then◌else◌}
 use Rattle.std.specs.Option.{option_map_or}
@@ -12,10 +12,10 @@ use Rattle.labelled_disk.specs.Label.{names}
 use Rattle.labelled_disk.specs.declared.label.Label.{Label}
 use Rattle.labelled_disk.specs.declared.label.Wanted.{Wanted}
 use Rattle.labelled_disk.specs.declared.disk.DiskWrite.TheVariants.{Page}
-use Rattle.labelled_disk.specs.Calls.{TellsSame, TellsWrite, WritesData}
-use Rattle.labelled_disk.specs.Moment.{written}
+use Rattle.labelled_disk.specs.Calls.{RevealsSame, RevealsWrite, WritesData}
+use Rattle.labelled_disk.specs.CrashState.{written}
 use Rattle.labelled_disk.specs.WriteRuns.{Appended}
-use Rattle.labelled_disk.proofs.CallLemmas.{tells_same_itself}
+use Rattle.labelled_disk.proofs.CallLemmas.{reveals_same_itself}
 use Rattle.labelled_disk.proofs.WriteRunLemmas.{appended_none, appended_one, appended_then, appended_no_more}
 use Rattle.labelled_disk.specs.Sectors.{Sector}
 use Rattle.labelled_disk.specs.State.{DiskState, Holds, NamesThere}
@@ -25,14 +25,14 @@ use Rattle.write_queue.specs.Inside.{LabelsStay, MakesRoom, Sweeping, WritesOut}
 use Rattle.write_queue.specs.Sweeps.{IsFirst, IsLess, Sweeps, head_after}
 use Rattle.write_queue.proofs.ListLemmas.{stood, once-fewer, added-there, once-added, set-there, once-set}
 use Rattle.write_queue.proofs.LaidLemmas.{labels-stay, laid-out, laid-still, laid-put, laid-through}
-use Rattle.write_queue.specs.QueueLaws.{told_before, get-laid}
+use Rattle.write_queue.specs.QueueLaws.{revealed_before, get-laid}
 
-pub labels_same : (old new : DiskState) → TellsSame old new → LabelsStay old new
+pub labels_same : (old new : DiskState) → RevealsSame old new → LabelsStay old new
 labels_same old new same k l has d is = has d (sym same.contents ∙ is)
 
-pub labels_written : (old new : DiskState) (n : ℕ) (wanted : Wanted) (page : List ℕ) → TellsWrite (Page n wanted page) old new → LabelsStay old new
+pub labels_written : (old new : DiskState) (n : ℕ) (wanted : Wanted) (page : List ℕ) → RevealsWrite (Page n wanted page) old new → LabelsStay old new
 labels_written old new n wanted page made k l has d is =
-    let t = told_before (written (Page n wanted page)) old.contents d (sym made.contents ∙ is) in
+    let t = revealed_before (written (Page n wanted page)) old.contents d (sym made.contents ∙ is) in
     ap (λ (x : List Sector). option_map (λ (s : Sector). s.0) (slice_get x k)) (sym t.2) ∙ labels-stay n wanted page t.0 k ∙ has t.0 t.1
 
 pub waits_kept : (old new : DiskState) (e : Entry) → new.sectors ≡ old.sectors → LabelsStay old new → Waits old e → Waits new e
@@ -77,28 +77,28 @@ pub labels_after : (old new : DiskState) (n : ℕ) (wanted : Wanted) (page : Lis
 labels_after old new n wanted page (Ok x) w = labels_written old new n wanted page w.written
 labels_after old new n wanted page (Err err.Failed) w = either w.whole_or_absent
   where
-    either : TellsSame old new ⊎ (TellsWrite (Page n wanted page) old new × NamesThere old n wanted true) → LabelsStay old new
+    either : RevealsSame old new ⊎ (RevealsWrite (Page n wanted page) old new × NamesThere old n wanted true) → LabelsStay old new
     either (inl same) = labels_same old new same
     either (inr made) = labels_written old new n wanted page made.0
 labels_after old new n wanted page (Err (err.Wrong found)) w = labels_same old new w.wrong.2
 
--- what was told before the call is told after it
-pub told_after : (old new : DiskState) (n : ℕ) (wanted : Wanted) (page : List ℕ) (result : Result (Unit {0}) DiskError) → WritesData n wanted page old result new
+-- what was revealed before the call is revealed after it
+pub revealed_after : (old new : DiskState) (n : ℕ) (wanted : Wanted) (page : List ℕ) (result : Result (Unit {0}) DiskError) → WritesData n wanted page old result new
     → (d : List Sector) → new.contents ≡ Some d → (b : List Sector) × (old.contents ≡ Some b)
-told_after old new n wanted page (Ok x) w d is = let t = told_before (written (Page n wanted page)) old.contents d (sym w.written.contents ∙ is) in (t.0, t.1)
-told_after old new n wanted page (Err err.Failed) w d is = either w.whole_or_absent
+revealed_after old new n wanted page (Ok x) w d is = let t = revealed_before (written (Page n wanted page)) old.contents d (sym w.written.contents ∙ is) in (t.0, t.1)
+revealed_after old new n wanted page (Err err.Failed) w d is = either w.whole_or_absent
   where
-    either : TellsSame old new ⊎ (TellsWrite (Page n wanted page) old new × NamesThere old n wanted true) → (b : List Sector) × (old.contents ≡ Some b)
+    either : RevealsSame old new ⊎ (RevealsWrite (Page n wanted page) old new × NamesThere old n wanted true) → (b : List Sector) × (old.contents ≡ Some b)
     either (inl same) = (d, sym same.contents ∙ is)
-    either (inr made) = let t = told_before (written (Page n wanted page)) old.contents d (sym made.0.contents ∙ is) in (t.0, t.1)
-told_after old new n wanted page (Err (err.Wrong found)) w d is = (d, sym w.wrong.2.contents ∙ is)
+    either (inr made) = let t = revealed_before (written (Page n wanted page)) old.contents d (sym made.0.contents ∙ is) in (t.0, t.1)
+revealed_after old new n wanted page (Err (err.Wrong found)) w d is = (d, sym w.wrong.2.contents ∙ is)
 
--- another label is found in no sector of a page that waits, where the contents are told
+-- another label is found in no sector of a page that waits, where the contents are revealed
 pub never_wrong : (old new : DiskState) (e : Entry) (found : Label) → Waits old e → WritesData e.sector e.wanted e.page old (Err (err.Wrong found)) new
     → (d : List Sector) → new.contents ≡ Some d → ⊥
 never_wrong old new e found waits w d is =
-    let told : old.contents ≡ Some d = sym w.wrong.2.contents ∙ is in
-    let same : Some found ≡ Some e.label = sym (w.wrong.1 d told) ∙ waits.stands d told in
+    let revealed : old.contents ≡ Some d = sym w.wrong.2.contents ∙ is in
+    let same : Some found ≡ Some e.label = sym (w.wrong.1 d revealed) ∙ waits.stands d revealed in
     true≢false (sym waits.named ∙ ap (λ (l : Label). names l e.wanted) (sym (same_Some found e.label same)) ∙ w.wrong.0)
 
 pub differs_then : (n : ℕ) (wanted : Wanted) (found : Label) → names found wanted ≡ false → (x : ℕ × Wanted × Label) → Some (n, wanted, found) ≡ Some x → names x.2 x.1 ≡ false
@@ -111,62 +111,62 @@ made_or_not (inl a) = inl a
 made_or_not (inr b) = inr b.0
 
 named_there : (under : DiskState) (e : Entry) → Waits under e → (d : List Sector) → under.contents ≡ Some d → (s : Sector) → slice_get d e.sector ≡ Some s → names s.0 e.wanted ≡ true
-named_there under e waits d told s is =
-    let same : Some s.0 ≡ Some e.label = ap (λ (o : Option Sector). option_map (λ (x : Sector). x.0) o) (sym is) ∙ waits.stands d told in
+named_there under e waits d revealed s is =
+    let same : Some s.0 ≡ Some e.label = ap (λ (o : Option Sector). option_map (λ (x : Sector). x.0) o) (sym is) ∙ waits.stands d revealed in
     ap (λ (l : Label). names l e.wanted) (same_Some s.0 e.label same) ∙ waits.named
 
-over_told : {X Y : Type 0} (f g : X → Y) (o : Option X) → ((x : X) → o ≡ Some x → f x ≡ g x) → option_map f o ≡ option_map g o
-over_told f g None same = refl
-over_told f g (Some x) same = ap (λ (z : _). Some z) (same x refl)
+over_revealed : {X Y : Type 0} (f g : X → Y) (o : Option X) → ((x : X) → o ≡ Some x → f x ≡ g x) → option_map f o ≡ option_map g o
+over_revealed f g None same = refl
+over_revealed f g (Some x) same = ap (λ (z : _). Some z) (same x refl)
 
 twice : {X Y Z : Type 0} (f : X → Y) (g : Y → Z) (o : Option X) → option_map g (option_map f o) ≡ option_map (λ x. g (f x)) o
 twice f g None = refl
 twice f g (Some x) = refl
 
--- a page that waited was written, and waits no more: nothing is told of it
-pub told_out : (old new : DiskState) (es fewer : List Entry) (e : Entry) → waiting_at es e.sector ≡ Some e → IsLess es e fewer → Waits old e → TellsWrite (page_write e) old new
+-- a page that waited was written, and waits no more: nothing is revealed of it
+pub revealed_out : (old new : DiskState) (es fewer : List Entry) (e : Entry) → waiting_at es e.sector ≡ Some e → IsLess es e fewer → Waits old e → RevealsWrite (page_write e) old new
     → option_map (laid fewer) new.contents ≡ option_map (laid es) old.contents
-told_out old new es fewer e waits less w made =
+revealed_out old new es fewer e waits less w made =
     ap (option_map (laid fewer)) made.contents ∙ twice (written (page_write e)) (laid fewer) old.contents
-    ∙ over_told (λ d. laid fewer (written (page_write e) d)) (laid es) old.contents (λ d told. laid-out es fewer e d waits less (named_there old e w d told))
+    ∙ over_revealed (λ d. laid fewer (written (page_write e) d)) (laid es) old.contents (λ d revealed. laid-out es fewer e d waits less (named_there old e w d revealed))
 
 -- a page that waits was written or not, and waits still
-pub told_still : (old new : DiskState) (es : List Entry) (e : Entry) → waiting_at es e.sector ≡ Some e → TellsSame old new ⊎ TellsWrite (page_write e) old new
+pub revealed_still : (old new : DiskState) (es : List Entry) (e : Entry) → waiting_at es e.sector ≡ Some e → RevealsSame old new ⊎ RevealsWrite (page_write e) old new
     → option_map (laid es) new.contents ≡ option_map (laid es) old.contents
-told_still old new es e waits (inl same) = ap (option_map (laid es)) same.contents
-told_still old new es e waits (inr made) =
+revealed_still old new es e waits (inl same) = ap (option_map (laid es)) same.contents
+revealed_still old new es e waits (inr made) =
     ap (option_map (laid es)) made.contents ∙ twice (written (page_write e)) (laid es) old.contents
-    ∙ over_told (λ d. laid es (written (page_write e) d)) (laid es) old.contents (λ d told. laid-still es e d waits)
+    ∙ over_revealed (λ d. laid es (written (page_write e) d)) (laid es) old.contents (λ d revealed. laid-still es e d waits)
 
 -- a page waits that did not, or another one for the same sector
-pub told_put : (under : DiskState) (es fs : List Entry) (f : Entry) → ((k : ℕ) → waiting_at fs k ≡ (if f.sector == k then Some f else waiting_at es k)) → Waits under f
+pub revealed_put : (under : DiskState) (es fs : List Entry) (f : Entry) → ((k : ℕ) → waiting_at fs k ≡ (if f.sector == k then Some f else waiting_at es k)) → Waits under f
     → option_map (laid fs) under.contents ≡ option_map (written (page_write f)) (option_map (laid es) under.contents)
-told_put under es fs f put w =
-    over_told (laid fs) (λ d. written (page_write f) (laid es d)) under.contents (λ d told. laid-put es fs f d put (named_there under f w d told))
+revealed_put under es fs f put w =
+    over_revealed (laid fs) (λ d. written (page_write f) (laid es d)) under.contents (λ d revealed. laid-put es fs f d put (named_there under f w d revealed))
     ∙ sym (twice (laid es) (written (page_write f)) under.contents)
 
 -- where nothing waits, a write is what it is beneath
-pub told_through : (old new : DiskState) (w : DiskWrite) → TellsWrite w old new → option_map (laid []) new.contents ≡ option_map (written w) (option_map (laid []) old.contents)
-told_through old new w made =
+pub revealed_through : (old new : DiskState) (w : DiskWrite) → RevealsWrite w old new → option_map (laid []) new.contents ≡ option_map (written w) (option_map (laid []) old.contents)
+revealed_through old new w made =
     ap (option_map (laid [])) made.contents ∙ twice (written w) (laid []) old.contents
-    ∙ over_told (λ d. laid [] (written w d)) (λ d. written w (laid [] d)) old.contents (λ d told. laid-through w d)
+    ∙ over_revealed (λ d. laid [] (written w d)) (λ d. written w (laid [] d)) old.contents (λ d revealed. laid-through w d)
     ∙ sym (twice (laid []) (written w) old.contents)
 
--- what is told of a sector for which nothing waits is what is told beneath
-pub told_beneath : (under : DiskState) (es : List Entry) (k : ℕ) (s : Sector) → waiting_at es k ≡ None → Holds under k s
+-- what is revealed of a sector for which nothing waits is what is revealed beneath
+pub revealed_beneath : (under : DiskState) (es : List Entry) (k : ℕ) (s : Sector) → waiting_at es k ≡ None → Holds under k s
     → (d : List Sector) → option_map (laid es) under.contents ≡ Some d → slice_get d k ≡ Some s
-told_beneath under es k s free holds d is =
-    let t = told_before (laid es) under.contents d is in
+revealed_beneath under es k s free holds d is =
+    let t = revealed_before (laid es) under.contents d is in
     ap (λ (x : List Sector). slice_get x k) (sym t.2) ∙ get-laid es t.0 k ∙ ap (option_map (laid_over es k)) (holds t.0 t.1)
     ∙ ap (λ (o : Option Entry). Some (option_map_or (λ (e : Entry). (s.0, e.page)) o s)) free
 
--- what is told of a sector for which a page waits is that page, under the label that was found
-pub told_waiting : (under : DiskState) (es : List Entry) (e : Entry) → waiting_at es e.sector ≡ Some e → Waits under e
+-- what is revealed of a sector for which a page waits is that page, under the label that was found
+pub revealed_waiting : (under : DiskState) (es : List Entry) (e : Entry) → waiting_at es e.sector ≡ Some e → Waits under e
     → (d : List Sector) → option_map (laid es) under.contents ≡ Some d → slice_get d e.sector ≡ Some (e.label, e.page)
-told_waiting under es e waits w d is = found (slice_get t.0 e.sector) refl
+revealed_waiting under es e waits w d is = found (slice_get t.0 e.sector) refl
   where
     t : (b : List Sector) × (under.contents ≡ Some b) × (laid es b ≡ d)
-    t = told_before (laid es) under.contents d is
+    t = revealed_before (laid es) under.contents d is
 
     found : (o : Option Sector) → slice_get t.0 e.sector ≡ o → slice_get d e.sector ≡ Some (e.label, e.page)
     found None none = absurd (none-some e.label (sym (ap (option_map (λ (s : Sector). s.0)) none) ∙ w.stands t.0 t.1))
@@ -198,7 +198,7 @@ pub record SoFar (head : ℕ) (es : List Entry) (old : DiskState) (own : ℕ) (l
   pub ends : now_head ≡ head_after head swept
   pub wrote : Appended (map page_write swept) old now
   pub cost : now.transfers ≤ old.transfers + length swept
-  pub told : option_map (laid left) now.contents ≡ option_map (laid es) old.contents
+  pub revealed : option_map (laid left) now.contents ≡ option_map (laid es) old.contents
   pub sectors : now.sectors ≡ old.sectors
   pub lent : now.lent ≡ old.lent
   pub later_transfers : old.transfers ≤ now.transfers
@@ -210,9 +210,9 @@ none_so_far head es old own = record {
   swept = [];
   sweeps = refl;
   ends = refl;
-  wrote = appended_none (tells_same_itself old);
+  wrote = appended_none (reveals_same_itself old);
   cost = omega arith;
-  told = refl;
+  revealed = refl;
   sectors = refl;
   lent = refl;
   later_transfers = omega arith;
@@ -233,13 +233,13 @@ pub so_far_more : (head : ℕ) (es : List Entry) (old : DiskState) (own : ℕ) (
     (left : List Entry) (later : ℕ) (new : DiskState) (new_own : ℕ) → SoFar head es old own mid mid_head now mid_own
     → WritesOut mid_head mid now (Ok tt) new left later → option_map (laid left) new.contents ≡ option_map (laid mid) now.contents
     → min (now.faults + mid_own) (2 ^ 64 - 1) ≤ min (new.faults + new_own) (2 ^ 64 - 1) → SoFar head es old own left later new new_own
-so_far_more head es old own mid mid_head now mid_own left later new new_own s out told rises = record {
+so_far_more head es old own mid mid_head now mid_own left later new new_own s out revealed rises = record {
   swept = s.swept ++ out.first ∷ [];
   sweeps = sweeps_more head es s.swept mid left out.first s.sweeps (subst (λ (h : ℕ). IsFirst h mid out.first) s.ends out.is_first) out.out.1 out.out.3;
   ends = out.out.2 ∙ sym (head_more head s.swept out.first);
   wrote = subst (λ (ws : List DiskWrite). Appended ws old new) (sym (map_more s.swept out.first)) (appended_then (map page_write s.swept) (page_write out.first ∷ []) s.wrote (appended_one (page_write out.first) out.out.0));
   cost = omega (arith, s.cost, out.moves.transfers.by_one, length_more s.swept out.first);
-  told = told ∙ s.told;
+  revealed = revealed ∙ s.revealed;
   sectors = out.moves.sectors ∙ s.sectors;
   lent = out.moves.lent ∙ s.lent;
   later_transfers = omega (arith, s.later_transfers, out.moves.transfers.later);
@@ -283,7 +283,7 @@ part_swept head es old own mid mid_head now mid_own e left later new s out = rec
   faults = omega (arith, s.faults, out.moves.faults);
 }
   where
-    either : TellsSame now new ⊎ TellsWrite (page_write out.first) now new
+    either : RevealsSame now new ⊎ RevealsWrite (page_write out.first) now new
         → Appended (map page_write s.swept) old new ⊎ Appended (map page_write s.swept ++ page_write out.first ∷ []) old new
     either (inl same) = inl (appended_no_more (map page_write s.swept) s.wrote same)
     either (inr made) = inr (appended_then (map page_write s.swept) (page_write out.first ∷ []) s.wrote (appended_one (page_write out.first) made))
@@ -310,7 +310,7 @@ labels_out : (head : ℕ) (es : List Entry) (old new : DiskState) (r : Result (U
 labels_out head es old new (Ok x) left later out = labels_written old new out.first.sector out.first.wanted out.first.page out.out.0
 labels_out head es old new (Err e) left later out = either out.stays.2
   where
-    either : TellsSame old new ⊎ TellsWrite (page_write out.first) old new → LabelsStay old new
+    either : RevealsSame old new ⊎ RevealsWrite (page_write out.first) old new → LabelsStay old new
     either (inl same) = labels_same old new same
     either (inr made) = labels_written old new out.first.sector out.first.wanted out.first.page made
 

@@ -5,7 +5,7 @@ use Rattle.labelled_disk.specs.declared.disk.DiskError.TheVariants.{Wrong}
 use Rattle.labelled_disk.specs.declared.disk.DiskWrite.{DiskWrite}
 use Rattle.labelled_disk.specs.declared.label.Label.{Label}
 use Rattle.labelled_disk.specs.declared.label.Wanted.{Wanted}
-use Rattle.labelled_disk.specs.Calls.{Reads, TellsSame, TellsWrite}
+use Rattle.labelled_disk.specs.Calls.{Reads, RevealsSame, RevealsWrite}
 use Rattle.labelled_disk.specs.Label.{names}
 use Rattle.labelled_disk.specs.State.{HasLabel}
 use Rattle.labelled_disk.specs.WriteRuns.{Appended}
@@ -18,7 +18,7 @@ use Rattle.write_queue.specs.View.{View, Tally}
 abbrev pub MetNone : View → View → Type 0
 MetNone old new = (new.own ≡ old.own) × (new.changed ≡ old.changed)
 
--- A label was met beneath that doesn't name the page that waits, still, for its sector; it was counted, and is told.
+-- A label was met beneath that doesn't name the page that waits, still, for its sector; it was counted, and is revealed.
 pub record MetOther (before : ℕ) (new : View) : Type 0 where
   pub entry : Entry
   pub found : Label
@@ -26,7 +26,7 @@ pub record MetOther (before : ℕ) (new : View) : Type 0 where
   pub stands : HasLabel new.under entry.sector found
   pub other : names found entry.wanted ≡ false
   pub counted : new.own ≡ min (before + 1) (2 ^ 64 - 1)
-  pub told : new.changed ≡ Some (entry.sector, entry.wanted, found)
+  pub revealed : new.changed ≡ Some (entry.sector, entry.wanted, found)
 
 -- a changed label is met only where the call is not answered with Ok
 abbrev pub Meets : View → Result (Unit {0}) DiskError → View → Type 0
@@ -44,13 +44,13 @@ pub record ReadsOne (sector : ℕ) (page : List ℕ) (old : View) (result : Resu
     pub met : MetNone old new
     pub few : new.under.transfers ≤ old.under.transfers + 1
 
--- The disk beneath tells of these pages more; or of these and of the next page of the sweep, which waits still.
+-- The disk beneath reveals of these pages more; or of these and of the next page of the sweep, which waits still.
 abbrev pub StopsAfter : List Entry → View → View → Type 0
 StopsAfter swept old new = Appended (map page_write swept) old.under new.under
     ⊎ ((next : Entry) × IsFirst new.head new.waiting next
     × Appended (map page_write swept ++ page_write next ∷ []) old.under new.under)
 
--- All that waited is written out in a sweep, or a front of it.
+-- All that waited is written out in a sweep, or a prefix of it.
 pub record Empties (old : View) (result : Result (Unit {0}) DiskError) (new : View) : Type 0 where
   pub swept : List Entry
   pub sweeps : Sweeps old.head old.waiting swept new.waiting
@@ -59,7 +59,7 @@ pub record Empties (old : View) (result : Result (Unit {0}) DiskError) (new : Vi
   pub part : OnErr result (StopsAfter swept old new)
   pub met : Meets old result new
 
--- All that waited is written out in a sweep, and then this write is made, once; or a front of that.
+-- All that waited is written out in a sweep, and then this write is made, once; or a prefix of that.
 pub record PassesOn (write : DiskWrite) (old : View) (result : Result (Unit {0}) DiskError) (new : View) : Type 0 where
   pub swept : List Entry
   pub sweeps : Sweeps old.head old.waiting swept new.waiting
@@ -73,7 +73,7 @@ pub record PassesOn (write : DiskWrite) (old : View) (result : Result (Unit {0})
 pub record IsStill (old : View) (rest : List Entry) (new : View) : Type 0 where
   pub waiting : rest ≡ old.waiting
   pub head : new.head ≡ old.head
-  pub same : TellsSame old.under new.under
+  pub same : RevealsSame old.under new.under
 
 -- there was no room, and the first page of the sweep was written out
 pub record FirstOut (old : View) (rest : List Entry) (new : View) : Type 0 where
@@ -82,7 +82,7 @@ pub record FirstOut (old : View) (rest : List Entry) (new : View) : Type 0 where
   pub is_first : IsFirst old.head old.waiting first
   pub less : IsLess old.waiting first rest
   pub head : new.head ≡ first.sector
-  pub wrote : TellsWrite (page_write first) old.under new.under
+  pub wrote : RevealsWrite (page_write first) old.under new.under
 
 -- The page waits for its sector. Beside it waits what waited before; but where there was no room, all but the first
 -- of the sweep.
@@ -101,9 +101,9 @@ pub record Taken (sector : ℕ) (wanted : Wanted) (page : List ℕ) (old new : V
 pub record LeftOut (old new : View) : Type 0 where
   pub waiting : new.waiting ≡ old.waiting
   pub head : new.head ≡ old.head
-  pub beneath : TellsSame old.under new.under
+  pub beneath : RevealsSame old.under new.under
       ⊎ ((first : Entry) × (length old.waiting ≡ old.room) × IsFirst old.head old.waiting first
-      × TellsWrite (page_write first) old.under new.under)
+      × RevealsWrite (page_write first) old.under new.under)
 
 -- A page is let wait, or it isn't. The label that was kept decides on a sector for which a page waits, and nothing
 -- moves beneath.
@@ -120,11 +120,11 @@ pub record TakesIn (sector : ℕ) (wanted : Wanted) (page : List ℕ) (old : Vie
 pub record CountsCall (old new : Tally) : Type 0 where
   pub begun : new.begun ≡ old.begun
   pub transfers : new.transfers ≡ min (old.transfers + 1) (2 ^ 64 - 1)
-  pub unsettled : new.unsettled ≡ old.unsettled
+  pub no_sync : new.no_sync ≡ old.no_sync
 
--- a call of `settle` was counted, where it did not answer Ok
-pub record CountsSettle (old : Tally) (result : Result (Unit {0}) DiskError) (new : Tally) : Type 0 where
+-- a call of `sync` was counted, where it did not answer Ok
+pub record CountsSync (old : Tally) (result : Result (Unit {0}) DiskError) (new : Tally) : Type 0 where
   pub begun : new.begun ≡ old.begun
   pub transfers : new.transfers ≡ old.transfers
-  pub settled : OnOk result (new.unsettled ≡ old.unsettled)
-  pub unsettled : OnErr result (new.unsettled ≡ min (old.unsettled + 1) (2 ^ 64 - 1))
+  pub settled : OnOk result (new.no_sync ≡ old.no_sync)
+  pub no_sync : OnErr result (new.no_sync ≡ min (old.no_sync + 1) (2 ^ 64 - 1))

@@ -1,8 +1,8 @@
--- What the queue's own functions tell one another.
+-- What the queue's own functions reveal one another.
 use Rattle.std.specs.Prelude.{◌≡◌, ◌⊎◌, ℕ, ◌+◌, ◌<◌, ◌≤◌, length, List, [], ◌∷◌, ◌++◌, map, slice_get, Some, None, Result, OnOk, OnErr}
 use Rattle.labelled_disk.specs.declared.disk.DiskError.{DiskError}
 use Rattle.labelled_disk.specs.declared.label.Label.{Label}
-use Rattle.labelled_disk.specs.Calls.{TellsSame, TellsWrite, Moves}
+use Rattle.labelled_disk.specs.Calls.{RevealsSame, RevealsWrite, Moves}
 use Rattle.labelled_disk.specs.State.{DiskState, HasLabel}
 use Rattle.labelled_disk.specs.WriteRuns.{Appended}
 use Rattle.write_queue.specs.declared.entry.Entry.{Entry}
@@ -22,9 +22,9 @@ pub record WritesOut (head : ℕ) (es : List Entry) (old : DiskState) (result : 
     (new : DiskState) (left : List Entry) (later : ℕ) : Type 0 where
   pub first : Entry
   pub is_first : IsFirst head es first
-  pub out : OnOk result (TellsWrite (page_write first) old new × IsLess es first left × (later ≡ first.sector)
+  pub out : OnOk result (RevealsWrite (page_write first) old new × IsLess es first left × (later ≡ first.sector)
       × (length left + 1 ≡ length es))
-  pub stays : OnErr result ((left ≡ es) × (later ≡ head) × (TellsSame old new ⊎ TellsWrite (page_write first) old new))
+  pub stays : OnErr result ((left ≡ es) × (later ≡ head) × (RevealsSame old new ⊎ RevealsWrite (page_write first) old new))
   pub moves : Moves old new
 
 -- All that waited was written beneath, or some of it and one fault came; then the next page of the sweep may have

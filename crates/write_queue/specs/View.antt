@@ -16,11 +16,11 @@ pub record View : Type 0 where
   pub changed : Option (ℕ × Wanted × Label)
 
 -- How many sectors had been moved beneath when the queue was made, how many calls named a sector since, and how many
--- calls of `settle` did not answer Ok.
+-- calls of `sync` did not answer Ok.
 pub record Tally : Type 0 where
   pub begun : ℕ
   pub transfers : ℕ
-  pub unsettled : ℕ
+  pub no_sync : ℕ
 
 -- an empty queue
 abbrev pub new_view : DiskState → ℕ → View
@@ -28,15 +28,15 @@ new_view under room = record { under = under; waiting = []; room = room; head = 
 
 -- no call yet
 abbrev pub new_tally : DiskState → Tally
-new_tally under = record { begun = under.transfers; transfers = 0; unsettled = 0 }
+new_tally under = record { begun = under.transfers; transfers = 0; no_sync = 0 }
 
 -- The sectors that were moved beneath, and the pages that wait, are paid for: twice by each call that names a sector,
--- and once by each settling that did not answer Ok; so many are paid for beforehand. Nothing is said once the counts
+-- and once by each syncing that did not answer Ok; so many are paid for beforehand. Nothing is said once the counts
 -- stand at their end.
 abbrev pub Covers : ℕ → ℕ → ℕ → ℕ → ℕ → ℕ → Type 0
-Covers spare begun transfers unsettled beneath waiting =
-    transfers + unsettled < 2 ^ 64 - 1 → beneath + waiting + spare ≤ begun + 2 * transfers + unsettled
+Covers spare begun transfers no_sync beneath waiting =
+    transfers + no_sync < 2 ^ 64 - 1 → beneath + waiting + spare ≤ begun + 2 * transfers + no_sync
 
 -- the same, of a queue
 abbrev pub IsPaid : View → Tally → Type 0
-IsPaid view tally = Covers 0 tally.begun tally.transfers tally.unsettled view.under.transfers (length view.waiting)
+IsPaid view tally = Covers 0 tally.begun tally.transfers tally.no_sync view.under.transfers (length view.waiting)

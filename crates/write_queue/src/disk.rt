@@ -1,8 +1,8 @@
 //! A queue as a disk.
 ghost use Rattle.std.specs.Prelude.{◌≡◌, ◌<◌, true, OnOk};
-ghost use Rattle.labelled_disk.specs.Calls.{Reads, Writes, WritesData, Settles};
-ghost use Rattle.write_queue.specs.Beneath.{ReadsOne, PassesOn, TakesIn, Empties, CountsCall, CountsSettle};
-ghost use Rattle.write_queue.specs.Moments.{MomentsBetween};
+ghost use Rattle.labelled_disk.specs.Calls.{Reads, Writes, WritesData, Syncs};
+ghost use Rattle.write_queue.specs.Beneath.{ReadsOne, PassesOn, TakesIn, Empties, CountsCall, CountsSync};
+ghost use Rattle.write_queue.specs.CrashStates.{CrashStatesBetween};
 
 use crate::QueueOver;
 use labelled_disk::{Disk, DiskError, DiskWrite, Label, Page, Wanted};
@@ -10,15 +10,15 @@ use std::alloc::Allocator;
 
 impl<D: Disk, A: Allocator> Disk for QueueOver<D, A> {
     ghost use Rattle.write_queue.specs.Queue.{state_of, view_of, tally_of};
-    ghost use Rattle.write_queue.specs.QueueLaws.{told_whole, told_in_form};
+    ghost use Rattle.write_queue.specs.QueueLaws.{revealed_whole, revealed_in_form};
 
     ghost state = { λ q. state_of q };
 
-    ghost whole = { λ q all told. told_whole (D.state q.under) q.entries.items (D.whole q.under) all
-        told };
+    ghost whole = { λ q all revealed. revealed_whole (D.state q.under) q.entries.items (D.whole q.under) all
+        revealed };
 
-    ghost in_form = { λ q all told. told_in_form (D.state q.under) q.entries.items q.waiting
-        (D.in_form q.under) all told };
+    ghost in_form = { λ q all revealed. revealed_in_form (D.state q.under) q.entries.items q.waiting
+        (D.in_form q.under) all revealed };
 
     ghost few = { λ q. D.few q.under };
 
@@ -30,7 +30,7 @@ impl<D: Disk, A: Allocator> Disk for QueueOver<D, A> {
         requires { sector < (state_of self.old).sectors }
         ensures reads { Reads (state_of self.old) sector page.new result (state_of self.new) }
         ensures beneath { ReadsOne sector page.new (view_of self.old) result (view_of self.new) }
-        ensures moments { MomentsBetween (view_of self.old) (view_of self.new) }
+        ensures crash_states { CrashStatesBetween (view_of self.old) (view_of self.new) }
         ensures counts { CountsCall (tally_of self.old) (tally_of self.new) }
     {
         self.transfers = self.transfers.saturating_add(1);
@@ -51,7 +51,7 @@ impl<D: Disk, A: Allocator> Disk for QueueOver<D, A> {
             (state_of self.new) }
         ensures beneath { PassesOn (DiskWrite.Whole sector label.now page.now) (view_of self.old)
             result (view_of self.new) }
-        ensures moments { MomentsBetween (view_of self.old) (view_of self.new) }
+        ensures crash_states { CrashStatesBetween (view_of self.old) (view_of self.new) }
         ensures counts { CountsCall (tally_of self.old) (tally_of self.new) }
     {
         self.transfers = self.transfers.saturating_add(1);
@@ -65,7 +65,7 @@ impl<D: Disk, A: Allocator> Disk for QueueOver<D, A> {
             (state_of self.new) }
         ensures beneath { PassesOn (DiskWrite.LabelOnly sector label.now) (view_of self.old) result
             (view_of self.new) }
-        ensures moments { MomentsBetween (view_of self.old) (view_of self.new) }
+        ensures crash_states { CrashStatesBetween (view_of self.old) (view_of self.new) }
         ensures counts { CountsCall (tally_of self.old) (tally_of self.new) }
     {
         self.transfers = self.transfers.saturating_add(1);
@@ -79,7 +79,7 @@ impl<D: Disk, A: Allocator> Disk for QueueOver<D, A> {
             (state_of self.new) }
         ensures beneath { TakesIn sector wanted page.now (view_of self.old) result
             (view_of self.new) }
-        ensures moments { MomentsBetween (view_of self.old) (view_of self.new) }
+        ensures crash_states { CrashStatesBetween (view_of self.old) (view_of self.new) }
         ensures counts { CountsCall (tally_of self.old) (tally_of self.new) }
     {
         self.transfers = self.transfers.saturating_add(1);
@@ -89,18 +89,18 @@ impl<D: Disk, A: Allocator> Disk for QueueOver<D, A> {
         }
     }
 
-    fn settle(&mut self) -> Result<(), DiskError>
-        ensures settles { Settles (state_of self.old) result (state_of self.new) }
+    fn sync(&mut self) -> Result<(), DiskError>
+        ensures syncs { Syncs (state_of self.old) result (state_of self.new) }
         ensures synced { OnOk result ((view_of self.new).under.synced ≡ true) }
         ensures beneath { Empties (view_of self.old) result (view_of self.new) }
-        ensures moments { MomentsBetween (view_of self.old) (view_of self.new) }
-        ensures counts { CountsSettle (tally_of self.old) result (tally_of self.new) }
+        ensures crash_states { CrashStatesBetween (view_of self.old) (view_of self.new) }
+        ensures counts { CountsSync (tally_of self.old) result (tally_of self.new) }
     {
-        let before = self.unsettled;
-        self.unsettled = before.saturating_add(1);
+        let before = self.no_sync;
+        self.no_sync = before.saturating_add(1);
         self.empty()?;
-        self.under.settle()?;
-        self.unsettled = before;
+        self.under.sync()?;
+        self.no_sync = before;
         Ok(())
     }
 

@@ -15,14 +15,14 @@ impl<D: Disk, A: Allocator> QueueOver<D, A> {
     // Writes the first page of the sweep beneath, if the label there names it.
     pub(crate) fn write_first(&mut self) -> Result<(), DiskError>
         requires some { 0 < length self.old.entries.items }
-        requires credit { Covers 1 self.old.begun self.old.transfers self.old.unsettled
+        requires credit { Covers 1 self.old.begun self.old.transfers self.old.no_sync
             (D.state self.old.under).transfers (length self.old.entries.items) }
         ensures out { WritesOut self.old.head self.old.entries.items (D.state self.old.under) result
             (D.state self.new.under) self.new.entries.items self.new.head }
         ensures met { Meets (view_of self.old) result (view_of self.new) }
-        ensures credit { OnOk result (Covers 1 self.new.begun self.new.transfers self.new.unsettled
+        ensures credit { OnOk result (Covers 1 self.new.begun self.new.transfers self.new.no_sync
             (D.state self.new.under).transfers (length self.new.entries.items)) }
-        ensures told { (state_of self.new).contents ≡ (state_of self.old).contents }
+        ensures revealed { (state_of self.new).contents ≡ (state_of self.old).contents }
         ensures later { (state_of self.old).faults ≤ (state_of self.new).faults }
         ensures fails { FailsWith result (state_of self.old) (state_of self.new) }
         ensures same { SameBut self.old self.new }
@@ -50,14 +50,14 @@ impl<D: Disk, A: Allocator> QueueOver<D, A> {
 
     // Writes all pages that wait beneath, in a sweep.
     pub(crate) fn empty(&mut self) -> Result<(), DiskError>
-        requires credit { Covers 1 self.old.begun self.old.transfers self.old.unsettled
+        requires credit { Covers 1 self.old.begun self.old.transfers self.old.no_sync
             (D.state self.old.under).transfers (length self.old.entries.items) }
         ensures swept { Sweeping self.old.head self.old.entries.items (D.state self.old.under) result
             (D.state self.new.under) self.new.entries.items self.new.head }
         ensures met { Meets (view_of self.old) result (view_of self.new) }
-        ensures credit { OnOk result (Covers 1 self.new.begun self.new.transfers self.new.unsettled
+        ensures credit { OnOk result (Covers 1 self.new.begun self.new.transfers self.new.no_sync
             (D.state self.new.under).transfers (length self.new.entries.items)) }
-        ensures told { (state_of self.new).contents ≡ (state_of self.old).contents }
+        ensures revealed { (state_of self.new).contents ≡ (state_of self.old).contents }
         ensures later { (state_of self.old).faults ≤ (state_of self.new).faults }
         ensures fails { FailsWith result (state_of self.old) (state_of self.new) }
         ensures same { SameBut self.old self.new }

@@ -1,4 +1,4 @@
-//! Pages that wait in front of a disk.
+//! Pages that wait before a disk.
 ghost use Rattle.std.specs.Prelude.{◌≡◌, ◌≤◌, length, map, List, [], Some, None, false, true, IfOk, IfErr, IfSome, IsSome, vec_capacity};
 ghost use Rattle.std.specs.Option.{ForSome};
 ghost use Rattle.labelled_disk.specs.Label.{names};
@@ -9,10 +9,10 @@ use crate::Entry;
 use labelled_disk::{Disk, Label, NoMemory, Wanted};
 use std::alloc::{AllocError, Allocator};
 
-/// A disk that is held by value, and the pages that wait in front of it. It is a disk itself.
+/// A disk that is held by value, and the pages that wait before it. It is a disk itself.
 ///
 /// A page that is written by `write_data` waits, and costs a reading of its label at most. It is
-/// written beneath in a rising sweep, when there is no room for another one, or before a label is
+/// written beneath in an ascending sweep, when there is no room for another one, or before a label is
 /// written or the queue is settled. What wasn't settled is lost with the queue.
 #[derive(Drop)]
 pub struct QueueOver<D: Disk, A: Allocator> {
@@ -26,8 +26,8 @@ pub struct QueueOver<D: Disk, A: Allocator> {
     pub(crate) transfers: u64,
     // The transfers beneath when the queue was made.
     pub(crate) begun: u64,
-    // The calls of `settle` that failed.
-    pub(crate) unsettled: u64,
+    // The calls of `sync` that failed.
+    pub(crate) no_sync: u64,
     // The labels that were met and had changed, and the last of them.
     pub(crate) own: u64,
     pub(crate) changed: Option<(u32, Wanted, Label)>,
@@ -39,7 +39,7 @@ pub struct QueueOver<D: Disk, A: Allocator> {
     ghost unchanged: { (d : List _) → (D.state under).contents ≡ Some d → changed ≡ None },
     ghost counted: { changed ≡ None → own ≡ 0 },
     ghost differs: { ForSome changed (λ c. names c.2 c.1 ≡ false) },
-    ghost paid: { Covers 0 begun transfers unsettled (D.state under).transfers
+    ghost paid: { Covers 0 begun transfers no_sync (D.state under).transfers
         (length entries.items) },
 }
 
@@ -84,7 +84,7 @@ impl<D: Disk, A: Allocator + Clone> QueueOver<D, A> {
                     head: 0,
                     transfers: 0,
                     begun,
-                    unsettled: 0,
+                    no_sync: 0,
                     own: 0,
                     changed: None,
                 })
@@ -119,8 +119,8 @@ impl<D: Disk, A: Allocator> QueueOver<D, A> {
     ghost use Rattle.write_queue.specs.Queue.{disk_of, state_of, view_of, tally_of, StandsBeneath};
     ghost use Rattle.write_queue.specs.View.{IsPaid};
 
-    /// Gives the pages that wait up, and the disk back. After an Ok of `settle` none wait, and the
-    /// disk holds what the queue told.
+    /// Gives the pages that wait up, and the disk back. After an Ok of `sync` none wait, and the
+    /// disk holds what the queue revealed.
     pub fn into_disk(self) -> D
         ensures disk { result ≡ disk_of self }
         ensures synced { (state_of self).synced ≡ true → StandsBeneath (state_of self)
@@ -134,7 +134,7 @@ impl<D: Disk, A: Allocator> QueueOver<D, A> {
             head: _,
             transfers: _,
             begun: _,
-            unsettled: _,
+            no_sync: _,
             own: _,
             changed: _,
         } = self;
@@ -152,7 +152,7 @@ impl<D: Disk, A: Allocator> QueueOver<D, A> {
     }
 
     /// How many sectors were moved beneath since the disk was made: since the queue was made at most
-    /// two for each of its calls that name a sector, and one for each settling that failed.
+    /// two for each of its calls that name a sector, and one for each syncing that failed.
     pub fn moved_beneath(&self) -> u64
         ensures value { result ≡ (view_of self.now).under.transfers }
         ensures paid { IsPaid (view_of self.now) (tally_of self.now) }

@@ -51,7 +51,7 @@ impl<D: Disk, A: Allocator> QueueOver<D, A> {
     ) -> Result<(), DiskError>
         requires inside { sector < (D.state self.old.under).sectors }
         requires free { waiting_at self.old.entries.items sector ≡ None }
-        requires credit { Covers 2 self.old.begun self.old.transfers self.old.unsettled
+        requires credit { Covers 2 self.old.begun self.old.transfers self.old.no_sync
             (D.state self.old.under).transfers (length self.old.entries.items) }
         ensures data { WritesData sector wanted page.now (state_of self.old) result
             (state_of self.new) }
@@ -75,12 +75,12 @@ impl<D: Disk, A: Allocator> QueueOver<D, A> {
 
     // Writes the first page of the sweep where there is no room for one more.
     fn make_room(&mut self) -> Result<(), DiskError>
-        requires credit { Covers 1 self.old.begun self.old.transfers self.old.unsettled
+        requires credit { Covers 1 self.old.begun self.old.transfers self.old.no_sync
             (D.state self.old.under).transfers (length self.old.entries.items) }
         ensures room { OnOk result (length self.new.entries.items < self.new.room) }
-        ensures credit { OnOk result (Covers 1 self.new.begun self.new.transfers self.new.unsettled
+        ensures credit { OnOk result (Covers 1 self.new.begun self.new.transfers self.new.no_sync
             (D.state self.new.under).transfers (length self.new.entries.items)) }
-        ensures told { (state_of self.new).contents ≡ (state_of self.old).contents }
+        ensures revealed { (state_of self.new).contents ≡ (state_of self.old).contents }
         ensures later { (state_of self.old).faults ≤ (state_of self.new).faults }
         ensures fails { FailsWith result (state_of self.old) (state_of self.new) }
         ensures few { (D.state self.new.under).transfers ≤ (D.state self.old.under).transfers + 1 }
@@ -100,7 +100,7 @@ impl<D: Disk, A: Allocator> QueueOver<D, A> {
         requires waits { Waits (D.state self.old.under) entry }
         requires free { waiting_at self.old.entries.items entry.sector ≡ None }
         requires room { length self.old.entries.items < self.old.room }
-        requires credit { Covers 1 self.old.begun self.old.transfers self.old.unsettled
+        requires credit { Covers 1 self.old.begun self.old.transfers self.old.no_sync
             (D.state self.old.under).transfers (length self.old.entries.items) }
         ensures put { self.new.entries.items ≡ self.old.entries.items ++ entry ∷ [] }
         ensures under { self.new.under ≡ self.old.under }

@@ -9,7 +9,7 @@ use std::test::Fail;
 // The first data sector of 256.
 const FIRST: u32 = 36;
 
-// Identifiers of files, rising, of which three have the volume's serial.
+// Identifiers of files, ascending, of which three have the volume's serial.
 const FILES: [u64; 5] = [
     0x0000_0006_0000_0007,
     FILE,
@@ -126,7 +126,7 @@ fn report(alloc: Global, labels: &[Label]) -> Result<String, Fail> {
 }
 
 // What a run is asked of a file, and what it answers: its attributes, and the first bytes of each
-// page, which a space of its own shows, eight pages behind that of the file before.
+// page, which a space of its own shows, eight pages after that of the file before.
 fn file_lines(
     alloc: Global,
     labels: &[Label],

@@ -20,8 +20,8 @@ const TEMPORARY: Label = Label {
     ..FIRST_PAGE
 };
 
-// An old volume with two files of two pages; with a page behind a hole, page 0 without its mark in
-// front of the one that has it and behind it, a temporary file, a leader that a stopped conversion
+// An old volume with two files of two pages; with a page after a hole, page 0 without its mark in
+// prefix of the one that has it and after it, a temporary file, a leader that a stopped conversion
 // left, and a page of no file; and with a wrong label in two sectors of the maps. Each page is filled
 // with the number of its sector.
 fn mixed(alloc: Global, fails: &[u64]) -> Result<MemoryDisk<Global>, Fail> {

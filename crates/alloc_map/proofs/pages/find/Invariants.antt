@@ -7,8 +7,8 @@ abbrev pub invariant-search : goal.invariant-search
 invariant-search g l = record {
   order : l.from ≤ l.at;
   inside : l.at ≤ l.end;
-  before : (b : List ℕ) → g.M.FlatMem.tells l.initial.mem b → AreAll (not l.used) b l.from l.at;
-  unchanged : (b : List ℕ) → g.M.FlatMem.tells l.initial.mem b → g.M.FlatMem.tells l.mem b;
+  before : (b : List ℕ) → g.M.FlatMem.reveals l.initial.mem b → AreAll (not l.used) b l.from l.at;
+  unchanged : (b : List ℕ) → g.M.FlatMem.reveals l.initial.mem b → g.M.FlatMem.reveals l.mem b;
   kept : g.M.FlatMem.beside l.initial.mem l.mem;
   cost : HasSpent g.M.FlatMem.cost l.from l.end l.at (g.M.FlatMem.spent l.initial.mem) (g.M.FlatMem.spent l.mem);
 }

@@ -9,5 +9,5 @@ returns-clause-before g c = λ b h.
 pub returns-clause-found : goal.returns-clause-found
 returns-clause-found g c = λ b h below.
     let low = c.find-found.ensures.range.0 in
-    let front : c.find-found.result < c.args.at % 4096 + (c.args.stop - c.args.at) = omega (arith, below, low) in
-    found_in_page b c.read.new.into c.args.at (c.in_ok-read.ensures.read b h) c.args.used c.find-found.result low (omega (arith, front, c.requires.one_page, c.requires.order)) (c.find-found.ensures.found front)
+    let prefix : c.find-found.result < c.args.at % 4096 + (c.args.stop - c.args.at) = omega (arith, below, low) in
+    found_in_page b c.read.new.into c.args.at (c.in_ok-read.ensures.read b h) c.args.used c.find-found.result low (omega (arith, prefix, c.requires.one_page, c.requires.order)) (c.find-found.ensures.found prefix)

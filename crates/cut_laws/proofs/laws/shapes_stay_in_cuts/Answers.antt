@@ -11,4 +11,4 @@ pub returns-clause-leaves : goal.returns-clause-leaves
 returns-clause-leaves c with_temporary = shape.leader_freed with_temporary
 
 pub returns-clause-all : goal.returns-clause-all
-returns-clause-all c with_temporary = shape.shapes_of_one_moment with_temporary
+returns-clause-all c with_temporary = shape.shapes_of_one_crash_state with_temporary

@@ -4,7 +4,7 @@ use Rattle.cut_laws.proofs.SizeLemmas as sizes
 use Rattle.cut_laws.proofs.laws.sizes_in_cuts.Goals as goal
 
 pub returns-clause-size : goal.returns-clause-size
-returns-clause-size c with_temporary = sizes.size_of_one_moment with_temporary
+returns-clause-size c with_temporary = sizes.size_of_one_crash_state with_temporary
 
 pub returns-clause-pages : goal.returns-clause-pages
 returns-clause-pages c = sizes.pages_are_own

@@ -5,7 +5,7 @@ use Rattle.filer_kernel.specs.Tables.{IsTableAccounted}
 use Rattle.fault_core.specs.View.{view_of, TablesAre}
 use Rattle.fault_core.proofs.ReachLemmas.{tables_of}
 use Rattle.fault_core.proofs.RoomLemmas.{room_itself, steps_room}
-use Rattle.fault_core.proofs.ToldLemmas.{spaces_in}
+use Rattle.fault_core.proofs.RevealedLemmas.{spaces_in}
 use Rattle.fault_core.proofs.TurnLemmas.{reaches_tables, own_tables, tables_halt}
 use Rattle.fault_core.proofs.YieldLemmas.{yield_itself, tables_yield}
 use Rattle.fault_core.proofs.describe.look_up.Goals as goal
@@ -17,7 +17,7 @@ pub returns-in-Ok-clause-came : goal.returns-in-Ok-clause-came
 returns-in-Ok-clause-came g c = own_tables (view_of c.args.filer.now) c.ask.new.filer.swapper.pool c.ask.ensures.kept.brings
 
 pub returns-in-Ok-clause-interval : goal.returns-in-Ok-clause-interval
-returns-in-Ok-clause-interval g c = λ b ss told t. c.in-Ok.ensures.interval ss (spaces_in (TablesAre (view_of c.args.filer.now)) c.args.intervals ss b told t)
+returns-in-Ok-clause-interval g c = λ b ss revealed t. c.in-Ok.ensures.interval ss (spaces_in (TablesAre (view_of c.args.filer.now)) c.args.intervals ss b revealed t)
 
 pub returns-in-Err-Malformed-clause-cause : goal.returns-in-Err-Malformed-clause-cause
 returns-in-Err-Malformed-clause-cause g c =
@@ -25,7 +25,7 @@ returns-in-Err-Malformed-clause-cause g c =
       refl,
       record {
         in_root = c.if-page-ge-ROOT_PAGES.false;
-        breaks = λ b tells. subst (IfMalformed (BreaksLookUp c.args.page c.args.intervals b)) c.in-Err-Malformed.field-0-is (c.in-Err-Malformed.ensures.malformed b tells);
+        breaks = λ b reveals. subst (IfMalformed (BreaksLookUp c.args.page c.args.intervals b)) c.in-Err-Malformed.field-0-is (c.in-Err-Malformed.ensures.malformed b reveals);
       },
     )
 
@@ -42,13 +42,13 @@ returns-in-Err-Malformed-clause-came g c = own_tables (view_of c.args.filer.now)
 pub returns-in-Err-Mem-clause-cause : goal.returns-in-Err-Mem-clause-cause
 returns-in-Err-Mem-clause-cause g c =
     let filer = c.args.filer.now in
-    let fault = subst (IfMem (IsTableAccounted (g.D.Disk.state filer.swapper.under) filer.swapper.pool filer.swapper.layout filer.runs (g.D.Disk.state c.ask.new.filer.swapper.under))) c.in-Err-Mem.field-0-is c.in-Err-Mem.ensures.cause in
+    let fault = subst (IfMem (IsTableAccounted (g.D.Disk.state filer.swapper.disk) filer.swapper.pool filer.swapper.layout filer.runs (g.D.Disk.state c.ask.new.filer.swapper.disk))) c.in-Err-Mem.field-0-is c.in-Err-Mem.ensures.cause in
     tables_halt (view_of filer) (view_of c.ask.new.filer) _ c.in-Err-Mem.halt fault
 
 pub returns-in-Err-Mem-clause-sound : goal.returns-in-Err-Mem-clause-sound
 returns-in-Err-Mem-clause-sound g c = λ m named b ss known t.
     let filer = c.args.filer.now in
-    let fault = subst (IfMem (IsTableAccounted (g.D.Disk.state filer.swapper.under) filer.swapper.pool filer.swapper.layout filer.runs (g.D.Disk.state c.ask.new.filer.swapper.under))) c.in-Err-Mem.field-0-is c.in-Err-Mem.ensures.cause in
+    let fault = subst (IfMem (IsTableAccounted (g.D.Disk.state filer.swapper.disk) filer.swapper.pool filer.swapper.layout filer.runs (g.D.Disk.state c.ask.new.filer.swapper.disk))) c.in-Err-Mem.field-0-is c.in-Err-Mem.ensures.cause in
     fault.sound m b known.stands known.map_labels (tables_of (view_of filer) m named b known)
 
 pub returns-in-Err-Mem-clause-reaches : goal.returns-in-Err-Mem-clause-reaches

@@ -25,7 +25,7 @@ abbrev first_view : (g : given.Over) (c : goal.After-filer-1 g) → View
 first_view g c = view_of c.args.filer.now
 
 abbrev last_view : (g : given.Over) (c : goal.After-filer-1 g) → View
-last_view g c = record { disk = g.D.Disk.state c.change.new.self.under; slots = c.change.new.self.pool; layout = c.change.new.self.layout; runs = c.args.filer.now.runs }
+last_view g c = record { disk = g.D.Disk.state c.change.new.self.disk; slots = c.change.new.self.pool; layout = c.change.new.self.layout; runs = c.args.filer.now.runs }
 
 same_layout : (g : given.Over) (c : goal.After-filer-1 g) → (last_view g c).layout ≡ (first_view g c).layout
 same_layout g c = (rw c.swapper_over.ensures.value at c.change.ensures.layout)

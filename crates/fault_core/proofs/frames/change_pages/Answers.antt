@@ -63,5 +63,5 @@ returns-clause-came g c = brings_then c.change_in-2.ensures.came c.change_in-3.e
 pub returns-clause-slots : goal.returns-clause-slots
 returns-clause-slots g c = λ i id page has. c.change_in-3.ensures.slots i id page (c.change_in-2.ensures.slots i id page has)
 
-pub returns-clause-under : goal.returns-clause-under
-returns-clause-under g c = c.change_in-3.ensures.under ∙ c.change_in-2.ensures.under
+pub returns-clause-disk : goal.returns-clause-disk
+returns-clause-disk g c = c.change_in-3.ensures.disk ∙ c.change_in-2.ensures.disk

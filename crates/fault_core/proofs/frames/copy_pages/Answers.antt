@@ -27,11 +27,11 @@ returns-clause-bytes g c = λ m named b ss known stored first last.
     let past = c.if-into-room.false in
     let page = last_is_next c.args.address (length c.args.into.now) c.requires.few (omega (arith, past)) in
     let next : IsSlotOf ss filer.swapper.pool (c.args.address / 512 + 1) c.args.last = rw page last in
-    let front : length low ≡ 512 - c.args.address % 512 = search rules in
+    let prefix : length low ≡ 512 - c.args.address % 512 = search rules in
     let back : 1 ≤ length high = search rules in
     let inside : length high ≤ 512 = search rules in
     let bytes_low = c.copy_out-2.ensures.bytes in
     let bytes_high = rw c.copy_out-2.ensures.same at c.copy_out-3.ensures.bytes in
-    two_loaded ss named m c.args.address low high front back
-    (read_first filer.swapper.accepted filer.swapper.placed known stored c.args.address first low (omega (arith, front)) (λ f has. bytes_low f has ∙ ap (part f.bytes (c.args.address % 512)) (sym c.copy_out-2.ensures.width)))
+    two_loaded ss named m c.args.address low high prefix back
+    (read_first filer.swapper.accepted filer.swapper.placed known stored c.args.address first low (omega (arith, prefix)) (λ f has. bytes_low f has ∙ ap (part f.bytes (c.args.address % 512)) (sym c.copy_out-2.ensures.width)))
     (read_next filer.swapper.accepted filer.swapper.placed known stored c.args.address next high inside (λ f has. bytes_high f has ∙ ap (part f.bytes 0) (sym c.copy_out-3.ensures.width)))

@@ -10,8 +10,8 @@ use Rattle.fault_core.specs.View.{view_of}
 use Rattle.fault_core.proofs.PieceLemmas.{one_page, last_is_next, loads_first, loads_next, one_loaded, two_loaded}
 use Rattle.fault_core.proofs.ReachLemmas.{known_after, finds_before, reaches_then}
 use Rattle.fault_core.proofs.ShowLemmas.{came_first, came_last}
-use Rattle.fault_core.specs.Lack.{LacksPage, both_units, unit_pages}
-use Rattle.fault_core.proofs.LackLemmas.{lacks_wider}
+use Rattle.fault_core.specs.Lack.{MissesPage, both_units, unit_pages}
+use Rattle.fault_core.proofs.LackLemmas.{misses_wider}
 use Rattle.fault_core.proofs.load.load_shown.Goals as goal
 
 -- ---- On one page.
@@ -52,11 +52,11 @@ returns-clause-bytes g c = λ m named b ss known seen also.
     let low = c.load_in-2.new.into in
     let high = c.load_in-3.new.into in
     let past = c.if-into-room.false in
-    let front : length low ≡ 512 - c.args.address % 512 = search rules in
+    let prefix : length low ≡ 512 - c.args.address % 512 = search rules in
     let back : 1 ≤ length high = search rules in
     let holds : Holds c.args.last.now (c.args.address / 512 + 1) = search rules in
     let first = loads_first ss named m c.args.address c.args.first.now low seen c.requires.first.holds (c.in-Ok.ensures.bytes m named b known seen.stored) in
-    on_ok_wider c.load_in-3.result _ _ (λ has. two_loaded ss named m c.args.address low high front back first (loads_next ss named m c.args.address c.args.last.now high also holds has))
+    on_ok_wider c.load_in-3.result _ _ (λ has. two_loaded ss named m c.args.address low high prefix back first (loads_next ss named m c.args.address c.args.last.now high also holds has))
     (c.load_in-3.ensures.bytes m named b after also.stored)
 
 pub returns-clause-whole : goal.returns-clause-whole
@@ -96,28 +96,28 @@ returns-clause-idle g c = λ first last.
 
 -- ---- A page has no sector.
 
-pub returns-then-into-room-clause-lacks : goal.returns-then-into-room-clause-lacks
-returns-then-into-room-clause-lacks g c =
+pub returns-then-into-room-clause-misses : goal.returns-then-into-room-clause-misses
+returns-then-into-room-clause-misses g c =
     let x = c.args.first.now in
     let y = c.args.last.now in
     let a = c.args.address in
     let n = length c.args.into.now in
-    err_wider c.load_in.result (LacksPage (unit_pages x (a / 512))) (LacksPage (both_units x y a n)) (lacks_wider (unit_pages x (a / 512)) (both_units x y a n) (λ id number own. inl own)) c.load_in.ensures.lacks
+    err_wider c.load_in.result (MissesPage (unit_pages x (a / 512))) (MissesPage (both_units x y a n)) (misses_wider (unit_pages x (a / 512)) (both_units x y a n) (λ id number own. inl own)) c.load_in.ensures.misses
 
-pub returns-in-Err-clause-lacks : goal.returns-in-Err-clause-lacks
-returns-in-Err-clause-lacks g c =
+pub returns-in-Err-clause-misses : goal.returns-in-Err-clause-misses
+returns-in-Err-clause-misses g c =
     let x = c.args.first.now in
     let y = c.args.last.now in
     let a = c.args.address in
     let n = length c.args.into.now in
-    lacks_wider (unit_pages x (a / 512)) (both_units x y a n) (λ id number own. inl own) c.in-Err.halt c.in-Err.ensures.lacks
+    misses_wider (unit_pages x (a / 512)) (both_units x y a n) (λ id number own. inl own) c.in-Err.halt c.in-Err.ensures.misses
 
-pub returns-clause-lacks : goal.returns-clause-lacks
-returns-clause-lacks g c =
+pub returns-clause-misses : goal.returns-clause-misses
+returns-clause-misses g c =
     let x = c.args.first.now in
     let y = c.args.last.now in
     let a = c.args.address in
     let n = length c.args.into.now in
     let past = c.if-into-room.false in
     let page = last_is_next a n c.requires.few (omega (arith, past)) in
-    err_wider c.load_in-3.result (LacksPage (unit_pages y (a / 512 + 1))) (LacksPage (both_units x y a n)) (lacks_wider (unit_pages y (a / 512 + 1)) (both_units x y a n) (λ id number own. inr (subst (λ (q : ℕ). unit_pages y q id number) page own))) c.load_in-3.ensures.lacks
+    err_wider c.load_in-3.result (MissesPage (unit_pages y (a / 512 + 1))) (MissesPage (both_units x y a n)) (misses_wider (unit_pages y (a / 512 + 1)) (both_units x y a n) (λ id number own. inr (subst (λ (q : ℕ). unit_pages y q id number) page own))) c.load_in-3.ensures.misses

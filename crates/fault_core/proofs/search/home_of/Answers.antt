@@ -6,7 +6,7 @@ use Rattle.file_map.specs.Run.{holds, IsRun}
 use Rattle.file_map.specs.FileMap.{IsFound}
 use Rattle.filer_kernel.specs.Causes.{IsGiven}
 use Rattle.fault_core.specs.Reach.{no_break}
-use Rattle.fault_core.specs.ReachLaws.{reach_lacks, touch_of_reach}
+use Rattle.fault_core.specs.ReachLaws.{reach_misses, touch_of_reach}
 use Rattle.fault_core.specs.View.{view_of, kept_by}
 use Rattle.fault_core.proofs.FindLemmas.{home_found}
 use Rattle.swapper_kernel.specs.Goes.{this_page}
@@ -39,8 +39,8 @@ returns-in-Err-clause-cause g c = touch_of_reach no_break (view_of c.args.filer.
 pub returns-in-Err-clause-sound : goal.returns-in-Err-clause-sound
 returns-in-Err-clause-sound g c = λ m named b sector known found. c.in-Err.ensures.sound m named b known
 
-pub returns-in-Ok-None-clause-lacks : goal.returns-in-Ok-None-clause-lacks
-returns-in-Ok-None-clause-lacks g c = inr (refl, refl)
+pub returns-in-Ok-None-clause-misses : goal.returns-in-Ok-None-clause-misses
+returns-in-Ok-None-clause-misses g c = inr (refl, refl)
 
-pub returns-in-Err-clause-lacks : goal.returns-in-Err-clause-lacks
-returns-in-Err-clause-lacks g c = reach_lacks no_break (view_of c.args.filer.now) (view_of c.run_of.new.filer) (this_page c.args.id c.args.page) c.in-Err.halt c.in-Err.ensures.cause
+pub returns-in-Err-clause-misses : goal.returns-in-Err-clause-misses
+returns-in-Err-clause-misses g c = reach_misses no_break (view_of c.args.filer.now) (view_of c.run_of.new.filer) (this_page c.args.id c.args.page) c.in-Err.halt c.in-Err.ensures.cause

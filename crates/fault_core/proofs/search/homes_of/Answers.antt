@@ -4,7 +4,7 @@ use Rattle.fault_core.specs.View.{view_of}
 use Rattle.fault_core.proofs.FindLemmas.{IsFinding, finding_none, finding_more, finding_halt, finding_sound, finding_came, finding_room, finding_stopped, finding_cost, found_are, found_each, found_named}
 use Rattle.fault_core.proofs.search.homes_of.Given as given
 use Rattle.fault_core.specs.Lack.{run_pages}
-use Rattle.fault_core.proofs.LackLemmas.{lacks_wider}
+use Rattle.fault_core.proofs.LackLemmas.{misses_wider}
 use Rattle.swapper_kernel.specs.Goes.{this_page}
 use Rattle.fault_core.proofs.search.homes_of.Goals as goal
 use Rattle.fault_core.proofs.search.homes_of.Goals.{After-loop-k}
@@ -68,7 +68,7 @@ returns-clause-room g c = (all g (goal.at.returns-clause-room g c).After-loop-k)
 pub returns-clause-cost : goal.returns-clause-cost
 returns-clause-cost g c = (all g (goal.at.returns-clause-cost g c).After-loop-k).cost
 
-pub returns-in-Err-clause-lacks : goal.returns-in-Err-clause-lacks
-returns-in-Err-clause-lacks g c =
+pub returns-in-Err-clause-misses : goal.returns-in-Err-clause-misses
+returns-in-Err-clause-misses g c =
     let below = c.loop-k-test.true in
-    lacks_wider (this_page c.args.id (c.args.first + c.loop-k.k)) (run_pages c.args.id c.args.first c.args.pages) (λ i p own. let at = own.1 in (own.0, omega (arith, at), omega (arith, at, below))) c.in-Err.halt c.in-Err.ensures.lacks
+    misses_wider (this_page c.args.id (c.args.first + c.loop-k.k)) (run_pages c.args.id c.args.first c.args.pages) (λ i p own. let at = own.1 in (own.0, omega (arith, at), omega (arith, at, below))) c.in-Err.halt c.in-Err.ensures.misses

@@ -46,6 +46,6 @@ returns-clause-came g c =
 pub returns-clause-idle : goal.returns-clause-idle
 returns-clause-idle g c = λ whole.
     let one = c.in-Ok.ensures.idle whole in
-    let same : g.D.Disk.state c.change_in.new.filer.swapper.under ≡ g.D.Disk.state c.touch.new.filer.swapper.under = ap g.D.Disk.state c.change_in.ensures.under in
+    let same : g.D.Disk.state c.change_in.new.filer.swapper.disk ≡ g.D.Disk.state c.touch.new.filer.swapper.disk = ap g.D.Disk.state c.change_in.ensures.disk in
     let stays : KeepsResident c.touch.new.filer.swapper.pool c.change_in.new.filer.swapper.pool = λ id page there. (there.0, c.change_in.ensures.slots there.0 id page there.1) in
     (refl, rw (← one.1) same, rw (← one.1) stays)

@@ -11,7 +11,7 @@ use Rattle.filer_kernel.proofs.Outcomes.{err_wider, on_ok_wider}
 use Rattle.fault_core.specs.Moves.{Leaves, of_reference}
 use Rattle.filer_kernel.specs.Evidence.{MayBeMissing}
 use Rattle.fault_core.specs.Reach.{TouchHalts, no_break}
-use Rattle.fault_core.specs.Told.{Known}
+use Rattle.fault_core.specs.Revealed.{Known}
 use Rattle.fault_core.specs.Unit.{AreShownStored, IsWhole, file_page}
 use Rattle.fault_core.specs.View.{view_of}
 use Rattle.fault_core.proofs.BeforeLemmas.{halt_before, touches_then, touches_wider}
@@ -19,8 +19,8 @@ use Rattle.fault_core.proofs.LeaveLemmas.{still_stored, stored_on_one, stored_no
 use Rattle.fault_core.proofs.PieceLemmas.{one_page, last_is_next}
 use Rattle.fault_core.proofs.ShowLemmas.{came_first, came_last}
 use Rattle.fault_core.proofs.store.store_shown.Given as given
-use Rattle.fault_core.specs.Lack.{LacksPage, both_units, unit_pages}
-use Rattle.fault_core.proofs.LackLemmas.{lacks_wider}
+use Rattle.fault_core.specs.Lack.{MissesPage, both_units, unit_pages}
+use Rattle.fault_core.proofs.LackLemmas.{misses_wider}
 use Rattle.fault_core.proofs.store.store_shown.Goals as goal
 
 -- ---- On one page.
@@ -126,28 +126,28 @@ returns-clause-idle g c = λ first last.
 
 -- ---- A page has no sector.
 
-pub returns-then-bytes-room-clause-lacks : goal.returns-then-bytes-room-clause-lacks
-returns-then-bytes-room-clause-lacks g c =
+pub returns-then-bytes-room-clause-misses : goal.returns-then-bytes-room-clause-misses
+returns-then-bytes-room-clause-misses g c =
     let x = c.args.first.now in
     let y = c.args.last.now in
     let a = c.args.address in
     let n = length c.args.bytes.now in
-    err_wider c.store_in.result (LacksPage (unit_pages x (a / 512))) (LacksPage (both_units x y a n)) (lacks_wider (unit_pages x (a / 512)) (both_units x y a n) (λ id number own. inl own)) c.store_in.ensures.lacks
+    err_wider c.store_in.result (MissesPage (unit_pages x (a / 512))) (MissesPage (both_units x y a n)) (misses_wider (unit_pages x (a / 512)) (both_units x y a n) (λ id number own. inl own)) c.store_in.ensures.misses
 
-pub returns-in-Err-clause-lacks : goal.returns-in-Err-clause-lacks
-returns-in-Err-clause-lacks g c =
+pub returns-in-Err-clause-misses : goal.returns-in-Err-clause-misses
+returns-in-Err-clause-misses g c =
     let x = c.args.first.now in
     let y = c.args.last.now in
     let a = c.args.address in
     let n = length c.args.bytes.now in
-    lacks_wider (unit_pages x (a / 512)) (both_units x y a n) (λ id number own. inl own) c.in-Err.halt c.in-Err.ensures.lacks
+    misses_wider (unit_pages x (a / 512)) (both_units x y a n) (λ id number own. inl own) c.in-Err.halt c.in-Err.ensures.misses
 
-pub returns-clause-lacks : goal.returns-clause-lacks
-returns-clause-lacks g c =
+pub returns-clause-misses : goal.returns-clause-misses
+returns-clause-misses g c =
     let x = c.args.first.now in
     let y = c.args.last.now in
     let a = c.args.address in
     let n = length c.args.bytes.now in
     let past = c.if-bytes-room.false in
     let page = last_is_next a n c.requires.few (omega (arith, past)) in
-    err_wider c.store_in-3.result (LacksPage (unit_pages y (a / 512 + 1))) (LacksPage (both_units x y a n)) (lacks_wider (unit_pages y (a / 512 + 1)) (both_units x y a n) (λ id number own. inr (subst (λ (q : ℕ). unit_pages y q id number) page own))) c.store_in-3.ensures.lacks
+    err_wider c.store_in-3.result (MissesPage (unit_pages y (a / 512 + 1))) (MissesPage (both_units x y a n)) (misses_wider (unit_pages y (a / 512 + 1)) (both_units x y a n) (λ id number own. inr (subst (λ (q : ℕ). unit_pages y q id number) page own))) c.store_in-3.ensures.misses

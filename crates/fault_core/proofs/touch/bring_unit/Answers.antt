@@ -1,12 +1,12 @@
 use Rattle.std.proofs.Common.{◌∙◌, sym, ap}
 use Rattle.std.proofs.lemmas.Bool.{true≢false}
 use Rattle.filer_kernel.proofs.Outcomes.{on_ok_wider, err_wider}
-use Rattle.fault_core.specs.Told.{Known}
+use Rattle.fault_core.specs.Revealed.{Known}
 use Rattle.fault_core.specs.View.{view_of}
 use Rattle.fault_core.proofs.RoomLemmas.{room_same}
 use Rattle.fault_core.proofs.UnitLemmas.{whole_of_run, run_of_whole, run_stored, run_shown}
-use Rattle.fault_core.specs.Lack.{LacksPage, run_pages, unit_pages}
-use Rattle.fault_core.proofs.LackLemmas.{lacks_wider, run_unit}
+use Rattle.fault_core.specs.Lack.{MissesPage, run_pages, unit_pages}
+use Rattle.fault_core.proofs.LackLemmas.{misses_wider, run_unit}
 use Rattle.fault_core.proofs.touch.bring_unit.Goals as goal
 
 pub returns-then-is_there-clause-whole : goal.returns-then-is_there-clause-whole
@@ -32,9 +32,9 @@ returns-then-is_there-clause-room g c = room_same c.args.filer.now.swapper.pool 
 pub returns-clause-room : goal.returns-clause-room
 returns-clause-room g c = rw (← c.is_there.ensures.same) c.bring_run.ensures.room
 
-pub returns-clause-lacks : goal.returns-clause-lacks
-returns-clause-lacks g c =
+pub returns-clause-misses : goal.returns-clause-misses
+returns-clause-misses g c =
     let x = c.args.x.now in
     let run = c.unit_run-first.result in
-    err_wider c.bring_run.result (LacksPage (run_pages x.id run.0 run.1)) (LacksPage (unit_pages x c.args.page))
-    (lacks_wider (run_pages x.id run.0 run.1) (unit_pages x c.args.page) (run_unit x c.args.page run c.unit_run-first.ensures)) c.bring_run.ensures.lacks
+    err_wider c.bring_run.result (MissesPage (run_pages x.id run.0 run.1)) (MissesPage (unit_pages x c.args.page))
+    (misses_wider (run_pages x.id run.0 run.1) (unit_pages x c.args.page) (run_unit x c.args.page run c.unit_run-first.ensures)) c.bring_run.ensures.misses

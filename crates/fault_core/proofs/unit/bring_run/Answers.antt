@@ -12,8 +12,8 @@ use Rattle.fault_core.proofs.ReachLemmas.{known_after}
 use Rattle.fault_core.proofs.RoomLemmas.{room_then, steps_room}
 use Rattle.fault_core.proofs.RunLemmas.{homes_row, homes_resident, run_came, homes_are_named, have_sectors, homes_placed}
 use Rattle.fault_core.proofs.TurnLemmas.{reaches_brought, brought_halt}
-use Rattle.fault_core.specs.Lack.{LacksPage, run_pages}
-use Rattle.fault_core.proofs.LackLemmas.{brought_lacks}
+use Rattle.fault_core.specs.Lack.{MissesPage, run_pages}
+use Rattle.fault_core.proofs.LackLemmas.{brought_misses}
 use Rattle.fault_core.proofs.unit.bring_run.Goals as goal
 
 pub returns-in-Err-clause-sound : goal.returns-in-Err-clause-sound
@@ -56,9 +56,9 @@ returns-clause-came g c = run_came c.in-Ok.ensures.are c.args.filer.now.swapper.
 pub returns-clause-room : goal.returns-clause-room
 returns-clause-room g c = room_then c.homes_of.ensures.room (steps_room c.bring.ensures.steps)
 
-pub returns-clause-lacks : goal.returns-clause-lacks
-returns-clause-lacks g c =
+pub returns-clause-misses : goal.returns-clause-misses
+returns-clause-misses g c =
     let w = view_of c.homes_of.new.filer in
     let x = view_of c.bring.new.filer in
-    err_wider c.bring.result (Halts (IsAmong (homes_in c.in-Ok.homes)) w.disk w.slots x.disk) (LacksPage (run_pages c.args.id c.args.first c.args.pages))
-    (brought_lacks (IsAmong (homes_in c.in-Ok.homes)) w.disk w.slots x.disk (run_pages c.args.id c.args.first c.args.pages)) c.bring.ensures.cause
+    err_wider c.bring.result (Halts (IsAmong (homes_in c.in-Ok.homes)) w.disk w.slots x.disk) (MissesPage (run_pages c.args.id c.args.first c.args.pages))
+    (brought_misses (IsAmong (homes_in c.in-Ok.homes)) w.disk w.slots x.disk (run_pages c.args.id c.args.first c.args.pages)) c.bring.ensures.cause

@@ -10,17 +10,17 @@ use Rattle.file_manager.proofs.CountedLemmas.{rose_of, of_answer}
 use Rattle.file_manager.proofs.LookLemmas.{looks_nothing, looks_searched}
 use Rattle.file_manager.proofs.attributes.attributes_of.Goals as goal
 
-pub returns-in-Ok-Some-clause-told : goal.returns-in-Ok-Some-clause-told
-returns-in-Ok-Some-clause-told g c = rw (← c.frames_of.ensures.same) (λ x shapes spaces books. (subst (IsFoundFile (labels_of x) shapes c.args.id) c.in-Ok-Some.field-0-is (c.in-Ok-Some.ensures.told x shapes spaces books)).1)
+pub returns-in-Ok-Some-clause-revealed : goal.returns-in-Ok-Some-clause-revealed
+returns-in-Ok-Some-clause-revealed g c = rw (← c.frames_of.ensures.same) (λ x shapes spaces books. (subst (IsFoundFile (labels_of x) shapes c.args.id) c.in-Ok-Some.field-0-is (c.in-Ok-Some.ensures.revealed x shapes spaces books)).1)
 
-pub returns-in-Ok-None-clause-told : goal.returns-in-Ok-None-clause-told
-returns-in-Ok-None-clause-told g c = rw (← c.frames_of.ensures.same) (λ x shapes spaces books. subst (IsFoundFile (labels_of x) shapes c.args.id) c.in-Ok-None.field-0-is (c.in-Ok-None.ensures.told x shapes spaces books))
+pub returns-in-Ok-None-clause-revealed : goal.returns-in-Ok-None-clause-revealed
+returns-in-Ok-None-clause-revealed g c = rw (← c.frames_of.ensures.same) (λ x shapes spaces books. subst (IsFoundFile (labels_of x) shapes c.args.id) c.in-Ok-None.field-0-is (c.in-Ok-None.ensures.revealed x shapes spaces books))
 
-pub returns-in-Err-clause-told : goal.returns-in-Err-clause-told
-returns-in-Err-clause-told g c = rw (← c.frames_of.ensures.same) (λ x shapes spaces books. c.in-Err.ensures.told x shapes spaces books)
+pub returns-in-Err-clause-revealed : goal.returns-in-Err-clause-revealed
+returns-in-Err-clause-revealed g c = rw (← c.frames_of.ensures.same) (λ x shapes spaces books. c.in-Err.ensures.revealed x shapes spaces books)
 
 pub returns-in-Err-clause-counted : goal.returns-in-Err-clause-counted
-returns-in-Err-clause-counted g c = rw (← c.frames_of.ensures.same) (of_answer c.in-Err.halt (rose_of _ (g.D.Disk.state c.frames_of.new.filer.swapper.under) (g.D.Disk.state c.find_file.new.filer.swapper.under) c.in-Err.halt c.in-Err.ensures.cause))
+returns-in-Err-clause-counted g c = rw (← c.frames_of.ensures.same) (of_answer c.in-Err.halt (rose_of _ (g.D.Disk.state c.frames_of.new.filer.swapper.disk) (g.D.Disk.state c.find_file.new.filer.swapper.disk) c.in-Err.halt c.in-Err.ensures.cause))
 
 pub returns-in-Ok-None-clause-none : goal.returns-in-Ok-None-clause-none
 returns-in-Ok-None-clause-none g c none = rw (← c.frames_of.ensures.same) (inr (c.in-Ok-None.ensures.missing (search rules)))
@@ -54,7 +54,7 @@ returns-in-Ok-Some-clause-looks g c =
     let f = c.frames_of.new.filer in
     let found = c.find_file.ensures in
     rw (← c.frames_of.ensures.same)
-    (looks_searched {kept = runs_of f.swapper.layout.sectors f.runs} {runs = runs_of f.swapper.layout.sectors c.find_file.new.filer.runs} f.swapper.accepted (rw c.frames_of.ensures.same c.requires.size) (g.met.D.Disk.whole f.swapper.under) (g.met.D.Disk.in_form f.swapper.under) (rw c.frames_of.ensures.same c.frames_of.ensures.pages)
+    (looks_searched {kept = runs_of f.swapper.layout.sectors f.runs} {runs = runs_of f.swapper.layout.sectors c.find_file.new.filer.runs} f.swapper.accepted (rw c.frames_of.ensures.same c.requires.size) (g.met.D.Disk.whole f.swapper.disk) (g.met.D.Disk.in_form f.swapper.disk) (rw c.frames_of.ensures.same c.frames_of.ensures.pages)
     found.beside found.same_bytes found.runs_given found.runs_are)
 
 pub returns-in-Ok-None-clause-looks : goal.returns-in-Ok-None-clause-looks
@@ -62,7 +62,7 @@ returns-in-Ok-None-clause-looks g c =
     let f = c.frames_of.new.filer in
     let found = c.find_file.ensures in
     rw (← c.frames_of.ensures.same)
-    (looks_searched {kept = runs_of f.swapper.layout.sectors f.runs} {runs = runs_of f.swapper.layout.sectors c.find_file.new.filer.runs} f.swapper.accepted (rw c.frames_of.ensures.same c.requires.size) (g.met.D.Disk.whole f.swapper.under) (g.met.D.Disk.in_form f.swapper.under) (rw c.frames_of.ensures.same c.frames_of.ensures.pages)
+    (looks_searched {kept = runs_of f.swapper.layout.sectors f.runs} {runs = runs_of f.swapper.layout.sectors c.find_file.new.filer.runs} f.swapper.accepted (rw c.frames_of.ensures.same c.requires.size) (g.met.D.Disk.whole f.swapper.disk) (g.met.D.Disk.in_form f.swapper.disk) (rw c.frames_of.ensures.same c.frames_of.ensures.pages)
     found.beside found.same_bytes found.runs_given found.runs_are)
 
 pub returns-in-Err-clause-looks : goal.returns-in-Err-clause-looks
@@ -70,7 +70,7 @@ returns-in-Err-clause-looks g c =
     let f = c.frames_of.new.filer in
     let found = c.find_file.ensures in
     rw (← c.frames_of.ensures.same)
-    (looks_searched {kept = runs_of f.swapper.layout.sectors f.runs} {runs = runs_of f.swapper.layout.sectors c.find_file.new.filer.runs} f.swapper.accepted (rw c.frames_of.ensures.same c.requires.size) (g.met.D.Disk.whole f.swapper.under) (g.met.D.Disk.in_form f.swapper.under) (rw c.frames_of.ensures.same c.frames_of.ensures.pages)
+    (looks_searched {kept = runs_of f.swapper.layout.sectors f.runs} {runs = runs_of f.swapper.layout.sectors c.find_file.new.filer.runs} f.swapper.accepted (rw c.frames_of.ensures.same c.requires.size) (g.met.D.Disk.whole f.swapper.disk) (g.met.D.Disk.in_form f.swapper.disk) (rw c.frames_of.ensures.same c.frames_of.ensures.pages)
     found.beside found.same_bytes found.runs_given found.runs_are)
 
 -- ---- What it keeps to, and the reasons of its halts.

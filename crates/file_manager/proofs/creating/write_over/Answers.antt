@@ -1,5 +1,5 @@
 use Rattle.std.proofs.Common.{◌⊎◌, ◌∙◌, rules}
-use Rattle.labelled_disk.specs.Calls.{Moves, TellsSame, TellsWrite}
+use Rattle.labelled_disk.specs.Calls.{Moves, RevealsSame, RevealsWrite}
 use Rattle.volume_root.specs.RootPage.{root_write}
 use Rattle.volume_root.proofs.WrittenLemmas.{root_read}
 use Rattle.file_manager.proofs.RootForm.{root_goes, root_may}
@@ -8,21 +8,21 @@ use Rattle.file_manager.proofs.creating.write_over.Goals as goal
 
 pub returns-in-Ok-clause-made : goal.returns-in-Ok-clause-made
 returns-in-Ok-clause-made g c =
-    let old = g.D.Disk.state c.args.filer.now.swapper.under in
+    let old = g.D.Disk.state c.args.filer.now.swapper.disk in
     let new = g.D.Disk.state c.write_root.new.disk in
-    let made : TellsWrite (root_write c.args.root) old new = search rules in
+    let made : RevealsWrite (root_write c.args.root) old new = search rules in
     let moves : Moves old new = search rules in
     root_goes old new c.args.filer.now.swapper.pool c.args.filer.now.swapper.layout c.args.root c.args.filer.now.swapper.accepted c.args.filer.now.swapper.placed c.requires.valid c.requires.serial c.requires.counter
-    (λ d told. g.met.D.Disk.whole c.args.filer.now.swapper.under d told ∙ c.requires.size) moves made
+    (λ d revealed. g.met.D.Disk.whole c.args.filer.now.swapper.disk d revealed ∙ c.requires.size) moves made
 
 pub returns-in-Err-clause-stopped : goal.returns-in-Err-clause-stopped
 returns-in-Err-clause-stopped g c =
-    let old = g.D.Disk.state c.args.filer.now.swapper.under in
+    let old = g.D.Disk.state c.args.filer.now.swapper.disk in
     let new = g.D.Disk.state c.write_root.new.disk in
-    let either : TellsSame old new ⊎ TellsWrite (root_write c.args.root) old new = search rules in
+    let either : RevealsSame old new ⊎ RevealsWrite (root_write c.args.root) old new = search rules in
     let moves : Moves old new = search rules in
     root_may old new c.args.filer.now.swapper.pool c.args.filer.now.swapper.layout c.args.root c.args.filer.now.swapper.accepted c.args.filer.now.swapper.placed c.requires.valid c.requires.serial c.requires.counter
-    (λ d told. g.met.D.Disk.whole c.args.filer.now.swapper.under d told ∙ c.requires.size) moves either
+    (λ d revealed. g.met.D.Disk.whole c.args.filer.now.swapper.disk d revealed ∙ c.requires.size) moves either
 
 pub returns-in-Ok-clause-keeps_to : goal.returns-in-Ok-clause-keeps_to
 returns-in-Ok-clause-keeps_to g c = λ o named h below.

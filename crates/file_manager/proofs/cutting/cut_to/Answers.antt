@@ -15,7 +15,7 @@ use Rattle.file_manager.proofs.CountedLemmas.{rose_of, rose_after}
 use Rattle.file_manager.proofs.CutSteps.{leader_in_form, few_left, leader_new, once_left, others_left}
 use Rattle.filer_kernel.specs.EvidenceLaws.{fits, so_of_add, so_of_cut}
 use Rattle.file_manager.proofs.Keeping.{keeps_none}
-use Rattle.file_manager.proofs.CutCauses.{cut_halts_behind, shrink_of_cut, shrink_of_add}
+use Rattle.file_manager.proofs.CutCauses.{cut_halts_after, shrink_of_cut, shrink_of_add}
 use Rattle.filer_kernel.specs.Cached.{runs_of}
 use Rattle.file_manager.specs.Grounds.{IsUnframed}
 use Rattle.file_manager.proofs.KeepSteps.{keeps_at}
@@ -30,7 +30,7 @@ pub returns-in-Err-clause-sound : goal.returns-in-Err-clause-sound
 returns-in-Err-clause-sound g c = λ m named stands map labels once alone. c.in-Err.ensures.sound m named stands map labels
 
 pub returns-in-Err-clause-counted : goal.returns-in-Err-clause-counted
-returns-in-Err-clause-counted g c = rose_of _ (g.D.Disk.state c.args.filer.now.swapper.under) (g.D.Disk.state c.cut.new.self.swapper.under) c.in-Err.halt c.in-Err.ensures.cause
+returns-in-Err-clause-counted g c = rose_of _ (g.D.Disk.state c.args.filer.now.swapper.disk) (g.D.Disk.state c.cut.new.self.swapper.disk) c.in-Err.halt c.in-Err.ensures.cause
 
 pub add-requires-clause-form : goal.add-requires-clause-form
 add-requires-clause-form g c =
@@ -51,7 +51,7 @@ returns-in-Err-add-clause-sound g c = λ m named stands map labels once alone.
     (few_left layout.sectors c.args.leader (omega (arith, first, above)) c.requires.inside)
 
 pub returns-in-Err-add-clause-counted : goal.returns-in-Err-add-clause-counted
-returns-in-Err-add-clause-counted g c = rose_after (g.D.Disk.state c.args.filer.now.swapper.under) (g.D.Disk.state c.cut.new.self.swapper.under) (g.D.Disk.state c.add.new.self.swapper.under) c.cut.ensures.beside.goes.makes.went.faults (rose_of _ (g.D.Disk.state c.cut.new.self.swapper.under) (g.D.Disk.state c.add.new.self.swapper.under) c.in-Err-add.halt c.in-Err-add.ensures.cause)
+returns-in-Err-add-clause-counted g c = rose_after (g.D.Disk.state c.args.filer.now.swapper.disk) (g.D.Disk.state c.cut.new.self.swapper.disk) (g.D.Disk.state c.add.new.self.swapper.disk) c.cut.ensures.beside.goes.makes.went.faults (rose_of _ (g.D.Disk.state c.cut.new.self.swapper.disk) (g.D.Disk.state c.add.new.self.swapper.disk) c.in-Err-add.halt c.in-Err-add.ensures.cause)
 
 pub returns-in-Err-add-clause-runs : goal.returns-in-Err-add-clause-runs
 returns-in-Err-add-clause-runs g c = λ n. rw c.add.ensures.runs (c.cut.ensures.runs n)
@@ -70,7 +70,7 @@ returns-clause-cut g c = λ m named stands map.
     rw c.frames_of.ensures.same (record { memory = a.memory; stands = a.stands; differs = differs_then (in_map FileMap layout) m b.memory a.memory b.differs a.differs; is = a.is })
 
 pub returns-clause-in_form : goal.returns-clause-in_form
-returns-clause-in_form g c = rw c.frames_of.ensures.same (λ y stands. memory_in_form _ _ y stands (g.met.D.Disk.in_form c.add.new.self.swapper.under stands.sectors stands.told) c.frames_of.ensures.pages)
+returns-clause-in_form g c = rw c.frames_of.ensures.same (λ y stands. memory_in_form _ _ y stands (g.met.D.Disk.in_form c.add.new.self.swapper.disk stands.sectors stands.revealed) c.frames_of.ensures.pages)
 
 pub returns-clause-runs : goal.returns-clause-runs
 returns-clause-runs g c = λ n. rw (c.frames_of.ensures.same, c.add.ensures.runs) (c.cut.ensures.runs n)
@@ -78,21 +78,21 @@ returns-clause-runs g c = λ n. rw (c.frames_of.ensures.same, c.add.ensures.runs
 pub returns-clause-beside : goal.returns-clause-beside
 returns-clause-beside g c = rw c.frames_of.ensures.same (beside_then refl c.cut.ensures.beside c.add.ensures.beside)
 
-pub returns-in-Err-clause-so : goal.returns-in-Err-clause-so
-returns-in-Err-clause-so g c = so_of_cut (fits c.args.filer.now.swapper c.requires.size) c.cut.ensures.beside.goes.makes c.in-Err.halt c.in-Err.ensures.cause
+pub returns-in-Err-clause-evidence_seen : goal.returns-in-Err-clause-evidence_seen
+returns-in-Err-clause-evidence_seen g c = so_of_cut (fits c.args.filer.now.swapper c.requires.size) c.cut.ensures.beside.goes.makes c.in-Err.halt c.in-Err.ensures.cause
 
-pub returns-in-Err-add-clause-so : goal.returns-in-Err-add-clause-so
-returns-in-Err-add-clause-so g c = so_of_add (fits c.cut.new.self.swapper (search rules)) c.add.ensures.beside.goes.makes c.in-Err-add.halt c.in-Err-add.ensures.cause
+pub returns-in-Err-add-clause-evidence_seen : goal.returns-in-Err-add-clause-evidence_seen
+returns-in-Err-add-clause-evidence_seen g c = so_of_add (fits c.cut.new.self.swapper (search rules)) c.add.ensures.beside.goes.makes c.in-Err-add.halt c.in-Err-add.ensures.cause
 
 pub returns-in-Err-clause-cause : goal.returns-in-Err-clause-cause
 returns-in-Err-clause-cause g c =
     let layout = c.args.filer.now.swapper.layout in
-    let old = (g.D.Disk.state c.args.filer.now.swapper.under) in
+    let old = (g.D.Disk.state c.args.filer.now.swapper.disk) in
     let pool = c.args.filer.now.swapper.pool in
     let kept = runs_of layout.sectors c.args.filer.now.runs in
-    let new = (g.D.Disk.state c.cut.new.self.swapper.under) in
+    let new = (g.D.Disk.state c.cut.new.self.swapper.disk) in
     shrink_of_cut (IsUnframed pool c.args.id) layout kept c.args.id c.args.from (λ p. ⊥) old new pool c.cut.new.self.swapper.pool c.in-Err.halt
-    (cut_halts_behind (keeps_none (IsUnframed pool c.args.id) layout c.args.id old pool kept (λ none. none)) c.args.from (λ p. ⊥) new c.cut.new.self.swapper.pool c.in-Err.halt c.in-Err.ensures.begun c.in-Err.ensures.cause)
+    (cut_halts_after (keeps_none (IsUnframed pool c.args.id) layout c.args.id old pool kept (λ none. none)) c.args.from (λ p. ⊥) new c.cut.new.self.swapper.pool c.in-Err.halt c.in-Err.ensures.begun c.in-Err.ensures.cause)
 
 pub returns-in-Err-add-clause-cause : goal.returns-in-Err-add-clause-cause
 returns-in-Err-add-clause-cause g c =
@@ -126,6 +126,6 @@ returns-in-Err-add-clause-reasons g c = λ o named k led.
     c.in-Err-add.halt (rw lay at c.in-Err-add.ensures.cause) (right cut.memory (without_from named c.args.id c.args.from) cut.stands cut.is new)
 
 pub returns-clause-keeps_to : goal.returns-clause-keeps_to
-returns-clause-keeps_to g c = λ o named k led let_go.
+returns-clause-keeps_to g c = λ o named k led evict.
     let layout = c.args.filer.now.swapper.layout in
-    (_, keeps_at c.frames_of.new.filer.runs (returns-clause-beside g c).layout (keeps_led k (returns-clause-beside g c) c.args.id c.args.from (returns-clause-runs g c layout.sectors) c.args.filer.now.swapper.accepted (client_leaves o c.args.id c.requires.of_file) (client_untabled c.args.id c.requires.of_file) c.args.leader led let_go (returns-clause-cut g c)), λ all. tables_more (without_from named c.args.id c.args.from) (leader_run c.args.id c.args.leader) (tables_left named c.args.id c.args.from c.requires.of_file all))
+    (_, keeps_at c.frames_of.new.filer.runs (returns-clause-beside g c).layout (keeps_led k (returns-clause-beside g c) c.args.id c.args.from (returns-clause-runs g c layout.sectors) c.args.filer.now.swapper.accepted (client_leaves o c.args.id c.requires.of_file) (client_untabled c.args.id c.requires.of_file) c.args.leader led evict (returns-clause-cut g c)), λ all. tables_more (without_from named c.args.id c.args.from) (leader_run c.args.id c.args.leader) (tables_left named c.args.id c.args.from c.requires.of_file all))

@@ -2,7 +2,7 @@ use Rattle.swapper_kernel.specs.declared.manager.Manager.TheVariants.{FileMap}
 use Rattle.file_manager.proofs.CountedLemmas.{rose_after}
 use Rattle.file_manager.proofs.FreedRun.{all_stop}
 use Rattle.file_manager.proofs.ShrinkLemmas.{may_free, leader_is_alone, named_apart, shrunk_by, stopped_in, stopped_cut, makes_cut}
-use Rattle.file_manager.proofs.CutCauses.{shrink_of_free, shrink_halts_behind}
+use Rattle.file_manager.proofs.CutCauses.{shrink_of_free, shrink_halts_after}
 use Rattle.filer_kernel.specs.Cached.{runs_of}
 use Rattle.file_manager.specs.Grounds.{IsUnframed}
 use Rattle.std.proofs.Common.{◌≤◌, ◌<◌, inl, inr, sym, ◌∙◌, subst}
@@ -48,7 +48,7 @@ pub returns-in-Err-cut_to-clause-stopped : goal.returns-in-Err-cut_to-clause-sto
 returns-in-Err-cut_to-clause-stopped g c = all_stop (makes_cut c.in-Ok.ensures.makes c.cut_to.ensures.beside)
 
 pub returns-in-Err-cut_to-clause-counted : goal.returns-in-Err-cut_to-clause-counted
-returns-in-Err-cut_to-clause-counted g c = rose_after (g.D.Disk.state c.args.filer.now.swapper.under) (g.D.Disk.state c.free_down.new.filer.swapper.under) (g.D.Disk.state c.cut_to.new.filer.swapper.under) c.in-Ok.ensures.makes.makes.went.faults c.in-Err-cut_to.ensures.counted
+returns-in-Err-cut_to-clause-counted g c = rose_after (g.D.Disk.state c.args.filer.now.swapper.disk) (g.D.Disk.state c.free_down.new.filer.swapper.disk) (g.D.Disk.state c.cut_to.new.filer.swapper.disk) c.in-Ok.ensures.makes.makes.went.faults c.in-Err-cut_to.ensures.counted
 
 pub returns-clause-shrunk : goal.returns-clause-shrunk
 returns-clause-shrunk g c = λ x shapes spaces f may size t.
@@ -66,14 +66,14 @@ returns-clause-makes g c = makes_cut c.in-Ok.ensures.makes c.cut_to.ensures.besi
 pub returns-in-Err-clause-cause : goal.returns-in-Err-clause-cause
 returns-in-Err-clause-cause g c =
     let layout = c.args.filer.now.swapper.layout in
-    let old = (g.D.Disk.state c.args.filer.now.swapper.under) in
+    let old = (g.D.Disk.state c.args.filer.now.swapper.disk) in
     let pool = c.args.filer.now.swapper.pool in
     let kept = runs_of layout.sectors c.args.filer.now.runs in
-    shrink_of_free (IsUnframed pool c.args.id) layout kept c.args.id c.args.pages (λ p. (c.args.pages ≤ p) × (p < c.args.size)) old (g.D.Disk.state c.free_down.new.filer.swapper.under) pool c.free_down.new.filer.swapper.pool c.in-Err.halt c.in-Err.ensures.cause
+    shrink_of_free (IsUnframed pool c.args.id) layout kept c.args.id c.args.pages (λ p. (c.args.pages ≤ p) × (p < c.args.size)) old (g.D.Disk.state c.free_down.new.filer.swapper.disk) pool c.free_down.new.filer.swapper.pool c.in-Err.halt c.in-Err.ensures.cause
 
 pub returns-in-Err-cut_to-clause-cause : goal.returns-in-Err-cut_to-clause-cause
 returns-in-Err-cut_to-clause-cause g c =
-    shrink_halts_behind c.in-Ok.ensures.keeps c.requires.sectors c.args.pages (λ p. ⊥) (λ p. (c.args.pages ≤ p) × (p < c.args.size)) (λ p none. absurd none) (g.D.Disk.state c.cut_to.new.filer.swapper.under) c.cut_to.new.filer.swapper.pool c.in-Err-cut_to.halt
+    shrink_halts_after c.in-Ok.ensures.keeps c.requires.sectors c.args.pages (λ p. ⊥) (λ p. (c.args.pages ≤ p) × (p < c.args.size)) (λ p none. absurd none) (g.D.Disk.state c.cut_to.new.filer.swapper.disk) c.cut_to.new.filer.swapper.pool c.in-Err-cut_to.halt
     (rw c.in-Ok.ensures.layout at c.in-Err-cut_to.ensures.cause)
 
 pub returns-in-Err-clause-own : goal.returns-in-Err-clause-own
@@ -92,13 +92,13 @@ returns-in-Err-clause-reasons g c = λ o named k led. c.in-Err.ensures.reasons o
 
 pub returns-in-Err-cut_to-clause-reasons : goal.returns-in-Err-cut_to-clause-reasons
 returns-in-Err-cut_to-clause-reasons g c = λ o named k led.
-    subst (λ (l : Layout). ShowsReason o l (g.D.Disk.state c.cut_to.new.filer.swapper.under) c.in-Err-cut_to.halt) c.in-Ok.ensures.layout (c.in-Err-cut_to.ensures.reasons o named (c.in-Ok.ensures.keeps_to o named k) led)
+    subst (λ (l : Layout). ShowsReason o l (g.D.Disk.state c.cut_to.new.filer.swapper.disk) c.in-Err-cut_to.halt) c.in-Ok.ensures.layout (c.in-Err-cut_to.ensures.reasons o named (c.in-Ok.ensures.keeps_to o named k) led)
 
 pub returns-clause-keeps_to : goal.returns-clause-keeps_to
 returns-clause-keeps_to g c = λ o named k led none.
     c.in-Ok-cut_to.ensures.keeps_to o named (c.in-Ok.ensures.keeps_to o named k) led (λ page sector own is.
     let from = own.0 in
     elim (cases_lt page c.args.size) [
-      | inl below ↦ c.in-Ok.ensures.let_go o named k page sector (from, below) is
+      | inl below ↦ c.in-Ok.ensures.evict o named k page sector (from, below) is
       | inr above ↦ absurd (true≢false (sym is ∙ none page sector (above, own.1)))
     ])

@@ -4,11 +4,11 @@ use Rattle.file_map.specs.FileMap.{most_records}
 use Rattle.swapper_kernel.specs.FormLaws.{memory_in_form}
 use Rattle.file_manager.proofs.BookLemmas.{map_is, map_named}
 use Rattle.file_manager.proofs.FreedRun.{map_makes, map_stops}
-use Rattle.file_manager.proofs.DeletedFile.{may_free, size_is, deletes_first, deletes_all, deleted_by, delete_makes, delete_stops, free_stops, told_cost, sized_cost}
+use Rattle.file_manager.proofs.DeletedFile.{may_free, size_is, deletes_first, deletes_all, deleted_by, delete_makes, delete_stops, free_stops, revealed_cost, sized_cost}
 use Rattle.file_manager.proofs.Faults.{counted, counted_then}
 use Rattle.filer_kernel.specs.EvidenceLaws.{fits, so_of_map, so_of_cut}
-use Rattle.file_manager.proofs.Keeping.{keeps_none, keeps_read, keeps_then, search_halts_behind, free_halts_before}
-use Rattle.file_manager.proofs.CutCauses.{cut_of_free, cut_halts_behind}
+use Rattle.file_manager.proofs.Keeping.{keeps_none, keeps_read, keeps_then, search_halts_after, free_halts_before}
+use Rattle.file_manager.proofs.CutCauses.{cut_of_free, cut_halts_after}
 use Rattle.labelled_disk.specs.Label.{leader_page}
 use Rattle.filer_kernel.specs.Cached.{runs_of}
 use Rattle.filer_kernel.specs.Triples.{IsOneOf}
@@ -111,7 +111,7 @@ returns-clause-deleted g c = λ x shapes spaces f books found hidden.
     rw c.frames_of-volume.ensures.same
     (deleted_by layout is c.args.filer.now.runs shapes spaces x _ _ books c.args.id c.requires.client f found hidden _ _ _ _ c.size.ensures.runs c.size.ensures.beside stands c.in-Ok.pages asked _ _ _ freed
     _ _ _ c.cut.new.self.runs (rw lay at c.in-Ok-cut.ensures.beside) cut (c.in-Ok-cut.ensures.runs layout.sectors)
-    (λ y stood. memory_in_form _ _ y stood (g.met.D.Disk.in_form c.cut.new.self.swapper.under stood.sectors stood.told) c.frames_of-volume.ensures.pages))
+    (λ y stood. memory_in_form _ _ y stood (g.met.D.Disk.in_form c.cut.new.self.swapper.disk stood.sectors stood.revealed) c.frames_of-volume.ensures.pages))
 
 pub returns-clause-used : goal.returns-clause-used
 returns-clause-used g c = λ x shapes spaces f books found.
@@ -127,8 +127,8 @@ returns-clause-makes g c =
     let lay = c.in-Ok-free_all.ensures.layout ∙ c.size.ensures.beside.layout in
     rw c.frames_of-volume.ensures.same (c.in-Ok.pages, delete_makes c.in-Ok.pages c.size.ensures.beside c.in-Ok-free_all.ensures.makes (rw lay at c.in-Ok-cut.ensures.beside))
 
-pub returns-in-Err-free_all-clause-cost_told : goal.returns-in-Err-free_all-clause-cost_told
-returns-in-Err-free_all-clause-cost_told g c = λ x shapes spaces f books found.
+pub returns-in-Err-free_all-clause-cost_revealed : goal.returns-in-Err-free_all-clause-cost_revealed
+returns-in-Err-free_all-clause-cost_revealed g c = λ x shapes spaces f books found.
     let layout = c.args.filer.now.swapper.layout in
     let is = c.args.filer.now.swapper.accepted in
     let b = books.booked in
@@ -136,10 +136,10 @@ returns-in-Err-free_all-clause-cost_told g c = λ x shapes spaces f books found.
     let asked = c.in-Ok.ensures.size x b.named books.stands map in
     let size : c.in-Ok.pages ≡ f.size = size_is _ _ shapes x b c.args.id c.requires.client f found c.in-Ok.pages asked in
     let two = rw (c.size.ensures.beside.layout) at c.free_all.ensures.cost in
-    told_cost (g.D.Disk.state c.args.filer.now.swapper.under).transfers (g.D.Disk.state c.size.new.self.swapper.under).transfers (g.D.Disk.state c.free_all.new.filer.swapper.under).transfers (g.D.Disk.state c.free_all.new.filer.swapper.under).transfers f.size c.in-Ok.pages (16 + 4 * layout.vam) (2 * (1 + 51 * most_records layout.sectors)) size c.size.ensures.cost two (omega arith)
+    revealed_cost (g.D.Disk.state c.args.filer.now.swapper.disk).transfers (g.D.Disk.state c.size.new.self.swapper.disk).transfers (g.D.Disk.state c.free_all.new.filer.swapper.disk).transfers (g.D.Disk.state c.free_all.new.filer.swapper.disk).transfers f.size c.in-Ok.pages (16 + 4 * layout.vam) (2 * (1 + 51 * most_records layout.sectors)) size c.size.ensures.cost two (omega arith)
 
-pub returns-in-Err-cut-clause-cost_told : goal.returns-in-Err-cut-clause-cost_told
-returns-in-Err-cut-clause-cost_told g c = λ x shapes spaces f books found.
+pub returns-in-Err-cut-clause-cost_revealed : goal.returns-in-Err-cut-clause-cost_revealed
+returns-in-Err-cut-clause-cost_revealed g c = λ x shapes spaces f books found.
     let layout = c.args.filer.now.swapper.layout in
     let is = c.args.filer.now.swapper.accepted in
     let b = books.booked in
@@ -149,10 +149,10 @@ returns-in-Err-cut-clause-cost_told g c = λ x shapes spaces f books found.
     let two = rw (c.size.ensures.beside.layout) at c.free_all.ensures.cost in
     let lay : c.free_all.new.filer.swapper.layout ≡ layout = c.free_all.ensures.layout ∙ c.size.ensures.beside.layout in
     let three = rw lay at c.cut.ensures.cost in
-    told_cost (g.D.Disk.state c.args.filer.now.swapper.under).transfers (g.D.Disk.state c.size.new.self.swapper.under).transfers (g.D.Disk.state c.free_all.new.filer.swapper.under).transfers (g.D.Disk.state c.cut.new.self.swapper.under).transfers f.size c.in-Ok.pages (16 + 4 * layout.vam) (2 * (1 + 51 * most_records layout.sectors)) size c.size.ensures.cost two three
+    revealed_cost (g.D.Disk.state c.args.filer.now.swapper.disk).transfers (g.D.Disk.state c.size.new.self.swapper.disk).transfers (g.D.Disk.state c.free_all.new.filer.swapper.disk).transfers (g.D.Disk.state c.cut.new.self.swapper.disk).transfers f.size c.in-Ok.pages (16 + 4 * layout.vam) (2 * (1 + 51 * most_records layout.sectors)) size c.size.ensures.cost two three
 
-pub returns-clause-cost_told : goal.returns-clause-cost_told
-returns-clause-cost_told g c = λ x shapes spaces f books found.
+pub returns-clause-cost_revealed : goal.returns-clause-cost_revealed
+returns-clause-cost_revealed g c = λ x shapes spaces f books found.
     let layout = c.args.filer.now.swapper.layout in
     let is = c.args.filer.now.swapper.accepted in
     let b = books.booked in
@@ -162,10 +162,10 @@ returns-clause-cost_told g c = λ x shapes spaces f books found.
     let two = rw (c.size.ensures.beside.layout) at c.free_all.ensures.cost in
     let lay : c.free_all.new.filer.swapper.layout ≡ layout = c.free_all.ensures.layout ∙ c.size.ensures.beside.layout in
     let three = rw lay at c.cut.ensures.cost in
-    rw c.frames_of-volume.ensures.same (told_cost (g.D.Disk.state c.args.filer.now.swapper.under).transfers (g.D.Disk.state c.size.new.self.swapper.under).transfers (g.D.Disk.state c.free_all.new.filer.swapper.under).transfers (g.D.Disk.state c.cut.new.self.swapper.under).transfers f.size c.in-Ok.pages (16 + 4 * layout.vam) (2 * (1 + 51 * most_records layout.sectors)) size c.size.ensures.cost two three)
+    rw c.frames_of-volume.ensures.same (revealed_cost (g.D.Disk.state c.args.filer.now.swapper.disk).transfers (g.D.Disk.state c.size.new.self.swapper.disk).transfers (g.D.Disk.state c.free_all.new.filer.swapper.disk).transfers (g.D.Disk.state c.cut.new.self.swapper.disk).transfers f.size c.in-Ok.pages (16 + 4 * layout.vam) (2 * (1 + 51 * most_records layout.sectors)) size c.size.ensures.cost two three)
 
 pub returns-in-Err-clause-counted : goal.returns-in-Err-clause-counted
-returns-in-Err-clause-counted g c = counted _ _ (g.D.Disk.state c.args.filer.now.swapper.under) (g.D.Disk.state c.size.new.self.swapper.under) _ (omega arith) c.in-Err.ensures.cause
+returns-in-Err-clause-counted g c = counted _ _ (g.D.Disk.state c.args.filer.now.swapper.disk) (g.D.Disk.state c.size.new.self.swapper.disk) _ (omega arith) c.in-Err.ensures.cause
 
 pub returns-in-Err-free_all-clause-counted : goal.returns-in-Err-free_all-clause-counted
 returns-in-Err-free_all-clause-counted g c = counted_then _ _ _ (map_makes c.size.ensures.beside).went.faults c.in-Err-free_all.ensures.counted
@@ -174,7 +174,7 @@ pub returns-in-Err-cut-clause-counted : goal.returns-in-Err-cut-clause-counted
 returns-in-Err-cut-clause-counted g c =
     let first = (map_makes c.size.ensures.beside).went.faults in
     let second = c.in-Ok-free_all.ensures.makes.makes.went.faults in
-    counted _ _ (g.D.Disk.state c.free_all.new.filer.swapper.under) (g.D.Disk.state c.cut.new.self.swapper.under) _ (omega (arith, first, second)) c.in-Err-cut.ensures.cause
+    counted _ _ (g.D.Disk.state c.free_all.new.filer.swapper.disk) (g.D.Disk.state c.cut.new.self.swapper.disk) _ (omega (arith, first, second)) c.in-Err-cut.ensures.cause
 
 pub returns-in-Err-free_all-clause-cost_sized : goal.returns-in-Err-free_all-clause-cost_sized
 returns-in-Err-free_all-clause-cost_sized g c = λ x shapes spaces f books found hidden.
@@ -185,7 +185,7 @@ returns-in-Err-free_all-clause-cost_sized g c = λ x shapes spaces f books found
     let asked = c.in-Ok.ensures.size x b.named books.stands map in
     let size : c.in-Ok.pages ≡ f.size = size_is _ _ shapes x b c.args.id c.requires.client f found c.in-Ok.pages asked in
     let two = rw (c.size.ensures.beside.layout) at c.free_all.ensures.cost in
-    sized_cost (g.D.Disk.state c.args.filer.now.swapper.under).transfers (g.D.Disk.state c.size.new.self.swapper.under).transfers (g.D.Disk.state c.free_all.new.filer.swapper.under).transfers (g.D.Disk.state c.free_all.new.filer.swapper.under).transfers f.size c.in-Ok.pages (16 + 4 * layout.vam) size c.size.ensures.cost two (omega arith)
+    sized_cost (g.D.Disk.state c.args.filer.now.swapper.disk).transfers (g.D.Disk.state c.size.new.self.swapper.disk).transfers (g.D.Disk.state c.free_all.new.filer.swapper.disk).transfers (g.D.Disk.state c.free_all.new.filer.swapper.disk).transfers f.size c.in-Ok.pages (16 + 4 * layout.vam) size c.size.ensures.cost two (omega arith)
 
 pub returns-in-Err-cut-clause-cost_sized : goal.returns-in-Err-cut-clause-cost_sized
 returns-in-Err-cut-clause-cost_sized g c = λ x shapes spaces f books found hidden.
@@ -201,7 +201,7 @@ returns-in-Err-cut-clause-cost_sized g c = λ x shapes spaces f books found hidd
     let freed = (rw (c.size.ensures.beside.layout) at c.in-Ok-free_all.ensures.freed) b.named spaces x may in
     let lay : c.free_all.new.filer.swapper.layout ≡ layout = c.in-Ok-free_all.ensures.layout ∙ c.size.ensures.beside.layout in
     let three = (rw lay at c.cut.ensures.cost_sized) freed.memory b.named c.in-Ok.pages freed.rest.stands freed.rest.map asked in
-    sized_cost (g.D.Disk.state c.args.filer.now.swapper.under).transfers (g.D.Disk.state c.size.new.self.swapper.under).transfers (g.D.Disk.state c.free_all.new.filer.swapper.under).transfers (g.D.Disk.state c.cut.new.self.swapper.under).transfers f.size c.in-Ok.pages (16 + 4 * layout.vam) size c.size.ensures.cost two three
+    sized_cost (g.D.Disk.state c.args.filer.now.swapper.disk).transfers (g.D.Disk.state c.size.new.self.swapper.disk).transfers (g.D.Disk.state c.free_all.new.filer.swapper.disk).transfers (g.D.Disk.state c.cut.new.self.swapper.disk).transfers f.size c.in-Ok.pages (16 + 4 * layout.vam) size c.size.ensures.cost two three
 
 pub returns-clause-cost_sized : goal.returns-clause-cost_sized
 returns-clause-cost_sized g c = λ x shapes spaces f books found hidden.
@@ -217,35 +217,35 @@ returns-clause-cost_sized g c = λ x shapes spaces f books found hidden.
     let freed = (rw (c.size.ensures.beside.layout) at c.in-Ok-free_all.ensures.freed) b.named spaces x may in
     let lay : c.free_all.new.filer.swapper.layout ≡ layout = c.in-Ok-free_all.ensures.layout ∙ c.size.ensures.beside.layout in
     let three = (rw lay at c.cut.ensures.cost_sized) freed.memory b.named c.in-Ok.pages freed.rest.stands freed.rest.map asked in
-    rw c.frames_of-volume.ensures.same (sized_cost (g.D.Disk.state c.args.filer.now.swapper.under).transfers (g.D.Disk.state c.size.new.self.swapper.under).transfers (g.D.Disk.state c.free_all.new.filer.swapper.under).transfers (g.D.Disk.state c.cut.new.self.swapper.under).transfers f.size c.in-Ok.pages (16 + 4 * layout.vam) size c.size.ensures.cost two three)
+    rw c.frames_of-volume.ensures.same (sized_cost (g.D.Disk.state c.args.filer.now.swapper.disk).transfers (g.D.Disk.state c.size.new.self.swapper.disk).transfers (g.D.Disk.state c.free_all.new.filer.swapper.disk).transfers (g.D.Disk.state c.cut.new.self.swapper.disk).transfers f.size c.in-Ok.pages (16 + 4 * layout.vam) size c.size.ensures.cost two three)
 
-pub returns-in-Err-clause-so : goal.returns-in-Err-clause-so
-returns-in-Err-clause-so g c = so_of_map (fits c.args.filer.now.swapper c.requires.size) c.size.ensures.beside.goes.makes c.in-Err.halt c.in-Err.ensures.cause
+pub returns-in-Err-clause-evidence_seen : goal.returns-in-Err-clause-evidence_seen
+returns-in-Err-clause-evidence_seen g c = so_of_map (fits c.args.filer.now.swapper c.requires.size) c.size.ensures.beside.goes.makes c.in-Err.halt c.in-Err.ensures.cause
 
-pub returns-in-Err-cut-clause-so : goal.returns-in-Err-cut-clause-so
-returns-in-Err-cut-clause-so g c = so_of_cut (fits c.free_all.new.filer.swapper (search rules)) c.cut.ensures.beside.goes.makes c.in-Err-cut.halt c.in-Err-cut.ensures.cause
+pub returns-in-Err-cut-clause-evidence_seen : goal.returns-in-Err-cut-clause-evidence_seen
+returns-in-Err-cut-clause-evidence_seen g c = so_of_cut (fits c.free_all.new.filer.swapper (search rules)) c.cut.ensures.beside.goes.makes c.in-Err-cut.halt c.in-Err-cut.ensures.cause
 
 pub returns-in-Err-clause-cause : goal.returns-in-Err-clause-cause
 returns-in-Err-clause-cause g c =
     let layout = c.args.filer.now.swapper.layout in
-    let old = (g.D.Disk.state c.args.filer.now.swapper.under) in
+    let old = (g.D.Disk.state c.args.filer.now.swapper.disk) in
     let pool = c.args.filer.now.swapper.pool in
     let kept = runs_of layout.sectors c.args.filer.now.runs in
     let pages = IsPageOf layout old pool c.args.id in
-    let new = (g.D.Disk.state c.size.new.self.swapper.under) in
+    let new = (g.D.Disk.state c.size.new.self.swapper.disk) in
     cut_of_free (IsUnframed pool c.args.id) layout kept c.args.id 0 pages old new pool c.in-Err.halt
-    (search_halts_behind (keeps_none (IsUnframed pool c.args.id) layout c.args.id old pool kept (λ none. none)) pages new c.in-Err.halt c.in-Err.ensures.cause)
+    (search_halts_after (keeps_none (IsUnframed pool c.args.id) layout c.args.id old pool kept (λ none. none)) pages new c.in-Err.halt c.in-Err.ensures.cause)
 
 pub returns-in-Err-free_all-clause-cause : goal.returns-in-Err-free_all-clause-cause
 returns-in-Err-free_all-clause-cause g c =
     let layout = c.args.filer.now.swapper.layout in
-    let old = (g.D.Disk.state c.args.filer.now.swapper.under) in
+    let old = (g.D.Disk.state c.args.filer.now.swapper.disk) in
     let pool = c.args.filer.now.swapper.pool in
     let kept = runs_of layout.sectors c.args.filer.now.runs in
     let pages = IsPageOf layout old pool c.args.id in
     let same : runs_of layout.sectors c.size.new.self.runs ≡ kept = ap (runs_of layout.sectors) c.size.ensures.runs in
     let keep = keeps_read (inr c.requires.client) c.size.ensures.beside c.size.ensures.same_bytes (λ r one. inl (subst (IsOneOf r) same one)) in
-    let new = (g.D.Disk.state c.free_all.new.filer.swapper.under) in
+    let new = (g.D.Disk.state c.free_all.new.filer.swapper.disk) in
     cut_of_free (IsUnframed pool c.args.id) layout kept c.args.id 0 pages old new pool c.in-Err-free_all.halt
     (free_halts_before keep (λ p. (p ≡ leader_page) ⊎ (p < c.in-Ok.pages)) pages (λ p h. elim h [ inl leads ↦ inl leads | inr below ↦ inr (λ m named stands map. (c.in-Ok.pages, c.in-Ok.ensures.size m named stands map, below)) ]) c.requires.size
     new c.in-Err-free_all.halt (rw c.size.ensures.beside.layout at c.in-Err-free_all.ensures.cause))
@@ -253,14 +253,14 @@ returns-in-Err-free_all-clause-cause g c =
 pub returns-in-Err-cut-clause-cause : goal.returns-in-Err-cut-clause-cause
 returns-in-Err-cut-clause-cause g c =
     let layout = c.args.filer.now.swapper.layout in
-    let old = (g.D.Disk.state c.args.filer.now.swapper.under) in
+    let old = (g.D.Disk.state c.args.filer.now.swapper.disk) in
     let pool = c.args.filer.now.swapper.pool in
     let kept = runs_of layout.sectors c.args.filer.now.runs in
     let pages = IsPageOf layout old pool c.args.id in
     let same : runs_of layout.sectors c.size.new.self.runs ≡ kept = ap (runs_of layout.sectors) c.size.ensures.runs in
     let keep = keeps_read (inr c.requires.client) c.size.ensures.beside c.size.ensures.same_bytes (λ r one. inl (subst (IsOneOf r) same one)) in
     let lay : c.free_all.new.filer.swapper.layout ≡ layout = c.in-Ok-free_all.ensures.layout ∙ c.size.ensures.beside.layout in
-    cut_halts_behind (keeps_then keep (rw c.size.ensures.beside.layout at c.in-Ok-free_all.ensures.keeps)) 0 pages (g.D.Disk.state c.cut.new.self.swapper.under) c.cut.new.self.swapper.pool c.in-Err-cut.halt
+    cut_halts_after (keeps_then keep (rw c.size.ensures.beside.layout at c.in-Ok-free_all.ensures.keeps)) 0 pages (g.D.Disk.state c.cut.new.self.swapper.disk) c.cut.new.self.swapper.pool c.in-Err-cut.halt
     (rw lay at c.in-Err-cut.ensures.begun) (rw lay at c.in-Err-cut.ensures.cause)
 
 pub returns-in-Err-clause-own : goal.returns-in-Err-clause-own
@@ -294,13 +294,13 @@ returns-in-Err-clause-reasons g c = λ o named k. map_reasons k c.size.ensures.b
 
 pub returns-in-Err-free_all-clause-reasons : goal.returns-in-Err-free_all-clause-reasons
 returns-in-Err-free_all-clause-reasons g c = λ o named k.
-    subst (λ (l : Layout). ShowsReason o l (g.D.Disk.state c.free_all.new.filer.swapper.under) c.in-Err-free_all.halt) c.size.ensures.beside.layout
+    subst (λ (l : Layout). ShowsReason o l (g.D.Disk.state c.free_all.new.filer.swapper.disk) c.in-Err-free_all.halt) c.size.ensures.beside.layout
     (c.in-Err-free_all.ensures.reasons o named (keeps_asked c.args.filer.now.runs c.size.new.self.runs c.size.ensures.runs k c.size.ensures.beside c.size.ensures.same))
 
 pub returns-in-Err-cut-clause-reasons : goal.returns-in-Err-cut-clause-reasons
 returns-in-Err-cut-clause-reasons g c = λ o named k.
     let now = c.in-Ok-free_all.ensures.keeps_to o named (keeps_asked c.args.filer.now.runs c.size.new.self.runs c.size.ensures.runs k c.size.ensures.beside c.size.ensures.same) in
-    subst (λ (l : Layout). ShowsReason o l (g.D.Disk.state c.cut.new.self.swapper.under) c.in-Err-cut.halt) (c.in-Ok-free_all.ensures.layout ∙ c.size.ensures.beside.layout)
+    subst (λ (l : Layout). ShowsReason o l (g.D.Disk.state c.cut.new.self.swapper.disk) c.in-Err-cut.halt) (c.in-Ok-free_all.ensures.layout ∙ c.size.ensures.beside.layout)
     (cut_reasons now c.cut.ensures.beside.goes.makes c.in-Err-cut.halt c.in-Err-cut.ensures.cause (c.in-Err-cut.ensures.right now.memory named now.stands now.map))
 
 pub returns-clause-keeps_to : goal.returns-clause-keeps_to
@@ -312,6 +312,6 @@ returns-clause-keeps_to g c = λ o named k.
       _,
       keeps_at c.cut.new.self.runs c.cut.ensures.beside.layout (keeps_cut now c.cut.ensures.beside c.args.id 0 (c.cut.ensures.runs c.free_all.new.filer.swapper.layout.sectors)
           c.free_all.new.filer.swapper.accepted (client_leaves o c.args.id c.requires.client) (client_untabled c.args.id c.requires.client)
-          (λ page sector may from is. c.in-Ok-free_all.ensures.let_go o named asked page sector (all_pages sized k.map page sector is) is) c.in-Ok-cut.ensures.cut),
+          (λ page sector may from is. c.in-Ok-free_all.ensures.evict o named asked page sector (all_pages sized k.map page sector is) is) c.in-Ok-cut.ensures.cut),
       tables_left named c.args.id 0 c.requires.client,
     )

@@ -27,14 +27,14 @@ use Rattle.file_manager.specs.ReasonLaws.{map_reasons}
 use Rattle.file_manager.specs.Reasons.{ShowsReason}
 use Rattle.file_manager.proofs.finding.find_file.Goals as goal
 
-pub returns-in-Ok-None-clause-told : goal.returns-in-Ok-None-clause-told
-returns-in-Ok-None-clause-told g c = λ x shapes spaces books. subst (IsLeaderOf (labels_of x) shapes c.args.id) c.in-Ok-None.field-0-is (c.in-Ok-None.ensures.told x shapes spaces books)
+pub returns-in-Ok-None-clause-revealed : goal.returns-in-Ok-None-clause-revealed
+returns-in-Ok-None-clause-revealed g c = λ x shapes spaces books. subst (IsLeaderOf (labels_of x) shapes c.args.id) c.in-Ok-None.field-0-is (c.in-Ok-None.ensures.revealed x shapes spaces books)
 
-pub returns-in-Err-clause-told : goal.returns-in-Err-clause-told
-returns-in-Err-clause-told g c = λ x shapes spaces books. c.in-Err.ensures.told x shapes spaces books
+pub returns-in-Err-clause-revealed : goal.returns-in-Err-clause-revealed
+returns-in-Err-clause-revealed g c = λ x shapes spaces books. c.in-Err.ensures.revealed x shapes spaces books
 
 pub returns-in-Err-clause-cause : goal.returns-in-Err-clause-cause
-returns-in-Err-clause-cause g c = leader_halts _ (runs_of c.args.filer.now.swapper.layout.sectors c.args.filer.now.runs) c.args.id (g.D.Disk.state c.args.filer.now.swapper.under) (g.D.Disk.state c.leader_of.new.filer.swapper.under) _ _ c.in-Err.ensures.cause
+returns-in-Err-clause-cause g c = leader_halts _ (runs_of c.args.filer.now.swapper.layout.sectors c.args.filer.now.runs) c.args.id (g.D.Disk.state c.args.filer.now.swapper.disk) (g.D.Disk.state c.leader_of.new.filer.swapper.disk) _ _ c.in-Err.ensures.cause
 
 pub leader_label-requires : goal.leader_label-requires
 leader_label-requires g c =
@@ -43,10 +43,10 @@ leader_label-requires g c =
     let size = c.leader_of.ensures.makes.went.sectors ∙ c.requires.size in
     omega (arith, below, size)
 
-pub returns-in-Err-leader_label-clause-told : goal.returns-in-Err-leader_label-clause-told
-returns-in-Err-leader_label-clause-told g c = λ x shapes spaces books.
+pub returns-in-Err-leader_label-clause-revealed : goal.returns-in-Err-leader_label-clause-revealed
+returns-in-Err-leader_label-clause-revealed g c = λ x shapes spaces books.
     let now = c.leader_of.ensures.same x shapes spaces books in
-    let triple = subst (IsLeaderOf (labels_of x) shapes c.args.id) c.in-Ok-Some.field-0-is (c.in-Ok-Some.ensures.told x shapes spaces books) in
+    let triple = subst (IsLeaderOf (labels_of x) shapes c.args.id) c.in-Ok-Some.field-0-is (c.in-Ok-Some.ensures.revealed x shapes spaces books) in
     c.in-Err-leader_label.ensures.sound x now.stands (leader_one _ _ shapes x books.booked c.args.id c.in-Ok-Some.sector c.requires.client triple)
 
 pub returns-in-Err-leader_label-clause-same : goal.returns-in-Err-leader_label-clause-same
@@ -64,23 +64,23 @@ returns-in-Err-leader_label-clause-cause g c =
     let at = subst (λ (o : Option ℕ). IfSome o (λ sector. (c.args.filer.now.swapper.layout.first ≤ sector) × (sector < c.args.filer.now.swapper.layout.sectors))) c.in-Ok-Some.field-0-is c.in-Ok-Some.ensures.place in
     let layout = c.args.filer.now.swapper.layout in
     let kept = runs_of layout.sectors c.args.filer.now.runs in
-    let old = g.D.Disk.state c.args.filer.now.swapper.under in
+    let old = g.D.Disk.state c.args.filer.now.swapper.disk in
     let given = subst (λ (o : Option ℕ). IfSome o (λ sector. IsRunHome layout old c.args.filer.now.swapper.pool kept (home_at sector (record { id = c.args.id; page = leader_page })))) c.in-Ok-Some.field-0-is c.in-Ok-Some.ensures.given in
-    no_leader_before layout c.leader_of.ensures.makes kept c.args.id c.in-Ok-Some.sector at.0 at.1 given (g.D.Disk.state c.leader_label.new.filer.swapper.under) _ c.in-Err-leader_label.ensures.cause
+    no_leader_before layout c.leader_of.ensures.makes kept c.args.id c.in-Ok-Some.sector at.0 at.1 given (g.D.Disk.state c.leader_label.new.filer.swapper.disk) _ c.in-Err-leader_label.ensures.cause
 
 pub size-requires : goal.size-requires
 size-requires g c =
     let lay : c.leader_label.new.filer.swapper.layout.sectors ≡ c.args.filer.now.swapper.layout.sectors = ap (λ (l : Layout). l.sectors) (c.leader_label.ensures.layout ∙ c.leader_of.ensures.layout) in
     record { sectors = c.leader_label.ensures.makes.went.sectors ∙ c.leader_of.ensures.makes.went.sectors ∙ c.requires.size ∙ sym lay }
 
-pub returns-in-Ok-size-clause-told : goal.returns-in-Ok-size-clause-told
-returns-in-Ok-size-clause-told g c = λ x shapes spaces books.
+pub returns-in-Ok-size-clause-revealed : goal.returns-in-Ok-size-clause-revealed
+returns-in-Ok-size-clause-revealed g c = λ x shapes spaces books.
     let layout = c.args.filer.now.swapper.layout in
     let is : IsLayout layout = c.args.filer.now.swapper.accepted in
     let lay : c.leader_label.new.filer.swapper.layout ≡ layout = c.leader_label.ensures.layout ∙ c.leader_of.ensures.layout in
     let mid = c.leader_of.ensures.same x shapes spaces books in
     let now = books_read c.leader_label.ensures.same c.leader_label.ensures.frames c.leader_label.ensures.runs mid in
-    let triple = subst (IsLeaderOf (labels_of x) shapes c.args.id) c.in-Ok-Some.field-0-is (c.in-Ok-Some.ensures.told x shapes spaces books) in
+    let triple = subst (IsLeaderOf (labels_of x) shapes c.args.id) c.in-Ok-Some.field-0-is (c.in-Ok-Some.ensures.revealed x shapes spaces books) in
     let size = (rw lay at c.in-Ok-size.ensures.size) x now.booked.named now.stands (map_is _ _ shapes x is now.booked) in
     (triple, shape_by_leader layout _ shapes x now.booked c.args.id c.requires.client _ _ c.in-Ok-Some.sector _ _ mid.stands triple c.in-Ok.ensures.found size)
 
@@ -104,8 +104,8 @@ returns-in-Ok-size-clause-makes g c = makes_then (read_makes c.leader_of.ensures
 pub returns-in-Ok-size-clause-brings : goal.returns-in-Ok-size-clause-brings
 returns-in-Ok-size-clause-brings g c = brings_then (read_brings c.leader_of.ensures.beside c.leader_label.ensures.same c.leader_label.ensures.makes c.leader_label.ensures.frames) (map_brings c.size.ensures.beside)
 
-pub returns-in-Err-size-clause-told : goal.returns-in-Err-size-clause-told
-returns-in-Err-size-clause-told g c = λ x shapes spaces books.
+pub returns-in-Err-size-clause-revealed : goal.returns-in-Err-size-clause-revealed
+returns-in-Err-size-clause-revealed g c = λ x shapes spaces books.
     let layout = c.args.filer.now.swapper.layout in
     let is : IsLayout layout = c.args.filer.now.swapper.accepted in
     let lay : c.leader_label.new.filer.swapper.layout ≡ layout = c.leader_label.ensures.layout ∙ c.leader_of.ensures.layout in
@@ -136,23 +136,23 @@ returns-in-Err-size-clause-cause g c =
     let layout = c.args.filer.now.swapper.layout in
     let lay : c.leader_label.new.filer.swapper.layout ≡ layout = c.leader_label.ensures.layout ∙ c.leader_of.ensures.layout in
     let beside = c.leader_of.ensures.beside in
-    let told = c.leader_label.ensures.same in
+    let revealed = c.leader_label.ensures.same in
     let read = c.leader_label.ensures.makes in
     let frames = c.leader_label.ensures.frames in
-    map_halts_before layout (read_makes beside told read frames) (read_map_brings beside told read frames) (read_bytes beside told read frames c.leader_of.ensures.same_bytes) (runs_of layout.sectors c.args.filer.now.runs) c.args.id (g.D.Disk.state c.size.new.self.swapper.under) _ (rw lay at c.in-Err-size.ensures.cause)
+    map_halts_before layout (read_makes beside revealed read frames) (read_map_brings beside revealed read frames) (read_bytes beside revealed read frames c.leader_of.ensures.same_bytes) (runs_of layout.sectors c.args.filer.now.runs) c.args.id (g.D.Disk.state c.size.new.self.swapper.disk) _ (rw lay at c.in-Err-size.ensures.cause)
 
 pub returns-in-Ok-None-clause-missing : goal.returns-in-Ok-None-clause-missing
 returns-in-Ok-None-clause-missing g c none = c.in-Ok-None.ensures.missing (search rules)
 
-pub returns-in-Err-leader_label-clause-so : goal.returns-in-Err-leader_label-clause-so
-returns-in-Err-leader_label-clause-so g c =
+pub returns-in-Err-leader_label-clause-evidence_seen : goal.returns-in-Err-leader_label-clause-evidence_seen
+returns-in-Err-leader_label-clause-evidence_seen g c =
     let layout = c.args.filer.now.swapper.layout in
     let size = c.leader_of.ensures.makes.went.sectors ∙ c.requires.size in
     let place = subst (λ (o : Option ℕ). IfSome o (λ sector. (layout.first ≤ sector) × (sector < layout.sectors))) c.in-Ok-Some.field-0-is c.in-Ok-Some.ensures.place in
-    c.in-Err-leader_label.ensures.so (file_may layout (g.D.Disk.state c.leader_of.new.filer.swapper.under) c.args.filer.now.swapper.accepted size c.in-Ok-Some.sector (record { id = c.args.id; page = leader_page }) (inr c.requires.client) place.0 place.1)
+    c.in-Err-leader_label.ensures.evidence_seen (file_may layout (g.D.Disk.state c.leader_of.new.filer.swapper.disk) c.args.filer.now.swapper.accepted size c.in-Ok-Some.sector (record { id = c.args.id; page = leader_page }) (inr c.requires.client) place.0 place.1)
 
-pub returns-in-Err-size-clause-so : goal.returns-in-Err-size-clause-so
-returns-in-Err-size-clause-so g c = so_of_map (fits c.leader_label.new.filer.swapper (search rules)) c.size.ensures.beside.goes.makes c.in-Err-size.halt c.in-Err-size.ensures.cause
+pub returns-in-Err-size-clause-evidence_seen : goal.returns-in-Err-size-clause-evidence_seen
+returns-in-Err-size-clause-evidence_seen g c = so_of_map (fits c.leader_label.new.filer.swapper (search rules)) c.size.ensures.beside.goes.makes c.in-Err-size.halt c.in-Err-size.ensures.cause
 
 pub returns-in-Err-clause-keeps : goal.returns-in-Err-clause-keeps
 returns-in-Err-clause-keeps g c = c.leader_of.ensures.keeps
@@ -198,10 +198,10 @@ pub returns-in-Ok-None-clause-takes : goal.returns-in-Ok-None-clause-takes
 returns-in-Ok-None-clause-takes g c = made_read c.args.id c.requires.size c.leader_of.ensures.beside c.leader_of.ensures.same_bytes
 
 pub returns-in-Ok-size-clause-same_bytes : goal.returns-in-Ok-size-clause-same_bytes
-returns-in-Ok-size-clause-same_bytes g c = λ bytes tells.
+returns-in-Ok-size-clause-same_bytes g c = λ bytes reveals.
     let layout = c.args.filer.now.swapper.layout in
     let lay : c.leader_label.new.filer.swapper.layout ≡ layout = c.leader_label.ensures.layout ∙ c.leader_of.ensures.layout in
-    (rw lay at c.size.ensures.same_bytes) bytes (read_bytes c.leader_of.ensures.beside c.leader_label.ensures.same c.leader_label.ensures.makes c.leader_label.ensures.frames c.leader_of.ensures.same_bytes bytes tells)
+    (rw lay at c.size.ensures.same_bytes) bytes (read_bytes c.leader_of.ensures.beside c.leader_label.ensures.same c.leader_label.ensures.makes c.leader_label.ensures.frames c.leader_of.ensures.same_bytes bytes reveals)
 
 pub returns-in-Ok-size-clause-takes : goal.returns-in-Ok-size-clause-takes
 returns-in-Ok-size-clause-takes g c =
@@ -235,10 +235,10 @@ pub returns-in-Ok-size-clause-runs_are : goal.returns-in-Ok-size-clause-runs_are
 returns-in-Ok-size-clause-runs_are g c = rw (c.size.ensures.runs, c.leader_label.ensures.runs) c.leader_of.ensures.runs_are
 
 pub returns-in-Err-size-clause-same_bytes : goal.returns-in-Err-size-clause-same_bytes
-returns-in-Err-size-clause-same_bytes g c = λ bytes tells.
+returns-in-Err-size-clause-same_bytes g c = λ bytes reveals.
     let layout = c.args.filer.now.swapper.layout in
     let lay : c.leader_label.new.filer.swapper.layout ≡ layout = c.leader_label.ensures.layout ∙ c.leader_of.ensures.layout in
-    (rw lay at c.size.ensures.same_bytes) bytes (read_bytes c.leader_of.ensures.beside c.leader_label.ensures.same c.leader_label.ensures.makes c.leader_label.ensures.frames c.leader_of.ensures.same_bytes bytes tells)
+    (rw lay at c.size.ensures.same_bytes) bytes (read_bytes c.leader_of.ensures.beside c.leader_label.ensures.same c.leader_label.ensures.makes c.leader_label.ensures.frames c.leader_of.ensures.same_bytes bytes reveals)
 
 pub returns-in-Err-size-clause-beside : goal.returns-in-Err-size-clause-beside
 returns-in-Err-size-clause-beside g c = beside_then refl (beside_read c.leader_of.ensures.beside c.leader_label.ensures.same c.leader_label.ensures.makes c.leader_label.ensures.frames c.leader_label.ensures.layout) c.size.ensures.beside
@@ -263,13 +263,13 @@ returns-in-Err-leader_label-clause-reasons g c =
     λ o named k.
     let now = c.in-Ok-Some.ensures.keeps_to o named k in
     let named_there = subst (λ (o : Option ℕ). IfSome o (λ sector. named c.args.id leader_page sector ≡ true)) c.in-Ok-Some.field-0-is (led k.memory named k.stands k.map k.kept) in
-    subst (λ (l : Layout). ShowsReason o l (g.D.Disk.state c.leader_label.new.filer.swapper.under) c.in-Err-leader_label.halt) c.leader_of.ensures.layout (c.in-Err-leader_label.ensures.reasons o named now named_there)
+    subst (λ (l : Layout). ShowsReason o l (g.D.Disk.state c.leader_label.new.filer.swapper.disk) c.in-Err-leader_label.halt) c.leader_of.ensures.layout (c.in-Err-leader_label.ensures.reasons o named now named_there)
 
 pub returns-in-Err-size-clause-reasons : goal.returns-in-Err-size-clause-reasons
 returns-in-Err-size-clause-reasons g c = λ o named k.
     let found = c.in-Ok-Some.ensures.keeps_to o named k in
     let now = c.in-Ok.ensures.keeps_to o named found in
-    subst (λ (l : Layout). ShowsReason o l (g.D.Disk.state c.size.new.self.swapper.under) c.in-Err-size.halt) (c.leader_label.ensures.layout ∙ c.leader_of.ensures.layout)
+    subst (λ (l : Layout). ShowsReason o l (g.D.Disk.state c.size.new.self.swapper.disk) c.in-Err-size.halt) (c.leader_label.ensures.layout ∙ c.leader_of.ensures.layout)
     (map_reasons {k = runs_of c.leader_label.new.filer.swapper.layout.sectors c.leader_label.new.filer.runs} now c.size.ensures.beside.goes.makes c.leader_label.new.filer.swapper.accepted c.in-Err-size.halt c.in-Err-size.ensures.cause)
 
 pub returns-in-Ok-size-clause-keeps_to : goal.returns-in-Ok-size-clause-keeps_to

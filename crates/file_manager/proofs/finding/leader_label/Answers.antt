@@ -8,7 +8,7 @@ use Rattle.filer_kernel.specs.EvidenceLaws.{label_after}
 use Rattle.file_manager.proofs.SoLemmas.{fault_shows}
 use Rattle.swapper_kernel.specs.Homes.{home_at}
 use Rattle.file_manager.specs.LaterLaws.{at_home_later}
-use Rattle.file_manager.proofs.KeepSteps.{keeps_at, keeps_told}
+use Rattle.file_manager.proofs.KeepSteps.{keeps_at, keeps_revealed}
 use Rattle.file_manager.proofs.ReasonCauses.{fault_reason}
 use Rattle.file_manager.proofs.finding.leader_label.Goals as goal
 
@@ -19,11 +19,11 @@ returns-then-not-names-clause-sound g c = λ m stands one.
     let other : names c.in-Ok.found (record { id = c.args.id; page = leader_page }) ≡ false = search rules in
     absurd (true≢false (sym named ∙ other))
 
-pub returns-in-Err-clause-so : goal.returns-in-Err-clause-so
-returns-in-Err-clause-so g c = λ may. fault_shows (g.D.Disk.state c.read_label.new.swapper.under) c.in-Err.halt ((rw c.swapper_over-swapper.ensures.value at c.in-Err.ensures.cause).0)
+pub returns-in-Err-clause-evidence_seen : goal.returns-in-Err-clause-evidence_seen
+returns-in-Err-clause-evidence_seen g c = λ may. fault_shows (g.D.Disk.state c.read_label.new.swapper.disk) c.in-Err.halt ((rw c.swapper_over-swapper.ensures.value at c.in-Err.ensures.cause).0)
 
-pub returns-then-not-names-clause-so : goal.returns-then-not-names-clause-so
-returns-then-not-names-clause-so g c = λ may.
+pub returns-then-not-names-clause-evidence_seen : goal.returns-then-not-names-clause-evidence_seen
+returns-then-not-names-clause-evidence_seen g c = λ may.
     let found = rw c.swapper_over-swapper.ensures.value at c.in-Ok.ensures.found in
     let makes = rw c.swapper_over-swapper.ensures.value at c.read_label.ensures.makes in
     let other : names c.in-Ok.found (record { id = c.args.id; page = leader_page }) ≡ false = search rules in
@@ -37,11 +37,11 @@ returns-clause-keeps_to g c = λ o named k.
     let makes = rw c.swapper_over-swapper.ensures.value at c.read_label.ensures.makes in
     let frames = rw c.swapper_over-swapper.ensures.value at c.read_label.ensures.frames in
     let lay = rw c.swapper_over-swapper.ensures.value at c.read_label.ensures.layout in
-    keeps_at c.args.filer.now.runs lay (keeps_told c.args.filer.now.swapper.accepted k same makes frames)
+    keeps_at c.args.filer.now.runs lay (keeps_revealed c.args.filer.now.swapper.accepted k same makes frames)
 
 pub returns-in-Err-clause-reasons : goal.returns-in-Err-clause-reasons
 returns-in-Err-clause-reasons g c = λ o named k led.
-    fault_reason o c.args.filer.now.swapper.layout (g.D.Disk.state c.read_label.new.swapper.under) c.in-Err.halt ((rw c.swapper_over-swapper.ensures.value at c.in-Err.ensures.cause).0)
+    fault_reason o c.args.filer.now.swapper.layout (g.D.Disk.state c.read_label.new.swapper.disk) c.in-Err.halt ((rw c.swapper_over-swapper.ensures.value at c.in-Err.ensures.cause).0)
 
 pub returns-then-not-names-clause-reasons : goal.returns-then-not-names-clause-reasons
 returns-then-not-names-clause-reasons g c = λ o named k led.

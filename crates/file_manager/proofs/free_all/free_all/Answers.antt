@@ -9,7 +9,7 @@ use Rattle.file_manager.proofs.Keeping.{keeps_none, keeps_then, free_halts_befor
 use Rattle.filer_kernel.specs.Cached.{runs_of}
 use Rattle.file_manager.specs.Grounds.{IsUnframed}
 use Rattle.file_manager.proofs.OwnSteps.{freed_own, some_own, own_after}
-use Rattle.file_manager.specs.LaterLaws.{let_later}
+use Rattle.file_manager.specs.LaterLaws.{released_later}
 use Rattle.file_manager.proofs.FreedReasons.{frees_give_not}
 use Rattle.file_manager.proofs.free_all.free_all.Goals as goal
 
@@ -56,13 +56,13 @@ pub returns-in-Err-clause-cause : goal.returns-in-Err-clause-cause
 returns-in-Err-clause-cause g c =
     let layout = c.args.filer.now.swapper.layout in
     let pool = c.args.filer.now.swapper.pool in
-    free_halts_before (keeps_none (IsUnframed pool c.args.id) layout c.args.id (g.D.Disk.state c.args.filer.now.swapper.under) pool (runs_of layout.sectors c.args.filer.now.runs) (λ none. none)) (λ p. p ≡ leader_page) (λ p. (p ≡ leader_page) ⊎ (p < c.args.pages)) (λ p same. inl same) c.requires.size
-    (g.D.Disk.state c.free_run.new.filer.swapper.under) c.in-Err.halt c.in-Err.ensures.cause
+    free_halts_before (keeps_none (IsUnframed pool c.args.id) layout c.args.id (g.D.Disk.state c.args.filer.now.swapper.disk) pool (runs_of layout.sectors c.args.filer.now.runs) (λ none. none)) (λ p. p ≡ leader_page) (λ p. (p ≡ leader_page) ⊎ (p < c.args.pages)) (λ p same. inl same) c.requires.size
+    (g.D.Disk.state c.free_run.new.filer.swapper.disk) c.in-Err.halt c.in-Err.ensures.cause
 
 pub returns-in-Err-free_up-clause-cause : goal.returns-in-Err-free_up-clause-cause
 returns-in-Err-free_up-clause-cause g c =
     free_halts_before c.in-Ok.ensures.keeps (λ p. (0 ≤ p) × (p < c.args.pages)) (λ p. (p ≡ leader_page) ⊎ (p < c.args.pages)) (λ p below. inr below.1) c.requires.size
-    (g.D.Disk.state c.free_up.new.filer.swapper.under) c.in-Err-free_up.halt (rw c.in-Ok.ensures.layout at c.in-Err-free_up.ensures.cause)
+    (g.D.Disk.state c.free_up.new.filer.swapper.disk) c.in-Err-free_up.halt (rw c.in-Ok.ensures.layout at c.in-Err-free_up.ensures.cause)
 
 pub returns-in-Ok-free_up-clause-keeps : goal.returns-in-Ok-free_up-clause-keeps
 returns-in-Ok-free_up-clause-keeps g c = keeps_then c.in-Ok.ensures.keeps (rw c.in-Ok.ensures.layout at c.in-Ok-free_up.ensures.keeps)
@@ -76,11 +76,11 @@ returns-in-Err-free_up-clause-own g c = own_after (freed_own c.in-Ok.ensures.mak
 pub returns-in-Ok-free_up-clause-own : goal.returns-in-Ok-free_up-clause-own
 returns-in-Ok-free_up-clause-own g c = own_after (freed_own c.in-Ok.ensures.makes c.in-Ok.ensures.own) (freed_own c.in-Ok-free_up.ensures.makes c.in-Ok-free_up.ensures.own)
 
-pub returns-in-Err-clause-so : goal.returns-in-Err-clause-so
-returns-in-Err-clause-so g c = c.in-Err.ensures.so (inr c.requires.of_file)
+pub returns-in-Err-clause-evidence_seen : goal.returns-in-Err-clause-evidence_seen
+returns-in-Err-clause-evidence_seen g c = c.in-Err.ensures.evidence_seen (inr c.requires.of_file)
 
-pub returns-in-Err-free_up-clause-so : goal.returns-in-Err-free_up-clause-so
-returns-in-Err-free_up-clause-so g c = c.in-Err-free_up.ensures.so (λ page below. inr c.requires.of_file)
+pub returns-in-Err-free_up-clause-evidence_seen : goal.returns-in-Err-free_up-clause-evidence_seen
+returns-in-Err-free_up-clause-evidence_seen g c = c.in-Err-free_up.ensures.evidence_seen (λ page below. inr c.requires.of_file)
 
 pub returns-in-Err-clause-reasons : goal.returns-in-Err-clause-reasons
 returns-in-Err-clause-reasons g c = λ o named h. c.in-Err.ensures.reasons o named h (client_leaves o c.args.id c.requires.of_file) (inl c.requires.of_file)
@@ -91,14 +91,14 @@ returns-in-Err-free_up-clause-reasons g c = λ o named h. rw c.in-Ok.ensures.lay
 pub returns-in-Ok-free_up-clause-keeps_to : goal.returns-in-Ok-free_up-clause-keeps_to
 returns-in-Ok-free_up-clause-keeps_to g c = λ o named h. c.in-Ok-free_up.ensures.keeps_to o named (c.in-Ok.ensures.keeps_to o named h (client_leaves o c.args.id c.requires.of_file)) (client_leaves o c.args.id c.requires.of_file)
 
-pub returns-in-Ok-free_up-clause-let_go : goal.returns-in-Ok-free_up-clause-let_go
-returns-in-Ok-free_up-clause-let_go g c = λ o named h page sector own is.
+pub returns-in-Ok-free_up-clause-evict : goal.returns-in-Ok-free_up-clause-evict
+returns-in-Ok-free_up-clause-evict g c = λ o named h page sector own is.
     let now = c.in-Ok.ensures.keeps_to o named h (client_leaves o c.args.id c.requires.of_file) in
-    let led = c.in-Ok.ensures.let_go o named h (client_leaves o c.args.id c.requires.of_file) in
+    let led = c.in-Ok.ensures.evict o named h (client_leaves o c.args.id c.requires.of_file) in
     let made = c.in-Ok-free_up.ensures.makes in
     elim own [
       | inl leads ↦
           let some = c.in-Ok.ensures.some in
-          let_later o made.makes _ (frees_give_not made.sectors _) (led page sector (let n = some.0 in (omega (arith, leads), omega (arith, leads, n))) is)
-      | inr below ↦ c.in-Ok-free_up.ensures.let_go o named now (client_leaves o c.args.id c.requires.of_file) page sector (omega arith, below) is
+          released_later o made.makes _ (frees_give_not made.sectors _) (led page sector (let n = some.0 in (omega (arith, leads), omega (arith, leads, n))) is)
+      | inr below ↦ c.in-Ok-free_up.ensures.evict o named now (client_leaves o c.args.id c.requires.of_file) page sector (omega arith, below) is
     ]

@@ -8,11 +8,11 @@ use Rattle.filer_kernel.specs.Cached.{runs_of}
 use Rattle.session_words.specs.Parts.{is_marked}
 use Rattle.file_manager.proofs.RowLemmas.{row_run}
 use Rattle.file_manager.proofs.RunStages.{one_free, marks_shown, bits_shown, maps_named, new_run, named_once, named_marked, room_left}
-use Rattle.file_manager.proofs.RunLeads.{above_maps, fewer_of_file, map_makes, added_makes, stopped_labels, stopped_behind, run_in_form, none_over, ones_free, labelled, map_then, named_then, run_leads, row_was_free, some_labelled}
+use Rattle.file_manager.proofs.RunLeads.{above_maps, fewer_of_file, map_makes, added_makes, stopped_labels, stopped_after, run_in_form, none_over, ones_free, labelled, map_then, named_then, run_leads, row_was_free, some_labelled}
 use Rattle.file_manager.proofs.GrowBroken.{none_grew, labels_grew, all_grew}
 use Rattle.file_manager.proofs.Faults.{counted, counted_then}
 use Rattle.filer_kernel.specs.EvidenceLaws.{fits, so_of_add}
-use Rattle.file_manager.proofs.MadeRun.{maps_come, bytes_told, made_run}
+use Rattle.file_manager.proofs.MadeRun.{maps_come, bytes_revealed, made_run}
 use Rattle.file_manager.proofs.MadeRun.{labelled as labelled_so}
 use Rattle.file_manager.proofs.MakeStops.{labels_there, take_halts, label_halts, added_halts}
 use Rattle.swapper_kernel.specs.HaltLaws.{brings_then}
@@ -88,7 +88,7 @@ returns-in-Err-add-clause-sound g c = λ tables x shapes spaces books hidden uno
 
 pub returns-in-Err-add-clause-stopped : goal.returns-in-Err-add-clause-stopped
 returns-in-Err-add-clause-stopped g c =
-    stopped_behind (record { id = c.args.id; first = c.args.page; pages = c.in-Ok.taken.1; sector = c.in-Ok.taken.0 }) c.args.kind c.in-Ok.ensures.kept c.in-Ok-label_run.ensures.frames c.args.most c.in-Ok.ensures.form.few c.in-Ok-label_run.ensures.made c.in-Err-add.ensures.beside
+    stopped_after (record { id = c.args.id; first = c.args.page; pages = c.in-Ok.taken.1; sector = c.in-Ok.taken.0 }) c.args.kind c.in-Ok.ensures.kept c.in-Ok-label_run.ensures.frames c.args.most c.in-Ok.ensures.form.few c.in-Ok-label_run.ensures.made c.in-Err-add.ensures.beside
 
 pub returns-clause-made : goal.returns-clause-made
 returns-clause-made g c = λ tables x shapes spaces books hidden unowned some.
@@ -112,7 +112,7 @@ returns-clause-made g c = λ tables x shapes spaces books hidden unowned some.
     rw c.frames_of.ensures.same
     (run_leads layout is kept shapes spaces x _ _ books hidden run c.args.most _ _ _ c.in-Ok.ensures.kept c.in-Ok.ensures.form lowest taken c.args.kind _ made
     _ _ _ c.add.new.self.runs (c.in-Ok-add.ensures.runs ∙ c.in-Ok-label_run.ensures.runs ∙ c.in-Ok.ensures.runs) (rw (frames, lay) at c.in-Ok-add.ensures.beside) added
-    (λ y stands. memory_in_form _ _ y stands (g.met.D.Disk.in_form c.add.new.self.swapper.under stands.sectors stands.told) c.frames_of.ensures.pages))
+    (λ y stands. memory_in_form _ _ y stands (g.met.D.Disk.in_form c.add.new.self.swapper.disk stands.sectors stands.revealed) c.frames_of.ensures.pages))
 
 pub returns-clause-form : goal.returns-clause-form
 returns-clause-form g c = record {
@@ -165,22 +165,22 @@ pub returns-in-Err-add-clause-counted : goal.returns-in-Err-add-clause-counted
 returns-in-Err-add-clause-counted g c =
     let first = c.in-Ok.ensures.kept.goes.makes.went.faults in
     let second = c.in-Ok-label_run.ensures.made.makes.went.faults in
-    counted _ _ (g.D.Disk.state c.label_run.new.filer.swapper.under) (g.D.Disk.state c.add.new.self.swapper.under) _ (omega (arith, first, second)) c.in-Err-add.ensures.cause
+    counted _ _ (g.D.Disk.state c.label_run.new.filer.swapper.disk) (g.D.Disk.state c.add.new.self.swapper.disk) _ (omega (arith, first, second)) c.in-Err-add.ensures.cause
 
-pub returns-in-Err-add-clause-so : goal.returns-in-Err-add-clause-so
-returns-in-Err-add-clause-so g c = so_of_add (fits c.label_run.new.filer.swapper (search rules)) c.add.ensures.beside.goes.makes c.in-Err-add.halt c.in-Err-add.ensures.cause
+pub returns-in-Err-add-clause-evidence_seen : goal.returns-in-Err-add-clause-evidence_seen
+returns-in-Err-add-clause-evidence_seen g c = so_of_add (fits c.label_run.new.filer.swapper (search rules)) c.add.ensures.beside.goes.makes c.in-Err-add.halt c.in-Err-add.ensures.cause
 
 pub returns-in-Err-clause-cause : goal.returns-in-Err-clause-cause
 returns-in-Err-clause-cause g c =
     let layout = c.args.filer.now.swapper.layout in
     let pages = λ (p : ℕ). (c.args.page ≤ p) × (p < c.args.page + c.args.most) in
-    take_halts layout c.args.id pages pages c.args.page (let some = c.requires.some in (omega arith, omega (arith, some))) (g.D.Disk.state c.args.filer.now.swapper.under) (g.D.Disk.state c.take_run.new.filer.swapper.under) c.args.filer.now.swapper.pool c.take_run.new.filer.swapper.pool c.in-Err.halt c.in-Err.ensures.cause
+    take_halts layout c.args.id pages pages c.args.page (let some = c.requires.some in (omega arith, omega (arith, some))) (g.D.Disk.state c.args.filer.now.swapper.disk) (g.D.Disk.state c.take_run.new.filer.swapper.disk) c.args.filer.now.swapper.pool c.take_run.new.filer.swapper.pool c.in-Err.halt c.in-Err.ensures.cause
 
 pub returns-in-Err-label_run-clause-cause : goal.returns-in-Err-label_run-clause-cause
 returns-in-Err-label_run-clause-cause g c =
     let form = c.in-Ok.ensures.form in
     let pages = λ (p : ℕ). (c.args.page ≤ p) × (p < c.args.page + c.args.most) in
-    label_halts c.in-Ok.ensures.kept c.in-Ok.taken.0 c.in-Ok.taken.1 form.above form.inside (λ m marks stands bits. (c.in-Ok.ensures.lowest m marks stands bits).free) c.args.id pages pages (g.D.Disk.state c.label_run.new.filer.swapper.under) c.label_run.new.filer.swapper.pool
+    label_halts c.in-Ok.ensures.kept c.in-Ok.taken.0 c.in-Ok.taken.1 form.above form.inside (λ m marks stands bits. (c.in-Ok.ensures.lowest m marks stands bits).free) c.args.id pages pages (g.D.Disk.state c.label_run.new.filer.swapper.disk) c.label_run.new.filer.swapper.pool
     c.in-Err-label_run.halt c.in-Err-label_run.ensures.cause
 
 pub returns-in-Err-add-clause-cause : goal.returns-in-Err-add-clause-cause
@@ -198,7 +198,7 @@ returns-in-Err-add-clause-cause g c =
     let were = c.in-Ok-label_run.ensures.were in
     let beside = rw (frames, lay) at c.add.ensures.beside in
     added_halts run c.args.kind pages pages form.some (λ p own. let from = own.0 in let below = own.1 in (from, omega (arith, below, fewer))) (maps_come kept) (makes_then (map_makes kept) (labels_there refl made.makes))
-    (added_makes run c.args.kind kept refl made beside) (labelled_so is run c.args.kind c.args.most form kept c.in-Ok.ensures.taken made were) (bytes_told is run c.args.kind c.args.most form kept c.in-Ok.ensures.taken made were) beside
+    (added_makes run c.args.kind kept refl made beside) (labelled_so is run c.args.kind c.args.most form kept c.in-Ok.ensures.taken made were) (bytes_revealed is run c.args.kind c.args.most form kept c.in-Ok.ensures.taken made were) beside
     c.in-Err-add.halt (rw (frames, lay) at c.in-Err-add.ensures.cause) (rw (frames, lay) at c.in-Err-add.ensures.right)
 
 pub returns-clause-longest : goal.returns-clause-longest

@@ -32,7 +32,7 @@ returns-clause-made g c =
 pub returns-in-Err-clause-cost : goal.returns-in-Err-clause-cost
 returns-in-Err-clause-cost g c =
     let below : c.loop-page.page < c.args.end = search rules in
-    up_cost _ c.args.kind _ _ c.loop-page.page _ _ _ c.args.filer.now.swapper.accepted _ _ _ _ _ c.loop-page.invariant c.requires.numbers (g.D.Disk.state c.make_run.new.filer.swapper.under) below c.in-Err.ensures.cost
+    up_cost _ c.args.kind _ _ c.loop-page.page _ _ _ c.args.filer.now.swapper.accepted _ _ _ _ _ c.loop-page.invariant c.requires.numbers (g.D.Disk.state c.make_run.new.filer.swapper.disk) below c.in-Err.ensures.cost
 
 pub returns-in-Err-clause-broken : goal.returns-in-Err-clause-broken
 returns-in-Err-clause-broken g c =
@@ -45,7 +45,7 @@ returns-in-Err-clause-counted g c = counted_then _ _ _ c.loop-page.invariant.mak
 pub returns-in-Err-clause-cause : goal.returns-in-Err-clause-cause
 returns-in-Err-clause-cause g c =
     let below : c.loop-page.page < c.args.end = search rules in
-    up_cause _ c.args.kind _ _ c.loop-page.page _ _ _ c.args.filer.now.swapper.accepted _ _ _ _ _ c.loop-page.invariant c.requires.numbers (λ p. (c.args.from ≤ p) × (p < c.args.end)) (λ p own. own) (g.D.Disk.state c.make_run.new.filer.swapper.under) c.make_run.new.filer.swapper.pool c.in-Err.halt below (rw c.loop-page.invariant.same_layout at c.in-Err.ensures.cause)
+    up_cause _ c.args.kind _ _ c.loop-page.page _ _ _ c.args.filer.now.swapper.accepted _ _ _ _ _ c.loop-page.invariant c.requires.numbers (λ p. (c.args.from ≤ p) × (p < c.args.end)) (λ p own. own) (g.D.Disk.state c.make_run.new.filer.swapper.disk) c.make_run.new.filer.swapper.pool c.in-Err.halt below (rw c.loop-page.invariant.same_layout at c.in-Err.ensures.cause)
 
 pub returns-in-Err-clause-come : goal.returns-in-Err-clause-come
 returns-in-Err-clause-come g c = brings_then c.loop-page.invariant.come (rw c.loop-page.invariant.same_layout at c.in-Err.ensures.come)

@@ -24,13 +24,13 @@ returns-in-Err-NoRoom-clause-counted g c = no_fault
 pub returns-in-Err-Mem-clause-counted : goal.returns-in-Err-Mem-clause-counted
 returns-in-Err-Mem-clause-counted g c =
     let cause = c.in-Err-Mem.ensures.cause in
-    counted _ _ (g.D.Disk.state c.args.filer.now.swapper.under) (g.D.Disk.state c.take.new.self.swapper.under) _ (omega arith) (rw (c.in-Err-Mem.field-0-is, c.in-Err-Mem.halt-is) at cause)
+    counted _ _ (g.D.Disk.state c.args.filer.now.swapper.disk) (g.D.Disk.state c.take.new.self.swapper.disk) _ (omega arith) (rw (c.in-Err-Mem.field-0-is, c.in-Err-Mem.halt-is) at cause)
 
-pub returns-in-Err-NoRoom-clause-so : goal.returns-in-Err-NoRoom-clause-so
-returns-in-Err-NoRoom-clause-so g c = inl (refl, omega arith)
+pub returns-in-Err-NoRoom-clause-evidence_seen : goal.returns-in-Err-NoRoom-clause-evidence_seen
+returns-in-Err-NoRoom-clause-evidence_seen g c = inl (refl, omega arith)
 
-pub returns-in-Err-Mem-clause-so : goal.returns-in-Err-Mem-clause-so
-returns-in-Err-Mem-clause-so g c =
+pub returns-in-Err-Mem-clause-evidence_seen : goal.returns-in-Err-Mem-clause-evidence_seen
+returns-in-Err-Mem-clause-evidence_seen g c =
     let cause = c.in-Err-Mem.ensures.cause in
     so_of_halts (fits c.args.filer.now.swapper c.requires.size) c.take.ensures.kept.goes.makes _ _ (map_homes_placed AllocationMap _) (rw (c.in-Err-Mem.field-0-is, c.in-Err-Mem.halt-is) at cause)
 
@@ -43,7 +43,7 @@ returns-in-Err-NoRoom-clause-cause g c =
 pub returns-in-Err-Mem-clause-cause : goal.returns-in-Err-Mem-clause-cause
 returns-in-Err-Mem-clause-cause g c =
     let cause = c.in-Err-Mem.ensures.cause in
-    taken_halt c.args.filer.now.swapper.layout (g.D.Disk.state c.args.filer.now.swapper.under) (g.D.Disk.state c.take.new.self.swapper.under) c.args.filer.now.swapper.pool c.take.new.self.swapper.pool _ (rw (c.in-Err-Mem.field-0-is, c.in-Err-Mem.halt-is) at cause)
+    taken_halt c.args.filer.now.swapper.layout (g.D.Disk.state c.args.filer.now.swapper.disk) (g.D.Disk.state c.take.new.self.swapper.disk) c.args.filer.now.swapper.pool c.take.new.self.swapper.pool _ (rw (c.in-Err-Mem.field-0-is, c.in-Err-Mem.halt-is) at cause)
 
 pub returns-in-Err-NoRoom-clause-reasons : goal.returns-in-Err-NoRoom-clause-reasons
 returns-in-Err-NoRoom-clause-reasons g c = λ o named h.

@@ -16,8 +16,8 @@ use Rattle.file_manager.proofs.FreedReasons.{found_keeps}
 use Rattle.file_manager.specs.ReasonLaws.{map_reasons}
 use Rattle.file_manager.proofs.leader.leader_of.Goals as goal
 
-pub returns-in-Ok-Some-clause-told : goal.returns-in-Ok-Some-clause-told
-returns-in-Ok-Some-clause-told g c = λ x shapes spaces books.
+pub returns-in-Ok-Some-clause-revealed : goal.returns-in-Ok-Some-clause-revealed
+returns-in-Ok-Some-clause-revealed g c = λ x shapes spaces books.
     let is : IsLayout c.args.filer.now.swapper.layout = search rules in
     let b = books.booked in
     let here = c.in-Ok-Some.ensures.found x b.named books.stands (map_is _ _ shapes x is b) (kept_are _ _ shapes x is b) in
@@ -38,8 +38,8 @@ returns-in-Ok-Some-clause-place g c =
     let has : holds c.in-Ok-Some.run' c.args.id leader_page ≡ true = subst (λ (o : Option Run). IfSome o (λ run. holds run c.args.id leader_page ≡ true)) c.in-Ok-Some.field-0-is c.in-Ok-Some.ensures.holds in
     run_place c.args.filer.now.swapper.layout c.in-Ok-Some.run' c.args.id leader_page is form has
 
-pub returns-in-Ok-None-clause-told : goal.returns-in-Ok-None-clause-told
-returns-in-Ok-None-clause-told g c = λ x shapes spaces books.
+pub returns-in-Ok-None-clause-revealed : goal.returns-in-Ok-None-clause-revealed
+returns-in-Ok-None-clause-revealed g c = λ x shapes spaces books.
     let is : IsLayout c.args.filer.now.swapper.layout = search rules in
     let b = books.booked in
     let here = c.in-Ok-None.ensures.found x b.named books.stands (map_is _ _ shapes x is b) (kept_are _ _ shapes x is b) in
@@ -53,8 +53,8 @@ returns-in-Ok-None-clause-same g c = λ x shapes spaces books.
     let map = map_is _ _ shapes x is b in
     books_stay _ _ _ _ _ _ _ shapes spaces x books (c.find.ensures.same x b.named books.stands map) (own_maps FileMap c.args.filer.now.swapper.layout _ _ c.find.ensures.beside.brings) (c.find.ensures.runs_are x b.named books.stands map (kept_are _ _ shapes x is b))
 
-pub returns-in-Err-clause-told : goal.returns-in-Err-clause-told
-returns-in-Err-clause-told g c = λ x shapes spaces books.
+pub returns-in-Err-clause-revealed : goal.returns-in-Err-clause-revealed
+returns-in-Err-clause-revealed g c = λ x shapes spaces books.
     let is : IsLayout c.args.filer.now.swapper.layout = search rules in
     let b = books.booked in
     c.in-Err.ensures.sound x b.named books.stands (map_is _ _ shapes x is b) (map_named _ x is b.long b.map_labels)
@@ -67,12 +67,12 @@ returns-in-Err-clause-same g c = λ x shapes spaces books.
     books_stay _ _ _ _ _ _ _ shapes spaces x books (c.find.ensures.same x b.named books.stands map) (own_maps FileMap c.args.filer.now.swapper.layout _ _ c.find.ensures.beside.brings) (c.find.ensures.runs_are x b.named books.stands map (kept_are _ _ shapes x is b))
 
 pub returns-in-Err-clause-counted : goal.returns-in-Err-clause-counted
-returns-in-Err-clause-counted g c = counted _ _ (g.D.Disk.state c.args.filer.now.swapper.under) (g.D.Disk.state c.find.new.self.swapper.under) _ (omega arith) c.in-Err.ensures.cause
+returns-in-Err-clause-counted g c = counted _ _ (g.D.Disk.state c.args.filer.now.swapper.disk) (g.D.Disk.state c.find.new.self.swapper.disk) _ (omega arith) c.in-Err.ensures.cause
 
 pub returns-in-Ok-Some-clause-given : goal.returns-in-Ok-Some-clause-given
 returns-in-Ok-Some-clause-given g c =
     let layout = c.args.filer.now.swapper.layout in
-    let old = g.D.Disk.state c.args.filer.now.swapper.under in
+    let old = g.D.Disk.state c.args.filer.now.swapper.disk in
     let kept = runs_of layout.sectors c.args.filer.now.runs in
     record {
       run = c.in-Ok-Some.run';
@@ -85,8 +85,8 @@ returns-in-Ok-Some-clause-given g c =
 pub returns-in-Ok-None-clause-missing : goal.returns-in-Ok-None-clause-missing
 returns-in-Ok-None-clause-missing g c = λ is m named stands map. c.find.ensures.nowhere m named stands map (search rules)
 
-pub returns-in-Err-clause-so : goal.returns-in-Err-clause-so
-returns-in-Err-clause-so g c = so_of_map (fits c.args.filer.now.swapper c.requires.size) c.find.ensures.beside.goes.makes c.in-Err.halt c.in-Err.ensures.cause
+pub returns-in-Err-clause-evidence_seen : goal.returns-in-Err-clause-evidence_seen
+returns-in-Err-clause-evidence_seen g c = so_of_map (fits c.args.filer.now.swapper c.requires.size) c.find.ensures.beside.goes.makes c.in-Err.halt c.in-Err.ensures.cause
 
 pub returns-in-Err-clause-keeps : goal.returns-in-Err-clause-keeps
 returns-in-Err-clause-keeps g c = keeps_read (inr c.requires.client) c.find.ensures.beside c.find.ensures.same_bytes c.find.ensures.runs_given

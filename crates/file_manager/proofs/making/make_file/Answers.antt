@@ -75,25 +75,25 @@ returns-in-Err-make_up-clause-broken g c = λ x shapes spaces may.
 pub returns-in-Err-make_up-clause-cause : goal.returns-in-Err-make_up-clause-cause
 returns-in-Err-make_up-clause-cause g c =
     let layout = c.args.filer.now.swapper.layout in
-    let old = g.D.Disk.state c.args.filer.now.swapper.under in
+    let old = g.D.Disk.state c.args.filer.now.swapper.disk in
     let pool = c.args.filer.now.swapper.pool in
     let run = c.in-Ok._run in
     let below = c.requires.numbers in
     let form = c.in-Ok.ensures.form in
     let sectors = form.form.from_data in
     let first = data_first layout c.args.filer.now.swapper.accepted in
-    let old_run = subst (λ (n : ℕ). Makes volume_page (growth c.args.id c.args.kind n (sectors_of run)) old pool (g.D.Disk.state c.make_run.new.filer.swapper.under) c.make_run.new.filer.swapper.pool) (sym form.same_first) c.in-Ok.ensures.makes in
-    let one : LabelsRun layout c.args.id old pool (g.D.Disk.state c.make_run.new.filer.swapper.under) c.make_run.new.filer.swapper.pool = record { front = []; kind = c.args.kind; run = run; some = form.form.some; from = omega (arith, sectors, first); makes = old_run; ended = inl form.same_first } in
+    let old_run = subst (λ (n : ℕ). Makes volume_page (growth c.args.id c.args.kind n (sectors_of run)) old pool (g.D.Disk.state c.make_run.new.filer.swapper.disk) c.make_run.new.filer.swapper.pool) (sym form.same_first) c.in-Ok.ensures.makes in
+    let one : LabelsRun layout c.args.id old pool (g.D.Disk.state c.make_run.new.filer.swapper.disk) c.make_run.new.filer.swapper.pool = record { prefix = []; kind = c.args.kind; run = run; some = form.form.some; from = omega (arith, sectors, first); makes = old_run; ended = inl form.same_first } in
     let leader = λ (p : ℕ). (4294967295 ≤ p) × (p < 4294967295 + run.pages) in
     let pages = λ (p : ℕ). (0 ≤ p) × (p < c.args.pages) in
     let leaves = leaves_apart layout c.args.id leader pages every_page old pool (λ p own. tt) (λ p own. tt) (λ p own other. let before = own.1 in let from = other.0 in omega (arith, below, before, from)) in
     make_halts_before leader pages every_page c.in-Ok.ensures.makes c.in-Ok.ensures.takes leaves pages (IsNewPage c.args.pages) (λ p own. inr own.1) (λ p own other. let before = own.1 in let from = other.0 in omega (arith, below, before, from)) (inr one)
-    (g.D.Disk.state c.make_up.new.filer.swapper.under) c.make_up.new.filer.swapper.pool c.in-Err-make_up.halt (rw c.in-Ok.ensures.layout at c.in-Err-make_up.ensures.cause)
+    (g.D.Disk.state c.make_up.new.filer.swapper.disk) c.make_up.new.filer.swapper.pool c.in-Err-make_up.halt (rw c.in-Ok.ensures.layout at c.in-Err-make_up.ensures.cause)
 
 pub returns-in-Err-clause-cause : goal.returns-in-Err-clause-cause
 returns-in-Err-clause-cause g c =
     let leader = λ (p : ℕ). (4294967295 ≤ p) × (p < 4294967295 + 1) in
-    make_halts_wider c.args.filer.now.swapper.layout c.args.id leader every_page leader (IsNewPage c.args.pages) (λ p own. tt) (λ p own. let from = own.0 in let last = own.1 in inl (omega (arith, from, last))) (g.D.Disk.state c.args.filer.now.swapper.under) (g.D.Disk.state c.make_run.new.filer.swapper.under) c.args.filer.now.swapper.pool c.make_run.new.filer.swapper.pool c.in-Err.halt c.in-Err.ensures.cause
+    make_halts_wider c.args.filer.now.swapper.layout c.args.id leader every_page leader (IsNewPage c.args.pages) (λ p own. tt) (λ p own. let from = own.0 in let last = own.1 in inl (omega (arith, from, last))) (g.D.Disk.state c.args.filer.now.swapper.disk) (g.D.Disk.state c.make_run.new.filer.swapper.disk) c.args.filer.now.swapper.pool c.make_run.new.filer.swapper.pool c.in-Err.halt c.in-Err.ensures.cause
 
 pub returns-in-Err-clause-reasons : goal.returns-in-Err-clause-reasons
 returns-in-Err-clause-reasons g c = λ o named h may none. c.in-Err.ensures.reasons o named h (λ p sector own. none p sector tt)

@@ -28,16 +28,16 @@ use Rattle.file_manager.proofs.marks.mark.Goals as goal
 
 pub returns-in-Ok-None-clause-sound : goal.returns-in-Ok-None-clause-sound
 returns-in-Ok-None-clause-sound g c = λ x shapes spaces f books is.
-    let none = subst (IsLeaderOf (labels_of x) shapes c.args.id) c.in-Ok-None.field-0-is (c.in-Ok-None.ensures.told x shapes spaces books) in
+    let none = subst (IsLeaderOf (labels_of x) shapes c.args.id) c.in-Ok-None.field-0-is (c.in-Ok-None.ensures.revealed x shapes spaces books) in
     absurd (none-some f (sym none ∙ is))
 
 pub returns-in-Err-clause-sound : goal.returns-in-Err-clause-sound
-returns-in-Err-clause-sound g c = λ x shapes spaces f books is. c.in-Err.ensures.told x shapes spaces books
+returns-in-Err-clause-sound g c = λ x shapes spaces f books is. c.in-Err.ensures.revealed x shapes spaces books
 
 pub returns-in-Err-mark_leader-clause-sound : goal.returns-in-Err-mark_leader-clause-sound
 returns-in-Err-mark_leader-clause-sound g c = λ x shapes spaces f books is.
     let now = c.leader_of.ensures.same x shapes spaces books in
-    let triple = subst (IsLeaderOf (labels_of x) shapes c.args.id) c.in-Ok-Some.field-0-is (c.in-Ok-Some.ensures.told x shapes spaces books) in
+    let triple = subst (IsLeaderOf (labels_of x) shapes c.args.id) c.in-Ok-Some.field-0-is (c.in-Ok-Some.ensures.revealed x shapes spaces books) in
     let sound = rw c.swapper_over-swapper.ensures.value at c.in-Err-mark_leader.ensures.sound in
     sound x now.stands (leader_one _ _ shapes x books.booked c.args.id c.in-Ok-Some.sector c.requires.client triple)
 
@@ -50,7 +50,7 @@ returns-in-Err-clause-broken g c = λ x shapes spaces f books is. inl c.leader_o
 pub returns-in-Err-mark_leader-clause-broken : goal.returns-in-Err-mark_leader-clause-broken
 returns-in-Err-mark_leader-clause-broken g c = λ x shapes spaces f books is.
     let now = c.leader_of.ensures.same x shapes spaces books in
-    let triple = subst (IsLeaderOf (labels_of x) shapes c.args.id) c.in-Ok-Some.field-0-is (c.in-Ok-Some.ensures.told x shapes spaces books) in
+    let triple = subst (IsLeaderOf (labels_of x) shapes c.args.id) c.in-Ok-Some.field-0-is (c.in-Ok-Some.ensures.revealed x shapes spaces books) in
     marks_first c.args.filer.now.swapper.layout _ _ _ _ _ _ _ shapes spaces x c.args.id c.in-Ok-Some.sector c.args.mark c.requires.client now c.leader_of.ensures.makes triple (rw c.swapper_over-swapper.ensures.value at c.mark_leader.ensures.frames)
     (rw c.swapper_over-swapper.ensures.value at c.in-Err-mark_leader.ensures.stopped)
 
@@ -58,23 +58,23 @@ pub returns-in-Err-mark_leader-clause-makes : goal.returns-in-Err-mark_leader-cl
 returns-in-Err-mark_leader-clause-makes g c =
     stopped_makes _ _ _ _ _ _ c.in-Ok-Some.sector c.args.mark c.leader_of.ensures.makes (rw c.swapper_over-swapper.ensures.value at c.mark_leader.ensures.frames) (rw c.swapper_over-swapper.ensures.value at c.in-Err-mark_leader.ensures.stopped)
 
-pub returns-clause-told : goal.returns-clause-told
-returns-clause-told g c = λ x shapes spaces f books is hidden.
+pub returns-clause-revealed : goal.returns-clause-revealed
+returns-clause-revealed g c = λ x shapes spaces f books is hidden.
     let now = c.leader_of.ensures.same x shapes spaces books in
-    let triple = subst (IsLeaderOf (labels_of x) shapes c.args.id) c.in-Ok-Some.field-0-is (c.in-Ok-Some.ensures.told x shapes spaces books) in
+    let triple = subst (IsLeaderOf (labels_of x) shapes c.args.id) c.in-Ok-Some.field-0-is (c.in-Ok-Some.ensures.revealed x shapes spaces books) in
     marked_after c.args.filer.now.swapper.layout _ _ _ _ _ _ _ _ shapes spaces x c.args.id c.in-Ok-Some.sector c.args.mark c.requires.client books now c.leader_of.ensures.makes c.leader_of.ensures.brings triple hidden (rw c.swapper_over-swapper.ensures.value at c.mark_leader.ensures.frames) (rw c.swapper_over-swapper.ensures.value at c.in-Ok.ensures.marked)
 
 pub returns-clause-makes : goal.returns-clause-makes
 returns-clause-makes g c =
     let made = rw c.swapper_over-swapper.ensures.value at c.in-Ok.ensures.marked in
-    stopped_makes _ _ _ _ _ _ c.in-Ok-Some.sector c.args.mark c.leader_of.ensures.makes (rw c.swapper_over-swapper.ensures.value at c.mark_leader.ensures.frames) (inr (made.0, λ d told. let one = made.1.found d told in ap (option_map (λ (s : Sector). s.0)) one.1 ∙ ap (λ (l : Label). Some l) one.2.0, inr made.1.makes))
+    stopped_makes _ _ _ _ _ _ c.in-Ok-Some.sector c.args.mark c.leader_of.ensures.makes (rw c.swapper_over-swapper.ensures.value at c.mark_leader.ensures.frames) (inr (made.0, λ d revealed. let one = made.1.found d revealed in ap (option_map (λ (s : Sector). s.0)) one.1 ∙ ap (λ (l : Label). Some l) one.2.0, inr made.1.makes))
 
 pub returns-in-Ok-None-clause-counted : goal.returns-in-Ok-None-clause-counted
 returns-in-Ok-None-clause-counted g c = no_fault
 
 pub returns-in-Err-mark_leader-clause-counted : goal.returns-in-Err-mark_leader-clause-counted
 returns-in-Err-mark_leader-clause-counted g c =
-    counted _ _ (g.D.Disk.state c.leader_of.new.filer.swapper.under) (g.D.Disk.state c.mark_leader.new.swapper.under) _ c.leader_of.ensures.makes.went.faults (rw c.swapper_over-swapper.ensures.value at c.in-Err-mark_leader.ensures.cause)
+    counted _ _ (g.D.Disk.state c.leader_of.new.filer.swapper.disk) (g.D.Disk.state c.mark_leader.new.swapper.disk) _ c.leader_of.ensures.makes.went.faults (rw c.swapper_over-swapper.ensures.value at c.in-Err-mark_leader.ensures.cause)
 
 pub returns-in-Ok-None-clause-cause : goal.returns-in-Ok-None-clause-cause
 returns-in-Ok-None-clause-cause g c = (refl, refl, c.leader_of.ensures.missing (search rules))
@@ -82,27 +82,27 @@ returns-in-Ok-None-clause-cause g c = (refl, refl, c.leader_of.ensures.missing (
 pub returns-in-Err-clause-cause : goal.returns-in-Err-clause-cause
 returns-in-Err-clause-cause g c =
     let layout = c.args.filer.now.swapper.layout in
-    search_halts layout (runs_of layout.sectors c.args.filer.now.runs) c.args.id (g.D.Disk.state c.args.filer.now.swapper.under) c.args.filer.now.swapper.pool (g.D.Disk.state c.leader_of.new.filer.swapper.under) c.in-Err.halt c.in-Err.ensures.cause
+    search_halts layout (runs_of layout.sectors c.args.filer.now.runs) c.args.id (g.D.Disk.state c.args.filer.now.swapper.disk) c.args.filer.now.swapper.pool (g.D.Disk.state c.leader_of.new.filer.swapper.disk) c.in-Err.halt c.in-Err.ensures.cause
 
 pub returns-in-Err-mark_leader-clause-cause : goal.returns-in-Err-mark_leader-clause-cause
 returns-in-Err-mark_leader-clause-cause g c =
     let layout = c.args.filer.now.swapper.layout in
-    let old = g.D.Disk.state c.args.filer.now.swapper.under in
+    let old = g.D.Disk.state c.args.filer.now.swapper.disk in
     let kept = runs_of layout.sectors c.args.filer.now.runs in
     let given = subst (λ (o : Option ℕ). IfSome o (λ sector. IsRunHome layout old c.args.filer.now.swapper.pool kept (home_at sector (record { id = c.args.id; page = leader_page })))) c.in-Ok-Some.field-0-is c.in-Ok-Some.ensures.given in
-    label_halts layout kept c.args.id old c.args.filer.now.swapper.pool (g.D.Disk.state c.leader_of.new.filer.swapper.under) (g.D.Disk.state c.mark_leader.new.swapper.under) c.leader_of.new.filer.swapper.pool c.in-Ok-Some.sector c.leader_of.ensures.makes given c.in-Err-mark_leader.halt (rw c.swapper_over-swapper.ensures.value at c.in-Err-mark_leader.ensures.cause)
+    label_halts layout kept c.args.id old c.args.filer.now.swapper.pool (g.D.Disk.state c.leader_of.new.filer.swapper.disk) (g.D.Disk.state c.mark_leader.new.swapper.disk) c.leader_of.new.filer.swapper.pool c.in-Ok-Some.sector c.leader_of.ensures.makes given c.in-Err-mark_leader.halt (rw c.swapper_over-swapper.ensures.value at c.in-Err-mark_leader.ensures.cause)
 
-pub returns-in-Ok-None-clause-so : goal.returns-in-Ok-None-clause-so
-returns-in-Ok-None-clause-so g c = inr c.requires.client
+pub returns-in-Ok-None-clause-evidence_seen : goal.returns-in-Ok-None-clause-evidence_seen
+returns-in-Ok-None-clause-evidence_seen g c = inr c.requires.client
 
-pub returns-in-Err-mark_leader-clause-so : goal.returns-in-Err-mark_leader-clause-so
-returns-in-Err-mark_leader-clause-so g c =
+pub returns-in-Err-mark_leader-clause-evidence_seen : goal.returns-in-Err-mark_leader-clause-evidence_seen
+returns-in-Err-mark_leader-clause-evidence_seen g c =
     let layout = c.args.filer.now.swapper.layout in
-    let new = g.D.Disk.state c.mark_leader.new.swapper.under in
+    let new = g.D.Disk.state c.mark_leader.new.swapper.disk in
     let wanted : Wanted = record { id = c.args.id; page = leader_page } in
     let size : new.sectors ≡ layout.sectors = marked_sectors c.args.mark _ new _ _ (returns-in-Err-mark_leader-clause-makes g c) ∙ c.requires.size in
     let place = subst (λ (o : Option ℕ). IfSome o (λ sector. (layout.first ≤ sector) × (sector < layout.sectors))) c.in-Ok-Some.field-0-is c.in-Ok-Some.ensures.place in
-    so_of_other new c.in-Ok-Some.sector wanted (file_may layout new c.args.filer.now.swapper.accepted size c.in-Ok-Some.sector wanted (inr c.requires.client) place.0 place.1) (g.D.Disk.state c.leader_of.new.filer.swapper.under) (g.D.Disk.state c.mark_leader.new.swapper.under) c.in-Err-mark_leader.halt (rw c.swapper_over-swapper.ensures.value at c.in-Err-mark_leader.ensures.so)
+    so_of_other new c.in-Ok-Some.sector wanted (file_may layout new c.args.filer.now.swapper.accepted size c.in-Ok-Some.sector wanted (inr c.requires.client) place.0 place.1) (g.D.Disk.state c.leader_of.new.filer.swapper.disk) (g.D.Disk.state c.mark_leader.new.swapper.disk) c.in-Err-mark_leader.halt (rw c.swapper_over-swapper.ensures.value at c.in-Err-mark_leader.ensures.evidence_seen)
 
 pub returns-in-Ok-None-clause-own : goal.returns-in-Ok-None-clause-own
 returns-in-Ok-None-clause-own g c = relabels_own (quiet_own c.args.id c.leader_of.ensures.makes)
@@ -144,7 +144,7 @@ returns-in-Err-mark_leader-clause-reasons g c = λ o named k.
     let now = c.in-Ok-Some.ensures.keeps_to o named k in
     let stopped = rw c.swapper_over-swapper.ensures.value at c.in-Err-mark_leader.ensures.stopped in
     let cause = rw c.swapper_over-swapper.ensures.value at c.in-Err-mark_leader.ensures.cause in
-    subst (λ (l : Layout). ShowsReason o l (g.D.Disk.state c.mark_leader.new.swapper.under) c.in-Err-mark_leader.halt) c.leader_of.ensures.layout
+    subst (λ (l : Layout). ShowsReason o l (g.D.Disk.state c.mark_leader.new.swapper.disk) c.in-Err-mark_leader.halt) c.leader_of.ensures.layout
     (mark_reasons now (record { id = c.args.id; page = leader_page }) c.in-Ok-Some.sector c.args.mark led stopped c.in-Err-mark_leader.halt cause)
 
 pub returns-clause-keeps_to : goal.returns-clause-keeps_to

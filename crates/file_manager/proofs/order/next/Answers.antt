@@ -13,8 +13,8 @@ use Rattle.file_manager.proofs.KeepSteps.{keeps_asked}
 use Rattle.file_manager.specs.ReasonLaws.{map_reasons}
 use Rattle.file_manager.proofs.order.next.Goals as goal
 
-pub returns-in-Ok-clause-told : goal.returns-in-Ok-clause-told
-returns-in-Ok-clause-told g c = rw (← c.frames_of.ensures.same) (λ x shapes spaces books.
+pub returns-in-Ok-clause-revealed : goal.returns-in-Ok-clause-revealed
+returns-in-Ok-clause-revealed g c = rw (← c.frames_of.ensures.same) (λ x shapes spaces books.
     let is : IsLayout c.frames_of.new.filer.swapper.layout = search rules in
     let b = books.booked in
     next_is c.frames_of.new.filer.swapper.layout (runs_of c.frames_of.new.filer.swapper.layout.sectors c.frames_of.new.filer.runs) shapes x b c.args.id _ (c.in-Ok.ensures.next x b.named books.stands (map_is _ _ shapes x is b)))
@@ -27,8 +27,8 @@ returns-in-Ok-clause-same g c = rw (← c.frames_of.ensures.same) (λ x shapes s
     books_stay _ _ _ _ _ _ _ shapes spaces x books (c.next_file.ensures.same x b.named books.stands map) (own_maps FileMap c.frames_of.new.filer.swapper.layout _ _ c.next_file.ensures.beside.brings)
     (subst (λ (r : CachedRuns). AreOf b.named (runs_of c.frames_of.new.filer.swapper.layout.sectors r)) (sym c.next_file.ensures.runs) (kept_are _ _ shapes x is b)))
 
-pub returns-in-Err-clause-told : goal.returns-in-Err-clause-told
-returns-in-Err-clause-told g c = rw (← c.frames_of.ensures.same) (λ x shapes spaces books.
+pub returns-in-Err-clause-revealed : goal.returns-in-Err-clause-revealed
+returns-in-Err-clause-revealed g c = rw (← c.frames_of.ensures.same) (λ x shapes spaces books.
     let is : IsLayout c.frames_of.new.filer.swapper.layout = search rules in
     let b = books.booked in
     c.in-Err.ensures.sound x b.named books.stands (map_is _ _ shapes x is b) (map_named _ x is b.long b.map_labels))
@@ -42,10 +42,10 @@ returns-in-Err-clause-same g c = rw (← c.frames_of.ensures.same) (λ x shapes 
     (subst (λ (r : CachedRuns). AreOf b.named (runs_of c.frames_of.new.filer.swapper.layout.sectors r)) (sym c.next_file.ensures.runs) (kept_are _ _ shapes x is b)))
 
 pub returns-in-Err-clause-counted : goal.returns-in-Err-clause-counted
-returns-in-Err-clause-counted g c = rw (← c.frames_of.ensures.same) (counted _ _ (g.D.Disk.state c.frames_of.new.filer.swapper.under) (g.D.Disk.state c.next_file.new.self.swapper.under) _ (omega arith) c.in-Err.ensures.cause)
+returns-in-Err-clause-counted g c = rw (← c.frames_of.ensures.same) (counted _ _ (g.D.Disk.state c.frames_of.new.filer.swapper.disk) (g.D.Disk.state c.next_file.new.self.swapper.disk) _ (omega arith) c.in-Err.ensures.cause)
 
-pub returns-in-Err-clause-so : goal.returns-in-Err-clause-so
-returns-in-Err-clause-so g c = so_of_map (fits c.frames_of.new.filer.swapper (search rules)) c.next_file.ensures.beside.goes.makes c.in-Err.halt c.in-Err.ensures.cause
+pub returns-in-Err-clause-evidence_seen : goal.returns-in-Err-clause-evidence_seen
+returns-in-Err-clause-evidence_seen g c = so_of_map (fits c.frames_of.new.filer.swapper (search rules)) c.next_file.ensures.beside.goes.makes c.in-Err.halt c.in-Err.ensures.cause
 
 pub returns-in-Ok-clause-looks : goal.returns-in-Ok-clause-looks
 returns-in-Ok-clause-looks g c =
@@ -53,7 +53,7 @@ returns-in-Ok-clause-looks g c =
     let found = c.next_file.ensures in
     let kept = ap (runs_of f.swapper.layout.sectors) found.runs in
     rw (← c.frames_of.ensures.same)
-    (looks_searched {kept = runs_of f.swapper.layout.sectors f.runs} {runs = runs_of f.swapper.layout.sectors c.next_file.new.self.runs} f.swapper.accepted (rw c.frames_of.ensures.same c.requires.size) (g.met.D.Disk.whole f.swapper.under) (g.met.D.Disk.in_form f.swapper.under) (rw c.frames_of.ensures.same c.frames_of.ensures.pages)
+    (looks_searched {kept = runs_of f.swapper.layout.sectors f.runs} {runs = runs_of f.swapper.layout.sectors c.next_file.new.self.runs} f.swapper.accepted (rw c.frames_of.ensures.same c.requires.size) (g.met.D.Disk.whole f.swapper.disk) (g.met.D.Disk.in_form f.swapper.disk) (rw c.frames_of.ensures.same c.frames_of.ensures.pages)
     found.beside found.same_bytes (λ r one. inl (subst (IsOneOf r) kept one)) (λ m named stands map are. subst (AreOf named) (sym kept) are))
 
 pub returns-in-Err-clause-looks : goal.returns-in-Err-clause-looks
@@ -62,7 +62,7 @@ returns-in-Err-clause-looks g c =
     let found = c.next_file.ensures in
     let kept = ap (runs_of f.swapper.layout.sectors) found.runs in
     rw (← c.frames_of.ensures.same)
-    (looks_searched {kept = runs_of f.swapper.layout.sectors f.runs} {runs = runs_of f.swapper.layout.sectors c.next_file.new.self.runs} f.swapper.accepted (rw c.frames_of.ensures.same c.requires.size) (g.met.D.Disk.whole f.swapper.under) (g.met.D.Disk.in_form f.swapper.under) (rw c.frames_of.ensures.same c.frames_of.ensures.pages)
+    (looks_searched {kept = runs_of f.swapper.layout.sectors f.runs} {runs = runs_of f.swapper.layout.sectors c.next_file.new.self.runs} f.swapper.accepted (rw c.frames_of.ensures.same c.requires.size) (g.met.D.Disk.whole f.swapper.disk) (g.met.D.Disk.in_form f.swapper.disk) (rw c.frames_of.ensures.same c.frames_of.ensures.pages)
     found.beside found.same_bytes (λ r one. inl (subst (IsOneOf r) kept one)) (λ m named stands map are. subst (AreOf named) (sym kept) are))
 
 -- ---- What it keeps to, and the reasons of its halts.

@@ -7,13 +7,13 @@ pub returns-in-Err-clause-sound : goal.returns-in-Err-clause-sound
 returns-in-Err-clause-sound g c = λ m stands free ones. (rw (c.swapper_over-swapper.ensures.value) at c.in-Err.ensures.sound) m stands free ones
 
 pub returns-in-Err-clause-counted : goal.returns-in-Err-clause-counted
-returns-in-Err-clause-counted g c = counted _ _ (g.D.Disk.state c.args.filer.now.swapper.under) (g.D.Disk.state c.free_pages_up.new.swapper.under) _ (omega arith) (rw (c.swapper_over-swapper.ensures.value) at c.in-Err.ensures.cause)
+returns-in-Err-clause-counted g c = counted _ _ (g.D.Disk.state c.args.filer.now.swapper.disk) (g.D.Disk.state c.free_pages_up.new.swapper.disk) _ (omega arith) (rw (c.swapper_over-swapper.ensures.value) at c.in-Err.ensures.cause)
 
-pub returns-in-Err-clause-so : goal.returns-in-Err-clause-so
-returns-in-Err-clause-so g c =
-    let new = g.D.Disk.state c.free_pages_up.new.swapper.under in
+pub returns-in-Err-clause-evidence_seen : goal.returns-in-Err-clause-evidence_seen
+returns-in-Err-clause-evidence_seen g c =
+    let new = g.D.Disk.state c.free_pages_up.new.swapper.disk in
     let size = (rw c.swapper_over-swapper.ensures.value at c.in-Err.ensures.stopped).makes.went.sectors ∙ c.requires.size in
-    so_of_run c.args.filer.now.swapper.layout new c.args.filer.now.swapper.accepted size c.args.run c.requires.data c.requires.form (g.D.Disk.state c.args.filer.now.swapper.under) new c.in-Err.halt (rw c.swapper_over-swapper.ensures.value at c.in-Err.ensures.so)
+    so_of_run c.args.filer.now.swapper.layout new c.args.filer.now.swapper.accepted size c.args.run c.requires.data c.requires.form (g.D.Disk.state c.args.filer.now.swapper.disk) new c.in-Err.halt (rw c.swapper_over-swapper.ensures.value at c.in-Err.ensures.evidence_seen)
 
 pub returns-in-Err-clause-cause : goal.returns-in-Err-clause-cause
 returns-in-Err-clause-cause g c = rw c.swapper_over-swapper.ensures.value at c.in-Err.ensures.cause

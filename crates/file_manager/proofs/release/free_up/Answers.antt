@@ -15,7 +15,7 @@ loop-page-init g c = to_none _ _ _ _ _ _ _ c.requires.order c.requires.size
 pub loop-page-preserved : goal.loop-page-preserved
 loop-page-preserved g c =
     let below : c.loop-page.page < c.args.end = search rules in
-    to_then c.loop-page.invariant below c.in-Ok.ensures.some c.in-Ok.ensures.layout c.in-Ok.ensures.spent c.in-Ok.ensures.makes c.in-Ok.ensures.keeps c.in-Ok.ensures.freed c.in-Ok.ensures.own c.in-Ok.ensures.keeps_to c.in-Ok.ensures.let_go
+    to_then c.loop-page.invariant below c.in-Ok.ensures.some c.in-Ok.ensures.layout c.in-Ok.ensures.spent c.in-Ok.ensures.makes c.in-Ok.ensures.keeps c.in-Ok.ensures.freed c.in-Ok.ensures.own c.in-Ok.ensures.keeps_to c.in-Ok.ensures.evict
 
 pub returns-in-Err-clause-sound : goal.returns-in-Err-clause-sound
 returns-in-Err-clause-sound g c = λ named spaces m may.
@@ -29,7 +29,7 @@ returns-in-Err-clause-stopped g c = stops_then c.loop-page.invariant.makes c.in-
 pub returns-in-Err-clause-cost : goal.returns-in-Err-clause-cost
 returns-in-Err-clause-cost g c =
     let below : c.loop-page.page < c.args.end = search rules in
-    to_stopped_cost c.loop-page.invariant (g.D.Disk.state c.free_run.new.filer.swapper.under) below c.in-Err.ensures.cost
+    to_stopped_cost c.loop-page.invariant (g.D.Disk.state c.free_run.new.filer.swapper.disk) below c.in-Err.ensures.cost
 
 pub returns-clause-freed : goal.returns-clause-freed
 returns-clause-freed g c =
@@ -58,7 +58,7 @@ returns-in-Err-clause-counted g c = counted_then _ _ _ c.loop-page.invariant.mak
 pub returns-in-Err-clause-cause : goal.returns-in-Err-clause-cause
 returns-in-Err-clause-cause g c =
     let below : c.loop-page.page < c.args.end = search rules in
-    to_halts c.loop-page.invariant c.requires.size below (g.D.Disk.state c.free_run.new.filer.swapper.under) c.in-Err.halt c.in-Err.ensures.cause
+    to_halts c.loop-page.invariant c.requires.size below (g.D.Disk.state c.free_run.new.filer.swapper.disk) c.in-Err.halt c.in-Err.ensures.cause
 
 pub returns-clause-keeps : goal.returns-clause-keeps
 returns-clause-keeps g c = c.loop-page.invariant.keeps
@@ -69,28 +69,28 @@ returns-in-Err-clause-own g c = own_after c.loop-page.invariant.own (some_own c.
 pub returns-clause-own : goal.returns-clause-own
 returns-clause-own g c = relabels_own c.loop-page.invariant.own
 
-pub returns-in-Err-clause-so : goal.returns-in-Err-clause-so
-returns-in-Err-clause-so g c = λ there.
+pub returns-in-Err-clause-evidence_seen : goal.returns-in-Err-clause-evidence_seen
+returns-in-Err-clause-evidence_seen g c = λ there.
     let below : c.loop-page.page < c.args.end = search rules in
-    c.in-Err.ensures.so (there c.loop-page.page below)
+    c.in-Err.ensures.evidence_seen (there c.loop-page.page below)
 
 pub returns-in-Err-clause-reasons : goal.returns-in-Err-clause-reasons
-returns-in-Err-clause-reasons g c = λ o named h spares there.
+returns-in-Err-clause-reasons g c = λ o named h never_blames there.
     let below : c.loop-page.page < c.args.end = search rules in
     let inv = c.loop-page.invariant in
-    subst (λ (l : Layout). ShowsReason o l (g.D.Disk.state c.free_run.new.filer.swapper.under) c.in-Err.halt) inv.same_layout (c.in-Err.ensures.reasons o named (inv.keeps_to o named h spares) spares (there c.loop-page.page below))
+    subst (λ (l : Layout). ShowsReason o l (g.D.Disk.state c.free_run.new.filer.swapper.disk) c.in-Err.halt) inv.same_layout (c.in-Err.ensures.reasons o named (inv.keeps_to o named h never_blames) never_blames (there c.loop-page.page below))
 
-pub returns-clause-let_go : goal.returns-clause-let_go
-returns-clause-let_go g c = λ o named h spares page sector own is.
+pub returns-clause-evict : goal.returns-clause-evict
+returns-clause-evict g c = λ o named h never_blames page sector own is.
     let all : c.loop-page.page ≡ c.args.end = search rules in
     let last = own.1 in
-    c.loop-page.invariant.let_go o named h spares page sector (own.0, omega (arith, last, all)) is
+    c.loop-page.invariant.evict o named h never_blames page sector (own.0, omega (arith, last, all)) is
 
 pub returns-clause-keeps_to : goal.returns-clause-keeps_to
 returns-clause-keeps_to g c = c.loop-page.invariant.keeps_to
 
 pub returns-in-Err-clause-right : goal.returns-in-Err-clause-right
-returns-in-Err-clause-right g c = λ o named h spares there.
+returns-in-Err-clause-right g c = λ o named h never_blames there.
     let below : c.loop-page.page < c.args.end = search rules in
     let at = there c.loop-page.page below in
-    c.in-Err.ensures.right o named at.0 (c.loop-page.invariant.keeps_to o named h spares) at.1
+    c.in-Err.ensures.right o named at.0 (c.loop-page.invariant.keeps_to o named h never_blames) at.1

@@ -5,7 +5,7 @@ use Rattle.file_manager.proofs.FreedRun.{run_part}
 use Rattle.file_manager.proofs.Faults.{counted, no_fault}
 use Rattle.filer_kernel.specs.EvidenceLaws.{fits, so_of_map}
 use Rattle.filer_kernel.specs.Cached.{runs_of}
-use Rattle.file_manager.proofs.Keeping.{keeps_none, keeps_read, search_halts_behind}
+use Rattle.file_manager.proofs.Keeping.{keeps_none, keeps_read, search_halts_after}
 use Rattle.file_manager.proofs.RunCauses.{part_homes}
 use Rattle.std.specs.Prelude.{IfSome}
 use Rattle.file_map.specs.declared.run.Run.{Run}
@@ -14,7 +14,7 @@ use Rattle.filer_kernel.specs.Causes.{IsGiven}
 use Rattle.file_manager.specs.Grounds.{IsUnframed}
 use Rattle.file_manager.specs.ReasonLaws.{map_reasons, lack_reason}
 use Rattle.file_manager.proofs.FreedReasons.{found_keeps}
-use Rattle.file_manager.proofs.LackLemmas.{search_lacks_none}
+use Rattle.file_manager.proofs.LackLemmas.{search_misses_none}
 use Rattle.file_manager.proofs.release.part_of.Goals as goal
 
 pub returns-in-Ok-Some-clause-named : goal.returns-in-Ok-Some-clause-named
@@ -35,22 +35,22 @@ pub returns-in-Ok-None-clause-counted : goal.returns-in-Ok-None-clause-counted
 returns-in-Ok-None-clause-counted g c = no_fault
 
 pub returns-in-Err-clause-counted : goal.returns-in-Err-clause-counted
-returns-in-Err-clause-counted g c = counted _ _ (g.D.Disk.state c.args.filer.now.swapper.under) (g.D.Disk.state c.find.new.self.swapper.under) _ (omega arith) c.in-Err.ensures.cause
+returns-in-Err-clause-counted g c = counted _ _ (g.D.Disk.state c.args.filer.now.swapper.disk) (g.D.Disk.state c.find.new.self.swapper.disk) _ (omega arith) c.in-Err.ensures.cause
 
-pub returns-in-Err-clause-so : goal.returns-in-Err-clause-so
-returns-in-Err-clause-so g c = λ of_file. so_of_map (fits c.args.filer.now.swapper c.requires.size) c.find.ensures.beside.goes.makes c.in-Err.halt c.in-Err.ensures.cause
+pub returns-in-Err-clause-evidence_seen : goal.returns-in-Err-clause-evidence_seen
+returns-in-Err-clause-evidence_seen g c = λ of_file. so_of_map (fits c.args.filer.now.swapper c.requires.size) c.find.ensures.beside.goes.makes c.in-Err.halt c.in-Err.ensures.cause
 
-pub returns-in-Ok-None-clause-so : goal.returns-in-Ok-None-clause-so
-returns-in-Ok-None-clause-so g c = λ of_file. of_file
+pub returns-in-Ok-None-clause-evidence_seen : goal.returns-in-Ok-None-clause-evidence_seen
+returns-in-Ok-None-clause-evidence_seen g c = λ of_file. of_file
 
 pub returns-in-Err-clause-cause : goal.returns-in-Err-clause-cause
 returns-in-Err-clause-cause g c =
     let layout = c.args.filer.now.swapper.layout in
-    let old = g.D.Disk.state c.args.filer.now.swapper.under in
+    let old = g.D.Disk.state c.args.filer.now.swapper.disk in
     let pool = c.args.filer.now.swapper.pool in
     let kept = runs_of layout.sectors c.args.filer.now.runs in
-    let new = g.D.Disk.state c.find.new.self.swapper.under in
-    search_halts_behind (keeps_none (IsUnframed pool c.args.id) layout c.args.id old pool kept (λ none. none)) (λ p. p ≡ c.args.page) new c.in-Err.halt c.in-Err.ensures.cause
+    let new = g.D.Disk.state c.find.new.self.swapper.disk in
+    search_halts_after (keeps_none (IsUnframed pool c.args.id) layout c.args.id old pool kept (λ none. none)) (λ p. p ≡ c.args.page) new c.in-Err.halt c.in-Err.ensures.cause
 
 pub returns-in-Ok-None-clause-cause : goal.returns-in-Ok-None-clause-cause
 returns-in-Ok-None-clause-cause g c = (refl, refl, λ none m named stands map. c.find.ensures.nowhere m named stands map (search rules))
@@ -58,7 +58,7 @@ returns-in-Ok-None-clause-cause g c = (refl, refl, λ none m named stands map. c
 pub returns-in-Ok-Some-clause-homes : goal.returns-in-Ok-Some-clause-homes
 returns-in-Ok-Some-clause-homes g c =
     let layout = c.args.filer.now.swapper.layout in
-    let old = g.D.Disk.state c.args.filer.now.swapper.under in
+    let old = g.D.Disk.state c.args.filer.now.swapper.disk in
     let pool = c.args.filer.now.swapper.pool in
     let kept = runs_of layout.sectors c.args.filer.now.runs in
     let is_given = subst (λ (o : Option Run). IfSome o (λ run. IsGiven layout old pool kept run)) c.in-Ok-Some.field-0-is c.in-Ok-Some.ensures.given in
@@ -88,7 +88,7 @@ returns-in-Ok-None-clause-reasons g c = λ o named h may. lack_reason h c.find.e
 pub returns-in-Err-clause-right : goal.returns-in-Err-clause-right
 returns-in-Err-clause-right g c = λ o named sector h is.
     let filer = c.args.filer.now in
-    search_lacks_none filer.swapper.layout (g.D.Disk.state filer.swapper.under) filer.swapper.pool (g.D.Disk.state c.find.new.self.swapper.under) c.in-Err.halt c.in-Err.ensures.cause
+    search_misses_none filer.swapper.layout (g.D.Disk.state filer.swapper.disk) filer.swapper.pool (g.D.Disk.state c.find.new.self.swapper.disk) c.in-Err.halt c.in-Err.ensures.cause
 
 pub returns-in-Ok-None-clause-right : goal.returns-in-Ok-None-clause-right
 returns-in-Ok-None-clause-right g c = λ o named sector h is.

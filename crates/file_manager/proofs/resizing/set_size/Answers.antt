@@ -10,11 +10,11 @@ use Rattle.file_manager.specs.Finding.{IsFoundFile, shape_of_leader}
 use Rattle.file_manager.proofs.CountedLemmas.{of_answer, rose_after}
 use Rattle.file_manager.proofs.Faults.{counted, counted_then, no_fault}
 use Rattle.file_manager.proofs.NextLemmas.{file_id}
-use Rattle.file_manager.proofs.SizeSteps.{shape_is, may_grow_now, may_shrink_now, grown_told, shrunk_told, grew_told, some_told, grew_none, some_none, grown_makes, grown_stops, shrunk_makes, shrunk_stops, none_resized, room_grown, room_shrunk, grow_cost, shrink_cost}
+use Rattle.file_manager.proofs.SizeSteps.{shape_is, may_grow_now, may_shrink_now, grown_revealed, shrunk_revealed, grew_revealed, some_revealed, grew_none, some_none, grown_makes, grown_stops, shrunk_makes, shrunk_stops, none_resized, room_grown, room_shrunk, grow_cost, shrink_cost}
 use Rattle.file_manager.proofs.ResizeStops.{above_size, resize_of_file, resize_of_make, resize_of_shrink}
 use Rattle.file_manager.proofs.MakeStops.{LeavesUnnamed, make_halts_before}
 use Rattle.file_manager.specs.Taking.{no_page_of}
-use Rattle.file_manager.proofs.CutCauses.{shrink_halts_behind}
+use Rattle.file_manager.proofs.CutCauses.{shrink_halts_after}
 use Rattle.filer_kernel.specs.Cached.{runs_of}
 use Rattle.label_calls.specs.OwnLaws.{relabels_own, quiet_own}
 use Rattle.file_manager.proofs.OwnSteps.{grown_own, grew_own, freed_own, some_own, own_after}
@@ -34,32 +34,32 @@ find_file-requires-clause-client g c = file_id c.args.id c.requires.of_file
 
 pub returns-in-Ok-None-clause-sound_grown : goal.returns-in-Ok-None-clause-sound_grown
 returns-in-Ok-None-clause-sound_grown g c = λ x shapes spaces f may few.
-    let none = subst (IsFoundFile (labels_of x) shapes c.args.id) c.in-Ok-None.field-0-is (c.in-Ok-None.ensures.told x shapes spaces may.books) in
+    let none = subst (IsFoundFile (labels_of x) shapes c.args.id) c.in-Ok-None.field-0-is (c.in-Ok-None.ensures.revealed x shapes spaces may.books) in
     absurd (none-some f (sym none ∙ may.found))
 
 pub returns-in-Ok-None-clause-sound_shrunk : goal.returns-in-Ok-None-clause-sound_shrunk
 returns-in-Ok-None-clause-sound_shrunk g c = λ x shapes spaces f may.
-    let none = subst (IsFoundFile (labels_of x) shapes c.args.id) c.in-Ok-None.field-0-is (c.in-Ok-None.ensures.told x shapes spaces may.books) in
+    let none = subst (IsFoundFile (labels_of x) shapes c.args.id) c.in-Ok-None.field-0-is (c.in-Ok-None.ensures.revealed x shapes spaces may.books) in
     absurd (none-some f (sym none ∙ may.found))
 
 pub returns-in-Ok-None-clause-broken_grown : goal.returns-in-Ok-None-clause-broken_grown
 returns-in-Ok-None-clause-broken_grown g c = λ x shapes spaces f may few.
-    let none = subst (IsFoundFile (labels_of x) shapes c.args.id) c.in-Ok-None.field-0-is (c.in-Ok-None.ensures.told x shapes spaces may.books) in
+    let none = subst (IsFoundFile (labels_of x) shapes c.args.id) c.in-Ok-None.field-0-is (c.in-Ok-None.ensures.revealed x shapes spaces may.books) in
     absurd (none-some f (sym none ∙ may.found))
 
 pub returns-in-Ok-None-clause-broken_shrunk : goal.returns-in-Ok-None-clause-broken_shrunk
 returns-in-Ok-None-clause-broken_shrunk g c = λ x shapes spaces f may.
-    let none = subst (IsFoundFile (labels_of x) shapes c.args.id) c.in-Ok-None.field-0-is (c.in-Ok-None.ensures.told x shapes spaces may.books) in
+    let none = subst (IsFoundFile (labels_of x) shapes c.args.id) c.in-Ok-None.field-0-is (c.in-Ok-None.ensures.revealed x shapes spaces may.books) in
     absurd (none-some f (sym none ∙ may.found))
 
 pub returns-in-Ok-None-clause-stopped : goal.returns-in-Ok-None-clause-stopped
 returns-in-Ok-None-clause-stopped g c = none_resized c.args.id c.args.pages c.find_file.ensures.makes
 
 pub returns-in-Err-clause-sound_grown : goal.returns-in-Err-clause-sound_grown
-returns-in-Err-clause-sound_grown g c = λ x shapes spaces f may few. c.in-Err.ensures.told x shapes spaces may.books
+returns-in-Err-clause-sound_grown g c = λ x shapes spaces f may few. c.in-Err.ensures.revealed x shapes spaces may.books
 
 pub returns-in-Err-clause-sound_shrunk : goal.returns-in-Err-clause-sound_shrunk
-returns-in-Err-clause-sound_shrunk g c = λ x shapes spaces f may. c.in-Err.ensures.told x shapes spaces may.books
+returns-in-Err-clause-sound_shrunk g c = λ x shapes spaces f may. c.in-Err.ensures.revealed x shapes spaces may.books
 
 pub returns-in-Err-clause-broken_grown : goal.returns-in-Err-clause-broken_grown
 returns-in-Err-clause-broken_grown g c = λ x shapes spaces f may few. grew_none c.find_file.ensures.makes
@@ -72,16 +72,16 @@ returns-in-Err-clause-stopped g c = none_resized c.args.id c.args.pages c.find_f
 
 pub returns-in-Ok-clause-grown : goal.returns-in-Ok-clause-grown
 returns-in-Ok-clause-grown g c = λ x shapes spaces f may few.
-    let told = subst (IsFoundFile (labels_of x) shapes c.args.id) c.in-Ok-Some.field-0-is (c.in-Ok-Some.ensures.told x shapes spaces may.books) in
-    let same : f ≡ shape_of_leader c.in-Ok-Some.file.leader c.in-Ok-Some.file.pages = shape_is shapes c.args.id f c.in-Ok-Some.file.leader c.in-Ok-Some.file.pages may.found told.1 in
+    let revealed = subst (IsFoundFile (labels_of x) shapes c.args.id) c.in-Ok-Some.field-0-is (c.in-Ok-Some.ensures.revealed x shapes spaces may.books) in
+    let same : f ≡ shape_of_leader c.in-Ok-Some.file.leader c.in-Ok-Some.file.pages = shape_is shapes c.args.id f c.in-Ok-Some.file.leader c.in-Ok-Some.file.pages may.found revealed.1 in
     let now = c.find_file.ensures.same x shapes spaces may.books in
-    grown_told may.books now c.find_file.ensures.makes c.find_file.ensures.brings f c.in-Ok-Some.file.leader c.in-Ok-Some.file.pages same c.args.id c.args.pages
+    grown_revealed may.books now c.find_file.ensures.makes c.find_file.ensures.brings f c.in-Ok-Some.file.leader c.in-Ok-Some.file.pages same c.args.id c.args.pages
     ((rw c.find_file.ensures.layout at c.in-Ok.ensures.grown) x shapes spaces f (may_grow_now may.books now may) (ap (λ (w : Shape). w.size) same))
 
 pub returns-in-Ok-clause-shrunk : goal.returns-in-Ok-clause-shrunk
 returns-in-Ok-clause-shrunk g c = λ x shapes spaces f may.
-    let told = subst (IsFoundFile (labels_of x) shapes c.args.id) c.in-Ok-Some.field-0-is (c.in-Ok-Some.ensures.told x shapes spaces may.books) in
-    let same : f ≡ shape_of_leader c.in-Ok-Some.file.leader c.in-Ok-Some.file.pages = shape_is shapes c.args.id f c.in-Ok-Some.file.leader c.in-Ok-Some.file.pages may.found told.1 in
+    let revealed = subst (IsFoundFile (labels_of x) shapes c.args.id) c.in-Ok-Some.field-0-is (c.in-Ok-Some.ensures.revealed x shapes spaces may.books) in
+    let same : f ≡ shape_of_leader c.in-Ok-Some.file.leader c.in-Ok-Some.file.pages = shape_is shapes c.args.id f c.in-Ok-Some.file.leader c.in-Ok-Some.file.pages may.found revealed.1 in
     let now = c.find_file.ensures.same x shapes spaces may.books in
     let here : c.in-Ok-Some.file.pages ≤ c.args.pages = search rules in
     let size = ap (λ (w : Shape). w.size) same in
@@ -90,15 +90,15 @@ returns-in-Ok-clause-shrunk g c = λ x shapes spaces f may.
 
 pub returns-in-Ok-clause-used_grown : goal.returns-in-Ok-clause-used_grown
 returns-in-Ok-clause-used_grown g c = λ x shapes spaces f may few.
-    let told = subst (IsFoundFile (labels_of x) shapes c.args.id) c.in-Ok-Some.field-0-is (c.in-Ok-Some.ensures.told x shapes spaces may.books) in
-    let same : f ≡ shape_of_leader c.in-Ok-Some.file.leader c.in-Ok-Some.file.pages = shape_is shapes c.args.id f c.in-Ok-Some.file.leader c.in-Ok-Some.file.pages may.found told.1 in
+    let revealed = subst (IsFoundFile (labels_of x) shapes c.args.id) c.in-Ok-Some.field-0-is (c.in-Ok-Some.ensures.revealed x shapes spaces may.books) in
+    let same : f ≡ shape_of_leader c.in-Ok-Some.file.leader c.in-Ok-Some.file.pages = shape_is shapes c.args.id f c.in-Ok-Some.file.leader c.in-Ok-Some.file.pages may.found revealed.1 in
     let now = c.find_file.ensures.same x shapes spaces may.books in
     rw (ap (λ (w : Shape). w.size) same) c.in-Ok.ensures.used
 
 pub returns-in-Ok-clause-used_shrunk : goal.returns-in-Ok-clause-used_shrunk
 returns-in-Ok-clause-used_shrunk g c = λ x shapes spaces f may.
-    let told = subst (IsFoundFile (labels_of x) shapes c.args.id) c.in-Ok-Some.field-0-is (c.in-Ok-Some.ensures.told x shapes spaces may.books) in
-    let same : f ≡ shape_of_leader c.in-Ok-Some.file.leader c.in-Ok-Some.file.pages = shape_is shapes c.args.id f c.in-Ok-Some.file.leader c.in-Ok-Some.file.pages may.found told.1 in
+    let revealed = subst (IsFoundFile (labels_of x) shapes c.args.id) c.in-Ok-Some.field-0-is (c.in-Ok-Some.ensures.revealed x shapes spaces may.books) in
+    let same : f ≡ shape_of_leader c.in-Ok-Some.file.leader c.in-Ok-Some.file.pages = shape_is shapes c.args.id f c.in-Ok-Some.file.leader c.in-Ok-Some.file.pages may.found revealed.1 in
     let now = c.find_file.ensures.same x shapes spaces may.books in
     let here : c.in-Ok-Some.file.pages ≤ c.args.pages = search rules in
     let size = ap (λ (w : Shape). w.size) same in
@@ -110,15 +110,15 @@ returns-in-Ok-clause-makes g c = let here : c.in-Ok-Some.file.pages ≤ c.args.p
 
 pub returns-in-Err-grow-clause-sound_grown : goal.returns-in-Err-grow-clause-sound_grown
 returns-in-Err-grow-clause-sound_grown g c = λ x shapes spaces f may few.
-    let told = subst (IsFoundFile (labels_of x) shapes c.args.id) c.in-Ok-Some.field-0-is (c.in-Ok-Some.ensures.told x shapes spaces may.books) in
-    let same : f ≡ shape_of_leader c.in-Ok-Some.file.leader c.in-Ok-Some.file.pages = shape_is shapes c.args.id f c.in-Ok-Some.file.leader c.in-Ok-Some.file.pages may.found told.1 in
+    let revealed = subst (IsFoundFile (labels_of x) shapes c.args.id) c.in-Ok-Some.field-0-is (c.in-Ok-Some.ensures.revealed x shapes spaces may.books) in
+    let same : f ≡ shape_of_leader c.in-Ok-Some.file.leader c.in-Ok-Some.file.pages = shape_is shapes c.args.id f c.in-Ok-Some.file.leader c.in-Ok-Some.file.pages may.found revealed.1 in
     let now = c.find_file.ensures.same x shapes spaces may.books in
     (rw c.find_file.ensures.layout at c.in-Err-grow.ensures.sound) x shapes spaces f (may_grow_now may.books now may) (ap (λ (w : Shape). w.size) same)
 
 pub returns-in-Err-grow-clause-sound_shrunk : goal.returns-in-Err-grow-clause-sound_shrunk
 returns-in-Err-grow-clause-sound_shrunk g c = λ x shapes spaces f may.
-    let told = subst (IsFoundFile (labels_of x) shapes c.args.id) c.in-Ok-Some.field-0-is (c.in-Ok-Some.ensures.told x shapes spaces may.books) in
-    let same : f ≡ shape_of_leader c.in-Ok-Some.file.leader c.in-Ok-Some.file.pages = shape_is shapes c.args.id f c.in-Ok-Some.file.leader c.in-Ok-Some.file.pages may.found told.1 in
+    let revealed = subst (IsFoundFile (labels_of x) shapes c.args.id) c.in-Ok-Some.field-0-is (c.in-Ok-Some.ensures.revealed x shapes spaces may.books) in
+    let same : f ≡ shape_of_leader c.in-Ok-Some.file.leader c.in-Ok-Some.file.pages = shape_is shapes c.args.id f c.in-Ok-Some.file.leader c.in-Ok-Some.file.pages may.found revealed.1 in
     let now = c.find_file.ensures.same x shapes spaces may.books in
     let here : c.in-Ok-Some.file.pages ≤ c.args.pages = search rules in
     let size = ap (λ (w : Shape). w.size) same in
@@ -127,16 +127,16 @@ returns-in-Err-grow-clause-sound_shrunk g c = λ x shapes spaces f may.
 
 pub returns-in-Err-grow-clause-broken_grown : goal.returns-in-Err-grow-clause-broken_grown
 returns-in-Err-grow-clause-broken_grown g c = λ x shapes spaces f may few.
-    let told = subst (IsFoundFile (labels_of x) shapes c.args.id) c.in-Ok-Some.field-0-is (c.in-Ok-Some.ensures.told x shapes spaces may.books) in
-    let same : f ≡ shape_of_leader c.in-Ok-Some.file.leader c.in-Ok-Some.file.pages = shape_is shapes c.args.id f c.in-Ok-Some.file.leader c.in-Ok-Some.file.pages may.found told.1 in
+    let revealed = subst (IsFoundFile (labels_of x) shapes c.args.id) c.in-Ok-Some.field-0-is (c.in-Ok-Some.ensures.revealed x shapes spaces may.books) in
+    let same : f ≡ shape_of_leader c.in-Ok-Some.file.leader c.in-Ok-Some.file.pages = shape_is shapes c.args.id f c.in-Ok-Some.file.leader c.in-Ok-Some.file.pages may.found revealed.1 in
     let now = c.find_file.ensures.same x shapes spaces may.books in
-    grew_told c.find_file.ensures.makes f c.in-Ok-Some.file.leader c.in-Ok-Some.file.pages same c.args.id c.args.pages
+    grew_revealed c.find_file.ensures.makes f c.in-Ok-Some.file.leader c.in-Ok-Some.file.pages same c.args.id c.args.pages
     ((rw c.find_file.ensures.layout at c.in-Err-grow.ensures.broken) x shapes spaces f (may_grow_now may.books now may) (ap (λ (w : Shape). w.size) same))
 
 pub returns-in-Err-grow-clause-broken_shrunk : goal.returns-in-Err-grow-clause-broken_shrunk
 returns-in-Err-grow-clause-broken_shrunk g c = λ x shapes spaces f may.
-    let told = subst (IsFoundFile (labels_of x) shapes c.args.id) c.in-Ok-Some.field-0-is (c.in-Ok-Some.ensures.told x shapes spaces may.books) in
-    let same : f ≡ shape_of_leader c.in-Ok-Some.file.leader c.in-Ok-Some.file.pages = shape_is shapes c.args.id f c.in-Ok-Some.file.leader c.in-Ok-Some.file.pages may.found told.1 in
+    let revealed = subst (IsFoundFile (labels_of x) shapes c.args.id) c.in-Ok-Some.field-0-is (c.in-Ok-Some.ensures.revealed x shapes spaces may.books) in
+    let same : f ≡ shape_of_leader c.in-Ok-Some.file.leader c.in-Ok-Some.file.pages = shape_is shapes c.args.id f c.in-Ok-Some.file.leader c.in-Ok-Some.file.pages may.found revealed.1 in
     let now = c.find_file.ensures.same x shapes spaces may.books in
     let here : c.in-Ok-Some.file.pages ≤ c.args.pages = search rules in
     let size = ap (λ (w : Shape). w.size) same in
@@ -148,16 +148,16 @@ returns-in-Err-grow-clause-stopped g c = grown_stops c.find_file.ensures.makes c
 
 pub returns-in-Ok-shrink-clause-shrunk : goal.returns-in-Ok-shrink-clause-shrunk
 returns-in-Ok-shrink-clause-shrunk g c = λ x shapes spaces f may.
-    let told = subst (IsFoundFile (labels_of x) shapes c.args.id) c.in-Ok-Some.field-0-is (c.in-Ok-Some.ensures.told x shapes spaces may.books) in
-    let same : f ≡ shape_of_leader c.in-Ok-Some.file.leader c.in-Ok-Some.file.pages = shape_is shapes c.args.id f c.in-Ok-Some.file.leader c.in-Ok-Some.file.pages may.found told.1 in
+    let revealed = subst (IsFoundFile (labels_of x) shapes c.args.id) c.in-Ok-Some.field-0-is (c.in-Ok-Some.ensures.revealed x shapes spaces may.books) in
+    let same : f ≡ shape_of_leader c.in-Ok-Some.file.leader c.in-Ok-Some.file.pages = shape_is shapes c.args.id f c.in-Ok-Some.file.leader c.in-Ok-Some.file.pages may.found revealed.1 in
     let now = c.find_file.ensures.same x shapes spaces may.books in
-    shrunk_told may.books now c.find_file.ensures.makes c.find_file.ensures.brings f c.in-Ok-Some.file.leader c.in-Ok-Some.file.pages same c.args.id c.args.pages
-    ((rw c.find_file.ensures.layout at c.in-Ok-shrink.ensures.shrunk) x shapes spaces f (may_shrink_now may.books now may) (ap (λ (w : Shape). w.size) same) told.0)
+    shrunk_revealed may.books now c.find_file.ensures.makes c.find_file.ensures.brings f c.in-Ok-Some.file.leader c.in-Ok-Some.file.pages same c.args.id c.args.pages
+    ((rw c.find_file.ensures.layout at c.in-Ok-shrink.ensures.shrunk) x shapes spaces f (may_shrink_now may.books now may) (ap (λ (w : Shape). w.size) same) revealed.0)
 
 pub returns-in-Ok-shrink-clause-grown : goal.returns-in-Ok-shrink-clause-grown
 returns-in-Ok-shrink-clause-grown g c = λ x shapes spaces f may few.
-    let told = subst (IsFoundFile (labels_of x) shapes c.args.id) c.in-Ok-Some.field-0-is (c.in-Ok-Some.ensures.told x shapes spaces may.books) in
-    let same : f ≡ shape_of_leader c.in-Ok-Some.file.leader c.in-Ok-Some.file.pages = shape_is shapes c.args.id f c.in-Ok-Some.file.leader c.in-Ok-Some.file.pages may.found told.1 in
+    let revealed = subst (IsFoundFile (labels_of x) shapes c.args.id) c.in-Ok-Some.field-0-is (c.in-Ok-Some.ensures.revealed x shapes spaces may.books) in
+    let same : f ≡ shape_of_leader c.in-Ok-Some.file.leader c.in-Ok-Some.file.pages = shape_is shapes c.args.id f c.in-Ok-Some.file.leader c.in-Ok-Some.file.pages may.found revealed.1 in
     let now = c.find_file.ensures.same x shapes spaces may.books in
     let here : c.args.pages < c.in-Ok-Some.file.pages = search rules in
     let size = ap (λ (w : Shape). w.size) same in
@@ -165,15 +165,15 @@ returns-in-Ok-shrink-clause-grown g c = λ x shapes spaces f may few.
 
 pub returns-in-Ok-shrink-clause-used_shrunk : goal.returns-in-Ok-shrink-clause-used_shrunk
 returns-in-Ok-shrink-clause-used_shrunk g c = λ x shapes spaces f may.
-    let told = subst (IsFoundFile (labels_of x) shapes c.args.id) c.in-Ok-Some.field-0-is (c.in-Ok-Some.ensures.told x shapes spaces may.books) in
-    let same : f ≡ shape_of_leader c.in-Ok-Some.file.leader c.in-Ok-Some.file.pages = shape_is shapes c.args.id f c.in-Ok-Some.file.leader c.in-Ok-Some.file.pages may.found told.1 in
+    let revealed = subst (IsFoundFile (labels_of x) shapes c.args.id) c.in-Ok-Some.field-0-is (c.in-Ok-Some.ensures.revealed x shapes spaces may.books) in
+    let same : f ≡ shape_of_leader c.in-Ok-Some.file.leader c.in-Ok-Some.file.pages = shape_is shapes c.args.id f c.in-Ok-Some.file.leader c.in-Ok-Some.file.pages may.found revealed.1 in
     let now = c.find_file.ensures.same x shapes spaces may.books in
     rw (ap (λ (w : Shape). w.size) same) c.in-Ok-shrink.ensures.used
 
 pub returns-in-Ok-shrink-clause-used_grown : goal.returns-in-Ok-shrink-clause-used_grown
 returns-in-Ok-shrink-clause-used_grown g c = λ x shapes spaces f may few.
-    let told = subst (IsFoundFile (labels_of x) shapes c.args.id) c.in-Ok-Some.field-0-is (c.in-Ok-Some.ensures.told x shapes spaces may.books) in
-    let same : f ≡ shape_of_leader c.in-Ok-Some.file.leader c.in-Ok-Some.file.pages = shape_is shapes c.args.id f c.in-Ok-Some.file.leader c.in-Ok-Some.file.pages may.found told.1 in
+    let revealed = subst (IsFoundFile (labels_of x) shapes c.args.id) c.in-Ok-Some.field-0-is (c.in-Ok-Some.ensures.revealed x shapes spaces may.books) in
+    let same : f ≡ shape_of_leader c.in-Ok-Some.file.leader c.in-Ok-Some.file.pages = shape_is shapes c.args.id f c.in-Ok-Some.file.leader c.in-Ok-Some.file.pages may.found revealed.1 in
     let now = c.find_file.ensures.same x shapes spaces may.books in
     let here : c.args.pages < c.in-Ok-Some.file.pages = search rules in
     let size = ap (λ (w : Shape). w.size) same in
@@ -184,15 +184,15 @@ returns-in-Ok-shrink-clause-makes g c = let here : c.args.pages < c.in-Ok-Some.f
 
 pub returns-in-Err-shrink-clause-sound_shrunk : goal.returns-in-Err-shrink-clause-sound_shrunk
 returns-in-Err-shrink-clause-sound_shrunk g c = λ x shapes spaces f may.
-    let told = subst (IsFoundFile (labels_of x) shapes c.args.id) c.in-Ok-Some.field-0-is (c.in-Ok-Some.ensures.told x shapes spaces may.books) in
-    let same : f ≡ shape_of_leader c.in-Ok-Some.file.leader c.in-Ok-Some.file.pages = shape_is shapes c.args.id f c.in-Ok-Some.file.leader c.in-Ok-Some.file.pages may.found told.1 in
+    let revealed = subst (IsFoundFile (labels_of x) shapes c.args.id) c.in-Ok-Some.field-0-is (c.in-Ok-Some.ensures.revealed x shapes spaces may.books) in
+    let same : f ≡ shape_of_leader c.in-Ok-Some.file.leader c.in-Ok-Some.file.pages = shape_is shapes c.args.id f c.in-Ok-Some.file.leader c.in-Ok-Some.file.pages may.found revealed.1 in
     let now = c.find_file.ensures.same x shapes spaces may.books in
-    (rw c.find_file.ensures.layout at c.in-Err-shrink.ensures.sound) x shapes spaces f (may_shrink_now may.books now may) (ap (λ (w : Shape). w.size) same) told.0
+    (rw c.find_file.ensures.layout at c.in-Err-shrink.ensures.sound) x shapes spaces f (may_shrink_now may.books now may) (ap (λ (w : Shape). w.size) same) revealed.0
 
 pub returns-in-Err-shrink-clause-sound_grown : goal.returns-in-Err-shrink-clause-sound_grown
 returns-in-Err-shrink-clause-sound_grown g c = λ x shapes spaces f may few.
-    let told = subst (IsFoundFile (labels_of x) shapes c.args.id) c.in-Ok-Some.field-0-is (c.in-Ok-Some.ensures.told x shapes spaces may.books) in
-    let same : f ≡ shape_of_leader c.in-Ok-Some.file.leader c.in-Ok-Some.file.pages = shape_is shapes c.args.id f c.in-Ok-Some.file.leader c.in-Ok-Some.file.pages may.found told.1 in
+    let revealed = subst (IsFoundFile (labels_of x) shapes c.args.id) c.in-Ok-Some.field-0-is (c.in-Ok-Some.ensures.revealed x shapes spaces may.books) in
+    let same : f ≡ shape_of_leader c.in-Ok-Some.file.leader c.in-Ok-Some.file.pages = shape_is shapes c.args.id f c.in-Ok-Some.file.leader c.in-Ok-Some.file.pages may.found revealed.1 in
     let now = c.find_file.ensures.same x shapes spaces may.books in
     let here : c.args.pages < c.in-Ok-Some.file.pages = search rules in
     let size = ap (λ (w : Shape). w.size) same in
@@ -200,16 +200,16 @@ returns-in-Err-shrink-clause-sound_grown g c = λ x shapes spaces f may few.
 
 pub returns-in-Err-shrink-clause-broken_shrunk : goal.returns-in-Err-shrink-clause-broken_shrunk
 returns-in-Err-shrink-clause-broken_shrunk g c = λ x shapes spaces f may.
-    let told = subst (IsFoundFile (labels_of x) shapes c.args.id) c.in-Ok-Some.field-0-is (c.in-Ok-Some.ensures.told x shapes spaces may.books) in
-    let same : f ≡ shape_of_leader c.in-Ok-Some.file.leader c.in-Ok-Some.file.pages = shape_is shapes c.args.id f c.in-Ok-Some.file.leader c.in-Ok-Some.file.pages may.found told.1 in
+    let revealed = subst (IsFoundFile (labels_of x) shapes c.args.id) c.in-Ok-Some.field-0-is (c.in-Ok-Some.ensures.revealed x shapes spaces may.books) in
+    let same : f ≡ shape_of_leader c.in-Ok-Some.file.leader c.in-Ok-Some.file.pages = shape_is shapes c.args.id f c.in-Ok-Some.file.leader c.in-Ok-Some.file.pages may.found revealed.1 in
     let now = c.find_file.ensures.same x shapes spaces may.books in
-    some_told c.find_file.ensures.makes f c.in-Ok-Some.file.leader c.in-Ok-Some.file.pages same c.args.id c.args.pages
-    ((rw c.find_file.ensures.layout at c.in-Err-shrink.ensures.broken) x shapes spaces f (may_shrink_now may.books now may) (ap (λ (w : Shape). w.size) same) told.0)
+    some_revealed c.find_file.ensures.makes f c.in-Ok-Some.file.leader c.in-Ok-Some.file.pages same c.args.id c.args.pages
+    ((rw c.find_file.ensures.layout at c.in-Err-shrink.ensures.broken) x shapes spaces f (may_shrink_now may.books now may) (ap (λ (w : Shape). w.size) same) revealed.0)
 
 pub returns-in-Err-shrink-clause-broken_grown : goal.returns-in-Err-shrink-clause-broken_grown
 returns-in-Err-shrink-clause-broken_grown g c = λ x shapes spaces f may few.
-    let told = subst (IsFoundFile (labels_of x) shapes c.args.id) c.in-Ok-Some.field-0-is (c.in-Ok-Some.ensures.told x shapes spaces may.books) in
-    let same : f ≡ shape_of_leader c.in-Ok-Some.file.leader c.in-Ok-Some.file.pages = shape_is shapes c.args.id f c.in-Ok-Some.file.leader c.in-Ok-Some.file.pages may.found told.1 in
+    let revealed = subst (IsFoundFile (labels_of x) shapes c.args.id) c.in-Ok-Some.field-0-is (c.in-Ok-Some.ensures.revealed x shapes spaces may.books) in
+    let same : f ≡ shape_of_leader c.in-Ok-Some.file.leader c.in-Ok-Some.file.pages = shape_is shapes c.args.id f c.in-Ok-Some.file.leader c.in-Ok-Some.file.pages may.found revealed.1 in
     let now = c.find_file.ensures.same x shapes spaces may.books in
     let here : c.args.pages < c.in-Ok-Some.file.pages = search rules in
     let size = ap (λ (w : Shape). w.size) same in
@@ -222,31 +222,31 @@ pub returns-in-Ok-clause-cost : goal.returns-in-Ok-clause-cost
 returns-in-Ok-clause-cost g c =
     let fits = c.ranges.pages.fits in
     let few : c.args.pages - c.in-Ok-Some.file.pages ≤ 4294967295 = omega (arith, fits) in
-    grow_cost (g.D.Disk.state c.args.filer.now.swapper.under).transfers (g.D.Disk.state c.find_file.new.filer.swapper.under).transfers (g.D.Disk.state c.grow.new.filer.swapper.under).transfers (c.args.pages - c.in-Ok-Some.file.pages) 4294967295 c.args.filer.now.swapper.layout.vam (102 * most_records c.args.filer.now.swapper.layout.sectors) few c.find_file.ensures.cost (rw c.find_file.ensures.layout at c.grow.ensures.cost)
+    grow_cost (g.D.Disk.state c.args.filer.now.swapper.disk).transfers (g.D.Disk.state c.find_file.new.filer.swapper.disk).transfers (g.D.Disk.state c.grow.new.filer.swapper.disk).transfers (c.args.pages - c.in-Ok-Some.file.pages) 4294967295 c.args.filer.now.swapper.layout.vam (102 * most_records c.args.filer.now.swapper.layout.sectors) few c.find_file.ensures.cost (rw c.find_file.ensures.layout at c.grow.ensures.cost)
 
 pub returns-in-Err-grow-clause-cost : goal.returns-in-Err-grow-clause-cost
 returns-in-Err-grow-clause-cost g c =
     let fits = c.ranges.pages.fits in
     let few : c.args.pages - c.in-Ok-Some.file.pages ≤ 4294967295 = omega (arith, fits) in
-    grow_cost (g.D.Disk.state c.args.filer.now.swapper.under).transfers (g.D.Disk.state c.find_file.new.filer.swapper.under).transfers (g.D.Disk.state c.grow.new.filer.swapper.under).transfers (c.args.pages - c.in-Ok-Some.file.pages) 4294967295 c.args.filer.now.swapper.layout.vam (102 * most_records c.args.filer.now.swapper.layout.sectors) few c.find_file.ensures.cost (rw c.find_file.ensures.layout at c.grow.ensures.cost)
+    grow_cost (g.D.Disk.state c.args.filer.now.swapper.disk).transfers (g.D.Disk.state c.find_file.new.filer.swapper.disk).transfers (g.D.Disk.state c.grow.new.filer.swapper.disk).transfers (c.args.pages - c.in-Ok-Some.file.pages) 4294967295 c.args.filer.now.swapper.layout.vam (102 * most_records c.args.filer.now.swapper.layout.sectors) few c.find_file.ensures.cost (rw c.find_file.ensures.layout at c.grow.ensures.cost)
 
 pub returns-in-Ok-shrink-clause-cost : goal.returns-in-Ok-shrink-clause-cost
 returns-in-Ok-shrink-clause-cost g c =
     let fits : c.in-Ok-Some.file.pages < 4294967296 = search rules in
     let few : c.in-Ok-Some.file.pages - c.args.pages ≤ 4294967295 = omega (arith, fits) in
-    shrink_cost (g.D.Disk.state c.args.filer.now.swapper.under).transfers (g.D.Disk.state c.find_file.new.filer.swapper.under).transfers (g.D.Disk.state c.shrink.new.filer.swapper.under).transfers (c.in-Ok-Some.file.pages - c.args.pages) 4294967295 c.args.filer.now.swapper.layout.vam (most_records c.args.filer.now.swapper.layout.sectors) few c.find_file.ensures.cost (rw c.find_file.ensures.layout at c.shrink.ensures.cost)
+    shrink_cost (g.D.Disk.state c.args.filer.now.swapper.disk).transfers (g.D.Disk.state c.find_file.new.filer.swapper.disk).transfers (g.D.Disk.state c.shrink.new.filer.swapper.disk).transfers (c.in-Ok-Some.file.pages - c.args.pages) 4294967295 c.args.filer.now.swapper.layout.vam (most_records c.args.filer.now.swapper.layout.sectors) few c.find_file.ensures.cost (rw c.find_file.ensures.layout at c.shrink.ensures.cost)
 
 pub returns-in-Err-shrink-clause-cost : goal.returns-in-Err-shrink-clause-cost
 returns-in-Err-shrink-clause-cost g c =
     let fits : c.in-Ok-Some.file.pages < 4294967296 = search rules in
     let few : c.in-Ok-Some.file.pages - c.args.pages ≤ 4294967295 = omega (arith, fits) in
-    shrink_cost (g.D.Disk.state c.args.filer.now.swapper.under).transfers (g.D.Disk.state c.find_file.new.filer.swapper.under).transfers (g.D.Disk.state c.shrink.new.filer.swapper.under).transfers (c.in-Ok-Some.file.pages - c.args.pages) 4294967295 c.args.filer.now.swapper.layout.vam (most_records c.args.filer.now.swapper.layout.sectors) few c.find_file.ensures.cost (rw c.find_file.ensures.layout at c.shrink.ensures.cost)
+    shrink_cost (g.D.Disk.state c.args.filer.now.swapper.disk).transfers (g.D.Disk.state c.find_file.new.filer.swapper.disk).transfers (g.D.Disk.state c.shrink.new.filer.swapper.disk).transfers (c.in-Ok-Some.file.pages - c.args.pages) 4294967295 c.args.filer.now.swapper.layout.vam (most_records c.args.filer.now.swapper.layout.sectors) few c.find_file.ensures.cost (rw c.find_file.ensures.layout at c.shrink.ensures.cost)
 
 pub returns-in-Ok-None-clause-counted : goal.returns-in-Ok-None-clause-counted
 returns-in-Ok-None-clause-counted g c = no_fault
 
 pub returns-in-Err-clause-counted : goal.returns-in-Err-clause-counted
-returns-in-Err-clause-counted g c = counted _ _ (g.D.Disk.state c.args.filer.now.swapper.under) (g.D.Disk.state c.find_file.new.filer.swapper.under) _ (omega arith) c.in-Err.ensures.cause
+returns-in-Err-clause-counted g c = counted _ _ (g.D.Disk.state c.args.filer.now.swapper.disk) (g.D.Disk.state c.find_file.new.filer.swapper.disk) _ (omega arith) c.in-Err.ensures.cause
 
 pub returns-in-Err-grow-clause-counted : goal.returns-in-Err-grow-clause-counted
 returns-in-Err-grow-clause-counted g c = counted_then _ _ _ c.find_file.ensures.makes.went.faults c.in-Err-grow.ensures.counted
@@ -254,45 +254,45 @@ returns-in-Err-grow-clause-counted g c = counted_then _ _ _ c.find_file.ensures.
 pub returns-in-Err-shrink-clause-counted : goal.returns-in-Err-shrink-clause-counted
 returns-in-Err-shrink-clause-counted g c =
     of_answer c.in-Err-shrink.halt
-    (rose_after (g.D.Disk.state c.args.filer.now.swapper.under) (g.D.Disk.state c.find_file.new.filer.swapper.under) (g.D.Disk.state c.shrink.new.filer.swapper.under) c.find_file.ensures.makes.went.faults c.in-Err-shrink.ensures.counted)
+    (rose_after (g.D.Disk.state c.args.filer.now.swapper.disk) (g.D.Disk.state c.find_file.new.filer.swapper.disk) (g.D.Disk.state c.shrink.new.filer.swapper.disk) c.find_file.ensures.makes.went.faults c.in-Err-shrink.ensures.counted)
 
-pub returns-in-Ok-clause-cost_told : goal.returns-in-Ok-clause-cost_told
-returns-in-Ok-clause-cost_told g c = λ x shapes spaces f books found.
-    let told = subst (IsFoundFile (labels_of x) shapes c.args.id) c.in-Ok-Some.field-0-is (c.in-Ok-Some.ensures.told x shapes spaces books) in
-    let size = ap (λ (w : Shape). w.size) (shape_is shapes c.args.id f c.in-Ok-Some.file.leader c.in-Ok-Some.file.pages found told.1) in
+pub returns-in-Ok-clause-cost_revealed : goal.returns-in-Ok-clause-cost_revealed
+returns-in-Ok-clause-cost_revealed g c = λ x shapes spaces f books found.
+    let revealed = subst (IsFoundFile (labels_of x) shapes c.args.id) c.in-Ok-Some.field-0-is (c.in-Ok-Some.ensures.revealed x shapes spaces books) in
+    let size = ap (λ (w : Shape). w.size) (shape_is shapes c.args.id f c.in-Ok-Some.file.leader c.in-Ok-Some.file.pages found revealed.1) in
     let few : c.args.pages - c.in-Ok-Some.file.pages ≤ (c.args.pages - f.size) + (f.size - c.args.pages) = omega (arith, size) in
-    grow_cost (g.D.Disk.state c.args.filer.now.swapper.under).transfers (g.D.Disk.state c.find_file.new.filer.swapper.under).transfers (g.D.Disk.state c.grow.new.filer.swapper.under).transfers (c.args.pages - c.in-Ok-Some.file.pages) ((c.args.pages - f.size) + (f.size - c.args.pages)) c.args.filer.now.swapper.layout.vam
+    grow_cost (g.D.Disk.state c.args.filer.now.swapper.disk).transfers (g.D.Disk.state c.find_file.new.filer.swapper.disk).transfers (g.D.Disk.state c.grow.new.filer.swapper.disk).transfers (c.args.pages - c.in-Ok-Some.file.pages) ((c.args.pages - f.size) + (f.size - c.args.pages)) c.args.filer.now.swapper.layout.vam
     (102 * most_records c.args.filer.now.swapper.layout.sectors) few c.find_file.ensures.cost (rw c.find_file.ensures.layout at c.grow.ensures.cost)
 
-pub returns-in-Err-grow-clause-cost_told : goal.returns-in-Err-grow-clause-cost_told
-returns-in-Err-grow-clause-cost_told g c = λ x shapes spaces f books found.
-    let told = subst (IsFoundFile (labels_of x) shapes c.args.id) c.in-Ok-Some.field-0-is (c.in-Ok-Some.ensures.told x shapes spaces books) in
-    let size = ap (λ (w : Shape). w.size) (shape_is shapes c.args.id f c.in-Ok-Some.file.leader c.in-Ok-Some.file.pages found told.1) in
+pub returns-in-Err-grow-clause-cost_revealed : goal.returns-in-Err-grow-clause-cost_revealed
+returns-in-Err-grow-clause-cost_revealed g c = λ x shapes spaces f books found.
+    let revealed = subst (IsFoundFile (labels_of x) shapes c.args.id) c.in-Ok-Some.field-0-is (c.in-Ok-Some.ensures.revealed x shapes spaces books) in
+    let size = ap (λ (w : Shape). w.size) (shape_is shapes c.args.id f c.in-Ok-Some.file.leader c.in-Ok-Some.file.pages found revealed.1) in
     let few : c.args.pages - c.in-Ok-Some.file.pages ≤ (c.args.pages - f.size) + (f.size - c.args.pages) = omega (arith, size) in
-    grow_cost (g.D.Disk.state c.args.filer.now.swapper.under).transfers (g.D.Disk.state c.find_file.new.filer.swapper.under).transfers (g.D.Disk.state c.grow.new.filer.swapper.under).transfers (c.args.pages - c.in-Ok-Some.file.pages) ((c.args.pages - f.size) + (f.size - c.args.pages)) c.args.filer.now.swapper.layout.vam
+    grow_cost (g.D.Disk.state c.args.filer.now.swapper.disk).transfers (g.D.Disk.state c.find_file.new.filer.swapper.disk).transfers (g.D.Disk.state c.grow.new.filer.swapper.disk).transfers (c.args.pages - c.in-Ok-Some.file.pages) ((c.args.pages - f.size) + (f.size - c.args.pages)) c.args.filer.now.swapper.layout.vam
     (102 * most_records c.args.filer.now.swapper.layout.sectors) few c.find_file.ensures.cost (rw c.find_file.ensures.layout at c.grow.ensures.cost)
 
-pub returns-in-Ok-shrink-clause-cost_told : goal.returns-in-Ok-shrink-clause-cost_told
-returns-in-Ok-shrink-clause-cost_told g c = λ x shapes spaces f books found.
-    let told = subst (IsFoundFile (labels_of x) shapes c.args.id) c.in-Ok-Some.field-0-is (c.in-Ok-Some.ensures.told x shapes spaces books) in
-    let size = ap (λ (w : Shape). w.size) (shape_is shapes c.args.id f c.in-Ok-Some.file.leader c.in-Ok-Some.file.pages found told.1) in
+pub returns-in-Ok-shrink-clause-cost_revealed : goal.returns-in-Ok-shrink-clause-cost_revealed
+returns-in-Ok-shrink-clause-cost_revealed g c = λ x shapes spaces f books found.
+    let revealed = subst (IsFoundFile (labels_of x) shapes c.args.id) c.in-Ok-Some.field-0-is (c.in-Ok-Some.ensures.revealed x shapes spaces books) in
+    let size = ap (λ (w : Shape). w.size) (shape_is shapes c.args.id f c.in-Ok-Some.file.leader c.in-Ok-Some.file.pages found revealed.1) in
     let few : c.in-Ok-Some.file.pages - c.args.pages ≤ (c.args.pages - f.size) + (f.size - c.args.pages) = omega (arith, size) in
-    shrink_cost (g.D.Disk.state c.args.filer.now.swapper.under).transfers (g.D.Disk.state c.find_file.new.filer.swapper.under).transfers (g.D.Disk.state c.shrink.new.filer.swapper.under).transfers (c.in-Ok-Some.file.pages - c.args.pages) ((c.args.pages - f.size) + (f.size - c.args.pages)) c.args.filer.now.swapper.layout.vam
+    shrink_cost (g.D.Disk.state c.args.filer.now.swapper.disk).transfers (g.D.Disk.state c.find_file.new.filer.swapper.disk).transfers (g.D.Disk.state c.shrink.new.filer.swapper.disk).transfers (c.in-Ok-Some.file.pages - c.args.pages) ((c.args.pages - f.size) + (f.size - c.args.pages)) c.args.filer.now.swapper.layout.vam
     (most_records c.args.filer.now.swapper.layout.sectors) few c.find_file.ensures.cost (rw c.find_file.ensures.layout at c.shrink.ensures.cost)
 
-pub returns-in-Err-shrink-clause-cost_told : goal.returns-in-Err-shrink-clause-cost_told
-returns-in-Err-shrink-clause-cost_told g c = λ x shapes spaces f books found.
-    let told = subst (IsFoundFile (labels_of x) shapes c.args.id) c.in-Ok-Some.field-0-is (c.in-Ok-Some.ensures.told x shapes spaces books) in
-    let size = ap (λ (w : Shape). w.size) (shape_is shapes c.args.id f c.in-Ok-Some.file.leader c.in-Ok-Some.file.pages found told.1) in
+pub returns-in-Err-shrink-clause-cost_revealed : goal.returns-in-Err-shrink-clause-cost_revealed
+returns-in-Err-shrink-clause-cost_revealed g c = λ x shapes spaces f books found.
+    let revealed = subst (IsFoundFile (labels_of x) shapes c.args.id) c.in-Ok-Some.field-0-is (c.in-Ok-Some.ensures.revealed x shapes spaces books) in
+    let size = ap (λ (w : Shape). w.size) (shape_is shapes c.args.id f c.in-Ok-Some.file.leader c.in-Ok-Some.file.pages found revealed.1) in
     let few : c.in-Ok-Some.file.pages - c.args.pages ≤ (c.args.pages - f.size) + (f.size - c.args.pages) = omega (arith, size) in
-    shrink_cost (g.D.Disk.state c.args.filer.now.swapper.under).transfers (g.D.Disk.state c.find_file.new.filer.swapper.under).transfers (g.D.Disk.state c.shrink.new.filer.swapper.under).transfers (c.in-Ok-Some.file.pages - c.args.pages) ((c.args.pages - f.size) + (f.size - c.args.pages)) c.args.filer.now.swapper.layout.vam
+    shrink_cost (g.D.Disk.state c.args.filer.now.swapper.disk).transfers (g.D.Disk.state c.find_file.new.filer.swapper.disk).transfers (g.D.Disk.state c.shrink.new.filer.swapper.disk).transfers (c.in-Ok-Some.file.pages - c.args.pages) ((c.args.pages - f.size) + (f.size - c.args.pages)) c.args.filer.now.swapper.layout.vam
     (most_records c.args.filer.now.swapper.layout.sectors) few c.find_file.ensures.cost (rw c.find_file.ensures.layout at c.shrink.ensures.cost)
 
-pub returns-in-Ok-None-clause-cost_told : goal.returns-in-Ok-None-clause-cost_told
-returns-in-Ok-None-clause-cost_told g c = λ x shapes spaces f books found. let first = c.find_file.ensures.cost in omega (arith, first)
+pub returns-in-Ok-None-clause-cost_revealed : goal.returns-in-Ok-None-clause-cost_revealed
+returns-in-Ok-None-clause-cost_revealed g c = λ x shapes spaces f books found. let first = c.find_file.ensures.cost in omega (arith, first)
 
-pub returns-in-Err-clause-cost_told : goal.returns-in-Err-clause-cost_told
-returns-in-Err-clause-cost_told g c = λ x shapes spaces f books found. let first = c.find_file.ensures.cost in omega (arith, first)
+pub returns-in-Err-clause-cost_revealed : goal.returns-in-Err-clause-cost_revealed
+returns-in-Err-clause-cost_revealed g c = λ x shapes spaces f books found. let first = c.find_file.ensures.cost in omega (arith, first)
 
 pub returns-in-Ok-clause-room : goal.returns-in-Ok-clause-room
 returns-in-Ok-clause-room g c = λ within. room_grown c.args.volume.now c.grow.new.volume (c.args.pages - c.in-Ok-Some.file.pages) c.in-Ok.ensures.used
@@ -300,16 +300,16 @@ returns-in-Ok-clause-room g c = λ within. room_grown c.args.volume.now c.grow.n
 pub returns-in-Ok-shrink-clause-room : goal.returns-in-Ok-shrink-clause-room
 returns-in-Ok-shrink-clause-room g c = room_shrunk c.args.volume.now c.shrink.new.volume (c.in-Ok-Some.file.pages - c.args.pages) c.in-Ok-shrink.ensures.used
 
-pub returns-in-Ok-None-clause-so : goal.returns-in-Ok-None-clause-so
-returns-in-Ok-None-clause-so g c = inr (file_id c.args.id c.requires.of_file)
+pub returns-in-Ok-None-clause-evidence_seen : goal.returns-in-Ok-None-clause-evidence_seen
+returns-in-Ok-None-clause-evidence_seen g c = inr (file_id c.args.id c.requires.of_file)
 
 pub returns-in-Err-clause-cause : goal.returns-in-Err-clause-cause
 returns-in-Err-clause-cause g c =
     let layout = c.args.filer.now.swapper.layout in
-    let old = (g.D.Disk.state c.args.filer.now.swapper.under) in
+    let old = (g.D.Disk.state c.args.filer.now.swapper.disk) in
     let pool = c.args.filer.now.swapper.pool in
     let kept = runs_of layout.sectors c.args.filer.now.runs in
-    resize_of_file layout kept c.args.id c.args.pages old (g.D.Disk.state c.find_file.new.filer.swapper.under) pool c.find_file.new.filer.swapper.pool c.in-Err.halt c.in-Err.ensures.cause
+    resize_of_file layout kept c.args.id c.args.pages old (g.D.Disk.state c.find_file.new.filer.swapper.disk) pool c.find_file.new.filer.swapper.pool c.in-Err.halt c.in-Err.ensures.cause
 
 pub returns-in-Ok-None-clause-cause : goal.returns-in-Ok-None-clause-cause
 returns-in-Ok-None-clause-cause g c = inl (refl, refl, c.find_file.ensures.missing (search rules))
@@ -317,12 +317,12 @@ returns-in-Ok-None-clause-cause g c = inl (refl, refl, c.find_file.ensures.missi
 pub returns-in-Err-grow-clause-cause : goal.returns-in-Err-grow-clause-cause
 returns-in-Err-grow-clause-cause g c =
     let layout = c.args.filer.now.swapper.layout in
-    let old = (g.D.Disk.state c.args.filer.now.swapper.under) in
+    let old = (g.D.Disk.state c.args.filer.now.swapper.disk) in
     let pool = c.args.filer.now.swapper.pool in
     let kept = runs_of layout.sectors c.args.filer.now.runs in
     let more = λ (p : ℕ). (c.in-Ok-Some.file.pages ≤ p) × (p < c.args.pages) in
     let sized = λ (m : List Sector) (named : Triples) (stands : Stands old pool m) (map : MapIs layout named m). subst (λ (o : Option FoundFile). IfSome o (λ file. IsSize named c.args.id file.pages)) c.in-Ok-Some.field-0-is (c.in-Ok-Some.ensures.size m named stands map) in
-    let new = g.D.Disk.state c.grow.new.filer.swapper.under in
+    let new = g.D.Disk.state c.grow.new.filer.swapper.disk in
     let leaves : LeavesUnnamed layout c.args.id no_page_of more no_page_of old pool = record {
       own = λ m named stands map none page sector not. absurd not;
       next = λ m named later stands map none adds. above_size layout kept c.args.id c.args.pages old new pool c.grow.new.filer.swapper.pool c.in-Ok-Some.file.pages named later c.requires.numbers (sized m named stands map) adds;
@@ -332,18 +332,18 @@ returns-in-Err-grow-clause-cause g c =
       λ m named stands map sector. none_above named c.args.id c.in-Ok-Some.file.pages c.args.pages (let few = c.requires.numbers in omega (arith, few)) (sized m named stands map) p sector own,
     ) in
     resize_of_make layout kept c.args.id c.args.pages old new pool c.grow.new.filer.swapper.pool c.in-Err-grow.halt
-    (make_halts_before no_page_of more no_page_of c.find_file.ensures.makes c.in-Ok-Some.ensures.takes leaves more (λ p. (p < c.args.pages) × NamesNone layout old pool c.args.id p) fresh (λ p own not. not) (inl (λ none. c.find_file.ensures.same_bytes)) (g.D.Disk.state c.grow.new.filer.swapper.under) c.grow.new.filer.swapper.pool c.in-Err-grow.halt (rw c.find_file.ensures.layout at c.in-Err-grow.ensures.cause))
+    (make_halts_before no_page_of more no_page_of c.find_file.ensures.makes c.in-Ok-Some.ensures.takes leaves more (λ p. (p < c.args.pages) × NamesNone layout old pool c.args.id p) fresh (λ p own not. not) (inl (λ none. c.find_file.ensures.same_bytes)) (g.D.Disk.state c.grow.new.filer.swapper.disk) c.grow.new.filer.swapper.pool c.in-Err-grow.halt (rw c.find_file.ensures.layout at c.in-Err-grow.ensures.cause))
 
 pub returns-in-Err-shrink-clause-cause : goal.returns-in-Err-shrink-clause-cause
 returns-in-Err-shrink-clause-cause g c =
     let layout = c.args.filer.now.swapper.layout in
-    let old = (g.D.Disk.state c.args.filer.now.swapper.under) in
+    let old = (g.D.Disk.state c.args.filer.now.swapper.disk) in
     let pool = c.args.filer.now.swapper.pool in
     let kept = runs_of layout.sectors c.args.filer.now.runs in
     let pages = λ (p : ℕ). (c.args.pages ≤ p) × (p < c.in-Ok-Some.file.pages) in
     let sized = λ (m : List Sector) (named : Triples) (stands : Stands old pool m) (map : MapIs layout named m). subst (λ (o : Option FoundFile). IfSome o (λ file. IsSize named c.args.id file.pages)) c.in-Ok-Some.field-0-is (c.in-Ok-Some.ensures.size m named stands map) in
-    resize_of_shrink layout kept c.args.id c.args.pages old (g.D.Disk.state c.shrink.new.filer.swapper.under) pool c.shrink.new.filer.swapper.pool c.in-Ok-Some.file.pages (λ p below m named stands map. (c.in-Ok-Some.file.pages, sized m named stands map, below)) c.in-Err-shrink.halt
-    (shrink_halts_behind c.find_file.ensures.keeps c.requires.sectors c.args.pages pages pages (λ p own. own) (g.D.Disk.state c.shrink.new.filer.swapper.under) c.shrink.new.filer.swapper.pool c.in-Err-shrink.halt (rw c.find_file.ensures.layout at c.in-Err-shrink.ensures.cause))
+    resize_of_shrink layout kept c.args.id c.args.pages old (g.D.Disk.state c.shrink.new.filer.swapper.disk) pool c.shrink.new.filer.swapper.pool c.in-Ok-Some.file.pages (λ p below m named stands map. (c.in-Ok-Some.file.pages, sized m named stands map, below)) c.in-Err-shrink.halt
+    (shrink_halts_after c.find_file.ensures.keeps c.requires.sectors c.args.pages pages pages (λ p own. own) (g.D.Disk.state c.shrink.new.filer.swapper.disk) c.shrink.new.filer.swapper.pool c.in-Err-shrink.halt (rw c.find_file.ensures.layout at c.in-Err-shrink.ensures.cause))
 
 pub returns-in-Ok-None-clause-own : goal.returns-in-Ok-None-clause-own
 returns-in-Ok-None-clause-own g c = relabels_own (quiet_own c.args.id c.find_file.ensures.makes)
@@ -401,7 +401,7 @@ returns-in-Err-grow-clause-reasons g c = λ o named k.
     let sized = subst (λ (o : Option FoundFile). IfSome o (λ file. IsSize named c.args.id file.pages)) c.in-Ok-Some.field-0-is (c.in-Ok-Some.ensures.size k.memory named k.stands k.map) in
     let none = none_above named c.args.id c.in-Ok-Some.file.pages c.args.pages (let few = c.requires.numbers in omega (arith, few)) sized in
     let led = subst (λ (o : Option FoundFile). IfSome o (λ file. named c.args.id leader_page file.sector ≡ true)) c.in-Ok-Some.field-0-is (c.in-Ok-Some.ensures.names k.memory named k.stands k.map k.kept) in
-    subst (λ (l : Layout). ShowsReason o l (g.D.Disk.state c.grow.new.filer.swapper.under) c.in-Err-grow.halt) c.find_file.ensures.layout (c.in-Err-grow.ensures.reasons o named (c.in-Ok-Some.ensures.keeps_to o named k) (named_takes k c.args.id leader_page c.in-Ok-Some.file.sector led) none)
+    subst (λ (l : Layout). ShowsReason o l (g.D.Disk.state c.grow.new.filer.swapper.disk) c.in-Err-grow.halt) c.find_file.ensures.layout (c.in-Err-grow.ensures.reasons o named (c.in-Ok-Some.ensures.keeps_to o named k) (named_takes k c.args.id leader_page c.in-Ok-Some.file.sector led) none)
 
 pub returns-in-Ok-shrink-clause-keeps_to : goal.returns-in-Ok-shrink-clause-keeps_to
 returns-in-Ok-shrink-clause-keeps_to g c = λ o named k.
@@ -412,4 +412,4 @@ returns-in-Ok-shrink-clause-keeps_to g c = λ o named k.
 pub returns-in-Err-shrink-clause-reasons : goal.returns-in-Err-shrink-clause-reasons
 returns-in-Err-shrink-clause-reasons g c = λ o named k.
     let led = subst (λ (o : Option FoundFile). IfSome o (λ file. named c.args.id leader_page file.sector ≡ true)) c.in-Ok-Some.field-0-is (c.in-Ok-Some.ensures.names k.memory named k.stands k.map k.kept) in
-    subst (λ (l : Layout). ShowsReason o l (g.D.Disk.state c.shrink.new.filer.swapper.under) c.in-Err-shrink.halt) c.find_file.ensures.layout (c.in-Err-shrink.ensures.reasons o named (c.in-Ok-Some.ensures.keeps_to o named k) led)
+    subst (λ (l : Layout). ShowsReason o l (g.D.Disk.state c.shrink.new.filer.swapper.disk) c.in-Err-shrink.halt) c.find_file.ensures.layout (c.in-Err-shrink.ensures.reasons o named (c.in-Ok-Some.ensures.keeps_to o named k) led)

@@ -11,7 +11,7 @@ loop-page-init g c = down_none _ _ _ _ _ _ _ c.requires.order c.requires.size
 pub loop-page-preserved : goal.loop-page-preserved
 loop-page-preserved g c =
     let below : c.args.from < c.loop-page.page = search rules in
-    down_then c.loop-page.invariant below c.in-Ok.ensures.some c.in-Ok.ensures.layout c.in-Ok.ensures.spent c.in-Ok.ensures.makes c.in-Ok.ensures.keeps c.in-Ok.ensures.freed c.in-Ok.ensures.own c.in-Ok.ensures.keeps_to c.in-Ok.ensures.let_go
+    down_then c.loop-page.invariant below c.in-Ok.ensures.some c.in-Ok.ensures.layout c.in-Ok.ensures.spent c.in-Ok.ensures.makes c.in-Ok.ensures.keeps c.in-Ok.ensures.freed c.in-Ok.ensures.own c.in-Ok.ensures.keeps_to c.in-Ok.ensures.evict
 
 pub returns-in-Err-clause-sound : goal.returns-in-Err-clause-sound
 returns-in-Err-clause-sound g c = λ named spaces m may.
@@ -27,7 +27,7 @@ returns-in-Err-clause-stopped g c = stops_then c.loop-page.invariant.makes c.in-
 pub returns-in-Err-clause-cost : goal.returns-in-Err-clause-cost
 returns-in-Err-clause-cost g c =
     let below : c.args.from < c.loop-page.page = search rules in
-    down_stopped_cost c.loop-page.invariant (g.D.Disk.state c.free_last.new.filer.swapper.under) below c.in-Err.ensures.cost
+    down_stopped_cost c.loop-page.invariant (g.D.Disk.state c.free_last.new.filer.swapper.disk) below c.in-Err.ensures.cost
 
 pub returns-clause-freed : goal.returns-clause-freed
 returns-clause-freed g c =
@@ -47,7 +47,7 @@ returns-clause-cost g c =
 pub returns-in-Err-clause-cause : goal.returns-in-Err-clause-cause
 returns-in-Err-clause-cause g c =
     let below : c.args.from < c.loop-page.page = search rules in
-    down_halts c.loop-page.invariant c.requires.size below (g.D.Disk.state c.free_last.new.filer.swapper.under) c.in-Err.halt c.in-Err.ensures.cause
+    down_halts c.loop-page.invariant c.requires.size below (g.D.Disk.state c.free_last.new.filer.swapper.disk) c.in-Err.halt c.in-Err.ensures.cause
 
 pub returns-clause-keeps : goal.returns-clause-keeps
 returns-clause-keeps g c = c.loop-page.invariant.keeps
@@ -59,13 +59,13 @@ pub returns-clause-own : goal.returns-clause-own
 returns-clause-own g c = relabels_own c.loop-page.invariant.own
 
 pub returns-in-Err-clause-reasons : goal.returns-in-Err-clause-reasons
-returns-in-Err-clause-reasons g c = down_reason c.loop-page.invariant (g.D.Disk.state c.free_last.new.filer.swapper.under) c.in-Err.halt c.in-Err.ensures.reasons
+returns-in-Err-clause-reasons g c = down_reason c.loop-page.invariant (g.D.Disk.state c.free_last.new.filer.swapper.disk) c.in-Err.halt c.in-Err.ensures.reasons
 
 pub returns-clause-keeps_to : goal.returns-clause-keeps_to
 returns-clause-keeps_to g c = c.loop-page.invariant.keeps_to
 
-pub returns-clause-let_go : goal.returns-clause-let_go
-returns-clause-let_go g c = λ o named h page sector own is.
+pub returns-clause-evict : goal.returns-clause-evict
+returns-clause-evict g c = λ o named h page sector own is.
     let none : c.loop-page.page ≤ c.args.from = search rules in
     let first = own.0 in
-    c.loop-page.invariant.let_go o named h page sector (omega (arith, first, none), own.1) is
+    c.loop-page.invariant.evict o named h page sector (omega (arith, first, none), own.1) is

@@ -5,11 +5,11 @@ use Rattle.file_manager.proofs.shrinking.free_labels_down.Goals as goal
 pub returns-in-Err-clause-sound : goal.returns-in-Err-clause-sound
 returns-in-Err-clause-sound g c = λ m stands free ones. (rw (c.swapper_over-swapper.ensures.value) at c.in-Err.ensures.sound) m stands free ones
 
-pub returns-in-Err-clause-so : goal.returns-in-Err-clause-so
-returns-in-Err-clause-so g c =
-    let new = g.D.Disk.state c.free_pages_down.new.swapper.under in
+pub returns-in-Err-clause-evidence_seen : goal.returns-in-Err-clause-evidence_seen
+returns-in-Err-clause-evidence_seen g c =
+    let new = g.D.Disk.state c.free_pages_down.new.swapper.disk in
     let size = (rw c.swapper_over-swapper.ensures.value at c.in-Err.ensures.stopped).makes.went.sectors ∙ c.requires.size in
-    so_of_run c.args.filer.now.swapper.layout new c.args.filer.now.swapper.accepted size c.args.run c.requires.data c.requires.form (g.D.Disk.state c.args.filer.now.swapper.under) new c.in-Err.halt (rw c.swapper_over-swapper.ensures.value at c.in-Err.ensures.so)
+    so_of_run c.args.filer.now.swapper.layout new c.args.filer.now.swapper.accepted size c.args.run c.requires.data c.requires.form (g.D.Disk.state c.args.filer.now.swapper.disk) new c.in-Err.halt (rw c.swapper_over-swapper.ensures.value at c.in-Err.ensures.evidence_seen)
 
 pub returns-in-Err-clause-cause : goal.returns-in-Err-clause-cause
 returns-in-Err-clause-cause g c = rw c.swapper_over-swapper.ensures.value at c.in-Err.ensures.cause

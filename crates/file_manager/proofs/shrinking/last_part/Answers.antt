@@ -4,7 +4,7 @@ use Rattle.file_map.specs.FileMap.{IsFound}
 use Rattle.file_manager.proofs.DownRun.{last_named}
 use Rattle.filer_kernel.specs.EvidenceLaws.{fits, so_of_map}
 use Rattle.filer_kernel.specs.Cached.{runs_of}
-use Rattle.file_manager.proofs.Keeping.{keeps_none, keeps_read, search_halts_behind}
+use Rattle.file_manager.proofs.Keeping.{keeps_none, keeps_read, search_halts_after}
 use Rattle.file_manager.proofs.RunCauses.{last_homes}
 use Rattle.std.specs.Prelude.{IfSome}
 use Rattle.file_map.specs.declared.run.Run.{Run}
@@ -29,20 +29,20 @@ returns-in-Ok-None-clause-sound g c = λ m named sector stands map labels is.
 pub returns-in-Err-clause-sound : goal.returns-in-Err-clause-sound
 returns-in-Err-clause-sound g c = λ m named sector stands map labels is. c.in-Err.ensures.sound m named stands map labels
 
-pub returns-in-Err-clause-so : goal.returns-in-Err-clause-so
-returns-in-Err-clause-so g c = λ of_file. so_of_map (fits c.args.filer.now.swapper c.requires.size) c.find.ensures.beside.goes.makes c.in-Err.halt c.in-Err.ensures.cause
+pub returns-in-Err-clause-evidence_seen : goal.returns-in-Err-clause-evidence_seen
+returns-in-Err-clause-evidence_seen g c = λ of_file. so_of_map (fits c.args.filer.now.swapper c.requires.size) c.find.ensures.beside.goes.makes c.in-Err.halt c.in-Err.ensures.cause
 
-pub returns-in-Ok-None-clause-so : goal.returns-in-Ok-None-clause-so
-returns-in-Ok-None-clause-so g c = λ of_file. of_file
+pub returns-in-Ok-None-clause-evidence_seen : goal.returns-in-Ok-None-clause-evidence_seen
+returns-in-Ok-None-clause-evidence_seen g c = λ of_file. of_file
 
 pub returns-in-Err-clause-cause : goal.returns-in-Err-clause-cause
 returns-in-Err-clause-cause g c =
     let layout = c.args.filer.now.swapper.layout in
-    let old = g.D.Disk.state c.args.filer.now.swapper.under in
+    let old = g.D.Disk.state c.args.filer.now.swapper.disk in
     let pool = c.args.filer.now.swapper.pool in
     let kept = runs_of layout.sectors c.args.filer.now.runs in
-    let new = g.D.Disk.state c.find.new.self.swapper.under in
-    search_halts_behind (keeps_none (IsUnframed pool c.args.id) layout c.args.id old pool kept (λ none. none)) (λ p. p ≡ (c.args.end - 1)) new c.in-Err.halt c.in-Err.ensures.cause
+    let new = g.D.Disk.state c.find.new.self.swapper.disk in
+    search_halts_after (keeps_none (IsUnframed pool c.args.id) layout c.args.id old pool kept (λ none. none)) (λ p. p ≡ (c.args.end - 1)) new c.in-Err.halt c.in-Err.ensures.cause
 
 pub returns-in-Ok-None-clause-cause : goal.returns-in-Ok-None-clause-cause
 returns-in-Ok-None-clause-cause g c = (refl, refl, λ none m named stands map. c.find.ensures.nowhere m named stands map (search rules))
@@ -50,7 +50,7 @@ returns-in-Ok-None-clause-cause g c = (refl, refl, λ none m named stands map. c
 pub returns-in-Ok-Some-clause-homes : goal.returns-in-Ok-Some-clause-homes
 returns-in-Ok-Some-clause-homes g c =
     let layout = c.args.filer.now.swapper.layout in
-    let old = g.D.Disk.state c.args.filer.now.swapper.under in
+    let old = g.D.Disk.state c.args.filer.now.swapper.disk in
     let pool = c.args.filer.now.swapper.pool in
     let kept = runs_of layout.sectors c.args.filer.now.runs in
     let is_given = subst (λ (o : Option Run). IfSome o (λ run. IsGiven layout old pool kept run)) c.in-Ok-Some.field-0-is c.in-Ok-Some.ensures.given in

@@ -28,7 +28,7 @@ returns-in-Err-clause-stopped g c =
 pub returns-in-Err-clause-cost : goal.returns-in-Err-clause-cost
 returns-in-Err-clause-cost g c =
     let below : c.loop-page.page < 96 = search rules in
-    up_cost 3 0 0 96 c.loop-page.page _ _ _ c.args.filer.now.swapper.accepted _ _ _ _ _ c.loop-page.invariant.up (omega arith) (g.D.Disk.state c.make_run.new.filer.swapper.under) below c.in-Err.ensures.cost
+    up_cost 3 0 0 96 c.loop-page.page _ _ _ c.args.filer.now.swapper.accepted _ _ _ _ _ c.loop-page.invariant.up (omega arith) (g.D.Disk.state c.make_run.new.filer.swapper.disk) below c.in-Err.ensures.cost
 
 pub returns-clause-made : goal.returns-clause-made
 returns-clause-made g c =
@@ -51,7 +51,7 @@ returns-in-Err-clause-counted g c = counted_then _ _ _ c.loop-page.invariant.up.
 pub returns-in-Err-clause-cause : goal.returns-in-Err-clause-cause
 returns-in-Err-clause-cause g c =
     let below : c.loop-page.page < 96 = search rules in
-    up_cause 3 0 0 96 c.loop-page.page _ _ _ c.args.filer.now.swapper.accepted _ _ _ _ _ c.loop-page.invariant.up (omega arith) (λ p. p < 96) (λ p own. own.1) (g.D.Disk.state c.make_run.new.filer.swapper.under) c.make_run.new.filer.swapper.pool c.in-Err.halt below (rw c.loop-page.invariant.up.same_layout at c.in-Err.ensures.cause)
+    up_cause 3 0 0 96 c.loop-page.page _ _ _ c.args.filer.now.swapper.accepted _ _ _ _ _ c.loop-page.invariant.up (omega arith) (λ p. p < 96) (λ p own. own.1) (g.D.Disk.state c.make_run.new.filer.swapper.disk) c.make_run.new.filer.swapper.pool c.in-Err.halt below (rw c.loop-page.invariant.up.same_layout at c.in-Err.ensures.cause)
 
 pub returns-in-Err-clause-root : goal.returns-in-Err-clause-root
 returns-in-Err-clause-root g c = grew_root {id = 3} (λ same. omega (arith, same)) (returns-in-Err-clause-stopped g c)
@@ -74,6 +74,6 @@ returns-in-Err-clause-reasons g c = λ o named h untold none.
 pub returns-clause-tables : goal.returns-clause-tables
 returns-clause-tables g c = λ o named h none.
     let all : c.loop-page.page ≡ 96 = search rules in
-    let now = c.loop-page.invariant.told o named h none in
+    let now = c.loop-page.invariant.revealed o named h none in
     let long = now.3 in
     (now.0, (now.1, (now.2, (omega (arith, long, all), λ page below. now.5 page (omega arith) (omega (arith, below, all))))))

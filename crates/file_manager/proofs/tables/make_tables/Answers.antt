@@ -12,7 +12,7 @@ use Rattle.filer_kernel.specs.Cached.{runs_of}
 use Rattle.filer_kernel.specs.EvidenceLaws.{fits, so_of_cut}
 use Rattle.session_words.specs.Parts.{Shapes}
 use Rattle.file_manager.specs.Tables.{MayBegin}
-use Rattle.file_manager.proofs.CreateStops.{create_of_cut, create_of_make, nothing_behind}
+use Rattle.file_manager.proofs.CreateStops.{create_of_cut, create_of_make, nothing_after}
 use Rattle.file_manager.proofs.Faults.{counted, counted_then}
 use Rattle.file_manager.proofs.KeepSteps.{keeps_at}
 use Rattle.file_manager.proofs.ReasonCauses.{cut_reasons}
@@ -21,20 +21,20 @@ use Rattle.file_manager.specs.KeepLaws.{unframed_untabled}
 use Rattle.file_manager.specs.TabledLaws.{untold_leaves}
 use Rattle.file_manager.proofs.RootKeeps.{none_left, whole_cut}
 use Rattle.file_manager.proofs.RunStages.{map_is, maps_named}
-use Rattle.file_manager.proofs.TablesCut.{may_begin_cut, begun_behind, tables_unmade, tables_some_behind, tables_made_behind}
+use Rattle.file_manager.proofs.TablesCut.{may_begin_cut, begun_after, tables_unmade, tables_some_after, tables_made_after}
 use Rattle.file_manager.proofs.tables.make_tables.Given as given
 use Rattle.file_manager.proofs.tables.make_tables.Goals.{After-frames_of}
 use Rattle.file_manager.proofs.tables.make_tables.Goals as goal
 
 -- after the cut each memory is in form
-formed : (g : given.Over) (c : After-frames_of g) (y : List Sector) → Stands (g.D.Disk.state c.cut.new.self.swapper.under) c.cut.new.self.swapper.pool y → AreSectors y
-formed g c y stood = memory_in_form _ _ y stood (g.met.D.Disk.in_form c.cut.new.self.swapper.under stood.sectors stood.told) c.frames_of.ensures.pages
+formed : (g : given.Over) (c : After-frames_of g) (y : List Sector) → Stands (g.D.Disk.state c.cut.new.self.swapper.disk) c.cut.new.self.swapper.pool y → AreSectors y
+formed g c y stood = memory_in_form _ _ y stood (g.met.D.Disk.in_form c.cut.new.self.swapper.disk stood.sectors stood.revealed) c.frames_of.ensures.pages
 
 -- and the pages may still be made
-behind : (g : given.Over) (c : After-frames_of g) (x : List Sector) (shapes : Shapes) (spaces : List Space)
-    → MayBegin (g.D.Disk.state c.args.filer.now.swapper.under) c.args.filer.now.swapper.pool c.args.filer.now.swapper.layout c.args.filer.now.runs shapes spaces x
-    → (y : List Sector) × MayBegin (g.D.Disk.state c.cut.new.self.swapper.under) c.cut.new.self.swapper.pool c.args.filer.now.swapper.layout c.cut.new.self.runs shapes spaces y
-behind g c x shapes spaces may =
+after : (g : given.Over) (c : After-frames_of g) (x : List Sector) (shapes : Shapes) (spaces : List Space)
+    → MayBegin (g.D.Disk.state c.args.filer.now.swapper.disk) c.args.filer.now.swapper.pool c.args.filer.now.swapper.layout c.args.filer.now.runs shapes spaces x
+    → (y : List Sector) × MayBegin (g.D.Disk.state c.cut.new.self.swapper.disk) c.cut.new.self.swapper.pool c.args.filer.now.swapper.layout c.cut.new.self.runs shapes spaces y
+after g c x shapes spaces may =
     let layout = c.args.filer.now.swapper.layout in
     let is = c.args.filer.now.swapper.accepted in
     let kept = c.args.filer.now.runs in
@@ -55,41 +55,41 @@ returns-in-Err-clause-stopped g c = tables_unmade c.in-Err.ensures.beside
 
 pub returns-in-Err-clause-cause : goal.returns-in-Err-clause-cause
 returns-in-Err-clause-cause g c =
-    let old = g.D.Disk.state c.args.filer.now.swapper.under in
+    let old = g.D.Disk.state c.args.filer.now.swapper.disk in
     let pool = c.args.filer.now.swapper.pool in
-    create_of_cut c.args.filer.now.swapper.layout c.args.filer.now.swapper.accepted 3 (makes_nothing no_page old pool) nothing_behind (λ p. p < 96) (g.D.Disk.state c.cut.new.self.swapper.under) c.cut.new.self.swapper.pool c.in-Err.halt
+    create_of_cut c.args.filer.now.swapper.layout c.args.filer.now.swapper.accepted 3 (makes_nothing no_page old pool) nothing_after (λ p. p < 96) (g.D.Disk.state c.cut.new.self.swapper.disk) c.cut.new.self.swapper.pool c.in-Err.halt
     c.in-Err.ensures.begun c.in-Err.ensures.cause
 
 pub returns-in-Err-clause-reasons : goal.returns-in-Err-clause-reasons
 returns-in-Err-clause-reasons g c = λ o named h bare untold.
     cut_reasons h c.cut.ensures.beside.goes.makes c.in-Err.halt c.in-Err.ensures.cause (c.in-Err.ensures.right h.memory named h.stands h.map)
 
-pub returns-in-Err-clause-so : goal.returns-in-Err-clause-so
-returns-in-Err-clause-so g c = so_of_cut (fits c.args.filer.now.swapper (search rules)) c.cut.ensures.beside.goes.makes c.in-Err.halt c.in-Err.ensures.cause
+pub returns-in-Err-clause-evidence_seen : goal.returns-in-Err-clause-evidence_seen
+returns-in-Err-clause-evidence_seen g c = so_of_cut (fits c.args.filer.now.swapper (search rules)) c.cut.ensures.beside.goes.makes c.in-Err.halt c.in-Err.ensures.cause
 
 pub returns-in-Err-clause-counted : goal.returns-in-Err-clause-counted
 returns-in-Err-clause-counted g c =
-    let old = g.D.Disk.state c.args.filer.now.swapper.under in
-    counted _ old.faults old (g.D.Disk.state c.cut.new.self.swapper.under) _ (omega arith) c.in-Err.ensures.cause
+    let old = g.D.Disk.state c.args.filer.now.swapper.disk in
+    counted _ old.faults old (g.D.Disk.state c.cut.new.self.swapper.disk) _ (omega arith) c.in-Err.ensures.cause
 
 pub returns-in-Err-clause-root : goal.returns-in-Err-clause-root
 returns-in-Err-clause-root g c = grew_root {id = 3} (λ same. omega (arith, same)) (returns-in-Err-clause-stopped g c)
 
 pub returns-in-Err-make_pages-clause-sound : goal.returns-in-Err-make_pages-clause-sound
 returns-in-Err-make_pages-clause-sound g c = λ x shapes spaces may.
-    let now = behind g (goal.at.returns-in-Err-make_pages-clause-sound g c).After-frames_of x shapes spaces may in
+    let now = after g (goal.at.returns-in-Err-make_pages-clause-sound g c).After-frames_of x shapes spaces may in
     (rw (c.frames_of.ensures.same, c.in-Ok.ensures.beside.layout) at c.in-Err-make_pages.ensures.sound) now.0 shapes spaces now.1
 
 pub returns-in-Err-make_pages-clause-stopped : goal.returns-in-Err-make_pages-clause-stopped
-returns-in-Err-make_pages-clause-stopped g c = tables_some_behind c.in-Ok.ensures.beside (rw c.frames_of.ensures.same at c.in-Err-make_pages.ensures.stopped)
+returns-in-Err-make_pages-clause-stopped g c = tables_some_after c.in-Ok.ensures.beside (rw c.frames_of.ensures.same at c.in-Err-make_pages.ensures.stopped)
 
 pub returns-in-Err-make_pages-clause-cause : goal.returns-in-Err-make_pages-clause-cause
 returns-in-Err-make_pages-clause-cause g c =
     let layout = c.args.filer.now.swapper.layout in
-    let old = g.D.Disk.state c.args.filer.now.swapper.under in
+    let old = g.D.Disk.state c.args.filer.now.swapper.disk in
     let pool = c.args.filer.now.swapper.pool in
-    create_of_make layout c.args.filer.now.swapper.accepted 3 (makes_nothing no_page old pool) nothing_behind (λ p. p < 96) c.in-Ok.ensures.beside c.in-Ok.ensures.cut (λ p. p < 96)
-    (g.D.Disk.state c.make_pages.new.filer.swapper.under) c.make_pages.new.filer.swapper.pool c.in-Err-make_pages.halt
+    create_of_make layout c.args.filer.now.swapper.accepted 3 (makes_nothing no_page old pool) nothing_after (λ p. p < 96) c.in-Ok.ensures.beside c.in-Ok.ensures.cut (λ p. p < 96)
+    (g.D.Disk.state c.make_pages.new.filer.swapper.disk) c.make_pages.new.filer.swapper.pool c.in-Err-make_pages.halt
     (rw (c.frames_of.ensures.same, c.in-Ok.ensures.beside.layout) at c.in-Err-make_pages.ensures.cause)
 
 pub returns-in-Err-make_pages-clause-reasons : goal.returns-in-Err-make_pages-clause-reasons
@@ -113,10 +113,10 @@ returns-clause-made g c = λ x shapes spaces may.
     let cut = c.in-Ok.ensures.cut x b.named may.books.stands (map_is layout is (runs_of layout.sectors kept) shapes x b b.named b.map) in
     let now = may_begin_cut layout is kept shapes spaces x _ _ may _ _ _ c.in-Ok.ensures.beside c.cut.new.self.runs cut (c.in-Ok.ensures.runs layout.sectors) (formed g at) in
     let begun = (rw (c.frames_of.ensures.same, c.in-Ok.ensures.beside.layout) at c.in-Ok-make_pages.ensures.made) cut.memory shapes spaces now in
-    begun_behind layout is kept shapes spaces x _ _ may _ _ _ c.in-Ok.ensures.beside c.cut.new.self.runs cut (c.in-Ok.ensures.runs layout.sectors) (formed g at) _ _ _ begun
+    begun_after layout is kept shapes spaces x _ _ may _ _ _ c.in-Ok.ensures.beside c.cut.new.self.runs cut (c.in-Ok.ensures.runs layout.sectors) (formed g at) _ _ _ begun
 
 pub returns-clause-makes : goal.returns-clause-makes
-returns-clause-makes g c = tables_made_behind c.in-Ok.ensures.beside (rw c.frames_of.ensures.same at c.in-Ok-make_pages.ensures.makes)
+returns-clause-makes g c = tables_made_after c.in-Ok.ensures.beside (rw c.frames_of.ensures.same at c.in-Ok-make_pages.ensures.makes)
 
 pub returns-clause-keeps_to : goal.returns-clause-keeps_to
 returns-clause-keeps_to g c = λ o named h bare untold.

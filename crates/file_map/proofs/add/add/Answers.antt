@@ -17,10 +17,10 @@ returns-clause-added g c = λ named map_is new.
 
 pub returns-clause-full_same : goal.returns-clause-full_same
 returns-clause-full_same g c = λ b h.
-    let told = c.count_of.ensures.same_bytes b h in
-    let counted = g.met.T.SearchedEntries.counted_told c.args.entries.now b h in
+    let revealed = c.count_of.ensures.same_bytes b h in
+    let counted = g.met.T.SearchedEntries.counted_revealed c.args.entries.now b h in
     let count_is = c.in_ok-count_of.ensures.count counted.0 counted.1 in
     let fewer : counted.0 < most_records c.args.sectors = omega (arith, c.in_ok-count_of.ensures.few, count_is, c.if-branch-most_of.false, c.most_of.ensures) in
     let same_room = g.met.T.SearchedEntries.same_room _ _ c.count_of.ensures.kept in
-    err_weaker c.put.result _ _ c.put.ensures.cause (λ error why. if_not_full c.args.sectors ((n : ℕ) → g.T.SearchedEntries.counts c.count_of.new.entries n → g.T.SearchedEntries.room c.count_of.new.entries ≤ n) (g.T.SearchedEntries.shows c.count_of.new.entries) (g.T.SearchedEntries.accounted c.count_of.new.entries c.put.new.entries) error (g.T.SearchedEntries.told c.put.new.entries b)
+    err_weaker c.put.result _ _ c.put.ensures.cause (λ error why. if_not_full c.args.sectors ((n : ℕ) → g.T.SearchedEntries.counts c.count_of.new.entries n → g.T.SearchedEntries.room c.count_of.new.entries ≤ n) (g.T.SearchedEntries.shows c.count_of.new.entries) (g.T.SearchedEntries.accounted c.count_of.new.entries c.put.new.entries) error (g.T.SearchedEntries.revealed c.put.new.entries b)
     (λ full. omega (arith, full counted.0 (c.count_of.ensures.same_count counted.0 counted.1), fewer, same_room, c.requires.room)) why)

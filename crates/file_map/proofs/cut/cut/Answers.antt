@@ -15,7 +15,7 @@ cutting-init g c = record {
   paid = omega arith;
   begun = inl c.count_of.ensures.same_sights;
   kept = c.count_of.ensures.kept;
-  told = λ named map_is.
+  revealed = λ named map_is.
       let xs = map run_bytes map_is.runs in
       let counted = g.met.T.SearchedEntries.counted c.args.entries.now xs map_is.listed in
       let count_is = c.in_ok-left.ensures.count (length xs) counted in
@@ -25,7 +25,7 @@ cutting-init g c = record {
 
 pub returns-in_err-cut_last-clause-cut : goal.returns-in_err-cut_last-clause-cut
 returns-in_err-cut_last-clause-cut g c = λ named map_is.
-    let at = c.cutting.invariant.told named map_is in
+    let at = c.cutting.invariant.revealed named map_is in
     passed _ _ _ _ c.from_residual-in_err-cut_last.ensures.0 c.from_residual-in_err-cut_last.ensures.1 (c.in_err-cut_last.ensures.step at.now at.map_is c.cutting.left at.counted)
 
 pub returns-in_err-cut_last-clause-cause : goal.returns-in_err-cut_last-clause-cause
@@ -41,7 +41,7 @@ returns-in_err-cut_last-clause-cause g c =
 
 pub returns-then-not-branch-clause-cut : goal.returns-then-not-branch-clause-cut
 returns-then-not-branch-clause-cut g c = λ named map_is.
-    let at = c.cutting.invariant.told named map_is in
+    let at = c.cutting.invariant.revealed named map_is in
     let done = subst (IsStep c.args.sectors (g.T.SearchedEntries.lists c.cut_last.new.entries) (g.T.SearchedEntries.counts c.cut_last.new.entries) at.now c.args.id c.args.from c.cutting.left) c.if-not-branch.true (c.in_ok-cut_last.ensures.step at.now at.map_is c.cutting.left at.counted) in
     renamed c.args.sectors _ _ _ done (λ id page sector. sym (at.same id page sector))
 
@@ -54,12 +54,12 @@ cutting-preserved g c = record {
   begun = elim c.cutting.invariant.begun [
     | inl same ↦
         let first = c.in_ok-cut_last.ensures.more c.if-not-branch.false in
-        inr (record { run = first.run; page = first.page; shown = same _ first.shown; of_file = first.of_file; behind = first.behind })
+        inr (record { run = first.run; page = first.page; shown = same _ first.shown; of_file = first.of_file; after = first.after })
     | inr begun ↦ inr begun
   ];
   kept = g.met.T.SearchedEntries.beside_through _ _ _ c.cutting.invariant.kept c.cut_last.ensures.kept;
-  told = λ named map_is.
-      let at = c.cutting.invariant.told named map_is in
+  revealed = λ named map_is.
+      let at = c.cutting.invariant.revealed named map_is in
       let short = subst (IsStep c.args.sectors (g.T.SearchedEntries.lists c.cut_last.new.entries) (g.T.SearchedEntries.counts c.cut_last.new.entries) at.now c.args.id c.args.from c.cutting.left) c.if-not-branch.false (c.in_ok-cut_last.ensures.step at.now at.map_is c.cutting.left at.counted) in
       cut_more c.args.sectors _ _ named c.args.id c.args.from c.in_ok-left.left c.cutting.left c.cutting.invariant.fewer at short;
   cost = cut_paid (g.T.SearchedEntries.look_cost + g.T.SortedEntries.replace_cost + g.T.CutEntries.remove_cost) c.cutting.left (most_records c.args.sectors) (g.T.SearchedEntries.spent c.cutting.entries) (g.T.SearchedEntries.spent c.cut_last.new.entries) (g.T.SearchedEntries.spent c.count_of.new.entries) (omega (arith, c.cutting-test.true))
@@ -69,7 +69,7 @@ cutting-preserved g c = record {
 pub returns-clause-cut : goal.returns-clause-cut
 returns-clause-cut g c = λ named map_is.
     let none : c.cutting.left ≡ 0 = omega (arith, c.cutting-test.false) in
-    let at = subst (λ left. IsCutting c.args.sectors (g.T.SearchedEntries.lists c.cutting.entries) (g.T.SearchedEntries.counts c.cutting.entries) named c.args.id c.args.from c.in_ok-left.left left) none (c.cutting.invariant.told named map_is) in
+    let at = subst (λ left. IsCutting c.args.sectors (g.T.SearchedEntries.lists c.cutting.entries) (g.T.SearchedEntries.counts c.cutting.entries) named c.args.id c.args.from c.in_ok-left.left left) none (c.cutting.invariant.revealed named map_is) in
     cut_all c.args.sectors _ _ named c.args.id c.args.from (g.met.T.SearchedEntries.counted c.cutting.entries) (g.met.T.SearchedEntries.counted_once c.cutting.entries) c.in_ok-left.left at
 
 pub returns-in_err-left-clause-begun : goal.returns-in_err-left-clause-begun
@@ -86,7 +86,7 @@ returns-in_err-cut_last-clause-begun g c =
 
 pub returns-in_err-cut_last-clause-cost_sized : goal.returns-in_err-cut_last-clause-cost_sized
 returns-in_err-cut_last-clause-cost_sized g c = λ named size map_is is.
-    let at = c.cutting.invariant.told named map_is in
+    let at = c.cutting.invariant.revealed named map_is in
     let first = c.count_of.ensures.cost in
     let all = steps_paid (g.T.SearchedEntries.look_cost + g.T.SortedEntries.replace_cost + g.T.CutEntries.remove_cost) (c.in_ok-left.left - c.cutting.left) size (g.T.SearchedEntries.spent c.cutting.entries) (g.T.SearchedEntries.spent c.cut_last.new.entries) (g.T.SearchedEntries.spent c.count_of.new.entries)
     (few_steps at.now c.args.id size _ (at.ends size is)) (omega (arith, c.cut_last.ensures.cost)) c.cutting.invariant.paid
@@ -95,7 +95,7 @@ returns-in_err-cut_last-clause-cost_sized g c = λ named size map_is is.
 
 pub returns-then-not-branch-clause-cost_sized : goal.returns-then-not-branch-clause-cost_sized
 returns-then-not-branch-clause-cost_sized g c = λ named size map_is is.
-    let at = c.cutting.invariant.told named map_is in
+    let at = c.cutting.invariant.revealed named map_is in
     let first = c.count_of.ensures.cost in
     let all = steps_paid (g.T.SearchedEntries.look_cost + g.T.SortedEntries.replace_cost + g.T.CutEntries.remove_cost) (c.in_ok-left.left - c.cutting.left) size (g.T.SearchedEntries.spent c.cutting.entries) (g.T.SearchedEntries.spent c.cut_last.new.entries) (g.T.SearchedEntries.spent c.count_of.new.entries)
     (few_steps at.now c.args.id size _ (at.ends size is)) (omega (arith, c.cut_last.ensures.cost)) c.cutting.invariant.paid
@@ -104,7 +104,7 @@ returns-then-not-branch-clause-cost_sized g c = λ named size map_is is.
 
 pub returns-clause-cost_sized : goal.returns-clause-cost_sized
 returns-clause-cost_sized g c = λ named size map_is is.
-    let at = c.cutting.invariant.told named map_is in
+    let at = c.cutting.invariant.revealed named map_is in
     let first = c.count_of.ensures.cost in
     let all = steps_paid (g.T.SearchedEntries.look_cost + g.T.SortedEntries.replace_cost + g.T.CutEntries.remove_cost) (c.in_ok-left.left - c.cutting.left) size (g.T.SearchedEntries.spent c.cutting.entries) (g.T.SearchedEntries.spent c.cutting.entries) (g.T.SearchedEntries.spent c.count_of.new.entries)
     (few_steps at.now c.args.id size _ (at.ends size is)) (omega arith) c.cutting.invariant.paid

@@ -11,7 +11,7 @@ invariant-cutting g l = record {
   fewer : l.left ≤ l.initial.left;
   kept : g.T.SearchedEntries.beside l.fn.entries l.entries;
   begun : ((sight : Sight) → g.T.SearchedEntries.shows l.entries sight → g.T.SearchedEntries.shows l.fn.entries sight) ⊎ IsToCut l.id l.from (g.T.SearchedEntries.shows l.fn.entries);
-  told : (named : Triples) → AreNamed l.sectors (g.T.SearchedEntries.lists l.fn.entries) named → IsCutting l.sectors (g.T.SearchedEntries.lists l.entries) (g.T.SearchedEntries.counts l.entries) named l.id l.from l.initial.left l.left;
+  revealed : (named : Triples) → AreNamed l.sectors (g.T.SearchedEntries.lists l.fn.entries) named → IsCutting l.sectors (g.T.SearchedEntries.lists l.entries) (g.T.SearchedEntries.counts l.entries) named l.id l.from l.initial.left l.left;
   paid : g.T.SearchedEntries.spent l.entries ≤ g.T.SearchedEntries.spent l.initial.entries + (l.initial.left - l.left) * (g.T.SearchedEntries.look_cost + g.T.SortedEntries.replace_cost + g.T.CutEntries.remove_cost);
   cost : g.T.SearchedEntries.spent l.entries + l.left * (g.T.SearchedEntries.look_cost + g.T.SortedEntries.replace_cost + g.T.CutEntries.remove_cost)
       ≤ g.T.SearchedEntries.spent l.initial.entries + most_records l.sectors * (g.T.SearchedEntries.look_cost + g.T.SortedEntries.replace_cost + g.T.CutEntries.remove_cost);

@@ -10,16 +10,16 @@ pub returns-in-None-clause-step : goal.returns-in-None-clause-step
 returns-in-None-clause-step g c = λ named map_is n counted.
     let last = subst (λ found. IsLastRun map_is.runs c.args.id 4294967295 found) c.in-None.is (c.in_ok-run.ensures.answer map_is.runs map_is.listed map_is.form) in
     uncut c.args.sectors _ _ named map_is c.args.id c.args.from (c.last_run.ensures.same _ map_is.listed)
-    (done_none c.args.sectors _ named map_is (g.met.T.SearchedEntries.rising c.args.entries.now) c.args.id c.args.from (omega (arith, c.ranges.id.fits)) last)
+    (done_none c.args.sectors _ named map_is (g.met.T.SearchedEntries.ascending c.args.entries.now) c.args.id c.args.from (omega (arith, c.ranges.id.fits)) last)
 
 pub returns-then-run-id-clause-step : goal.returns-then-run-id-clause-step
 returns-then-run-id-clause-step g c = λ named map_is n counted.
     let last = subst (λ found. IsLastRun map_is.runs c.args.id 4294967295 found) c.in-Some.is (c.in_ok-run.ensures.answer map_is.runs map_is.listed map_is.form) in
     uncut c.args.sectors _ _ named map_is c.args.id c.args.from (c.last_run.ensures.same _ map_is.listed)
     (elim c.then-run-id.branch [
-      | then-run-id-via-then-run-id w ↦ done_other c.args.sectors _ named map_is (g.met.T.SearchedEntries.rising c.args.entries.now) c.args.id c.args.from (omega (arith, c.ranges.id.fits)) c.in-Some.run' last w.if-run-id.true
+      | then-run-id-via-then-run-id w ↦ done_other c.args.sectors _ named map_is (g.met.T.SearchedEntries.ascending c.args.entries.now) c.args.id c.args.from (omega (arith, c.ranges.id.fits)) c.in-Some.run' last w.if-run-id.true
       | then-run-id-via-else-run-id+then-end-from w ↦
-          done_before c.args.sectors _ named map_is (g.met.T.SearchedEntries.rising c.args.entries.now) c.args.id c.args.from (omega (arith, c.ranges.id.fits)) c.in-Some.run' last
+          done_before c.args.sectors _ named map_is (g.met.T.SearchedEntries.ascending c.args.entries.now) c.args.id c.args.from (omega (arith, c.ranges.id.fits)) c.in-Some.run' last
           (omega (arith, w.end.ensures, w.from.ensures, w.if-end-from.true))
     ])
 
@@ -28,7 +28,7 @@ returns-then-run-from-clause-step g c = λ named map_is n counted.
     let xs = map run_bytes map_is.runs in
     let last = subst (λ found. IsLastRun map_is.runs c.args.id 4294967295 found) c.in-Some.is (c.in_ok-run.ensures.answer map_is.runs map_is.listed map_is.form) in
     let count_is = g.met.T.SearchedEntries.counted_once c.args.entries.now n (length xs) counted (g.met.T.SearchedEntries.counted c.args.entries.now xs map_is.listed) in
-    removed_step c.args.sectors _ named map_is (g.met.T.SearchedEntries.rising c.args.entries.now) c.args.id c.args.from (omega (arith, c.ranges.id.fits)) c.in-Some.run' last (g.T.SearchedEntries.lists c.remove_key.new.self)
+    removed_step c.args.sectors _ named map_is (g.met.T.SearchedEntries.ascending c.args.entries.now) c.args.id c.args.from (omega (arith, c.ranges.id.fits)) c.in-Some.run' last (g.T.SearchedEntries.lists c.remove_key.new.self)
     (g.T.SearchedEntries.counts c.remove_key.new.self) (g.met.T.SearchedEntries.counted c.remove_key.new.self) c.key_of.result (c.key_of.ensures ∙ ap (λ x. key_bytes x c.in-Some.run'.first) (sym c.if-run-id.false)) c.if-run-id.false c.if-run-from.true n count_is c.in_ok-more.more
     (c.in_ok-more.ensures.answer xs (c.last_run.ensures.same xs map_is.listed))
 
@@ -36,7 +36,7 @@ pub returns-clause-step : goal.returns-clause-step
 returns-clause-step g c = λ named map_is n counted.
     let xs = map run_bytes map_is.runs in
     let last = subst (λ found. IsLastRun map_is.runs c.args.id 4294967295 found) c.in-Some.is (c.in_ok-run.ensures.answer map_is.runs map_is.listed map_is.form) in
-    short_step c.args.sectors _ named map_is (g.met.T.SearchedEntries.rising c.args.entries.now) c.args.id c.args.from (omega (arith, c.ranges.id.fits)) c.in-Some.run' last (g.T.SearchedEntries.lists c.replace_key.new.self)
+    short_step c.args.sectors _ named map_is (g.met.T.SearchedEntries.ascending c.args.entries.now) c.args.id c.args.from (omega (arith, c.ranges.id.fits)) c.in-Some.run' last (g.T.SearchedEntries.lists c.replace_key.new.self)
     record { id = c.args.id; first = c.in-Some.run'.first; pages = c.args.from - c.in-Some.run'.first; sector = c.in-Some.run'.sector } refl refl refl refl c.if-run-id.false (omega (arith, c.if-run-from.false))
     (omega (arith, c.if-end-from.false, c.end.ensures, c.from.ensures)) c.to_bytes.result c.to_bytes.ensures c.in_ok-replace_key.field-0 (c.in_ok-replace_key.ensures.answer xs (c.last_run.ensures.same xs map_is.listed))
 
@@ -54,7 +54,7 @@ returns-then-run-from-clause-more g c = λ more.
       page = there.0;
       shown = there.1;
       of_file = c.if-run-id.false;
-      behind = omega (arith, c.if-end-from.false, c.end.ensures, c.from.ensures);
+      after = omega (arith, c.if-end-from.false, c.end.ensures, c.from.ensures);
     }
 
 pub returns-clause-more : goal.returns-clause-more

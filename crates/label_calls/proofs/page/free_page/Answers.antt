@@ -1,6 +1,6 @@
 use Rattle.std.proofs.Common.{◌≡◌, inl, inr, rules, true, false, true≢false, sym, ◌∙◌}
 use Rattle.labelled_disk.specs.Label.{names}
-use Rattle.labelled_disk.specs.Calls.{TellsSame, Moves}
+use Rattle.labelled_disk.specs.Calls.{RevealsSame, Moves}
 use Rattle.labelled_disk.specs.Sectors.{free_label}
 use Rattle.labelled_disk.specs.State.{HasLabel}
 use Rattle.swapper_kernel.specs.Homes.{IsLayout}
@@ -21,29 +21,29 @@ returns-then-not-names-clause-sound g c = λ m stands one.
 
 pub returns-in-Err-write_label-clause-stopped : goal.returns-in-Err-write_label-clause-stopped
 returns-in-Err-write_label-clause-stopped g c =
-    let old = g.D.Disk.state c.args.swapper.now.under in
-    let mid = g.D.Disk.state c.read_label.new.swapper.under in
-    let new = g.D.Disk.state c.write_label.new.swapper.under in
+    let old = g.D.Disk.state c.args.swapper.now.disk in
+    let mid = g.D.Disk.state c.read_label.new.swapper.disk in
+    let new = g.D.Disk.state c.write_label.new.swapper.disk in
     let there : HasLabel old c.args.sector c.in-Ok.found = search rules in
-    let same : TellsSame old mid = search rules in
+    let same : RevealsSame old mid = search rules in
     let read : Moves old mid = search rules in
     let moves : Moves mid new = search rules in
     let layout : IsLayout c.args.swapper.now.layout = search rules in
     let named : names c.in-Ok.found c.args.wanted ≡ true = search rules in
-    (freed_laws c.args.swapper.now.layout old mid new c.args.swapper.now.pool c.args.sector c.in-Ok.found layout (λ d told. g.met.D.Disk.whole c.args.swapper.now.under d told ∙ c.requires.size) c.requires.data there same read moves c.args.wanted c.requires.of_file named).stopped c.in-Err-write_label.ensures.stopped
+    (freed_laws c.args.swapper.now.layout old mid new c.args.swapper.now.pool c.args.sector c.in-Ok.found layout (λ d revealed. g.met.D.Disk.whole c.args.swapper.now.disk d revealed ∙ c.requires.size) c.requires.data there same read moves c.args.wanted c.requires.of_file named).stopped c.in-Err-write_label.ensures.stopped
 
 pub returns-clause-freed : goal.returns-clause-freed
 returns-clause-freed g c =
-    let old = g.D.Disk.state c.args.swapper.now.under in
-    let mid = g.D.Disk.state c.read_label.new.swapper.under in
-    let new = g.D.Disk.state c.write_label.new.swapper.under in
+    let old = g.D.Disk.state c.args.swapper.now.disk in
+    let mid = g.D.Disk.state c.read_label.new.swapper.disk in
+    let new = g.D.Disk.state c.write_label.new.swapper.disk in
     let there : HasLabel old c.args.sector c.in-Ok.found = search rules in
-    let same : TellsSame old mid = search rules in
+    let same : RevealsSame old mid = search rules in
     let read : Moves old mid = search rules in
     let moves : Moves mid new = search rules in
     let layout : IsLayout c.args.swapper.now.layout = search rules in
     let named : names c.in-Ok.found c.args.wanted ≡ true = search rules in
-    (freed_laws c.args.swapper.now.layout old mid new c.args.swapper.now.pool c.args.sector c.in-Ok.found layout (λ d told. g.met.D.Disk.whole c.args.swapper.now.under d told ∙ c.requires.size) c.requires.data there same read moves c.args.wanted c.requires.of_file named).made c.in-Ok-write_label.ensures.writes
+    (freed_laws c.args.swapper.now.layout old mid new c.args.swapper.now.pool c.args.sector c.in-Ok.found layout (λ d revealed. g.met.D.Disk.whole c.args.swapper.now.disk d revealed ∙ c.requires.size) c.requires.data there same read moves c.args.wanted c.requires.of_file named).made c.in-Ok-write_label.ensures.writes
 
 pub returns-in-Err-clause-own : goal.returns-in-Err-clause-own
 returns-in-Err-clause-own g c = relabels_own (same_own c.args.wanted.id c.read_label.ensures.same)
@@ -53,12 +53,12 @@ returns-then-not-names-clause-own g c = relabels_own (same_own c.args.wanted.id 
 
 pub returns-in-Err-write_label-clause-own : goal.returns-in-Err-write_label-clause-own
 returns-in-Err-write_label-clause-own g c =
-    let there : HasLabel (g.D.Disk.state c.args.swapper.now.under) c.args.sector c.in-Ok.found = search rules in
+    let there : HasLabel (g.D.Disk.state c.args.swapper.now.disk) c.args.sector c.in-Ok.found = search rules in
     let named : names c.in-Ok.found c.args.wanted ≡ true = search rules in
     read_own c.args.sector c.in-Ok.found free_label there (of_page c.args.wanted c.in-Ok.found named) c.read_label.ensures.same c.in-Err-write_label.ensures.stopped
 
 pub returns-clause-own : goal.returns-clause-own
 returns-clause-own g c =
-    let there : HasLabel (g.D.Disk.state c.args.swapper.now.under) c.args.sector c.in-Ok.found = search rules in
+    let there : HasLabel (g.D.Disk.state c.args.swapper.now.disk) c.args.sector c.in-Ok.found = search rules in
     let named : names c.in-Ok.found c.args.wanted ≡ true = search rules in
     read_own c.args.sector c.in-Ok.found free_label there (of_page c.args.wanted c.in-Ok.found named) c.read_label.ensures.same (inr c.in-Ok-write_label.ensures.writes)

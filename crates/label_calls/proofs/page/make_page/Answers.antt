@@ -1,6 +1,6 @@
 use Rattle.std.proofs.Common.{◌≡◌, inl, inr, rules, true, false, true≢false, sym, ◌∙◌}
 use Rattle.labelled_disk.specs.Label.{is_free}
-use Rattle.labelled_disk.specs.Calls.{TellsSame, Moves}
+use Rattle.labelled_disk.specs.Calls.{RevealsSame, Moves}
 use Rattle.labelled_disk.specs.Runs.{zero_bytes}
 use Rattle.labelled_disk.specs.Sectors.{IsSector}
 use Rattle.labelled_disk.specs.State.{HasLabel}
@@ -21,38 +21,38 @@ returns-then-not-is_free-clause-sound g c = λ m stands one.
 
 pub returns-in-Err-write_fresh-clause-stopped : goal.returns-in-Err-write_fresh-clause-stopped
 returns-in-Err-write_fresh-clause-stopped g c =
-    let old = g.D.Disk.state c.args.swapper.now.under in
-    let mid = g.D.Disk.state c.read_label.new.swapper.under in
-    let new = g.D.Disk.state c.write_fresh.new.swapper.under in
+    let old = g.D.Disk.state c.args.swapper.now.disk in
+    let mid = g.D.Disk.state c.read_label.new.swapper.disk in
+    let new = g.D.Disk.state c.write_fresh.new.swapper.disk in
     let there : HasLabel old c.args.sector c.in-Ok.found = search rules in
-    let same : TellsSame old mid = search rules in
+    let same : RevealsSame old mid = search rules in
     let read : Moves old mid = search rules in
     let moves : Moves mid new = search rules in
     let layout : IsLayout c.args.swapper.now.layout = search rules in
     let free : is_free c.in-Ok.found ≡ true = search rules in
     let form : IsSector (c.args.label, zero_bytes) = fresh_in_form c.args.label (search rules) (search rules) (search rules) (search rules) (search rules) in
-    (fresh_laws c.args.swapper.now.layout old mid new c.args.swapper.now.pool c.args.sector c.in-Ok.found layout (λ d told. g.met.D.Disk.whole c.args.swapper.now.under d told ∙ c.requires.size) c.requires.data there same read moves c.args.label c.requires.form form free).stopped c.in-Err-write_fresh.ensures.stopped
+    (fresh_laws c.args.swapper.now.layout old mid new c.args.swapper.now.pool c.args.sector c.in-Ok.found layout (λ d revealed. g.met.D.Disk.whole c.args.swapper.now.disk d revealed ∙ c.requires.size) c.requires.data there same read moves c.args.label c.requires.form form free).stopped c.in-Err-write_fresh.ensures.stopped
 
 pub returns-clause-made : goal.returns-clause-made
 returns-clause-made g c =
-    let old = g.D.Disk.state c.args.swapper.now.under in
-    let mid = g.D.Disk.state c.read_label.new.swapper.under in
-    let new = g.D.Disk.state c.write_fresh.new.swapper.under in
+    let old = g.D.Disk.state c.args.swapper.now.disk in
+    let mid = g.D.Disk.state c.read_label.new.swapper.disk in
+    let new = g.D.Disk.state c.write_fresh.new.swapper.disk in
     let there : HasLabel old c.args.sector c.in-Ok.found = search rules in
-    let same : TellsSame old mid = search rules in
+    let same : RevealsSame old mid = search rules in
     let read : Moves old mid = search rules in
     let moves : Moves mid new = search rules in
     let layout : IsLayout c.args.swapper.now.layout = search rules in
     let free : is_free c.in-Ok.found ≡ true = search rules in
     let form : IsSector (c.args.label, zero_bytes) = fresh_in_form c.args.label (search rules) (search rules) (search rules) (search rules) (search rules) in
-    (fresh_laws c.args.swapper.now.layout old mid new c.args.swapper.now.pool c.args.sector c.in-Ok.found layout (λ d told. g.met.D.Disk.whole c.args.swapper.now.under d told ∙ c.requires.size) c.requires.data there same read moves c.args.label c.requires.form form free).made c.in-Ok-write_fresh.ensures.writes
+    (fresh_laws c.args.swapper.now.layout old mid new c.args.swapper.now.pool c.args.sector c.in-Ok.found layout (λ d revealed. g.met.D.Disk.whole c.args.swapper.now.disk d revealed ∙ c.requires.size) c.requires.data there same read moves c.args.label c.requires.form form free).made c.in-Ok-write_fresh.ensures.writes
 
 pub returns-in-Err-write_fresh-clause-was : goal.returns-in-Err-write_fresh-clause-was
 returns-in-Err-write_fresh-clause-was g c =
-    let old = g.D.Disk.state c.args.swapper.now.under in
-    let mid = g.D.Disk.state c.read_label.new.swapper.under in
+    let old = g.D.Disk.state c.args.swapper.now.disk in
+    let mid = g.D.Disk.state c.read_label.new.swapper.disk in
     let there : HasLabel old c.args.sector c.in-Ok.found = search rules in
-    let same : TellsSame old mid = search rules in
+    let same : RevealsSame old mid = search rules in
     let read : Moves old mid = search rules in
     let free : is_free c.in-Ok.found ≡ true = search rules in
     inr (had_one old mid c.args.swapper.now.pool c.args.sector c.in-Ok.found there same read free_ones free)

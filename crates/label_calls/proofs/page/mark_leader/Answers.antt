@@ -1,6 +1,6 @@
 use Rattle.std.proofs.Common.{◌≡◌, ◌⊎◌, inl, inr, rules, true, false, true≢false, sym, ◌∙◌}
 use Rattle.labelled_disk.specs.Label.{names, leader_page}
-use Rattle.labelled_disk.specs.Calls.{TellsSame, TellsWrite, Moves}
+use Rattle.labelled_disk.specs.Calls.{RevealsSame, RevealsWrite, Moves}
 use Rattle.labelled_disk.specs.declared.disk.DiskWrite.TheVariants as write
 use Rattle.labelled_disk.specs.Runs.{zero_bytes}
 use Rattle.labelled_disk.specs.Sectors.{IsSector}
@@ -23,34 +23,34 @@ returns-then-not-names-clause-sound g c = λ m stands one.
 
 pub returns-in-Err-write_label-clause-stopped : goal.returns-in-Err-write_label-clause-stopped
 returns-in-Err-write_label-clause-stopped g c =
-    let old = g.D.Disk.state c.args.swapper.now.under in
-    let mid = g.D.Disk.state c.read_label.new.swapper.under in
-    let new = g.D.Disk.state c.write_label.new.swapper.under in
+    let old = g.D.Disk.state c.args.swapper.now.disk in
+    let mid = g.D.Disk.state c.read_label.new.swapper.disk in
+    let new = g.D.Disk.state c.write_label.new.swapper.disk in
     let there : HasLabel old c.args.sector c.in-Ok.found = search rules in
-    let same : TellsSame old mid = search rules in
+    let same : RevealsSame old mid = search rules in
     let read : Moves old mid = search rules in
     let moves : Moves mid new = search rules in
     let layout : IsLayout c.args.swapper.now.layout = search rules in
     let named : names c.in-Ok.found (record { id = c.args.id; page = leader_page }) ≡ true = search rules in
     let form : IsSector (with_mark c.args.mark c.in-Ok.found, zero_bytes) = fresh_in_form (with_mark c.args.mark c.in-Ok.found) (search rules) (search rules) (search rules) (search rules) (search rules) in
-    let laws = marked_laws c.args.swapper.now.layout old mid new c.args.swapper.now.pool c.args.sector c.in-Ok.found layout (λ d told. g.met.D.Disk.whole c.args.swapper.now.under d told ∙ c.requires.size) c.requires.data there same read moves c.args.mark c.args.id c.requires.of_file form named in
-    let either : TellsSame mid new ⊎ TellsWrite (write.LabelOnly c.args.sector (with_mark c.args.mark c.in-Ok.found)) mid new = search rules in
+    let laws = marked_laws c.args.swapper.now.layout old mid new c.args.swapper.now.pool c.args.sector c.in-Ok.found layout (λ d revealed. g.met.D.Disk.whole c.args.swapper.now.disk d revealed ∙ c.requires.size) c.requires.data there same read moves c.args.mark c.args.id c.requires.of_file form named in
+    let either : RevealsSame mid new ⊎ RevealsWrite (write.LabelOnly c.args.sector (with_mark c.args.mark c.in-Ok.found)) mid new = search rules in
     inr (c.in-Ok.found, there, laws.stopped either)
 
 pub returns-clause-marked : goal.returns-clause-marked
 returns-clause-marked g c =
-    let old = g.D.Disk.state c.args.swapper.now.under in
-    let mid = g.D.Disk.state c.read_label.new.swapper.under in
-    let new = g.D.Disk.state c.write_label.new.swapper.under in
+    let old = g.D.Disk.state c.args.swapper.now.disk in
+    let mid = g.D.Disk.state c.read_label.new.swapper.disk in
+    let new = g.D.Disk.state c.write_label.new.swapper.disk in
     let there : HasLabel old c.args.sector c.in-Ok.found = search rules in
-    let same : TellsSame old mid = search rules in
+    let same : RevealsSame old mid = search rules in
     let read : Moves old mid = search rules in
     let moves : Moves mid new = search rules in
     let layout : IsLayout c.args.swapper.now.layout = search rules in
     let named : names c.in-Ok.found (record { id = c.args.id; page = leader_page }) ≡ true = search rules in
     let form : IsSector (with_mark c.args.mark c.in-Ok.found, zero_bytes) = fresh_in_form (with_mark c.args.mark c.in-Ok.found) (search rules) (search rules) (search rules) (search rules) (search rules) in
-    let laws = marked_laws c.args.swapper.now.layout old mid new c.args.swapper.now.pool c.args.sector c.in-Ok.found layout (λ d told. g.met.D.Disk.whole c.args.swapper.now.under d told ∙ c.requires.size) c.requires.data there same read moves c.args.mark c.args.id c.requires.of_file form named in
-    let made : TellsWrite (write.LabelOnly c.args.sector (with_mark c.args.mark c.in-Ok.found)) mid new = search rules in
+    let laws = marked_laws c.args.swapper.now.layout old mid new c.args.swapper.now.pool c.args.sector c.in-Ok.found layout (λ d revealed. g.met.D.Disk.whole c.args.swapper.now.disk d revealed ∙ c.requires.size) c.requires.data there same read moves c.args.mark c.args.id c.requires.of_file form named in
+    let made : RevealsWrite (write.LabelOnly c.args.sector (with_mark c.args.mark c.in-Ok.found)) mid new = search rules in
     (c.in-Ok.found, laws.made made)
 
 pub returns-in-Err-clause-own : goal.returns-in-Err-clause-own
@@ -61,12 +61,12 @@ returns-then-not-names-clause-own g c = relabels_own (same_own c.args.id c.read_
 
 pub returns-in-Err-write_label-clause-own : goal.returns-in-Err-write_label-clause-own
 returns-in-Err-write_label-clause-own g c =
-    let there : HasLabel (g.D.Disk.state c.args.swapper.now.under) c.args.sector c.in-Ok.found = search rules in
+    let there : HasLabel (g.D.Disk.state c.args.swapper.now.disk) c.args.sector c.in-Ok.found = search rules in
     let named : names c.in-Ok.found (record { id = c.args.id; page = leader_page }) ≡ true = search rules in
     read_own c.args.sector c.in-Ok.found _ there (of_page (record { id = c.args.id; page = leader_page }) c.in-Ok.found named) c.read_label.ensures.same c.in-Err-write_label.ensures.stopped
 
 pub returns-clause-own : goal.returns-clause-own
 returns-clause-own g c =
-    let there : HasLabel (g.D.Disk.state c.args.swapper.now.under) c.args.sector c.in-Ok.found = search rules in
+    let there : HasLabel (g.D.Disk.state c.args.swapper.now.disk) c.args.sector c.in-Ok.found = search rules in
     let named : names c.in-Ok.found (record { id = c.args.id; page = leader_page }) ≡ true = search rules in
     read_own c.args.sector c.in-Ok.found _ there (of_page (record { id = c.args.id; page = leader_page }) c.in-Ok.found named) c.read_label.ensures.same (inr c.in-Ok-write_label.ensures.writes)

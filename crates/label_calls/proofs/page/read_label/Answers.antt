@@ -1,16 +1,16 @@
 use Rattle.std.proofs.Common.{rules}
-use Rattle.labelled_disk.specs.Calls.{TellsSame, Moves}
+use Rattle.labelled_disk.specs.Calls.{RevealsSame, Moves}
 use Rattle.swapper_kernel.proofs.StepLemmas.{step_laws}
 use Rattle.label_calls.proofs.page.read_label.Goals as goal
 
 pub returns-in-Ok-clause-makes : goal.returns-in-Ok-clause-makes
 returns-in-Ok-clause-makes g c =
-    let same : TellsSame (g.D.Disk.state c.args.swapper.now.under) (g.D.Disk.state c.read.new.self) = search rules in
-    let moves : Moves (g.D.Disk.state c.args.swapper.now.under) (g.D.Disk.state c.read.new.self) = search rules in
+    let same : RevealsSame (g.D.Disk.state c.args.swapper.now.disk) (g.D.Disk.state c.read.new.self) = search rules in
+    let moves : Moves (g.D.Disk.state c.args.swapper.now.disk) (g.D.Disk.state c.read.new.self) = search rules in
     (step_laws.read _ _ c.args.swapper.now.pool same moves).makes
 
 pub returns-in-Err-clause-makes : goal.returns-in-Err-clause-makes
 returns-in-Err-clause-makes g c =
-    let same : TellsSame (g.D.Disk.state c.args.swapper.now.under) (g.D.Disk.state c.read.new.self) = search rules in
-    let moves : Moves (g.D.Disk.state c.args.swapper.now.under) (g.D.Disk.state c.read.new.self) = search rules in
+    let same : RevealsSame (g.D.Disk.state c.args.swapper.now.disk) (g.D.Disk.state c.read.new.self) = search rules in
+    let moves : Moves (g.D.Disk.state c.args.swapper.now.disk) (g.D.Disk.state c.read.new.self) = search rules in
     (step_laws.read _ _ c.args.swapper.now.pool same moves).makes

@@ -33,9 +33,9 @@ pub returns-in-Err-clause-cause : goal.returns-in-Err-clause-cause
 returns-in-Err-clause-cause g c =
     let below : c.loop-k.k < c.args.pages = search rules in
     let last : (c.args.pages - (c.loop-k.k + 1)) < c.args.pages = omega (arith, below) in
-    let old = g.D.Disk.state c.args.swapper.now.under in
-    let mid = g.D.Disk.state c.loop-k.swapper.under in
-    let new = g.D.Disk.state c.free_page.new.swapper.under in
+    let old = g.D.Disk.state c.args.swapper.now.disk in
+    let mid = g.D.Disk.state c.loop-k.swapper.disk in
+    let new = g.D.Disk.state c.free_page.new.swapper.disk in
     cause_before (λ k. c.args.sector + (c.args.pages - (k + 1))) _ _ _ _ _ _ _ _ _ c.loop-k.k c.loop-k.invariant (apart c.args.sector c.args.pages c.loop-k.k below) (IsNotOf (c.args.sector + (c.args.pages - (c.loop-k.k + 1))) (record { id = c.args.id; page = c.args.page + (c.args.pages - (c.loop-k.k + 1)) }) mid) (IsOneNotOf c.args.sector c.args.pages (λ k. record { id = c.args.id; page = c.args.page + k }) old) new c.in-Err.halt
     (λ evidence is. ((c.args.pages - (c.loop-k.k + 1)), last, not_of_before (λ k. c.args.sector + (c.args.pages - (k + 1))) _ _ _ _ _ _ _ _ _ c.loop-k.k c.loop-k.invariant (apart c.args.sector c.args.pages c.loop-k.k below) (record { id = c.args.id; page = c.args.page + (c.args.pages - (c.loop-k.k + 1)) }) evidence is)) c.in-Err.ensures.cause
 
@@ -63,21 +63,21 @@ turned : (k pages : ℕ) → k < pages → pages - (pages - (k + 1) + 1) ≡ k
 turned k pages below = omega (arith, below)
 
 pub returns-clause-were : goal.returns-clause-were
-returns-clause-were g c = λ d told k below.
+returns-clause-were g c = λ d revealed k below.
     let all : c.loop-k.k ≡ c.args.pages = search rules in
     let i : ℕ = c.args.pages - (k + 1) in
     let less : i < c.loop-k.k = omega (arith, all, below) in
-    let one = c.loop-k.invariant.found d told i less in
+    let one = c.loop-k.invariant.found d revealed i less in
     let back : c.args.pages - (i + 1) ≡ k = turned k c.args.pages below in
     rw back at one
 
-pub returns-in-Err-clause-so : goal.returns-in-Err-clause-so
-returns-in-Err-clause-so g c =
+pub returns-in-Err-clause-evidence_seen : goal.returns-in-Err-clause-evidence_seen
+returns-in-Err-clause-evidence_seen g c =
     let below : c.loop-k.k < c.args.pages = search rules in
     let last : (c.args.pages - (c.loop-k.k + 1)) < c.args.pages = omega (arith, below) in
-    let new = g.D.Disk.state c.free_page.new.swapper.under in
+    let new = g.D.Disk.state c.free_page.new.swapper.disk in
     cause_before (λ k. c.args.sector + (c.args.pages - (k + 1))) _ _ _ _ _ _ _ _ _ c.loop-k.k c.loop-k.invariant (apart c.args.sector c.args.pages c.loop-k.k below) (IsNotOf (c.args.sector + (c.args.pages - (c.loop-k.k + 1))) (record { id = c.args.id; page = c.args.page + (c.args.pages - (c.loop-k.k + 1)) }) new) (IsOneNotOf c.args.sector c.args.pages (λ k. record { id = c.args.id; page = c.args.page + k }) new) new c.in-Err.halt
-    (λ evidence is. ((c.args.pages - (c.loop-k.k + 1)), last, is)) c.in-Err.ensures.so
+    (λ evidence is. ((c.args.pages - (c.loop-k.k + 1)), last, is)) c.in-Err.ensures.evidence_seen
 
 pub returns-in-Err-clause-own : goal.returns-in-Err-clause-own
 returns-in-Err-clause-own g c =

@@ -31,9 +31,9 @@ returns-in-Err-clause-sound g c = λ m stands free ones.
 pub returns-in-Err-clause-cause : goal.returns-in-Err-clause-cause
 returns-in-Err-clause-cause g c =
     let below : c.loop-k.k < c.args.pages = search rules in
-    let old = g.D.Disk.state c.args.swapper.now.under in
-    let mid = g.D.Disk.state c.loop-k.swapper.under in
-    let new = g.D.Disk.state c.free_page.new.swapper.under in
+    let old = g.D.Disk.state c.args.swapper.now.disk in
+    let mid = g.D.Disk.state c.loop-k.swapper.disk in
+    let new = g.D.Disk.state c.free_page.new.swapper.disk in
     cause_before (λ k. c.args.sector + k) _ _ _ _ _ _ _ _ _ c.loop-k.k c.loop-k.invariant (apart c.args.sector c.loop-k.k) (IsNotOf (c.args.sector + c.loop-k.k) (record { id = c.args.id; page = c.args.page + c.loop-k.k }) mid) (IsOneNotOf c.args.sector c.args.pages (λ k. record { id = c.args.id; page = c.args.page + k }) old) new c.in-Err.halt
     (λ evidence is. (c.loop-k.k, below, not_of_before (λ k. c.args.sector + k) _ _ _ _ _ _ _ _ _ c.loop-k.k c.loop-k.invariant (apart c.args.sector c.loop-k.k) (record { id = c.args.id; page = c.args.page + c.loop-k.k }) evidence is)) c.in-Err.ensures.cause
 
@@ -56,16 +56,16 @@ returns-in-Err-clause-named g c =
     c.args.pages (freeing (range_with_len c.args.sector c.args.pages)) (freeing_is (λ k. c.args.sector + k) (range_with_len 0 c.args.pages) ∙ ap freeing (row_is c.args.sector c.args.pages 0 ∙ (λ j. range_with_len (let e : c.args.sector + 0 ≡ c.args.sector = omega arith in e j) c.args.pages))) below _ c.in-Err.ensures.stopped (was_before c.in-Err.ensures.frames c.in-Err.ensures.was)
 
 pub returns-clause-were : goal.returns-clause-were
-returns-clause-were g c = λ d told k below.
+returns-clause-were g c = λ d revealed k below.
     let all : c.loop-k.k ≡ c.args.pages = search rules in
-    c.loop-k.invariant.found d told k (omega (arith, all, below))
+    c.loop-k.invariant.found d revealed k (omega (arith, all, below))
 
-pub returns-in-Err-clause-so : goal.returns-in-Err-clause-so
-returns-in-Err-clause-so g c =
+pub returns-in-Err-clause-evidence_seen : goal.returns-in-Err-clause-evidence_seen
+returns-in-Err-clause-evidence_seen g c =
     let below : c.loop-k.k < c.args.pages = search rules in
-    let new = g.D.Disk.state c.free_page.new.swapper.under in
+    let new = g.D.Disk.state c.free_page.new.swapper.disk in
     cause_before (λ k. c.args.sector + k) _ _ _ _ _ _ _ _ _ c.loop-k.k c.loop-k.invariant (apart c.args.sector c.loop-k.k) (IsNotOf (c.args.sector + c.loop-k.k) (record { id = c.args.id; page = c.args.page + c.loop-k.k }) new) (IsOneNotOf c.args.sector c.args.pages (λ k. record { id = c.args.id; page = c.args.page + k }) new) new c.in-Err.halt
-    (λ evidence is. (c.loop-k.k, below, is)) c.in-Err.ensures.so
+    (λ evidence is. (c.loop-k.k, below, is)) c.in-Err.ensures.evidence_seen
 
 pub returns-in-Err-clause-own : goal.returns-in-Err-clause-own
 returns-in-Err-clause-own g c =

@@ -9,4 +9,4 @@ use Rattle.label_calls.proofs.run.free_pages_up.Given as goal
 abbrev pub invariant-loop-k : goal.invariant-loop-k
 invariant-loop-k g l =
     IsSoFar (λ k. l.fn.sector + k) (λ k. write.LabelOnly (l.fn.sector + k) free_label) (λ k. ones_of (record { id = l.fn.id; page = l.fn.page + k })) (AreUncovered l.fn.swapper.pool l.fn.sector l.fn.pages)
-    (g.D.Disk.state l.fn.swapper.under) l.fn.swapper.pool l.fn.swapper.layout (g.D.Disk.state l.swapper.under) l.swapper.pool l.swapper.layout l.k
+    (g.D.Disk.state l.fn.swapper.disk) l.fn.swapper.pool l.fn.swapper.layout (g.D.Disk.state l.swapper.disk) l.swapper.pool l.swapper.layout l.k

@@ -36,9 +36,9 @@ returns-in-Err-clause-sound g c = λ m stands free ones.
 pub returns-in-Err-clause-cause : goal.returns-in-Err-clause-cause
 returns-in-Err-clause-cause g c =
     let below : c.loop-k.k < c.args.pages = search rules in
-    let old = g.D.Disk.state c.args.swapper.now.under in
-    let mid = g.D.Disk.state c.loop-k.swapper.under in
-    let new = g.D.Disk.state c.make_page.new.swapper.under in
+    let old = g.D.Disk.state c.args.swapper.now.disk in
+    let mid = g.D.Disk.state c.loop-k.swapper.disk in
+    let new = g.D.Disk.state c.make_page.new.swapper.disk in
     cause_before (λ k. c.args.sector + k) _ _ _ _ _ _ _ _ _ c.loop-k.k c.loop-k.invariant (apart c.args.sector c.loop-k.k) (IsTaken (c.args.sector + c.loop-k.k) mid) (IsOneTaken c.args.sector c.args.pages old) new c.in-Err.halt
     (λ evidence is. (c.loop-k.k, below, taken_before (λ k. c.args.sector + k) _ _ _ _ _ _ _ _ _ c.loop-k.k c.loop-k.invariant (apart c.args.sector c.loop-k.k) evidence is)) c.in-Err.ensures.cause
 
@@ -54,13 +54,13 @@ returns-clause-made g c =
     let so_far = rw all at c.loop-k.invariant in
     run_is (λ k. c.args.sector + k) (λ k. write.Whole (c.args.sector + k) (page_label c.args.id c.args.kind (c.args.page + k)) zero_bytes) _ c.args.sector c.args.pages _ _ _ _ _ _ _ (all_are c.args.id c.args.kind c.args.page c.args.sector c.args.pages) so_far
 
-pub returns-in-Err-clause-so : goal.returns-in-Err-clause-so
-returns-in-Err-clause-so g c =
+pub returns-in-Err-clause-evidence_seen : goal.returns-in-Err-clause-evidence_seen
+returns-in-Err-clause-evidence_seen g c =
     let below : c.loop-k.k < c.args.pages = search rules in
-    let old = g.D.Disk.state c.args.swapper.now.under in
-    let new = g.D.Disk.state c.make_page.new.swapper.under in
+    let old = g.D.Disk.state c.args.swapper.now.disk in
+    let new = g.D.Disk.state c.make_page.new.swapper.disk in
     cause_before (λ k. c.args.sector + k) _ _ _ _ _ _ _ _ _ c.loop-k.k c.loop-k.invariant (apart c.args.sector c.loop-k.k) (IsTaken (c.args.sector + c.loop-k.k) new) (IsOneTaken c.args.sector c.args.pages new) new c.in-Err.halt
-    (λ evidence is. (c.loop-k.k, below, is)) c.in-Err.ensures.so
+    (λ evidence is. (c.loop-k.k, below, is)) c.in-Err.ensures.evidence_seen
 
 pub returns-in-Err-clause-own : goal.returns-in-Err-clause-own
 returns-in-Err-clause-own g c = λ other.
@@ -70,9 +70,9 @@ pub returns-clause-own : goal.returns-clause-own
 returns-clause-own g c = λ other. relabels_own (so_far_whole (λ k. c.args.sector + k) (λ k. page_label c.args.id c.args.kind (c.args.page + k)) zero_bytes _ other c.loop-k.k c.loop-k.invariant)
 
 pub returns-clause-were : goal.returns-clause-were
-returns-clause-were g c = λ d told k below.
+returns-clause-were g c = λ d revealed k below.
     let all : c.loop-k.k ≡ c.args.pages = search rules in
-    c.loop-k.invariant.found d told k (omega (arith, all, below))
+    c.loop-k.invariant.found d revealed k (omega (arith, all, below))
 
 pub returns-in-Err-clause-named : goal.returns-in-Err-clause-named
 returns-in-Err-clause-named g c =

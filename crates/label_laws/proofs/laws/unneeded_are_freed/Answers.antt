@@ -1,8 +1,8 @@
 use Rattle.label_laws.proofs.NeededLemmas as laws
 use Rattle.label_laws.proofs.laws.unneeded_are_freed.Goals as goal
 
-pub returns-clause-moments : goal.returns-clause-moments
-returns-clause-moments c with_temporary = laws.freed_moments with_temporary
+pub returns-clause-crash_states : goal.returns-clause-crash_states
+returns-clause-crash_states c with_temporary = laws.freed_crash_states with_temporary
 
 pub returns-clause-all : goal.returns-clause-all
 returns-clause-all c with_temporary = laws.freed_all with_temporary

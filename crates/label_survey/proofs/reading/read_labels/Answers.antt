@@ -20,23 +20,23 @@ loop-sector-preserved g c =
       len = omega (arith, so_far.len, c.in-Ok-push.ensures.len, c.loop-sector.auto.sector);
       count = omega (arith, so_far.count, ap length c.in-Ok-push.ensures.items, pushed_length c.loop-sector.labels.items c.in-Ok-read.label, c.loop-sector.auto.sector);
       room = omega (arith, so_far.room, c.push.ensures.capacity);
-      told = λ d told.
-          let at = c.in-Ok-read.ensures.found d (so_far.cost.only.contents ∙ told) in
-          let long : length d ≡ (g.D.Disk.state c.args.disk.now).sectors = g.met.D.Disk.whole c.args.disk.now d told in
+      revealed = λ d revealed.
+          let at = c.in-Ok-read.ensures.found d (so_far.cost.only.contents ∙ revealed) in
+          let long : length d ≡ (g.D.Disk.state c.args.disk.now).sectors = g.met.D.Disk.whole c.args.disk.now d revealed in
           let from : first_data (length d) ≡ c.args.layout.now.first = ap first_data long ∙ sym parts.1 in
           c.in-Ok-push.ensures.items
-          ∙ ap (λ (l : List Label). l ++ c.in-Ok-read.label ∷ []) (so_far.told d told)
+          ∙ ap (λ (l : List Label). l ++ c.in-Ok-read.label ∷ []) (so_far.revealed d revealed)
           ∙ subst (λ (n : ℕ). map (λ (s : Sector). s.0) (take (c.loop-sector.sector - c.args.layout.now.first) (drop n d)) ++ c.in-Ok-read.label ∷ []
           ≡ map (λ (s : Sector). s.0) (take (c.loop-sector.sector + 1 - c.args.layout.now.first) (drop n d))) (sym from)
           (sym (scanned_more (λ (s : Sector). s.0) d c.args.layout.now.first c.loop-sector.sector (c.in-Ok-read.label, c.read.new.page) (omega (arith, c.loop-sector.auto.sector)) at));
     }
 
 pub returns-clause-labels : goal.returns-clause-labels
-returns-clause-labels g c = λ d told.
+returns-clause-labels g c = λ d revealed.
     let parts = of_layout c.args.layout.now (g.D.Disk.state c.args.disk.now).sectors c.requires.layout in
-    let long : length d ≡ (g.D.Disk.state c.args.disk.now).sectors = g.met.D.Disk.whole c.args.disk.now d told in
+    let long : length d ≡ (g.D.Disk.state c.args.disk.now).sectors = g.met.D.Disk.whole c.args.disk.now d revealed in
     let from : first_data (length d) ≡ c.args.layout.now.first = ap first_data long ∙ sym parts.1 in
-    c.loop-sector.invariant.told d told
+    c.loop-sector.invariant.revealed d revealed
     ∙ scanned_all (λ (s : Sector). s.0) d (first_data (length d)) (c.loop-sector.sector - c.args.layout.now.first) (omega (arith, long, from, parts.0, c.loop-sector-test.false))
 
 pub returns-clause-all : goal.returns-clause-all

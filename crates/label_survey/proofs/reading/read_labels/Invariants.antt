@@ -12,5 +12,5 @@ invariant-loop-sector g l = record {
   len : vec_len l.labels ≡ l.sector - l.layout.first;
   count : length l.labels.items ≡ l.sector - l.layout.first;
   room : l.layout.sectors - l.layout.first ≤ vec_capacity l.labels;
-  told : (d : List Sector) → (g.D.Disk.state l.fn.disk).contents ≡ Some d → l.labels.items ≡ map (λ s. s.0) (take (l.sector - l.layout.first) (data_sectors d));
+  revealed : (d : List Sector) → (g.D.Disk.state l.fn.disk).contents ≡ Some d → l.labels.items ≡ map (λ s. s.0) (take (l.sector - l.layout.first) (data_sectors d));
 }

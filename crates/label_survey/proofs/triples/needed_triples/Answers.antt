@@ -13,7 +13,7 @@ returns-clause-few g c =
     let moved = subst (λ (ts : List Triple). IsPermutation ts c.sort_triples.new.triples) was c.sort_triples.ensures.same in
     let long = length_permutation c.in_ok-triples.triples.items c.sort_triples.new.triples moved in
     let filled = refilled c.in_ok-triples.triples.len c.in_ok-triples.triples.items c.sort_triples.new.triples (omega (arith, c.deref_mut.ensures.len, ap length was)) long in
-    let few = triples_few c.args.first c.args.labels.now c.args.standings.now in
+    let few = triples_few c.args.first c.args.labels.now c.args.sector_states.now in
     omega (arith, ap length filled, long, ap length c.in_ok-triples.ensures, few)
 
 pub returns-clause-needed : goal.returns-clause-needed
@@ -22,4 +22,4 @@ returns-clause-needed g c = λ d at labels are.
     let moved = subst (λ (ts : List Triple). IsPermutation ts c.sort_triples.new.triples) was c.sort_triples.ensures.same in
     let long = length_permutation c.in_ok-triples.triples.items c.sort_triples.new.triples moved in
     let filled = refilled c.in_ok-triples.triples.len c.in_ok-triples.triples.items c.sort_triples.new.triples (omega (arith, c.deref_mut.ensures.len, ap length was)) long in
-    subst (AreNeeded d) (sym filled) (are_needed d c.args.labels.now c.args.standings.now labels are c.args.first c.in_ok-triples.triples.items c.sort_triples.new.triples at c.in_ok-triples.ensures moved)
+    subst (AreNeeded d) (sym filled) (are_needed d c.args.labels.now c.args.sector_states.now labels are c.args.first c.in_ok-triples.triples.items c.sort_triples.new.triples at c.in_ok-triples.ensures moved)

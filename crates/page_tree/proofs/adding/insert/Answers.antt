@@ -12,7 +12,7 @@ use Rattle.page_tree.proofs.adding.insert.Goals as goal
 
 pub returns-in-Err-clause-answer : goal.returns-in-Err-clause-answer
 returns-in-Err-clause-answer g c = λ b h records tree.
-    full_or g.row.E (g.M.FlatMem.size c.args.mem.now / 512) (g.M.FlatMem.tells c.read_header.new.mem) b records c.in-Err.error (c.in-Err.ensures.well b h records tree)
+    full_or g.row.E (g.M.FlatMem.size c.args.mem.now / 512) (g.M.FlatMem.reveals c.read_header.new.mem) b records c.in-Err.error (c.in-Err.ensures.well b h records tree)
 
 pub returns-in-Err-put_in-clause-answer : goal.returns-in-Err-put_in-clause-answer
 returns-in-Err-put_in-clause-answer g c = λ b h records tree.
@@ -22,7 +22,7 @@ returns-in-Err-put_in-clause-answer g c = λ b h records tree.
     let room : length records < capacity_of g.row.E (g.M.FlatMem.size c.args.mem.now / 512) = omega (arith, below, is.count_is, tree.header.count_is) in
     let tree_now = subst (λ (s : ℕ). IsTree g.row.E g.row.K (s / 512) b records) size tree in
     let room_now = subst (λ (s : ℕ). length records < capacity_of g.row.E (s / 512)) size room in
-    full_or g.row.E (g.M.FlatMem.size c.args.mem.now / 512) (g.M.FlatMem.tells c.put_in.new.mem) b records c.in-Err-put_in.error (c.in-Err-put_in.ensures.put b (c.read_header.ensures.unchanged b h) records tree_now is room_now)
+    full_or g.row.E (g.M.FlatMem.size c.args.mem.now / 512) (g.M.FlatMem.reveals c.put_in.new.mem) b records c.in-Err-put_in.error (c.in-Err-put_in.ensures.put b (c.read_header.ensures.unchanged b h) records tree_now is room_now)
 
 pub returns-in-Err-finish-clause-answer : goal.returns-in-Err-finish-clause-answer
 returns-in-Err-finish-clause-answer g c = λ b h records tree.
@@ -34,11 +34,11 @@ returns-in-Err-finish-clause-answer g c = λ b h records tree.
     let tree_now = subst (λ (s : ℕ). IsTree g.row.E g.row.K (s / 512) b records) size tree in
     let room_now = subst (λ (s : ℕ). length records < capacity_of g.row.E (s / 512)) size room in
     let put_now = c.in-Ok-put_in.ensures.put b (c.read_header.ensures.unchanged b h) records tree_now is room_now in
-    let long : length (insert records put_now.at c.args.entry.now) ≡ length records + 1 = length-insert records put_now.at c.args.entry.now put_now.behind.within in
+    let long : length (insert records put_now.at c.args.entry.now) ≡ length records + 1 = length-insert records put_now.at c.args.entry.now put_now.after.within in
     let closed = closed_moved g.row.E g.row.K _ _ put_now.now (insert records put_now.at c.args.entry.now) _ _ _ _ c.put_in.new.header.free c.put_in.new.header.top size_put refl refl put_now.closed in
     let room_put = subst (λ (s : ℕ). length records < capacity_of g.row.E (s / 512)) size_put room_now in
-    full_or g.row.E (g.M.FlatMem.size c.args.mem.now / 512) (g.M.FlatMem.tells c.finish.new.mem) b records c.in-Err-finish.error
-    (c.in-Err-finish.ensures.tree g.row.E g.row.K put_now.now put_now.told (insert records put_now.at c.args.entry.now) closed put_now.some (subst IsBlank (sym (c.in-Ok.ensures.read b h)) tree.header.rest) (omega (arith, long, c.put_in.ensures.count, is.count_is, tree.header.count_is)) (omega (arith, long, room_put)))
+    full_or g.row.E (g.M.FlatMem.size c.args.mem.now / 512) (g.M.FlatMem.reveals c.finish.new.mem) b records c.in-Err-finish.error
+    (c.in-Err-finish.ensures.tree g.row.E g.row.K put_now.now put_now.revealed (insert records put_now.at c.args.entry.now) closed put_now.some (subst IsBlank (sym (c.in-Ok.ensures.read b h)) tree.header.rest) (omega (arith, long, c.put_in.ensures.count, is.count_is, tree.header.count_is)) (omega (arith, long, room_put)))
 
 pub returns-clause-answer : goal.returns-clause-answer
 returns-clause-answer g c = λ b h records tree.
@@ -50,15 +50,15 @@ returns-clause-answer g c = λ b h records tree.
     let tree_now = subst (λ (s : ℕ). IsTree g.row.E g.row.K (s / 512) b records) size tree in
     let room_now = subst (λ (s : ℕ). length records < capacity_of g.row.E (s / 512)) size room in
     let put_now = c.in-Ok-put_in.ensures.put b (c.read_header.ensures.unchanged b h) records tree_now is room_now in
-    let long : length (insert records put_now.at c.args.entry.now) ≡ length records + 1 = length-insert records put_now.at c.args.entry.now put_now.behind.within in
+    let long : length (insert records put_now.at c.args.entry.now) ≡ length records + 1 = length-insert records put_now.at c.args.entry.now put_now.after.within in
     let closed = closed_moved g.row.E g.row.K _ _ put_now.now (insert records put_now.at c.args.entry.now) _ _ _ _ c.put_in.new.header.free c.put_in.new.header.top size_put refl refl put_now.closed in
     let room_put = subst (λ (s : ℕ). length records < capacity_of g.row.E (s / 512)) size_put room_now in
-    let whole = c.in-Ok-finish.ensures.tree g.row.E g.row.K put_now.now put_now.told (insert records put_now.at c.args.entry.now) closed put_now.some (subst IsBlank (sym (c.in-Ok.ensures.read b h)) tree.header.rest) (omega (arith, long, c.put_in.ensures.count, is.count_is, tree.header.count_is)) (omega (arith, long, room_put)) in
+    let whole = c.in-Ok-finish.ensures.tree g.row.E g.row.K put_now.now put_now.revealed (insert records put_now.at c.args.entry.now) closed put_now.some (subst IsBlank (sym (c.in-Ok.ensures.read b h)) tree.header.rest) (omega (arith, long, c.put_in.ensures.count, is.count_is, tree.header.count_is)) (omega (arith, long, room_put)) in
     record {
       now = whole.0;
-      told = whole.1;
+      revealed = whole.1;
       at = put_now.at;
-      behind = put_now.behind;
+      after = put_now.after;
       tree = subst (λ (s : ℕ). IsTree g.row.E g.row.K (s / 512) whole.0 (insert records put_now.at c.args.entry.now)) (sym (size ∙ size_put)) whole.2;
     }
 

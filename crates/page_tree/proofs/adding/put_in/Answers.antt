@@ -3,7 +3,7 @@ use Rattle.std.proofs.lemmas.List.Edits.{length-insert}
 use Rattle.page_tree.specs.Tree.{IsTree, IsRooted}
 use Rattle.page_tree.specs.Answer.{GoesTo, FromMemory}
 use Rattle.page_tree.specs.Put.{capacity_of}
-use Rattle.page_tree.specs.Climb.{TellsClosed}
+use Rattle.page_tree.specs.Climb.{RevealsClosed}
 use Rattle.page_tree.proofs.Low.{ready}
 use Rattle.page_tree.proofs.Moved.{climb_moved, closed_moved, step_done, step_more, match_weaker}
 use Rattle.page_tree.specs.Broken.{Meets, StopsInsertion}
@@ -45,9 +45,9 @@ returns-then-done-clause-put g c = λ b h records tree is room.
     let closed = step_done g.row.E g.row.K _ _ (insert records low.0 c.args.entry.now) _ _ _ _ _ _ _ _ _ c.in-Ok-put_low.done c.if-done.true low.2 in
     record {
       now = closed.0;
-      told = closed.1;
+      revealed = closed.1;
       at = low.0;
-      behind = subst (λ (x : List ℕ). GoesTo g.row.K records x low.0) c.copy_from_slice.ensures.after low.1;
+      after = subst (λ (x : List ℕ). GoesTo g.row.K records x low.0) c.copy_from_slice.ensures.after low.1;
       some = omega (arith, some, c.put_low.ensures.same_levels);
       few = omega (arith, c.requires.begins.levels_most, c.put_low.ensures.same_levels);
       closed = closed_moved g.row.E g.row.K _ _ closed.0 (insert records low.0 c.args.entry.now) _ _ _ _ c.put_low.new.header.free c.put_low.new.header.top (sym size) (sym c.put_low.ensures.same_levels) (sym c.put_low.ensures.root) closed.2;
@@ -70,39 +70,39 @@ returns-clause-put g c = λ b h records tree is room.
     let below : length records < capacity_of g.row.E (g.M.FlatMem.size c.put_low.new.mem / 512) = subst (λ (s : ℕ). length records < capacity_of g.row.E (s / 512)) size_low room_now in
     let fits : length (insert records low.0 c.args.entry.now) ≤ capacity_of g.row.E (g.M.FlatMem.size c.put_low.new.mem / 512) = omega (arith, long, below) in
     let done = c.climb.ensures.done g.row.E more.0 more.1 (insert records low.0 c.args.entry.now) c.requires.widths fits moved in
-    match_weaker c.climb.result (λ x. TellsClosed g.row.E g.row.K (g.M.FlatMem.size c.put_low.new.mem / 512) (g.M.FlatMem.tells c.climb.new.mem) (insert records low.0 c.args.entry.now) c.climb.new.header.levels c.climb.new.header.root c.climb.new.header.free c.climb.new.header.top)
+    match_weaker c.climb.result (λ x. RevealsClosed g.row.E g.row.K (g.M.FlatMem.size c.put_low.new.mem / 512) (g.M.FlatMem.reveals c.climb.new.mem) (insert records low.0 c.args.entry.now) c.climb.new.header.levels c.climb.new.header.root c.climb.new.header.free c.climb.new.header.top)
     _ FromMemory _
-    (λ x told. record {
-      now = told.0;
-      told = told.1;
+    (λ x revealed. record {
+      now = revealed.0;
+      revealed = revealed.1;
       at = low.0;
-      behind = subst (λ (x : List ℕ). GoesTo g.row.K records x low.0) c.copy_from_slice.ensures.after low.1;
-      some = told.3;
-      few = told.4;
-      closed = closed_moved g.row.E g.row.K _ _ told.0 (insert records low.0 c.args.entry.now) _ _ _ _ c.climb.new.header.free c.climb.new.header.top (sym (size ∙ size_low)) refl refl told.2;
+      after = subst (λ (x : List ℕ). GoesTo g.row.K records x low.0) c.copy_from_slice.ensures.after low.1;
+      some = revealed.3;
+      few = revealed.4;
+      closed = closed_moved g.row.E g.row.K _ _ revealed.0 (insert records low.0 c.args.entry.now) _ _ _ _ c.climb.new.header.free c.climb.new.header.top (sym (size ∙ size_low)) refl refl revealed.2;
     })
     (λ error from. from)
     done
 
 pub returns-then-header-eq0-clause-on : goal.returns-then-header-eq0-clause-on
-returns-then-header-eq0-clause-on g c = λ b h is. c.put_first.ensures.on b h (way_begun g.row.K b _ _ (sym is.free_is) (omega (arith, g.met.M.FlatMem.told_length c.args.mem.now b h, c.requires.free)) (sym is.top_is))
+returns-then-header-eq0-clause-on g c = λ b h is. c.put_first.ensures.on b h (way_begun g.row.K b _ _ (sym is.free_is) (omega (arith, g.met.M.FlatMem.revealed_length c.args.mem.now b h, c.requires.free)) (sym is.top_is))
 
 pub returns-in-Err-clause-on : goal.returns-in-Err-clause-on
-returns-in-Err-clause-on g c = λ b h is. malformed_wider _ _ c.in-Err.error (λ page broken. StopsInsertion.broken broken) (c.in-Err.ensures.broken b h (root_met g.row.K b (g.M.FlatMem.size c.args.mem.now) c.args.header.now.levels c.args.header.now.root (g.met.M.FlatMem.told_length c.args.mem.now b h) c.requires.begins (omega (arith, c.if-header-eq0.false)) (sym is.levels_is) (sym is.root_is)))
+returns-in-Err-clause-on g c = λ b h is. malformed_wider _ _ c.in-Err.error (λ page broken. StopsInsertion.broken broken) (c.in-Err.ensures.broken b h (root_met g.row.K b (g.M.FlatMem.size c.args.mem.now) c.args.header.now.levels c.args.header.now.root (g.met.M.FlatMem.revealed_length c.args.mem.now b h) c.requires.begins (omega (arith, c.if-header-eq0.false)) (sym is.levels_is) (sym is.root_is)))
 
 pub returns-in-Err-put_low-clause-on : goal.returns-in-Err-put_low-clause-on
 returns-in-Err-put_low-clause-on g c = λ b h is.
-    let met = c.in-Ok.ensures.met b h (root_met g.row.K b (g.M.FlatMem.size c.args.mem.now) c.args.header.now.levels c.args.header.now.root (g.met.M.FlatMem.told_length c.args.mem.now b h) c.requires.begins (omega (arith, c.if-header-eq0.false)) (sym is.levels_is) (sym is.root_is)) in
+    let met = c.in-Ok.ensures.met b h (root_met g.row.K b (g.M.FlatMem.size c.args.mem.now) c.args.header.now.levels c.args.header.now.root (g.met.M.FlatMem.revealed_length c.args.mem.now b h) c.requires.begins (omega (arith, c.if-header-eq0.false)) (sym is.levels_is) (sym is.root_is)) in
     let size = g.met.M.FlatMem.same_size _ _ c.descend.ensures.kept in
-    rw size (c.in-Err-put_low.ensures.on b (c.descend.ensures.unchanged b h) (way_begun g.row.K b _ _ (sym is.free_is) (omega (arith, g.met.M.FlatMem.told_length c.args.mem.now b h, c.requires.free)) (sym is.top_is)) met.0 (c.in-Ok.ensures.read b h).1)
+    rw size (c.in-Err-put_low.ensures.on b (c.descend.ensures.unchanged b h) (way_begun g.row.K b _ _ (sym is.free_is) (omega (arith, g.met.M.FlatMem.revealed_length c.args.mem.now b h, c.requires.free)) (sym is.top_is)) met.0 (c.in-Ok.ensures.read b h).1)
 
 pub returns-clause-on : goal.returns-clause-on
 returns-clause-on g c = λ b h is.
-    let top = root_met g.row.K b (g.M.FlatMem.size c.args.mem.now) c.args.header.now.levels c.args.header.now.root (g.met.M.FlatMem.told_length c.args.mem.now b h) c.requires.begins (omega (arith, c.if-header-eq0.false)) (sym is.levels_is) (sym is.root_is) in
+    let top = root_met g.row.K b (g.M.FlatMem.size c.args.mem.now) c.args.header.now.levels c.args.header.now.root (g.met.M.FlatMem.revealed_length c.args.mem.now b h) c.requires.begins (omega (arith, c.if-header-eq0.false)) (sym is.levels_is) (sym is.root_is) in
     let met = c.in-Ok.ensures.met b h top in
     let size = g.met.M.FlatMem.same_size _ _ c.descend.ensures.kept in
     let size_low = g.met.M.FlatMem.same_size _ _ c.put_low.ensures.kept in
-    let on = goes_on g.row.K (g.M.FlatMem.tells c.put_low.new.mem) b 1 _ _ c.in-Ok-put_low.done c.if-done.false (c.in-Ok-put_low.ensures.on b (c.descend.ensures.unchanged b h) (way_begun g.row.K b _ _ (sym is.free_is) (omega (arith, g.met.M.FlatMem.told_length c.args.mem.now b h, c.requires.free)) (sym is.top_is)) met.0 (c.in-Ok.ensures.read b h).1) in
+    let on = goes_on g.row.K (g.M.FlatMem.reveals c.put_low.new.mem) b 1 _ _ c.in-Ok-put_low.done c.if-done.false (c.in-Ok-put_low.ensures.on b (c.descend.ensures.unchanged b h) (way_begun g.row.K b _ _ (sym is.free_is) (omega (arith, g.met.M.FlatMem.revealed_length c.args.mem.now b h, c.requires.free)) (sym is.top_is)) met.0 (c.in-Ok.ensures.read b h).1) in
     let top_now : Meets g.row.K b c.put_low.new.header.levels c.put_low.new.header.root = rw (c.put_low.ensures.same_levels, c.put_low.ensures.root) top in
     let path_now : IsMetPath g.row.K b c.put_low.new.header.levels 1 c.put_low.new.header.root c.descend.new.path.pages c.descend.new.path.index = rw (c.put_low.ensures.same_levels, c.put_low.ensures.root) met.1 in
     rw (size ∙ size_low) (c.climb.ensures.on g.row.E b on.0 on.1 on.2 top_now path_now)

@@ -8,24 +8,24 @@ use Rattle.page_tree.proofs.after.look_after.Goals as goal
 
 pub returns-in-Err-descend-clause-answer : goal.returns-in-Err-descend-clause-answer
 returns-in-Err-descend-clause-answer g c = λ b h records tree.
-    let told = c.in-Ok.ensures.header b h in
+    let revealed = c.in-Ok.ensures.header b h in
     let some : 0 < c.in-Ok.header.levels = omega (arith, c.if-header-eq0.false) in
     let size = g.met.M.FlatMem.same_size _ _ c.read_header.ensures.kept in
-    let there = rooted g.row.E g.row.K (g.M.FlatMem.size c.args.mem.now / 512) b records tree c.in-Ok.header.levels c.in-Ok.header.root told.0 told.1 some in
+    let there = rooted g.row.E g.row.K (g.M.FlatMem.size c.args.mem.now / 512) b records tree c.in-Ok.header.levels c.in-Ok.header.root revealed.0 revealed.1 some in
     c.in-Err-descend.ensures.leaf b (c.read_header.ensures.unchanged b h) records tree.nodes (rw (← size) there)
 
 pub returns-in-Err-descend-clause-broken : goal.returns-in-Err-descend-clause-broken
 returns-in-Err-descend-clause-broken g c = λ b h.
-    let told = c.in-Ok.ensures.header b h in
+    let revealed = c.in-Ok.ensures.header b h in
     let size = g.met.M.FlatMem.same_size _ _ c.read_header.ensures.kept in
-    rw size (c.in-Err-descend.ensures.broken b (c.read_header.ensures.unchanged b h) (root_met g.row.K b (g.M.FlatMem.size c.args.mem.now) c.in-Ok.header.levels c.in-Ok.header.root (g.met.M.FlatMem.told_length c.args.mem.now b h) c.in-Ok.ensures.form (omega (arith, c.if-header-eq0.false)) told.0 told.1))
+    rw size (c.in-Err-descend.ensures.broken b (c.read_header.ensures.unchanged b h) (root_met g.row.K b (g.M.FlatMem.size c.args.mem.now) c.in-Ok.header.levels c.in-Ok.header.root (g.met.M.FlatMem.revealed_length c.args.mem.now b h) c.in-Ok.ensures.form (omega (arith, c.if-header-eq0.false)) revealed.0 revealed.1))
 
 pub returns-then-place-count-clause-answer : goal.returns-then-place-count-clause-answer
 returns-then-place-count-clause-answer g c = λ b h records tree.
-    let told = c.in-Ok.ensures.header b h in
+    let revealed = c.in-Ok.ensures.header b h in
     let some : 0 < c.in-Ok.header.levels = omega (arith, c.if-header-eq0.false) in
     let size = g.met.M.FlatMem.same_size _ _ c.read_header.ensures.kept in
-    let there = rooted g.row.E g.row.K (g.M.FlatMem.size c.args.mem.now / 512) b records tree c.in-Ok.header.levels c.in-Ok.header.root told.0 told.1 some in
+    let there = rooted g.row.E g.row.K (g.M.FlatMem.size c.args.mem.now / 512) b records tree c.in-Ok.header.levels c.in-Ok.header.root revealed.0 revealed.1 some in
     let reached = c.in-Ok-descend.ensures.leaf b (c.read_header.ensures.unchanged b h) records tree.nodes (rw (← size) there) in
     let within : g.row.K ≤ g.row.E = omega (arith, c.requires.widths.key_most, c.requires.widths.entry_least) in
     let less : c.count_at_most-place.result < filled c.descend.new.page = omega (arith, c.if-place-count.true, c.filled_of-count.ensures) in
@@ -36,27 +36,27 @@ returns-then-place-count-clause-answer g c = λ b h records tree.
 pub returns-then-place-count-clause-home : goal.returns-then-place-count-clause-home
 returns-then-place-count-clause-home g c = λ b h.
     let read = c.in-Ok-descend.ensures.read b (c.read_header.ensures.unchanged b h) in
-    let told = c.in-Ok.ensures.header b h in
-    let met = c.in-Ok-descend.ensures.met b (c.read_header.ensures.unchanged b h) (root_met g.row.K b (g.M.FlatMem.size c.args.mem.now) c.in-Ok.header.levels c.in-Ok.header.root (g.met.M.FlatMem.told_length c.args.mem.now b h) c.in-Ok.ensures.form (omega (arith, c.if-header-eq0.false)) told.0 told.1) in
+    let revealed = c.in-Ok.ensures.header b h in
+    let met = c.in-Ok-descend.ensures.met b (c.read_header.ensures.unchanged b h) (root_met g.row.K b (g.M.FlatMem.size c.args.mem.now) c.in-Ok.header.levels c.in-Ok.header.root (g.met.M.FlatMem.revealed_length c.args.mem.now b h) c.in-Ok.ensures.form (omega (arith, c.if-header-eq0.false)) revealed.0 revealed.1) in
     stands_at g.row.E g.row.K b c.descend.new.page c.record_of.new.into c.in-Ok-descend.at c.count_at_most-place.result met.0 read.0 read.1 (omega (arith, c.if-place-count.true, c.filled_of-count.ensures)) c.record_of.ensures
 
 pub returns-in-Err-next_leaf-clause-answer : goal.returns-in-Err-next_leaf-clause-answer
 returns-in-Err-next_leaf-clause-answer g c = λ b h records tree.
-    let told = c.in-Ok.ensures.header b h in
+    let revealed = c.in-Ok.ensures.header b h in
     let some : 0 < c.in-Ok.header.levels = omega (arith, c.if-header-eq0.false) in
     let size = g.met.M.FlatMem.same_size _ _ c.read_header.ensures.kept in
     let size_down = g.met.M.FlatMem.same_size _ _ c.descend.ensures.kept in
-    let there = rooted g.row.E g.row.K (g.M.FlatMem.size c.args.mem.now / 512) b records tree c.in-Ok.header.levels c.in-Ok.header.root told.0 told.1 some in
+    let there = rooted g.row.E g.row.K (g.M.FlatMem.size c.args.mem.now / 512) b records tree c.in-Ok.header.levels c.in-Ok.header.root revealed.0 revealed.1 some in
     let reached = c.in-Ok-descend.ensures.leaf b (c.read_header.ensures.unchanged b h) records tree.nodes (rw (← size) there) in
     let there_now = subst (λ (s : ℕ). IsRooted g.row.E g.row.K (s / 512) b records c.in-Ok.header.levels c.in-Ok.header.root tree.nodes) (size ∙ size_down) there in
     c.in-Err-next_leaf.ensures.leaf b (c.descend.ensures.unchanged b (c.read_header.ensures.unchanged b h)) records c.in-Ok.header.root c.in-Ok-descend.at tree.nodes reached.place there_now reached.path
 
 pub returns-in-Err-next_leaf-clause-broken : goal.returns-in-Err-next_leaf-clause-broken
 returns-in-Err-next_leaf-clause-broken g c = λ b h.
-    let told = c.in-Ok.ensures.header b h in
+    let revealed = c.in-Ok.ensures.header b h in
     let size = g.met.M.FlatMem.same_size _ _ c.read_header.ensures.kept in
     let size_down = g.met.M.FlatMem.same_size _ _ c.descend.ensures.kept in
-    let met = c.in-Ok-descend.ensures.met b (c.read_header.ensures.unchanged b h) (root_met g.row.K b (g.M.FlatMem.size c.args.mem.now) c.in-Ok.header.levels c.in-Ok.header.root (g.met.M.FlatMem.told_length c.args.mem.now b h) c.in-Ok.ensures.form (omega (arith, c.if-header-eq0.false)) told.0 told.1) in
+    let met = c.in-Ok-descend.ensures.met b (c.read_header.ensures.unchanged b h) (root_met g.row.K b (g.M.FlatMem.size c.args.mem.now) c.in-Ok.header.levels c.in-Ok.header.root (g.met.M.FlatMem.revealed_length c.args.mem.now b h) c.in-Ok.ensures.form (omega (arith, c.if-header-eq0.false)) revealed.0 revealed.1) in
     rw (size ∙ size_down) (c.in-Err-next_leaf.ensures.met b (c.descend.ensures.unchanged b (c.read_header.ensures.unchanged b h)) c.in-Ok.header.root met.1)
 
 pub returns-in-Err-next_leaf-clause-cause : goal.returns-in-Err-next_leaf-clause-cause
@@ -67,11 +67,11 @@ returns-in-Err-next_leaf-clause-cause g c =
 
 pub returns-in-None-clause-answer : goal.returns-in-None-clause-answer
 returns-in-None-clause-answer g c = λ b h records tree.
-    let told = c.in-Ok.ensures.header b h in
+    let revealed = c.in-Ok.ensures.header b h in
     let some : 0 < c.in-Ok.header.levels = omega (arith, c.if-header-eq0.false) in
     let size = g.met.M.FlatMem.same_size _ _ c.read_header.ensures.kept in
     let size_down = g.met.M.FlatMem.same_size _ _ c.descend.ensures.kept in
-    let there = rooted g.row.E g.row.K (g.M.FlatMem.size c.args.mem.now / 512) b records tree c.in-Ok.header.levels c.in-Ok.header.root told.0 told.1 some in
+    let there = rooted g.row.E g.row.K (g.M.FlatMem.size c.args.mem.now / 512) b records tree c.in-Ok.header.levels c.in-Ok.header.root revealed.0 revealed.1 some in
     let reached = c.in-Ok-descend.ensures.leaf b (c.read_header.ensures.unchanged b h) records tree.nodes (rw (← size) there) in
     let there_now = subst (λ (s : ℕ). IsRooted g.row.E g.row.K (s / 512) b records c.in-Ok.header.levels c.in-Ok.header.root tree.nodes) (size ∙ size_down) there in
     let within : g.row.K ≤ g.row.E = omega (arith, c.requires.widths.key_most, c.requires.widths.entry_least) in
@@ -82,11 +82,11 @@ returns-in-None-clause-answer g c = λ b h records tree.
 
 pub returns-clause-answer : goal.returns-clause-answer
 returns-clause-answer g c = λ b h records tree.
-    let told = c.in-Ok.ensures.header b h in
+    let revealed = c.in-Ok.ensures.header b h in
     let some : 0 < c.in-Ok.header.levels = omega (arith, c.if-header-eq0.false) in
     let size = g.met.M.FlatMem.same_size _ _ c.read_header.ensures.kept in
     let size_down = g.met.M.FlatMem.same_size _ _ c.descend.ensures.kept in
-    let there = rooted g.row.E g.row.K (g.M.FlatMem.size c.args.mem.now / 512) b records tree c.in-Ok.header.levels c.in-Ok.header.root told.0 told.1 some in
+    let there = rooted g.row.E g.row.K (g.M.FlatMem.size c.args.mem.now / 512) b records tree c.in-Ok.header.levels c.in-Ok.header.root revealed.0 revealed.1 some in
     let reached = c.in-Ok-descend.ensures.leaf b (c.read_header.ensures.unchanged b h) records tree.nodes (rw (← size) there) in
     let there_now = subst (λ (s : ℕ). IsRooted g.row.E g.row.K (s / 512) b records c.in-Ok.header.levels c.in-Ok.header.root tree.nodes) (size ∙ size_down) there in
     let within : g.row.K ≤ g.row.E = omega (arith, c.requires.widths.key_most, c.requires.widths.entry_least) in
@@ -100,7 +100,7 @@ pub returns-clause-home : goal.returns-clause-home
 returns-clause-home g c = λ b h.
     let read = rw c.in-Some.is at (c.in-Ok-next_leaf.ensures.read b (c.descend.ensures.unchanged b (c.read_header.ensures.unchanged b h))) in
     let form = rw c.in-Some.is at c.in-Ok-next_leaf.ensures.form in
-    let told = c.in-Ok.ensures.header b h in
-    let met = c.in-Ok-descend.ensures.met b (c.read_header.ensures.unchanged b h) (root_met g.row.K b (g.M.FlatMem.size c.args.mem.now) c.in-Ok.header.levels c.in-Ok.header.root (g.met.M.FlatMem.told_length c.args.mem.now b h) c.in-Ok.ensures.form (omega (arith, c.if-header-eq0.false)) told.0 told.1) in
+    let revealed = c.in-Ok.ensures.header b h in
+    let met = c.in-Ok-descend.ensures.met b (c.read_header.ensures.unchanged b h) (root_met g.row.K b (g.M.FlatMem.size c.args.mem.now) c.in-Ok.header.levels c.in-Ok.header.root (g.met.M.FlatMem.revealed_length c.args.mem.now b h) c.in-Ok.ensures.form (omega (arith, c.if-header-eq0.false)) revealed.0 revealed.1) in
     let next = rw c.in-Some.is at (c.in-Ok-next_leaf.ensures.met b (c.descend.ensures.unchanged b (c.read_header.ensures.unchanged b h)) c.in-Ok.header.root met.1) in
     stands_at g.row.E g.row.K b c.next_leaf.new.page c.record_of-2.new.into c.in-Some.next 0 next.0 read form.kind (omega (arith, form.some)) c.record_of-2.ensures

@@ -2,7 +2,7 @@ use Rattle.std.proofs.Common.{◌≡◌, ◌+◌, ◌/◌, get_or, refl, arith}
 use Rattle.page_tree.specs.Page.{page_at}
 use Rattle.page_tree.proofs.Inner.{links_fit}
 use Rattle.page_tree.proofs.Paired.{above_inner, above_index, above_full}
-use Rattle.page_tree.proofs.MendingLaws.{above_like, above_form, above_thin}
+use Rattle.page_tree.proofs.RebalancingLaws.{above_like, above_form, above_underfull}
 use Rattle.page_tree.proofs.beside.load_above.Goals as goal
 use Rattle.page_tree.proofs.beside.load_above.Goals.{then-above-ne2-via-then-above-ne2, then-above-ne2-via-else-above-ne2+then-count-eq0, then-above-ne2-via-else-above-ne2+else-count-eq0+then-count, then-above-ne2-via-else-above-ne2+else-count-eq0+else-count+then-index-count}
 
@@ -26,8 +26,8 @@ returns-then-level-levels-clause-well g c = λ e b h records at page root first 
     omega (arith, full, (links_fit g.row.K c.requires.some_key c.requires.key_most).2, c.if-count-eq1.true, c.filled_of-count.ensures)
 
 pub returns-then-above-ne2-clause-broken : goal.returns-then-above-ne2-clause-broken
-returns-then-above-ne2-clause-broken g c = λ e root b d h mending.
-    let form = above_form g.row.K b d c.args.levels c.args.level root c.args.path.now.pages c.args.path.now.index mending c.requires.some c.requires.under (get_or c.args.path.now.pages (c.args.level + 1) 0) refl c.load.new.page (c.in-Ok.ensures.read d h) in
+returns-then-above-ne2-clause-broken g c = λ e root b d h rebalancing.
+    let form = above_form g.row.K b d c.args.levels c.args.level root c.args.path.now.pages c.args.path.now.index rebalancing c.requires.some c.requires.under (get_or c.args.path.now.pages (c.args.level + 1) 0) refl c.load.new.page (c.in-Ok.ensures.read d h) in
     elim c.then-above-ne2.branch [
       | then-above-ne2-via-then-above-ne2 w ↦ absurd (w.if-above-ne2.true form.0.kind)
       | then-above-ne2-via-else-above-ne2+then-count-eq0 w ↦ absurd (omega (arith, w.if-count-eq0.true, form.0.some, c.filled_of-count.ensures))
@@ -36,10 +36,10 @@ returns-then-above-ne2-clause-broken g c = λ e root b d h mending.
     ]
 
 pub returns-then-level-levels-clause-broken : goal.returns-then-level-levels-clause-broken
-returns-then-level-levels-clause-broken g c = λ e root b d h mending.
-    above_thin g.row.K b d c.args.levels c.args.level root c.args.path.now.pages c.args.path.now.index mending c.requires.some c.requires.under (get_or c.args.path.now.pages (c.args.level + 1) 0) refl c.load.new.page (c.in-Ok.ensures.read d h)
+returns-then-level-levels-clause-broken g c = λ e root b d h rebalancing.
+    above_underfull g.row.K b d c.args.levels c.args.level root c.args.path.now.pages c.args.path.now.index rebalancing c.requires.some c.requires.under (get_or c.args.path.now.pages (c.args.level + 1) 0) refl c.load.new.page (c.in-Ok.ensures.read d h)
     e (g.M.FlatMem.size c.args.mem.now / 512) (omega (arith, c.if-count-eq1.true, c.filled_of-count.ensures)) c.if-level-levels.true (links_fit g.row.K c.requires.some_key c.requires.key_most).2
 
 pub returns-clause-like : goal.returns-clause-like
-returns-clause-like g c = λ root b d h mending.
-    above_like g.row.K b d c.args.levels c.args.level root c.args.path.now.pages c.args.path.now.index mending c.requires.some c.requires.under (get_or c.args.path.now.pages (c.args.level + 1) 0) refl c.load.new.page (c.in-Ok.ensures.read d h)
+returns-clause-like g c = λ root b d h rebalancing.
+    above_like g.row.K b d c.args.levels c.args.level root c.args.path.now.pages c.args.path.now.index rebalancing c.requires.some c.requires.under (get_or c.args.path.now.pages (c.args.level + 1) 0) refl c.load.new.page (c.in-Ok.ensures.read d h)

@@ -1,12 +1,12 @@
 use Rattle.std.proofs.Common.{inl, inr, ◌+◌, ◌/◌, arith, sym, ◌∙◌}
 use Rattle.std.proofs.lemmas.Bool.{ltb-true}
 use Rattle.page_tree.proofs.MetLaws.{inner_broken, leaf_broken, link_broken}
-use Rattle.page_tree.proofs.MendingLaws.{met_like, leaf_like, inner_like, child_of_like}
+use Rattle.page_tree.proofs.RebalancingLaws.{met_like, leaf_like, inner_like, child_of_like}
 use Rattle.page_tree.proofs.beside.load_beside.Goals as goal
 use Rattle.page_tree.proofs.beside.load_beside.Goals.{then-page-ne1, else-page-ne1, then-page-ne2, else-page-ne2, else-level-eq1-via-then-level-eq1+else-count, else-level-eq1-via-else-level-eq1}
 
 pub returns-then-at-eq0-clause-broken : goal.returns-then-at-eq0-clause-broken
-returns-then-at-eq0-clause-broken g c = λ root levels paths indexes b d h mending up_met form like inside.
+returns-then-at-eq0-clause-broken g c = λ root levels paths indexes b d h rebalancing up_met form like inside.
     link_broken g.row.E g.row.K (g.M.FlatMem.size c.args.mem.now / 512) b (c.args.level + 1) c.args.up c.args.index c.link_of-at.result up_met (omega (arith, c.requires.some)) form (omega (arith, inside, like.count)) (c.link_of-at.ensures ∙ like.links c.args.index c.requires.child)
     (elim c.then-at-eq0.either [
       | inl none ↦ inl none
@@ -14,9 +14,9 @@ returns-then-at-eq0-clause-broken g c = λ root levels paths indexes b d h mendi
     ])
 
 pub returns-then-count-clause-broken : goal.returns-then-count-clause-broken
-returns-then-count-clause-broken g c = λ root levels paths indexes b d h mending up_met form like inside.
-    let met = child_of_like g.row.K b c.args.level c.args.up c.args.above.now c.args.index c.link_of-at.result c.requires.some up_met form like inside c.link_of-at.ensures (omega (arith, c.if-at-eq0.false)) (omega (arith, g.met.M.FlatMem.told_length c.args.mem.now d h, mending.long, c.if-at-pages.false, c.len.ensures)) in
-    elim (met_like g.row.E g.row.K (g.M.FlatMem.size c.args.mem.now / 512) b d levels c.args.level root paths indexes mending c.link_of-at.result c.load.new.page met (c.in-Ok.ensures.read d h)) [
+returns-then-count-clause-broken g c = λ root levels paths indexes b d h rebalancing up_met form like inside.
+    let met = child_of_like g.row.K b c.args.level c.args.up c.args.above.now c.args.index c.link_of-at.result c.requires.some up_met form like inside c.link_of-at.ensures (omega (arith, c.if-at-eq0.false)) (omega (arith, g.met.M.FlatMem.revealed_length c.args.mem.now d h, rebalancing.long, c.if-at-pages.false, c.len.ensures)) in
+    elim (met_like g.row.E g.row.K (g.M.FlatMem.size c.args.mem.now / 512) b d levels c.args.level root paths indexes rebalancing c.link_of-at.result c.load.new.page met (c.in-Ok.ensures.read d h)) [
       | inr broken ↦ broken
       | inl same ↦ leaf_broken g.row.E g.row.K (g.M.FlatMem.size c.args.mem.now / 512) b c.args.level c.link_of-at.result c.if-level-eq1.true met (λ leaf_form.
           let here = leaf_like g.row.E g.row.K c.load.new.page _ same leaf_form in
@@ -27,9 +27,9 @@ returns-then-count-clause-broken g c = λ root levels paths indexes b d h mendin
     ]
 
 pub returns-then-count-2-clause-broken : goal.returns-then-count-2-clause-broken
-returns-then-count-2-clause-broken g c = λ root levels paths indexes b d h mending up_met form like inside.
-    let met = child_of_like g.row.K b c.args.level c.args.up c.args.above.now c.args.index c.link_of-at.result c.requires.some up_met form like inside c.link_of-at.ensures (omega (arith, c.if-at-eq0.false)) (omega (arith, g.met.M.FlatMem.told_length c.args.mem.now d h, mending.long, c.if-at-pages.false, c.len.ensures)) in
-    elim (met_like g.row.E g.row.K (g.M.FlatMem.size c.args.mem.now / 512) b d levels c.args.level root paths indexes mending c.link_of-at.result c.load.new.page met (c.in-Ok.ensures.read d h)) [
+returns-then-count-2-clause-broken g c = λ root levels paths indexes b d h rebalancing up_met form like inside.
+    let met = child_of_like g.row.K b c.args.level c.args.up c.args.above.now c.args.index c.link_of-at.result c.requires.some up_met form like inside c.link_of-at.ensures (omega (arith, c.if-at-eq0.false)) (omega (arith, g.met.M.FlatMem.revealed_length c.args.mem.now d h, rebalancing.long, c.if-at-pages.false, c.len.ensures)) in
+    elim (met_like g.row.E g.row.K (g.M.FlatMem.size c.args.mem.now / 512) b d levels c.args.level root paths indexes rebalancing c.link_of-at.result c.load.new.page met (c.in-Ok.ensures.read d h)) [
       | inr broken ↦ broken
       | inl same ↦ inner_broken g.row.E g.row.K (g.M.FlatMem.size c.args.mem.now / 512) b c.args.level c.link_of-at.result met (omega (arith, c.requires.some, c.if-level-ne1.true)) (λ inner_form.
           let here = inner_like g.row.K c.load.new.page _ same inner_form in

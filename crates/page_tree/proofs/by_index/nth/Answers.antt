@@ -2,10 +2,10 @@ use Rattle.std.proofs.Common.{inl, inr, ℕ, ◌/◌, ◌<◌, List, arith, refl
 use Rattle.flat_mem.specs.Order.{entry_at}
 use Rattle.page_tree.specs.Page.{record_at}
 use Rattle.page_tree.specs.Tree.{IsTree}
-use Rattle.page_tree.proofs.Replaced.{standing}
+use Rattle.page_tree.proofs.Replaced.{sector_state}
 use Rattle.page_tree.proofs.PlacedLaws.{placed_entry}
 use Rattle.page_tree.proofs.CountLaws.{past_memory, broken_or, none_at, bare_broken, walk_spends}
-use Rattle.page_tree.proofs.IndexedLaws.{bare_lacks}
+use Rattle.page_tree.proofs.IndexedLaws.{bare_misses}
 use Rattle.page_tree.proofs.by_index.nth.Goals as goal
 
 pub returns-in-Err-clause-answer : goal.returns-in-Err-clause-answer
@@ -35,7 +35,7 @@ pub returns-in-Err-find_place-clause-answer : goal.returns-in-Err-find_place-cla
 returns-in-Err-find_place-clause-answer g c = λ b h records tree below.
     let tree_now = subst (λ (s : ℕ). IsTree g.row.E g.row.K (s / 512) b records) (g.met.M.FlatMem.same_size _ _ c.read_header.ensures.kept) tree in
     let is = c.in-Ok.ensures.fields b h in
-    let here = standing g.row.E g.row.K (g.M.FlatMem.size c.read_header.new.mem / 512) b records c.in-Ok.header.count c.in-Ok.header.root c.in-Ok.header.top c.in-Ok.header.free c.in-Ok.header.levels tree_now is (omega (arith, c.if-header-eq0.false)) in
+    let here = sector_state g.row.E g.row.K (g.M.FlatMem.size c.read_header.new.mem / 512) b records c.in-Ok.header.count c.in-Ok.header.root c.in-Ok.header.top c.in-Ok.header.free c.in-Ok.header.levels tree_now is (omega (arith, c.if-header-eq0.false)) in
     c.in-Err-find_place.ensures.placed b (c.read_header.ensures.unchanged b h) records here below
 
 pub returns-in-Err-find_place-clause-past : goal.returns-in-Err-find_place-clause-past
@@ -54,7 +54,7 @@ returns-clause-answer g c = λ b h records tree below.
     let tree_now = subst (λ (s : ℕ). IsTree g.row.E g.row.K (s / 512) b records) (g.met.M.FlatMem.same_size _ _ c.read_header.ensures.kept) tree in
     let is = c.in-Ok.ensures.fields b h in
     let some : 0 < c.in-Ok.header.levels = omega (arith, c.if-header-eq0.false) in
-    let here = standing g.row.E g.row.K (g.M.FlatMem.size c.read_header.new.mem / 512) b records c.in-Ok.header.count c.in-Ok.header.root c.in-Ok.header.top c.in-Ok.header.free c.in-Ok.header.levels tree_now is some in
+    let here = sector_state g.row.E g.row.K (g.M.FlatMem.size c.read_header.new.mem / 512) b records c.in-Ok.header.count c.in-Ok.header.root c.in-Ok.header.top c.in-Ok.header.free c.in-Ok.header.levels tree_now is some in
     let placed = c.in-Ok-find_place.ensures.placed b (c.read_header.ensures.unchanged b h) records here below in
     c.record_of.ensures
     ∙ placed_entry g.row.E g.row.K b records c.in-Ok.header.levels here.nodes here.rooted.tower some c.find_place.new.page c.find_place.new.path.pages c.find_place.new.path.index c.in-Ok-find_place.place.page placed.home placed.path placed.bytes c.in-Ok-find_place.place.index placed.below
@@ -77,17 +77,17 @@ returns-clause-past_any g c = λ b h past. absurd (omega (arith, past, (c.in-Ok.
 
 pub returns-clause-stands : goal.returns-clause-stands
 returns-clause-stands g c = λ b h.
-    let told = c.read_header.ensures.unchanged b h in
-    let read = c.in-Ok-find_place.ensures.read b told in record {
+    let revealed = c.read_header.ensures.unchanged b h in
+    let read = c.in-Ok-find_place.ensures.read b revealed in record {
       page = c.in-Ok-find_place.place.page;
       slot = c.in-Ok-find_place.place.index;
-      place = c.in-Ok-find_place.ensures.indexed b told (c.in-Ok.ensures.fields b h);
+      place = c.in-Ok-find_place.ensures.indexed b revealed (c.in-Ok.ensures.fields b h);
       is = c.record_of.ensures ∙ ap (λ (p : List ℕ). record_at g.row.E p c.in-Ok-find_place.place.index) read;
     }
 
-pub returns-then-header-eq0-clause-lacking : goal.returns-then-header-eq0-clause-lacking
-returns-then-header-eq0-clause-lacking g c = λ b h same. bare_lacks g.row.E g.row.K _ b c.args.index ((c.in-Ok.ensures.fields b h).levels_is ∙ c.if-header-eq0.true)
+pub returns-then-header-eq0-clause-missing : goal.returns-then-header-eq0-clause-missing
+returns-then-header-eq0-clause-missing g c = λ b h same. bare_misses g.row.E g.row.K _ b c.args.index ((c.in-Ok.ensures.fields b h).levels_is ∙ c.if-header-eq0.true)
 
-pub returns-in-Err-find_place-clause-lacking : goal.returns-in-Err-find_place-clause-lacking
-returns-in-Err-find_place-clause-lacking g c = λ b h.
-    rw (g.met.M.FlatMem.same_size _ _ c.read_header.ensures.kept) (c.in-Err-find_place.ensures.lacking b (c.read_header.ensures.unchanged b h) (c.in-Ok.ensures.fields b h))
+pub returns-in-Err-find_place-clause-missing : goal.returns-in-Err-find_place-clause-missing
+returns-in-Err-find_place-clause-missing g c = λ b h.
+    rw (g.met.M.FlatMem.same_size _ _ c.read_header.ensures.kept) (c.in-Err-find_place.ensures.missing b (c.read_header.ensures.unchanged b h) (c.in-Ok.ensures.fields b h))

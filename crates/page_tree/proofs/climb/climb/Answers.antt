@@ -1,6 +1,6 @@
 use Rattle.std.proofs.Common.{◌≡◌, ℕ, ◌+◌, ◌-◌, ◌*◌, ◌/◌, ◌≤◌, length, MatchResult, arith, sym, ◌∙◌, subst}
 use Rattle.page_tree.specs.Answer.{FromMemory}
-use Rattle.page_tree.specs.Climb.{TellsClosed}
+use Rattle.page_tree.specs.Climb.{RevealsClosed}
 use Rattle.page_tree.specs.Put.{capacity_of}
 use Rattle.page_tree.proofs.Moved.{climb_moved, closed_moved, step_done, step_more}
 use Rattle.page_tree.specs.Broken.{StopsInsertion}
@@ -50,7 +50,7 @@ up-preserved g c = record {
       let was = c.up.invariant.way e b d h way path in
       let size = g.met.M.FlatMem.same_size _ _ c.up.invariant.kept in
       let path_now : IsMetPath g.row.K b c.up.header.levels 1 c.args.header.now.root c.args.path.now.pages c.args.path.now.index = rw c.up.invariant.levels path in
-      let on = goes_on g.row.K (g.M.FlatMem.tells c.put_up.new.mem) b (c.up.level + 1) _ _ c.in-Ok.done c.if-done.false (c.in-Ok.ensures.on e c.args.header.now.root b was.0 was.1 was.2 path_now) in (
+      let on = goes_on g.row.K (g.M.FlatMem.reveals c.put_up.new.mem) b (c.up.level + 1) _ _ c.in-Ok.done c.if-done.false (c.in-Ok.ensures.on e c.args.header.now.root b was.0 was.1 was.2 path_now) in (
         on.0,
         on.1,
         on.2,
@@ -69,7 +69,7 @@ returns-clause-done g c = λ e b h records widths capacity climb.
     let at_top : c.up.level ≡ c.up.header.levels = omega (arith, c.up-test.false, c.up.invariant.order.1) in
     let fits = subst (λ (s : ℕ). length records ≤ capacity_of e (s / 512)) size capacity in
     let grown = c.grow.ensures.grown e was.0 was.1 records c.up.level c.args.path.now.pages c.args.path.now.index widths fits at_top here in
-    subst (λ (s : ℕ). MatchResult c.grow.result (λ x. TellsClosed e g.row.K (s / 512) (g.M.FlatMem.tells c.grow.new.mem) records c.grow.new.header.levels c.grow.new.header.root c.grow.new.header.free c.grow.new.header.top) FromMemory) (sym size) grown
+    subst (λ (s : ℕ). MatchResult c.grow.result (λ x. RevealsClosed e g.row.K (s / 512) (g.M.FlatMem.reveals c.grow.new.mem) records c.grow.new.header.levels c.grow.new.header.root c.grow.new.header.free c.grow.new.header.top) FromMemory) (sym size) grown
 
 pub returns-in-Err-clause-on : goal.returns-in-Err-clause-on
 returns-in-Err-clause-on g c = λ e b d h way top path.

@@ -19,7 +19,7 @@ returns-clause-grown g c = λ e b h records level paths index widths capacity at
     let small : c.in-Ok.new < g.M.FlatMem.size c.args.mem.now / 512 = c.in-Ok.ensures.inside.1 in
     let inner : IsInner g.row.K c.make_root.new.page (child_item [] c.args.header.now.root ∷ child_item c.args.key.now c.args.link ∷ []) =
     subst (λ (m : ℕ). IsInner g.row.K c.make_root.new.page (child_item [] m ∷ child_item c.args.key.now c.args.link ∷ [])) c.take_page.ensures.root c.make_root.ensures in
-    let size : 512 * (g.M.FlatMem.size c.args.mem.now / 512) ≤ length b = omega (arith, g.met.M.FlatMem.told_length c.args.mem.now b h) in
+    let size : 512 * (g.M.FlatMem.size c.args.mem.now / 512) ≤ length b = omega (arith, g.met.M.FlatMem.revealed_length c.args.mem.now b h) in
     let closed = grow_closed e g.row.K (g.M.FlatMem.size c.args.mem.now / 512) b records c.args.header.now.levels level paths index c.args.key.now c.args.link c.args.header.now.root c.args.header.now.free c.args.header.now.top climb at_top c.requires.some size
     c.in-Ok.new c.take_page.new.header.top c.take_page.new.header.free taken small c.make_root.new.page c.make_root.array_long inner in
     let same : c.take_page.new.header.levels ≡ c.args.header.now.levels = c.take_page.ensures.levels in (

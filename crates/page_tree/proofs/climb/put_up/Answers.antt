@@ -29,7 +29,7 @@ returns-in-Ok-store-clause-step g c = λ e b h records climb.
     let put = inner_put g.row.K c.load.new.page xs c.filled_of-count.result (get_or c.args.path.now.index (c.args.level + 1) 0 + 1 - 1) (get_or c.args.path.now.index (c.args.level + 1) 0 + 1) c.args.key.now (child_item c.args.key.now c.args.link.now)
     c.requires.some_key c.requires.key_most inner c.load.array_long count c.if-count-2.true fits refl c.told-key named (search rules) in
     let put_is : c.put_child.new.page ≡ with_child g.row.K c.load.new.page c.filled_of-count.result (get_or c.args.path.now.index (c.args.level + 1) 0 + 1 - 1) c.args.key.now (get_or c.args.path.now.index (c.args.level + 1) 0 + 1) c.args.link.now = c.put_child.ensures in
-    let size : 512 * (g.M.FlatMem.size c.args.mem.now / 512) ≤ length b = omega (arith, g.met.M.FlatMem.told_length c.args.mem.now b h) in
+    let size : 512 * (g.M.FlatMem.size c.args.mem.now / 512) ≤ length b = omega (arith, g.met.M.FlatMem.revealed_length c.args.mem.now b h) in
     let closed = up_put e g.row.K (g.M.FlatMem.size c.args.mem.now / 512) b records c.args.header.now.levels c.args.level c.args.path.now.pages c.args.path.now.index c.args.key.now c.args.link.now c.args.header.now.root c.args.header.now.free c.args.header.now.top climb c.requires.some c.requires.under c.requires.few c.load.new.page read
     size (get_or c.args.path.now.index (c.args.level + 1) 0 + 1) refl c.put_child.new.page c.put_child.array_long
     (subst (λ (x : List ℕ). IsInner g.row.K x (insert xs (get_or c.args.path.now.index (c.args.level + 1) 0 + 1) (child_item c.args.key.now c.args.link.now))) (sym put_is) put) in
@@ -45,7 +45,7 @@ returns-clause-step g c = λ e b h records climb.
     let same = g.met.M.FlatMem.same_size _ _ c.load.ensures.kept in
     let stored = c.in-Ok-store_halves.ensures.halves b (c.load.ensures.unchanged b h) climb.free (subst (λ (s : ℕ). CanTake b climb.free c.args.header.now.free c.args.header.now.top (s / 512)) same can) in
     let halves = c.split_inner.ensures.halves e (c.args.level + 1) xs (omega (arith, c.requires.some)) inner count in
-    let size : 512 * (g.M.FlatMem.size c.args.mem.now / 512) ≤ length b = omega (arith, g.met.M.FlatMem.told_length c.args.mem.now b h) in
+    let size : 512 * (g.M.FlatMem.size c.args.mem.now / 512) ≤ length b = omega (arith, g.met.M.FlatMem.revealed_length c.args.mem.now b h) in
     let small : c.in-Ok-store_halves.new < g.M.FlatMem.size c.args.mem.now / 512 = rw same stored.0 in
     let climbed = up_split e g.row.K (g.M.FlatMem.size c.args.mem.now / 512) b records c.args.header.now.levels c.args.level c.args.path.now.pages c.args.path.now.index c.args.key.now c.args.link.now c.args.header.now.root c.args.header.now.free c.args.header.now.top climb c.requires.some c.requires.under c.requires.few c.load.new.page read
     size (get_or c.args.path.now.index (c.args.level + 1) 0 + 1) refl c.split_inner.new.page c.split_inner.new.right c.split_inner.new.key c.split_inner.array_long c.split_inner.array_long2 c.in-Ok-store_halves.new c.store_halves.new.header.top c.store_halves.new.header.free stored.1 small halves in

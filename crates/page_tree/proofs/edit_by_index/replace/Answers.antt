@@ -2,7 +2,7 @@ use Rattle.std.proofs.Common.{inl, inr, ℕ, ◌/◌, arith, refl, sym, ◌∙�
 use Rattle.page_tree.specs.Tree.{IsTree}
 use Rattle.page_tree.specs.Placed.{IsSetAt}
 use Rattle.page_tree.proofs.CountLaws.{past_memory, broken_or, none_at, bare_broken, walk_spends}
-use Rattle.page_tree.proofs.IndexedLaws.{bare_lacks}
+use Rattle.page_tree.proofs.IndexedLaws.{bare_misses}
 use Rattle.page_tree.proofs.edit_by_index.replace.Goals as goal
 
 pub returns-in-Err-clause-answer : goal.returns-in-Err-clause-answer
@@ -33,7 +33,7 @@ returns-in-Ok-set_in-clause-answer g c = λ b h records tree below same.
     let size = g.met.M.FlatMem.same_size _ _ c.read_header.ensures.kept in
     let tree_now = subst (λ (s : ℕ). IsTree g.row.E g.row.K (s / 512) b records) size tree in
     let done = c.in-Ok-set_in.ensures.set b (c.read_header.ensures.unchanged b h) records tree_now (c.in-Ok.ensures.fields b h) below same in
-    subst (λ (s : ℕ). IsSetAt g.row.E g.row.K (s / 512) (g.M.FlatMem.tells c.set_in.new.mem) records c.args.index c.args.entry.now) (sym size) done
+    subst (λ (s : ℕ). IsSetAt g.row.E g.row.K (s / 512) (g.M.FlatMem.reveals c.set_in.new.mem) records c.args.index c.args.entry.now) (sym size) done
 
 pub returns-in-Err-set_in-clause-answer : goal.returns-in-Err-set_in-clause-answer
 returns-in-Err-set_in-clause-answer g c = λ b h records tree below same.
@@ -69,9 +69,9 @@ returns-in-Err-set_in-clause-past_any g c = λ b h past. absurd (omega (arith, p
 pub returns-in-Ok-set_in-clause-written : goal.returns-in-Ok-set_in-clause-written
 returns-in-Ok-set_in-clause-written g c = λ b h. c.in-Ok-set_in.ensures.written b (c.read_header.ensures.unchanged b h) (c.in-Ok.ensures.fields b h)
 
-pub returns-then-header-eq0-clause-lacking : goal.returns-then-header-eq0-clause-lacking
-returns-then-header-eq0-clause-lacking g c = λ b h same. bare_lacks g.row.E g.row.K _ b c.args.index ((c.in-Ok.ensures.fields b h).levels_is ∙ c.if-header-eq0.true)
+pub returns-then-header-eq0-clause-missing : goal.returns-then-header-eq0-clause-missing
+returns-then-header-eq0-clause-missing g c = λ b h same. bare_misses g.row.E g.row.K _ b c.args.index ((c.in-Ok.ensures.fields b h).levels_is ∙ c.if-header-eq0.true)
 
-pub returns-in-Err-set_in-clause-lacking : goal.returns-in-Err-set_in-clause-lacking
-returns-in-Err-set_in-clause-lacking g c = λ b h.
-    rw (g.met.M.FlatMem.same_size _ _ c.read_header.ensures.kept) (c.in-Err-set_in.ensures.lacking b (c.read_header.ensures.unchanged b h) (c.in-Ok.ensures.fields b h))
+pub returns-in-Err-set_in-clause-missing : goal.returns-in-Err-set_in-clause-missing
+returns-in-Err-set_in-clause-missing g c = λ b h.
+    rw (g.met.M.FlatMem.same_size _ _ c.read_header.ensures.kept) (c.in-Err-set_in.ensures.missing b (c.read_header.ensures.unchanged b h) (c.in-Ok.ensures.fields b h))

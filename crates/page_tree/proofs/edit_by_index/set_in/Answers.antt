@@ -4,22 +4,22 @@ use Rattle.flat_mem.specs.Order.{key_at}
 use Rattle.page_tree.specs.Page.{page_at, record_at, leaf_room}
 use Rattle.page_tree.specs.Tree.{IsTree}
 use Rattle.page_tree.specs.Climb.{IsHead}
-use Rattle.page_tree.proofs.Replaced.{standing, set_tree}
+use Rattle.page_tree.proofs.Replaced.{sector_state, set_tree}
 use Rattle.page_tree.proofs.PlacedLaws.{placed_entry}
 use Rattle.page_tree.proofs.IndexedLaws.{written_in_page, record_fits}
 use Rattle.page_tree.proofs.edit_by_index.set_in.Goals as goal
 
 pub returns-in-Err-clause-set : goal.returns-in-Err-clause-set
 returns-in-Err-clause-set g c = λ b h records tree is below same.
-    let here = standing g.row.E g.row.K (g.M.FlatMem.size c.args.mem.now / 512) b records c.args.header.count c.args.header.root c.args.header.top c.args.header.free c.args.header.levels tree is (omega (arith, c.requires.some)) in
+    let here = sector_state g.row.E g.row.K (g.M.FlatMem.size c.args.mem.now / 512) b records c.args.header.count c.args.header.root c.args.header.top c.args.header.free c.args.header.levels tree is (omega (arith, c.requires.some)) in
     c.in-Err.ensures.placed b h records here below
 
 pub returns-in-Ok-store-clause-set : goal.returns-in-Ok-store-clause-set
 returns-in-Ok-store-clause-set g c = λ b h records tree is below same.
     let some : 0 < c.args.header.levels = omega (arith, c.requires.some) in
-    let here = standing g.row.E g.row.K (g.M.FlatMem.size c.args.mem.now / 512) b records c.args.header.count c.args.header.root c.args.header.top c.args.header.free c.args.header.levels tree is some in
+    let here = sector_state g.row.E g.row.K (g.M.FlatMem.size c.args.mem.now / 512) b records c.args.header.count c.args.header.root c.args.header.top c.args.header.free c.args.header.levels tree is some in
     let placed = c.in-Ok.ensures.placed b h records here below in
-    let size : 512 * (g.M.FlatMem.size c.args.mem.now / 512) ≤ length b = omega (arith, g.met.M.FlatMem.told_length c.args.mem.now b h) in
+    let size : 512 * (g.M.FlatMem.size c.args.mem.now / 512) ≤ length b = omega (arith, g.met.M.FlatMem.revealed_length c.args.mem.now b h) in
     let head : IsHead (page_at b 0) (length records) c.args.header.root c.args.header.top c.args.header.free c.args.header.levels =
     subst (λ (n : ℕ). IsHead (page_at b 0) n c.args.header.root c.args.header.top c.args.header.free c.args.header.levels) (sym is.count_is ∙ tree.header.count_is) is in
     let entry_is = placed_entry g.row.E g.row.K b records c.args.header.levels here.nodes here.rooted.tower some c.find_place.new.page c.find_place.new.path.pages c.find_place.new.path.index c.in-Ok.place.page placed.home placed.path placed.bytes c.in-Ok.place.index placed.below in
@@ -35,16 +35,16 @@ returns-in-Ok-store-clause-set g c = λ b h records tree is below same.
 
 pub returns-in-Ok-store-clause-written : goal.returns-in-Ok-store-clause-written
 returns-in-Ok-store-clause-written g c = λ b h is.
-    let told = c.find_place.ensures.unchanged b h in
+    let revealed = c.find_place.ensures.unchanged b h in
     let inside = c.in-Ok.ensures.inside in
     let most : c.in-Ok.place.index < leaf_room g.row.E = omega (arith, inside.1, c.in-Ok.ensures.form.most) in
     let page_is : c.set_record.new.page ≡ overwritten (page_at b c.in-Ok.place.page) (8 + g.row.E * c.in-Ok.place.index) c.args.entry.now =
     c.set_record.ensures ∙ ap (λ (p : List ℕ). overwritten p (8 + g.row.E * c.in-Ok.place.index) c.args.entry.now) (c.in-Ok.ensures.read b h) in
     let bytes_are : overwritten b (512 * c.in-Ok.place.page) c.set_record.new.page ≡ overwritten b (512 * c.in-Ok.place.page + (8 + g.row.E * c.in-Ok.place.index)) c.args.entry.now =
     ap (overwritten b (512 * c.in-Ok.place.page)) page_is
-    ∙ written_in_page b c.args.entry.now c.in-Ok.place.page (8 + g.row.E * c.in-Ok.place.index) (omega (arith, inside.0, g.met.M.FlatMem.told_length c.args.mem.now b h)) (record_fits g.row.E c.in-Ok.place.index c.args.entry.now most c.told-entry) in record {
+    ∙ written_in_page b c.args.entry.now c.in-Ok.place.page (8 + g.row.E * c.in-Ok.place.index) (omega (arith, inside.0, g.met.M.FlatMem.revealed_length c.args.mem.now b h)) (record_fits g.row.E c.in-Ok.place.index c.args.entry.now most c.told-entry) in record {
       page = c.in-Ok.place.page;
       slot = c.in-Ok.place.index;
       place = c.in-Ok.ensures.indexed b h is;
-      now = subst (g.M.FlatMem.tells c.store.new.mem) bytes_are (c.in-Ok-store.ensures.written b told);
+      now = subst (g.M.FlatMem.reveals c.store.new.mem) bytes_are (c.in-Ok-store.ensures.written b revealed);
     }

@@ -33,9 +33,9 @@ leaves-preserved g c = record {
   led = λ b h records nodes rooted first start.
       let was = c.leaves.invariant.led b h records nodes rooted first start in
       let some : 0 < c.args.header.levels = omega (arith, c.requires.some) in
-      let told = c.leaves.invariant.unchanged b h in
+      let revealed = c.leaves.invariant.unchanged b h in
       let rooted_now = subst (λ (s : ℕ). IsRooted g.row.E g.row.K (s / 512) b records c.args.header.levels c.args.header.root nodes) (g.met.M.FlatMem.same_size _ _ c.leaves.invariant.kept) rooted in
-      let on = rw c.in-Some.is at (c.in-Ok-next_leaf.ensures.leaf b told records c.args.header.root was.0 nodes was.1.home rooted_now was.1.path) in
+      let on = rw c.in-Some.is at (c.in-Ok-next_leaf.ensures.leaf b revealed records c.args.header.root was.0 nodes was.1.home rooted_now was.1.path) in
       let all : c.count_at_most-place.result ≡ filled c.leaves.page = omega (arith, c.if-place-count.false, c.filled_of-count.ensures, c.count_at_most-place.ensures.below) in
       let within : g.row.K ≤ g.row.E = omega (arith, c.requires.widths.key_most, c.requires.widths.entry_least) in (
         _,
@@ -62,7 +62,7 @@ pub returns-in-Err-clause-counted : goal.returns-in-Err-clause-counted
 returns-in-Err-clause-counted g c = λ b h records here. c.in-Err.ensures.leaf b h records here.nodes here.rooted
 
 pub returns-in-Err-clause-broken : goal.returns-in-Err-clause-broken
-returns-in-Err-clause-broken g c = λ b h is. c.in-Err.ensures.walked b h (root_met g.row.K b (g.M.FlatMem.size c.args.mem.now) c.args.header.levels c.args.header.root (g.met.M.FlatMem.told_length c.args.mem.now b h) c.requires.begins c.requires.some (sym is.levels_is) (sym is.root_is))
+returns-in-Err-clause-broken g c = λ b h is. c.in-Err.ensures.walked b h (root_met g.row.K b (g.M.FlatMem.size c.args.mem.now) c.args.header.levels c.args.header.root (g.met.M.FlatMem.revealed_length c.args.mem.now b h) c.requires.begins c.requires.some (sym is.levels_is) (sym is.root_is))
 
 pub returns-then-place-count-clause-counted : goal.returns-then-place-count-clause-counted
 returns-then-place-count-clause-counted g c = λ b h records here.
@@ -77,31 +77,31 @@ pub returns-in-Err-next_leaf-clause-counted : goal.returns-in-Err-next_leaf-clau
 returns-in-Err-next_leaf-clause-counted g c = λ b h records here.
     let size = g.met.M.FlatMem.same_size _ _ c.first_leaf.ensures.kept in
     let size_now = g.met.M.FlatMem.same_size _ _ c.leaves.invariant.kept in
-    let told = c.first_leaf.ensures.unchanged b h in
+    let revealed = c.first_leaf.ensures.unchanged b h in
     let rooted_first = subst (λ (s : ℕ). IsRooted g.row.E g.row.K (s / 512) b records c.args.header.levels c.args.header.root here.nodes) size here.rooted in
     let rooted_now = subst (λ (s : ℕ). IsRooted g.row.E g.row.K (s / 512) b records c.args.header.levels c.args.header.root here.nodes) (size ∙ size_now) here.rooted in
-    let was = c.leaves.invariant.led b told records here.nodes rooted_first _ (c.in-Ok.ensures.leaf b h records here.nodes here.rooted) in
-    c.in-Err-next_leaf.ensures.leaf b (c.leaves.invariant.unchanged b told) records c.args.header.root was.0 here.nodes was.1.home rooted_now was.1.path
+    let was = c.leaves.invariant.led b revealed records here.nodes rooted_first _ (c.in-Ok.ensures.leaf b h records here.nodes here.rooted) in
+    c.in-Err-next_leaf.ensures.leaf b (c.leaves.invariant.unchanged b revealed) records c.args.header.root was.0 here.nodes was.1.home rooted_now was.1.path
 
 pub returns-in-Err-next_leaf-clause-broken : goal.returns-in-Err-next_leaf-clause-broken
 returns-in-Err-next_leaf-clause-broken g c = λ b h is.
-    let told = c.first_leaf.ensures.unchanged b h in
+    let revealed = c.first_leaf.ensures.unchanged b h in
     let size = g.met.M.FlatMem.same_size _ _ c.first_leaf.ensures.kept in
     let size_now = g.met.M.FlatMem.same_size _ _ c.leaves.invariant.kept in
-    let start = c.in-Ok.ensures.walked b h (root_met g.row.K b (g.M.FlatMem.size c.args.mem.now) c.args.header.levels c.args.header.root (g.met.M.FlatMem.told_length c.args.mem.now b h) c.requires.begins c.requires.some (sym is.levels_is) (sym is.root_is)) in
-    let was = c.leaves.invariant.walked b told c.args.header.root _ start in
-    rw (size ∙ size_now) (c.in-Err-next_leaf.ensures.walked b (c.leaves.invariant.unchanged b told) c.args.header.root was.0 was.1 was.2)
+    let start = c.in-Ok.ensures.walked b h (root_met g.row.K b (g.M.FlatMem.size c.args.mem.now) c.args.header.levels c.args.header.root (g.met.M.FlatMem.revealed_length c.args.mem.now b h) c.requires.begins c.requires.some (sym is.levels_is) (sym is.root_is)) in
+    let was = c.leaves.invariant.walked b revealed c.args.header.root _ start in
+    rw (size ∙ size_now) (c.in-Err-next_leaf.ensures.walked b (c.leaves.invariant.unchanged b revealed) c.args.header.root was.0 was.1 was.2)
 
 pub returns-in-None-clause-counted : goal.returns-in-None-clause-counted
 returns-in-None-clause-counted g c = λ b h records here.
     let some : 0 < c.args.header.levels = omega (arith, c.requires.some) in
     let size = g.met.M.FlatMem.same_size _ _ c.first_leaf.ensures.kept in
     let size_now = g.met.M.FlatMem.same_size _ _ c.leaves.invariant.kept in
-    let told = c.first_leaf.ensures.unchanged b h in
+    let revealed = c.first_leaf.ensures.unchanged b h in
     let rooted_first = subst (λ (s : ℕ). IsRooted g.row.E g.row.K (s / 512) b records c.args.header.levels c.args.header.root here.nodes) size here.rooted in
     let rooted_now = subst (λ (s : ℕ). IsRooted g.row.E g.row.K (s / 512) b records c.args.header.levels c.args.header.root here.nodes) (size ∙ size_now) here.rooted in
-    let was = c.leaves.invariant.led b told records here.nodes rooted_first _ (c.in-Ok.ensures.leaf b h records here.nodes here.rooted) in
-    let last = rw c.in-None.is at (c.in-Ok-next_leaf.ensures.leaf b (c.leaves.invariant.unchanged b told) records c.args.header.root was.0 here.nodes was.1.home rooted_now was.1.path) in
+    let was = c.leaves.invariant.led b revealed records here.nodes rooted_first _ (c.in-Ok.ensures.leaf b h records here.nodes here.rooted) in
+    let last = rw c.in-None.is at (c.in-Ok-next_leaf.ensures.leaf b (c.leaves.invariant.unchanged b revealed) records c.args.header.root was.0 here.nodes was.1.home rooted_now was.1.path) in
     let all : c.count_at_most-place.result ≡ filled c.leaves.page = omega (arith, c.if-place-count.false, c.filled_of-count.ensures, c.count_at_most-place.ensures.below) in
     let within : g.row.K ≤ g.row.E = omega (arith, c.requires.widths.key_most, c.requires.widths.entry_least) in
     led_all g.row.E g.row.K b records c.args.header.levels here.nodes here.rooted.tower some c.leaves.page c.leaves.path.pages c.leaves.path.index was.0 c.leaves.passed was.1 c.args.key.now was.3 c.leaves.total was.2 within c.count_at_most-place.result
@@ -116,6 +116,6 @@ returns-clause-counted g c = λ b h records here.
 
 pub returns-clause-broken : goal.returns-clause-broken
 returns-clause-broken g c = λ b h is.
-    let start = c.in-Ok.ensures.walked b h (root_met g.row.K b (g.M.FlatMem.size c.args.mem.now) c.args.header.levels c.args.header.root (g.met.M.FlatMem.told_length c.args.mem.now b h) c.requires.begins c.requires.some (sym is.levels_is) (sym is.root_is)) in
+    let start = c.in-Ok.ensures.walked b h (root_met g.row.K b (g.M.FlatMem.size c.args.mem.now) c.args.header.levels c.args.header.root (g.met.M.FlatMem.revealed_length c.args.mem.now b h) c.requires.begins c.requires.some (sym is.levels_is) (sym is.root_is)) in
     let was = c.leaves.invariant.walked b (c.first_leaf.ensures.unchanged b h) c.args.header.root _ start in
     crowd_broken g.row.K b c.args.header.levels c.args.header.root is.levels_is is.root_is g.row.E _ was.1 (fewer_passed g.row.K b c.args.header.levels c.args.header.root _ _ was.0 was.1 c.requires.some was.2) (omega (arith, was.3, c.leaves-test.false, c.len.ensures))

@@ -1,7 +1,7 @@
 use Rattle.std.proofs.Common.{ℕ, ◌/◌, arith, sym, subst}
 use Rattle.page_tree.specs.Tree.{IsTree}
 use Rattle.page_tree.proofs.Descent.{no_records}
-use Rattle.page_tree.proofs.Replaced.{standing}
+use Rattle.page_tree.proofs.Replaced.{sector_state}
 use Rattle.page_tree.proofs.CountLaws.{walk_spends}
 use Rattle.page_tree.proofs.CountedLaws.{counted_none, counted_last}
 use Rattle.page_tree.proofs.last_at_most.find_last_at_most.Goals as goal
@@ -12,7 +12,7 @@ returns-then-header-eq0-clause-answer g c = λ b h records tree. no_records g.ro
 pub returns-in-Err-count_to-clause-answer : goal.returns-in-Err-count_to-clause-answer
 returns-in-Err-count_to-clause-answer g c = λ b h records tree.
     let tree_now = subst (λ (s : ℕ). IsTree g.row.E g.row.K (s / 512) b records) (g.met.M.FlatMem.same_size _ _ c.read_header.ensures.kept) tree in
-    let here = standing g.row.E g.row.K (g.M.FlatMem.size c.read_header.new.mem / 512) b records c.in-Ok.header.count c.in-Ok.header.root c.in-Ok.header.top c.in-Ok.header.free c.in-Ok.header.levels tree_now (c.in-Ok.ensures.fields b h) (omega (arith, c.if-header-eq0.false)) in
+    let here = sector_state g.row.E g.row.K (g.M.FlatMem.size c.read_header.new.mem / 512) b records c.in-Ok.header.count c.in-Ok.header.root c.in-Ok.header.top c.in-Ok.header.free c.in-Ok.header.levels tree_now (c.in-Ok.ensures.fields b h) (omega (arith, c.if-header-eq0.false)) in
     c.in-Err-count_to.ensures.counted b (c.read_header.ensures.unchanged b h) records here
 
 pub returns-in-Err-count_to-clause-broken : goal.returns-in-Err-count_to-clause-broken
@@ -24,7 +24,7 @@ returns-in-Err-count_to-clause-cost g c = walk_spends _ _ _ _ _ 6 12 g.M.FlatMem
 pub returns-then-count-eq0-clause-answer : goal.returns-then-count-eq0-clause-answer
 returns-then-count-eq0-clause-answer g c = λ b h records tree.
     let tree_now = subst (λ (s : ℕ). IsTree g.row.E g.row.K (s / 512) b records) (g.met.M.FlatMem.same_size _ _ c.read_header.ensures.kept) tree in
-    let here = standing g.row.E g.row.K (g.M.FlatMem.size c.read_header.new.mem / 512) b records c.in-Ok.header.count c.in-Ok.header.root c.in-Ok.header.top c.in-Ok.header.free c.in-Ok.header.levels tree_now (c.in-Ok.ensures.fields b h) (omega (arith, c.if-header-eq0.false)) in
+    let here = sector_state g.row.E g.row.K (g.M.FlatMem.size c.read_header.new.mem / 512) b records c.in-Ok.header.count c.in-Ok.header.root c.in-Ok.header.top c.in-Ok.header.free c.in-Ok.header.levels tree_now (c.in-Ok.ensures.fields b h) (omega (arith, c.if-header-eq0.false)) in
     counted_none g.row.K records c.args.key.now c.in-Ok-count_to.count c.if-count-eq0.true (c.in-Ok-count_to.ensures.counted b (c.read_header.ensures.unchanged b h) records here)
 
 pub returns-then-count-eq0-clause-cost : goal.returns-then-count-eq0-clause-cost
@@ -33,7 +33,7 @@ returns-then-count-eq0-clause-cost g c = walk_spends _ _ _ _ _ 6 12 g.M.FlatMem.
 pub returns-clause-answer : goal.returns-clause-answer
 returns-clause-answer g c = λ b h records tree.
     let tree_now = subst (λ (s : ℕ). IsTree g.row.E g.row.K (s / 512) b records) (g.met.M.FlatMem.same_size _ _ c.read_header.ensures.kept) tree in
-    let here = standing g.row.E g.row.K (g.M.FlatMem.size c.read_header.new.mem / 512) b records c.in-Ok.header.count c.in-Ok.header.root c.in-Ok.header.top c.in-Ok.header.free c.in-Ok.header.levels tree_now (c.in-Ok.ensures.fields b h) (omega (arith, c.if-header-eq0.false)) in
+    let here = sector_state g.row.E g.row.K (g.M.FlatMem.size c.read_header.new.mem / 512) b records c.in-Ok.header.count c.in-Ok.header.root c.in-Ok.header.top c.in-Ok.header.free c.in-Ok.header.levels tree_now (c.in-Ok.ensures.fields b h) (omega (arith, c.if-header-eq0.false)) in
     counted_last g.row.K records c.args.key.now c.in-Ok-count_to.count (omega (arith, c.if-count-eq0.false)) (c.in-Ok-count_to.ensures.counted b (c.read_header.ensures.unchanged b h) records here)
 
 pub returns-clause-cost : goal.returns-clause-cost

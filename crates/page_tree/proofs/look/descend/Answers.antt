@@ -59,7 +59,7 @@ descent-preserved g c = record {
       let form = inner_form g.row.K b c.load.new.page c.descent.at read c.if-page-ne2.false (omega arith) (omega arith) in
       let within_page : c.count_at_most-place.result ≤ filled (page_at b c.descent.at) = omega (arith, c.count_at_most-place.ensures.below, c.filled_of-count.ensures, ap filled read) in
       let next : c.descent.level ≡ (c.descent.level - 1) + 1 = omega (arith, c.descent-test.true) in (
-        met_child g.row.K b c.args.levels c.descent.level (c.descent.level - 1) c.args.root c.descent.path.pages c.descent.path.index c.descent.at c.count_at_most-place.result was.1 was.0 form within_page next (omega (arith, c.descent-test.true)) c.descent.invariant.order.1 (search rules) (search rules) was.2 c.link_of-child.result (c.link_of-child.ensures ∙ ap (λ (x : List ℕ). link_at g.row.K x c.count_at_most-place.result) read) (omega (arith, c.if-child-eq0.false)) (omega (arith, g.met.M.FlatMem.told_length c.args.mem.now b h, c.if-child-pages.false, c.len.ensures)),
+        met_child g.row.K b c.args.levels c.descent.level (c.descent.level - 1) c.args.root c.descent.path.pages c.descent.path.index c.descent.at c.count_at_most-place.result was.1 was.0 form within_page next (omega (arith, c.descent-test.true)) c.descent.invariant.order.1 (search rules) (search rules) was.2 c.link_of-child.result (c.link_of-child.ensures ∙ ap (λ (x : List ℕ). link_at g.row.K x c.count_at_most-place.result) read) (omega (arith, c.if-child-eq0.false)) (omega (arith, g.met.M.FlatMem.revealed_length c.args.mem.now b h, c.if-child-pages.false, c.len.ensures)),
         met_down g.row.K b c.args.levels c.descent.level (c.descent.level - 1) c.args.root c.descent.path.pages c.descent.path.index c.descent.at c.count_at_most-place.result was.1 was.0 form within_page next (omega (arith, c.descent-test.true)) c.descent.invariant.order.1 (search rules) (search rules) was.2,
         λ same. absurd (omega (arith, same, c.descent-test.true, c.descent.invariant.order.1)),
       );

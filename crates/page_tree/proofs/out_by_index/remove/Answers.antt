@@ -4,7 +4,7 @@ use Rattle.page_tree.specs.Page.{IsBlank}
 use Rattle.page_tree.specs.Tree.{IsTree}
 use Rattle.page_tree.specs.Put.{capacity_of}
 use Rattle.page_tree.specs.Climb.{IsClosed}
-use Rattle.page_tree.proofs.Single.{empty_told}
+use Rattle.page_tree.proofs.Single.{empty_revealed}
 use Rattle.page_tree.proofs.CountLaws.{past_memory, none_at, walk_spends, broken_or, bare_broken}
 use Rattle.page_tree.proofs.WayLaws.{from_memory}
 use Rattle.page_tree.specs.Broken.{Breaks}
@@ -66,9 +66,9 @@ returns-clause-answer g c = λ b h records tree below.
     let size_in = g.met.M.FlatMem.same_size _ _ c.remove_in.ensures.kept in
     let room = subst (λ (s : ℕ). length records ≤ capacity_of g.row.E (s / 512)) (size ∙ size_in) tree.capacity in
     let count_now : c.remove_in.new.header.count - 1 ≡ length (remove records c.args.index) = omega (arith, less, count) in
-    let whole : (x : List ℕ) × g.M.FlatMem.tells c.finish.new.mem x × IsTree g.row.E g.row.K (g.M.FlatMem.size c.remove_in.new.mem / 512) x (remove records c.args.index) = elim out.2 [
+    let whole : (x : List ℕ) × g.M.FlatMem.reveals c.finish.new.mem x × IsTree g.row.E g.row.K (g.M.FlatMem.size c.remove_in.new.mem / 512) x (remove records c.args.index) = elim out.2 [
       | inl some ↦ c.in-Ok-finish.ensures.tree g.row.E g.row.K out.0 out.1 (remove records c.args.index) (subst (λ (s : ℕ). IsClosed g.row.E g.row.K (s / 512) out.0 (remove records c.args.index) c.remove_in.new.header.levels c.remove_in.new.header.root c.remove_in.new.header.free c.remove_in.new.header.top) size_in some.1) some.0 (subst IsBlank (sym (c.in-Ok.ensures.read b h)) tree.header.rest) count_now (omega (arith, room, less))
-      | inr bare ↦ empty_told g.row.E g.row.K (g.M.FlatMem.size c.remove_in.new.mem / 512) (g.M.FlatMem.tells c.finish.new.mem) (remove records c.args.index) (sym bare.empty) (c.in-Ok-finish.ensures.empty g.row.E g.row.K out.0 out.1 bare.nodes bare.free bare.opened bare.none (subst IsBlank (sym (c.in-Ok.ensures.read b h)) tree.header.rest) bare.no_root (count_now ∙ ap length bare.empty) (subst (λ (s : ℕ). c.remove_in.new.header.top < s / 512) size_in bare.top_below))
+      | inr bare ↦ empty_revealed g.row.E g.row.K (g.M.FlatMem.size c.remove_in.new.mem / 512) (g.M.FlatMem.reveals c.finish.new.mem) (remove records c.args.index) (sym bare.empty) (c.in-Ok-finish.ensures.empty g.row.E g.row.K out.0 out.1 bare.nodes bare.free bare.opened bare.none (subst IsBlank (sym (c.in-Ok.ensures.read b h)) tree.header.rest) bare.no_root (count_now ∙ ap length bare.empty) (subst (λ (s : ℕ). c.remove_in.new.header.top < s / 512) size_in bare.top_below))
     ] in (
       whole.0,
       whole.1,
@@ -116,6 +116,6 @@ returns-clause-past_any g c = λ b h past. absurd (omega (arith, past, (c.in-Ok.
 pub returns-clause-stood : goal.returns-clause-stood
 returns-clause-stood g c = λ b h. c.in-Ok-remove_in.ensures.stood b (c.read_header.ensures.unchanged b h) (c.in-Ok.ensures.fields b h)
 
-pub returns-in-Err-remove_in-clause-lacking : goal.returns-in-Err-remove_in-clause-lacking
-returns-in-Err-remove_in-clause-lacking g c = λ b h.
-    rw (g.met.M.FlatMem.same_size _ _ c.read_header.ensures.kept) (c.in-Err-remove_in.ensures.lacking b (c.read_header.ensures.unchanged b h) (c.in-Ok.ensures.fields b h))
+pub returns-in-Err-remove_in-clause-missing : goal.returns-in-Err-remove_in-clause-missing
+returns-in-Err-remove_in-clause-missing g c = λ b h.
+    rw (g.met.M.FlatMem.same_size _ _ c.read_header.ensures.kept) (c.in-Err-remove_in.ensures.missing b (c.read_header.ensures.unchanged b h) (c.in-Ok.ensures.fields b h))

@@ -8,8 +8,8 @@ use Rattle.page_tree.specs.Page.{filled}
 use Rattle.page_tree.specs.Broken.{Breaks}
 use Rattle.page_tree.proofs.Neighbours.{leaf_room_least}
 use Rattle.page_tree.proofs.WayLaws.{from_memory}
-use Rattle.page_tree.proofs.MendingLaws.{single_thin}
-use Rattle.page_tree.proofs.MetLaws.{met_behind}
+use Rattle.page_tree.proofs.RebalancingLaws.{single_underfull}
+use Rattle.page_tree.proofs.MetLaws.{met_after}
 use Rattle.page_tree.proofs.out_by_index.take_out.Goals as goal
 
 pub returns-then-header-gt1-clause-out : goal.returns-then-header-gt1-clause-out
@@ -23,7 +23,7 @@ pub returns-in-Ok-clause-out : goal.returns-in-Ok-clause-out
 returns-in-Ok-clause-out g c = λ b h records here i placed.
     let some : 0 < c.args.header.now.levels = omega (arith, c.requires.some) in
     let given = c.in-Ok.ensures.given b h in
-    let long : 512 * (g.M.FlatMem.size c.args.mem.now / 512) ≤ length b = omega (arith, g.met.M.FlatMem.told_length c.args.mem.now b h) in
+    let long : 512 * (g.M.FlatMem.size c.args.mem.now / 512) ≤ length b = omega (arith, g.met.M.FlatMem.revealed_length c.args.mem.now b h) in
     let below = placed_below g.row.E g.row.K b records c.args.header.now.levels here.nodes here.rooted.tower some c.args.page.now c.args.path.now.pages c.args.path.now.index c.args.place.page placed.home placed.path placed.bytes c.args.place.index placed.below in
     let i_below : i < length records = omega (arith, below, placed.is) in
     let bare = single_bare g.row.E g.row.K (g.M.FlatMem.size c.args.mem.now / 512) b records c.args.header.now.levels c.args.header.now.root c.args.header.now.free c.args.header.now.top here c.requires.widths some
@@ -58,7 +58,7 @@ returns-clause-out g c = λ b h records here i placed.
 
 pub returns-then-header-gt1-clause-broken : goal.returns-then-header-gt1-clause-broken
 returns-then-header-gt1-clause-broken g c = λ b h levels_is path met read.
-    single_thin g.row.E g.row.K (g.M.FlatMem.size c.args.mem.now / 512) b c.args.header.now.levels c.args.place.page met levels_is c.if-header-gt1.true (omega (arith, ap filled (sym read), c.if-count-eq1.true, c.filled_of-count.ensures)) (leaf_room_least g.row.E c.requires.widths.entry_least c.requires.widths.entry_most).0
+    single_underfull g.row.E g.row.K (g.M.FlatMem.size c.args.mem.now / 512) b c.args.header.now.levels c.args.place.page met levels_is c.if-header-gt1.true (omega (arith, ap filled (sym read), c.if-count-eq1.true, c.filled_of-count.ensures)) (leaf_room_least g.row.E c.requires.widths.entry_least c.requires.widths.entry_most).0
 
 pub returns-in-Err-take_first-clause-broken : goal.returns-in-Err-take_first-clause-broken
 returns-in-Err-take_first-clause-broken g c = λ b h levels_is path met read. c.in-Err-take_first.ensures.broken c.args.header.now.root b h levels_is path met
@@ -70,10 +70,10 @@ pub returns-in-Err-clause-broken : goal.returns-in-Err-clause-broken
 returns-in-Err-clause-broken g c = λ b h levels_is path met read. from_memory (Breaks g.row.E g.row.K (g.M.FlatMem.size c.args.mem.now / 512) b) c.in-Err.error (c.in-Err.ensures.given b h)
 
 pub returns-then-header-gt1-clause-named : goal.returns-then-header-gt1-clause-named
-returns-then-header-gt1-clause-named g c = λ b h levels_is path met. met_behind g.row.K b 1 _ met
+returns-then-header-gt1-clause-named g c = λ b h levels_is path met. met_after g.row.K b 1 _ met
 
 pub returns-in-Err-clause-named : goal.returns-in-Err-clause-named
 returns-in-Err-clause-named g c = λ b h levels_is path met. from_memory (λ page. 1 ≤ page) c.in-Err.error c.in-Err.ensures.memory
 
 pub returns-in-Err-take_later-clause-named : goal.returns-in-Err-take_later-clause-named
-returns-in-Err-take_later-clause-named g c = λ b h levels_is path met. c.in-Err-take_later.ensures.named (λ l above most. met_behind g.row.K b l _ (path.met l above most))
+returns-in-Err-take_later-clause-named g c = λ b h levels_is path met. c.in-Err-take_later.ensures.named (λ l above most. met_after g.row.K b l _ (path.met l above most))

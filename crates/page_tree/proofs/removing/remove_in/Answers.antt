@@ -5,30 +5,30 @@ use Rattle.page_tree.specs.Tree.{before, IsTree, IsRooted}
 use Rattle.page_tree.specs.Climb.{IsClosed}
 use Rattle.page_tree.specs.Removed.{IsLastOf}
 use Rattle.page_tree.proofs.Found.{found_none, found_last}
-use Rattle.page_tree.proofs.Replaced.{standing}
+use Rattle.page_tree.proofs.Replaced.{sector_state}
 use Rattle.page_tree.proofs.Single.{single_level, single_bare, bare_at}
 use Rattle.std.proofs.lemmas.Bool.{false≢true}
 use Rattle.page_tree.specs.Page.{filled}
 use Rattle.page_tree.specs.Broken.{Breaks}
 use Rattle.page_tree.proofs.Neighbours.{leaf_room_least}
 use Rattle.page_tree.proofs.WayLaws.{from_memory}
-use Rattle.page_tree.proofs.MendingLaws.{single_thin}
+use Rattle.page_tree.proofs.RebalancingLaws.{single_underfull}
 use Rattle.page_tree.proofs.removing.remove_in.Goals as goal
 
 pub returns-in-Err-clause-out : goal.returns-in-Err-clause-out
 returns-in-Err-clause-out g c = λ b h records tree is.
     let some : 0 < c.args.header.now.levels = omega (arith, c.requires.some) in
-    let here = standing g.row.E g.row.K (g.M.FlatMem.size c.args.mem.now / 512) b records c.args.header.now.count c.args.header.now.root c.args.header.now.top c.args.header.now.free c.args.header.now.levels tree is some in
+    let here = sector_state g.row.E g.row.K (g.M.FlatMem.size c.args.mem.now / 512) b records c.args.header.now.count c.args.header.now.root c.args.header.now.top c.args.header.now.free c.args.header.now.levels tree is some in
     c.in-Err.ensures.leaf b h records here.nodes here.rooted
 
 pub returns-in-None-clause-out : goal.returns-in-None-clause-out
 returns-in-None-clause-out g c = λ b h records tree is.
     let some : 0 < c.args.header.now.levels = omega (arith, c.requires.some) in
-    let here = standing g.row.E g.row.K (g.M.FlatMem.size c.args.mem.now / 512) b records c.args.header.now.count c.args.header.now.root c.args.header.now.top c.args.header.now.free c.args.header.now.levels tree is some in
+    let here = sector_state g.row.E g.row.K (g.M.FlatMem.size c.args.mem.now / 512) b records c.args.header.now.count c.args.header.now.root c.args.header.now.top c.args.header.now.free c.args.header.now.levels tree is some in
     let reached = c.in-Ok.ensures.leaf b h records here.nodes here.rooted in
-    let told = c.descend.ensures.unchanged b h in
+    let revealed = c.descend.ensures.unchanged b h in
     let size = g.met.M.FlatMem.same_size _ _ c.descend.ensures.kept in
-    (found_none g.row.E g.row.K b records c.args.header.now.levels here.nodes here.rooted.tower some c.args.key.now c.descend.new.page c.descend.new.path.pages c.descend.new.path.index c.in-Ok.at reached c.in-None.ensures, told)
+    (found_none g.row.E g.row.K b records c.args.header.now.levels here.nodes here.rooted.tower some c.args.key.now c.descend.new.page c.descend.new.path.pages c.descend.new.path.index c.in-Ok.at reached c.in-None.ensures, revealed)
 
 pub returns-in-None-clause-cost : goal.returns-in-None-clause-cost
 returns-in-None-clause-cost g c = omega (arith, c.descend.ensures.cost, mul-le c.args.header.now.levels g.M.FlatMem.cost 6 g.M.FlatMem.cost c.requires.begins.levels_most (omega arith))
@@ -36,9 +36,9 @@ returns-in-None-clause-cost g c = omega (arith, c.descend.ensures.cost, mul-le c
 pub returns-then-header-gt1-clause-out : goal.returns-then-header-gt1-clause-out
 returns-then-header-gt1-clause-out g c = λ b h records tree is.
     let some : 0 < c.args.header.now.levels = omega (arith, c.requires.some) in
-    let here = standing g.row.E g.row.K (g.M.FlatMem.size c.args.mem.now / 512) b records c.args.header.now.count c.args.header.now.root c.args.header.now.top c.args.header.now.free c.args.header.now.levels tree is some in
+    let here = sector_state g.row.E g.row.K (g.M.FlatMem.size c.args.mem.now / 512) b records c.args.header.now.count c.args.header.now.root c.args.header.now.top c.args.header.now.free c.args.header.now.levels tree is some in
     let reached = c.in-Ok.ensures.leaf b h records here.nodes here.rooted in
-    let told = c.descend.ensures.unchanged b h in
+    let revealed = c.descend.ensures.unchanged b h in
     let size = g.met.M.FlatMem.same_size _ _ c.descend.ensures.kept in
     let low = single_level g.row.E g.row.K (g.M.FlatMem.size c.args.mem.now / 512) b records c.args.header.now.levels c.args.header.now.root c.args.header.now.free c.args.header.now.top here c.requires.widths some c.descend.new.page c.descend.new.path.pages c.descend.new.path.index c.in-Ok.at reached.place reached.path reached.bytes (sym c.filled_of-count.ensures ∙ c.if-count-eq1.true) in
     absurd (omega (arith, low, c.if-header-gt1.true))
@@ -46,13 +46,13 @@ returns-then-header-gt1-clause-out g c = λ b h records tree is.
 pub returns-in-Ok-give_page-clause-out : goal.returns-in-Ok-give_page-clause-out
 returns-in-Ok-give_page-clause-out g c = λ b h records tree is.
     let some : 0 < c.args.header.now.levels = omega (arith, c.requires.some) in
-    let here = standing g.row.E g.row.K (g.M.FlatMem.size c.args.mem.now / 512) b records c.args.header.now.count c.args.header.now.root c.args.header.now.top c.args.header.now.free c.args.header.now.levels tree is some in
+    let here = sector_state g.row.E g.row.K (g.M.FlatMem.size c.args.mem.now / 512) b records c.args.header.now.count c.args.header.now.root c.args.header.now.top c.args.header.now.free c.args.header.now.levels tree is some in
     let reached = c.in-Ok.ensures.leaf b h records here.nodes here.rooted in
-    let told = c.descend.ensures.unchanged b h in
+    let revealed = c.descend.ensures.unchanged b h in
     let size = g.met.M.FlatMem.same_size _ _ c.descend.ensures.kept in
     let last = found_last g.row.E g.row.K b records c.args.header.now.levels here.nodes here.rooted.tower some c.args.key.now c.descend.new.page c.descend.new.path.pages c.descend.new.path.index c.in-Ok.at reached c.in-Some.place c.in-Some.ensures in
-    let given = c.in-Ok-give_page.ensures.given b told in
-    let long : 512 * (g.M.FlatMem.size c.args.mem.now / 512) ≤ length b = omega (arith, g.met.M.FlatMem.told_length c.args.mem.now b h) in
+    let given = c.in-Ok-give_page.ensures.given b revealed in
+    let long : 512 * (g.M.FlatMem.size c.args.mem.now / 512) ≤ length b = omega (arith, g.met.M.FlatMem.revealed_length c.args.mem.now b h) in
     let bare = single_bare g.row.E g.row.K (g.M.FlatMem.size c.args.mem.now / 512) b records c.args.header.now.levels c.args.header.now.root c.args.header.now.free c.args.header.now.top here c.requires.widths some c.descend.new.page c.descend.new.path.pages c.descend.new.path.index c.in-Ok.at reached.place reached.path reached.bytes (sym c.filled_of-count.ensures ∙ c.if-count-eq1.true)
     (before (here.nodes 1) (reached.place 1) + c.in-Some.place) last.below given.0 given.1 given.2 given.3 long in (
       before (here.nodes 1) (reached.place 1) + c.in-Some.place,
@@ -68,12 +68,12 @@ returns-in-Err-give_page-clause-out g c = λ b h records tree is. c.in-Err-give_
 pub returns-in-Ok-take_first-clause-out : goal.returns-in-Ok-take_first-clause-out
 returns-in-Ok-take_first-clause-out g c = λ b h records tree is.
     let some : 0 < c.args.header.now.levels = omega (arith, c.requires.some) in
-    let here = standing g.row.E g.row.K (g.M.FlatMem.size c.descend.new.mem / 512) b records c.args.header.now.count c.args.header.now.root c.args.header.now.top c.args.header.now.free c.args.header.now.levels (subst (λ (s : ℕ). IsTree g.row.E g.row.K (s / 512) b records) (g.met.M.FlatMem.same_size _ _ c.descend.ensures.kept) tree) is some in
+    let here = sector_state g.row.E g.row.K (g.M.FlatMem.size c.descend.new.mem / 512) b records c.args.header.now.count c.args.header.now.root c.args.header.now.top c.args.header.now.free c.args.header.now.levels (subst (λ (s : ℕ). IsTree g.row.E g.row.K (s / 512) b records) (g.met.M.FlatMem.same_size _ _ c.descend.ensures.kept) tree) is some in
     let reached = c.in-Ok.ensures.leaf b h records here.nodes (subst (λ (s : ℕ). IsRooted g.row.E g.row.K (s / 512) b records c.args.header.now.levels c.args.header.now.root here.nodes) (sym (g.met.M.FlatMem.same_size _ _ c.descend.ensures.kept)) here.rooted) in
-    let told = c.descend.ensures.unchanged b h in
+    let revealed = c.descend.ensures.unchanged b h in
     let size = g.met.M.FlatMem.same_size _ _ c.descend.ensures.kept in
     let last = found_last g.row.E g.row.K b records c.args.header.now.levels here.nodes here.rooted.tower some c.args.key.now c.descend.new.page c.descend.new.path.pages c.descend.new.path.index c.in-Ok.at reached c.in-Some.place c.in-Some.ensures in
-    let done = c.in-Ok-take_first.ensures.out b told records here reached.place reached.path reached.bytes in
+    let done = c.in-Ok-take_first.ensures.out b revealed records here reached.place reached.path reached.bytes in
     let place_zero : before (here.nodes 1) (reached.place 1) + c.in-Some.place ≡ before (here.nodes 1) (reached.place 1) + 0 = ap (λ (i : ℕ). before (here.nodes 1) (reached.place 1) + i) c.if-place-eq0.true in (
       before (here.nodes 1) (reached.place 1) + 0,
       subst (IsLastOf g.row.K records c.args.key.now) place_zero last,
@@ -85,30 +85,30 @@ returns-in-Ok-take_first-clause-out g c = λ b h records tree is.
 pub returns-in-Err-take_first-clause-out : goal.returns-in-Err-take_first-clause-out
 returns-in-Err-take_first-clause-out g c = λ b h records tree is.
     let some : 0 < c.args.header.now.levels = omega (arith, c.requires.some) in
-    let here = standing g.row.E g.row.K (g.M.FlatMem.size c.descend.new.mem / 512) b records c.args.header.now.count c.args.header.now.root c.args.header.now.top c.args.header.now.free c.args.header.now.levels (subst (λ (s : ℕ). IsTree g.row.E g.row.K (s / 512) b records) (g.met.M.FlatMem.same_size _ _ c.descend.ensures.kept) tree) is some in
+    let here = sector_state g.row.E g.row.K (g.M.FlatMem.size c.descend.new.mem / 512) b records c.args.header.now.count c.args.header.now.root c.args.header.now.top c.args.header.now.free c.args.header.now.levels (subst (λ (s : ℕ). IsTree g.row.E g.row.K (s / 512) b records) (g.met.M.FlatMem.same_size _ _ c.descend.ensures.kept) tree) is some in
     let reached = c.in-Ok.ensures.leaf b h records here.nodes (subst (λ (s : ℕ). IsRooted g.row.E g.row.K (s / 512) b records c.args.header.now.levels c.args.header.now.root here.nodes) (sym (g.met.M.FlatMem.same_size _ _ c.descend.ensures.kept)) here.rooted) in
-    let told = c.descend.ensures.unchanged b h in
+    let revealed = c.descend.ensures.unchanged b h in
     let size = g.met.M.FlatMem.same_size _ _ c.descend.ensures.kept in
-    c.in-Err-take_first.ensures.out b told records here reached.place reached.path reached.bytes
+    c.in-Err-take_first.ensures.out b revealed records here reached.place reached.path reached.bytes
 
 pub returns-in-Err-take_later-clause-out : goal.returns-in-Err-take_later-clause-out
 returns-in-Err-take_later-clause-out g c = λ b h records tree is.
     let some : 0 < c.args.header.now.levels = omega (arith, c.requires.some) in
-    let here = standing g.row.E g.row.K (g.M.FlatMem.size c.descend.new.mem / 512) b records c.args.header.now.count c.args.header.now.root c.args.header.now.top c.args.header.now.free c.args.header.now.levels (subst (λ (s : ℕ). IsTree g.row.E g.row.K (s / 512) b records) (g.met.M.FlatMem.same_size _ _ c.descend.ensures.kept) tree) is some in
+    let here = sector_state g.row.E g.row.K (g.M.FlatMem.size c.descend.new.mem / 512) b records c.args.header.now.count c.args.header.now.root c.args.header.now.top c.args.header.now.free c.args.header.now.levels (subst (λ (s : ℕ). IsTree g.row.E g.row.K (s / 512) b records) (g.met.M.FlatMem.same_size _ _ c.descend.ensures.kept) tree) is some in
     let reached = c.in-Ok.ensures.leaf b h records here.nodes (subst (λ (s : ℕ). IsRooted g.row.E g.row.K (s / 512) b records c.args.header.now.levels c.args.header.now.root here.nodes) (sym (g.met.M.FlatMem.same_size _ _ c.descend.ensures.kept)) here.rooted) in
-    let told = c.descend.ensures.unchanged b h in
+    let revealed = c.descend.ensures.unchanged b h in
     let size = g.met.M.FlatMem.same_size _ _ c.descend.ensures.kept in
-    c.in-Err-take_later.ensures.out b told records here reached.place reached.path reached.bytes
+    c.in-Err-take_later.ensures.out b revealed records here reached.place reached.path reached.bytes
 
 pub returns-clause-out : goal.returns-clause-out
 returns-clause-out g c = λ b h records tree is.
     let some : 0 < c.args.header.now.levels = omega (arith, c.requires.some) in
-    let here = standing g.row.E g.row.K (g.M.FlatMem.size c.descend.new.mem / 512) b records c.args.header.now.count c.args.header.now.root c.args.header.now.top c.args.header.now.free c.args.header.now.levels (subst (λ (s : ℕ). IsTree g.row.E g.row.K (s / 512) b records) (g.met.M.FlatMem.same_size _ _ c.descend.ensures.kept) tree) is some in
+    let here = sector_state g.row.E g.row.K (g.M.FlatMem.size c.descend.new.mem / 512) b records c.args.header.now.count c.args.header.now.root c.args.header.now.top c.args.header.now.free c.args.header.now.levels (subst (λ (s : ℕ). IsTree g.row.E g.row.K (s / 512) b records) (g.met.M.FlatMem.same_size _ _ c.descend.ensures.kept) tree) is some in
     let reached = c.in-Ok.ensures.leaf b h records here.nodes (subst (λ (s : ℕ). IsRooted g.row.E g.row.K (s / 512) b records c.args.header.now.levels c.args.header.now.root here.nodes) (sym (g.met.M.FlatMem.same_size _ _ c.descend.ensures.kept)) here.rooted) in
-    let told = c.descend.ensures.unchanged b h in
+    let revealed = c.descend.ensures.unchanged b h in
     let size = g.met.M.FlatMem.same_size _ _ c.descend.ensures.kept in
     let last = found_last g.row.E g.row.K b records c.args.header.now.levels here.nodes here.rooted.tower some c.args.key.now c.descend.new.page c.descend.new.path.pages c.descend.new.path.index c.in-Ok.at reached c.in-Some.place c.in-Some.ensures in
-    let done = c.in-Ok-take_later.ensures.out b told records here reached.place reached.path reached.bytes in (
+    let done = c.in-Ok-take_later.ensures.out b revealed records here reached.place reached.path reached.bytes in (
       before (here.nodes 1) (reached.place 1) + c.in-Some.place,
       last,
       done.0,
@@ -132,7 +132,7 @@ pub returns-then-header-gt1-clause-broken : goal.returns-then-header-gt1-clause-
 returns-then-header-gt1-clause-broken g c = λ b h levels_is top.
     let met = c.in-Ok.ensures.met b h top in
     let read = c.in-Ok.ensures.read b h in
-    single_thin g.row.E g.row.K (g.M.FlatMem.size c.args.mem.now / 512) b c.args.header.now.levels c.in-Ok.at met.0 levels_is c.if-header-gt1.true (omega (arith, ap filled (sym read.0), c.if-count-eq1.true, c.filled_of-count.ensures)) (leaf_room_least g.row.E c.requires.widths.entry_least c.requires.widths.entry_most).0
+    single_underfull g.row.E g.row.K (g.M.FlatMem.size c.args.mem.now / 512) b c.args.header.now.levels c.in-Ok.at met.0 levels_is c.if-header-gt1.true (omega (arith, ap filled (sym read.0), c.if-count-eq1.true, c.filled_of-count.ensures)) (leaf_room_least g.row.E c.requires.widths.entry_least c.requires.widths.entry_most).0
 
 pub returns-in-Err-take_first-clause-broken : goal.returns-in-Err-take_first-clause-broken
 returns-in-Err-take_first-clause-broken g c = λ b h levels_is top.

@@ -6,20 +6,20 @@ use Rattle.page_tree.specs.Tree.{before, IsTree}
 use Rattle.page_tree.specs.Climb.{IsHead}
 use Rattle.page_tree.specs.Removed.{IsLastOf, NoneOf}
 use Rattle.page_tree.proofs.Found.{found_none, found_last}
-use Rattle.page_tree.proofs.Replaced.{standing, set_tree}
+use Rattle.page_tree.proofs.Replaced.{sector_state, set_tree}
 use Rattle.std.proofs.lemmas.Bool.{false≢true}
 use Rattle.page_tree.proofs.WayLaws.{from_memory}
 use Rattle.page_tree.proofs.replacing.replace_in.Goals as goal
 
 pub returns-in-Err-clause-replaced : goal.returns-in-Err-clause-replaced
 returns-in-Err-clause-replaced g c = λ b h records tree is.
-    let here = standing g.row.E g.row.K (g.M.FlatMem.size c.args.mem.now / 512) b records c.args.header.count c.args.header.root c.args.header.top c.args.header.free c.args.header.levels tree is (omega (arith, c.requires.some)) in
+    let here = sector_state g.row.E g.row.K (g.M.FlatMem.size c.args.mem.now / 512) b records c.args.header.count c.args.header.root c.args.header.top c.args.header.free c.args.header.levels tree is (omega (arith, c.requires.some)) in
     c.in-Err.ensures.leaf b h records here.nodes here.rooted
 
 pub returns-in-None-clause-replaced : goal.returns-in-None-clause-replaced
 returns-in-None-clause-replaced g c = λ b h records tree is.
     let some : 0 < c.args.header.levels = omega (arith, c.requires.some) in
-    let here = standing g.row.E g.row.K (g.M.FlatMem.size c.args.mem.now / 512) b records c.args.header.count c.args.header.root c.args.header.top c.args.header.free c.args.header.levels tree is some in
+    let here = sector_state g.row.E g.row.K (g.M.FlatMem.size c.args.mem.now / 512) b records c.args.header.count c.args.header.root c.args.header.top c.args.header.free c.args.header.levels tree is some in
     let reached = c.in-Ok.ensures.leaf b h records here.nodes here.rooted in
     (subst (NoneOf g.row.K records) c.requires.same (found_none g.row.E g.row.K b records c.args.header.levels here.nodes here.rooted.tower some c.args.key.now c.descend.new.page c.descend.new.path.pages c.descend.new.path.index c.in-Ok.at reached c.in-None.ensures), c.descend.ensures.unchanged b h)
 
@@ -29,9 +29,9 @@ returns-in-None-clause-cost g c = omega (arith, c.descend.ensures.cost, mul-le c
 pub returns-in-Ok-store-clause-replaced : goal.returns-in-Ok-store-clause-replaced
 returns-in-Ok-store-clause-replaced g c = λ b h records tree is.
     let some : 0 < c.args.header.levels = omega (arith, c.requires.some) in
-    let here = standing g.row.E g.row.K (g.M.FlatMem.size c.args.mem.now / 512) b records c.args.header.count c.args.header.root c.args.header.top c.args.header.free c.args.header.levels tree is some in
+    let here = sector_state g.row.E g.row.K (g.M.FlatMem.size c.args.mem.now / 512) b records c.args.header.count c.args.header.root c.args.header.top c.args.header.free c.args.header.levels tree is some in
     let reached = c.in-Ok.ensures.leaf b h records here.nodes here.rooted in
-    let size : 512 * (g.M.FlatMem.size c.args.mem.now / 512) ≤ length b = omega (arith, g.met.M.FlatMem.told_length c.args.mem.now b h) in
+    let size : 512 * (g.M.FlatMem.size c.args.mem.now / 512) ≤ length b = omega (arith, g.met.M.FlatMem.revealed_length c.args.mem.now b h) in
     let head : IsHead (page_at b 0) (length records) c.args.header.root c.args.header.top c.args.header.free c.args.header.levels =
     subst (λ (n : ℕ). IsHead (page_at b 0) n c.args.header.root c.args.header.top c.args.header.free c.args.header.levels) (sym is.count_is ∙ tree.header.count_is) is in
     let last = found_last g.row.E g.row.K b records c.args.header.levels here.nodes here.rooted.tower some c.args.key.now c.descend.new.page c.descend.new.path.pages c.descend.new.path.index c.in-Ok.at reached c.in-Some.place c.in-Some.ensures in

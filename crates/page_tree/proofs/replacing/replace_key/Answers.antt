@@ -14,7 +14,7 @@ returns-in-Ok-replace_in-clause-answer g c = λ b h records tree.
     let size = g.met.M.FlatMem.same_size _ _ c.read_header.ensures.kept in
     let tree_now = subst (λ (s : ℕ). IsTree g.row.E g.row.K (s / 512) b records) size tree in
     let done = c.in-Ok-replace_in.ensures.replaced b (c.read_header.ensures.unchanged b h) records tree_now (c.in-Ok.ensures.fields b h) in
-    subst (λ (s : ℕ). IsReplaced g.row.E g.row.K (s / 512) (g.M.FlatMem.tells c.replace_in.new.mem) b records c.args.entry.now c.in-Ok-replace_in.found) (sym size) done
+    subst (λ (s : ℕ). IsReplaced g.row.E g.row.K (s / 512) (g.M.FlatMem.reveals c.replace_in.new.mem) b records c.args.entry.now c.in-Ok-replace_in.found) (sym size) done
 
 pub returns-in-Err-replace_in-clause-answer : goal.returns-in-Err-replace_in-clause-answer
 returns-in-Err-replace_in-clause-answer g c = λ b h records tree.
@@ -30,6 +30,6 @@ returns-in-Ok-replace_in-clause-absent g c = λ b h same. c.in-Ok-replace_in.ens
 
 pub returns-in-Err-replace_in-clause-broken : goal.returns-in-Err-replace_in-clause-broken
 returns-in-Err-replace_in-clause-broken g c = λ b h.
-    let told = c.in-Ok.ensures.header b h in
+    let revealed = c.in-Ok.ensures.header b h in
     let size = g.met.M.FlatMem.same_size _ _ c.read_header.ensures.kept in
-    rw size (c.in-Err-replace_in.ensures.broken b (c.read_header.ensures.unchanged b h) (root_met g.row.K b (g.M.FlatMem.size c.args.mem.now) c.in-Ok.header.levels c.in-Ok.header.root (g.met.M.FlatMem.told_length c.args.mem.now b h) c.in-Ok.ensures.form (omega (arith, c.if-header-eq0.false)) told.0 told.1))
+    rw size (c.in-Err-replace_in.ensures.broken b (c.read_header.ensures.unchanged b h) (root_met g.row.K b (g.M.FlatMem.size c.args.mem.now) c.in-Ok.header.levels c.in-Ok.header.root (g.met.M.FlatMem.revealed_length c.args.mem.now b h) c.in-Ok.ensures.form (omega (arith, c.if-header-eq0.false)) revealed.0 revealed.1))

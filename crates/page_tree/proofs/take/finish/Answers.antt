@@ -20,7 +20,7 @@ returns-in-Ok-clause-tree g c = λ e k b h records closed some blank count capac
       overwritten b (512 * 0) c.put_fields.new.page,
       c.in-Ok.ensures.written b h,
       closed_tree e k (g.M.FlatMem.size c.args.mem.now / 512) b records c.args.header.levels c.args.header.root c.args.header.free c.args.header.top c.put_fields.new.page closed some c.requires.few
-          (omega (arith, g.met.M.FlatMem.told_length c.args.mem.now b h, c.requires.some_pages)) c.put_fields.array_long head_now (subst IsBlank (sym written) (head_rest c.args.page.now c.args.header.count c.args.header.root c.args.header.top c.args.header.free c.args.header.levels c.told-page blank)) capacity,
+          (omega (arith, g.met.M.FlatMem.revealed_length c.args.mem.now b h, c.requires.some_pages)) c.put_fields.array_long head_now (subst IsBlank (sym written) (head_rest c.args.page.now c.args.header.count c.args.header.root c.args.header.top c.args.header.free c.args.header.levels c.told-page blank)) capacity,
     )
 
 pub returns-in-Ok-clause-empty : goal.returns-in-Ok-clause-empty
@@ -34,5 +34,5 @@ returns-in-Ok-clause-empty g c = λ e k b h nodes free opened none blank no_root
       overwritten b (512 * 0) c.put_fields.new.page,
       c.in-Ok.ensures.written b h,
       emptied_tree e k (g.M.FlatMem.size c.args.mem.now / 512) b nodes free c.args.header.free c.args.header.top c.put_fields.new.page opened below
-          (omega (arith, g.met.M.FlatMem.told_length c.args.mem.now b h, c.requires.some_pages)) c.put_fields.array_long bare (subst IsBlank (sym written) (head_rest c.args.page.now c.args.header.count c.args.header.root c.args.header.top c.args.header.free c.args.header.levels c.told-page blank)),
+          (omega (arith, g.met.M.FlatMem.revealed_length c.args.mem.now b h, c.requires.some_pages)) c.put_fields.array_long bare (subst IsBlank (sym written) (head_rest c.args.page.now c.args.header.count c.args.header.root c.args.header.top c.args.header.free c.args.header.levels c.told-page blank)),
     )

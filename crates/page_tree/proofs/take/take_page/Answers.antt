@@ -56,7 +56,7 @@ returns-clause-on g c = λ e k level t b d h few way.
     let read : c.load.new.page ≡ page_at d c.args.header.now.free = c.in-Ok.ensures.read d h in
     let some : 1 ≤ c.args.header.now.free = omega (arith, c.if-first-eq0.false) in
     let kind : kind_of (page_at d c.args.header.now.free) ≡ 0 = ap kind_of (sym read) ∙ c.if-bytes-ne0.false in
-    takes_first k b d level t c.args.header.now.free c.args.header.now.top way some c.read_u32-next.result kind (c.read_u32-next.ensures ∙ ap next_in read) (omega (arith, g.met.M.FlatMem.told_length c.args.mem.now d h, c.if-next-pages.false, c.len.ensures))
+    takes_first k b d level t c.args.header.now.free c.args.header.now.top way some c.read_u32-next.result kind (c.read_u32-next.ensures ∙ ap next_in read) (omega (arith, g.met.M.FlatMem.revealed_length c.args.mem.now d h, c.if-next-pages.false, c.len.ensures))
 
 pub returns-then-first-eq0-clause-first : goal.returns-then-first-eq0-clause-first
 returns-then-first-eq0-clause-first g c = λ b h. inr (c.if-first-eq0.true, refl, c.if-first-eq0.true, refl)

@@ -58,7 +58,7 @@ down-preserved g c = record {
       let some : 1 ≤ c.down.level - 1 = omega (arith, c.down-test.true) in
       let here : c.down.level ≤ levels = omega (arith, c.down.invariant.order.1, most) in
       let within_page = was.2 c.down-test.true in (
-        met_child g.row.K b levels c.down.level (c.down.level - 1) root c.down.path.pages c.down.path.index c.down.at c.down.place was.1 was.0 form within_page next some here (search rules) (search rules) was.3 c.link_of-child.result (c.link_of-child.ensures ∙ ap (λ (x : List ℕ). link_at g.row.K x c.down.place) read) (omega (arith, c.if-child-eq0.false)) (omega (arith, g.met.M.FlatMem.told_length c.args.mem.now b h, c.if-child-pages.false, c.len.ensures)),
+        met_child g.row.K b levels c.down.level (c.down.level - 1) root c.down.path.pages c.down.path.index c.down.at c.down.place was.1 was.0 form within_page next some here (search rules) (search rules) was.3 c.link_of-child.result (c.link_of-child.ensures ∙ ap (λ (x : List ℕ). link_at g.row.K x c.down.place) read) (omega (arith, c.if-child-eq0.false)) (omega (arith, g.met.M.FlatMem.revealed_length c.args.mem.now b h, c.if-child-pages.false, c.len.ensures)),
         met_down g.row.K b levels c.down.level (c.down.level - 1) root c.down.path.pages c.down.path.index c.down.at c.down.place was.1 was.0 form within_page next some here (search rules) (search rules) was.3,
         λ above. omega arith,
         λ same. absurd (omega (arith, same, c.down-test.true, here)),

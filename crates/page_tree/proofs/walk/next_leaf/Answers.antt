@@ -1,6 +1,6 @@
 use Rattle.std.proofs.Common.{ℕ, ◌+◌, ◌/◌, ◌<◌, get_or, arith, ◌∙◌, ap, subst}
 use Rattle.page_tree.specs.Tree.{IsRooted}
-use Rattle.page_tree.proofs.WalkLaws.{path_cut, met_cut, leads_behind, none_behind, led_moved}
+use Rattle.page_tree.proofs.WalkLaws.{path_cut, met_cut, leads_after, none_after, led_moved}
 use Rattle.page_tree.proofs.Threads.{thread_cut}
 use Rattle.page_tree.proofs.WalkedLaws.{all_walked, walked_on}
 use Rattle.page_tree.proofs.walk.next_leaf.Goals as goal
@@ -13,7 +13,7 @@ returns-in-Err-clause-met g c = λ b h root path. c.in-Err.ensures.met b h g.row
 
 pub returns-in-None-clause-leaf : goal.returns-in-None-clause-leaf
 returns-in-None-clause-leaf g c = λ b h records root at nodes home rooted path.
-    none_behind g.row.E g.row.K _ b records c.args.levels root nodes rooted c.requires.some c.args.path.now.pages c.args.path.now.index at home path (rw c.in-None.is at (c.in-Ok.ensures.turn b h g.row.E records root at nodes home rooted path))
+    none_after g.row.E g.row.K _ b records c.args.levels root nodes rooted c.requires.some c.args.path.now.pages c.args.path.now.index at home path (rw c.in-None.is at (c.in-Ok.ensures.turn b h g.row.E records root at nodes home rooted path))
 
 pub go_down-requires-clause-inside : goal.go_down-requires-clause-inside
 go_down-requires-clause-inside g c =
@@ -35,7 +35,7 @@ returns-clause-leaf g c = λ b h records root at nodes home rooted path.
     let size = g.met.M.FlatMem.same_size _ _ c.turning_level.ensures.kept in
     let rooted_now = subst (λ (s : ℕ). IsRooted g.row.E g.row.K (s / 512) b records c.args.levels root nodes) size rooted in
     let led = c.in-Ok-go_down.ensures.leaf b (c.turning_level.ensures.unchanged b h) records c.args.levels root nodes home rooted_now form.1 (path_cut nodes c.args.levels 1 c.in-Some.level _ _ at home path (omega (arith, form.0)) form.1) (λ above. turn.0) in
-    led_moved b c.args.levels nodes c.go_down.new.page c.go_down.new.path.pages c.go_down.new.path.index c.in-Ok-go_down.leaf _ (home 1 + 1) (leads_behind nodes c.args.levels _ _ at home path c.in-Some.level form.0 form.1 turn.1) led
+    led_moved b c.args.levels nodes c.go_down.new.page c.go_down.new.path.pages c.go_down.new.path.index c.in-Ok-go_down.leaf _ (home 1 + 1) (leads_after nodes c.args.levels _ _ at home path c.in-Some.level form.0 form.1 turn.1) led
 
 pub returns-in-Err-go_down-clause-met : goal.returns-in-Err-go_down-clause-met
 returns-in-Err-go_down-clause-met g c = λ b h root path.
@@ -76,10 +76,10 @@ returns-clause-walked g c = λ b h root at passed walked.
     let fits = rw c.in-Some.is at (c.in-Ok.ensures.met b h g.row.E root walked.path) in
     let last = rw c.in-Some.is at (c.in-Ok.ensures.last b h root walked.path) in
     let above : 1 < c.in-Some.level = omega (arith, form.0) in
-    let told = c.turning_level.ensures.unchanged b h in
-    let met = c.in-Ok-go_down.ensures.met b told c.args.levels root form.1 (walked.path.met c.in-Some.level above form.1) (met_cut g.row.K b c.args.levels 1 c.in-Some.level root _ _ above walked.path) (λ above. fits)
+    let revealed = c.turning_level.ensures.unchanged b h in
+    let met = c.in-Ok-go_down.ensures.met b revealed c.args.levels root form.1 (walked.path.met c.in-Some.level above form.1) (met_cut g.row.K b c.args.levels 1 c.in-Some.level root _ _ above walked.path) (λ above. fits)
     (λ same. ap (λ (i : ℕ). get_or c.args.path.now.pages i 0) same ∙ walked.path.top (omega (arith, above, form.1))) in
-    let thread = c.in-Ok-go_down.ensures.thread b told c.args.levels root form.1 (thread_cut g.row.K b c.args.levels root c.args.path.now.pages c.args.path.now.index at c.in-Some.level above walked.thread form.1) in
+    let thread = c.in-Ok-go_down.ensures.thread b revealed c.args.levels root form.1 (thread_cut g.row.K b c.args.levels root c.args.path.now.pages c.args.path.now.index at c.in-Some.level above walked.thread form.1) in
     walked_on g.row.K b c.args.levels root c.args.path.now.pages c.args.path.now.index c.go_down.new.path.pages c.go_down.new.path.index at c.in-Ok-go_down.leaf c.in-Some.level passed form.0 form.1 walked last c.in-Ok-go_down.ensures.down met.0 met.1 thread
 
 pub returns-clause-inside : goal.returns-clause-inside

@@ -6,4 +6,4 @@ returns-in-Err-clause-part g c =
     let given = c.in-Err.ensures in
     let part = rw c.disk_over-disk.ensures.value at given.part in
     let bad_count = rw c.disk_over-disk.ensures.value at given.bad_count in
-    part (failed_alone (g.D.Disk.state c.args.filer.now.swapper.under).sectors c.requires.count c.in-Err.field-0 given.err bad_count)
+    part (failed_alone (g.D.Disk.state c.args.filer.now.swapper.disk).sectors c.requires.count c.in-Err.field-0 given.err bad_count)

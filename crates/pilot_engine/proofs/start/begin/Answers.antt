@@ -21,13 +21,13 @@ use Rattle.pilot_engine.proofs.BeginLemmas.{rooted}
 use Rattle.labelled_disk.specs.declared.layout.Layout.{Layout}
 use Rattle.swapper_kernel.specs.Maps.{IsMapHome}
 use Rattle.swapper_kernel.specs.Goes.{no_page}
-use Rattle.file_manager.specs.Creating.{IsOnward, next_id}
-use Rattle.file_manager.specs.Reasons.{ShowsReason, giving, outset, telling}
-use Rattle.file_manager.specs.ToldLaws.{tables_of}
-use Rattle.fault_core.proofs.LackLemmas.{brought_lacks}
+use Rattle.file_manager.specs.Creating.{IsMonotone, next_id}
+use Rattle.file_manager.specs.Reasons.{ShowsReason, giving, initial_state, telling}
+use Rattle.file_manager.specs.RevealedLaws.{tables_of}
+use Rattle.fault_core.proofs.LackLemmas.{brought_misses}
 use Rattle.pilot_engine.proofs.FormLemmas.{create_form, label_form}
-use Rattle.pilot_engine.proofs.LackLemmas.{new_lacks}
-use Rattle.pilot_engine.proofs.OutsetLemmas.{begun_keeps, begun_untabled, counted_reasons, counted_unframed, keeps_counted, rooted_at, rooted_untabled, rooted_writes}
+use Rattle.pilot_engine.proofs.LackLemmas.{new_misses}
+use Rattle.pilot_engine.proofs.InitialStateLemmas.{begun_keeps, begun_untabled, counted_reasons, counted_unframed, keeps_counted, rooted_at, rooted_untabled, rooted_writes}
 use Rattle.pilot_engine.proofs.start.begin.Goals as goal
 
 pub used_of-requires-clause-first : goal.used_of-requires-clause-first
@@ -37,17 +37,17 @@ pub returns-in-Err-clause-starts : goal.returns-in-Err-clause-starts
 returns-in-Err-clause-starts g c = rw c.in-Err.ensures.frames (root_some c.args.root _ _ c.requires.bare (rw c.in_use-root.ensures.root at c.in-Err.ensures.stopped))
 
 pub returns-in-Err-free_count-clause-sound : goal.returns-in-Err-free_count-clause-sound
-returns-in-Err-free_count-clause-sound g c = λ d told sound same.
+returns-in-Err-free_count-clause-sound g c = λ d revealed sound same.
     let layout = c.args.filer.now.swapper.layout in
     let is = c.args.filer.now.swapper.accepted in
     let slots = c.args.filer.now.swapper.pool in
     let kept = c.args.filer.now.runs in
     let none = c.requires.no_runs layout.sectors in
-    let sectors = g.met.D.Disk.in_form c.args.filer.now.swapper.under d told in
-    let long = g.met.D.Disk.whole c.args.filer.now.swapper.under d told ∙ c.requires.size in
-    let made = (rw c.in_use-root.ensures.root at c.in-Ok.ensures.made).memory d (bare_stands (g.D.Disk.state c.args.filer.now.swapper.under) slots d c.requires.bare told) in
-    let d1 = g.D.Disk.state c.write_over.new.filer.swapper.under in
-    let form = g.met.D.Disk.in_form c.write_over.new.filer.swapper.under in
+    let sectors = g.met.D.Disk.in_form c.args.filer.now.swapper.disk d revealed in
+    let long = g.met.D.Disk.whole c.args.filer.now.swapper.disk d revealed ∙ c.requires.size in
+    let made = (rw c.in_use-root.ensures.root at c.in-Ok.ensures.made).memory d (bare_stands (g.D.Disk.state c.args.filer.now.swapper.disk) slots d c.requires.bare revealed) in
+    let d1 = g.D.Disk.state c.write_over.new.filer.swapper.disk in
+    let form = g.met.D.Disk.in_form c.write_over.new.filer.swapper.disk in
     (rw (c.in-Ok.ensures.frames, c.in-Ok.ensures.layout) at c.in-Err-free_count.ensures.sound) (opened d sectors sound layout is long c.args.root same slots c.requires.bare kept none d1 form made) (opened_stands d sectors sound layout is long c.args.root same slots c.requires.bare kept none d1 form made) (map_named d sectors sound layout is long c.args.root same slots c.requires.bare kept none d1 form made)
 
 pub returns-in-Err-free_count-clause-starts : goal.returns-in-Err-free_count-clause-starts
@@ -55,17 +55,17 @@ returns-in-Err-free_count-clause-starts g c =
     count_some c.args.root _ _ c.requires.bare (rw c.in_use-root.ensures.root at c.in-Ok.ensures.made).makes (rw (c.in-Ok.ensures.frames, c.in-Ok.ensures.layout) at c.in-Err-free_count.ensures.kept)
 
 pub returns-in-Err-make_tables-clause-sound : goal.returns-in-Err-make_tables-clause-sound
-returns-in-Err-make_tables-clause-sound g c = λ d told sound same.
+returns-in-Err-make_tables-clause-sound g c = λ d revealed sound same.
     let layout = c.args.filer.now.swapper.layout in
     let is = c.args.filer.now.swapper.accepted in
     let slots = c.args.filer.now.swapper.pool in
     let kept = c.args.filer.now.runs in
     let none = c.requires.no_runs layout.sectors in
-    let sectors = g.met.D.Disk.in_form c.args.filer.now.swapper.under d told in
-    let long = g.met.D.Disk.whole c.args.filer.now.swapper.under d told ∙ c.requires.size in
-    let made = (rw c.in_use-root.ensures.root at c.in-Ok.ensures.made).memory d (bare_stands (g.D.Disk.state c.args.filer.now.swapper.under) slots d c.requires.bare told) in
-    let d1 = g.D.Disk.state c.write_over.new.filer.swapper.under in
-    let form = g.met.D.Disk.in_form c.write_over.new.filer.swapper.under in
+    let sectors = g.met.D.Disk.in_form c.args.filer.now.swapper.disk d revealed in
+    let long = g.met.D.Disk.whole c.args.filer.now.swapper.disk d revealed ∙ c.requires.size in
+    let made = (rw c.in_use-root.ensures.root at c.in-Ok.ensures.made).memory d (bare_stands (g.D.Disk.state c.args.filer.now.swapper.disk) slots d c.requires.bare revealed) in
+    let d1 = g.D.Disk.state c.write_over.new.filer.swapper.disk in
+    let form = g.met.D.Disk.in_form c.write_over.new.filer.swapper.disk in
     let x = opened d sectors sound layout is long c.args.root same slots c.requires.bare kept none d1 form made in
     let now = opened_stands d sectors sound layout is long c.args.root same slots c.requires.bare kept none d1 form made in
     let beside = rw (c.in-Ok.ensures.frames, c.in-Ok.ensures.layout) at c.in-Ok-free_count.ensures.kept in
@@ -80,17 +80,17 @@ returns-in-Err-make_tables-clause-starts g c =
     tables_some c.args.root _ _ c.requires.bare (rw c.in_use-root.ensures.root at c.in-Ok.ensures.made).makes (rw (c.in-Ok.ensures.frames, c.in-Ok.ensures.layout) at c.in-Ok-free_count.ensures.kept) c.in-Err-make_tables.ensures.stopped
 
 pub returns-clause-begun : goal.returns-clause-begun
-returns-clause-begun g c = λ d told sound same.
+returns-clause-begun g c = λ d revealed sound same.
     let layout = c.args.filer.now.swapper.layout in
     let is = c.args.filer.now.swapper.accepted in
     let slots = c.args.filer.now.swapper.pool in
     let kept = c.args.filer.now.runs in
     let none = c.requires.no_runs layout.sectors in
-    let sectors = g.met.D.Disk.in_form c.args.filer.now.swapper.under d told in
-    let long = g.met.D.Disk.whole c.args.filer.now.swapper.under d told ∙ c.requires.size in
-    let made = (rw c.in_use-root.ensures.root at c.in-Ok.ensures.made).memory d (bare_stands (g.D.Disk.state c.args.filer.now.swapper.under) slots d c.requires.bare told) in
-    let d1 = g.D.Disk.state c.write_over.new.filer.swapper.under in
-    let form = g.met.D.Disk.in_form c.write_over.new.filer.swapper.under in
+    let sectors = g.met.D.Disk.in_form c.args.filer.now.swapper.disk d revealed in
+    let long = g.met.D.Disk.whole c.args.filer.now.swapper.disk d revealed ∙ c.requires.size in
+    let made = (rw c.in_use-root.ensures.root at c.in-Ok.ensures.made).memory d (bare_stands (g.D.Disk.state c.args.filer.now.swapper.disk) slots d c.requires.bare revealed) in
+    let d1 = g.D.Disk.state c.write_over.new.filer.swapper.disk in
+    let form = g.met.D.Disk.in_form c.write_over.new.filer.swapper.disk in
     let x = opened d sectors sound layout is long c.args.root same slots c.requires.bare kept none d1 form made in
     let now = opened_stands d sectors sound layout is long c.args.root same slots c.requires.bare kept none d1 form made in
     let beside = rw (c.in-Ok.ensures.frames, c.in-Ok.ensures.layout) at c.in-Ok-free_count.ensures.kept in
@@ -106,17 +106,17 @@ returns-clause-begun g c = λ d told sound same.
     c.in-Ok-write_tables.ensures.runs d volume session
 
 pub returns-in-Err-write_tables-clause-sound : goal.returns-in-Err-write_tables-clause-sound
-returns-in-Err-write_tables-clause-sound g c = λ d told sound same.
+returns-in-Err-write_tables-clause-sound g c = λ d revealed sound same.
     let layout = c.args.filer.now.swapper.layout in
     let is = c.args.filer.now.swapper.accepted in
     let slots = c.args.filer.now.swapper.pool in
     let kept = c.args.filer.now.runs in
     let none = c.requires.no_runs layout.sectors in
-    let sectors = g.met.D.Disk.in_form c.args.filer.now.swapper.under d told in
-    let long = g.met.D.Disk.whole c.args.filer.now.swapper.under d told ∙ c.requires.size in
-    let made = (rw c.in_use-root.ensures.root at c.in-Ok.ensures.made).memory d (bare_stands (g.D.Disk.state c.args.filer.now.swapper.under) slots d c.requires.bare told) in
-    let d1 = g.D.Disk.state c.write_over.new.filer.swapper.under in
-    let form = g.met.D.Disk.in_form c.write_over.new.filer.swapper.under in
+    let sectors = g.met.D.Disk.in_form c.args.filer.now.swapper.disk d revealed in
+    let long = g.met.D.Disk.whole c.args.filer.now.swapper.disk d revealed ∙ c.requires.size in
+    let made = (rw c.in_use-root.ensures.root at c.in-Ok.ensures.made).memory d (bare_stands (g.D.Disk.state c.args.filer.now.swapper.disk) slots d c.requires.bare revealed) in
+    let d1 = g.D.Disk.state c.write_over.new.filer.swapper.disk in
+    let form = g.met.D.Disk.in_form c.write_over.new.filer.swapper.disk in
     let x = opened d sectors sound layout is long c.args.root same slots c.requires.bare kept none d1 form made in
     let now = opened_stands d sectors sound layout is long c.args.root same slots c.requires.bare kept none d1 form made in
     let beside = rw (c.in-Ok.ensures.frames, c.in-Ok.ensures.layout) at c.in-Ok-free_count.ensures.kept in
@@ -140,11 +140,11 @@ returns-in-Err-write_tables-clause-starts g c =
     tables_all c.args.root _ _ c.requires.bare (rw c.in_use-root.ensures.root at c.in-Ok.ensures.made).makes (rw (c.in-Ok.ensures.frames, c.in-Ok.ensures.layout) at c.in-Ok-free_count.ensures.kept) c.in-Ok-make_tables.ensures.makes c.write_tables.ensures.makes
 
 -- what evidence says is so
-pub returns-in-Err-clause-so : goal.returns-in-Err-clause-so
-returns-in-Err-clause-so g c = rw c.in-Err.ensures.fault tt
+pub returns-in-Err-clause-evidence_seen : goal.returns-in-Err-clause-evidence_seen
+returns-in-Err-clause-evidence_seen g c = rw c.in-Err.ensures.fault tt
 
-pub returns-in-Err-free_count-clause-so : goal.returns-in-Err-free_count-clause-so
-returns-in-Err-free_count-clause-so g c = so_of_halts (fits c.write_over.new.filer.swapper (search rules)) (map_makes c.in-Err-free_count.ensures.kept) c.in-Err-free_count.halt _ (map_homes_placed AllocationMap _) c.in-Err-free_count.ensures.cause
+pub returns-in-Err-free_count-clause-evidence_seen : goal.returns-in-Err-free_count-clause-evidence_seen
+returns-in-Err-free_count-clause-evidence_seen g c = so_of_halts (fits c.write_over.new.filer.swapper (search rules)) (map_makes c.in-Err-free_count.ensures.kept) c.in-Err-free_count.halt _ (map_homes_placed AllocationMap _) c.in-Err-free_count.ensures.cause
 
 -- the clean flag is 0 from the first write on
 pub returns-in-Err-clause-left_open : goal.returns-in-Err-clause-left_open
@@ -154,21 +154,21 @@ pub returns-in-Err-free_count-clause-left_open : goal.returns-in-Err-free_count-
 returns-in-Err-free_count-clause-left_open g c =
     let made = (rw c.in_use-root.ensures.root at c.in-Ok.ensures.made).makes in
     let begun = unset_root c.args.root _ _ (first_made c.args.root _ _ c.requires.bare made) in
-    leaves_open (g.D.Disk.state c.free_count.new.self.swapper.under) (unset_open begun (map_makes c.in-Err-free_count.ensures.kept).wrote tt) c.in-Err-free_count.halt
+    leaves_open (g.D.Disk.state c.free_count.new.self.swapper.disk) (unset_open begun (map_makes c.in-Err-free_count.ensures.kept).wrote tt) c.in-Err-free_count.halt
 
 pub returns-in-Err-make_tables-clause-left_open : goal.returns-in-Err-make_tables-clause-left_open
 returns-in-Err-make_tables-clause-left_open g c =
     let made = (rw c.in_use-root.ensures.root at c.in-Ok.ensures.made).makes in
     let begun = unset_root c.args.root _ _ (first_made c.args.root _ _ c.requires.bare made) in
     let some = c.in-Err-make_tables.ensures.stopped in
-    leaves_open (g.D.Disk.state c.make_tables.new.filer.swapper.under) (unset_open (unset_open begun (map_makes c.in-Ok-free_count.ensures.kept).wrote tt) some.makes.wrote (take_open some.count (growth 3 0 0 some.sectors) (growth_open 3 0 0 some.sectors))) c.in-Err-make_tables.halt
+    leaves_open (g.D.Disk.state c.make_tables.new.filer.swapper.disk) (unset_open (unset_open begun (map_makes c.in-Ok-free_count.ensures.kept).wrote tt) some.makes.wrote (take_open some.count (growth 3 0 0 some.sectors) (growth_open 3 0 0 some.sectors))) c.in-Err-make_tables.halt
 
 pub returns-in-Err-write_tables-clause-left_open : goal.returns-in-Err-write_tables-clause-left_open
 returns-in-Err-write_tables-clause-left_open g c =
     let made = (rw c.in_use-root.ensures.root at c.in-Ok.ensures.made).makes in
     let begun = unset_root c.args.root _ _ (first_made c.args.root _ _ c.requires.bare made) in
     let all = c.in-Ok-make_tables.ensures.makes in
-    leaves_open (g.D.Disk.state c.write_tables.new.filer.swapper.under) (unset_open (unset_open (unset_open begun (map_makes c.in-Ok-free_count.ensures.kept).wrote tt) all.makes.wrote (growth_open 3 0 0 all.sectors)) c.write_tables.ensures.makes.wrote tt) c.in-Err-write_tables.halt
+    leaves_open (g.D.Disk.state c.write_tables.new.filer.swapper.disk) (unset_open (unset_open (unset_open begun (map_makes c.in-Ok-free_count.ensures.kept).wrote tt) all.makes.wrote (growth_open 3 0 0 all.sectors)) c.write_tables.ensures.makes.wrote tt) c.in-Err-write_tables.halt
 
 pub returns-clause-left_open : goal.returns-clause-left_open
 returns-clause-left_open g c =
@@ -212,12 +212,12 @@ returns-in-Err-free_count-clause-reasons g c = λ d named ws begun.
     let root = in_use c.args.root in
     let next = next_id c.in_use-root.result in
     let least : next ≤ next = omega arith in
-    let o = outset d named (ws ++ (root_write root ∷ [])) in
-    let first = begun_keeps next filer.swapper.layout d named ws (g.D.Disk.state filer.swapper.under) filer.swapper.pool filer.runs filer.swapper.accepted c.requires.size (g.met.D.Disk.in_form filer.swapper.under d begun.contents)
-    (g.met.D.Disk.whole filer.swapper.under d begun.contents ∙ c.requires.size) c.requires.bare (c.requires.no_runs filer.swapper.layout.sectors) begun in
+    let o = initial_state d named (ws ++ (root_write root ∷ [])) in
+    let first = begun_keeps next filer.swapper.layout d named ws (g.D.Disk.state filer.swapper.disk) filer.swapper.pool filer.runs filer.swapper.accepted c.requires.size (g.met.D.Disk.in_form filer.swapper.disk d begun.contents)
+    (g.met.D.Disk.whole filer.swapper.disk d begun.contents ∙ c.requires.size) c.requires.bare (c.requires.no_runs filer.swapper.layout.sectors) begun in
     let written = rooted_writes ws (root_write root) (rw c.in_use-root.ensures.root at c.in-Ok.ensures.made).makes c.requires.bare begun.writes in
     let bare = subst IsBare (sym c.in-Ok.ensures.frames) c.requires.bare in
-    let rooted_keeps = rooted_at d named ws root next (view_of c.write_over.new.filer) c.write_over.new.filer.swapper.accepted bare written (c.in-Ok.ensures.keeps_to (giving (outset d named ws) next) named first least) in
+    let rooted_keeps = rooted_at d named ws root next (view_of c.write_over.new.filer) c.write_over.new.filer.swapper.accepted bare written (c.in-Ok.ensures.keeps_to (giving (initial_state d named ws) next) named first least) in
     let v = view_of c.write_over.new.filer in
     let w = view_of c.free_count.new.self in
     subst (λ (l : Layout). ShowsReason o l w.disk c.in-Err-free_count.halt) c.in-Ok.ensures.layout (counted_reasons o v w named rooted_keeps c.in-Err-free_count.ensures.kept c.in-Err-free_count.halt c.in-Err-free_count.ensures.cause)
@@ -228,14 +228,14 @@ returns-in-Err-make_tables-clause-reasons g c = λ d named ws begun.
     let root = in_use c.args.root in
     let next = next_id c.in_use-root.result in
     let least : next ≤ next = omega arith in
-    let o = outset d named (ws ++ (root_write root ∷ [])) in
-    let first = begun_keeps next filer.swapper.layout d named ws (g.D.Disk.state filer.swapper.under) filer.swapper.pool filer.runs filer.swapper.accepted c.requires.size (g.met.D.Disk.in_form filer.swapper.under d begun.contents)
-    (g.met.D.Disk.whole filer.swapper.under d begun.contents ∙ c.requires.size) c.requires.bare (c.requires.no_runs filer.swapper.layout.sectors) begun in
+    let o = initial_state d named (ws ++ (root_write root ∷ [])) in
+    let first = begun_keeps next filer.swapper.layout d named ws (g.D.Disk.state filer.swapper.disk) filer.swapper.pool filer.runs filer.swapper.accepted c.requires.size (g.met.D.Disk.in_form filer.swapper.disk d begun.contents)
+    (g.met.D.Disk.whole filer.swapper.disk d begun.contents ∙ c.requires.size) c.requires.bare (c.requires.no_runs filer.swapper.layout.sectors) begun in
     let written = rooted_writes ws (root_write root) (rw c.in_use-root.ensures.root at c.in-Ok.ensures.made).makes c.requires.bare begun.writes in
     let bare = subst IsBare (sym c.in-Ok.ensures.frames) c.requires.bare in
-    let rooted_keeps = rooted_at d named ws root next (view_of c.write_over.new.filer) c.write_over.new.filer.swapper.accepted bare written (c.in-Ok.ensures.keeps_to (giving (outset d named ws) next) named first least) in
+    let rooted_keeps = rooted_at d named ws root next (view_of c.write_over.new.filer) c.write_over.new.filer.swapper.accepted bare written (c.in-Ok.ensures.keeps_to (giving (initial_state d named ws) next) named first least) in
     let counted = keeps_counted o (view_of c.write_over.new.filer) (view_of c.free_count.new.self) named rooted_keeps c.in-Ok-free_count.ensures.kept c.in-Ok-free_count.ensures.same c.in-Ok-free_count.ensures.runs in
-    subst (λ (l : Layout). ShowsReason o l (g.D.Disk.state c.make_tables.new.filer.swapper.under) c.in-Err-make_tables.halt) (c.in-Ok-free_count.ensures.kept.layout ∙ c.in-Ok.ensures.layout)
+    subst (λ (l : Layout). ShowsReason o l (g.D.Disk.state c.make_tables.new.filer.swapper.disk) c.in-Err-make_tables.halt) (c.in-Ok-free_count.ensures.kept.layout ∙ c.in-Ok.ensures.layout)
     (c.in-Err-make_tables.ensures.reasons o named counted (counted_unframed bare c.in-Ok-free_count.ensures.kept) refl)
 
 pub returns-in-Err-write_tables-clause-reasons : goal.returns-in-Err-write_tables-clause-reasons
@@ -244,16 +244,16 @@ returns-in-Err-write_tables-clause-reasons g c = λ d named ws begun.
     let root = in_use c.args.root in
     let next = next_id c.in_use-root.result in
     let least : next ≤ next = omega arith in
-    let o = outset d named (ws ++ (root_write root ∷ [])) in
-    let first = begun_keeps next filer.swapper.layout d named ws (g.D.Disk.state filer.swapper.under) filer.swapper.pool filer.runs filer.swapper.accepted c.requires.size (g.met.D.Disk.in_form filer.swapper.under d begun.contents)
-    (g.met.D.Disk.whole filer.swapper.under d begun.contents ∙ c.requires.size) c.requires.bare (c.requires.no_runs filer.swapper.layout.sectors) begun in
+    let o = initial_state d named (ws ++ (root_write root ∷ [])) in
+    let first = begun_keeps next filer.swapper.layout d named ws (g.D.Disk.state filer.swapper.disk) filer.swapper.pool filer.runs filer.swapper.accepted c.requires.size (g.met.D.Disk.in_form filer.swapper.disk d begun.contents)
+    (g.met.D.Disk.whole filer.swapper.disk d begun.contents ∙ c.requires.size) c.requires.bare (c.requires.no_runs filer.swapper.layout.sectors) begun in
     let written = rooted_writes ws (root_write root) (rw c.in_use-root.ensures.root at c.in-Ok.ensures.made).makes c.requires.bare begun.writes in
     let bare = subst IsBare (sym c.in-Ok.ensures.frames) c.requires.bare in
-    let rooted_keeps = rooted_at d named ws root next (view_of c.write_over.new.filer) c.write_over.new.filer.swapper.accepted bare written (c.in-Ok.ensures.keeps_to (giving (outset d named ws) next) named first least) in
+    let rooted_keeps = rooted_at d named ws root next (view_of c.write_over.new.filer) c.write_over.new.filer.swapper.accepted bare written (c.in-Ok.ensures.keeps_to (giving (initial_state d named ws) next) named first least) in
     let counted = keeps_counted o (view_of c.write_over.new.filer) (view_of c.free_count.new.self) named rooted_keeps c.in-Ok-free_count.ensures.kept c.in-Ok-free_count.ensures.same c.in-Ok-free_count.ensures.runs in
     let none = counted_unframed bare c.in-Ok-free_count.ensures.kept in
     let made = c.in-Ok-make_tables.ensures.keeps_to o named counted none refl in
-    subst (λ (l : Layout). ShowsReason o l (g.D.Disk.state c.write_tables.new.filer.swapper.under) c.in-Err-write_tables.halt) (c.in-Ok-make_tables.ensures.layout ∙ c.in-Ok-free_count.ensures.kept.layout ∙ c.in-Ok.ensures.layout)
+    subst (λ (l : Layout). ShowsReason o l (g.D.Disk.state c.write_tables.new.filer.swapper.disk) c.in-Err-write_tables.halt) (c.in-Ok-make_tables.ensures.layout ∙ c.in-Ok-free_count.ensures.kept.layout ∙ c.in-Ok.ensures.layout)
     (c.in-Err-write_tables.ensures.reasons o made)
 
 pub returns-clause-keeps_to : goal.returns-clause-keeps_to
@@ -262,12 +262,12 @@ returns-clause-keeps_to g c = λ d named ws begun.
     let root = in_use c.args.root in
     let next = next_id c.in_use-root.result in
     let least : next ≤ next = omega arith in
-    let o = outset d named (ws ++ (root_write root ∷ [])) in
-    let first = begun_keeps next filer.swapper.layout d named ws (g.D.Disk.state filer.swapper.under) filer.swapper.pool filer.runs filer.swapper.accepted c.requires.size (g.met.D.Disk.in_form filer.swapper.under d begun.contents)
-    (g.met.D.Disk.whole filer.swapper.under d begun.contents ∙ c.requires.size) c.requires.bare (c.requires.no_runs filer.swapper.layout.sectors) begun in
+    let o = initial_state d named (ws ++ (root_write root ∷ [])) in
+    let first = begun_keeps next filer.swapper.layout d named ws (g.D.Disk.state filer.swapper.disk) filer.swapper.pool filer.runs filer.swapper.accepted c.requires.size (g.met.D.Disk.in_form filer.swapper.disk d begun.contents)
+    (g.met.D.Disk.whole filer.swapper.disk d begun.contents ∙ c.requires.size) c.requires.bare (c.requires.no_runs filer.swapper.layout.sectors) begun in
     let written = rooted_writes ws (root_write root) (rw c.in_use-root.ensures.root at c.in-Ok.ensures.made).makes c.requires.bare begun.writes in
     let bare = subst IsBare (sym c.in-Ok.ensures.frames) c.requires.bare in
-    let rooted_keeps = rooted_at d named ws root next (view_of c.write_over.new.filer) c.write_over.new.filer.swapper.accepted bare written (c.in-Ok.ensures.keeps_to (giving (outset d named ws) next) named first least) in
+    let rooted_keeps = rooted_at d named ws root next (view_of c.write_over.new.filer) c.write_over.new.filer.swapper.accepted bare written (c.in-Ok.ensures.keeps_to (giving (initial_state d named ws) next) named first least) in
     let counted = keeps_counted o (view_of c.write_over.new.filer) (view_of c.free_count.new.self) named rooted_keeps c.in-Ok-free_count.ensures.kept c.in-Ok-free_count.ensures.same c.in-Ok-free_count.ensures.runs in
     let none = counted_unframed bare c.in-Ok-free_count.ensures.kept in
     let made = c.in-Ok-make_tables.ensures.keeps_to o named counted none refl in
@@ -281,11 +281,11 @@ returns-in-Err-clause-sees g c = λ d named ws begun. rw c.in-Err.ensures.fault 
 pub returns-in-Err-free_count-clause-sees : goal.returns-in-Err-free_count-clause-sees
 returns-in-Err-free_count-clause-sees g c = λ d named ws begun.
     let homes = IsMapHome AllocationMap c.write_over.new.filer.swapper.layout in
-    let before = g.D.Disk.state c.write_over.new.filer.swapper.under in
+    let before = g.D.Disk.state c.write_over.new.filer.swapper.disk in
     let slots = c.write_over.new.filer.swapper.pool in
-    let after = g.D.Disk.state c.free_count.new.self.swapper.under in (
+    let after = g.D.Disk.state c.free_count.new.self.swapper.disk in (
       label_form homes before slots after c.in-Err-free_count.halt c.in-Err-free_count.ensures.cause,
-      brought_lacks homes before slots after no_page c.in-Err-free_count.halt c.in-Err-free_count.ensures.cause,
+      brought_misses homes before slots after no_page c.in-Err-free_count.halt c.in-Err-free_count.ensures.cause,
     )
 
 pub returns-in-Err-make_tables-clause-sees : goal.returns-in-Err-make_tables-clause-sees
@@ -293,7 +293,7 @@ returns-in-Err-make_tables-clause-sees g c = λ d named ws begun.
     let v = view_of c.free_count.new.self in
     let w = view_of c.make_tables.new.filer in (
       create_form v.layout 3 (λ page. page < 96) v.disk v.slots w.disk w.slots c.in-Err-make_tables.halt c.in-Err-make_tables.ensures.cause,
-      new_lacks no_page 3 (λ page. page < 96) v w c.in-Err-make_tables.halt c.in-Err-make_tables.ensures.cause,
+      new_misses no_page 3 (λ page. page < 96) v w c.in-Err-make_tables.halt c.in-Err-make_tables.ensures.cause,
     )
 
 pub returns-in-Err-write_tables-clause-sees : goal.returns-in-Err-write_tables-clause-sees
@@ -302,17 +302,17 @@ returns-in-Err-write_tables-clause-sees g c = λ d named ws begun.
     let root = in_use c.args.root in
     let next = next_id c.in_use-root.result in
     let least : next ≤ next = omega arith in
-    let o = telling (outset d named (ws ++ (root_write root ∷ []))) [] in
-    let first = begun_untabled next filer.swapper.layout d named ws (g.D.Disk.state filer.swapper.under) filer.swapper.pool filer.runs filer.swapper.accepted c.requires.size (g.met.D.Disk.in_form filer.swapper.under d begun.contents)
-    (g.met.D.Disk.whole filer.swapper.under d begun.contents ∙ c.requires.size) c.requires.bare (c.requires.no_runs filer.swapper.layout.sectors) begun in
+    let o = telling (initial_state d named (ws ++ (root_write root ∷ []))) [] in
+    let first = begun_untabled next filer.swapper.layout d named ws (g.D.Disk.state filer.swapper.disk) filer.swapper.pool filer.runs filer.swapper.accepted c.requires.size (g.met.D.Disk.in_form filer.swapper.disk d begun.contents)
+    (g.met.D.Disk.whole filer.swapper.disk d begun.contents ∙ c.requires.size) c.requires.bare (c.requires.no_runs filer.swapper.layout.sectors) begun in
     let written = rooted_writes ws (root_write root) (rw c.in_use-root.ensures.root at c.in-Ok.ensures.made).makes c.requires.bare begun.writes in
     let bare = subst IsBare (sym c.in-Ok.ensures.frames) c.requires.bare in
-    let rooted_keeps = rooted_untabled d named ws root next (view_of c.write_over.new.filer) c.write_over.new.filer.swapper.accepted bare written (c.in-Ok.ensures.keeps_to (telling (giving (outset d named ws) next) []) named first least) in
+    let rooted_keeps = rooted_untabled d named ws root next (view_of c.write_over.new.filer) c.write_over.new.filer.swapper.accepted bare written (c.in-Ok.ensures.keeps_to (telling (giving (initial_state d named ws) next) []) named first least) in
     let counted = keeps_counted o (view_of c.write_over.new.filer) (view_of c.free_count.new.self) named rooted_keeps c.in-Ok-free_count.ensures.kept c.in-Ok-free_count.ensures.same c.in-Ok-free_count.ensures.runs in
     let none = counted_unframed bare c.in-Ok-free_count.ensures.kept in
-    let made = c.in-Ok-make_tables.ensures.tables (outset d named (ws ++ (root_write root ∷ []))) named counted none in
-    let told : TablesAre (view_of c.make_tables.new.filer) made.1.0 = tables_of (outset d named (ws ++ (root_write root ∷ []))) made.1.0 made.1.1.1.0 made.1.1.0 in
-    c.in-Err-write_tables.ensures.sees made.1.0 told
+    let made = c.in-Ok-make_tables.ensures.tables (initial_state d named (ws ++ (root_write root ∷ []))) named counted none in
+    let revealed : TablesAre (view_of c.make_tables.new.filer) made.1.0 = tables_of (initial_state d named (ws ++ (root_write root ∷ []))) made.1.0 made.1.1.1.0 made.1.1.0 in
+    c.in-Err-write_tables.ensures.sees made.1.0 revealed
 
 pub returns-clause-sees : goal.returns-clause-sees
 returns-clause-sees g c = λ d named ws begun.
@@ -320,19 +320,19 @@ returns-clause-sees g c = λ d named ws begun.
     let root = in_use c.args.root in
     let next = next_id c.in_use-root.result in
     let least : next ≤ next = omega arith in
-    let o = telling (outset d named (ws ++ (root_write root ∷ []))) [] in
-    let first = begun_untabled next filer.swapper.layout d named ws (g.D.Disk.state filer.swapper.under) filer.swapper.pool filer.runs filer.swapper.accepted c.requires.size (g.met.D.Disk.in_form filer.swapper.under d begun.contents)
-    (g.met.D.Disk.whole filer.swapper.under d begun.contents ∙ c.requires.size) c.requires.bare (c.requires.no_runs filer.swapper.layout.sectors) begun in
+    let o = telling (initial_state d named (ws ++ (root_write root ∷ []))) [] in
+    let first = begun_untabled next filer.swapper.layout d named ws (g.D.Disk.state filer.swapper.disk) filer.swapper.pool filer.runs filer.swapper.accepted c.requires.size (g.met.D.Disk.in_form filer.swapper.disk d begun.contents)
+    (g.met.D.Disk.whole filer.swapper.disk d begun.contents ∙ c.requires.size) c.requires.bare (c.requires.no_runs filer.swapper.layout.sectors) begun in
     let written = rooted_writes ws (root_write root) (rw c.in_use-root.ensures.root at c.in-Ok.ensures.made).makes c.requires.bare begun.writes in
     let bare = subst IsBare (sym c.in-Ok.ensures.frames) c.requires.bare in
-    let rooted_keeps = rooted_untabled d named ws root next (view_of c.write_over.new.filer) c.write_over.new.filer.swapper.accepted bare written (c.in-Ok.ensures.keeps_to (telling (giving (outset d named ws) next) []) named first least) in
+    let rooted_keeps = rooted_untabled d named ws root next (view_of c.write_over.new.filer) c.write_over.new.filer.swapper.accepted bare written (c.in-Ok.ensures.keeps_to (telling (giving (initial_state d named ws) next) []) named first least) in
     let counted = keeps_counted o (view_of c.write_over.new.filer) (view_of c.free_count.new.self) named rooted_keeps c.in-Ok-free_count.ensures.kept c.in-Ok-free_count.ensures.same c.in-Ok-free_count.ensures.runs in
     let none = counted_unframed bare c.in-Ok-free_count.ensures.kept in
-    let made = c.in-Ok-make_tables.ensures.tables (outset d named (ws ++ (root_write root ∷ []))) named counted none in
-    let told : TablesAre (view_of c.make_tables.new.filer) made.1.0 = tables_of (outset d named (ws ++ (root_write root ∷ []))) made.1.0 made.1.1.1.0 made.1.1.0 in
-    c.in-Ok-write_tables.ensures.sees made.1.0 told
+    let made = c.in-Ok-make_tables.ensures.tables (initial_state d named (ws ++ (root_write root ∷ []))) named counted none in
+    let revealed : TablesAre (view_of c.make_tables.new.filer) made.1.0 = tables_of (initial_state d named (ws ++ (root_write root ∷ []))) made.1.0 made.1.1.1.0 made.1.1.0 in
+    c.in-Ok-write_tables.ensures.sees made.1.0 revealed
 
 -- ---- The root is of the same volume, and gives out next the same identifier.
 
-pub returns-clause-onward : goal.returns-clause-onward
-returns-clause-onward g c = subst (λ (r : Root). IsOnward c.args.root r) (sym c.in_use-root.ensures.root) (omega arith, refl)
+pub returns-clause-monotone : goal.returns-clause-monotone
+returns-clause-monotone g c = subst (λ (r : Root). IsMonotone c.args.root r) (sym c.in_use-root.ensures.root) (omega arith, refl)

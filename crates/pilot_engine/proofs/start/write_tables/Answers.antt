@@ -1,23 +1,23 @@
 use Rattle.swapper_kernel.specs.Goes.{no_page}
 use Rattle.fault_core.specs.Reach.{no_break}
-use Rattle.fault_core.specs.ReachLaws.{reach_lacks}
+use Rattle.fault_core.specs.ReachLaws.{reach_misses}
 use Rattle.fault_core.specs.View.{view_of}
 use Rattle.running_words.specs.RunningLaws.{IsWhole}
 use Rattle.pilot_engine.proofs.AloneLemmas.{own_makes}
 use Rattle.pilot_engine.proofs.StartRuns.{begun_runs, bytes, known_before, tables_before}
 use Rattle.filer_kernel.specs.EvidenceLaws.{fits}
-use Rattle.fault_core.proofs.EvidenceLemmas.{shows_so}
+use Rattle.fault_core.proofs.EvidenceLemmas.{shows_evidence}
 use Rattle.running_words.specs.MovingLaws.{keeps_moved, reach_reasons}
-use Rattle.running_words.specs.SparedLaws.{spares_form}
-use Rattle.pilot_engine.proofs.OutsetLemmas.{moves_of_tables}
+use Rattle.running_words.specs.BlamelessLaws.{never_blames_form}
+use Rattle.pilot_engine.proofs.InitialStateLemmas.{moves_of_tables}
 use Rattle.pilot_engine.proofs.start.write_tables.Goals as goal
 
 pub returns-clause-runs : goal.returns-clause-runs
 returns-clause-runs g c = λ d volume s.
     let old = c.args.filer.now in
     let whole : IsWhole (view_of old) = record { layout = old.swapper.accepted; size = c.requires.size } in
-    let tells = c.in-Ok.ensures.begun (bytes (view_of old) volume d whole s) (tables_before (view_of old) volume d whole s) in
-    let now = begun_runs (view_of old) volume d whole s (view_of c.begin.new.filer) c.begin.ensures.kept c.begin.ensures.came (g.met.D.Disk.in_form c.begin.new.filer.swapper.under) c.look_at_frames.ensures.pages tells in
+    let reveals = c.in-Ok.ensures.begun (bytes (view_of old) volume d whole s) (tables_before (view_of old) volume d whole s) in
+    let now = begun_runs (view_of old) volume d whole s (view_of c.begin.new.filer) c.begin.ensures.kept c.begin.ensures.came (g.met.D.Disk.in_form c.begin.new.filer.swapper.disk) c.look_at_frames.ensures.pages reveals in
     rw c.look_at_frames.ensures.same now
 
 pub returns-in-Err-clause-sound : goal.returns-in-Err-clause-sound
@@ -32,8 +32,8 @@ returns-clause-makes g c = rw c.look_at_frames.ensures.same (own_makes c.begin.e
 pub returns-in-Err-clause-makes : goal.returns-in-Err-clause-makes
 returns-in-Err-clause-makes g c = own_makes c.begin.ensures.kept.goes.makes
 
-pub returns-in-Err-clause-so : goal.returns-in-Err-clause-so
-returns-in-Err-clause-so g c = shows_so _ (view_of c.args.filer.now) (view_of c.begin.new.filer) (fits c.args.filer.now.swapper c.requires.size) c.begin.ensures.kept.goes.makes c.in-Err.halt c.in-Err.ensures.cause
+pub returns-in-Err-clause-evidence_seen : goal.returns-in-Err-clause-evidence_seen
+returns-in-Err-clause-evidence_seen g c = shows_evidence _ (view_of c.args.filer.now) (view_of c.begin.new.filer) (fits c.args.filer.now.swapper c.requires.size) c.begin.ensures.kept.goes.makes c.in-Err.halt c.in-Err.ensures.cause
 
 -- ---- What began stays a reason.
 
@@ -50,7 +50,7 @@ returns-in-Err-clause-reasons g c = λ o keeps.
 -- ---- What it sees.
 
 pub returns-clause-sees : goal.returns-clause-sees
-returns-clause-sees g c = λ b told. rw c.look_at_frames.ensures.same (c.in-Ok.ensures.sees b told)
+returns-clause-sees g c = λ b revealed. rw c.look_at_frames.ensures.same (c.in-Ok.ensures.sees b revealed)
 
 pub returns-in-Err-clause-sees : goal.returns-in-Err-clause-sees
-returns-in-Err-clause-sees g c = λ b told. (spares_form c.in-Err.halt (c.in-Err.ensures.right b told), reach_lacks no_break (view_of c.args.filer.now) (view_of c.begin.new.filer) no_page c.in-Err.halt c.in-Err.ensures.cause)
+returns-in-Err-clause-sees g c = λ b revealed. (never_blames_form c.in-Err.halt (c.in-Err.ensures.right b revealed), reach_misses no_break (view_of c.args.filer.now) (view_of c.begin.new.filer) no_page c.in-Err.halt c.in-Err.ensures.cause)

@@ -1,13 +1,13 @@
 use Rattle.std.proofs.Common.{◌≡◌, refl, subst, OnOk, IfErr}
 use Rattle.labelled_disk.specs.declared.evidence.Halt.TheVariants as halt
 use Rattle.pilot_engine.specs.Closing.{HasShut}
-use Rattle.filer_kernel.specs.Evidence.{ShowsSo}
+use Rattle.filer_kernel.specs.Evidence.{ShowsEvidence}
 use Rattle.file_manager.specs.Reasons.{ShowsReason}
-use Rattle.pilot_engine.specs.EndLaws.{spared_at_end}
-use Rattle.pilot_engine.specs.Reasons.{SparesEnd}
+use Rattle.pilot_engine.specs.EndLaws.{blameless_at_end}
+use Rattle.pilot_engine.specs.Reasons.{NeverBlamesEnd}
 use Rattle.pilot_engine.specs.Opening.{LeavesOpen}
-use Rattle.pilot_top.specs.Outset.{FromEachOutset}
-use Rattle.pilot_top.proofs.CloseLemmas.{not_damaged, damage_reasoned, damage_told, left_damaged}
+use Rattle.pilot_top.specs.InitialState.{FromEachInitialState}
+use Rattle.pilot_top.proofs.CloseLemmas.{not_damaged, damage_reasoned, damage_revealed, left_damaged}
 use Rattle.pilot_top.proofs.ReasonLemmas.{goes_nowhere, reason_halted}
 use Rattle.pilot_top.proofs.closing.close.Goals as goal
 
@@ -24,15 +24,15 @@ pub returns-in-Err-clause-sound : goal.returns-in-Err-clause-sound
 returns-in-Err-clause-sound g c m is damaged =
     not_damaged c.in-Err.halt c.stop.result (subst (λ r. IfErr r (λ e. e ≡ halt.Disk)) c.in-Err.is (c.finish-closed.ensures.sound m is)) c.stop.ensures.status damaged
 
-pub returns-in-Err-clause-so : goal.returns-in-Err-clause-so
-returns-in-Err-clause-so g c damaged =
+pub returns-in-Err-clause-evidence_seen : goal.returns-in-Err-clause-evidence_seen
+returns-in-Err-clause-evidence_seen g c damaged =
     let session = c.args.session in
     let filer = session.core.filer in
     let disk = g.D.Disk.state c.finish-closed.result.1 in
-    damage_reasoned c.in-Err.halt c.stop.result _ _ _ disk (FromEachOutset session disk) (subst (λ r. IfErr r (ShowsSo disk)) c.in-Err.is c.finish-closed.ensures.so)
-    (λ e. reason_halted session session refl (goes_nowhere session) disk e c.in-Err.halt (λ o keeps ahead. (
+    damage_reasoned c.in-Err.halt c.stop.result _ _ _ disk (FromEachInitialState session disk) (subst (λ r. IfErr r (ShowsEvidence disk)) c.in-Err.is c.finish-closed.ensures.evidence_seen)
+    (λ e. reason_halted session session refl (goes_nowhere session) disk e c.in-Err.halt (λ o keeps not_older. (
       subst (λ r. IfErr r (ShowsReason o filer.swapper.layout disk)) c.in-Err.is (c.finish-closed.ensures.reasons o keeps),
-      λ seen. spared_at_end o disk c.in-Err.halt (subst (λ r. IfErr r (SparesEnd o disk)) c.in-Err.is (c.finish-closed.ensures.sees o keeps seen)),
+      λ seen. blameless_at_end o disk c.in-Err.halt (subst (λ r. IfErr r (NeverBlamesEnd o disk)) c.in-Err.is (c.finish-closed.ensures.sees o keeps seen)),
     )))
     c.stop.ensures.status damaged c.stop.ensures.line
 
@@ -48,5 +48,5 @@ returns-in-Err-clause-left_open g c unset damaged =
 
 pub returns-in-Err-clause-damage_line : goal.returns-in-Err-clause-damage_line
 returns-in-Err-clause-damage_line g c damaged =
-    let told = damage_told c.in-Err.halt c.stop.result _ _ _ (g.D.Disk.state c.finish-closed.result.1) (subst (λ r. IfErr r (ShowsSo (g.D.Disk.state c.finish-closed.result.1))) c.in-Err.is c.finish-closed.ensures.so) c.stop.ensures.status damaged c.stop.ensures.line in
-    (told.0, told.2)
+    let revealed = damage_revealed c.in-Err.halt c.stop.result _ _ _ (g.D.Disk.state c.finish-closed.result.1) (subst (λ r. IfErr r (ShowsEvidence (g.D.Disk.state c.finish-closed.result.1))) c.in-Err.is c.finish-closed.ensures.evidence_seen) c.stop.ensures.status damaged c.stop.ensures.line in
+    (revealed.0, revealed.2)

@@ -8,48 +8,48 @@ use Rattle.labelled_disk.specs.State.{DiskState}
 use Rattle.flat_machine.specs.Machine.{Machine}
 use Rattle.swapper_kernel.specs.GoesLaws.{went_itself, went_then}
 use Rattle.trace_io.specs.Reading.{reading}
-use Rattle.session_words.specs.StandsFor.{TellsSettled}
-use Rattle.filer_kernel.specs.Evidence.{IsSo, ShowsSo}
-use Rattle.pilot_engine.specs.declared.session.SessionOver.{SessionOver}
+use Rattle.session_words.specs.StandsFor.{RevealsSettled}
+use Rattle.filer_kernel.specs.Evidence.{IsEvident, ShowsEvidence}
+use Rattle.pilot_engine.specs.declared.session.Session.{Session}
 use Rattle.pilot_engine.proofs.UnsetLemmas.{unset_then}
 use Rattle.running_words.specs.Running.{Runs}
 use Rattle.pilot_top.specs.Headline.{HasFilesAt}
 use Rattle.pilot_top.specs.Last.{last_line, Puts}
-use Rattle.pilot_top.specs.Outset.{FromEachOutset}
+use Rattle.pilot_top.specs.InitialState.{FromEachInitialState}
 use Rattle.pilot_top.specs.Stopping.{status_of, cause_of}
 use Rattle.pilot_top.specs.declared.last.Cause.{Cause}
 use Rattle.pilot_top.specs.declared.last.Cause.TheVariants as cause
 use Rattle.pilot_top.specs.declared.status.Status.TheVariants as status
 use Rattle.pilot_top.specs.declared.turn.Turn.TheVariants.{Halts}
 use Rattle.pilot_top.proofs.EndLemmas.{End-answering, End-rest, End-short}
-use Rattle.pilot_top.proofs.ExitLemmas.{halt_not_damaged, halt_evidence, three_ways, stopped_files, takes_more, still_moments, still_spends, line_spends, end_spent, still_files, line_moments, halt_files, reply_files, line_not_close, end_closed, end_unheard, end_moments}
-use Rattle.pilot_top.proofs.FrontLemmas.{End-has}
-use Rattle.pilot_top.proofs.LawfulRuns.{called_openly, ended_last, openly_last, openly_none, openly_then}
+use Rattle.pilot_top.proofs.ExitLemmas.{halt_not_damaged, halt_evidence, three_ways, stopped_files, takes_more, still_crash_states, still_spends, line_spends, end_spent, still_files, line_crash_states, halt_files, reply_files, line_not_close, end_closed, end_unheard, end_crash_states}
+use Rattle.pilot_top.proofs.PrefixLemmas.{End-has}
+use Rattle.pilot_top.proofs.PermittedRuns.{called_openly, ended_last, openly_last, openly_none, openly_then}
 use Rattle.pilot_top.proofs.OpenLemmas.{early_halt}
-use Rattle.pilot_top.proofs.PlaceLemmas.{stop_told}
+use Rattle.pilot_top.proofs.PlaceLemmas.{stop_revealed}
 use Rattle.pilot_top.proofs.ReasonLemmas.{damage_same, goes_nowhere, goes_then, reason_before, reason_halted}
 use Rattle.pilot_top.proofs.RepliedLemmas.{Replied-end, Replied-halted, Replied-long, Replied-read_fault, Replied-write_fault}
-use Rattle.pilot_top.proofs.StagedLemmas.{from_rest, stands_told}
+use Rattle.pilot_top.proofs.StagedLemmas.{from_rest, stands_revealed}
 use Rattle.pilot_top.proofs.StatusLemmas.{halt_disk, halt_ends, trace_ends}
-use Rattle.pilot_top.proofs.TopLemmas.{Run-disk, Run-long, Run-read_fault, Run-write_fault, not_short, rose_later, Puts-later, damage_told, told_front, Going-sink, Going-told}
-use Rattle.pilot_top.proofs.TurnedLemmas.{more_moments, ended_moments, Turned-start, Turned-reply, Turned-source, Turned-told, Turned-same}
+use Rattle.pilot_top.proofs.TopLemmas.{Run-disk, Run-long, Run-read_fault, Run-write_fault, not_short, rose_later, Puts-later, damage_revealed, revealed_prefix, Going-sink, Going-revealed}
+use Rattle.pilot_top.proofs.TurnedLemmas.{more_crash_states, ended_crash_states, Turned-start, Turned-reply, Turned-source, Turned-revealed, Turned-same}
 use Rattle.pilot_top.proofs.run.answer_lines.Given as given
 use Rattle.pilot_top.proofs.run.answer_lines.Goals as goal
 
 -- A session of the function, its disk, and what it stands for.
 
 abbrev Sessions : given.Over → Type 0
-Sessions g = SessionOver g.row.D.Denot g.row.A.Denot g.D.Disk
+Sessions g = Session g.row.D.Denot g.row.A.Denot g.D.Disk
 
 abbrev disk_of : (g : given.Over) → Sessions g → DiskState
-disk_of g s = g.D.Disk.state s.core.filer.swapper.under
+disk_of g s = g.D.Disk.state s.core.filer.swapper.disk
 
 abbrev stands_of : (g : given.Over) → Sessions g → Machine → Type 0
 stands_of g s m = Runs s.core s.volume m
 
-tells : (g : given.Over) (s : Sessions g) (m : Machine) → stands_of g s m → (e : List Sector) → (disk_of g s).contents ≡ Some e → TellsSettled e m
-tells g s m stands e told =
-    (stands_told m stands (λ d is. g.met.D.Disk.in_form s.core.filer.swapper.under d is) e told).told
+reveals : (g : given.Over) (s : Sessions g) (m : Machine) → stands_of g s m → (e : List Sector) → (disk_of g s).contents ≡ Some e → RevealsSettled e m
+reveals g s m stands e revealed =
+    (stands_revealed m stands (λ d is. g.met.D.Disk.in_form s.core.filer.swapper.disk d is) e revealed).revealed
 
 -- the last line was put
 abbrev PutsLast : (g : given.Over) → g.row.K.Denot → g.row.K.Denot → Cause → Type 0
@@ -61,9 +61,9 @@ turns-init g c =
     let stopped = ap (λ p. p.stopped) made in
     record {
       turned = Turned-start _ _ c.with_limit-lines.result _ _ (ap (λ p. p.taken) made) stopped
-          (λ m is. from_rest m [] is (λ d told. g.met.D.Disk.in_form c.args.session.core.filer.swapper.under d told))
+          (λ m is. from_rest m [] is (λ d revealed. g.met.D.Disk.in_form c.args.session.core.filer.swapper.disk d revealed))
           (openly_none (record { contents = refl; writes = refl }));
-      same_disk = went_itself (g.D.Disk.state c.args.session.core.filer.swapper.under);
+      same_disk = went_itself (g.D.Disk.state c.args.session.core.filer.swapper.disk);
       goes_on = inl stopped;
       limit = ap (λ p. p.limit) made;
       bound = rw made (omega arith);
@@ -101,9 +101,9 @@ turns-preserved g c =
       size = went.sectors ∙ i.size ∙ ap (λ l. l.sectors) (sym c.take_turn.ensures.layout);
       layout = c.take_turn.ensures.layout ∙ i.layout;
       goes = goes_then c.args.session c.turns.session c.take_turn.new.session i.goes (record {
-        keeps = λ o keeps ahead. c.in-Replies.ensures.keeps_to o keeps ahead tt;
-        sees = λ o keeps ahead seen. c.in-Replies.ensures.sees o keeps ahead seen tt;
-        onward = c.take_turn.ensures.onward;
+        keeps = λ o keeps not_older. c.in-Replies.ensures.keeps_to o keeps not_older tt;
+        sees = λ o keeps not_older seen. c.in-Replies.ensures.sees o keeps not_older seen tt;
+        monotone = c.take_turn.ensures.monotone;
       });
       opened = c.take_turn.ensures.open_still;
       running = c.in-Replies.ensures.going tt;
@@ -119,28 +119,28 @@ returns-in_default g c =
     let turn = c.in-Replies.ensures.turns in
     let put = c.in_default.ensures.err in
     let rose = rose_later _ _ _ i.sink c.in_default.ensures.cause.cause in
-    let lawful = openly_last (openly_then i.turned.lawful (called_openly c.take_turn.ensures.wrote)) in
+    let permitted = openly_last (openly_then i.turned.permitted (called_openly c.take_turn.ensures.wrote)) in
     let went = went_then i.same_disk c.take_turn.ensures.wrote.makes.went in
     record {
       answering = λ m b t stands source sink.
-          let turned = Turned-told i.turned source sink in
-          let has = reply_files m turned stands turn.0 turn.2 turn.4 (disk_of g c.take_turn.new.session) turn.3 (tells g c.take_turn.new.session) in
+          let turned = Turned-revealed i.turned source sink in
+          let has = reply_files m turned stands turn.0 turn.2 turn.4 (disk_of g c.take_turn.new.session) turn.3 (reveals g c.take_turn.new.session) in
           Run-write_fault m b t _ _ c.turns.lines _ _ turned.going stands _ (HasFilesAt m (reading b) (g.D.Disk.state c.into_disk.result)) _ _ c.take_turn.new.lines _ turn.1 c.in-Replies.reply turn.0 turn.2 turn.3
           rose put.0 put.1 put.2 (rw c.into_disk.ensures has);
       replied = λ b t left source sink.
-          Replied-write_fault b t (Going-told _ _ _ _ _ _ _ b t i.turned.going source sink) _ (g.D.Disk.state c.into_disk.result) (FromEachOutset c.args.session (g.D.Disk.state c.into_disk.result)) (g.S.Source.left c.take_turn.new.source) _ c.take_turn.new.lines turn.1 c.in-Replies.reply turn.0 turn.2 turn.3.suits
+          Replied-write_fault b t (Going-revealed _ _ _ _ _ _ _ b t i.turned.going source sink) _ (g.D.Disk.state c.into_disk.result) (FromEachInitialState c.args.session (g.D.Disk.state c.into_disk.result)) (g.S.Source.left c.take_turn.new.source) _ c.take_turn.new.lines turn.1 c.in-Replies.reply turn.0 turn.2 turn.3.suits
           rose put.0 put.1 put.2;
-      moments = λ m b stands source. rw c.into_disk.ensures (line_moments m (Turned-source i.turned source) stands turn.0 turn.2 turn.4 turn.5);
+      crash_states = λ m b stands source. rw c.into_disk.ensures (line_crash_states m (Turned-source i.turned source) stands turn.0 turn.2 turn.4 turn.5);
       closed = λ m b stands source done going. absurd (cc done);
       closed_unheard = λ m b stands source is heard left closed. absurd (line_not_close m (Turned-source i.turned source) stands turn.0 turn.2 turn.4 left closed);
-      some_moments = λ m stands. rw c.into_disk.ensures (_, more_moments i.turned turn.5 m stands);
+      some_crash_states = λ m stands. rw c.into_disk.ensures (_, more_crash_states i.turned turn.5 m stands);
       stays_open = λ b left source early. rw c.into_disk.ensures (unset_then (i.left_open left) c.take_turn.ensures.wrote);
       untaken = λ b left source is some. rw c.into_disk.ensures (unset_then (i.left_open left) c.take_turn.ensures.wrote);
       left_open = λ left is. rw c.into_disk.ensures (unset_then (i.left_open left) c.take_turn.ensures.wrote);
       transfers = λ m b stands source. rw c.into_disk.ensures (line_spends m (Turned-source i.turned source) stands turn.0 turn.2 turn.4 i.same_disk.sectors turn.5);
       sound = λ m stands is. absurd (cc is);
       damage = λ t left sink is. absurd (cc is);
-      lawful = rw c.into_disk.ensures lawful;
+      permitted = rw c.into_disk.ensures permitted;
       same_disk = rw c.into_disk.ensures went;
       disk_cause = λ is. absurd (cc is);
       stream_cause = λ is. inr rose;
@@ -157,26 +157,26 @@ returns-in-ReadFault g c =
     let turn = c.in-ReadFault.ensures.turns in
     let same : c.take_turn.new.session ≡ c.turns.session = c.in-ReadFault.ensures.idle tt in
     let rose = rose_later _ _ _ i.source (c.in-ReadFault.ensures.source_cause refl) in
-    let lawful = openly_last (openly_then i.turned.lawful (called_openly c.take_turn.ensures.wrote)) in
+    let permitted = openly_last (openly_then i.turned.permitted (called_openly c.take_turn.ensures.wrote)) in
     let went = went_then i.same_disk c.take_turn.ensures.wrote.makes.went in
     record {
       answering = λ m b t stands source sink.
-          let turned = Turned-same {S = Sessions g} (disk_of g) (stands_of g) same (Turned-told i.turned source sink) in
+          let turned = Turned-same {S = Sessions g} (disk_of g) (stands_of g) same (Turned-revealed i.turned source sink) in
           Run-read_fault m b t _ _ c.turns.lines _ _ turned.going stands _ (HasFilesAt m (reading b) (g.D.Disk.state c.into_disk-in-ReadFault.result)) _ c.take_turn.new.lines turn.0 turn.1
-          (rw c.into_disk-in-ReadFault.ensures (still_files m turned stands (tells g c.take_turn.new.session)));
+          (rw c.into_disk-in-ReadFault.ensures (still_files m turned stands (reveals g c.take_turn.new.session)));
       replied = λ b t left source sink.
-          Replied-read_fault b t (Going-told _ _ _ _ _ _ _ b t i.turned.going source sink) _ (g.D.Disk.state c.into_disk-in-ReadFault.result) (FromEachOutset c.args.session (g.D.Disk.state c.into_disk-in-ReadFault.result)) (g.S.Source.left c.take_turn.new.source) c.take_turn.new.lines turn.0 turn.1;
-      moments = λ m b stands source. rw c.into_disk-in-ReadFault.ensures (still_moments m (Turned-same {S = Sessions g} (disk_of g) (stands_of g) same (Turned-source i.turned source)) stands);
+          Replied-read_fault b t (Going-revealed _ _ _ _ _ _ _ b t i.turned.going source sink) _ (g.D.Disk.state c.into_disk-in-ReadFault.result) (FromEachInitialState c.args.session (g.D.Disk.state c.into_disk-in-ReadFault.result)) (g.S.Source.left c.take_turn.new.source) c.take_turn.new.lines turn.0 turn.1;
+      crash_states = λ m b stands source. rw c.into_disk-in-ReadFault.ensures (still_crash_states m (Turned-same {S = Sessions g} (disk_of g) (stands_of g) same (Turned-source i.turned source)) stands);
       closed = λ m b stands source done going. absurd (cc done);
       closed_unheard = λ m b stands source is heard left closed. absurd (heard rose);
-      some_moments = λ m stands. rw (c.into_disk-in-ReadFault.ensures, same) (_, i.turned.along m stands);
+      some_crash_states = λ m stands. rw (c.into_disk-in-ReadFault.ensures, same) (_, i.turned.along m stands);
       stays_open = λ b left source early. rw c.into_disk-in-ReadFault.ensures (unset_then (i.left_open left) c.take_turn.ensures.wrote);
       untaken = λ b left source is some. rw c.into_disk-in-ReadFault.ensures (unset_then (i.left_open left) c.take_turn.ensures.wrote);
       left_open = λ left is. rw c.into_disk-in-ReadFault.ensures (unset_then (i.left_open left) c.take_turn.ensures.wrote);
       transfers = λ m b stands source. rw (c.into_disk-in-ReadFault.ensures, same) (still_spends m (Turned-source i.turned source) stands);
       sound = λ m stands is. absurd (cc is);
       damage = λ t left sink is. absurd (cc is);
-      lawful = rw c.into_disk-in-ReadFault.ensures lawful;
+      permitted = rw c.into_disk-in-ReadFault.ensures permitted;
       same_disk = rw c.into_disk-in-ReadFault.ensures went;
       disk_cause = λ is. absurd (cc is);
       stream_cause = λ is. inl rose;
@@ -192,27 +192,27 @@ returns-in-Long g c =
     let i = c.turns.invariant in
     let turn = c.in-Long.ensures.turns in
     let same : c.take_turn.new.session ≡ c.turns.session = c.in-Long.ensures.idle tt in
-    let lawful = openly_last (openly_then i.turned.lawful (called_openly c.take_turn.ensures.wrote)) in
+    let permitted = openly_last (openly_then i.turned.permitted (called_openly c.take_turn.ensures.wrote)) in
     let went = went_then i.same_disk c.take_turn.ensures.wrote.makes.went in
     record {
       answering = λ m b t stands source sink.
-          let turned = Turned-same {S = Sessions g} (disk_of g) (stands_of g) same (Turned-told i.turned source sink) in
+          let turned = Turned-same {S = Sessions g} (disk_of g) (stands_of g) same (Turned-revealed i.turned source sink) in
           Run-long m b t _ _ c.turns.lines _ _ turned.going stands _ (HasFilesAt m (reading b) (g.D.Disk.state c.into_disk-in-Long.result)) _ _ c.take_turn.new.lines turn.0 turn.1 (turn.2 ∙ turn.1.limit ∙ i.limit)
-          (Puts-later _ _ _ _ _ (rose_later _ _ _ i.sink) c.put_last.ensures.put) (rw c.into_disk-in-Long.ensures (still_files m turned stands (tells g c.take_turn.new.session)));
+          (Puts-later _ _ _ _ _ (rose_later _ _ _ i.sink) c.put_last.ensures.put) (rw c.into_disk-in-Long.ensures (still_files m turned stands (reveals g c.take_turn.new.session)));
       replied = λ b t left source sink.
-          Replied-long b t (Going-told _ _ _ _ _ _ _ b t i.turned.going source sink) _ (g.D.Disk.state c.into_disk-in-Long.result) (FromEachOutset c.args.session (g.D.Disk.state c.into_disk-in-Long.result)) (g.S.Source.left c.take_turn.new.source) _ c.take_turn.new.lines turn.0 turn.1 (turn.2 ∙ turn.1.limit ∙ i.limit)
+          Replied-long b t (Going-revealed _ _ _ _ _ _ _ b t i.turned.going source sink) _ (g.D.Disk.state c.into_disk-in-Long.result) (FromEachInitialState c.args.session (g.D.Disk.state c.into_disk-in-Long.result)) (g.S.Source.left c.take_turn.new.source) _ c.take_turn.new.lines turn.0 turn.1 (turn.2 ∙ turn.1.limit ∙ i.limit)
           (Puts-later _ _ _ _ _ (rose_later _ _ _ i.sink) c.put_last.ensures.put);
-      moments = λ m b stands source. rw c.into_disk-in-Long.ensures (still_moments m (Turned-same {S = Sessions g} (disk_of g) (stands_of g) same (Turned-source i.turned source)) stands);
+      crash_states = λ m b stands source. rw c.into_disk-in-Long.ensures (still_crash_states m (Turned-same {S = Sessions g} (disk_of g) (stands_of g) same (Turned-source i.turned source)) stands);
       closed = λ m b stands source done going. absurd (cc done);
       closed_unheard = λ m b stands source is heard left closed. absurd (cc is);
-      some_moments = λ m stands. rw (c.into_disk-in-Long.ensures, same) (_, i.turned.along m stands);
+      some_crash_states = λ m stands. rw (c.into_disk-in-Long.ensures, same) (_, i.turned.along m stands);
       stays_open = λ b left source early. rw c.into_disk-in-Long.ensures (unset_then (i.left_open left) c.take_turn.ensures.wrote);
       untaken = λ b left source is some. rw c.into_disk-in-Long.ensures (unset_then (i.left_open left) c.take_turn.ensures.wrote);
       left_open = λ left is. rw c.into_disk-in-Long.ensures (unset_then (i.left_open left) c.take_turn.ensures.wrote);
       transfers = λ m b stands source. rw (c.into_disk-in-Long.ensures, same) (still_spends m (Turned-source i.turned source) stands);
       sound = λ m stands is. absurd (cc is);
       damage = λ t left sink is. absurd (cc is);
-      lawful = rw c.into_disk-in-Long.ensures lawful;
+      permitted = rw c.into_disk-in-Long.ensures permitted;
       same_disk = rw c.into_disk-in-Long.ensures went;
       disk_cause = λ is. absurd (cc is);
       stream_cause = λ is. absurd (cc is);
@@ -229,13 +229,13 @@ returns-in-Halts g c =
     let turn = c.in-Halts.ensures.turns in
     let stopped = c.stop.ensures.status in
     let other = halt_ends c.in-Halts.halt c.stop.result stopped in
-    let lawful = openly_last (openly_then i.turned.lawful (called_openly c.take_turn.ensures.wrote)) in
+    let permitted = openly_last (openly_then i.turned.permitted (called_openly c.take_turn.ensures.wrote)) in
     let went = went_then i.same_disk c.take_turn.ensures.wrote.makes.went in
     let disk = disk_of g c.take_turn.new.session in
-    let reason = λ (e : Evidence). reason_halted c.args.session c.turns.session i.layout i.goes disk e c.in-Halts.halt (λ o keeps ahead. (c.in-Halts.ensures.reasons o keeps ahead c.in-Halts.halt refl, λ seen. c.in-Halts.ensures.right o keeps ahead seen c.in-Halts.halt refl)) in
+    let reason = λ (e : Evidence). reason_halted c.args.session c.turns.session i.layout i.goes disk e c.in-Halts.halt (λ o keeps not_older. (c.in-Halts.ensures.reasons o keeps not_older c.in-Halts.halt refl, λ seen. c.in-Halts.ensures.right o keeps not_older seen c.in-Halts.halt refl)) in
     record {
       answering = λ m b t stands source sink.
-          let turned = Turned-told i.turned source sink in
+          let turned = Turned-revealed i.turned source sink in
           let why : c.in-Halts.halt ≡ halt.Disk = c.in-Halts.ensures.sound _ c.in-Halts.halt (turned.going.stands m stands) refl in
           let is : c.stop.result ≡ status.DiskFault = stopped ∙ ap status_of why in
           let line : PutsLast g c.turns.sink c.stop.new.sink cause.DiskFault = subst (λ (h : Halt). PutsLast g c.turns.sink c.stop.new.sink (cause_of h)) why c.stop.ensures.line in
@@ -244,16 +244,16 @@ returns-in-Halts g c =
           (Run-disk m b t _ _ c.turns.lines _ _ turned.going stands _ (HasFilesAt m (reading b) (g.D.Disk.state c.into_disk-in-Halts.result)) (g.S.Source.left c.take_turn.new.source) _ turn.0
           (Puts-later _ _ _ _ _ (rose_later _ _ _ i.sink) line) has.0 (rw c.into_disk-in-Halts.ensures has.1));
       replied = λ b t left source sink.
-          let going = Going-told _ _ _ _ _ _ _ b t i.turned.going source sink in
-          let front = told_front b _ c.turns.lines going.lines going.read turn.0 in
+          let going = Going-revealed _ _ _ _ _ _ _ b t i.turned.going source sink in
+          let prefix = revealed_prefix b _ c.turns.lines going.lines going.read turn.0 in
           rw c.into_disk-in-Halts.ensures
-          (Replied-halted b t going _ disk (FromEachOutset c.args.session disk) c.stop.result c.in-Halts.halt (g.S.Source.left c.take_turn.new.source) _ front.0 front.1 stopped
-          (c.in-Halts.ensures.so c.in-Halts.halt refl) reason (unset_then (i.left_open left) c.take_turn.ensures.wrote)
+          (Replied-halted b t going _ disk (FromEachInitialState c.args.session disk) c.stop.result c.in-Halts.halt (g.S.Source.left c.take_turn.new.source) _ prefix.0 prefix.1 stopped
+          (c.in-Halts.ensures.evidence_seen c.in-Halts.halt refl) reason (unset_then (i.left_open left) c.take_turn.ensures.wrote)
           (Puts-later _ _ _ _ _ (rose_later _ _ _ i.sink) c.stop.ensures.line));
-      moments = λ m b stands source. rw c.into_disk-in-Halts.ensures (line_moments m (Turned-source i.turned source) stands turn.0 turn.2 turn.3 turn.4);
+      crash_states = λ m b stands source. rw c.into_disk-in-Halts.ensures (line_crash_states m (Turned-source i.turned source) stands turn.0 turn.2 turn.3 turn.4);
       closed = λ m b stands source done going. absurd (other.0 done);
       closed_unheard = λ m b stands source is heard left closed. absurd (other.1 is);
-      some_moments = λ m stands. rw c.into_disk-in-Halts.ensures (_, more_moments i.turned turn.4 m stands);
+      some_crash_states = λ m stands. rw c.into_disk-in-Halts.ensures (_, more_crash_states i.turned turn.4 m stands);
       stays_open = λ b left source early. rw c.into_disk-in-Halts.ensures (unset_then (i.left_open left) c.take_turn.ensures.wrote);
       untaken = λ b left source is some. absurd (other.1 is);
       left_open = λ left is. rw c.into_disk-in-Halts.ensures (unset_then (i.left_open left) c.take_turn.ensures.wrote);
@@ -262,11 +262,11 @@ returns-in-Halts g c =
       sound = λ m stands is. halt_not_damaged c.in-Halts.halt c.stop.result stopped (c.in-Halts.ensures.sound _ c.in-Halts.halt (i.turned.going.stands m stands) refl) is;
       damage = λ t left sink is.
           let why = halt_evidence c.in-Halts.halt c.stop.result stopped is in
-          let so : IsSo disk why.0 = subst (λ (h : Halt). ShowsSo disk h) why.1 (c.in-Halts.ensures.so c.in-Halts.halt refl) in
+          let evidence_seen : IsEvident disk why.0 = subst (λ (h : Halt). ShowsEvidence disk h) why.1 (c.in-Halts.ensures.evidence_seen c.in-Halts.halt refl) in
           let line = Puts-later _ _ _ _ _ (rose_later _ _ _ i.sink) (subst (λ (h : Halt). PutsLast g c.turns.sink c.stop.new.sink (cause_of h)) why.1 c.stop.ensures.line) in
-          let told = damage_told _ _ _ _ t c.turns.lines _ _ _ why.0 disk so (unset_then (i.left_open left) c.take_turn.ensures.wrote) (Going-sink _ _ _ _ _ _ _ t i.turned.going sink) line in
-          damage_same c.args.session c.into_disk-in-Halts.result c.take_turn.new.session.core.filer.swapper.under c.into_disk-in-Halts.ensures (told, reason why.0 why.1);
-      lawful = rw c.into_disk-in-Halts.ensures lawful;
+          let revealed = damage_revealed _ _ _ _ t c.turns.lines _ _ _ why.0 disk evidence_seen (unset_then (i.left_open left) c.take_turn.ensures.wrote) (Going-sink _ _ _ _ _ _ _ t i.turned.going sink) line in
+          damage_same c.args.session c.into_disk-in-Halts.result c.take_turn.new.session.core.filer.swapper.disk c.into_disk-in-Halts.ensures (revealed, reason why.0 why.1);
+      permitted = rw c.into_disk-in-Halts.ensures permitted;
       same_disk = rw c.into_disk-in-Halts.ensures went;
       disk_cause = λ is.
           let why = halt_disk c.in-Halts.halt c.stop.result stopped is in
@@ -291,36 +291,36 @@ returns-in-Ends g c =
     let other = trace_ends c.end_trace.result.0 e.ends in
     let layout = c.take_turn.ensures.layout ∙ i.layout in
     let goes = goes_then c.args.session c.turns.session c.take_turn.new.session i.goes (record {
-      keeps = λ o keeps ahead. c.in-Ends.ensures.keeps_to o keeps ahead tt;
-      sees = λ o keeps ahead seen. c.in-Ends.ensures.sees o keeps ahead seen tt;
-      onward = c.take_turn.ensures.onward;
+      keeps = λ o keeps not_older. c.in-Ends.ensures.keeps_to o keeps not_older tt;
+      sees = λ o keeps not_older seen. c.in-Ends.ensures.sees o keeps not_older seen tt;
+      monotone = c.take_turn.ensures.monotone;
     }) in
     let reason = λ (e : Evidence). reason_before c.args.session c.take_turn.new.session layout goes disk e in
     record {
       answering = λ m b t stands source sink.
-          let turned = Turned-told stands_still source sink in
+          let turned = Turned-revealed stands_still source sink in
           let there = turned.going.stands m stands in
-          let told = stop_told _ (e.stops _ there) in
+          let revealed = stop_revealed _ (e.stops _ there) in
           End-answering m b t _ _ c.turns.lines _ _ turned.going stands _ (HasFilesAt m (reading b) disk) c.end_trace.result.0 c.in-Ends.end _ _ c.take_turn.new.lines ended
           (three_ways c.end_trace.result.0 e.ends (e.sound _ there)) e.done e.part
           (λ is. (rose_later _ _ _ i.sink (e.stream_cause is).0, (e.stream_cause is).1))
           (λ is. Puts-later _ _ _ _ _ (rose_later _ _ _ i.sink) (e.disk_line is))
-          (λ well. End-has m b _ _ _ c.turns.lines _ _ turned.going disk told c.in-Ends.end _ c.take_turn.new.lines ended (λ other. e.closed _ there other well))
-          (stopped_files m turned stands disk told);
+          (λ well. End-has m b _ _ _ c.turns.lines _ _ turned.going disk revealed c.in-Ends.end _ c.take_turn.new.lines ended (λ other. e.closed _ there other well))
+          (stopped_files m turned stands disk revealed);
       replied = λ b t left source sink.
-          Replied-end b t (Going-told _ _ _ _ _ _ _ b t i.turned.going source sink) _ disk (FromEachOutset c.args.session disk) c.end_trace.result.0 c.in-Ends.end (g.S.Source.left c.take_turn.new.source) _ c.take_turn.new.lines ended e.ends e.done e.part
+          Replied-end b t (Going-revealed _ _ _ _ _ _ _ b t i.turned.going source sink) _ disk (FromEachInitialState c.args.session disk) c.end_trace.result.0 c.in-Ends.end (g.S.Source.left c.take_turn.new.source) _ c.take_turn.new.lines ended e.ends e.done e.part
           (λ is. (rose_later _ _ _ i.sink (e.stream_cause is).0, (e.stream_cause is).1))
           (λ is. Puts-later _ _ _ _ _ (rose_later _ _ _ i.sink) (e.disk_line is))
           (λ is. let line = e.damage_line is in (line.0, line.1, reason line.0 line.2, Puts-later _ _ _ _ _ (rose_later _ _ _ i.sink) line.3))
           (λ is. e.left_open (unset_then (i.left_open left) c.take_turn.ensures.wrote) is);
-      moments = λ m b stands source. let turned = Turned-source stands_still source in end_moments m turned stands _ (e.stops _ (turned.going.stands m stands));
+      crash_states = λ m b stands source. let turned = Turned-source stands_still source in end_crash_states m turned stands _ (e.stops _ (turned.going.stands m stands));
       closed = λ m b stands source done going.
           let turned = Turned-source stands_still source in
           end_closed m turned stands _ c.in-Ends.end _ c.take_turn.new.lines ended going (λ other. e.closed _ (turned.going.stands m stands) other (inl done));
       closed_unheard = λ m b stands source is heard left closed.
           let turned = Turned-source stands_still source in
           end_unheard m turned stands _ c.in-Ends.end _ c.take_turn.new.lines ended closed (λ other. e.closed _ (turned.going.stands m stands) other (inr is));
-      some_moments = λ m stands. (_, ended_moments stands_still m stands (e.stops _ (stands_still.going.stands m stands)));
+      some_crash_states = λ m stands. (_, ended_crash_states stands_still m stands (e.stops _ (stands_still.going.stands m stands)));
       stays_open = λ b left source early.
           let now = unset_then (i.left_open left) c.take_turn.ensures.wrote in
           let turned = Turned-source i.turned source in
@@ -338,9 +338,9 @@ returns-in-Ends g c =
       damage = λ t left sink is.
           let line = e.damage_line is in
           let open_still = e.left_open (unset_then (i.left_open left) c.take_turn.ensures.wrote) is in
-          let told = damage_told _ _ _ _ t c.turns.lines _ _ _ line.0 disk line.1 open_still (Going-sink _ _ _ _ _ _ _ t i.turned.going sink) (Puts-later _ _ _ _ _ (rose_later _ _ _ i.sink) line.3) in
-          (told, reason line.0 line.2);
-      lawful = ended_last (openly_then i.turned.lawful (called_openly c.take_turn.ensures.wrote)) e.wrote;
+          let revealed = damage_revealed _ _ _ _ t c.turns.lines _ _ _ line.0 disk line.1 open_still (Going-sink _ _ _ _ _ _ _ t i.turned.going sink) (Puts-later _ _ _ _ _ (rose_later _ _ _ i.sink) line.3) in
+          (revealed, reason line.0 line.2);
+      permitted = ended_last (openly_then i.turned.permitted (called_openly c.take_turn.ensures.wrote)) e.wrote;
       same_disk = went_then went e.wrote.went;
       disk_cause = λ is. rose_later _ _ _ went.faults (e.disk_cause is);
       stream_cause = λ is. inr (rose_later _ _ _ i.sink (e.stream_cause is).0);

@@ -14,17 +14,17 @@ invariant-turns g l = record {
   turned : Turned (g.S.Source.left l.fn.source) (g.S.Source.left l.source) (g.K.Sink.took l.fn.sink) (g.K.Sink.took l.sink) l.lines
       (Runs l.fn.session.core l.fn.session.volume)
       (Runs l.session.core l.session.volume)
-      (g.D.Disk.state l.fn.session.core.filer.swapper.under) (g.D.Disk.state l.session.core.filer.swapper.under);
-  same_disk : Went (g.D.Disk.state l.fn.session.core.filer.swapper.under) (g.D.Disk.state l.session.core.filer.swapper.under);
+      (g.D.Disk.state l.fn.session.core.filer.swapper.disk) (g.D.Disk.state l.session.core.filer.swapper.disk);
+  same_disk : Went (g.D.Disk.state l.fn.session.core.filer.swapper.disk) (g.D.Disk.state l.session.core.filer.swapper.disk);
   goes_on : (l.lines.stopped ≡ None) ⊎ (l.lines.stopped ≡ Some stop.End);
   limit : l.lines.limit ≡ 2 ^ 32;
   bound : l.lines.taken ≤ l.lines.limit;
-  size : (g.D.Disk.state l.session.core.filer.swapper.under).sectors ≡ l.session.core.filer.swapper.layout.sectors;
+  size : (g.D.Disk.state l.session.core.filer.swapper.disk).sectors ≡ l.session.core.filer.swapper.layout.sectors;
   layout : l.session.core.filer.swapper.layout ≡ l.fn.session.core.filer.swapper.layout;
   goes : GoesOn l.fn.session l.session;
   opened : IsOpen l.session.core.filer.swapper.layout l.session.volume;
   running : l.session.running ≡ true;
-  left_open : IsUnset (g.D.Disk.state l.fn.session.core.filer.swapper.under) → IsUnset (g.D.Disk.state l.session.core.filer.swapper.under);
+  left_open : IsUnset (g.D.Disk.state l.fn.session.core.filer.swapper.disk) → IsUnset (g.D.Disk.state l.session.core.filer.swapper.disk);
   source : g.S.Source.faults l.fn.source ≤ g.S.Source.faults l.source;
   sink : g.K.Sink.faults l.fn.sink ≤ g.K.Sink.faults l.sink;
 }

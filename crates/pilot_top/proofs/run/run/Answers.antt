@@ -4,40 +4,40 @@ use Rattle.flat_machine.specs.Start.{start}
 use Rattle.swapper_kernel.specs.GoesLaws.{went_then}
 use Rattle.trace_io.specs.Reading.{reading}
 use Rattle.pilot_top.specs.Headline.{EndsEarly}
-use Rattle.pilot_top.specs.Outset.{FromEachOutset, FromOutset}
+use Rattle.pilot_top.specs.InitialState.{FromEachInitialState, FromInitialState}
 use Rattle.pilot_top.specs.declared.status.Status.{Status}
 use Rattle.pilot_top.proofs.CostLemmas.{run_spends, start_spends}
-use Rattle.pilot_top.proofs.LawfulRuns.{ran_lawfully, started_lawfully}
+use Rattle.pilot_top.proofs.PermittedRuns.{ran_lawfully, started_lawfully}
 use Rattle.pilot_top.proofs.ReasonLemmas.{reason_refused, reason_started, replied_reasoned}
 use Rattle.pilot_top.proofs.RunLemmas.{run_of, not_sound, not_done, left_early, run_refused, damage_first, replied_refused, refused_why, refused_line, refused_ends, is_early}
-use Rattle.pilot_top.proofs.StagedLemmas.{from_start, moments_before, moments_then}
+use Rattle.pilot_top.proofs.StagedLemmas.{from_start, crash_states_before, crash_states_then}
 use Rattle.pilot_top.proofs.run.run.Given as given
 use Rattle.pilot_top.proofs.run.run.Goals as goal
 
 pub returns-in-Ok-clause-run : goal.returns-in-Ok-clause-run
-returns-in-Ok-clause-run g c d b t told sound source sink =
+returns-in-Ok-clause-run g c d b t revealed sound source sink =
     run_of c.answer_lines.result.0 d b t _ _ _ _ c.answer_lines.ensures.opened.1 c.answer_lines.ensures.no_other.0
-    (c.answer_lines.ensures.answering (start d) b t (c.in-Ok.ensures.stands d told sound) source sink)
+    (c.answer_lines.ensures.answering (start d) b t (c.in-Ok.ensures.stands d revealed sound) source sink)
 
-pub returns-in-Ok-clause-moments : goal.returns-in-Ok-clause-moments
-returns-in-Ok-clause-moments g c d b told sound source =
-    moments_then (start d) [] (reading b) (from_start d sound told (c.in-Ok.ensures.moments d told sound.labels)) (c.answer_lines.ensures.moments (start d) b (c.in-Ok.ensures.stands d told sound) source)
+pub returns-in-Ok-clause-crash_states : goal.returns-in-Ok-clause-crash_states
+returns-in-Ok-clause-crash_states g c d b revealed sound source =
+    crash_states_then (start d) [] (reading b) (from_start d sound revealed (c.in-Ok.ensures.crash_states d revealed sound.labels)) (c.answer_lines.ensures.crash_states (start d) b (c.in-Ok.ensures.stands d revealed sound) source)
 
-pub returns-in-Ok-clause-some_moments : goal.returns-in-Ok-clause-some_moments
-returns-in-Ok-clause-some_moments g c d told sound =
-    let some = c.answer_lines.ensures.some_moments (start d) (c.in-Ok.ensures.stands d told sound) in
-    (some.0, moments_then (start d) [] some.0 (from_start d sound told (c.in-Ok.ensures.moments d told sound.labels)) some.1)
+pub returns-in-Ok-clause-some_crash_states : goal.returns-in-Ok-clause-some_crash_states
+returns-in-Ok-clause-some_crash_states g c d revealed sound =
+    let some = c.answer_lines.ensures.some_crash_states (start d) (c.in-Ok.ensures.stands d revealed sound) in
+    (some.0, crash_states_then (start d) [] some.0 (from_start d sound revealed (c.in-Ok.ensures.crash_states d revealed sound.labels)) some.1)
 
 pub returns-in-Ok-clause-transfers : goal.returns-in-Ok-clause-transfers
-returns-in-Ok-clause-transfers g c d b told sound source =
-    run_spends (reading b) (g.D.Disk.state c.args.disk) (g.D.Disk.state c.in-Ok.session.core.filer.swapper.under) (g.D.Disk.state c.answer_lines.result.1) c.in-Ok.ensures.wrote.went.sectors c.in-Ok.ensures.bounded (c.answer_lines.ensures.transfers (start d) b (c.in-Ok.ensures.stands d told sound) source)
+returns-in-Ok-clause-transfers g c d b revealed sound source =
+    run_spends (reading b) (g.D.Disk.state c.args.disk) (g.D.Disk.state c.in-Ok.session.core.filer.swapper.disk) (g.D.Disk.state c.answer_lines.result.1) c.in-Ok.ensures.wrote.went.sectors c.in-Ok.ensures.bounded (c.answer_lines.ensures.transfers (start d) b (c.in-Ok.ensures.stands d revealed sound) source)
 
 pub returns-in-Ok-clause-closed : goal.returns-in-Ok-clause-closed
-returns-in-Ok-clause-closed g c d b told sound source done going = c.answer_lines.ensures.closed (start d) b (c.in-Ok.ensures.stands d told sound) source done going
+returns-in-Ok-clause-closed g c d b revealed sound source done going = c.answer_lines.ensures.closed (start d) b (c.in-Ok.ensures.stands d revealed sound) source done going
 
 pub returns-in-Ok-clause-closed_unheard : goal.returns-in-Ok-clause-closed_unheard
-returns-in-Ok-clause-closed_unheard g c d b told sound source failed held rest closes =
-    c.answer_lines.ensures.closed_unheard (start d) b (c.in-Ok.ensures.stands d told sound) source failed held rest closes
+returns-in-Ok-clause-closed_unheard g c d b revealed sound source failed held rest closes =
+    c.answer_lines.ensures.closed_unheard (start d) b (c.in-Ok.ensures.stands d revealed sound) source failed held rest closes
 
 pub returns-in-Ok-clause-stays_open : goal.returns-in-Ok-clause-stays_open
 returns-in-Ok-clause-stays_open g c b source early = c.answer_lines.ensures.stays_open b c.in-Ok.ensures.left_open source early
@@ -49,54 +49,54 @@ pub returns-in-Ok-clause-left_open : goal.returns-in-Ok-clause-left_open
 returns-in-Ok-clause-left_open g c is = c.answer_lines.ensures.left_open c.in-Ok.ensures.left_open is
 
 -- the session kept to what stood at the start, and saw the space tables
-started : (g : given.Over) (c : goal.After-answer_lines g) (e : Evidence) → FromEachOutset c.in-Ok.session (g.D.Disk.state c.answer_lines.result.1) e → FromOutset (g.D.Disk.state c.args.disk) (g.D.Disk.state c.answer_lines.result.1) e
+started : (g : given.Over) (c : goal.After-answer_lines g) (e : Evidence) → FromEachInitialState c.in-Ok.session (g.D.Disk.state c.answer_lines.result.1) e → FromInitialState (g.D.Disk.state c.args.disk) (g.D.Disk.state c.answer_lines.result.1) e
 started g c e =
     let session = c.in-Ok.session in
     reason_started session (g.D.Disk.state c.args.disk) (g.D.Disk.state c.answer_lines.result.1) e session.core.filer.swapper.accepted (sym c.in-Ok.ensures.size ∙ c.in-Ok.ensures.wrote.went.sectors) (g.met.D.Disk.whole c.args.disk)
-    c.in-Ok.ensures.keeps_to c.in-Ok.ensures.sees c.in-Ok.ensures.onward
+    c.in-Ok.ensures.keeps_to c.in-Ok.ensures.sees c.in-Ok.ensures.monotone
 
 pub returns-in-Ok-clause-damage : goal.returns-in-Ok-clause-damage
 returns-in-Ok-clause-damage g c t sink is = let all = c.answer_lines.ensures.damage t c.in-Ok.ensures.left_open sink is in (all.0, started g c all.0.evidence all.1)
 
 pub returns-in-Ok-clause-replied : goal.returns-in-Ok-clause-replied
 returns-in-Ok-clause-replied g c b t source sink =
-    replied_reasoned c.answer_lines.result.0 b t _ _ _ (g.D.Disk.state c.answer_lines.result.1) (FromEachOutset c.in-Ok.session (g.D.Disk.state c.answer_lines.result.1)) (FromOutset (g.D.Disk.state c.args.disk) (g.D.Disk.state c.answer_lines.result.1)) (started g c)
+    replied_reasoned c.answer_lines.result.0 b t _ _ _ (g.D.Disk.state c.answer_lines.result.1) (FromEachInitialState c.in-Ok.session (g.D.Disk.state c.answer_lines.result.1)) (FromInitialState (g.D.Disk.state c.args.disk) (g.D.Disk.state c.answer_lines.result.1)) (started g c)
     (c.answer_lines.ensures.replied b t c.in-Ok.ensures.left_open source sink)
 
 pub returns-in-Ok-clause-sound : goal.returns-in-Ok-clause-sound
-returns-in-Ok-clause-sound g c d told sound = (c.answer_lines.ensures.opened.1, c.answer_lines.ensures.sound (start d) (c.in-Ok.ensures.stands d told sound))
+returns-in-Ok-clause-sound g c d revealed sound = (c.answer_lines.ensures.opened.1, c.answer_lines.ensures.sound (start d) (c.in-Ok.ensures.stands d revealed sound))
 
-pub returns-in-Ok-clause-lawful : goal.returns-in-Ok-clause-lawful
-returns-in-Ok-clause-lawful g c = ran_lawfully c.in-Ok.ensures.wrote c.in-Ok.ensures.left_open c.answer_lines.ensures.lawful
+pub returns-in-Ok-clause-permitted : goal.returns-in-Ok-clause-permitted
+returns-in-Ok-clause-permitted g c = ran_lawfully c.in-Ok.ensures.wrote c.in-Ok.ensures.left_open c.answer_lines.ensures.permitted
 
 pub returns-in-Ok-clause-refused : goal.returns-in-Ok-clause-refused
-returns-in-Ok-clause-refused g c d why told refused = absurd (c.in-Ok.ensures.refused d why told refused)
+returns-in-Ok-clause-refused g c d why revealed refused = absurd (c.in-Ok.ensures.refused d why revealed refused)
 
 pub returns-in-Ok-clause-same_disk : goal.returns-in-Ok-clause-same_disk
 returns-in-Ok-clause-same_disk g c = went_then c.in-Ok.ensures.wrote.went c.answer_lines.ensures.same_disk
 
 pub returns-in-Ok-clause-refused_unwritten : goal.returns-in-Ok-clause-refused_unwritten
-returns-in-Ok-clause-refused_unwritten g c d why told refused = absurd (c.in-Ok.ensures.refused d why told refused)
+returns-in-Ok-clause-refused_unwritten g c d why revealed refused = absurd (c.in-Ok.ensures.refused d why revealed refused)
 
 -- no session started
 pub returns-in-Err-clause-run : goal.returns-in-Err-clause-run
-returns-in-Err-clause-run g c d b t told sound source sink =
-    run_refused c.in-Err.fault c.refuse.result _ _ g.K.Sink.took _ c.refuse.ensures.stops d b t _ _ _ (from_start d sound told (c.in-Err.ensures.moments d told sound.labels)) (c.in-Err.ensures.sound d told sound) source sink
+returns-in-Err-clause-run g c d b t revealed sound source sink =
+    run_refused c.in-Err.fault c.refuse.result _ _ g.K.Sink.took _ c.refuse.ensures.stops d b t _ _ _ (from_start d sound revealed (c.in-Err.ensures.crash_states d revealed sound.labels)) (c.in-Err.ensures.sound d revealed sound) source sink
 
-pub returns-in-Err-clause-moments : goal.returns-in-Err-clause-moments
-returns-in-Err-clause-moments g c d b told sound source = moments_before (start d) [] (reading b) (from_start d sound told (c.in-Err.ensures.moments d told sound.labels))
+pub returns-in-Err-clause-crash_states : goal.returns-in-Err-clause-crash_states
+returns-in-Err-clause-crash_states g c d b revealed sound source = crash_states_before (start d) [] (reading b) (from_start d sound revealed (c.in-Err.ensures.crash_states d revealed sound.labels))
 
-pub returns-in-Err-clause-some_moments : goal.returns-in-Err-clause-some_moments
-returns-in-Err-clause-some_moments g c d told sound = ([], from_start d sound told (c.in-Err.ensures.moments d told sound.labels))
+pub returns-in-Err-clause-some_crash_states : goal.returns-in-Err-clause-some_crash_states
+returns-in-Err-clause-some_crash_states g c d revealed sound = ([], from_start d sound revealed (c.in-Err.ensures.crash_states d revealed sound.labels))
 
 pub returns-in-Err-clause-transfers : goal.returns-in-Err-clause-transfers
-returns-in-Err-clause-transfers g c d b told sound source = start_spends (reading b) (g.D.Disk.state c.args.disk) (g.D.Disk.state c.in-Err.disk) c.in-Err.ensures.bounded
+returns-in-Err-clause-transfers g c d b revealed sound source = start_spends (reading b) (g.D.Disk.state c.args.disk) (g.D.Disk.state c.in-Err.disk) c.in-Err.ensures.bounded
 
 pub returns-in-Err-clause-closed : goal.returns-in-Err-clause-closed
-returns-in-Err-clause-closed g c d b told sound source done going = absurd ((not_done c.in-Err.fault c.refuse.result _ _ g.K.Sink.took _ c.refuse.ensures.stops).0 done)
+returns-in-Err-clause-closed g c d b revealed sound source done going = absurd ((not_done c.in-Err.fault c.refuse.result _ _ g.K.Sink.took _ c.refuse.ensures.stops).0 done)
 
 pub returns-in-Err-clause-closed_unheard : goal.returns-in-Err-clause-closed_unheard
-returns-in-Err-clause-closed_unheard g c d b told sound source failed held rest closes = absurd ((not_done c.in-Err.fault c.refuse.result _ _ g.K.Sink.took _ c.refuse.ensures.stops).1 failed)
+returns-in-Err-clause-closed_unheard g c d b revealed sound source failed held rest closes = absurd ((not_done c.in-Err.fault c.refuse.result _ _ g.K.Sink.took _ c.refuse.ensures.stops).1 failed)
 
 pub returns-in-Err-clause-stays_open : goal.returns-in-Err-clause-stays_open
 returns-in-Err-clause-stays_open g c b source early =
@@ -113,28 +113,28 @@ returns-in-Err-clause-left_open g c is =
     ])
 
 pub returns-in-Err-clause-sound : goal.returns-in-Err-clause-sound
-returns-in-Err-clause-sound g c d told sound = not_sound c.in-Err.fault c.refuse.result _ _ g.K.Sink.took _ c.refuse.ensures.stops (c.in-Err.ensures.sound d told sound)
+returns-in-Err-clause-sound g c d revealed sound = not_sound c.in-Err.fault c.refuse.result _ _ g.K.Sink.took _ c.refuse.ensures.stops (c.in-Err.ensures.sound d revealed sound)
 
 pub returns-in-Err-clause-damage : goal.returns-in-Err-clause-damage
 returns-in-Err-clause-damage g c t sink is =
     let first = g.D.Disk.state c.args.disk in
     let disk = g.D.Disk.state c.in-Err.disk in
-    damage_first c.in-Err.fault c.refuse.result _ _ g.K.Sink.took _ c.refuse.ensures.stops disk (FromOutset first disk) c.in-Err.ensures.so (reason_refused first disk c.in-Err.fault c.in-Err.ensures.reasons c.in-Err.ensures.sees) c.in-Err.ensures.left_open t sink is
+    damage_first c.in-Err.fault c.refuse.result _ _ g.K.Sink.took _ c.refuse.ensures.stops disk (FromInitialState first disk) c.in-Err.ensures.evidence_seen (reason_refused first disk c.in-Err.fault c.in-Err.ensures.reasons c.in-Err.ensures.sees) c.in-Err.ensures.left_open t sink is
 
 pub returns-in-Err-clause-replied : goal.returns-in-Err-clause-replied
 returns-in-Err-clause-replied g c b t source sink =
     let first = g.D.Disk.state c.args.disk in
     let disk = g.D.Disk.state c.in-Err.disk in
-    replied_refused c.in-Err.fault c.refuse.result _ _ g.K.Sink.took _ c.refuse.ensures.stops b t _ disk (FromOutset first disk) c.in-Err.ensures.so (reason_refused first disk c.in-Err.fault c.in-Err.ensures.reasons c.in-Err.ensures.sees) c.in-Err.ensures.left_open source sink
+    replied_refused c.in-Err.fault c.refuse.result _ _ g.K.Sink.took _ c.refuse.ensures.stops b t _ disk (FromInitialState first disk) c.in-Err.ensures.evidence_seen (reason_refused first disk c.in-Err.fault c.in-Err.ensures.reasons c.in-Err.ensures.sees) c.in-Err.ensures.left_open source sink
 
-pub returns-in-Err-clause-lawful : goal.returns-in-Err-clause-lawful
-returns-in-Err-clause-lawful g c = started_lawfully c.in-Err.ensures.wrote
+pub returns-in-Err-clause-permitted : goal.returns-in-Err-clause-permitted
+returns-in-Err-clause-permitted g c = started_lawfully c.in-Err.ensures.wrote
 
 pub returns-in-Err-clause-not_opened : goal.returns-in-Err-clause-not_opened
-returns-in-Err-clause-not_opened g c d told is = refused_why c.in-Err.fault c.refuse.result _ _ g.K.Sink.took _ c.refuse.ensures.stops d (c.in-Err.ensures.judged d told) is
+returns-in-Err-clause-not_opened g c d revealed is = refused_why c.in-Err.fault c.refuse.result _ _ g.K.Sink.took _ c.refuse.ensures.stops d (c.in-Err.ensures.judged d revealed) is
 
 pub returns-in-Err-clause-refused : goal.returns-in-Err-clause-refused
-returns-in-Err-clause-refused g c d why told refused = refused_ends c.in-Err.fault c.refuse.result _ _ g.K.Sink.took _ c.refuse.ensures.stops why (c.in-Err.ensures.refused d why told refused)
+returns-in-Err-clause-refused g c d why revealed refused = refused_ends c.in-Err.fault c.refuse.result _ _ g.K.Sink.took _ c.refuse.ensures.stops why (c.in-Err.ensures.refused d why revealed refused)
 
 pub returns-in-Err-clause-refused_line : goal.returns-in-Err-clause-refused_line
 returns-in-Err-clause-refused_line g c is = refused_line c.in-Err.fault c.refuse.result _ _ g.K.Sink.took _ c.refuse.ensures.stops is
@@ -143,4 +143,4 @@ pub returns-in-Err-clause-short : goal.returns-in-Err-clause-short
 returns-in-Err-clause-short g c b source done = absurd ((not_done c.in-Err.fault c.refuse.result _ _ g.K.Sink.took _ c.refuse.ensures.stops).0 done)
 
 pub returns-in-Err-clause-refused_unwritten : goal.returns-in-Err-clause-refused_unwritten
-returns-in-Err-clause-refused_unwritten g c d why told refused = (c.in-Err.ensures.unwritten (is_early c.in-Err.fault why (c.in-Err.ensures.refused d why told refused)), refl)
+returns-in-Err-clause-refused_unwritten g c d why revealed refused = (c.in-Err.ensures.unwritten (is_early c.in-Err.fault why (c.in-Err.ensures.refused d why revealed refused)), refl)

@@ -4,15 +4,15 @@ use Rattle.swapper_kernel.specs.GoesLaws.{went_then}
 use Rattle.trace_maker.specs.Maker.{IsAt}
 use Rattle.running_words.specs.Running.{Runs}
 use Rattle.pilot_top.specs.Trial.{HasAnswered, after_calls, drawn_calls}
-use Rattle.pilot_top.proofs.LawfulRuns.{called_openly, openly_then}
+use Rattle.pilot_top.proofs.PermittedRuns.{called_openly, openly_then}
 use Rattle.pilot_top.proofs.TrialLemmas.{drawn_more, one_answered}
 use Rattle.pilot_top.proofs.trial.count_calls.Goals as goal
 
 pub returns-in-Err-clause-sound : goal.returns-in-Err-clause-sound
 returns-in-Err-clause-sound g c = λ m stands. c.in-Err.ensures.sound (after_calls m (drawn_calls c.args.seed c.loop.counter)) (c.loop.invariant.answered.3 m stands).stands
 
-pub returns-in-Err-clause-lawful : goal.returns-in-Err-clause-lawful
-returns-in-Err-clause-lawful g c = openly_then c.loop.invariant.lawful (called_openly c.step.ensures.wrote)
+pub returns-in-Err-clause-permitted : goal.returns-in-Err-clause-permitted
+returns-in-Err-clause-permitted g c = openly_then c.loop.invariant.permitted (called_openly c.step.ensures.wrote)
 
 pub loop-preserved : goal.loop-preserved
 loop-preserved g c =
@@ -21,18 +21,18 @@ loop-preserved g c =
     let k = c.loop.counter in
     let seed = c.args.seed in
     record {
-      answered = let so = i.answered in (
-        so.0 ++ c.in-Ok.reply ∷ [],
-        c.add.ensures.more so.0 so.1,
-        omega (arith, length_push so.0 c.in-Ok.reply, so.2),
+      answered = let evidence_seen = i.answered in (
+        evidence_seen.0 ++ c.in-Ok.reply ∷ [],
+        c.add.ensures.more evidence_seen.0 evidence_seen.1,
+        omega (arith, length_push evidence_seen.0 c.in-Ok.reply, evidence_seen.2),
         λ m stands.
-            one_answered m (drawn_calls seed k) (drawn_calls seed (k + 1)) so.0 (Runs c.loop.session.core c.loop.session.volume) (Runs c.step.new.self.core c.step.new.self.volume) c.next_call.result c.in-Ok.reply
-            (drawn_more seed k c.next_call.result (c.next_call.ensures.call seed k i.drawn)) (so.3 m stands) (λ n is. let done = c.in-Ok.ensures.carried n is in (done.allowed, done.runs)),
+            one_answered m (drawn_calls seed k) (drawn_calls seed (k + 1)) evidence_seen.0 (Runs c.loop.session.core c.loop.session.volume) (Runs c.step.new.self.core c.step.new.self.volume) c.next_call.result c.in-Ok.reply
+            (drawn_more seed k c.next_call.result (c.next_call.ensures.call seed k i.drawn)) (evidence_seen.3 m stands) (λ n is. let done = c.in-Ok.ensures.carried n is in (done.allowed, done.runs)),
       );
       drawn = subst (λ (n : ℕ). IsAt c.next_call.new.self seed n) (let on : suc k ≡ k + 1 = omega arith in on) (c.next_call.ensures.next seed k i.drawn);
       errors = omega (arith, c.add.ensures.one, i.errors);
       loaded = omega (arith, c.add.ensures.few, i.loaded);
-      lawful = openly_then i.lawful (called_openly c.step.ensures.wrote);
+      permitted = openly_then i.permitted (called_openly c.step.ensures.wrote);
       went = went_then i.went went;
       layout = c.step.ensures.layout ∙ i.layout;
       size = went.sectors ∙ i.size ∙ ap (λ l. l.sectors) (sym c.step.ensures.layout);
@@ -42,10 +42,10 @@ loop-preserved g c =
 
 pub returns-clause-answered : goal.returns-clause-answered
 returns-clause-answered g c =
-    let so = c.loop.invariant.answered in
+    let evidence_seen = c.loop.invariant.answered in
     let end : c.loop.counter ≡ c.args.calls = omega (arith, c.loop-test.false, c.loop.auto.counter-end) in (
-      so.0,
-      so.1,
-      so.2 ∙ end,
-      λ m stands. subst (λ (n : ℕ). HasAnswered m (drawn_calls c.args.seed n) so.0 (Runs c.loop.session.core c.loop.session.volume)) end (so.3 m stands),
+      evidence_seen.0,
+      evidence_seen.1,
+      evidence_seen.2 ∙ end,
+      λ m stands. subst (λ (n : ℕ). HasAnswered m (drawn_calls c.args.seed n) evidence_seen.0 (Runs c.loop.session.core c.loop.session.volume)) end (evidence_seen.3 m stands),
     )

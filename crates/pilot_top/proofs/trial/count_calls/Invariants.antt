@@ -7,7 +7,7 @@ use Rattle.trace_maker.specs.Maker.{IsAt}
 use Rattle.running_words.specs.Running.{Runs}
 use Rattle.running_words.specs.Session.{IsOpen}
 use Rattle.pilot_top.specs.Counting.{AreOf}
-use Rattle.pilot_top.specs.Moments.{Openly}
+use Rattle.pilot_top.specs.CrashStates.{Openly}
 use Rattle.pilot_top.specs.Trial.{HasAnswered, drawn_calls}
 use Rattle.pilot_top.proofs.trial.count_calls.Given as goal
 
@@ -18,10 +18,10 @@ invariant-loop g l = record {
   drawn : IsAt l.maker l.seed l.counter;
   errors : l.counts.errors ≤ l.counter;
   loaded : l.counts.loaded ≤ 64 * l.counter;
-  lawful : Openly (g.D.Disk.state l.fn.session.core.filer.swapper.under) (g.D.Disk.state l.session.core.filer.swapper.under);
-  went : Went (g.D.Disk.state l.fn.session.core.filer.swapper.under) (g.D.Disk.state l.session.core.filer.swapper.under);
+  permitted : Openly (g.D.Disk.state l.fn.session.core.filer.swapper.disk) (g.D.Disk.state l.session.core.filer.swapper.disk);
+  went : Went (g.D.Disk.state l.fn.session.core.filer.swapper.disk) (g.D.Disk.state l.session.core.filer.swapper.disk);
   layout : l.session.core.filer.swapper.layout ≡ l.fn.session.core.filer.swapper.layout;
-  size : (g.D.Disk.state l.session.core.filer.swapper.under).sectors ≡ l.session.core.filer.swapper.layout.sectors;
+  size : (g.D.Disk.state l.session.core.filer.swapper.disk).sectors ≡ l.session.core.filer.swapper.layout.sectors;
   opened : IsOpen l.session.core.filer.swapper.layout l.session.volume;
   running : l.session.running ≡ true;
 }

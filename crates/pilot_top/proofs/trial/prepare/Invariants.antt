@@ -5,17 +5,17 @@ use Rattle.flat_machine.specs.Machine.{Machine}
 use Rattle.swapper_kernel.specs.Goes.{Went}
 use Rattle.running_words.specs.Running.{Runs}
 use Rattle.running_words.specs.Session.{IsOpen}
-use Rattle.pilot_top.specs.Moments.{Openly}
+use Rattle.pilot_top.specs.CrashStates.{Openly}
 use Rattle.pilot_top.specs.Trial.{HasAnswered, first_calls}
 use Rattle.pilot_top.proofs.trial.prepare.Given as goal
 
 abbrev pub invariant-loop-index : goal.invariant-loop-index
 invariant-loop-index g l = record {
   answered : (m : Machine) → Runs l.fn.session.core l.fn.session.volume m → (replies : List Reply) × HasAnswered m (take l.index first_calls) replies (Runs l.session.core l.session.volume);
-  lawful : Openly (g.D.Disk.state l.fn.session.core.filer.swapper.under) (g.D.Disk.state l.session.core.filer.swapper.under);
-  went : Went (g.D.Disk.state l.fn.session.core.filer.swapper.under) (g.D.Disk.state l.session.core.filer.swapper.under);
+  permitted : Openly (g.D.Disk.state l.fn.session.core.filer.swapper.disk) (g.D.Disk.state l.session.core.filer.swapper.disk);
+  went : Went (g.D.Disk.state l.fn.session.core.filer.swapper.disk) (g.D.Disk.state l.session.core.filer.swapper.disk);
   layout : l.session.core.filer.swapper.layout ≡ l.fn.session.core.filer.swapper.layout;
-  size : (g.D.Disk.state l.session.core.filer.swapper.under).sectors ≡ l.session.core.filer.swapper.layout.sectors;
+  size : (g.D.Disk.state l.session.core.filer.swapper.disk).sectors ≡ l.session.core.filer.swapper.layout.sectors;
   opened : IsOpen l.session.core.filer.swapper.layout l.session.volume;
   running : l.session.running ≡ true;
 }

@@ -2,7 +2,7 @@ use Rattle.std.proofs.lemmas.List.FromFn.{length-map-range_with_len}
 use Rattle.trace_maker.specs.Calls.{call_of}
 use Rattle.running_words.specs.Running.{Runs}
 use Rattle.pilot_top.specs.Trial.{after_calls, first_calls}
-use Rattle.pilot_top.proofs.LawfulRuns.{openly_then}
+use Rattle.pilot_top.proofs.PermittedRuns.{openly_then}
 use Rattle.pilot_top.proofs.TrialLemmas.{tried}
 use Rattle.pilot_top.proofs.trial.try_calls.Goals as goal
 
@@ -21,8 +21,8 @@ returns-in-Ok-count_calls-clause-answered g c =
 pub returns-in-Err-count_calls-clause-sound : goal.returns-in-Err-count_calls-clause-sound
 returns-in-Err-count_calls-clause-sound g c = λ m stands. c.in-Err-count_calls.ensures.sound (after_calls m first_calls) (c.in-Ok.ensures.answered m stands).1.stands
 
-pub returns-in-Ok-count_calls-clause-lawful : goal.returns-in-Ok-count_calls-clause-lawful
-returns-in-Ok-count_calls-clause-lawful g c = openly_then c.prepare.ensures.lawful c.count_calls.ensures.lawful
+pub returns-in-Ok-count_calls-clause-permitted : goal.returns-in-Ok-count_calls-clause-permitted
+returns-in-Ok-count_calls-clause-permitted g c = openly_then c.prepare.ensures.permitted c.count_calls.ensures.permitted
 
-pub returns-in-Err-count_calls-clause-lawful : goal.returns-in-Err-count_calls-clause-lawful
-returns-in-Err-count_calls-clause-lawful g c = openly_then c.prepare.ensures.lawful c.count_calls.ensures.lawful
+pub returns-in-Err-count_calls-clause-permitted : goal.returns-in-Err-count_calls-clause-permitted
+returns-in-Err-count_calls-clause-permitted g c = openly_then c.prepare.ensures.permitted c.count_calls.ensures.permitted

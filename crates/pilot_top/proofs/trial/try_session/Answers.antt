@@ -1,10 +1,10 @@
 use Rattle.std.proofs.Common.{rules, ◌≡◌, inl, inr, ◌++◌, Option, Some, None, ◌∙◌, ap}
 use Rattle.pilot_top.specs.Trial.{after_calls, drawn_calls, first_calls, trial_line}
 use Rattle.pilot_top.specs.declared.status.Status.{Status}
-use Rattle.pilot_top.proofs.CloseLemmas.{damage_told, not_closed}
+use Rattle.pilot_top.proofs.CloseLemmas.{damage_revealed, not_closed}
 use Rattle.pilot_top.proofs.ExitLemmas.{halt_not_damaged, halt_not_done, halt_not_stream}
-use Rattle.pilot_top.proofs.LawfulRuns.{ended_last, openly_last}
-use Rattle.pilot_top.proofs.TrialEnds.{line_told, front_told}
+use Rattle.pilot_top.proofs.PermittedRuns.{ended_last, openly_last}
+use Rattle.pilot_top.proofs.TrialEnds.{line_revealed, prefix_revealed}
 use Rattle.pilot_top.proofs.trial.try_session.Goals as goal
 
 -- a call stopped the session
@@ -25,10 +25,10 @@ returns-in-Err-clause-sound g c = λ m stands damaged. absurd (halt_not_damaged 
 
 pub returns-in-Err-clause-damage_line : goal.returns-in-Err-clause-damage_line
 returns-in-Err-clause-damage_line g c = λ damaged.
-    rw c.into_disk.ensures (damage_told c.in-Err.halt c.stop.result _ _ _ (g.D.Disk.state c.try_calls.new.session.core.filer.swapper.under) c.in-Err.ensures.so c.stop.ensures.status (ap (λ (s : Status). Some s) damaged) c.stop.ensures.line)
+    rw c.into_disk.ensures (damage_revealed c.in-Err.halt c.stop.result _ _ _ (g.D.Disk.state c.try_calls.new.session.core.filer.swapper.disk) c.in-Err.ensures.evidence_seen c.stop.ensures.status (ap (λ (s : Status). Some s) damaged) c.stop.ensures.line)
 
-pub returns-in-Err-clause-lawful : goal.returns-in-Err-clause-lawful
-returns-in-Err-clause-lawful g c = rw c.into_disk.ensures (openly_last c.try_calls.ensures.lawful)
+pub returns-in-Err-clause-permitted : goal.returns-in-Err-clause-permitted
+returns-in-Err-clause-permitted g c = rw c.into_disk.ensures (openly_last c.try_calls.ensures.permitted)
 
 -- the end of the session failed
 pub returns-in-Some-clause-line : goal.returns-in-Some-clause-line
@@ -45,39 +45,39 @@ returns-in-Some-clause-sound g c = λ m stands damaged.
     c.close-stopped.ensures.sound (after_calls m (first_calls ++ drawn_calls c.args.seed c.args.calls)) (c.in-Ok.ensures.answered.3 m stands).1 (c.in-Some.is ∙ ap (λ (s : Status). Some s) damaged)
 
 pub returns-in-Some-clause-damage_line : goal.returns-in-Some-clause-damage_line
-returns-in-Some-clause-damage_line g c = λ damaged. let all = c.close-stopped.ensures.so (c.in-Some.is ∙ ap (λ (s : Status). Some s) damaged) in (all.0, all.1, all.3)
+returns-in-Some-clause-damage_line g c = λ damaged. let all = c.close-stopped.ensures.evidence_seen (c.in-Some.is ∙ ap (λ (s : Status). Some s) damaged) in (all.0, all.1, all.3)
 
-pub returns-in-Some-clause-lawful : goal.returns-in-Some-clause-lawful
-returns-in-Some-clause-lawful g c = ended_last c.try_calls.ensures.lawful c.close-stopped.ensures.wrote
+pub returns-in-Some-clause-permitted : goal.returns-in-Some-clause-permitted
+returns-in-Some-clause-permitted g c = ended_last c.try_calls.ensures.permitted c.close-stopped.ensures.wrote
 
 -- the line was put
 pub returns-in-Ok-put-clause-line : goal.returns-in-Ok-put-clause-line
 returns-in-Ok-put-clause-line g c =
     let none : ◌≡◌ {A = Option Status} c.close-stopped.result.0 None = search rules in
     let quiet = c.close-stopped.ensures.quiet none in
-    let so = c.in-Ok.ensures.answered in
-    λ done. (so.0, so.2, λ m stands. (so.3 m stands).0, line_told g.K.Sink.took c.args.sink.now c.close-stopped.new.sink _ c.deref.result.now (trial_line c.args.calls so.0) quiet (c.deref.ensures.0 ∙ c.line.ensures so.0 so.1) c.in-Ok-put.ensures.ok)
+    let evidence_seen = c.in-Ok.ensures.answered in
+    λ done. (evidence_seen.0, evidence_seen.2, λ m stands. (evidence_seen.3 m stands).0, line_revealed g.K.Sink.took c.args.sink.now c.close-stopped.new.sink _ c.deref.result.now (trial_line c.args.calls evidence_seen.0) quiet (c.deref.ensures.0 ∙ c.line.ensures evidence_seen.0 evidence_seen.1) c.in-Ok-put.ensures.ok)
 
 pub returns-in-Ok-put-clause-left : goal.returns-in-Ok-put-clause-left
 returns-in-Ok-put-clause-left g c =
     let none : ◌≡◌ {A = Option Status} c.close-stopped.result.0 None = search rules in
     λ m stands ends. c.close-stopped.ensures.closed (after_calls m (first_calls ++ drawn_calls c.args.seed c.args.calls)) (c.in-Ok.ensures.answered.3 m stands).1 none
 
-pub returns-in-Ok-put-clause-lawful : goal.returns-in-Ok-put-clause-lawful
-returns-in-Ok-put-clause-lawful g c = ended_last c.try_calls.ensures.lawful c.close-stopped.ensures.wrote
+pub returns-in-Ok-put-clause-permitted : goal.returns-in-Ok-put-clause-permitted
+returns-in-Ok-put-clause-permitted g c = ended_last c.try_calls.ensures.permitted c.close-stopped.ensures.wrote
 
 -- the sink failed on it
-pub returns-in-Err-put-clause-lawful : goal.returns-in-Err-put-clause-lawful
-returns-in-Err-put-clause-lawful g c = ended_last c.try_calls.ensures.lawful c.close-stopped.ensures.wrote
+pub returns-in-Err-put-clause-permitted : goal.returns-in-Err-put-clause-permitted
+returns-in-Err-put-clause-permitted g c = ended_last c.try_calls.ensures.permitted c.close-stopped.ensures.wrote
 
 pub returns-in-Err-put-clause-part_of_line : goal.returns-in-Err-put-clause-part_of_line
 returns-in-Err-put-clause-part_of_line g c =
     let none : ◌≡◌ {A = Option Status} c.close-stopped.result.0 None = search rules in
     let quiet = c.close-stopped.ensures.quiet none in
-    let so = c.in-Ok.ensures.answered in
+    let evidence_seen = c.in-Ok.ensures.answered in
     λ failed.
-    let front = front_told g.K.Sink.took c.args.sink.now c.close-stopped.new.sink _ c.deref.result.now (trial_line c.args.calls so.0) quiet (c.deref.ensures.0 ∙ c.line.ensures so.0 so.1) c.in-Err-put.ensures.err in
-    (so.0, so.2, λ m stands. (so.3 m stands).0, front.0, front.1, front.2)
+    let prefix = prefix_revealed g.K.Sink.took c.args.sink.now c.close-stopped.new.sink _ c.deref.result.now (trial_line c.args.calls evidence_seen.0) quiet (c.deref.ensures.0 ∙ c.line.ensures evidence_seen.0 evidence_seen.1) c.in-Err-put.ensures.err in
+    (evidence_seen.0, evidence_seen.2, λ m stands. (evidence_seen.3 m stands).0, prefix.0, prefix.1, prefix.2)
 
 pub returns-in-Err-put-clause-left : goal.returns-in-Err-put-clause-left
 returns-in-Err-put-clause-left g c =

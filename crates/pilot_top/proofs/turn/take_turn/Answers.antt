@@ -1,13 +1,13 @@
 use Rattle.std.proofs.Common.{◌≡◌, [], ◌∷◌, false, Some, None, refl, sym, ◌∙◌, subst, arith}
 use Rattle.labelled_disk.specs.declared.evidence.Halt.{Halt}
-use Rattle.filer_kernel.specs.Evidence.{ShowsSo}
+use Rattle.filer_kernel.specs.Evidence.{ShowsEvidence}
 use Rattle.file_manager.specs.Creating.{next_id}
 use Rattle.file_manager.specs.Reasons.{ShowsReason}
 use Rattle.file_manager.specs.RetoldLaws.{on_giving}
 use Rattle.trace_io.specs.Form.{GivesForm}
 use Rattle.trace_io.specs.Reading.{is_last}
 use Rattle.running_words.specs.Running.{Runs}
-use Rattle.pilot_engine.specs.Reasons.{IsSpared}
+use Rattle.pilot_engine.specs.Reasons.{IsBlameless}
 use Rattle.pilot_top.proofs.CostLemmas.{bad_costs, call_costs}
 use Rattle.pilot_top.proofs.StagedLemmas.{from_rest, from_step}
 use Rattle.pilot_top.proofs.TurnLemmas.{goes_on, call_not_end, bad_not_end, same_halt, answers_call, call_wrote, nothing_wrote, answers_bad}
@@ -55,7 +55,7 @@ returns-in-Ok-clause-turns g c =
       more,
       λ m is. (
         from_step m c.in-Call.call (c.step.ensures.passes m is),
-        call_costs c.in-Call.call (g.D.Disk.state c.args.session.now.core.filer.swapper.under) (g.D.Disk.state c.step.new.self.core.filer.swapper.under) c.step.ensures.reference (c.step.ensures.cost m is),
+        call_costs c.in-Call.call (g.D.Disk.state c.args.session.now.core.filer.swapper.disk) (g.D.Disk.state c.step.new.self.core.filer.swapper.disk) c.step.ensures.reference (c.step.ensures.cost m is),
       ),
     )
 
@@ -69,7 +69,7 @@ returns-in-Err-clause-turns g c =
       more,
       λ m is. (
         from_step m c.in-Call.call (c.step.ensures.passes m is),
-        call_costs c.in-Call.call (g.D.Disk.state c.args.session.now.core.filer.swapper.under) (g.D.Disk.state c.step.new.self.core.filer.swapper.under) c.step.ensures.reference (c.step.ensures.cost m is),
+        call_costs c.in-Call.call (g.D.Disk.state c.args.session.now.core.filer.swapper.disk) (g.D.Disk.state c.step.new.self.core.filer.swapper.disk) c.step.ensures.reference (c.step.ensures.cost m is),
       ),
     )
 
@@ -85,77 +85,77 @@ returns-in-Bad-clause-turns g c =
       answers_bad _,
       refl,
       λ m is. (
-        from_rest m (None ∷ []) is (g.met.D.Disk.in_form c.args.session.now.core.filer.swapper.under),
-        bad_costs (g.D.Disk.state c.args.session.now.core.filer.swapper.under),
+        from_rest m (None ∷ []) is (g.met.D.Disk.in_form c.args.session.now.core.filer.swapper.disk),
+        bad_costs (g.D.Disk.state c.args.session.now.core.filer.swapper.disk),
       ),
     )
 
-pub returns-in-Err-clause-so : goal.returns-in-Err-clause-so
-returns-in-Err-clause-so g c halt same = subst (λ (h : Halt). ShowsSo (g.D.Disk.state c.step.new.self.core.filer.swapper.under) h) (same_halt c.in-Err.halt halt same) c.in-Err.ensures.so
+pub returns-in-Err-clause-evidence_seen : goal.returns-in-Err-clause-evidence_seen
+returns-in-Err-clause-evidence_seen g c halt same = subst (λ (h : Halt). ShowsEvidence (g.D.Disk.state c.step.new.self.core.filer.swapper.disk) h) (same_halt c.in-Err.halt halt same) c.in-Err.ensures.evidence_seen
 
--- The outsets to which the session keeps, and what it sees of the space tables, and of files.
+-- The initial states to which the session keeps, and what it sees of the space tables, and of files.
 
 pub returns-in-Ok-clause-keeps_to : goal.returns-in-Ok-clause-keeps_to
-returns-in-Ok-clause-keeps_to g c o keeps ahead going = c.in-Ok.ensures.keeps_to o keeps ahead
+returns-in-Ok-clause-keeps_to g c o keeps not_older going = c.in-Ok.ensures.keeps_to o keeps not_older
 
 pub returns-in-Some-clause-keeps_to : goal.returns-in-Some-clause-keeps_to
-returns-in-Some-clause-keeps_to g c o keeps ahead going = on_giving o c.args.session.now.core.filer (next_id c.args.session.now.volume.root) keeps ahead.next
+returns-in-Some-clause-keeps_to g c o keeps not_older going = on_giving o c.args.session.now.core.filer (next_id c.args.session.now.volume.root) keeps not_older.next
 
 pub returns-in-Bad-clause-keeps_to : goal.returns-in-Bad-clause-keeps_to
-returns-in-Bad-clause-keeps_to g c o keeps ahead going = on_giving o c.args.session.now.core.filer (next_id c.args.session.now.volume.root) keeps ahead.next
+returns-in-Bad-clause-keeps_to g c o keeps not_older going = on_giving o c.args.session.now.core.filer (next_id c.args.session.now.volume.root) keeps not_older.next
 
 pub returns-in-End-clause-keeps_to : goal.returns-in-End-clause-keeps_to
-returns-in-End-clause-keeps_to g c o keeps ahead going = on_giving o c.args.session.now.core.filer (next_id c.args.session.now.volume.root) keeps ahead.next
+returns-in-End-clause-keeps_to g c o keeps not_older going = on_giving o c.args.session.now.core.filer (next_id c.args.session.now.volume.root) keeps not_older.next
 
 pub returns-in-ReadFault-clause-keeps_to : goal.returns-in-ReadFault-clause-keeps_to
-returns-in-ReadFault-clause-keeps_to g c o keeps ahead going = on_giving o c.args.session.now.core.filer (next_id c.args.session.now.volume.root) keeps ahead.next
+returns-in-ReadFault-clause-keeps_to g c o keeps not_older going = on_giving o c.args.session.now.core.filer (next_id c.args.session.now.volume.root) keeps not_older.next
 
 pub returns-in-Long-clause-keeps_to : goal.returns-in-Long-clause-keeps_to
-returns-in-Long-clause-keeps_to g c o keeps ahead going = on_giving o c.args.session.now.core.filer (next_id c.args.session.now.volume.root) keeps ahead.next
+returns-in-Long-clause-keeps_to g c o keeps not_older going = on_giving o c.args.session.now.core.filer (next_id c.args.session.now.volume.root) keeps not_older.next
 
 pub returns-in-Err-clause-reasons : goal.returns-in-Err-clause-reasons
-returns-in-Err-clause-reasons g c o keeps ahead halt same =
-    subst (λ (h : Halt). ShowsReason o c.args.session.now.core.filer.swapper.layout (g.D.Disk.state c.step.new.self.core.filer.swapper.under) h) (same_halt c.in-Err.halt halt same) (c.in-Err.ensures.reasons o keeps ahead)
+returns-in-Err-clause-reasons g c o keeps not_older halt same =
+    subst (λ (h : Halt). ShowsReason o c.args.session.now.core.filer.swapper.layout (g.D.Disk.state c.step.new.self.core.filer.swapper.disk) h) (same_halt c.in-Err.halt halt same) (c.in-Err.ensures.reasons o keeps not_older)
 
 pub returns-in-Ok-clause-sees : goal.returns-in-Ok-clause-sees
-returns-in-Ok-clause-sees g c o keeps ahead seen going = c.in-Ok.ensures.sees o keeps ahead seen
+returns-in-Ok-clause-sees g c o keeps not_older seen going = c.in-Ok.ensures.sees o keeps not_older seen
 
 pub returns-in-Some-clause-sees : goal.returns-in-Some-clause-sees
-returns-in-Some-clause-sees g c o keeps ahead seen going = seen
+returns-in-Some-clause-sees g c o keeps not_older seen going = seen
 
 pub returns-in-Bad-clause-sees : goal.returns-in-Bad-clause-sees
-returns-in-Bad-clause-sees g c o keeps ahead seen going = seen
+returns-in-Bad-clause-sees g c o keeps not_older seen going = seen
 
 pub returns-in-End-clause-sees : goal.returns-in-End-clause-sees
-returns-in-End-clause-sees g c o keeps ahead seen going = seen
+returns-in-End-clause-sees g c o keeps not_older seen going = seen
 
 pub returns-in-ReadFault-clause-sees : goal.returns-in-ReadFault-clause-sees
-returns-in-ReadFault-clause-sees g c o keeps ahead seen going = seen
+returns-in-ReadFault-clause-sees g c o keeps not_older seen going = seen
 
 pub returns-in-Long-clause-sees : goal.returns-in-Long-clause-sees
-returns-in-Long-clause-sees g c o keeps ahead seen going = seen
+returns-in-Long-clause-sees g c o keeps not_older seen going = seen
 
 pub returns-in-Err-clause-right : goal.returns-in-Err-clause-right
-returns-in-Err-clause-right g c o keeps ahead seen halt same =
-    subst (λ (h : Halt). IsSpared o (g.D.Disk.state c.step.new.self.core.filer.swapper.under) h) (same_halt c.in-Err.halt halt same) (c.in-Err.ensures.sees o keeps ahead seen)
+returns-in-Err-clause-right g c o keeps not_older seen halt same =
+    subst (λ (h : Halt). IsBlameless o (g.D.Disk.state c.step.new.self.core.filer.swapper.disk) h) (same_halt c.in-Err.halt halt same) (c.in-Err.ensures.sees o keeps not_older seen)
 
-pub returns-in-Ok-clause-onward : goal.returns-in-Ok-clause-onward
-returns-in-Ok-clause-onward g c = (c.step.ensures.onward, c.step.ensures.serial)
+pub returns-in-Ok-clause-monotone : goal.returns-in-Ok-clause-monotone
+returns-in-Ok-clause-monotone g c = (c.step.ensures.monotone, c.step.ensures.serial)
 
-pub returns-in-Err-clause-onward : goal.returns-in-Err-clause-onward
-returns-in-Err-clause-onward g c = (c.step.ensures.onward, c.step.ensures.serial)
+pub returns-in-Err-clause-monotone : goal.returns-in-Err-clause-monotone
+returns-in-Err-clause-monotone g c = (c.step.ensures.monotone, c.step.ensures.serial)
 
-pub returns-in-Some-clause-onward : goal.returns-in-Some-clause-onward
-returns-in-Some-clause-onward g c = (omega arith, refl)
+pub returns-in-Some-clause-monotone : goal.returns-in-Some-clause-monotone
+returns-in-Some-clause-monotone g c = (omega arith, refl)
 
-pub returns-in-Bad-clause-onward : goal.returns-in-Bad-clause-onward
-returns-in-Bad-clause-onward g c = (omega arith, refl)
+pub returns-in-Bad-clause-monotone : goal.returns-in-Bad-clause-monotone
+returns-in-Bad-clause-monotone g c = (omega arith, refl)
 
-pub returns-in-End-clause-onward : goal.returns-in-End-clause-onward
-returns-in-End-clause-onward g c = (omega arith, refl)
+pub returns-in-End-clause-monotone : goal.returns-in-End-clause-monotone
+returns-in-End-clause-monotone g c = (omega arith, refl)
 
-pub returns-in-ReadFault-clause-onward : goal.returns-in-ReadFault-clause-onward
-returns-in-ReadFault-clause-onward g c = (omega arith, refl)
+pub returns-in-ReadFault-clause-monotone : goal.returns-in-ReadFault-clause-monotone
+returns-in-ReadFault-clause-monotone g c = (omega arith, refl)
 
-pub returns-in-Long-clause-onward : goal.returns-in-Long-clause-onward
-returns-in-Long-clause-onward g c = (omega arith, refl)
+pub returns-in-Long-clause-monotone : goal.returns-in-Long-clause-monotone
+returns-in-Long-clause-monotone g c = (omega arith, refl)

@@ -10,9 +10,9 @@ pub returns-clause-moved : goal.returns-clause-moved
 returns-clause-moved g c = λ b h.
     let e = g.row.E in
     let fits : 512 * (c.args.at / per_page e) + 512 ≤ length b =
-    rw (g.met.M.FlatMem.told_length c.args.mem.now b h) (page_fits (per_page e) c.args.at _ (per_page_some e c.requires.some c.requires.most) c.requires.inside) in
+    rw (g.met.M.FlatMem.revealed_length c.args.mem.now b h) (page_fits (per_page e) c.args.at _ (per_page_some e c.requires.some c.requires.most) c.requires.inside) in
     on_ok_weaker c.write_page.result
-    (λ (told : g.M.FlatMem.tells c.write_page.new.mem (overwritten b (512 * (c.args.at / per_page e)) c.push.new.page)).
-    moves_up e c.requires.some c.requires.most b c.push.new.page c.args.carried.now c.push.new.carried c.args.at (g.M.FlatMem.tells c.write_page.new.mem) c.push.array_long fits told
+    (λ (revealed : g.M.FlatMem.reveals c.write_page.new.mem (overwritten b (512 * (c.args.at / per_page e)) c.push.new.page)).
+    moves_up e c.requires.some c.requires.most b c.push.new.page c.args.carried.now c.push.new.carried c.args.at (g.M.FlatMem.reveals c.write_page.new.mem) c.push.array_long fits revealed
     (rw (← c.in_ok-read_page.ensures.read b h) c.push.ensures.pushed))
     (c.write_page.ensures.written b (c.read_page.ensures.unchanged b h))

@@ -7,7 +7,7 @@ abbrev pub invariant-moving : goal.invariant-moving
 invariant-moving g l = record {
   order : l.at ≤ l.place;
   kept : g.M.FlatMem.beside l.initial.mem l.mem;
-  told : (b : List ℕ) → g.M.FlatMem.tells l.initial.mem b → IsFilling g.row.E (g.M.FlatMem.tells l.mem) b (insert (entries g.row.E b l.count) l.at l.new) l.count l.place l.carried;
+  revealed : (b : List ℕ) → g.M.FlatMem.reveals l.initial.mem b → IsFilling g.row.E (g.M.FlatMem.reveals l.mem) b (insert (entries g.row.E b l.count) l.at l.new) l.count l.place l.carried;
   rows : l.place / per_page g.row.E ≤ pages_of g.row.E (l.count + 1);
   cost : g.M.FlatMem.spent l.mem ≤ g.M.FlatMem.spent l.initial.mem + 2 * (l.place / per_page g.row.E) * g.M.FlatMem.cost;
 }

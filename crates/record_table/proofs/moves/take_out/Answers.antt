@@ -8,7 +8,7 @@ moving-init g c = record {
   order = (omega (arith, c.requires.order), omega arith);
   ends = λ more. inl refl;
   kept = g.met.M.FlatMem.beside_itself c.args.mem.now;
-  told = λ b h. empty_start g.row.E b c.args.at c.args.count c.requires.order (g.M.FlatMem.tells c.args.mem.now) _ h;
+  revealed = λ b h. empty_start g.row.E b c.args.at c.args.count c.requires.order (g.M.FlatMem.reveals c.args.mem.now) _ h;
   left = λ more. omega arith;
   cost = omega arith;
 }
@@ -25,10 +25,10 @@ moving-preserved g c =
       order = (row.at_least, omega (arith, row.before, was.order.1));
       ends = even_end e some most c.args.at c.args.count c.moving.end c.max-from.result row;
       kept = g.met.M.FlatMem.beside_through _ _ _ was.kept c.pull_page.ensures.kept;
-      told = λ b h.
-          let had = was.told b h in
-          empty_more e b c.args.at c.args.count c.requires.order (g.M.FlatMem.tells c.moving.mem) (g.M.FlatMem.tells c.pull_page.new.mem) c.moving.end c.max-from.result c.moving.carried c.pull_page.new.carried
-          row had (c.in_ok-pull_page.ensures.moved had.now had.told);
+      revealed = λ b h.
+          let had = was.revealed b h in
+          empty_more e b c.args.at c.args.count c.requires.order (g.M.FlatMem.reveals c.moving.mem) (g.M.FlatMem.reveals c.pull_page.new.mem) c.moving.end c.max-from.result c.moving.carried c.pull_page.new.carried
+          row had (c.in_ok-pull_page.ensures.moved had.now had.revealed);
       left = left_after e some most c.args.at c.args.count c.moving.end c.max-from.result g.M.FlatMem.cost _ _ _ row c.pull_page.ensures.cost (was.left more);
       cost =
           let had = rw row.pages at (was.left more) in
@@ -37,4 +37,4 @@ moving-preserved g c =
 
 pub returns-clause-taken : goal.returns-clause-taken
 returns-clause-taken g c = λ b h.
-    empty_end g.row.E b c.args.at c.args.count c.requires.order (g.M.FlatMem.tells c.moving.mem) c.moving.end c.moving.carried (omega (arith, c.moving-test.false, c.moving.invariant.order)) (c.moving.invariant.told b h)
+    empty_end g.row.E b c.args.at c.args.count c.requires.order (g.M.FlatMem.reveals c.moving.mem) c.moving.end c.moving.carried (omega (arith, c.moving-test.false, c.moving.invariant.order)) (c.moving.invariant.revealed b h)

@@ -8,7 +8,7 @@ invariant-moving g l = record {
   order : (l.at ≤ l.end) × (l.end ≤ l.count);
   ends : IsEnd g.row.E l.at l.count l.end;
   kept : g.M.FlatMem.beside l.initial.mem l.mem;
-  told : (b : List ℕ) → g.M.FlatMem.tells l.initial.mem b → IsEmptying g.row.E (g.M.FlatMem.tells l.mem) b (remove (entries g.row.E b l.count) l.at) l.count l.end l.carried;
+  revealed : (b : List ℕ) → g.M.FlatMem.reveals l.initial.mem b → IsEmptying g.row.E (g.M.FlatMem.reveals l.mem) b (remove (entries g.row.E b l.count) l.at) l.count l.end l.carried;
   left : l.at < l.end → g.M.FlatMem.spent l.mem + 2 * pages_of g.row.E l.end * g.M.FlatMem.cost ≤ g.M.FlatMem.spent l.initial.mem + 2 * pages_of g.row.E l.count * g.M.FlatMem.cost;
   cost : g.M.FlatMem.spent l.mem ≤ g.M.FlatMem.spent l.initial.mem + 2 * pages_of g.row.E l.count * g.M.FlatMem.cost;
 }

@@ -3,4 +3,4 @@ use Rattle.scavenger.specs.Marks.{IsMarkedSoFar}
 use Rattle.scavenger.proofs.bits.free_rest.Given as goal
 
 abbrev pub invariant-loop-i : goal.invariant-loop-i
-invariant-loop-i g l = IsMarkedSoFar l.layout.sectors l.layout.first l.standings l.i (vec_mem_bytes l.map)
+invariant-loop-i g l = IsMarkedSoFar l.layout.sectors l.layout.first l.sector_states l.i (vec_mem_bytes l.map)

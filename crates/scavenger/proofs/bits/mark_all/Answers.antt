@@ -23,5 +23,5 @@ returns g c =
     (rw (c.over.ensures.first, c.over.ensures.sectors) at lowest)
     (rw c.over.ensures.sectors at (c.in-Ok.ensures.longest (vec_mem_bytes c.over.result.mem.now) refl))
     (rw (c.over.ensures.first, c.over.ensures.sectors) at c.in-Ok.ensures.form) in
-    marked_as true _ _ (vec_mem_bytes c.over.result.mem.now) marked.now 0 c.args.sectors c.in-Ok.field-0.0 (c.in-Ok.field-0.0 + c.in-Ok.field-0.1) same (marked.told ∙ (search rules))
+    marked_as true _ _ (vec_mem_bytes c.over.result.mem.now) marked.now 0 c.args.sectors c.in-Ok.field-0.0 (c.in-Ok.field-0.0 + c.in-Ok.field-0.1) same (marked.revealed ∙ (search rules))
     run.0 (omega (arith, run.0, run.1)) marked.bits

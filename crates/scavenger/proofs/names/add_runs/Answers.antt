@@ -46,16 +46,16 @@ loop-i-preserved g c =
     let runs = c.args.runs.now in
     let i = c.loop-i.i in
     let r = slice_index_or runs i no_run in
-    let front = all_triples (take i runs) in
+    let prefix = all_triples (take i runs) in
     let there = slice_get-get_or runs i no_run c.loop-i-test.true in
     let form = c.requires.form in
-    let new = is_new c.args.sectors form.0 front (all_triples (drop (suc i) runs)) form.1 r (long_run runs i r form.2.long there) (split_runs runs i r there ∙ form.2.same) in
-    let added = c.add_run.ensures (among front) c.loop-i.invariant (subst (IsNew (among front)) (sym c.map_run.ensures.same) new) in
-    naming_alike c.args.sectors (with_run (among front) c.map_run.result) (among (all_triples (take (i + 1) runs))) (vec_mem_bytes c.add_run.new.map)
+    let new = is_new c.args.sectors form.0 prefix (all_triples (drop (suc i) runs)) form.1 r (long_run runs i r form.2.long there) (split_runs runs i r there ∙ form.2.same) in
+    let added = c.add_run.ensures (among prefix) c.loop-i.invariant (subst (IsNew (among prefix)) (sym c.map_run.ensures.same) new) in
+    naming_alike c.args.sectors (with_run (among prefix) c.map_run.result) (among (all_triples (take (i + 1) runs))) (vec_mem_bytes c.add_run.new.map)
     (λ id page sector.
     ap (λ (ts : List Triple). among ts id page sector) (taken_runs runs i r there)
-    ∙ with_run_is front r id page sector
-    ∙ ap (λ (q : Run). with_run (among front) q id page sector) (sym c.map_run.ensures.same)) added
+    ∙ with_run_is prefix r id page sector
+    ∙ ap (λ (q : Run). with_run (among prefix) q id page sector) (sym c.map_run.ensures.same)) added
 
 pub returns : goal.returns
 returns g c =

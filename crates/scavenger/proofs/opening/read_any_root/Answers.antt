@@ -9,12 +9,12 @@ use Rattle.scavenger.proofs.PlanLemmas.{judged_root}
 use Rattle.scavenger.proofs.opening.read_any_root.Goals as goal
 
 pub returns-in-Ok-clause-root : goal.returns-in-Ok-clause-root
-returns-in-Ok-clause-root g c = λ d told.
+returns-in-Ok-clause-root g c = λ d revealed.
     let count = c.in-Ok.ensures.valid.accepted in
-    let long = g.met.D.Disk.whole c.args.disk.now d told in
+    let long = g.met.D.Disk.whole c.args.disk.now d revealed in
     let s = slice_index_or d 0 zero_sector in
     let here = slice_get-get_or d 0 zero_sector (omega (arith, long, count.0)) in
-    let is = sym (c.in-Ok.ensures.judged count d told s here) in (
+    let is = sym (c.in-Ok.ensures.judged count d revealed s here) in (
       judged_root (length d) s c.in-Ok.root is ∙ ap (λ (o : Option Sector). root_in (page_in o)) (sym here),
       subst (IsRoot (length d)) (sym here) (valid (length d) s (subst IsCount (sym long) count) c.in-Ok.root is),
     )

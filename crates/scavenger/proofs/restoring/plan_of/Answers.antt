@@ -11,17 +11,17 @@ fill-requires-clause-first g c =
     omega (arith, parts.first, c.requires.all, c.deref-2.ensures.len, ap length c.deref-2.ensures.value, first_within c.args.layout.now.sectors c.requires.counted) in
     parts.first ∙ ap first_data all
 
-pub fill-requires-clause-tells : goal.fill-requires-clause-tells
-fill-requires-clause-tells g c = λ d has.
+pub fill-requires-clause-reveals : goal.fill-requires-clause-reveals
+fill-requires-clause-reveals g c = λ d has.
     let parts = of_layout c.args.layout.now c.args.layout.now.sectors c.requires.layout in
     let all : length d ≡ c.args.layout.now.sectors =
     omega (arith, has.sectors, parts.first, c.requires.all, ap length c.deref-2.ensures.value, first_within c.args.layout.now.sectors c.requires.counted) in
-    c.in_ok-survey.ensures.tells d (parts.first ∙ ap first_data (sym all)) (c.deref.ensures.value ∙ sym c.deref-2.ensures.value ∙ has.are)
+    c.in_ok-survey.ensures.reveals d (parts.first ∙ ap first_data (sym all)) (c.deref.ensures.value ∙ sym c.deref-2.ensures.value ∙ has.are)
 
-pub of-requires-clause-standings : goal.of-requires-clause-standings
-of-requires-clause-standings g c = λ d has.
+pub of-requires-clause-sector_states : goal.of-requires-clause-sector_states
+of-requires-clause-sector_states g c = λ d has.
     let parts = of_layout c.args.layout.now c.args.layout.now.sectors c.requires.layout in
-    (c.in_ok-survey.ensures.tells d (parts.first ∙ ap first_data (sym has.sectors)) (c.deref.ensures.value ∙ has.are)).standings
+    (c.in_ok-survey.ensures.reveals d (parts.first ∙ ap first_data (sym has.sectors)) (c.deref.ensures.value ∙ has.are)).sector_states
 
 pub returns-clause-report : goal.returns-clause-report
 returns-clause-report g c = ok_anyway c.of.result (λ d has.

@@ -3,51 +3,51 @@ use Rattle.labelled_disk.specs.Sectors.{Sector}
 use Rattle.labelled_disk.proofs.CallLemmas.{only_reads_then}
 use Rattle.scavenger.specs.Orders.{AreFor}
 use Rattle.scavenger.specs.Plan.{orders}
-use Rattle.scavenger.proofs.BetweenLemmas.{moments_of_carried, moments_of_none, reads_same}
+use Rattle.scavenger.proofs.BetweenLemmas.{crash_states_of_carried, crash_states_of_none, reads_same}
 use Rattle.scavenger.proofs.PlanLemmas.{ok_then}
-use Rattle.scavenger.proofs.TopLemmas.{appended_behind, part_behind, restored_by, on_err, accords_by}
+use Rattle.scavenger.proofs.TopLemmas.{appended_after, part_after, restored_by, on_err, accords_by}
 use Rattle.scavenger.proofs.restoring.scavenge.Given as given
 use Rattle.scavenger.proofs.restoring.scavenge.Goals as goal
 
 -- the orders that were carried out are those for the disk
 is_for : (g : given.Over) (c : goal.After-finish g) (d : List Sector) → (g.D.Disk.state c.args.disk.now).contents ≡ Some d → AreFor d (orders c.in_ok-root.root c.in-Ok.layout.first c.in_ok-plan.plan)
-is_for g c d told = c.in_ok-plan.ensures.plan d (c.in_ok-root.ensures.cost.only.contents ∙ told) (c.in_ok-root.ensures.root d told).0
+is_for g c d revealed = c.in_ok-plan.ensures.plan d (c.in_ok-root.ensures.cost.only.contents ∙ revealed) (c.in_ok-root.ensures.root d revealed).0
 
 pub returns-clause-restored : goal.returns-clause-restored
-returns-clause-restored g c = ok_then c.finish.result c.finish.ensures.carries.all (λ made d told.
-    restored_by c.scavenging_restores.ensures (g.D.Disk.state c.args.disk.now) (g.D.Disk.state c.finish.new.disk) d (orders c.in_ok-root.root c.in-Ok.layout.first c.in_ok-plan.plan) told
-    (g.met.D.Disk.in_form c.args.disk.now d told) (c.in_ok-root.ensures.root d told).1 (is_for g c d told)
-    (appended_behind _ _ _ _ c.in_ok-root.ensures.cost.only (appended_behind _ _ _ _ c.in_ok-plan.ensures.cost.only made)))
+returns-clause-restored g c = ok_then c.finish.result c.finish.ensures.carries.all (λ made d revealed.
+    restored_by c.scavenging_restores.ensures (g.D.Disk.state c.args.disk.now) (g.D.Disk.state c.finish.new.disk) d (orders c.in_ok-root.root c.in-Ok.layout.first c.in_ok-plan.plan) revealed
+    (g.met.D.Disk.in_form c.args.disk.now d revealed) (c.in_ok-root.ensures.root d revealed).1 (is_for g c d revealed)
+    (appended_after _ _ _ _ c.in_ok-root.ensures.cost.only (appended_after _ _ _ _ c.in_ok-plan.ensures.cost.only made)))
 
 pub returns-clause-made : goal.returns-clause-made
-returns-clause-made g c = ok_then c.finish.result c.finish.ensures.carries.all (λ made d told. (
+returns-clause-made g c = ok_then c.finish.result c.finish.ensures.carries.all (λ made d revealed. (
   orders c.in_ok-root.root c.in-Ok.layout.first c.in_ok-plan.plan,
-  is_for g c d told,
-  appended_behind _ _ _ _ c.in_ok-root.ensures.cost.only (appended_behind _ _ _ _ c.in_ok-plan.ensures.cost.only made),
+  is_for g c d revealed,
+  appended_after _ _ _ _ c.in_ok-root.ensures.cost.only (appended_after _ _ _ _ c.in_ok-plan.ensures.cost.only made),
 ))
 
 pub returns-clause-part : goal.returns-clause-part
-returns-clause-part g c = λ is d told.
+returns-clause-part g c = λ is d revealed.
     inr (
       orders c.in_ok-root.root c.in-Ok.layout.first c.in_ok-plan.plan,
-      is_for g c d told,
-      part_behind _ _ _ _ c.in_ok-root.ensures.cost.only (part_behind _ _ _ _ c.in_ok-plan.ensures.cost.only (on_err c.finish.result _ is c.finish.ensures.carries.part)),
+      is_for g c d revealed,
+      part_after _ _ _ _ c.in_ok-root.ensures.cost.only (part_after _ _ _ _ c.in_ok-plan.ensures.cost.only (on_err c.finish.result _ is c.finish.ensures.carries.part)),
     )
 
 pub returns-clause-judged : goal.returns-clause-judged
-returns-clause-judged g c = λ count d told s here. accords_by c.finish.result _ c.finish.ensures.err (c.in_ok-root.ensures.judged count d told s here)
+returns-clause-judged g c = λ count d revealed s here. accords_by c.finish.result _ c.finish.ensures.err (c.in_ok-root.ensures.judged count d revealed s here)
 
--- ---- What stands at each moment.
+-- ---- What stands in each crash state.
 
-pub returns-in_err-root-clause-moments : goal.returns-in_err-root-clause-moments
-returns-in_err-root-clause-moments g c = λ d before writes told earlier later k.
-    moments_of_none d (g.D.Disk.state c.args.disk.now) (g.D.Disk.state c.read_any_root.new.disk) before writes earlier later k (reads_same c.read_any_root.ensures.cost.only)
+pub returns-in_err-root-clause-crash_states : goal.returns-in_err-root-clause-crash_states
+returns-in_err-root-clause-crash_states g c = λ d before writes revealed earlier later k.
+    crash_states_of_none d (g.D.Disk.state c.args.disk.now) (g.D.Disk.state c.read_any_root.new.disk) before writes earlier later k (reads_same c.read_any_root.ensures.cost.only)
 
-pub returns-in_err-plan-clause-moments : goal.returns-in_err-plan-clause-moments
-returns-in_err-plan-clause-moments g c = λ d before writes told earlier later k.
-    moments_of_none d (g.D.Disk.state c.args.disk.now) (g.D.Disk.state c.make_plan.new.disk) before writes earlier later k (reads_same (only_reads_then c.read_any_root.ensures.cost.only c.make_plan.ensures.cost.only))
+pub returns-in_err-plan-clause-crash_states : goal.returns-in_err-plan-clause-crash_states
+returns-in_err-plan-clause-crash_states g c = λ d before writes revealed earlier later k.
+    crash_states_of_none d (g.D.Disk.state c.args.disk.now) (g.D.Disk.state c.make_plan.new.disk) before writes earlier later k (reads_same (only_reads_then c.read_any_root.ensures.cost.only c.make_plan.ensures.cost.only))
 
-pub returns-clause-moments : goal.returns-clause-moments
-returns-clause-moments g c = λ d before writes told earlier later k.
-    moments_of_carried d (g.D.Disk.state c.args.disk.now) (g.D.Disk.state c.finish.new.disk) before writes earlier later k (orders c.in_ok-root.root c.in-Ok.layout.first c.in_ok-plan.plan) (g.D.Disk.state c.make_plan.new.disk) c.finish.result
-    c.scavenging_restores.ensures (g.met.D.Disk.in_form c.args.disk.now d told) (c.in_ok-root.ensures.root d told).1 (is_for g c d told) (only_reads_then c.in_ok-root.ensures.cost.only c.in_ok-plan.ensures.cost.only) c.finish.ensures.carries
+pub returns-clause-crash_states : goal.returns-clause-crash_states
+returns-clause-crash_states g c = λ d before writes revealed earlier later k.
+    crash_states_of_carried d (g.D.Disk.state c.args.disk.now) (g.D.Disk.state c.finish.new.disk) before writes earlier later k (orders c.in_ok-root.root c.in-Ok.layout.first c.in_ok-plan.plan) (g.D.Disk.state c.make_plan.new.disk) c.finish.result
+    c.scavenging_restores.ensures (g.met.D.Disk.in_form c.args.disk.now d revealed) (c.in_ok-root.ensures.root d revealed).1 (is_for g c d revealed) (only_reads_then c.in_ok-root.ensures.cost.only c.in_ok-plan.ensures.cost.only) c.finish.ensures.carries

@@ -1,11 +1,11 @@
 use Rattle.slow_machine.proofs.RoomLemmas.{room_filter}
-use Rattle.slow_machine.proofs.FileLemmas.{rising_filter}
+use Rattle.slow_machine.proofs.FileLemmas.{ascending_filter}
 use Rattle.slow_machine.proofs.SpaceLemmas.{root_alone}
 use Rattle.slow_machine.proofs.SlowMachine.close.Goals as goal
 
 pub invariant_of-self : goal.invariant_of-self
 invariant_of-self g c = (
   rw c.keep_permanent.ensures (room_filter _ c.self.inside.files.items _ c.self.invariant.0),
-  rw c.keep_permanent.ensures (rising_filter _ c.self.inside.files.items c.self.invariant.1),
+  rw c.keep_permanent.ensures (ascending_filter _ c.self.inside.files.items c.self.invariant.1),
   rw c.keep_root.ensures root_alone,
 )

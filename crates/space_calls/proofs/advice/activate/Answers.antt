@@ -7,16 +7,16 @@ use Rattle.fault_core.proofs.ReachLemmas.{reaches_then}
 use Rattle.running_words.specs.Running.{Runs}
 use Rattle.running_words.proofs.RunningLemmas.{running_laws}
 use Rattle.space_calls.proofs.AdviceLemmas.{activate_refused, activate_stays, activate_there, asked_range, asked_word, came_asked, never_brought, never_refused, range_active, range_brought, whole_core}
-use Rattle.space_calls.proofs.CameLemmas.{came_then, knows, still_runs, still_tells, wrote_so}
+use Rattle.space_calls.proofs.CameLemmas.{came_then, knows, still_runs, still_reveals, wrote_so}
 use Rattle.space_calls.proofs.CarryLemmas.{allowed_done, allowed_refused}
 use Rattle.space_calls.proofs.RunLemmas.{reached_makes}
 use Rattle.filer_kernel.specs.EvidenceLaws.{fits}
-use Rattle.fault_core.proofs.EvidenceLemmas.{shows_so, touch_so}
+use Rattle.fault_core.proofs.EvidenceLemmas.{shows_evidence, touch_so}
 use Rattle.space_tables.specs.Shows.{IsRunAt}
 use Rattle.table_calls.specs.Answers.{TablesSay}
-use Rattle.fault_core.specs.ReachLaws.{reach_lacks, touch_of_reach}
+use Rattle.fault_core.specs.ReachLaws.{reach_misses, touch_of_reach}
 use Rattle.space_calls.specs.Ranges.{BreaksRange, space_units}
-use Rattle.space_calls.proofs.RangeLemmas.{asked_halt, found_run, given_so, run_lacks, within_touch}
+use Rattle.space_calls.proofs.RangeLemmas.{asked_halt, found_run, given_so, run_misses, within_touch}
 use Rattle.running_words.specs.MovingLaws.{moves_of_reaches}
 use Rattle.space_calls.proofs.MovesLemmas.{moves_twice}
 use Rattle.space_calls.specs.FilesLaws.{shown_here}
@@ -27,8 +27,8 @@ use Rattle.space_calls.proofs.advice.activate.Goals as goal
 pub returns-in-Ok-Err-clause-carried : goal.returns-in-Ok-Err-clause-carried
 returns-in-Ok-Err-clause-carried g c = λ volume m runs.
     let whole = whole_core c.args.core.now c.requires.size in
-    let told = knows running_laws whole runs in
-    let is = asked_word m.spaces c.args.space c.in-Ok-Err.field-0 c.in-Ok-Err.word c.in-Ok-Err.field-0-is (c.in-Ok-Err.ensures.answer _ _ m.spaces told) in
+    let revealed = knows running_laws whole runs in
+    let is = asked_word m.spaces c.args.space c.in-Ok-Err.field-0 c.in-Ok-Err.word c.in-Ok-Err.field-0-is (c.in-Ok-Err.ensures.answer _ _ m.spaces revealed) in
     record {
       allowed = allowed_refused m (call.Activate c.args.space) c.in-Ok-Err.word (activate_refused m c.args.space c.in-Ok-Err.word is);
       runs = subst (λ (n : Machine). Runs c.bounds.new.core volume n) (activate_stays m c.args.space) (still_runs running_laws whole runs (came_asked c.bounds.ensures.asked));
@@ -37,7 +37,7 @@ returns-in-Ok-Err-clause-carried g c = λ volume m runs.
 pub returns-in-Ok-Err-clause-passes : goal.returns-in-Ok-Err-clause-passes
 returns-in-Ok-Err-clause-passes g c = λ volume m runs.
     let whole = whole_core c.args.core.now c.requires.size in
-    still_tells running_laws whole runs (state c.bounds.new.core) (g.met.D.Disk.in_form c.args.core.now.filer.swapper.under) (call.Activate c.args.space) (reached_makes c.bounds.ensures.asked.reaches)
+    still_reveals running_laws whole runs (state c.bounds.new.core) (g.met.D.Disk.in_form c.args.core.now.filer.swapper.disk) (call.Activate c.args.space) (reached_makes c.bounds.ensures.asked.reaches)
 
 pub returns-in-Ok-Err-clause-wrote : goal.returns-in-Ok-Err-clause-wrote
 returns-in-Ok-Err-clause-wrote g c = wrote_so (reached_makes c.bounds.ensures.asked.reaches)
@@ -45,16 +45,16 @@ returns-in-Ok-Err-clause-wrote g c = wrote_so (reached_makes c.bounds.ensures.as
 pub returns-in-Ok-Err-clause-whole : goal.returns-in-Ok-Err-clause-whole
 returns-in-Ok-Err-clause-whole g c = λ volume m s runs there.
     let whole = whole_core c.args.core.now c.requires.size in
-    let told = knows running_laws whole runs in
+    let revealed = knows running_laws whole runs in
     never_refused m c.args.space (kept c.bounds.new.core) c.bounds.new.core.filer.swapper.pool s c.in-Ok-Err.word there
-    (asked_word m.spaces c.args.space c.in-Ok-Err.field-0 c.in-Ok-Err.word c.in-Ok-Err.field-0-is (c.in-Ok-Err.ensures.answer _ _ m.spaces told))
+    (asked_word m.spaces c.args.space c.in-Ok-Err.field-0 c.in-Ok-Err.word c.in-Ok-Err.field-0-is (c.in-Ok-Err.ensures.answer _ _ m.spaces revealed))
 
 pub returns-in-Ok-Err-clause-brought : goal.returns-in-Ok-Err-clause-brought
 returns-in-Ok-Err-clause-brought g c = λ volume m s runs there.
     let whole = whole_core c.args.core.now c.requires.size in
-    let told = knows running_laws whole runs in
+    let revealed = knows running_laws whole runs in
     never_brought m c.args.space (kept c.bounds.new.core) c.bounds.new.core.filer.swapper.pool _ s c.in-Ok-Err.word there
-    (asked_word m.spaces c.args.space c.in-Ok-Err.field-0 c.in-Ok-Err.word c.in-Ok-Err.field-0-is (c.in-Ok-Err.ensures.answer _ _ m.spaces told))
+    (asked_word m.spaces c.args.space c.in-Ok-Err.field-0 c.in-Ok-Err.word c.in-Ok-Err.field-0-is (c.in-Ok-Err.ensures.answer _ _ m.spaces revealed))
 
 -- ---- The tables could not be asked.
 
@@ -66,7 +66,7 @@ returns-in-Err-clause-sound g c = λ volume m runs.
 pub returns-in-Err-clause-passes : goal.returns-in-Err-clause-passes
 returns-in-Err-clause-passes g c = λ volume m runs.
     let whole = whole_core c.args.core.now c.requires.size in
-    still_tells running_laws whole runs (state c.bounds.new.core) (g.met.D.Disk.in_form c.args.core.now.filer.swapper.under) (call.Activate c.args.space) (reached_makes c.bounds.ensures.asked.reaches)
+    still_reveals running_laws whole runs (state c.bounds.new.core) (g.met.D.Disk.in_form c.args.core.now.filer.swapper.disk) (call.Activate c.args.space) (reached_makes c.bounds.ensures.asked.reaches)
 
 pub returns-in-Err-clause-wrote : goal.returns-in-Err-clause-wrote
 returns-in-Err-clause-wrote g c = wrote_so (reached_makes c.bounds.ensures.asked.reaches)
@@ -76,8 +76,8 @@ returns-in-Err-clause-wrote g c = wrote_so (reached_makes c.bounds.ensures.asked
 pub returns-in-Ok-clause-carried : goal.returns-in-Ok-clause-carried
 returns-in-Ok-clause-carried g c = λ volume m runs.
     let whole = whole_core c.args.core.now c.requires.size in
-    let told = knows running_laws whole runs in
-    let found = asked_range m.spaces c.args.space c.in-Ok-Ok.field-0 c.in-Ok-Ok.run' c.in-Ok-Ok.field-0-is (c.in-Ok-Ok.ensures.answer _ _ m.spaces told) in
+    let revealed = knows running_laws whole runs in
+    let found = asked_range m.spaces c.args.space c.in-Ok-Ok.field-0 c.in-Ok-Ok.run' c.in-Ok-Ok.field-0-is (c.in-Ok-Ok.ensures.answer _ _ m.spaces revealed) in
     let e = c.activate.ensures in
     let came = came_then (state c.args.core.now) (state c.bounds.new.core) (state c.activate.new.self) whole.layout (came_asked c.bounds.ensures.asked)
     (record { reaches = e.reaches; brings = e.came; known = e.same; same_count = e.intervals }) in
@@ -90,7 +90,7 @@ pub returns-in-Ok-clause-passes : goal.returns-in-Ok-clause-passes
 returns-in-Ok-clause-passes g c = λ volume m runs.
     let whole = whole_core c.args.core.now c.requires.size in
     let reaches = reaches_then (state c.args.core.now) (state c.bounds.new.core) whole.layout c.bounds.ensures.asked.reaches (state c.activate.new.self) c.activate.ensures.reaches in
-    still_tells running_laws whole runs (state c.activate.new.self) (g.met.D.Disk.in_form c.args.core.now.filer.swapper.under) (call.Activate c.args.space) (reached_makes reaches)
+    still_reveals running_laws whole runs (state c.activate.new.self) (g.met.D.Disk.in_form c.args.core.now.filer.swapper.disk) (call.Activate c.args.space) (reached_makes reaches)
 
 pub returns-in-Ok-clause-wrote : goal.returns-in-Ok-clause-wrote
 returns-in-Ok-clause-wrote g c =
@@ -99,18 +99,18 @@ returns-in-Ok-clause-wrote g c =
 pub returns-in-Ok-clause-whole : goal.returns-in-Ok-clause-whole
 returns-in-Ok-clause-whole g c = λ volume m s runs there.
     let whole = whole_core c.args.core.now c.requires.size in
-    let told = knows running_laws whole runs in
-    let found = asked_range m.spaces c.args.space c.in-Ok-Ok.field-0 c.in-Ok-Ok.run' c.in-Ok-Ok.field-0-is (c.in-Ok-Ok.ensures.answer _ _ m.spaces told) in
+    let revealed = knows running_laws whole runs in
+    let found = asked_range m.spaces c.args.space c.in-Ok-Ok.field-0 c.in-Ok-Ok.run' c.in-Ok-Ok.field-0-is (c.in-Ok-Ok.ensures.answer _ _ m.spaces revealed) in
     range_active m.spaces (kept c.activate.new.self) c.activate.new.self.filer.swapper.pool c.args.space s c.in-Ok-Ok.run' there found.1
-    (c.in-Ok.ensures.whole _ _ m.spaces (c.bounds.ensures.asked.same _ _ m.spaces told))
+    (c.in-Ok.ensures.whole _ _ m.spaces (c.bounds.ensures.asked.same _ _ m.spaces revealed))
 
 pub returns-in-Ok-clause-brought : goal.returns-in-Ok-clause-brought
 returns-in-Ok-clause-brought g c = λ volume m s runs there.
     let whole = whole_core c.args.core.now c.requires.size in
-    let told = knows running_laws whole runs in
-    let found = asked_range m.spaces c.args.space c.in-Ok-Ok.field-0 c.in-Ok-Ok.run' c.in-Ok-Ok.field-0-is (c.in-Ok-Ok.ensures.answer _ _ m.spaces told) in
+    let revealed = knows running_laws whole runs in
+    let found = asked_range m.spaces c.args.space c.in-Ok-Ok.field-0 c.in-Ok-Ok.run' c.in-Ok-Ok.field-0-is (c.in-Ok-Ok.ensures.answer _ _ m.spaces revealed) in
     range_brought m.spaces (kept c.activate.new.self) c.activate.new.self.filer.swapper.pool c.args.space s c.in-Ok-Ok.run' _ _ c.in-Ok._units c.bounds.ensures.asked.reaches.goes.makes.count there found.1
-    (c.in-Ok.ensures.units _ _ m.spaces (c.bounds.ensures.asked.same _ _ m.spaces told))
+    (c.in-Ok.ensures.units _ _ m.spaces (c.bounds.ensures.asked.same _ _ m.spaces revealed))
 
 -- ---- A unit could not be brought in.
 
@@ -123,7 +123,7 @@ pub returns-in-Err-activate-clause-passes : goal.returns-in-Err-activate-clause-
 returns-in-Err-activate-clause-passes g c = λ volume m runs.
     let whole = whole_core c.args.core.now c.requires.size in
     let reaches = reaches_then (state c.args.core.now) (state c.bounds.new.core) whole.layout c.bounds.ensures.asked.reaches (state c.activate.new.self) c.activate.ensures.reaches in
-    still_tells running_laws whole runs (state c.activate.new.self) (g.met.D.Disk.in_form c.args.core.now.filer.swapper.under) (call.Activate c.args.space) (reached_makes reaches)
+    still_reveals running_laws whole runs (state c.activate.new.self) (g.met.D.Disk.in_form c.args.core.now.filer.swapper.disk) (call.Activate c.args.space) (reached_makes reaches)
 
 pub returns-in-Err-activate-clause-wrote : goal.returns-in-Err-activate-clause-wrote
 returns-in-Err-activate-clause-wrote g c =
@@ -146,18 +146,18 @@ pub returns-in-Err-clause-missing : goal.returns-in-Err-clause-missing
 returns-in-Err-clause-missing g c = λ ss s.
     let old = c.args.core.now in
     let breaks = asked_halt (state old) (state c.bounds.new.core) old.filer.swapper.accepted c.args.space old.intervals c.in-Err.halt c.in-Err.ensures.cause in
-    reach_lacks (BreaksRange (state old) old.intervals c.args.space) (state old) (state c.bounds.new.core) (space_units ss c.args.space) c.in-Err.halt breaks
+    reach_misses (BreaksRange (state old) old.intervals c.args.space) (state old) (state c.bounds.new.core) (space_units ss c.args.space) c.in-Err.halt breaks
 
 pub returns-in-Err-activate-clause-missing : goal.returns-in-Err-activate-clause-missing
 returns-in-Err-activate-clause-missing g c = λ ss s.
     let found = found_run ss c.args.space c.in-Ok-Ok.run' c.in-Ok-Ok.field-0 c.in-Ok-Ok.field-0-is (c.in-Ok-Ok.ensures.seen ss s) in
-    run_lacks ss c.args.space c.in-Ok-Ok.run' found.1 c.in-Err-activate.halt (c.in-Err-activate.ensures.missing ss (c.bounds.ensures.sees ss s))
+    run_misses ss c.args.space c.in-Ok-Ok.run' found.1 c.in-Err-activate.halt (c.in-Err-activate.ensures.missing ss (c.bounds.ensures.sees ss s))
 
-pub returns-in-Err-clause-so : goal.returns-in-Err-clause-so
-returns-in-Err-clause-so g c = shows_so _ (state c.args.core.now) (state c.bounds.new.core) (fits c.args.core.now.filer.swapper c.requires.size) c.bounds.ensures.asked.reaches.goes.makes c.in-Err.halt c.in-Err.ensures.cause
+pub returns-in-Err-clause-evidence_seen : goal.returns-in-Err-clause-evidence_seen
+returns-in-Err-clause-evidence_seen g c = shows_evidence _ (state c.args.core.now) (state c.bounds.new.core) (fits c.args.core.now.filer.swapper c.requires.size) c.bounds.ensures.asked.reaches.goes.makes c.in-Err.halt c.in-Err.ensures.cause
 
-pub returns-in-Err-activate-clause-so : goal.returns-in-Err-activate-clause-so
-returns-in-Err-activate-clause-so g c = touch_so _ (state c.bounds.new.core) (state c.activate.new.self) (fits c.bounds.new.core.filer.swapper (search rules)) c.activate.ensures.reaches.goes.makes c.in-Err-activate.halt c.in-Err-activate.ensures.cause
+pub returns-in-Err-activate-clause-evidence_seen : goal.returns-in-Err-activate-clause-evidence_seen
+returns-in-Err-activate-clause-evidence_seen g c = touch_so _ (state c.bounds.new.core) (state c.activate.new.self) (fits c.bounds.new.core.filer.swapper (search rules)) c.activate.ensures.reaches.goes.makes c.in-Err-activate.halt c.in-Err-activate.ensures.cause
 
 -- ---- No label was written.
 
@@ -173,7 +173,7 @@ returns-in-Ok-clause-moves g c = moves_twice (state c.args.core.now) (state c.bo
 pub returns-in-Err-activate-clause-moves : goal.returns-in-Err-activate-clause-moves
 returns-in-Err-activate-clause-moves g c = moves_twice (state c.args.core.now) (state c.bounds.new.core) (state c.activate.new.self) c.args.core.now.filer.swapper.accepted c.bounds.ensures.asked.reaches c.activate.ensures.reaches
 
--- ---- The tables are told.
+-- ---- The tables are revealed.
 
 pub returns-in-Ok-Err-clause-sees : goal.returns-in-Ok-Err-clause-sees
 returns-in-Ok-Err-clause-sees g c = λ ss s. (ss, (c.bounds.ensures.sees ss s, shown_here ss))

@@ -3,7 +3,7 @@ use Rattle.space_calls.proofs.BareLemmas.{bare_core}
 use Rattle.space_calls.proofs.RunLemmas.{knows, reached_runs}
 use Rattle.fault_core.specs.Core.{state}
 use Rattle.filer_kernel.specs.EvidenceLaws.{fits}
-use Rattle.fault_core.proofs.EvidenceLemmas.{shows_so}
+use Rattle.fault_core.proofs.EvidenceLemmas.{shows_evidence}
 use Rattle.fault_core.proofs.ReachLemmas.{reaches_itself}
 use Rattle.space_calls.proofs.bare.shows_nothing.Goals as goal
 
@@ -32,15 +32,15 @@ returns-in-Err-clause-sound g c = λ volume m r. c.in-Err.ensures.sound _ _ m.sp
 
 -- ---- What its evidence says is so.
 
-pub returns-in-Err-clause-so : goal.returns-in-Err-clause-so
-returns-in-Err-clause-so g c = shows_so _ (state c.args.core.now) (state c.describe.new.self) (fits c.args.core.now.filer.swapper c.requires.size) c.describe.ensures.reaches.goes.makes c.in-Err.halt c.in-Err.ensures.cause
+pub returns-in-Err-clause-evidence_seen : goal.returns-in-Err-clause-evidence_seen
+returns-in-Err-clause-evidence_seen g c = shows_evidence _ (state c.args.core.now) (state c.describe.new.self) (fits c.args.core.now.filer.swapper c.requires.size) c.describe.ensures.reaches.goes.makes c.in-Err.halt c.in-Err.ensures.cause
 
 -- ---- Pages were found and brought in.
 
 pub returns-then-interval_count-ne1-clause-reaches : goal.returns-then-interval_count-ne1-clause-reaches
 returns-then-interval_count-ne1-clause-reaches g c = reaches_itself (state c.args.core.now)
 
--- ---- The tables are told.
+-- ---- The tables are revealed.
 
 pub returns-in-Err-clause-right : goal.returns-in-Err-clause-right
 returns-in-Err-clause-right g c = λ s. c.in-Err.ensures.right s.0 s.1

@@ -7,7 +7,7 @@ use Rattle.space_calls.proofs.TableAnswers.{not_refused}
 use Rattle.space_calls.proofs.WindowLemmas.{window_given}
 use Rattle.fault_core.specs.Core.{state}
 use Rattle.filer_kernel.specs.EvidenceLaws.{fits}
-use Rattle.fault_core.proofs.EvidenceLemmas.{shows_so}
+use Rattle.fault_core.proofs.EvidenceLemmas.{shows_evidence}
 use Rattle.space_calls.proofs.MovesLemmas.{moves_tables}
 use Rattle.space_calls.specs.Sees.{IsShown, SeesFiles}
 use Rattle.space_calls.proofs.OnLemmas.{window_given_on}
@@ -22,7 +22,7 @@ pub returns-in-Ok-answer-clause-given : goal.returns-in-Ok-answer-clause-given
 returns-in-Ok-answer-clause-given g c = λ volume m x r may named bare fits is.
     let old = c.args.core.now in
     let known = knows old old.filer.swapper.accepted c.requires.size volume m r in
-    window_given old c.set_window.new.core c.frame_count-frames.new.core old.filer.swapper.accepted c.requires.size (g.met.D.Disk.in_form c.set_window.new.core.filer.swapper.under)
+    window_given old c.set_window.new.core c.frame_count-frames.new.core old.filer.swapper.accepted c.requires.size (g.met.D.Disk.in_form c.set_window.new.core.filer.swapper.disk)
     c.frame_count-frames.ensures.pages c.frame_count-frames.ensures.same c.set_window.ensures.retabled volume m r c.args.space x may named bare c.args.shown is c.in-Ok.answer c.in-Ok-answer.is
     (c.in-Ok.ensures.done _ _ m.spaces x known may named fits)
 
@@ -33,8 +33,8 @@ returns-in-Err-answer-clause-given g c = λ volume m x r may named bare fits is.
 
 -- ---- What its evidence says is so.
 
-pub returns-in-Err-clause-so : goal.returns-in-Err-clause-so
-returns-in-Err-clause-so g c = shows_so _ (state c.args.core.now) (state c.set_window.new.core) (fits c.args.core.now.filer.swapper c.requires.size) c.set_window.ensures.retabled.beside.goes.makes c.in-Err.halt c.in-Err.ensures.cause
+pub returns-in-Err-clause-evidence_seen : goal.returns-in-Err-clause-evidence_seen
+returns-in-Err-clause-evidence_seen g c = shows_evidence _ (state c.args.core.now) (state c.set_window.new.core) (fits c.args.core.now.filer.swapper c.requires.size) c.set_window.ensures.retabled.beside.goes.makes c.in-Err.halt c.in-Err.ensures.cause
 
 -- ---- No label was written.
 
@@ -47,7 +47,7 @@ returns-in-Ok-answer-clause-moves g c = rw c.frame_count-frames.ensures.same (mo
 pub returns-in-Err-answer-clause-moves : goal.returns-in-Err-answer-clause-moves
 returns-in-Err-answer-clause-moves g c = rw c.frame_count-frames.ensures.same (moves_tables (state c.args.core.now) (state c.set_window.new.core) c.set_window.ensures.retabled.beside)
 
--- ---- The tables are told.
+-- ---- The tables are revealed.
 
 pub returns-in-Ok-answer-clause-sees : goal.returns-in-Ok-answer-clause-sees
 returns-in-Ok-answer-clause-sees g c = λ ss x s may named fits.

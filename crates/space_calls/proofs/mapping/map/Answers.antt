@@ -11,7 +11,7 @@ use Rattle.fault_core.specs.Core.{state}
 use Rattle.space_calls.specs.Halts.{ChangeHalts, MapFileHalts}
 use Rattle.space_calls.proofs.HaltLemmas.{given_map}
 use Rattle.running_words.specs.MovingLaws.{moves_of_reaches}
-use Rattle.space_calls.proofs.MovesLemmas.{moves_behind}
+use Rattle.space_calls.proofs.MovesLemmas.{moves_after}
 use Rattle.space_calls.specs.Mapping.{IsLastFrom, MayShow, ReachesOver}
 use Rattle.space_calls.proofs.RangeLemmas.{given_so}
 use Rattle.space_calls.specs.FilesLaws.{shown_or}
@@ -26,28 +26,28 @@ returns-in-Ok-Err-clause-carried g c = λ volume m r.
 
 pub returns-clause-carried : goal.returns-clause-carried
 returns-clause-carried g c = λ volume m r.
-    let told = map_passed m c.args.space c.args.id c.args.page c.args.writable c.in-Ok-Ok.field-0 c.in-Ok-Ok.field-0-0 c.in-Ok-Ok.field-0-is (c.in-Ok-Ok.ensures.answer volume m r) in
-    let may = may_be_given m c.args.space c.args.id c.args.page c.args.writable r.session.stands.is.by.machine told.0 told.1 in
-    ok_wider c.give_window.result _ _ (λ reply done. window_carried c.give_window.new.core volume m c.args.space c.args.id c.args.page c.args.writable told.0 reply done.0 done.1)
+    let revealed = map_passed m c.args.space c.args.id c.args.page c.args.writable c.in-Ok-Ok.field-0 c.in-Ok-Ok.field-0-0 c.in-Ok-Ok.field-0-is (c.in-Ok-Ok.ensures.answer volume m r) in
+    let may = may_be_given m c.args.space c.args.id c.args.page c.args.writable r.session.stands.is.by.machine revealed.0 revealed.1 in
+    ok_wider c.give_window.result _ _ (λ reply done. window_carried c.give_window.new.core volume m c.args.space c.args.id c.args.page c.args.writable revealed.0 reply done.0 done.1)
     (c.give_window.ensures.given volume m may.x (c.may_map.ensures.runs volume m r) may.may may.named_so may.bare may.fits may.machine)
 
 pub returns-in-Err-clause-passes : goal.returns-in-Err-clause-passes
-returns-in-Err-clause-passes g c = λ volume m r. quiet_passes c.args.core.now c.may_map.new.core volume m _ (g.met.D.Disk.in_form c.args.core.now.filer.swapper.under) r c.may_map.ensures.makes
+returns-in-Err-clause-passes g c = λ volume m r. quiet_passes c.args.core.now c.may_map.new.core volume m _ (g.met.D.Disk.in_form c.args.core.now.filer.swapper.disk) r c.may_map.ensures.makes
 
 pub returns-in-Ok-Err-clause-passes : goal.returns-in-Ok-Err-clause-passes
-returns-in-Ok-Err-clause-passes g c = λ volume m r. quiet_passes c.args.core.now c.may_map.new.core volume m _ (g.met.D.Disk.in_form c.args.core.now.filer.swapper.under) r c.may_map.ensures.makes
+returns-in-Ok-Err-clause-passes g c = λ volume m r. quiet_passes c.args.core.now c.may_map.new.core volume m _ (g.met.D.Disk.in_form c.args.core.now.filer.swapper.disk) r c.may_map.ensures.makes
 
 pub returns-clause-passes : goal.returns-clause-passes
 returns-clause-passes g c = λ volume m r.
-    quiet_passes c.args.core.now c.give_window.new.core volume m _ (g.met.D.Disk.in_form c.args.core.now.filer.swapper.under) r (makes_then c.may_map.ensures.makes c.give_window.ensures.makes)
+    quiet_passes c.args.core.now c.give_window.new.core volume m _ (g.met.D.Disk.in_form c.args.core.now.filer.swapper.disk) r (makes_then c.may_map.ensures.makes c.give_window.ensures.makes)
 
 pub returns-clause-wrote : goal.returns-clause-wrote
 returns-clause-wrote g c = nothing_labelled (makes_then c.may_map.ensures.makes c.give_window.ensures.makes)
 
 pub returns-clause-sound : goal.returns-clause-sound
 returns-clause-sound g c = λ volume m r.
-    let told = map_passed m c.args.space c.args.id c.args.page c.args.writable c.in-Ok-Ok.field-0 c.in-Ok-Ok.field-0-0 c.in-Ok-Ok.field-0-is (c.in-Ok-Ok.ensures.answer volume m r) in
-    let may = may_be_given m c.args.space c.args.id c.args.page c.args.writable r.session.stands.is.by.machine told.0 told.1 in
+    let revealed = map_passed m c.args.space c.args.id c.args.page c.args.writable c.in-Ok-Ok.field-0 c.in-Ok-Ok.field-0-0 c.in-Ok-Ok.field-0-is (c.in-Ok-Ok.ensures.answer volume m r) in
+    let may = may_be_given m c.args.space c.args.id c.args.page c.args.writable r.session.stands.is.by.machine revealed.0 revealed.1 in
     c.give_window.ensures.sound volume m may.x (c.may_map.ensures.runs volume m r) may.may may.named_so may.bare may.fits
 
 -- ---- Why it failed.
@@ -70,9 +70,9 @@ pub returns-in-Err-clause-moves : goal.returns-in-Err-clause-moves
 returns-in-Err-clause-moves g c = moves_of_reaches (state c.args.core.now) (state c.may_map.new.core) c.may_map.ensures.reaches
 
 pub returns-clause-moves : goal.returns-clause-moves
-returns-clause-moves g c = moves_behind (state c.args.core.now) (state c.may_map.new.core) (state c.give_window.new.core) c.args.core.now.filer.swapper.accepted c.may_map.ensures.reaches c.give_window.ensures.moves
+returns-clause-moves g c = moves_after (state c.args.core.now) (state c.may_map.new.core) (state c.give_window.new.core) c.args.core.now.filer.swapper.accepted c.may_map.ensures.reaches c.give_window.ensures.moves
 
--- ---- The tables are told.
+-- ---- The tables are revealed.
 
 pub returns-in-Ok-Err-clause-sees : goal.returns-in-Ok-Err-clause-sees
 returns-in-Ok-Err-clause-sees g c = λ ss s. (ss, (c.may_map.ensures.still ss s, shown_or (λ file last. (reply.Refused c.in-Ok-Err.word ≡ reply.Done) × (file ≡ c.args.id) × IsLastFrom ss c.args.space c.args.page last) ss))

@@ -6,10 +6,10 @@ use Rattle.swapper_kernel.specs.GoesLaws.{makes_then}
 use Rattle.space_calls.specs.Naming.{IsNameable}
 use Rattle.space_calls.proofs.MapLemmas.{both_not, file_immutable, no_such_file, path_taken, root_given, space_missing, window_allowed, window_long}
 use Rattle.space_calls.proofs.RunLemmas.{asked_makes, asked_runs, knows, size_kept}
-use Rattle.space_calls.proofs.TableAnswers.{bounds_refused, bounds_told, map_refused, map_told}
+use Rattle.space_calls.proofs.TableAnswers.{bounds_refused, bounds_revealed, map_refused, map_revealed}
 use Rattle.fault_core.specs.Core.{state}
 use Rattle.filer_kernel.specs.EvidenceLaws.{fits}
-use Rattle.fault_core.proofs.EvidenceLemmas.{shows_so}
+use Rattle.fault_core.proofs.EvidenceLemmas.{shows_evidence}
 use Rattle.fault_core.proofs.ReachLemmas.{reaches_then}
 use Rattle.space_calls.proofs.HaltLemmas.{given_map, named_map, path_change}
 use Rattle.std.specs.Prelude.{IfSome}
@@ -52,7 +52,7 @@ returns-in-Err-clause-sound g c = λ volume m r.
 pub returns-then-space-eq0-clause-answer : goal.returns-then-space-eq0-clause-answer
 returns-then-space-eq0-clause-answer g c = λ volume m r.
     let old = c.args.core.now in
-    let there = (bounds_told m.spaces c.args.space c.in-Ok-Ok.field-0 c.in-Ok-Ok.field-0-0 c.in-Ok-Ok.field-0-is (c.in-Ok-Ok.ensures.answer _ _ m.spaces (knows old old.filer.swapper.accepted c.requires.size volume m r))).0 in
+    let there = (bounds_revealed m.spaces c.args.space c.in-Ok-Ok.field-0 c.in-Ok-Ok.field-0-0 c.in-Ok-Ok.field-0-is (c.in-Ok-Ok.ensures.answer _ _ m.spaces (knows old old.filer.swapper.accepted c.requires.size volume m r))).0 in
     (root_given m c.args.space c.args.id c.args.page c.args.writable there c.if-space-eq0.true, tt)
 
 -- ---- The file.
@@ -61,9 +61,9 @@ pub returns-in-Ok-None-clause-answer : goal.returns-in-Ok-None-clause-answer
 returns-in-Ok-None-clause-answer g c = λ volume m r.
     let old = c.args.core.now in
     let r1 = asked_runs old old.filer.swapper.accepted c.requires.size c.bounds.new.core volume m c.bounds.ensures.asked r in
-    let there = (bounds_told m.spaces c.args.space c.in-Ok-Ok.field-0 c.in-Ok-Ok.field-0-0 c.in-Ok-Ok.field-0-is (c.in-Ok-Ok.ensures.answer _ _ m.spaces (knows old old.filer.swapper.accepted c.requires.size volume m r))).0 in
-    let told = subst (λ (o : Option Attributes). IsNameable (nameable m c.args.id) o) c.in-Ok-None.field-0-is (c.in-Ok-None.ensures.answer volume m r1) in
-    (no_such_file m c.args.space c.args.id c.args.page c.args.writable there c.if-space-eq0.false told, tt)
+    let there = (bounds_revealed m.spaces c.args.space c.in-Ok-Ok.field-0 c.in-Ok-Ok.field-0-0 c.in-Ok-Ok.field-0-is (c.in-Ok-Ok.ensures.answer _ _ m.spaces (knows old old.filer.swapper.accepted c.requires.size volume m r))).0 in
+    let revealed = subst (λ (o : Option Attributes). IsNameable (nameable m c.args.id) o) c.in-Ok-None.field-0-is (c.in-Ok-None.ensures.answer volume m r1) in
+    (no_such_file m c.args.space c.args.id c.args.page c.args.writable there c.if-space-eq0.false revealed, tt)
 
 pub returns-in-Ok-None-clause-runs : goal.returns-in-Ok-None-clause-runs
 returns-in-Ok-None-clause-runs g c = λ volume m r.
@@ -101,10 +101,10 @@ returns-in-Ok-Err-can_map-clause-answer g c = λ volume m r.
     let size1 = size_kept old c.bounds.new.core (asked_makes old c.bounds.new.core c.bounds.ensures.asked) c.bounds.ensures.asked.reaches.layout c.requires.size in
     let size2 = size_kept c.bounds.new.core c.named_file.new.core c.named_file.ensures.makes c.named_file.ensures.layout size1 in
     let named = c.named_file.new.core in
-    let there = (bounds_told m.spaces c.args.space c.in-Ok-Ok.field-0 c.in-Ok-Ok.field-0-0 c.in-Ok-Ok.field-0-is (c.in-Ok-Ok.ensures.answer _ _ m.spaces (knows old old.filer.swapper.accepted c.requires.size volume m r))).0 in
-    let told = subst (λ (o : Option Attributes). IsNameable (nameable m c.args.id) o) c.in-Ok-Some.field-0-is (c.in-Ok-Some.ensures.answer volume m r1) in
+    let there = (bounds_revealed m.spaces c.args.space c.in-Ok-Ok.field-0 c.in-Ok-Ok.field-0-0 c.in-Ok-Ok.field-0-is (c.in-Ok-Ok.ensures.answer _ _ m.spaces (knows old old.filer.swapper.accepted c.requires.size volume m r))).0 in
+    let revealed = subst (λ (o : Option Attributes). IsNameable (nameable m c.args.id) o) c.in-Ok-Some.field-0-is (c.in-Ok-Some.ensures.answer volume m r1) in
     let taken = map_refused m.spaces c.args.space c.in-Ok-Err-can_map.field-0 c.in-Ok-Err-can_map.word c.in-Ok-Err-can_map.field-0-is (c.in-Ok-Err-can_map.ensures.answer _ _ m.spaces (knows named named.filer.swapper.accepted size2 volume m r2)) in
-    (path_taken m c.args.space c.args.id c.args.page c.args.writable there c.if-space-eq0.false c.in-Ok-Some.found told c.in-Ok-Err-can_map.word taken, tt)
+    (path_taken m c.args.space c.args.id c.args.page c.args.writable there c.if-space-eq0.false c.in-Ok-Some.found revealed c.in-Ok-Err-can_map.word taken, tt)
 
 pub returns-in-Err-can_map-clause-sound : goal.returns-in-Err-can_map-clause-sound
 returns-in-Err-can_map-clause-sound g c = λ volume m r.
@@ -191,9 +191,9 @@ returns-then-from-clause-answer g c = λ volume m r.
     let size1 = size_kept old c.bounds.new.core (asked_makes old c.bounds.new.core c.bounds.ensures.asked) c.bounds.ensures.asked.reaches.layout c.requires.size in
     let size2 = size_kept c.bounds.new.core c.named_file.new.core c.named_file.ensures.makes c.named_file.ensures.layout size1 in
     let named = c.named_file.new.core in
-    let there = (bounds_told m.spaces c.args.space c.in-Ok-Ok.field-0 c.in-Ok-Ok.field-0-0 c.in-Ok-Ok.field-0-is (c.in-Ok-Ok.ensures.answer _ _ m.spaces (knows old old.filer.swapper.accepted c.requires.size volume m r))).0 in
-    let told = subst (λ (o : Option Attributes). IsNameable (nameable m c.args.id) o) c.in-Ok-Some.field-0-is (c.in-Ok-Some.ensures.answer volume m r1) in
-    let free = map_told m.spaces c.args.space c.in-Ok-Ok-can_map.field-0 c.in-Ok-Ok-can_map.run' c.in-Ok-Ok-can_map.field-0-is (c.in-Ok-Ok-can_map.ensures.answer _ _ m.spaces (knows named named.filer.swapper.accepted size2 volume m r2)) in
+    let there = (bounds_revealed m.spaces c.args.space c.in-Ok-Ok.field-0 c.in-Ok-Ok.field-0-0 c.in-Ok-Ok.field-0-is (c.in-Ok-Ok.ensures.answer _ _ m.spaces (knows old old.filer.swapper.accepted c.requires.size volume m r))).0 in
+    let revealed = subst (λ (o : Option Attributes). IsNameable (nameable m c.args.id) o) c.in-Ok-Some.field-0-is (c.in-Ok-Some.ensures.answer volume m r1) in
+    let free = map_revealed m.spaces c.args.space c.in-Ok-Ok-can_map.field-0 c.in-Ok-Ok-can_map.run' c.in-Ok-Ok-can_map.field-0-is (c.in-Ok-Ok-can_map.ensures.answer _ _ m.spaces (knows named named.filer.swapper.accepted size2 volume m r2)) in
     let s : Space = free.1.0 in
     let long : c.in-Ok-Ok-can_map.run'.1 ≡ s.pages = ap (λ (run : ℕ × ℕ). run.1) free.1.2 in
     let first = c.from.ensures in
@@ -202,7 +202,7 @@ returns-then-from-clause-answer g c = λ volume m r.
     let count = c.page_count.ensures.same in
     let small = c.page_count.type_inv in
     let past = c.if-from.true in
-    (window_long m c.args.space c.args.id c.args.page c.args.writable there c.if-space-eq0.false c.in-Ok-Some.found told free.0 s free.1.1 (omega (arith, past, first, more, whole, count, long)), tt)
+    (window_long m c.args.space c.args.id c.args.page c.args.writable there c.if-space-eq0.false c.in-Ok-Some.found revealed free.0 s free.1.1 (omega (arith, past, first, more, whole, count, long)), tt)
 
 pub returns-then-found-clause-answer : goal.returns-then-found-clause-answer
 returns-then-found-clause-answer g c = λ volume m r.
@@ -212,9 +212,9 @@ returns-then-found-clause-answer g c = λ volume m r.
     let size1 = size_kept old c.bounds.new.core (asked_makes old c.bounds.new.core c.bounds.ensures.asked) c.bounds.ensures.asked.reaches.layout c.requires.size in
     let size2 = size_kept c.bounds.new.core c.named_file.new.core c.named_file.ensures.makes c.named_file.ensures.layout size1 in
     let named = c.named_file.new.core in
-    let there = (bounds_told m.spaces c.args.space c.in-Ok-Ok.field-0 c.in-Ok-Ok.field-0-0 c.in-Ok-Ok.field-0-is (c.in-Ok-Ok.ensures.answer _ _ m.spaces (knows old old.filer.swapper.accepted c.requires.size volume m r))).0 in
-    let told = subst (λ (o : Option Attributes). IsNameable (nameable m c.args.id) o) c.in-Ok-Some.field-0-is (c.in-Ok-Some.ensures.answer volume m r1) in
-    let free = map_told m.spaces c.args.space c.in-Ok-Ok-can_map.field-0 c.in-Ok-Ok-can_map.run' c.in-Ok-Ok-can_map.field-0-is (c.in-Ok-Ok-can_map.ensures.answer _ _ m.spaces (knows named named.filer.swapper.accepted size2 volume m r2)) in
+    let there = (bounds_revealed m.spaces c.args.space c.in-Ok-Ok.field-0 c.in-Ok-Ok.field-0-0 c.in-Ok-Ok.field-0-is (c.in-Ok-Ok.ensures.answer _ _ m.spaces (knows old old.filer.swapper.accepted c.requires.size volume m r))).0 in
+    let revealed = subst (λ (o : Option Attributes). IsNameable (nameable m c.args.id) o) c.in-Ok-Some.field-0-is (c.in-Ok-Some.ensures.answer volume m r1) in
+    let free = map_revealed m.spaces c.args.space c.in-Ok-Ok-can_map.field-0 c.in-Ok-Ok-can_map.run' c.in-Ok-Ok-can_map.field-0-is (c.in-Ok-Ok-can_map.ensures.answer _ _ m.spaces (knows named named.filer.swapper.accepted size2 volume m r2)) in
     let s : Space = free.1.0 in
     let long : c.in-Ok-Ok-can_map.run'.1 ≡ s.pages = ap (λ (run : ℕ × ℕ). run.1) free.1.2 in
     let first = c.from.ensures in
@@ -223,7 +223,7 @@ returns-then-found-clause-answer g c = λ volume m r.
     let count = c.page_count.ensures.same in
     let small = c.page_count.type_inv in
     let inside = c.if-from.false in
-    (file_immutable m c.args.space c.args.id c.args.page c.args.writable there c.if-space-eq0.false c.in-Ok-Some.found told free.0 s free.1.1 (omega (arith, inside, first, more, whole, count, long)) c.if-writable.true c.if-found.true, tt)
+    (file_immutable m c.args.space c.args.id c.args.page c.args.writable there c.if-space-eq0.false c.in-Ok-Some.found revealed free.0 s free.1.1 (omega (arith, inside, first, more, whole, count, long)) c.if-writable.true c.if-found.true, tt)
 
 pub returns-clause-answer : goal.returns-clause-answer
 returns-clause-answer g c = λ volume m r.
@@ -233,9 +233,9 @@ returns-clause-answer g c = λ volume m r.
     let size1 = size_kept old c.bounds.new.core (asked_makes old c.bounds.new.core c.bounds.ensures.asked) c.bounds.ensures.asked.reaches.layout c.requires.size in
     let size2 = size_kept c.bounds.new.core c.named_file.new.core c.named_file.ensures.makes c.named_file.ensures.layout size1 in
     let named = c.named_file.new.core in
-    let there = (bounds_told m.spaces c.args.space c.in-Ok-Ok.field-0 c.in-Ok-Ok.field-0-0 c.in-Ok-Ok.field-0-is (c.in-Ok-Ok.ensures.answer _ _ m.spaces (knows old old.filer.swapper.accepted c.requires.size volume m r))).0 in
-    let told = subst (λ (o : Option Attributes). IsNameable (nameable m c.args.id) o) c.in-Ok-Some.field-0-is (c.in-Ok-Some.ensures.answer volume m r1) in
-    let free = map_told m.spaces c.args.space c.in-Ok-Ok-can_map.field-0 c.in-Ok-Ok-can_map.run' c.in-Ok-Ok-can_map.field-0-is (c.in-Ok-Ok-can_map.ensures.answer _ _ m.spaces (knows named named.filer.swapper.accepted size2 volume m r2)) in
+    let there = (bounds_revealed m.spaces c.args.space c.in-Ok-Ok.field-0 c.in-Ok-Ok.field-0-0 c.in-Ok-Ok.field-0-is (c.in-Ok-Ok.ensures.answer _ _ m.spaces (knows old old.filer.swapper.accepted c.requires.size volume m r))).0 in
+    let revealed = subst (λ (o : Option Attributes). IsNameable (nameable m c.args.id) o) c.in-Ok-Some.field-0-is (c.in-Ok-Some.ensures.answer volume m r1) in
+    let free = map_revealed m.spaces c.args.space c.in-Ok-Ok-can_map.field-0 c.in-Ok-Ok-can_map.run' c.in-Ok-Ok-can_map.field-0-is (c.in-Ok-Ok-can_map.ensures.answer _ _ m.spaces (knows named named.filer.swapper.accepted size2 volume m r2)) in
     let s : Space = free.1.0 in
     let long : c.in-Ok-Ok-can_map.run'.1 ≡ s.pages = ap (λ (run : ℕ × ℕ). run.1) free.1.2 in
     let first = c.from.ensures in
@@ -246,15 +246,15 @@ returns-clause-answer g c = λ volume m r.
     let inside = c.if-from.false in
     let fits : c.args.page + s.pages ≤ c.in-Ok-Some.found.pages = omega (arith, inside, first, more, whole, count, long) in
     let mutable : c.args.writable && c.in-Ok-Some.found.immutable ≡ false = elim c.else-writable.branch [ else-writable-via-then-writable+else-found w ↦ both_not c.args.writable c.in-Ok-Some.found.immutable (inr w.if-found.false) | else-writable-via-else-writable w ↦ both_not c.args.writable c.in-Ok-Some.found.immutable (inl w.if-writable.false) ] in
-    (window_allowed m c.args.space c.args.id c.args.page c.args.writable there c.if-space-eq0.false c.in-Ok-Some.found told free.0 s free.1.1 fits mutable, (s, free.1.1, omega (arith, fits, count, small)))
+    (window_allowed m c.args.space c.args.id c.args.page c.args.writable there c.if-space-eq0.false c.in-Ok-Some.found revealed free.0 s free.1.1 fits mutable, (s, free.1.1, omega (arith, fits, count, small)))
 
 -- ---- What its evidence says is so.
 
-pub returns-in-Err-clause-so : goal.returns-in-Err-clause-so
-returns-in-Err-clause-so g c = shows_so _ (state c.args.core.now) (state c.bounds.new.core) (fits c.args.core.now.filer.swapper c.requires.size) c.bounds.ensures.asked.reaches.goes.makes c.in-Err.halt c.in-Err.ensures.cause
+pub returns-in-Err-clause-evidence_seen : goal.returns-in-Err-clause-evidence_seen
+returns-in-Err-clause-evidence_seen g c = shows_evidence _ (state c.args.core.now) (state c.bounds.new.core) (fits c.args.core.now.filer.swapper c.requires.size) c.bounds.ensures.asked.reaches.goes.makes c.in-Err.halt c.in-Err.ensures.cause
 
-pub returns-in-Err-can_map-clause-so : goal.returns-in-Err-can_map-clause-so
-returns-in-Err-can_map-clause-so g c = shows_so _ (state c.named_file.new.core) (state c.can_map.new.core) (fits c.named_file.new.core.filer.swapper (search rules)) c.can_map.ensures.asked.reaches.goes.makes c.in-Err-can_map.halt c.in-Err-can_map.ensures.cause
+pub returns-in-Err-can_map-clause-evidence_seen : goal.returns-in-Err-can_map-clause-evidence_seen
+returns-in-Err-can_map-clause-evidence_seen g c = shows_evidence _ (state c.named_file.new.core) (state c.can_map.new.core) (fits c.named_file.new.core.filer.swapper (search rules)) c.can_map.ensures.asked.reaches.goes.makes c.in-Err-can_map.halt c.in-Err-can_map.ensures.cause
 
 -- ---- Why it failed.
 
@@ -334,7 +334,7 @@ returns-clause-reaches g c =
     let found = reaches_then v (state c.bounds.new.core) is c.bounds.ensures.asked.reaches x c.named_file.ensures.reaches in
     reaches_then v x is found (state c.can_map.new.core) c.can_map.ensures.asked.reaches
 
--- ---- The tables are told.
+-- ---- The tables are revealed.
 
 pub returns-in-Ok-Err-clause-still : goal.returns-in-Ok-Err-clause-still
 returns-in-Ok-Err-clause-still g c = λ ss s. c.bounds.ensures.sees ss s
@@ -377,7 +377,7 @@ returns-in-Err-can_map-clause-right g c = λ s. c.in-Err-can_map.ensures.right s
 
 pub returns-clause-seen : goal.returns-clause-seen
 returns-clause-seen g c = λ ss s.
-    let free = map_told ss c.args.space c.in-Ok-Ok-can_map.field-0 c.in-Ok-Ok-can_map.run' c.in-Ok-Ok-can_map.field-0-is (c.in-Ok-Ok-can_map.ensures.seen ss (c.named_file.ensures.still ss (c.bounds.ensures.sees ss s))) in
+    let free = map_revealed ss c.args.space c.in-Ok-Ok-can_map.field-0 c.in-Ok-Ok-can_map.run' c.in-Ok-Ok-can_map.field-0-is (c.in-Ok-Ok-can_map.ensures.seen ss (c.named_file.ensures.still ss (c.bounds.ensures.sees ss s))) in
     let x : Space = free.1.0 in
     let long : c.in-Ok-Ok-can_map.run'.1 ≡ x.pages = ap (λ (run : ℕ × ℕ). run.1) free.1.2 in
     let first = c.from.ensures in
@@ -400,7 +400,7 @@ pub returns-clause-found : goal.returns-clause-found
 returns-clause-found g c = λ ss m named s stands map are.
     let old = c.args.core.now in
     let u = c.bounds.new.core in
-    let free = map_told ss c.args.space c.in-Ok-Ok-can_map.field-0 c.in-Ok-Ok-can_map.run' c.in-Ok-Ok-can_map.field-0-is (c.in-Ok-Ok-can_map.ensures.seen ss (c.named_file.ensures.still ss (c.bounds.ensures.sees ss s))) in
+    let free = map_revealed ss c.args.space c.in-Ok-Ok-can_map.field-0 c.in-Ok-Ok-can_map.run' c.in-Ok-Ok-can_map.field-0-is (c.in-Ok-Ok-can_map.ensures.seen ss (c.named_file.ensures.still ss (c.bounds.ensures.sees ss s))) in
     let x : Space = free.1.0 in
     let long : c.in-Ok-Ok-can_map.run'.1 ≡ x.pages = ap (λ (run : ℕ × ℕ). run.1) free.1.2 in
     let first = c.from.ensures in

@@ -2,15 +2,15 @@ use Rattle.std.specs.Prelude.{IfOk, IfSome}
 use Rattle.std.proofs.Common.{inl, inr, refl}
 use Rattle.session_words.specs.Parts.{shapes_of}
 use Rattle.swapper_kernel.specs.GoesLaws.{makes_then}
-use Rattle.space_calls.proofs.NameLemmas.{seen_not, seen_told}
-use Rattle.space_calls.proofs.RunLemmas.{books_of, if_failed, if_told, looked_runs}
+use Rattle.space_calls.proofs.NameLemmas.{seen_not, seen_revealed}
+use Rattle.space_calls.proofs.RunLemmas.{books_of, if_failed, if_revealed, looked_runs}
 use Rattle.fault_core.specs.Core.{state}
 use Rattle.space_calls.specs.Halts.{LookHalts, NamedHalts}
 use Rattle.filer_kernel.proofs.Outcomes.{err_wider}
 use Rattle.fault_core.proofs.ReachLemmas.{reaches_then}
 use Rattle.space_calls.proofs.HaltLemmas.{look_reaches}
-use Rattle.fault_core.specs.Spares.{SparesTables}
-use Rattle.space_calls.proofs.SeesLemmas.{client_so, look_spares, reached_sees}
+use Rattle.fault_core.specs.NeverBlames.{NeverBlamesTables}
+use Rattle.space_calls.proofs.SeesLemmas.{client_so, look_never_blames, reached_sees}
 use Rattle.file_map.specs.FileMap.{IsSize}
 use Rattle.space_calls.proofs.SizeLemmas.{found_later}
 use Rattle.space_calls.proofs.naming.named_file.Goals as goal
@@ -21,8 +21,8 @@ returns-in-Ok-false-clause-answer g c = λ volume m r. seen_not m c.args.id c.in
 pub returns-clause-answer : goal.returns-clause-answer
 returns-clause-answer g c = λ volume m r.
     let s = c.may_be_named.ensures.runs volume m r in
-    if_told c.attributes_of.result _ _ _ (c.attributes_of.ensures.told _ (shapes_of m.files) m.spaces (books_of s))
-    (λ told same. seen_told m c.args.id c.in-Ok-true.field-0 told c.in-Ok-true.field-0-test (c.in-Ok-true.ensures.answer volume m r) same)
+    if_revealed c.attributes_of.result _ _ _ (c.attributes_of.ensures.revealed _ (shapes_of m.files) m.spaces (books_of s))
+    (λ revealed same. seen_revealed m c.args.id c.in-Ok-true.field-0 revealed c.in-Ok-true.field-0-test (c.in-Ok-true.ensures.answer volume m r) same)
 
 pub returns-clause-runs : goal.returns-clause-runs
 returns-clause-runs g c = λ volume m r.
@@ -30,7 +30,7 @@ returns-clause-runs g c = λ volume m r.
     looked_runs s c.attributes_of.ensures.makes c.attributes_of.ensures.brings (c.attributes_of.ensures.same _ (shapes_of m.files) m.spaces (books_of s)) c.attributes_of.ensures.layout
 
 pub returns-clause-sound : goal.returns-clause-sound
-returns-clause-sound g c = λ volume m r. if_failed c.attributes_of.result _ _ (c.attributes_of.ensures.told _ (shapes_of m.files) m.spaces (books_of (c.may_be_named.ensures.runs volume m r)))
+returns-clause-sound g c = λ volume m r. if_failed c.attributes_of.result _ _ (c.attributes_of.ensures.revealed _ (shapes_of m.files) m.spaces (books_of (c.may_be_named.ensures.runs volume m r)))
 
 pub returns-clause-makes : goal.returns-clause-makes
 returns-clause-makes g c = makes_then c.may_be_named.ensures.makes c.attributes_of.ensures.makes
@@ -54,7 +54,7 @@ returns-clause-reaches g c =
     let w = state (record u { filer = c.attributes_of.new.filer }) in
     reaches_then (state old) (state u) old.filer.swapper.accepted c.may_be_named.ensures.reaches w (look_reaches (state u) w c.attributes_of.ensures.looks c.attributes_of.ensures.layout)
 
--- ---- The tables are told.
+-- ---- The tables are revealed.
 
 pub returns-clause-still : goal.returns-clause-still
 returns-clause-still g c = λ ss s.
@@ -69,7 +69,7 @@ pub returns-clause-right : goal.returns-clause-right
 returns-clause-right g c = λ s.
     let u = c.may_be_named.new.core in
     let w = state (record u { filer = c.attributes_of.new.filer }) in
-    err_wider c.attributes_of.result (LookHalts c.args.id (state u) w) SparesTables (look_spares (state u) w c.args.id) c.attributes_of.ensures.cause
+    err_wider c.attributes_of.result (LookHalts c.args.id (state u) w) NeverBlamesTables (look_never_blames (state u) w c.args.id) c.attributes_of.ensures.cause
 
 -- ---- Its size is the file map's.
 

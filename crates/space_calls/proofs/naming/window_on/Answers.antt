@@ -16,17 +16,17 @@ returns-in-Ok-true-clause-answer g c = λ volume m r. none_windowed _ m.spaces (
 
 pub returns-clause-answer : goal.returns-clause-answer
 returns-clause-answer g c =
-    let size : (g.D.Disk.state c.shows_nothing.new.core.filer.swapper.under).sectors ≡ c.shows_nothing.new.core.filer.swapper.layout.sectors = search rules in
+    let size : (g.D.Disk.state c.shows_nothing.new.core.filer.swapper.disk).sectors ≡ c.shows_nothing.new.core.filer.swapper.layout.sectors = search rules in
     λ volume m r. c.shows_file.ensures.answer _ _ m.spaces (knows c.shows_nothing.new.core c.shows_nothing.new.core.filer.swapper.accepted size volume m (c.shows_nothing.ensures.runs volume m r))
 
 pub returns-clause-runs : goal.returns-clause-runs
 returns-clause-runs g c =
-    let size : (g.D.Disk.state c.shows_nothing.new.core.filer.swapper.under).sectors ≡ c.shows_nothing.new.core.filer.swapper.layout.sectors = search rules in
+    let size : (g.D.Disk.state c.shows_nothing.new.core.filer.swapper.disk).sectors ≡ c.shows_nothing.new.core.filer.swapper.layout.sectors = search rules in
     λ volume m r. asked_runs c.shows_nothing.new.core c.shows_nothing.new.core.filer.swapper.accepted size c.shows_file.new.core volume m c.shows_file.ensures.asked (c.shows_nothing.ensures.runs volume m r)
 
 pub returns-clause-sound : goal.returns-clause-sound
 returns-clause-sound g c =
-    let size : (g.D.Disk.state c.shows_nothing.new.core.filer.swapper.under).sectors ≡ c.shows_nothing.new.core.filer.swapper.layout.sectors = search rules in
+    let size : (g.D.Disk.state c.shows_nothing.new.core.filer.swapper.disk).sectors ≡ c.shows_nothing.new.core.filer.swapper.layout.sectors = search rules in
     λ volume m r. c.shows_file.ensures.sound _ _ m.spaces (knows c.shows_nothing.new.core c.shows_nothing.new.core.filer.swapper.accepted size volume m (c.shows_nothing.ensures.runs volume m r))
 
 pub returns-clause-makes : goal.returns-clause-makes
@@ -34,8 +34,8 @@ returns-clause-makes g c = makes_then c.shows_nothing.ensures.makes (asked_makes
 
 -- ---- What its evidence says is so.
 
-pub returns-clause-so : goal.returns-clause-so
-returns-clause-so g c = if_so c.shows_file.result _ (state c.shows_nothing.new.core) (state c.shows_file.new.core) (fits c.shows_nothing.new.core.filer.swapper (search rules)) c.shows_file.ensures.asked.reaches.goes.makes c.shows_file.ensures.cause
+pub returns-clause-evidence_seen : goal.returns-clause-evidence_seen
+returns-clause-evidence_seen g c = if_so c.shows_file.result _ (state c.shows_nothing.new.core) (state c.shows_file.new.core) (fits c.shows_nothing.new.core.filer.swapper (search rules)) c.shows_file.ensures.asked.reaches.goes.makes c.shows_file.ensures.cause
 
 -- ---- Why it failed.
 
@@ -56,7 +56,7 @@ returns-clause-cause g c =
 pub returns-clause-reaches : goal.returns-clause-reaches
 returns-clause-reaches g c = reaches_then (state c.args.core.now) (state c.shows_nothing.new.core) c.args.core.now.filer.swapper.accepted c.shows_nothing.ensures.reaches (state c.shows_file.new.core) c.shows_file.ensures.asked.reaches
 
--- ---- The tables are told.
+-- ---- The tables are revealed.
 
 pub returns-clause-still : goal.returns-clause-still
 returns-clause-still g c = λ ss s. c.shows_file.ensures.sees ss (c.shows_nothing.ensures.still ss s)

@@ -8,14 +8,14 @@ use Rattle.running_words.specs.Running.{Runs}
 use Rattle.running_words.proofs.RunningLemmas.{running_laws}
 use Rattle.space_calls.proofs.CarryLemmas.{allowed_done, allowed_refused, next_refused}
 use Rattle.space_calls.proofs.RunLemmas.{reached_makes}
-use Rattle.space_calls.proofs.CameLemmas.{came_own, came_then, knows, still_runs, still_tells, whole_of, wrote_so}
+use Rattle.space_calls.proofs.CameLemmas.{came_own, came_then, knows, still_runs, still_reveals, whole_of, wrote_so}
 use Rattle.space_tables.specs.Shows.{IsRunAt}
 use Rattle.table_calls.specs.Answers.{TablesSay}
 use Rattle.space_calls.proofs.RangeLemmas.{asked_halt, given_so, within_halt, deactivate_stays, found_run, found_word, never_refused, of_space}
 use Rattle.space_calls.proofs.RefusedCalls.{deactivate_refused, deactivate_there}
 use Rattle.fault_core.specs.Range.{AreGone}
 use Rattle.filer_kernel.specs.EvidenceLaws.{fits}
-use Rattle.fault_core.proofs.EvidenceLemmas.{shows_so}
+use Rattle.fault_core.proofs.EvidenceLemmas.{shows_evidence}
 use Rattle.running_words.specs.MovingLaws.{moves_of_reaches}
 use Rattle.space_calls.proofs.MovesLemmas.{moves_twice}
 use Rattle.space_calls.specs.FilesLaws.{shown_here}
@@ -28,9 +28,9 @@ returns-in-Ok-Err-clause-carried g c = λ volume m r.
     let whole = whole_of c.args.core.now c.requires.size in
     let x = r.session.stands.memory in
     let named = r.session.stands.is.named in
-    let told = knows running_laws whole r in
+    let revealed = knows running_laws whole r in
     let asked = c.range_of.ensures.asked in
-    let is = deactivate_refused m c.args.space c.in-Ok-Err.word (found_word m.spaces c.args.space c.in-Ok-Err.word c.in-Ok-Err.field-0 c.in-Ok-Err.field-0-is (c.in-Ok-Err.ensures.answer x named m.spaces told)) in
+    let is = deactivate_refused m c.args.space c.in-Ok-Err.word (found_word m.spaces c.args.space c.in-Ok-Err.word c.in-Ok-Err.field-0 c.in-Ok-Err.field-0-is (c.in-Ok-Err.ensures.answer x named m.spaces revealed)) in
     record {
       allowed = allowed_refused m (call.Deactivate c.args.space) c.in-Ok-Err.word is;
       runs = subst (λ (n : Machine). Runs c.range_of.new.core volume n) (sym (next_refused m (call.Deactivate c.args.space) c.in-Ok-Err.word is)) (still_runs running_laws whole r (came_own asked.reaches asked.came asked.same asked.intervals));
@@ -41,12 +41,12 @@ returns-in-Ok-Err-clause-gone g c = λ volume m s r there.
     let whole = whole_of c.args.core.now c.requires.size in
     let x = r.session.stands.memory in
     let named = r.session.stands.is.named in
-    let told = knows running_laws whole r in
-    absurd (never_refused m.spaces c.args.space s c.in-Ok-Err.word there (found_word m.spaces c.args.space c.in-Ok-Err.word c.in-Ok-Err.field-0 c.in-Ok-Err.field-0-is (c.in-Ok-Err.ensures.answer x named m.spaces told)))
+    let revealed = knows running_laws whole r in
+    absurd (never_refused m.spaces c.args.space s c.in-Ok-Err.word there (found_word m.spaces c.args.space c.in-Ok-Err.word c.in-Ok-Err.field-0 c.in-Ok-Err.field-0-is (c.in-Ok-Err.ensures.answer x named m.spaces revealed)))
 
 pub returns-in-Ok-Err-clause-passes : goal.returns-in-Ok-Err-clause-passes
 returns-in-Ok-Err-clause-passes g c = λ volume m r.
-    still_tells running_laws (whole_of c.args.core.now c.requires.size) r (state c.range_of.new.core) (λ d told. g.met.D.Disk.in_form c.args.core.now.filer.swapper.under d told) (call.Deactivate c.args.space) (reached_makes c.range_of.ensures.asked.reaches)
+    still_reveals running_laws (whole_of c.args.core.now c.requires.size) r (state c.range_of.new.core) (λ d revealed. g.met.D.Disk.in_form c.args.core.now.filer.swapper.disk d revealed) (call.Deactivate c.args.space) (reached_makes c.range_of.ensures.asked.reaches)
 
 pub returns-in-Ok-Err-clause-wrote : goal.returns-in-Ok-Err-clause-wrote
 returns-in-Ok-Err-clause-wrote g c = wrote_so (reached_makes c.range_of.ensures.asked.reaches)
@@ -58,30 +58,30 @@ returns-in-Err-clause-sound g c = λ volume m r.
     let whole = whole_of c.args.core.now c.requires.size in
     let x = r.session.stands.memory in
     let named = r.session.stands.is.named in
-    let told = knows running_laws whole r in
-    c.in-Err.ensures.sound x named m.spaces told
+    let revealed = knows running_laws whole r in
+    c.in-Err.ensures.sound x named m.spaces revealed
 
 pub returns-in-Err-clause-passes : goal.returns-in-Err-clause-passes
 returns-in-Err-clause-passes g c = λ volume m r.
-    still_tells running_laws (whole_of c.args.core.now c.requires.size) r (state c.range_of.new.core) (λ d told. g.met.D.Disk.in_form c.args.core.now.filer.swapper.under d told) (call.Deactivate c.args.space) (reached_makes c.range_of.ensures.asked.reaches)
+    still_reveals running_laws (whole_of c.args.core.now c.requires.size) r (state c.range_of.new.core) (λ d revealed. g.met.D.Disk.in_form c.args.core.now.filer.swapper.disk d revealed) (call.Deactivate c.args.space) (reached_makes c.range_of.ensures.asked.reaches)
 
 pub returns-in-Err-clause-wrote : goal.returns-in-Err-clause-wrote
 returns-in-Err-clause-wrote g c = wrote_so (reached_makes c.range_of.ensures.asked.reaches)
 
-pub returns-in-Err-let_go-clause-sound : goal.returns-in-Err-let_go-clause-sound
-returns-in-Err-let_go-clause-sound g c = λ volume m r.
+pub returns-in-Err-evict-clause-sound : goal.returns-in-Err-evict-clause-sound
+returns-in-Err-evict-clause-sound g c = λ volume m r.
     let whole = whole_of c.args.core.now c.requires.size in
     let x = r.session.stands.memory in
     let named = r.session.stands.is.named in
-    let told = knows running_laws whole r in
-    c.in-Err-let_go.ensures.sound x named m.spaces (c.range_of.ensures.asked.same x named m.spaces told)
+    let revealed = knows running_laws whole r in
+    c.in-Err-evict.ensures.sound x named m.spaces (c.range_of.ensures.asked.same x named m.spaces revealed)
 
-pub returns-in-Err-let_go-clause-passes : goal.returns-in-Err-let_go-clause-passes
-returns-in-Err-let_go-clause-passes g c = λ volume m r.
-    still_tells running_laws (whole_of c.args.core.now c.requires.size) r (state c.let_go.new.self) (λ d told. g.met.D.Disk.in_form c.args.core.now.filer.swapper.under d told) (call.Deactivate c.args.space) (makes_then (reached_makes c.range_of.ensures.asked.reaches) (reached_makes c.let_go.ensures.reaches))
+pub returns-in-Err-evict-clause-passes : goal.returns-in-Err-evict-clause-passes
+returns-in-Err-evict-clause-passes g c = λ volume m r.
+    still_reveals running_laws (whole_of c.args.core.now c.requires.size) r (state c.evict.new.self) (λ d revealed. g.met.D.Disk.in_form c.args.core.now.filer.swapper.disk d revealed) (call.Deactivate c.args.space) (makes_then (reached_makes c.range_of.ensures.asked.reaches) (reached_makes c.evict.ensures.reaches))
 
-pub returns-in-Err-let_go-clause-wrote : goal.returns-in-Err-let_go-clause-wrote
-returns-in-Err-let_go-clause-wrote g c = wrote_so (makes_then (reached_makes c.range_of.ensures.asked.reaches) (reached_makes c.let_go.ensures.reaches))
+pub returns-in-Err-evict-clause-wrote : goal.returns-in-Err-evict-clause-wrote
+returns-in-Err-evict-clause-wrote g c = wrote_so (makes_then (reached_makes c.range_of.ensures.asked.reaches) (reached_makes c.evict.ensures.reaches))
 
 -- ---- It is done.
 
@@ -90,13 +90,13 @@ returns-clause-carried g c = λ volume m r.
     let whole = whole_of c.args.core.now c.requires.size in
     let x = r.session.stands.memory in
     let named = r.session.stands.is.named in
-    let told = knows running_laws whole r in
+    let revealed = knows running_laws whole r in
     let asked = c.range_of.ensures.asked in
-    let found = found_run m.spaces c.args.space c.in-Ok-Ok.found c.in-Ok-Ok.field-0 c.in-Ok-Ok.field-0-is (c.in-Ok-Ok.ensures.answer x named m.spaces told) in
-    let gave = c.let_go.ensures in
+    let found = found_run m.spaces c.args.space c.in-Ok-Ok.found c.in-Ok-Ok.field-0 c.in-Ok-Ok.field-0-is (c.in-Ok-Ok.ensures.answer x named m.spaces revealed) in
+    let gave = c.evict.ensures in
     record {
       allowed = allowed_done m (call.Deactivate c.args.space) reply.Done (deactivate_there m c.args.space found.0) refl;
-      runs = subst (λ (n : Machine). Runs c.let_go.new.self volume n) (deactivate_stays m c.args.space) (still_runs running_laws whole r (came_then (state c.args.core.now) (state c.range_of.new.core) (state c.let_go.new.self) whole.layout
+      runs = subst (λ (n : Machine). Runs c.evict.new.self volume n) (deactivate_stays m c.args.space) (still_runs running_laws whole r (came_then (state c.args.core.now) (state c.range_of.new.core) (state c.evict.new.self) whole.layout
           (came_own asked.reaches asked.came asked.same asked.intervals) (came_own gave.reaches gave.came gave.same gave.intervals)));
     }
 
@@ -105,29 +105,29 @@ returns-clause-gone g c = λ volume m s r there.
     let whole = whole_of c.args.core.now c.requires.size in
     let x = r.session.stands.memory in
     let named = r.session.stands.is.named in
-    let told = knows running_laws whole r in
-    let found = found_run m.spaces c.args.space c.in-Ok-Ok.found c.in-Ok-Ok.field-0 c.in-Ok-Ok.field-0-is (c.in-Ok-Ok.ensures.answer x named m.spaces told) in
-    of_space m.spaces c.args.space s c.in-Ok-Ok.found (AreGone m.spaces c.let_go.new.self.filer.swapper.pool) found.1 there (c.in-Ok.ensures.gone x named m.spaces (c.range_of.ensures.asked.same x named m.spaces told))
+    let revealed = knows running_laws whole r in
+    let found = found_run m.spaces c.args.space c.in-Ok-Ok.found c.in-Ok-Ok.field-0 c.in-Ok-Ok.field-0-is (c.in-Ok-Ok.ensures.answer x named m.spaces revealed) in
+    of_space m.spaces c.args.space s c.in-Ok-Ok.found (AreGone m.spaces c.evict.new.self.filer.swapper.pool) found.1 there (c.in-Ok.ensures.gone x named m.spaces (c.range_of.ensures.asked.same x named m.spaces revealed))
 
 pub returns-clause-passes : goal.returns-clause-passes
 returns-clause-passes g c = λ volume m r.
-    still_tells running_laws (whole_of c.args.core.now c.requires.size) r (state c.let_go.new.self) (λ d told. g.met.D.Disk.in_form c.args.core.now.filer.swapper.under d told) (call.Deactivate c.args.space) (makes_then (reached_makes c.range_of.ensures.asked.reaches) (reached_makes c.let_go.ensures.reaches))
+    still_reveals running_laws (whole_of c.args.core.now c.requires.size) r (state c.evict.new.self) (λ d revealed. g.met.D.Disk.in_form c.args.core.now.filer.swapper.disk d revealed) (call.Deactivate c.args.space) (makes_then (reached_makes c.range_of.ensures.asked.reaches) (reached_makes c.evict.ensures.reaches))
 
 pub returns-clause-wrote : goal.returns-clause-wrote
-returns-clause-wrote g c = wrote_so (makes_then (reached_makes c.range_of.ensures.asked.reaches) (reached_makes c.let_go.ensures.reaches))
+returns-clause-wrote g c = wrote_so (makes_then (reached_makes c.range_of.ensures.asked.reaches) (reached_makes c.evict.ensures.reaches))
 
 -- ---- Why it failed.
 
 pub returns-in-Err-clause-cause : goal.returns-in-Err-clause-cause
 returns-in-Err-clause-cause g c = asked_halt (state c.args.core.now) (state c.range_of.new.core) c.args.core.now.filer.swapper.accepted c.args.space c.args.core.now.intervals c.in-Err.halt c.in-Err.ensures.cause
 
-pub returns-in-Err-let_go-clause-cause : goal.returns-in-Err-let_go-clause-cause
-returns-in-Err-let_go-clause-cause g c =
+pub returns-in-Err-evict-clause-cause : goal.returns-in-Err-evict-clause-cause
+returns-in-Err-evict-clause-cause g c =
     let asked = c.range_of.ensures.asked in
-    within_halt (state c.args.core.now) (state c.range_of.new.core) c.args.core.now.filer.swapper.accepted c.args.space asked.reaches c.args.core.now.intervals c.range_of.new.core.intervals asked.intervals (state c.let_go.new.self) c.in-Ok-Ok.found (given_so (TablesSay (state c.args.core.now) (λ b. IsRunAt b c.args.space)) c.in-Ok-Ok.found c.in-Ok-Ok.field-0 c.in-Ok-Ok.field-0-is c.in-Ok-Ok.ensures.read) c.in-Err-let_go.halt c.in-Err-let_go.ensures.cause
+    within_halt (state c.args.core.now) (state c.range_of.new.core) c.args.core.now.filer.swapper.accepted c.args.space asked.reaches c.args.core.now.intervals c.range_of.new.core.intervals asked.intervals (state c.evict.new.self) c.in-Ok-Ok.found (given_so (TablesSay (state c.args.core.now) (λ b. IsRunAt b c.args.space)) c.in-Ok-Ok.found c.in-Ok-Ok.field-0 c.in-Ok-Ok.field-0-is c.in-Ok-Ok.ensures.read) c.in-Err-evict.halt c.in-Err-evict.ensures.cause
 
-pub returns-in-Err-let_go-clause-so : goal.returns-in-Err-let_go-clause-so
-returns-in-Err-let_go-clause-so g c = shows_so _ (state c.range_of.new.core) (state c.let_go.new.self) (fits c.range_of.new.core.filer.swapper (search rules)) c.let_go.ensures.reaches.goes.makes c.in-Err-let_go.halt c.in-Err-let_go.ensures.cause
+pub returns-in-Err-evict-clause-evidence_seen : goal.returns-in-Err-evict-clause-evidence_seen
+returns-in-Err-evict-clause-evidence_seen g c = shows_evidence _ (state c.range_of.new.core) (state c.evict.new.self) (fits c.range_of.new.core.filer.swapper (search rules)) c.evict.ensures.reaches.goes.makes c.in-Err-evict.halt c.in-Err-evict.ensures.cause
 
 -- ---- No label was written.
 
@@ -137,19 +137,19 @@ returns-in-Ok-Err-clause-moves g c = moves_of_reaches (state c.args.core.now) (s
 pub returns-in-Err-clause-moves : goal.returns-in-Err-clause-moves
 returns-in-Err-clause-moves g c = moves_of_reaches (state c.args.core.now) (state c.range_of.new.core) c.range_of.ensures.asked.reaches
 
-pub returns-in-Err-let_go-clause-moves : goal.returns-in-Err-let_go-clause-moves
-returns-in-Err-let_go-clause-moves g c = moves_twice (state c.args.core.now) (state c.range_of.new.core) (state c.let_go.new.self) c.args.core.now.filer.swapper.accepted c.range_of.ensures.asked.reaches c.let_go.ensures.reaches
+pub returns-in-Err-evict-clause-moves : goal.returns-in-Err-evict-clause-moves
+returns-in-Err-evict-clause-moves g c = moves_twice (state c.args.core.now) (state c.range_of.new.core) (state c.evict.new.self) c.args.core.now.filer.swapper.accepted c.range_of.ensures.asked.reaches c.evict.ensures.reaches
 
 pub returns-clause-moves : goal.returns-clause-moves
-returns-clause-moves g c = moves_twice (state c.args.core.now) (state c.range_of.new.core) (state c.let_go.new.self) c.args.core.now.filer.swapper.accepted c.range_of.ensures.asked.reaches c.let_go.ensures.reaches
+returns-clause-moves g c = moves_twice (state c.args.core.now) (state c.range_of.new.core) (state c.evict.new.self) c.args.core.now.filer.swapper.accepted c.range_of.ensures.asked.reaches c.evict.ensures.reaches
 
--- ---- The tables are told.
+-- ---- The tables are revealed.
 
 pub returns-in-Ok-Err-clause-sees : goal.returns-in-Ok-Err-clause-sees
 returns-in-Ok-Err-clause-sees g c = λ ss s. (ss, (c.range_of.ensures.still ss s, shown_here ss))
 
-pub returns-in-Err-let_go-clause-right : goal.returns-in-Err-let_go-clause-right
-returns-in-Err-let_go-clause-right g c = λ s. c.in-Err-let_go.ensures.right s.0 (c.range_of.ensures.still s.0 s.1)
+pub returns-in-Err-evict-clause-right : goal.returns-in-Err-evict-clause-right
+returns-in-Err-evict-clause-right g c = λ s. c.in-Err-evict.ensures.right s.0 (c.range_of.ensures.still s.0 s.1)
 
 pub returns-clause-sees : goal.returns-clause-sees
-returns-clause-sees g c = λ ss s. (ss, (c.let_go.ensures.sees ss (c.range_of.ensures.still ss s), shown_here ss))
+returns-clause-sees g c = λ ss s. (ss, (c.evict.ensures.sees ss (c.range_of.ensures.still ss s), shown_here ss))

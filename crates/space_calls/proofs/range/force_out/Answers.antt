@@ -10,16 +10,16 @@ use Rattle.running_words.proofs.RunningLemmas.{running_laws}
 use Rattle.space_calls.specs.Ranges.{BreaksRange}
 use Rattle.space_calls.proofs.CarryLemmas.{allowed_done, allowed_refused, next_refused}
 use Rattle.space_calls.proofs.RunLemmas.{reached_makes}
-use Rattle.space_calls.proofs.CameLemmas.{came_own, came_then, knows, still_runs, still_tells, whole_after, whole_of, wrote_so}
+use Rattle.space_calls.proofs.CameLemmas.{came_own, came_then, knows, still_runs, still_reveals, whole_after, whole_of, wrote_so}
 use Rattle.space_tables.specs.Shows.{IsRunAt}
 use Rattle.table_calls.specs.Answers.{TablesSay}
 use Rattle.space_calls.proofs.RangeLemmas.{asked_halt, given_so, fault_halt, within_halt, found_run, found_word, never_refused, no_frame_came, of_space}
 use Rattle.space_calls.proofs.RefusedCalls.{force_refused, force_there}
-use Rattle.space_calls.proofs.MovedLemmas.{force_runs}
+use Rattle.space_calls.proofs.MovedLemmas.{flush_runs}
 use Rattle.fault_core.specs.Range.{AreClean}
 use Rattle.frame_pool.specs.Frames.{Slots}
 use Rattle.filer_kernel.specs.EvidenceLaws.{fits}
-use Rattle.fault_core.proofs.EvidenceLemmas.{shows_so}
+use Rattle.fault_core.proofs.EvidenceLemmas.{shows_evidence}
 use Rattle.fault_core.proofs.YieldLemmas.{yield_same, yield_then}
 use Rattle.running_words.specs.MovingLaws.{moves_of_reaches}
 use Rattle.space_calls.proofs.MovesLemmas.{moves_twice, moves_before}
@@ -33,9 +33,9 @@ returns-in-Ok-Err-clause-carried g c = λ volume m r.
     let whole = whole_of c.args.core.now c.requires.size in
     let x = r.session.stands.memory in
     let named = r.session.stands.is.named in
-    let told = knows running_laws whole r in
+    let revealed = knows running_laws whole r in
     let asked = c.range_of.ensures.asked in
-    let is = force_refused m c.args.space c.in-Ok-Err.word (found_word m.spaces c.args.space c.in-Ok-Err.word c.in-Ok-Err.field-0 c.in-Ok-Err.field-0-is (c.in-Ok-Err.ensures.answer x named m.spaces told)) in
+    let is = force_refused m c.args.space c.in-Ok-Err.word (found_word m.spaces c.args.space c.in-Ok-Err.word c.in-Ok-Err.field-0 c.in-Ok-Err.field-0-is (c.in-Ok-Err.ensures.answer x named m.spaces revealed)) in
     record {
       allowed = allowed_refused m (call.ForceOut c.args.space) c.in-Ok-Err.word is;
       runs = subst (λ (n : Machine). Runs c.range_of.new.core volume n) (sym (next_refused m (call.ForceOut c.args.space) c.in-Ok-Err.word is)) (still_runs running_laws whole r (came_own asked.reaches asked.came asked.same asked.intervals));
@@ -46,21 +46,21 @@ returns-in-Ok-Err-clause-clean g c = λ volume m s r there.
     let whole = whole_of c.args.core.now c.requires.size in
     let x = r.session.stands.memory in
     let named = r.session.stands.is.named in
-    let told = knows running_laws whole r in
-    absurd (never_refused m.spaces c.args.space s c.in-Ok-Err.word there (found_word m.spaces c.args.space c.in-Ok-Err.word c.in-Ok-Err.field-0 c.in-Ok-Err.field-0-is (c.in-Ok-Err.ensures.answer x named m.spaces told)))
+    let revealed = knows running_laws whole r in
+    absurd (never_refused m.spaces c.args.space s c.in-Ok-Err.word there (found_word m.spaces c.args.space c.in-Ok-Err.word c.in-Ok-Err.field-0 c.in-Ok-Err.field-0-is (c.in-Ok-Err.ensures.answer x named m.spaces revealed)))
 
 pub returns-in-Ok-Err-clause-synced : goal.returns-in-Ok-Err-clause-synced
 returns-in-Ok-Err-clause-synced g c = λ volume m r free.
     let whole = whole_of c.args.core.now c.requires.size in
     let x = r.session.stands.memory in
     let named = r.session.stands.is.named in
-    let told = knows running_laws whole r in
+    let revealed = knows running_laws whole r in
     absurd (none-some c.in-Ok-Err.word (sym free ∙ force_refused m c.args.space c.in-Ok-Err.word
-    (found_word m.spaces c.args.space c.in-Ok-Err.word c.in-Ok-Err.field-0 c.in-Ok-Err.field-0-is (c.in-Ok-Err.ensures.answer x named m.spaces told))))
+    (found_word m.spaces c.args.space c.in-Ok-Err.word c.in-Ok-Err.field-0 c.in-Ok-Err.field-0-is (c.in-Ok-Err.ensures.answer x named m.spaces revealed))))
 
 pub returns-in-Ok-Err-clause-passes : goal.returns-in-Ok-Err-clause-passes
 returns-in-Ok-Err-clause-passes g c = λ volume m r.
-    still_tells running_laws (whole_of c.args.core.now c.requires.size) r (state c.range_of.new.core) (λ d told. g.met.D.Disk.in_form c.args.core.now.filer.swapper.under d told) (call.ForceOut c.args.space) (reached_makes c.range_of.ensures.asked.reaches)
+    still_reveals running_laws (whole_of c.args.core.now c.requires.size) r (state c.range_of.new.core) (λ d revealed. g.met.D.Disk.in_form c.args.core.now.filer.swapper.disk d revealed) (call.ForceOut c.args.space) (reached_makes c.range_of.ensures.asked.reaches)
 
 pub returns-in-Ok-Err-clause-wrote : goal.returns-in-Ok-Err-clause-wrote
 returns-in-Ok-Err-clause-wrote g c = wrote_so (reached_makes c.range_of.ensures.asked.reaches)
@@ -72,95 +72,95 @@ returns-in-Err-clause-sound g c = λ volume m r.
     let whole = whole_of c.args.core.now c.requires.size in
     let x = r.session.stands.memory in
     let named = r.session.stands.is.named in
-    let told = knows running_laws whole r in
-    c.in-Err.ensures.sound x named m.spaces told
+    let revealed = knows running_laws whole r in
+    c.in-Err.ensures.sound x named m.spaces revealed
 
 pub returns-in-Err-clause-passes : goal.returns-in-Err-clause-passes
 returns-in-Err-clause-passes g c = λ volume m r.
-    still_tells running_laws (whole_of c.args.core.now c.requires.size) r (state c.range_of.new.core) (λ d told. g.met.D.Disk.in_form c.args.core.now.filer.swapper.under d told) (call.ForceOut c.args.space) (reached_makes c.range_of.ensures.asked.reaches)
+    still_reveals running_laws (whole_of c.args.core.now c.requires.size) r (state c.range_of.new.core) (λ d revealed. g.met.D.Disk.in_form c.args.core.now.filer.swapper.disk d revealed) (call.ForceOut c.args.space) (reached_makes c.range_of.ensures.asked.reaches)
 
 pub returns-in-Err-clause-wrote : goal.returns-in-Err-clause-wrote
 returns-in-Err-clause-wrote g c = wrote_so (reached_makes c.range_of.ensures.asked.reaches)
 
-pub returns-in-Err-force-clause-sound : goal.returns-in-Err-force-clause-sound
-returns-in-Err-force-clause-sound g c = λ volume m r.
+pub returns-in-Err-flush-clause-sound : goal.returns-in-Err-flush-clause-sound
+returns-in-Err-flush-clause-sound g c = λ volume m r.
     let whole = whole_of c.args.core.now c.requires.size in
     let x = r.session.stands.memory in
     let named = r.session.stands.is.named in
-    let told = knows running_laws whole r in
-    c.in-Err-force.ensures.sound x named m.spaces (c.range_of.ensures.asked.same x named m.spaces told)
+    let revealed = knows running_laws whole r in
+    c.in-Err-flush.ensures.sound x named m.spaces (c.range_of.ensures.asked.same x named m.spaces revealed)
 
-pub returns-in-Err-force-clause-passes : goal.returns-in-Err-force-clause-passes
-returns-in-Err-force-clause-passes g c = λ volume m r.
-    still_tells running_laws (whole_of c.args.core.now c.requires.size) r (state c.force.new.self) (λ d told. g.met.D.Disk.in_form c.args.core.now.filer.swapper.under d told) (call.ForceOut c.args.space) (makes_then (reached_makes c.range_of.ensures.asked.reaches) (reached_makes c.force.ensures.reaches))
+pub returns-in-Err-flush-clause-passes : goal.returns-in-Err-flush-clause-passes
+returns-in-Err-flush-clause-passes g c = λ volume m r.
+    still_reveals running_laws (whole_of c.args.core.now c.requires.size) r (state c.flush.new.self) (λ d revealed. g.met.D.Disk.in_form c.args.core.now.filer.swapper.disk d revealed) (call.ForceOut c.args.space) (makes_then (reached_makes c.range_of.ensures.asked.reaches) (reached_makes c.flush.ensures.reaches))
 
-pub returns-in-Err-force-clause-wrote : goal.returns-in-Err-force-clause-wrote
-returns-in-Err-force-clause-wrote g c = wrote_so (makes_then (reached_makes c.range_of.ensures.asked.reaches) (reached_makes c.force.ensures.reaches))
+pub returns-in-Err-flush-clause-wrote : goal.returns-in-Err-flush-clause-wrote
+returns-in-Err-flush-clause-wrote g c = wrote_so (makes_then (reached_makes c.range_of.ensures.asked.reaches) (reached_makes c.flush.ensures.reaches))
 
-pub returns-in-Err-settle-clause-passes : goal.returns-in-Err-settle-clause-passes
-returns-in-Err-settle-clause-passes g c = λ volume m r.
-    still_tells running_laws (whole_of c.args.core.now c.requires.size) r (state c.settle.new.core) (λ d told. g.met.D.Disk.in_form c.args.core.now.filer.swapper.under d told) (call.ForceOut c.args.space) (makes_then (reached_makes c.range_of.ensures.asked.reaches) (makes_then (reached_makes c.force.ensures.reaches) (reached_makes c.settle.ensures.reaches)))
+pub returns-in-Err-sync-clause-passes : goal.returns-in-Err-sync-clause-passes
+returns-in-Err-sync-clause-passes g c = λ volume m r.
+    still_reveals running_laws (whole_of c.args.core.now c.requires.size) r (state c.sync.new.core) (λ d revealed. g.met.D.Disk.in_form c.args.core.now.filer.swapper.disk d revealed) (call.ForceOut c.args.space) (makes_then (reached_makes c.range_of.ensures.asked.reaches) (makes_then (reached_makes c.flush.ensures.reaches) (reached_makes c.sync.ensures.reaches)))
 
-pub returns-in-Err-settle-clause-wrote : goal.returns-in-Err-settle-clause-wrote
-returns-in-Err-settle-clause-wrote g c = wrote_so (makes_then (reached_makes c.range_of.ensures.asked.reaches) (makes_then (reached_makes c.force.ensures.reaches) (reached_makes c.settle.ensures.reaches)))
+pub returns-in-Err-sync-clause-wrote : goal.returns-in-Err-sync-clause-wrote
+returns-in-Err-sync-clause-wrote g c = wrote_so (makes_then (reached_makes c.range_of.ensures.asked.reaches) (makes_then (reached_makes c.flush.ensures.reaches) (reached_makes c.sync.ensures.reaches)))
 
 -- ---- It is done.
 
-pub returns-in-Ok-settle-clause-carried : goal.returns-in-Ok-settle-clause-carried
-returns-in-Ok-settle-clause-carried g c = λ volume m r.
+pub returns-in-Ok-sync-clause-carried : goal.returns-in-Ok-sync-clause-carried
+returns-in-Ok-sync-clause-carried g c = λ volume m r.
     let whole = whole_of c.args.core.now c.requires.size in
     let x = r.session.stands.memory in
     let named = r.session.stands.is.named in
-    let told = knows running_laws whole r in
+    let revealed = knows running_laws whole r in
     let asked = c.range_of.ensures.asked in
-    let found = found_run m.spaces c.args.space c.in-Ok-Ok.found c.in-Ok-Ok.field-0 c.in-Ok-Ok.field-0-is (c.in-Ok-Ok.ensures.answer x named m.spaces told) in
+    let found = found_run m.spaces c.args.space c.in-Ok-Ok.found c.in-Ok-Ok.field-0 c.in-Ok-Ok.field-0-is (c.in-Ok-Ok.ensures.answer x named m.spaces revealed) in
     let free = force_there m c.args.space found.0 in
-    let forced = c.force.ensures in
-    let settled = c.settle.ensures in
-    let came = came_then (state c.args.core.now) (state c.range_of.new.core) (state c.force.new.self) whole.layout
+    let forced = c.flush.ensures in
+    let settled = c.sync.ensures in
+    let came = came_then (state c.args.core.now) (state c.range_of.new.core) (state c.flush.new.self) whole.layout
     (came_own asked.reaches asked.came asked.same asked.intervals) (came_own forced.reaches forced.came forced.same forced.intervals) in
     let s = found.1.0 in
-    let rest = of_space m.spaces c.args.space s c.in-Ok-Ok.found (AreClean m.spaces c.force.new.self.filer.swapper.pool) found.1 found.1.1 (c.in-Ok.ensures.clean x named m.spaces (asked.same x named m.spaces told)) in
+    let rest = of_space m.spaces c.args.space s c.in-Ok-Ok.found (AreClean m.spaces c.flush.new.self.filer.swapper.pool) found.1 found.1.1 (c.in-Ok.ensures.clean x named m.spaces (asked.same x named m.spaces revealed)) in
     record {
       allowed = allowed_done m (call.ForceOut c.args.space) reply.Done free refl;
-      runs = still_runs running_laws (whole_after whole came.reaches) (force_runs running_laws whole r came c.args.space s free found.1.1 rest)
-          (came_own settled.reaches (no_frame_came c.force.new.self.filer.swapper.pool c.settle.new.core.filer.swapper.pool settled.frames) settled.known settled.intervals);
+      runs = still_runs running_laws (whole_after whole came.reaches) (flush_runs running_laws whole r came c.args.space s free found.1.1 rest)
+          (came_own settled.reaches (no_frame_came c.flush.new.self.filer.swapper.pool c.sync.new.core.filer.swapper.pool settled.frames) settled.known settled.intervals);
     }
 
-pub returns-in-Ok-settle-clause-clean : goal.returns-in-Ok-settle-clause-clean
-returns-in-Ok-settle-clause-clean g c = λ volume m s r there.
+pub returns-in-Ok-sync-clause-clean : goal.returns-in-Ok-sync-clause-clean
+returns-in-Ok-sync-clause-clean g c = λ volume m s r there.
     let whole = whole_of c.args.core.now c.requires.size in
     let x = r.session.stands.memory in
     let named = r.session.stands.is.named in
-    let told = knows running_laws whole r in
-    let found = found_run m.spaces c.args.space c.in-Ok-Ok.found c.in-Ok-Ok.field-0 c.in-Ok-Ok.field-0-is (c.in-Ok-Ok.ensures.answer x named m.spaces told) in
-    subst (λ (p : Slots). AreClean m.spaces p s.first (s.first + s.pages)) (sym c.settle.ensures.frames)
-    (of_space m.spaces c.args.space s c.in-Ok-Ok.found (AreClean m.spaces c.force.new.self.filer.swapper.pool) found.1 there (c.in-Ok.ensures.clean x named m.spaces (c.range_of.ensures.asked.same x named m.spaces told)))
+    let revealed = knows running_laws whole r in
+    let found = found_run m.spaces c.args.space c.in-Ok-Ok.found c.in-Ok-Ok.field-0 c.in-Ok-Ok.field-0-is (c.in-Ok-Ok.ensures.answer x named m.spaces revealed) in
+    subst (λ (p : Slots). AreClean m.spaces p s.first (s.first + s.pages)) (sym c.sync.ensures.frames)
+    (of_space m.spaces c.args.space s c.in-Ok-Ok.found (AreClean m.spaces c.flush.new.self.filer.swapper.pool) found.1 there (c.in-Ok.ensures.clean x named m.spaces (c.range_of.ensures.asked.same x named m.spaces revealed)))
 
-pub returns-in-Ok-settle-clause-passes : goal.returns-in-Ok-settle-clause-passes
-returns-in-Ok-settle-clause-passes g c = λ volume m r.
-    still_tells running_laws (whole_of c.args.core.now c.requires.size) r (state c.settle.new.core) (λ d told. g.met.D.Disk.in_form c.args.core.now.filer.swapper.under d told) (call.ForceOut c.args.space) (makes_then (reached_makes c.range_of.ensures.asked.reaches) (makes_then (reached_makes c.force.ensures.reaches) (reached_makes c.settle.ensures.reaches)))
+pub returns-in-Ok-sync-clause-passes : goal.returns-in-Ok-sync-clause-passes
+returns-in-Ok-sync-clause-passes g c = λ volume m r.
+    still_reveals running_laws (whole_of c.args.core.now c.requires.size) r (state c.sync.new.core) (λ d revealed. g.met.D.Disk.in_form c.args.core.now.filer.swapper.disk d revealed) (call.ForceOut c.args.space) (makes_then (reached_makes c.range_of.ensures.asked.reaches) (makes_then (reached_makes c.flush.ensures.reaches) (reached_makes c.sync.ensures.reaches)))
 
-pub returns-in-Ok-settle-clause-wrote : goal.returns-in-Ok-settle-clause-wrote
-returns-in-Ok-settle-clause-wrote g c = wrote_so (makes_then (reached_makes c.range_of.ensures.asked.reaches) (makes_then (reached_makes c.force.ensures.reaches) (reached_makes c.settle.ensures.reaches)))
+pub returns-in-Ok-sync-clause-wrote : goal.returns-in-Ok-sync-clause-wrote
+returns-in-Ok-sync-clause-wrote g c = wrote_so (makes_then (reached_makes c.range_of.ensures.asked.reaches) (makes_then (reached_makes c.flush.ensures.reaches) (reached_makes c.sync.ensures.reaches)))
 
 -- ---- Why it failed.
 
 pub returns-in-Err-clause-cause : goal.returns-in-Err-clause-cause
 returns-in-Err-clause-cause g c = asked_halt (state c.args.core.now) (state c.range_of.new.core) c.args.core.now.filer.swapper.accepted c.args.space c.args.core.now.intervals c.in-Err.halt c.in-Err.ensures.cause
 
-pub returns-in-Err-force-clause-cause : goal.returns-in-Err-force-clause-cause
-returns-in-Err-force-clause-cause g c =
+pub returns-in-Err-flush-clause-cause : goal.returns-in-Err-flush-clause-cause
+returns-in-Err-flush-clause-cause g c =
     let asked = c.range_of.ensures.asked in
-    within_halt (state c.args.core.now) (state c.range_of.new.core) c.args.core.now.filer.swapper.accepted c.args.space asked.reaches c.args.core.now.intervals c.range_of.new.core.intervals asked.intervals (state c.force.new.self) c.in-Ok-Ok.found (given_so (TablesSay (state c.args.core.now) (λ b. IsRunAt b c.args.space)) c.in-Ok-Ok.found c.in-Ok-Ok.field-0 c.in-Ok-Ok.field-0-is c.in-Ok-Ok.ensures.read) c.in-Err-force.halt c.in-Err-force.ensures.cause
+    within_halt (state c.args.core.now) (state c.range_of.new.core) c.args.core.now.filer.swapper.accepted c.args.space asked.reaches c.args.core.now.intervals c.range_of.new.core.intervals asked.intervals (state c.flush.new.self) c.in-Ok-Ok.found (given_so (TablesSay (state c.args.core.now) (λ b. IsRunAt b c.args.space)) c.in-Ok-Ok.found c.in-Ok-Ok.field-0 c.in-Ok-Ok.field-0-is c.in-Ok-Ok.ensures.read) c.in-Err-flush.halt c.in-Err-flush.ensures.cause
 
-pub returns-in-Err-settle-clause-cause : goal.returns-in-Err-settle-clause-cause
-returns-in-Err-settle-clause-cause g c =
-    fault_halt (BreaksRange (state c.args.core.now) c.args.core.now.intervals c.args.space) (state c.args.core.now) (state c.force.new.self) (state c.settle.new.core) c.in-Err-settle.halt
-    (makes_then (reached_makes c.range_of.ensures.asked.reaches) (reached_makes c.force.ensures.reaches)).went.faults c.in-Err-settle.ensures.fault c.in-Err-settle.ensures.counted
+pub returns-in-Err-sync-clause-cause : goal.returns-in-Err-sync-clause-cause
+returns-in-Err-sync-clause-cause g c =
+    fault_halt (BreaksRange (state c.args.core.now) c.args.core.now.intervals c.args.space) (state c.args.core.now) (state c.flush.new.self) (state c.sync.new.core) c.in-Err-sync.halt
+    (makes_then (reached_makes c.range_of.ensures.asked.reaches) (reached_makes c.flush.ensures.reaches)).went.faults c.in-Err-sync.ensures.fault c.in-Err-sync.ensures.counted
 
-pub returns-in-Err-force-clause-so : goal.returns-in-Err-force-clause-so
-returns-in-Err-force-clause-so g c = shows_so _ (state c.range_of.new.core) (state c.force.new.self) (fits c.range_of.new.core.filer.swapper (search rules)) c.force.ensures.reaches.goes.makes c.in-Err-force.halt c.in-Err-force.ensures.cause
+pub returns-in-Err-flush-clause-evidence_seen : goal.returns-in-Err-flush-clause-evidence_seen
+returns-in-Err-flush-clause-evidence_seen g c = shows_evidence _ (state c.range_of.new.core) (state c.flush.new.self) (fits c.range_of.new.core.filer.swapper (search rules)) c.flush.ensures.reaches.goes.makes c.in-Err-flush.halt c.in-Err-flush.ensures.cause
 
 -- ---- The frames stay, or give way.
 
@@ -170,14 +170,14 @@ returns-in-Ok-Err-clause-stay g c = c.range_of.ensures.asked.stay
 pub returns-in-Err-clause-stay : goal.returns-in-Err-clause-stay
 returns-in-Err-clause-stay g c = c.range_of.ensures.asked.stay
 
-pub returns-in-Err-force-clause-stay : goal.returns-in-Err-force-clause-stay
-returns-in-Err-force-clause-stay g c = yield_then c.range_of.ensures.asked.stay c.force.ensures.stay
+pub returns-in-Err-flush-clause-stay : goal.returns-in-Err-flush-clause-stay
+returns-in-Err-flush-clause-stay g c = yield_then c.range_of.ensures.asked.stay c.flush.ensures.stay
 
-pub returns-in-Ok-settle-clause-stay : goal.returns-in-Ok-settle-clause-stay
-returns-in-Ok-settle-clause-stay g c = yield_then (yield_then c.range_of.ensures.asked.stay c.force.ensures.stay) (yield_same c.force.new.self.filer.swapper.pool c.settle.new.core.filer.swapper.pool c.settle.ensures.frames)
+pub returns-in-Ok-sync-clause-stay : goal.returns-in-Ok-sync-clause-stay
+returns-in-Ok-sync-clause-stay g c = yield_then (yield_then c.range_of.ensures.asked.stay c.flush.ensures.stay) (yield_same c.flush.new.self.filer.swapper.pool c.sync.new.core.filer.swapper.pool c.sync.ensures.frames)
 
-pub returns-in-Err-settle-clause-stay : goal.returns-in-Err-settle-clause-stay
-returns-in-Err-settle-clause-stay g c = yield_then (yield_then c.range_of.ensures.asked.stay c.force.ensures.stay) (yield_same c.force.new.self.filer.swapper.pool c.settle.new.core.filer.swapper.pool c.settle.ensures.frames)
+pub returns-in-Err-sync-clause-stay : goal.returns-in-Err-sync-clause-stay
+returns-in-Err-sync-clause-stay g c = yield_then (yield_then c.range_of.ensures.asked.stay c.flush.ensures.stay) (yield_same c.flush.new.self.filer.swapper.pool c.sync.new.core.filer.swapper.pool c.sync.ensures.frames)
 
 -- ---- No label was written.
 
@@ -187,25 +187,25 @@ returns-in-Ok-Err-clause-moves g c = moves_of_reaches (state c.args.core.now) (s
 pub returns-in-Err-clause-moves : goal.returns-in-Err-clause-moves
 returns-in-Err-clause-moves g c = moves_of_reaches (state c.args.core.now) (state c.range_of.new.core) c.range_of.ensures.asked.reaches
 
-pub returns-in-Err-force-clause-moves : goal.returns-in-Err-force-clause-moves
-returns-in-Err-force-clause-moves g c = moves_twice (state c.args.core.now) (state c.range_of.new.core) (state c.force.new.self) c.args.core.now.filer.swapper.accepted c.range_of.ensures.asked.reaches c.force.ensures.reaches
+pub returns-in-Err-flush-clause-moves : goal.returns-in-Err-flush-clause-moves
+returns-in-Err-flush-clause-moves g c = moves_twice (state c.args.core.now) (state c.range_of.new.core) (state c.flush.new.self) c.args.core.now.filer.swapper.accepted c.range_of.ensures.asked.reaches c.flush.ensures.reaches
 
-pub returns-in-Err-settle-clause-moves : goal.returns-in-Err-settle-clause-moves
-returns-in-Err-settle-clause-moves g c = moves_before (state c.args.core.now) (state c.force.new.self) (state c.settle.new.core) c.args.core.now.filer.swapper.accepted (moves_twice (state c.args.core.now) (state c.range_of.new.core) (state c.force.new.self) c.args.core.now.filer.swapper.accepted c.range_of.ensures.asked.reaches c.force.ensures.reaches) c.settle.ensures.reaches
+pub returns-in-Err-sync-clause-moves : goal.returns-in-Err-sync-clause-moves
+returns-in-Err-sync-clause-moves g c = moves_before (state c.args.core.now) (state c.flush.new.self) (state c.sync.new.core) c.args.core.now.filer.swapper.accepted (moves_twice (state c.args.core.now) (state c.range_of.new.core) (state c.flush.new.self) c.args.core.now.filer.swapper.accepted c.range_of.ensures.asked.reaches c.flush.ensures.reaches) c.sync.ensures.reaches
 
-pub returns-in-Ok-settle-clause-moves : goal.returns-in-Ok-settle-clause-moves
-returns-in-Ok-settle-clause-moves g c = moves_before (state c.args.core.now) (state c.force.new.self) (state c.settle.new.core) c.args.core.now.filer.swapper.accepted (moves_twice (state c.args.core.now) (state c.range_of.new.core) (state c.force.new.self) c.args.core.now.filer.swapper.accepted c.range_of.ensures.asked.reaches c.force.ensures.reaches) c.settle.ensures.reaches
+pub returns-in-Ok-sync-clause-moves : goal.returns-in-Ok-sync-clause-moves
+returns-in-Ok-sync-clause-moves g c = moves_before (state c.args.core.now) (state c.flush.new.self) (state c.sync.new.core) c.args.core.now.filer.swapper.accepted (moves_twice (state c.args.core.now) (state c.range_of.new.core) (state c.flush.new.self) c.args.core.now.filer.swapper.accepted c.range_of.ensures.asked.reaches c.flush.ensures.reaches) c.sync.ensures.reaches
 
--- ---- The tables are told.
+-- ---- The tables are revealed.
 
 pub returns-in-Ok-Err-clause-sees : goal.returns-in-Ok-Err-clause-sees
 returns-in-Ok-Err-clause-sees g c = λ ss s. (ss, (c.range_of.ensures.still ss s, shown_here ss))
 
-pub returns-in-Err-force-clause-right : goal.returns-in-Err-force-clause-right
-returns-in-Err-force-clause-right g c = λ s. c.in-Err-force.ensures.right s.0 (c.range_of.ensures.still s.0 s.1)
+pub returns-in-Err-flush-clause-right : goal.returns-in-Err-flush-clause-right
+returns-in-Err-flush-clause-right g c = λ s. c.in-Err-flush.ensures.right s.0 (c.range_of.ensures.still s.0 s.1)
 
-pub returns-in-Ok-settle-clause-sees : goal.returns-in-Ok-settle-clause-sees
-returns-in-Ok-settle-clause-sees g c = λ ss s. (ss, (c.settle.ensures.still ss (c.force.ensures.sees ss (c.range_of.ensures.still ss s)), shown_here ss))
+pub returns-in-Ok-sync-clause-sees : goal.returns-in-Ok-sync-clause-sees
+returns-in-Ok-sync-clause-sees g c = λ ss s. (ss, (c.sync.ensures.still ss (c.flush.ensures.sees ss (c.range_of.ensures.still ss s)), shown_here ss))
 
-pub returns-in-Err-settle-clause-right : goal.returns-in-Err-settle-clause-right
-returns-in-Err-settle-clause-right g c = λ s. c.in-Err-settle.ensures.right (s.0, c.force.ensures.sees s.0 (c.range_of.ensures.still s.0 s.1))
+pub returns-in-Err-sync-clause-right : goal.returns-in-Err-sync-clause-right
+returns-in-Err-sync-clause-right g c = λ s. c.in-Err-sync.ensures.right (s.0, c.flush.ensures.sees s.0 (c.range_of.ensures.still s.0 s.1))

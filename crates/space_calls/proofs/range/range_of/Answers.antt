@@ -18,10 +18,10 @@ returns-clause-cause g c = rw c.frame_count-frames.ensures.same at c.bounds.ensu
 
 -- ---- What its evidence says is so.
 
-pub returns-clause-so : goal.returns-clause-so
-returns-clause-so g c = if_so c.bounds.result _ (state c.frame_count-frames.new.core) (state c.bounds.new.core) (fits c.frame_count-frames.new.core.filer.swapper (search rules)) c.bounds.ensures.asked.reaches.goes.makes c.bounds.ensures.cause
+pub returns-clause-evidence_seen : goal.returns-clause-evidence_seen
+returns-clause-evidence_seen g c = if_so c.bounds.result _ (state c.frame_count-frames.new.core) (state c.bounds.new.core) (fits c.frame_count-frames.new.core.filer.swapper (search rules)) c.bounds.ensures.asked.reaches.goes.makes c.bounds.ensures.cause
 
--- ---- The tables are told.
+-- ---- The tables are revealed.
 
 pub returns-clause-still : goal.returns-clause-still
 returns-clause-still g c = rw c.frame_count-frames.ensures.same at c.bounds.ensures.sees

@@ -5,12 +5,12 @@ use Rattle.flat_machine.specs.Allows.{Allows}
 use Rattle.fault_core.specs.declared.reference.Access.TheVariants as access
 use Rattle.fault_core.specs.Access.{BreaksFor, last_page}
 use Rattle.fault_core.specs.Core.{kept, state}
-use Rattle.fault_core.specs.Lack.{LacksPage, shown_units}
+use Rattle.fault_core.specs.Lack.{MissesPage, shown_units}
 use Rattle.fault_core.specs.Reach.{TouchHalts}
 use Rattle.fault_core.specs.Unit.{IsReady}
 use Rattle.running_words.proofs.RunningLemmas.{running_laws}
 use Rattle.space_calls.proofs.RunLemmas.{reached_makes}
-use Rattle.space_calls.proofs.CameLemmas.{Came, knows, still_tells, whole_of, wrote_so}
+use Rattle.space_calls.proofs.CameLemmas.{Came, knows, still_reveals, whole_of, wrote_so}
 use Rattle.space_calls.proofs.LoadLemmas.{load_carried, load_not_refused}
 use Rattle.filer_kernel.specs.EvidenceLaws.{fits}
 use Rattle.fault_core.proofs.EvidenceLemmas.{touch_so}
@@ -78,28 +78,28 @@ returns-in-Ok-ReadOnly-clause-ready g c =
 
 pub returns-in-Ok-Done-clause-passes : goal.returns-in-Ok-Done-clause-passes
 returns-in-Ok-Done-clause-passes g c = λ volume m r.
-    still_tells running_laws (whole_of c.args.core.now c.requires.size) r (state c.load.new.self) (λ d told. g.met.D.Disk.in_form c.args.core.now.filer.swapper.under d told) (call.Load c.args.address c.args.count) (reached_makes c.load.ensures.reaches)
+    still_reveals running_laws (whole_of c.args.core.now c.requires.size) r (state c.load.new.self) (λ d revealed. g.met.D.Disk.in_form c.args.core.now.filer.swapper.disk d revealed) (call.Load c.args.address c.args.count) (reached_makes c.load.ensures.reaches)
 
 pub returns-in-Ok-Done-clause-wrote : goal.returns-in-Ok-Done-clause-wrote
 returns-in-Ok-Done-clause-wrote g c = wrote_so (reached_makes c.load.ensures.reaches)
 
 pub returns-in-Ok-NoMap-clause-passes : goal.returns-in-Ok-NoMap-clause-passes
 returns-in-Ok-NoMap-clause-passes g c = λ volume m r.
-    still_tells running_laws (whole_of c.args.core.now c.requires.size) r (state c.load.new.self) (λ d told. g.met.D.Disk.in_form c.args.core.now.filer.swapper.under d told) (call.Load c.args.address c.args.count) (reached_makes c.load.ensures.reaches)
+    still_reveals running_laws (whole_of c.args.core.now c.requires.size) r (state c.load.new.self) (λ d revealed. g.met.D.Disk.in_form c.args.core.now.filer.swapper.disk d revealed) (call.Load c.args.address c.args.count) (reached_makes c.load.ensures.reaches)
 
 pub returns-in-Ok-NoMap-clause-wrote : goal.returns-in-Ok-NoMap-clause-wrote
 returns-in-Ok-NoMap-clause-wrote g c = wrote_so (reached_makes c.load.ensures.reaches)
 
 pub returns-in-Ok-ReadOnly-clause-passes : goal.returns-in-Ok-ReadOnly-clause-passes
 returns-in-Ok-ReadOnly-clause-passes g c = λ volume m r.
-    still_tells running_laws (whole_of c.args.core.now c.requires.size) r (state c.load.new.self) (λ d told. g.met.D.Disk.in_form c.args.core.now.filer.swapper.under d told) (call.Load c.args.address c.args.count) (reached_makes c.load.ensures.reaches)
+    still_reveals running_laws (whole_of c.args.core.now c.requires.size) r (state c.load.new.self) (λ d revealed. g.met.D.Disk.in_form c.args.core.now.filer.swapper.disk d revealed) (call.Load c.args.address c.args.count) (reached_makes c.load.ensures.reaches)
 
 pub returns-in-Ok-ReadOnly-clause-wrote : goal.returns-in-Ok-ReadOnly-clause-wrote
 returns-in-Ok-ReadOnly-clause-wrote g c = wrote_so (reached_makes c.load.ensures.reaches)
 
 pub returns-in-Err-clause-passes : goal.returns-in-Err-clause-passes
 returns-in-Err-clause-passes g c = λ volume m r.
-    still_tells running_laws (whole_of c.args.core.now c.requires.size) r (state c.load.new.self) (λ d told. g.met.D.Disk.in_form c.args.core.now.filer.swapper.under d told) (call.Load c.args.address c.args.count) (reached_makes c.load.ensures.reaches)
+    still_reveals running_laws (whole_of c.args.core.now c.requires.size) r (state c.load.new.self) (λ d revealed. g.met.D.Disk.in_form c.args.core.now.filer.swapper.disk d revealed) (call.Load c.args.address c.args.count) (reached_makes c.load.ensures.reaches)
 
 pub returns-in-Err-clause-wrote : goal.returns-in-Err-clause-wrote
 returns-in-Err-clause-wrote g c = wrote_so (reached_makes c.load.ensures.reaches)
@@ -148,10 +148,10 @@ returns-in-Err-clause-cause g c =
 pub returns-in-Err-clause-missing : goal.returns-in-Err-clause-missing
 returns-in-Err-clause-missing g c =
     let long : length c.load.new.into ≡ c.args.count = search rules in
-    λ ss s. subst (λ (n : ℕ). LacksPage (shown_units ss c.args.address n) c.in-Err.halt) (sym c.load.ensures.width ∙ long) (c.in-Err.ensures.missing ss s)
+    λ ss s. subst (λ (n : ℕ). MissesPage (shown_units ss c.args.address n) c.in-Err.halt) (sym c.load.ensures.width ∙ long) (c.in-Err.ensures.missing ss s)
 
-pub returns-in-Err-clause-so : goal.returns-in-Err-clause-so
-returns-in-Err-clause-so g c = touch_so _ (state c.args.core.now) (state c.load.new.self) (fits c.args.core.now.filer.swapper c.requires.size) c.load.ensures.reaches.goes.makes c.in-Err.halt c.in-Err.ensures.cause
+pub returns-in-Err-clause-evidence_seen : goal.returns-in-Err-clause-evidence_seen
+returns-in-Err-clause-evidence_seen g c = touch_so _ (state c.args.core.now) (state c.load.new.self) (fits c.args.core.now.filer.swapper c.requires.size) c.load.ensures.reaches.goes.makes c.in-Err.halt c.in-Err.ensures.cause
 
 -- ---- No label was written.
 
@@ -167,7 +167,7 @@ returns-in-Ok-ReadOnly-clause-moves g c = moves_of_reaches (state c.args.core.no
 pub returns-in-Err-clause-moves : goal.returns-in-Err-clause-moves
 returns-in-Err-clause-moves g c = moves_of_reaches (state c.args.core.now) (state c.load.new.self) c.load.ensures.reaches
 
--- ---- The tables are told.
+-- ---- The tables are revealed.
 
 pub returns-in-Ok-Done-clause-sees : goal.returns-in-Ok-Done-clause-sees
 returns-in-Ok-Done-clause-sees g c = λ ss s. (ss, (c.load.ensures.sees ss s, shown_here ss))

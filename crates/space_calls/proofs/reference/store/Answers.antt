@@ -10,7 +10,7 @@ use Rattle.swapper_kernel.specs.Goes.{Goes}
 use Rattle.running_words.proofs.RunningLemmas.{running_laws}
 use Rattle.space_calls.proofs.CameLemmas.{Came, knows, store_makes, whole_of, wrote_so}
 use Rattle.space_calls.proofs.MovedLemmas.{store_runs}
-use Rattle.space_calls.proofs.StoreLemmas.{are_bytes, other_than_done, refused_came, stays_where, store_allowed, store_not_refused, store_stays, store_tells, store_word}
+use Rattle.space_calls.proofs.StoreLemmas.{are_bytes, other_than_done, refused_came, stays_where, store_allowed, store_not_refused, store_stays, store_reveals, store_word}
 use Rattle.filer_kernel.specs.EvidenceLaws.{fits}
 use Rattle.fault_core.proofs.EvidenceLemmas.{touch_so}
 use Rattle.running_words.specs.MovingLaws.{moves_of_touches}
@@ -25,14 +25,14 @@ returns-in-Ok-Done-clause-carried g c = λ volume m r.
     let whole = whole_of c.args.core.now c.requires.size in
     let x = r.session.stands.memory in
     let named = r.session.stands.is.named in
-    let told = knows running_laws whole r in
+    let revealed = knows running_laws whole r in
     record {
       allowed = store_allowed running_laws whole r c.args.address c.args.bytes.now c.in-Ok-Done.field-0 access.Done c.in-Ok-Done.field-0-is c.in-Ok-Done.ensures.access;
       runs = store_runs running_laws whole r c.store.ensures.intervals c.store.ensures.touches.layout c.args.address c.args.bytes.now typed
-          (sym c.in-Ok-Done.field-0-is ∙ c.in-Ok-Done.ensures.access x named m.spaces told)
+          (sym c.in-Ok-Done.field-0-is ∙ c.in-Ok-Done.ensures.access x named m.spaces revealed)
           (subst (λ (a : Access). Goes (StoresAs a m.spaces c.args.address c.args.bytes.now) (IsTouchedOrOwn m.spaces c.args.address (length c.args.bytes.now)) [] (state c.args.core.now).disk (state c.args.core.now).slots (state c.store.new.self).disk (state c.store.new.self).slots)
-          c.in-Ok-Done.field-0-is (c.in-Ok-Done.ensures.stored x named m.spaces told))
-          (c.store.ensures.came x named m.spaces told) (λ y is. c.store.ensures.known x y named m.spaces told is);
+          c.in-Ok-Done.field-0-is (c.in-Ok-Done.ensures.stored x named m.spaces revealed))
+          (c.store.ensures.came x named m.spaces revealed) (λ y is. c.store.ensures.known x y named m.spaces revealed is);
     }
 
 pub returns-in-Ok-Done-clause-passes : goal.returns-in-Ok-Done-clause-passes
@@ -41,9 +41,9 @@ returns-in-Ok-Done-clause-passes g c = λ volume m r.
     let whole = whole_of c.args.core.now c.requires.size in
     let x = r.session.stands.memory in
     let named = r.session.stands.is.named in
-    let told = knows running_laws whole r in
-    store_tells running_laws whole r (λ d told. g.met.D.Disk.in_form c.args.core.now.filer.swapper.under d told) (state c.store.new.self) c.args.address c.args.bytes.now typed c.requires.few
-    (c.in-Ok-Done.ensures.stored x named m.spaces told).makes (c.store.ensures.tested x named m.spaces told)
+    let revealed = knows running_laws whole r in
+    store_reveals running_laws whole r (λ d revealed. g.met.D.Disk.in_form c.args.core.now.filer.swapper.disk d revealed) (state c.store.new.self) c.args.address c.args.bytes.now typed c.requires.few
+    (c.in-Ok-Done.ensures.stored x named m.spaces revealed).makes (c.store.ensures.tested x named m.spaces revealed)
 
 pub returns-in-Ok-Done-clause-ready : goal.returns-in-Ok-Done-clause-ready
 returns-in-Ok-Done-clause-ready g c = λ volume m r free. c.in-Ok-Done.ensures.ready c.in-Ok-Done.field-0-is
@@ -56,7 +56,7 @@ returns-in-Ok-NoMap-clause-carried g c = λ volume m r.
     let a = access.NoMap c.in-Ok-NoMap.page in
     let came : Came (state c.args.core.now) (state c.store.new.self) (kept c.args.core.now) (kept c.store.new.self) c.args.core.now.intervals c.store.new.self.intervals =
     refused_came (c.in-Ok-NoMap.ensures.refused (λ done. other_than_done a (λ no. no) (sym c.in-Ok-NoMap.field-0-is ∙ done))) c.store.ensures.came
-    (λ x named ss told. stays_where (state c.args.core.now) (state c.store.new.self) (access.NoMap c.in-Ok-NoMap.page) c.in-Ok-NoMap.field-0 ss c.args.address c.args.bytes.now x c.in-Ok-NoMap.field-0-is (λ no. no) told.known.stands (c.in-Ok-NoMap.ensures.stored x named ss told))
+    (λ x named ss revealed. stays_where (state c.args.core.now) (state c.store.new.self) (access.NoMap c.in-Ok-NoMap.page) c.in-Ok-NoMap.field-0 ss c.args.address c.args.bytes.now x c.in-Ok-NoMap.field-0-is (λ no. no) revealed.known.stands (c.in-Ok-NoMap.ensures.stored x named ss revealed))
     c.store.ensures.known c.store.ensures.intervals in
     record {
       allowed = store_allowed running_laws whole r c.args.address c.args.bytes.now c.in-Ok-NoMap.field-0 a c.in-Ok-NoMap.field-0-is c.in-Ok-NoMap.ensures.access;
@@ -69,9 +69,9 @@ returns-in-Ok-NoMap-clause-passes g c = λ volume m r.
     let whole = whole_of c.args.core.now c.requires.size in
     let x = r.session.stands.memory in
     let named = r.session.stands.is.named in
-    let told = knows running_laws whole r in
-    store_tells running_laws whole r (λ d told. g.met.D.Disk.in_form c.args.core.now.filer.swapper.under d told) (state c.store.new.self) c.args.address c.args.bytes.now typed c.requires.few
-    (c.in-Ok-NoMap.ensures.stored x named m.spaces told).makes (c.store.ensures.tested x named m.spaces told)
+    let revealed = knows running_laws whole r in
+    store_reveals running_laws whole r (λ d revealed. g.met.D.Disk.in_form c.args.core.now.filer.swapper.disk d revealed) (state c.store.new.self) c.args.address c.args.bytes.now typed c.requires.few
+    (c.in-Ok-NoMap.ensures.stored x named m.spaces revealed).makes (c.store.ensures.tested x named m.spaces revealed)
 
 pub returns-in-Ok-NoMap-clause-ready : goal.returns-in-Ok-NoMap-clause-ready
 returns-in-Ok-NoMap-clause-ready g c = λ volume m r free.
@@ -85,7 +85,7 @@ returns-in-Ok-ReadOnly-clause-carried g c = λ volume m r.
     let a = access.ReadOnly c.in-Ok-ReadOnly.page in
     let came : Came (state c.args.core.now) (state c.store.new.self) (kept c.args.core.now) (kept c.store.new.self) c.args.core.now.intervals c.store.new.self.intervals =
     refused_came (c.in-Ok-ReadOnly.ensures.refused (λ done. other_than_done a (λ no. no) (sym c.in-Ok-ReadOnly.field-0-is ∙ done))) c.store.ensures.came
-    (λ x named ss told. stays_where (state c.args.core.now) (state c.store.new.self) (access.ReadOnly c.in-Ok-ReadOnly.page) c.in-Ok-ReadOnly.field-0 ss c.args.address c.args.bytes.now x c.in-Ok-ReadOnly.field-0-is (λ no. no) told.known.stands (c.in-Ok-ReadOnly.ensures.stored x named ss told))
+    (λ x named ss revealed. stays_where (state c.args.core.now) (state c.store.new.self) (access.ReadOnly c.in-Ok-ReadOnly.page) c.in-Ok-ReadOnly.field-0 ss c.args.address c.args.bytes.now x c.in-Ok-ReadOnly.field-0-is (λ no. no) revealed.known.stands (c.in-Ok-ReadOnly.ensures.stored x named ss revealed))
     c.store.ensures.known c.store.ensures.intervals in
     record {
       allowed = store_allowed running_laws whole r c.args.address c.args.bytes.now c.in-Ok-ReadOnly.field-0 a c.in-Ok-ReadOnly.field-0-is c.in-Ok-ReadOnly.ensures.access;
@@ -98,9 +98,9 @@ returns-in-Ok-ReadOnly-clause-passes g c = λ volume m r.
     let whole = whole_of c.args.core.now c.requires.size in
     let x = r.session.stands.memory in
     let named = r.session.stands.is.named in
-    let told = knows running_laws whole r in
-    store_tells running_laws whole r (λ d told. g.met.D.Disk.in_form c.args.core.now.filer.swapper.under d told) (state c.store.new.self) c.args.address c.args.bytes.now typed c.requires.few
-    (c.in-Ok-ReadOnly.ensures.stored x named m.spaces told).makes (c.store.ensures.tested x named m.spaces told)
+    let revealed = knows running_laws whole r in
+    store_reveals running_laws whole r (λ d revealed. g.met.D.Disk.in_form c.args.core.now.filer.swapper.disk d revealed) (state c.store.new.self) c.args.address c.args.bytes.now typed c.requires.few
+    (c.in-Ok-ReadOnly.ensures.stored x named m.spaces revealed).makes (c.store.ensures.tested x named m.spaces revealed)
 
 pub returns-in-Ok-ReadOnly-clause-ready : goal.returns-in-Ok-ReadOnly-clause-ready
 returns-in-Ok-ReadOnly-clause-ready g c = λ volume m r free.
@@ -114,9 +114,9 @@ returns-in-Err-clause-passes g c = λ volume m r.
     let whole = whole_of c.args.core.now c.requires.size in
     let x = r.session.stands.memory in
     let named = r.session.stands.is.named in
-    let told = knows running_laws whole r in
-    store_tells running_laws whole r (λ d told. g.met.D.Disk.in_form c.args.core.now.filer.swapper.under d told) (state c.store.new.self) c.args.address c.args.bytes.now typed c.requires.few
-    (c.in-Err.ensures.halted x named m.spaces told).makes (c.store.ensures.tested x named m.spaces told)
+    let revealed = knows running_laws whole r in
+    store_reveals running_laws whole r (λ d revealed. g.met.D.Disk.in_form c.args.core.now.filer.swapper.disk d revealed) (state c.store.new.self) c.args.address c.args.bytes.now typed c.requires.few
+    (c.in-Err.ensures.halted x named m.spaces revealed).makes (c.store.ensures.tested x named m.spaces revealed)
 
 pub returns-in-Err-clause-sound : goal.returns-in-Err-clause-sound
 returns-in-Err-clause-sound g c = λ volume m r.
@@ -154,8 +154,8 @@ returns-in-Ok-ReadOnly-clause-idle g c = λ volume m r first last.
     let two = c.in-Ok-ReadOnly.ensures.idle first last apart in
     (refl, two.1, two.2)
 
-pub returns-in-Err-clause-so : goal.returns-in-Err-clause-so
-returns-in-Err-clause-so g c = touch_so _ (state c.args.core.now) (state c.store.new.self) (fits c.args.core.now.filer.swapper c.requires.size) c.store.ensures.touches.goes.makes c.in-Err.halt c.in-Err.ensures.cause
+pub returns-in-Err-clause-evidence_seen : goal.returns-in-Err-clause-evidence_seen
+returns-in-Err-clause-evidence_seen g c = touch_so _ (state c.args.core.now) (state c.store.new.self) (fits c.args.core.now.filer.swapper c.requires.size) c.store.ensures.touches.goes.makes c.in-Err.halt c.in-Err.ensures.cause
 
 pub returns-in-Err-clause-idle : goal.returns-in-Err-clause-idle
 returns-in-Err-clause-idle g c = λ volume m r first last.
@@ -177,7 +177,7 @@ returns-in-Ok-ReadOnly-clause-moves g c = moves_of_touches (state c.args.core.no
 pub returns-in-Err-clause-moves : goal.returns-in-Err-clause-moves
 returns-in-Err-clause-moves g c = moves_of_touches (state c.args.core.now) (state c.store.new.self) client_page c.store.ensures.touches
 
--- ---- The tables are told.
+-- ---- The tables are revealed.
 
 pub returns-in-Ok-Done-clause-sees : goal.returns-in-Ok-Done-clause-sees
 returns-in-Ok-Done-clause-sees g c = λ ss s. (ss, (c.store.ensures.sees ss s, shown_here ss))

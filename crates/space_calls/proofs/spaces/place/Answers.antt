@@ -2,7 +2,7 @@ use Rattle.space_calls.proofs.RunLemmas.{asked_makes, asked_runs, knows, nothing
 use Rattle.space_calls.proofs.SpaceLemmas.{place_refused, space_placed}
 use Rattle.fault_core.specs.Core.{state}
 use Rattle.filer_kernel.specs.EvidenceLaws.{fits}
-use Rattle.fault_core.proofs.EvidenceLemmas.{shows_so}
+use Rattle.fault_core.proofs.EvidenceLemmas.{shows_evidence}
 use Rattle.running_words.specs.MovingLaws.{moves_of_reaches}
 use Rattle.space_calls.specs.FilesLaws.{shown_here}
 use Rattle.space_calls.proofs.spaces.place.Goals as goal
@@ -23,27 +23,27 @@ pub returns-in-Err-clause-sound : goal.returns-in-Err-clause-sound
 returns-in-Err-clause-sound g c = λ volume m r. c.in-Err.ensures.sound _ _ m.spaces (knows c.args.core.now c.args.core.now.filer.swapper.accepted c.requires.size volume m r)
 
 pub returns-in-Ok-Ok-clause-passes : goal.returns-in-Ok-Ok-clause-passes
-returns-in-Ok-Ok-clause-passes g c = λ volume m r. quiet_passes c.args.core.now c.place.new.core volume m _ (g.met.D.Disk.in_form c.args.core.now.filer.swapper.under) r (asked_makes _ _ c.place.ensures.asked)
+returns-in-Ok-Ok-clause-passes g c = λ volume m r. quiet_passes c.args.core.now c.place.new.core volume m _ (g.met.D.Disk.in_form c.args.core.now.filer.swapper.disk) r (asked_makes _ _ c.place.ensures.asked)
 
 pub returns-in-Ok-Ok-clause-wrote : goal.returns-in-Ok-Ok-clause-wrote
 returns-in-Ok-Ok-clause-wrote g c = nothing_labelled (asked_makes _ _ c.place.ensures.asked)
 
 pub returns-in-Ok-Err-clause-passes : goal.returns-in-Ok-Err-clause-passes
-returns-in-Ok-Err-clause-passes g c = λ volume m r. quiet_passes c.args.core.now c.place.new.core volume m _ (g.met.D.Disk.in_form c.args.core.now.filer.swapper.under) r (asked_makes _ _ c.place.ensures.asked)
+returns-in-Ok-Err-clause-passes g c = λ volume m r. quiet_passes c.args.core.now c.place.new.core volume m _ (g.met.D.Disk.in_form c.args.core.now.filer.swapper.disk) r (asked_makes _ _ c.place.ensures.asked)
 
 pub returns-in-Ok-Err-clause-wrote : goal.returns-in-Ok-Err-clause-wrote
 returns-in-Ok-Err-clause-wrote g c = nothing_labelled (asked_makes _ _ c.place.ensures.asked)
 
 pub returns-in-Err-clause-passes : goal.returns-in-Err-clause-passes
-returns-in-Err-clause-passes g c = λ volume m r. quiet_passes c.args.core.now c.place.new.core volume m _ (g.met.D.Disk.in_form c.args.core.now.filer.swapper.under) r (asked_makes _ _ c.place.ensures.asked)
+returns-in-Err-clause-passes g c = λ volume m r. quiet_passes c.args.core.now c.place.new.core volume m _ (g.met.D.Disk.in_form c.args.core.now.filer.swapper.disk) r (asked_makes _ _ c.place.ensures.asked)
 
 pub returns-in-Err-clause-wrote : goal.returns-in-Err-clause-wrote
 returns-in-Err-clause-wrote g c = nothing_labelled (asked_makes _ _ c.place.ensures.asked)
 
 -- ---- What its evidence says is so.
 
-pub returns-in-Err-clause-so : goal.returns-in-Err-clause-so
-returns-in-Err-clause-so g c = shows_so _ (state c.args.core.now) (state c.place.new.core) (fits c.args.core.now.filer.swapper c.requires.size) c.place.ensures.asked.reaches.goes.makes c.in-Err.halt c.in-Err.ensures.cause
+pub returns-in-Err-clause-evidence_seen : goal.returns-in-Err-clause-evidence_seen
+returns-in-Err-clause-evidence_seen g c = shows_evidence _ (state c.args.core.now) (state c.place.new.core) (fits c.args.core.now.filer.swapper c.requires.size) c.place.ensures.asked.reaches.goes.makes c.in-Err.halt c.in-Err.ensures.cause
 
 -- ---- No label was written.
 
@@ -56,7 +56,7 @@ returns-in-Ok-Err-clause-moves g c = moves_of_reaches (state c.args.core.now) (s
 pub returns-in-Err-clause-moves : goal.returns-in-Err-clause-moves
 returns-in-Err-clause-moves g c = moves_of_reaches (state c.args.core.now) (state c.place.new.core) c.place.ensures.asked.reaches
 
--- ---- The tables are told.
+-- ---- The tables are revealed.
 
 pub returns-in-Ok-Ok-clause-sees : goal.returns-in-Ok-Ok-clause-sees
 returns-in-Ok-Ok-clause-sees g c = λ ss s. (ss, (c.place.ensures.sees ss s, shown_here ss))

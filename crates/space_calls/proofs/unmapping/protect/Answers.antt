@@ -6,7 +6,7 @@ use Rattle.flat_machine.specs.declared.call.Call.TheVariants as call
 use Rattle.running_words.specs.Running.{Carried}
 use Rattle.swapper_kernel.specs.GoesLaws.{makes_then}
 use Rattle.space_calls.proofs.CarryLemmas.{refused_carried}
-use Rattle.space_calls.proofs.FileLemmas.{found_refused, found_told}
+use Rattle.space_calls.proofs.FileLemmas.{found_refused, found_revealed}
 use Rattle.space_calls.proofs.RunLemmas.{nothing_labelled, quiet_passes}
 use Rattle.space_calls.proofs.TakeLemmas.{row_refused}
 use Rattle.space_tables.specs.declared.shown.Shown.{Shown}
@@ -19,7 +19,7 @@ use Rattle.space_calls.specs.Halts.{ProtectHalts, WritableHalts}
 use Rattle.filer_kernel.proofs.Outcomes.{err_wider}
 use Rattle.space_calls.proofs.HaltLemmas.{slot_protect, writable_protect}
 use Rattle.running_words.specs.MovingLaws.{moves_of_reaches}
-use Rattle.space_calls.proofs.MovesLemmas.{moves_behind}
+use Rattle.space_calls.proofs.MovesLemmas.{moves_after}
 use Rattle.space_calls.specs.FilesLaws.{shown_here}
 use Rattle.space_calls.proofs.OnLemmas.{each_still_on}
 use Rattle.space_calls.proofs.unmapping.protect.Goals as goal
@@ -31,13 +31,13 @@ pub returns-in-Ok-Err-clause-synced : goal.returns-in-Ok-Err-clause-synced
 returns-in-Ok-Err-clause-synced g c = λ volume m r read_only none. absurd (none-some c.in-Ok-Err.word (sym none ∙ row_refused m c.args.space c.args.writable c.in-Ok-Err.word (found_refused m.spaces c.args.space c.in-Ok-Err.field-0 (c.in-Ok-Err.ensures.answer volume m r) c.in-Ok-Err.word c.in-Ok-Err.field-0-is)))
 
 pub returns-in-Ok-Err-clause-passes : goal.returns-in-Ok-Err-clause-passes
-returns-in-Ok-Err-clause-passes g c = λ volume m r. quiet_passes c.args.core.now c.find_window.new.core volume m _ (g.met.D.Disk.in_form c.args.core.now.filer.swapper.under) r (c.find_window.ensures.makes)
+returns-in-Ok-Err-clause-passes g c = λ volume m r. quiet_passes c.args.core.now c.find_window.new.core volume m _ (g.met.D.Disk.in_form c.args.core.now.filer.swapper.disk) r (c.find_window.ensures.makes)
 
 pub returns-in-Ok-Err-clause-wrote : goal.returns-in-Ok-Err-clause-wrote
 returns-in-Ok-Err-clause-wrote g c = nothing_labelled (c.find_window.ensures.makes)
 
 pub returns-in-Err-clause-passes : goal.returns-in-Err-clause-passes
-returns-in-Err-clause-passes g c = λ volume m r. quiet_passes c.args.core.now c.find_window.new.core volume m _ (g.met.D.Disk.in_form c.args.core.now.filer.swapper.under) r (c.find_window.ensures.makes)
+returns-in-Err-clause-passes g c = λ volume m r. quiet_passes c.args.core.now c.find_window.new.core volume m _ (g.met.D.Disk.in_form c.args.core.now.filer.swapper.disk) r (c.find_window.ensures.makes)
 
 pub returns-in-Err-clause-wrote : goal.returns-in-Err-clause-wrote
 returns-in-Err-clause-wrote g c = nothing_labelled (c.find_window.ensures.makes)
@@ -45,17 +45,17 @@ returns-in-Err-clause-wrote g c = nothing_labelled (c.find_window.ensures.makes)
 pub returns-then-writable-clause-carried : goal.returns-then-writable-clause-carried
 returns-then-writable-clause-carried g c = λ volume m r.
     let r1 = c.find_window.ensures.runs volume m r in
-    let w = (found_told m.spaces c.args.space c.in-Ok-Ok.field-0 (c.in-Ok-Ok.ensures.answer volume m r) c.in-Ok-Ok.found c.in-Ok-Ok.field-0-is).1 in
+    let w = (found_revealed m.spaces c.args.space c.in-Ok-Ok.field-0 (c.in-Ok-Ok.ensures.answer volume m r) c.in-Ok-Ok.found c.in-Ok-Ok.field-0-is).1 in
     subst (λ (b : Bool). IfOk c.protect_writable.result (Carried m (call.Protect c.args.space b) c.protect_writable.new.core volume)) (sym c.if-writable.true) (c.protect_writable.ensures.carried volume m w.0 r1 w.1 w.2)
 
 pub returns-then-writable-clause-sound : goal.returns-then-writable-clause-sound
 returns-then-writable-clause-sound g c = λ volume m r.
     let r1 = c.find_window.ensures.runs volume m r in
-    let w = (found_told m.spaces c.args.space c.in-Ok-Ok.field-0 (c.in-Ok-Ok.ensures.answer volume m r) c.in-Ok-Ok.found c.in-Ok-Ok.field-0-is).1 in
+    let w = (found_revealed m.spaces c.args.space c.in-Ok-Ok.field-0 (c.in-Ok-Ok.ensures.answer volume m r) c.in-Ok-Ok.found c.in-Ok-Ok.field-0-is).1 in
     c.protect_writable.ensures.sound volume m w.0 r1 w.1 w.2
 
 pub returns-then-writable-clause-passes : goal.returns-then-writable-clause-passes
-returns-then-writable-clause-passes g c = λ volume m r. quiet_passes c.args.core.now c.protect_writable.new.core volume m _ (g.met.D.Disk.in_form c.args.core.now.filer.swapper.under) r (makes_then c.find_window.ensures.makes c.protect_writable.ensures.makes)
+returns-then-writable-clause-passes g c = λ volume m r. quiet_passes c.args.core.now c.protect_writable.new.core volume m _ (g.met.D.Disk.in_form c.args.core.now.filer.swapper.disk) r (makes_then c.find_window.ensures.makes c.protect_writable.ensures.makes)
 
 pub returns-then-writable-clause-wrote : goal.returns-then-writable-clause-wrote
 returns-then-writable-clause-wrote g c = nothing_labelled (makes_then c.find_window.ensures.makes c.protect_writable.ensures.makes)
@@ -66,17 +66,17 @@ returns-then-writable-clause-synced g c = λ volume m r read_only none. absurd (
 pub returns-clause-carried : goal.returns-clause-carried
 returns-clause-carried g c = λ volume m r.
     let r1 = c.find_window.ensures.runs volume m r in
-    let w = (found_told m.spaces c.args.space c.in-Ok-Ok.field-0 (c.in-Ok-Ok.ensures.answer volume m r) c.in-Ok-Ok.found c.in-Ok-Ok.field-0-is).1 in
+    let w = (found_revealed m.spaces c.args.space c.in-Ok-Ok.field-0 (c.in-Ok-Ok.ensures.answer volume m r) c.in-Ok-Ok.found c.in-Ok-Ok.field-0-is).1 in
     subst (λ (b : Bool). IfOk c.protect_read_only.result (Carried m (call.Protect c.args.space b) c.protect_read_only.new.core volume)) (sym c.if-writable.false) (c.protect_read_only.ensures.carried volume m w.0 r1 w.1 w.2 w.3 w.4)
 
 pub returns-clause-sound : goal.returns-clause-sound
 returns-clause-sound g c = λ volume m r.
     let r1 = c.find_window.ensures.runs volume m r in
-    let w = (found_told m.spaces c.args.space c.in-Ok-Ok.field-0 (c.in-Ok-Ok.ensures.answer volume m r) c.in-Ok-Ok.found c.in-Ok-Ok.field-0-is).1 in
+    let w = (found_revealed m.spaces c.args.space c.in-Ok-Ok.field-0 (c.in-Ok-Ok.ensures.answer volume m r) c.in-Ok-Ok.found c.in-Ok-Ok.field-0-is).1 in
     c.protect_read_only.ensures.sound volume m w.0 r1 w.1 w.2 w.3 w.4
 
 pub returns-clause-passes : goal.returns-clause-passes
-returns-clause-passes g c = λ volume m r. quiet_passes c.args.core.now c.protect_read_only.new.core volume m _ (g.met.D.Disk.in_form c.args.core.now.filer.swapper.under) r (makes_then c.find_window.ensures.makes c.protect_read_only.ensures.makes)
+returns-clause-passes g c = λ volume m r. quiet_passes c.args.core.now c.protect_read_only.new.core volume m _ (g.met.D.Disk.in_form c.args.core.now.filer.swapper.disk) r (makes_then c.find_window.ensures.makes c.protect_read_only.ensures.makes)
 
 pub returns-clause-wrote : goal.returns-clause-wrote
 returns-clause-wrote g c = nothing_labelled (makes_then c.find_window.ensures.makes c.protect_read_only.ensures.makes)
@@ -84,7 +84,7 @@ returns-clause-wrote g c = nothing_labelled (makes_then c.find_window.ensures.ma
 pub returns-clause-synced : goal.returns-clause-synced
 returns-clause-synced g c = λ volume m r read_only none.
     let r1 = c.find_window.ensures.runs volume m r in
-    let w = (found_told m.spaces c.args.space c.in-Ok-Ok.field-0 (c.in-Ok-Ok.ensures.answer volume m r) c.in-Ok-Ok.found c.in-Ok-Ok.field-0-is).1 in
+    let w = (found_revealed m.spaces c.args.space c.in-Ok-Ok.field-0 (c.in-Ok-Ok.ensures.answer volume m r) c.in-Ok-Ok.found c.in-Ok-Ok.field-0-is).1 in
     c.protect_read_only.ensures.synced volume m w.0 r1 w.1 w.2 w.3 w.4
 
 -- ---- Why it failed.
@@ -125,24 +125,24 @@ pub returns-in-Err-clause-moves : goal.returns-in-Err-clause-moves
 returns-in-Err-clause-moves g c = moves_of_reaches (state c.args.core.now) (state c.find_window.new.core) c.find_window.ensures.reaches
 
 pub returns-then-writable-clause-moves : goal.returns-then-writable-clause-moves
-returns-then-writable-clause-moves g c = moves_behind (state c.args.core.now) (state c.find_window.new.core) (state c.protect_writable.new.core) c.args.core.now.filer.swapper.accepted c.find_window.ensures.reaches c.protect_writable.ensures.moves
+returns-then-writable-clause-moves g c = moves_after (state c.args.core.now) (state c.find_window.new.core) (state c.protect_writable.new.core) c.args.core.now.filer.swapper.accepted c.find_window.ensures.reaches c.protect_writable.ensures.moves
 
 pub returns-clause-moves : goal.returns-clause-moves
-returns-clause-moves g c = moves_behind (state c.args.core.now) (state c.find_window.new.core) (state c.protect_read_only.new.core) c.args.core.now.filer.swapper.accepted c.find_window.ensures.reaches c.protect_read_only.ensures.moves
+returns-clause-moves g c = moves_after (state c.args.core.now) (state c.find_window.new.core) (state c.protect_read_only.new.core) c.args.core.now.filer.swapper.accepted c.find_window.ensures.reaches c.protect_read_only.ensures.moves
 
--- ---- The tables are told.
+-- ---- The tables are revealed.
 
 pub returns-in-Ok-Err-clause-sees : goal.returns-in-Ok-Err-clause-sees
 returns-in-Ok-Err-clause-sees g c = λ ss s. (ss, (c.find_window.ensures.still ss s, shown_here ss))
 
 pub returns-then-writable-clause-sees : goal.returns-then-writable-clause-sees
 returns-then-writable-clause-sees g c = each_still_on c.args.core.now c.protect_writable.new.core c.protect_writable.result (λ ss s.
-    let w = (found_told ss c.args.space c.in-Ok-Ok.field-0 (c.in-Ok-Ok.ensures.seen ss s) c.in-Ok-Ok.found c.in-Ok-Ok.field-0-is).1 in
+    let w = (found_revealed ss c.args.space c.in-Ok-Ok.field-0 (c.in-Ok-Ok.ensures.seen ss s) c.in-Ok-Ok.found c.in-Ok-Ok.field-0-is).1 in
     c.protect_writable.ensures.sees ss w.0 (c.find_window.ensures.still ss s) w.1 w.2)
 
 pub returns-clause-sees : goal.returns-clause-sees
 returns-clause-sees g c = each_still_on c.args.core.now c.protect_read_only.new.core c.protect_read_only.result (λ ss s.
-    let w = (found_told ss c.args.space c.in-Ok-Ok.field-0 (c.in-Ok-Ok.ensures.seen ss s) c.in-Ok-Ok.found c.in-Ok-Ok.field-0-is).1 in
+    let w = (found_revealed ss c.args.space c.in-Ok-Ok.field-0 (c.in-Ok-Ok.ensures.seen ss s) c.in-Ok-Ok.found c.in-Ok-Ok.field-0-is).1 in
     c.protect_read_only.ensures.sees ss w.0 (c.find_window.ensures.still ss s) w.1 w.2)
 
 pub returns-then-writable-clause-right : goal.returns-then-writable-clause-right

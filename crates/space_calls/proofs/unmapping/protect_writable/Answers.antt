@@ -10,7 +10,7 @@ use Rattle.space_calls.proofs.TakeLemmas.{handle_is, may, mode_carried, mode_fit
 use Rattle.fault_core.specs.Core.{state}
 use Rattle.space_calls.proofs.HaltLemmas.{counted_change}
 use Rattle.running_words.specs.MovingLaws.{moves_of_reaches}
-use Rattle.space_calls.proofs.MovesLemmas.{moves_behind}
+use Rattle.space_calls.proofs.MovesLemmas.{moves_after}
 use Rattle.space_calls.specs.ReasonLaws.{moves_of_reshapes}
 use Rattle.space_tables.specs.Shows.{window_of}
 use Rattle.space_calls.proofs.SeesLemmas.{are_seen, handle_so, shown_fits, shown_may, windows_seen}
@@ -22,8 +22,8 @@ pub returns-in-Ok-true-clause-carried : goal.returns-in-Ok-true-clause-carried
 returns-in-Ok-true-clause-carried g c = λ volume m s r at has.
     let r1 = c.shows_immutable.ensures.runs volume m r in
     let l = c.shows_immutable.new.core in
-    let told = subst (λ (b : Bool). is_immutable m c.args.shown.id ≡ then_some b why.Immutable) c.in-Ok-true.field-0-test (c.in-Ok-true.ensures.answer volume m r) in
-    let decided = mode_refused l volume m r1 c.args.space c.args.shown s at has true told in
+    let revealed = subst (λ (b : Bool). is_immutable m c.args.shown.id ≡ then_some b why.Immutable) c.in-Ok-true.field-0-test (c.in-Ok-true.ensures.answer volume m r) in
+    let decided = mode_refused l volume m r1 c.args.space c.args.shown s at has true revealed in
     refused_carried l volume m (call.Protect c.args.space true) why.Immutable decided r1
 
 pub returns-in-Err-clause-sound : goal.returns-in-Err-clause-sound
@@ -33,8 +33,8 @@ pub returns-in-Ok-Ok-clause-carried : goal.returns-in-Ok-Ok-clause-carried
 returns-in-Ok-Ok-clause-carried g c = λ volume m s r at has.
     let r1 = c.shows_immutable.ensures.runs volume m r in
     let l = c.shows_immutable.new.core in
-    let told = subst (λ (b : Bool). is_immutable m c.args.shown.id ≡ then_some b why.Immutable) c.in-Ok-false.field-0-test (c.in-Ok-false.ensures.answer volume m r) in
-    let decided = mode_refused l volume m r1 c.args.space c.args.shown s at has false told in
+    let revealed = subst (λ (b : Bool). is_immutable m c.args.shown.id ≡ then_some b why.Immutable) c.in-Ok-false.field-0-test (c.in-Ok-false.ensures.answer volume m r) in
+    let decided = mode_refused l volume m r1 c.args.space c.args.shown s at has false revealed in
     let done = c.in-Ok-Ok.ensures.done volume m s m.unforced r1 (may l volume m r1 c.args.space c.args.shown s at has) (handle_is l volume m r1 c.args.space c.args.shown s at has) (mode_fits l volume m r1 c.args.space c.args.shown s at has true)
     (mode_machine l volume m r1 c.args.space c.args.shown s at has true decided) (mode_frames l volume m r1 c.args.space c.args.shown s at has true) r1.session.stands.dirty in
     mode_carried l volume m r1 c.args.space c.args.shown s at has true decided c.change_window.new.core (was_done _ c.in-Ok-Ok.field-0 c.in-Ok-Ok.field-0-is done)
@@ -46,8 +46,8 @@ pub returns-in-Ok-Err-clause-carried : goal.returns-in-Ok-Err-clause-carried
 returns-in-Ok-Err-clause-carried g c = λ volume m s r at has.
     let r1 = c.shows_immutable.ensures.runs volume m r in
     let l = c.shows_immutable.new.core in
-    let told = subst (λ (b : Bool). is_immutable m c.args.shown.id ≡ then_some b why.Immutable) c.in-Ok-false.field-0-test (c.in-Ok-false.ensures.answer volume m r) in
-    let decided = mode_refused l volume m r1 c.args.space c.args.shown s at has false told in
+    let revealed = subst (λ (b : Bool). is_immutable m c.args.shown.id ≡ then_some b why.Immutable) c.in-Ok-false.field-0-test (c.in-Ok-false.ensures.answer volume m r) in
+    let decided = mode_refused l volume m r1 c.args.space c.args.shown s at has false revealed in
     let done = c.in-Ok-Err.ensures.done volume m s m.unforced r1 (may l volume m r1 c.args.space c.args.shown s at has) (handle_is l volume m r1 c.args.space c.args.shown s at has) (mode_fits l volume m r1 c.args.space c.args.shown s at has true)
     (mode_machine l volume m r1 c.args.space c.args.shown s at has true decided) (mode_frames l volume m r1 c.args.space c.args.shown s at has true) r1.session.stands.dirty in
     absurd (not_refused _ c.in-Ok-Err.field-0 c.in-Ok-Err.word c.in-Ok-Err.field-0-is done)
@@ -87,28 +87,28 @@ pub returns-in-Err-clause-moves : goal.returns-in-Err-clause-moves
 returns-in-Err-clause-moves g c = moves_of_reaches (state c.args.core.now) (state c.shows_immutable.new.core) c.shows_immutable.ensures.reaches
 
 pub returns-in-Ok-Ok-clause-moves : goal.returns-in-Ok-Ok-clause-moves
-returns-in-Ok-Ok-clause-moves g c = moves_behind (state c.args.core.now) (state c.shows_immutable.new.core) (state c.change_window.new.core) c.args.core.now.filer.swapper.accepted c.shows_immutable.ensures.reaches (moves_of_reshapes (state c.shows_immutable.new.core) (state c.change_window.new.core) c.change_window.ensures.reshapes)
+returns-in-Ok-Ok-clause-moves g c = moves_after (state c.args.core.now) (state c.shows_immutable.new.core) (state c.change_window.new.core) c.args.core.now.filer.swapper.accepted c.shows_immutable.ensures.reaches (moves_of_reshapes (state c.shows_immutable.new.core) (state c.change_window.new.core) c.change_window.ensures.reshapes)
 
 pub returns-in-Ok-Err-clause-moves : goal.returns-in-Ok-Err-clause-moves
-returns-in-Ok-Err-clause-moves g c = moves_behind (state c.args.core.now) (state c.shows_immutable.new.core) (state c.change_window.new.core) c.args.core.now.filer.swapper.accepted c.shows_immutable.ensures.reaches (moves_of_reshapes (state c.shows_immutable.new.core) (state c.change_window.new.core) c.change_window.ensures.reshapes)
+returns-in-Ok-Err-clause-moves g c = moves_after (state c.args.core.now) (state c.shows_immutable.new.core) (state c.change_window.new.core) c.args.core.now.filer.swapper.accepted c.shows_immutable.ensures.reaches (moves_of_reshapes (state c.shows_immutable.new.core) (state c.change_window.new.core) c.change_window.ensures.reshapes)
 
 pub returns-in-Err-change_window-clause-moves : goal.returns-in-Err-change_window-clause-moves
-returns-in-Err-change_window-clause-moves g c = moves_behind (state c.args.core.now) (state c.shows_immutable.new.core) (state c.change_window.new.core) c.args.core.now.filer.swapper.accepted c.shows_immutable.ensures.reaches (moves_of_reshapes (state c.shows_immutable.new.core) (state c.change_window.new.core) c.change_window.ensures.reshapes)
+returns-in-Err-change_window-clause-moves g c = moves_after (state c.args.core.now) (state c.shows_immutable.new.core) (state c.change_window.new.core) c.args.core.now.filer.swapper.accepted c.shows_immutable.ensures.reaches (moves_of_reshapes (state c.shows_immutable.new.core) (state c.change_window.new.core) c.change_window.ensures.reshapes)
 
--- ---- The tables are told.
+-- ---- The tables are revealed.
 
 pub returns-in-Ok-true-clause-sees : goal.returns-in-Ok-true-clause-sees
 returns-in-Ok-true-clause-sees g c = λ ss x s at has. (ss, (c.shows_immutable.ensures.still ss s, shown_here ss))
 
 pub returns-in-Ok-Ok-clause-sees : goal.returns-in-Ok-Ok-clause-sees
 returns-in-Ok-Ok-clause-sees g c = λ ss x s at has.
-    let told = c.in-Ok-Ok.ensures.sees ss x (c.shows_immutable.ensures.still ss s) (shown_may ss c.args.space (are_seen s) x at (window_of c.args.shown) has) (handle_so ss c.args.space (are_seen s) x at) (shown_fits ss c.args.space (are_seen s) x at (window_of c.args.shown) has (windows_seen s) true) in
-    (_, (told, mode_on ss (are_seen s) c.args.space c.args.shown (x, at, has) true))
+    let revealed = c.in-Ok-Ok.ensures.sees ss x (c.shows_immutable.ensures.still ss s) (shown_may ss c.args.space (are_seen s) x at (window_of c.args.shown) has) (handle_so ss c.args.space (are_seen s) x at) (shown_fits ss c.args.space (are_seen s) x at (window_of c.args.shown) has (windows_seen s) true) in
+    (_, (revealed, mode_on ss (are_seen s) c.args.space c.args.shown (x, at, has) true))
 
 pub returns-in-Ok-Err-clause-sees : goal.returns-in-Ok-Err-clause-sees
 returns-in-Ok-Err-clause-sees g c = λ ss x s at has.
-    let told = c.in-Ok-Err.ensures.sees ss x (c.shows_immutable.ensures.still ss s) (shown_may ss c.args.space (are_seen s) x at (window_of c.args.shown) has) (handle_so ss c.args.space (are_seen s) x at) (shown_fits ss c.args.space (are_seen s) x at (window_of c.args.shown) has (windows_seen s) true) in
-    (_, (told, mode_on ss (are_seen s) c.args.space c.args.shown (x, at, has) true))
+    let revealed = c.in-Ok-Err.ensures.sees ss x (c.shows_immutable.ensures.still ss s) (shown_may ss c.args.space (are_seen s) x at (window_of c.args.shown) has) (handle_so ss c.args.space (are_seen s) x at) (shown_fits ss c.args.space (are_seen s) x at (window_of c.args.shown) has (windows_seen s) true) in
+    (_, (revealed, mode_on ss (are_seen s) c.args.space c.args.shown (x, at, has) true))
 
 pub returns-in-Err-change_window-clause-right : goal.returns-in-Err-change_window-clause-right
 returns-in-Err-change_window-clause-right g c = λ s. c.in-Err-change_window.ensures.right (s.0, c.shows_immutable.ensures.still s.0 s.1)

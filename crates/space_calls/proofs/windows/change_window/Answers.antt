@@ -3,7 +3,7 @@ use Rattle.space_calls.proofs.RunLemmas.{knows}
 use Rattle.space_calls.proofs.WindowLemmas.{window_changed}
 use Rattle.fault_core.specs.Core.{kept, state}
 use Rattle.filer_kernel.specs.EvidenceLaws.{fits}
-use Rattle.fault_core.proofs.EvidenceLemmas.{shows_so}
+use Rattle.fault_core.proofs.EvidenceLemmas.{shows_evidence}
 use Rattle.space_calls.proofs.ReshapeLemmas.{reshapes_tables}
 use Rattle.fault_core.specs.Lack.{Sees}
 use Rattle.flat_machine.specs.Next.{set_window}
@@ -17,14 +17,14 @@ returns-in-Err-clause-sound g c = λ volume m x r may named fits. c.in-Err.ensur
 pub returns-clause-done : goal.returns-clause-done
 returns-clause-done g c = λ volume m x unforced r may named fits is frames loose.
     let old = c.args.core.now in
-    window_changed old c.set_window.new.core c.frame_count-frames.new.core old.filer.swapper.accepted c.requires.size (g.met.D.Disk.in_form c.set_window.new.core.filer.swapper.under)
+    window_changed old c.set_window.new.core c.frame_count-frames.new.core old.filer.swapper.accepted c.requires.size (g.met.D.Disk.in_form c.set_window.new.core.filer.swapper.disk)
     c.frame_count-frames.ensures.pages c.frame_count-frames.ensures.same c.set_window.ensures.retabled volume m r _ unforced is frames loose c.in-Ok.answer
     (c.in-Ok.ensures.done _ _ m.spaces x (knows old old.filer.swapper.accepted c.requires.size volume m r) may named fits)
 
 -- ---- What its evidence says is so.
 
-pub returns-in-Err-clause-so : goal.returns-in-Err-clause-so
-returns-in-Err-clause-so g c = shows_so _ (state c.args.core.now) (state c.set_window.new.core) (fits c.args.core.now.filer.swapper c.requires.size) c.set_window.ensures.retabled.beside.goes.makes c.in-Err.halt c.in-Err.ensures.cause
+pub returns-in-Err-clause-evidence_seen : goal.returns-in-Err-clause-evidence_seen
+returns-in-Err-clause-evidence_seen g c = shows_evidence _ (state c.args.core.now) (state c.set_window.new.core) (fits c.args.core.now.filer.swapper c.requires.size) c.set_window.ensures.retabled.beside.goes.makes c.in-Err.halt c.in-Err.ensures.cause
 
 -- ---- What the change leaves.
 
@@ -34,7 +34,7 @@ returns-in-Err-clause-reshapes g c = reshapes_tables (state c.args.core.now) (st
 pub returns-clause-reshapes : goal.returns-clause-reshapes
 returns-clause-reshapes g c = rw c.frame_count-frames.ensures.same (reshapes_tables (state c.args.core.now) (state c.set_window.new.core) c.set_window.ensures.retabled.beside)
 
--- ---- The tables are told.
+-- ---- The tables are revealed.
 
 pub returns-clause-sees : goal.returns-clause-sees
 returns-clause-sees g c = λ ss x s may named fits.

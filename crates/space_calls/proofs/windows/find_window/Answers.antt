@@ -4,7 +4,7 @@ use Rattle.space_calls.proofs.RunLemmas.{asked_makes, asked_runs, knows, size_ke
 use Rattle.space_calls.proofs.TableAnswers.{shown_refused}
 use Rattle.fault_core.specs.Core.{state}
 use Rattle.filer_kernel.specs.EvidenceLaws.{fits}
-use Rattle.fault_core.proofs.EvidenceLemmas.{shows_so}
+use Rattle.fault_core.proofs.EvidenceLemmas.{shows_evidence}
 use Rattle.std.proofs.Common.{ℕ, ◌∙◌, rules}
 use Rattle.space_tables.specs.Shows.{IsRunAt, IsShownAt}
 use Rattle.table_calls.specs.Answers.{TablesSay}
@@ -102,11 +102,11 @@ returns-in-Err-bounds-clause-makes g c = makes_then (asked_makes _ _ c.shown.ens
 
 -- ---- What its evidence says is so.
 
-pub returns-in-Err-clause-so : goal.returns-in-Err-clause-so
-returns-in-Err-clause-so g c = shows_so _ (state c.args.core.now) (state c.shown.new.core) (fits c.args.core.now.filer.swapper c.requires.size) c.shown.ensures.asked.reaches.goes.makes c.in-Err.halt c.in-Err.ensures.cause
+pub returns-in-Err-clause-evidence_seen : goal.returns-in-Err-clause-evidence_seen
+returns-in-Err-clause-evidence_seen g c = shows_evidence _ (state c.args.core.now) (state c.shown.new.core) (fits c.args.core.now.filer.swapper c.requires.size) c.shown.ensures.asked.reaches.goes.makes c.in-Err.halt c.in-Err.ensures.cause
 
-pub returns-in-Err-bounds-clause-so : goal.returns-in-Err-bounds-clause-so
-returns-in-Err-bounds-clause-so g c = shows_so _ (state c.shown.new.core) (state c.bounds.new.core) (fits c.shown.new.core.filer.swapper (search rules)) c.bounds.ensures.asked.reaches.goes.makes c.in-Err-bounds.halt c.in-Err-bounds.ensures.cause
+pub returns-in-Err-bounds-clause-evidence_seen : goal.returns-in-Err-bounds-clause-evidence_seen
+returns-in-Err-bounds-clause-evidence_seen g c = shows_evidence _ (state c.shown.new.core) (state c.bounds.new.core) (fits c.shown.new.core.filer.swapper (search rules)) c.bounds.ensures.asked.reaches.goes.makes c.in-Err-bounds.halt c.in-Err-bounds.ensures.cause
 
 -- ---- What the tables say.
 
@@ -118,7 +118,7 @@ returns-in-Ok-Ok-bounds-clause-range g c =
     let seen = state c.shown.new.core in
     let run : ℕ × ℕ = (c.in-Ok-Ok-bounds.first, c.in-Ok-Ok-bounds.pages) in
     let later = given_so (TablesSay seen (λ b. IsRunAt b c.args.space)) run c.in-Ok-Ok-bounds.field-0 c.in-Ok-Ok-bounds.field-0-is c.in-Ok-Ok-bounds.ensures.read in
-    λ b told. later b (c.shown.ensures.asked.reaches.told b told)
+    λ b revealed. later b (c.shown.ensures.asked.reaches.revealed b revealed)
 
 -- ---- What was asked, and why it failed.
 
@@ -156,7 +156,7 @@ returns-in-Ok-Err-clause-intervals g c = c.shown.ensures.asked.intervals
 pub returns-in-Err-clause-intervals : goal.returns-in-Err-clause-intervals
 returns-in-Err-clause-intervals g c = c.shown.ensures.asked.intervals
 
--- ---- The tables are told.
+-- ---- The tables are revealed.
 
 pub returns-in-Ok-Err-clause-still : goal.returns-in-Ok-Err-clause-still
 returns-in-Ok-Err-clause-still g c = λ ss s. c.shown.ensures.sees ss s

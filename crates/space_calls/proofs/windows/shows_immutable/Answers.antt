@@ -1,20 +1,20 @@
 use Rattle.session_words.specs.Parts.{shapes_of}
-use Rattle.space_calls.proofs.FileLemmas.{immutable_told, missing_told}
+use Rattle.space_calls.proofs.FileLemmas.{immutable_revealed, missing_revealed}
 use Rattle.space_calls.proofs.RunLemmas.{books_of, looked_runs}
 use Rattle.fault_core.specs.Core.{state}
 use Rattle.space_calls.proofs.HaltLemmas.{look_reaches}
 use Rattle.std.proofs.Common.{refl}
-use Rattle.space_calls.proofs.SeesLemmas.{look_spares, reached_sees}
+use Rattle.space_calls.proofs.SeesLemmas.{look_never_blames, reached_sees}
 use Rattle.space_calls.proofs.windows.shows_immutable.Goals as goal
 
 pub returns-in-Ok-Some-clause-answer : goal.returns-in-Ok-Some-clause-answer
-returns-in-Ok-Some-clause-answer g c = λ volume m r. immutable_told m c.args.id c.in-Ok-Some.field-0 c.in-Ok-Some.found c.in-Ok-Some.field-0-is (c.in-Ok-Some.ensures.told _ (shapes_of m.files) m.spaces (books_of r))
+returns-in-Ok-Some-clause-answer g c = λ volume m r. immutable_revealed m c.args.id c.in-Ok-Some.field-0 c.in-Ok-Some.found c.in-Ok-Some.field-0-is (c.in-Ok-Some.ensures.revealed _ (shapes_of m.files) m.spaces (books_of r))
 
 pub returns-in-Ok-None-clause-answer : goal.returns-in-Ok-None-clause-answer
-returns-in-Ok-None-clause-answer g c = λ volume m r. missing_told m c.args.id c.in-Ok-None.field-0 c.in-Ok-None.field-0-is (c.in-Ok-None.ensures.told _ (shapes_of m.files) m.spaces (books_of r))
+returns-in-Ok-None-clause-answer g c = λ volume m r. missing_revealed m c.args.id c.in-Ok-None.field-0 c.in-Ok-None.field-0-is (c.in-Ok-None.ensures.revealed _ (shapes_of m.files) m.spaces (books_of r))
 
 pub returns-in-Err-clause-sound : goal.returns-in-Err-clause-sound
-returns-in-Err-clause-sound g c = λ volume m r. c.in-Err.ensures.told _ (shapes_of m.files) m.spaces (books_of r)
+returns-in-Err-clause-sound g c = λ volume m r. c.in-Err.ensures.revealed _ (shapes_of m.files) m.spaces (books_of r)
 
 pub returns-in-Ok-Some-clause-runs : goal.returns-in-Ok-Some-clause-runs
 returns-in-Ok-Some-clause-runs g c = λ volume m r. looked_runs r c.attributes_of.ensures.makes c.attributes_of.ensures.brings (c.attributes_of.ensures.same _ (shapes_of m.files) m.spaces (books_of r)) c.attributes_of.ensures.layout
@@ -34,7 +34,7 @@ returns-in-Ok-None-clause-reaches g c = look_reaches (state c.args.core.now) (st
 pub returns-in-Err-clause-reaches : goal.returns-in-Err-clause-reaches
 returns-in-Err-clause-reaches g c = look_reaches (state c.args.core.now) (state (record c.args.core.now { filer = c.attributes_of.new.filer })) c.attributes_of.ensures.looks c.attributes_of.ensures.layout
 
--- ---- The tables are told.
+-- ---- The tables are revealed.
 
 pub returns-in-Ok-Some-clause-still : goal.returns-in-Ok-Some-clause-still
 returns-in-Ok-Some-clause-still g c = λ ss s. reached_sees (returns-in-Ok-Some-clause-reaches g c) refl refl s
@@ -46,4 +46,4 @@ pub returns-in-Err-clause-still : goal.returns-in-Err-clause-still
 returns-in-Err-clause-still g c = λ ss s. reached_sees (returns-in-Err-clause-reaches g c) refl refl s
 
 pub returns-in-Err-clause-right : goal.returns-in-Err-clause-right
-returns-in-Err-clause-right g c = λ s. look_spares (state c.args.core.now) (state (record c.args.core.now { filer = c.attributes_of.new.filer })) c.args.id c.in-Err.halt c.in-Err.ensures.cause
+returns-in-Err-clause-right g c = λ s. look_never_blames (state c.args.core.now) (state (record c.args.core.now { filer = c.attributes_of.new.filer })) c.args.id c.in-Err.halt c.in-Err.ensures.cause

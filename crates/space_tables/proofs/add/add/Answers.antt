@@ -11,74 +11,74 @@ use Rattle.projection_laws.specs.Tests.{no_space, no_spaces, no_place, add_row, 
 use Rattle.projection_laws.specs.Edits.{replaced, pieces}
 use Rattle.projection_laws.proofs.Passes.{add_passes}
 use Rattle.space_tables.specs.Form.{BreaksHierarchy, BreaksAt, IsOverfull, MakesTooMany}
-use Rattle.space_tables.specs.Stored.{HoldTables, TellSpaces}
+use Rattle.space_tables.specs.Stored.{HoldTables, RevealSpaces}
 use Rattle.space_tables.proofs.Right.{right_reads}
 use Rattle.space_tables.proofs.Passes.{still_hold}
-use Rattle.space_tables.proofs.Asks.{still_tell, refuses_with, refuses_by, from_memory, passed, stopped}
+use Rattle.space_tables.proofs.Asks.{still_reveal, refuses_with, refuses_by, from_memory, passed, stopped}
 use Rattle.space_tables.proofs.Pieces.{some_size, zero_size, all_taken, one_more, few_now, lowest_is, is_made, added, malformed_as, mem_as}
 use Rattle.space_tables.proofs.add.add.Goals as goal
 
 pub returns-in_err-existing-clause-answer : goal.returns-in_err-existing-clause-answer
 returns-in_err-existing-clause-answer g c = λ ss t.
-    let now = still_tell g.M.FlatMem.tells c.args.mem.now c.existing.new.mem c.existing.ensures.unchanged c.args.count ss t in
+    let now = still_reveal g.M.FlatMem.reveals c.args.mem.now c.existing.new.mem c.existing.ensures.unchanged c.args.count ss t in
     let m = c.in_err-existing.ensures.answer c.args.count ss t in
-    let k = refuses_with (TellSpaces (g.M.FlatMem.tells c.existing.new.mem) c.args.count ss) now (no_space ss c.args.parent)
+    let k = refuses_with (RevealSpaces (g.M.FlatMem.reveals c.existing.new.mem) c.args.count ss) now (no_space ss c.args.parent)
     (no_size c.args.pages ∷ no_spaces ss ∷ no_place ss c.args.parent c.args.pages c.args.first ∷ []) _ m in search (rules, k)
 
 pub returns-then-pages-eq0-clause-answer : goal.returns-then-pages-eq0-clause-answer
 returns-then-pages-eq0-clause-answer g c = λ ss t.
-    let now = still_tell g.M.FlatMem.tells c.args.mem.now c.existing.new.mem c.existing.ensures.unchanged c.args.count ss t in
+    let now = still_reveal g.M.FlatMem.reveals c.args.mem.now c.existing.new.mem c.existing.ensures.unchanged c.args.count ss t in
     let m = c.in_ok-existing.ensures.answer c.args.count ss t in
     (passed _ _ m.0 ∙ stopped _ _ _ (zero_size c.args.pages c.if-pages-eq0.true), now)
 
 pub returns-in_err-handle-clause-answer : goal.returns-in_err-handle-clause-answer
 returns-in_err-handle-clause-answer g c = λ ss t.
-    let hold = still_hold g.M.FlatMem.tells c.args.mem.now c.existing.new.mem c.existing.ensures.unchanged t.slots t.xs t.hold in
+    let hold = still_hold g.M.FlatMem.reveals c.args.mem.now c.existing.new.mem c.existing.ensures.unchanged t.slots t.xs t.hold in
     let m = c.in_err-handle.ensures.free t.slots t.xs hold (right_reads t.slots t.xs t.right) in
-    let k = from_memory (TellSpaces (g.M.FlatMem.tells c.free_handle.new.mem) c.args.count ss) (first_of (add_row ss c.args.parent c.args.pages c.args.first)) _ m in search (rules, k)
+    let k = from_memory (RevealSpaces (g.M.FlatMem.reveals c.free_handle.new.mem) c.args.count ss) (first_of (add_row ss c.args.parent c.args.pages c.args.first)) _ m in search (rules, k)
 
 pub returns-in_default-clause-answer : goal.returns-in_default-clause-answer
 returns-in_default-clause-answer g c = λ ss t.
-    let now = still_tell g.M.FlatMem.tells c.args.mem.now c.existing.new.mem c.existing.ensures.unchanged c.args.count ss t in
-    let later = still_tell g.M.FlatMem.tells c.existing.new.mem c.free_handle.new.mem c.free_handle.ensures.unchanged c.args.count ss now in
-    let hold = still_hold g.M.FlatMem.tells c.args.mem.now c.existing.new.mem c.existing.ensures.unchanged t.slots t.xs t.hold in
+    let now = still_reveal g.M.FlatMem.reveals c.args.mem.now c.existing.new.mem c.existing.ensures.unchanged c.args.count ss t in
+    let later = still_reveal g.M.FlatMem.reveals c.existing.new.mem c.free_handle.new.mem c.free_handle.ensures.unchanged c.args.count ss now in
+    let hold = still_hold g.M.FlatMem.reveals c.args.mem.now c.existing.new.mem c.existing.ensures.unchanged t.slots t.xs t.hold in
     let f = rw c.in_default.is at (c.in_ok-handle.ensures.free t.slots t.xs hold (right_reads t.slots t.xs t.right)) in
     let m = c.in_ok-existing.ensures.answer c.args.count ss t in
     let some : c.args.pages ≢ 0 = c.if-pages-eq0.false in
-    (passed _ _ m.0 ∙ passed _ _ (some_size c.args.pages some) ∙ stopped _ _ _ (all_taken (g.M.FlatMem.tells c.args.mem.now) c.args.count ss t f), later)
+    (passed _ _ m.0 ∙ passed _ _ (some_size c.args.pages some) ∙ stopped _ _ _ (all_taken (g.M.FlatMem.reveals c.args.mem.now) c.args.count ss t f), later)
 
 pub returns-in_err-room-clause-answer : goal.returns-in_err-room-clause-answer
 returns-in_err-room-clause-answer g c = λ ss t.
-    let now = still_tell g.M.FlatMem.tells c.args.mem.now c.existing.new.mem c.existing.ensures.unchanged c.args.count ss t in
-    let later = still_tell g.M.FlatMem.tells c.existing.new.mem c.free_handle.new.mem c.free_handle.ensures.unchanged c.args.count ss now in
-    let last = still_tell g.M.FlatMem.tells c.free_handle.new.mem c.find_room.new.mem c.find_room.ensures.unchanged c.args.count ss later in
-    let hold1 = still_hold g.M.FlatMem.tells c.args.mem.now c.existing.new.mem c.existing.ensures.unchanged t.slots t.xs t.hold in
-    let hold2 = still_hold g.M.FlatMem.tells c.existing.new.mem c.free_handle.new.mem c.free_handle.ensures.unchanged t.slots t.xs hold1 in
+    let now = still_reveal g.M.FlatMem.reveals c.args.mem.now c.existing.new.mem c.existing.ensures.unchanged c.args.count ss t in
+    let later = still_reveal g.M.FlatMem.reveals c.existing.new.mem c.free_handle.new.mem c.free_handle.ensures.unchanged c.args.count ss now in
+    let last = still_reveal g.M.FlatMem.reveals c.free_handle.new.mem c.find_room.new.mem c.find_room.ensures.unchanged c.args.count ss later in
+    let hold1 = still_hold g.M.FlatMem.reveals c.args.mem.now c.existing.new.mem c.existing.ensures.unchanged t.slots t.xs t.hold in
+    let hold2 = still_hold g.M.FlatMem.reveals c.existing.new.mem c.free_handle.new.mem c.free_handle.ensures.unchanged t.slots t.xs hold1 in
     let f = rw c.in-Some.is at (c.in_ok-handle.ensures.free t.slots t.xs hold1 (right_reads t.slots t.xs t.right)) in
     let m = c.in_ok-existing.ensures.answer c.args.count ss t in
     let some : c.args.pages ≢ 0 = c.if-pages-eq0.false in
     let at = ap (λ (rs : List Space). space_at rs c.args.parent) t.spaces ∙ m.1 in
     let e = rw t.spaces at (c.in_err-room.ensures.answer t.slots t.xs c.in_ok-existing.field-0 hold2 t.right t.counted at) in
-    let stays = TellSpaces (g.M.FlatMem.tells c.find_room.new.mem) c.args.count ss in
+    let stays = RevealSpaces (g.M.FlatMem.reveals c.find_room.new.mem) c.args.count ss in
     let row : first_of (add_row ss c.args.parent c.args.pages c.args.first) ≡ first_of (no_place ss c.args.parent c.args.pages c.args.first ∷ []) =
-    passed _ _ m.0 ∙ passed _ _ (some_size c.args.pages some) ∙ passed _ _ (one_more (g.M.FlatMem.tells c.args.mem.now) c.args.count ss t c.in-Some.handle f) in
+    passed _ _ m.0 ∙ passed _ _ (some_size c.args.pages some) ∙ passed _ _ (one_more (g.M.FlatMem.reveals c.args.mem.now) c.args.count ss t c.in-Some.handle f) in
     let k = refuses_by stays _ _ _ row (refuses_with stays last (no_place ss c.args.parent c.args.pages c.args.first) [] _ e) in search (rules, k)
 
 pub returns-in_err-count-clause-answer : goal.returns-in_err-count-clause-answer
 returns-in_err-count-clause-answer g c = λ ss t.
-    let hold = still_hold g.M.FlatMem.tells c.args.mem.now c.existing.new.mem c.existing.ensures.unchanged t.slots t.xs t.hold in
+    let hold = still_hold g.M.FlatMem.reveals c.args.mem.now c.existing.new.mem c.existing.ensures.unchanged t.slots t.xs t.hold in
     let f = rw c.in-Some.is at (c.in_ok-handle.ensures.free t.slots t.xs hold (right_reads t.slots t.xs t.right)) in
-    let m = c.in_err-count.ensures.memory (few_now (g.M.FlatMem.tells c.args.mem.now) c.args.count ss t c.in-Some.handle f) in
-    let k = from_memory (TellSpaces (g.M.FlatMem.tells c.split.new.mem) c.args.count ss) (first_of (add_row ss c.args.parent c.args.pages c.args.first)) _ m in search (rules, k)
+    let m = c.in_err-count.ensures.memory (few_now (g.M.FlatMem.reveals c.args.mem.now) c.args.count ss t c.in-Some.handle f) in
+    let k = from_memory (RevealSpaces (g.M.FlatMem.reveals c.split.new.mem) c.args.count ss) (first_of (add_row ss c.args.parent c.args.pages c.args.first)) _ m in search (rules, k)
 
 pub returns-clause-answer : goal.returns-clause-answer
 returns-clause-answer g c = λ ss t.
-    let tells = g.M.FlatMem.tells c.args.mem.now in
-    let now = still_tell g.M.FlatMem.tells c.args.mem.now c.existing.new.mem c.existing.ensures.unchanged c.args.count ss t in
-    let later = still_tell g.M.FlatMem.tells c.existing.new.mem c.free_handle.new.mem c.free_handle.ensures.unchanged c.args.count ss now in
-    let last = still_tell g.M.FlatMem.tells c.free_handle.new.mem c.find_room.new.mem c.find_room.ensures.unchanged c.args.count ss later in
-    let hold1 = still_hold g.M.FlatMem.tells c.args.mem.now c.existing.new.mem c.existing.ensures.unchanged t.slots t.xs t.hold in
-    let hold2 = still_hold g.M.FlatMem.tells c.existing.new.mem c.free_handle.new.mem c.free_handle.ensures.unchanged t.slots t.xs hold1 in
+    let reveals = g.M.FlatMem.reveals c.args.mem.now in
+    let now = still_reveal g.M.FlatMem.reveals c.args.mem.now c.existing.new.mem c.existing.ensures.unchanged c.args.count ss t in
+    let later = still_reveal g.M.FlatMem.reveals c.existing.new.mem c.free_handle.new.mem c.free_handle.ensures.unchanged c.args.count ss now in
+    let last = still_reveal g.M.FlatMem.reveals c.free_handle.new.mem c.find_room.new.mem c.find_room.ensures.unchanged c.args.count ss later in
+    let hold1 = still_hold g.M.FlatMem.reveals c.args.mem.now c.existing.new.mem c.existing.ensures.unchanged t.slots t.xs t.hold in
+    let hold2 = still_hold g.M.FlatMem.reveals c.existing.new.mem c.free_handle.new.mem c.free_handle.ensures.unchanged t.slots t.xs hold1 in
     let h = c.in-Some.handle in
     let r = c.in_ok-room.room in
     let f = rw c.in-Some.is at (c.in_ok-handle.ensures.free t.slots t.xs hold1 (right_reads t.slots t.xs t.right)) in
@@ -87,18 +87,18 @@ returns-clause-answer g c = λ ss t.
     let at = ap (λ (rs : List Space). space_at rs c.args.parent) t.spaces ∙ m.1 in
     let place = rw t.spaces at (c.in_ok-room.ensures.answer t.slots t.xs c.in_ok-existing.field-0 hold2 t.right t.counted at) in
     let row : first_of (add_row ss c.args.parent c.args.pages c.args.first) ≡ None =
-    passed _ _ m.0 ∙ passed _ _ (some_size c.args.pages some) ∙ passed _ _ (one_more tells c.args.count ss t h f) ∙ passed _ [] place.0 in
+    passed _ _ m.0 ∙ passed _ _ (some_size c.args.pages some) ∙ passed _ _ (one_more reveals c.args.count ss t h f) ∙ passed _ [] place.0 in
     let x : Space = record { handle = h; parent = c.args.parent; first = r.first; pages = c.args.pages; unit = c.first_unit.result; window = None } in
-    let lowest = lowest_is tells c.args.count ss t h f (omega (arith, slice_get_within t.slots h None f.1, t.hold.are.handles)) in
+    let lowest = lowest_is reveals c.args.count ss t h f (omega (arith, slice_get_within t.slots h None f.1, t.hold.are.handles)) in
     let is : x ≡ made ss c.args.parent c.args.pages c.args.first = is_made ss h c.args.parent c.args.pages r.first c.first_unit.result c.args.first lowest place.1.1 c.first_unit.ensures in
     let pass = add_passes ss c.args.parent c.args.pages c.args.first (subst AreSpaces t.spaces t.right.spaces) row in
     let may : MayBeAdded ss x pass.0 = subst (λ (y : Space). MayBeAdded ss y pass.0) (sym is) pass.2 in
-    let hold3 = still_hold g.M.FlatMem.tells c.free_handle.new.mem c.find_room.new.mem c.find_room.ensures.unchanged t.slots t.xs hold2 in
+    let hold3 = still_hold g.M.FlatMem.reveals c.free_handle.new.mem c.find_room.new.mem c.find_room.ensures.unchanged t.slots t.xs hold2 in
     let cut = c.in_ok-count.ensures.split t.slots t.xs hold3 t.counted place.1.0 in
     let hold = c.in_ok-put_slot.ensures.written t.slots (replaced t.xs r.index (pieces x r.interval)) (Some x) cut.0 c.space_bytes.ensures in
-    let new = added tells (g.M.FlatMem.tells c.put_slot.new.mem) c.args.count c.in_ok-count.count ss t x pass.0 r.index r.interval may f.1 place.1.0 c.in_ok-room.ensures.form.2
+    let new = added reveals (g.M.FlatMem.reveals c.put_slot.new.mem) c.args.count c.in_ok-count.count ss t x pass.0 r.index r.interval may f.1 place.1.0 c.in_ok-room.ensures.form.2
     (omega (arith, c.in_ok-room.ensures.form.3, some)) hold cut.1 in
-    (row, (subst (λ (y : Space). TellSpaces (g.M.FlatMem.tells c.put_slot.new.mem) c.in_ok-count.count (put_space y ss)) is new, lowest, place.1.1))
+    (row, (subst (λ (y : Space). RevealSpaces (g.M.FlatMem.reveals c.put_slot.new.mem) c.in_ok-count.count (put_space y ss)) is new, lowest, place.1.1))
 
 pub returns-in_err-count-clause-cause : goal.returns-in_err-count-clause-cause
 returns-in_err-count-clause-cause g c =
@@ -116,8 +116,8 @@ returns-in_err-put_slot-clause-cause g c =
     (λ x k. g.met.M.FlatMem.accounted_wider _ _ _ _ x kept c.put_slot.ensures.kept (g.met.M.FlatMem.beside_itself c.put_slot.new.mem) k) _ c.in_err-put_slot.ensures.cause in search (rules, m)
 
 pub returns-in_err-count-clause-malformed : goal.returns-in_err-count-clause-malformed
-returns-in_err-count-clause-malformed g c = λ b told.
-    let still = c.free_handle.ensures.unchanged b (c.existing.ensures.unchanged b told) in
+returns-in_err-count-clause-malformed g c = λ b revealed.
+    let still = c.free_handle.ensures.unchanged b (c.existing.ensures.unchanged b revealed) in
     let n = c.args.count in
     let r = c.in_ok-room.room in
     let x : Space = record { handle = c.in-Some.handle; parent = c.args.parent; first = r.first; pages = c.args.pages; unit = c.first_unit.result; window = None } in

@@ -1,9 +1,9 @@
 use Rattle.std.proofs.Common.{rules, ◌≡◌, ◌≢◌, ℕ, List, [], ◌∷◌, Option, Some, None, refl, sym, ◌∙◌, ap, arith}
 use Rattle.flat_machine.specs.Refusal.{first_of, is_root}
 use Rattle.projection_laws.specs.Tests.{no_space, path_mapped, map_row}
-use Rattle.space_tables.specs.Stored.{TellSpaces}
+use Rattle.space_tables.specs.Stored.{RevealSpaces}
 use Rattle.space_tables.proofs.Right.{right_reads}
-use Rattle.space_tables.proofs.Asks.{still_tell, refuses_first, from_memory, passed, stopped, space_is, not_root, path_is}
+use Rattle.space_tables.proofs.Asks.{still_reveal, refuses_first, from_memory, passed, stopped, space_is, not_root, path_is}
 use Rattle.space_tables.proofs.ask.unmapped.Goals as goal
 
 pub returns-in_err-space-clause-answer : goal.returns-in_err-space-clause-answer
@@ -13,13 +13,13 @@ returns-in_err-space-clause-answer g c = λ n ss t.
 
 pub returns-in_err-mapped-clause-answer : goal.returns-in_err-mapped-clause-answer
 returns-in_err-mapped-clause-answer g c = λ n ss t.
-    let now = still_tell g.M.FlatMem.tells c.args.mem.now c.existing.new.mem c.existing.ensures.unchanged n ss t in
+    let now = still_reveal g.M.FlatMem.reveals c.args.mem.now c.existing.new.mem c.existing.ensures.unchanged n ss t in
     let m = c.in_err-mapped.ensures.found now.slots now.xs now.hold (right_reads now.slots now.xs now.right) in
     let k = from_memory (Unit {0}) (first_of (map_row ss c.args.handle)) _ m in search (rules, k)
 
 pub returns-in-Some-clause-answer : goal.returns-in-Some-clause-answer
 returns-in-Some-clause-answer g c = λ n ss t.
-    let now = still_tell g.M.FlatMem.tells c.args.mem.now c.existing.new.mem c.existing.ensures.unchanged n ss t in
+    let now = still_reveal g.M.FlatMem.reveals c.args.mem.now c.existing.new.mem c.existing.ensures.unchanged n ss t in
     let at = (c.in_ok-space.ensures.answer n ss t).1 in
     let found = rw now.spaces at (c.in_ok-mapped.ensures.found now.slots now.xs now.hold (right_reads now.slots now.xs now.right)) in
     let apart : c.args.handle ≢ 0 = c.if-handle-eq0.false in
@@ -28,7 +28,7 @@ returns-in-Some-clause-answer g c = λ n ss t.
 
 pub returns-in-None-clause-answer : goal.returns-in-None-clause-answer
 returns-in-None-clause-answer g c = λ n ss t.
-    let now = still_tell g.M.FlatMem.tells c.args.mem.now c.existing.new.mem c.existing.ensures.unchanged n ss t in
+    let now = still_reveal g.M.FlatMem.reveals c.args.mem.now c.existing.new.mem c.existing.ensures.unchanged n ss t in
     let at = (c.in_ok-space.ensures.answer n ss t).1 in
     let found = rw now.spaces at (c.in_ok-mapped.ensures.found now.slots now.xs now.hold (right_reads now.slots now.xs now.right)) in
     let apart : c.args.handle ≢ 0 = c.if-handle-eq0.false in

@@ -9,5 +9,5 @@ use Rattle.space_tables.proofs.begin.begin.Goals as goal
 
 pub returns-clause-begun : goal.returns-clause-begun
 returns-clause-begun g c = λ b h.
-    on_ok_weaker c.put_slot.result (λ (held : HoldTables (g.M.FlatMem.tells c.put_slot.new.mem) (slice_set (bare_slots 512) 0 (Some root)) (root_interval ∷ [])). begins (g.M.FlatMem.tells c.put_slot.new.mem) held)
+    on_ok_weaker c.put_slot.result (λ (held : HoldTables (g.M.FlatMem.reveals c.put_slot.new.mem) (slice_set (bare_slots 512) 0 (Some root)) (root_interval ∷ [])). begins (g.M.FlatMem.reveals c.put_slot.new.mem) held)
     (c.put_slot.ensures.written (bare_slots 512) (root_interval ∷ []) (Some root) (c.in_ok-clear.ensures.cleared b h) c.space_bytes.ensures)

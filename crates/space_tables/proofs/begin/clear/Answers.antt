@@ -19,18 +19,18 @@ clearing-preserved g c = record {
       let was = c.clearing.invariant.bare h in
       let size = g.met.M.FlatMem.same_size _ _ c.clearing.invariant.kept in
       let first = g.met.M.FlatMem.same_size _ _ c.store.ensures.kept in
-      let told_long = g.met.M.FlatMem.told_length c.clearing.mem was.bytes was.told in
-      let long : 49152 ≤ length was.bytes = omega (arith, told_long, size, first, c.requires.size) in
-      bare_more (g.M.FlatMem.tells c.clearing.mem) (g.M.FlatMem.tells c.store-in-clearing.new.mem) c.clearing.handle was (omega (arith, c.clearing-test.true)) long (c.in_ok-store-2.ensures.written was.bytes was.told);
+      let revealed_long = g.met.M.FlatMem.revealed_length c.clearing.mem was.bytes was.revealed in
+      let long : 49152 ≤ length was.bytes = omega (arith, revealed_long, size, first, c.requires.size) in
+      bare_more (g.M.FlatMem.reveals c.clearing.mem) (g.M.FlatMem.reveals c.store-in-clearing.new.mem) c.clearing.handle was (omega (arith, c.clearing-test.true)) long (c.in_ok-store-2.ensures.written was.bytes was.revealed);
   kept = g.met.M.FlatMem.beside_through _ _ _ c.clearing.invariant.kept c.store-in-clearing.ensures.kept;
   cost = paid_more c.clearing.handle g.M.FlatMem.cost _ _ _ c.clearing.invariant.cost c.store-in-clearing.ensures.cost;
 }
 
 pub returns-clause-cleared : goal.returns-clause-cleared
 returns-clause-cleared g c = λ b h.
-    let long : 49152 ≤ length b = rw (g.met.M.FlatMem.told_length c.args.mem.now b h) c.requires.size in
-    bare_end (g.M.FlatMem.tells c.clearing.mem) c.clearing.handle (omega (arith, c.clearing.invariant.within, c.clearing-test.false))
-    (c.clearing.invariant.bare (bare_start (g.M.FlatMem.tells c.store.new.mem) b c.interval_bytes.result (c.in_ok-store.ensures.written b h) c.interval_bytes.ensures long))
+    let long : 49152 ≤ length b = rw (g.met.M.FlatMem.revealed_length c.args.mem.now b h) c.requires.size in
+    bare_end (g.M.FlatMem.reveals c.clearing.mem) c.clearing.handle (omega (arith, c.clearing.invariant.within, c.clearing-test.false))
+    (c.clearing.invariant.bare (bare_start (g.M.FlatMem.reveals c.store.new.mem) b c.interval_bytes.result (c.in_ok-store.ensures.written b h) c.interval_bytes.ensures long))
 
 pub returns-in_err-store-2-clause-cost : goal.returns-in_err-store-2-clause-cost
 returns-in_err-store-2-clause-cost g c =

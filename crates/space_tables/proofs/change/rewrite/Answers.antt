@@ -22,8 +22,8 @@ rewriting-preserved g c = record {
       rw (turn (changed c.args.change.now) xs c.rewriting.index x.0 x.1) at m;
   rest = λ b h.
       let at = c.rewriting.invariant.rest b h in
-      let now = c.in_ok-rewrite_at.ensures.rest at.bytes at.told in
-      record { bytes = now.bytes; told = now.told; rest = λ k behind. now.rest k behind ∙ at.rest k (omega (arith, behind)) };
+      let now = c.in_ok-rewrite_at.ensures.rest at.bytes at.revealed in
+      record { bytes = now.bytes; revealed = now.revealed; rest = λ k after. now.rest k after ∙ at.rest k (omega (arith, after)) };
   kept = g.met.M.FlatMem.beside_through _ _ _ c.rewriting.invariant.kept c.rewrite_at.ensures.kept;
   cost = paid_more c.rewriting.index (2 * g.M.FlatMem.cost) _ _ _ c.rewriting.invariant.cost c.rewrite_at.ensures.cost;
 }
@@ -43,5 +43,5 @@ returns-clause-cost g c =
 pub returns-in_err-rewrite_at-clause-malformed : goal.returns-in_err-rewrite_at-clause-malformed
 returns-in_err-rewrite_at-clause-malformed g c = λ b h.
     let at = c.rewriting.invariant.rest b h in
-    let m = broken_still c.args.count b at.bytes c.rewriting.index (at.rest c.rewriting.index (omega arith)) _ (c.in_err-rewrite_at.ensures.malformed at.bytes c.args.count at.told (omega (arith, c.rewriting-test.true))) in
+    let m = broken_still c.args.count b at.bytes c.rewriting.index (at.rest c.rewriting.index (omega arith)) _ (c.in_err-rewrite_at.ensures.malformed at.bytes c.args.count at.revealed (omega (arith, c.rewriting-test.true))) in
     search (rules, m)

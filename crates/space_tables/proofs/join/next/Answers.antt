@@ -20,7 +20,7 @@ returns-clause-next g c = λ slots xs h long ok.
     ap Some is ∙ sym x.1 ∙ ap (slice_get xs) at
 
 pub returns-in_err-x-clause-malformed : goal.returns-in_err-x-clause-malformed
-returns-in_err-x-clause-malformed g c = λ b told.
+returns-in_err-x-clause-malformed g c = λ b revealed.
     let more : c.args.index + 1 ≢ c.args.count = c.if-index-count.false in
     let m = malformed_as (λ page. BreaksInterval c.args.count b page (c.args.index + 1)) (BreaksProjection c.args.count b) (λ page h. (c.args.index + 1, h)) _
-    (c.in_err-x.ensures.malformed b c.args.count told (omega (arith, more, c.requires.order))) in search (rules, m)
+    (c.in_err-x.ensures.malformed b c.args.count revealed (omega (arith, more, c.requires.order))) in search (rules, m)

@@ -23,6 +23,6 @@ returns-clause-previous g c = λ slots xs h below ok.
     ap Some is ∙ sym x.1 ∙ before_is xs c.args.index (omega (arith, some))
 
 pub returns-in_err-x-clause-malformed : goal.returns-in_err-x-clause-malformed
-returns-in_err-x-clause-malformed g c = λ b count told below.
+returns-in_err-x-clause-malformed g c = λ b count revealed below.
     let m = malformed_as (λ page. BreaksInterval count b page (c.args.index - 1)) (BreaksProjection count b) (λ page h. (c.args.index - 1, h)) _
-    (c.in_err-x.ensures.malformed b count told (omega (arith, below))) in search (rules, m)
+    (c.in_err-x.ensures.malformed b count revealed (omega (arith, below))) in search (rules, m)

@@ -16,7 +16,7 @@ returns-in_err-next-clause-rejoined g c = λ slots xs h long ok. let m = c.in_er
 
 pub returns-in_err-before-clause-rejoined : goal.returns-in_err-before-clause-rejoined
 returns-in_err-before-clause-rejoined g c = λ slots xs h long ok.
-    let now = still_hold g.M.FlatMem.tells c.args.mem.now c.next.new.mem c.next.ensures.unchanged slots xs h in
+    let now = still_hold g.M.FlatMem.reveals c.args.mem.now c.next.new.mem c.next.ensures.unchanged slots xs h in
     let m = c.in_err-before.ensures.previous slots xs now (omega (arith, c.requires.order, long)) ok in search (rules, m)
 
 pub returns-clause-rejoined : goal.returns-clause-rejoined
@@ -24,15 +24,15 @@ returns-clause-rejoined g c = λ slots xs h long ok.
     let k = c.args.index in
     let new = c.args.new.now in
     let below : k < length xs = omega (arith, c.requires.order, long) in
-    let now = still_hold g.M.FlatMem.tells c.args.mem.now c.next.new.mem c.next.ensures.unchanged slots xs h in
-    let last = still_hold g.M.FlatMem.tells c.next.new.mem c.previous.new.mem c.previous.ensures.unchanged slots xs now in
+    let now = still_hold g.M.FlatMem.reveals c.args.mem.now c.next.new.mem c.next.ensures.unchanged slots xs h in
+    let last = still_hold g.M.FlatMem.reveals c.next.new.mem c.previous.new.mem c.previous.ensures.unchanged slots xs now in
     let next : slice_get (slice_set xs k new) (suc k) ≡ c.in_ok-next.next = next_set xs k new ∙ sym (c.in_ok-next.ensures.next slots xs h long ok) in
     let before : one_before xs k ≡ c.in_ok-before.before = sym (c.in_ok-before.ensures.previous slots xs now below ok) in
     let one = c.in_ok-put_interval.ensures.written slots xs last below in
     let two = c.in_ok-count.ensures.paired slots (slice_set xs k new) one (length-set xs k new ∙ long) (get_set_same xs k new below) next in
     let three = c.pair_before.ensures.paired slots (paired (slice_set xs k new) k) two.0 two.1 two.2
     (before_paired (slice_set xs k new) k ∙ before_set xs k new ∙ before) in
-    okay_errs c.pair_before.result (λ (n : ℕ). HoldTables (g.M.FlatMem.tells c.pair_before.new.mem) slots (rejoined xs k new) × (length (rejoined xs k new) ≡ n)) FromMemory
+    okay_errs c.pair_before.result (λ (n : ℕ). HoldTables (g.M.FlatMem.reveals c.pair_before.new.mem) slots (rejoined xs k new) × (length (rejoined xs k new) ≡ n)) FromMemory
     (rw (rejoined_is xs k new below) at three) c.pair_before.ensures.memory
 
 pub pair_before-requires-clause-pages : goal.pair_before-requires-clause-pages
@@ -54,4 +54,4 @@ returns-clause-cause g c =
     (λ x k. g.met.M.FlatMem.accounted_wider _ _ _ _ x kept c.pair_before.ensures.kept (g.met.M.FlatMem.beside_itself c.pair_before.new.mem) k) c.pair_before.ensures.cause
 
 pub returns-in_err-before-clause-malformed : goal.returns-in_err-before-clause-malformed
-returns-in_err-before-clause-malformed g c = λ b told. let m = c.in_err-before.ensures.malformed b c.args.count (c.next.ensures.unchanged b told) c.requires.order in search (rules, m)
+returns-in_err-before-clause-malformed g c = λ b revealed. let m = c.in_err-before.ensures.malformed b c.args.count (c.next.ensures.unchanged b revealed) c.requires.order in search (rules, m)

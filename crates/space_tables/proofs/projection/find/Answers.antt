@@ -17,16 +17,16 @@ use Rattle.space_tables.proofs.projection.find.Goals.{in_default-via-in-Some+els
 
 pub returns-in-Ok-Before-clause-found : goal.returns-in-Ok-Before-clause-found
 returns-in-Ok-Before-clause-found g c = λ slots xs h r long inside.
-    some_found h.bytes slots xs h.are r c.args.count c.args.page c.requires.few long inside c.look_up_record.new.into (rw c.in-Ok-Before.field-0-is at (c.in-Ok-Before.ensures.answer h.bytes h.told))
+    some_found h.bytes slots xs h.are r c.args.count c.args.page c.requires.few long inside c.look_up_record.new.into (rw c.in-Ok-Before.field-0-is at (c.in-Ok-Before.ensures.answer h.bytes h.revealed))
 
 pub returns-in-Ok-Before-clause-malformed : goal.returns-in-Ok-Before-clause-malformed
-returns-in-Ok-Before-clause-malformed g c = λ b told. inr (inr (record { on = refl; behind = c.in-Ok-Before.ensures.before b told (ap Ok c.in-Ok-Before.field-0-is) c.requires.some }))
+returns-in-Ok-Before-clause-malformed g c = λ b revealed. inr (inr (record { on = refl; after = c.in-Ok-Before.ensures.before b revealed (ap Ok c.in-Ok-Before.field-0-is) c.requires.some }))
 
 pub returns-in-Some-clause-found : goal.returns-in-Some-clause-found
 returns-in-Some-clause-found g c = λ slots xs h r long inside.
     let i = c.in-Ok-Entry.index in
     let within : i < c.args.count = rw c.in-Ok-Entry.field-0-is at c.in-Ok-Entry.ensures.form in
-    let is = entry_is h.bytes c.look_up_record.new.into _ c.args.count i c.requires.few (rw c.in-Ok-Entry.field-0-is at (c.in-Ok-Entry.ensures.answer h.bytes h.told)) within in
+    let is = entry_is h.bytes c.look_up_record.new.into _ c.args.count i c.requires.few (rw c.in-Ok-Entry.field-0-is at (c.in-Ok-Entry.ensures.answer h.bytes h.revealed)) within in
     let below : i < length xs = omega (arith, within, long) in
     let read = interval_read h.bytes slots xs h.are (right_reads slots xs r) i c.look_up_record.new.into below is in
     cc (read, c.in-Some.ensures.interval)
@@ -35,7 +35,7 @@ pub returns-in_default-clause-found : goal.returns-in_default-clause-found
 returns-in_default-clause-found g c = λ slots xs h r long inside.
     let i = c.in-Ok-Entry.index in
     let within : i < c.args.count = rw c.in-Ok-Entry.field-0-is at c.in-Ok-Entry.ensures.form in
-    let answer = rw c.in-Ok-Entry.field-0-is at (c.in-Ok-Entry.ensures.answer h.bytes h.told) in
+    let answer = rw c.in-Ok-Entry.field-0-is at (c.in-Ok-Entry.ensures.answer h.bytes h.revealed) in
     let is = entry_is h.bytes c.look_up_record.new.into _ c.args.count i c.requires.few answer within in
     let below : i < length xs = omega (arith, within, long) in
     let read = interval_read h.bytes slots xs h.are (right_reads slots xs r) i c.look_up_record.new.into below is in
@@ -47,11 +47,11 @@ returns-in_default-clause-found g c = λ slots xs h r long inside.
     ]
 
 pub returns-in_default-clause-malformed : goal.returns-in_default-clause-malformed
-returns-in_default-clause-malformed g c = λ b told.
+returns-in_default-clause-malformed g c = λ b revealed.
     let i = c.in-Ok-Entry.index in
     let within : i < c.args.count = rw c.in-Ok-Entry.field-0-is at c.in-Ok-Entry.ensures.form in
-    let is = entry_is b c.look_up_record.new.into _ c.args.count i c.requires.few (rw c.in-Ok-Entry.field-0-is at (c.in-Ok-Entry.ensures.answer b told)) within in
-    let turn = rw c.in-Ok-Entry.field-0-is at (c.in-Ok-Entry.ensures.turn b told) in
+    let is = entry_is b c.look_up_record.new.into _ c.args.count i c.requires.few (rw c.in-Ok-Entry.field-0-is at (c.in-Ok-Entry.ensures.answer b revealed)) within in
+    let turn = rw c.in-Ok-Entry.field-0-is at (c.in-Ok-Entry.ensures.turn b revealed) in
     let few : c.args.count ≤ 1024 = omega (arith, c.requires.few) in
     let key = to_be_bytes w32 c.args.page in
     elim c.in_default.branch [
@@ -69,8 +69,8 @@ returns-in_default-clause-malformed g c = λ b told.
     ]
 
 pub returns-in-Some-clause-read : goal.returns-in-Some-clause-read
-returns-in-Some-clause-read g c = λ b told.
+returns-in-Some-clause-read g c = λ b revealed.
     let i = c.in-Ok-Entry.index in
     let within : i < c.args.count = rw c.in-Ok-Entry.field-0-is at c.in-Ok-Entry.ensures.form in
-    let is = entry_is b c.look_up_record.new.into _ c.args.count i c.requires.few (rw c.in-Ok-Entry.field-0-is at (c.in-Ok-Entry.ensures.answer b told)) within in
+    let is = entry_is b c.look_up_record.new.into _ c.args.count i c.requires.few (rw c.in-Ok-Entry.field-0-is at (c.in-Ok-Entry.ensures.answer b revealed)) within in
     some_of _ _ _ c.in-Some.ensures.interval ∙ ap interval_in is

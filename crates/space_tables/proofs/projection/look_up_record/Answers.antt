@@ -10,36 +10,36 @@ pub returns-clause-unchanged : goal.returns-clause-unchanged
 returns-clause-unchanged g c = λ w h.
     let is = c.of-projection.ensures in
     let p = c.of-projection.result in
-    let before : g.M.FlatMem.tells p.mem.now w = rw is.mem_is h in
-    let within : 512 * 32 + 512 * 64 ≤ length w = omega (arith, c.requires.size, g.met.M.FlatMem.told_length c.args.mem.now w h) in
-    let told = c.look_up.ensures.unchanged (part w (512 * p.first) (512 * p.pages)) record { whole = w; told = before; inside = rw (is.first_is, is.pages_is) within; is = refl } in
-    lent (λ (m : g.row.M.Denot). g.M.FlatMem.tells m w) _ c.look_up.new.mem.mem.now (search rules)
-    (whole_unchanged (λ (m : MutBor g.row.M.Denot) (b : List ℕ). g.M.FlatMem.tells m.now b) _ (λ m w v. g.met.M.FlatMem.told_once m.now w v) p c.look_up.new.mem w c.look_up.ensures.kept before told)
+    let before : g.M.FlatMem.reveals p.mem.now w = rw is.mem_is h in
+    let within : 512 * 32 + 512 * 64 ≤ length w = omega (arith, c.requires.size, g.met.M.FlatMem.revealed_length c.args.mem.now w h) in
+    let revealed = c.look_up.ensures.unchanged (part w (512 * p.first) (512 * p.pages)) record { whole = w; revealed = before; inside = rw (is.first_is, is.pages_is) within; is = refl } in
+    lent (λ (m : g.row.M.Denot). g.M.FlatMem.reveals m w) _ c.look_up.new.mem.mem.now (search rules)
+    (whole_unchanged (λ (m : MutBor g.row.M.Denot) (b : List ℕ). g.M.FlatMem.reveals m.now b) _ (λ m w v. g.met.M.FlatMem.revealed_once m.now w v) p c.look_up.new.mem w c.look_up.ensures.kept before revealed)
 
 pub returns-clause-answer : goal.returns-clause-answer
 returns-clause-answer g c = λ w h.
     let is = c.of-projection.ensures in
     let p = c.of-projection.result in
-    let before : g.M.FlatMem.tells p.mem.now w = rw is.mem_is h in
-    let within : 512 * 32 + 512 * 64 ≤ length w = omega (arith, c.requires.size, g.met.M.FlatMem.told_length c.args.mem.now w h) in
-    let answer = c.look_up.ensures.answer (part w (512 * 32) (512 * 64)) record { whole = w; told = before; inside = rw (is.first_is, is.pages_is) within; is = rw (is.first_is, is.pages_is) refl } in
+    let before : g.M.FlatMem.reveals p.mem.now w = rw is.mem_is h in
+    let within : 512 * 32 + 512 * 64 ≤ length w = omega (arith, c.requires.size, g.met.M.FlatMem.revealed_length c.args.mem.now w h) in
+    let answer = c.look_up.ensures.answer (part w (512 * 32) (512 * 64)) record { whole = w; revealed = before; inside = rw (is.first_is, is.pages_is) within; is = rw (is.first_is, is.pages_is) refl } in
     rw c.to_be_bytes-key.ensures at answer
 
 pub returns-clause-turn : goal.returns-clause-turn
 returns-clause-turn g c = λ w h.
     let is = c.of-projection.ensures in
-    let before : g.M.FlatMem.tells c.of-projection.result.mem.now w = rw is.mem_is h in
-    let within : 512 * 32 + 512 * 64 ≤ length w = omega (arith, c.requires.size, g.met.M.FlatMem.told_length c.args.mem.now w h) in
-    let turn = c.look_up.ensures.turn (part w (512 * 32) (512 * 64)) record { whole = w; told = before; inside = rw (is.first_is, is.pages_is) within; is = rw (is.first_is, is.pages_is) refl } in
+    let before : g.M.FlatMem.reveals c.of-projection.result.mem.now w = rw is.mem_is h in
+    let within : 512 * 32 + 512 * 64 ≤ length w = omega (arith, c.requires.size, g.met.M.FlatMem.revealed_length c.args.mem.now w h) in
+    let turn = c.look_up.ensures.turn (part w (512 * 32) (512 * 64)) record { whole = w; revealed = before; inside = rw (is.first_is, is.pages_is) within; is = rw (is.first_is, is.pages_is) refl } in
     rw c.to_be_bytes-key.ensures at turn
 
 pub returns-clause-before : goal.returns-clause-before
 returns-clause-before g c = λ w h none some.
     let is = c.of-projection.ensures in
     let p = c.of-projection.result in
-    let before : g.M.FlatMem.tells p.mem.now w = rw is.mem_is h in
-    let within : 512 * 32 + 512 * 64 ≤ length w = omega (arith, c.requires.size, g.met.M.FlatMem.told_length c.args.mem.now w h) in
-    let above = c.look_up.ensures.before (part w (512 * 32) (512 * 64)) record { whole = w; told = before; inside = rw (is.first_is, is.pages_is) within; is = rw (is.first_is, is.pages_is) refl } none some in
+    let before : g.M.FlatMem.reveals p.mem.now w = rw is.mem_is h in
+    let within : 512 * 32 + 512 * 64 ≤ length w = omega (arith, c.requires.size, g.met.M.FlatMem.revealed_length c.args.mem.now w h) in
+    let above = c.look_up.ensures.before (part w (512 * 32) (512 * 64)) record { whole = w; revealed = before; inside = rw (is.first_is, is.pages_is) within; is = rw (is.first_is, is.pages_is) refl } none some in
     let key : part (part w 16384 32768) 0 4 ≡ part w 16384 4 = part-part w 16384 32768 0 4 (omega arith) in
     rw (c.to_be_bytes-key.ensures, key) at above
 

@@ -21,7 +21,7 @@ scan-init g c = record {
 pub returns-in_err-x-clause-found : goal.returns-in_err-x-clause-found
 returns-in_err-x-clause-found g c = λ slots xs h long ok.
     let at = get_or_at xs c.scan.index (omega (arith, long, c.scan-test.true)) in
-    let m = c.in_err-x.ensures.interval slots xs at.0 (still_hold g.M.FlatMem.tells c.args.mem.now c.scan.mem c.scan.invariant.unchanged slots xs h) at.1 (ok c.scan.index at.0 at.1) in search (rules, m)
+    let m = c.in_err-x.ensures.interval slots xs at.0 (still_hold g.M.FlatMem.reveals c.args.mem.now c.scan.mem c.scan.invariant.unchanged slots xs h) at.1 (ok c.scan.index at.0 at.1) in search (rules, m)
 
 pub returns-in_err-x-clause-cost : goal.returns-in_err-x-clause-cost
 returns-in_err-x-clause-cost g c = paid_all c.scan.index 1023 g.M.FlatMem.cost _ _ _ c.scan.invariant.cost c.interval.ensures.cost (omega (arith, c.scan-test.true, c.requires.few))
@@ -29,7 +29,7 @@ returns-in_err-x-clause-cost g c = paid_all c.scan.index 1023 g.M.FlatMem.cost _
 pub returns-then-is_gap-clause-found : goal.returns-then-is_gap-clause-found
 returns-then-is_gap-clause-found g c = λ slots xs h long ok.
     let at = get_or_at xs c.scan.index (omega (arith, long, c.scan-test.true)) in
-    let same : c.in_ok-x.x ≡ at.0 = c.in_ok-x.ensures.interval slots xs at.0 (still_hold g.M.FlatMem.tells c.args.mem.now c.scan.mem c.scan.invariant.unchanged slots xs h) at.1 (ok c.scan.index at.0 at.1) in
+    let same : c.in_ok-x.x ≡ at.0 = c.in_ok-x.ensures.interval slots xs at.0 (still_hold g.M.FlatMem.reveals c.args.mem.now c.scan.mem c.scan.invariant.unchanged slots xs h) at.1 (ok c.scan.index at.0 at.1) in
     let there : slice_get xs c.scan.index ≡ Some c.in_ok-x.x = at.1 ∙ ap Some (sym same) in
     (there, c.scan.invariant.rest slots xs h long ok ∙ gap_here (is_gap c.args.parent c.args.pages) xs c.scan.index c.in_ok-x.x there (sym c.if-is_gap.ensures), refl)
 
@@ -41,7 +41,7 @@ scan-preserved g c = record {
   within = omega (arith, c.scan-test.true);
   rest = λ slots xs h long ok.
       let at = get_or_at xs c.scan.index (omega (arith, long, c.scan-test.true)) in
-      let same : c.in_ok-x.x ≡ at.0 = c.in_ok-x.ensures.interval slots xs at.0 (still_hold g.M.FlatMem.tells c.args.mem.now c.scan.mem c.scan.invariant.unchanged slots xs h) at.1 (ok c.scan.index at.0 at.1) in
+      let same : c.in_ok-x.x ≡ at.0 = c.in_ok-x.ensures.interval slots xs at.0 (still_hold g.M.FlatMem.reveals c.args.mem.now c.scan.mem c.scan.invariant.unchanged slots xs h) at.1 (ok c.scan.index at.0 at.1) in
       let there : slice_get xs c.scan.index ≡ Some c.in_ok-x.x = at.1 ∙ ap Some (sym same) in
       c.scan.invariant.rest slots xs h long ok ∙ gap_later (is_gap c.args.parent c.args.pages) xs c.scan.index c.in_ok-x.x there (sym c.if-is_gap.ensures);
   unchanged = λ b h. c.interval.ensures.unchanged b (c.scan.invariant.unchanged b h);
@@ -57,9 +57,9 @@ pub returns-clause-cost : goal.returns-clause-cost
 returns-clause-cost g c = omega (arith, c.scan.invariant.cost, mul-le c.scan.index g.M.FlatMem.cost 1023 g.M.FlatMem.cost (omega (arith, c.scan.invariant.within, c.requires.few)) (omega arith))
 
 pub returns-in_err-x-clause-malformed : goal.returns-in_err-x-clause-malformed
-returns-in_err-x-clause-malformed g c = λ b told.
+returns-in_err-x-clause-malformed g c = λ b revealed.
     let m = malformed_as (λ page. BreaksInterval c.args.count b page c.scan.index) (BreaksProjection c.args.count b) (λ page h. (c.scan.index, h)) _
-    (c.in_err-x.ensures.malformed b c.args.count (c.scan.invariant.unchanged b told) (omega (arith, c.scan-test.true))) in search (rules, m)
+    (c.in_err-x.ensures.malformed b c.args.count (c.scan.invariant.unchanged b revealed) (omega (arith, c.scan-test.true))) in search (rules, m)
 
 pub returns-then-is_gap-clause-read : goal.returns-then-is_gap-clause-read
-returns-then-is_gap-clause-read g c = λ b told. c.in_ok-x.ensures.read b (c.scan.invariant.unchanged b told)
+returns-then-is_gap-clause-read g c = λ b revealed. c.in_ok-x.ensures.read b (c.scan.invariant.unchanged b revealed)

@@ -9,9 +9,9 @@ use Rattle.space_tables.proofs.rooms.find_gap.Given as goal
 abbrev pub invariant-scan : goal.invariant-scan
 invariant-scan g l = record {
   within : l.index ≤ l.count;
-  rest : (slots : List (Option Space)) (xs : List Interval) → HoldTables (g.M.FlatMem.tells l.initial.mem) slots xs → length xs ≡ l.count
+  rest : (slots : List (Option Space)) (xs : List Interval) → HoldTables (g.M.FlatMem.reveals l.initial.mem) slots xs → length xs ≡ l.count
       → ((k : ℕ) (x : Interval) → slice_get xs k ≡ Some x → IsReadable x) → find (is_gap l.parent l.pages) xs ≡ find (is_gap l.parent l.pages) (drop l.index xs);
-  unchanged : (b : List ℕ) → g.M.FlatMem.tells l.initial.mem b → g.M.FlatMem.tells l.mem b;
+  unchanged : (b : List ℕ) → g.M.FlatMem.reveals l.initial.mem b → g.M.FlatMem.reveals l.mem b;
   kept : g.M.FlatMem.beside l.initial.mem l.mem;
   cost : g.M.FlatMem.spent l.mem ≤ g.M.FlatMem.spent l.initial.mem + l.index * g.M.FlatMem.cost;
 }

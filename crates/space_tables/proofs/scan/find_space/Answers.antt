@@ -20,21 +20,21 @@ scan-init g c = record {
 }
 
 -- the page that was read is that of the handles
-at_hand : (g : given.Over) (c : In_ok-load_page g) (b : List ℕ) → g.M.FlatMem.tells c.args.mem.now b → c.load_page.new.page ≡ slot_page b c.scan.first
-at_hand g c b told = c.in_ok-load_page.ensures.read b (c.scan.invariant.unchanged b told)
+at_hand : (g : given.Over) (c : In_ok-load_page g) (b : List ℕ) → g.M.FlatMem.reveals c.args.mem.now b → c.load_page.new.page ≡ slot_page b c.scan.first
+at_hand g c b revealed = c.in_ok-load_page.ensures.read b (c.scan.invariant.unchanged b revealed)
 
 pub returns-in_err-load_page-clause-cost : goal.returns-in_err-load_page-clause-cost
 returns-in_err-load_page-clause-cost g c = paid_all c.scan.first 512 g.M.FlatMem.cost _ _ _ c.scan.invariant.cost c.load_page.ensures.cost (omega (arith, c.scan-test.true))
 
 pub returns-in_default-clause-found : goal.returns-in_default-clause-found
 returns-in_default-clause-found g c = λ slots xs h ok.
-    let page = at_hand g (goal.at.returns-in_default-clause-found g c).In_ok-load_page h.bytes h.told in
+    let page = at_hand g (goal.at.returns-in_default-clause-found g c).In_ok-load_page h.bytes h.revealed in
     let at = c.first_on.ensures.found h.bytes slots xs page h.are ok in
     none-some _ (sym c.in_default.is ∙ at.1)
 
 pub returns-in_default-clause-malformed : goal.returns-in_default-clause-malformed
-returns-in_default-clause-malformed g c = λ b told.
-    let page = at_hand g (goal.at.returns-in_default-clause-malformed g c).In_ok-load_page b told in
+returns-in_default-clause-malformed g c = λ b revealed.
+    let page = at_hand g (goal.at.returns-in_default-clause-malformed g c).In_ok-load_page b revealed in
     c.first_on.ensures.malformed b page c.in_default.is
 
 pub returns-in_default-clause-cost : goal.returns-in_default-clause-cost
@@ -42,7 +42,7 @@ returns-in_default-clause-cost g c = paid_all c.scan.first 512 g.M.FlatMem.cost 
 
 pub returns-in-Some-found-clause-found : goal.returns-in-Some-found-clause-found
 returns-in-Some-found-clause-found g c = λ slots xs h ok.
-    let page = at_hand g (goal.at.returns-in-Some-found-clause-found g c).In_ok-load_page h.bytes h.told in
+    let page = at_hand g (goal.at.returns-in-Some-found-clause-found g c).In_ok-load_page h.bytes h.revealed in
     let at = c.first_on.ensures.found h.bytes slots xs page h.are ok in
     let first = subst (λ (o : Option Space). IsFirstOn (passes c.args.test.now) slots c.scan.first o) (sym (same_Some _ _ (sym c.in-Some.is ∙ at.1)) ∙ c.in-Some-found.is) at.2 in
     first ∙ sym (c.scan.invariant.rest slots xs h ok)
@@ -55,7 +55,7 @@ scan-preserved g c = record {
   within = omega (arith, c.scan-test.true, c.scan.invariant.whole);
   whole = omega (arith, c.scan.invariant.whole);
   rest = λ slots xs h ok.
-      let page = at_hand g (goal.at.scan-preserved g c).In_ok-load_page h.bytes h.told in
+      let page = at_hand g (goal.at.scan-preserved g c).In_ok-load_page h.bytes h.revealed in
       let at = c.first_on.ensures.found h.bytes slots xs page h.are ok in
       let none = subst (λ (o : Option Space). IsFirstOn (passes c.args.test.now) slots c.scan.first o) (sym (same_Some _ _ (sym c.in-Some.is ∙ at.1)) ∙ c.in_default-found.is) at.2 in
       c.scan.invariant.rest slots xs h ok ∙ none;

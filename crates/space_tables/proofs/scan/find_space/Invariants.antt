@@ -11,9 +11,9 @@ abbrev pub invariant-scan : goal.invariant-scan
 invariant-scan g l = record {
   within : l.first ≤ 512;
   whole : l.first % 16 ≡ 0;
-  rest : (slots : List (Option Space)) (xs : List Interval) → HoldTables (g.M.FlatMem.tells l.initial.mem) slots xs → AreReadable slots xs
+  rest : (slots : List (Option Space)) (xs : List Interval) → HoldTables (g.M.FlatMem.reveals l.initial.mem) slots xs → AreReadable slots xs
       → find (passes l.test) (listed slots) ≡ find (passes l.test) (listed (drop l.first slots));
-  unchanged : (b : List ℕ) → g.M.FlatMem.tells l.initial.mem b → g.M.FlatMem.tells l.mem b;
+  unchanged : (b : List ℕ) → g.M.FlatMem.reveals l.initial.mem b → g.M.FlatMem.reveals l.mem b;
   kept : g.M.FlatMem.beside l.initial.mem l.mem;
   cost : g.M.FlatMem.spent l.mem ≤ g.M.FlatMem.spent l.initial.mem + l.first * g.M.FlatMem.cost;
 }

@@ -8,8 +8,8 @@ use Rattle.space_tables.proofs.scan.free_handle.Goals as goal
 use Rattle.space_tables.proofs.scan.free_handle.Goals.{In_ok-load_page}
 
 -- the page that was read is that of the handles
-at_hand : (g : given.Over) (c : In_ok-load_page g) (b : List ℕ) → g.M.FlatMem.tells c.args.mem.now b → c.load_page.new.page ≡ slot_page b c.scan.from
-at_hand g c b told = c.in_ok-load_page.ensures.read b (c.scan.invariant.unchanged b told)
+at_hand : (g : given.Over) (c : In_ok-load_page g) (b : List ℕ) → g.M.FlatMem.reveals c.args.mem.now b → c.load_page.new.page ≡ slot_page b c.scan.from
+at_hand g c b revealed = c.in_ok-load_page.ensures.read b (c.scan.invariant.unchanged b revealed)
 
 more : (n m k s t u : ℕ) → s ≤ t + n * k → u ≤ s + k → n + 1 ≤ m → u ≤ t + m * k
 more n m k s t u cost step few = let p = mul-le (n + 1) k m k few (omega arith) in omega (arith, p, cost, step)
@@ -19,7 +19,7 @@ returns-in_err-load_page-clause-cost g c = more (c.scan.from - 1) 511 g.M.FlatMe
 
 pub returns-in-Some-clause-free : goal.returns-in-Some-clause-free
 returns-in-Some-clause-free g c = λ slots xs h ok.
-    let page = at_hand g (goal.at.returns-in-Some-clause-free g c).In_ok-load_page h.bytes h.told in
+    let page = at_hand g (goal.at.returns-in-Some-clause-free g c).In_ok-load_page h.bytes h.revealed in
     let at = subst (λ (o : Option ℕ). IsLowestFrom slots c.scan.from (end_on c.scan.from) o) c.in-Some.is (c.free_on.ensures.free h.bytes slots xs page h.are) in
     (omega (arith, at.0, c.scan.invariant.above), at.2, both_taken slots 1 c.scan.from c.in-Some.handle (c.scan.invariant.taken slots xs h ok) at.3)
 
@@ -31,7 +31,7 @@ scan-preserved g c = record {
   above = omega (arith, c.scan.invariant.above);
   within = omega (arith, c.scan-test.true);
   taken = λ slots xs h ok.
-      let page = at_hand g (goal.at.scan-preserved g c).In_ok-load_page h.bytes h.told in
+      let page = at_hand g (goal.at.scan-preserved g c).In_ok-load_page h.bytes h.revealed in
       let none = subst (λ (o : Option ℕ). IsLowestFrom slots c.scan.from (end_on c.scan.from) o) c.in_default.is (c.free_on.ensures.free h.bytes slots xs page h.are) in
       both_taken slots 1 c.scan.from (end_on c.scan.from) (c.scan.invariant.taken slots xs h ok) none;
   unchanged = λ b h. c.load_page.ensures.unchanged b (c.scan.invariant.unchanged b h);

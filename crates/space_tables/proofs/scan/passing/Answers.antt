@@ -5,12 +5,12 @@ use Rattle.space_tables.specs.Form.{slot_record, space_in_form}
 use Rattle.space_tables.specs.Scan.{passes}
 use Rattle.space_tables.proofs.Passes.{kept_true, kept_false}
 use Rattle.space_tables.proofs.ReadBack.{none_of, some_of, there}
-use Rattle.space_tables.proofs.Pages.{told_at}
+use Rattle.space_tables.proofs.Pages.{revealed_at}
 use Rattle.space_tables.proofs.scan.passing.Goals as goal
 
 pub returns-in_err-space-clause-found : goal.returns-in_err-space-clause-found
 returns-in_err-space-clause-found c = λ b slots xs is are ok.
-    absurd (there slots c.args.handle (omega (arith, c.requires.inside, are.handles)) (sym c.in_err-space.was ∙ told_at b slots xs are ok c.args.handle c.requires.inside c.slot_on.result (c.slot_on.ensures.slot b is)))
+    absurd (there slots c.args.handle (omega (arith, c.requires.inside, are.handles)) (sym c.in_err-space.was ∙ revealed_at b slots xs are ok c.args.handle c.requires.inside c.slot_on.result (c.slot_on.ensures.slot b is)))
 
 pub returns-in_err-space-clause-malformed : goal.returns-in_err-space-clause-malformed
 returns-in_err-space-clause-malformed c = λ b is none. record {
@@ -21,8 +21,8 @@ returns-in_err-space-clause-malformed c = λ b is none. record {
 
 pub returns-then-passes-clause-found : goal.returns-then-passes-clause-found
 returns-then-passes-clause-found c = λ b slots xs is are ok.
-    let told = told_at b slots xs are ok c.args.handle c.requires.inside c.slot_on.result (c.slot_on.ensures.slot b is) in
-    (Some c.in-Some.space, sym told ∙ c.in_ok-space.was ∙ ap Some c.in-Some.is, ap Some (sym (kept_true (passes c.args.test.now) c.in-Some.space c.if-passes.ensures)))
+    let revealed = revealed_at b slots xs are ok c.args.handle c.requires.inside c.slot_on.result (c.slot_on.ensures.slot b is) in
+    (Some c.in-Some.space, sym revealed ∙ c.in_ok-space.was ∙ ap Some c.in-Some.is, ap Some (sym (kept_true (passes c.args.test.now) c.in-Some.space c.if-passes.ensures)))
 
 pub returns-then-passes-clause-read : goal.returns-then-passes-clause-read
 returns-then-passes-clause-read c = λ b is.
@@ -32,10 +32,10 @@ returns-then-passes-clause-read c = λ b is.
 
 pub returns-else-passes-clause-found : goal.returns-else-passes-clause-found
 returns-else-passes-clause-found c = λ b slots xs is are ok.
-    let told = told_at b slots xs are ok c.args.handle c.requires.inside c.slot_on.result (c.slot_on.ensures.slot b is) in
-    (Some c.in-Some.space, sym told ∙ c.in_ok-space.was ∙ ap Some c.in-Some.is, ap Some (sym (kept_false (passes c.args.test.now) c.in-Some.space c.if-passes.ensures)))
+    let revealed = revealed_at b slots xs are ok c.args.handle c.requires.inside c.slot_on.result (c.slot_on.ensures.slot b is) in
+    (Some c.in-Some.space, sym revealed ∙ c.in_ok-space.was ∙ ap Some c.in-Some.is, ap Some (sym (kept_false (passes c.args.test.now) c.in-Some.space c.if-passes.ensures)))
 
 pub returns-in-None-clause-found : goal.returns-in-None-clause-found
 returns-in-None-clause-found c = λ b slots xs is are ok.
-    let told = told_at b slots xs are ok c.args.handle c.requires.inside c.slot_on.result (c.slot_on.ensures.slot b is) in
-    (None, sym told ∙ c.in_ok-space.was ∙ ap Some c.in-None.is, refl)
+    let revealed = revealed_at b slots xs are ok c.args.handle c.requires.inside c.slot_on.result (c.slot_on.ensures.slot b is) in
+    (None, sym revealed ∙ c.in_ok-space.was ∙ ap Some c.in-None.is, refl)

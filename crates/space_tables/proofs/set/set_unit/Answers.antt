@@ -5,23 +5,23 @@ use Rattle.flat_machine.specs.Refusal.{first_of, is_root, no_unit}
 use Rattle.flat_machine.specs.Next.{change_space}
 use Rattle.projection_laws.specs.Edits.{refitted}
 use Rattle.projection_laws.specs.Tests.{no_space, unit_row}
-use Rattle.space_tables.specs.Stored.{HoldTables, TellSpaces}
+use Rattle.space_tables.specs.Stored.{HoldTables, RevealSpaces}
 use Rattle.space_tables.proofs.Right.{right_reads}
 use Rattle.space_tables.proofs.Passes.{still_hold}
-use Rattle.space_tables.proofs.Asks.{broken_before, still_tell, refuses_with, answers_from, passed, stopped, space_is, not_root, bad_unit, good_unit}
+use Rattle.space_tables.proofs.Asks.{broken_before, still_reveal, refuses_with, answers_from, passed, stopped, space_is, not_root, bad_unit, good_unit}
 use Rattle.space_tables.proofs.Sets.{unit_set}
 use Rattle.space_tables.proofs.set.set_unit.Goals as goal
 use Rattle.space_tables.proofs.set.set_unit.Goals.{then-unit-eq0-via-then-unit-eq0, then-unit-eq0-via-else-unit-eq0+then-unit-gt16}
 
 pub returns-in_err-found-clause-answer : goal.returns-in_err-found-clause-answer
 returns-in_err-found-clause-answer g c = λ ss t.
-    let now = still_tell g.M.FlatMem.tells c.args.mem.now c.existing.new.mem c.existing.ensures.unchanged c.args.count ss t in
+    let now = still_reveal g.M.FlatMem.reveals c.args.mem.now c.existing.new.mem c.existing.ensures.unchanged c.args.count ss t in
     let m = c.in_err-found.ensures.answer c.args.count ss t in
-    let k = refuses_with (TellSpaces (g.M.FlatMem.tells c.existing.new.mem) c.args.count ss) now (no_space ss c.args.handle) (is_root c.args.handle ∷ no_unit c.args.unit ∷ []) _ m in search (rules, k)
+    let k = refuses_with (RevealSpaces (g.M.FlatMem.reveals c.existing.new.mem) c.args.count ss) now (no_space ss c.args.handle) (is_root c.args.handle ∷ no_unit c.args.unit ∷ []) _ m in search (rules, k)
 
 pub returns-then-unit-eq0-clause-answer : goal.returns-then-unit-eq0-clause-answer
 returns-then-unit-eq0-clause-answer g c = λ ss t.
-    let now = still_tell g.M.FlatMem.tells c.args.mem.now c.existing.new.mem c.existing.ensures.unchanged c.args.count ss t in
+    let now = still_reveal g.M.FlatMem.reveals c.args.mem.now c.existing.new.mem c.existing.ensures.unchanged c.args.count ss t in
     let m = c.in_ok-found.ensures.answer c.args.count ss t in
     let apart : c.args.handle ≢ 0 = c.if-handle-eq0.false in
     let bad : no_unit c.args.unit ≡ Some _ = bad_unit c.args.unit (elim c.then-unit-eq0.branch [
@@ -37,14 +37,14 @@ returns-clause-answer g c = λ ss t.
     let some : c.args.unit ≢ 0 = c.if-unit-eq0.false in
     let few : c.args.unit ≤ 16 = omega (arith, c.if-unit-gt16.false) in
     let s = c.in_ok-found.found in
-    let hold = c.in_ok-put_slot.ensures.written t.slots t.xs (Some (record s { unit = c.args.unit })) (still_hold g.M.FlatMem.tells c.args.mem.now c.existing.new.mem c.existing.ensures.unchanged t.slots t.xs t.hold) c.space_bytes.ensures in
+    let hold = c.in_ok-put_slot.ensures.written t.slots t.xs (Some (record s { unit = c.args.unit })) (still_hold g.M.FlatMem.reveals c.args.mem.now c.existing.new.mem c.existing.ensures.unchanged t.slots t.xs t.hold) c.space_bytes.ensures in
     let done = c.rewrite.ensures.changed (slice_set t.slots c.args.handle (Some (record s { unit = c.args.unit }))) t.xs hold t.counted (right_reads t.slots t.xs t.right).intervals tt tt in
-    answers_from c.rewrite.result (HoldTables (g.M.FlatMem.tells c.rewrite.new.mem) (slice_set t.slots c.args.handle (Some (record s { unit = c.args.unit }))) (map (refitted c.args.handle c.args.unit) t.xs))
-    (TellSpaces (g.M.FlatMem.tells c.rewrite.new.mem) c.args.count (change_space c.args.handle (λ (s : Space). record s { unit = c.args.unit }) ss)) _
+    answers_from c.rewrite.result (HoldTables (g.M.FlatMem.reveals c.rewrite.new.mem) (slice_set t.slots c.args.handle (Some (record s { unit = c.args.unit }))) (map (refitted c.args.handle c.args.unit) t.xs))
+    (RevealSpaces (g.M.FlatMem.reveals c.rewrite.new.mem) c.args.count (change_space c.args.handle (λ (s : Space). record s { unit = c.args.unit }) ss)) _
     (first_of (unit_row ss c.args.handle c.args.unit)) (passed _ _ m.0 ∙ passed _ _ (not_root c.args.handle apart) ∙ passed _ [] (good_unit c.args.unit some few))
-    (unit_set (g.M.FlatMem.tells c.args.mem.now) (g.M.FlatMem.tells c.rewrite.new.mem) c.args.count ss t c.args.handle c.args.unit s m.1 apart (omega (arith, some)) few) done
+    (unit_set (g.M.FlatMem.reveals c.args.mem.now) (g.M.FlatMem.reveals c.rewrite.new.mem) c.args.count ss t c.args.handle c.args.unit s m.1 apart (omega (arith, some)) few) done
 
 pub returns-clause-malformed : goal.returns-clause-malformed
 returns-clause-malformed g c = λ b h.
     let at = c.in_ok-put_slot.ensures.rest b (c.existing.ensures.unchanged b h) in
-    broken_before c.args.count b at.bytes at.rest c.rewrite.result (c.rewrite.ensures.malformed at.bytes at.told)
+    broken_before c.args.count b at.bytes at.rest c.rewrite.result (c.rewrite.ensures.malformed at.bytes at.revealed)

@@ -4,7 +4,7 @@ use Rattle.flat_machine.specs.declared.space.Space.{Space}
 use Rattle.flat_machine.specs.Next.{set_window}
 use Rattle.projection_laws.specs.Edits.{reshown_in, through}
 use Rattle.projection_laws.specs.Tests.{no_space}
-use Rattle.space_tables.specs.Stored.{HoldTables, TellSpaces}
+use Rattle.space_tables.specs.Stored.{HoldTables, RevealSpaces}
 use Rattle.space_tables.proofs.Right.{right_reads}
 use Rattle.space_tables.proofs.Passes.{still_hold}
 use Rattle.space_tables.proofs.Asks.{broken_before, memory_alone, matches_from, space_is}
@@ -23,14 +23,14 @@ returns-clause-done g c = λ ss x t may own fits.
     let w = c.args.window in
     let same : s ≡ x = same_space ss c.args.handle s x m.1 may.there own in
     let few : s.handle ≤ 511 = omega (arith, c.in_ok-found.ensures.form.1, c.in_ok-found.ensures.form.2) in
-    let hold = c.in_ok-put_slot.ensures.written t.slots t.xs (Some (record s { window = w })) (still_hold g.M.FlatMem.tells c.args.mem.now c.existing.new.mem c.existing.ensures.unchanged t.slots t.xs t.hold) c.space_bytes.ensures in
+    let hold = c.in_ok-put_slot.ensures.written t.slots t.xs (Some (record s { window = w })) (still_hold g.M.FlatMem.reveals c.args.mem.now c.existing.new.mem c.existing.ensures.unchanged t.slots t.xs t.hold) c.space_bytes.ensures in
     let done = c.rewrite.ensures.changed (slice_set t.slots c.args.handle (Some (record s { window = w }))) t.xs hold t.counted (right_reads t.slots t.xs t.right).intervals (counts s w (rw same fits)) few in
-    matches_from c.rewrite.result (HoldTables (g.M.FlatMem.tells c.rewrite.new.mem) (slice_set t.slots c.args.handle (Some (record s { window = w }))) (map (reshown_in s (through s w)) t.xs))
-    (TellSpaces (g.M.FlatMem.tells c.rewrite.new.mem) c.args.count (set_window c.args.handle w ss))
-    (λ h. window_set_at (g.M.FlatMem.tells c.args.mem.now) (g.M.FlatMem.tells c.rewrite.new.mem) c.args.count ss t x w c.args.handle own may fits
-    (subst (λ (q : Space). HoldTables (g.M.FlatMem.tells c.rewrite.new.mem) (slice_set t.slots c.args.handle (Some (record q { window = w }))) (map (reshown_in q (through q w)) t.xs)) same h)) done
+    matches_from c.rewrite.result (HoldTables (g.M.FlatMem.reveals c.rewrite.new.mem) (slice_set t.slots c.args.handle (Some (record s { window = w }))) (map (reshown_in s (through s w)) t.xs))
+    (RevealSpaces (g.M.FlatMem.reveals c.rewrite.new.mem) c.args.count (set_window c.args.handle w ss))
+    (λ h. window_set_at (g.M.FlatMem.reveals c.args.mem.now) (g.M.FlatMem.reveals c.rewrite.new.mem) c.args.count ss t x w c.args.handle own may fits
+    (subst (λ (q : Space). HoldTables (g.M.FlatMem.reveals c.rewrite.new.mem) (slice_set t.slots c.args.handle (Some (record q { window = w }))) (map (reshown_in q (through q w)) t.xs)) same h)) done
 
 pub returns-clause-malformed : goal.returns-clause-malformed
 returns-clause-malformed g c = λ b h.
     let at = c.in_ok-put_slot.ensures.rest b (c.existing.ensures.unchanged b h) in
-    broken_before c.args.count b at.bytes at.rest c.rewrite.result (c.rewrite.ensures.malformed at.bytes at.told)
+    broken_before c.args.count b at.bytes at.rest c.rewrite.result (c.rewrite.ensures.malformed at.bytes at.revealed)

@@ -12,7 +12,7 @@ pub returns-then-count-more-gt1023-clause-malformed : goal.returns-then-count-mo
 returns-then-count-more-gt1023-clause-malformed g c =
     let x = c.args.x.now in
     let i = c.args.i.now in
-    let long = parts_more x i c.more.result c.more.ensures.most c.more.ensures.no_front c.more.ensures.no_back c.more.ensures.neither in
+    let long = parts_more x i c.more.result c.more.ensures.most c.more.ensures.no_prefix c.more.ensures.no_back c.more.ensures.neither in
     (refl, omega (arith, c.if-count-more-gt1023.true, long))
 
 pub returns-clause-split : goal.returns-clause-split

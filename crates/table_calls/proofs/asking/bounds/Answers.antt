@@ -6,7 +6,7 @@ use Rattle.fault_core.specs.View.{view_of}
 use Rattle.table_calls.proofs.AskedLemmas.{asked}
 use Rattle.table_calls.proofs.HaltingLemmas.{answered, halted, read_from, whole, sound, known_spaces}
 use Rattle.fault_core.proofs.LackLemmas.{sees_after}
-use Rattle.table_calls.proofs.SeenLemmas.{seen_spaces, spared}
+use Rattle.table_calls.proofs.SeenLemmas.{seen_spaces, blameless}
 use Rattle.table_calls.proofs.asking.bounds.Goals as goal
 
 pub returns-clause-answer : goal.returns-clause-answer
@@ -25,7 +25,7 @@ returns-clause-sound g c = λ m named ss knows.
 pub returns-clause-asked : goal.returns-clause-asked
 returns-clause-asked g c = asked c.args.core.now _ c.ask_bounds.ensures.kept c.ask_bounds.ensures.same refl refl
 
--- ---- The tables are told.
+-- ---- The tables are revealed.
 
 pub returns-clause-seen : goal.returns-clause-seen
 returns-clause-seen g c = λ ss s. rw c.refused_or_halted.ensures (answered c.ask_bounds.result _ _ _ (c.ask_bounds.ensures.answer ss (rw c.interval_count-intervals.ensures (seen_spaces s))))
@@ -34,4 +34,4 @@ pub returns-clause-sees : goal.returns-clause-sees
 returns-clause-sees g c = λ ss s. sees_after s _ _ (returns-clause-asked g c).reaches (λ x one. inl one)
 
 pub returns-clause-right : goal.returns-clause-right
-returns-clause-right g c = λ ss s. rw c.refused_or_halted.ensures (spared c.ask_bounds.result (view_of c.ask_bounds.new.filer) s.told (whole c.ask_bounds.result _ _ _ (c.ask_bounds.ensures.answer ss (rw c.interval_count-intervals.ensures (seen_spaces s)))) c.ask_bounds.ensures.cause)
+returns-clause-right g c = λ ss s. rw c.refused_or_halted.ensures (blameless c.ask_bounds.result (view_of c.ask_bounds.new.filer) s.revealed (whole c.ask_bounds.result _ _ _ (c.ask_bounds.ensures.answer ss (rw c.interval_count-intervals.ensures (seen_spaces s)))) c.ask_bounds.ensures.cause)

@@ -7,14 +7,14 @@ use Rattle.fault_core.specs.View.{view_of}
 use Rattle.table_calls.proofs.AskedLemmas.{asked}
 use Rattle.table_calls.proofs.HaltingLemmas.{answered, halted, whole, sound, known_spaces}
 use Rattle.fault_core.proofs.LackLemmas.{sees_after}
-use Rattle.table_calls.proofs.SeenLemmas.{seen_spaces, spared}
+use Rattle.table_calls.proofs.SeenLemmas.{seen_spaces, blameless}
 use Rattle.table_calls.proofs.asking.place.Goals as goal
 
 pub returns-clause-answer : goal.returns-clause-answer
 returns-clause-answer g c = λ m named ss knows. rw c.refused_or_halted.ensures (answered c.ask_place.result _ _ _ (c.ask_place.ensures.answer ss (rw c.interval_count-intervals.ensures (known_spaces knows))))
 
 pub returns-clause-cause : goal.returns-clause-cause
-returns-clause-cause g c = rw c.refused_or_halted.ensures (halted c.ask_place.result (state c.args.core.now) (view_of c.ask_place.new.filer) (λ b page. BreaksFor c.args.page c.args.core.now.intervals b page) (λ b tells. subst (λ (n : ℕ). IfErr c.ask_place.result (IfMalformed (λ page. BreaksFor c.args.page n b page))) c.interval_count-intervals.ensures (c.ask_place.ensures.malformed b tells)) c.ask_place.ensures.cause)
+returns-clause-cause g c = rw c.refused_or_halted.ensures (halted c.ask_place.result (state c.args.core.now) (view_of c.ask_place.new.filer) (λ b page. BreaksFor c.args.page c.args.core.now.intervals b page) (λ b reveals. subst (λ (n : ℕ). IfErr c.ask_place.result (IfMalformed (λ page. BreaksFor c.args.page n b page))) c.interval_count-intervals.ensures (c.ask_place.ensures.malformed b reveals)) c.ask_place.ensures.cause)
 
 pub returns-clause-sound : goal.returns-clause-sound
 returns-clause-sound g c = λ m named ss knows.
@@ -23,7 +23,7 @@ returns-clause-sound g c = λ m named ss knows.
 pub returns-clause-asked : goal.returns-clause-asked
 returns-clause-asked g c = asked c.args.core.now _ c.ask_place.ensures.kept c.ask_place.ensures.same refl refl
 
--- ---- The tables are told.
+-- ---- The tables are revealed.
 
 pub returns-clause-seen : goal.returns-clause-seen
 returns-clause-seen g c = λ ss s. rw c.refused_or_halted.ensures (answered c.ask_place.result _ _ _ (c.ask_place.ensures.answer ss (rw c.interval_count-intervals.ensures (seen_spaces s))))
@@ -32,4 +32,4 @@ pub returns-clause-sees : goal.returns-clause-sees
 returns-clause-sees g c = λ ss s. sees_after s _ _ (returns-clause-asked g c).reaches (λ x one. inl one)
 
 pub returns-clause-right : goal.returns-clause-right
-returns-clause-right g c = λ ss s. rw c.refused_or_halted.ensures (spared c.ask_place.result (view_of c.ask_place.new.filer) s.told (whole c.ask_place.result _ _ _ (c.ask_place.ensures.answer ss (rw c.interval_count-intervals.ensures (seen_spaces s)))) c.ask_place.ensures.cause)
+returns-clause-right g c = λ ss s. rw c.refused_or_halted.ensures (blameless c.ask_place.result (view_of c.ask_place.new.filer) s.revealed (whole c.ask_place.result _ _ _ (c.ask_place.ensures.answer ss (rw c.interval_count-intervals.ensures (seen_spaces s)))) c.ask_place.ensures.cause)

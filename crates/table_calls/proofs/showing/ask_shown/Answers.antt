@@ -1,21 +1,21 @@
 use Rattle.std.proofs.Common.{rules, ℕ, List}
-use Rattle.filer_kernel.specs.Tables.{TablesTell}
+use Rattle.filer_kernel.specs.Tables.{TablesReveal}
 use Rattle.fault_core.specs.View.{view_of, TablesAre}
 use Rattle.fault_core.proofs.AskLemmas.{lent}
 use Rattle.table_calls.proofs.showing.ask_shown.Goals as goal
 
 pub returns-clause-answer : goal.returns-clause-answer
-returns-clause-answer g c = λ ss tells. c.shown.ensures.answer ss (rw (c.over-tables.ensures.memory, c.over-tables.ensures.intervals, c.window1.ensures.value) tells)
+returns-clause-answer g c = λ ss reveals. c.shown.ensures.answer ss (rw (c.over-tables.ensures.memory, c.over-tables.ensures.intervals, c.table_memory.ensures.value) reveals)
 
 pub returns-clause-read : goal.returns-clause-read
-returns-clause-read g c = λ b tells. c.shown.ensures.read b (rw (c.over-tables.ensures.memory, c.window1.ensures.value) tells)
+returns-clause-read g c = λ b reveals. c.shown.ensures.read b (rw (c.over-tables.ensures.memory, c.table_memory.ensures.value) reveals)
 
 pub returns-clause-malformed : goal.returns-clause-malformed
-returns-clause-malformed g c = λ b tells. c.shown.ensures.malformed b (rw (c.over-tables.ensures.memory, c.window1.ensures.value) tells)
+returns-clause-malformed g c = λ b reveals. c.shown.ensures.malformed b (rw (c.over-tables.ensures.memory, c.table_memory.ensures.value) reveals)
 
 pub returns-clause-same : goal.returns-clause-same
 returns-clause-same g c =
     let now = c.shown.new.self.mem.filer.now in
-    lent (λ d s x k. (b : List ℕ) → TablesAre (view_of c.args.filer.now) b → TablesTell d s x k b) _ (g.D.Disk.state now.swapper.under) _ now.swapper.pool _ now.swapper.layout _ now.runs
+    lent (λ d s x k. (b : List ℕ) → TablesAre (view_of c.args.filer.now) b → TablesReveal d s x k b) _ (g.D.Disk.state now.swapper.disk) _ now.swapper.pool _ now.swapper.layout _ now.runs
     (search rules) (search rules) (search rules) (search rules)
-    (λ b tells. c.shown.ensures.unchanged b (rw (c.over-tables.ensures.memory, c.window1.ensures.value) tells))
+    (λ b reveals. c.shown.ensures.unchanged b (rw (c.over-tables.ensures.memory, c.table_memory.ensures.value) reveals))

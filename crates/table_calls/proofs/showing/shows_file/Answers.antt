@@ -12,9 +12,9 @@ use Rattle.fault_core.specs.View.{view_of}
 use Rattle.table_calls.specs.Answers.{IfGiven, TablesBreak}
 use Rattle.table_calls.proofs.AskedLemmas.{asked}
 use Rattle.table_calls.proofs.HaltingLemmas.{given, halted, from_memory, sound, known_spaces}
-use Rattle.fault_core.specs.Spares.{SparesTables}
+use Rattle.fault_core.specs.NeverBlames.{NeverBlamesTables}
 use Rattle.fault_core.proofs.LackLemmas.{sees_after}
-use Rattle.table_calls.proofs.SeenLemmas.{seen_spaces, spared}
+use Rattle.table_calls.proofs.SeenLemmas.{seen_spaces, blameless}
 use Rattle.table_calls.proofs.showing.shows_file.Goals as goal
 
 abbrev Answer : Type 0
@@ -44,7 +44,7 @@ returns-in-Err-clause-sound g c = λ m named ss knows.
 pub returns-in-Err-clause-asked : goal.returns-in-Err-clause-asked
 returns-in-Err-clause-asked g c = asked c.args.core.now _ c.ask_shows_file.ensures.kept c.ask_shows_file.ensures.same refl refl
 
--- ---- The tables are told.
+-- ---- The tables are revealed.
 
 pub returns-in-Ok-Ok-clause-seen : goal.returns-in-Ok-Ok-clause-seen
 returns-in-Ok-Ok-clause-seen g c = λ ss s.
@@ -61,4 +61,4 @@ returns-in-Err-clause-sees g c = λ ss s. sees_after s _ _ (returns-in-Err-claus
 pub returns-in-Err-clause-right : goal.returns-in-Err-clause-right
 returns-in-Err-clause-right g c = λ ss s.
     let right = from_memory c.ask_shows_file.result (c.ask_shows_file.ensures.right ss (rw c.interval_count-intervals.ensures (seen_spaces s))) in
-    subst (λ (x : Answer). IfErr x SparesTables) (sym c.refused_or_halted.ensures ∙ c.in-Err.is) (spared c.ask_shows_file.result (view_of c.ask_shows_file.new.filer) s.told right c.ask_shows_file.ensures.cause)
+    subst (λ (x : Answer). IfErr x NeverBlamesTables) (sym c.refused_or_halted.ensures ∙ c.in-Err.is) (blameless c.ask_shows_file.result (view_of c.ask_shows_file.new.filer) s.revealed right c.ask_shows_file.ensures.cause)

@@ -1,16 +1,16 @@
 use Rattle.std.proofs.Common.{◌≡◌, ◌≤◌, ◌∙◌, ◌++◌, length, take, drop, ap, arith}
 use Rattle.std.proofs.lemmas.List.{take_rest, take-take, length-take}
-use Rattle.trace_io.specs.Stream.{Lacks}
-use Rattle.trace_io.proofs.Copies.{lacks_both, copied_both}
+use Rattle.trace_io.specs.Stream.{Misses}
+use Rattle.trace_io.proofs.Copies.{misses_both, copied_both}
 use Rattle.trace_io.proofs.adapters.copy_before.Goals as goal
 
-pub returns-clause-lacks : goal.returns-clause-lacks
-returns-clause-lacks c =
+pub returns-clause-misses : goal.returns-clause-misses
+returns-clause-misses c =
     let bytes = c.args.bytes.now in
     let near = c.copy_near-near.result in
     let within : near ≤ c.min.result = omega (arith, c.copy_near-near.ensures.within, length-take c.min.result bytes) in
-    let first : Lacks c.args.stop (take near bytes) = rw (take-take near c.min.result bytes within) at c.copy_near-near.ensures.lacks in
-    lacks_both c.args.stop near c.copy_far.result bytes first (rw (take_rest bytes near) at c.copy_far.ensures.lacks)
+    let first : Misses c.args.stop (take near bytes) = rw (take-take near c.min.result bytes within) at c.copy_near-near.ensures.misses in
+    misses_both c.args.stop near c.copy_far.result bytes first (rw (take_rest bytes near) at c.copy_far.ensures.misses)
 
 pub returns-clause-room : goal.returns-clause-room
 returns-clause-room c =

@@ -11,8 +11,8 @@ returns-in_err-number-in-Some c =
     let pages = c.cut.result.0.now in
     let first = c.in-Some.first.now in
     let words : rest_words c.args.rest ≡ parent ∷ words_of more = search rules in
-    let behind : words_of more ≡ pages ∷ words_of first = search rules in
-    let all : place_of (number_of parent) (number_of pages) (number_of first) ≡ place (rest_words c.args.rest) = place_last parent pages first ∙ ap place (sym (words ∙ ap (λ ws. parent ∷ ws) behind)) in
+    let after : words_of more ≡ pages ∷ words_of first = search rules in
+    let all : place_of (number_of parent) (number_of pages) (number_of first) ≡ place (rest_words c.args.rest) = place_last parent pages first ∙ ap place (sym (words ∙ ap (λ ws. parent ∷ ws) after)) in
     search (rules, all)
 
 pub returns-in_ok-number-in-Some : goal.returns-in_ok-number-in-Some
@@ -22,6 +22,6 @@ returns-in_ok-number-in-Some c =
     let pages = c.cut.result.0.now in
     let first = c.in-Some.first.now in
     let words : rest_words c.args.rest ≡ parent ∷ words_of more = search rules in
-    let behind : words_of more ≡ pages ∷ words_of first = search rules in
-    let all : place_of (number_of parent) (number_of pages) (number_of first) ≡ place (rest_words c.args.rest) = place_last parent pages first ∙ ap place (sym (words ∙ ap (λ ws. parent ∷ ws) behind)) in
+    let after : words_of more ≡ pages ∷ words_of first = search rules in
+    let all : place_of (number_of parent) (number_of pages) (number_of first) ≡ place (rest_words c.args.rest) = place_last parent pages first ∙ ap place (sym (words ∙ ap (λ ws. parent ∷ ws) after)) in
     search (rules, all)

@@ -1,5 +1,5 @@
 use Rattle.scavenger.proofs.RowLemmas.{carries_unsettled}
 use Rattle.volume_convert.proofs.converting.finish.Goals as goal
 
-pub returns-in_default-settle-clause-carries : goal.returns-in_default-settle-clause-carries
-returns-in_default-settle-clause-carries g c = carries_unsettled _ _ _ _ _ _ c.in-Ok.ensures c.in_default-settle.ensures
+pub returns-in_default-sync-clause-carries : goal.returns-in_default-sync-clause-carries
+returns-in_default-sync-clause-carries g c = carries_unsettled _ _ _ _ _ _ c.in-Ok.ensures c.in_default-sync.ensures

@@ -18,16 +18,16 @@ pub returns-in_default-clause-part : goal.returns-in_default-clause-part
 returns-in_default-clause-part g c = λ is.
     let layout = c.in_ok-layout.layout in
     let root = root_write (new_root layout.sectors c.args.serial c.args.counter) in
-    subst (λ (ws : List DiskWrite). PartMade ws (g.D.Disk.state c.args.disk.now) (g.D.Disk.state c.settle.new.self))
+    subst (λ (ws : List DiskWrite). PartMade ws (g.D.Disk.state c.args.disk.now) (g.D.Disk.state c.sync.new.self))
     (same_writes c.in_ok-layout.layout c.sectors.result (g.D.Disk.state c.args.disk.now).sectors c.args.serial c.args.counter c.in_ok-layout.ensures.layout.1 c.sectors.ensures)
     (all_made (writes_by layout c.args.serial c.args.counter) _ _ (appended_no_more (writes_by layout c.args.serial c.args.counter)
-    (appended_then (new_writes layout layout.sectors) (root ∷ []) c.in_ok-write_sectors.ensures.made (appended_one root c.in_ok-write_root.ensures.ok)) c.settle.ensures.same))
+    (appended_then (new_writes layout layout.sectors) (root ∷ []) c.in_ok-write_sectors.ensures.made (appended_one root c.in_ok-write_root.ensures.ok)) c.sync.ensures.same))
 
 pub returns-clause-made : goal.returns-clause-made
 returns-clause-made g c =
     let layout = c.in_ok-layout.layout in
     let root = root_write (new_root layout.sectors c.args.serial c.args.counter) in
-    subst (λ (ws : List DiskWrite). Appended ws (g.D.Disk.state c.args.disk.now) (g.D.Disk.state c.settle.new.self))
+    subst (λ (ws : List DiskWrite). Appended ws (g.D.Disk.state c.args.disk.now) (g.D.Disk.state c.sync.new.self))
     (same_writes c.in_ok-layout.layout c.sectors.result (g.D.Disk.state c.args.disk.now).sectors c.args.serial c.args.counter c.in_ok-layout.ensures.layout.1 c.sectors.ensures)
     (appended_no_more (writes_by layout c.args.serial c.args.counter)
-    (appended_then (new_writes layout layout.sectors) (root ∷ []) c.in_ok-write_sectors.ensures.made (appended_one root c.in_ok-write_root.ensures.ok)) c.settle.ensures.same)
+    (appended_then (new_writes layout layout.sectors) (root ∷ []) c.in_ok-write_sectors.ensures.made (appended_one root c.in_ok-write_root.ensures.ok)) c.sync.ensures.same)

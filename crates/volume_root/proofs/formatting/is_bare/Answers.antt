@@ -8,5 +8,5 @@ returns-then-sector-eq0 c = λ is. at_root c.args.layout.now c.args.sector c.if-
 
 pub returns-then-sector-layout : goal.returns-then-sector-layout
 returns-then-sector-layout c = λ is.
-    let behind : c.args.layout.now.first ≤ c.args.sector = grind (arith, nat_tests) in
-    in_data c.args.layout.now c.args.sector c.if-sector-layout.true behind
+    let after : c.args.layout.now.first ≤ c.args.sector = grind (arith, nat_tests) in
+    in_data c.args.layout.now c.args.sector c.if-sector-layout.true after

@@ -14,9 +14,9 @@ is_judged : (g : given.Over) (c : goal.After-judge g) → c.judge.result ≡ jud
 is_judged g c = c.judge.ensures ∙ ap (λ (t : Test). judged_by t false c.sectors-sectors.result (c.in-Ok.label, c.read.new.page)) c.is_old_version.ensures
 
 pub returns-clause-judged : goal.returns-clause-judged
-returns-clause-judged g c count d told s here =
-    let size : c.sectors-sectors.result ≡ length d = c.sectors-sectors.ensures ∙ sym (g.met.D.Disk.whole c.args.disk.now d told) in
-    let same : (c.in-Ok.label, c.read.new.page) ≡ s = same_Some (c.in-Ok.label, c.read.new.page) s (sym (c.in-Ok.ensures.found d told) ∙ here) in
+returns-clause-judged g c count d revealed s here =
+    let size : c.sectors-sectors.result ≡ length d = c.sectors-sectors.ensures ∙ sym (g.met.D.Disk.whole c.args.disk.now d revealed) in
+    let same : (c.in-Ok.label, c.read.new.page) ≡ s = same_Some (c.in-Ok.label, c.read.new.page) s (sym (c.in-Ok.ensures.found d revealed) ∙ here) in
     judged_there is_old_version false c.sectors-sectors.result (length d) (c.in-Ok.label, c.read.new.page) s c.judge.result size same (is_judged g c)
 
 pub returns-clause-bad_count : goal.returns-clause-bad_count

@@ -8,8 +8,8 @@ use Rattle.volume_view.proofs.LayoutLemmas.{of_layout}
 use Rattle.volume_view.proofs.LeafLemmas.{read_one, read_broken}
 use Rattle.volume_view.proofs.leaves.add_runs.Goals as goal
 
-pub read_behind-requires : goal.read_behind-requires
-read_behind-requires g c = (of_layout c.args.layout.now c.args.layout.now.sectors c.requires.layout).first
+pub read_after-requires : goal.read_after-requires
+read_after-requires g c = (of_layout c.args.layout.now c.args.layout.now.sectors c.requires.layout).first
 
 pub returns-in_default-clause-broken : goal.returns-in_default-clause-broken
 returns-in_default-clause-broken g c = λ records all before _ whole.

@@ -27,7 +27,7 @@ returns-then-not-branch-clause-none g c = λ all _ are whole.
     let so_far = c.loop-j.invariant in
     let b = vec_mem_bytes c.args.map.now in
     leaf_broken c.args.layout.now.sectors b (vec_mem_bytes c.loop-j.map) c.in-Some.page c.args.leaves.now c.loop-j.j c.loop-j-test.true so_far.same c.in-Some.ensures.page all
-    (λ front. c.in_ok-add_runs.ensures.broken (flat_map (records_in b) (take c.loop-j.j (items_of c.args.leaves.now))) front so_far.read (ap Ok c.if-not-branch.true)) whole
+    (λ prefix. c.in_ok-add_runs.ensures.broken (flat_map (records_in b) (take c.loop-j.j (items_of c.args.leaves.now))) prefix so_far.read (ap Ok c.if-not-branch.true)) whole
 
 pub loop-j-preserved : goal.loop-j-preserved
 loop-j-preserved g c =

@@ -6,8 +6,8 @@ use Rattle.volume_view.proofs.LayoutLemmas.{of_layout}
 use Rattle.volume_view.proofs.RecordLemmas.{to_tree, never_malformed, next_some, next_none, found_step, found_record, none_step}
 use Rattle.volume_view.proofs.records.next_run.Goals as goal
 
-pub read_behind-requires : goal.read_behind-requires
-read_behind-requires g c = (of_layout c.args.layout.now c.args.layout.now.sectors c.requires.layout).first
+pub read_after-requires : goal.read_after-requires
+read_after-requires g c = (of_layout c.args.layout.now c.args.layout.now.sectors c.requires.layout).first
 
 pub returns-in-Some-clause-next : goal.returns-in-Some-clause-next
 returns-in-Some-clause-next g c = λ runs k is last within.

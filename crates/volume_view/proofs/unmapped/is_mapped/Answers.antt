@@ -2,14 +2,14 @@ use Rattle.std.proofs.Common.{◌≡◌, ◌+◌, ◌∙◌, ap, sym, length, ru
 use Rattle.std.proofs.lemmas.Bool.{eqb-true, eq-eqb, false≢true}
 use Rattle.flat_mem.specs.Vec.{vec_mem_bytes}
 use Rattle.volume_view.proofs.RecordedLemmas.{recorded_by}
-use Rattle.volume_view.proofs.NameLemmas.{to_map, found_tells, found_some, found_none, never_broken}
+use Rattle.volume_view.proofs.NameLemmas.{to_map, found_reveals, found_some, found_none, never_broken}
 use Rattle.volume_view.proofs.unmapped.is_mapped.Goals as goal
 
 pub returns-in-Ok-Some-clause-mapped : goal.returns-in-Ok-Some-clause-mapped
 returns-in-Ok-Some-clause-mapped g c = λ named is.
     let same : vec_mem_bytes c.over.result.mem.now ≡ vec_mem_bytes c.args.map.now = search rules in
     let names = to_map c.args.sectors c.over.result.sectors (vec_mem_bytes c.args.map.now) (vec_mem_bytes c.over.result.mem.now) named c.over.ensures.sectors same (ap length same ∙ c.requires.size) is in
-    found_tells c.args.sectors _ named is c.args.triple.id c.args.triple.page c.args.triple.sector _ (eqb (c.from.result + c.from-in-Ok-Some.result) c.from-in-Ok-Some-2.result) (found_some named c.args.triple.id c.args.triple.page _ _ c.in-Ok-Some.field-0-is (c.in-Ok-Some.ensures.found named names))
+    found_reveals c.args.sectors _ named is c.args.triple.id c.args.triple.page c.args.triple.sector _ (eqb (c.from.result + c.from-in-Ok-Some.result) c.from-in-Ok-Some-2.result) (found_some named c.args.triple.id c.args.triple.page _ _ c.in-Ok-Some.field-0-is (c.in-Ok-Some.ensures.found named names))
     (λ e. omega (arith, eqb-true _ _ e, c.from.ensures, c.from-in-Ok-Some.ensures, c.from-in-Ok-Some-2.ensures))
     (λ e f. false≢true (sym e ∙ eq-eqb (c.from.result + c.from-in-Ok-Some.result) c.from-in-Ok-Some-2.result (omega (arith, f, c.from.ensures, c.from-in-Ok-Some.ensures, c.from-in-Ok-Some-2.ensures))))
 

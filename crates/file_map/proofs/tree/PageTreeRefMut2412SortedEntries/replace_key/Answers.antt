@@ -8,7 +8,7 @@ pub returns-clause-answer : goal.returns-clause-answer
 returns-clause-answer g c = λ xs listed. put_over c.replace_key.result (Lists c.replace_key.new.self) xs c.args.entry.now (c.replace_key.ensures.replaced xs listed)
 
 pub returns-clause-cause : goal.returns-clause-cause
-returns-clause-cause g c = cause c.replace_key.result _ _ (λ sight. (b : List ℕ) → g.M.FlatMem.tells (tree_memory c.args.self.now).now b → IsShown (g.M.FlatMem.size (tree_memory c.args.self.now).now / 512) b sight) _ (λ page broken. broken) c.replace_key.ensures.malformed c.replace_key.ensures.cause
+returns-clause-cause g c = cause c.replace_key.result _ _ (λ sight. (b : List ℕ) → g.M.FlatMem.reveals (tree_memory c.args.self.now).now b → IsShown (g.M.FlatMem.size (tree_memory c.args.self.now).now / 512) b sight) _ (λ page broken. broken) c.replace_key.ensures.malformed c.replace_key.ensures.cause
 
 pub returns-clause-same_count : goal.returns-clause-same_count
 returns-clause-same_count g c = kept_count c.replace_key.result _ _ c.replace_key.ensures.absent

@@ -3,9 +3,9 @@ use Rattle.flat_mem.specs.Memory.{part}
 use Rattle.record_table.specs.Table.{entries}
 use Rattle.record_table.specs.InPart.{IsInsertedIn}
 use Rattle.record_table.specs.InPartLaws.{counted, inserted_in}
-use Rattle.filer_kernel.specs.declared.window.Window1Over.{Window1Over}
-use Rattle.filer_kernel.specs.Tables.{TablesTell}
-use Rattle.filer_kernel.specs.TableOnce.{tables_tell_once}
+use Rattle.filer_kernel.specs.declared.window.TableMemory.{TableMemory}
+use Rattle.filer_kernel.specs.Tables.{TablesReveal}
+use Rattle.filer_kernel.specs.TableOnce.{tables_reveal_once}
 use Rattle.filer_callers.proofs.Lent.{lent}
 use Rattle.filer_callers.proofs.register.RegisterOver.add.Goals as goal
 
@@ -16,19 +16,19 @@ returns-clause-inserted g c =
     let table = c.insert-answer.new.self in
     let now = table.mem.mem.filer.now in
     let count : table.count ≡ (if is_ok c.insert-answer.result then n + 1 else n) = rw (← c.over-table.ensures.count) c.insert-answer.ensures.count in
-    λ b tells.
+    λ b reveals.
     let first : mem.first ≡ 32 = rw c.over-table.ensures.memory c.of.ensures.first_is in
     let pages : mem.pages ≡ 64 = rw c.over-table.ensures.memory c.of.ensures.pages_is in
     let filer = mem.mem.filer.now in
-    let before : TablesTell (g.D.Disk.state filer.swapper.under) filer.swapper.pool filer.swapper.layout filer.runs b = rw (c.over-table.ensures.memory, c.of.ensures.mem_is, c.window1.ensures.value) tells in
-    let within : 512 * 32 + 512 * 64 ≤ length b = omega (arith, tells.count) in
+    let before : TablesReveal (g.D.Disk.state filer.swapper.disk) filer.swapper.pool filer.swapper.layout filer.runs b = rw (c.over-table.ensures.memory, c.of.ensures.mem_is, c.table_memory.ensures.value) reveals in
+    let within : 512 * 32 + 512 * 64 ≤ length b = omega (arith, reveals.count) in
     let listed = c.insert-answer.ensures.inserted (entries 32 (part b (512 * 32) (512 * 64)) n) record {
       bytes = part b (512 * 32) (512 * 64);
-      told = record { whole = b; told = before; inside = rw (first, pages) within; is = rw (first, pages) refl };
+      revealed = record { whole = b; revealed = before; inside = rw (first, pages) within; is = rw (first, pages) refl };
       are = rw c.over-table.ensures.count refl;
     } in
-    lent (λ d s x k. OnOk c.insert-answer.result (IsInsertedIn 32 4 32 64 (TablesTell d s x k) b n c.args.entry.now)) _ (g.D.Disk.state now.swapper.under) _ now.swapper.pool _ now.swapper.layout _ now.runs (search rules) (search rules) (search rules) (search rules)
+    lent (λ d s x k. OnOk c.insert-answer.result (IsInsertedIn 32 4 32 64 (TablesReveal d s x k) b n c.args.entry.now)) _ (g.D.Disk.state now.swapper.disk) _ now.swapper.pool _ now.swapper.layout _ now.runs (search rules) (search rules) (search rules) (search rules)
     (counted c.insert-answer.result n table.count _ _ count
-    (λ more inserted. inserted_in (λ (w : Window1Over g.row.D.Denot g.row.A.Denot g.D.Disk) (x : List ℕ). TablesTell (g.D.Disk.state w.filer.now.swapper.under) w.filer.now.swapper.pool w.filer.now.swapper.layout w.filer.now.runs x) _
-    (λ w x y h k. tables_tell_once _ _ _ _ x y w.filer.now.swapper.accepted h k) 32 4 32 64 mem table.mem b first pages c.insert-answer.ensures.kept before n table.count c.args.entry.now more inserted)
+    (λ more inserted. inserted_in (λ (w : TableMemory g.row.D.Denot g.row.A.Denot g.D.Disk) (x : List ℕ). TablesReveal (g.D.Disk.state w.filer.now.swapper.disk) w.filer.now.swapper.pool w.filer.now.swapper.layout w.filer.now.runs x) _
+    (λ w x y h k. tables_reveal_once _ _ _ _ x y w.filer.now.swapper.accepted h k) 32 4 32 64 mem table.mem b first pages c.insert-answer.ensures.kept before n table.count c.args.entry.now more inserted)
     listed)

@@ -3,25 +3,25 @@ use Rattle.labelled_disk.specs.State.{DiskState}
 use Rattle.flat_mem.specs.Memory.{part}
 use Rattle.flat_mem.specs.PartLaws.{whole_unchanged}
 use Rattle.record_table.specs.Table.{entries, pages_of}
-use Rattle.filer_kernel.specs.declared.window.Window1Over.{Window1Over}
-use Rattle.filer_kernel.specs.Tables.{TablesTell}
-use Rattle.filer_kernel.specs.TableOnce.{tables_tell_once}
+use Rattle.filer_kernel.specs.declared.window.TableMemory.{TableMemory}
+use Rattle.filer_kernel.specs.Tables.{TablesReveal}
+use Rattle.filer_kernel.specs.TableOnce.{tables_reveal_once}
 use Rattle.filer_callers.proofs.Lent.{lent}
 use Rattle.filer_callers.proofs.register.RegisterOver.find.Goals as goal
 
 pub returns-clause-found : goal.returns-clause-found
-returns-clause-found g c = λ b tells rising.
+returns-clause-found g c = λ b reveals ascending.
     let mem = c.over-table.result.mem in
     let first : mem.first ≡ 32 = rw c.over-table.ensures.memory c.of.ensures.first_is in
     let pages : mem.pages ≡ 64 = rw c.over-table.ensures.memory c.of.ensures.pages_is in
     let filer = mem.mem.filer.now in
-    let before : TablesTell (g.D.Disk.state filer.swapper.under) filer.swapper.pool filer.swapper.layout filer.runs b = rw (c.over-table.ensures.memory, c.of.ensures.mem_is, c.window1.ensures.value) tells in
-    let within : 512 * 32 + 512 * 64 ≤ length b = omega (arith, tells.count) in
+    let before : TablesReveal (g.D.Disk.state filer.swapper.disk) filer.swapper.pool filer.swapper.layout filer.runs b = rw (c.over-table.ensures.memory, c.of.ensures.mem_is, c.table_memory.ensures.value) reveals in
+    let within : 512 * 32 + 512 * 64 ≤ length b = omega (arith, reveals.count) in
     c.find_last_at_most.ensures.found (entries 32 (part b (512 * 32) (512 * 64)) c.args.self.now.count) record {
       bytes = part b (512 * 32) (512 * 64);
-      told = record { whole = b; told = before; inside = rw (first, pages) within; is = rw (first, pages) refl };
+      revealed = record { whole = b; revealed = before; inside = rw (first, pages) within; is = rw (first, pages) refl };
       are = rw c.over-table.ensures.count refl;
-    } rising
+    } ascending
 
 pub returns-clause-same : goal.returns-clause-same
 returns-clause-same g c =
@@ -31,14 +31,14 @@ returns-clause-same g c =
     let now = after.mem.filer.now in
     let first : mem.first ≡ 32 = rw c.over-table.ensures.memory c.of.ensures.first_is in
     let pages : mem.pages ≡ 64 = rw c.over-table.ensures.memory c.of.ensures.pages_is in
-    lent (λ d s x k. (b : List ℕ) → TablesTell (g.D.Disk.state old.swapper.under) old.swapper.pool old.swapper.layout old.runs b → TablesTell d s x k b) _ (g.D.Disk.state now.swapper.under) _ now.swapper.pool _ now.swapper.layout _ now.runs
-    (search rules) (search rules) (search rules) (search rules) (λ b tells.
+    lent (λ d s x k. (b : List ℕ) → TablesReveal (g.D.Disk.state old.swapper.disk) old.swapper.pool old.swapper.layout old.runs b → TablesReveal d s x k b) _ (g.D.Disk.state now.swapper.disk) _ now.swapper.pool _ now.swapper.layout _ now.runs
+    (search rules) (search rules) (search rules) (search rules) (λ b reveals.
     let filer = mem.mem.filer.now in
-    let before : TablesTell (g.D.Disk.state filer.swapper.under) filer.swapper.pool filer.swapper.layout filer.runs b = rw (c.over-table.ensures.memory, c.of.ensures.mem_is, c.window1.ensures.value) tells in
-    let within : 512 * 32 + 512 * 64 ≤ length b = omega (arith, tells.count) in
-    let told = c.find_last_at_most.ensures.same_bytes (part b (512 * mem.first) (512 * mem.pages)) record { whole = b; told = before; inside = rw (first, pages) within; is = refl } in
-    whole_unchanged (λ (w : Window1Over g.row.D.Denot g.row.A.Denot g.D.Disk) (x : List ℕ). TablesTell (g.D.Disk.state w.filer.now.swapper.under) w.filer.now.swapper.pool w.filer.now.swapper.layout w.filer.now.runs x) _
-    (λ w x y h k. tables_tell_once _ _ _ _ x y w.filer.now.swapper.accepted h k) mem after b c.find_last_at_most.ensures.kept before told)
+    let before : TablesReveal (g.D.Disk.state filer.swapper.disk) filer.swapper.pool filer.swapper.layout filer.runs b = rw (c.over-table.ensures.memory, c.of.ensures.mem_is, c.table_memory.ensures.value) reveals in
+    let within : 512 * 32 + 512 * 64 ≤ length b = omega (arith, reveals.count) in
+    let revealed = c.find_last_at_most.ensures.same_bytes (part b (512 * mem.first) (512 * mem.pages)) record { whole = b; revealed = before; inside = rw (first, pages) within; is = refl } in
+    whole_unchanged (λ (w : TableMemory g.row.D.Denot g.row.A.Denot g.D.Disk) (x : List ℕ). TablesReveal (g.D.Disk.state w.filer.now.swapper.disk) w.filer.now.swapper.pool w.filer.now.swapper.layout w.filer.now.runs x) _
+    (λ w x y h k. tables_reveal_once _ _ _ _ x y w.filer.now.swapper.accepted h k) mem after b c.find_last_at_most.ensures.kept before revealed)
 
 few_pages : (n : ℕ) → n ≤ 1024 → pages_of 32 n ≤ 2 ^ 6
 few_pages n few = omega (arith, few)
@@ -49,5 +49,5 @@ at_most state u v n same h = rw same h
 pub returns-clause-cost : goal.returns-clause-cost
 returns-clause-cost g c =
     let few : pages_of 32 c.over-table.result.count ≤ 2 ^ 6 = rw c.over-table.ensures.count (few_pages c.args.self.now.count c.requires.few) in
-    at_most g.D.Disk.state _ c.find_last_at_most.new.self.mem.mem.filer.now.swapper.under ((g.D.Disk.state c.args.self.now.filer.swapper.under).transfers + 196) (search rules)
-    (rw (c.over-table.ensures.memory, c.of.ensures.mem_is, c.window1.ensures.value) at (c.find_last_at_most.ensures.cost 6 few))
+    at_most g.D.Disk.state _ c.find_last_at_most.new.self.mem.mem.filer.now.swapper.disk ((g.D.Disk.state c.args.self.now.filer.swapper.disk).transfers + 196) (search rules)
+    (rw (c.over-table.ensures.memory, c.of.ensures.mem_is, c.table_memory.ensures.value) at (c.find_last_at_most.ensures.cost 6 few))

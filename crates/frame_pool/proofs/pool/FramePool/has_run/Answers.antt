@@ -1,7 +1,7 @@
 use Rattle.std.proofs.Common.{refl}
 use Rattle.frame_pool.proofs.KeptLemmas.{nowhere_of}
 use Rattle.frame_pool.proofs.PoolLemmas.{found_pool}
-use Rattle.frame_pool.proofs.RunLemmas.{first_nowhere, hit_some, runs_found, runs_told}
+use Rattle.frame_pool.proofs.RunLemmas.{first_nowhere, hit_some, runs_found, runs_revealed}
 use Rattle.frame_pool.proofs.pool.FramePool.has_run.Goals as goal
 
 pub returns-in_default-clause-there : goal.returns-in_default-clause-there
@@ -9,13 +9,13 @@ returns-in_default-clause-there g c =
     let slots = c.self.inside.table.frames in
     rw (← c.self.view_is) (first_nowhere slots c.args.id c.args.first c.args.pages c.if-pages-eq0.false (nowhere_of slots c.args.id c.args.first (c.find.ensures.nowhere c.in_default.is)))
 
-pub returns-then-tells-clause-there : goal.returns-then-tells-clause-there
-returns-then-tells-clause-there g c =
+pub returns-then-reveals-clause-there : goal.returns-then-reveals-clause-there
+returns-then-reveals-clause-there g c =
     let inside = c.self.inside in
     let hit = c.in-Some.ensures.found in
-    let told = rw c.found.ensures at (c.tells.ensures c.if-tells.true) in
+    let revealed = rw c.found.ensures at (c.reveals.ensures c.if-reveals.true) in
     rw (← c.self.view_is) (
-      λ _. runs_told inside.table.frames inside.table.founds inside.time c.in-Some.slot c.args.id c.args.first c.args.pages hit.0 hit.1 c.self.invariant.1 told.0 told.1,
+      λ _. runs_revealed inside.table.frames inside.table.founds inside.time c.in-Some.slot c.args.id c.args.first c.args.pages hit.0 hit.1 c.self.invariant.1 revealed.0 revealed.1,
       λ _. refl,
     )
 

@@ -1,9 +1,9 @@
-use Rattle.label_survey.proofs.WalkLemmas.{takes_stray, takes_leader, takes_lost, takes_page}
+use Rattle.label_survey.proofs.WalkLemmas.{takes_orphan, takes_leader, takes_lost, takes_page}
 use Rattle.label_survey.proofs.walk.Progress.take.Goals as goal
 use Rattle.label_survey.proofs.walk.Progress.take.Goals.{then-entry-self-2-via-then-entry-self-2, then-entry-self-2-via-else-entry-self-2+then-entry-eq-TEMPORARY}
 
 pub returns-then-entry-ne0-clause-next : goal.returns-then-entry-ne0-clause-next
-returns-then-entry-ne0-clause-next c = λ d entries k of order at come. takes_stray d entries of order k c.args.entry.now at c.args.self.now come c.if-entry-self.true c.if-entry-ne0.true
+returns-then-entry-ne0-clause-next c = λ d entries k of order at come. takes_orphan d entries of order k c.args.entry.now at c.args.self.now come c.if-entry-self.true c.if-entry-ne0.true
 
 pub returns-then-entry-self-clause-next : goal.returns-then-entry-self-clause-next
 returns-then-entry-self-clause-next c = λ d entries k of order at come. takes_leader d entries of order k c.args.entry.now at c.args.self.now come c.if-entry-self.true c.if-entry-ne0.false

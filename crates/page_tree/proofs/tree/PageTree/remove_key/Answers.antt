@@ -7,7 +7,7 @@ use Rattle.page_tree.proofs.tree.PageTree.remove_key.Goals as goal
 pub returns-clause-removed : goal.returns-clause-removed
 returns-clause-removed g c = λ xs lists.
     let same = g.met.M.FlatMem.same_size _ _ c.remove_key.ensures.kept in
-    match_weaker c.remove_key.result _ _ _ _ (λ found done. lists_out g.row.E g.row.K _ _ _ xs same lists.bytes c.args.key.now found lists.tree done) (λ why from. from) (c.remove_key.ensures.answer lists.bytes lists.told xs lists.tree)
+    match_weaker c.remove_key.result _ _ _ _ (λ found done. lists_out g.row.E g.row.K _ _ _ xs same lists.bytes c.args.key.now found lists.tree done) (λ why from. from) (c.remove_key.ensures.answer lists.bytes lists.revealed xs lists.tree)
 
 pub returns-clause-inside : goal.returns-clause-inside
-returns-clause-inside g c = λ b h. err_wider c.remove_key.result _ _ (λ why named. broken_inside g.row.E g.row.K _ b why (g.met.M.FlatMem.told_length _ b h) (omega (arith, c.args.self.now.least)) named) (c.remove_key.ensures.broken b h)
+returns-clause-inside g c = λ b h. err_wider c.remove_key.result _ _ (λ why named. broken_inside g.row.E g.row.K _ b why (g.met.M.FlatMem.revealed_length _ b h) (omega (arith, c.args.self.now.least)) named) (c.remove_key.ensures.broken b h)

@@ -3,7 +3,7 @@ use Rattle.labelled_disk.specs.declared.disk.DiskError.{DiskError}
 use Rattle.labelled_disk.specs.Layout.{vam, vfm}
 use Rattle.labelled_disk.specs.Runs.{freeing}
 use Rattle.labelled_disk.specs.State.{DiskState}
-use Rattle.label_survey.specs.declared.standing.Standing.{Standing}
+use Rattle.label_survey.specs.declared.sector_state.SectorState.{SectorState}
 use Rattle.label_survey.specs.Survey.{is_freed, places_by}
 use Rattle.scavenger.specs.Carries.{Carries}
 use Rattle.scavenger.specs.Plan.{orders}
@@ -12,9 +12,9 @@ use Rattle.scavenger.proofs.OrderLemmas.{stopped_frees, stopped_bits, stopped_na
 use Rattle.scavenger.proofs.RowLemmas.{carries_as, carries_err}
 use Rattle.scavenger.proofs.plan.Plan.carry_out.Goals as goal
 
--- freed by standings that are the same ones
-freed_as : (first : ℕ) (xs ys : List Standing) (a b : DiskState) (r : Result (Unit {0}) DiskError) → xs ≡ ys → Carries (freeing (places_by is_freed first xs)) a r b → Carries (freeing (places_by is_freed first ys)) a r b
-freed_as first xs ys a b r same = carries_as (freeing (places_by is_freed first xs)) (freeing (places_by is_freed first ys)) a b r (ap (λ (l : List Standing). freeing (places_by is_freed first l)) same)
+-- freed by sector states that are the same ones
+freed_as : (first : ℕ) (xs ys : List SectorState) (a b : DiskState) (r : Result (Unit {0}) DiskError) → xs ≡ ys → Carries (freeing (places_by is_freed first xs)) a r b → Carries (freeing (places_by is_freed first ys)) a r b
+freed_as first xs ys a b r same = carries_as (freeing (places_by is_freed first xs)) (freeing (places_by is_freed first ys)) a b r (ap (λ (l : List SectorState). freeing (places_by is_freed first l)) same)
 
 pub free_sectors-requires : goal.free_sectors-requires
 free_sectors-requires g c =
@@ -22,8 +22,8 @@ free_sectors-requires g c =
     omega (
       arith,
       parts.first,
-      c.requires.sized.standings,
-      ap (λ (l : List Standing). length l) c.deref.ensures.value,
+      c.requires.sized.sector_states,
+      ap (λ (l : List SectorState). length l) c.deref.ensures.value,
       c.in_ok-open_root.ensures.later.sectors,
       first_within (g.D.Disk.state c.args.disk.now).sectors c.requires.root.accepted,
     )

@@ -9,17 +9,17 @@ list-requires-clause-within g c = λ k i here.
     let n : ℕ = c.args.first + length c.args.labels.now in
     let d = imagined n c.args.labels.now in
     let has = imagined_has n c.args.labels.now (omega (arith, c.requires.first)) in
-    let told = c.requires.tells d has in
-    lost_within d n c.args.first c.args.labels.now has c.requires.first k i (ap (λ (l : List ℕ). slice_get l k) (sym told.lost ∙ sym c.deref.ensures.value) ∙ here)
+    let revealed = c.requires.reveals d has in
+    lost_within d n c.args.first c.args.labels.now has c.requires.first k i (ap (λ (l : List ℕ). slice_get l k) (sym revealed.lost ∙ sym c.deref.ensures.value) ∙ here)
 
 pub returns : goal.returns
 returns g c = ok_then c.list.result c.list.ensures.listed (λ listed d has.
-    let told = c.requires.tells d has in
+    let revealed = c.requires.reveals d has in
     record {
-      files = c.list.ensures.files ∙ told.tallies.files;
-      pages = c.list.ensures.pages ∙ told.tallies.pages;
-      freed = c.list.ensures.freed ∙ told.tallies.freed;
+      files = c.list.ensures.files ∙ revealed.tallies.files;
+      pages = c.list.ensures.pages ∙ revealed.tallies.pages;
+      freed = c.list.ensures.freed ∙ revealed.tallies.freed;
       lost =
-          listed ∙ ap (map (labelled c.args.first c.args.labels.now)) (c.deref.ensures.value ∙ told.lost)
+          listed ∙ ap (map (labelled c.args.first c.args.labels.now)) (c.deref.ensures.value ∙ revealed.lost)
           ∙ all_lost d (c.args.first + length c.args.labels.now) c.args.first c.args.labels.now has c.requires.first;
     })

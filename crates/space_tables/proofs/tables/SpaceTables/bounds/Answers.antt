@@ -8,4 +8,4 @@ pub returns-clause-answer : goal.returns-clause-answer
 returns-clause-answer g c = λ ss t. let m = c.in_ok-found.ensures.answer c.args.self.now.intervals ss t in (m.0, (c.in_ok-found.found, m.1, refl))
 
 pub returns-clause-read : goal.returns-clause-read
-returns-clause-read g c = λ b told. record { space = c.in_ok-found.found; there = c.in_ok-found.ensures.read b told; pages = refl }
+returns-clause-read g c = λ b revealed. record { space = c.in_ok-found.found; there = c.in_ok-found.ensures.read b revealed; pages = refl }

@@ -19,5 +19,5 @@ returns-in-None-clause-answer g c = λ ss t.
     (passed _ _ m.0 ∙ stopped _ [] _ (window_test ss c.args.space c.in_ok-found.found None m.1 c.in-None.is), tt)
 
 pub returns-in-Some-clause-read : goal.returns-in-Some-clause-read
-returns-in-Some-clause-read g c = λ b told.
-    record { space = c.in_ok-found.found; there = c.in_ok-found.ensures.read b told; window = c.in-Some.is ∙ ap Some (sym c.shown_in.ensures) }
+returns-in-Some-clause-read g c = λ b revealed.
+    record { space = c.in_ok-found.found; there = c.in_ok-found.ensures.read b revealed; window = c.in-Some.is ∙ ap Some (sym c.shown_in.ensures) }

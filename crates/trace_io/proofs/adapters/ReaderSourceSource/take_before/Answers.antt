@@ -13,12 +13,12 @@ returns-clause-bytes g c =
     let room : c.copy_before-count.new.room ≡ take n hand ++ drop n c.args.room.now = c.copy_before-count.ensures.room ∙ ap (λ f. f ++ drop n c.args.room.now) (take-take n c.min-most.result hand most) in
     rw room (hands_over s.buffer c.args.room.now (take n hand) s.at s.end n refl within s.in_order (g.R.Read.remaining s.reader))
 
-pub returns-clause-lacks : goal.returns-clause-lacks
-returns-clause-lacks g c =
+pub returns-clause-misses : goal.returns-clause-misses
+returns-clause-misses g c =
     let s = c.args.self.now in
     let n = c.copy_before-count.result in
     let hand = take (s.end - s.at) (drop s.at s.buffer) in
-    let front = take n (take c.min-most.result hand) in
-    let long : length front ≡ n = length-take-le n (take c.min-most.result hand) c.copy_before-count.ensures.within in
-    let same : take n c.copy_before-count.new.room ≡ front = ap (take n) c.copy_before-count.ensures.room ∙ take-append-le n front (drop n c.args.room.now) (omega (arith, long)) ∙ take_all n front (omega (arith, long)) in
-    rw same c.copy_before-count.ensures.lacks
+    let prefix = take n (take c.min-most.result hand) in
+    let long : length prefix ≡ n = length-take-le n (take c.min-most.result hand) c.copy_before-count.ensures.within in
+    let same : take n c.copy_before-count.new.room ≡ prefix = ap (take n) c.copy_before-count.ensures.room ∙ take-append-le n prefix (drop n c.args.room.now) (omega (arith, long)) ∙ take_all n prefix (omega (arith, long)) in
+    rw same c.copy_before-count.ensures.misses

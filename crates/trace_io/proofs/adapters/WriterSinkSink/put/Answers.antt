@@ -1,6 +1,6 @@
 use Rattle.std.proofs.Common.{rules}
 use Rattle.std.proofs.lemmas.List.{take_rest}
-use Rattle.trace_io.proofs.Pieces.{appends_part, written_front}
+use Rattle.trace_io.proofs.Pieces.{appends_part, written_prefix}
 use Rattle.trace_io.proofs.adapters.WriterSinkSink.put.Goals as goal
 
 pub loop-at-preserved : goal.loop-at-preserved
@@ -12,9 +12,9 @@ loop-at-preserved g c =
 pub returns-in-Ok-2-clause-err : goal.returns-in-Ok-2-clause-err
 returns-in-Ok-2-clause-err g c =
     let piece = c.args.piece.now in
-    rw c.fault.ensures.writer (written_front _ _ _ piece c.loop-at.at c.write.result c.loop-at.invariant.1 (rw (take_rest piece c.loop-at.at) at c.write.ensures.bytes))
+    rw c.fault.ensures.writer (written_prefix _ _ _ piece c.loop-at.at c.write.result c.loop-at.invariant.1 (rw (take_rest piece c.loop-at.at) at c.write.ensures.bytes))
 
 pub returns-in-Err-clause-err : goal.returns-in-Err-clause-err
 returns-in-Err-clause-err g c =
     let piece = c.args.piece.now in
-    rw c.fault-in-Err.ensures.writer (written_front _ _ _ piece c.loop-at.at c.write.result c.loop-at.invariant.1 (rw (take_rest piece c.loop-at.at) at c.write.ensures.bytes))
+    rw c.fault-in-Err.ensures.writer (written_prefix _ _ _ piece c.loop-at.at c.write.result c.loop-at.invariant.1 (rw (take_rest piece c.loop-at.at) at c.write.ensures.bytes))

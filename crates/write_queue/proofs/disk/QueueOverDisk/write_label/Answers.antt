@@ -3,7 +3,7 @@ use Rattle.labelled_disk.specs.declared.disk.DiskWrite.TheVariants as write
 use Rattle.labelled_disk.specs.Calls.{Moved}
 use Rattle.write_queue.specs.Queue.{view_of}
 use Rattle.write_queue.proofs.BeneathLemmas.{emptied, passed, passed_none}
-use Rattle.write_queue.proofs.MomentLemmas.{moments_passed}
+use Rattle.write_queue.proofs.CrashStateLemmas.{crash_states_passed}
 use Rattle.write_queue.proofs.QueueLemmas.{writes_swept}
 use Rattle.write_queue.proofs.disk.QueueOverDisk.write_label.Goals as goal
 
@@ -13,7 +13,7 @@ returns-clause-writes g c =
     let left = c.empty.new.self in
     let moved : Moved self.transfers left.transfers = record { later = search rules; by_one = search rules } in
     writes_swept (g.D.Disk.state self.under) (g.D.Disk.state left.under) (g.D.Disk.state c.write_label.new.self) self.entries.items left.entries.items self.transfers self.own left.transfers left.own
-    (write.LabelOnly c.args.sector c.args.label.now) c.write_label.result c.in_ok-empty.ensures.swept.all.0 c.empty.ensures.told c.empty.ensures.swept.sectors c.empty.ensures.swept.lent moved c.empty.ensures.later c.write_label.ensures
+    (write.LabelOnly c.args.sector c.args.label.now) c.write_label.result c.in_ok-empty.ensures.swept.all.0 c.empty.ensures.revealed c.empty.ensures.swept.sectors c.empty.ensures.swept.lent moved c.empty.ensures.later c.write_label.ensures
 
 pub returns-in_err-empty-clause-beneath : goal.returns-in_err-empty-clause-beneath
 returns-in_err-empty-clause-beneath g c =
@@ -28,8 +28,8 @@ returns-clause-beneath g c =
     passed (write.LabelOnly c.args.sector c.args.label.now) (view_of c.args.self.now) left c.in_ok-empty.field-0 (g.D.Disk.state c.write_label.new.self) c.write_label.result
     (emptied (view_of c.args.self.now) _ left c.in_ok-empty.ensures.swept c.in_ok-empty.ensures.met) c.write_label.ensures
 
-pub returns-in_err-empty-clause-moments : goal.returns-in_err-empty-clause-moments
-returns-in_err-empty-clause-moments g c = moments_passed (write.LabelOnly c.args.sector c.args.label.now) (view_of c.args.self.now) _ _ (returns-in_err-empty-clause-beneath g c)
+pub returns-in_err-empty-clause-crash_states : goal.returns-in_err-empty-clause-crash_states
+returns-in_err-empty-clause-crash_states g c = crash_states_passed (write.LabelOnly c.args.sector c.args.label.now) (view_of c.args.self.now) _ _ (returns-in_err-empty-clause-beneath g c)
 
-pub returns-clause-moments : goal.returns-clause-moments
-returns-clause-moments g c = moments_passed (write.LabelOnly c.args.sector c.args.label.now) (view_of c.args.self.now) c.write_label.result _ (returns-clause-beneath g c)
+pub returns-clause-crash_states : goal.returns-clause-crash_states
+returns-clause-crash_states g c = crash_states_passed (write.LabelOnly c.args.sector c.args.label.now) (view_of c.args.self.now) c.write_label.result _ (returns-clause-beneath g c)

@@ -26,14 +26,14 @@ loop-preserved g c =
     let out = c.in_ok-write_first.ensures.out in
     let before = c.loop.invariant in (
       so_far_more old.head old.entries.items (g.D.Disk.state old.under) old.own now.entries.items now.head (g.D.Disk.state now.under) now.own
-          new.entries.items new.head (g.D.Disk.state new.under) new.own before.0 out c.write_first.ensures.told c.write_first.ensures.later,
+          new.entries.items new.head (g.D.Disk.state new.under) new.own before.0 out c.write_first.ensures.revealed c.write_first.ensures.later,
       omega (arith, before.1, out.out.3),
       c.in_ok-write_first.ensures.credit,
       record {
         room = c.write_first.ensures.same.room ∙ before.3.room;
         transfers = c.write_first.ensures.same.transfers ∙ before.3.transfers;
         begun = c.write_first.ensures.same.begun ∙ before.3.begun;
-        unsettled = c.write_first.ensures.same.unsettled ∙ before.3.unsettled;
+        no_sync = c.write_first.ensures.same.no_sync ∙ before.3.no_sync;
       },
       (c.in_ok-write_first.ensures.met.0.0 ∙ before.4.0, c.in_ok-write_first.ensures.met.0.1 ∙ before.4.1),
     )

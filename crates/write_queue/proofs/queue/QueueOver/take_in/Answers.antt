@@ -59,7 +59,7 @@ returns-clause-data g c =
     (form c.in_ok-label.label c.args.page.now (search rules) (search rules) (search rules) (search rules) (search rules) c.told-page c.fits-page)
     c.make_room.ensures.made.sectors c.make_room.ensures.made.labels in
     let taken = data_taken (g.D.Disk.state self.under) (g.D.Disk.state c.read.new.self) (g.D.Disk.state room.under) self.entries.items room.entries.items self.transfers self.own room.own
-    c.args.sector c.in_ok-label.label _ c.args.wanted c.args.page.now c.in_ok-label.ensures c.make_room.ensures.told c.make_room.ensures.made c.make_room.ensures.later room.waiting.once
+    c.args.sector c.in_ok-label.label _ c.args.wanted c.args.page.now c.in_ok-label.ensures c.make_room.ensures.revealed c.make_room.ensures.made c.make_room.ensures.later room.waiting.once
     c.requires.free waits in
     let transfers : c.put_in.new.self.transfers ≡ self.transfers = c.put_in.ensures.same.transfers ∙ c.make_room.ensures.same.transfers in
     rw (c.put_in.ensures.put, c.put_in.ensures.under, c.put_in.ensures.own, transfers) taken

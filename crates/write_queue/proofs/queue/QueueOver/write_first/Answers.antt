@@ -5,10 +5,10 @@ use Rattle.write_queue.specs.declared.entry.Entry.{Entry}
 use Rattle.write_queue.specs.Entries.{laid, IsOnce}
 use Rattle.write_queue.specs.Inside.{HasFirst}
 use Rattle.write_queue.specs.Sweeps.{IsFirst}
-use Rattle.write_queue.proofs.FrontLemmas.{is_first}
+use Rattle.write_queue.proofs.PrefixLemmas.{is_first}
 use Rattle.write_queue.proofs.ListLemmas.{less-fewer, stands_waiting}
 use Rattle.write_queue.proofs.PlaceLemmas.{sectors-removed}
-use Rattle.write_queue.proofs.WaitLemmas.{told_out, told_still, differs_then, made_or_not, labels_after, told_after, never_wrong, are_kept, are_fewer}
+use Rattle.write_queue.proofs.WaitLemmas.{revealed_out, revealed_still, differs_then, made_or_not, labels_after, revealed_after, never_wrong, are_kept, are_fewer}
 use Rattle.write_queue.proofs.queue.QueueOver.write_first.Goals as goal
 
 -- the first page stands there
@@ -35,7 +35,7 @@ invariant_of-self g c =
       fits = search rules;
       room_kept = search rules;
       rooms = self.rooms;
-      unchanged = λ d is. let t = told_after old new e.sector e.wanted e.page c.write_data.result c.write_data.ensures d is in self.unchanged t.0 t.1;
+      unchanged = λ d is. let t = revealed_after old new e.sector e.wanted e.page c.write_data.result c.write_data.ensures d is in self.unchanged t.0 t.1;
       counted = self.counted;
       differs = self.differs;
       paid = search rules;
@@ -54,7 +54,7 @@ invariant_of-self-in-Err-Failed g c =
       fits = self.fits;
       room_kept = self.room_kept;
       rooms = self.rooms;
-      unchanged = λ d is. let t = told_after old new e.sector e.wanted e.page c.write_data.result c.write_data.ensures d is in self.unchanged t.0 t.1;
+      unchanged = λ d is. let t = revealed_after old new e.sector e.wanted e.page c.write_data.result c.write_data.ensures d is in self.unchanged t.0 t.1;
       counted = self.counted;
       differs = self.differs;
       paid = search rules;
@@ -116,29 +116,29 @@ returns-in-Err-Wrong-clause-out g c =
       moves = c.write_data.ensures.moves;
     }
 
-pub returns-in-Ok-clause-told : goal.returns-in-Ok-clause-told
-returns-in-Ok-clause-told g c =
+pub returns-in-Ok-clause-revealed : goal.returns-in-Ok-clause-revealed
+returns-in-Ok-clause-revealed g c =
     let self = c.args.self.now in
     let es = self.entries.items in
     let e = c.index.result.now in
     let at = there es c.first_place-place.result e c.first_place-place.ensures.below c.index.ensures in
-    rw c.swap_remove.ensures.items (told_out (g.D.Disk.state self.under) (g.D.Disk.state c.write_data.new.self) es _ e
+    rw c.swap_remove.ensures.items (revealed_out (g.D.Disk.state self.under) (g.D.Disk.state c.write_data.new.self) es _ e
     (stands_waiting es self.waiting.once c.first_place-place.result e at e.sector refl)
     (less-fewer es c.first_place-place.result c.first_place-place.ensures.below c.swap_remove.result self.waiting.once e at)
     (self.waiting.each c.first_place-place.result e at) c.in-Ok.ensures.written)
 
-pub returns-in-Err-Failed-clause-told : goal.returns-in-Err-Failed-clause-told
-returns-in-Err-Failed-clause-told g c =
+pub returns-in-Err-Failed-clause-revealed : goal.returns-in-Err-Failed-clause-revealed
+returns-in-Err-Failed-clause-revealed g c =
     let self = c.args.self.now in
     let es = self.entries.items in
     let e = c.index.result.now in
     let failed = rw c.in-Err-Failed.field-0-is at c.in-Err-Failed.ensures in
     let at = there es c.first_place-place.result e c.first_place-place.ensures.below c.index.ensures in
-    told_still (g.D.Disk.state self.under) (g.D.Disk.state c.write_data.new.self) es e
+    revealed_still (g.D.Disk.state self.under) (g.D.Disk.state c.write_data.new.self) es e
     (stands_waiting es self.waiting.once c.first_place-place.result e at e.sector refl) (made_or_not failed.whole_or_absent)
 
-pub returns-in-Err-Wrong-clause-told : goal.returns-in-Err-Wrong-clause-told
-returns-in-Err-Wrong-clause-told g c =
+pub returns-in-Err-Wrong-clause-revealed : goal.returns-in-Err-Wrong-clause-revealed
+returns-in-Err-Wrong-clause-revealed g c =
     let wrong = rw c.in-Err-Wrong.field-0-is at c.in-Err-Wrong.ensures in
     ap (option_map (laid c.args.self.now.entries.items)) wrong.wrong.2.contents
 
@@ -154,9 +154,9 @@ returns-in-Err-Wrong-clause-met g c =
         entry = e;
         found = c.in-Err-Wrong.found;
         waits = stands_waiting es self.waiting.once c.first_place-place.result e at e.sector refl;
-        stands = λ d told. wrong.wrong.1 d (sym wrong.wrong.2.contents ∙ told);
+        stands = λ d revealed. wrong.wrong.1 d (sym wrong.wrong.2.contents ∙ revealed);
         other = wrong.wrong.0;
         counted = c.saturating_add-self.ensures;
-        told = refl;
+        revealed = refl;
       }),
     )

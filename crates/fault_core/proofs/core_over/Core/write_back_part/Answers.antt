@@ -1,0 +1,157 @@
+use Rattle.std.proofs.Common.{◌+◌, ◌≤◌, inl, inr, arith}
+use Rattle.fault_core.specs.Core.{state}
+use Rattle.fault_core.specs.Reach.{no_break}
+use Rattle.fault_core.specs.Revealed.{BreaksTables}
+use Rattle.fault_core.specs.View.{view_of}
+use Rattle.fault_core.proofs.AccessLemmas.{at_of}
+use Rattle.fault_core.proofs.ReachLemmas.{reaches_then, halts_before}
+use Rattle.fault_core.proofs.KeptLemmas.{same_answer}
+use Rattle.fault_core.proofs.RestLemmas.{run_yields, none_written_back, bare_written_back, run_written_back, next_of, leaves_same, part_all, part_leaves}
+use Rattle.fault_core.proofs.RevealedLemmas.{interval_of, revealed_after}
+use Rattle.fault_core.proofs.LackLemmas.{sees_after}
+use Rattle.fault_core.proofs.core_over.Core.write_back_part.Goals as goal
+
+pub returns-in-Ok-None-clause-rest : goal.returns-in-Ok-None-clause-rest
+returns-in-Ok-None-clause-rest g c = λ m named ss knows.
+    none_written_back knows.tables c.args.write_back c.describe.new.self.filer.swapper.pool c.args.page c.args.end (c.in-Ok-None.ensures.none.0 c.in-Ok-None.field-0-is)
+
+-- the tables were not asked
+pub returns-in-Ok-None-clause-frames : goal.returns-in-Ok-None-clause-frames
+returns-in-Ok-None-clause-frames g c = λ y found inside.
+    let idle = c.describe.ensures.idle y found in
+    leaves_same c.args.write_back y.id _ _ c.args.self.now.filer.swapper.pool c.describe.new.self.filer.swapper.pool (λ i. (idle.1 i).swapper.pool)
+
+pub returns-in-Err-clause-frames : goal.returns-in-Err-clause-frames
+returns-in-Err-clause-frames g c = λ y found inside.
+    let idle = c.describe.ensures.idle y found in
+    leaves_same c.args.write_back y.id _ _ c.args.self.now.filer.swapper.pool c.describe.new.self.filer.swapper.pool (λ i. (idle.1 i).swapper.pool)
+
+-- ---- No window shows the interval.
+
+pub returns-then-x-eq0-clause-frames : goal.returns-then-x-eq0-clause-frames
+returns-then-x-eq0-clause-frames g c = λ y found inside.
+    let idle = c.describe.ensures.idle y found in
+    leaves_same c.args.write_back y.id _ _ c.args.self.now.filer.swapper.pool c.describe.new.self.filer.swapper.pool (λ i. (idle.1 i).swapper.pool)
+
+pub returns-then-x-eq0-clause-all : goal.returns-then-x-eq0-clause-all
+returns-then-x-eq0-clause-all g c = λ y found inside.
+    let idle = c.describe.ensures.idle y found in
+    part_all c.in-Ok-Some.x y c.min-next.result c.args.end c.min-next.ensures (same_answer c.describe.result y c.in-Ok-Some.x c.in-Ok-Some.field-0 idle.0 c.in-Ok-Some.is c.in-Ok-Some.field-0-is) inside
+
+pub returns-then-x-eq0-clause-rest : goal.returns-then-x-eq0-clause-rest
+returns-then-x-eq0-clause-rest g c = λ m named ss knows.
+    let x = c.in-Ok-Some.x in
+    let at = at_of ss c.in-Ok-Some.field-0 x c.args.page c.in-Ok-Some.field-0-is (c.in-Ok-Some.ensures.interval m named ss knows) in
+    let least = c.min-next.ensures in
+    let inside : c.min-next.result ≤ x.first + x.pages = omega (arith, least) in
+    bare_written_back knows.tables c.args.write_back c.describe.new.self.filer.swapper.pool c.args.page c.min-next.result x (interval_of ss c.args.page x at) at.holds inside c.if-x-eq0.true
+
+pub returns-then-x-eq0-clause-part : goal.returns-then-x-eq0-clause-part
+returns-then-x-eq0-clause-part g c = λ m named ss knows.
+    let x = c.in-Ok-Some.x in
+    let at = at_of ss c.in-Ok-Some.field-0 x c.args.page c.in-Ok-Some.field-0-is (c.in-Ok-Some.ensures.interval m named ss knows) in
+    elim (next_of c.min-next.result (x.first + x.pages) c.args.end c.min-next.ensures) [ inl is ↦ inl is | inr is ↦ inr (x, at, is) ]
+
+-- ---- One shows it.
+
+pub returns-in-Ok-clause-rest : goal.returns-in-Ok-clause-rest
+returns-in-Ok-clause-rest g c = λ m named ss knows.
+    let x = c.in-Ok-Some.x in
+    let at = at_of ss c.in-Ok-Some.field-0 x c.args.page c.in-Ok-Some.field-0-is (c.in-Ok-Some.ensures.interval m named ss knows) in
+    let least = c.min-next.ensures in
+    let inside : c.min-next.result ≤ x.first + x.pages = omega (arith, least) in
+    run_written_back knows.tables c.args.write_back c.write_back_run.new.filer.swapper.pool c.args.page c.min-next.result x (interval_of ss c.args.page x at) at.holds inside c.if-x-eq0.false c.in-Ok.ensures.rest
+
+pub returns-in-Ok-clause-part : goal.returns-in-Ok-clause-part
+returns-in-Ok-clause-part g c = λ m named ss knows.
+    let x = c.in-Ok-Some.x in
+    let at = at_of ss c.in-Ok-Some.field-0 x c.args.page c.in-Ok-Some.field-0-is (c.in-Ok-Some.ensures.interval m named ss knows) in
+    elim (next_of c.min-next.result (x.first + x.pages) c.args.end c.min-next.ensures) [ inl is ↦ inl is | inr is ↦ inr (x, at, is) ]
+
+pub returns-in-Ok-clause-same : goal.returns-in-Ok-clause-same
+returns-in-Ok-clause-same g c = λ m named ss knows.
+    revealed_after (c.in-Ok-Some.ensures.same m named ss knows) _ _ c.describe.new.self.filer.swapper.accepted c.write_back_run.ensures.reaches (λ x one. inl one)
+
+pub returns-in-Ok-clause-reaches : goal.returns-in-Ok-clause-reaches
+returns-in-Ok-clause-reaches g c =
+    reaches_then (state c.args.self.now) (state c.describe.new.self) c.args.self.now.filer.swapper.accepted c.describe.ensures.reaches (view_of c.write_back_run.new.filer) c.write_back_run.ensures.reaches
+
+pub returns-in-Ok-clause-cost : goal.returns-in-Ok-clause-cost
+returns-in-Ok-clause-cost g c =
+    let first = c.describe.ensures.cost in
+    let next = c.write_back_run.ensures.cost in
+    let count = c.describe.ensures.reaches.goes.makes.count in
+    omega (arith, first, next, count)
+
+pub returns-in-Ok-clause-frames : goal.returns-in-Ok-clause-frames
+returns-in-Ok-clause-frames g c = λ y found inside.
+    let idle = c.describe.ensures.idle y found in
+    let same = same_answer c.describe.result y c.in-Ok-Some.x c.in-Ok-Some.field-0 idle.0 c.in-Ok-Some.is c.in-Ok-Some.field-0-is in
+    part_leaves c.args.write_back c.in-Ok-Some.x y c.args.page c.min-next.result c.args.end c.args.self.now.filer.swapper.pool c.describe.new.self.filer.swapper.pool c.write_back_run.new.filer.swapper.pool same
+    (part_all c.in-Ok-Some.x y c.min-next.result c.args.end c.min-next.ensures same inside) (λ i. (idle.1 i).swapper.pool) c.write_back_run.ensures.frames
+
+pub returns-in-Ok-clause-all : goal.returns-in-Ok-clause-all
+returns-in-Ok-clause-all g c = λ y found inside.
+    let idle = c.describe.ensures.idle y found in
+    part_all c.in-Ok-Some.x y c.min-next.result c.args.end c.min-next.ensures (same_answer c.describe.result y c.in-Ok-Some.x c.in-Ok-Some.field-0 idle.0 c.in-Ok-Some.is c.in-Ok-Some.field-0-is) inside
+
+-- ---- A frame could not be written out.
+
+pub returns-in-Err-write_back_run-clause-cause : goal.returns-in-Err-write_back_run-clause-cause
+returns-in-Err-write_back_run-clause-cause g c =
+    let v = state c.args.self.now in
+    let x = view_of c.write_back_run.new.filer in
+    halts_before v (state c.describe.new.self) c.args.self.now.filer.swapper.accepted c.describe.ensures.reaches no_break (BreaksTables v c.args.self.now.intervals c.args.page) (λ page none. absurd none)
+    x x (omega arith) c.in-Err-write_back_run.halt c.in-Err-write_back_run.ensures.cause
+
+pub returns-in-Err-write_back_run-clause-sound : goal.returns-in-Err-write_back_run-clause-sound
+returns-in-Err-write_back_run-clause-sound g c = λ m named ss knows.
+    let after = c.in-Ok-Some.ensures.same m named ss knows in
+    c.in-Err-write_back_run.ensures.sound m named after.bytes after.known
+
+pub returns-in-Err-write_back_run-clause-same : goal.returns-in-Err-write_back_run-clause-same
+returns-in-Err-write_back_run-clause-same g c = λ m named ss knows.
+    revealed_after (c.in-Ok-Some.ensures.same m named ss knows) _ _ c.describe.new.self.filer.swapper.accepted c.write_back_run.ensures.reaches (λ x one. inl one)
+
+pub returns-in-Err-write_back_run-clause-reaches : goal.returns-in-Err-write_back_run-clause-reaches
+returns-in-Err-write_back_run-clause-reaches g c =
+    reaches_then (state c.args.self.now) (state c.describe.new.self) c.args.self.now.filer.swapper.accepted c.describe.ensures.reaches (view_of c.write_back_run.new.filer) c.write_back_run.ensures.reaches
+
+pub returns-in-Err-write_back_run-clause-cost : goal.returns-in-Err-write_back_run-clause-cost
+returns-in-Err-write_back_run-clause-cost g c =
+    let first = c.describe.ensures.cost in
+    let next = c.write_back_run.ensures.cost in
+    let count = c.describe.ensures.reaches.goes.makes.count in
+    omega (arith, first, next, count)
+
+pub returns-in-Err-write_back_run-clause-frames : goal.returns-in-Err-write_back_run-clause-frames
+returns-in-Err-write_back_run-clause-frames g c = λ y found inside.
+    let idle = c.describe.ensures.idle y found in
+    let same = same_answer c.describe.result y c.in-Ok-Some.x c.in-Ok-Some.field-0 idle.0 c.in-Ok-Some.is c.in-Ok-Some.field-0-is in
+    part_leaves c.args.write_back c.in-Ok-Some.x y c.args.page c.min-next.result c.args.end c.args.self.now.filer.swapper.pool c.describe.new.self.filer.swapper.pool c.write_back_run.new.filer.swapper.pool same
+    (part_all c.in-Ok-Some.x y c.min-next.result c.args.end c.min-next.ensures same inside) (λ i. (idle.1 i).swapper.pool) c.write_back_run.ensures.frames
+
+-- ---- Frames stay where they are forced.
+
+pub returns-in-Ok-None-clause-stay : goal.returns-in-Ok-None-clause-stay
+returns-in-Ok-None-clause-stay g c = λ forced. c.describe.ensures.stay
+
+pub returns-in-Err-clause-stay : goal.returns-in-Err-clause-stay
+returns-in-Err-clause-stay g c = λ forced. c.describe.ensures.stay
+
+pub returns-then-x-eq0-clause-stay : goal.returns-then-x-eq0-clause-stay
+returns-then-x-eq0-clause-stay g c = λ forced. c.describe.ensures.stay
+
+pub returns-in-Ok-clause-stay : goal.returns-in-Ok-clause-stay
+returns-in-Ok-clause-stay g c = run_yields c.args.write_back _ _ _ c.args.self.now.filer.swapper.pool c.describe.new.self.filer.swapper.pool c.write_back_run.new.filer.swapper.pool c.describe.ensures.stay c.write_back_run.ensures.frames
+
+pub returns-in-Err-write_back_run-clause-stay : goal.returns-in-Err-write_back_run-clause-stay
+returns-in-Err-write_back_run-clause-stay g c = run_yields c.args.write_back _ _ _ c.args.self.now.filer.swapper.pool c.describe.new.self.filer.swapper.pool c.write_back_run.new.filer.swapper.pool c.describe.ensures.stay c.write_back_run.ensures.frames
+
+-- ---- The tables are revealed.
+
+pub returns-in-Ok-clause-sees : goal.returns-in-Ok-clause-sees
+returns-in-Ok-clause-sees g c = λ ss s. sees_after (c.in-Ok-Some.ensures.sees ss s) _ _ c.write_back_run.ensures.reaches (λ x one. inl one)
+
+pub returns-in-Err-write_back_run-clause-sees : goal.returns-in-Err-write_back_run-clause-sees
+returns-in-Err-write_back_run-clause-sees g c = λ ss s. sees_after (c.in-Ok-Some.ensures.sees ss s) _ _ c.write_back_run.ensures.reaches (λ x one. inl one)

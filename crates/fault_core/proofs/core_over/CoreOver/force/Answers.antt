@@ -1,5 +1,0 @@
-use Rattle.std.proofs.Common.{refl}
-use Rattle.fault_core.proofs.core_over.CoreOver.force.Goals as goal
-
-pub returns-clause-stay : goal.returns-clause-stay
-returns-clause-stay g c = c.rest_range.ensures.stay refl

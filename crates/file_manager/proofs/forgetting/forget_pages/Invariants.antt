@@ -1,9 +1,0 @@
-use Rattle.std.proofs.Common.{◌≡◌}
-use Rattle.file_manager.specs.Forgetting.{Forgets}
-use Rattle.file_manager.proofs.forgetting.forget_pages.Given as goal
-
--- the frames of the pages up to this one are given up
-abbrev pub invariant-loop-page : goal.invariant-loop-page
-invariant-loop-page g l =
-    Forgets l.fn.id l.fn.first l.page l.fn.swapper.layout (g.D.Disk.state l.fn.swapper.under) l.fn.swapper.pool l.swapper.pool
-    × (l.swapper.under ≡ l.fn.swapper.under) × (l.swapper.layout ≡ l.fn.swapper.layout)

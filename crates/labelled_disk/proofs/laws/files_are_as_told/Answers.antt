@@ -1,5 +1,0 @@
-use Rattle.labelled_disk.proofs.LowestLemmas as laws
-use Rattle.labelled_disk.proofs.laws.files_are_as_told.Goals as goal
-
-pub returns : goal.returns
-returns c with_temporary d = laws.files_are_as_told with_temporary d

@@ -1,0 +1,399 @@
+use Rattle.std.proofs.Common.{refl, sym, ap, ◌∙◌, arith, subst}
+use Rattle.std.proofs.lemmas.Bool.{true≢false}
+use Rattle.flat_machine.specs.References.{is_reference}
+use Rattle.pilot_engine.specs.Stepping.{relabels, waits, IsResident}
+use Rattle.fault_core.specs.Core.{kept, state}
+use Rattle.swapper_kernel.specs.Goes.{no_page}
+use Rattle.file_manager.specs.Creating.{next_id}
+use Rattle.space_calls.specs.Halts.{NamedHalts, OnNamedHalts}
+use Rattle.file_manager.specs.Grounds.{IsNewPage}
+use Rattle.pilot_engine.specs.Halting.{MarkHalts, NewFileHalts, NextHalts, RemoveHalts, SizeHalts}
+use Rattle.pilot_engine.proofs.BoundLemmas.{asked_inside, spent_inside}
+use Rattle.pilot_engine.proofs.LiftLemmas.{carried_out}
+use Rattle.pilot_engine.proofs.StepLemmas.{nothing_revealed, on_spaces}
+use Rattle.flat_machine.specs.declared.call.Call.{Call}
+use Rattle.flat_machine.specs.declared.call.Call.TheVariants as call
+use Rattle.pilot_engine.proofs.OwnLemmas.{own_of, own_none, none_relabelled}
+use Rattle.pilot_engine.proofs.HomeSteps.{same_or_blameless}
+use Rattle.pilot_engine.proofs.LackLemmas.{fails_missing_page, mark_misses, named_misses, new_misses, on_named_misses, pages_of, remove_misses, size_misses}
+use Rattle.pilot_engine.proofs.ReasonSteps.{not_older_on}
+use Rattle.pilot_engine.proofs.SpaceMisses.{next_misses}
+use Rattle.pilot_engine.proofs.session.Session.answer.Goals as goal
+
+pub returns-in-Create-clause-carried : goal.returns-in-Create-clause-carried
+returns-in-Create-clause-carried g c = λ m r.
+    rw c.in-Create.is
+    (carried_out c.args.self.now.core c.create.new.self.core c.args.self.now.volume c.create.new.self.volume m (call.Create c.in-Create.pages c.in-Create.kind) c.create.ensures.kept c.create.ensures.intervals refl r c.create.result (λ spaces_of s. c.create.ensures.carried spaces_of m s))
+
+pub returns-in-Create-clause-passes : goal.returns-in-Create-clause-passes
+returns-in-Create-clause-passes g c = λ m r. rw c.in-Create.is (c.create.ensures.passes _ m r.session)
+
+pub returns-in-Create-clause-sound : goal.returns-in-Create-clause-sound
+returns-in-Create-clause-sound g c = λ m r. c.create.ensures.sound _ m r.session
+
+pub returns-in-Create-clause-wrote : goal.returns-in-Create-clause-wrote
+returns-in-Create-clause-wrote g c = rw c.in-Create.is c.create.ensures.wrote
+
+pub returns-in-Create-clause-cost : goal.returns-in-Create-clause-cost
+returns-in-Create-clause-cost g c = λ m r. spent_inside (g.D.Disk.state c.args.self.now.core.filer.swapper.disk) (g.D.Disk.state c.create.new.self.core.filer.swapper.disk) c.create.ensures.bounded
+
+pub returns-in-Create-clause-reference : goal.returns-in-Create-clause-reference
+returns-in-Create-clause-reference g c = λ revealed. absurd (true≢false (sym revealed ∙ ap is_reference c.in-Create.is))
+
+pub returns-in-Create-clause-forced : goal.returns-in-Create-clause-forced
+returns-in-Create-clause-forced g c = λ m revealed free r. absurd (true≢false (sym revealed ∙ ap waits c.in-Create.is))
+
+pub returns-in-Create-clause-advised : goal.returns-in-Create-clause-advised
+returns-in-Create-clause-advised g c = λ m free r. rw c.in-Create.is (nothing_revealed c.create.result)
+
+pub returns-in-Delete-clause-carried : goal.returns-in-Delete-clause-carried
+returns-in-Delete-clause-carried g c = λ m r. rw c.in-Delete.is (c.delete.ensures.carried m r)
+
+pub returns-in-Delete-clause-passes : goal.returns-in-Delete-clause-passes
+returns-in-Delete-clause-passes g c = λ m r. rw c.in-Delete.is (c.delete.ensures.passes m r)
+
+pub returns-in-Delete-clause-wrote : goal.returns-in-Delete-clause-wrote
+returns-in-Delete-clause-wrote g c = rw c.in-Delete.is c.delete.ensures.wrote
+
+pub returns-in-Delete-clause-cost : goal.returns-in-Delete-clause-cost
+returns-in-Delete-clause-cost g c = λ m r. c.delete.ensures.cost m r
+
+pub returns-in-Delete-clause-reference : goal.returns-in-Delete-clause-reference
+returns-in-Delete-clause-reference g c = λ revealed. absurd (true≢false (sym revealed ∙ ap is_reference c.in-Delete.is))
+
+pub returns-in-Delete-clause-forced : goal.returns-in-Delete-clause-forced
+returns-in-Delete-clause-forced g c = λ m revealed free r. absurd (true≢false (sym revealed ∙ ap waits c.in-Delete.is))
+
+pub returns-in-Delete-clause-advised : goal.returns-in-Delete-clause-advised
+returns-in-Delete-clause-advised g c = λ m free r. rw c.in-Delete.is (nothing_revealed c.delete.result)
+
+pub returns-in-Attributes-clause-carried : goal.returns-in-Attributes-clause-carried
+returns-in-Attributes-clause-carried g c = λ m r. rw c.in-Attributes.is (c.attributes.ensures.carried m r)
+
+pub returns-in-Attributes-clause-passes : goal.returns-in-Attributes-clause-passes
+returns-in-Attributes-clause-passes g c = λ m r. rw c.in-Attributes.is (c.attributes.ensures.passes m r)
+
+pub returns-in-Attributes-clause-wrote : goal.returns-in-Attributes-clause-wrote
+returns-in-Attributes-clause-wrote g c = rw c.in-Attributes.is c.attributes.ensures.wrote
+
+pub returns-in-Attributes-clause-cost : goal.returns-in-Attributes-clause-cost
+returns-in-Attributes-clause-cost g c = λ m r. c.attributes.ensures.cost m r
+
+pub returns-in-Attributes-clause-reference : goal.returns-in-Attributes-clause-reference
+returns-in-Attributes-clause-reference g c = λ revealed. absurd (true≢false (sym revealed ∙ ap is_reference c.in-Attributes.is))
+
+pub returns-in-Attributes-clause-forced : goal.returns-in-Attributes-clause-forced
+returns-in-Attributes-clause-forced g c = λ m revealed free r. absurd (true≢false (sym revealed ∙ ap waits c.in-Attributes.is))
+
+pub returns-in-Attributes-clause-advised : goal.returns-in-Attributes-clause-advised
+returns-in-Attributes-clause-advised g c = λ m free r. rw c.in-Attributes.is (nothing_revealed c.attributes.result)
+
+pub returns-in-SetSize-clause-carried : goal.returns-in-SetSize-clause-carried
+returns-in-SetSize-clause-carried g c = λ m r. rw c.in-SetSize.is (c.set_size.ensures.carried m r)
+
+pub returns-in-SetSize-clause-passes : goal.returns-in-SetSize-clause-passes
+returns-in-SetSize-clause-passes g c = λ m r. rw c.in-SetSize.is (c.set_size.ensures.passes m r)
+
+pub returns-in-SetSize-clause-wrote : goal.returns-in-SetSize-clause-wrote
+returns-in-SetSize-clause-wrote g c = rw c.in-SetSize.is c.set_size.ensures.wrote
+
+pub returns-in-SetSize-clause-cost : goal.returns-in-SetSize-clause-cost
+returns-in-SetSize-clause-cost g c = λ m r. c.set_size.ensures.cost m r
+
+pub returns-in-SetSize-clause-reference : goal.returns-in-SetSize-clause-reference
+returns-in-SetSize-clause-reference g c = λ revealed. absurd (true≢false (sym revealed ∙ ap is_reference c.in-SetSize.is))
+
+pub returns-in-SetSize-clause-forced : goal.returns-in-SetSize-clause-forced
+returns-in-SetSize-clause-forced g c = λ m revealed free r. absurd (true≢false (sym revealed ∙ ap waits c.in-SetSize.is))
+
+pub returns-in-SetSize-clause-advised : goal.returns-in-SetSize-clause-advised
+returns-in-SetSize-clause-advised g c = λ m free r. rw c.in-SetSize.is (nothing_revealed c.set_size.result)
+
+pub returns-in-MakePermanent-clause-carried : goal.returns-in-MakePermanent-clause-carried
+returns-in-MakePermanent-clause-carried g c = λ m r. rw c.in-MakePermanent.is (c.make_permanent.ensures.carried m r)
+
+pub returns-in-MakePermanent-clause-passes : goal.returns-in-MakePermanent-clause-passes
+returns-in-MakePermanent-clause-passes g c = λ m r. rw c.in-MakePermanent.is (c.make_permanent.ensures.passes m r)
+
+pub returns-in-MakePermanent-clause-wrote : goal.returns-in-MakePermanent-clause-wrote
+returns-in-MakePermanent-clause-wrote g c = rw c.in-MakePermanent.is c.make_permanent.ensures.wrote
+
+pub returns-in-MakePermanent-clause-cost : goal.returns-in-MakePermanent-clause-cost
+returns-in-MakePermanent-clause-cost g c = λ m r. c.make_permanent.ensures.cost m r
+
+pub returns-in-MakePermanent-clause-reference : goal.returns-in-MakePermanent-clause-reference
+returns-in-MakePermanent-clause-reference g c = λ revealed. absurd (true≢false (sym revealed ∙ ap is_reference c.in-MakePermanent.is))
+
+pub returns-in-MakePermanent-clause-forced : goal.returns-in-MakePermanent-clause-forced
+returns-in-MakePermanent-clause-forced g c = λ m revealed free r. absurd (true≢false (sym revealed ∙ ap waits c.in-MakePermanent.is))
+
+pub returns-in-MakePermanent-clause-advised : goal.returns-in-MakePermanent-clause-advised
+returns-in-MakePermanent-clause-advised g c = λ m free r. rw c.in-MakePermanent.is (nothing_revealed c.make_permanent.result)
+
+pub returns-in-MakeImmutable-clause-carried : goal.returns-in-MakeImmutable-clause-carried
+returns-in-MakeImmutable-clause-carried g c = λ m r. rw c.in-MakeImmutable.is (c.make_immutable.ensures.carried m r)
+
+pub returns-in-MakeImmutable-clause-passes : goal.returns-in-MakeImmutable-clause-passes
+returns-in-MakeImmutable-clause-passes g c = λ m r. rw c.in-MakeImmutable.is (c.make_immutable.ensures.passes m r)
+
+pub returns-in-MakeImmutable-clause-wrote : goal.returns-in-MakeImmutable-clause-wrote
+returns-in-MakeImmutable-clause-wrote g c = rw c.in-MakeImmutable.is c.make_immutable.ensures.wrote
+
+pub returns-in-MakeImmutable-clause-cost : goal.returns-in-MakeImmutable-clause-cost
+returns-in-MakeImmutable-clause-cost g c = λ m r. c.make_immutable.ensures.cost m r
+
+pub returns-in-MakeImmutable-clause-reference : goal.returns-in-MakeImmutable-clause-reference
+returns-in-MakeImmutable-clause-reference g c = λ revealed. absurd (true≢false (sym revealed ∙ ap is_reference c.in-MakeImmutable.is))
+
+pub returns-in-MakeImmutable-clause-forced : goal.returns-in-MakeImmutable-clause-forced
+returns-in-MakeImmutable-clause-forced g c = λ m revealed free r. absurd (true≢false (sym revealed ∙ ap waits c.in-MakeImmutable.is))
+
+pub returns-in-MakeImmutable-clause-advised : goal.returns-in-MakeImmutable-clause-advised
+returns-in-MakeImmutable-clause-advised g c = λ m free r. rw c.in-MakeImmutable.is (nothing_revealed c.make_immutable.result)
+
+pub returns-in-Next-clause-carried : goal.returns-in-Next-clause-carried
+returns-in-Next-clause-carried g c = λ m r. rw c.in-Next.is (c.next.ensures.carried m r)
+
+pub returns-in-Next-clause-passes : goal.returns-in-Next-clause-passes
+returns-in-Next-clause-passes g c = λ m r. rw c.in-Next.is (c.next.ensures.passes m r)
+
+pub returns-in-Next-clause-wrote : goal.returns-in-Next-clause-wrote
+returns-in-Next-clause-wrote g c = rw c.in-Next.is c.next.ensures.wrote
+
+pub returns-in-Next-clause-cost : goal.returns-in-Next-clause-cost
+returns-in-Next-clause-cost g c = λ m r. c.next.ensures.cost m r
+
+pub returns-in-Next-clause-reference : goal.returns-in-Next-clause-reference
+returns-in-Next-clause-reference g c = λ revealed. absurd (true≢false (sym revealed ∙ ap is_reference c.in-Next.is))
+
+pub returns-in-Next-clause-forced : goal.returns-in-Next-clause-forced
+returns-in-Next-clause-forced g c = λ m revealed free r. absurd (true≢false (sym revealed ∙ ap waits c.in-Next.is))
+
+pub returns-in-Next-clause-advised : goal.returns-in-Next-clause-advised
+returns-in-Next-clause-advised g c = λ m free r. rw c.in-Next.is (nothing_revealed c.next.result)
+
+pub returns-in-Volume-clause-carried : goal.returns-in-Volume-clause-carried
+returns-in-Volume-clause-carried g c = λ m r.
+    rw c.in-Volume.is
+    (carried_out c.args.self.now.core c.volume.new.self.core c.args.self.now.volume c.volume.new.self.volume m call.Volume c.volume.ensures.kept c.volume.ensures.intervals refl r c.volume.result (λ spaces_of s. c.volume.ensures.carried spaces_of m s))
+
+pub returns-in-Volume-clause-passes : goal.returns-in-Volume-clause-passes
+returns-in-Volume-clause-passes g c = λ m r. rw c.in-Volume.is (c.volume.ensures.passes _ m r.session)
+
+pub returns-in-Volume-clause-sound : goal.returns-in-Volume-clause-sound
+returns-in-Volume-clause-sound g c = λ m r. c.volume.ensures.sound _ m r.session
+
+pub returns-in-Volume-clause-wrote : goal.returns-in-Volume-clause-wrote
+returns-in-Volume-clause-wrote g c = rw c.in-Volume.is c.volume.ensures.wrote
+
+pub returns-in-Volume-clause-cost : goal.returns-in-Volume-clause-cost
+returns-in-Volume-clause-cost g c = λ m r. asked_inside (g.D.Disk.state c.args.self.now.core.filer.swapper.disk) (g.D.Disk.state c.volume.new.self.core.filer.swapper.disk) 0 (omega arith) c.volume.ensures.cost
+
+pub returns-in-Volume-clause-reference : goal.returns-in-Volume-clause-reference
+returns-in-Volume-clause-reference g c = λ revealed. absurd (true≢false (sym revealed ∙ ap is_reference c.in-Volume.is))
+
+pub returns-in-Volume-clause-forced : goal.returns-in-Volume-clause-forced
+returns-in-Volume-clause-forced g c = λ m revealed free r. absurd (true≢false (sym revealed ∙ ap waits c.in-Volume.is))
+
+pub returns-in-Volume-clause-advised : goal.returns-in-Volume-clause-advised
+returns-in-Volume-clause-advised g c = λ m free r. rw c.in-Volume.is (nothing_revealed c.volume.result)
+
+pub answer_on_spaces-requires-clause-on_spaces : goal.answer_on_spaces-requires-clause-on_spaces
+answer_on_spaces-requires-clause-on_spaces g c = on_spaces c.args.call.now c.requires.more c.in_default.not-Create c.in_default.not-Delete c.in_default.not-Attributes c.in_default.not-SetSize c.in_default.not-MakePermanent c.in_default.not-MakeImmutable c.in_default.not-Next c.in_default.not-Volume
+
+pub returns-in-Delete-clause-own : goal.returns-in-Delete-clause-own
+returns-in-Delete-clause-own g c = own_of c.args.call.now (ap relabels c.in-Delete.is) c.delete.ensures.own
+
+pub returns-in-SetSize-clause-own : goal.returns-in-SetSize-clause-own
+returns-in-SetSize-clause-own g c = own_of c.args.call.now (ap relabels c.in-SetSize.is) c.set_size.ensures.own
+
+pub returns-in-MakePermanent-clause-own : goal.returns-in-MakePermanent-clause-own
+returns-in-MakePermanent-clause-own g c = own_of c.args.call.now (ap relabels c.in-MakePermanent.is) c.make_permanent.ensures.own
+
+pub returns-in-MakeImmutable-clause-own : goal.returns-in-MakeImmutable-clause-own
+returns-in-MakeImmutable-clause-own g c = own_of c.args.call.now (ap relabels c.in-MakeImmutable.is) c.make_immutable.ensures.own
+
+pub returns-in-Create-clause-own : goal.returns-in-Create-clause-own
+returns-in-Create-clause-own g c = own_none c.args.call.now (ap relabels c.in-Create.is)
+
+pub returns-in-Attributes-clause-own : goal.returns-in-Attributes-clause-own
+returns-in-Attributes-clause-own g c = own_none c.args.call.now (ap relabels c.in-Attributes.is)
+
+pub returns-in-Next-clause-own : goal.returns-in-Next-clause-own
+returns-in-Next-clause-own g c = own_none c.args.call.now (ap relabels c.in-Next.is)
+
+pub returns-in-Volume-clause-own : goal.returns-in-Volume-clause-own
+returns-in-Volume-clause-own g c = own_none c.args.call.now (ap relabels c.in-Volume.is)
+
+pub returns-in_default-clause-own : goal.returns-in_default-clause-own
+returns-in_default-clause-own g c = own_none c.args.call.now (none_relabelled c.args.call.now (on_spaces c.args.call.now c.requires.more c.in_default.not-Create c.in_default.not-Delete c.in_default.not-Attributes c.in_default.not-SetSize c.in_default.not-MakePermanent c.in_default.not-MakeImmutable c.in_default.not-Next c.in_default.not-Volume))
+
+pub returns-in-Create-clause-idle : goal.returns-in-Create-clause-idle
+returns-in-Create-clause-idle g c = λ m r resident. absurd (subst (λ (x : Call). IsResident x (kept c.args.self.now.core) c.args.self.now.core.filer.swapper.pool) c.in-Create.is resident)
+
+pub returns-in-Delete-clause-idle : goal.returns-in-Delete-clause-idle
+returns-in-Delete-clause-idle g c = λ m r resident. absurd (subst (λ (x : Call). IsResident x (kept c.args.self.now.core) c.args.self.now.core.filer.swapper.pool) c.in-Delete.is resident)
+
+pub returns-in-Attributes-clause-idle : goal.returns-in-Attributes-clause-idle
+returns-in-Attributes-clause-idle g c = λ m r resident. absurd (subst (λ (x : Call). IsResident x (kept c.args.self.now.core) c.args.self.now.core.filer.swapper.pool) c.in-Attributes.is resident)
+
+pub returns-in-SetSize-clause-idle : goal.returns-in-SetSize-clause-idle
+returns-in-SetSize-clause-idle g c = λ m r resident. absurd (subst (λ (x : Call). IsResident x (kept c.args.self.now.core) c.args.self.now.core.filer.swapper.pool) c.in-SetSize.is resident)
+
+pub returns-in-MakePermanent-clause-idle : goal.returns-in-MakePermanent-clause-idle
+returns-in-MakePermanent-clause-idle g c = λ m r resident. absurd (subst (λ (x : Call). IsResident x (kept c.args.self.now.core) c.args.self.now.core.filer.swapper.pool) c.in-MakePermanent.is resident)
+
+pub returns-in-MakeImmutable-clause-idle : goal.returns-in-MakeImmutable-clause-idle
+returns-in-MakeImmutable-clause-idle g c = λ m r resident. absurd (subst (λ (x : Call). IsResident x (kept c.args.self.now.core) c.args.self.now.core.filer.swapper.pool) c.in-MakeImmutable.is resident)
+
+pub returns-in-Next-clause-idle : goal.returns-in-Next-clause-idle
+returns-in-Next-clause-idle g c = λ m r resident. absurd (subst (λ (x : Call). IsResident x (kept c.args.self.now.core) c.args.self.now.core.filer.swapper.pool) c.in-Next.is resident)
+
+pub returns-in-Volume-clause-idle : goal.returns-in-Volume-clause-idle
+returns-in-Volume-clause-idle g c = λ m r resident. absurd (subst (λ (x : Call). IsResident x (kept c.args.self.now.core) c.args.self.now.core.filer.swapper.pool) c.in-Volume.is resident)
+
+pub returns-in-Create-clause-cause : goal.returns-in-Create-clause-cause
+returns-in-Create-clause-cause g c = rw c.in-Create.is c.create.ensures.cause
+
+pub returns-in-Delete-clause-cause : goal.returns-in-Delete-clause-cause
+returns-in-Delete-clause-cause g c = rw c.in-Delete.is c.delete.ensures.cause
+
+pub returns-in-Attributes-clause-cause : goal.returns-in-Attributes-clause-cause
+returns-in-Attributes-clause-cause g c = rw c.in-Attributes.is c.attributes.ensures.cause
+
+pub returns-in-SetSize-clause-cause : goal.returns-in-SetSize-clause-cause
+returns-in-SetSize-clause-cause g c = rw c.in-SetSize.is c.set_size.ensures.cause
+
+pub returns-in-MakePermanent-clause-cause : goal.returns-in-MakePermanent-clause-cause
+returns-in-MakePermanent-clause-cause g c = rw c.in-MakePermanent.is c.make_permanent.ensures.cause
+
+pub returns-in-MakeImmutable-clause-cause : goal.returns-in-MakeImmutable-clause-cause
+returns-in-MakeImmutable-clause-cause g c = rw c.in-MakeImmutable.is c.make_immutable.ensures.cause
+
+pub returns-in-Next-clause-cause : goal.returns-in-Next-clause-cause
+returns-in-Next-clause-cause g c = rw c.in-Next.is c.next.ensures.cause
+
+pub returns-in-Volume-clause-cause : goal.returns-in-Volume-clause-cause
+returns-in-Volume-clause-cause g c = rw c.in-Volume.is c.volume.ensures.cause
+
+-- ---- The initial state.
+
+pub returns-in-Delete-clause-keeps_to : goal.returns-in-Delete-clause-keeps_to
+returns-in-Delete-clause-keeps_to g c = λ o k up.
+    not_older_on c.delete.result o (state c.delete.new.self.core) c.args.self.now.volume.root c.delete.new.self.volume.root up c.delete.ensures.monotone (c.delete.ensures.keeps_to o k)
+
+pub returns-in-Attributes-clause-keeps_to : goal.returns-in-Attributes-clause-keeps_to
+returns-in-Attributes-clause-keeps_to g c = λ o k up.
+    not_older_on c.attributes.result o (state c.attributes.new.self.core) c.args.self.now.volume.root c.attributes.new.self.volume.root up c.attributes.ensures.monotone (c.attributes.ensures.keeps_to o k)
+
+pub returns-in-SetSize-clause-keeps_to : goal.returns-in-SetSize-clause-keeps_to
+returns-in-SetSize-clause-keeps_to g c = λ o k up.
+    not_older_on c.set_size.result o (state c.set_size.new.self.core) c.args.self.now.volume.root c.set_size.new.self.volume.root up c.set_size.ensures.monotone (c.set_size.ensures.keeps_to o k)
+
+pub returns-in-MakePermanent-clause-keeps_to : goal.returns-in-MakePermanent-clause-keeps_to
+returns-in-MakePermanent-clause-keeps_to g c = λ o k up.
+    not_older_on c.make_permanent.result o (state c.make_permanent.new.self.core) c.args.self.now.volume.root c.make_permanent.new.self.volume.root up c.make_permanent.ensures.monotone (c.make_permanent.ensures.keeps_to o k)
+
+pub returns-in-MakeImmutable-clause-keeps_to : goal.returns-in-MakeImmutable-clause-keeps_to
+returns-in-MakeImmutable-clause-keeps_to g c = λ o k up.
+    not_older_on c.make_immutable.result o (state c.make_immutable.new.self.core) c.args.self.now.volume.root c.make_immutable.new.self.volume.root up c.make_immutable.ensures.monotone (c.make_immutable.ensures.keeps_to o k)
+
+pub returns-in-Next-clause-keeps_to : goal.returns-in-Next-clause-keeps_to
+returns-in-Next-clause-keeps_to g c = λ o k up.
+    not_older_on c.next.result o (state c.next.new.self.core) c.args.self.now.volume.root c.next.new.self.volume.root up c.next.ensures.monotone (c.next.ensures.keeps_to o k)
+
+pub returns-in-Volume-clause-keeps_to : goal.returns-in-Volume-clause-keeps_to
+returns-in-Volume-clause-keeps_to g c = λ o k up.
+    not_older_on c.volume.result o (state c.volume.new.self.core) c.args.self.now.volume.root c.volume.new.self.volume.root up c.volume.ensures.monotone (c.volume.ensures.keeps_to o k)
+
+pub returns-in-Delete-clause-reasons : goal.returns-in-Delete-clause-reasons
+returns-in-Delete-clause-reasons g c = λ o k up. c.delete.ensures.reasons o k
+
+pub returns-in-Attributes-clause-reasons : goal.returns-in-Attributes-clause-reasons
+returns-in-Attributes-clause-reasons g c = λ o k up. c.attributes.ensures.reasons o k
+
+pub returns-in-SetSize-clause-reasons : goal.returns-in-SetSize-clause-reasons
+returns-in-SetSize-clause-reasons g c = λ o k up. c.set_size.ensures.reasons o k
+
+pub returns-in-MakePermanent-clause-reasons : goal.returns-in-MakePermanent-clause-reasons
+returns-in-MakePermanent-clause-reasons g c = λ o k up. c.make_permanent.ensures.reasons o k
+
+pub returns-in-MakeImmutable-clause-reasons : goal.returns-in-MakeImmutable-clause-reasons
+returns-in-MakeImmutable-clause-reasons g c = λ o k up. c.make_immutable.ensures.reasons o k
+
+pub returns-in-Next-clause-reasons : goal.returns-in-Next-clause-reasons
+returns-in-Next-clause-reasons g c = λ o k up. c.next.ensures.reasons o k
+
+-- ---- Which pages are missing.
+
+pub returns-in-Create-clause-missing : goal.returns-in-Create-clause-missing
+returns-in-Create-clause-missing g c = λ ss sees.
+    let old = c.args.self.now.core in
+    rw c.in-Create.is (fails_missing_page (NewFileHalts (next_id c.args.self.now.volume.root) (IsNewPage c.in-Create.pages)) no_page (new_misses no_page (next_id c.args.self.now.volume.root) (IsNewPage c.in-Create.pages)) (state old) (state c.create.new.self.core) c.create.result c.create.ensures.cause)
+
+pub returns-in-Delete-clause-missing : goal.returns-in-Delete-clause-missing
+returns-in-Delete-clause-missing g c = λ ss sees.
+    let old = c.args.self.now.core in
+    let count = old.intervals in
+    rw c.in-Delete.is (fails_missing_page (OnNamedHalts c.in-Delete.id count (RemoveHalts c.in-Delete.id)) (pages_of c.in-Delete.id) (on_named_misses c.in-Delete.id count (RemoveHalts c.in-Delete.id) (pages_of c.in-Delete.id) (remove_misses c.in-Delete.id)) (state old) (state c.delete.new.self.core) c.delete.result c.delete.ensures.cause)
+
+pub returns-in-Attributes-clause-missing : goal.returns-in-Attributes-clause-missing
+returns-in-Attributes-clause-missing g c = λ ss sees.
+    let old = c.args.self.now.core in
+    let count = old.intervals in
+    rw c.in-Attributes.is (fails_missing_page (NamedHalts c.in-Attributes.id count) no_page (named_misses no_page c.in-Attributes.id count) (state old) (state c.attributes.new.self.core) c.attributes.result c.attributes.ensures.cause)
+
+pub returns-in-SetSize-clause-missing : goal.returns-in-SetSize-clause-missing
+returns-in-SetSize-clause-missing g c = λ ss sees.
+    let old = c.args.self.now.core in
+    let count = old.intervals in
+    rw c.in-SetSize.is (fails_missing_page (OnNamedHalts c.in-SetSize.id count (SizeHalts c.in-SetSize.id c.in-SetSize.pages)) (pages_of c.in-SetSize.id) (on_named_misses c.in-SetSize.id count (SizeHalts c.in-SetSize.id c.in-SetSize.pages) (pages_of c.in-SetSize.id) (size_misses c.in-SetSize.id c.in-SetSize.pages)) (state old) (state c.set_size.new.self.core) c.set_size.result c.set_size.ensures.cause)
+
+pub returns-in-MakePermanent-clause-missing : goal.returns-in-MakePermanent-clause-missing
+returns-in-MakePermanent-clause-missing g c = λ ss sees.
+    let old = c.args.self.now.core in
+    let count = old.intervals in
+    rw c.in-MakePermanent.is (fails_missing_page (OnNamedHalts c.in-MakePermanent.id count (MarkHalts c.in-MakePermanent.id)) (pages_of c.in-MakePermanent.id) (on_named_misses c.in-MakePermanent.id count (MarkHalts c.in-MakePermanent.id) (pages_of c.in-MakePermanent.id) (mark_misses c.in-MakePermanent.id)) (state old) (state c.make_permanent.new.self.core) c.make_permanent.result c.make_permanent.ensures.cause)
+
+pub returns-in-MakeImmutable-clause-missing : goal.returns-in-MakeImmutable-clause-missing
+returns-in-MakeImmutable-clause-missing g c = λ ss sees.
+    let old = c.args.self.now.core in
+    let count = old.intervals in
+    rw c.in-MakeImmutable.is (fails_missing_page (OnNamedHalts c.in-MakeImmutable.id count (MarkHalts c.in-MakeImmutable.id)) (pages_of c.in-MakeImmutable.id) (on_named_misses c.in-MakeImmutable.id count (MarkHalts c.in-MakeImmutable.id) (pages_of c.in-MakeImmutable.id) (mark_misses c.in-MakeImmutable.id)) (state old) (state c.make_immutable.new.self.core) c.make_immutable.result c.make_immutable.ensures.cause)
+
+pub returns-in-Next-clause-missing : goal.returns-in-Next-clause-missing
+returns-in-Next-clause-missing g c = λ ss sees.
+    let old = c.args.self.now.core in
+    let count = old.intervals in
+    rw c.in-Next.is (fails_missing_page (NextHalts count) no_page (next_misses count no_page) (state old) (state c.next.new.self.core) c.next.result c.next.ensures.cause)
+
+pub returns-in-Volume-clause-missing : goal.returns-in-Volume-clause-missing
+returns-in-Volume-clause-missing g c = λ ss sees.
+    let old = c.args.self.now.core in
+    rw c.in-Volume.is (fails_missing_page (λ v w e. ⊥) no_page (λ v w e none. absurd none) (state old) (state c.volume.new.self.core) c.volume.result c.volume.ensures.cause)
+
+-- ---- The space tables are seen.
+
+pub returns-in-Create-clause-sees : goal.returns-in-Create-clause-sees
+returns-in-Create-clause-sees g c = λ o k up seen. same_or_blameless o c.args.self.now.core c.create.new.self.core c.create.ensures.wrote.makes c.create.result (c.create.ensures.sees o k up) seen
+
+pub returns-in-Delete-clause-sees : goal.returns-in-Delete-clause-sees
+returns-in-Delete-clause-sees g c = λ o k up seen. c.delete.ensures.sees o k seen
+
+pub returns-in-Attributes-clause-sees : goal.returns-in-Attributes-clause-sees
+returns-in-Attributes-clause-sees g c = λ o k up seen. c.attributes.ensures.sees o k seen
+
+pub returns-in-SetSize-clause-sees : goal.returns-in-SetSize-clause-sees
+returns-in-SetSize-clause-sees g c = λ o k up seen. c.set_size.ensures.sees o k seen
+
+pub returns-in-MakePermanent-clause-sees : goal.returns-in-MakePermanent-clause-sees
+returns-in-MakePermanent-clause-sees g c = λ o k up seen. c.make_permanent.ensures.sees o k seen
+
+pub returns-in-MakeImmutable-clause-sees : goal.returns-in-MakeImmutable-clause-sees
+returns-in-MakeImmutable-clause-sees g c = λ o k up seen. c.make_immutable.ensures.sees o k seen
+
+pub returns-in-Next-clause-sees : goal.returns-in-Next-clause-sees
+returns-in-Next-clause-sees g c = λ o k up seen. c.next.ensures.sees o k seen
+
+pub returns-in-Volume-clause-sees : goal.returns-in-Volume-clause-sees
+returns-in-Volume-clause-sees g c = λ o k up seen. c.volume.ensures.sees o k seen

@@ -1,0 +1,198 @@
+use Rattle.std.proofs.Common.{rules, ◌≡◌, ◌<◌, ◌^◌, ℕ, [], refl, sym, ◌∙◌, ap, subst, arith}
+use Rattle.flat_machine.specs.declared.call.Call.TheVariants as call
+use Rattle.flat_machine.specs.declared.call.Reply.TheVariants as reply
+use Rattle.flat_machine.specs.declared.call.Refusal.TheVariants as why
+use Rattle.session_words.specs.Parts.{shapes_of}
+use Rattle.session_words.specs.Volume.{volume_page}
+use Rattle.swapper_kernel.specs.Goes.{Same}
+use Rattle.swapper_kernel.specs.GoesLaws.{goes_itself}
+use Rattle.running_words.specs.Session.{Carries}
+use Rattle.pilot_engine.proofs.BoundLemmas.{create_bounded, inside_layout}
+use Rattle.pilot_engine.proofs.CallLemmas.{carries_at}
+use Rattle.pilot_engine.proofs.CreateStops.{create_passed, create_broken}
+use Rattle.pilot_engine.proofs.CreateLemmas.{may_create, create_done, create_refused}
+use Rattle.pilot_engine.proofs.NewWindow.{none_named, one_named}
+use Rattle.pilot_engine.proofs.RefusalLemmas.{create_full, create_ids, create_there}
+use Rattle.running_words.proofs.SessionLemmas.{room_is}
+use Rattle.running_words.proofs.StageLemmas.{no_step}
+use Rattle.pilot_engine.proofs.WroteLemmas.{wrote_file, wrote_some}
+use Rattle.file_manager.specs.Creating.{next_id}
+use Rattle.file_manager.specs.Reasons.{WasBelow, giving, telling}
+use Rattle.file_manager.specs.declared.volume.Volume.{Volume}
+use Rattle.fault_core.specs.Core.{state}
+use Rattle.fault_core.specs.View.{view_of}
+use Rattle.pilot_engine.proofs.HomeLemmas.{file_pages}
+use Rattle.pilot_engine.proofs.HomeSteps.{new_file, same_given}
+use Rattle.file_manager.specs.Grounds.{IsNewPage}
+use Rattle.pilot_engine.proofs.LackLemmas.{new_misses}
+use Rattle.pilot_engine.proofs.ReasonSteps.{given_on}
+use Rattle.pilot_engine.proofs.SeesLemmas.{counted_next, same_next, seen_blameless}
+use Rattle.pilot_engine.proofs.session.Session.create.Goals as goal
+
+pub returns-then-pages-free-clause-carried : goal.returns-then-pages-free-clause-carried
+returns-then-pages-free-clause-carried g c = λ spaces_of m s.
+    let left = room_is spaces_of _ _ _ _ _ m s c.args.self.now.core.filer.swapper.accepted c.requires.opened.same_layout in
+    let over = c.if-pages-free.true in
+    create_refused spaces_of _ _ _ _ _ m s (call.Create c.args.pages c.args.kind) why.Full (create_full m c.args.pages c.args.kind (omega (arith, over, left, s.same_used)))
+
+pub returns-then-pages-free-clause-wrote : goal.returns-then-pages-free-clause-wrote
+returns-then-pages-free-clause-wrote g c = record { labels = []; makes = (goes_itself Same volume_page (g.D.Disk.state c.args.self.now.core.filer.swapper.disk) c.args.self.now.core.filer.swapper.pool (λ x. refl)).makes; opens = tt }
+
+pub returns-then-self-clause-carried : goal.returns-then-self-clause-carried
+returns-then-self-clause-carried g c = λ spaces_of m s.
+    let left = room_is spaces_of _ _ _ _ _ m s c.args.self.now.core.filer.swapper.accepted c.requires.opened.same_layout in
+    let under = c.if-pages-free.false in
+    create_refused spaces_of _ _ _ _ _ m s (call.Create c.args.pages c.args.kind) why.Ids (create_ids m c.args.pages c.args.kind (omega (arith, under, left, s.same_used)) (sym s.same_counter ∙ c.if-self.true))
+
+pub returns-then-self-clause-wrote : goal.returns-then-self-clause-wrote
+returns-then-self-clause-wrote g c = record { labels = []; makes = (goes_itself Same volume_page (g.D.Disk.state c.args.self.now.core.filer.swapper.disk) c.args.self.now.core.filer.swapper.pool (λ x. refl)).makes; opens = tt }
+
+pub returns-in-Ok-clause-carried : goal.returns-in-Ok-clause-carried
+returns-in-Ok-clause-carried g c = λ spaces_of m s.
+    let is = c.args.self.now.core.filer.swapper.accepted in
+    let left = room_is spaces_of _ _ _ _ _ m s is c.requires.opened.same_layout in
+    let same_room : c.args.self.now.volume.layout.capacity ≡ c.args.self.now.core.filer.swapper.layout.capacity = ap (λ l. l.capacity) c.requires.opened.same_layout in
+    let under = c.if-pages-free.false in
+    let other : c.args.self.now.volume.root.counter < 4294967295 = search rules in
+    let made = c.in-Ok.ensures.created s.stands.memory (shapes_of m.files) m.spaces (may_create spaces_of _ _ _ _ _ m s is c.args.pages (omega (arith, under, same_room))) in
+    let free = create_there m c.args.pages c.args.kind (omega (arith, under, left, s.same_used)) (omega (arith, other, s.same_counter)) in
+    let small = c.ranges.kind.fits in
+    subst (λ (id : ℕ). Carries spaces_of m (call.Create c.args.pages c.args.kind) (reply.File id) (g.D.Disk.state c.create.new.filer.swapper.disk) c.create.new.filer.swapper.pool c.create.new.filer.swapper.layout c.create.new.filer.runs c.create.new.volume)
+    (sym c.in-Ok.ensures.next)
+    (carries_at spaces_of m (call.Create c.args.pages c.args.kind) _ _ _ _ _ _ _
+    (create_done spaces_of _ _ _ _ _ m s is c.args.pages c.args.kind small _ _ _ _ free c.in-Ok.ensures.new_volume made) c.create.ensures.layout)
+
+pub returns-in-Ok-clause-wrote : goal.returns-in-Ok-clause-wrote
+returns-in-Ok-clause-wrote g c = wrote_file c.args.self.now.volume.root c.args.kind c.args.pages c.in-Ok.ensures.makes
+
+pub returns-in-Err-clause-sound : goal.returns-in-Err-clause-sound
+returns-in-Err-clause-sound g c = λ spaces_of m s.
+    let is = c.args.self.now.core.filer.swapper.accepted in
+    let same_room : c.args.self.now.volume.layout.capacity ≡ c.args.self.now.core.filer.swapper.layout.capacity = ap (λ l. l.capacity) c.requires.opened.same_layout in
+    let under = c.if-pages-free.false in
+    c.in-Err.ensures.sound s.stands.memory (shapes_of m.files) m.spaces (may_create spaces_of _ _ _ _ _ m s is c.args.pages (omega (arith, under, same_room)))
+
+pub returns-in-Err-clause-wrote : goal.returns-in-Err-clause-wrote
+returns-in-Err-clause-wrote g c = wrote_some c.args.self.now.volume.root c.args.kind c.args.pages c.in-Err.ensures.stopped
+
+pub returns-then-pages-free-clause-passes : goal.returns-then-pages-free-clause-passes
+returns-then-pages-free-clause-passes g c = λ spaces_of m s.
+    no_step spaces_of _ _ _ _ m (call.Create c.args.pages c.args.kind) s.stands (goes_itself Same volume_page (g.D.Disk.state c.args.self.now.core.filer.swapper.disk) c.args.self.now.core.filer.swapper.pool (λ x. refl)).makes (g.met.D.Disk.in_form c.args.self.now.core.filer.swapper.disk)
+
+pub returns-then-self-clause-passes : goal.returns-then-self-clause-passes
+returns-then-self-clause-passes g c = λ spaces_of m s.
+    no_step spaces_of _ _ _ _ m (call.Create c.args.pages c.args.kind) s.stands (goes_itself Same volume_page (g.D.Disk.state c.args.self.now.core.filer.swapper.disk) c.args.self.now.core.filer.swapper.pool (λ x. refl)).makes (g.met.D.Disk.in_form c.args.self.now.core.filer.swapper.disk)
+
+pub returns-in-Ok-clause-passes : goal.returns-in-Ok-clause-passes
+returns-in-Ok-clause-passes g c = λ spaces_of m s.
+    let is = c.args.self.now.core.filer.swapper.accepted in
+    let same_room : c.args.self.now.volume.layout.capacity ≡ c.args.self.now.core.filer.swapper.layout.capacity = ap (λ l. l.capacity) c.requires.opened.same_layout in
+    let under = c.if-pages-free.false in
+    let other : c.args.self.now.volume.root.counter < 4294967295 = search rules in
+    let small : c.args.pages < 4294967295 = search rules in
+    let made = c.in-Ok.ensures.created s.stands.memory (shapes_of m.files) m.spaces (may_create spaces_of _ _ _ _ _ m s is c.args.pages (omega (arith, under, same_room))) in
+    let left = room_is spaces_of _ _ _ _ _ m s is c.requires.opened.same_layout in
+    let free = create_there m c.args.pages c.args.kind (omega (arith, under, left, s.same_used)) (omega (arith, other, s.same_counter)) in
+    create_passed spaces_of _ _ _ _ _ m s (g.met.D.Disk.in_form c.args.self.now.core.filer.swapper.disk) c.requires.opened.valid other c.args.kind c.args.pages _ _ _ small free made
+
+pub returns-in-Err-clause-passes : goal.returns-in-Err-clause-passes
+returns-in-Err-clause-passes g c = λ spaces_of m s.
+    let is = c.args.self.now.core.filer.swapper.accepted in
+    let same_room : c.args.self.now.volume.layout.capacity ≡ c.args.self.now.core.filer.swapper.layout.capacity = ap (λ l. l.capacity) c.requires.opened.same_layout in
+    let under = c.if-pages-free.false in
+    let other : c.args.self.now.volume.root.counter < 4294967295 = search rules in
+    let small : c.args.pages < 4294967295 = search rules in
+    let some = c.in-Err.ensures.broken s.stands.memory (shapes_of m.files) m.spaces (may_create spaces_of _ _ _ _ _ m s is c.args.pages (omega (arith, under, same_room))) in
+    let left = room_is spaces_of _ _ _ _ _ m s is c.requires.opened.same_layout in
+    let free = create_there m c.args.pages c.args.kind (omega (arith, under, left, s.same_used)) (omega (arith, other, s.same_counter)) in
+    create_broken spaces_of _ _ _ _ _ m s (g.met.D.Disk.in_form c.args.self.now.core.filer.swapper.disk) c.requires.opened.valid other c.args.kind c.args.pages _ _ small free some
+
+pub returns-in-Ok-clause-bounded : goal.returns-in-Ok-clause-bounded
+returns-in-Ok-clause-bounded g c =
+    let layout = c.args.self.now.core.filer.swapper.layout in
+    let same_room : c.args.self.now.volume.layout.capacity ≡ layout.capacity = ap (λ l. l.capacity) c.requires.opened.same_layout in
+    let under = c.if-pages-free.false in
+    inside_layout layout (g.D.Disk.state c.args.self.now.core.filer.swapper.disk) (g.D.Disk.state c.create.new.filer.swapper.disk) c.requires.size
+    (create_bounded layout c.args.self.now.core.filer.swapper.accepted _ _ c.args.pages (omega (arith, under, same_room)) c.create.ensures.cost)
+
+pub returns-in-Err-clause-bounded : goal.returns-in-Err-clause-bounded
+returns-in-Err-clause-bounded g c =
+    let layout = c.args.self.now.core.filer.swapper.layout in
+    let same_room : c.args.self.now.volume.layout.capacity ≡ layout.capacity = ap (λ l. l.capacity) c.requires.opened.same_layout in
+    let under = c.if-pages-free.false in
+    inside_layout layout (g.D.Disk.state c.args.self.now.core.filer.swapper.disk) (g.D.Disk.state c.create.new.filer.swapper.disk) c.requires.size
+    (create_bounded layout c.args.self.now.core.filer.swapper.accepted _ _ c.args.pages (omega (arith, under, same_room)) c.create.ensures.cost)
+
+-- ---- The file that the reply names.
+
+pub returns-then-pages-free-clause-next : goal.returns-then-pages-free-clause-next
+returns-then-pages-free-clause-next g c = λ id is. absurd (none_named why.Full id is)
+
+pub returns-then-self-clause-next : goal.returns-then-self-clause-next
+returns-then-self-clause-next g c = λ id is. absurd (none_named why.Ids id is)
+
+pub returns-in-Ok-clause-next : goal.returns-in-Ok-clause-next
+returns-in-Ok-clause-next g c = λ id is. sym (one_named c.in-Ok.id id is) ∙ c.in-Ok.ensures.next
+
+-- each of its pages was given a sector
+pub returns-then-pages-free-clause-home : goal.returns-then-pages-free-clause-home
+returns-then-pages-free-clause-home g c = λ o k id is. absurd (none_named why.Full id is)
+
+pub returns-then-self-clause-home : goal.returns-then-self-clause-home
+returns-then-self-clause-home g c = λ o k id is. absurd (none_named why.Ids id is)
+
+pub returns-in-Ok-clause-home : goal.returns-in-Ok-clause-home
+returns-in-Ok-clause-home g c =
+    let small : c.args.pages < 2 ^ 32 = search rules in
+    λ o k id is page below.
+    let same : id ≡ next_id c.args.self.now.volume.root = sym (one_named c.in-Ok.id id is) ∙ c.in-Ok.ensures.next in
+    subst (λ (n : ℕ). WasBelow o (g.D.Disk.state c.create.new.filer.swapper.disk) n page) (sym same) (new_file o c.args.self.now.volume.root c.args.kind c.args.pages k.1.0.since c.in-Ok.ensures.makes small page below)
+
+-- ---- The initial state.
+
+pub returns-then-pages-free-clause-keeps_to : goal.returns-then-pages-free-clause-keeps_to
+returns-then-pages-free-clause-keeps_to g c = λ o k up. given_on o (state c.args.self.now.core) (next_id c.args.self.now.volume.root) up.next k
+
+pub returns-then-self-clause-keeps_to : goal.returns-then-self-clause-keeps_to
+returns-then-self-clause-keeps_to g c = λ o k up. given_on o (state c.args.self.now.core) (next_id c.args.self.now.volume.root) up.next k
+
+pub returns-in-Ok-clause-keeps_to : goal.returns-in-Ok-clause-keeps_to
+returns-in-Ok-clause-keeps_to g c = λ o k up. let from = c.in-Ok.ensures.keeps_to o k.0 k.1.0 up in (from.0, (from.1, (from.2 k.1.1.0, k.1.1.1)))
+
+pub returns-in-Err-clause-reasons : goal.returns-in-Err-clause-reasons
+returns-in-Err-clause-reasons g c = λ o k up. c.in-Err.ensures.reasons o k.0 k.1.0 up
+
+-- ---- What is seen of the space tables.
+
+pub returns-then-pages-free-clause-sees : goal.returns-then-pages-free-clause-sees
+returns-then-pages-free-clause-sees g c = λ o k up ss sees. sees
+
+pub returns-then-self-clause-sees : goal.returns-then-self-clause-sees
+returns-then-self-clause-sees g c = λ o k up ss sees. sees
+
+pub returns-in-Ok-clause-sees : goal.returns-in-Ok-clause-sees
+returns-in-Ok-clause-sees g c = λ o k up.
+    let old = c.args.self.now.core in
+    same_given o (giving o (next_id c.create.new.volume.root)) (state old) (view_of c.create.new.filer) old.filer.swapper.accepted k
+    (λ b h. c.in-Ok.ensures.keeps_to (telling o b) k.0 h (record { monotone = up.monotone; next = up.next }))
+
+pub returns-in-Err-clause-sees : goal.returns-in-Err-clause-sees
+returns-in-Err-clause-sees g c = λ o k up seen.
+    let old = c.args.self.now.core in
+    let disk = g.D.Disk.state c.create.new.filer.swapper.disk in
+    seen_blameless o (state old) old.filer.swapper.accepted k old.filer.swapper.layout disk c.in-Err.halt (λ b h. c.in-Err.ensures.reasons (telling o b) k.0 h (record { monotone = up.monotone; next = up.next }))
+    (new_misses (file_pages o disk) (next_id c.args.self.now.volume.root) (IsNewPage c.args.pages) (state old) (view_of c.create.new.filer) c.in-Err.halt c.in-Err.ensures.cause) seen
+
+-- ---- The next identifier.
+
+pub returns-in-Ok-clause-monotone : goal.returns-in-Ok-clause-monotone
+returns-in-Ok-clause-monotone g c = counted_next c.args.self.now.volume.root c.create.new.volume.root (ap (λ (v : Volume). v.root) c.in-Ok.ensures.new_volume)
+
+pub returns-in-Err-clause-monotone : goal.returns-in-Err-clause-monotone
+returns-in-Err-clause-monotone g c = same_next c.args.self.now.volume.root c.create.new.volume.root (ap (λ (v : Volume). v.root) c.in-Err.ensures.same_volume)
+
+pub returns-in-Ok-clause-serial : goal.returns-in-Ok-clause-serial
+returns-in-Ok-clause-serial g c = ap (λ (v : Volume). v.root.serial) c.in-Ok.ensures.new_volume
+
+pub returns-in-Err-clause-serial : goal.returns-in-Err-clause-serial
+returns-in-Err-clause-serial g c = ap (λ (v : Volume). v.root.serial) c.in-Err.ensures.same_volume

@@ -1,0 +1,173 @@
+use Rattle.std.proofs.Common.{ℕ, ◌<◌, ◌≤◌, Option, subst, arith, inl, inr}
+use Rattle.std.specs.Prelude.{IfSome}
+use Rattle.session_words.specs.Parts.{shapes_of}
+use Rattle.file_manager.specs.Answer.{IsNextFile}
+use Rattle.running_words.specs.Bound.{room_above}
+use Rattle.pilot_engine.proofs.EndCosts.{next_there, room_step, visited}
+use Rattle.running_words.proofs.SessionLemmas.{session_books}
+use Rattle.pilot_engine.proofs.ShedLemmas.{asked_alone, shed_last, shed_next}
+use Rattle.pilot_engine.proofs.WroteLemmas.{wrote_by, wrote_then}
+use Rattle.pilot_engine.specs.Closing.{IsOpenStop}
+use Rattle.pilot_engine.proofs.StopLemmas.{stops_quiet, throughout_then}
+use Rattle.file_manager.proofs.Faults.{counted_then}
+use Rattle.fault_core.specs.Core.{state}
+use Rattle.space_calls.proofs.HaltLemmas.{look_reaches}
+use Rattle.labelled_disk.specs.declared.layout.Layout.{Layout}
+use Rattle.file_manager.specs.Reasons.{ShowsReason, telling}
+use Rattle.fault_core.specs.View.{view_of}
+use Rattle.pilot_engine.proofs.EndNeverBlames.{end_blameless, search_no_table}
+use Rattle.pilot_engine.proofs.HomeLemmas.{file_later, file_pages}
+use Rattle.pilot_engine.proofs.LackLemmas.{search_misses}
+use Rattle.pilot_engine.proofs.SeesLemmas.{seen_blameless, seen_still}
+use Rattle.pilot_engine.proofs.session.Session.delete_next.Goals as goal
+
+pub returns-in-Ok-None-clause-shed : goal.returns-in-Ok-None-clause-shed
+returns-in-Ok-None-clause-shed g c = λ spaces_of m s.
+    let books = session_books spaces_of _ _ _ _ _ m s.session in
+    let f = c.next.ensures in
+    let now = asked_alone spaces_of _ _ _ _ _ _ _ _ m s f.makes f.brings (f.same s.session.stands.memory (shapes_of m.files) m.spaces books) _ f.layout in
+    shed_last spaces_of _ _ _ _ _ m c.args.cursor (subst (IsNextFile (shapes_of m.files) c.args.cursor) c.in-Ok-None.field-0-is (c.in-Ok-None.ensures.revealed s.session.stands.memory (shapes_of m.files) m.spaces books)) now
+
+pub returns-in-Err-clause-sound : goal.returns-in-Err-clause-sound
+returns-in-Err-clause-sound g c = λ spaces_of m s. c.in-Err.ensures.revealed s.session.stands.memory (shapes_of m.files) m.spaces (session_books spaces_of _ _ _ _ _ m s.session)
+
+pub returns-in-Ok-clause-shed : goal.returns-in-Ok-clause-shed
+returns-in-Ok-clause-shed g c = λ spaces_of m s.
+    let books = session_books spaces_of _ _ _ _ _ m s.session in
+    let f = c.next.ensures in
+    let now = asked_alone spaces_of _ _ _ _ _ _ _ _ m s f.makes f.brings (f.same s.session.stands.memory (shapes_of m.files) m.spaces books) _ f.layout in
+    shed_next spaces_of _ _ _ _ _ m c.args.cursor _ (subst (IsNextFile (shapes_of m.files) c.args.cursor) c.in-Ok-Some.field-0-is (c.in-Ok-Some.ensures.revealed s.session.stands.memory (shapes_of m.files) m.spaces books)) (c.in-Ok.ensures.shed spaces_of m now)
+
+pub returns-in-Ok-clause-wrote : goal.returns-in-Ok-clause-wrote
+returns-in-Ok-clause-wrote g c = wrote_then (wrote_by c.next.ensures.makes tt) c.delete_unless_permanent.ensures.wrote
+
+pub returns-in-Err-delete_unless_permanent-clause-sound : goal.returns-in-Err-delete_unless_permanent-clause-sound
+returns-in-Err-delete_unless_permanent-clause-sound g c = λ spaces_of m s.
+    let books = session_books spaces_of _ _ _ _ _ m s.session in
+    let f = c.next.ensures in
+    c.in-Err-delete_unless_permanent.ensures.sound spaces_of m (asked_alone spaces_of _ _ _ _ _ _ _ _ m s f.makes f.brings (f.same s.session.stands.memory (shapes_of m.files) m.spaces books) _ f.layout)
+
+pub returns-in-Err-delete_unless_permanent-clause-wrote : goal.returns-in-Err-delete_unless_permanent-clause-wrote
+returns-in-Err-delete_unless_permanent-clause-wrote g c = wrote_then (wrote_by c.next.ensures.makes tt) c.delete_unless_permanent.ensures.wrote
+
+pub returns-in-Ok-None-clause-stops : goal.returns-in-Ok-None-clause-stops
+returns-in-Ok-None-clause-stops g c = λ spaces_of m s. stops_quiet spaces_of _ _ _ _ m s.session.stands (g.met.D.Disk.in_form c.args.self.now.core.filer.swapper.disk) c.next.ensures.makes
+
+pub returns-in-Err-clause-stops : goal.returns-in-Err-clause-stops
+returns-in-Err-clause-stops g c = λ spaces_of m s. stops_quiet spaces_of _ _ _ _ m s.session.stands (g.met.D.Disk.in_form c.args.self.now.core.filer.swapper.disk) c.next.ensures.makes
+
+pub returns-in-Ok-clause-stops : goal.returns-in-Ok-clause-stops
+returns-in-Ok-clause-stops g c = λ spaces_of m s.
+    let books = session_books spaces_of _ _ _ _ _ m s.session in
+    let f = c.next.ensures in
+    let now = asked_alone spaces_of _ _ _ _ _ _ _ _ m s f.makes f.brings (f.same s.session.stands.memory (shapes_of m.files) m.spaces books) _ f.layout in
+    throughout_then (IsOpenStop m) (stops_quiet spaces_of _ _ _ _ m s.session.stands (g.met.D.Disk.in_form c.args.self.now.core.filer.swapper.disk) c.next.ensures.makes) (c.delete_unless_permanent.ensures.stops spaces_of m now)
+
+pub returns-in-Err-delete_unless_permanent-clause-stops : goal.returns-in-Err-delete_unless_permanent-clause-stops
+returns-in-Err-delete_unless_permanent-clause-stops g c = λ spaces_of m s.
+    let books = session_books spaces_of _ _ _ _ _ m s.session in
+    let f = c.next.ensures in
+    let now = asked_alone spaces_of _ _ _ _ _ _ _ _ m s f.makes f.brings (f.same s.session.stands.memory (shapes_of m.files) m.spaces books) _ f.layout in
+    throughout_then (IsOpenStop m) (stops_quiet spaces_of _ _ _ _ m s.session.stands (g.met.D.Disk.in_form c.args.self.now.core.filer.swapper.disk) c.next.ensures.makes) (c.delete_unless_permanent.ensures.stops spaces_of m now)
+
+pub returns-in-Err-delete_unless_permanent-clause-counted : goal.returns-in-Err-delete_unless_permanent-clause-counted
+returns-in-Err-delete_unless_permanent-clause-counted g c = counted_then _ _ _ c.next.ensures.makes.went.faults c.in-Err-delete_unless_permanent.ensures.counted
+
+pub returns-in-Ok-clause-paid : goal.returns-in-Ok-clause-paid
+returns-in-Ok-clause-paid g c = λ spaces_of m s.
+    let books = session_books spaces_of _ _ _ _ _ m s.session in
+    let f = c.next.ensures in
+    let now = asked_alone spaces_of _ _ _ _ _ _ _ _ m s f.makes f.brings (f.same s.session.stands.memory (shapes_of m.files) m.spaces books) _ f.layout in
+    let revealed = subst (IsNextFile (shapes_of m.files) c.args.cursor) c.in-Ok-Some.field-0-is (c.in-Ok-Some.ensures.revealed s.session.stands.memory (shapes_of m.files) m.spaces books) in
+    let there = next_there m c.args.cursor c.in-Ok-Some.id revealed in
+    let step = room_step m.files c.args.cursor c.in-Ok-Some.id there.0 revealed.0 there.1 in
+    let all = visited (g.D.Disk.state c.args.self.now.core.filer.swapper.disk).transfers (g.D.Disk.state c.next.new.filer.swapper.disk).transfers (g.D.Disk.state c.delete_unless_permanent.new.self.core.filer.swapper.disk).transfers (room_above c.args.cursor m.files) (room_above c.in-Ok-Some.id m.files) there.0 step f.cost
+    (c.delete_unless_permanent.ensures.cost spaces_of m there.0 now there.1)
+    in
+    all
+
+pub returns-in-Ok-clause-cost : goal.returns-in-Ok-clause-cost
+returns-in-Ok-clause-cost g c = λ spaces_of m s.
+    let books = session_books spaces_of _ _ _ _ _ m s.session in
+    let f = c.next.ensures in
+    let now = asked_alone spaces_of _ _ _ _ _ _ _ _ m s f.makes f.brings (f.same s.session.stands.memory (shapes_of m.files) m.spaces books) _ f.layout in
+    let revealed = subst (IsNextFile (shapes_of m.files) c.args.cursor) c.in-Ok-Some.field-0-is (c.in-Ok-Some.ensures.revealed s.session.stands.memory (shapes_of m.files) m.spaces books) in
+    let there = next_there m c.args.cursor c.in-Ok-Some.id revealed in
+    let step = room_step m.files c.args.cursor c.in-Ok-Some.id there.0 revealed.0 there.1 in
+    let all = visited (g.D.Disk.state c.args.self.now.core.filer.swapper.disk).transfers (g.D.Disk.state c.next.new.filer.swapper.disk).transfers (g.D.Disk.state c.delete_unless_permanent.new.self.core.filer.swapper.disk).transfers (room_above c.args.cursor m.files) (room_above c.in-Ok-Some.id m.files) there.0 step f.cost
+    (c.delete_unless_permanent.ensures.cost spaces_of m there.0 now there.1)
+    in
+    omega (arith, all)
+
+pub returns-in-Err-delete_unless_permanent-clause-cost : goal.returns-in-Err-delete_unless_permanent-clause-cost
+returns-in-Err-delete_unless_permanent-clause-cost g c = λ spaces_of m s.
+    let books = session_books spaces_of _ _ _ _ _ m s.session in
+    let f = c.next.ensures in
+    let now = asked_alone spaces_of _ _ _ _ _ _ _ _ m s f.makes f.brings (f.same s.session.stands.memory (shapes_of m.files) m.spaces books) _ f.layout in
+    let revealed = subst (IsNextFile (shapes_of m.files) c.args.cursor) c.in-Ok-Some.field-0-is (c.in-Ok-Some.ensures.revealed s.session.stands.memory (shapes_of m.files) m.spaces books) in
+    let there = next_there m c.args.cursor c.in-Ok-Some.id revealed in
+    let step = room_step m.files c.args.cursor c.in-Ok-Some.id there.0 revealed.0 there.1 in
+    let all = visited (g.D.Disk.state c.args.self.now.core.filer.swapper.disk).transfers (g.D.Disk.state c.next.new.filer.swapper.disk).transfers (g.D.Disk.state c.delete_unless_permanent.new.self.core.filer.swapper.disk).transfers (room_above c.args.cursor m.files) (room_above c.in-Ok-Some.id m.files) there.0 step f.cost
+    (c.delete_unless_permanent.ensures.cost spaces_of m there.0 now there.1)
+    in
+    omega (arith, all)
+
+pub returns-in-Ok-None-clause-cost : goal.returns-in-Ok-None-clause-cost
+returns-in-Ok-None-clause-cost g c = λ spaces_of m s. let searched = c.next.ensures.cost in omega (arith, searched)
+
+pub returns-in-Err-clause-cost : goal.returns-in-Err-clause-cost
+returns-in-Err-clause-cost g c = λ spaces_of m s. let searched = c.next.ensures.cost in omega (arith, searched)
+
+pub returns-in-Ok-clause-above : goal.returns-in-Ok-clause-above
+returns-in-Ok-clause-above g c = (subst (λ (o : Option ℕ). IfSome o (λ id. (c.args.cursor < id) × (16 ≤ id))) c.in-Ok-Some.field-0-is c.in-Ok-Some.ensures.above).0
+
+-- ---- Why it failed.
+
+pub returns-in-Err-clause-cause : goal.returns-in-Err-clause-cause
+returns-in-Err-clause-cause g c = inl c.in-Err.ensures.cause
+
+pub returns-in-Err-delete_unless_permanent-clause-cause : goal.returns-in-Err-delete_unless_permanent-clause-cause
+returns-in-Err-delete_unless_permanent-clause-cause g c = inr (state (record c.args.self.now.core { filer = c.next.new.filer }), look_reaches (state c.args.self.now.core) (state (record c.args.self.now.core { filer = c.next.new.filer })) c.next.ensures.looks c.next.ensures.layout, (c.in-Ok-Some.id, c.in-Err-delete_unless_permanent.ensures.cause))
+
+-- ---- What began stays a reason.
+
+pub returns-in-Ok-None-clause-keeps_to : goal.returns-in-Ok-None-clause-keeps_to
+returns-in-Ok-None-clause-keeps_to g c = λ o keeps. (keeps.0, (c.in-Ok-None.ensures.keeps_to o keeps.0 keeps.1.0, keeps.1.1))
+
+pub returns-in-Err-clause-reasons : goal.returns-in-Err-clause-reasons
+returns-in-Err-clause-reasons g c = λ o keeps. c.in-Err.ensures.reasons o keeps.0 keeps.1.0
+
+pub returns-in-Ok-clause-keeps_to : goal.returns-in-Ok-clause-keeps_to
+returns-in-Ok-clause-keeps_to g c = λ o keeps. c.in-Ok.ensures.keeps_to o (keeps.0, (c.in-Ok-Some.ensures.keeps_to o keeps.0 keeps.1.0, keeps.1.1))
+
+pub returns-in-Err-delete_unless_permanent-clause-reasons : goal.returns-in-Err-delete_unless_permanent-clause-reasons
+returns-in-Err-delete_unless_permanent-clause-reasons g c = λ o keeps.
+    subst (λ (l : Layout). ShowsReason o l (g.D.Disk.state c.delete_unless_permanent.new.self.core.filer.swapper.disk) c.in-Err-delete_unless_permanent.halt) c.next.ensures.layout
+    (c.in-Err-delete_unless_permanent.ensures.reasons o (keeps.0, (c.in-Ok-Some.ensures.keeps_to o keeps.0 keeps.1.0, keeps.1.1)))
+
+-- ---- What is seen of the space tables, and which page is reported as missing.
+
+pub returns-in-Ok-None-clause-sees : goal.returns-in-Ok-None-clause-sees
+returns-in-Ok-None-clause-sees g c = λ o keeps seen.
+    let old = c.args.self.now.core in
+    seen_still o (state old) old.filer.swapper.accepted keeps (view_of c.next.new.filer) (λ b. c.in-Ok-None.ensures.keeps_to (telling o b) keeps.0) (file_later o c.next.ensures.makes) seen
+
+pub returns-in-Err-clause-sees : goal.returns-in-Err-clause-sees
+returns-in-Err-clause-sees g c = λ o keeps seen.
+    let old = c.args.self.now.core in
+    let disk = g.D.Disk.state c.next.new.filer.swapper.disk in
+    end_blameless o disk c.in-Err.halt (seen_blameless o (state old) old.filer.swapper.accepted keeps old.filer.swapper.layout disk c.in-Err.halt (λ b. c.in-Err.ensures.reasons (telling o b) keeps.0)
+    (search_misses (file_pages o disk) old.filer.swapper.layout (g.D.Disk.state old.filer.swapper.disk) old.filer.swapper.pool disk c.in-Err.halt c.in-Err.ensures.cause) (seen.0, seen.1.0))
+    (search_no_table old.filer.swapper.layout (g.D.Disk.state old.filer.swapper.disk) old.filer.swapper.pool disk c.in-Err.halt c.in-Err.ensures.cause)
+
+pub returns-in-Ok-clause-sees : goal.returns-in-Ok-clause-sees
+returns-in-Ok-clause-sees g c = λ o keeps seen.
+    let old = c.args.self.now.core in
+    c.in-Ok.ensures.sees o (keeps.0, (c.in-Ok-Some.ensures.keeps_to o keeps.0 keeps.1.0, keeps.1.1))
+    (seen_still o (state old) old.filer.swapper.accepted keeps (view_of c.next.new.filer) (λ b. c.in-Ok-Some.ensures.keeps_to (telling o b) keeps.0) (file_later o c.next.ensures.makes) seen)
+
+pub returns-in-Err-delete_unless_permanent-clause-sees : goal.returns-in-Err-delete_unless_permanent-clause-sees
+returns-in-Err-delete_unless_permanent-clause-sees g c = λ o keeps seen.
+    let old = c.args.self.now.core in
+    c.in-Err-delete_unless_permanent.ensures.sees o (keeps.0, (c.in-Ok-Some.ensures.keeps_to o keeps.0 keeps.1.0, keeps.1.1))
+    (seen_still o (state old) old.filer.swapper.accepted keeps (view_of c.next.new.filer) (λ b. c.in-Ok-Some.ensures.keeps_to (telling o b) keeps.0) (file_later o c.next.ensures.makes) seen)

@@ -1,0 +1,88 @@
+use Rattle.std.proofs.Common.{rules, ℕ, Option, subst, ◌<◌, ◌∙◌, ◌^◌, arith}
+use Rattle.std.specs.Prelude.{IfSome}
+use Rattle.pilot_engine.proofs.ClearedUpTo.{cleared_all, cleared_more, cleared_none, cleared_paid, cleared_sound, cleared_stops}
+use Rattle.pilot_engine.proofs.WroteLemmas.{wrote_then}
+use Rattle.file_manager.proofs.Faults.{counted_then}
+use Rattle.fault_core.specs.Core.{state}
+use Rattle.labelled_disk.specs.declared.layout.Layout.{Layout}
+use Rattle.file_manager.specs.Reasons.{ShowsReason}
+use Rattle.pilot_engine.proofs.session.Session.delete_temporary.Goals as goal
+
+pub files-init : goal.files-init
+files-init g c = (cleared_none _ _ _ _ _ c.requires.size c.requires.opened (g.met.D.Disk.in_form c.args.self.now.core.filer.swapper.disk), λ o keeps seen. seen)
+
+pub delete_next-requires-clause-size : goal.delete_next-requires-clause-size
+delete_next-requires-clause-size g c = c.files.invariant.0.size
+
+pub delete_next-requires-clause-opened : goal.delete_next-requires-clause-opened
+delete_next-requires-clause-opened g c = c.files.invariant.0.opened
+
+pub delete_next-requires-clause-client : goal.delete_next-requires-clause-client
+delete_next-requires-clause-client g c = c.files.invariant.0.above
+
+pub files-smaller : goal.files-smaller
+files-smaller g c =
+    let above : c.files.cursor < c.in-Ok-Some.id = subst (λ (o : Option ℕ). IfSome o (λ j. c.files.cursor < j)) c.in-Ok-Some.field-0-is c.in-Ok-Some.ensures.above in
+    let fits : c.in-Ok-Some.id < 2 ^ 64 = search rules in
+    omega (arith, above, fits)
+
+pub files-preserved : goal.files-preserved
+files-preserved g c = (
+  cleared_more _ _ _ _ _ _ _ _ _ _ _ c.files.invariant.0 _ _ _ _ _ _ _ c.in-Ok-Some.field-0-is c.in-Ok-Some.ensures.shed c.delete_next.ensures.stops c.in-Ok-Some.ensures.above c.delete_next.ensures.wrote c.in-Ok-Some.ensures.keeps_to c.delete_next.ensures.open_still c.delete_next.ensures.layout c.in-Ok-Some.ensures.paid,
+  λ o keeps seen. c.in-Ok-Some.ensures.sees o (c.files.invariant.0.keeps o keeps) (c.files.invariant.1 o keeps seen),
+)
+
+pub returns-in-Ok-None-clause-shed : goal.returns-in-Ok-None-clause-shed
+returns-in-Ok-None-clause-shed g c = cleared_all _ _ _ _ _ _ _ _ _ _ _ c.files.invariant.0 _ _ _ _ _ _ c.in-Ok-None.field-0-is c.in-Ok-None.ensures.shed
+
+pub returns-in-Ok-None-clause-wrote : goal.returns-in-Ok-None-clause-wrote
+returns-in-Ok-None-clause-wrote g c = wrote_then c.files.invariant.0.wrote c.delete_next.ensures.wrote
+
+pub returns-in-Ok-None-clause-layout : goal.returns-in-Ok-None-clause-layout
+returns-in-Ok-None-clause-layout g c = c.delete_next.ensures.layout ∙ c.files.invariant.0.same_layout
+
+pub returns-in-Err-clause-sound : goal.returns-in-Err-clause-sound
+returns-in-Err-clause-sound g c = cleared_sound _ _ _ _ _ _ _ _ _ _ _ c.files.invariant.0 _ c.in-Err.ensures.sound
+
+pub returns-in-Err-clause-wrote : goal.returns-in-Err-clause-wrote
+returns-in-Err-clause-wrote g c = wrote_then c.files.invariant.0.wrote c.delete_next.ensures.wrote
+
+pub returns-in-Err-clause-layout : goal.returns-in-Err-clause-layout
+returns-in-Err-clause-layout g c = c.delete_next.ensures.layout ∙ c.files.invariant.0.same_layout
+
+pub returns-in-Ok-None-clause-stops : goal.returns-in-Ok-None-clause-stops
+returns-in-Ok-None-clause-stops g c = cleared_stops _ _ _ _ _ _ _ _ _ _ _ c.files.invariant.0 _ c.delete_next.new.self.core.filer.swapper.pool c.delete_next.new.self.core.filer.swapper.layout c.delete_next.new.self.core.filer.runs c.delete_next.new.self.volume c.delete_next.ensures.stops
+
+pub returns-in-Err-clause-stops : goal.returns-in-Err-clause-stops
+returns-in-Err-clause-stops g c = cleared_stops _ _ _ _ _ _ _ _ _ _ _ c.files.invariant.0 _ c.delete_next.new.self.core.filer.swapper.pool c.delete_next.new.self.core.filer.swapper.layout c.delete_next.new.self.core.filer.runs c.delete_next.new.self.volume c.delete_next.ensures.stops
+
+pub returns-in-Err-clause-counted : goal.returns-in-Err-clause-counted
+returns-in-Err-clause-counted g c = counted_then _ _ _ c.files.invariant.0.wrote.makes.went.faults c.in-Err.ensures.counted
+
+pub returns-in-Ok-None-clause-cost : goal.returns-in-Ok-None-clause-cost
+returns-in-Ok-None-clause-cost g c = cleared_paid _ _ _ _ _ _ _ _ _ _ _ c.files.invariant.0 (g.D.Disk.state c.delete_next.new.self.core.filer.swapper.disk).transfers c.delete_next.ensures.cost
+
+pub returns-in-Err-clause-cost : goal.returns-in-Err-clause-cost
+returns-in-Err-clause-cost g c = cleared_paid _ _ _ _ _ _ _ _ _ _ _ c.files.invariant.0 (g.D.Disk.state c.delete_next.new.self.core.filer.swapper.disk).transfers c.delete_next.ensures.cost
+
+-- ---- Why it failed.
+
+pub returns-in-Err-clause-cause : goal.returns-in-Err-clause-cause
+returns-in-Err-clause-cause g c = (state c.files.self.core, (c.files.invariant.0.wrote, c.files.invariant.0.same_layout), c.in-Err.ensures.cause)
+
+-- ---- What began stays a reason.
+
+pub returns-in-Ok-None-clause-keeps_to : goal.returns-in-Ok-None-clause-keeps_to
+returns-in-Ok-None-clause-keeps_to g c = λ o keeps. c.in-Ok-None.ensures.keeps_to o (c.files.invariant.0.keeps o keeps)
+
+pub returns-in-Err-clause-reasons : goal.returns-in-Err-clause-reasons
+returns-in-Err-clause-reasons g c = λ o keeps.
+    subst (λ (l : Layout). ShowsReason o l (g.D.Disk.state c.delete_next.new.self.core.filer.swapper.disk) c.in-Err.halt) c.files.invariant.0.same_layout (c.in-Err.ensures.reasons o (c.files.invariant.0.keeps o keeps))
+
+-- ---- The space tables are seen.
+
+pub returns-in-Ok-None-clause-sees : goal.returns-in-Ok-None-clause-sees
+returns-in-Ok-None-clause-sees g c = λ o keeps seen. c.in-Ok-None.ensures.sees o (c.files.invariant.0.keeps o keeps) (c.files.invariant.1 o keeps seen)
+
+pub returns-in-Err-clause-sees : goal.returns-in-Err-clause-sees
+returns-in-Err-clause-sees g c = λ o keeps seen. c.in-Err.ensures.sees o (c.files.invariant.0.keeps o keeps) (c.files.invariant.1 o keeps seen)

@@ -1,0 +1,152 @@
+-- What holds of the state through a reference holds of the state.
+use Rattle.std.proofs.Common.{◌≡◌, inl, inr, ℕ, ◌≤◌, List, [], ◌∷◌, ◌++◌, length, Option, sym, ap, subst, drop}
+use Rattle.labelled_disk.specs.declared.evidence.Evidence.{Evidence}
+use Rattle.labelled_disk.specs.declared.evidence.Evidence.TheVariants.{Mismatch, Malformed, Missing}
+use Rattle.labelled_disk.specs.declared.layout.Layout.{Layout}
+use Rattle.labelled_disk.specs.Calls.{OnlyReads, Rose}
+use Rattle.labelled_disk.specs.Layout.{layout_of}
+use Rattle.labelled_disk.specs.State.{DiskState, lent_state}
+use Rattle.labelled_disk.specs.Sectors.{Sector}
+use Rattle.flat_machine.specs.After.{TraceLine}
+use Rattle.flat_machine.specs.Machine.{Machine}
+use Rattle.trace_io.specs.Reading.{reading}
+use Rattle.volume_root.specs.RootPage.{root_write}
+use Rattle.pilot_engine.specs.Closing.{HasShut}
+use Rattle.filer_kernel.specs.Evidence.{IsEvident}
+use Rattle.file_manager.specs.Reasons.{HasReason, InitialState, initial_state}
+use Rattle.pilot_top.specs.Headline.{IsLeftOpen, Run, RevealsDamage}
+use Rattle.pilot_top.specs.CrashStates.{Lawfully, CrashStates}
+use Rattle.pilot_top.specs.InitialState.{FromInitialState}
+use Rattle.pilot_top.specs.Replied.{AreToFirst, Replied}
+use Rattle.pilot_top.specs.Trial.{HasNoFile, TriesLawfully}
+use Rattle.pilot_top.specs.declared.status.Status.{Status}
+use Rattle.pilot_top.specs.declared.status.Status.TheVariants as status
+
+-- no fault rose through a reference
+pub none_rose_after : {D : Type 0} (state : D → DiskState) (before : ℕ) (x y : D) → (Rose before (state x).faults → ⊥) → x ≡ y → Rose before (state y).faults → ⊥
+none_rose_after state before x y none same = subst (λ z. Rose before (state z).faults → ⊥) same none
+
+-- a reason asks only which writes were made
+reason_lent : (o : InitialState) (l : Layout) (n : ℕ) (disk : DiskState) (e : Evidence) → HasReason o l (lent_state n disk) e → HasReason o l disk e
+reason_lent o l n disk (Mismatch sector wanted found) is = is
+reason_lent o l n disk (Malformed window page) is = is
+reason_lent o l n disk (Missing id page) is = is
+
+module _ {D : Type 0} (state : D → DiskState) (x y : D) (same : x ≡ y) where
+  pub rose_after : (before : ℕ) → Rose before (state y).faults → Rose before (state x).faults
+  rose_after before rose = rw same rose
+
+  -- the volume is closed
+  pub shut_after : (m : Machine) (n : ℕ) → HasShut m (lent_state n (state y)) → HasShut m (state x)
+  shut_after m n shut = rw same (record {
+    reveals = record { sectors = shut.reveals.sectors; revealed = shut.reveals.revealed; shut = shut.reveals.shut };
+    synced = shut.synced;
+  })
+
+  -- there is a sound volume without a file
+  pub no_file_after : (n : ℕ) → HasNoFile (lent_state n (state y)) → HasNoFile (state x)
+  no_file_after n left = rw same (record { sectors = left.sectors; revealed = left.revealed; sound = left.sound; no_files = left.no_files; synced = left.synced })
+
+  -- and is left open
+  pub open_after : IsLeftOpen (state y) → IsLeftOpen (state x)
+  open_after is = rw same is
+
+  -- what evidence says is so
+  so_after : (n : ℕ) (e : Evidence) → IsEvident (lent_state n (state y)) e → IsEvident (state y) e
+  so_after n (Mismatch sector wanted found) is = is
+  so_after n (Malformed window page) is = is
+  so_after n (Missing id page) is = is
+
+  -- so it is there
+  pub so_there : (n : ℕ) (e : Evidence) → IsEvident (lent_state n (state y)) e → IsEvident (state x) e
+  so_there n e evidence_seen = rw same (so_after n e evidence_seen)
+
+  -- what is reported of damage, and its reason
+  module _ {t : List ℕ} {took : Option (List ℕ)} {failed : Type 0} (n : ℕ) (revealed : RevealsDamage t took failed (lent_state n (state y))) where
+    abbrev reveals_there : RevealsDamage t took failed (state y)
+    reveals_there = record { replies = revealed.replies; evidence = revealed.evidence; evidence_seen = so_after n revealed.evidence revealed.evidence_seen; left_open = revealed.left_open; written = revealed.written }
+
+    pub damage_after : (reasoned : Evidence → Type 0) → reasoned revealed.evidence → (there : RevealsDamage t took failed (state x)) × reasoned there.evidence
+    damage_after reasoned reason = subst (λ (z : D). (there : RevealsDamage t took failed (state z)) × reasoned there.evidence) (sym same) (reveals_there, reason)
+
+    first_after : (reasoned : Evidence → Type 0) (lines : List TraceLine) → AreToFirst revealed.replies lines → reasoned revealed.evidence → (there : RevealsDamage t took failed (state x)) × AreToFirst there.replies lines × reasoned there.evidence
+    first_after reasoned lines to_first reason =
+        subst (λ (z : D). (there : RevealsDamage t took failed (state z)) × AreToFirst there.replies lines × reasoned there.evidence) (sym same) (reveals_there, to_first, reason)
+
+  -- what was replied
+  pub replied_after : (s : Status) (b t : List ℕ) (left took : Option (List ℕ)) (failed : Type 0) (n : ℕ) (reasoned : Evidence → Type 0) → Replied s b left t took failed (lent_state n (state y)) reasoned → Replied s b left t took failed (state x) reasoned
+  replied_after status.Damaged b t left took failed n reasoned is = first_after n is.0 reasoned (reading b) is.1 is.2
+  replied_after status.Done b t left took failed n reasoned is = is
+  replied_after status.DiskFault b t left took failed n reasoned is = is
+  replied_after status.Long b t left took failed n reasoned is = is
+  replied_after status.StreamFault b t left took failed n reasoned is = is
+  replied_after status.NotOpened b t left took failed n reasoned is = is
+  replied_after status.NoMemory b t left took failed n reasoned is = is
+  replied_after status.Usage b t left took failed n reasoned is = is
+  replied_after status.Unfit b t left took failed n reasoned is = is
+
+  -- and so many transfers were made
+  pub spent_after : (most : ℕ) → (state y).transfers ≤ most → (state x).transfers ≤ most
+  spent_after most few = rw same few
+
+  pub run_after : (s : Status) (d : List Sector) (b t : List ℕ) (left took : Option (List ℕ)) (failed : Type 0) (n : ℕ) → Run s d b left t took failed (lent_state n (state y)) → Run s d b left t took failed (state x)
+  run_after status.Done d b t left took failed n is = rw same is
+  run_after status.DiskFault d b t left took failed n is = rw same is
+  run_after status.Long d b t left took failed n is = rw same is
+  run_after status.StreamFault d b t left took failed n is = rw same is
+  run_after status.NotOpened d b t left took failed n is = is
+  run_after status.NoMemory d b t left took failed n is = is
+  run_after status.Usage d b t left took failed n is = absurd is
+  run_after status.Damaged d b t left took failed n is = absurd is
+  run_after status.Unfit d b t left took failed n is = absurd is
+
+  module _ (first : DiskState) (m n : ℕ) where
+    -- evidence that has its reason through the references has it here
+    pub from_after : (e : Evidence) → FromInitialState (lent_state m first) (lent_state n (state y)) e → FromInitialState first (state x) e
+    from_after e from = subst (λ (z : D). FromInitialState first (state z) e) (sym same) (λ d named ws begun.
+        let there = from d named ws (record { contents = begun.contents; writes = begun.writes; map = begun.map }) in
+        (there.0, (reason_lent (initial_state d named (ws ++ (root_write there.0 ∷ []))) (layout_of (length d)) n (state y) e there.1.0, there.1.1)))
+
+    pub reads_after : OnlyReads (lent_state m first) (lent_state n (state y)) → OnlyReads first (state x)
+    reads_after reads = rw same (record {
+      sectors = reads.sectors;
+      lent = lent_parts m n first.lent (state y).lent reads.lent;
+      contents = reads.contents;
+      writes = reads.writes;
+      transfers = reads.transfers;
+      faults = reads.faults;
+      synced = reads.synced;
+    })
+      where
+        lent_parts : (m n : ℕ) (xs ys : List ℕ) → n ∷ ys ≡ m ∷ xs → ys ≡ xs
+        lent_parts m n xs ys e = ap (drop 1) e
+
+    pub crash_states_after : (a : Machine) (lines : List TraceLine) → CrashStates a lines (lent_state m first) (lent_state n (state y)) → CrashStates a lines first (state x)
+    crash_states_after a lines on = rw same (record {
+      writes = on.writes;
+      appended = record { contents = on.appended.contents; revealed = on.appended.revealed };
+      line = on.line;
+      step = on.step;
+      rise = on.rise;
+      first = on.first;
+      last = on.last;
+      each = on.each;
+    })
+
+    pub lawfully_after : Lawfully (lent_state m first) (lent_state n (state y)) → Lawfully first (state x)
+    lawfully_after on = rw same (record {
+      writes = on.writes;
+      appended = record { contents = on.appended.contents; revealed = on.appended.revealed };
+      permitted = on.permitted;
+      open_flag = on.open_flag;
+    })
+
+    -- what a trial wrote
+    pub tries_after : TriesLawfully (lent_state m first) (lent_state n (state y)) → TriesLawfully first (state x)
+    tries_after (inl (k, few, part)) = inl (k, few, rw same (record { contents = part.contents; revealed = part.revealed }))
+    tries_after (inr (made, wrote, on)) =
+        inr (
+          made,
+          record { contents = wrote.contents; revealed = wrote.revealed },
+          rw same (record { writes = on.writes; appended = record { contents = on.appended.contents; revealed = on.appended.revealed }; permitted = on.permitted; open_flag = on.open_flag }),
+        )

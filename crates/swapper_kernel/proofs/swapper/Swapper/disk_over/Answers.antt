@@ -1,0 +1,6 @@
+use Rattle.std.proofs.Common.{refl}
+use Rattle.swapper_kernel.proofs.LendLemmas.{same_facts}
+use Rattle.swapper_kernel.proofs.swapper.Swapper.disk_over.Goals as goal
+
+pub returns : goal.returns
+returns g c = ((refl, λ w. same_facts w _ _ _ _ _ _ _ _), record { value = refl; lends = tt })

@@ -1,5 +1,0 @@
-use Rattle.swapper_kernel.proofs.BringLemmas.{IsBringing}
-use Rattle.swapper_kernel.proofs.swapper.SwapperOver.bring.Given as goal
-
-abbrev pub invariant-loop-k : goal.invariant-loop-k
-invariant-loop-k g l = IsBringing l.fn.homes (g.D.Disk.state l.fn.self.under) l.fn.self.pool l.fn.self.layout (g.D.Disk.state l.self.under) l.self.pool l.self.layout l.k
