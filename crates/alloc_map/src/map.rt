@@ -48,6 +48,7 @@ impl<M: FlatMem> AllocMap<M> {
         ensures first { first_data self.new ≡ first_data self.old }
         ensures sectors { sector_count self.new ≡ sector_count self.old }
         ensures kept { M.beside (map_memory self.old) (map_memory self.new) }
+        ensures looked { M.only_reads (map_memory self.old) (map_memory self.new) }
         ensures cost { M.spent (map_memory self.new) ≤ M.spent (map_memory self.old) + M.cost }
     {
         let found = pages::find(&mut self.mem, sector, sector + 1, false)?;
@@ -65,6 +66,7 @@ impl<M: FlatMem> AllocMap<M> {
         ensures first { first_data self.new ≡ first_data self.old }
         ensures sectors { sector_count self.new ≡ sector_count self.old }
         ensures kept { M.beside (map_memory self.old) (map_memory self.new) }
+        ensures looked { M.only_reads (map_memory self.old) (map_memory self.new) }
         ensures cost { M.spent (map_memory self.new)
             ≤ M.spent (map_memory self.old) + pages_to (sector_count self.old) * M.cost }
     {

@@ -4,7 +4,7 @@ ghost use Rattle.alloc_map.specs.Bits.{is_used, AreAll, free_in, RevealsMarked, 
 ghost use Rattle.alloc_map.specs.Pages.{first_sector_after, pages_to, pages_between};
 
 use crate::bits;
-use flat_mem::FlatMem;
+use flat_mem::{FlatMem, PAGE_BYTES};
 
 // The end of the sectors from `at` to `end` that lie in one page with the first.
 fn page_stop(at: u32, end: u32) -> u32
@@ -29,10 +29,11 @@ fn find_in_page<M: FlatMem>(mem: &mut M, at: u32, stop: u32, used: bool) -> Resu
     ensures cause { IfErr result (λ e. M.accounted mem.old mem.new e) }
     ensures unchanged { (b : List ℕ) → M.reveals mem.old b → M.reveals mem.new b }
     ensures kept { M.beside mem.old mem.new }
+    ensures looked { M.only_reads mem.old mem.new }
     ensures cost { M.spent mem.new ≤ M.spent mem.old + M.cost }
 {
-    let mut page = [0; 512];
-    mem.read(512 * (at / 4096) as u64, &mut page)?;
+    let mut page = [0; PAGE_BYTES];
+    mem.read(PAGE_BYTES as u64 * (at / 4096) as u64, &mut page)?;
     let from = at % 4096;
     let found = bits::find(&page, from, from + (stop - at), used);
     Ok(at + (found - from))
@@ -49,6 +50,7 @@ pub fn find<M: FlatMem>(mem: &mut M, from: u32, end: u32, used: bool) -> Result<
     ensures cause { IfErr result (λ e. M.accounted mem.old mem.new e) }
     ensures unchanged { (b : List ℕ) → M.reveals mem.old b → M.reveals mem.new b }
     ensures kept { M.beside mem.old mem.new }
+    ensures looked { M.only_reads mem.old mem.new }
     ensures cost { M.spent mem.new ≤ M.spent mem.old + pages_between from end * M.cost }
 {
     let mut at = from;
@@ -74,10 +76,11 @@ fn count_in_page<M: FlatMem>(mem: &mut M, at: u32, stop: u32) -> Result<u32, M::
     ensures cause { IfErr result (λ e. M.accounted mem.old mem.new e) }
     ensures unchanged { (b : List ℕ) → M.reveals mem.old b → M.reveals mem.new b }
     ensures kept { M.beside mem.old mem.new }
+    ensures looked { M.only_reads mem.old mem.new }
     ensures cost { M.spent mem.new ≤ M.spent mem.old + M.cost }
 {
-    let mut page = [0; 512];
-    mem.read(512 * (at / 4096) as u64, &mut page)?;
+    let mut page = [0; PAGE_BYTES];
+    mem.read(PAGE_BYTES as u64 * (at / 4096) as u64, &mut page)?;
     let from = at % 4096;
     Ok(bits::count_free(&page, from, from + (stop - at)))
 }
@@ -92,6 +95,7 @@ pub fn count_free<M: FlatMem>(mem: &mut M, from: u32, end: u32) -> Result<u32, M
     ensures cause { IfErr result (λ e. M.accounted mem.old mem.new e) }
     ensures unchanged { (b : List ℕ) → M.reveals mem.old b → M.reveals mem.new b }
     ensures kept { M.beside mem.old mem.new }
+    ensures looked { M.only_reads mem.old mem.new }
     ensures cost { M.spent mem.new ≤ M.spent mem.old + pages_between from end * M.cost }
 {
     let mut count = 0;
@@ -116,8 +120,8 @@ fn set_in_page<M: FlatMem>(mem: &mut M, at: u32, stop: u32, used: bool) -> Resul
     ensures kept { M.beside mem.old mem.new }
     ensures cost { M.spent mem.new ≤ M.spent mem.old + 2 * M.cost }
 {
-    let place = 512 * (at / 4096) as u64;
-    let mut page = [0; 512];
+    let place = PAGE_BYTES as u64 * (at / 4096) as u64;
+    let mut page = [0; PAGE_BYTES];
     mem.read(place, &mut page)?;
     let from = at % 4096;
     bits::set_range(&mut page, from, from + (stop - at), used);

@@ -1,7 +1,7 @@
 //! Old volumes of 65,536 sectors, and how long it takes to convert and then to restore them.
 ghost use Rattle.std.specs.Prelude.{◌≤◌};
 
-use labelled_disk::{Disk, FileId, Label, Layout, MemoryDisk, NoMemory, Page};
+use labelled_disk::{Disk, FileId, Label, Layout, Marks, MemoryDisk, NoMemory, Page};
 use scavenger::{Report, scavenge};
 use std::alloc::Global;
 use std::io;
@@ -13,7 +13,7 @@ const SECTORS: u32 = 65_536;
 // The files and the pages of each on the volumes that are converted.
 const VOLUMES: [(u32, u32); 3] = [(10, 5_700), (1_000, 56), (28_000, 1)];
 
-// How often each volume is converted; the least time reveals.
+// How often each volume is converted; the least time counts.
 const TURNS: u32 = 5;
 
 const FIRST_FILE: FileId = 0x7_0000_0001;
@@ -44,11 +44,15 @@ fn old_volume(alloc: Global, files: u32, pages: u32) -> Result<MemoryDisk<Global
         let index = sector - layout.first;
         if index / pages < files && sector < disk.sectors() {
             let page = index % pages;
+            let marks = Marks {
+                permanent: page == 0,
+                immutable: false,
+            };
             let label = Label {
                 id: FIRST_FILE + u64::from(index / pages),
                 page,
                 kind: 9,
-                flags: u8::from(page == 0),
+                flags: marks.to_flags(),
                 last: 0,
             };
             let Ok(()) = disk.write(sector, &label, &[0; 512]) else {

@@ -2,6 +2,7 @@ pub mod UnitLemmas
 pub mod CrashStateLemmas
 pub mod CutLemmas
 pub mod SyncLemmas
+pub mod DiskSyncLemmas
 pub mod TurnLemmas
 pub mod PairLemmas
 pub mod SteadyLemmas

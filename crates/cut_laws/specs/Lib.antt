@@ -8,6 +8,7 @@ pub mod ResizeLaws
 pub mod Restored
 pub mod RootWrites
 pub mod Roots
+pub mod SettledDisks
 pub mod Syncs
 pub mod ShapeLaws
 pub mod SizeLaws

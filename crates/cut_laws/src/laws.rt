@@ -1,6 +1,7 @@
 //! Laws of cuts, as the contracts of functions that do nothing.
 
 ghost use Rattle.std.specs.Prelude.{ℕ, Bool, List};
+ghost use Rattle.labelled_disk.specs.Syncing.{AreSyncs};
 ghost use Rattle.cut_laws.specs.CutLaws.{CutLaws, WindowLaws};
 ghost use Rattle.cut_laws.specs.Example.{ExampleCuts};
 ghost use Rattle.cut_laws.specs.Mixes.{MixLaws};
@@ -10,6 +11,7 @@ ghost use Rattle.cut_laws.specs.ResizeLaws.{ResizedHasSizeBetween};
 ghost use Rattle.cut_laws.specs.Restored.{RestoredKeepsFiles};
 ghost use Rattle.cut_laws.specs.RootWrites.{RootIsWhole};
 ghost use Rattle.cut_laws.specs.Roots.{FlagLaws};
+ghost use Rattle.cut_laws.specs.SettledDisks.{DiskSyncLaws, SyncedHasNoOther};
 ghost use Rattle.cut_laws.specs.Syncs.{SyncLaws};
 ghost use Rattle.cut_laws.specs.ShapeLaws.{LeaderFreed, LeaderWritten, NoLabelWritten, ShapesOfOneCrashState};
 ghost use Rattle.cut_laws.specs.SizeLaws.{PagesAreOwn, RightIsWhole, SizeOfOneCrashState};
@@ -21,6 +23,12 @@ pub fn cuts_are_parts_of_writes()
     ensures windows { WindowLaws }
     ensures mixes { MixLaws }
     ensures syncs { (syncs : List ℕ) (k : ℕ) → SyncLaws syncs k }
+{}
+
+/// The cuts of a disk that reveals its writes and when it was settled.
+pub fn cuts_of_a_disk()
+    ensures syncs { (n : ℕ) (synced : Bool) (syncs : List ℕ) → AreSyncs n synced syncs → DiskSyncLaws n synced syncs }
+    ensures synced { SyncedHasNoOther }
 {}
 
 /// A file that no write is of is in a cut as it was, and one that there is in no crash state is not in it.

@@ -81,6 +81,24 @@ fn another_label_is_not_written_over(rt: HostRuntime) -> Result<(), Fail> {
 }
 
 #[test]
+fn a_disk_reveals_when_it_was_settled(rt: HostRuntime) -> Result<(), Fail> {
+    let mut disk = two_pages(rt.alloc(), &[4])?;
+    assert_eq!(rt; disk.sync(), Ok(()));
+    assert_eq!(rt; disk.sync(), Ok(()));
+    let mut page = [0; 512];
+    assert_eq!(rt; disk.read(2, &mut page), Ok(TARGET));
+    assert_eq!(rt; disk.write(3, &TARGET, &page), Err(DiskError::Failed));
+    assert_eq!(rt; disk.syncs().len(), 2);
+    disk.write(3, &TARGET, &page)?;
+    assert_eq!(rt; disk.sync(), Ok(()));
+    let [first, second, third] = disk.syncs() else {
+        return Err(Fail::from("not three settles"));
+    };
+    assert_eq!(rt; [*first, *second, *third], [0, 2, 3]);
+    Ok(())
+}
+
+#[test]
 fn a_sector_comes_back_from_a_disk_in_memory(rt: HostRuntime) {
     let back = through_memory(rt.alloc(), TARGET, &[7; 512]);
     assert_eq!(rt; back, Ok((TARGET, [7; 512])));

@@ -1,5 +1,5 @@
 -- What the intervals of a reference's pages make of it.
-use Rattle.std.proofs.Common.{◌≡◌, ◌≢◌, ℕ, ◌/◌, Bool, true, false, List, Some, Option, refl, sym, ◌∙◌, ap, subst, arith}
+use Rattle.std.proofs.Common.{◌≡◌, ℕ, ◌/◌, Bool, true, false, List, Some, Option, refl, sym, ◌∙◌, ap, subst, arith}
 use Rattle.std.specs.Prelude.{slice_get, IfSome, find, None, is_none, if◌then◌else◌, ◌==◌, ◌&&◌, option_map, option_and_then}
 use Rattle.std.proofs.lemmas.Bool.{true≢false}
 use Rattle.std.proofs.lemmas.Bool.Decides.{nat_tests}
@@ -13,6 +13,7 @@ use Rattle.flat_machine.specs.Space.{holds, mapped_at, is_mapped}
 use Rattle.flat_machine.specs.At.{shown_at, page_through, one_or_two, pages_of}
 use Rattle.flat_machine.specs.Refusal.{is_read_only}
 use Rattle.swap_units.specs.declared.interval.Interval.{Interval}
+use Rattle.swap_units.specs.Mode as mode
 use Rattle.swap_units.specs.Unit.{Holds}
 use Rattle.space_tables.specs.SpaceTables.{IsIntervalAt}
 use Rattle.space_tables.specs.Stored.{RevealSpaces}
@@ -157,9 +158,9 @@ shown_some P (reference.NoMap page) x y is p = tt
 shown_some P (reference.ReadOnly page) x y is p = tt
 
 -- an interval that a look-up gave
-pub shows_of : (o : Option Interval) (x : Interval) (page : ℕ) → o ≡ Some x → IfSome o (λ x. IsFormed x × Holds x page × (x.mode ≢ 0)) → Shows x page
+pub shows_of : (o : Option Interval) (x : Interval) (page : ℕ) → o ≡ Some x → IfSome o (λ x. IsFormed x × Holds x page × (mode.is_mapped x.mode ≡ true)) → Shows x page
 shows_of o x page is form =
-    let own = subst (λ (o : Option Interval). IfSome o (λ x. IsFormed x × Holds x page × (x.mode ≢ 0))) is form in
+    let own = subst (λ (o : Option Interval). IfSome o (λ x. IsFormed x × Holds x page × (mode.is_mapped x.mode ≡ true))) is form in
     record { formed = own.0; holds = own.1; mapped = own.2 }
 
 pub some_shows : (o : Option Interval) (y : Interval) (page : ℕ) → o ≡ Some y → IfSome o (λ y. Shows y page) → Shows y page

@@ -118,7 +118,7 @@ module _ (v w : View) (is : IsLayout v.layout) {pages : Pages} (h : Touches page
   module _ (breaks broke : ℕ → Type 0) (earlier : (page : ℕ) → breaks page → broke page) (may : Pages) where
     evidence_before : (e : Evidence) → FindEvidence breaks may w e → FindEvidence broke may v e
     evidence_before (Mismatch sector wanted found) g = record { there = label_before h.goes.makes.wrote sector found g.there; other = g.other; reason = reason_before _ g.reason }
-    evidence_before (Malformed window page) g = elim g [
+    evidence_before (Malformed structure page) g = elim g [
       | inl (second, broken) ↦ inl (second, broken_before page (subst (λ (l : Layout). IsBroken l.sectors (MapShows l w.disk w.slots) page) h.layout broken))
       | inr (third, broken) ↦ inr (third, earlier page broken)
     ]

@@ -14,7 +14,7 @@ use Rattle.fault_core.specs.View.{View}
 -- the homes that are reached lie where the layout lets them be
 reached_so : (breaks : ℕ → Type 0) (v : View) → Fits v.layout v.disk v.slots → (e : Evidence) → FindEvidence breaks MayBeMissing v e → IsEvident v.disk e
 reached_so breaks v is_fit (Mismatch sector wanted found) is = other_so is_fit _ (held_or_file is_fit (IsReachedHome v) (λ home one. one.on_data)) sector wanted found is
-reached_so breaks v is_fit (Malformed window page) is = elim is [ inl map ↦ inl map.0 | inr tables ↦ inr tables.0 ]
+reached_so breaks v is_fit (Malformed structure page) is = elim is [ inl map ↦ inl map.0 | inr tables ↦ inr tables.0 ]
 reached_so breaks v is_fit (Missing id page) is = is.0
 
 -- what the evidence of a halt says is so where the call left the labels

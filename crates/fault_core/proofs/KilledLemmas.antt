@@ -1,5 +1,5 @@
 -- The pages of an interval that are given up are those that a kill gives up.
-use Rattle.std.proofs.Common.{◌≡◌, ◌≢◌, ◌≤◌, ◌<◌, ℕ, ◌+◌, ◌-◌, Bool, true, false, List, Some, Option, refl, sym, ◌∙◌, ap, subst, arith}
+use Rattle.std.proofs.Common.{◌≡◌, ◌≤◌, ◌<◌, ℕ, ◌+◌, ◌-◌, Bool, true, false, List, Some, Option, refl, sym, ◌∙◌, ap, subst, arith}
 use Rattle.std.specs.Prelude.{None, ◌&&◌, ◌==◌, not, if◌then◌else◌, option_map, option_and_then}
 use Rattle.std.specs.Option.{option_map_or}
 use Rattle.std.proofs.lemmas.Bool.{true≢false, ne_eqb}
@@ -19,6 +19,9 @@ use Rattle.flat_machine.specs.Refusal.{is_read_only}
 use Rattle.flat_machine.specs.Next.{is_writable_within, shows_within}
 use Rattle.flat_machine.proofs.Lists.{find_in, in_any}
 use Rattle.swap_units.specs.declared.interval.Interval.{Interval}
+use Rattle.swap_units.specs.declared.mode.Mode.{Mode}
+use Rattle.swap_units.specs.declared.mode.Mode.TheVariants.{Unmapped, Mapped}
+use Rattle.swap_units.specs.Mode as mode
 use Rattle.swap_units.specs.Unit.{Holds}
 use Rattle.swapper_kernel.specs.Differs.{Differs}
 use Rattle.swapper_kernel.specs.DiffersLaws.{differs_wider}
@@ -77,8 +80,20 @@ module _ (ss : List Space) (range : Space) (p : ℕ) (u : FilePage) (in_range : 
 
 -- ---- Pages of an interval.
 
-pub stores_of : (x : Interval) → may_store x ≡ true → (x.mode ≢ 0) × (is_load_only x ≡ false)
-stores_of x may = (λ zero. grind (arith, nat_tests, may, zero), grind (arith, nat_tests, may))
+pub stores_of : (x : Interval) → may_store x ≡ true → (mode.is_mapped x.mode ≡ true) × (is_load_only x ≡ false)
+stores_of x may = by x.mode may
+  where
+    by : (m : Mode) → mode.is_writable m ≡ true → (mode.is_mapped m ≡ true) × (mode.is_read_only m ≡ false)
+    by Unmapped e = absurd (true≢false (sym e))
+    by (Mapped writable anonymous) e = (refl, ap not e)
+
+-- it is unmapped, or may be loaded only
+kept_of : (x : Interval) → may_store x ≡ false → mode.is_mapped x.mode ≡ true → is_load_only x ≡ true
+kept_of x bare mapped = by x.mode bare mapped
+  where
+    by : (m : Mode) → mode.is_writable m ≡ false → mode.is_mapped m ≡ true → mode.is_read_only m ≡ true
+    by Unmapped w e = absurd (true≢false (sym e))
+    by (Mapped writable anonymous) w e = ap not w
 
 -- the label of a sector of a file's page
 file_kind : (n k : ℕ) (l : Label) → first_data n ≤ k → is_file_id l.id ≡ true → names l (record { id = l.id; page = l.page }) ≡ true → kind_of n k l ≡ a_file
@@ -94,12 +109,12 @@ module _ {v : View} {kept : List Interval} {count : ℕ} {m : List Sector} {name
   part_kept evidence_seen bare p from below u shown writable =
       let first = here.0 in
       let held : Holds x p = (omega (arith, first, from), omega (arith, inside, below)) in
-      by (x.mode == 0) refl held
+      by (mode.is_mapped x.mode) refl held
     where
-      by : (b : Bool) → (x.mode == 0) ≡ b → Holds x p → evidence_seen u.file u.page
-      by true e held = absurd (none-some u (sym (shown_none t.tables x of p held (grind (arith, nat_tests, e))) ∙ shown))
-      by false e held =
-          let only : is_load_only x ≡ true = grind (arith, nat_tests, bare, e) in
+      by : (b : Bool) → mode.is_mapped x.mode ≡ b → Holds x p → evidence_seen u.file u.page
+      by false e held = absurd (none-some u (sym (shown_none t.tables x of p held e) ∙ shown))
+      by true e held =
+          let only : is_load_only x ≡ true = kept_of x bare e in
           absurd (true≢false (sym only ∙ sym (reveals_page t.tables x of p held).read_only ∙ writable))
 
   pub part_stored : (evidence_seen : Pages) → may_store x ≡ true → ((p : ℕ) → page ≤ p → p < next → evidence_seen x.id (file_page x p)) → AreWritableSo evidence_seen ss page next

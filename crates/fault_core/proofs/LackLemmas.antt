@@ -1,5 +1,5 @@
 -- Which page of a client's file was found to have no sector.
-use Rattle.std.proofs.Common.{◌≡◌, ◌≢◌, ◌⊎◌, inl, inr, ℕ, ◌+◌, ◌-◌, ◌<◌, List, sym, ◌∙◌, arith}
+use Rattle.std.proofs.Common.{◌≡◌, ◌⊎◌, true, inl, inr, ℕ, ◌+◌, ◌-◌, ◌<◌, List, sym, ◌∙◌, arith}
 use Rattle.labelled_disk.specs.declared.evidence.Evidence.TheVariants.{Mismatch, Malformed, Missing}
 use Rattle.labelled_disk.specs.declared.evidence.Halt.{Halt}
 use Rattle.labelled_disk.specs.declared.evidence.Halt.TheVariants.{Disk, Damaged}
@@ -7,6 +7,7 @@ use Rattle.labelled_disk.specs.State.{DiskState}
 use Rattle.frame_pool.specs.Frames.{Slots}
 use Rattle.flat_machine.specs.declared.space.Space.{Space}
 use Rattle.swap_units.specs.declared.interval.Interval.{Interval}
+use Rattle.swap_units.specs.Mode.{is_mapped}
 use Rattle.swapper_kernel.specs.Goes.{Pages}
 use Rattle.swapper_kernel.specs.Halts.{Halts}
 use Rattle.swapper_kernel.specs.Homes.{Homes}
@@ -24,7 +25,7 @@ use Rattle.fault_core.proofs.RevealedLemmas.{interval_at}
 pub misses_wider : (pages more : Pages) → ((id page : ℕ) → pages id page → more id page) → (e : Halt) → MissesPage pages e → MissesPage more e
 misses_wider pages more too Disk h = tt
 misses_wider pages more too (Damaged (Mismatch sector wanted found)) h = tt
-misses_wider pages more too (Damaged (Malformed window broken)) h = tt
+misses_wider pages more too (Damaged (Malformed structure broken)) h = tt
 misses_wider pages more too (Damaged (Missing id page)) h = elim h [ inl three ↦ inl three | inr one ↦ inr (too id page one) ]
 
 -- ---- What is asked below.
@@ -32,7 +33,7 @@ misses_wider pages more too (Damaged (Missing id page)) h = elim h [ inl three �
 pub brought_misses : (come : Homes) (old : DiskState) (before : Slots) (new : DiskState) (more : Pages) (e : Halt) → Halts come old before new e → MissesPage more e
 brought_misses come old before new more Disk h = tt
 brought_misses come old before new more (Damaged (Mismatch sector wanted found)) h = tt
-brought_misses come old before new more (Damaged (Malformed window broken)) h = absurd h
+brought_misses come old before new more (Damaged (Malformed structure broken)) h = absurd h
 brought_misses come old before new more (Damaged (Missing id page)) h = absurd h
 
 -- ---- A swap unit.
@@ -51,7 +52,7 @@ module _ {v : View} {kept : List Interval} {count : ℕ} {ss : List Space} (s : 
   pub seen_at : (x : Interval) (page : ℕ) → IsKept kept x → Shows x page → IsIntervalAt ss page x
   seen_at x page one shows = interval_at ss page x (s.cached x one) shows.holds
 
-  pub unit_shown : (x : Interval) (page : ℕ) → IsIntervalAt ss page x → x.mode ≢ 0 → (id number : ℕ) → unit_pages x page id number → shown_unit ss page id number
+  pub unit_shown : (x : Interval) (page : ℕ) → IsIntervalAt ss page x → is_mapped x.mode ≡ true → (id number : ℕ) → unit_pages x page id number → shown_unit ss page id number
   unit_shown x page at mapped id number (other, own, same_id, same_page) =
       let of : IsIntervalOf ss x = record { xs = at.xs; projection = at.projection; index = at.index; there = at.there } in
       (x, at, (other, own, rw (same_id, same_page) (shown_is s.tables x of other own.0 mapped)))

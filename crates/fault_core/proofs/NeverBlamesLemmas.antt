@@ -6,6 +6,7 @@ use Rattle.std.proofs.lemmas.Bool.{true≢false, leb-true, and_from}
 use Rattle.std.proofs.lemmas.Bool.Decides.{nat_tests}
 use Rattle.std.proofs.lemmas.Option.{slice_get_within}
 use Rattle.labelled_disk.specs.declared.evidence.Evidence.TheVariants.{Mismatch, Malformed, Missing}
+use Rattle.labelled_disk.specs.StructureLaws.{map_or_tables}
 use Rattle.labelled_disk.specs.declared.evidence.Halt.{Halt}
 use Rattle.labelled_disk.specs.declared.evidence.Halt.TheVariants.{Disk, Damaged}
 use Rattle.flat_mem.specs.Memory.{part}
@@ -23,7 +24,7 @@ use Rattle.projection_laws.proofs.Finds.{firsts_are_ascending, last_holds}
 use Rattle.projection_laws.proofs.Keys.{key_order}
 use Rattle.space_tables.specs.Form.{Breaks, BreaksHierarchy, BreaksInterval, BreaksLookUp, BreaksSlot, BeginsAfter, Misses, in_form, interval_record, is_interval_record, is_slot_record, key_in, slot_record}
 use Rattle.space_tables.specs.Stored.{AreTables, IsReadable, RevealSpaces}
-use Rattle.space_tables.proofs.ReadBack.{get_or_at, slot_read, there}
+use Rattle.space_tables.proofs.ReadBack.{get_or_at, has_mode, slot_read, there}
 use Rattle.space_tables.proofs.Right.{right_reads}
 use Rattle.swapper_kernel.specs.Goes.{Pages}
 use Rattle.fault_core.specs.Access.{BreaksFor}
@@ -37,7 +38,7 @@ use Rattle.fault_core.specs.Touch.{Touches}
 use Rattle.fault_core.specs.View.{View, TablesAre}
 
 plain_record : (x : Interval) → in_form x ≡ true → interval_in (bytes_of x) ≡ x → is_interval_record (bytes_of x) ≡ true
-plain_record x form back = and_from _ _ (ap in_form back ∙ form) refl
+plain_record x form back = and_from _ _ (and_from _ _ (has_mode x.mode) (ap in_form back ∙ form)) refl
 
 key_at_record : (b : List ℕ) (k : ℕ) → take 4 (interval_record b k) ≡ key_in b k
 key_at_record b k = let at : 32 * (512 + k) + 0 ≡ 32 * (512 + k) = omega arith in part-part b (32 * (512 + k)) 32 0 4 (omega arith) ∙ ap (λ (n : ℕ). part b n 4) at
@@ -139,8 +140,8 @@ module _ {v : View} {b : List ℕ} (revealed : TablesAre v b) where
   pub touch_never_blames : (breaks : ℕ → Type 0) → ((page : ℕ) → breaks page → ⊥) → (w : View) (e : Halt) → TouchHalts breaks v w e → NeverBlamesTables e
   touch_never_blames breaks none w Disk h = tt
   touch_never_blames breaks none w (Damaged (Mismatch sector wanted found)) h = tt
-  touch_never_blames breaks none w (Damaged (Malformed window page)) h = λ three. elim h [
-    | inl map ↦ let two = map.0 in absurd (omega (arith, two, three))
+  touch_never_blames breaks none w (Damaged (Malformed structure page)) h = λ three. elim h [
+    | inl map ↦ absurd (map_or_tables structure map.0 three)
     | inr table ↦ none page table.1
   ]
   touch_never_blames breaks none w (Damaged (Missing id page)) h = λ three. elim h.0 [

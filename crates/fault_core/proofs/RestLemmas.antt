@@ -1,5 +1,5 @@
 -- Frames that are flushed or evicted, and stay so.
-use Rattle.std.proofs.Common.{◌≡◌, ◌≢◌, ◌⊎◌, inl, inr, ℕ, ◌+◌, ◌-◌, ◌<◌, ◌≤◌, Bool, true, false, List, [], ◌∷◌, length, refl, sym, ◌∙◌, ap, subst, arith}
+use Rattle.std.proofs.Common.{◌≡◌, ◌⊎◌, inl, inr, ℕ, ◌+◌, ◌-◌, ◌<◌, ◌≤◌, Bool, true, false, List, [], ◌∷◌, length, refl, sym, ◌∙◌, ap, subst, arith}
 use Rattle.std.specs.Prelude.{if◌then◌else◌, min}
 use Rattle.std.proofs.lemmas.Bool.{cases_lt}
 use Rattle.std.proofs.lemmas.Option.{same_Some, none-some}
@@ -12,6 +12,7 @@ use Rattle.flat_machine.specs.declared.space.Space.{Space}
 use Rattle.flat_machine.specs.declared.space.FilePage.{FilePage}
 use Rattle.flat_machine.specs.Space.{root_pages}
 use Rattle.swap_units.specs.declared.interval.Interval.{Interval}
+use Rattle.swap_units.specs.Mode.{is_mapped}
 use Rattle.swap_units.specs.Unit.{Holds}
 use Rattle.swapper_kernel.specs.Goes.{Swaps}
 use Rattle.swapper_kernel.specs.HaltLaws.{brings_same}
@@ -76,13 +77,13 @@ module _ {reveals : List ℕ → Type 0} {count : ℕ} {ss : List Space} (t : Re
   none_written_back past p u above below is = absurd (none-some u (sym (none_past t p (omega (arith, past, above))) ∙ is))
 
   module _ (x : Interval) (of : IsIntervalOf ss x) (holds : Holds x page) (inside : next ≤ x.first + x.pages) where
-    pub bare_written_back : x.mode ≡ 0 → AreWrittenBack write_back ss s page next
+    pub bare_written_back : is_mapped x.mode ≡ false → AreWrittenBack write_back ss s page next
     bare_written_back bare p u above below is =
         let from = holds.0 in
         let held : Holds x p = (omega (arith, from, above), omega (arith, below, inside)) in
         absurd (none-some u (sym (shown_none t x of p held bare) ∙ is))
 
-    pub run_written_back : x.mode ≢ 0 → ((q : ℕ) → file_page x page ≤ q → q < file_page x page + (next - page) → IsWrittenBack write_back s x.id q) → AreWrittenBack write_back ss s page next
+    pub run_written_back : is_mapped x.mode ≡ true → ((q : ℕ) → file_page x page ≤ q → q < file_page x page + (next - page) → IsWrittenBack write_back s x.id q) → AreWrittenBack write_back ss s page next
     run_written_back mapped rest p u above below is =
         let from = holds.0 in
         let held : Holds x p = (omega (arith, from, above), omega (arith, below, inside)) in

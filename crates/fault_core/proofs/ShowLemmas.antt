@@ -1,6 +1,6 @@
 -- What an interval of the projection says of the windows.
-use Rattle.std.proofs.Common.{◌≡◌, ◌≢◌, ◌⊎◌, inl, inr, ◌≤◌, ◌<◌, ℕ, zero, suc, ◌+◌, ◌-◌, Bool, true, false, List, [], ◌∷◌, Some, Option, refl, sym, ◌∙◌, ap, subst, arith}
-use Rattle.std.specs.Prelude.{slice_get, None, if◌then◌else◌, ◌&&◌, ◌==◌, option_map, option_and_then}
+use Rattle.std.proofs.Common.{◌≡◌, ◌⊎◌, inl, inr, ◌≤◌, ◌<◌, ℕ, zero, suc, ◌+◌, ◌-◌, Bool, true, false, List, [], ◌∷◌, Some, Option, refl, sym, ◌∙◌, ap, subst, arith}
+use Rattle.std.specs.Prelude.{slice_get, None, if◌then◌else◌, ◌&&◌, option_map, option_and_then}
 use Rattle.std.specs.List.{list_any}
 use Rattle.std.proofs.lemmas.Bool.Decides.{nat_tests}
 use Rattle.std.proofs.lemmas.Option.{same_Some, none-some}
@@ -14,6 +14,7 @@ use Rattle.flat_machine.specs.At.{shown_at, page_through}
 use Rattle.flat_machine.proofs.Lists.{find_in}
 use Rattle.projection_laws.proofs.Inside.{in_the_root}
 use Rattle.swap_units.specs.declared.interval.Interval.{Interval}
+use Rattle.swap_units.specs.Mode as mode
 use Rattle.swap_units.specs.Unit.{Holds}
 use Rattle.projection_laws.specs.Laws.{Reveals}
 use Rattle.projection_laws.specs.Spaces.{AreSpaces}
@@ -29,22 +30,19 @@ use Rattle.fault_core.specs.Unit.{file_page, AreShownStored, IsOfInterval, Bring
 use Rattle.fault_core.specs.Moves.{AreSeen}
 use Rattle.fault_core.proofs.KeptLemmas.{find_is}
 
-mode_test : (n : ℕ) → n ≢ 0 → (n == 0) ≡ false
-mode_test n some = grind (arith, nat_tests, some)
-
 module _ {reveals : List ℕ → Type 0} {count : ℕ} {ss : List Space} (t : RevealSpaces reveals count ss) (x : Interval) (of : IsIntervalOf ss x) where
   pub reveals_page : (page : ℕ) → Holds x page → Reveals ss x page
   reveals_page page held = intervals_reveal ss of.xs of.index page x (subst AreSpaces t.spaces t.right.spaces) of.projection of.there held
 
   -- where the interval is mapped, the page that is shown
-  pub shown_is : (page : ℕ) → Holds x page → x.mode ≢ 0 → shown_at ss page ≡ Some (record { file = x.id; page = file_page x page })
-  shown_is page held mapped = (reveals_page page held).shown ∙ ap (λ (b : Bool). if b then None else Some (record { file = x.id; page = file_page x page })) (mode_test x.mode mapped)
+  pub shown_is : (page : ℕ) → Holds x page → mode.is_mapped x.mode ≡ true → shown_at ss page ≡ Some (record { file = x.id; page = file_page x page })
+  shown_is page held mapped = (reveals_page page held).shown ∙ ap (λ (b : Bool). if b then Some (record { file = x.id; page = file_page x page }) else None) mapped
 
   -- where it isn't, none is
-  pub shown_none : (page : ℕ) → Holds x page → x.mode ≡ 0 → shown_at ss page ≡ None
-  shown_none page held bare = (reveals_page page held).shown ∙ ap (λ (b : Bool). if b then None else Some (record { file = x.id; page = file_page x page })) (ap (λ (n : ℕ). n == 0) bare)
+  pub shown_none : (page : ℕ) → Holds x page → mode.is_mapped x.mode ≡ false → shown_at ss page ≡ None
+  shown_none page held bare = (reveals_page page held).shown ∙ ap (λ (b : Bool). if b then Some (record { file = x.id; page = file_page x page }) else None) bare
 
-  pub all_stored : (named : Triples) (m : List Sector) → AreStored named m ss → x.mode ≢ 0 → AreShownStored named m x
+  pub all_stored : (named : Triples) (m : List Sector) → AreStored named m ss → mode.is_mapped x.mode ≡ true → AreShownStored named m x
   all_stored named m stored mapped other held = stored other _ (shown_is other held mapped)
 
 -- ---- Pages that are shown are shown by some window.
@@ -82,7 +80,7 @@ shown_known ss page u is = by (mapped_at ss page) refl
         any_of (shows u.file u.page) ss found.0 s found.1 (through s page u held (sym (ap (λ (o : Option Space). option_and_then (λ s. option_map (λ w. page_through s w page) s.window) o) e) ∙ is))
 
 -- pages that an interval shows are pages that a window shows
-pub known_came : {reveals : List ℕ → Type 0} {count : ℕ} {ss : List Space} → RevealSpaces reveals count ss → (x : Interval) → IsIntervalOf ss x → x.mode ≢ 0 → (s t : Slots) → BringsShown x s t → BringsKnown ss s t
+pub known_came : {reveals : List ℕ → Type 0} {count : ℕ} {ss : List Space} → RevealSpaces reveals count ss → (x : Interval) → IsIntervalOf ss x → mode.is_mapped x.mode ≡ true → (s t : Slots) → BringsShown x s t → BringsKnown ss s t
 known_came {ss = ss} revealed x of mapped s t brings = brings_wider (λ home. IsKnown ss home.id home.page) (λ home come. elim come [
   | inl own ↦ inl own
   | inr shown ↦ inr (rw (shown.same_id, shown.same_page) (shown_known ss shown.page (record { file = x.id; page = file_page x shown.page }) (shown_is revealed x of shown.page shown.holds mapped)))
@@ -101,7 +99,7 @@ module _ (x y : Interval) (s t : Slots) where
   pub came_last : BringsShown y s t → BringsBoth x y s t
   came_last brings = brings_wider (λ home. ((1 ≤ home.id) × (home.id ≤ 3)) ⊎ (IsOfInterval x home ⊎ IsOfInterval y home)) (λ home come. elim come [ inl own ↦ inl own | inr shown ↦ inr (inr shown) ]) brings
 
-pub seen_of : {reveals : List ℕ → Type 0} {count : ℕ} {ss : List Space} → RevealSpaces reveals count ss → (x : Interval) → IsIntervalOf ss x → x.mode ≢ 0 → (named : Triples) (m : List Sector) → AreStored named m ss → AreSeen ss named m x
+pub seen_of : {reveals : List ℕ → Type 0} {count : ℕ} {ss : List Space} → RevealSpaces reveals count ss → (x : Interval) → IsIntervalOf ss x → mode.is_mapped x.mode ≡ true → (named : Triples) (m : List Sector) → AreStored named m ss → AreSeen ss named m x
 seen_of revealed x of mapped named m stored = record { shown = λ page held. shown_is revealed x of page held mapped; stored = all_stored revealed x of named m stored mapped }
 
 seen_home : (ss : List Space) (named : Triples) (m : List Sector) (x : Interval) → AreSeen ss named m x → (home : Home) → IsOfInterval x home → is_shown ss home.id home.page ≡ true

@@ -63,7 +63,7 @@ tables_halt v w breaks e accounted = wider e accounted.cause
     wider : (e : Halt) → FoundHalts v.layout v.disk v.slots (kept_by v) w.disk e → ReachHalts breaks v w e
     wider Disk h = h
     wider (Damaged (Mismatch sector wanted found)) h = record { there = h.there; other = h.other; reason = elim h.reason [ inl held ↦ inl held | inr home ↦ inr (found_reached v _ home) ] }
-    wider (Damaged (Malformed window page)) h = inl h
+    wider (Damaged (Malformed structure page)) h = inl h
     wider (Damaged (Missing id page)) h = ((h.0, h.1), h.2)
 
 -- ---- The map.
@@ -84,7 +84,7 @@ own_map v w beside = brings_wider (λ home. (1 ≤ home.id) × (home.id ≤ 3)) 
 pub map_halt : (v w : View) (breaks : ℕ → Type 0) (e : Halt) → MapHalts v.layout v.disk v.slots w.disk e → ReachHalts breaks v w e
 map_halt v w breaks Disk h = h
 map_halt v w breaks (Damaged (Mismatch sector wanted found)) h = record { there = h.there; other = h.other; reason = inl h.reason }
-map_halt v w breaks (Damaged (Malformed window page)) h = inl h
+map_halt v w breaks (Damaged (Malformed structure page)) h = inl h
 map_halt v w breaks (Damaged (Missing id page)) h = absurd h
 
 -- ---- Pages brought in, after others.
@@ -118,5 +118,5 @@ module _ (v w x : View) (is : IsLayout v.layout) (h : Reaches v w) (come : Homes
   pub brought_halt : (e : Halt) → Halts come w.disk w.slots x.disk e → ReachHalts no_break v x e
   brought_halt Disk is = rose_wider v.disk.faults w.disk.faults x.disk.faults x.disk.faults h.goes.makes.went.faults (omega arith) is
   brought_halt (Damaged (Mismatch sector wanted label)) is = record { there = label_before h.goes.makes.wrote sector label is.there; other = is.other; reason = reason_brought _ is.reason }
-  brought_halt (Damaged (Malformed window page)) is = absurd is
+  brought_halt (Damaged (Malformed structure page)) is = absurd is
   brought_halt (Damaged (Missing id page)) is = absurd is

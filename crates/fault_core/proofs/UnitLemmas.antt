@@ -1,16 +1,17 @@
 -- The swap unit of a page as a run of a file's pages, and what is resident of it.
-use Rattle.std.proofs.Common.{◌≡◌, ◌≢◌, ◌⊎◌, inl, inr, ℕ, ◌+◌, ◌-◌, ◌<◌, ◌≤◌, List, refl, sym, ◌∙◌, subst, arith}
+use Rattle.std.proofs.Common.{◌≡◌, ◌⊎◌, true, inl, inr, ℕ, ◌+◌, ◌-◌, ◌<◌, ◌≤◌, List, refl, sym, ◌∙◌, subst, arith}
 use Rattle.labelled_disk.specs.Sectors.{Sector}
 use Rattle.frame_pool.specs.Frames.{Slots}
 use Rattle.file_map.specs.FileMap.{Triples}
 use Rattle.swap_units.specs.declared.interval.Interval.{Interval}
+use Rattle.swap_units.specs.Mode.{is_mapped}
 use Rattle.swap_units.specs.Unit.{Holds, IsUnit, IsAmong, LiesIn}
 use Rattle.swapper_kernel.specs.HaltLaws.{brings_wider}
 use Rattle.fault_core.specs.Kept.{IsFormed}
 use Rattle.fault_core.specs.Revealed.{IsStored}
 use Rattle.fault_core.specs.Unit.{InUnit, IsResident, AreResident, IsWhole, IsUnitRun, AreShownStored, AreRunStored, BringsRun, BringsShown, IsOfInterval}
 
-pub unit_run_is : (x : Interval) (page : ℕ) (run : ℕ × ℕ) → IsFormed x → Holds x page → x.mode ≢ 0 → IsUnit x page run → IsAmong run page → LiesIn x run → run.1 ≤ x.unit
+pub unit_run_is : (x : Interval) (page : ℕ) (run : ℕ × ℕ) → IsFormed x → Holds x page → is_mapped x.mode ≡ true → IsUnit x page run → IsAmong run page → LiesIn x run → run.1 ≤ x.unit
     → IsUnitRun x page (x.page + (run.0 - x.first), run.1)
 unit_run_is x page run formed holds mapped unit among lies size =
     let fits = (formed.shows mapped).1 in

@@ -1,5 +1,5 @@
 -- What an interval shows of a range, and what is resident of it.
-use Rattle.std.proofs.Common.{◌≡◌, ◌≢◌, inl, inr, ℕ, ◌+◌, ◌<◌, ◌≤◌, List, Some, sym, ◌∙◌, ap, subst, refl, arith}
+use Rattle.std.proofs.Common.{◌≡◌, true, false, inl, inr, ℕ, ◌+◌, ◌<◌, ◌≤◌, List, Some, sym, ◌∙◌, ap, subst, refl, arith}
 use Rattle.std.specs.Prelude.{slice_get}
 use Rattle.std.proofs.lemmas.Bool.{cases_eq, cases_lt}
 use Rattle.std.proofs.lemmas.Option.{none-some, same_Some}
@@ -9,6 +9,7 @@ use Rattle.frame_pool.specs.Frames.{Slots, IsEmpty}
 use Rattle.flat_machine.specs.declared.space.Space.{Space}
 use Rattle.flat_machine.specs.Space.{root_pages}
 use Rattle.swap_units.specs.declared.interval.Interval.{Interval}
+use Rattle.swap_units.specs.Mode.{is_mapped}
 use Rattle.swap_units.specs.Unit.{Holds, block_of}
 use Rattle.projection_laws.proofs.Finds.{firsts_are_ascending}
 use Rattle.projection_laws.proofs.OneLemmas.{intervals_are_one}
@@ -24,10 +25,10 @@ use Rattle.fault_core.proofs.RevealedLemmas.{interval_at, interval_of}
 
 -- ---- What one interval shows.
 
-pub shown_here : {reveals : List ℕ → Type 0} {count : ℕ} {ss : List Space} (t : RevealSpaces reveals count ss) (x : Interval) (page : ℕ) → IsIntervalAt ss page x → x.mode ≢ 0 → IsShownAt ss page
+pub shown_here : {reveals : List ℕ → Type 0} {count : ℕ} {ss : List Space} (t : RevealSpaces reveals count ss) (x : Interval) (page : ℕ) → IsIntervalAt ss page x → is_mapped x.mode ≡ true → IsShownAt ss page
 shown_here {ss = ss} t x page at mapped = (record { file = x.id; page = file_page x page }, shown_is t x (interval_of ss page x at) page at.holds mapped)
 
-pub bare_here : {reveals : List ℕ → Type 0} {count : ℕ} {ss : List Space} (t : RevealSpaces reveals count ss) (x : Interval) (page next : ℕ) → IsIntervalAt ss page x → next ≤ x.first + x.pages → x.mode ≡ 0 → AreBare ss page next
+pub bare_here : {reveals : List ℕ → Type 0} {count : ℕ} {ss : List Space} (t : RevealSpaces reveals count ss) (x : Interval) (page next : ℕ) → IsIntervalAt ss page x → next ≤ x.first + x.pages → is_mapped x.mode ≡ false → AreBare ss page next
 bare_here {ss = ss} t x page next at inside bare p from below =
     let low = at.holds.0 in
     shown_none t x (interval_of ss page x at) p (omega (arith, low, from), omega (arith, below, inside)) bare

@@ -1,10 +1,11 @@
 -- What a reference of some bytes comes to, by the projection.
-use Rattle.std.specs.Prelude.{◌≡◌, ◌≢◌, ℕ, ◌+◌, ◌-◌, ◌/◌, Bool, ◌||◌, ◌==◌, if◌then◌else◌, List, Option, Some, None, is_none, find, slice_get}
+use Rattle.std.specs.Prelude.{◌≡◌, ℕ, ◌+◌, ◌-◌, ◌/◌, Bool, true, if◌then◌else◌, List, Option, Some, None, is_none, find, slice_get}
 use Rattle.flat_machine.specs.declared.space.Space.{Space}
 use Rattle.flat_machine.specs.Space.{mapped_at}
 use Rattle.flat_machine.specs.At.{pages_of}
 use Rattle.flat_machine.specs.Refusal.{is_read_only}
 use Rattle.swap_units.specs.declared.interval.Interval.{Interval}
+use Rattle.swap_units.specs.Mode as mode
 use Rattle.swap_units.specs.Unit.{Holds}
 use Rattle.fault_core.specs.declared.reference.Access.{Access}
 use Rattle.fault_core.specs.declared.reference.Access.TheVariants as access
@@ -45,11 +46,11 @@ last_page address count = (address + count - 1) / 512
 pub record Shows (x : Interval) (page : ℕ) : Type 0 where
   pub formed : IsFormed x
   pub holds : Holds x page
-  pub mapped : x.mode ≢ 0
+  pub mapped : mode.is_mapped x.mode ≡ true
 
 -- the interval's pages may be loaded only
 abbrev pub is_load_only : Interval → Bool
-is_load_only x = x.mode == 1 || x.mode == 3
+is_load_only x = mode.is_read_only x.mode
 
 -- a page of the tables breaks its form for the look-up of a page of the reference
 pub record BreaksFor (v : View) (count address bytes page : ℕ) : Type 0 where

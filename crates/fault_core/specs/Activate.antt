@@ -1,10 +1,11 @@
 -- What of a range is brought in before it is asked for.
-use Rattle.std.specs.Prelude.{◌≡◌, ◌≢◌, ◌⊎◌, ℕ, zero, suc, ◌+◌, ◌-◌, ◌<◌, ◌≤◌, List, Some, None}
+use Rattle.std.specs.Prelude.{◌≡◌, ◌≢◌, ◌⊎◌, true, ℕ, zero, suc, ◌+◌, ◌-◌, ◌<◌, ◌≤◌, List, Some, None}
 use Rattle.frame_pool.specs.Frames.{Slots, IsEmpty}
 use Rattle.flat_machine.specs.declared.space.Space.{Space}
 use Rattle.flat_machine.specs.declared.space.FilePage.{FilePage}
 use Rattle.flat_machine.specs.At.{shown_at}
 use Rattle.swap_units.specs.declared.interval.Interval.{Interval}
+use Rattle.swap_units.specs.Mode.{is_mapped}
 use Rattle.swap_units.specs.Unit.{IsUnit}
 use Rattle.space_tables.specs.SpaceTables.{IsIntervalAt}
 use Rattle.fault_core.specs.declared.activate.Progress.{Progress}
@@ -25,7 +26,7 @@ AreBare spaces from to = (page : ℕ) → from ≤ page → page < to → shown_
 pub record IsUnitAt (spaces : List Space) (page after pages : ℕ) : Type 0 where
   pub interval : Interval
   pub projected : IsIntervalAt spaces page interval
-  pub mapped : interval.mode ≢ 0
+  pub mapped : is_mapped interval.mode ≡ true
   pub first : ℕ
   pub unit : IsUnit interval page (first, pages)
   pub ends : after ≡ first + pages
@@ -63,7 +64,7 @@ pub record IsWholeAt (spaces : List Space) (kept : List Interval) (slots : Slots
 
 -- each page from the one up to the other that a window shows is resident, with its whole swap unit
 abbrev pub AreWhole : List Space → Slots → ℕ → ℕ → Type 0
-AreWhole spaces slots from to = (page : ℕ) (x : Interval) → from ≤ page → page < to → IsIntervalAt spaces page x → x.mode ≢ 0 → IsWhole slots x page
+AreWhole spaces slots from to = (page : ℕ) (x : Interval) → from ≤ page → page < to → IsIntervalAt spaces page x → is_mapped x.mode ≡ true → IsWhole slots x page
 
 -- so it is of some page from the one up to the other
 pub record HasWholeUnit (spaces : List Space) (kept : List Interval) (slots : Slots) (from to : ℕ) : Type 0 where

@@ -1,10 +1,11 @@
 -- What comes of a reference that brings in no page of a client.
-use Rattle.std.specs.Prelude.{◌≡◌, ◌≢◌, ◌⊎◌, ℕ, ◌/◌, ◌<◌, ◌≤◌, Bool, List, Some, slice_get}
+use Rattle.std.specs.Prelude.{◌≡◌, ◌⊎◌, true, ℕ, ◌/◌, ◌<◌, ◌≤◌, Bool, List, Some, slice_get}
 use Rattle.frame_pool.specs.Frames.{Slots, HasPage}
 use Rattle.flat_machine.specs.declared.space.Space.{Space}
 use Rattle.flat_machine.specs.declared.space.FilePage.{FilePage}
 use Rattle.flat_machine.specs.At.{shown_at, pages_of}
 use Rattle.swap_units.specs.declared.interval.Interval.{Interval}
+use Rattle.swap_units.specs.Mode.{is_mapped}
 use Rattle.swap_units.specs.Unit.{Holds}
 use Rattle.swapper_kernel.specs.Goes.{Change, Pages}
 use Rattle.fault_core.specs.declared.reference.Access.{Access}
@@ -77,7 +78,7 @@ pub record IsHere (kept : List Interval) (slots : Slots) (page : ℕ) : Type 0 w
   pub interval : Interval
   pub is_kept : IsKept kept interval
   pub holds : Holds interval page
-  pub mapped : interval.mode ≢ 0
+  pub mapped : is_mapped interval.mode ≡ true
   pub resident : IsResident slots interval.id (file_page interval page)
 
 -- ---- Before a byte is moved.

@@ -1,8 +1,10 @@
 -- The intervals that are kept.
-use Rattle.std.specs.Prelude.{◌≡◌, ◌≢◌, ℕ, ◌+◌, ◌^◌, ◌<◌, ◌≤◌, List, Some, find, slice_get}
+use Rattle.std.specs.Prelude.{◌≡◌, ℕ, ◌+◌, ◌^◌, ◌<◌, ◌≤◌, true, List, Some, find, slice_get}
 use Rattle.std.proofs.Math.Nat.{ℕ_set}
 use Rattle.std.specs.Coded.{le_prop}
+use Rattle.flat_machine.specs.Space.{root_pages}
 use Rattle.swap_units.specs.declared.interval.Interval.{Interval}
+use Rattle.swap_units.specs.Mode.{is_mapped}
 use Rattle.swap_units.specs.Unit.{Holds, has_page}
 
 -- the interval is one of these
@@ -12,10 +14,10 @@ IsKept kept x = (k : ℕ) × (slice_get kept k ≡ Some x)
 -- it lies in the root, begins in its innermost space, has a unit size, and what it shows may be shown
 pub record IsFormed (x : Interval) : Type 0 where
   pub some_pages : 1 ≤ x.pages
-  pub in_root : x.first + x.pages ≤ 8126464
+  pub in_root : x.first + x.pages ≤ root_pages
   pub starts : x.start ≤ x.first
   pub unit_fits : (1 ≤ x.unit) × (x.unit ≤ 16)
-  pub shows : x.mode ≢ 0 → (16 ≤ x.id) × (x.page + x.pages ≤ 2 ^ 32)
+  pub shows : is_mapped x.mode ≡ true → (16 ≤ x.id) × (x.page + x.pages ≤ 2 ^ 32)
 
 -- each is so
 abbrev pub AreFormed : List Interval → Type 0

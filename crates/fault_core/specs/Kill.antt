@@ -1,5 +1,5 @@
 -- What is given up of a range of pages of the root.
-use Rattle.std.specs.Prelude.{◌≡◌, ℕ, ◌+◌, ◌-◌, ◌<◌, ◌≤◌, ◌&&◌, ◌==◌, not, Bool, false, nat_le, List, Some}
+use Rattle.std.specs.Prelude.{◌≡◌, ℕ, ◌+◌, ◌-◌, ◌<◌, ◌≤◌, ◌&&◌, Bool, false, nat_le, List, Some}
 use Rattle.labelled_disk.specs.declared.label.Label.{Label}
 use Rattle.labelled_disk.specs.Label.{names}
 use Rattle.labelled_disk.specs.Sectors.{Sector}
@@ -10,9 +10,10 @@ use Rattle.flat_machine.specs.At.{shown_at}
 use Rattle.flat_machine.specs.Refusal.{is_read_only}
 use Rattle.frame_pool.specs.Frames.{Slots}
 use Rattle.swap_units.specs.declared.interval.Interval.{Interval}
+use Rattle.swap_units.specs.Mode.{is_writable}
 use Rattle.swapper_kernel.specs.Differs.{of_run}
 use Rattle.swapper_kernel.specs.Goes.{Change, Pages}
-use Rattle.fault_core.specs.Access.{Shows, is_load_only}
+use Rattle.fault_core.specs.Access.{Shows}
 use Rattle.fault_core.specs.Revealed.{BreaksTables, Revealed}
 use Rattle.fault_core.specs.Unit.{IsResident, file_page}
 use Rattle.fault_core.specs.View.{View}
@@ -46,7 +47,7 @@ AreWritableSo evidence_seen spaces from to = (p : ℕ) → from ≤ p → p < to
 
 -- whether the interval's pages may be stored to
 abbrev pub may_store : Interval → Bool
-may_store x = not (x.mode == 0) && not (is_load_only x)
+may_store x = is_writable x.mode
 
 -- whether a data sector's label names one of the pages that the interval shows from one page on up to another
 abbrev pub of_part : ℕ → Interval → ℕ → ℕ → ℕ → Label → Bool

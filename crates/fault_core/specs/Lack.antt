@@ -19,7 +19,7 @@ use Rattle.fault_core.specs.View.{View, TablesAre}
 abbrev pub MissesPage : Pages → Halt → Type 0
 MissesPage pages Disk = Unit {0}
 MissesPage pages (Damaged (Mismatch sector wanted found)) = Unit {0}
-MissesPage pages (Damaged (Malformed window broken)) = Unit {0}
+MissesPage pages (Damaged (Malformed structure broken)) = Unit {0}
 MissesPage pages (Damaged (Missing id page)) = (id ≡ 3) ⊎ pages id page
 
 -- so many pages of a file, from the first one on

@@ -2,6 +2,7 @@
 use Rattle.std.specs.Prelude.{◌≡◌, ◌⊎◌, ℕ, ◌<◌, ◌≤◌, List, []}
 use Rattle.labelled_disk.specs.declared.evidence.Evidence.{Evidence}
 use Rattle.labelled_disk.specs.declared.evidence.Evidence.TheVariants.{Mismatch, Malformed, Missing}
+use Rattle.labelled_disk.specs.Structure.{IsOfFileMap, IsOfTables}
 use Rattle.labelled_disk.specs.declared.evidence.Halt.{Halt}
 use Rattle.labelled_disk.specs.Sectors.{Sector}
 use Rattle.frame_pool.specs.declared.home.Home.{Home}
@@ -46,7 +47,7 @@ pub record Reaches (v w : View) : Type 0 where
 -- of the space tables, breaks its form; or the map has no sector for a page that may be missing.
 abbrev pub FindEvidence : (ℕ → Type 0) → Pages → View → Evidence → Type 0
 FindEvidence breaks may v (Mismatch sector wanted found) = IsOther (λ home. held_or v.slots (IsMapHome FileMap v.layout) home ⊎ IsReachedHome v home) v.disk sector wanted found
-FindEvidence breaks may v (Malformed window page) = ((window ≡ 2) × IsBroken v.layout.sectors (MapShows v.layout v.disk v.slots) page) ⊎ ((window ≡ 3) × breaks page)
+FindEvidence breaks may v (Malformed structure page) = (IsOfFileMap structure × IsBroken v.layout.sectors (MapShows v.layout v.disk v.slots) page) ⊎ (IsOfTables structure × breaks page)
 FindEvidence breaks may v (Missing id page) = may id page × ((m : List Sector) (named : Triples) → Stands v.disk v.slots m → MapIs v.layout named m → IsNowhere named id page)
 
 -- the halt of a call from the one state to the other

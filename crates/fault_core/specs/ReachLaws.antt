@@ -14,7 +14,7 @@ module _ (breaks : ℕ → Type 0) (v w : View) where
   pub finds_wider : (may more : Pages) → ((id page : ℕ) → may id page → more id page) → (e : Halt) → FindHalts breaks may v w e → FindHalts breaks more v w e
   finds_wider may more too Disk h = h
   finds_wider may more too (Damaged (Mismatch sector wanted found)) h = h
-  finds_wider may more too (Damaged (Malformed window page)) h = h
+  finds_wider may more too (Damaged (Malformed structure page)) h = h
   finds_wider may more too (Damaged (Missing id page)) h = (too id page h.0, h.1)
 
   -- a call that looks for pages of the space tables alone is one that may look for pages of clients' files as well
@@ -25,5 +25,5 @@ module _ (breaks : ℕ → Type 0) (v w : View) where
   pub reach_misses : (more : Pages) (e : Halt) → ReachHalts breaks v w e → MissesPage more e
   reach_misses more Disk h = tt
   reach_misses more (Damaged (Mismatch sector wanted found)) h = tt
-  reach_misses more (Damaged (Malformed window page)) h = tt
+  reach_misses more (Damaged (Malformed structure page)) h = tt
   reach_misses more (Damaged (Missing id page)) h = inl h.0.0

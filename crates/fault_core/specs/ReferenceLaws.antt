@@ -42,7 +42,7 @@ abbrev pub LoadsAreAllowed : Type 0
 LoadsAreAllowed = (x : List Sector) (m : Machine) (address : ℕ) (bytes : List ℕ) → AreSectors x → HasCells but_none x m.files → Loads m.spaces address bytes x
     → AgreesWithCells (cells_at m address (length bytes)) bytes
 
--- what a client is revealed of a reference that came to this
+-- what a client learns of a reference that came to this
 abbrev pub reply_to : Reply → Access → Reply
 reply_to plain Done = plain
 reply_to plain (NoMap page) = reply.Refused (why.NoMap page)

@@ -1,5 +1,5 @@
 -- The swap unit of a page, as pages of the file that an interval shows.
-use Rattle.std.specs.Prelude.{◌≡◌, ◌⊎◌, ◌≢◌, ℕ, ◌+◌, ◌-◌, ◌<◌, ◌≤◌, ◌^◌, List, Some}
+use Rattle.std.specs.Prelude.{◌≡◌, ◌⊎◌, true, ℕ, ◌+◌, ◌-◌, ◌<◌, ◌≤◌, ◌^◌, List, Some}
 use Rattle.labelled_disk.specs.Sectors.{Sector}
 use Rattle.frame_pool.specs.declared.home.Home.{Home}
 use Rattle.frame_pool.specs.Frames.{Slots, HasPage, IsWithin}
@@ -9,6 +9,7 @@ use Rattle.flat_machine.specs.declared.space.Space.{Space}
 use Rattle.flat_machine.specs.declared.space.FilePage.{FilePage}
 use Rattle.flat_machine.specs.At.{shown_at}
 use Rattle.swap_units.specs.declared.interval.Interval.{Interval}
+use Rattle.swap_units.specs.Mode.{is_mapped}
 use Rattle.swap_units.specs.Unit.{Holds, block_of}
 use Rattle.swapper_kernel.specs.Goes.{IsDirty}
 use Rattle.swapper_kernel.specs.Homes.{Brings}
@@ -79,7 +80,7 @@ pub record IsReady (kept : List Interval) (slots : Slots) (page : ℕ) : Type 0 
   pub interval : Interval
   pub is_kept : IsKept kept interval
   pub holds : Holds interval page
-  pub mapped : interval.mode ≢ 0
+  pub mapped : is_mapped interval.mode ≡ true
   pub whole : IsWhole slots interval page
 
 -- that, and the slot has the page

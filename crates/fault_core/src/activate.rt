@@ -69,7 +69,7 @@ impl<D: Disk, A: Allocator> Core<D, A> {
             Ok(part) => part,
             Err(halt) => return Err(halt),
         };
-        if x.mode == 0 {
+        if !x.mode.is_mapped() {
             return Ok((next, 0));
         }
         let (first, pages) = unit_of(&x, page);

@@ -21,15 +21,11 @@ ghost use Rattle.fault_core.specs.Lack.{Sees};
 ghost use Rattle.fault_core.specs.NeverBlames.{NeverBlamesTables};
 
 use crate::Core;
-use crate::walk::ROOT_PAGES;
 use filer_kernel::{Filer, TableMemory};
-use labelled_disk::{Disk, Evidence, Halt};
+use labelled_disk::{Disk, Evidence, Halt, Structure};
 use space_tables::{SpaceError, SpaceTables};
 use std::alloc::Allocator;
-use swap_units::Interval;
-
-/// The window of the space tables, by its number in evidence.
-const TABLES: u8 = 3;
+use swap_units::{Interval, ROOT_PAGES};
 
 // Asks the tables that stand in a filer's space tables.
 fn ask<D: Disk, A: Allocator>(
@@ -81,7 +77,7 @@ fn look_up<D: Disk, A: Allocator>(
     match ask(filer, intervals, page) {
         Ok(found) => Ok(found),
         Err(SpaceError::Malformed { page }) => Err(Halt::Damaged(Evidence::Malformed {
-            window: TABLES,
+            structure: Structure::SpaceTables,
             page,
         })),
         Err(SpaceError::Mem(halt)) => Err(halt),

@@ -35,7 +35,7 @@ use swap_units::Interval;
 fn may_store(x: &Interval) -> bool
     ensures { result ≡ may_store x.now }
 {
-    x.mode != 0 && !(x.mode == 1 || x.mode == 3)
+    x.mode.is_writable()
 }
 
 // Gives up the pages from one on up to another, by the interval that shows them.

@@ -120,7 +120,7 @@ impl<D: Disk, A: Allocator> Core<D, A> {
             Err(halt) => return Err(halt),
         };
         let next = (x.first + x.pages).min(end);
-        if x.mode == 0 {
+        if !x.mode.is_mapped() {
             return Ok(next);
         }
         match write_back_run(

@@ -49,7 +49,7 @@ pub(crate) fn last_page(address: u32, count: u32) -> u32
 fn is_load_only(x: &Interval) -> bool
     ensures { result ≡ is_load_only x.now }
 {
-    x.mode == 1 || x.mode == 3
+    x.mode.is_read_only()
 }
 
 // What the intervals of the first and of the last page make of a reference.

@@ -1,10 +1,11 @@
 //! The interval of a page that a window shows.
-ghost use Rattle.std.specs.Prelude.{◌≡◌, ◌≢◌, ◌↔◌, ◌≤◌, ◌+◌, List, None, IfOk, IfErr, IfSome, IsOk};
+ghost use Rattle.std.specs.Prelude.{◌≡◌, ◌≢◌, ◌↔◌, ◌≤◌, ◌+◌, true, List, None, IfOk, IfErr, IfSome, IsOk};
 ghost use Rattle.labelled_disk.specs.declared.evidence.Halt.TheVariants as halt;
 ghost use Rattle.labelled_disk.specs.Sectors.{Sector};
 ghost use Rattle.file_map.specs.FileMap.{Triples};
 ghost use Rattle.flat_machine.specs.declared.space.Space.{Space};
 ghost use Rattle.flat_machine.specs.At.{shown_at};
+ghost use Rattle.swap_units.specs.Mode.{is_mapped};
 ghost use Rattle.swap_units.specs.Unit.{Holds};
 ghost use Rattle.space_tables.specs.SpaceTables.{IsIntervalAt};
 ghost use Rattle.fault_core.specs.Kept.{IsFormed, IsKept, AreApart};
@@ -25,7 +26,7 @@ impl<D: Disk, A: Allocator> Core<D, A> {
     // The interval that holds a page, where it is mapped.
     pub(crate) fn shown(&mut self, page: u32) -> Result<Option<Interval>, Halt>
         requires size { (D.state self.old.filer.swapper.disk).sectors ≡ self.old.filer.swapper.layout.sectors }
-        ensures form { IfOk result (λ o. IfSome o (λ x. IsFormed x × Holds x page × (x.mode ≢ 0))) }
+        ensures form { IfOk result (λ o. IfSome o (λ x. IsFormed x × Holds x page × (is_mapped x.mode ≡ true))) }
         ensures is_kept { IfOk result (λ o. IfSome o (IsKept (kept self.new))) }
         ensures cause { IfErr result (ReachHalts (BreaksTables (state self.old) self.old.intervals page) (state self.old) (state self.new)) }
         ensures sees { (ss : List Space) → Sees (state self.old) (kept self.old) self.old.intervals ss → Sees (state self.new) (kept self.new) self.new.intervals ss }
@@ -46,7 +47,7 @@ impl<D: Disk, A: Allocator> Core<D, A> {
             Ok(None) => return Ok(None),
             Err(halt) => return Err(halt),
         };
-        if x.mode == 0 {
+        if !x.mode.is_mapped() {
             return Ok(None);
         }
         Ok(Some(x))

@@ -1,9 +1,10 @@
 //! The swap unit of a page as pages in a row of a file, and such pages brought in together.
-ghost use Rattle.std.specs.Prelude.{◌≡◌, ◌≢◌, ◌↔◌, ◌≤◌, ◌<◌, ◌+◌, ◌^◌, ℕ, true, List, length, IfErr, OnOk};
+ghost use Rattle.std.specs.Prelude.{◌≡◌, ◌↔◌, ◌≤◌, ◌<◌, ◌+◌, ◌^◌, ℕ, true, List, length, IfErr, OnOk};
 ghost use Rattle.labelled_disk.specs.declared.evidence.Halt.TheVariants as halt;
 ghost use Rattle.labelled_disk.specs.Sectors.{Sector};
 ghost use Rattle.file_map.specs.FileMap.{Triples};
 ghost use Rattle.frame_pool.specs.Frames.{HasPage};
+ghost use Rattle.swap_units.specs.Mode.{is_mapped};
 ghost use Rattle.swap_units.specs.Unit.{Holds};
 ghost use Rattle.swapper_kernel.specs.Bring.{AreThere};
 ghost use Rattle.swapper_kernel.specs.Goes.{Swaps};
@@ -31,7 +32,7 @@ use swap_units::{Interval, unit_of};
 pub(crate) fn unit_run(x: &Interval, page: u32) -> (u32, u32)
     requires formed { IsFormed x.now }
     requires holds { Holds x.now page }
-    requires mapped { x.now.mode ≢ 0 }
+    requires mapped { is_mapped x.now.mode ≡ true }
     ensures { IsUnitRun x.now page result }
 {
     let (first, pages) = unit_of(x, page);

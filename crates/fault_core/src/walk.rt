@@ -19,10 +19,7 @@ ghost use Rattle.fault_core.specs.Lack.{Sees};
 use crate::Core;
 use labelled_disk::{Disk, Halt};
 use std::alloc::Allocator;
-use swap_units::Interval;
-
-/// The pages of the root.
-pub(crate) const ROOT_PAGES: u32 = 8126464;
+use swap_units::{Interval, ROOT_PAGES};
 
 /// Where so many pages from one on end, or the root does.
 pub(crate) fn end_of(first: u32, pages: u32) -> u32

@@ -54,7 +54,7 @@ module _ (o : InitialState) (d : DiskState) {x : Layout} {c : DiskState} {t : Sl
     | inl frame ↦ elim (held (home_at sector wanted) frame) [ inl own ↦ inl own | inr here ↦ inr (inl here) ]
     | inr own ↦ inl (FileMap, own)
   ]
-  add_at (Damaged (Malformed window page)) cause right = elim right [
+  add_at (Damaged (Malformed structure page)) cause right = elim right [
     | inl not ↦ absurd not
     | inr (same, counts) ↦
         let full = named_homes is size stands map (most_records x.sectors) counts in

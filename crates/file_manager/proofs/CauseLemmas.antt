@@ -22,7 +22,7 @@ module _ (layout : Layout) (kept : List Run) (id : ℕ) (old : DiskState) (befor
   pub search_halts : (new : DiskState) (e : Halt) → MapHalts layout old before new e → LeaderHalts layout kept id old before new e
   search_halts new halt.Disk is = is
   search_halts new (halt.Damaged (Mismatch sector wanted found)) is = record { there = is.there; other = is.other; reason = inl is.reason }
-  search_halts new (halt.Damaged (Malformed window page)) is = is
+  search_halts new (halt.Damaged (Malformed structure page)) is = is
   search_halts new (halt.Damaged (Missing missing page)) is = absurd is
 
   -- and of the reading after it
@@ -34,5 +34,5 @@ module _ (layout : Layout) (kept : List Run) (id : ℕ) (old : DiskState) (befor
     other = ap (names found) page ∙ other;
     reason = inr (ap (home_at place) page, subst (λ (w : Wanted). IsRunHome layout old before kept (home_at place w)) (sym page) (subst (λ (k : ℕ). IsRunHome layout old before kept (home_at k (record { id = id; page = leader_page }))) (sym at) given));
   }
-  label_halts mid new slots sector makes given (halt.Damaged (Malformed window page)) is = absurd is
+  label_halts mid new slots sector makes given (halt.Damaged (Malformed structure page)) is = absurd is
   label_halts mid new slots sector makes given (halt.Damaged (Missing missing page)) is = absurd is

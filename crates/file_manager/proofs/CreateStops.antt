@@ -115,7 +115,7 @@ module _ (layout : Layout) (is : IsLayout layout) (id : ℕ) {prefix : List Disk
   -- where the map is cut
   cut_evidence : (e : Evidence) (c : DiskState) (t : Slots) → MapHalts layout b s c (Damaged e) ⊎ IsToCut id 0 (MapShows layout b s) → CutHalts layout b s c t (Damaged e) → CreateEvidence layout id wanted a s c t e
   cut_evidence (Mismatch sector label found) c t begun why = elim why.reason [ inl held ↦ inl held | inr own ↦ inr (inl (FileMap, own)) ]
-  cut_evidence (Malformed window page) c t begun why = (
+  cut_evidence (Malformed structure page) c t begun why = (
     why.0,
     elim begun [
       | inl broken ↦ inl (broken_shown (MapShows layout b s) (MapShows layout a s) (shown_before layout root_revealed) layout.sectors page broken.1)
@@ -161,7 +161,7 @@ module _ (layout : Layout) (is : IsLayout layout) (id : ℕ) {prefix : List Disk
 
     make_evidence : (e : Evidence) → MakeEvidence layout id pages wanted c t d u e → CreateEvidence layout id wanted a s d u e
     make_evidence (Mismatch sector label found) is = label_home_before (maps_come beside) since_cut (home_at sector label) is
-    make_evidence (Malformed window page) is = (
+    make_evidence (Malformed structure page) is = (
       is.0,
       inr (inr (record {
         run = prefix ++ is.1.run;

@@ -34,8 +34,8 @@ module _ {given : Type 0} {layout : Layout} {id : ℕ} {a b : DiskState} {s t : 
     | inl held ↦ elim (keep.brings.homes (home_at sector wanted) held) [ inl was ↦ inl (inl was) | inr own ↦ inl (inr (inl own)) ]
     | inr own ↦ inl (inr (inl (FileMap, own)))
   ]
-  taken_out (Malformed window page) c u begun why = elim begun [
-    | inl broken ↦ inl (search_before keep (Malformed window page) pages broken)
+  taken_out (Malformed structure page) c u begun why = elim begun [
+    | inl broken ↦ inl (search_before keep (Malformed structure page) pages broken)
     | inr cut ↦ inr (why.0, λ g. record { run = cut.run; page = cut.page; shown = shown keep g (Entry cut.page (run_bytes cut.run)) cut.shown; of_file = cut.of_file; after = cut.after })
   ]
   taken_out (Missing missing page) c u begun why = absurd why
@@ -55,12 +55,12 @@ module _ {given : Type 0} {layout : Layout} {id : ℕ} {a b : DiskState} {s t : 
     (from : ℕ) (pages more : ℕ → Type 0) (all : (page : ℕ) → pages page → more page) (c : DiskState) (u : Slots) where
   out_before : (e : Evidence) → TakesOut (IsUnframed t id) layout id from b t e → TakesOut given layout id from a s e
   out_before (Mismatch sector wanted found) is = absurd is
-  out_before (Malformed window page) is = (is.0, λ g. let cut = is.1 (keep.unframed g) in record { run = cut.run; page = cut.page; shown = shown keep g (Entry cut.page (run_bytes cut.run)) cut.shown; of_file = cut.of_file; after = cut.after })
+  out_before (Malformed structure page) is = (is.0, λ g. let cut = is.1 (keep.unframed g) in record { run = cut.run; page = cut.page; shown = shown keep g (Entry cut.page (run_bytes cut.run)) cut.shown; of_file = cut.of_file; after = cut.after })
   out_before (Missing missing page) is = absurd is
 
   back_before : (e : Evidence) → PutsBack (IsUnframed t id) layout b t c u e → PutsBack given layout a s c u e
   back_before (Mismatch sector wanted found) is = absurd is
-  back_before (Malformed window page) is = (
+  back_before (Malformed structure page) is = (
     is.0,
     λ g m named stands map.
         let now = keep.revealed g map.bytes (record { memory = m; stands = stands; shows = map.shows; size = size }) in
@@ -95,9 +95,9 @@ shrink_of_add given kept id from pages first second (Damaged (Mismatch sector wa
   | inl held ↦ elim (first.brings.homes (home_at sector wanted) held) [ inl was ↦ inl (inl was) | inr own ↦ inl (inr (inl (FileMap, own))) ]
   | inr own ↦ inl (inr (inl (FileMap, own)))
 ]
-shrink_of_add given {layout = layout} kept id from pages {b = b} {c = c} {t = t} {u = u} first second (Damaged (Malformed window page)) is right = inr (inr (is.0, λ g m named stands map. filled m named (right m named stands map)))
+shrink_of_add given {layout = layout} kept id from pages {b = b} {c = c} {t = t} {u = u} first second (Damaged (Malformed structure page)) is right = inr (inr (is.0, λ g m named stands map. filled m named (right m named stands map)))
   where
-    filled : (m : List Sector) (named : Triples) → (n : List Sector) × Stands b t n × MapIs layout (without_from named id from) n × IsFaultOrMost layout b t (Damaged (Malformed window page)) → (page ≡ 0) × IsFullStill layout named c u
+    filled : (m : List Sector) (named : Triples) → (n : List Sector) × Stands b t n × MapIs layout (without_from named id from) n × IsFaultOrMost layout b t (Damaged (Malformed structure page)) → (page ≡ 0) × IsFullStill layout named c u
     filled m named (n, stands, map, inl not) = absurd not
     filled m named (n, stands, map, inr (same, counts)) = (
       ap page_in same,

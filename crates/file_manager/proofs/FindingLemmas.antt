@@ -119,7 +119,7 @@ module _ (layout : Layout) {pages : Pages} {a b : DiskState} {s t : Slots} (make
       other = h.other;
       reason = elim h.reason [ inl held ↦ brings.homes _ held | inr map ↦ inr map ];
     }
-    evidence_before (Malformed window page) h = (h.0, broken_before layout.sectors page h.1)
+    evidence_before (Malformed structure page) h = (h.0, broken_before layout.sectors page h.1)
     evidence_before (Missing id page) h = absurd h
 
     -- a halt of a search that comes after reading
@@ -134,7 +134,7 @@ module _ (layout : Layout) {pages : Pages} {a b : DiskState} {s t : Slots} (make
     where
       earlier : (e : Evidence) → IsNotOf sector (record { id = id; page = leader_page }) b e → IsNotOf sector (record { id = id; page = leader_page }) a e
       earlier (Mismatch k wanted found) h = (h.0, h.1, label_before makes.wrote sector found h.2, h.3)
-      earlier (Malformed window page) h = absurd h
+      earlier (Malformed structure page) h = absurd h
       earlier (Missing i page) h = absurd h
 
 -- a halt of the search for the leader

@@ -146,7 +146,7 @@ module _ {o : InitialState} {layout : Layout} {runs : List Run} {b : DiskState} 
   labels_reason all makes (Damaged (Mismatch place wanted found)) (k, below, (at, page, has, other)) =
       let there : named wanted.id wanted.page place ≡ true = (λ i. named (page i).id (page i).page (at i)) ∙ all k below in
       inr (inl (at_home_later o makes (home_at place wanted) (h.homes (home_at place wanted) there)))
-  labels_reason all makes (Damaged (Malformed window page)) (k, below, why) = absurd why
+  labels_reason all makes (Damaged (Malformed structure page)) (k, below, why) = absurd why
   labels_reason all makes (Damaged (Missing id page)) (k, below, why) = absurd why
 
   module _ (sectors : List ℕ) (has : (j k : ℕ) → slice_get sectors j ≡ Some k → (i : ℕ) × (i < run.pages) × (k ≡ run.sector + i)) (each : (i : ℕ) → i < run.pages → (j : ℕ) × (slice_get sectors j ≡ Some (run.sector + i)))
@@ -252,5 +252,5 @@ module _ {o : InitialState} {layout : Layout} {runs : List Run} {b : DiskState} 
       ]
       | inr own ↦ inl (AllocationMap, own)
     ]
-    marks_reason makes (Damaged (Malformed window page)) why = absurd why
+    marks_reason makes (Damaged (Malformed structure page)) why = absurd why
     marks_reason makes (Damaged (Missing id page)) why = absurd why

@@ -99,7 +99,7 @@ module _ {given : Type 0} {layout : Layout} {id : ℕ} {a b : DiskState} {s t : 
     | inr (inl own) ↦ inr (inl own)
     | inr (inr own) ↦ inr (inr (record { of_file = own.of_file; from = own.from; below = own.below; by_run = λ g. home_before g (home_at sector wanted) (own.by_run (h.unframed g)) }))
   ]
-  free_before pages more all size (Malformed window page) is = (is.0, λ g. broken_shown (MapShows layout b t) (MapShows layout a s) (shown g) layout.sectors page (is.1 (h.unframed g)))
+  free_before pages more all size (Malformed structure page) is = (is.0, λ g. broken_shown (MapShows layout b t) (MapShows layout a s) (shown g) layout.sectors page (is.1 (h.unframed g)))
   free_before pages more all size (Missing missing page) is = (is.0, all page is.1, λ g. none_before g size id page (is.2 (h.unframed g)))
 
   -- the halt of a call after them
@@ -113,7 +113,7 @@ module _ {given : Type 0} {layout : Layout} {id : ℕ} {a b : DiskState} {s t : 
     | inl held ↦ elim (h.brings.homes (home_at sector wanted) held) [ inl was ↦ inl was | inr own ↦ inr (inl own) ]
     | inr own ↦ inr (inl (which, own))
   ]
-  map_home_before which (Malformed window page) pages is = absurd is
+  map_home_before which (Malformed structure page) pages is = absurd is
   map_home_before which (Missing missing page) pages is = absurd is
 
   pub map_halts_after : (which : Manager) (pages : ℕ → Type 0) (c : DiskState) (halt : Halt) → Halts (IsMapHome which layout) b t c halt → FreeHalts given layout kept id pages a s c halt
@@ -126,7 +126,7 @@ module _ {given : Type 0} {layout : Layout} {id : ℕ} {a b : DiskState} {s t : 
     | inl held ↦ elim (h.brings.homes (home_at sector wanted) held) [ inl was ↦ inl was | inr own ↦ inr (inl own) ]
     | inr own ↦ inr (inl (FileMap, own))
   ]
-  search_before (Malformed window page) pages is = (is.0, λ g. broken_shown (MapShows layout b t) (MapShows layout a s) (shown g) layout.sectors page is.1)
+  search_before (Malformed structure page) pages is = (is.0, λ g. broken_shown (MapShows layout b t) (MapShows layout a s) (shown g) layout.sectors page is.1)
   search_before (Missing missing page) pages is = absurd is
 
   pub search_halts_after : (pages : ℕ → Type 0) (c : DiskState) (halt : Halt) → MapHalts layout b t c halt → FreeHalts given layout kept id pages a s c halt
@@ -143,7 +143,7 @@ module _ {given : Type 0} {layout : Layout} {id : ℕ} {a b : DiskState} {s t : 
     below = omega (arith, inside, below, at);
     by_run = λ g. subst (λ (home : Home). IsRunHome layout a s kept home) (λ i. home_at (sym at i) (sym page i)) (homes k below g);
   }))
-  row_before pages sector count first from inside homes (Malformed window page) (k, below, is) = absurd is
+  row_before pages sector count first from inside homes (Malformed structure page) (k, below, is) = absurd is
   row_before pages sector count first from inside homes (Missing missing page) (k, below, is) = absurd is
 
   pub row_halts_after : (pages : ℕ → Type 0) (sector count first : ℕ) → layout.first ≤ sector → sector + count ≤ layout.sectors

@@ -185,7 +185,7 @@ module _ {o : InitialState} {x l1 : Layout} {k : List Run} {a b : DiskState} {s 
         let first : run.sector ≤ place = omega (arith, at) in
         let last : place < run.sector + run.pages = omega (arith, at, below) in
         inr (inr (nobody, may_be_free_later o makes place (unwritten j place found at has other) (h.free place (omega (arith, from, first)) (omega (arith, inside, last)) (free h.memory h.marks h.stands h.bits place first last))))
-    label_reasons_taken from inside free makes (Damaged (Malformed window page)) (j, below, is) = absurd is
+    label_reasons_taken from inside free makes (Damaged (Malformed structure page)) (j, below, is) = absurd is
     label_reasons_taken from inside free makes (Damaged (Missing id page)) (j, below, is) = absurd is
 
 -- ---- And a run of them is added.

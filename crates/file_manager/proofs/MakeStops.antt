@@ -8,6 +8,7 @@ use Rattle.labelled_disk.specs.declared.disk.DiskWrite.{DiskWrite}
 use Rattle.labelled_disk.specs.declared.disk.DiskWrite.TheVariants.{Whole}
 use Rattle.labelled_disk.specs.declared.evidence.Evidence.{Evidence}
 use Rattle.labelled_disk.specs.declared.evidence.Evidence.TheVariants.{Mismatch, Malformed, Missing}
+use Rattle.labelled_disk.specs.declared.structure.Structure.{Structure}
 use Rattle.labelled_disk.specs.declared.evidence.Halt.{Halt}
 use Rattle.labelled_disk.specs.declared.evidence.Halt.TheVariants.{Disk, Damaged}
 use Rattle.labelled_disk.specs.declared.layout.Layout.{Layout}
@@ -182,7 +183,7 @@ module _ {layout : Layout} {id : ℕ} (p q r : ℕ → Type 0) {run : List DiskW
 
   evidence_before : (e : Evidence) → MakeEvidence layout id q before b t c u e → MakeEvidence layout id r wanted a s c u e
   evidence_before (Mismatch sector label found) is = label_home_before since.brings (λ none m stands. let now = since.memory none m stands in (now.0, now.1, now.2.taken)) (home_at sector label) is
-  evidence_before (Malformed window page) is = (is.0, stops_before page is.1)
+  evidence_before (Malformed structure page) is = (is.0, stops_before page is.1)
   evidence_before (Missing missing page) is = (is.0, is.1, room_before p before wanted of apart since.brings (λ none m stands. let now = since.memory none m stands in (now.0, now.1, (now.2.taken, now.2.of))) c u is.2)
 
   pub make_halts_before : (halt : Halt) → MakeHalts layout id q before b t c u halt → MakeHalts layout id r wanted a s c u halt
@@ -200,14 +201,14 @@ make_halts_wider layout id q r before wanted of_q of a c s u halt is =
 pub taken_halt : (layout : Layout) (a b : DiskState) (s t : Slots) (halt : Halt) → Halts (IsMapHome AllocationMap layout) a s b halt → TakeHalts layout a s b t halt
 taken_halt layout a b s t Disk is = is
 taken_halt layout a b s t (Damaged (Mismatch sector wanted found)) is = is
-taken_halt layout a b s t (Damaged (Malformed window page)) is = is
+taken_halt layout a b s t (Damaged (Malformed structure page)) is = is
 taken_halt layout a b s t (Damaged (Missing id page)) is = absurd is
 
 -- sectors are taken
 module _ (layout : Layout) (id : ℕ) (pages wanted : ℕ → Type 0) (page : ℕ) (own : wanted page) (a b : DiskState) (s t : Slots) where
   take_evidence : (e : Evidence) → TakeEvidence layout a s b t e → MakeEvidence layout id pages wanted a s b t e
   take_evidence (Mismatch sector label found) is = elim is.reason [ inl held ↦ inl held | inr own ↦ inr (inl (AllocationMap, own)) ]
-  take_evidence (Malformed window broken) is = absurd is
+  take_evidence (Malformed structure broken) is = absurd is
   take_evidence (Missing missing lacked) is = (
     is.0,
     is.1,
@@ -236,7 +237,7 @@ module _ {layout later : Layout} {a b : DiskState} {s t : Slots} (taken : Beside
     below = omega (arith, inside, below, at);
     was = λ none m marks stands bits. lowest m marks stands bits place (omega (arith, at)) (omega (arith, at, below));
   }))
-  taken_label (Malformed window page) (k, below, is) = absurd is
+  taken_label (Malformed structure page) (k, below, is) = absurd is
   taken_label (Missing missing page) (k, below, is) = absurd is
 
   pub label_halts : (halt : Halt) → HasCause (IsOneTaken sector count b) b c halt → MakeHalts layout id pages wanted a s c u halt
@@ -247,7 +248,7 @@ module _ {layout later : Layout} {a b : DiskState} {s t : Slots} (taken : Beside
 abbrev pub page_in : Halt → ℕ
 page_in Disk = 0
 page_in (Damaged (Mismatch sector wanted found)) = 0
-page_in (Damaged (Malformed window page)) = page
+page_in (Damaged (Malformed structure page)) = page
 page_in (Damaged (Missing missing page)) = 0
 
 -- A run is added to the map, after its labels.
@@ -255,8 +256,8 @@ module _ {layout later : Layout} (run : Run) (kind : ℕ) (pages wanted : ℕ �
     (come : Brings (IsMapsHome layout) s t) (labels : Makes volume_page (growth run.id kind run.first (sectors_of run)) a s b t) (makes : Makes volume_page (growth run.id kind run.first (sectors_of run)) a s c u)
     (labelled : IsUnframed s 0 → (m : List Sector) → Stands a s m → (n : List Sector) × Stands b t n × IsLabelledFor layout run.id m n)
     (revealed : IsUnframed s 0 → (bytes : List ℕ) → Reveals FileMap a s layout bytes → Reveals FileMap b t layout bytes) (beside : Beside FileMap b t layout c u later) where
-  filled : (window page : ℕ) → ((n : List Sector) (named : Triples) → Stands b t n → MapIs layout named n → IsNew named run → IsFaultOrMost layout b t (Damaged (Malformed window page))) → StopsInForm layout run.id pages page a s c u
-  filled window page right none m named stands map nothing =
+  filled : (structure : Structure) (page : ℕ) → ((n : List Sector) (named : Triples) → Stands b t n → MapIs layout named n → IsNew named run → IsFaultOrMost layout b t (Damaged (Malformed structure page))) → StopsInForm layout run.id pages page a s c u
+  filled structure page right none m named stands map nothing =
       let now = labelled none m stands in
       let map_now : MapIs layout named now.0 = record { bytes = map.bytes; shows = now.2.map map.bytes map.shows; names = map.names } in
       elim (right now.0 named now.1 map_now (new_run run named (λ p sector own. nothing p sector (few p own)))) [
@@ -282,13 +283,13 @@ module _ {layout later : Layout} (run : Run) (kind : ℕ) (pages wanted : ℕ �
     | inl held ↦ elim (come.homes (home_at sector label) held) [ inl was ↦ inl was | inr own ↦ inr (inl own) ]
     | inr own ↦ inr (inl (FileMap, own))
   ]
-  added_evidence (Malformed window page) is right = (
+  added_evidence (Malformed structure page) is right = (
     is.0,
     record {
       run = growth run.id kind run.first (sectors_of run);
       makes = makes;
       labelled = growth_labels_one run.id kind run.first (sectors_of run) (let long = length-range_with_len run.sector run.pages in omega (arith, long, some));
-      in_form = filled window page right;
+      in_form = filled structure page right;
       bytes = inl (λ none. broken_before layout (revealed none) page is.1);
     },
   )

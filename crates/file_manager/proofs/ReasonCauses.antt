@@ -36,7 +36,7 @@ module _ {o : InitialState} {layout : Layout} {kept : List Run} {a : DiskState} 
   pub cut_reasons : (halt : Halt) → CutHalts layout a s b t halt → IsFaultOrMismatch halt → ShowsReason o layout b halt
   cut_reasons Disk is right = tt
   cut_reasons (Damaged (Mismatch sector wanted found)) is right = held_reason sector wanted found is
-  cut_reasons (Damaged (Malformed window page)) is right = absurd right
+  cut_reasons (Damaged (Malformed structure page)) is right = absurd right
   cut_reasons (Damaged (Missing id page)) is right = absurd is
 
   -- a label isn't that of a page which the map names there
@@ -45,7 +45,7 @@ module _ {o : InitialState} {layout : Layout} {kept : List Run} {a : DiskState} 
   other_reasons place w is c d e (Damaged (Mismatch sector wanted found)) (at, page, there, other) =
       let home : IsAtHome o b (home_at place w) = at_home_later o makes (home_at place w) (k.homes (home_at place w) is) in
       inr (inl (subst (λ (h : Home). IsAtHome o b h) (λ i. home_at (sym at i) (sym page i)) home))
-  other_reasons place w is c d e (Damaged (Malformed window page)) cause = absurd cause
+  other_reasons place w is c d e (Damaged (Malformed structure page)) cause = absurd cause
   other_reasons place w is c d e (Damaged (Missing id page)) cause = absurd cause
 
 -- a mark stops: whatever it wrote, the label isn't that of the leader, which the map names there

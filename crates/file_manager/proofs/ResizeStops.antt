@@ -22,7 +22,7 @@ use Rattle.file_manager.proofs.TakingLemmas.{none_later}
 module _ (layout : Layout) (kept : List Run) (id pages : ℕ) (a c : DiskState) (s u : Slots) where
   searched : (e : Evidence) → MapEvidence layout a s e → LeaderEvidence layout kept id a s e
   searched (Mismatch sector wanted found) is = record { there = is.there; other = is.other; reason = inl is.reason }
-  searched (Malformed window page) is = is
+  searched (Malformed structure page) is = is
   searched (Missing missing page) is = absurd is
 
   no_leader : (e : Evidence) → IsNoLeader layout kept id a s e → LeaderEvidence layout kept id a s e
@@ -34,7 +34,7 @@ module _ (layout : Layout) (kept : List Run) (id pages : ℕ) (a c : DiskState) 
         other = ap (names found) page ∙ is.other.3;
         reason = inr (ap (home_at place) page, subst (λ (w : Wanted). IsRunHome layout a s kept (home_at place w)) (sym page) (subst (λ (k : ℕ). IsRunHome layout a s kept (home_at k (record { id = id; page = leader_page }))) (sym at) is.by_run));
       }
-  no_leader (Malformed window page) is = absurd is.other
+  no_leader (Malformed structure page) is = absurd is.other
   no_leader (Missing missing page) is = absurd is.other
 
   -- where the file is looked up
@@ -49,7 +49,7 @@ module _ (layout : Layout) (kept : List Run) (id pages : ℕ) (a c : DiskState) 
 
   fewer : (size : ℕ) → ((page : ℕ) → page < size → IsBelowSize layout a s id page) → (e : Evidence) → FreeEvidence (IsUnframed s id) layout kept id (λ p. (pages ≤ p) × (p < size)) a s e → FreeEvidence (IsUnframed s id) layout kept id (λ p. (pages ≤ p) × IsBelowSize layout a s id p) a s e
   fewer size revealed (Mismatch sector wanted found) is = is
-  fewer size revealed (Malformed window page) is = is
+  fewer size revealed (Malformed structure page) is = is
   fewer size revealed (Missing missing page) is = (is.0, (is.1.0, revealed page is.1.1), is.2)
 
   -- no page from the size of a file on is named

@@ -62,5 +62,5 @@ more_wanted layout id before wanted of a b s t full none m marks stands bits =
 pub create_wider : (layout : Layout) (id : ℕ) (before wanted : ℕ → Type 0) → ((page : ℕ) → before page → wanted page) → (a b : DiskState) (s t : Slots) (halt : Halt) → CreateHalts layout id before a s b t halt → CreateHalts layout id wanted a s b t halt
 create_wider layout id before wanted of a b s t Disk is = is
 create_wider layout id before wanted of a b s t (Damaged (Mismatch sector label found)) is = is
-create_wider layout id before wanted of a b s t (Damaged (Malformed window page)) is = is
+create_wider layout id before wanted of a b s t (Damaged (Malformed structure page)) is = is
 create_wider layout id before wanted of a b s t (Damaged (Missing missing page)) is = (is.0, is.1, more_wanted layout id before wanted of a b s t is.2)

@@ -31,12 +31,12 @@ may_move sectors {a = a} {w = w} place page may = subst (λ (v : Wanted). MayBeI
 module _ (disk : DiskState) where
   taken_so : (k : ℕ) (e : Evidence) → MayBeIn disk.sectors k nobody → IsTaken k disk e → IsEvident disk e
   taken_so k (Mismatch sector wanted found) may is = (subst (λ (n : ℕ). HasLabel disk n found) (sym is.0) is.2, inl (is.1, is.3), may_move disk.sectors is.0 is.1 may)
-  taken_so k (Malformed window page) may is = absurd is
+  taken_so k (Malformed structure page) may is = absurd is
   taken_so k (Missing id page) may is = absurd is
 
   not_of_so : (k : ℕ) (w : Wanted) (e : Evidence) → MayBeIn disk.sectors k w → IsNotOf k w disk e → IsEvident disk e
   not_of_so k w (Mismatch sector wanted found) may is = (subst (λ (n : ℕ). HasLabel disk n found) (sym is.0) is.2, inr (ap (names found) is.1 ∙ is.3), may_move disk.sectors is.0 is.1 may)
-  not_of_so k w (Malformed window page) may is = absurd is
+  not_of_so k w (Malformed structure page) may is = absurd is
   not_of_so k w (Missing id page) may is = absurd is
 
   -- a label that isn't that of a page

@@ -3,6 +3,7 @@ use Rattle.std.specs.Prelude.{◌≡◌, ◌⊎◌, ℕ, List}
 use Rattle.labelled_disk.specs.declared.layout.Layout.{Layout}
 use Rattle.labelled_disk.specs.declared.evidence.Evidence.{Evidence}
 use Rattle.labelled_disk.specs.declared.evidence.Evidence.TheVariants.{Mismatch, Malformed, Missing}
+use Rattle.labelled_disk.specs.Structure.{IsOfFileMap}
 use Rattle.labelled_disk.specs.declared.evidence.Halt.{Halt}
 use Rattle.labelled_disk.specs.Label.{leader_page}
 use Rattle.labelled_disk.specs.Sectors.{Sector}
@@ -32,7 +33,7 @@ IsLeaderHome layout kept id disk slots home = (home ≡ home_at home.sector (rec
 -- it is given; or a page of the map that breaks its form; or the leader, where no record of it is found.
 abbrev pub LeaderEvidence : Layout → List Run → ℕ → DiskState → Slots → Evidence → Type 0
 LeaderEvidence layout kept id disk slots (Mismatch sector wanted found) = IsOther (λ home. held_or slots (IsMapHome FileMap layout) home ⊎ IsLeaderHome layout kept id disk slots home) disk sector wanted found
-LeaderEvidence layout kept id disk slots (Malformed window page) = (window ≡ 2) × IsBroken layout.sectors (MapShows layout disk slots) page
+LeaderEvidence layout kept id disk slots (Malformed structure page) = IsOfFileMap structure × IsBroken layout.sectors (MapShows layout disk slots) page
 LeaderEvidence layout kept id disk slots (Missing missing page) = (missing ≡ id) × (page ≡ leader_page) × NamesNone layout disk slots id leader_page
 
 -- the halt of a call that looks for the leader of this file, and reads its label

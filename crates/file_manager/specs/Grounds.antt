@@ -4,6 +4,7 @@ use Rattle.labelled_disk.specs.declared.disk.DiskWrite.{DiskWrite}
 use Rattle.labelled_disk.specs.declared.disk.DiskWrite.TheVariants.{Whole}
 use Rattle.labelled_disk.specs.declared.evidence.Evidence.{Evidence}
 use Rattle.labelled_disk.specs.declared.evidence.Evidence.TheVariants.{Mismatch, Malformed, Missing}
+use Rattle.labelled_disk.specs.Structure.{IsOfFileMap}
 use Rattle.labelled_disk.specs.declared.evidence.Halt.{Halt}
 use Rattle.labelled_disk.specs.declared.layout.Layout.{Layout}
 use Rattle.labelled_disk.specs.Label.{leader_page, page_label}
@@ -59,13 +60,13 @@ pub record IsOwnHome (given : Type 0) (layout : Layout) (kept : List Run) (id : 
 -- or one of these pages of the file, of which the map had no record.
 abbrev pub FreeEvidence : Type 0 → Layout → List Run → ℕ → (ℕ → Type 0) → DiskState → Slots → Evidence → Type 0
 FreeEvidence given layout kept id pages disk slots (Mismatch sector wanted found) = held_or slots (λ home. IsMapsHome layout home ⊎ IsOwnHome given layout kept id disk slots home) (home_at sector wanted)
-FreeEvidence given layout kept id pages disk slots (Malformed window page) = (window ≡ 2) × (given → IsBroken layout.sectors (MapShows layout disk slots) page)
+FreeEvidence given layout kept id pages disk slots (Malformed structure page) = IsOfFileMap structure × (given → IsBroken layout.sectors (MapShows layout disk slots) page)
 FreeEvidence given layout kept id pages disk slots (Missing missing page) = (missing ≡ id) × pages page × (given → NamesNone layout disk slots id page)
 
 -- the evidence is a page of the map, of which a record of the file, or a part of one, was to be taken out
 abbrev pub TakesOut : Type 0 → Layout → ℕ → ℕ → DiskState → Slots → Evidence → Type 0
 TakesOut given layout id from disk slots (Mismatch sector wanted found) = ⊥
-TakesOut given layout id from disk slots (Malformed window page) = (window ≡ 2) × (given → IsToCut id from (MapShows layout disk slots))
+TakesOut given layout id from disk slots (Malformed structure page) = IsOfFileMap structure × (given → IsToCut id from (MapShows layout disk slots))
 TakesOut given layout id from disk slots (Missing missing page) = ⊥
 
 -- the page is below the size of the file that the map reveals
@@ -176,7 +177,7 @@ WasClear layout disk slots sector = IsUnframed slots 0 → (m : List Sector) (ma
 -- no data sector is free, and the memory is as it was
 abbrev pub TakeEvidence : Layout → DiskState → Slots → DiskState → Slots → Evidence → Type 0
 TakeEvidence layout old before new after (Mismatch sector wanted found) = IsOther (held_or before (IsMapHome AllocationMap layout)) old sector wanted found
-TakeEvidence layout old before new after (Malformed window page) = ⊥
+TakeEvidence layout old before new after (Malformed structure page) = ⊥
 TakeEvidence layout old before new after (Missing id page) =
     (id ≡ 3) × (page ≡ 0) × ((m : List Sector) (marks : Marks) → Stands old before m → BitsAre layout marks m → AreAll true marks layout.first layout.sectors × Stands new after m)
 
@@ -208,7 +209,7 @@ pub record IsToBeFree (layout : Layout) (old : DiskState) (before : Slots) (home
 -- map that stops an addition; or a page of the space tables, where no data sector is left for one of the pages that are wanted.
 abbrev pub MakeEvidence : Layout → ℕ → (ℕ → Type 0) → (ℕ → Type 0) → DiskState → Slots → DiskState → Slots → Evidence → Type 0
 MakeEvidence layout file pages wanted old before new after (Mismatch sector other found) = held_or before (λ home. IsMapsHome layout home ⊎ IsToBeFree layout old before home) (home_at sector other)
-MakeEvidence layout file pages wanted old before new after (Malformed window page) = (window ≡ 2) × StopsAddition layout file pages page old before new after
+MakeEvidence layout file pages wanted old before new after (Malformed structure page) = IsOfFileMap structure × StopsAddition layout file pages page old before new after
 MakeEvidence layout file pages wanted old before new after (Missing id page) = (id ≡ 3) × (page ≡ 0) × HasNoRoom layout file wanted old before new after
 
 -- the halt of a call that makes pages of a file: these, which are wanted, or some of those
@@ -236,8 +237,8 @@ pub record StopsCreation (layout : Layout) (id page : ℕ) (old : DiskState) (be
 -- was to be taken out.
 abbrev pub CreateEvidence : Layout → ℕ → (ℕ → Type 0) → DiskState → Slots → DiskState → Slots → Evidence → Type 0
 CreateEvidence layout file wanted old before new after (Mismatch sector other found) = held_or before (λ home. IsMapsHome layout home ⊎ IsToBeFree layout old before home) (home_at sector other)
-CreateEvidence layout file wanted old before new after (Malformed window page) =
-    (window ≡ 2) × (IsBroken layout.sectors (MapShows layout old before) page ⊎ (IsToCut file 0 (MapShows layout old before) ⊎ StopsCreation layout file page old before new after))
+CreateEvidence layout file wanted old before new after (Malformed structure page) =
+    IsOfFileMap structure × (IsBroken layout.sectors (MapShows layout old before) page ⊎ (IsToCut file 0 (MapShows layout old before) ⊎ StopsCreation layout file page old before new after))
 CreateEvidence layout file wanted old before new after (Missing id page) = (id ≡ 3) × (page ≡ 0) × HasNoRoom layout file wanted old before new after
 
 -- the halt of a call that creates this file, with the pages that are wanted
@@ -262,8 +263,8 @@ pub record IsFullStill (layout : Layout) (named : Triples) (new : DiskState) (af
 -- the evidence is a page of the map: where that was in form and something is given, it is page 0, and the map is full
 abbrev pub PutsBack : Type 0 → Layout → DiskState → Slots → DiskState → Slots → Evidence → Type 0
 PutsBack given layout old before new after (Mismatch sector wanted found) = ⊥
-PutsBack given layout old before new after (Malformed window page) =
-    (window ≡ 2) × (given → (m : List Sector) (named : Triples) → Stands old before m → MapIs layout named m → (page ≡ 0) × IsFullStill layout named new after)
+PutsBack given layout old before new after (Malformed structure page) =
+    IsOfFileMap structure × (given → (m : List Sector) (named : Triples) → Stands old before m → MapIs layout named m → (page ≡ 0) × IsFullStill layout named new after)
 PutsBack given layout old before new after (Missing id page) = ⊥
 
 -- The halt of a call that frees these pages of a file, takes it from page `from` on out of the map, and puts its leader in

@@ -254,9 +254,9 @@ module _ (o : InitialState) {pages : Pages} {a b : DiskState} {s t : Slots} (mak
   reason_before x (Mismatch sector wanted found) (inl own) = inl own
   reason_before x (Mismatch sector wanted found) (inr (inl home)) = inr (inl (at_home_before (home_at sector wanted) home))
   reason_before x (Mismatch sector wanted found) (inr (inr (none, free))) = inr (inr (none, may_be_free_before sector free))
-  reason_before x (Malformed window page) (inl (second, first, full)) =
+  reason_before x (Malformed structure page) (inl (second, first, full)) =
       inl (second, first, record { homes = full.homes; counted = full.counted; each = λ k home at. at_home_before home (full.each k home at); apart = full.apart })
-  reason_before x (Malformed window page) (inr third) = inr third
+  reason_before x (Malformed structure page) (inr third) = inr third
   reason_before x (Missing id page) (inl (tables, first, up)) = inl (tables, first, λ sector from below. used_before sector (up sector from below))
   reason_before x (Missing id page) (inr (may, gone)) = inr (may, λ sector from. released_before _ (gone sector from))
 
@@ -268,8 +268,8 @@ module _ (o : InitialState) {pages : Pages} {a b : DiskState} {s t : Slots} (mak
   reason_later x (Mismatch sector wanted found) (inl own) = inl own
   reason_later x (Mismatch sector wanted found) (inr (inl home)) = inr (inl (at_home_later o makes (home_at sector wanted) home))
   reason_later x (Mismatch sector wanted found) (inr (inr (none, free))) = inr (inr (none, may_be_free_later o makes sector (λ k w at takes. none-some w at) free))
-  reason_later x (Malformed window page) (inl (second, first, full)) = inl (second, first, filled_up_later o makes x full)
-  reason_later x (Malformed window page) (inr third) = inr third
+  reason_later x (Malformed structure page) (inl (second, first, full)) = inl (second, first, filled_up_later o makes x full)
+  reason_later x (Malformed structure page) (inr third) = inr third
   reason_later x (Missing id page) (inl (tables, first, up)) = inl (tables, first, λ sector from below. used_later o makes sector (λ k w at up_so. none-some w at) (up sector from below))
   reason_later x (Missing id page) (inr (may, gone)) = inr (may, λ sector from. released_later o makes _ (λ k w at gives. none-some w at) (gone sector from))
 

@@ -36,7 +36,7 @@ module _ {o : InitialState} {x : Layout} {k : List Run} {a : DiskState} {s : Slo
     | inl held ↦ elim (home_later h makes (home_at sector wanted) held) [ inl own ↦ inl own | inr here ↦ inr (inl here) ]
     | inr given ↦ elim (at (home_at sector wanted) given) [ inl own ↦ inl own | inr here ↦ inr (inl here) ]
   ]
-  label_reasons homes at (halt.Damaged (Malformed window page)) is = absurd is
+  label_reasons homes at (halt.Damaged (Malformed structure page)) is = absurd is
   label_reasons homes at (halt.Damaged (Missing id page)) is = absurd is
 
   -- the halt of a call that searches the file map
@@ -46,7 +46,7 @@ module _ {o : InitialState} {x : Layout} {k : List Run} {a : DiskState} {s : Slo
     | inl held ↦ elim (home_later h makes (home_at sector wanted) held) [ inl own ↦ inl own | inr here ↦ inr (inl here) ]
     | inr own ↦ inl (FileMap, own)
   ]
-  map_reasons is (halt.Damaged (Malformed window page)) cause = absurd (in_form is h.size h.stands h.map page cause.1)
+  map_reasons is (halt.Damaged (Malformed structure page)) cause = absurd (in_form is h.size h.stands h.map page cause.1)
   map_reasons is (halt.Damaged (Missing id page)) cause = absurd cause
 
 -- ---- Pages that are missing.

@@ -5,6 +5,7 @@ use Rattle.labelled_disk.specs.declared.disk.DiskWrite.{DiskWrite}
 use Rattle.labelled_disk.specs.declared.disk.DiskWrite.TheVariants.{LabelOnly, Whole}
 use Rattle.labelled_disk.specs.declared.evidence.Evidence.{Evidence}
 use Rattle.labelled_disk.specs.declared.evidence.Evidence.TheVariants.{Mismatch, Malformed, Missing}
+use Rattle.labelled_disk.specs.Structure.{IsOfFileMap, IsOfTables}
 use Rattle.labelled_disk.specs.declared.evidence.Halt.{Halt}
 use Rattle.labelled_disk.specs.declared.evidence.Halt.TheVariants.{Disk, Damaged}
 use Rattle.labelled_disk.specs.declared.label.Label.{Label}
@@ -254,7 +255,7 @@ pub record KeepsTo (o : InitialState) (layout : Layout) (runs : List Run) (disk 
 abbrev pub HasReason : InitialState → Layout → DiskState → Evidence → Type 0
 HasReason o layout disk (Mismatch sector wanted found) =
     IsMapsHome layout (home_at sector wanted) ⊎ (IsAtHome o disk (home_at sector wanted) ⊎ ((wanted ≡ nobody) × MayBeFree o disk sector))
-HasReason o layout disk (Malformed window page) = ((window ≡ 2) × (page ≡ 0) × IsFilledUp o layout disk) ⊎ ((window ≡ 3) × (o.tables ≡ None))
+HasReason o layout disk (Malformed structure page) = (IsOfFileMap structure × (page ≡ 0) × IsFilledUp o layout disk) ⊎ (IsOfTables structure × (o.tables ≡ None))
 HasReason o layout disk (Missing id page) =
     ((id ≡ 3) × (page ≡ 0) × IsTakenUp o layout disk) ⊎ ((16 ≤ id) × IsGone o layout disk id page)
 
@@ -279,7 +280,7 @@ ShowsReason o layout disk (Damaged evidence) = HasReason o layout disk evidence
 abbrev pub MissesNone : Halt → Type 0
 MissesNone Disk = Unit {0}
 MissesNone (Damaged (Mismatch sector wanted found)) = Unit {0}
-MissesNone (Damaged (Malformed window page)) = Unit {0}
+MissesNone (Damaged (Malformed structure page)) = Unit {0}
 MissesNone (Damaged (Missing id page)) = ⊥
 
 module _ {D A : Type 0} {G : Ghosts D} where

@@ -54,11 +54,11 @@ module _ {D A : Type 0} {G : Ghosts D} where
 pub shows_giving : (o : InitialState) (next : ℕ) (layout : Layout) (disk : DiskState) (halt : Halt) → ShowsReason o layout disk halt → ShowsReason (giving o next) layout disk halt
 shows_giving o next layout disk Disk is = is
 shows_giving o next layout disk (Damaged (Mismatch sector wanted found)) is = is
-shows_giving o next layout disk (Damaged (Malformed window page)) is = is
+shows_giving o next layout disk (Damaged (Malformed structure page)) is = is
 shows_giving o next layout disk (Damaged (Missing id page)) is = is
 
 pub giving_shows : (o : InitialState) (next : ℕ) (layout : Layout) (disk : DiskState) (halt : Halt) → ShowsReason (giving o next) layout disk halt → ShowsReason o layout disk halt
 giving_shows o next layout disk Disk is = is
 giving_shows o next layout disk (Damaged (Mismatch sector wanted found)) is = is
-giving_shows o next layout disk (Damaged (Malformed window page)) is = is
+giving_shows o next layout disk (Damaged (Malformed structure page)) is = is
 giving_shows o next layout disk (Damaged (Missing id page)) is = is

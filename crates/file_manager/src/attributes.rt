@@ -69,12 +69,15 @@ pub fn attributes_of<D: Disk, A: Allocator>(
     }
     frames_of(filer);
     match find_file(filer, id) {
-        Ok(Some(file)) => Ok(Some(Attributes {
-            pages: file.pages,
-            kind: file.leader.kind,
-            permanent: file.leader.flags % 2 == 1,
-            immutable: file.leader.flags / 2 % 2 == 1,
-        })),
+        Ok(Some(file)) => {
+            let marks = file.leader.marks();
+            Ok(Some(Attributes {
+                pages: file.pages,
+                kind: file.leader.kind,
+                permanent: marks.permanent,
+                immutable: marks.immutable,
+            }))
+        }
         Ok(None) => Ok(None),
         Err(halt) => Err(halt),
     }

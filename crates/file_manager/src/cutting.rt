@@ -26,11 +26,10 @@ ghost use Rattle.file_manager.specs.Taking.{NamesNoneOf};
 
 use crate::Volume;
 use crate::growth::frames_of;
-use crate::leader::LEADER;
 use crate::shrinking::free_down;
 use file_map::Run;
 use filer_kernel::Filer;
-use labelled_disk::{Disk, FileId, Halt};
+use labelled_disk::{Disk, FileId, Halt, LEADER};
 use std::alloc::Allocator;
 
 // Takes the pages of a file from one on out of the file map, and puts its leader, which stands in this sector, in again.

@@ -16,7 +16,7 @@ ghost use Rattle.filer_kernel.specs.Cached.{runs_of};
 ghost use Rattle.file_manager.specs.Grounds.{KeepsMap, MakesFor, IsUnframed};
 ghost use Rattle.file_manager.specs.Taking.{no_page_of};
 ghost use Rattle.swapper_kernel.specs.declared.manager.Manager.TheVariants.{FileMap};
-ghost use Rattle.swapper_kernel.specs.Window.{Reveals, Beside};
+ghost use Rattle.swapper_kernel.specs.Window.{Reveals, Beside, Looked};
 ghost use Rattle.filer_kernel.specs.Evidence.{MayBeIn, ShowsEvidence};
 ghost use Rattle.filer_kernel.specs.Causes.{IsGiven};
 ghost use Rattle.filer_kernel.specs.Triples.{MapIs, AreOf, IsOneOf};
@@ -27,10 +27,10 @@ ghost use Rattle.file_manager.specs.Book.{Books, BringsOwn};
 ghost use Rattle.file_manager.specs.Causes.{NamesNone};
 ghost use Rattle.file_manager.specs.Reasons.{Keeps, InitialState, ShowsReason};
 
-use crate::leader::{LEADER, leader_of};
+use crate::leader::leader_of;
 use filer_kernel::Filer;
 use label_calls::read_label;
-use labelled_disk::{Disk, Evidence, FileId, Halt, Label, Wanted};
+use labelled_disk::{Disk, Evidence, FileId, Halt, LEADER, Label, Wanted};
 use std::alloc::Allocator;
 
 // A file, as its leader and the file map reveal it.
@@ -97,6 +97,7 @@ pub(crate) fn find_file<D: Disk, A: Allocator>(
     ensures missing { result ≡ Ok None → NamesNone filer.old.swapper.layout (D.state filer.old.swapper.disk) filer.old.swapper.pool id leader_page }
     ensures same_bytes { (b : List ℕ) → Reveals FileMap (D.state filer.old.swapper.disk) filer.old.swapper.pool filer.old.swapper.layout b → Reveals FileMap (D.state filer.new.swapper.disk) filer.new.swapper.pool filer.old.swapper.layout b }
     ensures beside { Beside FileMap (D.state filer.old.swapper.disk) filer.old.swapper.pool filer.old.swapper.layout (D.state filer.new.swapper.disk) filer.new.swapper.pool filer.new.swapper.layout }
+    ensures looked { Looked FileMap (D.state filer.old.swapper.disk) filer.old.swapper.pool filer.old.swapper.layout (D.state filer.new.swapper.disk) filer.new.swapper.pool filer.new.swapper.layout }
     ensures runs_given { (r : RunIs) → IsOneOf r (runs_of filer.old.swapper.layout.sectors filer.new.runs) → IsGiven filer.old.swapper.layout (D.state filer.old.swapper.disk) filer.old.swapper.pool (runs_of filer.old.swapper.layout.sectors filer.old.runs) r }
     ensures runs_are { (m : List Sector) (named : Triples) → Stands (D.state filer.old.swapper.disk) filer.old.swapper.pool m → MapIs filer.old.swapper.layout named m → AreOf named (runs_of filer.old.swapper.layout.sectors filer.old.runs)
         → AreOf named (runs_of filer.old.swapper.layout.sectors filer.new.runs) }

@@ -15,11 +15,8 @@ ghost use Rattle.file_manager.specs.Reasons.{AreReleased, Keeps, InitialState, S
 
 use crate::release::{free_run, free_up};
 use filer_kernel::Filer;
-use labelled_disk::{Disk, FileId, Halt};
+use labelled_disk::{Disk, FileId, Halt, LEADER};
 use std::alloc::Allocator;
-
-/// The page number of a leader.
-const LEADER: u32 = 4_294_967_295;
 
 // Frees the leader of a file, and then its pages from 0 up. The file map stays.
 pub(crate) fn free_all<D: Disk, A: Allocator>(

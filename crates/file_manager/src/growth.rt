@@ -35,11 +35,8 @@ use alloc_map::AllocError;
 use file_map::Run;
 use filer_kernel::Filer;
 use label_calls::make_pages;
-use labelled_disk::{Disk, Evidence, FileId, Halt};
+use labelled_disk::{Disk, Evidence, FileId, Halt, TABLES};
 use std::alloc::Allocator;
-
-/// The identifier of the space tables.
-pub(crate) const TABLES: FileId = 3;
 
 // Takes the lowest free data sector, and free ones after it, at most so many together.
 fn take_run<D: Disk, A: Allocator>(filer: &mut Filer<D, A>, most: u32) -> Result<(u32, u32), Halt>

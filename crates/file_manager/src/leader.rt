@@ -9,7 +9,7 @@ ghost use Rattle.swapper_kernel.specs.declared.manager.Manager.TheVariants.{File
 ghost use Rattle.swapper_kernel.specs.Goes.{Makes};
 ghost use Rattle.swapper_kernel.specs.Homes.{home_at};
 ghost use Rattle.swapper_kernel.specs.Stands.{Stands, labels_of};
-ghost use Rattle.swapper_kernel.specs.Window.{Reveals, Beside};
+ghost use Rattle.swapper_kernel.specs.Window.{Reveals, Beside, Looked};
 ghost use Rattle.session_words.specs.Parts.{Shapes};
 ghost use Rattle.session_words.specs.Volume.{volume_page};
 ghost use Rattle.filer_kernel.specs.Cached.{runs_of};
@@ -25,11 +25,8 @@ ghost use Rattle.file_manager.specs.Causes.{NamesNone};
 ghost use Rattle.file_manager.specs.Reasons.{Keeps, InitialState, ShowsReason};
 
 use filer_kernel::Filer;
-use labelled_disk::{Disk, FileId, Halt};
+use labelled_disk::{Disk, FileId, Halt, LEADER};
 use std::alloc::Allocator;
-
-/// The page number of a leader.
-pub(crate) const LEADER: u32 = 4_294_967_295;
 
 // The sector of the leader of a file, or none where the file map has no leader of it.
 pub(crate) fn leader_of<D: Disk, A: Allocator>(
@@ -45,6 +42,7 @@ pub(crate) fn leader_of<D: Disk, A: Allocator>(
     ensures place { IfOk result (λ found. IfSome found (λ sector. (filer.old.swapper.layout.first ≤ sector) × (sector < filer.old.swapper.layout.sectors))) }
     ensures same_bytes { (b : List ℕ) → Reveals FileMapPages (D.state filer.old.swapper.disk) filer.old.swapper.pool filer.old.swapper.layout b → Reveals FileMapPages (D.state filer.new.swapper.disk) filer.new.swapper.pool filer.old.swapper.layout b }
     ensures beside { Beside FileMapPages (D.state filer.old.swapper.disk) filer.old.swapper.pool filer.old.swapper.layout (D.state filer.new.swapper.disk) filer.new.swapper.pool filer.new.swapper.layout }
+    ensures looked { Looked FileMapPages (D.state filer.old.swapper.disk) filer.old.swapper.pool filer.old.swapper.layout (D.state filer.new.swapper.disk) filer.new.swapper.pool filer.new.swapper.layout }
     ensures runs_given { (r : RunIs) → IsOneOf r (runs_of filer.old.swapper.layout.sectors filer.new.runs) → IsGiven filer.old.swapper.layout (D.state filer.old.swapper.disk) filer.old.swapper.pool (runs_of filer.old.swapper.layout.sectors filer.old.runs) r }
     ensures runs_are { (m : List Sector) (named : Triples) → Stands (D.state filer.old.swapper.disk) filer.old.swapper.pool m → MapIs filer.old.swapper.layout named m → AreOf named (runs_of filer.old.swapper.layout.sectors filer.old.runs)
         → AreOf named (runs_of filer.old.swapper.layout.sectors filer.new.runs) }

@@ -16,11 +16,8 @@ ghost use Rattle.file_manager.specs.Reasons.{Keeps, KeepsFrom, MayTake, InitialS
 
 use crate::growth::{make_run, make_up};
 use filer_kernel::Filer;
-use labelled_disk::{Disk, FileId, Halt};
+use labelled_disk::{Disk, FileId, Halt, LEADER};
 use std::alloc::Allocator;
-
-/// The page number of a leader.
-const LEADER: u32 = 4_294_967_295;
 
 /// Makes the leader of a file that there is not yet, and then so many pages of zeros.
 pub fn make_file<D: Disk, A: Allocator>(

@@ -21,10 +21,10 @@ ghost use Rattle.filer_kernel.specs.Evidence.{ShowsEvidence};
 ghost use Rattle.file_manager.specs.Roots.{RootStays};
 ghost use Rattle.file_manager.specs.Reasons.{Keeps, InitialState, ShowsReason};
 
-use crate::leader::{LEADER, leader_of};
+use crate::leader::leader_of;
 use filer_kernel::Filer;
 use label_calls::{Mark, mark_leader};
-use labelled_disk::{Disk, Evidence, FileId, Halt};
+use labelled_disk::{Disk, Evidence, FileId, Halt, LEADER};
 use std::alloc::Allocator;
 
 // Gives a file a mark.

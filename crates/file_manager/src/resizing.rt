@@ -23,9 +23,8 @@ use crate::Volume;
 use crate::cutting::shrink;
 use crate::finding::find_file;
 use crate::growing::grow;
-use crate::leader::LEADER;
 use filer_kernel::Filer;
-use labelled_disk::{Disk, Evidence, FileId, Halt};
+use labelled_disk::{Disk, Evidence, FileId, Halt, LEADER};
 use std::alloc::Allocator;
 
 /// Gives a file so many pages: others of zeros after those that it has, or the first of them alone.

@@ -22,15 +22,12 @@ ghost use Rattle.file_manager.specs.Roots.{RootStays};
 ghost use Rattle.file_manager.specs.Reasons.{Keeps, KeepsBare, KeepsOn, KeepsRevealed, MissesNone, NamesTables, InitialState, ShowsReason, telling};
 ghost use Rattle.file_manager.specs.Taking.{NamesNoneOf};
 
-use crate::growth::{TABLES, frames_of, make_run};
+use crate::growth::{frames_of, make_run};
 use crate::release::free_up;
 use filer_kernel::Filer;
 use force_calls::discard;
-use labelled_disk::{Disk, Halt};
+use labelled_disk::{Disk, Halt, TABLE_PAGES, TABLES};
 use std::alloc::Allocator;
-
-/// How many pages the space tables have.
-const TABLE_PAGES: u32 = 96;
 
 // Makes these pages in the lowest free data sectors, where the file map names none of them.
 fn make_pages<D: Disk, A: Allocator>(filer: &mut Filer<D, A>) -> Result<(), Halt>

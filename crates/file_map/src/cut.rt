@@ -8,9 +8,9 @@ ghost use Rattle.file_map.specs.Cause.{IsCause, IsToCut, FromMemory};
 use crate::count::count_of;
 use crate::entries::CutEntries;
 use crate::error::MapError;
-use crate::run::{LEADER, Run, key_of};
+use crate::run::{Run, key_of};
 use crate::search::last_run;
-use labelled_disk::FileId;
+use labelled_disk::{FileId, LEADER};
 
 // Takes the last run of the file out where it begins at `from` or after it; true says that there may be more. Else the
 // last run is shortened where it ends after `from`.

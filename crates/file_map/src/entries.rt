@@ -36,6 +36,9 @@ pub trait SearchedEntries {
     /// What stands beside the list was kept from the first state to the second.
     ghost beside: { Self → Self → Type 0 };
 
+    /// From the first state to the second there were reads alone.
+    ghost only_reads: { Self → Self → Type 0 };
+
     /// The memory's error is accounted for by what happened between the two states.
     ghost accounted: { Self → Self → Self.Error → Type 0 };
 
@@ -55,6 +58,7 @@ pub trait SearchedEntries {
         ensures same_sights { (sight : Sight) → shows self.new sight → shows self.old sight }
         ensures same_bytes { (b : List ℕ) → revealed self.old b → revealed self.new b }
         ensures kept { beside self.old self.new }
+        ensures looked { only_reads self.old self.new }
         ensures cause { IfErr result (IsCause ⊥ (shows self.old) (accounted self.old self.new)) }
         ensures cost { spent self.new ≤ spent self.old + count_cost };
 
@@ -71,6 +75,7 @@ pub trait SearchedEntries {
         ensures same_sights { (sight : Sight) → shows self.new sight → shows self.old sight }
         ensures same_bytes { (b : List ℕ) → revealed self.old b → revealed self.new b }
         ensures kept { beside self.old self.new }
+        ensures looked { only_reads self.old self.new }
         ensures cause { IfErr result (IsCause ⊥ (shows self.old) (accounted self.old self.new)) }
         ensures cost { spent self.new ≤ spent self.old + look_cost };
 
@@ -87,6 +92,7 @@ pub trait SearchedEntries {
         ensures same_sights { (sight : Sight) → shows self.new sight → shows self.old sight }
         ensures same_bytes { (b : List ℕ) → revealed self.old b → revealed self.new b }
         ensures kept { beside self.old self.new }
+        ensures looked { only_reads self.old self.new }
         ensures cause { IfErr result (IsCause ⊥ (shows self.old) (accounted self.old self.new)) }
         ensures cost { spent self.new ≤ spent self.old + after_cost };
 

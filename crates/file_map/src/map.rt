@@ -51,6 +51,7 @@ impl<M: FlatMem> FileMap<M> {
         ensures same_bytes { (b : List ℕ) → M.reveals (map_memory self.old) b → M.reveals (map_memory self.new) b }
         ensures sectors { map_sectors self.new ≡ map_sectors self.old }
         ensures kept { M.beside (map_memory self.old) (map_memory self.new) }
+        ensures looked { M.only_reads (map_memory self.old) (map_memory self.new) }
         ensures cause { IfErr result (IsCause (map_sectors self.old) ⊥ (Shows self.old) (M.accounted (map_memory self.old) (map_memory self.new))) }
         ensures cost { M.spent (map_memory self.new) ≤ M.spent (map_memory self.old) + 7 * M.cost }
     {
@@ -66,6 +67,7 @@ impl<M: FlatMem> FileMap<M> {
         ensures same_bytes { (b : List ℕ) → M.reveals (map_memory self.old) b → M.reveals (map_memory self.new) b }
         ensures sectors { map_sectors self.new ≡ map_sectors self.old }
         ensures kept { M.beside (map_memory self.old) (map_memory self.new) }
+        ensures looked { M.only_reads (map_memory self.old) (map_memory self.new) }
         ensures cause { IfErr result (IsCause (map_sectors self.old) ⊥ (Shows self.old) (M.accounted (map_memory self.old) (map_memory self.new))) }
         ensures cost { M.spent (map_memory self.new) ≤ M.spent (map_memory self.old) + 7 * M.cost }
     {
@@ -82,6 +84,7 @@ impl<M: FlatMem> FileMap<M> {
         ensures same_bytes { (b : List ℕ) → M.reveals (map_memory self.old) b → M.reveals (map_memory self.new) b }
         ensures sectors { map_sectors self.new ≡ map_sectors self.old }
         ensures kept { M.beside (map_memory self.old) (map_memory self.new) }
+        ensures looked { M.only_reads (map_memory self.old) (map_memory self.new) }
         ensures cause { IfErr result (IsCause (map_sectors self.old) ⊥ (Shows self.old) (M.accounted (map_memory self.old) (map_memory self.new))) }
         ensures cost { M.spent (map_memory self.new) ≤ M.spent (map_memory self.old) + 18 * M.cost }
     {

@@ -7,9 +7,9 @@ ghost use Rattle.file_map.specs.Cause.{IsCause, FromMemory};
 
 use crate::entries::SearchedEntries;
 use crate::error::MapError;
-use crate::run::{LEADER, Run};
+use crate::run::Run;
 use crate::search::{first_run_above, last_run};
-use labelled_disk::FileId;
+use labelled_disk::{FileId, LEADER};
 
 /// The run that has this page.
 pub fn find<T: SearchedEntries>(
@@ -28,6 +28,7 @@ pub fn find<T: SearchedEntries>(
     ensures same_sights { (sight : Sight) → T.shows entries.new sight → T.shows entries.old sight }
     ensures same_bytes { (b : List ℕ) → T.revealed entries.old b → T.revealed entries.new b }
     ensures kept { T.beside entries.old entries.new }
+    ensures looked { T.only_reads entries.old entries.new }
     ensures cause { IfErr result (IsCause sectors ⊥ (T.shows entries.old) (T.accounted entries.old entries.new)) }
     ensures cost { T.spent entries.new ≤ T.spent entries.old + T.look_cost }
 {
@@ -54,6 +55,7 @@ pub fn size<T: SearchedEntries>(
     ensures same_sights { (sight : Sight) → T.shows entries.new sight → T.shows entries.old sight }
     ensures same_bytes { (b : List ℕ) → T.revealed entries.old b → T.revealed entries.new b }
     ensures kept { T.beside entries.old entries.new }
+    ensures looked { T.only_reads entries.old entries.new }
     ensures cause { IfErr result (IsCause sectors ⊥ (T.shows entries.old) (T.accounted entries.old entries.new)) }
     ensures cost { T.spent entries.new ≤ T.spent entries.old + T.look_cost }
 {
@@ -81,6 +83,7 @@ pub fn next_file<T: SearchedEntries>(
     ensures same_sights { (sight : Sight) → T.shows entries.new sight → T.shows entries.old sight }
     ensures same_bytes { (b : List ℕ) → T.revealed entries.old b → T.revealed entries.new b }
     ensures kept { T.beside entries.old entries.new }
+    ensures looked { T.only_reads entries.old entries.new }
     ensures cause { IfErr result (IsCause sectors ⊥ (T.shows entries.old) (T.accounted entries.old entries.new)) }
     ensures cost { T.spent entries.new ≤ T.spent entries.old + T.after_cost }
 {

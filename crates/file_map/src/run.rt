@@ -3,7 +3,7 @@ ghost use Rattle.std.specs.Prelude.{◌≡◌, ◌↔◌, ℕ, ◌+◌, ◌<◌,
 ghost use Rattle.file_map.specs.Run.{IsRun, IsRecord, holds, key_bytes, run_bytes, run_in};
 ghost use Rattle.labelled_disk.specs.Layout.{first_data};
 
-use labelled_disk::FileId;
+use labelled_disk::{FileId, TABLES};
 
 /// Pages of a file that stand in sectors in a row: page `first + k` in sector `sector + k`, for `k` below `pages`.
 #[derive(Clone, Copy, Debug, Default, PartialEq, Eq)]
@@ -15,9 +15,6 @@ pub struct Run {
     /// The sector of the first page.
     pub sector: u32,
 }
-
-/// The page that is the leader of a file.
-pub const LEADER: u32 = 0xffff_ffff;
 
 /// The bytes of a record.
 pub type Record = [u8; 24];
@@ -103,7 +100,7 @@ fn is_in_form(run: Run, sectors: u32) -> bool
     ensures yes { result ≡ true → IsRun sectors run }
     ensures no { result ≡ false → ¬ IsRun sectors run }
 {
-    (run.id == 3 || run.id >= 16)
+    (run.id == TABLES || run.id >= 16)
         && run.pages >= 1
         && run.end() <= 0x1_0000_0000
         && run.sector >= first_data_of(sectors)

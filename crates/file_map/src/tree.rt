@@ -31,6 +31,8 @@ impl<'m, M: FlatMem> SearchedEntries for PageTree<&'m mut M, 24, 12> {
 
     ghost beside = { λ a b. ((tree_memory a).ghost_name ≡ (tree_memory b).ghost_name) × M.beside (tree_memory a).now (tree_memory b).now };
 
+    ghost only_reads = { λ a b. ((tree_memory a).ghost_name ≡ (tree_memory b).ghost_name) × M.only_reads (tree_memory a).now (tree_memory b).now };
+
     ghost accounted = { λ a b e. M.accounted (tree_memory a).now (tree_memory b).now e };
 
     ghost shows = { λ t sight. (b : List ℕ) → M.reveals (tree_memory t).now b → IsShown (M.size (tree_memory t).now / 512) b sight };

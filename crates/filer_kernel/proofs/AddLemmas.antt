@@ -71,7 +71,7 @@ add_sound (Err (Mem h)) P n whole full stays x d e s room own is m stands named 
 window_halts : (x : Layout) (d e : DiskState) (s : Slots) (h : Halt) → HasCause (IsMismatch (held_or s (IsMapHome FileMap x)) d) d e h → AddHalts x d s e h
 window_halts x d e s halt.Disk is = is
 window_halts x d e s (halt.Damaged (Mismatch sector wanted found)) is = is
-window_halts x d e s (halt.Damaged (MalformedPage window page)) is = absurd is
+window_halts x d e s (halt.Damaged (MalformedPage structure page)) is = absurd is
 window_halts x d e s (halt.Damaged (Missing id page)) is = is
 
 -- no record may be added, on a volume of n sectors

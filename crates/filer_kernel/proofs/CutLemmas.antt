@@ -55,7 +55,7 @@ until_then what disk e slots t x place y same at later is =
 window_halts : (x : Layout) (d e : DiskState) (s t : Slots) (h : Halt) → HasCause (IsMismatch (held_or s (IsMapHome FileMap x)) d) d e h → CutHalts x d s e t h
 window_halts x d e s t halt.Disk is = is
 window_halts x d e s t (halt.Damaged (Mismatch sector wanted found)) is = is
-window_halts x d e s t (halt.Damaged (MalformedPage window page)) is = absurd is
+window_halts x d e s t (halt.Damaged (MalformedPage structure page)) is = absurd is
 window_halts x d e s t (halt.Damaged (Missing id page)) is = is
 
 pub cut_halts : {T : Type 0} (r : Result T (MapError Halt)) (n : ℕ) (x : Layout) (d e : DiskState) (s t : Slots) (y : Layout) → n ≡ x.sectors → d.sectors ≡ x.sectors → IfErr r (IsAtCrashState n FileMap d s x e t y) → IfErr (halted r) (CutHalts x d s e t)

@@ -91,7 +91,7 @@ becomes_named {also = also} {e = e} {x = x} {y = y} same beside m stands named n
 pub search_halts : (x : Layout) (d e : DiskState) (s : Slots) (h : Halt) → HasCause (IsMismatch (held_or s (IsMapHome FileMap x)) d) d e h → MapHalts x d s e h
 search_halts x d e s halt.Disk is = is
 search_halts x d e s (halt.Damaged (Mismatch sector wanted found)) is = is
-search_halts x d e s (halt.Damaged (MalformedPage window page)) is = absurd is
+search_halts x d e s (halt.Damaged (MalformedPage structure page)) is = absurd is
 search_halts x d e s (halt.Damaged (Missing id page)) is = is
 
 pub broken_same : {n o p q page : ℕ} {reveals : List ℕ → Type 0} → n ≡ o → p ≡ q → IsBroken n (ShownBy reveals p) page → IsBroken o (ShownBy reveals q) page
@@ -125,7 +125,7 @@ map_sound (Err (Mem h)) P n full x d e s own is m stands named = is.sound m stan
 pub window_right : (homes : Home → Type 0) (d e : DiskState) (h : Halt) → HasCause (IsMismatch homes d) d e h → IsFaultOrMismatch h
 window_right homes d e halt.Disk is = tt
 window_right homes d e (halt.Damaged (Mismatch sector wanted found)) is = tt
-window_right homes d e (halt.Damaged (MalformedPage window page)) is = is
+window_right homes d e (halt.Damaged (MalformedPage structure page)) is = is
 window_right homes d e (halt.Damaged (Missing id page)) is = is
 
 -- where the map is in form, neither is one of its calls

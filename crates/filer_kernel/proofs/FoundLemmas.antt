@@ -16,22 +16,22 @@ use Rattle.file_map.specs.FileMap.{Triples, IsNowhere}
 use Rattle.file_map.proofs.Runs.{has_page}
 use Rattle.swapper_kernel.specs.declared.manager.Manager.TheVariants.{FileMap}
 use Rattle.swapper_kernel.specs.Maps.{IsMapHome}
-use Rattle.swapper_kernel.specs.Homes.{IsLayout, AreNamed, IsNamed}
+use Rattle.swapper_kernel.specs.Homes.{IsLayout, AreNamed, IsNamed, no_home}
 use Rattle.swapper_kernel.specs.Stands.{Stands}
 use Rattle.swapper_kernel.specs.DiffersLaws.{differs_itself, same_length}
 use Rattle.swapper_kernel.specs.FormLaws.{memory_in_form}
-use Rattle.swapper_kernel.specs.GoesLaws.{makes_wider}
+use Rattle.swapper_kernel.specs.GoesLaws.{makes_wider, swaps_stands}
 use Rattle.swapper_kernel.specs.HaltLaws.{brings_wider}
 use Rattle.swapper_kernel.specs.CourseLaws.{steps_wider}
 use Rattle.swapper_kernel.specs.OnceLaws.{stands_once}
 use Rattle.swapper_kernel.specs.ThereLaws.{reveals_there}
-use Rattle.swapper_kernel.specs.Window.{Shows, Reveals, Beside, map_bytes}
+use Rattle.swapper_kernel.specs.Window.{Shows, Reveals, Beside, Looked, map_bytes}
 use Rattle.filer_kernel.specs.declared.cached.CachedRuns.{CachedRuns}
 use Rattle.filer_kernel.specs.Cached.{runs_of}
 use Rattle.filer_kernel.specs.Triples.{MapIs, AreOf, IsOneOf}
 use Rattle.filer_kernel.specs.Causes.{IsGiven, MapHalts}
 use Rattle.filer_kernel.specs.PlaceLaws.{data_first, one_sector}
-use Rattle.filer_kernel.specs.Tables.{in_tables, table_pages, IsFoundHome, FoundHalts, IfMissing, IsComing, IsChanging, IsTablePage, TablesReveal, BesideTables, IsTableAccounted}
+use Rattle.filer_kernel.specs.Tables.{in_tables, table_pages, IsFoundHome, FoundHalts, IfMissing, IsComing, IsChanging, IsTablePage, TablesReveal, BesideTables, LookedTables, IsTableAccounted}
 use Rattle.filer_kernel.specs.TableOnce.{map_over, tables_stay}
 use Rattle.filer_kernel.proofs.MapLemmas.{same_elements, stays_shown}
 
@@ -64,6 +64,19 @@ beside_found {a = a} {s = s} {x = x} {k = k} h stays given are = record {
   revealed = λ bytes reveals. (bytes, tables_stay h.layout h.goes.makes.went.sectors (λ m named stands map. stays m stands) are bytes reveals (map_over x reveals.triples h.brings));
 }
 
+-- which only looks
+pub looked_found : {a b : DiskState} {s t : Slots} {x y : Layout} {k l : CachedRuns} → Looked FileMap a s x b t y → ((r : Run) → IsOneOf r (runs_of x.sectors l) → IsGiven x a s (runs_of x.sectors k) r)
+    → ((m : List Sector) (named : Triples) → Stands a s m → MapIs x named m → AreOf named (runs_of x.sectors k) → AreOf named (runs_of x.sectors l)) → LookedTables a s x k b t y l
+looked_found {a = a} {s = s} {x = x} {k = k} h given are = record {
+  swaps = h.swaps;
+  brings = brings_wider (IsComing x a s (runs_of x.sectors k)) (λ home is. inl is) h.brings;
+  steps = steps_wider (IsComing x a s (runs_of x.sectors k)) no_home (λ home is. inl is) (λ home no. no) h.steps;
+  layout = h.layout;
+  given = given;
+  runs_are = are;
+  revealed = λ bytes reveals. tables_stay h.layout h.swaps.makes.went.sectors (λ m named stands map. swaps_stands h.swaps m stands) are bytes reveals (map_over x reveals.triples h.brings);
+}
+
 -- the home that a run gives to a page of the space tables
 pub found_home : (x : Layout) (a : DiskState) (s : Slots) (kept : List Run) (r : Run) (page : ℕ) → IsLayout x → IsGiven x a s kept r → IsRun x.sectors r → holds r 3 page ≡ true
     → IsFoundHome x a s kept (record { sector = sector_at r page; id = 3; page = page })
@@ -90,7 +103,7 @@ found_named x a s k b page sector below reveals found m stands =
 found_wider : (x : Layout) (a b : DiskState) (s : Slots) (kept : List Run) (e : Halt) → MapHalts x a s b e → FoundHalts x a s kept b e
 found_wider x a b s kept Disk h = h
 found_wider x a b s kept (Damaged (Mismatch sector wanted found)) h = record { there = h.there; other = h.other; reason = inl h.reason }
-found_wider x a b s kept (Damaged (Malformed window page)) h = h
+found_wider x a b s kept (Damaged (Malformed structure page)) h = h
 found_wider x a b s kept (Damaged (Missing id page)) h = absurd h
 
 -- a halt of the search
@@ -105,7 +118,7 @@ accounted_found x a b s k e cause sound = record {
 pub none_missing : (x : Layout) (a b : DiskState) (s : Slots) (page : ℕ) (e : Halt) → MapHalts x a s b e → IfMissing page e
 none_missing x a b s page Disk h = tt
 none_missing x a b s page (Damaged (Mismatch sector wanted found)) h = tt
-none_missing x a b s page (Damaged (Malformed window broken)) h = tt
+none_missing x a b s page (Damaged (Malformed structure broken)) h = tt
 none_missing x a b s page (Damaged (Missing id missing)) h = absurd h
 
 -- the map has no sector for the page

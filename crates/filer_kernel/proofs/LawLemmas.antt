@@ -76,7 +76,7 @@ named_stays layout named m n differs map = record { bytes = map.bytes; shows = s
 
 -- a disk without frames that reveals this memory
 abbrev reveals_alone : Layout → List Sector → DiskState
-reveals_alone layout m = record { sectors = layout.sectors; contents = Some m; writes = None; transfers = 0; faults = 0; synced = true; lent = [] }
+reveals_alone layout m = record { sectors = layout.sectors; contents = Some m; writes = None; syncs = None; transfers = 0; faults = 0; synced = true; lent = [] }
 
 alone : (layout : Layout) (m : List Sector) → Stands (reveals_alone layout m) [] m
 alone layout m = record { sectors = m; revealed = refl; merged = record { labels = refl; frames = λ i f has. absurd (none-some (Some f) has.is); clean = λ k clean. refl } }

@@ -18,7 +18,7 @@ use Rattle.swapper_kernel.specs.Homes.{IsLayout, IsPlaced, IsNamed, Brings, no_h
 use Rattle.swapper_kernel.specs.Stands.{Stands, IsHome}
 use Rattle.swapper_kernel.specs.Differs.{Differs}
 use Rattle.swapper_kernel.specs.Goes.{Same, Swaps}
-use Rattle.swapper_kernel.specs.GoesLaws.{goes_then, swaps_wider}
+use Rattle.swapper_kernel.specs.GoesLaws.{goes_then, swaps_then, swaps_wider}
 use Rattle.swapper_kernel.specs.Halts.{Halts, held_or}
 use Rattle.swapper_kernel.specs.HaltLaws.{brings_then, brings_wider, label_before, rose_wider}
 use Rattle.swapper_kernel.specs.Steps.{Steps}
@@ -27,7 +27,8 @@ use Rattle.filer_kernel.specs.declared.cached.CachedRuns.{CachedRuns}
 use Rattle.filer_kernel.specs.Cached.{runs_of}
 use Rattle.filer_kernel.specs.Causes.{IsRunHome}
 use Rattle.filer_kernel.specs.PlaceLaws.{one_sector}
-use Rattle.filer_kernel.specs.Tables.{in_tables, table_pages, IsFoundHome, FoundHalts, IfMissing, IsComing, IsChanging, IsTablePage, TablesReveal, BesideTables, IsTableAccounted}
+use Rattle.filer_kernel.specs.Tables.{in_tables, table_pages, IsFoundHome, FoundHalts, IfMissing, IsComing, IsChanging, IsTablePage, TablesReveal, BesideTables, LookedTables, IsTableAccounted}
+use Rattle.filer_kernel.specs.TableLaws.{looked_tables_beside}
 use Rattle.filer_kernel.specs.TableOnce.{ComeOver, come_over, run_home_over, same_sectors, tables_swapped}
 
 no_map : (id : ℕ) → id ≡ 3 → (which : Manager) → id ≢ id_of which
@@ -98,7 +99,7 @@ module _ {a b : DiskState} {s t : Slots} {x y : Layout} {k l : CachedRuns} (home
   halts_fetched : (c : DiskState) (e : Halt) → Halts (λ (o : Home). o ≡ home) b t c e → FoundHalts x a s (runs_of x.sectors k) c e
   halts_fetched c Disk is = rose_wider a.faults b.faults c.faults c.faults h.goes.makes.went.faults (omega arith) is
   halts_fetched c (Damaged (Mismatch sector wanted label)) is = record { there = label_before h.goes.makes.wrote sector label is.there; other = is.other; reason = reason_found _ is.reason }
-  halts_fetched c (Damaged (Malformed window page)) is = absurd is
+  halts_fetched c (Damaged (Malformed structure page)) is = absurd is
   halts_fetched c (Damaged (Missing id page)) is = absurd is
 
   -- it could not be brought in
@@ -107,11 +108,26 @@ module _ {a b : DiskState} {s t : Slots} {x y : Layout} {k l : CachedRuns} (home
   accounted_fetched c (Ok i) cause sound stays named = tt
   accounted_fetched c (Err e) cause sound stays named = record { cause = halts_fetched c e cause; sound = λ m bytes stands maps reveals. sound m (stays m stands) (named bytes reveals m stands) }
 
+-- a page that was found is brought in, and what is done is a look
+pub looked_fetched : {a b c : DiskState} {s t u : Slots} {x y z : Layout} {k l : CachedRuns} (home : Home) → LookedTables a s x k b t y l → IsFoundHome x a s (runs_of x.sectors k) home → IsLayout x
+    → Swaps b t c u → Brings (λ (o : Home). o ≡ home) t u → Steps (λ (o : Home). o ≡ home) no_home b t c u → z ≡ y → LookedTables a s x k c u z l
+looked_fetched {a = a} {s = s} {x = x} {k = k} home h found is swaps brings steps same =
+    let coming : (o : Home) → o ≡ home → IsComing x a s (runs_of x.sectors k) o = λ o at. inr (subst (IsFoundHome x a s (runs_of x.sectors k)) (sym at) found) in
+    record {
+      swaps = swaps_then h.swaps swaps;
+      brings = brings_then h.brings (brings_wider (IsComing x a s (runs_of x.sectors k)) coming brings);
+      steps = steps_then h.steps (steps_wider (IsComing x a s (runs_of x.sectors k)) no_home coming (λ o no. no) steps);
+      layout = same ∙ h.layout;
+      given = h.given;
+      runs_are = h.runs_are;
+      revealed = λ bytes reveals. revealed_fetched home (looked_tables_beside h) found is swaps brings same h.revealed bytes reveals;
+    }
+
 -- no page is missing where one was found
 missing_no : (homes : Home → Type 0) (b : DiskState) (t : Slots) (c : DiskState) (page : ℕ) (e : Halt) → Halts homes b t c e → IfMissing page e
 missing_no homes b t c page Disk is = tt
 missing_no homes b t c page (Damaged (Mismatch sector wanted label)) is = tt
-missing_no homes b t c page (Damaged (Malformed window broken)) is = tt
+missing_no homes b t c page (Damaged (Malformed structure broken)) is = tt
 missing_no homes b t c page (Damaged (Missing id missing)) is = absurd is
 
 pub found_missing : (homes : Home → Type 0) (b : DiskState) (t : Slots) (c : DiskState) (page : ℕ) (r : Result ℕ Halt) → IfErr r (Halts homes b t c) → IfErr r (IfMissing page)

@@ -3,6 +3,8 @@ use Rattle.std.specs.Prelude.{◌≡◌, ◌⊎◌, ℕ, true, List}
 use Rattle.labelled_disk.specs.declared.layout.Layout.{Layout}
 use Rattle.labelled_disk.specs.declared.evidence.Evidence.{Evidence}
 use Rattle.labelled_disk.specs.declared.evidence.Evidence.TheVariants.{Mismatch, Malformed, Missing}
+use Rattle.labelled_disk.specs.declared.structure.Structure.TheVariants as structures
+use Rattle.labelled_disk.specs.Structure.{IsOfFileMap}
 use Rattle.labelled_disk.specs.declared.evidence.Halt.{Halt}
 use Rattle.labelled_disk.specs.declared.evidence.Halt.TheVariants.{Disk, Damaged}
 use Rattle.labelled_disk.specs.State.{DiskState}
@@ -40,14 +42,14 @@ pub record IsRunHome (layout : Layout) (disk : DiskState) (slots : Slots) (kept 
 -- the evidence is a label, another than that of a home of the map or of a frame; or a page of the map that breaks its form
 abbrev pub MapEvidence : Layout → DiskState → Slots → Evidence → Type 0
 MapEvidence layout disk slots (Mismatch sector wanted found) = IsOther (held_or slots (IsMapHome FileMap layout)) disk sector wanted found
-MapEvidence layout disk slots (Malformed window page) = (window ≡ 2) × IsBroken layout.sectors (MapShows layout disk slots) page
+MapEvidence layout disk slots (Malformed structure page) = IsOfFileMap structure × IsBroken layout.sectors (MapShows layout disk slots) page
 MapEvidence layout disk slots (Missing id page) = ⊥
 
 -- the halt is a fault of the disk, or a label that is another: no page breaks its form, and none is missing
 abbrev pub IsFaultOrMismatch : Halt → Type 0
 IsFaultOrMismatch Disk = Unit {0}
 IsFaultOrMismatch (Damaged (Mismatch sector wanted found)) = Unit {0}
-IsFaultOrMismatch (Damaged (Malformed window page)) = ⊥
+IsFaultOrMismatch (Damaged (Malformed structure page)) = ⊥
 IsFaultOrMismatch (Damaged (Missing id page)) = ⊥
 
 -- the halt of a call that searches the map
@@ -61,7 +63,7 @@ MapCounts layout disk slots n = (b : List ℕ) × Reveals FileMap disk slots lay
 -- such evidence, or a page of the map where no record can be put in, or the map has as many records as it may
 abbrev pub AddEvidence : Layout → DiskState → Slots → Evidence → Type 0
 AddEvidence layout disk slots (Mismatch sector wanted found) = IsOther (held_or slots (IsMapHome FileMap layout)) disk sector wanted found
-AddEvidence layout disk slots (Malformed window page) = (window ≡ 2) × ((IsBroken layout.sectors (MapShows layout disk slots) page ⊎ MapShows layout disk slots (Stops page)) ⊎ ((page ≡ 0) × IsMost layout.sectors (MapCounts layout disk slots)))
+AddEvidence layout disk slots (Malformed structure page) = IsOfFileMap structure × ((IsBroken layout.sectors (MapShows layout disk slots) page ⊎ MapShows layout disk slots (Stops page)) ⊎ ((page ≡ 0) × IsMost layout.sectors (MapCounts layout disk slots)))
 AddEvidence layout disk slots (Missing id page) = ⊥
 
 -- the halt of a call that adds to the map
@@ -70,9 +72,9 @@ AddHalts layout old before new halt = HasCause (AddEvidence layout old before) o
 
 -- the halt is a fault of the disk, or a label that is another; or the map counts as many records as it may
 abbrev pub IsFaultOrMost : Layout → DiskState → Slots → Halt → Type 0
-IsFaultOrMost layout disk slots halt = IsFaultOrMismatch halt ⊎ ((halt ≡ Damaged (Malformed 2 0)) × MapCounts layout disk slots (most_records layout.sectors))
+IsFaultOrMost layout disk slots halt = IsFaultOrMismatch halt ⊎ ((halt ≡ Damaged (Malformed structures.FileMap 0)) × MapCounts layout disk slots (most_records layout.sectors))
 
--- as disk and frames were in some crash state between two others, this page of the map broke its form
+-- as disk and frames were at some time between two others, this page of the map broke its form
 pub record IsBrokenBetween (layout : Layout) (old : DiskState) (before : Slots) (new : DiskState) (after : Slots) (page : ℕ) : Type 0 where
   pub disk : DiskState
   pub slots : Slots
@@ -80,10 +82,10 @@ pub record IsBrokenBetween (layout : Layout) (old : DiskState) (before : Slots) 
   pub until : Beside FileMap disk slots layout new after layout
   pub broken : IsBroken layout.sectors (MapShows layout disk slots) page
 
--- the evidence is a label, as in a search; or a page of the map that broke its form in some crash state of the call
+-- the evidence is a label, as in a search; or a page of the map that broke its form at some time in the call
 abbrev pub CutEvidence : Layout → DiskState → Slots → DiskState → Slots → Evidence → Type 0
 CutEvidence layout old before new after (Mismatch sector wanted found) = IsOther (held_or before (IsMapHome FileMap layout)) old sector wanted found
-CutEvidence layout old before new after (Malformed window page) = (window ≡ 2) × IsBrokenBetween layout old before new after page
+CutEvidence layout old before new after (Malformed structure page) = IsOfFileMap structure × IsBrokenBetween layout old before new after page
 CutEvidence layout old before new after (Missing id page) = ⊥
 
 -- the halt of a call that cuts a file in the map

@@ -4,6 +4,7 @@ use Rattle.labelled_disk.specs.declared.label.Label.{Label}
 use Rattle.labelled_disk.specs.declared.label.Wanted.{Wanted}
 use Rattle.labelled_disk.specs.declared.evidence.Evidence.{Evidence}
 use Rattle.labelled_disk.specs.declared.evidence.Evidence.TheVariants.{Mismatch, Malformed, Missing}
+use Rattle.labelled_disk.specs.Structure.{IsOfFileMap, IsOfTables}
 use Rattle.labelled_disk.specs.declared.evidence.Halt.{Halt}
 use Rattle.labelled_disk.specs.declared.evidence.Halt.TheVariants.{Disk, Damaged}
 use Rattle.labelled_disk.specs.Label.{is_free, names}
@@ -29,7 +30,7 @@ MayBeMissing id page = ((id ≡ 3) × (page < 96)) ⊎ (16 ≤ id)
 -- for is said by the cause of the call.
 abbrev pub IsEvident : DiskState → Evidence → Type 0
 IsEvident disk (Mismatch sector wanted found) = HasLabel disk sector found × IsUnwanted found wanted × MayBeIn disk.sectors sector wanted
-IsEvident disk (Malformed window page) = (window ≡ 2) ⊎ (window ≡ 3)
+IsEvident disk (Malformed structure page) = IsOfFileMap structure ⊎ IsOfTables structure
 IsEvident disk (Missing id page) = MayBeMissing id page
 
 -- a halt of a call that left the disk so: the disk failed, or what the evidence says is so

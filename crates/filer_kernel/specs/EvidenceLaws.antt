@@ -61,7 +61,7 @@ map_homes_placed which layout home is = subst (IsPlaced layout) (sym is.2) (map_
 
 pub so_after : {pages : Pages} {a b : DiskState} {s t : Slots} → Makes pages [] a s b t → (e : Evidence) → IsEvident a e → IsEvident b e
 so_after makes (Mismatch sector wanted found) is = (label_after makes.wrote sector found is.0, is.1, subst (λ (n : ℕ). MayBeIn n sector wanted) (sym makes.went.sectors) is.2)
-so_after makes (Malformed window page) is = is
+so_after makes (Malformed structure page) is = is
 so_after makes (Missing id page) is = is
 
 -- what a halt shows is so still after calls that wrote no label
@@ -99,28 +99,28 @@ module _ {layout : Layout} {disk : DiskState} {slots : Slots} (is_fit : Fits lay
 
   mismatch_so : (homes : Homes) → ((home : Home) → homes home → IsPlaced layout home) → (e : Evidence) → IsMismatch (held_or slots homes) disk e → IsEvident disk e
   mismatch_so homes all (Mismatch sector wanted found) is = other_so (held_or slots homes) (held_placed homes all) sector wanted found is
-  mismatch_so homes all (Malformed window page) is = absurd is
+  mismatch_so homes all (Malformed structure page) is = absurd is
   mismatch_so homes all (Missing id page) is = absurd is
 
   map_so : (e : Evidence) → MapEvidence layout disk slots e → IsEvident disk e
   map_so (Mismatch sector wanted found) is = of_map_so sector wanted found is
-  map_so (Malformed window page) is = inl is.0
+  map_so (Malformed structure page) is = inl is.0
   map_so (Missing id page) is = absurd is
 
   add_so : (e : Evidence) → AddEvidence layout disk slots e → IsEvident disk e
   add_so (Mismatch sector wanted found) is = of_map_so sector wanted found is
-  add_so (Malformed window page) is = inl is.0
+  add_so (Malformed structure page) is = inl is.0
   add_so (Missing id page) is = absurd is
 
   cut_so : (new : DiskState) (after : Slots) (e : Evidence) → CutEvidence layout disk slots new after e → IsEvident disk e
   cut_so new after (Mismatch sector wanted found) is = of_map_so sector wanted found is
-  cut_so new after (Malformed window page) is = inl is.0
+  cut_so new after (Malformed structure page) is = inl is.0
   cut_so new after (Missing id page) is = absurd is
 
   found_so : (kept : List Run) (e : Evidence) → FoundEvidence layout disk slots kept e → IsEvident disk e
   found_so kept (Mismatch sector wanted found) is =
       other_so _ (held_or_file (IsFoundHome layout disk slots kept) (λ home one. one.table.on_data)) sector wanted found is
-  found_so kept (Malformed window page) is = inl is.0
+  found_so kept (Malformed structure page) is = inl is.0
   found_so kept (Missing id page) is = inl (is.0, is.1)
 
 -- ---- By the words of causes.

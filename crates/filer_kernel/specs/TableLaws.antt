@@ -2,7 +2,7 @@
 use Rattle.std.specs.Prelude.{◌≡◌, ◌⊎◌, ℕ, ◌<◌, ◌≤◌, ◌*◌, if◌then◌else◌, Bool, List, [], length}
 use Rattle.std.proofs.lemmas.Bool.Decides.{eqb_tells}
 use Rattle.std.proofs.lemmas.Bool.{eq-eqb}
-use Rattle.std.proofs.Common.{refl, sym, ◌∙◌, ap, arith, inl, inr}
+use Rattle.std.proofs.Common.{refl, sym, ◌∙◌, ap, subst, arith, inl, inr}
 use Rattle.labelled_disk.specs.declared.layout.Layout.{Layout}
 use Rattle.labelled_disk.specs.declared.evidence.Evidence.{Evidence}
 use Rattle.labelled_disk.specs.declared.evidence.Evidence.TheVariants.{Mismatch, Malformed, Missing}
@@ -17,11 +17,11 @@ use Rattle.file_map.specs.Entries.{Entry, Count, Broken}
 use Rattle.file_map.specs.Cause.{IsBroken}
 use Rattle.swapper_kernel.specs.declared.manager.Manager.TheVariants.{FileMap}
 use Rattle.swapper_kernel.specs.Maps.{IsMapHome}
-use Rattle.swapper_kernel.specs.Homes.{IsLayout, Brings}
+use Rattle.swapper_kernel.specs.Homes.{IsLayout, Brings, no_home}
 use Rattle.swapper_kernel.specs.Differs.{Differs}
 use Rattle.swapper_kernel.specs.DiffersLaws.{differs_itself, differs_then}
-use Rattle.swapper_kernel.specs.Goes.{Goes}
-use Rattle.swapper_kernel.specs.GoesLaws.{goes_itself, goes_then}
+use Rattle.swapper_kernel.specs.Goes.{Goes, Same}
+use Rattle.swapper_kernel.specs.GoesLaws.{goes_itself, goes_then, goes_wider, swaps_itself, swaps_then, swaps_stands}
 use Rattle.swapper_kernel.specs.Halts.{held_or}
 use Rattle.swapper_kernel.specs.HaltLaws.{brings_itself, brings_then, brings_wider, label_before, rose_wider}
 use Rattle.swapper_kernel.specs.CourseLaws.{steps_itself, steps_then, steps_wider}
@@ -31,7 +31,7 @@ use Rattle.filer_kernel.specs.Cached.{runs_of}
 use Rattle.filer_kernel.specs.Triples.{IsOneOf}
 use Rattle.filer_kernel.specs.Causes.{MapShows, IsGiven, IsRunHome}
 use Rattle.filer_kernel.specs.PlaceLaws.{map_kept, shown_before}
-use Rattle.filer_kernel.specs.Tables.{in_tables, table_pages, IsFoundHome, FoundEvidence, FoundHalts, IsComing, IsChanging, TablesReveal, BesideTables, IsTableAccounted, tables_size}
+use Rattle.filer_kernel.specs.Tables.{in_tables, table_pages, IsFoundHome, FoundEvidence, FoundHalts, IsComing, IsChanging, TablesReveal, BesideTables, LookedTables, IsTableAccounted, tables_size}
 
 -- ---- How many bytes are revealed.
 
@@ -94,7 +94,7 @@ module _ (layout : Layout) (is : IsLayout layout) {a b : DiskState} {s t : Slots
 
     evidence_before : (e : Evidence) → FoundEvidence layout b t now e → FoundEvidence layout a s kept e
     evidence_before (Mismatch sector wanted found) h = record { there = label_before goes.makes.wrote sector found h.there; other = h.other; reason = reason_before _ h.reason }
-    evidence_before (Malformed window page) h = (h.0, broken_before layout.sectors page h.1)
+    evidence_before (Malformed structure page) h = (h.0, broken_before layout.sectors page h.1)
     evidence_before (Missing id page) h = (h.0, h.1, λ m named stands map. let mid = goes.memory m stands in h.2 mid.0 named mid.1 (map_kept layout named m mid.0 is mid.2 map))
 
     pub found_halts_before : (c d : DiskState) → c.faults ≤ d.faults → (e : Halt) → FoundHalts layout b t now c e → FoundHalts layout a s kept d e
@@ -149,4 +149,46 @@ tables_accounted_then {c = c} {d = d} {w = w} {k = k} {l = l} {e = e} is h next 
           let mid = h.goes.memory m stands in
           let revealed = h.revealed b reveals in
           acc.sound mid.0 revealed.0 mid.1 (named_kept (IsMapHome FileMap w) m mid.0 mid.2.labels named) (reveals_moved h.layout revealed.0 revealed.1);
+    }
+
+-- ---- Looks in a row.
+
+-- a look is an access
+pub looked_tables_beside : {a b : DiskState} {s t : Slots} {x y : Layout} {k l : CachedRuns} → LookedTables a s x k b t y l → BesideTables a s x k b t y l
+looked_tables_beside {a = a} {s = s} {x = x} {k = k} h = record {
+  goes = goes_wider Same (Differs (in_tables x)) table_pages (λ m n is. subst (Differs (in_tables x) m) (sym is) (differs_itself (in_tables x) m)) (λ id p no. absurd no) h.swaps;
+  brings = h.brings;
+  steps = steps_wider (IsComing x a s (runs_of x.sectors k)) (IsChanging x) (λ home is. is) (λ home no. absurd no) h.steps;
+  layout = h.layout;
+  given = h.given;
+  runs_are = h.runs_are;
+  revealed = λ b reveals. (b, h.revealed b reveals);
+}
+
+pub looked_tables_itself : (d : DiskState) (s : Slots) (layout : Layout) (runs : CachedRuns) → LookedTables d s layout runs d s layout runs
+looked_tables_itself d s layout runs = record {
+  swaps = swaps_itself d s;
+  brings = brings_itself (IsComing layout d s (runs_of layout.sectors runs)) s;
+  steps = steps_itself (IsComing layout d s (runs_of layout.sectors runs)) no_home d s;
+  layout = refl;
+  given = λ r one. inl one;
+  runs_are = λ m named stands map are. are;
+  revealed = λ b reveals. reveals;
+}
+
+pub looked_tables_then : {a b c : DiskState} {s t u : Slots} {x y z : Layout} {k l m : CachedRuns} → IsLayout x → LookedTables a s x k b t y l → LookedTables b t y l c u z m → LookedTables a s x k c u z m
+looked_tables_then {a = a} {b = b} {c = c} {s = s} {t = t} {u = u} {x = x} {z = z} {k = k} {l = l} {m = m} is h next =
+    let after : LookedTables b t x l c u z m = rw (← h.layout) next in
+    let kept = runs_of x.sectors k in
+    let now = runs_of x.sectors l in
+    let goes = (looked_tables_beside h).goes in
+    let coming = coming_before x is kept now goes h.given in
+    record {
+      swaps = swaps_then h.swaps after.swaps;
+      brings = brings_then h.brings (brings_wider (IsComing x a s kept) coming after.brings);
+      steps = steps_then h.steps (steps_wider (IsComing x a s kept) no_home coming (λ home no. no) after.steps);
+      layout = after.layout;
+      given = λ r one. given_before x is kept now goes h.given r (after.given r one);
+      runs_are = λ m named stands map are. after.runs_are m named (swaps_stands h.swaps m stands) map (h.runs_are m named stands map are);
+      revealed = λ b reveals. after.revealed b (reveals_moved h.layout b (h.revealed b reveals));
     }

@@ -4,6 +4,7 @@ use Rattle.labelled_disk.specs.declared.label.Label.{Label}
 use Rattle.labelled_disk.specs.declared.layout.Layout.{Layout}
 use Rattle.labelled_disk.specs.declared.evidence.Evidence.{Evidence}
 use Rattle.labelled_disk.specs.declared.evidence.Evidence.TheVariants.{Mismatch, Malformed, Missing}
+use Rattle.labelled_disk.specs.Structure.{IsOfFileMap}
 use Rattle.labelled_disk.specs.declared.evidence.Halt.{Halt}
 use Rattle.labelled_disk.specs.declared.evidence.Halt.TheVariants.{Disk, Damaged}
 use Rattle.labelled_disk.specs.Label.{names}
@@ -17,10 +18,10 @@ use Rattle.file_map.specs.FileMap.{Triples, IsNowhere}
 use Rattle.file_map.specs.Cause.{IsBroken}
 use Rattle.swapper_kernel.specs.declared.manager.Manager.TheVariants.{FileMap}
 use Rattle.swapper_kernel.specs.Maps.{IsMapHome}
-use Rattle.swapper_kernel.specs.Homes.{Homes, IsFileHome, IsHeld, AreNamed, Brings}
+use Rattle.swapper_kernel.specs.Homes.{Homes, IsFileHome, IsHeld, AreNamed, Brings, no_home}
 use Rattle.swapper_kernel.specs.Stands.{Stands}
 use Rattle.swapper_kernel.specs.Differs.{Differs}
-use Rattle.swapper_kernel.specs.Goes.{Goes, Pages}
+use Rattle.swapper_kernel.specs.Goes.{Goes, Pages, Swaps}
 use Rattle.swapper_kernel.specs.Halts.{IsOther, HasCause, held_or}
 use Rattle.swapper_kernel.specs.Steps.{Steps}
 use Rattle.swapper_kernel.specs.Window.{map_pages}
@@ -51,7 +52,7 @@ pub record IsFoundHome (layout : Layout) (disk : DiskState) (slots : Slots) (kep
 -- page of the map breaks its form; or the map has no sector for a page of the space tables
 abbrev pub FoundEvidence : Layout → DiskState → Slots → List Run → Evidence → Type 0
 FoundEvidence layout disk slots kept (Mismatch sector wanted found) = IsOther (λ home. held_or slots (IsMapHome FileMap layout) home ⊎ IsFoundHome layout disk slots kept home) disk sector wanted found
-FoundEvidence layout disk slots kept (Malformed window page) = (window ≡ 2) × IsBroken layout.sectors (MapShows layout disk slots) page
+FoundEvidence layout disk slots kept (Malformed structure page) = IsOfFileMap structure × IsBroken layout.sectors (MapShows layout disk slots) page
 FoundEvidence layout disk slots kept (Missing id page) = (id ≡ 3) × (page < 96) × ((m : List Sector) (named : Triples) → Stands disk slots m → MapIs layout named m → IsNowhere named id page)
 
 -- the halt of a call that touches a page where the map says that it stands
@@ -62,7 +63,7 @@ FoundHalts layout old before kept new halt = HasCause (FoundEvidence layout old 
 abbrev pub IfMissing : ℕ → Halt → Type 0
 IfMissing page Disk = Unit {0}
 IfMissing page (Damaged (Mismatch sector wanted found)) = Unit {0}
-IfMissing page (Damaged (Malformed window broken)) = Unit {0}
+IfMissing page (Damaged (Malformed structure broken)) = Unit {0}
 IfMissing page (Damaged (Missing id missing)) = (id ≡ 3) × (missing ≡ page)
 
 -- such a page, or one of the file map at its home
@@ -113,6 +114,18 @@ pub record BesideTables (old : DiskState) (before : Slots) (place : Layout) (kep
   pub given : (r : Run) → IsOneOf r (runs_of place.sectors runs) → IsGiven place old before (runs_of place.sectors kept) r
   pub runs_are : (m : List Sector) (named : Triples) → Stands old before m → MapIs place named m → AreOf named (runs_of place.sectors kept) → AreOf named (runs_of place.sectors runs)
   pub revealed : (b : List ℕ) → TablesReveal old before place kept b → (c : List ℕ) × TablesReveal new after later runs c
+
+-- What looks at the pages of the space tables do: some of them, and pages of the file map, may have come into frames, and the
+-- memory is the same. No frame is dirty that was clean, and nothing is written but pages of frames that were dirty. Runs that
+-- are kept may be others, as in an access, and the tables reveal what they revealed.
+pub record LookedTables (old : DiskState) (before : Slots) (place : Layout) (kept : CachedRuns) (new : DiskState) (after : Slots) (later : Layout) (runs : CachedRuns) : Type 0 where
+  pub swaps : Swaps old before new after
+  pub brings : Brings (IsComing place old before (runs_of place.sectors kept)) before after
+  pub steps : Steps (IsComing place old before (runs_of place.sectors kept)) no_home old before new after
+  pub layout : later ≡ place
+  pub given : (r : Run) → IsOneOf r (runs_of place.sectors runs) → IsGiven place old before (runs_of place.sectors kept) r
+  pub runs_are : (m : List Sector) (named : Triples) → Stands old before m → MapIs place named m → AreOf named (runs_of place.sectors kept) → AreOf named (runs_of place.sectors runs)
+  pub revealed : (b : List ℕ) → TablesReveal old before place kept b → TablesReveal new after later runs b
 
 -- A halt has its cause, and where the labels of the map's sectors name its pages, and the tables are revealed, it is a fault of
 -- the disk.

@@ -9,7 +9,7 @@ ghost use Rattle.swapper_kernel.specs.declared.manager.Manager.TheVariants.{File
 ghost use Rattle.swapper_kernel.specs.Maps.{IsMapHome};
 ghost use Rattle.swapper_kernel.specs.Homes.{AreNamed};
 ghost use Rattle.swapper_kernel.specs.Stands.{Stands};
-ghost use Rattle.swapper_kernel.specs.Window.{Reveals, Beside};
+ghost use Rattle.swapper_kernel.specs.Window.{Reveals, Beside, Looked};
 ghost use Rattle.filer_kernel.specs.Cached.{runs_of};
 ghost use Rattle.filer_kernel.specs.Triples.{MapIs, AreOf, IsOneOf};
 ghost use Rattle.filer_kernel.specs.Causes.{MapShows, MapHalts, IsFaultOrMismatch, IsGiven};
@@ -35,6 +35,7 @@ impl<D: Disk, A: Allocator> Filer<D, A> {
         ensures right { (m : List Sector) (named : Triples) → Stands (D.state self.old.swapper.disk) self.old.swapper.pool m → MapIs self.old.swapper.layout named m → IfErr result IsFaultOrMismatch }
         ensures cause { IfErr result (MapHalts self.old.swapper.layout (D.state self.old.swapper.disk) self.old.swapper.pool (D.state self.new.swapper.disk)) }
         ensures beside { Beside FileMapPages (D.state self.old.swapper.disk) self.old.swapper.pool self.old.swapper.layout (D.state self.new.swapper.disk) self.new.swapper.pool self.new.swapper.layout }
+        ensures looked { Looked FileMapPages (D.state self.old.swapper.disk) self.old.swapper.pool self.old.swapper.layout (D.state self.new.swapper.disk) self.new.swapper.pool self.new.swapper.layout }
         ensures runs { self.new.runs ≡ self.old.runs }
         ensures cost { (D.state self.new.swapper.disk).transfers ≤ (D.state self.old.swapper.disk).transfers + 14 }
     {
@@ -68,6 +69,7 @@ impl<D: Disk, A: Allocator> Filer<D, A> {
         ensures right { (m : List Sector) (named : Triples) → Stands (D.state self.old.swapper.disk) self.old.swapper.pool m → MapIs self.old.swapper.layout named m → IfErr result IsFaultOrMismatch }
         ensures cause { IfErr result (MapHalts self.old.swapper.layout (D.state self.old.swapper.disk) self.old.swapper.pool (D.state self.new.swapper.disk)) }
         ensures beside { Beside FileMapPages (D.state self.old.swapper.disk) self.old.swapper.pool self.old.swapper.layout (D.state self.new.swapper.disk) self.new.swapper.pool self.new.swapper.layout }
+        ensures looked { Looked FileMapPages (D.state self.old.swapper.disk) self.old.swapper.pool self.old.swapper.layout (D.state self.new.swapper.disk) self.new.swapper.pool self.new.swapper.layout }
         ensures cost { (D.state self.new.swapper.disk).transfers ≤ (D.state self.old.swapper.disk).transfers + 14 }
     {
         let sectors = self.swapper.layout().sectors;
@@ -91,6 +93,7 @@ impl<D: Disk, A: Allocator> Filer<D, A> {
         ensures right { (m : List Sector) (named : Triples) → Stands (D.state self.old.swapper.disk) self.old.swapper.pool m → MapIs self.old.swapper.layout named m → IfErr result IsFaultOrMismatch }
         ensures cause { IfErr result (MapHalts self.old.swapper.layout (D.state self.old.swapper.disk) self.old.swapper.pool (D.state self.new.swapper.disk)) }
         ensures beside { Beside FileMapPages (D.state self.old.swapper.disk) self.old.swapper.pool self.old.swapper.layout (D.state self.new.swapper.disk) self.new.swapper.pool self.new.swapper.layout }
+        ensures looked { Looked FileMapPages (D.state self.old.swapper.disk) self.old.swapper.pool self.old.swapper.layout (D.state self.new.swapper.disk) self.new.swapper.pool self.new.swapper.layout }
         ensures runs { self.new.runs ≡ self.old.runs }
         ensures cost { (D.state self.new.swapper.disk).transfers ≤ (D.state self.old.swapper.disk).transfers + 14 }
     {
@@ -113,6 +116,7 @@ impl<D: Disk, A: Allocator> Filer<D, A> {
         ensures right { (m : List Sector) (named : Triples) → Stands (D.state self.old.swapper.disk) self.old.swapper.pool m → MapIs self.old.swapper.layout named m → IfErr result IsFaultOrMismatch }
         ensures cause { IfErr result (MapHalts self.old.swapper.layout (D.state self.old.swapper.disk) self.old.swapper.pool (D.state self.new.swapper.disk)) }
         ensures beside { Beside FileMapPages (D.state self.old.swapper.disk) self.old.swapper.pool self.old.swapper.layout (D.state self.new.swapper.disk) self.new.swapper.pool self.new.swapper.layout }
+        ensures looked { Looked FileMapPages (D.state self.old.swapper.disk) self.old.swapper.pool self.old.swapper.layout (D.state self.new.swapper.disk) self.new.swapper.pool self.new.swapper.layout }
         ensures runs { self.new.runs ≡ self.old.runs }
         ensures cost { (D.state self.new.swapper.disk).transfers ≤ (D.state self.old.swapper.disk).transfers + 36 }
     {

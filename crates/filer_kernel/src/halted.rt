@@ -3,10 +3,7 @@ ghost use Rattle.std.specs.Prelude.{◌≡◌};
 ghost use Rattle.filer_kernel.specs.Halted.{halted};
 
 use file_map::MapError;
-use labelled_disk::{Evidence, Halt};
-
-// The window of the file map.
-const FILE_MAP: u8 = 2;
+use labelled_disk::{Evidence, Halt, Structure};
 
 /// The answer of a call of the file map. A map that is full is damaged, as one of which a page breaks its form.
 pub fn halted<T>(answer: Result<T, MapError<Halt>>) -> Result<T, Halt>
@@ -15,11 +12,11 @@ pub fn halted<T>(answer: Result<T, MapError<Halt>>) -> Result<T, Halt>
     match answer {
         Ok(value) => Ok(value),
         Err(MapError::Full) => Err(Halt::Damaged(Evidence::Malformed {
-            window: FILE_MAP,
+            structure: Structure::FileMap,
             page: 0,
         })),
         Err(MapError::Malformed { page }) => Err(Halt::Damaged(Evidence::Malformed {
-            window: FILE_MAP,
+            structure: Structure::FileMap,
             page,
         })),
         Err(MapError::Mem(halt)) => Err(halt),

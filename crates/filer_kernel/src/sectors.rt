@@ -8,7 +8,7 @@ ghost use Rattle.swapper_kernel.specs.Maps.{IsMapHome};
 ghost use Rattle.swapper_kernel.specs.Homes.{AreNamed};
 ghost use Rattle.swapper_kernel.specs.Stands.{Stands};
 ghost use Rattle.swapper_kernel.specs.Halts.{Halts};
-ghost use Rattle.swapper_kernel.specs.Window.{Beside};
+ghost use Rattle.swapper_kernel.specs.Window.{Beside, Looked};
 ghost use Rattle.filer_kernel.specs.Becomes.{Becomes};
 ghost use Rattle.filer_kernel.specs.Marks.{Marks, BitsAre, marked, AreAll, IsLowestRun, free_sectors};
 
@@ -28,6 +28,7 @@ impl<D: Disk, A: Allocator> Filer<D, A> {
         ensures same { (m : List Sector) (marks : Marks) → Stands (D.state self.old.swapper.disk) self.old.swapper.pool m → BitsAre self.old.swapper.layout marks m → Stands (D.state self.new.swapper.disk) self.new.swapper.pool m }
         ensures cause { IfErr result (Halts (IsMapHome AllocationMap self.old.swapper.layout) (D.state self.old.swapper.disk) self.old.swapper.pool (D.state self.new.swapper.disk)) }
         ensures kept { Beside AllocationMap (D.state self.old.swapper.disk) self.old.swapper.pool self.old.swapper.layout (D.state self.new.swapper.disk) self.new.swapper.pool self.new.swapper.layout }
+        ensures looked { Looked AllocationMap (D.state self.old.swapper.disk) self.old.swapper.pool self.old.swapper.layout (D.state self.new.swapper.disk) self.new.swapper.pool self.new.swapper.layout }
         ensures runs { self.new.runs ≡ self.old.runs }
         ensures cost { (D.state self.new.swapper.disk).transfers ≤ (D.state self.old.swapper.disk).transfers + 2 * self.old.swapper.layout.vam }
     {

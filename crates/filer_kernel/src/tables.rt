@@ -10,15 +10,12 @@ ghost use Rattle.swapper_kernel.specs.Homes.{IsNamed};
 ghost use Rattle.swapper_kernel.specs.Stands.{Stands};
 ghost use Rattle.swapper_kernel.specs.Window.{Reveals};
 ghost use Rattle.filer_kernel.specs.Cached.{runs_of};
-ghost use Rattle.filer_kernel.specs.Tables.{BesideTables, IfMissing, IsFoundHome, IsTableAccounted, TablesReveal};
+ghost use Rattle.filer_kernel.specs.Tables.{BesideTables, IfMissing, IsFoundHome, IsTableAccounted, LookedTables, TablesReveal};
 
 use crate::Filer;
 use frame_pool::Home;
-use labelled_disk::{Disk, Evidence, FileId, Halt};
+use labelled_disk::{Disk, Evidence, Halt, TABLES};
 use std::alloc::Allocator;
-
-/// The file that the space tables are.
-const TABLES: FileId = 3;
 
 impl<D: Disk, A: Allocator> Filer<D, A> {
     // Where the map says that a page of the space tables stands.
@@ -34,6 +31,7 @@ impl<D: Disk, A: Allocator> Filer<D, A> {
         ensures error { IfErr result (IsTableAccounted (D.state self.old.swapper.disk) self.old.swapper.pool self.old.swapper.layout self.old.runs (D.state self.new.swapper.disk)) }
         ensures missing { IfErr result (IfMissing page) }
         ensures kept { BesideTables (D.state self.old.swapper.disk) self.old.swapper.pool self.old.swapper.layout self.old.runs (D.state self.new.swapper.disk) self.new.swapper.pool self.new.swapper.layout self.new.runs }
+        ensures looked { LookedTables (D.state self.old.swapper.disk) self.old.swapper.pool self.old.swapper.layout self.old.runs (D.state self.new.swapper.disk) self.new.swapper.pool self.new.swapper.layout self.new.runs }
         ensures same_bytes { (b : List ℕ) → Reveals FileMapPages (D.state self.old.swapper.disk) self.old.swapper.pool self.old.swapper.layout b → Reveals FileMapPages (D.state self.new.swapper.disk) self.new.swapper.pool self.old.swapper.layout b }
         ensures idle { (r : Run) → find (λ r. holds r 3 page) (runs_of self.old.swapper.layout.sectors self.old.runs) ≡ Some r → self.new.swapper ≡ self.old.swapper }
         ensures cost { (D.state self.new.swapper.disk).transfers ≤ (D.state self.old.swapper.disk).transfers + 14 }
@@ -61,6 +59,7 @@ impl<D: Disk, A: Allocator> Filer<D, A> {
         ensures error { IfErr result (IsTableAccounted (D.state self.old.swapper.disk) self.old.swapper.pool self.old.swapper.layout self.old.runs (D.state self.new.swapper.disk)) }
         ensures missing { IfErr result (IfMissing page) }
         ensures kept { BesideTables (D.state self.old.swapper.disk) self.old.swapper.pool self.old.swapper.layout self.old.runs (D.state self.new.swapper.disk) self.new.swapper.pool self.new.swapper.layout self.new.runs }
+        ensures looked { LookedTables (D.state self.old.swapper.disk) self.old.swapper.pool self.old.swapper.layout self.old.runs (D.state self.new.swapper.disk) self.new.swapper.pool self.new.swapper.layout self.new.runs }
         ensures idle { (i : ℕ) → HasPage self.old.swapper.pool i 3 page → IsOk result × (self.new.swapper ≡ self.old.swapper) × (self.new.runs ≡ self.old.runs) }
         ensures same_bytes { (b : List ℕ) → Reveals FileMapPages (D.state self.old.swapper.disk) self.old.swapper.pool self.old.swapper.layout b → Reveals FileMapPages (D.state self.new.swapper.disk) self.new.swapper.pool self.old.swapper.layout b }
         ensures cost { (D.state self.new.swapper.disk).transfers ≤ (D.state self.old.swapper.disk).transfers + 16 }

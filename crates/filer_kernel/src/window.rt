@@ -6,7 +6,7 @@ ghost use Rattle.filer_kernel.specs.Tables.{tables_size};
 
 use crate::Filer;
 use flat_mem::FlatMem;
-use labelled_disk::{Disk, Halt};
+use labelled_disk::{Disk, Halt, PAGE_BYTES, TABLE_PAGES};
 use std::alloc::Allocator;
 
 /// The pages of the space tables, through the file map and the frames. Each access takes at most 28 transfers.
@@ -31,7 +31,11 @@ impl<D: Disk, A: Allocator> Filer<D, A> {
     fn tables_len(&self) -> u64
         ensures { result ≡ tables_size (D.state self.now.swapper.disk).sectors self.now.swapper.layout }
     {
-        if self.swapper.fits() { 512 * 96 } else { 0 }
+        if self.swapper.fits() {
+            PAGE_BYTES as u64 * TABLE_PAGES as u64
+        } else {
+            0
+        }
     }
 
     // Reads from a page in a frame.
@@ -48,8 +52,8 @@ impl<D: Disk, A: Allocator> Filer<D, A> {
 
 impl<'s, D: Disk, A: Allocator> FlatMem for TableMemory<'s, D, A> {
     ghost use Rattle.std.specs.Prelude.{◌≡◌, ℕ, ◌+◌, ◌≤◌, List};
-    ghost use Rattle.filer_kernel.specs.Tables.{TablesReveal, BesideTables, IsTableAccounted, tables_size};
-    ghost use Rattle.filer_kernel.specs.TableLaws.{beside_tables_itself, beside_tables_then, tables_accounted_then, revealed_tables_size, same_tables_size};
+    ghost use Rattle.filer_kernel.specs.Tables.{TablesReveal, BesideTables, LookedTables, IsTableAccounted, tables_size};
+    ghost use Rattle.filer_kernel.specs.TableLaws.{beside_tables_itself, beside_tables_then, looked_tables_itself, looked_tables_then, looked_tables_beside, tables_accounted_then, revealed_tables_size, same_tables_size};
     ghost use Rattle.filer_kernel.specs.TableOnce.{tables_reveal_once};
 
     type Error = Halt;
@@ -66,6 +70,8 @@ impl<'s, D: Disk, A: Allocator> FlatMem for TableMemory<'s, D, A> {
 
     ghost beside = { λ a b. (a.filer.ghost_name ≡ b.filer.ghost_name) × BesideTables (D.state a.filer.now.swapper.disk) a.filer.now.swapper.pool a.filer.now.swapper.layout a.filer.now.runs (D.state b.filer.now.swapper.disk) b.filer.now.swapper.pool b.filer.now.swapper.layout b.filer.now.runs };
 
+    ghost only_reads = { λ a b. (a.filer.ghost_name ≡ b.filer.ghost_name) × LookedTables (D.state a.filer.now.swapper.disk) a.filer.now.swapper.pool a.filer.now.swapper.layout a.filer.now.runs (D.state b.filer.now.swapper.disk) b.filer.now.swapper.pool b.filer.now.swapper.layout b.filer.now.runs };
+
     ghost accounted = { λ a b e. IsTableAccounted (D.state a.filer.now.swapper.disk) a.filer.now.swapper.pool a.filer.now.swapper.layout a.filer.now.runs (D.state b.filer.now.swapper.disk) e };
 
     ghost revealed_once = { λ w b c h k. tables_reveal_once _ _ _ _ b c w.filer.now.swapper.accepted h k };
@@ -77,6 +83,14 @@ impl<'s, D: Disk, A: Allocator> FlatMem for TableMemory<'s, D, A> {
     ghost beside_itself = { λ w. (Prim.cc, beside_tables_itself (D.state w.filer.now.swapper.disk) w.filer.now.swapper.pool w.filer.now.swapper.layout w.filer.now.runs) };
 
     ghost beside_through = { λ a b c h k. (Prim.cc, beside_tables_then a.filer.now.swapper.accepted h.1 k.1) };
+
+    ghost only_reads_itself = { λ w. (Prim.cc, looked_tables_itself (D.state w.filer.now.swapper.disk) w.filer.now.swapper.pool w.filer.now.swapper.layout w.filer.now.runs) };
+
+    ghost only_reads_through = { λ a b c h k. (Prim.cc, looked_tables_then a.filer.now.swapper.accepted h.1 k.1) };
+
+    ghost only_reads_beside = { λ a b h. (h.0, looked_tables_beside h.1) };
+
+    ghost only_reads_revealed = { λ a b bytes h revealed. h.1.revealed bytes revealed };
 
     ghost accounted_wider = { λ a b c d e h k l x. tables_accounted_then a.filer.now.swapper.accepted h.1 k.1 l.1 x };
 

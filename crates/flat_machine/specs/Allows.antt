@@ -17,15 +17,15 @@ use Rattle.flat_machine.specs.Next.{new_id, new_space}
 abbrev pub AgreesWithCells : List Cell → List ℕ → Type 0
 AgreesWithCells cells bytes = AllZip (λ cell b. MatchOption cell (b < 256) (λ c. b ≡ c)) cells bytes
 
--- what a client is revealed of a file
+-- what a client learns of a file
 abbrev pub attributes_of : File → Reply
 attributes_of f = reply.Attributes (size f) f.kind f.permanent f.immutable
 
--- what a client is revealed of a new space
+-- what a client learns of a new space
 abbrev pub space_reply : Space → Reply
 space_reply s = reply.Space s.handle s.first
 
--- what a client is revealed of the innermost space at a page
+-- what a client learns of the innermost space at a page
 abbrev pub place_reply : Space → Reply
 place_reply s = reply.Place s.handle s.first s.pages
 

@@ -32,3 +32,8 @@ module _ {M X : Type 0} where
     pub first : a.first ≡ b.first
     pub pages : a.pages ≡ b.pages
     pub others : (w : List ℕ) → reveals a.mem w → (v : List ℕ) × reveals b.mem v × IsSameBeside a.first a.pages w v
+
+  -- that, and there were reads of the memory alone
+  pub record IsLooked (reveals : M → List ℕ → Type 0) (beside only_reads : M → M → Type 0) (a b : Part M X) : Type 0 where
+    pub kept : IsKept reveals beside a b
+    pub mem : only_reads a.mem b.mem

@@ -6,7 +6,7 @@ use Rattle.std.proofs.lemmas.Bool.{le-leb}
 use Rattle.std.proofs.lemmas.Bool.Decides.{leb_tells}
 use Rattle.flat_mem.specs.Memory.{part, overwritten}
 use Rattle.flat_mem.specs.Parts.{length-part, take-overwritten, drop-overwritten}
-use Rattle.flat_mem.specs.Part.{IsSameBeside, part_size, RevealsPart, IsKept}
+use Rattle.flat_mem.specs.Part.{IsSameBeside, part_size, RevealsPart, IsKept, IsLooked}
 use Rattle.flat_mem.specs.declared.part.Part.{Part}
 
 pub same_beside_through : (f m g n : ℕ) (w v u : List ℕ) → f ≡ g → m ≡ n → IsSameBeside f m w v → IsSameBeside g n v u → IsSameBeside f m w u
@@ -88,3 +88,19 @@ module _ {M X : Type 0} (reveals : M → List ℕ → Type 0) where
         let others = others_kept once p q w revealed.whole kept before revealed.revealed in
         let middle : part revealed.whole (512 * p.first) (512 * p.pages) ≡ part w (512 * p.first) (512 * p.pages) = cc (revealed.is, kept.first, kept.pages) in
         subst (λ (x : List ℕ). reveals q.mem x) (same_whole p.first p.pages w revealed.whole others middle) revealed.revealed
+
+    module _ (only_reads : M → M → Type 0) where
+      pub looked_itself : (p : Part M X) → beside p.mem p.mem → only_reads p.mem p.mem → IsLooked reveals beside only_reads p p
+      looked_itself p same looked = record { kept = kept_itself p same; mem = looked }
+
+      pub looked_through : (a b c : Part M X) → beside a.mem c.mem → only_reads a.mem c.mem → IsLooked reveals beside only_reads a b → IsLooked reveals beside only_reads b c → IsLooked reveals beside only_reads a c
+      looked_through a b c through looked h k = record { kept = kept_through a b c through h.kept k.kept; mem = looked }
+
+      -- the part reveals what it revealed
+      pub looked_revealed : ((m n : M) (w : List ℕ) → only_reads m n → reveals m w → reveals n w) → (a b : Part M X) (bytes : List ℕ) → IsLooked reveals beside only_reads a b → RevealsPart reveals a bytes → RevealsPart reveals b bytes
+      looked_revealed still a b bytes h revealed = record {
+        whole = revealed.whole;
+        revealed = still a.mem b.mem revealed.whole h.mem revealed.revealed;
+        inside = rw (← h.kept.first, ← h.kept.pages) revealed.inside;
+        is = rw (← h.kept.first, ← h.kept.pages) revealed.is;
+      }

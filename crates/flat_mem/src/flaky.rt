@@ -2,7 +2,7 @@
 ghost use Rattle.std.specs.Prelude.{◌≡◌, ℕ, ◌+◌, ◌≤◌, ◌*◌, length, OnErr, IfOk, replicate};
 ghost use Rattle.flat_mem.specs.Rises.{Rose};
 
-use crate::{FlatMem, NoPages};
+use crate::{FlatMem, NoPages, PAGE_BYTES};
 use std::alloc::Allocator;
 
 /// An access failed.
@@ -27,7 +27,7 @@ impl<A: Allocator> FlakyMem<A> {
         ensures size { IfOk result (λ m. length (flaky_bytes m) ≡ 512 * pages) }
     {
         let mut bytes = Vec::new(alloc);
-        match bytes.resize(512 * pages as usize, 0) {
+        match bytes.resize(PAGE_BYTES * pages as usize, 0) {
             Ok(()) => Ok(FlakyMem {
                 bytes,
                 period,
@@ -81,6 +81,8 @@ impl<A: Allocator> FlatMem for FlakyMem<A> {
 
     ghost beside = { IsLater };
 
+    ghost only_reads = { λ a b. IsLater a b × (a.bytes.items ≡ b.bytes.items) };
+
     ghost accounted = { λ a b e. Rose a.faults b.faults };
 
     ghost revealed_once = { λ m b c h k. h ∙ sym k };
@@ -92,6 +94,14 @@ impl<A: Allocator> FlatMem for FlakyMem<A> {
     ghost beside_itself = { later_itself };
 
     ghost beside_through = { later_through };
+
+    ghost only_reads_itself = { λ m. (later_itself m, λ i. m.bytes.items) };
+
+    ghost only_reads_through = { λ a b c h k. (later_through a b c h.0 k.0, h.1 ∙ k.1) };
+
+    ghost only_reads_beside = { λ a b h. h.0 };
+
+    ghost only_reads_revealed = { λ a b bytes h revealed. revealed ∙ h.1 };
 
     ghost accounted_wider = { λ a b c d e h k l x. rose_wider _ _ _ _ h.faults l.faults x };
 

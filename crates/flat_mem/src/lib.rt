@@ -12,3 +12,6 @@ pub use flaky::{Failed, FlakyMem};
 pub use memory::FlatMem;
 pub use part::Part;
 pub use vec_mem::{Never, NoPages, VecMem};
+
+/// The bytes of a page.
+pub const PAGE_BYTES: usize = 512;

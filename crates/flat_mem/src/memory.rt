@@ -27,6 +27,9 @@ pub trait FlatMem {
     /// What stands beside the bytes was kept from the first state to the second.
     ghost beside: { Self → Self → Type 0 };
 
+    /// From the first state to the second there were reads alone: its bytes are the same, and none of them has to be written.
+    ghost only_reads: { Self → Self → Type 0 };
+
     /// The error is accounted for by what happened between the two states.
     ghost accounted: { Self → Self → Self.Error → Type 0 };
 
@@ -41,6 +44,7 @@ pub trait FlatMem {
         ensures read { (b : List ℕ) → reveals self.old b → OnOk result (into.new ≡ part b at (length into.old)) }
         ensures unchanged { (b : List ℕ) → reveals self.old b → reveals self.new b }
         ensures kept { beside self.old self.new }
+        ensures looked { only_reads self.old self.new }
         ensures cause { IfErr result (λ e. accounted self.old self.new e) }
         ensures cost { spent self.new ≤ spent self.old + cost };
 
@@ -65,6 +69,14 @@ pub trait FlatMem {
 
     ghost beside_through: { (a b c : Self) → beside a b → beside b c → beside a c };
 
+    ghost only_reads_itself: { (m : Self) → only_reads m m };
+
+    ghost only_reads_through: { (a b c : Self) → only_reads a b → only_reads b c → only_reads a c };
+
+    ghost only_reads_beside: { (a b : Self) → only_reads a b → beside a b };
+
+    ghost only_reads_revealed: { (a b : Self) (bytes : List ℕ) → only_reads a b → reveals a bytes → reveals b bytes };
+
     ghost accounted_wider: { (a b c d : Self) (e : Self.Error) → beside a b → beside b c → beside c d → accounted b c e → accounted a d e };
 }
 
@@ -83,6 +95,8 @@ impl<'m, M: FlatMem> FlatMem for &'m mut M {
 
     ghost beside = { λ a b. (a.ghost_name ≡ b.ghost_name) × M.beside a.now b.now };
 
+    ghost only_reads = { λ a b. (a.ghost_name ≡ b.ghost_name) × M.only_reads a.now b.now };
+
     ghost accounted = { λ a b e. M.accounted a.now b.now e };
 
     ghost revealed_once = { λ m b c h k. M.revealed_once m.now b c h k };
@@ -94,6 +108,14 @@ impl<'m, M: FlatMem> FlatMem for &'m mut M {
     ghost beside_itself = { λ m. (Prim.cc, M.beside_itself m.now) };
 
     ghost beside_through = { λ a b c h k. (Prim.cc, M.beside_through a.now b.now c.now h.1 k.1) };
+
+    ghost only_reads_itself = { λ m. (Prim.cc, M.only_reads_itself m.now) };
+
+    ghost only_reads_through = { λ a b c h k. (Prim.cc, M.only_reads_through a.now b.now c.now h.1 k.1) };
+
+    ghost only_reads_beside = { λ a b h. (h.0, M.only_reads_beside a.now b.now h.1) };
+
+    ghost only_reads_revealed = { λ a b bytes h revealed. M.only_reads_revealed a.now b.now bytes h.1 revealed };
 
     ghost accounted_wider = { λ a b c d e h k l x. M.accounted_wider a.now b.now c.now d.now e h.1 k.1 l.1 x };
 

@@ -1,7 +1,7 @@
 //! A run of pages of a memory.
 ghost use Rattle.std.specs.Prelude.{◌≡◌, ℕ, ◌*◌, ◌+◌, ◌≤◌, List, length};
 
-use crate::FlatMem;
+use crate::{FlatMem, PAGE_BYTES};
 
 /// Some pages of a memory, as a memory. The other pages stand beside it and stay.
 ///
@@ -26,8 +26,8 @@ impl<M: FlatMem> Part<M> {
 }
 
 impl<M: FlatMem> FlatMem for Part<M> {
-    ghost use Rattle.flat_mem.specs.Part.{part_size, IsKept, RevealsPart};
-    ghost use Rattle.flat_mem.specs.PartLaws.{revealed_part_once, part_length, same_part_size, kept_itself, kept_through};
+    ghost use Rattle.flat_mem.specs.Part.{part_size, IsKept, IsLooked, RevealsPart};
+    ghost use Rattle.flat_mem.specs.PartLaws.{revealed_part_once, part_length, same_part_size, kept_itself, kept_through, looked_itself, looked_through, looked_revealed};
 
     type Error = M::Error;
 
@@ -43,6 +43,8 @@ impl<M: FlatMem> FlatMem for Part<M> {
 
     ghost beside = { λ a b. IsKept M.reveals M.beside a b };
 
+    ghost only_reads = { λ a b. IsLooked M.reveals M.beside M.only_reads a b };
+
     ghost accounted = { λ a b e. M.accounted a.mem b.mem e };
 
     ghost revealed_once = { λ p b c h k. revealed_part_once M.reveals M.revealed_once p b c h k };
@@ -55,11 +57,19 @@ impl<M: FlatMem> FlatMem for Part<M> {
 
     ghost beside_through = { λ a b c h k. kept_through M.reveals M.beside a b c (M.beside_through a.mem b.mem c.mem h.mem k.mem) h k };
 
+    ghost only_reads_itself = { λ p. looked_itself M.reveals M.beside M.only_reads p (M.beside_itself p.mem) (M.only_reads_itself p.mem) };
+
+    ghost only_reads_through = { λ a b c h k. looked_through M.reveals M.beside M.only_reads a b c (M.beside_through a.mem b.mem c.mem h.kept.mem k.kept.mem) (M.only_reads_through a.mem b.mem c.mem h.mem k.mem) h k };
+
+    ghost only_reads_beside = { λ a b h. h.kept };
+
+    ghost only_reads_revealed = { λ a b bytes h revealed. looked_revealed M.reveals M.beside M.only_reads M.only_reads_revealed a b bytes h revealed };
+
     ghost accounted_wider = { λ a b c d e h k l x. M.accounted_wider a.mem b.mem c.mem d.mem e h.mem k.mem l.mem x };
 
     fn len(&self) -> u64 {
-        let bytes = 512 * self.pages as u64;
-        if 512 * self.first as u64 + bytes <= self.mem.len() {
+        let bytes = PAGE_BYTES as u64 * self.pages as u64;
+        if PAGE_BYTES as u64 * self.first as u64 + bytes <= self.mem.len() {
             bytes
         } else {
             0
@@ -70,13 +80,15 @@ impl<M: FlatMem> FlatMem for Part<M> {
         if into.is_empty() {
             return Ok(());
         }
-        self.mem.read(512 * self.first as u64 + at, into)
+        let start = PAGE_BYTES as u64 * self.first as u64;
+        self.mem.read(start + at, into)
     }
 
     fn write(&mut self, at: u64, bytes: &[u8]) -> Result<(), M::Error> {
         if bytes.is_empty() {
             return Ok(());
         }
-        self.mem.write(512 * self.first as u64 + at, bytes)
+        let start = PAGE_BYTES as u64 * self.first as u64;
+        self.mem.write(start + at, bytes)
     }
 }

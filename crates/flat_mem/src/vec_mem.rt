@@ -1,7 +1,7 @@
 //! A memory in a vector.
 ghost use Rattle.std.specs.Prelude.{◌≡◌, ℕ, ◌*◌, length, IfOk, replicate};
 
-use crate::FlatMem;
+use crate::{FlatMem, PAGE_BYTES};
 use std::alloc::Allocator;
 
 /// The error of a memory that never fails.
@@ -27,7 +27,7 @@ impl<A: Allocator> VecMem<A> {
         ensures size { IfOk result (λ m. length (vec_mem_bytes m) ≡ 512 * pages) }
     {
         let mut bytes = Vec::new(alloc);
-        match bytes.resize(512 * pages as usize, 0) {
+        match bytes.resize(PAGE_BYTES * pages as usize, 0) {
             Ok(()) => Ok(VecMem { bytes }),
             Err(_) => Err(NoPages),
         }
@@ -51,6 +51,8 @@ impl<A: Allocator> FlatMem for VecMem<A> {
 
     ghost beside = { λ a b. length a.bytes.items ≡ length b.bytes.items };
 
+    ghost only_reads = { λ a b. a.bytes.items ≡ b.bytes.items };
+
     ghost accounted = { λ a b e. ⊥ };
 
     ghost revealed_once = { λ m b c h k. h ∙ sym k };
@@ -62,6 +64,14 @@ impl<A: Allocator> FlatMem for VecMem<A> {
     ghost beside_itself = { λ m i. length m.bytes.items };
 
     ghost beside_through = { λ a b c h k. Prim.cc };
+
+    ghost only_reads_itself = { λ m i. m.bytes.items };
+
+    ghost only_reads_through = { λ a b c h k. h ∙ k };
+
+    ghost only_reads_beside = { λ a b h i. length (h i) };
+
+    ghost only_reads_revealed = { λ a b bytes h revealed. revealed ∙ h };
 
     ghost accounted_wider = { λ a b c d e h k l x. x };
 

@@ -6,12 +6,13 @@ use Rattle.labelled_disk.specs.State.{DiskState}
 use Rattle.labelled_disk.specs.declared.disk.DiskError.{DiskError}
 use Rattle.image_disk.specs.declared.disk.ImageDisk.{ImageDisk}
 
--- the disk that an image is: it reveals neither what the file holds nor what was written
+-- the disk that an image is: it reveals neither what the file holds nor what was written and settled
 abbrev pub image_state : {F : Type 0} → ImageDisk F → DiskState
 image_state d = record {
   sectors = d.sectors;
   contents = None;
   writes = None;
+  syncs = None;
   transfers = d.transfers;
   faults = d.faults;
   synced = d.synced;

@@ -37,6 +37,7 @@ pub struct ImageDisk<F: FileExt + OpenFile> {
     synced: bool,
     trouble: Option<Trouble>,
     ghost few: { sectors < 2 ^ 32 },
+    ghost few_transfers: { transfers < 2 ^ 64 },
 }
 
 impl<F: FileExt + OpenFile> ImageDisk<F> {
@@ -192,6 +193,7 @@ fn parted(bytes: &[u8; 528], page: &mut Page) -> Label
 
 impl<F: FileExt + OpenFile> Disk for ImageDisk<F> {
     ghost use Rattle.image_disk.specs.Image.{image_state, not_revealed, Counts};
+    ghost use Rattle.labelled_disk.specs.Syncing.{no_syncs};
 
     ghost state = { image_state };
 
@@ -200,6 +202,10 @@ impl<F: FileExt + OpenFile> Disk for ImageDisk<F> {
     ghost in_form = { λ d all revealed. not_revealed all revealed };
 
     ghost few = { λ d. d.few };
+
+    ghost few_transfers = { λ d. d.few_transfers };
+
+    ghost sync_counts = { λ d. no_syncs d.synced };
 
     fn sectors(&self) -> u32 {
         self.sectors

@@ -113,12 +113,12 @@ module _ (place : ℕ → ℕ) (f : ℕ → DiskWrite) (labels : ℕ → Labels)
 
   pub taken_before : (evidence : Evidence) → IsTaken (place k) mid evidence → IsTaken (place k) old evidence
   taken_before (evidence.Mismatch sector wanted found) is = (is.0, is.1, label_before found is.2, is.3)
-  taken_before (evidence.Malformed window page) is = absurd is
+  taken_before (evidence.Malformed structure page) is = absurd is
   taken_before (evidence.Missing id page) is = absurd is
 
   pub not_of_before : (w : Wanted) (evidence : Evidence) → IsNotOf (place k) w mid evidence → IsNotOf (place k) w old evidence
   not_of_before w (evidence.Mismatch sector wanted found) is = (is.0, is.1, label_before found is.2, is.3)
-  not_of_before w (evidence.Malformed window page) is = absurd is
+  not_of_before w (evidence.Malformed structure page) is = absurd is
   not_of_before w (evidence.Missing id page) is = absurd is
 
   -- the memory has it there too, where no frame is over the sectors

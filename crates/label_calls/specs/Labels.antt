@@ -1,11 +1,11 @@
 -- What a label write does to disk and frames.
-use Rattle.std.specs.Prelude.{◌≡◌, ◌≢◌, ◌⊎◌, ℕ, ◌<◌, bit_or, true, false, List, [], ◌∷◌, Some, slice_get}
+use Rattle.std.specs.Prelude.{◌≡◌, ◌≢◌, ◌⊎◌, ℕ, ◌<◌, true, false, List, [], ◌∷◌, Some, slice_get}
 use Rattle.labelled_disk.specs.declared.label.Label.{Label}
 use Rattle.labelled_disk.specs.declared.label.Wanted.{Wanted}
 use Rattle.labelled_disk.specs.declared.disk.DiskWrite.{DiskWrite}
 use Rattle.labelled_disk.specs.declared.evidence.Evidence.{Evidence}
 use Rattle.labelled_disk.specs.declared.evidence.Evidence.TheVariants.{Mismatch, Malformed, Missing}
-use Rattle.labelled_disk.specs.Label.{is_free, is_file, names}
+use Rattle.labelled_disk.specs.Label.{is_free, is_file, names, permanent_label, immutable_label}
 use Rattle.labelled_disk.specs.Sectors.{Sector}
 use Rattle.labelled_disk.specs.State.{DiskState, HasLabel}
 use Rattle.labelled_disk.specs.CrashState.{written}
@@ -22,8 +22,8 @@ pub record IsFresh (label : Label) : Type 0 where
 
 -- the label with a mark more
 abbrev pub with_mark : Mark → Label → Label
-with_mark Permanent label = record label { flags = bit_or label.flags 1 }
-with_mark Immutable label = record label { flags = bit_or label.flags 2 }
+with_mark Permanent label = permanent_label label
+with_mark Immutable label = immutable_label label
 
 -- some labels
 abbrev pub Labels : Type 1
@@ -64,11 +64,11 @@ nobody = record { id = 0; page = 0 }
 -- the evidence is the label of this sector, which isn't free
 abbrev pub IsTaken : ℕ → DiskState → Evidence → Type 0
 IsTaken k disk (Mismatch sector wanted found) = (sector ≡ k) × (wanted ≡ nobody) × HasLabel disk k found × (is_free found ≡ false)
-IsTaken k disk (Malformed window page) = ⊥
+IsTaken k disk (Malformed structure page) = ⊥
 IsTaken k disk (Missing id page) = ⊥
 
 -- the evidence is the label of this sector, which doesn't name this page
 abbrev pub IsNotOf : ℕ → Wanted → DiskState → Evidence → Type 0
 IsNotOf k w disk (Mismatch sector wanted found) = (sector ≡ k) × (wanted ≡ w) × HasLabel disk k found × (names found w ≡ false)
-IsNotOf k w disk (Malformed window page) = ⊥
+IsNotOf k w disk (Malformed structure page) = ⊥
 IsNotOf k w disk (Missing id page) = ⊥

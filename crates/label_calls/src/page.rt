@@ -14,7 +14,7 @@ ghost use Rattle.swapper_kernel.specs.Stands.{Stands};
 ghost use Rattle.label_calls.specs.Labels.{IsFresh, HasOne, Relabels, MayHaveWritten, IsTaken, IsNotOf, free_ones, ones_of, with_mark};
 ghost use Rattle.label_calls.specs.Own.{RelabelsOwn};
 
-use labelled_disk::{Disk, Evidence, FileId, Halt, Label, Wanted};
+use labelled_disk::{Disk, Evidence, FileId, Halt, LEADER, Label, PAGE_BYTES, Wanted};
 use std::alloc::Allocator;
 use swapper_kernel::Swapper;
 
@@ -25,21 +25,14 @@ pub enum Mark {
     Immutable,
 }
 
-/// The page number of a leader.
-const LEADER: u32 = 4_294_967_295;
-
 impl Mark {
     // The label with the mark.
     fn on(self, label: Label) -> Label
         ensures { result ≡ with_mark self label }
     {
-        let bit = match self {
-            Mark::Permanent => 1,
-            Mark::Immutable => 2,
-        };
-        Label {
-            flags: label.flags | bit,
-            ..label
+        match self {
+            Mark::Permanent => label.with_permanent(),
+            Mark::Immutable => label.with_immutable(),
         }
     }
 }
@@ -58,7 +51,7 @@ pub fn read_label<D: Disk, A: Allocator>(
     ensures frames { swapper.new.pool ≡ swapper.old.pool }
     ensures layout { swapper.new.layout ≡ swapper.old.layout }
 {
-    let mut page = [0; 512];
+    let mut page = [0; PAGE_BYTES];
     let disk = swapper.disk_over();
     match disk.read(sector, &mut page) {
         Ok(label) => Ok(label),
@@ -103,7 +96,7 @@ fn write_fresh<D: Disk, A: Allocator>(
     ensures layout { swapper.new.layout ≡ swapper.old.layout }
 {
     let disk = swapper.disk_over();
-    match disk.write(sector, &label, &[0; 512]) {
+    match disk.write(sector, &label, &[0; PAGE_BYTES]) {
         Ok(()) => Ok(()),
         Err(_) => Err(Halt::Disk),
     }

@@ -3,10 +3,8 @@ ghost use Rattle.std.specs.Prelude.{◌≡◌, ◌<◌, ◌^◌, length, IfOk, O
 ghost use Rattle.std.specs.List.Sorted.{IsPermutation};
 ghost use Rattle.label_survey.specs.Entries.{place_of, entries_from, AreInOrder, AreOf};
 
-use labelled_disk::{FileId, Label};
+use labelled_disk::{FileId, LEADER, Label};
 use std::alloc::{AllocError, Allocator};
-
-const LEADER: u32 = 0xffff_ffff;
 
 /// The place of a leader that is not permanent: past all pages.
 pub(crate) const TEMPORARY: u64 = 0x1_0000_0000;
@@ -26,7 +24,7 @@ fn place_of(label: &Label) -> u64
 {
     if label.page != LEADER {
         u64::from(label.page) + 1
-    } else if label.flags % 2 == 1 {
+    } else if label.marks().permanent {
         0
     } else {
         TEMPORARY

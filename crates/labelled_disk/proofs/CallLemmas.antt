@@ -1,10 +1,10 @@
 -- Calls in a row: what one leaves, and what the row leaves.
-use Rattle.std.proofs.Common.{ℕ, ◌+◌, ◌≤◌, List, ◌++◌, ◌∷◌, [], Result, Ok, refl, ◌∙◌, ap, arith}
+use Rattle.std.proofs.Common.{ℕ, ◌+◌, ◌≤◌, List, ◌++◌, ◌∷◌, [], Result, refl, ◌∙◌, ap, arith}
 use Rattle.std.specs.Prelude.{option_map}
 use Rattle.labelled_disk.specs.declared.label.Label.{Label}
 use Rattle.labelled_disk.specs.declared.disk.DiskError.{DiskError}
 use Rattle.labelled_disk.specs.declared.disk.DiskWrite.{DiskWrite}
-use Rattle.labelled_disk.specs.Calls.{Rose, RevealsSame, RevealsWrite, Reads, Syncs, OnlyReads, ReadsAtMost}
+use Rattle.labelled_disk.specs.Calls.{Rose, RevealsSame, RevealsWrite, Reads, OnlyReads, ReadsAtMost}
 use Rattle.labelled_disk.specs.CrashState.{written}
 use Rattle.labelled_disk.specs.State.{DiskState}
 
@@ -15,6 +15,7 @@ only_reads_itself d = record {
   lent = refl;
   contents = refl;
   writes = refl;
+  syncs = refl;
   transfers = omega arith;
   faults = omega arith;
   synced = λ is. is;
@@ -27,6 +28,7 @@ only_reads_then first next = record {
   lent = next.lent ∙ first.lent;
   contents = next.contents ∙ first.contents;
   writes = next.writes ∙ first.writes;
+  syncs = next.syncs ∙ first.syncs;
   transfers = omega (arith, first.transfers, next.transfers);
   faults = omega (arith, first.faults, next.faults);
   synced = λ is. next.synced (first.synced is);
@@ -39,6 +41,7 @@ read_only read = record {
   lent = read.moves.lent;
   contents = read.same.contents;
   writes = read.same.writes;
+  syncs = read.moves.syncs;
   transfers = read.moves.transfers.later;
   faults = read.moves.faults;
   synced = read.synced;
@@ -63,18 +66,6 @@ reads_at_most_wider less reads = record { only = reads.only; moved = omega (arit
 -- one read
 pub reads_one : {a b : DiskState} {sector : ℕ} {page : List ℕ} {result : Result Label DiskError} → Reads a sector page result b → ReadsAtMost 1 a b
 reads_one read = record { only = read_only read; moved = read.moves.transfers.by_one }
-
--- a syncing that was answered
-pub settled_only : {a b : DiskState} → Syncs a (Ok tt) b → OnlyReads a b
-settled_only sync_counts = record {
-  sectors = sync_counts.sectors;
-  lent = sync_counts.lent;
-  contents = sync_counts.same.contents;
-  writes = sync_counts.same.writes;
-  transfers = omega (arith, sync_counts.transfers);
-  faults = sync_counts.faults;
-  synced = λ is. sync_counts.synced;
-}
 
 -- a count that rose, rose by each later state, since no count falls
 pub rose_later : (a b c : ℕ) → Rose a b → b ≤ c → Rose a c

@@ -9,6 +9,7 @@ use Rattle.labelled_disk.specs.declared.disk.DiskWrite.{DiskWrite}
 use Rattle.labelled_disk.specs.declared.disk.DiskWrite.TheVariants.{Page}
 use Rattle.labelled_disk.specs.Label.{names}
 use Rattle.labelled_disk.specs.CrashState.{written}
+use Rattle.labelled_disk.specs.Syncing.{synced_by}
 use Rattle.labelled_disk.specs.State.{DiskState, Holds, HasLabel, NamesThere}
 
 -- a count of transfers rose by one at most
@@ -42,6 +43,7 @@ pub record RevealsWrite (write : DiskWrite) (old new : DiskState) : Type 0 where
 pub record Moves (old new : DiskState) : Type 0 where
   pub sectors : new.sectors ≡ old.sectors
   pub lent : new.lent ≡ old.lent
+  pub syncs : new.syncs ≡ old.syncs
   pub transfers : Moved old.transfers new.transfers
   pub faults : old.faults ≤ new.faults
 
@@ -77,6 +79,8 @@ pub record WritesData (sector : ℕ) (wanted : Wanted) (page : List ℕ) (old : 
 -- all earlier writes are on the medium, and no sector moved
 pub record Syncs (old : DiskState) (result : Result (Unit {0}) DiskError) (new : DiskState) : Type 0 where
   pub synced : OnOk result (new.synced ≡ true)
+  pub sync_counts : OnOk result (new.syncs ≡ synced_by old.writes old.syncs)
+  pub no_sync : OnErr result (new.syncs ≡ old.syncs)
   pub same : RevealsSame old new
   pub sectors : new.sectors ≡ old.sectors
   pub lent : new.lent ≡ old.lent
@@ -90,6 +94,7 @@ pub record OnlyReads (old new : DiskState) : Type 0 where
   pub lent : new.lent ≡ old.lent
   pub contents : new.contents ≡ old.contents
   pub writes : new.writes ≡ old.writes
+  pub syncs : new.syncs ≡ old.syncs
   pub transfers : old.transfers ≤ new.transfers
   pub faults : old.faults ≤ new.faults
   pub synced : old.synced ≡ true → new.synced ≡ true

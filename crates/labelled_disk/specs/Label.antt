@@ -1,8 +1,9 @@
 -- What the 16 bytes of a label are, and what a label says.
-use Rattle.std.specs.Prelude.{ℕ, ◌%◌, ◌/◌, ◌^◌, Bool, not, ◌&&◌, ◌==◌, nat_lt, nat_le, List, [], ◌∷◌, ◌++◌, slice_index, slice_range}
+use Rattle.std.specs.Prelude.{ℕ, ◌%◌, ◌^◌, Bool, not, ◌&&◌, ◌==◌, nat_lt, nat_le, List, [], ◌∷◌, ◌++◌, slice_index, slice_range, bit_or}
 use Rattle.std.specs.Int.{w16, w32, w64, to_be_bytes, from_be_bytes}
 use Rattle.labelled_disk.specs.declared.label.Label.{Label}
 use Rattle.labelled_disk.specs.declared.label.Wanted.{Wanted}
+use Rattle.labelled_disk.specs.Marks.{has_permanent, has_immutable}
 
 -- bytes 0 to 7 the identifier, 8 to 11 the page, 12 and 13 the type, all big-endian; then the flags and the last byte
 abbrev pub label_bytes : Label → List ℕ
@@ -38,13 +39,20 @@ names l wanted = l.id == wanted.id && l.page == wanted.page && nat_lt l.flags 4 
 abbrev pub leader_page : ℕ
 leader_page = 4294967295
 
--- bit 0 of the flags
+-- the label of a permanent file's leader
 abbrev pub is_permanent : Label → Bool
-is_permanent l = l.flags % 2 == 1
+is_permanent l = has_permanent l.flags
 
--- bit 1 of the flags
+-- the label of an immutable file's leader
 abbrev pub is_immutable : Label → Bool
-is_immutable l = l.flags / 2 % 2 == 1
+is_immutable l = has_immutable l.flags
+
+-- the label with the mark of a permanent file, and with that of an immutable one
+abbrev pub permanent_label : Label → Label
+permanent_label l = record l { flags = bit_or l.flags 1 }
+
+abbrev pub immutable_label : Label → Label
+immutable_label l = record l { flags = bit_or l.flags 2 }
 
 -- the label of a page of a file or a map, or with the leader's page number that of a file's leader: temporary and mutable
 abbrev pub page_label : ℕ → ℕ → ℕ → Label

@@ -6,6 +6,7 @@ pub mod Label
 pub mod Permitted
 pub mod Layout
 pub mod Lowest
+pub mod Marks
 pub mod Memory
 pub mod CrashState
 pub mod Right
@@ -14,6 +15,9 @@ pub mod Root
 pub mod RootLaws
 pub mod Runs
 pub mod Sectors
+pub mod Syncing
 pub mod State
+pub mod Structure
+pub mod StructureLaws
 pub mod WriteLaws
 pub mod WriteRuns

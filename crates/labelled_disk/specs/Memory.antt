@@ -1,4 +1,4 @@
--- What a disk in memory holds, reveals and was meant to do.
+-- What a disk in memory holds, reveals and was made to do.
 use Rattle.std.specs.Prelude.{◌≡◌, ℕ, ◌+◌, ◌-◌, ◌^◌, ◌≤◌, min, length, Bool, false, List, [], Contains, slice_get, Option, Some, None, Result, Ok, Err, if◌then◌else◌}
 use Rattle.std.specs.Option.{option_map_or}
 use Rattle.labelled_disk.specs.declared.label.Wanted.{Wanted}
@@ -11,11 +11,20 @@ use Rattle.std.proofs.lemmas.Option.{same_Some}
 use Rattle.labelled_disk.specs.declared.memory.MemoryDisk.{MemoryDisk}
 use Rattle.labelled_disk.specs.State.{DiskState}
 
+-- the writes, where they are kept
+abbrev pub kept_writes : Bool → List DiskWrite → Option (List DiskWrite)
+kept_writes recording writes = if recording then Some writes else None
+
+-- how many writes are kept, where they are
+abbrev pub kept_room : Bool → ℕ → Option ℕ
+kept_room recording room = if recording then Some room else None
+
 abbrev pub memory_state : {A : Type 0} → MemoryDisk A → DiskState
 memory_state d = record {
   sectors = length d.cells.items;
   contents = Some d.cells.items;
   writes = if d.recording then Some d.writes.items else None;
+  syncs = if d.recording then Some d.syncs.items else None;
   transfers = d.transfers;
   faults = d.faults;
   synced = d.synced;

@@ -6,13 +6,14 @@ use Rattle.labelled_disk.specs.declared.disk.DiskWrite.{DiskWrite}
 use Rattle.labelled_disk.specs.Label.{names}
 use Rattle.labelled_disk.specs.Sectors.{Sector}
 
--- How many sectors a disk has, what it holds and which writes were made on it since it was made, as far as it reveals,
--- how many sectors were moved, how often it failed, whether all writes are on the medium, and the ghost names of the
--- references through which it is lent, the outermost first.
+-- How many sectors a disk has, what it holds, which writes were made on it since it was made and how many of them had
+-- been made each time that it was settled, as far as it reveals, how many sectors were moved, how often it failed, whether
+-- all writes are on the medium, and the ghost names of the references through which it is lent, the outermost first.
 pub record DiskState : Type 0 where
   pub sectors : ℕ
   pub contents : Option (List Sector)
   pub writes : Option (List DiskWrite)
+  pub syncs : Option (List ℕ)
   pub transfers : ℕ
   pub faults : ℕ
   pub synced : Bool
@@ -24,6 +25,7 @@ lent_state name disk = record {
   sectors = disk.sectors;
   contents = disk.contents;
   writes = disk.writes;
+  syncs = disk.syncs;
   transfers = disk.transfers;
   faults = disk.faults;
   synced = disk.synced;

@@ -3,6 +3,7 @@ ghost use Rattle.std.specs.Prelude.{◌≡◌, ℕ, ◌<◌, ◌^◌, List, leng
 ghost use Rattle.labelled_disk.specs.State.{DiskState, lent_state};
 ghost use Rattle.labelled_disk.specs.Sectors.{Sector, AreSectors};
 ghost use Rattle.labelled_disk.specs.Calls.{Reads, Writes, WritesData, Syncs};
+ghost use Rattle.labelled_disk.specs.Syncing.{RevealsSyncs};
 
 use crate::{Label, Page, Wanted};
 use thiserror::Error;
@@ -97,6 +98,12 @@ pub trait Disk {
 
     /// The number of sectors fits a u32.
     ghost few: { (d : Self) → (state d).sectors < 2 ^ 32 };
+
+    /// A count of transfers fits a u64.
+    ghost few_transfers: { (d : Self) → (state d).transfers < 2 ^ 64 };
+
+    /// Syncs are revealed where the writes are: they rise, and a disk that is synced ends with one.
+    ghost sync_counts: { (d : Self) → RevealsSyncs (state d).writes (state d).syncs (state d).synced };
 }
 
 // A disk that is lent is that disk, under one name more.
@@ -108,6 +115,10 @@ impl<'m, D: Disk> Disk for &'m mut D {
     ghost in_form = { λ d all revealed. D.in_form d.now all revealed };
 
     ghost few = { λ d. D.few d.now };
+
+    ghost few_transfers = { λ d. D.few_transfers d.now };
+
+    ghost sync_counts = { λ d. D.sync_counts d.now };
 
     fn sectors(&self) -> u32 {
         (**self).sectors()

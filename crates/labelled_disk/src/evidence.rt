@@ -1,6 +1,6 @@
 //! What shows that a volume is damaged.
 
-use crate::{FileId, Label, Wanted};
+use crate::{FileId, Label, Structure, Wanted};
 use thiserror::Error;
 
 /// What was read and can't stand on a sound volume.
@@ -14,11 +14,10 @@ pub enum Evidence {
         wanted: Wanted,
         found: Label,
     },
-    /// A page of a window breaks its form: of the allocation map (1), the file map (2), or the
-    /// space tables (3).
-    #[error("page {page} of window {window} breaks its form")]
+    /// A page of a structure breaks its form.
+    #[error("page {page} of window {structure} breaks its form")]
     Malformed {
-        window: u8,
+        structure: Structure,
         page: u32,
     },
     /// The file map has no record of a page that must be there.

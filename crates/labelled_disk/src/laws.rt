@@ -6,6 +6,7 @@ ghost use Rattle.labelled_disk.specs.Example.{ExampleFiles};
 ghost use Rattle.labelled_disk.specs.Lowest.{FilesAreAsRevealed, NeededLaws};
 ghost use Rattle.labelled_disk.specs.RootLaws.{RootLaws};
 ghost use Rattle.labelled_disk.specs.Runs.{DataRuns, RunLaws, SectorsStay};
+ghost use Rattle.labelled_disk.specs.Syncing.{AreSyncs, SyncingLaws};
 ghost use Rattle.labelled_disk.specs.WriteLaws.{WriteLaws, FilesAreThose};
 
 /// The list of files has what each identifier has, in ascending order.
@@ -38,6 +39,11 @@ pub fn runs_go_one_way()
     ensures files { (with_temporary : Bool) (serial counter : ℕ) → RunLaws with_temporary serial counter }
     ensures volume { (with_temporary : Bool) → DataRuns with_temporary }
     ensures sectors { SectorsStay }
+{}
+
+/// What a sync adds to the syncs of a disk, and what later writes leave of them.
+pub fn syncs_are_revealed_once()
+    ensures { (n : ℕ) (synced : Bool) (syncs : List ℕ) → AreSyncs n synced syncs → SyncingLaws n syncs }
 {}
 
 /// The files of a disk that is written out sector by sector.

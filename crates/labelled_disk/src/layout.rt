@@ -2,6 +2,7 @@
 ghost use Rattle.std.specs.Prelude.{◌≡◌, IfOk, IfErr};
 ghost use Rattle.labelled_disk.specs.Layout.{IsCount, layout_of};
 
+use crate::TABLE_PAGES;
 use thiserror::Error;
 
 /// The parts of a volume, in sectors.
@@ -59,7 +60,7 @@ pub enum RootFault {
 
 impl Layout {
     /// The layout of a volume on a disk of so many sectors, from 256 to 1,048,576. Sector 0 is the
-    /// root; 96 data sectors are kept for the space tables of a session.
+    /// root; `TABLE_PAGES` data sectors are kept for the space tables of a session.
     pub fn of(sectors: u32) -> Result<Layout, RootFault>
         ensures layout { IfOk result (λ layout. IsCount sectors × (layout ≡ layout_of sectors)) }
         ensures refused { IfErr result (λ fault. ¬ IsCount sectors
@@ -75,7 +76,7 @@ impl Layout {
             vam,
             vfm,
             first: 1 + vam + vfm,
-            capacity: sectors - 1 - vam - vfm - 96,
+            capacity: sectors - 1 - vam - vfm - TABLE_PAGES,
         })
     }
 }

@@ -3,9 +3,11 @@ ghost use Rattle.std.specs.Prelude.{◌≡◌, ℕ, ◌<◌, ◌≤◌, ◌^◌,
 ghost use Rattle.std.specs.Prelude.{List, [], ◌++◌, ◌∷◌, length, replicate, slice_get, slice_set, Contains, vec_capacity};
 ghost use Rattle.std.specs.Prelude.{Some, None, IfOk, IfErr, OnOk, OnErr, IsErr, is_ok, unwrap_or, option_map};
 ghost use Rattle.labelled_disk.specs.Sectors.{zero_sector, AreSectors};
+ghost use Rattle.labelled_disk.specs.Syncing.{AreSyncs};
 ghost use Rattle.labelled_disk.specs.Calls.{Rose, RevealsSame, Moves, FailsWith, Reads, Writes, WritesData, Syncs};
 
-use crate::{Disk, DiskError, DiskWrite, Label, NoMemory, Page, Wanted};
+use crate::kept::{ends_with, keep, synced_once};
+use crate::{Disk, DiskError, DiskWrite, Label, NoMemory, PAGE_BYTES, Page, Wanted};
 use std::alloc::{AllocError, Allocator};
 
 /// A disk that holds its sectors in memory and reveals them. It is settled by `sync` alone, which
@@ -16,12 +18,17 @@ pub struct MemoryDisk<A: Allocator> {
     failing: Vec<u64, A>,
     recording: bool,
     writes: Vec<DiskWrite, A>,
+    syncs: Vec<u64, A>,
     room: u32,
     transfers: u64,
     faults: u64,
     synced: bool,
     ghost few: { length cells.items < 2 ^ 32 },
+    ghost few_transfers: { transfers < 2 ^ 64 },
     ghost room_kept: { recording ≡ true → room ≤ vec_capacity writes },
+    ghost room_to_sync: { recording ≡ true → room < vec_capacity syncs },
+    ghost in_room: { recording ≡ true → length writes.items ≤ room },
+    ghost sync_counts: { recording ≡ true → AreSyncs (length writes.items) synced syncs.items },
     ghost in_form: { AreSectors cells.items },
 }
 
@@ -35,6 +42,7 @@ impl<A: Allocator + Clone> MemoryDisk<A> {
         ensures contents { IfOk result (λ d. (memory_state d).contents
             ≡ Some (replicate sectors zero_sector)) }
         ensures writes { IfOk result (λ d. (memory_state d).writes ≡ None) }
+        ensures syncs { IfOk result (λ d. (memory_state d).syncs ≡ None) }
         ensures plan { IfOk result (λ d. memory_plan d ≡ record { calls = []; room = None }) }
         ensures counts { IfOk result (λ d. memory_state d
             ≡ record (memory_state d) { transfers = 0; faults = 0; synced = true }) }
@@ -43,7 +51,8 @@ impl<A: Allocator + Clone> MemoryDisk<A> {
             cells: zero_sectors(alloc.clone()?, sectors)?,
             failing: Vec::new(alloc.clone()?),
             recording: false,
-            writes: Vec::new(alloc),
+            writes: Vec::new(alloc.clone()?),
+            syncs: Vec::new(alloc),
             room: 0,
             transfers: 0,
             faults: 0,
@@ -52,8 +61,8 @@ impl<A: Allocator + Clone> MemoryDisk<A> {
     }
 
     /// Such a disk that fails at the calls with these numbers, counted from 1 over the calls that
-    /// move a sector, those that failed among them. It reveals its writes, and has room for so many;
-    /// a write beyond them fails. All memory is taken here.
+    /// move a sector, those that failed among them. It reveals its writes and its syncs, and has
+    /// room for so many writes; a write beyond them fails. All memory is taken here.
     pub fn failing(
         alloc: A,
         sectors: u32,
@@ -64,6 +73,7 @@ impl<A: Allocator + Clone> MemoryDisk<A> {
         ensures contents { IfOk result (λ d. (memory_state d).contents
             ≡ Some (replicate sectors zero_sector)) }
         ensures writes { IfOk result (λ d. (memory_state d).writes ≡ Some []) }
+        ensures syncs { IfOk result (λ d. (memory_state d).syncs ≡ Some (0 ∷ [])) }
         ensures plan { IfOk result (λ d. memory_plan d ≡ record { calls = calls.now; room = Some room }) }
         ensures counts { IfOk result (λ d. memory_state d
             ≡ record (memory_state d) { transfers = 0; faults = 0; synced = true }) }
@@ -74,7 +84,8 @@ impl<A: Allocator + Clone> MemoryDisk<A> {
             cells: zero_sectors(alloc.clone()?, sectors)?,
             failing,
             recording: true,
-            writes: Vec::with_capacity(alloc, room as usize)?,
+            writes: Vec::with_capacity(alloc.clone()?, room as usize)?,
+            syncs: synced_once(alloc, room)?,
             room,
             transfers: 0,
             faults: 0,
@@ -88,19 +99,27 @@ fn zero_sectors<A: Allocator>(alloc: A, sectors: u32) -> Result<Vec<(Label, Page
 {
     let mut cells = Vec::with_capacity(alloc, sectors as usize)?;
     for _sector in 0..sectors {
-        cells.push((Label::FREE, [0; 512]))?;
+        cells.push((Label::FREE, [0; PAGE_BYTES]))?;
     }
     Ok(cells)
 }
 
 impl<A: Allocator> MemoryDisk<A> {
-    ghost use Rattle.labelled_disk.specs.Memory.{memory_state, memory_plan, IsFull, FailsNext, Counts, CountsFault};
+    ghost use Rattle.labelled_disk.specs.Memory.{memory_state, memory_plan, IsFull, FailsNext, Counts, CountsFault, StaysSyncedIfErr};
 
     /// The writes that were made, in their order; none of a disk made by `new`.
     pub fn written(&self) -> &[DiskWrite]
         ensures { result.now ≡ unwrap_or (memory_state self.now).writes [] }
     {
         if self.recording { &self.writes } else { &[] }
+    }
+
+    /// How many writes had been made at each sync, each number once, in their order. A new disk
+    /// is settled, so that 0 is the first. None of a disk made by `new`.
+    pub fn syncs(&self) -> &[u64]
+        ensures { result.now ≡ unwrap_or (memory_state self.now).syncs [] }
+    {
+        if self.recording { &self.syncs } else { &[] }
     }
 
     // Counts a call that moves a sector, and answers whether the call fails.
@@ -134,16 +153,13 @@ impl<A: Allocator> MemoryDisk<A> {
         ensures never_falls { self.old.faults ≤ self.new.faults }
         ensures faults { CountsFault result self.old.faults self.new.faults }
         ensures transfers { self.new.transfers ≡ self.old.transfers }
-        ensures synced { self.new.synced ≡ self.old.synced }
+        ensures syncs { (memory_state self.new).syncs ≡ (memory_state self.old).syncs }
+        ensures synced { StaysSyncedIfErr result (memory_state self.old) (memory_state self.new) }
     {
-        if self.recording {
-            if self.writes.len() >= self.room as usize {
-                return Err(self.fault());
-            }
-            if self.writes.push(write).is_err() {
-                return Err(self.fault());
-            }
+        if !keep(&mut self.writes, self.recording, self.room, write) {
+            return Err(self.fault());
         }
+        self.synced = false;
         Ok(())
     }
 
@@ -155,10 +171,10 @@ impl<A: Allocator> MemoryDisk<A> {
         ensures plan { memory_plan self.new ≡ memory_plan self.old }
         ensures faults { self.new.faults ≡ self.old.faults }
         ensures transfers { self.new.transfers ≡ self.old.transfers }
-        ensures synced { self.new.synced ≡ false }
+        ensures syncs { (memory_state self.new).syncs ≡ (memory_state self.old).syncs }
+        ensures synced { self.new.synced ≡ self.old.synced }
     {
         self.cells[sector as usize] = (label, *page);
-        self.synced = false;
     }
 
     fn fault(&mut self) -> DiskError
@@ -170,6 +186,7 @@ impl<A: Allocator> MemoryDisk<A> {
         ensures same { RevealsSame (memory_state self.old) (memory_state self.new) }
         ensures plan { memory_plan self.new ≡ memory_plan self.old }
         ensures transfers { self.new.transfers ≡ self.old.transfers }
+        ensures syncs { (memory_state self.new).syncs ≡ (memory_state self.old).syncs }
         ensures synced { self.new.synced ≡ self.old.synced }
     {
         if self.faults < u64::MAX {
@@ -181,6 +198,7 @@ impl<A: Allocator> MemoryDisk<A> {
 
 impl<A: Allocator> Disk for MemoryDisk<A> {
     ghost use Rattle.labelled_disk.specs.Memory.{memory_state, memory_plan, names_at, IsFull, FailsNext, Counts, IsFailed, StaysSyncedIfErr, same_some};
+    ghost use Rattle.labelled_disk.specs.Syncing.{revealed_syncs};
 
     ghost state = { memory_state };
 
@@ -189,6 +207,10 @@ impl<A: Allocator> Disk for MemoryDisk<A> {
     ghost in_form = { λ d all is. same_some is AreSectors d.in_form };
 
     ghost few = { λ d. d.few };
+
+    ghost few_transfers = { λ d. d.few_transfers };
+
+    ghost sync_counts = { λ d. revealed_syncs d.recording d.synced d.writes.items d.syncs.items d.sync_counts };
 
     fn sectors(&self) -> u32 {
         self.cells.len() as u32
@@ -276,6 +298,14 @@ impl<A: Allocator> Disk for MemoryDisk<A> {
         ensures plan { memory_plan self.new ≡ memory_plan self.old }
     {
         self.synced = true;
+        if !self.recording {
+            return Ok(());
+        }
+        let made = self.writes.len() as u64;
+        if ends_with(&self.syncs, made) {
+            return Ok(());
+        }
+        let _ = self.syncs.push(made);
         Ok(())
     }
 

@@ -1,8 +1,7 @@
 //! What each sector of a volume is, for a picture.
-use crate::listing::LEADER;
 use crate::rows::last_of;
 use label_survey::{Run, SectorState};
-use labelled_disk::Layout;
+use labelled_disk::{LEADER, Layout};
 use std::alloc::{AllocError, Global};
 use volume_view::{BitRun, Names, View};
 

@@ -1,15 +1,11 @@
 //! The listing: the root, a line for each file, both maps, leftovers, and what a restoration would do.
 use crate::maps::write_maps;
 use crate::rows::{last_of, total_pages};
-use crate::stopped::TABLES;
 use label_survey::Run;
-use labelled_disk::{FileId, Label};
+use labelled_disk::{FileId, LEADER, Label, TABLES};
 use std::alloc::{AllocError, Global};
 use volume_root::Root;
 use volume_view::{FileLine, Found, View};
-
-/// The page number of a leader.
-pub(crate) const LEADER: u32 = 0xffff_ffff;
 
 /// How many sectors are not free.
 pub(crate) fn used_sectors(labels: &[Label]) -> u32 {

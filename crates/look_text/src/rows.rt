@@ -1,6 +1,6 @@
 //! Runs of pages and of sectors, as text.
-use crate::listing::LEADER;
 use label_survey::Run;
+use labelled_disk::LEADER;
 use std::alloc::AllocError;
 
 /// The last of so many from this one on.

@@ -1,11 +1,8 @@
 //! What a stopped volume has: the pages of its space tables are in neither map.
 use label_survey::Run;
-use labelled_disk::{FileId, Label};
+use labelled_disk::{Label, TABLES};
 use std::alloc::Global;
 use volume_view::{BitRun, Condition, Names, View};
-
-/// The identifier of the space tables.
-pub(crate) const TABLES: FileId = 3;
 
 // How many sectors have a label of the space tables.
 fn table_sectors(labels: &[Label]) -> u64 {

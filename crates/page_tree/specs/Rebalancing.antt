@@ -31,7 +31,7 @@ abbrev pub IsMetAgain : List ℕ → ℕ → ℕ → ℕ → ℕ → Option ℕ 
 IsMetAgain paths level levels at beside (Some page) = ((page ≡ at) ⊎ (page ≡ beside)) × ((l : ℕ) × (level < l) × (l ≤ levels) × (get_or paths l 0 ≡ page))
 IsMetAgain paths level levels at beside None = AreNotAbove paths level levels at beside
 
--- the child beside child i that redistributes it out
+-- the child beside child i that it is redistributed with
 pub record IsBesideOf (i beside : ℕ) : Type 0 where
   pub at_first : i ≡ 0 → beside ≡ 1
   pub after : 0 < i → beside ≡ i - 1

@@ -70,7 +70,7 @@ pub record IsSecond (i slot : ℕ) : Type 0 where
   pub at_first : i ≡ 0 → slot ≡ 1
   pub after : 0 < i → slot ≡ i
 
--- the page is redistributed out with a neighbour, and the page above is as it was
+-- the page is redistributed with a neighbour, and the page above is as it was
 pub record IsBeside (e k pages : ℕ) (reveals : List ℕ → Type 0) (b : List ℕ) (records : List (List ℕ)) (levels level : ℕ) (paths index : List ℕ) (slot less : ℕ) (its : List Item) (root first top : ℕ) : Type 0 where
   pub now : List ℕ
   pub revealed : reveals now

@@ -39,6 +39,7 @@ pub fn load_above<M: FlatMem, const K: usize>(
     ensures named { 1 ≤ get_or path.now.pages (level + 1) 0 → IfErr result (IfMalformed (λ page. 1 ≤ page)) }
     ensures unchanged { (b : List ℕ) → M.reveals mem.old b → M.reveals mem.new b }
     ensures kept { M.beside mem.old mem.new }
+    ensures looked { M.only_reads mem.old mem.new }
     ensures cause { IfErr result (IfMemNotFull (M.accounted mem.old mem.new)) }
     ensures cost { M.spent mem.new ≤ M.spent mem.old + M.cost }
 {
@@ -81,6 +82,7 @@ fn load_beside<M: FlatMem, const E: usize, const K: usize>(
     ensures named { 1 ≤ up → IfErr result (IfMalformed (λ page. 1 ≤ page)) }
     ensures unchanged { (b : List ℕ) → M.reveals mem.old b → M.reveals mem.new b }
     ensures kept { M.beside mem.old mem.new }
+    ensures looked { M.only_reads mem.old mem.new }
     ensures cause { IfErr result (IfMemNotFull (M.accounted mem.old mem.new)) }
     ensures cost { M.spent mem.new ≤ M.spent mem.old + M.cost }
 {
@@ -103,7 +105,7 @@ fn load_beside<M: FlatMem, const E: usize, const K: usize>(
     Ok(at)
 }
 
-/// Redistributes the page of level `level` out with a neighbour under `above`, and says whether the two are one page now.
+/// Redistributes the page of level `level` with a neighbour under `above`, and says whether the two are one page now.
 /// Of the two, the second is child `slot` of `above`, and `key` becomes its first key.
 pub fn rebalance_beside<M: FlatMem, const E: usize, const K: usize>(
     mem: &mut M,

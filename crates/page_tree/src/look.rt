@@ -71,6 +71,7 @@ pub fn descend<M: FlatMem, const E: usize, const K: usize>(
     ensures broken { (b : List ℕ) → M.reveals mem.old b → Meets K b levels root → IfErr result (IfMalformed (Breaks E K (M.size mem.old / 512) b)) }
     ensures unchanged { (b : List ℕ) → M.reveals mem.old b → M.reveals mem.new b }
     ensures kept { M.beside mem.old mem.new }
+    ensures looked { M.only_reads mem.old mem.new }
     ensures cause { IfErr result (IfMemNotFull (M.accounted mem.old mem.new)) }
     ensures cost { M.spent mem.new ≤ M.spent mem.old + levels * M.cost }
 {
@@ -170,6 +171,7 @@ pub fn read_header<M: FlatMem, const E: usize, const K: usize>(
     ensures unlike { (b : List ℕ) → M.reveals mem.old b → IfErr result (IfMalformed (λ _. ¬ IsHeaderForm E (M.size mem.old / 512) (page_at b 0))) }
     ensures unchanged { (b : List ℕ) → M.reveals mem.old b → M.reveals mem.new b }
     ensures kept { M.beside mem.old mem.new }
+    ensures looked { M.only_reads mem.old mem.new }
     ensures cause { IfErr result (IfMemNotFull (M.accounted mem.old mem.new)) }
     ensures cost { M.spent mem.new ≤ M.spent mem.old + M.cost }
 {
@@ -194,6 +196,7 @@ pub fn count<M: FlatMem, const E: usize, const K: usize>(
     ensures broken { (b : List ℕ) → M.reveals mem.old b → IfErr result (IfMalformed (Breaks E K (M.size mem.old / 512) b)) }
     ensures unchanged { (b : List ℕ) → M.reveals mem.old b → M.reveals mem.new b }
     ensures kept { M.beside mem.old mem.new }
+    ensures looked { M.only_reads mem.old mem.new }
     ensures cause { IfErr result (IfMemNotFull (M.accounted mem.old mem.new)) }
     ensures cost { M.spent mem.new ≤ M.spent mem.old + M.cost }
 {
@@ -218,6 +221,7 @@ pub fn look_up<M: FlatMem, const E: usize, const K: usize>(
     ensures broken { (b : List ℕ) → M.reveals mem.old b → IfErr result (IfMalformed (Breaks E K (M.size mem.old / 512) b)) }
     ensures unchanged { (b : List ℕ) → M.reveals mem.old b → M.reveals mem.new b }
     ensures kept { M.beside mem.old mem.new }
+    ensures looked { M.only_reads mem.old mem.new }
     ensures cause { IfErr result (IfMemNotFull (M.accounted mem.old mem.new)) }
     ensures cost { M.spent mem.new ≤ M.spent mem.old + 7 * M.cost }
 {

@@ -27,6 +27,7 @@ pub fn load<M: FlatMem>(mem: &mut M, index: u32, page: &mut Page) -> Result<(), 
     ensures memory { IfErr result FromMemory }
     ensures unchanged { (b : List ℕ) → M.reveals mem.old b → M.reveals mem.new b }
     ensures kept { M.beside mem.old mem.new }
+    ensures looked { M.only_reads mem.old mem.new }
     ensures cause { IfErr result (IfMemNotFull (M.accounted mem.old mem.new)) }
     ensures cost { M.spent mem.new ≤ M.spent mem.old + M.cost }
 {
@@ -157,7 +158,7 @@ fn put_cell(page: &mut Page, base: usize, width: usize, count: usize, at: usize,
     put(page, base + width * at, cell);
 }
 
-/// Moves the cells from `from` on to the prefix.
+/// Moves the cells from `from` on to the start.
 fn keep_cells(page: &mut Page, base: usize, width: usize, count: usize, from: usize)
     requires place { from ≤ count }
     requires room { base + width * count ≤ 512 }

@@ -79,6 +79,7 @@ impl<M: FlatMem, const E: usize, const K: usize> PageTree<M, E, K> {
         ensures same_list { (xs : List (List ℕ)) → Lists self.old xs → Lists self.new xs }
         ensures same_bytes { (b : List ℕ) → M.reveals (tree_memory self.old) b → M.reveals (tree_memory self.new) b }
         ensures kept { M.beside (tree_memory self.old) (tree_memory self.new) }
+        ensures looked { M.only_reads (tree_memory self.old) (tree_memory self.new) }
         ensures cost { M.spent (tree_memory self.new) ≤ M.spent (tree_memory self.old) + M.cost }
     {
         look::count::<M, E, K>(&mut self.mem)
@@ -97,6 +98,7 @@ impl<M: FlatMem, const E: usize, const K: usize> PageTree<M, E, K> {
         ensures same_list { (xs : List (List ℕ)) → Lists self.old xs → Lists self.new xs }
         ensures same_bytes { (b : List ℕ) → M.reveals (tree_memory self.old) b → M.reveals (tree_memory self.new) b }
         ensures kept { M.beside (tree_memory self.old) (tree_memory self.new) }
+        ensures looked { M.only_reads (tree_memory self.old) (tree_memory self.new) }
         ensures cost { M.spent (tree_memory self.new) ≤ M.spent (tree_memory self.old) + 7 * M.cost }
     {
         match look::look_up(&mut self.mem, key, into) {
@@ -119,6 +121,7 @@ impl<M: FlatMem, const E: usize, const K: usize> PageTree<M, E, K> {
         ensures same_list { (xs : List (List ℕ)) → Lists self.old xs → Lists self.new xs }
         ensures same_bytes { (b : List ℕ) → M.reveals (tree_memory self.old) b → M.reveals (tree_memory self.new) b }
         ensures kept { M.beside (tree_memory self.old) (tree_memory self.new) }
+        ensures looked { M.only_reads (tree_memory self.old) (tree_memory self.new) }
         ensures cost { M.spent (tree_memory self.new) ≤ M.spent (tree_memory self.old) + 7 * M.cost }
     {
         look::look_up(&mut self.mem, key, into)
@@ -137,6 +140,7 @@ impl<M: FlatMem, const E: usize, const K: usize> PageTree<M, E, K> {
         ensures same_list { (xs : List (List ℕ)) → Lists self.old xs → Lists self.new xs }
         ensures same_bytes { (b : List ℕ) → M.reveals (tree_memory self.old) b → M.reveals (tree_memory self.new) b }
         ensures kept { M.beside (tree_memory self.old) (tree_memory self.new) }
+        ensures looked { M.only_reads (tree_memory self.old) (tree_memory self.new) }
         ensures cost { M.spent (tree_memory self.new) ≤ M.spent (tree_memory self.old) + 18 * M.cost }
     {
         match after::look_after(&mut self.mem, key, into) {
@@ -159,6 +163,7 @@ impl<M: FlatMem, const E: usize, const K: usize> PageTree<M, E, K> {
         ensures same_list { (xs : List (List ℕ)) → Lists self.old xs → Lists self.new xs }
         ensures same_bytes { (b : List ℕ) → M.reveals (tree_memory self.old) b → M.reveals (tree_memory self.new) b }
         ensures kept { M.beside (tree_memory self.old) (tree_memory self.new) }
+        ensures looked { M.only_reads (tree_memory self.old) (tree_memory self.new) }
         ensures cost { M.spent (tree_memory self.new) ≤ M.spent (tree_memory self.old) + 18 * M.cost }
     {
         after::look_after(&mut self.mem, key, into)
@@ -217,6 +222,7 @@ impl<M: FlatMem, const E: usize, const K: usize> PageTree<M, E, K> {
         ensures same_list { (xs : List (List ℕ)) → Lists self.old xs → Lists self.new xs }
         ensures same_bytes { (b : List ℕ) → M.reveals (tree_memory self.old) b → M.reveals (tree_memory self.new) b }
         ensures kept { M.beside (tree_memory self.old) (tree_memory self.new) }
+        ensures looked { M.only_reads (tree_memory self.old) (tree_memory self.new) }
         ensures cost { M.spent (tree_memory self.new) ≤ M.spent (tree_memory self.old) + 12 * (M.size (tree_memory self.old) / 512) * M.cost }
     {
         by_index::nth::<M, E, K>(&mut self.mem, index, into)
@@ -231,6 +237,7 @@ impl<M: FlatMem, const E: usize, const K: usize> PageTree<M, E, K> {
         ensures same_list { (xs : List (List ℕ)) → Lists self.old xs → Lists self.new xs }
         ensures same_bytes { (b : List ℕ) → M.reveals (tree_memory self.old) b → M.reveals (tree_memory self.new) b }
         ensures kept { M.beside (tree_memory self.old) (tree_memory self.new) }
+        ensures looked { M.only_reads (tree_memory self.old) (tree_memory self.new) }
         ensures cost { M.spent (tree_memory self.new) ≤ M.spent (tree_memory self.old) + 12 * (M.size (tree_memory self.old) / 512) * M.cost }
     {
         last_at_most::find_last_at_most::<M, E, K>(&mut self.mem, key)

@@ -37,7 +37,7 @@ fn second_of(index: usize) -> usize
     if index == 0 { 1 } else { index }
 }
 
-// The child beside child `index` that redistributes it out.
+// The child beside child `index` that it is redistributed with.
 fn beside_of(index: usize) -> usize
     ensures { IsBesideOf index result }
 {
@@ -90,7 +90,7 @@ fn drop_root<M: FlatMem, const K: usize>(
     }
 }
 
-// Redistributes an underfull page of level `level` out, and says whether all is done. Else the page above has still to be written, and stands in `page`.
+// Redistributes an underfull page of level `level`, and says whether all is done. Else the page above has still to be written, and stands in `page`.
 fn rebalance_underfull<M: FlatMem, const E: usize, const K: usize>(
     mem: &mut M,
     header: &mut Header,
@@ -160,7 +160,7 @@ fn rebalance_underfull<M: FlatMem, const E: usize, const K: usize>(
     Ok(false)
 }
 
-/// Writes the page of level `level` where it is filled enough, and says that all is done. Else it is redistributed out with a neighbour; then the page above has still to be written, and stands in `page`.
+/// Writes the page of level `level` where it is filled enough, and says that all is done. Else it is redistributed with a neighbour; then the page above has still to be written, and stands in `page`.
 fn rebalance_up<M: FlatMem, const E: usize, const K: usize>(
     mem: &mut M,
     header: &mut Header,

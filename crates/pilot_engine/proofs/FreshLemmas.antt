@@ -78,7 +78,7 @@ wrote_on_new {made = made} volume root same bare starts = record {
 }
   where
     itself : (d : DiskState) → OnlyReads d d
-    itself d = record { sectors = refl; contents = refl; writes = refl; lent = refl; faults = omega arith; transfers = omega arith; synced = λ s. s }
+    itself d = record { sectors = refl; contents = refl; writes = refl; syncs = refl; lent = refl; faults = omega arith; transfers = omega arith; synced = λ s. s }
 
 -- and what stands in each crash state of it
 pub keeps_new : {old made_so new : DiskState} {s t : Slots} (d : List Sector) → length d ≡ old.sectors → IsCount old.sectors → old.contents ≡ Some d → MadeVolume old made_so → (root : Root) → root ≡ new_root old.sectors 1 1

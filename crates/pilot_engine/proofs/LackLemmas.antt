@@ -33,20 +33,20 @@ Misses P pages = (v w : View) (e : Halt) → P v w e → MissesPage pages e
 pub search_misses : (pages : Pages) (layout : Layout) (old : DiskState) (before : Slots) (new : DiskState) (e : Halt) → MapHalts layout old before new e → MissesPage pages e
 search_misses pages layout old before new halt.Disk h = tt
 search_misses pages layout old before new (halt.Damaged (Mismatch sector wanted found)) h = tt
-search_misses pages layout old before new (halt.Damaged (Malformed window page)) h = tt
+search_misses pages layout old before new (halt.Damaged (Malformed structure page)) h = tt
 search_misses pages layout old before new (halt.Damaged (Missing missing page)) h = absurd h
 
 pub look_misses : (pages : Pages) (id : ℕ) → Misses (LookHalts id) pages
 look_misses pages id v w halt.Disk h = tt
 look_misses pages id v w (halt.Damaged (Mismatch sector wanted found)) h = tt
-look_misses pages id v w (halt.Damaged (Malformed window page)) h = tt
+look_misses pages id v w (halt.Damaged (Malformed structure page)) h = tt
 look_misses pages id v w (halt.Damaged (Missing missing page)) h = elim h [ inl map ↦ absurd map | inr none ↦ absurd none.other ]
 
 -- where pages of a file are made, one of the space tables alone may be missing
 pub new_misses : (pages : Pages) (id : ℕ) (wanted : ℕ → Type 0) → Misses (NewFileHalts id wanted) pages
 new_misses pages id wanted v w halt.Disk h = tt
 new_misses pages id wanted v w (halt.Damaged (Mismatch sector label found)) h = tt
-new_misses pages id wanted v w (halt.Damaged (Malformed window page)) h = tt
+new_misses pages id wanted v w (halt.Damaged (Malformed structure page)) h = tt
 new_misses pages id wanted v w (halt.Damaged (Missing missing page)) h = inl h.0
 
 -- ---- Which page of the file.
@@ -67,7 +67,7 @@ own_alone P file misses v w e h = misses_wider (own_pages v.layout v.disk v.slot
 pub mark_misses_own : (id : ℕ) → MissesOwn (MarkHalts id) id
 mark_misses_own id v w halt.Disk h = tt
 mark_misses_own id v w (halt.Damaged (Mismatch sector wanted found)) h = tt
-mark_misses_own id v w (halt.Damaged (Malformed window page)) h = tt
+mark_misses_own id v w (halt.Damaged (Malformed structure page)) h = tt
 mark_misses_own id v w (halt.Damaged (Missing missing page)) h = inr (h.0, inl h.1)
 
 pub mark_misses : (id : ℕ) → Misses (MarkHalts id) (pages_of id)
@@ -77,14 +77,14 @@ mark_misses id = own_alone (MarkHalts id) id (mark_misses_own id)
 pub cut_misses : (given : Type 0) (layout : Layout) (kept : List Run) (id from : ℕ) (pages : ℕ → Type 0) (old : DiskState) (before : Slots) (new : DiskState) (e : Halt) → CutFileHalts given layout kept id from pages old before new e → MissesPage (λ file page. (file ≡ id) × pages page) e
 cut_misses given layout kept id from pages old before new halt.Disk h = tt
 cut_misses given layout kept id from pages old before new (halt.Damaged (Mismatch sector wanted found)) h = tt
-cut_misses given layout kept id from pages old before new (halt.Damaged (Malformed window page)) h = tt
+cut_misses given layout kept id from pages old before new (halt.Damaged (Malformed structure page)) h = tt
 cut_misses given layout kept id from pages old before new (halt.Damaged (Missing missing page)) h = elim h [ inl free ↦ inr (free.0, free.1) | inr out ↦ absurd out ]
 
 -- of the space tables
 pub tables_lack : (freed : ℕ → Type 0) (pages : Pages) (e : Halt) → MissesPage (λ file page. (file ≡ 3) × freed page) e → MissesPage pages e
 tables_lack freed pages halt.Disk h = tt
 tables_lack freed pages (halt.Damaged (Mismatch sector wanted found)) h = tt
-tables_lack freed pages (halt.Damaged (Malformed window page)) h = tt
+tables_lack freed pages (halt.Damaged (Malformed structure page)) h = tt
 tables_lack freed pages (halt.Damaged (Missing missing page)) h = elim h [ inl three ↦ inl three | inr own ↦ inl own.0 ]
 
 pub remove_misses_own : (id : ℕ) → MissesOwn (RemoveHalts id) id
@@ -96,7 +96,7 @@ remove_misses id = own_alone (RemoveHalts id) id (remove_misses_own id)
 pub size_misses_own : (id pages : ℕ) → MissesOwn (SizeHalts id pages) id
 size_misses_own id pages v w halt.Disk h = tt
 size_misses_own id pages v w (halt.Damaged (Mismatch sector wanted found)) h = tt
-size_misses_own id pages v w (halt.Damaged (Malformed window page)) h = tt
+size_misses_own id pages v w (halt.Damaged (Malformed structure page)) h = tt
 size_misses_own id pages v w (halt.Damaged (Missing missing page)) h = elim h [
   | inl leader ↦ inr (leader.0, inl leader.1)
   | inr (inl made) ↦ inl made.0

@@ -30,11 +30,9 @@ use force_calls::flush;
 use labelled_disk::{Disk, Halt};
 use space_calls::sync;
 use std::alloc::Allocator;
+use swap_units::ROOT_PAGES;
 use swapper_kernel::Manager;
 use volume_root::{Root, write_root};
-
-// The pages of the root.
-const ROOT_PAGES: u32 = 8126464;
 
 // The root of a volume, once it is closed.
 fn closed(root: Root) -> Root

@@ -29,7 +29,7 @@ none_rose_after state before x y none same = subst (λ z. Rose before (state z).
 -- a reason asks only which writes were made
 reason_lent : (o : InitialState) (l : Layout) (n : ℕ) (disk : DiskState) (e : Evidence) → HasReason o l (lent_state n disk) e → HasReason o l disk e
 reason_lent o l n disk (Mismatch sector wanted found) is = is
-reason_lent o l n disk (Malformed window page) is = is
+reason_lent o l n disk (Malformed structure page) is = is
 reason_lent o l n disk (Missing id page) is = is
 
 module _ {D : Type 0} (state : D → DiskState) (x y : D) (same : x ≡ y) where
@@ -54,7 +54,7 @@ module _ {D : Type 0} (state : D → DiskState) (x y : D) (same : x ≡ y) where
   -- what evidence says is so
   so_after : (n : ℕ) (e : Evidence) → IsEvident (lent_state n (state y)) e → IsEvident (state y) e
   so_after n (Mismatch sector wanted found) is = is
-  so_after n (Malformed window page) is = is
+  so_after n (Malformed structure page) is = is
   so_after n (Missing id page) is = is
 
   -- so it is there
@@ -113,6 +113,7 @@ module _ {D : Type 0} (state : D → DiskState) (x y : D) (same : x ≡ y) where
       lent = lent_parts m n first.lent (state y).lent reads.lent;
       contents = reads.contents;
       writes = reads.writes;
+      syncs = reads.syncs;
       transfers = reads.transfers;
       faults = reads.faults;
       synced = reads.synced;

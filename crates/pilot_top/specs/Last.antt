@@ -8,6 +8,7 @@ use Rattle.labelled_disk.specs.declared.layout.RootFault.{RootFault}
 use Rattle.labelled_disk.specs.declared.layout.RootFault.TheVariants as fault
 use Rattle.labelled_disk.specs.declared.evidence.Evidence.{Evidence}
 use Rattle.labelled_disk.specs.declared.evidence.Evidence.TheVariants as evidence
+use Rattle.labelled_disk.specs.Structure.{structure_number}
 use Rattle.flat_machine.specs.Text.{id_text}
 use Rattle.trace_io.specs.Stream.{IsPrefixOf}
 use Rattle.pilot_top.specs.declared.last.Cause.{Cause}
@@ -35,7 +36,7 @@ root_words fault.Disk = codes "disk"
 abbrev pub evidence_words : Evidence → List ℕ
 evidence_words (evidence.Mismatch sector wanted found) =
     codes "label " ++ decimal sector ++ codes " " ++ id_text wanted.id ++ codes " " ++ decimal wanted.page ++ codes " " ++ id_text found.id ++ codes " " ++ decimal found.page
-evidence_words (evidence.Malformed window page) = codes "record " ++ decimal window ++ codes " " ++ decimal page
+evidence_words (evidence.Malformed structure page) = codes "record " ++ decimal (structure_number structure) ++ codes " " ++ decimal page
 evidence_words (evidence.Missing id page) = codes "missing " ++ id_text id ++ codes " " ++ decimal page
 
 -- the line that says why it stopped

@@ -8,7 +8,7 @@ use crate::digits::id_digits;
 use crate::last::Cause;
 use arrayvec::ArrayVec;
 use itoa::Buffer;
-use labelled_disk::{Evidence, FileId, Label, Wanted};
+use labelled_disk::{Evidence, FileId, Label, Structure, Wanted};
 
 // A page of a file.
 fn page_words(id: FileId, page: u32) -> ArrayVec<u8, 32>
@@ -37,14 +37,14 @@ fn mismatch_words(sector: u32, wanted: Wanted, found: Label) -> ArrayVec<u8, 80>
     words
 }
 
-// A page of a window that breaks its form.
-fn malformed_words(window: u8, page: u32) -> ArrayVec<u8, 80>
-    ensures text { result.items ≡ evidence_words (evidence.Malformed window page) }
+// A page of a structure that breaks its form.
+fn malformed_words(structure: Structure, page: u32) -> ArrayVec<u8, 80>
+    ensures text { result.items ≡ evidence_words (evidence.Malformed structure page) }
     ensures short { length result.items ≤ 72 }
 {
     let mut words = ArrayVec::new();
     let _ = words.try_extend_from_slice(b"record ");
-    let _ = words.try_extend_from_slice(Buffer::new().format(window).as_bytes());
+    let _ = words.try_extend_from_slice(Buffer::new().format(structure.number()).as_bytes());
     let _ = words.try_extend_from_slice(b" ");
     let _ = words.try_extend_from_slice(Buffer::new().format(page).as_bytes());
     words
@@ -71,7 +71,7 @@ fn evidence_words(evidence: Evidence) -> ArrayVec<u8, 80>
             wanted,
             found,
         } => mismatch_words(sector, wanted, found),
-        Evidence::Malformed { window, page } => malformed_words(window, page),
+        Evidence::Malformed { structure, page } => malformed_words(structure, page),
         Evidence::Missing { id, page } => missing_words(id, page),
     }
 }

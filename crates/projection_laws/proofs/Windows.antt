@@ -1,22 +1,17 @@
 -- What an interval says of a window.
-use Rattle.std.proofs.Common.{◌≡◌, ℕ, ◌-◌, ◌≤◌, Bool, true, false, cond, Option, Some, None, refl, sym, ◌∙◌, ap, subst, arith}
+use Rattle.std.proofs.Common.{◌≡◌, ◌-◌, ◌≤◌, true, false, Option, Some, None, refl, sym, ◌∙◌, ap, subst, arith}
 use Rattle.std.specs.Prelude.{option_map, is_some, IfSome}
-use Rattle.std.proofs.lemmas.Bool.{false≢true}
+use Rattle.std.proofs.lemmas.Bool.{false≢true, true≢false}
 use Rattle.flat_machine.specs.declared.space.Space.{Space}
 use Rattle.flat_machine.specs.declared.space.Window.{Window}
 use Rattle.flat_machine.specs.Space.{end, mapped_at}
 use Rattle.flat_machine.proofs.Lists.{In, all_in}
+use Rattle.swap_units.specs.Mode.{is_mapped}
 use Rattle.projection_laws.specs.Sight.{Interval, Shown, Sight, sight_at, shown_of, mode_shown, id_shown, page_shown, end_of}
 use Rattle.projection_laws.specs.Laws.{WindowFits, ShowsInForm, WindowsAreFormed}
 use Rattle.projection_laws.proofs.Inside.{showing_found, hold_parts, same}
 use Rattle.projection_laws.proofs.Bridge.{from_there}
 use Rattle.projection_laws.proofs.Forms.{part_at}
-
-moded : (a b : Bool) → ◌≡◌ {A = ℕ} (cond a (cond b 4 3) (cond b 2 1)) 0 → ⊥
-moded true true e = omega arith
-moded true false e = omega arith
-moded false true e = omega arith
-moded false false e = omega arith
 
 pub windows_are_formed : WindowsAreFormed
 windows_are_formed ss xs k x h fit are e =
@@ -32,7 +27,7 @@ windows_are_formed ss xs k x h fit are e =
     window t i low high some (Some w) f m id page mode =
         let fits : WindowFits t.pages w = subst (λ (o : Option Window). IfSome o (WindowFits t.pages)) f (all_in (λ s. IfSome s.window (WindowFits s.pages)) ss fit t i) in record {
           shown = λ n. (omega (arith, id, fits.above_reserved), omega (arith, page, fits.pages_fit));
-          bare = λ n. absurd (moded w.anonymous w.writable (sym mode ∙ n));
+          bare = λ n. absurd (true≢false (sym (ap is_mapped mode) ∙ n));
           small = omega (arith, id, fits.small);
         }
 
@@ -43,7 +38,7 @@ windows_are_formed ss xs k x h fit are e =
         let none = ap (λ (o : Option Space). mode_shown (option_map shown_of o)) f in
         let no_id = ap (λ (o : Option Space). id_shown (option_map shown_of o)) f in
         let no_page = ap (λ (o : Option Space). page_shown (option_map shown_of o) x.first) f in record {
-          shown = λ n. absurd (n (mode ∙ none));
+          shown = λ n. absurd (false≢true (sym (ap is_mapped (mode ∙ none)) ∙ n));
           bare = λ n. (id ∙ no_id, page ∙ no_page);
           small = omega (arith, id, no_id);
         }

@@ -1,5 +1,5 @@
 -- What is proved of the intervals.
-use Rattle.std.specs.Prelude.{IfSome, ◌^◌, ◌≡◌, ◌≢◌, ℕ, suc, ◌*◌, ◌+◌, ◌≤◌, ◌<◌, List, length, map, Option, Some, None, slice_get, slice_set, find, option_map, nat_le, ◌==◌, ◌&&◌, ◌||◌, ◌-◌, Bool, [], ◌∷◌, if◌then◌else◌}
+use Rattle.std.specs.Prelude.{IfSome, true, false, ◌^◌, ◌≡◌, ◌≢◌, ℕ, suc, ◌*◌, ◌+◌, ◌≤◌, ◌<◌, List, length, map, Option, Some, None, slice_get, slice_set, find, option_map, nat_le, ◌==◌, ◌&&◌, ◌-◌, Bool, [], ◌∷◌, if◌then◌else◌}
 use Rattle.std.specs.List.{AllByRecursion, insert, remove}
 use Rattle.flat_machine.specs.declared.space.Window.{Window}
 use Rattle.flat_machine.specs.declared.space.Space.{Space}
@@ -7,6 +7,7 @@ use Rattle.flat_machine.specs.Space.{root, root_pages, end, space_at, innermost,
 use Rattle.flat_machine.specs.Refusal.{fits, lowest_gap, is_read_only}
 use Rattle.flat_machine.specs.At.{shown_at}
 use Rattle.flat_machine.specs.Projection.{unit}
+use Rattle.swap_units.specs.Mode as mode
 use Rattle.swap_units.specs.Unit.{Holds, IsUnit}
 use Rattle.flat_machine.specs.Next.{put_space, without_space, change_space, set_window}
 use Rattle.projection_laws.specs.Spaces.{AreSpaces, MayBeAdded, MayBeRemoved, MayHaveWindow}
@@ -94,7 +95,6 @@ pub record IsFormed (x : Interval) : Type 0 where
   pub starts : x.start ≤ x.first
   pub unit_fits : (1 ≤ x.unit) × (x.unit ≤ 16)
   pub handle_fits : x.space ≤ 511
-  pub mode_fits : x.mode ≤ 4
   pub mapped_fits : x.mapped ≤ 511
 
 abbrev pub IntervalsAreFormed : Type 0
@@ -112,8 +112,8 @@ WindowsFit ss = AllByRecursion (λ s. IfSome s.window (WindowFits s.pages)) ss
 
 -- what is shown has such numbers too, and where nothing is shown they are 0
 pub record ShowsInForm (x : Interval) : Type 0 where
-  pub shown : x.mode ≢ 0 → (16 ≤ x.id) × (x.page + x.pages ≤ 2 ^ 32)
-  pub bare : x.mode ≡ 0 → (x.id ≡ 0) × (x.page ≡ 0)
+  pub shown : mode.is_mapped x.mode ≡ true → (16 ≤ x.id) × (x.page + x.pages ≤ 2 ^ 32)
+  pub bare : mode.is_mapped x.mode ≡ false → (x.id ≡ 0) × (x.page ≡ 0)
   pub small : x.id < 2 ^ 64
 
 abbrev pub WindowsAreFormed : Type 0
@@ -150,8 +150,8 @@ RootIsOne = IsKept (root ∷ []) (interval_of (record { inner = Some (inner_of r
 pub record Reveals (ss : List Space) (x : Interval) (page : ℕ) : Type 0 where
   pub innermost_is : (s : Space) × (innermost ss page ≡ Some s) × (x.space ≡ s.handle) × (x.unit ≡ s.unit) × (x.start ≡ s.first)
   pub mapped_is : option_map (λ (s : Space). s.handle) (mapped_at ss page) ≡ (if x.mapped == 0 then None else Some x.mapped)
-  pub shown : shown_at ss page ≡ (if x.mode == 0 then None else Some (record { file = x.id; page = x.page + (page - x.first) }))
-  pub read_only : is_read_only ss page ≡ (x.mode == 1 || x.mode == 3)
+  pub shown : shown_at ss page ≡ (if mode.is_mapped x.mode then Some (record { file = x.id; page = x.page + (page - x.first) }) else None)
+  pub read_only : is_read_only ss page ≡ mode.is_read_only x.mode
 
 abbrev pub IntervalsReveal : Type 0
 IntervalsReveal = (ss : List Space) (xs : List Interval) (k page : ℕ) (x : Interval) → AreSpaces ss → AreIntervals ss xs → slice_get xs k ≡ Some x → Holds x page → Reveals ss x page

@@ -1,5 +1,5 @@
 -- Intervals as the entries of a table: their keys are their first pages.
-use Rattle.std.specs.Prelude.{◌≡◌, ℕ, suc, ◌^◌, ◌<◌, ◌≤◌, ◌==◌, ◌||◌, nat_lt, if◌then◌else◌, List, [], ◌∷◌, ◌++◌, length, map, replicate, Option, Some, None, IfSome, slice_get}
+use Rattle.std.specs.Prelude.{◌≡◌, ℕ, suc, ◌^◌, ◌<◌, ◌≤◌, ◌==◌, if◌then◌else◌, unwrap_or, List, [], ◌∷◌, ◌++◌, length, map, replicate, Option, Some, None, IfSome, slice_get}
 use Rattle.std.specs.Option.{option_map_or}
 use Rattle.byteorder.specs.Endian.{big_bytes}
 use Rattle.flat_mem.specs.Order.{IsInKeyOrder, IsLastAtMost, NoneAtMost, IsAfter}
@@ -7,12 +7,19 @@ use Rattle.flat_machine.specs.declared.space.Space.{Space}
 use Rattle.flat_machine.specs.Space.{root_pages}
 use Rattle.flat_machine.specs.declared.space.Window.{Window}
 use Rattle.record_table.specs.Field.{field}
-use Rattle.projection_laws.specs.Sight.{Interval, AreIntervals, end_of, mode_of}
+use Rattle.swap_units.specs.declared.mode.Mode.{Mode}
+use Rattle.swap_units.specs.declared.mode.Mode.TheVariants.{Unmapped, Mapped}
+use Rattle.swap_units.specs.Mode.{code_of, mode_in}
+use Rattle.projection_laws.specs.Sight.{Interval, AreIntervals, end_of, mode_through}
 
 -- the 32 bytes of an interval
 abbrev pub bytes_of : Interval → List ℕ
 bytes_of x =
-    big_bytes 4 x.first ++ (big_bytes 4 x.pages ++ (big_bytes 2 x.space ++ (x.unit ∷ x.mode ∷ (big_bytes 4 x.start ++ (big_bytes 8 x.id ++ (big_bytes 4 x.page ++ (big_bytes 2 x.mapped ++ (0 ∷ 0 ∷ []))))))))
+    big_bytes 4 x.first ++ (big_bytes 4 x.pages ++ (big_bytes 2 x.space ++ (x.unit ∷ code_of x.mode ∷ (big_bytes 4 x.start ++ (big_bytes 8 x.id ++ (big_bytes 4 x.page ++ (big_bytes 2 x.mapped ++ (0 ∷ 0 ∷ []))))))))
+
+-- the mode of a byte; a record with a byte that is that of no mode is out of form
+abbrev pub mode_at : ℕ → Mode
+mode_at code = unwrap_or (mode_in code) Unmapped
 
 -- the interval in 32 bytes
 abbrev pub interval_in : List ℕ → Interval
@@ -21,7 +28,7 @@ interval_in b = record {
   pages = field 4 4 b;
   space = field 2 8 b;
   unit = field 1 10 b;
-  mode = field 1 11 b;
+  mode = mode_at (field 1 11 b);
   start = field 4 12 b;
   id = field 8 16 b;
   page = field 4 24 b;
@@ -34,7 +41,6 @@ pub record IsTyped (x : Interval) : Type 0 where
   pub pages : x.pages < 2 ^ 32
   pub space : x.space < 2 ^ 16
   pub unit : x.unit < 256
-  pub mode : x.mode < 256
   pub start : x.start < 2 ^ 32
   pub id : x.id < 2 ^ 64
   pub page : x.page < 2 ^ 32
@@ -45,9 +51,9 @@ IntervalReadsBack = (x : Interval) → IsTyped x → (interval_in (bytes_of x) �
 
 -- Records of the hierarchy.
 
--- 0 unmapped, else the mode of the window
+-- the byte of a window's mode, or of none
 abbrev pub mode_number : Option Window → ℕ
-mode_number w = option_map_or mode_of w 0
+mode_number w = code_of (mode_through w)
 
 -- the 32 bytes of a handle's record
 abbrev pub slot_bytes : Option Space → List ℕ
@@ -57,8 +63,9 @@ slot_bytes (Some s) =
     ++ (big_bytes 8 (option_map_or (λ w. w.file) s.window 0) ++ (big_bytes 4 (option_map_or (λ w. w.first) s.window 0) ++ (0 ∷ 0 ∷ 0 ∷ 0 ∷ [])))))))
 
 -- the window of a mode, an identifier and a first file page
-abbrev pub window_in : ℕ → ℕ → ℕ → Option Window
-window_in mode file first = if mode == 0 then None else Some (record { file = file; first = first; writable = mode == 2 || mode == 4; anonymous = nat_lt 2 mode })
+abbrev pub window_in : Mode → ℕ → ℕ → Option Window
+window_in Unmapped file first = None
+window_in (Mapped writable anonymous) file first = Some (record { file = file; first = first; writable = writable; anonymous = anonymous })
 
 -- the space in a handle's record
 abbrev pub space_in : ℕ → List ℕ → Space
@@ -68,7 +75,7 @@ space_in handle b = record {
   first = field 4 8 b;
   pages = field 4 12 b;
   unit = field 1 1 b;
-  window = window_in (field 1 2 b) (field 8 16 b) (field 4 24 b);
+  window = window_in (mode_at (field 1 2 b)) (field 8 16 b) (field 4 24 b);
 }
 
 -- the space of a handle, or none

@@ -1,8 +1,9 @@
 -- Where the space tables are seen, a call that keeps to an initial state whose bytes of theirs are revealed leaves them so, and reveals none of
 -- their pages as broken.
-use Rattle.std.proofs.Common.{inl, inr, ℕ, List, sym, arith}
+use Rattle.std.proofs.Common.{inl, inr, ℕ, List, sym}
 use Rattle.std.proofs.lemmas.Option.{none-some}
 use Rattle.labelled_disk.specs.declared.evidence.Evidence.TheVariants.{Mismatch, Malformed, Missing}
+use Rattle.labelled_disk.specs.StructureLaws.{map_or_tables}
 use Rattle.labelled_disk.specs.declared.evidence.Halt.{Halt}
 use Rattle.labelled_disk.specs.declared.evidence.Halt.TheVariants.{Disk, Damaged}
 use Rattle.labelled_disk.specs.declared.layout.Layout.{Layout}
@@ -23,15 +24,15 @@ use Rattle.running_words.specs.Blameless.{NeverBlamesForm}
 pub never_blames_form : (e : Halt) → NeverBlamesTables e → NeverBlamesForm e
 never_blames_form Disk is = tt
 never_blames_form (Damaged (Mismatch sector wanted found)) is = tt
-never_blames_form (Damaged (Malformed window page)) is = is
+never_blames_form (Damaged (Malformed structure page)) is = is
 never_blames_form (Damaged (Missing id page)) is = tt
 
 -- so it is where a reason was shown whatever bytes they have
 pub revealed_form : (o : InitialState) (b : List ℕ) (layout : Layout) (disk : DiskState) (e : Halt) → ShowsReason (telling o b) layout disk e → NeverBlamesForm e
 revealed_form o b layout disk Disk is = tt
 revealed_form o b layout disk (Damaged (Mismatch sector wanted found)) is = tt
-revealed_form o b layout disk (Damaged (Malformed window page)) (inl (second, first, full)) = λ third. omega (arith, second, third)
-revealed_form o b layout disk (Damaged (Malformed window page)) (inr (third, none)) = absurd (none-some b (sym none))
+revealed_form o b layout disk (Damaged (Malformed structure page)) (inl (second, first, full)) = λ third. map_or_tables structure second third
+revealed_form o b layout disk (Damaged (Malformed structure page)) (inr (third, none)) = absurd (none-some b (sym none))
 revealed_form o b layout disk (Damaged (Missing id page)) is = tt
 
 -- ---- Calls that keep to an initial state, whatever bytes it reveals of the tables.

@@ -195,7 +195,7 @@ module _ (o : InitialState) (v : View) (named : Triples) (is : IsLayout v.layout
       | inl (inr own) ↦ inl (FileMap, own)
       | inr came ↦ elim (reached_home o v named is keeps.0 (home_at sector wanted) (inr came)) [ inl own ↦ inl own | inr at ↦ inr (inl at) ]
     ]
-    evidence_shows (Malformed window page) cause = elim cause [
+    evidence_shows (Malformed structure page) cause = elim cause [
       | inl (second, broken) ↦ absurd (in_form is keeps.0.size keeps.0.stands keeps.0.map page broken)
       | inr (third, broken) ↦ inr (third, keeps.1.1)
     ]

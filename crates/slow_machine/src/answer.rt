@@ -1,4 +1,4 @@
-//! What a client is revealed by calls that change nothing.
+//! What a client learns by calls that change nothing.
 
 use crate::stored::StoredFile;
 use crate::{SlowMachine, look};

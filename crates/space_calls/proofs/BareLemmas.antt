@@ -1,9 +1,9 @@
 -- Where the projection is one interval that shows nothing, no space is mapped.
-use Rattle.std.proofs.Common.{◌≡◌, ℕ, ◌<◌, Bool, true, false, List, length, Option, Some, None, refl, sym, ◌∙◌, ap, subst, arith}
-use Rattle.std.specs.Prelude.{IfSome, find, slice_get, is_some, option_map, option_and_then, if◌then◌else◌, ◌==◌, ◌-◌, ◌+◌}
+use Rattle.std.proofs.Common.{◌≡◌, ℕ, ◌<◌, Bool, true, false, not, List, length, Option, Some, None, refl, sym, ◌∙◌, ap, subst, arith}
+use Rattle.std.specs.Prelude.{IfSome, find, slice_get, is_some, option_map, option_and_then, if◌then◌else◌, ◌-◌, ◌+◌}
 use Rattle.std.specs.List.{list_any}
 use Rattle.std.specs.Option.{option_map_or}
-use Rattle.std.proofs.lemmas.Bool.{eqb-true, true≢false, false≢true}
+use Rattle.std.proofs.lemmas.Bool.{true≢false, false≢true}
 use Rattle.std.proofs.lemmas.Option.{none-some, slice_get_within}
 use Rattle.labelled_disk.specs.declared.disk.Disk.{Ghosts}
 use Rattle.labelled_disk.specs.Sectors.{Sector}
@@ -15,6 +15,7 @@ use Rattle.flat_machine.specs.Machine.{IsSpace, Machine}
 use Rattle.flat_machine.specs.Space.{end, has_window, is_mapped, root_pages}
 use Rattle.flat_machine.proofs.Lists.{In, all_in, any_not, find_in, not_any}
 use Rattle.swap_units.specs.declared.interval.Interval.{Interval}
+use Rattle.swap_units.specs.Mode as mode
 use Rattle.projection_laws.specs.Sight.{AreIntervals, end_of}
 use Rattle.projection_laws.specs.Spaces.{AreSpaces}
 use Rattle.projection_laws.proofs.Finds.{last_holds}
@@ -70,7 +71,7 @@ module _ (ss : List Space) (xs : List Interval) (index : ℕ) (x : Interval) (ar
       let here : slice_get xs 0 ≡ Some x = sym (ap (λ (k : ℕ). slice_get xs k) is_first) ∙ there in
       last_holds ss xs 0 page x are inside here (omega (arith, begins)) (λ j e. let within = slice_get_within xs 1 j e in absurd (omega (arith, within, single)))
 
-pub bare_tables : {reveals : List ℕ → Type 0} {count : ℕ} {ss : List Space} → RevealSpaces reveals count ss → (x : Interval) → IsIntervalAt ss 0 x → count ≡ 1 → x.mode ≡ 0 → list_any is_mapped ss ≡ false
+pub bare_tables : {reveals : List ℕ → Type 0} {count : ℕ} {ss : List Space} → RevealSpaces reveals count ss → (x : Interval) → IsIntervalAt ss 0 x → count ≡ 1 → mode.is_mapped x.mode ≡ false → list_any is_mapped ss ≡ false
 bare_tables {ss = ss} revealed x at one bare =
     let are : AreSpaces ss = subst AreSpaces revealed.spaces revealed.right.spaces in
     let intervals : AreIntervals ss revealed.xs = subst (λ (ts : List Space). AreIntervals ts revealed.xs) revealed.spaces revealed.right.intervals in
@@ -81,7 +82,7 @@ bare_tables {ss = ss} revealed x at one bare =
     none_mapped ss are (λ page inside.
     let high = holds_all ss at.xs at.index x at.projection single at.there begins page inside in
     (intervals_reveal ss at.xs at.index page x are at.projection at.there (omega (arith, begins), high)).shown
-    ∙ ap (λ (b : Bool). if b then None else Some (record { file = x.id; page = x.page + (page - x.first) })) (ap (λ (n : ℕ). n == 0) bare))
+    ∙ ap (λ (b : Bool). if b then Some (record { file = x.id; page = x.page + (page - x.first) }) else None) bare)
 
 -- ---- No window is found.
 
@@ -98,9 +99,13 @@ none_windowed test ss none = by (find (has_window test) ss) refl
 
 -- ---- What a core reveals of it.
 
+is_not : (b : Bool) → not b ≡ true → b ≡ false
+is_not true e = absurd (false≢true e)
+is_not false e = refl
+
 module _ {D A : Type 0} {G : Ghosts D} (c : Core D A G) (layout : IsLayout c.filer.swapper.layout) (size : (G.state c.filer.swapper.disk).sectors ≡ c.filer.swapper.layout.sectors) where
   pub bare_core : (volume : Volume) (m : Machine) → Runs c volume m → (x : Interval) (o : Option Interval) → o ≡ Some x → ((memory : List Sector) (named : Triples) (ss : List Space) → Knows c memory named ss → IfSome o (IsIntervalAt ss 0)) → c.intervals ≡ 1
-      → (x.mode == 0) ≡ true → list_any is_mapped m.spaces ≡ false
+      → not (mode.is_mapped x.mode) ≡ true → list_any is_mapped m.spaces ≡ false
   bare_core volume m r x o is reveals one bare =
       let at : IsIntervalAt m.spaces 0 x = subst (λ (o : Option Interval). IfSome o (IsIntervalAt m.spaces 0)) is (reveals _ _ m.spaces (knows c layout size volume m r)) in
-      bare_tables r.tables x at one (eqb-true x.mode 0 bare)
+      bare_tables r.tables x at one (is_not (mode.is_mapped x.mode) bare)

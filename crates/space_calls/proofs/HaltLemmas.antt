@@ -29,7 +29,7 @@ use Rattle.space_calls.specs.Halts.{BreaksSight, ChangeHalts, MapFileHalts, Name
 
 pub look_reaches : (v w : View) → Looks v.layout v.disk v.slots (kept_by v) w.disk w.slots (runs_of v.layout.sectors w.runs) → w.layout ≡ v.layout → Reaches v w
 look_reaches v w looks layout = record {
-  goes = goes_wider Same (Differs (in_tables v.layout)) table_pages (λ m n same. subst (Differs (in_tables v.layout) m) (sym same) (differs_itself (in_tables v.layout) m)) (λ id page is. inr is) looks.goes;
+  goes = goes_wider Same (Differs (in_tables v.layout)) table_pages (λ m n same. subst (Differs (in_tables v.layout) m) (sym same) (differs_itself (in_tables v.layout) m)) (λ id page no. absurd no) looks.goes;
   brings = brings_wider (IsReached v) (λ home map. inl map) looks.brings;
   layout = layout;
   given = λ r one. looks.given r (subst (λ (l : Layout). IsOneOf r (runs_of l.sectors w.runs)) layout one);

@@ -4,6 +4,7 @@ use Rattle.std.specs.Prelude.{IfOk, IfSome, nat_lt}
 use Rattle.std.proofs.lemmas.Bool.Decides.{nat_tests}
 use Rattle.std.proofs.lemmas.Option.{same_Some}
 use Rattle.labelled_disk.specs.declared.evidence.Evidence.TheVariants.{Mismatch, Malformed, Missing}
+use Rattle.labelled_disk.specs.StructureLaws.{map_or_tables}
 use Rattle.labelled_disk.specs.declared.evidence.Halt.{Halt}
 use Rattle.labelled_disk.specs.declared.evidence.Halt.TheVariants.{Disk, Damaged}
 use Rattle.flat_machine.specs.declared.call.Refusal.{Refusal}
@@ -51,7 +52,7 @@ set_so P X f (Err word) h = absurd h
 pub look_never_blames : (v w : View) (id : ℕ) (e : Halt) → LookHalts id v w e → NeverBlamesTables e
 look_never_blames v w id Disk h = tt
 look_never_blames v w id (Damaged (Mismatch sector wanted found)) h = tt
-look_never_blames v w id (Damaged (Malformed window page)) h = λ three. elim h [ inl map ↦ let two = map.0 in absurd (omega (arith, two, three)) | inr leader ↦ absurd leader.other ]
+look_never_blames v w id (Damaged (Malformed structure page)) h = λ three. elim h [ inl map ↦ absurd (map_or_tables structure map.0 three) | inr leader ↦ absurd leader.other ]
 look_never_blames v w id (Damaged (Missing number page)) h = elim h [ inl map ↦ absurd map | inr leader ↦ absurd leader.other ]
 
 -- ---- The space of a window.

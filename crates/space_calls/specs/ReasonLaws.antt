@@ -108,7 +108,7 @@ module _ (o : InitialState) (v : View) (named : Triples) (is : IsLayout v.layout
     | inl held ↦ elim (keeps.0.frames (home_at sector wanted) held) [ inl own ↦ inl own | inr at ↦ inr (inl at) ]
     | inr own ↦ inl (FileMap, own)
   ]
-  searched (Malformed window page) cause = absurd (in_form is keeps.0.size keeps.0.stands keeps.0.map page cause.1)
+  searched (Malformed structure page) cause = absurd (in_form is keeps.0.size keeps.0.stands keeps.0.map page cause.1)
   searched (Missing missing page) cause = absurd cause
 
   no_leader : (e : Evidence) → IsNoLeader v.layout (kept_by v) id v.disk v.slots e → HasReason o v.layout v.disk e
@@ -116,7 +116,7 @@ module _ (o : InitialState) (v : View) (named : Triples) (is : IsLayout v.layout
       let home : Home = home_at cause.sector (record { id = id; page = leader_page }) in
       let at : IsAtHome o v.disk home = keeps.0.homes home (run_home_named is keeps.0.size keeps.0.stands keeps.0.map (kept_by v) keeps.0.kept home cause.by_run) in
       inr (inl (subst (λ (h : Home). IsAtHome o v.disk h) (λ i. home_at (sym cause.other.0 i) (sym cause.other.1 i)) at))
-  no_leader (Malformed window page) cause = absurd cause.other
+  no_leader (Malformed structure page) cause = absurd cause.other
   no_leader (Missing missing page) cause = absurd cause.other
 
 pub look_before : (id : ℕ) → HasReasonBefore (LookHalts id)

@@ -43,7 +43,7 @@ pub(crate) fn shows_nothing<D: Disk, A: Allocator>(core: &mut Core<D, A>) -> Res
         return Ok(false);
     }
     match core.describe(0) {
-        Ok(Some(interval)) => Ok(interval.mode == 0),
+        Ok(Some(interval)) => Ok(!interval.mode.is_mapped()),
         Ok(None) => Ok(false),
         Err(halt) => Err(halt),
     }

@@ -9,7 +9,7 @@ mod naming;
 mod range;
 mod reference;
 mod spaces;
-mod sync;
+mod syncing;
 mod unmapping;
 mod windows;
 
@@ -19,5 +19,5 @@ pub use naming::{named_file, window_on};
 pub use range::{deactivate, force_out, kill};
 pub use reference::{load, store};
 pub use spaces::{make_space, place, remove_space, set_units};
-pub use sync::sync;
+pub use syncing::sync;
 pub use unmapping::{protect, take_window};

@@ -32,7 +32,7 @@ ghost use Rattle.fault_core.specs.NeverBlames.{NeverBlamesTables};
 ghost use Rattle.space_calls.specs.Sees.{SeesOn, StillSees, StillOn};
 
 use crate::framing::frame_count;
-use crate::sync::sync;
+use crate::syncing::sync;
 use fault_core::Core;
 use flat_machine::{Refusal, Reply};
 use labelled_disk::{Disk, Halt};

@@ -31,7 +31,7 @@ ghost use Rattle.fault_core.specs.NeverBlames.{NeverBlamesTables};
 ghost use Rattle.space_calls.specs.Sees.{SeesOn, SeesFiles, IsShown, StillOn};
 ghost use Rattle.fault_core.specs.Lack.{Sees};
 
-use crate::sync::sync;
+use crate::syncing::sync;
 use crate::windows::{change_window, evict_range, find_window, flush_range, shows_immutable};
 use fault_core::Core;
 use flat_machine::{Refusal, Reply};

@@ -1,4 +1,5 @@
 pub mod ReadBack
+mod Codes
 pub mod Writes
 pub mod Entries
 pub mod InPart

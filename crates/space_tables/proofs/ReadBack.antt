@@ -1,15 +1,17 @@
 -- What a record of right tables reads back.
-use Rattle.std.proofs.Common.{◌≡◌, ℕ, zero, suc, ◌+◌, ◌*◌, ◌^◌, ◌<◌, ◌≤◌, Bool, true, false, cond, List, [], ◌∷◌, length, Option, Some, None, refl, sym, ◌∙◌, ap, subst, arith, ◌==◌}
-use Rattle.std.specs.Prelude.{nat_le, nat_lt, slice_get, if◌then◌else◌, ◌&&◌, ◌||◌}
+use Rattle.std.proofs.Common.{◌≡◌, ℕ, zero, suc, ◌+◌, ◌*◌, ◌^◌, ◌<◌, ◌≤◌, Bool, true, false, List, [], ◌∷◌, length, Option, Some, None, refl, sym, ◌∙◌, ap, subst, arith}
+use Rattle.std.specs.Prelude.{nat_le, nat_lt, slice_get, is_some, if◌then◌else◌}
 use Rattle.std.proofs.lemmas.Option.{same_Some, none-some}
 use Rattle.std.proofs.lemmas.Bool.{and_from, and_parts}
 use Rattle.std.proofs.lemmas.Bool.Decides.{nat_tests}
+use Rattle.swap_units.specs.declared.mode.Mode.{Mode}
+use Rattle.swap_units.specs.declared.mode.Mode.TheVariants.{Unmapped, Mapped}
+use Rattle.swap_units.specs.Mode.{code_of, mode_in}
 use Rattle.swap_units.specs.Unit.{Holds, has_page}
 use Rattle.record_table.specs.Field.{field}
 use Rattle.flat_machine.specs.declared.space.Space.{Space}
-use Rattle.projection_laws.specs.Sight.{Interval}
-use Rattle.flat_machine.specs.declared.space.Window.{Window}
-use Rattle.projection_laws.specs.Stored.{mode_number, bytes_of, slot_bytes, slot_in, space_in, interval_in, IsTyped, IsTypedSpace}
+use Rattle.projection_laws.specs.Sight.{Interval, mode_through}
+use Rattle.projection_laws.specs.Stored.{bytes_of, slot_bytes, slot_in, space_in, interval_in, IsTyped, IsTypedSpace}
 use Rattle.projection_laws.proofs.Codes.{interval_reads_back, slot_reads_back}
 use Rattle.projection_laws.proofs.SlotLemmas.{slot_handle}
 use Rattle.space_tables.specs.Form.{in_form, space_in_form, is_interval_record, is_slot_record, has_plain_bytes, slot_record, interval_record}
@@ -24,32 +26,29 @@ get_or_at (x ∷ xs) (suc k) below = get_or_at xs k (omega (arith, below))
 plain : (x : Interval) → field 2 30 (bytes_of x) ≡ 0
 plain x = refl
 
-interval_back : (x : Interval) → in_form x ≡ true → IsTyped x → (is_interval_record (bytes_of x) ≡ true) × (interval_in (bytes_of x) ≡ x)
-interval_back x form typed =
-    let back = (interval_reads_back x typed).0 in
-    (and_from _ _ (ap in_form back ∙ form) refl, back)
-
-moded : (a b : Bool) → nat_le (cond a (cond b 4 3) (cond b 2 1)) 4 ≡ true
-moded true true = refl
-moded true false = refl
-moded false true = refl
-moded false false = refl
-
-mode_fits : (o : Option Window) → nat_le (mode_number o) 4 ≡ true
-mode_fits None = refl
-mode_fits (Some w) = moded w.anonymous w.writable
-
 one_byte : (n : ℕ) → n * 256 ^ 0 + 0 ≡ n
 one_byte n = omega arith
 
-small_mode : (s : Space) → has_plain_bytes (slot_bytes (Some s)) ≡ true
-small_mode s = ap (λ (n : ℕ). true && nat_le n 4 && true && true && true) (one_byte (mode_number s.window)) ∙ ap (λ (t : Bool). true && t && true && true && true) (mode_fits s.window)
+coded : (mode : Mode) → is_some (mode_in (code_of mode)) ≡ true
+coded Unmapped = refl
+coded (Mapped true true) = refl
+coded (Mapped true false) = refl
+coded (Mapped false true) = refl
+coded (Mapped false false) = refl
+
+pub has_mode : (mode : Mode) → is_some (mode_in (code_of mode * 256 ^ 0 + 0)) ≡ true
+has_mode mode = ap (λ (n : ℕ). is_some (mode_in n)) (one_byte (code_of mode)) ∙ coded mode
+
+interval_back : (x : Interval) → in_form x ≡ true → IsTyped x → (is_interval_record (bytes_of x) ≡ true) × (interval_in (bytes_of x) ≡ x)
+interval_back x form typed =
+    let back = (interval_reads_back x typed).0 in
+    (and_from _ _ (and_from _ _ (has_mode x.mode) (ap in_form back ∙ form)) refl, back)
 
 slot_back : (h : ℕ) (s : Space) → s.handle ≡ h → space_in_form s ≡ true → IsTypedSpace s → (is_slot_record (slot_bytes (Some s)) ≡ true) × (slot_in h (slot_bytes (Some s)) ≡ Some s)
 slot_back h s is form typed =
     let back : slot_in s.handle (slot_bytes (Some s)) ≡ Some s = (slot_reads_back s typed).0 in
     let inner : space_in s.handle (slot_bytes (Some s)) ≡ s = same_Some _ _ back in
-    (and_from (has_plain_bytes (slot_bytes (Some s))) _ (small_mode s) (ap space_in_form inner ∙ form), rw (← is) back)
+    (and_from _ _ (and_from _ (has_plain_bytes (slot_bytes (Some s))) (has_mode (mode_through s.window)) refl) (ap space_in_form inner ∙ form), rw (← is) back)
 
 -- an interval is read where one stands
 pub one_read : (b : List ℕ) (slots : List (Option Space)) (xs : List Interval) → AreTables b slots xs → (k : ℕ) (r : List ℕ) (x : Interval) → slice_get xs k ≡ Some x → IsReadable x → r ≡ interval_record b k

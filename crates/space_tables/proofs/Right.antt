@@ -1,9 +1,9 @@
 -- What holds of right tables.
-use Rattle.std.proofs.Common.{◌≡◌, ◌≢◌, ◌⊎◌, inl, inr, ℕ, ◌+◌, ◌^◌, ◌<◌, ◌≤◌, Bool, true, false, List, length, map, Option, Some, None, refl, sym, ◌∙◌, ap, subst, arith, ◌==◌}
+use Rattle.std.proofs.Common.{◌≡◌, ℕ, ◌+◌, ◌^◌, ◌<◌, ◌≤◌, Bool, true, false, not, List, length, map, Option, Some, None, refl, sym, ◌∙◌, ap, subst, arith, ◌==◌}
 use Rattle.std.specs.Prelude.{slice_get, IfSome, IsSomeAnd, option_and_then, nat_le, nat_lt, ◌||◌}
 use Rattle.std.specs.Int.{w32, to_be_bytes}
 use Rattle.std.proofs.lemmas.Option.{same_Some, none-some}
-use Rattle.std.proofs.lemmas.Bool.{and_from, true≢false, cases_eq}
+use Rattle.std.proofs.lemmas.Bool.{and_from, true≢false}
 use Rattle.std.proofs.lemmas.Bool.Decides.{nat_tests}
 use Rattle.byteorder.specs.Endian.{big_bytes}
 use Rattle.flat_mem.specs.Order.{entry_at}
@@ -27,6 +27,7 @@ use Rattle.projection_laws.proofs.Forms.{intervals_are_formed}
 use Rattle.projection_laws.proofs.Windows.{windows_are_formed}
 use Rattle.projection_laws.proofs.StoredLemmas.{entries_rise, looked_up_holds, some_is_looked_up}
 use Rattle.projection_laws.proofs.Inside.{in_the_root}
+use Rattle.swap_units.specs.Mode.{is_mapped}
 use Rattle.space_tables.specs.Form.{lies_in_root, is_unit, may_be_shown, in_form, window_in_form, space_in_form, interval_record}
 use Rattle.swap_units.specs.Unit.{has_page}
 use Rattle.space_tables.specs.Stored.{AreTables, HoldTables, AreReadable, AreRight}
@@ -47,6 +48,10 @@ in_root first pages h k = and_from _ _ (le 1 pages h) (le (first + pages) root_p
 unit_fits : (unit : ℕ) → 1 ≤ unit → unit ≤ 16 → is_unit unit ≡ true
 unit_fits unit h k = and_from _ _ (le 1 unit h) (le unit 16 k)
 
+is_so : (b : Bool) → not b ≡ false → b ≡ true
+is_so true e = refl
+is_so false e = absurd (true≢false e)
+
 or_from : (s t : Bool) → (s ≡ false → t ≡ true) → (s || t) ≡ true
 or_from true t h = refl
 or_from false t h = h refl
@@ -57,11 +62,10 @@ in_list slots xs r h s e = slot_found slots h r.numbered ∙ ap (λ (o : Option 
 
 interval_stands : (x : Interval) → IsFormed x → ShowsInForm x → (in_form x ≡ true) × IsTyped x
 interval_stands x f w = (
-  and_from _ _ (and_from _ _ (and_from _ _ (and_from _ _ (and_from _ _ (and_from _ _
+  and_from _ _ (and_from _ _ (and_from _ _ (and_from _ _ (and_from _ _
       (in_root x.first x.pages f.some_pages f.in_root)
       (unit_fits x.unit f.unit_fits.0 f.unit_fits.1))
-      (le x.mode 4 f.mode_fits))
-      (or_from _ _ (λ e. let p = w.shown (λ z. true≢false (sym (zero_test x.mode z) ∙ e)) in shown x.id x.page x.pages p.0 p.1)))
+      (or_from _ _ (λ e. let p = w.shown (is_so (is_mapped x.mode) e) in shown x.id x.page x.pages p.0 p.1)))
       (le x.space 511 f.handle_fits))
       (le x.mapped 511 f.mapped_fits))
       (le x.start x.first f.starts),
@@ -70,20 +74,16 @@ interval_stands x f w = (
     pages = omega (arith, f.some_pages, f.in_root);
     space = omega (arith, f.handle_fits);
     unit = omega (arith, f.unit_fits.1);
-    mode = omega (arith, f.mode_fits);
     start = omega (arith, f.some_pages, f.in_root, f.starts);
     id = w.small;
-    page = by (cases_eq x.mode 0);
+    page = by (is_mapped x.mode) refl;
     mapped = omega (arith, f.mapped_fits);
   },
 )
   where
-    zero_test : (n : ℕ) → n ≡ 0 → (n == 0) ≡ true
-    zero_test n z = grind (arith, nat_tests)
-
-    by : (x.mode ≡ 0) ⊎ (x.mode ≢ 0) → x.page < 2 ^ 32
-    by (inl z) = omega (arith, (w.bare z).1)
-    by (inr n) = omega (arith, (w.shown n).1, f.some_pages)
+    by : (b : Bool) → is_mapped x.mode ≡ b → x.page < 2 ^ 32
+    by false e = omega (arith, (w.bare e).1)
+    by true e = omega (arith, (w.shown e).1, f.some_pages)
 
 space_stands : (ss : List Space) (s : Space) → AreSpaces ss → In s ss → IfSome s.window (WindowFits s.pages) → (space_in_form s ≡ true) × IsTypedSpace s
 space_stands ss s h i fit =

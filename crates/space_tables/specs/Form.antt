@@ -1,5 +1,5 @@
 -- The form of the records of the tables, and when a page breaks it.
-use Rattle.std.specs.Prelude.{◌≡◌, ◌⊎◌, ℕ, ◌+◌, ◌*◌, ◌/◌, ◌^◌, ◌<◌, ◌≤◌, Bool, true, false, ◌&&◌, ◌||◌, ◌==◌, nat_le, List, length, Option, None, Some}
+use Rattle.std.specs.Prelude.{◌≡◌, ◌⊎◌, ℕ, ◌+◌, ◌*◌, ◌/◌, ◌^◌, ◌<◌, ◌≤◌, Bool, true, false, not, ◌&&◌, ◌||◌, ◌==◌, nat_le, List, length, Option, None, Some, is_some}
 use Rattle.std.specs.Option.{option_map_or}
 use Rattle.flat_machine.specs.declared.space.Space.{Space}
 use Rattle.flat_machine.specs.declared.space.Window.{Window}
@@ -8,6 +8,7 @@ use Rattle.std.specs.Int.{w32, to_be_bytes}
 use Rattle.flat_mem.specs.Memory.{part}
 use Rattle.flat_mem.specs.Order.{at_most}
 use Rattle.record_table.specs.Field.{field}
+use Rattle.swap_units.specs.Mode.{is_mapped, mode_in}
 use Rattle.swap_units.specs.Unit.{has_page}
 use Rattle.projection_laws.specs.Sight.{Interval, end_of}
 use Rattle.projection_laws.specs.Edits.{pieces}
@@ -52,12 +53,12 @@ may_be_shown id page pages = nat_le 16 id && nat_le (page + pages) (2 ^ 32)
 -- the numbers of an interval are in form
 abbrev pub in_form : Interval → Bool
 in_form x =
-    lies_in_root x.first x.pages && is_unit x.unit && nat_le x.mode 4 && (x.mode == 0 || may_be_shown x.id x.page x.pages)
+    lies_in_root x.first x.pages && is_unit x.unit && (not (is_mapped x.mode) || may_be_shown x.id x.page x.pages)
     && nat_le x.space 511 && nat_le x.mapped 511 && nat_le x.start x.first
 
--- so is a record of the projection
+-- so is a record of the projection, and its mode's byte is that of one
 abbrev pub is_interval_record : List ℕ → Bool
-is_interval_record r = in_form (interval_in r) && field 2 30 r == 0
+is_interval_record r = is_some (mode_in (field 1 11 r)) && in_form (interval_in r) && field 2 30 r == 0
 
 abbrev pub window_in_form : ℕ → Option Window → Bool
 window_in_form pages None = true
@@ -67,13 +68,13 @@ window_in_form pages (Some w) = may_be_shown w.file w.first pages
 abbrev pub space_in_form : Space → Bool
 space_in_form s = lies_in_root s.first s.pages && is_unit s.unit && nat_le s.parent 511 && window_in_form s.pages s.window
 
--- the bytes of a record that may have few values only
+-- the bytes of a record that may have one value only
 abbrev pub has_plain_bytes : List ℕ → Bool
-has_plain_bytes r = field 1 0 r == 1 && nat_le (field 1 2 r) 4 && field 1 3 r == 0 && field 2 6 r == 0 && field 4 28 r == 0
+has_plain_bytes r = field 1 0 r == 1 && field 1 3 r == 0 && field 2 6 r == 0 && field 4 28 r == 0
 
--- a record of the hierarchy is in form; one whose first byte is 0 is tested no further
+-- a record of the hierarchy is in form, and its mode's byte is that of one; one whose first byte is 0 is tested no further
 abbrev pub is_slot_record : List ℕ → Bool
-is_slot_record r = field 1 0 r == 0 || (has_plain_bytes r && space_in_form (space_in 0 r))
+is_slot_record r = field 1 0 r == 0 || (is_some (mode_in (field 1 2 r)) && has_plain_bytes r && space_in_form (space_in 0 r))
 
 -- The page of the hierarchy that has the record of this handle breaks its form there.
 pub record BreaksSlot (b : List ℕ) (page h : ℕ) : Type 0 where

@@ -14,9 +14,7 @@ use crate::scan::{Test, find_space};
 use crate::{SpaceError, projection};
 use flat_machine::{Refusal, Space};
 use flat_mem::FlatMem;
-
-/// How many pages the root has.
-pub const ROOT_PAGES: u32 = 8126464;
+use swap_units::ROOT_PAGES;
 
 /// The space of a handle.
 pub fn existing<M: FlatMem>(mem: &mut M, handle: u32) -> Result<Space, SpaceError<M::Error>>
@@ -28,6 +26,7 @@ pub fn existing<M: FlatMem>(mem: &mut M, handle: u32) -> Result<Space, SpaceErro
     ensures malformed { (b : List ℕ) → M.reveals mem.old b → IfErr result (IfMalformed (λ page. BreaksSlot b page handle)) }
     ensures unchanged { (b : List ℕ) → M.reveals mem.old b → M.reveals mem.new b }
     ensures kept { M.beside mem.old mem.new }
+    ensures looked { M.only_reads mem.old mem.new }
     ensures cause { IfErr result (IfMem (M.accounted mem.old mem.new)) }
     ensures cost { M.spent mem.new ≤ M.spent mem.old + M.cost }
 {
@@ -51,6 +50,7 @@ pub fn place<M: FlatMem>(mem: &mut M, count: u32, page: u32) -> Result<Space, Sp
     ensures malformed { (b : List ℕ) → M.reveals mem.old b → IfErr result (IfMalformed (BreaksFor page count b)) }
     ensures unchanged { (b : List ℕ) → M.reveals mem.old b → M.reveals mem.new b }
     ensures kept { M.beside mem.old mem.new }
+    ensures looked { M.only_reads mem.old mem.new }
     ensures cause { IfErr result (IfMem (M.accounted mem.old mem.new)) }
     ensures cost { M.spent mem.new ≤ M.spent mem.old + 8 * M.cost }
 {
@@ -71,6 +71,7 @@ pub fn unmapped<M: FlatMem>(mem: &mut M, handle: u32) -> Result<Space, SpaceErro
     ensures malformed { (b : List ℕ) → M.reveals mem.old b → IfErr result (IfMalformed (BreaksHierarchy b)) }
     ensures unchanged { (b : List ℕ) → M.reveals mem.old b → M.reveals mem.new b }
     ensures kept { M.beside mem.old mem.new }
+    ensures looked { M.only_reads mem.old mem.new }
     ensures cause { IfErr result (IfMem (M.accounted mem.old mem.new)) }
     ensures cost { M.spent mem.new ≤ M.spent mem.old + 513 * M.cost }
 {

@@ -6,12 +6,11 @@ ghost use Rattle.space_tables.specs.Stored.{HoldTables, RevealSpaces};
 ghost use Rattle.space_tables.specs.Begin.{root_interval, bare_slots};
 
 use crate::SpaceError;
-use crate::ask::ROOT_PAGES;
 use crate::code::{interval_bytes, space_bytes};
 use crate::records::{put_slot, store};
 use flat_machine::Space;
 use flat_mem::FlatMem;
-use swap_units::Interval;
+use swap_units::{Interval, Mode, ROOT_PAGES};
 
 // Writes that no space stands at any handle, and the interval of the root.
 fn clear<M: FlatMem>(mem: &mut M) -> Result<(), SpaceError<M::Error>>
@@ -27,7 +26,7 @@ fn clear<M: FlatMem>(mem: &mut M) -> Result<(), SpaceError<M::Error>>
         pages: ROOT_PAGES,
         space: 0,
         unit: 16,
-        mode: 0,
+        mode: Mode::Unmapped,
         start: 0,
         id: 0,
         page: 0,

@@ -12,7 +12,7 @@ use crate::code::mode_of;
 use crate::records::{interval, put_interval};
 use flat_machine::{Space, Window};
 use flat_mem::FlatMem;
-use swap_units::Interval;
+use swap_units::{Interval, Mode};
 
 /// What is changed of a space.
 #[derive(Clone, Copy, Debug)]
@@ -43,7 +43,7 @@ fn changed(change: &Change, x: &Interval) -> Interval
     match change {
         Change::Unit(_, unit) => Interval { unit: *unit, ..*x },
         Change::Window(_, None) => Interval {
-            mode: 0,
+            mode: Mode::Unmapped,
             id: 0,
             page: 0,
             mapped: 0,

@@ -1,5 +1,7 @@
 //! The 32 bytes of an interval, and of a slot of the hierarchy.
-ghost use Rattle.std.specs.Prelude.{◌≡◌, ◌≤◌, true, Some, None, IfSome, if◌then◌else◌};
+ghost use Rattle.std.specs.Prelude.{◌≡◌, ◌≤◌, ◌==◌, true, Some, None, IfSome, is_some, if◌then◌else◌};
+ghost use Rattle.record_table.specs.Field.{field};
+ghost use Rattle.swap_units.specs.Mode.{mode_in};
 ghost use Rattle.projection_laws.specs.Stored.{bytes_of, interval_in, slot_bytes, slot_in, space_in, window_in};
 ghost use Rattle.projection_laws.specs.Sight.{mode_of};
 ghost use Rattle.space_tables.specs.Form.{lies_in_root, is_unit, may_be_shown, in_form, is_interval_record, is_slot_record, space_in_form, has_plain_bytes};
@@ -8,17 +10,15 @@ use byteorder::{BigEndian, ByteOrder};
 use flat_machine::{Space, Window};
 use labelled_disk::FileId;
 use record_table::field;
-use swap_units::Interval;
+use swap_units::{Interval, Mode, ROOT_PAGES};
 
 /// The bytes of a record.
 pub type Record = [u8; 32];
 
-const ROOT_PAGES: u64 = 8126464;
-
 fn lies_in_root(first: u32, pages: u32) -> bool
     ensures { result ≡ lies_in_root first pages }
 {
-    1 <= pages && u64::from(first) + u64::from(pages) <= ROOT_PAGES
+    1 <= pages && u64::from(first) + u64::from(pages) <= u64::from(ROOT_PAGES)
 }
 
 fn is_unit(unit: u8) -> bool
@@ -38,22 +38,22 @@ fn in_form(x: &Interval) -> bool
 {
     lies_in_root(x.first, x.pages)
         && is_unit(x.unit)
-        && x.mode <= 4
-        && (x.mode == 0 || may_be_shown(x.id, x.page, x.pages))
+        && (!x.mode.is_mapped() || may_be_shown(x.id, x.page, x.pages))
         && x.space <= 511
         && x.mapped <= 511
         && x.start <= x.first
 }
 
-fn decoded(bytes: &Record) -> Interval
-    ensures { result ≡ interval_in bytes.now }
+// The interval in a record, with the mode that its byte has.
+fn interval_of(bytes: &Record, mode: Mode) -> Interval
+    ensures { result ≡ record (interval_in bytes.now) { mode = mode } }
 {
     Interval {
         first: field!(u32, bytes, 0),
         pages: field!(u32, bytes, 4),
         space: field!(u16, bytes, 8),
         unit: bytes[10],
-        mode: bytes[11],
+        mode,
         start: field!(u32, bytes, 12),
         id: field!(u64, bytes, 16),
         page: field!(u32, bytes, 24),
@@ -61,13 +61,27 @@ fn decoded(bytes: &Record) -> Interval
     }
 }
 
+// The interval in a record, or None where no mode has the byte of its mode.
+fn decoded(bytes: &Record) -> Option<Interval>
+    ensures { result ≡ (if is_some (mode_in (field 1 11 bytes.now)) then Some (interval_in bytes.now) else None) }
+{
+    let mode = Mode::from_code(bytes[11])?;
+    Some(interval_of(bytes, mode))
+}
+
+fn ends_in_zeros(bytes: &Record) -> bool
+    ensures { result ≡ (field 2 30 bytes.now == 0) }
+{
+    field!(u16, bytes, 30) == 0
+}
+
 /// The interval in a record, or None where the record breaks its form.
 pub fn read_interval(bytes: &Record) -> Option<Interval>
     ensures interval { result ≡ (if is_interval_record bytes.now then Some (interval_in bytes.now) else None) }
     ensures form { IfSome result (λ x. in_form x ≡ true) }
 {
-    let interval = decoded(bytes);
-    if in_form(&interval) && field!(u16, bytes, 30) == 0 {
+    let interval = decoded(bytes)?;
+    if in_form(&interval) && ends_in_zeros(bytes) {
         Some(interval)
     } else {
         None
@@ -83,7 +97,7 @@ pub fn interval_bytes(x: &Interval) -> Record
     field!(u32, bytes, 4 => x.pages);
     field!(u16, bytes, 8 => x.space);
     bytes[10] = x.unit;
-    bytes[11] = x.mode;
+    bytes[11] = x.mode.to_code();
     field!(u32, bytes, 12 => x.start);
     field!(u64, bytes, 16 => x.id);
     field!(u32, bytes, 24 => x.page);
@@ -91,34 +105,36 @@ pub fn interval_bytes(x: &Interval) -> Record
     bytes
 }
 
-/// 1 read-only, 2 writable, 3 anonymous and read-only, 4 anonymous and writable.
-pub fn mode_of(window: &Window) -> u8
+/// The mode of the pages that a window shows.
+pub fn mode_of(window: &Window) -> Mode
     ensures { result ≡ mode_of window.now }
 {
-    match (window.anonymous, window.writable) {
-        (false, false) => 1,
-        (false, true) => 2,
-        (true, false) => 3,
-        (true, true) => 4,
+    Mode::Mapped {
+        writable: window.writable,
+        anonymous: window.anonymous,
     }
 }
 
-fn window_in(mode: u8, id: FileId, page: u32) -> Option<Window>
+fn window_in(mode: Mode, id: FileId, page: u32) -> Option<Window>
     ensures { result ≡ window_in mode id page }
 {
-    if mode == 0 {
-        return None;
+    match mode {
+        Mode::Unmapped => None,
+        Mode::Mapped {
+            writable,
+            anonymous,
+        } => Some(Window {
+            file: id,
+            first: page,
+            writable,
+            anonymous,
+        }),
     }
-    Some(Window {
-        file: id,
-        first: page,
-        writable: mode == 2 || mode == 4,
-        anonymous: mode > 2,
-    })
 }
 
-fn space_in(handle: u32, bytes: &Record) -> Space
-    ensures { result ≡ space_in handle bytes.now }
+// The space in the record of a handle, with the mode that its byte has.
+fn space_of(handle: u32, bytes: &Record, mode: Mode) -> Space
+    ensures { result ≡ record (space_in handle bytes.now) { window = window_in mode (field 8 16 bytes.now) (field 4 24 bytes.now) } }
 {
     Space {
         handle,
@@ -126,8 +142,16 @@ fn space_in(handle: u32, bytes: &Record) -> Space
         first: field!(u32, bytes, 8),
         pages: field!(u32, bytes, 12),
         unit: bytes[1],
-        window: window_in(bytes[2], field!(u64, bytes, 16), field!(u32, bytes, 24)),
+        window: window_in(mode, field!(u64, bytes, 16), field!(u32, bytes, 24)),
     }
+}
+
+// The space in the record of a handle, or None where no mode has the byte of its mode.
+fn space_in(handle: u32, bytes: &Record) -> Option<Space>
+    ensures { result ≡ (if is_some (mode_in (field 1 2 bytes.now)) then Some (space_in handle bytes.now) else None) }
+{
+    let mode = Mode::from_code(bytes[2])?;
+    Some(space_of(handle, bytes, mode))
 }
 
 fn space_in_form(s: &Space) -> bool
@@ -143,11 +167,7 @@ fn space_in_form(s: &Space) -> bool
 fn has_plain_bytes(bytes: &Record) -> bool
     ensures { result ≡ has_plain_bytes bytes.now }
 {
-    bytes[0] == 1
-        && bytes[2] <= 4
-        && bytes[3] == 0
-        && field!(u16, bytes, 6) == 0
-        && field!(u32, bytes, 28) == 0
+    bytes[0] == 1 && bytes[3] == 0 && field!(u16, bytes, 6) == 0 && field!(u32, bytes, 28) == 0
 }
 
 /// The space in the record of a handle, or none there. The outer None means that the record breaks its form.
@@ -158,7 +178,7 @@ pub fn read_slot(handle: u32, bytes: &Record) -> Option<Option<Space>>
     if bytes[0] == 0 {
         return Some(None);
     }
-    let space = space_in(handle, bytes);
+    let space = space_in(handle, bytes)?;
     if has_plain_bytes(bytes) && space_in_form(&space) {
         Some(Some(space))
     } else {
@@ -178,7 +198,7 @@ pub fn space_bytes(s: &Space) -> Record
     field!(u32, bytes, 8 => s.first);
     field!(u32, bytes, 12 => s.pages);
     if let Some(window) = &s.window {
-        bytes[2] = mode_of(window);
+        bytes[2] = mode_of(window).to_code();
         field!(u64, bytes, 16 => window.file);
         field!(u32, bytes, 24 => window.first);
     }

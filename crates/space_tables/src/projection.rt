@@ -39,6 +39,7 @@ fn look_up_record<M: FlatMem>(
     ensures form { IfOk result (IsWithin (Given count) count) }
     ensures unchanged { (w : List ℕ) → M.reveals mem.old w → M.reveals mem.new w }
     ensures kept { M.beside mem.old mem.new }
+    ensures looked { M.only_reads mem.old mem.new }
     ensures cause { IfErr result (λ e. M.accounted mem.old mem.new e) }
     ensures cost { M.spent mem.new ≤ M.spent mem.old + 7 * M.cost }
 {
@@ -64,6 +65,7 @@ pub fn find<M: FlatMem>(
     ensures refused { IfErr result NotRefused }
     ensures unchanged { (b : List ℕ) → M.reveals mem.old b → M.reveals mem.new b }
     ensures kept { M.beside mem.old mem.new }
+    ensures looked { M.only_reads mem.old mem.new }
     ensures cause { IfErr result (IfMem (M.accounted mem.old mem.new)) }
     ensures cost { M.spent mem.new ≤ M.spent mem.old + 7 * M.cost }
 {

@@ -22,6 +22,7 @@ fn load<M: FlatMem>(mem: &mut M, index: u32, into: &mut Record) -> Result<(), Sp
     ensures memory { IfErr result FromMemory }
     ensures unchanged { (b : List ℕ) → M.reveals mem.old b → M.reveals mem.new b }
     ensures kept { M.beside mem.old mem.new }
+    ensures looked { M.only_reads mem.old mem.new }
     ensures cause { IfErr result (IfMem (M.accounted mem.old mem.new)) }
     ensures cost { M.spent mem.new ≤ M.spent mem.old + M.cost }
 {
@@ -64,6 +65,7 @@ pub fn slot<M: FlatMem>(mem: &mut M, handle: u32) -> Result<Option<Space>, Space
     ensures refused { IfErr result NotRefused }
     ensures unchanged { (b : List ℕ) → M.reveals mem.old b → M.reveals mem.new b }
     ensures kept { M.beside mem.old mem.new }
+    ensures looked { M.only_reads mem.old mem.new }
     ensures cause { IfErr result (IfMem (M.accounted mem.old mem.new)) }
     ensures cost { M.spent mem.new ≤ M.spent mem.old + M.cost }
 {
@@ -91,6 +93,7 @@ pub fn load_page<M: FlatMem>(
     ensures refused { IfErr result NotRefused }
     ensures unchanged { (b : List ℕ) → M.reveals mem.old b → M.reveals mem.new b }
     ensures kept { M.beside mem.old mem.new }
+    ensures looked { M.only_reads mem.old mem.new }
     ensures cause { IfErr result (IfMem (M.accounted mem.old mem.new)) }
     ensures cost { M.spent mem.new ≤ M.spent mem.old + M.cost }
 {
@@ -137,6 +140,7 @@ pub fn interval<M: FlatMem>(mem: &mut M, index: u32) -> Result<Interval, SpaceEr
     ensures refused { IfErr result NotRefused }
     ensures unchanged { (b : List ℕ) → M.reveals mem.old b → M.reveals mem.new b }
     ensures kept { M.beside mem.old mem.new }
+    ensures looked { M.only_reads mem.old mem.new }
     ensures cause { IfErr result (IfMem (M.accounted mem.old mem.new)) }
     ensures cost { M.spent mem.new ≤ M.spent mem.old + M.cost }
 {

@@ -14,12 +14,11 @@ ghost use Rattle.space_tables.specs.Answer.{FromMemory, NotRefused, IfMem, IfMal
 ghost use Rattle.space_tables.specs.Stored.{HoldTables, AreRight, IsReadable};
 ghost use Rattle.space_tables.specs.Scan.{ends_in, IsFirstGap};
 
-use crate::ask::ROOT_PAGES;
 use crate::records::interval;
 use crate::{SpaceError, projection};
 use flat_machine::Refusal;
 use flat_mem::FlatMem;
-use swap_units::Interval;
+use swap_units::{Interval, ROOT_PAGES};
 
 /// The interval that a new space lies in, with its index, and the first page of the space.
 #[derive(Clone, Copy, Debug)]
@@ -52,6 +51,7 @@ fn find_gap<M: FlatMem>(
     ensures refused { IfErr result NotRefused }
     ensures unchanged { (b : List ℕ) → M.reveals mem.old b → M.reveals mem.new b }
     ensures kept { M.beside mem.old mem.new }
+    ensures looked { M.only_reads mem.old mem.new }
     ensures cause { IfErr result (IfMem (M.accounted mem.old mem.new)) }
     ensures cost { M.spent mem.new ≤ M.spent mem.old + 1023 * M.cost }
 {
@@ -100,6 +100,7 @@ fn given_room<M: FlatMem>(
     ensures malformed { (b : List ℕ) → M.reveals mem.old b → IfErr result (IfMalformed (BreaksLookUp first count b)) }
     ensures unchanged { (b : List ℕ) → M.reveals mem.old b → M.reveals mem.new b }
     ensures kept { M.beside mem.old mem.new }
+    ensures looked { M.only_reads mem.old mem.new }
     ensures cause { IfErr result (IfMem (M.accounted mem.old mem.new)) }
     ensures cost { M.spent mem.new ≤ M.spent mem.old + 7 * M.cost }
 {
@@ -140,6 +141,7 @@ pub fn find_room<M: FlatMem>(
     ensures malformed { (b : List ℕ) → M.reveals mem.old b → IfErr result (IfMalformed (BreaksAt first count b)) }
     ensures unchanged { (b : List ℕ) → M.reveals mem.old b → M.reveals mem.new b }
     ensures kept { M.beside mem.old mem.new }
+    ensures looked { M.only_reads mem.old mem.new }
     ensures cause { IfErr result (IfMem (M.accounted mem.old mem.new)) }
     ensures cost { M.spent mem.new ≤ M.spent mem.old + 1023 * M.cost }
 {

@@ -27,6 +27,7 @@ pub fn showing<M: FlatMem>(
     ensures refused { IfErr result NotRefused }
     ensures unchanged { (b : List ℕ) → M.reveals mem.old b → M.reveals mem.new b }
     ensures kept { M.beside mem.old mem.new }
+    ensures looked { M.only_reads mem.old mem.new }
     ensures cause { IfErr result (IfMem (M.accounted mem.old mem.new)) }
     ensures cost { M.spent mem.new ≤ M.spent mem.old + 512 * M.cost }
 {

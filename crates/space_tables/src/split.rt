@@ -22,10 +22,10 @@ fn cut(i: &Interval, first: u32, pages: u32) -> Interval
     requires inside { (i.now.first ≤ first) × (first < end_of i.now) }
     ensures { result ≡ cut i.now first pages }
 {
-    let page = if i.mode == 0 {
-        0
-    } else {
+    let page = if i.mode.is_mapped() {
         i.page + (first - i.first)
+    } else {
+        0
     };
     Interval {
         first,

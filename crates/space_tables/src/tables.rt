@@ -14,7 +14,7 @@ ghost use Rattle.space_tables.specs.Answer.{FromMemory, NotRefused, IfMem, IfMal
 ghost use Rattle.space_tables.specs.Stored.{RevealSpaces};
 
 use crate::add::add;
-use crate::ask::{ROOT_PAGES, existing, place, unmapped};
+use crate::ask::{existing, place, unmapped};
 use crate::begin::begin;
 use crate::remove::remove;
 use crate::set::{set_unit, set_window};
@@ -24,7 +24,7 @@ use crate::{SpaceError, projection};
 use flat_machine::Refusal;
 use flat_mem::FlatMem;
 use labelled_disk::FileId;
-use swap_units::Interval;
+use swap_units::{Interval, ROOT_PAGES};
 
 /// The spaces and their projection in the first 96 pages of a memory.
 #[derive(Drop)]
@@ -102,6 +102,7 @@ impl<M: FlatMem> SpaceTables<M> {
         ensures unchanged { (b : List ℕ) → M.reveals (tables_memory self.old) b → M.reveals (tables_memory self.new) b }
         ensures count { interval_count self.new ≡ interval_count self.old }
         ensures kept { M.beside (tables_memory self.old) (tables_memory self.new) }
+        ensures looked { M.only_reads (tables_memory self.old) (tables_memory self.new) }
         ensures cost { M.spent (tables_memory self.new) ≤ M.spent (tables_memory self.old) + 7 * M.cost }
     {
         if page >= ROOT_PAGES {
@@ -122,6 +123,7 @@ impl<M: FlatMem> SpaceTables<M> {
         ensures unchanged { (b : List ℕ) → M.reveals (tables_memory self.old) b → M.reveals (tables_memory self.new) b }
         ensures count { interval_count self.new ≡ interval_count self.old }
         ensures kept { M.beside (tables_memory self.old) (tables_memory self.new) }
+        ensures looked { M.only_reads (tables_memory self.old) (tables_memory self.new) }
         ensures cost { M.spent (tables_memory self.new) ≤ M.spent (tables_memory self.old) + M.cost }
     {
         let found = existing(&mut self.mem, space)?;
@@ -138,6 +140,7 @@ impl<M: FlatMem> SpaceTables<M> {
         ensures unchanged { (b : List ℕ) → M.reveals (tables_memory self.old) b → M.reveals (tables_memory self.new) b }
         ensures count { interval_count self.new ≡ interval_count self.old }
         ensures kept { M.beside (tables_memory self.old) (tables_memory self.new) }
+        ensures looked { M.only_reads (tables_memory self.old) (tables_memory self.new) }
         ensures cost { M.spent (tables_memory self.new) ≤ M.spent (tables_memory self.old) + 8 * M.cost }
     {
         let found = place(&mut self.mem, self.intervals, page)?;
@@ -155,6 +158,7 @@ impl<M: FlatMem> SpaceTables<M> {
         ensures unchanged { (b : List ℕ) → M.reveals (tables_memory self.old) b → M.reveals (tables_memory self.new) b }
         ensures count { interval_count self.new ≡ interval_count self.old }
         ensures kept { M.beside (tables_memory self.old) (tables_memory self.new) }
+        ensures looked { M.only_reads (tables_memory self.old) (tables_memory self.new) }
         ensures cost { M.spent (tables_memory self.new) ≤ M.spent (tables_memory self.old) + 513 * M.cost }
     {
         let found = unmapped(&mut self.mem, space)?;
@@ -172,6 +176,7 @@ impl<M: FlatMem> SpaceTables<M> {
         ensures unchanged { (b : List ℕ) → M.reveals (tables_memory self.old) b → M.reveals (tables_memory self.new) b }
         ensures count { interval_count self.new ≡ interval_count self.old }
         ensures kept { M.beside (tables_memory self.old) (tables_memory self.new) }
+        ensures looked { M.only_reads (tables_memory self.old) (tables_memory self.new) }
         ensures cost { M.spent (tables_memory self.new) ≤ M.spent (tables_memory self.old) + M.cost }
     {
         let found = existing(&mut self.mem, space)?;
@@ -197,6 +202,7 @@ impl<M: FlatMem> SpaceTables<M> {
         ensures unchanged { (b : List ℕ) → M.reveals (tables_memory self.old) b → M.reveals (tables_memory self.new) b }
         ensures count { interval_count self.new ≡ interval_count self.old }
         ensures kept { M.beside (tables_memory self.old) (tables_memory self.new) }
+        ensures looked { M.only_reads (tables_memory self.old) (tables_memory self.new) }
         ensures cost { M.spent (tables_memory self.new) ≤ M.spent (tables_memory self.old) + 512 * M.cost }
     {
         showing(&mut self.mem, id, writable_only)

@@ -2,7 +2,11 @@
 ghost use Rattle.std.specs.Prelude.{◌≡◌, ◌+◌, ◌<◌, ◌≤◌};
 ghost use Rattle.swap_units.specs.Unit.{Holds, has_page, IsUnit, IsAmong, LiesIn};
 
+use crate::Mode;
 use labelled_disk::FileId;
+
+/// How many pages the root has.
+pub const ROOT_PAGES: u32 = 8126464;
 
 /// A longest run of pages of the root that have the same innermost space and the same mapped space.
 #[derive(Clone, Copy, Debug, Default, PartialEq, Eq)]
@@ -14,8 +18,7 @@ pub struct Interval {
     pub space: u16,
     /// The unit size of the innermost space, 1 to 16 pages.
     pub unit: u8,
-    /// 0 unmapped, 1 read-only, 2 writable, 3 anonymous and read-only, 4 anonymous and writable.
-    pub mode: u8,
+    pub mode: Mode,
     /// The first page of the innermost space: the units are counted from there.
     pub start: u32,
     pub id: FileId,

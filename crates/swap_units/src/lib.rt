@@ -2,7 +2,9 @@
 #![tactic(auto)]
 
 mod interval;
+mod mode;
 #[cfg(test)]
 mod tests;
 
-pub use interval::{Interval, unit_of};
+pub use interval::{Interval, ROOT_PAGES, unit_of};
+pub use mode::Mode;

@@ -2,7 +2,7 @@
 use Rattle.std.specs.Prelude.{◌≡◌, ◌≢◌, ◌⊎◌, ◌≤◌, ◌<◌, ◌+◌, ◌*◌, ◌&&◌, nat_le, nat_lt, ℕ, true, List, [], length, Some, slice_get, slice_set}
 use Rattle.std.proofs.lemmas.Bool.Decides.{leb_tells, nat_tests}
 use Rattle.std.proofs.lemmas.Bool.{cases_eq, true≢false}
-use Rattle.std.proofs.Common.{refl, sym, ◌∙◌, ap, subst, arith, inl, inr}
+use Rattle.std.proofs.Common.{refl, sym, ◌∙◌, ap, arith, inl, inr}
 use Rattle.std.proofs.lemmas.Option.{same_Some}
 use Rattle.labelled_disk.specs.declared.layout.Layout.{Layout}
 use Rattle.labelled_disk.specs.declared.evidence.Halt.{Halt}
@@ -19,15 +19,16 @@ use Rattle.swapper_kernel.specs.declared.manager.Manager.{Manager}
 use Rattle.swapper_kernel.specs.Maps.{pages_of, start_of, map_home, IsMapHome}
 use Rattle.swapper_kernel.specs.Homes.{Brings, IsNamed, no_home}
 use Rattle.swapper_kernel.specs.Stands.{Stands}
-use Rattle.swapper_kernel.specs.Goes.{Goes, Same, Swaps, this_page}
+use Rattle.swapper_kernel.specs.Goes.{Goes, Swaps, this_page}
 use Rattle.swapper_kernel.specs.GoesLaws.{goes_wider, swaps_stands}
 use Rattle.swapper_kernel.specs.Differs.{ChangesAt, Differs}
-use Rattle.swapper_kernel.specs.DiffersLaws.{differs_itself, set_labels}
+use Rattle.swapper_kernel.specs.DiffersLaws.{set_labels}
 use Rattle.swapper_kernel.specs.Steps.{Steps}
 use Rattle.swapper_kernel.specs.CourseLaws.{steps_wider}
 use Rattle.swapper_kernel.specs.Halts.{Halts}
 use Rattle.swapper_kernel.specs.HaltLaws.{brings_wider, halts_wider}
-use Rattle.swapper_kernel.specs.Window.{IsPage, Shows, Reveals, Beside, IsAccounted, in_map, map_pages}
+use Rattle.swapper_kernel.specs.Window.{IsPage, Shows, Reveals, Beside, Looked, IsAccounted, in_map, map_pages}
+use Rattle.swapper_kernel.specs.WindowLaws.{looked_beside}
 
 le_total : (a b : ℕ) → (a ≤ b) ⊎ (b ≤ a)
 le_total a b = elim (leb_tells a b) [ inl (_, le) ↦ inl le | inr (_, gt) ↦ inr (omega arith) ]
@@ -87,15 +88,19 @@ module _ (which : Manager) (layout : Layout) (k from : ℕ) (bytes : List ℕ) (
         ];
       }
 
--- swapping that brings in pages of the map
-pub beside_swaps : (which : Manager) {a b : DiskState} {s t : Slots} {x y : Layout} (page : ℕ) → page < pages_of which x → y ≡ x → Swaps a s b t → Brings (λ h. h ≡ map_home which x page) s t
-    → Steps (λ h. h ≡ map_home which x page) no_home a s b t → Beside which a s x b t y
-beside_swaps which {x = x} page below same swaps brings steps = record {
-  goes = goes_wider Same (Differs (in_map which x)) (map_pages which) (λ m n is. subst (Differs (in_map which x) m) (sym is) (differs_itself (in_map which x) m)) (λ id p no. absurd no) swaps;
+-- swapping that brings in a page of the map is a look at it
+pub looked_swaps : (which : Manager) {a b : DiskState} {s t : Slots} {x y : Layout} (page : ℕ) → page < pages_of which x → y ≡ x → Swaps a s b t → Brings (λ h. h ≡ map_home which x page) s t
+    → Steps (λ h. h ≡ map_home which x page) no_home a s b t → Looked which a s x b t y
+looked_swaps which {x = x} page below same swaps brings steps = record {
+  swaps = swaps;
   brings = brings_wider (IsMapHome which x) (λ h is. (page, below, is)) brings;
-  steps = steps_wider (IsMapHome which x) (IsMapHome which x) (λ h is. (page, below, is)) (λ h no. absurd no) steps;
+  steps = steps_wider (IsMapHome which x) no_home (λ h is. (page, below, is)) (λ h no. no) steps;
   layout = same;
 }
+
+pub beside_swaps : (which : Manager) {a b : DiskState} {s t : Slots} {x y : Layout} (page : ℕ) → page < pages_of which x → y ≡ x → Swaps a s b t → Brings (λ h. h ≡ map_home which x page) s t
+    → Steps (λ h. h ≡ map_home which x page) no_home a s b t → Beside which a s x b t y
+beside_swaps which page below same swaps brings steps = looked_beside (looked_swaps which page below same swaps brings steps)
 
 -- a frame of the map was changed
 pub beside_changed : (which : Manager) {a b : DiskState} {s t : Slots} {x y : Layout} (page : ℕ) → page < pages_of which x → y ≡ x → (i : ℕ) (f : Frame) → Has s i f → f.home ≡ map_home which x page

@@ -72,7 +72,7 @@ mismatch_later given more all wrote brings (Mismatch sector wanted found) is = r
   other = is.other;
   reason = elim is.reason [ inl held ↦ brings.homes _ held | inr new ↦ inr (all _ new) ];
 }
-mismatch_later given more all wrote brings (Malformed window page) is = is
+mismatch_later given more all wrote brings (Malformed structure page) is = is
 mismatch_later given more all wrote brings (Missing id page) is = is
 
 pub halts_later : {pages : Pages} (given more : Homes) {a b c d : DiskState} {s t : Slots} → ((home : Home) → given home → more home) → Went a b → Wrote pages [] a s b → Brings more s t → Went c d

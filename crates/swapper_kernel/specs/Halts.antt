@@ -22,7 +22,7 @@ pub record IsOther (grounds : Homes) (disk : DiskState) (sector : ℕ) (wanted :
 -- the evidence is a label, another than that of one of these homes
 abbrev pub IsMismatch : Homes → DiskState → Evidence → Type 0
 IsMismatch grounds disk (Mismatch sector wanted found) = IsOther grounds disk sector wanted found
-IsMismatch grounds disk (Malformed window page) = ⊥
+IsMismatch grounds disk (Malformed structure page) = ⊥
 IsMismatch grounds disk (Missing id page) = ⊥
 
 -- a fault of the disk was counted, or the evidence is so

@@ -11,10 +11,10 @@ use Rattle.frame_pool.specs.Frames.{Slots}
 use Rattle.flat_mem.specs.Memory.{part}
 use Rattle.swapper_kernel.specs.declared.manager.Manager.{Manager}
 use Rattle.swapper_kernel.specs.Maps.{id_of, pages_of, start_of, IsMapHome}
-use Rattle.swapper_kernel.specs.Homes.{AreNamed, Brings}
+use Rattle.swapper_kernel.specs.Homes.{AreNamed, Brings, no_home}
 use Rattle.swapper_kernel.specs.Stands.{Stands}
 use Rattle.swapper_kernel.specs.Differs.{Differs}
-use Rattle.swapper_kernel.specs.Goes.{Goes, Pages}
+use Rattle.swapper_kernel.specs.Goes.{Goes, Pages, Swaps}
 use Rattle.swapper_kernel.specs.Steps.{Steps}
 use Rattle.swapper_kernel.specs.Halts.{Halts}
 
@@ -60,6 +60,14 @@ pub record Beside (which : Manager) (old : DiskState) (before : Slots) (place : 
   pub goes : Goes (Differs (in_map which place)) (map_pages which) [] old before new after
   pub brings : Brings (IsMapHome which place) before after
   pub steps : Steps (IsMapHome which place) (IsMapHome which place) old before new after
+  pub layout : later ≡ place
+
+-- What looks at a map's pages do: some of them may have come into frames, and the memory is the same. No frame is dirty
+-- that was clean, and nothing is written but pages of frames that were dirty.
+pub record Looked (which : Manager) (old : DiskState) (before : Slots) (place : Layout) (new : DiskState) (after : Slots) (later : Layout) : Type 0 where
+  pub swaps : Swaps old before new after
+  pub brings : Brings (IsMapHome which place) before after
+  pub steps : Steps (IsMapHome which place) no_home old before new after
   pub layout : later ≡ place
 
 -- A halt has its cause, and where the labels of the map's sectors name its pages it is a fault of the disk.

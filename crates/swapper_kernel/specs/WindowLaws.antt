@@ -12,14 +12,15 @@ use Rattle.labelled_disk.specs.State.{DiskState}
 use Rattle.frame_pool.specs.Frames.{Slots}
 use Rattle.swapper_kernel.specs.declared.manager.Manager.{Manager}
 use Rattle.swapper_kernel.specs.Maps.{pages_of, IsMapHome}
-use Rattle.swapper_kernel.specs.Homes.{Homes, AreNamed, wanted_at}
+use Rattle.swapper_kernel.specs.Homes.{Homes, AreNamed, no_home, wanted_at}
 use Rattle.swapper_kernel.specs.Stands.{labels_of}
 use Rattle.swapper_kernel.specs.Differs.{Differs}
 use Rattle.swapper_kernel.specs.DiffersLaws.{differs_itself, differs_then, other_sector}
-use Rattle.swapper_kernel.specs.GoesLaws.{goes_itself, goes_then}
+use Rattle.swapper_kernel.specs.Goes.{Same}
+use Rattle.swapper_kernel.specs.GoesLaws.{goes_itself, goes_then, goes_wider, swaps_itself, swaps_then, swaps_stands}
 use Rattle.swapper_kernel.specs.HaltLaws.{brings_itself, brings_then, halts_later}
-use Rattle.swapper_kernel.specs.CourseLaws.{steps_itself, steps_then}
-use Rattle.swapper_kernel.specs.Window.{Reveals, Beside, IsAccounted, size_in, in_map, map_pages}
+use Rattle.swapper_kernel.specs.CourseLaws.{steps_itself, steps_then, steps_wider}
+use Rattle.swapper_kernel.specs.Window.{Reveals, Beside, Looked, IsAccounted, size_in, in_map, map_pages}
 
 pub size_is : (which : Manager) (sectors : ℕ) (layout : Layout) → sectors ≡ layout.sectors → size_in which sectors layout ≡ 512 * pages_of which layout
 size_is which sectors layout same = ap (λ (b : Bool). if b then 512 * pages_of which layout else 0) (eq-eqb sectors layout.sectors same)
@@ -55,6 +56,46 @@ beside_then {which = which} {x = x} same h next =
       steps = steps_then h.steps k.steps;
       layout = k.layout;
     }
+
+-- ---- Looks in a row.
+
+pub looked_itself : (which : Manager) (d : DiskState) (s : Slots) (layout : Layout) → Looked which d s layout d s layout
+looked_itself which d s layout = record {
+  swaps = swaps_itself d s;
+  brings = brings_itself (IsMapHome which layout) s;
+  steps = steps_itself (IsMapHome which layout) no_home d s;
+  layout = refl;
+}
+
+pub looked_then : {which also : Manager} {a b c : DiskState} {s t u : Slots} {x y z : Layout} → which ≡ also → Looked which a s x b t y → Looked also b t y c u z → Looked which a s x c u z
+looked_then {which = which} {b = b} {c = c} {t = t} {u = u} {x = x} {z = z} same h next =
+    let k : Looked which b t x c u z = rw (same, ← h.layout) next in
+    record {
+      swaps = swaps_then h.swaps k.swaps;
+      brings = brings_then h.brings k.brings;
+      steps = steps_then h.steps k.steps;
+      layout = k.layout;
+    }
+
+-- a look is an access
+pub looked_beside : {which : Manager} {a b : DiskState} {s t : Slots} {x y : Layout} → Looked which a s x b t y → Beside which a s x b t y
+looked_beside {which = which} {x = x} h = record {
+  goes = goes_wider Same (Differs (in_map which x)) (map_pages which) (λ m n is. subst (Differs (in_map which x) m) (sym is) (differs_itself (in_map which x) m)) (λ id p no. absurd no) h.swaps;
+  brings = h.brings;
+  steps = steps_wider (IsMapHome which x) (IsMapHome which x) (λ home is. is) (λ home no. absurd no) h.steps;
+  layout = h.layout;
+}
+
+-- what is revealed stays revealed
+pub looked_revealed : {which also : Manager} {a b : DiskState} {s t : Slots} {x y : Layout} {bytes : List ℕ} → which ≡ also → Looked which a s x b t y → Reveals which a s x bytes → Reveals also b t y bytes
+looked_revealed same h reveals = record {
+  memory = reveals.memory;
+  stands = swaps_stands h.swaps reveals.memory reveals.stands;
+  shows = rw (← same, h.layout) reveals.shows;
+  size = h.swaps.makes.went.sectors ∙ reveals.size ∙ ap (λ (l : Layout). l.sectors) (sym h.layout);
+}
+
+-- ---- Halts, and how many bytes are revealed.
 
 -- names stay where the labels do
 pub named_kept : (homes : Homes) (m n : List Sector) → labels_of n ≡ labels_of m → AreNamed m homes → AreNamed n homes

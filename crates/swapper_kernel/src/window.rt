@@ -58,8 +58,8 @@ impl<D: Disk, A: Allocator> Swapper<D, A> {
 impl<'s, D: Disk, A: Allocator> FlatMem for MapMemory<'s, D, A> {
     ghost use Rattle.std.specs.Prelude.{◌≡◌, ℕ, ◌+◌, ◌*◌, ◌/◌, ◌≤◌, List};
     ghost use Rattle.std.proofs.Common.{ap};
-    ghost use Rattle.swapper_kernel.specs.Window.{Reveals, Beside, IsAccounted, size_in};
-    ghost use Rattle.swapper_kernel.specs.WindowLaws.{beside_itself, beside_then, accounted_then, revealed_size, same_size_in};
+    ghost use Rattle.swapper_kernel.specs.Window.{Reveals, Beside, Looked, IsAccounted, size_in};
+    ghost use Rattle.swapper_kernel.specs.WindowLaws.{beside_itself, beside_then, looked_itself, looked_then, looked_beside, looked_revealed, accounted_then, revealed_size, same_size_in};
     ghost use Rattle.swapper_kernel.specs.OnceLaws.{reveals_once};
 
     type Error = Halt;
@@ -76,6 +76,8 @@ impl<'s, D: Disk, A: Allocator> FlatMem for MapMemory<'s, D, A> {
 
     ghost beside = { λ a b. (a.swapper.ghost_name ≡ b.swapper.ghost_name) × (a.which ≡ b.which) × Beside a.which (D.state a.swapper.now.disk) a.swapper.now.pool a.swapper.now.layout (D.state b.swapper.now.disk) b.swapper.now.pool b.swapper.now.layout };
 
+    ghost only_reads = { λ a b. (a.swapper.ghost_name ≡ b.swapper.ghost_name) × (a.which ≡ b.which) × Looked a.which (D.state a.swapper.now.disk) a.swapper.now.pool a.swapper.now.layout (D.state b.swapper.now.disk) b.swapper.now.pool b.swapper.now.layout };
+
     ghost accounted = { λ a b e. IsAccounted a.which (D.state a.swapper.now.disk) a.swapper.now.pool a.swapper.now.layout (D.state b.swapper.now.disk) e };
 
     ghost revealed_once = { λ w b c h k. reveals_once _ _ _ _ b c h k };
@@ -87,6 +89,14 @@ impl<'s, D: Disk, A: Allocator> FlatMem for MapMemory<'s, D, A> {
     ghost beside_itself = { λ w. (Prim.cc, Prim.cc, beside_itself w.which (D.state w.swapper.now.disk) w.swapper.now.pool w.swapper.now.layout) };
 
     ghost beside_through = { λ a b c h k. (Prim.cc, Prim.cc, beside_then h.1 h.2 k.2) };
+
+    ghost only_reads_itself = { λ w. (Prim.cc, Prim.cc, looked_itself w.which (D.state w.swapper.now.disk) w.swapper.now.pool w.swapper.now.layout) };
+
+    ghost only_reads_through = { λ a b c h k. (Prim.cc, Prim.cc, looked_then h.1 h.2 k.2) };
+
+    ghost only_reads_beside = { λ a b h. (h.0, h.1, looked_beside h.2) };
+
+    ghost only_reads_revealed = { λ a b bytes h revealed. looked_revealed h.1 h.2 revealed };
 
     ghost accounted_wider = { λ a b c d e h k l x. accounted_then h.1 k.1 h.2 k.2 l.2 x };
 

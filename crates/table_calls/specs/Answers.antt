@@ -2,6 +2,7 @@
 use Rattle.std.specs.Prelude.{◌≡◌, ℕ, List, [], Option, Some, None, Result, Ok, Err}
 use Rattle.labelled_disk.specs.declared.disk.Disk.{Ghosts}
 use Rattle.labelled_disk.specs.declared.evidence.Evidence.TheVariants as evidence
+use Rattle.labelled_disk.specs.declared.structure.Structure.TheVariants as structures
 use Rattle.labelled_disk.specs.declared.evidence.Halt.{Halt}
 use Rattle.labelled_disk.specs.declared.evidence.Halt.TheVariants.{Damaged}
 use Rattle.labelled_disk.specs.Sectors.{Sector}
@@ -20,7 +21,7 @@ use Rattle.fault_core.specs.View.{View, TablesAre}
 abbrev pub refused_or_halted : {A : Type 0} → Result A (SpaceError Halt) → Result (Result A Refusal) Halt
 refused_or_halted (Ok answer) = Ok (Ok answer)
 refused_or_halted (Err (Refused word)) = Ok (Err word)
-refused_or_halted (Err (Malformed page)) = Err (Damaged (evidence.Malformed 3 page))
+refused_or_halted (Err (Malformed page)) = Err (Damaged (evidence.Malformed structures.SpaceTables page))
 refused_or_halted (Err (Mem halt)) = Err halt
 
 -- the answer is the refusal, and this stays then; or, where there is none, it is this

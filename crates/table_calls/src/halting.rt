@@ -2,21 +2,19 @@
 ghost use Rattle.std.specs.Prelude.{◌≡◌};
 ghost use Rattle.labelled_disk.specs.declared.evidence.Evidence.TheVariants as evidence;
 ghost use Rattle.labelled_disk.specs.declared.evidence.Halt.TheVariants as halt;
+ghost use Rattle.labelled_disk.specs.declared.structure.Structure.TheVariants as structures;
 ghost use Rattle.table_calls.specs.Answers.{refused_or_halted};
 
 use flat_machine::Refusal;
-use labelled_disk::{Evidence, Halt};
+use labelled_disk::{Evidence, Halt, Structure};
 use space_tables::SpaceError;
-
-/// The window of the space tables, by its number in evidence.
-const TABLES: u8 = 3;
 
 // A page of the space tables breaks its form.
 fn broken(page: u32) -> Halt
-    ensures { result ≡ halt.Damaged (evidence.Malformed 3 page) }
+    ensures { result ≡ halt.Damaged (evidence.Malformed structures.SpaceTables page) }
 {
     Halt::Damaged(Evidence::Malformed {
-        window: TABLES,
+        structure: Structure::SpaceTables,
         page,
     })
 }

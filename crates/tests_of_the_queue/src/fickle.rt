@@ -1,5 +1,6 @@
 //! A disk that reveals nothing, on which a label changes.
 ghost use Rattle.std.proofs.lemmas.Option.{none-some};
+ghost use Rattle.labelled_disk.specs.Syncing.{no_syncs};
 ghost use Rattle.tests_of_the_queue.specs.Untold.{untold};
 
 use crate::disks::{labelled, wanted};
@@ -23,6 +24,10 @@ impl<D: Disk> Disk for FickleDisk<D> {
     ghost in_form = { λ d all revealed. absurd (none-some all revealed) };
 
     ghost few = { λ d. D.few d.disk };
+
+    ghost few_transfers = { λ d. D.few_transfers d.disk };
+
+    ghost sync_counts = { λ d. no_syncs (D.state d.disk).synced };
 
     fn sectors(&self) -> u32 {
         self.disk.sectors()

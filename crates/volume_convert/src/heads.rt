@@ -4,9 +4,8 @@ ghost use Rattle.std.specs.List.Sorted.{IsPermutation};
 ghost use Rattle.label_survey.specs.Survey.{is_leader};
 ghost use Rattle.volume_convert.specs.Heads.{head_of, leader_by, heads_from, AreHeads, AreHeadsUp};
 
-use crate::reread::LEADER;
 use label_survey::SectorState;
-use labelled_disk::{FileId, Label, NoMemory};
+use labelled_disk::{FileId, LEADER, Label, NoMemory};
 use std::alloc::{AllocError, Allocator};
 
 /// A file, by the label of its page 0. The order is that of the fields.

@@ -7,11 +7,8 @@ ghost use Rattle.label_survey.specs.SectorStates.{AreSectorStates};
 ghost use Rattle.old_files.specs.Reread.{all_reread, label_before, page_before};
 
 use label_survey::{SectorState, find_sector_states};
-use labelled_disk::{Label, NoMemory};
+use labelled_disk::{LEADER, Label, NoMemory};
 use std::alloc::{AllocError, Allocator};
-
-/// The page number of a leader.
-pub(crate) const LEADER: u32 = 0xffff_ffff;
 
 fn page_before(page: u32) -> u32
     ensures { result ≡ page_before page }

@@ -7,11 +7,8 @@ ghost use Rattle.volume_view.specs.Files.{AreLinesOf};
 ghost use Rattle.volume_view.specs.Listed.{AreSorted, IsLineAt, IsPages};
 
 use label_survey::Triple;
-use labelled_disk::{FileId, Label, files_are_as_revealed, files_are_looked_up};
+use labelled_disk::{FileId, LEADER, Label, files_are_as_revealed, files_are_looked_up};
 use std::alloc::{AllocError, Allocator};
-
-/// The page number of a leader.
-const LEADER: u32 = 0xffff_ffff;
 
 /// A permanent file, as its leader and its pages reveal it.
 #[derive(Clone, Copy, Debug, PartialEq, Eq)]
@@ -71,7 +68,7 @@ fn line_of(first: u32, labels: &[Label], triples: &[Triple], k: usize) -> Option
             id: triple.id,
             pages: pages_before(triples, k),
             kind: label.kind,
-            immutable: label.flags / 2 % 2 == 1,
+            immutable: label.marks().immutable,
             leader: triple.sector,
         }),
         None => None,

@@ -11,7 +11,7 @@ use crate::leaves::read_leaves;
 use crate::levels::find_leaves;
 use crate::once::are_used_once;
 use flat_mem::VecMem;
-use labelled_disk::Layout;
+use labelled_disk::{Layout, TABLE_PAGES};
 use std::alloc::{AllocError, Allocator};
 
 // How many records a leaf has at least in a tree of so many levels.
@@ -29,7 +29,7 @@ fn are_counted(header: &Header, layout: &Layout, records: usize) -> bool
 {
     header.count as usize == records
         && records <= 9 * (layout.vfm as usize).saturating_sub(8)
-        && records <= layout.capacity as usize + 96
+        && records <= layout.capacity as usize + TABLE_PAGES as usize
 }
 
 /// Whether the bytes are those of a file map in form.

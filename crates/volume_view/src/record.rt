@@ -6,6 +6,7 @@ ghost use Rattle.labelled_disk.specs.Layout.{first_data};
 ghost use Rattle.volume_view.specs.Records.{Follows};
 
 use file_map::Run;
+use labelled_disk::TABLES;
 
 /// The key of the record of a run.
 #[tactic(auto, unfolding(file_map::specs::Run::key_bytes))]
@@ -40,7 +41,7 @@ fn is_in_form(run: Run, first: u32, sectors: u32) -> bool
     ensures yes { result ≡ true → IsRun sectors run }
     ensures no { result ≡ false → ¬ IsRun sectors run }
 {
-    (run.id == 3 || run.id >= 16)
+    (run.id == TABLES || run.id >= 16)
         && run.pages >= 1
         && u64::from(run.first) + u64::from(run.pages) <= 0x1_0000_0000
         && run.sector >= first

@@ -24,7 +24,7 @@ use Rattle.write_queue.proofs.ListLemmas.{stands_waiting, waiting-set, waiting-a
 use Rattle.std.proofs.lemmas.Option.{same_Some}
 
 moves_itself : (d : DiskState) → Moves d d
-moves_itself d = record { sectors = refl; lent = refl; transfers = record { later = omega arith; by_one = omega arith }; faults = omega arith }
+moves_itself d = record { sectors = refl; lent = refl; syncs = refl; transfers = record { later = omega arith; by_one = omega arith }; faults = omega arith }
 
 -- another label is kept for the page that waits
 pub data_wrong : (under : DiskState) (es : List Entry) (transfers own : ℕ) (e : Entry) (wanted : Wanted) (page : List ℕ) → waiting_at es e.sector ≡ Some e → Waits under e
@@ -49,7 +49,7 @@ data_put under es fs transfers own f put w = record {
   wrong = tt;
   whole_or_absent = tt;
   cause = tt;
-  moves = record { sectors = refl; lent = refl; transfers = record { later = omega arith; by_one = omega arith }; faults = omega arith };
+  moves = record { sectors = refl; lent = refl; syncs = refl; transfers = record { later = omega arith; by_one = omega arith }; faults = omega arith };
 }
   where
     says : (o : Option Sector) → option_map (λ (s : Sector). s.0) o ≡ Some f.label → option_map (λ (s : Sector). names s.0 f.wanted) o ≡ Some true
@@ -62,9 +62,9 @@ data_put under es fs transfers own f put w = record {
     named b d is label = says (slice_get d f.sector) (ap (λ (x : List Sector). option_map (λ (s : Sector). s.0) (slice_get x f.sector)) (sym is) ∙ labels-laid es b f.sector ∙ label)
 
 -- the call begins later, where all was as it is revealed now
-module _ (old mid new : DiskState) (same : RevealsSame old mid) (sectors : mid.sectors ≡ old.sectors) (lent : mid.lent ≡ old.lent) (moved : Moved old.transfers new.transfers) (faults : old.faults ≤ mid.faults) where
+module _ (old mid new : DiskState) (same : RevealsSame old mid) (sectors : mid.sectors ≡ old.sectors) (lent : mid.lent ≡ old.lent) (syncs : mid.syncs ≡ old.syncs) (moved : Moved old.transfers new.transfers) (faults : old.faults ≤ mid.faults) where
   moves-from : Moves mid new → Moves old new
-  moves-from m = record { sectors = m.sectors ∙ sectors; lent = m.lent ∙ lent; transfers = moved; faults = omega (arith, faults, m.faults) }
+  moves-from m = record { sectors = m.sectors ∙ sectors; lent = m.lent ∙ lent; syncs = m.syncs ∙ syncs; transfers = moved; faults = omega (arith, faults, m.faults) }
 
   pub data_from : (n : ℕ) (wanted : Wanted) (page : List ℕ) (r : Result (Unit {0}) DiskError) → WritesData n wanted page mid r new → WritesData n wanted page old r new
   data_from n wanted page (Ok x) w = record {
@@ -144,7 +144,7 @@ data_other u v es t own sector label found wanted page read free differs = recor
   );
   whole_or_absent = tt;
   cause = tt;
-  moves = record { sectors = read.moves.sectors; lent = read.moves.lent; transfers = record { later = omega arith; by_one = omega arith }; faults = omega (arith, read.moves.faults) };
+  moves = record { sectors = read.moves.sectors; lent = read.moves.lent; syncs = refl; transfers = record { later = omega arith; by_one = omega arith }; faults = omega (arith, read.moves.faults) };
 }
 
 -- what was read names the page, which waits now
@@ -166,7 +166,7 @@ data_taken u v w es left t own more sector label found wanted page read revealed
     let e : Entry = record { sector = sector; wanted = wanted; label = label; page = page } in
     data_from (queued u es t own) (queued w left t more) (queued w (left ++ e ∷ []) t more)
     (record { contents = revealed ∙ ap (option_map (laid es)) read.same.contents; writes = refl })
-    (made.sectors ∙ read.moves.sectors) (made.lent ∙ read.moves.lent) (record { later = omega arith; by_one = omega arith })
+    (made.sectors ∙ read.moves.sectors) (made.lent ∙ read.moves.lent) refl (record { later = omega arith; by_one = omega arith })
     (omega (arith, faults, read.moves.faults)) sector wanted page (Ok tt)
     (data_put w left (left ++ e ∷ []) t more e (waiting-added left e (made.free sector free) once) waits)
 
@@ -179,7 +179,7 @@ reads_waiting u es t own counted place sector e f moved are is there at =
     record {
       found = λ d revealed. ap (λ (k : ℕ). slice_get d k) (sym here) ∙ revealed_waiting u es f (stands_waiting es are.once place f at f.sector refl) (are.each place f at) d revealed;
       same = record { contents = refl; writes = refl };
-      moves = record { sectors = refl; lent = refl; transfers = moved; faults = omega arith };
+      moves = record { sectors = refl; lent = refl; syncs = refl; transfers = moved; faults = omega arith };
       fails = record { failed = tt; cause = tt };
       synced = λ is. is;
     }
@@ -200,7 +200,7 @@ pub reads_beneath : (u v : DiskState) (es : List Entry) (t own counted sector : 
 reads_beneath u v es t own counted sector page r moved free read = record {
   found = found r read.found;
   same = record { contents = ap (option_map (laid es)) read.same.contents; writes = refl };
-  moves = record { sectors = read.moves.sectors; lent = read.moves.lent; transfers = moved; faults = omega (arith, read.moves.faults) };
+  moves = record { sectors = read.moves.sectors; lent = read.moves.lent; syncs = refl; transfers = moved; faults = omega (arith, read.moves.faults) };
   fails = record { failed = read.fails.failed; cause = cause r read.fails.cause };
   synced = λ is. let b = both (length es == 0) u.synced is in join (length es == 0) v.synced b.0 (read.synced b.1);
 }
@@ -218,13 +218,13 @@ pub writes_beneath : (u v : DiskState) (own : ℕ) (w : DiskWrite) (t counted : 
 writes_beneath u v own w t counted (Ok x) moved h = record {
   written = record { contents = revealed_through u v w h.written; writes = refl };
   whole_or_absent = tt;
-  moves = record { sectors = h.moves.sectors; lent = h.moves.lent; transfers = moved; faults = omega (arith, h.moves.faults) };
+  moves = record { sectors = h.moves.sectors; lent = h.moves.lent; syncs = refl; transfers = moved; faults = omega (arith, h.moves.faults) };
   fails = record { failed = tt; cause = tt };
 }
 writes_beneath u v own w t counted (Err e) moved h = record {
   written = tt;
   whole_or_absent = either h.whole_or_absent;
-  moves = record { sectors = h.moves.sectors; lent = h.moves.lent; transfers = moved; faults = omega (arith, h.moves.faults) };
+  moves = record { sectors = h.moves.sectors; lent = h.moves.lent; syncs = refl; transfers = moved; faults = omega (arith, h.moves.faults) };
   fails = record { failed = h.fails.failed; cause = (let rose = h.fails.cause in omega (arith, rose)) };
 }
   where
@@ -238,14 +238,14 @@ pub writes_swept : (u mid v : DiskState) (es left : List Entry) (t own counted m
     → min (u.faults + own) (2 ^ 64 - 1) ≤ min (mid.faults + more) (2 ^ 64 - 1) → Writes w mid r v → Writes w (queued u es t own) r (queued v left counted more)
 writes_swept u mid v es left t own counted more w r none revealed sectors lent moved faults made =
     subst (λ (l : List Entry). option_map (laid l) mid.contents ≡ option_map (laid es) u.contents → Writes w (queued u es t own) r (queued v l counted more)) (sym none)
-    (λ same. writes_from (queued u es t own) (queued mid [] counted more) (queued v [] counted more) (record { contents = same; writes = refl }) sectors lent moved faults w r
+    (λ same. writes_from (queued u es t own) (queued mid [] counted more) (queued v [] counted more) (record { contents = same; writes = refl }) sectors lent refl moved faults w r
     (writes_beneath mid v more w counted counted r (record { later = omega arith; by_one = omega arith }) made)) revealed
 
 -- another page waits, and the call was counted before
 pub data_replaced : (u v : DiskState) (es fs : List Entry) (t own counted later more place sector : ℕ) (e : Entry) (wanted : Wanted) (page : List ℕ) (r : Result (Unit {0}) DiskError) → Moved t counted → later ≡ counted
     → e.sector ≡ sector → WritesData e.sector wanted page (queued u es counted own) r (queued v fs later more) → WritesData sector wanted page (queued u es t own) r (queued v fs later more)
 data_replaced u v es fs t own counted later more place sector e wanted page r moved same there w =
-    data_from (queued u es t own) (queued u es counted own) (queued v fs later more) (record { contents = refl; writes = refl }) refl refl
+    data_from (queued u es t own) (queued u es counted own) (queued v fs later more) (record { contents = refl; writes = refl }) refl refl refl
     (record { later = omega (arith, moved.later, same); by_one = omega (arith, moved.by_one, same) }) (omega arith) sector wanted page r
     (subst (λ (k : ℕ). WritesData k wanted page (queued u es counted own) r (queued v fs later more)) there w)
 
@@ -253,7 +253,7 @@ data_replaced u v es fs t own counted later more place sector e wanted page r mo
 pub data_later : (u v : DiskState) (es fs : List Entry) (t own counted later more n : ℕ) (wanted : Wanted) (page : List ℕ) (r : Result (Unit {0}) DiskError) → Moved t counted → later ≡ counted
     → WritesData n wanted page (queued u es counted own) r (queued v fs later more) → WritesData n wanted page (queued u es t own) r (queued v fs later more)
 data_later u v es fs t own counted later more n wanted page r moved same w =
-    data_from (queued u es t own) (queued u es counted own) (queued v fs later more) (record { contents = refl; writes = refl }) refl refl
+    data_from (queued u es t own) (queued u es counted own) (queued v fs later more) (record { contents = refl; writes = refl }) refl refl refl
     (record { later = omega (arith, moved.later, same); by_one = omega (arith, moved.by_one, same) }) (omega arith) n wanted page r w
 
 -- where the queue is synced nothing waits, and what it reveals is what stands beneath

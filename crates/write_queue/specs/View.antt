@@ -37,6 +37,8 @@ abbrev pub Covers : ℕ → ℕ → ℕ → ℕ → ℕ → ℕ → Type 0
 Covers spare begun transfers no_sync beneath waiting =
     transfers + no_sync < 2 ^ 64 - 1 → beneath + waiting + spare ≤ begun + 2 * transfers + no_sync
 
--- the same, of a queue
-abbrev pub IsPaid : View → Tally → Type 0
-IsPaid view tally = Covers 0 tally.begun tally.transfers tally.no_sync view.under.transfers (length view.waiting)
+-- The sectors that were moved beneath are at most two for each call that names a sector, and one for each syncing that
+-- did not answer Ok. Until the counts stand at their end, the pages that wait are paid for as well.
+pub record IsPaid (view : View) (tally : Tally) : Type 0 where
+  pub moved : view.under.transfers ≤ tally.begun + 2 * tally.transfers + tally.no_sync
+  pub waiting : Covers 0 tally.begun tally.transfers tally.no_sync view.under.transfers (length view.waiting)

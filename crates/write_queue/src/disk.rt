@@ -10,6 +10,7 @@ use std::alloc::Allocator;
 
 impl<D: Disk, A: Allocator> Disk for QueueOver<D, A> {
     ghost use Rattle.write_queue.specs.Queue.{state_of, view_of, tally_of};
+    ghost use Rattle.labelled_disk.specs.Syncing.{no_syncs};
     ghost use Rattle.write_queue.specs.QueueLaws.{revealed_whole, revealed_in_form};
 
     ghost state = { λ q. state_of q };
@@ -21,6 +22,10 @@ impl<D: Disk, A: Allocator> Disk for QueueOver<D, A> {
         (D.in_form q.under) all revealed };
 
     ghost few = { λ q. D.few q.under };
+
+    ghost few_transfers = { λ q. q.few_transfers };
+
+    ghost sync_counts = { λ q. no_syncs (state_of q).synced };
 
     fn sectors(&self) -> u32 {
         self.under.sectors()

@@ -1,5 +1,5 @@
 //! Pages that wait before a disk.
-ghost use Rattle.std.specs.Prelude.{◌≡◌, ◌≤◌, length, map, List, [], Some, None, false, true, IfOk, IfErr, IfSome, IsSome, vec_capacity};
+ghost use Rattle.std.specs.Prelude.{◌≡◌, ◌<◌, ◌≤◌, ◌^◌, length, map, List, [], Some, None, false, true, IfOk, IfErr, IfSome, IsSome, vec_capacity};
 ghost use Rattle.std.specs.Option.{ForSome};
 ghost use Rattle.labelled_disk.specs.Label.{names};
 ghost use Rattle.write_queue.specs.Entries.{AreWaiting};
@@ -39,6 +39,7 @@ pub struct QueueOver<D: Disk, A: Allocator> {
     ghost unchanged: { (d : List _) → (D.state under).contents ≡ Some d → changed ≡ None },
     ghost counted: { changed ≡ None → own ≡ 0 },
     ghost differs: { ForSome changed (λ c. names c.2 c.1 ≡ false) },
+    ghost few_transfers: { transfers < 2 ^ 64 },
     ghost paid: { Covers 0 begun transfers no_sync (D.state under).transfers
         (length entries.items) },
 }

@@ -11,6 +11,7 @@ invariant-counting g l = record {
   count : (b : List ℕ) → g.M.FlatMem.reveals l.initial.mem b → l.count ≡ free_in b l.from (l.at - l.from);
   unchanged : (b : List ℕ) → g.M.FlatMem.reveals l.initial.mem b → g.M.FlatMem.reveals l.mem b;
   kept : g.M.FlatMem.beside l.initial.mem l.mem;
+  looked : g.M.FlatMem.only_reads l.initial.mem l.mem;
   cost : HasSpent g.M.FlatMem.cost l.from l.end l.at (g.M.FlatMem.spent l.initial.mem) (g.M.FlatMem.spent l.mem);
 }
 

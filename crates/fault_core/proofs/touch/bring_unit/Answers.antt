@@ -3,6 +3,7 @@ use Rattle.std.proofs.lemmas.Bool.{true≢false}
 use Rattle.filer_kernel.proofs.Outcomes.{on_ok_wider, err_wider}
 use Rattle.fault_core.specs.Revealed.{Known}
 use Rattle.fault_core.specs.View.{view_of}
+use Rattle.fault_core.proofs.ReachLemmas.{reaches_itself}
 use Rattle.fault_core.proofs.RoomLemmas.{room_same}
 use Rattle.fault_core.proofs.UnitLemmas.{whole_of_run, run_of_whole, run_stored, run_shown}
 use Rattle.fault_core.specs.Lack.{MissesPage, run_pages, unit_pages}
@@ -38,3 +39,6 @@ returns-clause-misses g c =
     let run = c.unit_run-first.result in
     err_wider c.bring_run.result (MissesPage (run_pages x.id run.0 run.1)) (MissesPage (unit_pages x c.args.page))
     (misses_wider (run_pages x.id run.0 run.1) (unit_pages x c.args.page) (run_unit x c.args.page run c.unit_run-first.ensures)) c.bring_run.ensures.misses
+
+pub returns-then-is_there-clause-reaches : goal.returns-then-is_there-clause-reaches
+returns-then-is_there-clause-reaches g c = rw c.is_there.ensures.same (reaches_itself (view_of c.args.filer.now))

@@ -11,7 +11,7 @@ use Rattle.file_manager.proofs.LookLemmas.{looks_nothing, looks_searched}
 use Rattle.file_manager.proofs.attributes.attributes_of.Goals as goal
 
 pub returns-in-Ok-Some-clause-revealed : goal.returns-in-Ok-Some-clause-revealed
-returns-in-Ok-Some-clause-revealed g c = rw (← c.frames_of.ensures.same) (λ x shapes spaces books. (subst (IsFoundFile (labels_of x) shapes c.args.id) c.in-Ok-Some.field-0-is (c.in-Ok-Some.ensures.revealed x shapes spaces books)).1)
+returns-in-Ok-Some-clause-revealed g c = rw (← c.frames_of.ensures.same, c.marks-marks.ensures.permanent, c.marks-marks.ensures.immutable) (λ x shapes spaces books. (subst (IsFoundFile (labels_of x) shapes c.args.id) c.in-Ok-Some.field-0-is (c.in-Ok-Some.ensures.revealed x shapes spaces books)).1)
 
 pub returns-in-Ok-None-clause-revealed : goal.returns-in-Ok-None-clause-revealed
 returns-in-Ok-None-clause-revealed g c = rw (← c.frames_of.ensures.same) (λ x shapes spaces books. subst (IsFoundFile (labels_of x) shapes c.args.id) c.in-Ok-None.field-0-is (c.in-Ok-None.ensures.revealed x shapes spaces books))
@@ -54,24 +54,21 @@ returns-in-Ok-Some-clause-looks g c =
     let f = c.frames_of.new.filer in
     let found = c.find_file.ensures in
     rw (← c.frames_of.ensures.same)
-    (looks_searched {kept = runs_of f.swapper.layout.sectors f.runs} {runs = runs_of f.swapper.layout.sectors c.find_file.new.filer.runs} f.swapper.accepted (rw c.frames_of.ensures.same c.requires.size) (g.met.D.Disk.whole f.swapper.disk) (g.met.D.Disk.in_form f.swapper.disk) (rw c.frames_of.ensures.same c.frames_of.ensures.pages)
-    found.beside found.same_bytes found.runs_given found.runs_are)
+    (looks_searched {kept = runs_of f.swapper.layout.sectors f.runs} {runs = runs_of f.swapper.layout.sectors c.find_file.new.filer.runs} found.looked found.runs_given found.runs_are)
 
 pub returns-in-Ok-None-clause-looks : goal.returns-in-Ok-None-clause-looks
 returns-in-Ok-None-clause-looks g c =
     let f = c.frames_of.new.filer in
     let found = c.find_file.ensures in
     rw (← c.frames_of.ensures.same)
-    (looks_searched {kept = runs_of f.swapper.layout.sectors f.runs} {runs = runs_of f.swapper.layout.sectors c.find_file.new.filer.runs} f.swapper.accepted (rw c.frames_of.ensures.same c.requires.size) (g.met.D.Disk.whole f.swapper.disk) (g.met.D.Disk.in_form f.swapper.disk) (rw c.frames_of.ensures.same c.frames_of.ensures.pages)
-    found.beside found.same_bytes found.runs_given found.runs_are)
+    (looks_searched {kept = runs_of f.swapper.layout.sectors f.runs} {runs = runs_of f.swapper.layout.sectors c.find_file.new.filer.runs} found.looked found.runs_given found.runs_are)
 
 pub returns-in-Err-clause-looks : goal.returns-in-Err-clause-looks
 returns-in-Err-clause-looks g c =
     let f = c.frames_of.new.filer in
     let found = c.find_file.ensures in
     rw (← c.frames_of.ensures.same)
-    (looks_searched {kept = runs_of f.swapper.layout.sectors f.runs} {runs = runs_of f.swapper.layout.sectors c.find_file.new.filer.runs} f.swapper.accepted (rw c.frames_of.ensures.same c.requires.size) (g.met.D.Disk.whole f.swapper.disk) (g.met.D.Disk.in_form f.swapper.disk) (rw c.frames_of.ensures.same c.frames_of.ensures.pages)
-    found.beside found.same_bytes found.runs_given found.runs_are)
+    (looks_searched {kept = runs_of f.swapper.layout.sectors f.runs} {runs = runs_of f.swapper.layout.sectors c.find_file.new.filer.runs} found.looked found.runs_given found.runs_are)
 
 -- ---- What it keeps to, and the reasons of its halts.
 

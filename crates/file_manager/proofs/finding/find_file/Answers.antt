@@ -19,8 +19,8 @@ use Rattle.file_manager.proofs.FindingLemmas.{shape_by_leader, leader_halts, no_
 use Rattle.file_manager.proofs.SoLemmas.{file_may}
 use Rattle.filer_kernel.specs.EvidenceLaws.{fits, so_of_map}
 use Rattle.file_manager.proofs.MadeRun.{made_read, made_look, reads_then}
-use Rattle.swapper_kernel.specs.WindowLaws.{beside_then}
-use Rattle.file_manager.proofs.LookLemmas.{beside_read}
+use Rattle.swapper_kernel.specs.WindowLaws.{beside_then, looked_then}
+use Rattle.file_manager.proofs.LookLemmas.{beside_read, looked_read}
 use Rattle.file_manager.proofs.Keeping.{keeps_read, keeps_look, keeps_then}
 use Rattle.file_manager.proofs.KeepSteps.{keeps_asked}
 use Rattle.file_manager.specs.ReasonLaws.{map_reasons}
@@ -219,6 +219,9 @@ returns-in-Err-leader_label-clause-same_bytes g c = read_bytes c.leader_of.ensur
 pub returns-in-Err-leader_label-clause-beside : goal.returns-in-Err-leader_label-clause-beside
 returns-in-Err-leader_label-clause-beside g c = beside_read c.leader_of.ensures.beside c.leader_label.ensures.same c.leader_label.ensures.makes c.leader_label.ensures.frames c.leader_label.ensures.layout
 
+pub returns-in-Err-leader_label-clause-looked : goal.returns-in-Err-leader_label-clause-looked
+returns-in-Err-leader_label-clause-looked g c = looked_read c.leader_of.ensures.looked c.leader_label.ensures.same c.leader_label.ensures.makes c.leader_label.ensures.frames c.leader_label.ensures.layout
+
 pub returns-in-Err-leader_label-clause-runs_given : goal.returns-in-Err-leader_label-clause-runs_given
 returns-in-Err-leader_label-clause-runs_given g c = rw c.leader_label.ensures.runs c.leader_of.ensures.runs_given
 
@@ -227,6 +230,9 @@ returns-in-Err-leader_label-clause-runs_are g c = rw c.leader_label.ensures.runs
 
 pub returns-in-Ok-size-clause-beside : goal.returns-in-Ok-size-clause-beside
 returns-in-Ok-size-clause-beside g c = beside_then refl (beside_read c.leader_of.ensures.beside c.leader_label.ensures.same c.leader_label.ensures.makes c.leader_label.ensures.frames c.leader_label.ensures.layout) c.size.ensures.beside
+
+pub returns-in-Ok-size-clause-looked : goal.returns-in-Ok-size-clause-looked
+returns-in-Ok-size-clause-looked g c = looked_then refl (looked_read c.leader_of.ensures.looked c.leader_label.ensures.same c.leader_label.ensures.makes c.leader_label.ensures.frames c.leader_label.ensures.layout) c.size.ensures.looked
 
 pub returns-in-Ok-size-clause-runs_given : goal.returns-in-Ok-size-clause-runs_given
 returns-in-Ok-size-clause-runs_given g c = rw (c.size.ensures.runs, c.leader_label.ensures.runs) c.leader_of.ensures.runs_given
@@ -242,6 +248,9 @@ returns-in-Err-size-clause-same_bytes g c = λ bytes reveals.
 
 pub returns-in-Err-size-clause-beside : goal.returns-in-Err-size-clause-beside
 returns-in-Err-size-clause-beside g c = beside_then refl (beside_read c.leader_of.ensures.beside c.leader_label.ensures.same c.leader_label.ensures.makes c.leader_label.ensures.frames c.leader_label.ensures.layout) c.size.ensures.beside
+
+pub returns-in-Err-size-clause-looked : goal.returns-in-Err-size-clause-looked
+returns-in-Err-size-clause-looked g c = looked_then refl (looked_read c.leader_of.ensures.looked c.leader_label.ensures.same c.leader_label.ensures.makes c.leader_label.ensures.frames c.leader_label.ensures.layout) c.size.ensures.looked
 
 pub returns-in-Err-size-clause-runs_given : goal.returns-in-Err-size-clause-runs_given
 returns-in-Err-size-clause-runs_given g c = rw (c.size.ensures.runs, c.leader_label.ensures.runs) c.leader_of.ensures.runs_given

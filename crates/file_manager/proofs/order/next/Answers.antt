@@ -53,8 +53,8 @@ returns-in-Ok-clause-looks g c =
     let found = c.next_file.ensures in
     let kept = ap (runs_of f.swapper.layout.sectors) found.runs in
     rw (← c.frames_of.ensures.same)
-    (looks_searched {kept = runs_of f.swapper.layout.sectors f.runs} {runs = runs_of f.swapper.layout.sectors c.next_file.new.self.runs} f.swapper.accepted (rw c.frames_of.ensures.same c.requires.size) (g.met.D.Disk.whole f.swapper.disk) (g.met.D.Disk.in_form f.swapper.disk) (rw c.frames_of.ensures.same c.frames_of.ensures.pages)
-    found.beside found.same_bytes (λ r one. inl (subst (IsOneOf r) kept one)) (λ m named stands map are. subst (AreOf named) (sym kept) are))
+    (looks_searched {kept = runs_of f.swapper.layout.sectors f.runs} {runs = runs_of f.swapper.layout.sectors c.next_file.new.self.runs} found.looked
+    (λ r one. inl (subst (IsOneOf r) kept one)) (λ m named stands map are. subst (AreOf named) (sym kept) are))
 
 pub returns-in-Err-clause-looks : goal.returns-in-Err-clause-looks
 returns-in-Err-clause-looks g c =
@@ -62,8 +62,8 @@ returns-in-Err-clause-looks g c =
     let found = c.next_file.ensures in
     let kept = ap (runs_of f.swapper.layout.sectors) found.runs in
     rw (← c.frames_of.ensures.same)
-    (looks_searched {kept = runs_of f.swapper.layout.sectors f.runs} {runs = runs_of f.swapper.layout.sectors c.next_file.new.self.runs} f.swapper.accepted (rw c.frames_of.ensures.same c.requires.size) (g.met.D.Disk.whole f.swapper.disk) (g.met.D.Disk.in_form f.swapper.disk) (rw c.frames_of.ensures.same c.frames_of.ensures.pages)
-    found.beside found.same_bytes (λ r one. inl (subst (IsOneOf r) kept one)) (λ m named stands map are. subst (AreOf named) (sym kept) are))
+    (looks_searched {kept = runs_of f.swapper.layout.sectors f.runs} {runs = runs_of f.swapper.layout.sectors c.next_file.new.self.runs} found.looked
+    (λ r one. inl (subst (IsOneOf r) kept one)) (λ m named stands map are. subst (AreOf named) (sym kept) are))
 
 -- ---- What it keeps to, and the reasons of its halts.
 

@@ -42,6 +42,7 @@ leaves-preserved g c = record {
   read = λ b h read. rw c.in-Some.is at (c.in-Ok-next_leaf.ensures.read b (c.leaves.invariant.unchanged b h));
   unchanged = λ b h. c.next_leaf.ensures.unchanged b (c.leaves.invariant.unchanged b h);
   kept = g.met.M.FlatMem.beside_through _ _ _ c.leaves.invariant.kept c.next_leaf.ensures.kept;
+  looked = g.met.M.FlatMem.only_reads_through _ _ _ c.leaves.invariant.looked c.next_leaf.ensures.looked;
   cost = walks _ _ _ g.M.FlatMem.cost c.leaves.passed c.leaves.invariant.cost c.next_leaf.ensures.cost;
 }
 

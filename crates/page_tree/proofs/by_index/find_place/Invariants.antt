@@ -20,6 +20,7 @@ invariant-leaves g l = record {
   read : (b : List ℕ) → g.M.FlatMem.reveals l.initial.mem b → l.initial.page ≡ page_at b l.initial.at → l.page ≡ page_at b l.at;
   unchanged : (b : List ℕ) → g.M.FlatMem.reveals l.initial.mem b → g.M.FlatMem.reveals l.mem b;
   kept : g.M.FlatMem.beside l.initial.mem l.mem;
+  looked : g.M.FlatMem.only_reads l.initial.mem l.mem;
   cost : g.M.FlatMem.spent l.mem ≤ g.M.FlatMem.spent l.initial.mem + l.passed * (11 * g.M.FlatMem.cost);
 }
 

@@ -18,6 +18,7 @@ leaves-init g c = record {
   form = c.in-Ok.ensures.form;
   unchanged = λ b h. h;
   kept = g.met.M.FlatMem.beside_itself _;
+  looked = g.met.M.FlatMem.only_reads_itself _;
   cost = omega arith;
 }
 
@@ -55,6 +56,7 @@ leaves-preserved g c = record {
   form = rw c.in-Some.is at c.in-Ok-next_leaf.ensures.form;
   unchanged = λ b h. c.next_leaf.ensures.unchanged b (c.leaves.invariant.unchanged b h);
   kept = g.met.M.FlatMem.beside_through _ _ _ c.leaves.invariant.kept c.next_leaf.ensures.kept;
+  looked = g.met.M.FlatMem.only_reads_through _ _ _ c.leaves.invariant.looked c.next_leaf.ensures.looked;
   cost = walks _ _ _ g.M.FlatMem.cost c.leaves.passed c.leaves.invariant.cost c.next_leaf.ensures.cost;
 }
 

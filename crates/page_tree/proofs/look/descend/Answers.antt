@@ -65,6 +65,7 @@ descent-preserved g c = record {
       );
   path = path_inside c.descent.level (c.descent.level - 1) c.args.levels _ c.descent.at c.descent.path.pages (omega (arith, c.descent-test.true)) c.descent.invariant.inside (search rules) c.descent.invariant.path;
   kept = g.met.M.FlatMem.beside_through _ _ _ c.descent.invariant.kept c.load.ensures.kept;
+  looked = g.met.M.FlatMem.only_reads_through _ _ _ c.descent.invariant.looked c.load.ensures.looked;
   cost = affords _ _ _ _ c.descent.level (c.descent.level - 1) (omega (arith, c.descent-test.true)) c.load.ensures.cost c.descent.invariant.cost;
 }
 
@@ -137,5 +138,6 @@ descent-init g c = record {
   met = λ b h top. (top, met_root g.row.K b c.args.levels c.args.root _ _, λ same. refl);
   path = λ n from most. absurd (omega (arith, from, most));
   kept = g.met.M.FlatMem.beside_itself _;
+  looked = g.met.M.FlatMem.only_reads_itself _;
   cost = omega arith;
 }

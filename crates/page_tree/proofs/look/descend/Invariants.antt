@@ -16,6 +16,7 @@ invariant-descent g l = record {
   met : (b : List ℕ) → g.M.FlatMem.reveals l.initial.mem b → Meets g.row.K b l.levels l.root → Meets g.row.K b l.level l.at × IsMetPath g.row.K b l.levels l.level l.root l.path.pages l.path.index × (l.level ≡ l.levels → l.at ≡ l.root);
   path : (n : ℕ) → l.level < n → n ≤ l.levels → get_or l.path.pages n 0 < g.M.FlatMem.size l.initial.mem / 512;
   kept : g.M.FlatMem.beside l.initial.mem l.mem;
+  looked : g.M.FlatMem.only_reads l.initial.mem l.mem;
   cost : g.M.FlatMem.spent l.mem + l.level * g.M.FlatMem.cost ≤ g.M.FlatMem.spent l.initial.mem + l.levels * g.M.FlatMem.cost;
 }
 

@@ -22,6 +22,7 @@ down-init g c = record {
   coming = coming_from c.args.level c.args.at c.args.place c.args.path.now.pages c.args.path.now.index;
   path = λ levels inside. inside;
   kept = g.met.M.FlatMem.beside_itself _;
+  looked = g.met.M.FlatMem.only_reads_itself _;
   cost = omega arith;
 }
 
@@ -72,6 +73,7 @@ down-preserved g c = record {
       c.down.invariant.coming;
   path = λ levels inside. path_inside c.down.level (c.down.level - 1) levels _ c.down.at c.down.path.pages (omega (arith, c.down-test.true)) c.down.invariant.inside (search rules) (c.down.invariant.path levels inside);
   kept = g.met.M.FlatMem.beside_through _ _ _ c.down.invariant.kept c.read_inner.ensures.kept;
+  looked = g.met.M.FlatMem.only_reads_through _ _ _ c.down.invariant.looked c.read_inner.ensures.looked;
   cost = affords _ _ _ _ c.down.level (c.down.level - 1) (omega (arith, c.down-test.true)) c.read_inner.ensures.cost c.down.invariant.cost;
 }
 

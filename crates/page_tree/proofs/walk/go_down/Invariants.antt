@@ -27,6 +27,7 @@ invariant-down g l = record {
   path : (levels : ℕ) → ((n : ℕ) → l.initial.level < n → n ≤ levels → get_or l.initial.path.pages n 0 < g.M.FlatMem.size l.initial.mem / 512)
       → (n : ℕ) → l.level < n → n ≤ levels → get_or l.path.pages n 0 < g.M.FlatMem.size l.initial.mem / 512;
   kept : g.M.FlatMem.beside l.initial.mem l.mem;
+  looked : g.M.FlatMem.only_reads l.initial.mem l.mem;
   cost : g.M.FlatMem.spent l.mem + l.level * g.M.FlatMem.cost ≤ g.M.FlatMem.spent l.initial.mem + l.initial.level * g.M.FlatMem.cost;
 }
 

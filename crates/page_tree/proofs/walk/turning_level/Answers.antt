@@ -55,6 +55,7 @@ up-preserved g c = record {
     | inr other ↦ c.up.invariant.full b h root path n above (omega (arith, less, other))
   ];
   kept = g.met.M.FlatMem.beside_through _ _ _ c.up.invariant.kept c.read_inner.ensures.kept;
+  looked = g.met.M.FlatMem.only_reads_through _ _ _ c.up.invariant.looked c.read_inner.ensures.looked;
   cost = spends _ _ _ g.M.FlatMem.cost (c.up.level - 2) (c.up.level + 1 - 2) (omega (arith, c.up.invariant.order.0)) c.up.invariant.cost c.read_inner.ensures.cost;
 }
 

@@ -13,6 +13,7 @@ invariant-up g l = record {
       → IsPath nodes l.levels 1 l.path.pages l.path.index at home → (n : ℕ) → 1 < n → n < l.level → get_or l.path.index n 0 + 1 ≡ length (node_at (nodes n) (home n)).items;
   full : (b : List ℕ) → g.M.FlatMem.reveals l.initial.mem b → (root : ℕ) → IsMetPath g.row.K b l.levels 1 root l.path.pages l.path.index → IsLastBelow b l.path.pages l.path.index l.level;
   kept : g.M.FlatMem.beside l.initial.mem l.mem;
+  looked : g.M.FlatMem.only_reads l.initial.mem l.mem;
   cost : g.M.FlatMem.spent l.mem ≤ g.M.FlatMem.spent l.initial.mem + (l.level - 2) * g.M.FlatMem.cost;
 }
 

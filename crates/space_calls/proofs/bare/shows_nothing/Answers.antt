@@ -9,8 +9,8 @@ use Rattle.space_calls.proofs.bare.shows_nothing.Goals as goal
 
 pub returns-in-Ok-Some-clause-answer : goal.returns-in-Ok-Some-clause-answer
 returns-in-Ok-Some-clause-answer g c = λ volume m r.
-    bare_core c.args.core.now c.args.core.now.filer.swapper.accepted c.requires.size volume m r c.in-Ok-Some.interval c.in-Ok-Some.field-0 c.in-Ok-Some.field-0-is c.in-Ok-Some.ensures.interval
-    (sym c.interval_count.ensures ∙ c.if-interval_count-ne1.false)
+    rw c.is_mapped.ensures (bare_core c.args.core.now c.args.core.now.filer.swapper.accepted c.requires.size volume m r c.in-Ok-Some.interval c.in-Ok-Some.field-0 c.in-Ok-Some.field-0-is c.in-Ok-Some.ensures.interval
+    (sym c.interval_count.ensures ∙ c.if-interval_count-ne1.false))
 
 pub returns-in-Ok-Some-clause-runs : goal.returns-in-Ok-Some-clause-runs
 returns-in-Ok-Some-clause-runs g c = λ volume m r.

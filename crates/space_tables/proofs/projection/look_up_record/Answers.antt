@@ -50,3 +50,7 @@ pub returns-clause-cost : goal.returns-clause-cost
 returns-clause-cost g c =
     let cost = c.look_up.ensures.cost 6 (λ n below is. few_pages n c.args.count below c.requires.few) in
     lent (λ (m : g.row.M.Denot). g.M.FlatMem.spent m ≤ g.M.FlatMem.spent c.args.mem.now + 7 * g.M.FlatMem.cost) _ c.look_up.new.mem.mem.now (search rules) (rw c.of-projection.ensures.mem_is at cost)
+
+pub returns-clause-looked : goal.returns-clause-looked
+returns-clause-looked g c =
+    lent (λ (m : g.row.M.Denot). g.M.FlatMem.only_reads c.args.mem.now m) _ c.look_up.new.mem.mem.now (search rules) (rw c.of-projection.ensures.mem_is at c.look_up.ensures.looked.mem.1)

@@ -15,6 +15,7 @@ scan-init g c = record {
   rest = λ slots xs h long ok. refl;
   unchanged = λ b h. h;
   kept = g.met.M.FlatMem.beside_itself c.args.mem.now;
+  looked = g.met.M.FlatMem.only_reads_itself c.args.mem.now;
   cost = omega arith;
 }
 
@@ -46,6 +47,7 @@ scan-preserved g c = record {
       c.scan.invariant.rest slots xs h long ok ∙ gap_later (is_gap c.args.parent c.args.pages) xs c.scan.index c.in_ok-x.x there (sym c.if-is_gap.ensures);
   unchanged = λ b h. c.interval.ensures.unchanged b (c.scan.invariant.unchanged b h);
   kept = g.met.M.FlatMem.beside_through _ _ _ c.scan.invariant.kept c.interval.ensures.kept;
+  looked = g.met.M.FlatMem.only_reads_through _ _ _ c.scan.invariant.looked c.interval.ensures.looked;
   cost = paid_more c.scan.index g.M.FlatMem.cost _ _ _ c.scan.invariant.cost c.interval.ensures.cost;
 }
 

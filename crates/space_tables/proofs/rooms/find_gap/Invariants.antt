@@ -13,6 +13,7 @@ invariant-scan g l = record {
       → ((k : ℕ) (x : Interval) → slice_get xs k ≡ Some x → IsReadable x) → find (is_gap l.parent l.pages) xs ≡ find (is_gap l.parent l.pages) (drop l.index xs);
   unchanged : (b : List ℕ) → g.M.FlatMem.reveals l.initial.mem b → g.M.FlatMem.reveals l.mem b;
   kept : g.M.FlatMem.beside l.initial.mem l.mem;
+  looked : g.M.FlatMem.only_reads l.initial.mem l.mem;
   cost : g.M.FlatMem.spent l.mem ≤ g.M.FlatMem.spent l.initial.mem + l.index * g.M.FlatMem.cost;
 }
 

@@ -16,6 +16,7 @@ scan-init g c = record {
   rest = λ slots xs h ok. refl;
   unchanged = λ b h. h;
   kept = g.met.M.FlatMem.beside_itself c.args.mem.now;
+  looked = g.met.M.FlatMem.only_reads_itself c.args.mem.now;
   cost = omega arith;
 }
 
@@ -61,6 +62,7 @@ scan-preserved g c = record {
       c.scan.invariant.rest slots xs h ok ∙ none;
   unchanged = λ b h. c.load_page.ensures.unchanged b (c.scan.invariant.unchanged b h);
   kept = g.met.M.FlatMem.beside_through _ _ _ c.scan.invariant.kept c.load_page.ensures.kept;
+  looked = g.met.M.FlatMem.only_reads_through _ _ _ c.scan.invariant.looked c.load_page.ensures.looked;
   cost = paid_page c.scan.first g.M.FlatMem.cost _ _ _ c.scan.invariant.cost c.load_page.ensures.cost;
 }
 

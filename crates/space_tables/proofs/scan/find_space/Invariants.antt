@@ -15,6 +15,7 @@ invariant-scan g l = record {
       → find (passes l.test) (listed slots) ≡ find (passes l.test) (listed (drop l.first slots));
   unchanged : (b : List ℕ) → g.M.FlatMem.reveals l.initial.mem b → g.M.FlatMem.reveals l.mem b;
   kept : g.M.FlatMem.beside l.initial.mem l.mem;
+  looked : g.M.FlatMem.only_reads l.initial.mem l.mem;
   cost : g.M.FlatMem.spent l.mem ≤ g.M.FlatMem.spent l.initial.mem + l.first * g.M.FlatMem.cost;
 }
 

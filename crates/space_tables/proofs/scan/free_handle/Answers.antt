@@ -36,6 +36,7 @@ scan-preserved g c = record {
       both_taken slots 1 c.scan.from (end_on c.scan.from) (c.scan.invariant.taken slots xs h ok) none;
   unchanged = λ b h. c.load_page.ensures.unchanged b (c.scan.invariant.unchanged b h);
   kept = g.met.M.FlatMem.beside_through _ _ _ c.scan.invariant.kept c.load_page.ensures.kept;
+  looked = g.met.M.FlatMem.only_reads_through _ _ _ c.scan.invariant.looked c.load_page.ensures.looked;
   cost = more (c.scan.from - 1) (c.scan.from - c.scan.from % 16 + 16 - 1) g.M.FlatMem.cost _ _ _ c.scan.invariant.cost c.load_page.ensures.cost (omega (arith, c.scan.invariant.above));
 }
 

@@ -12,6 +12,7 @@ invariant-scan g l = record {
   taken : (slots : List (Option Space)) (xs : List Interval) → HoldTables (g.M.FlatMem.reveals l.fn.mem) slots xs → AreReadable slots xs → AreTaken slots l.from;
   unchanged : (b : List ℕ) → g.M.FlatMem.reveals l.fn.mem b → g.M.FlatMem.reveals l.mem b;
   kept : g.M.FlatMem.beside l.fn.mem l.mem;
+  looked : g.M.FlatMem.only_reads l.fn.mem l.mem;
   cost : g.M.FlatMem.spent l.mem ≤ g.M.FlatMem.spent l.fn.mem + (l.from - 1) * g.M.FlatMem.cost;
 }
 

@@ -1,5 +1,4 @@
-use Rattle.std.proofs.Common.{◌≡◌, ◌∙◌, false, nat_eq, refl, sym, arith, slice_index_or}
-use Rattle.std.specs.Prelude.{◌/◌, ◌%◌}
+use Rattle.std.proofs.Common.{◌≡◌, ◌∙◌, false, refl, sym, arith, slice_index_or}
 use Rattle.std.proofs.lemmas.Option.{slice_get-get_or, none-some}
 use Rattle.labelled_disk.specs.Label.{leader_page}
 use Rattle.label_survey.specs.declared.triples.Triple.{Triple}
@@ -17,8 +16,8 @@ returns-in-Some c = λ d from are sorted.
     let lead : t.page ≡ leader_page = omega (arith, c.if-triple.false) in
     let there = label_there d revealed c.args.triples.now sorted c.args.labels.now c.args.first from are c.args.k t at in
     line_there d revealed c.args.triples.now sorted c.args.labels.now c.args.first from are c.args.k t
-    (record { id = t.id; pages = c.pages_before.result; kind = c.in-Some.label.kind; immutable = nat_eq (c.in-Some.label.flags / 2 % 2) 1; leader = t.sector }) c.in-Some.label
-    at lead (sym (c.in-Some.ensures there.0)) refl (λ f is. c.pages_before.ensures d sorted t f at lead is) refl refl refl
+    (record { id = t.id; pages = c.pages_before.result; kind = c.in-Some.label.kind; immutable = c.marks.result.immutable; leader = t.sector }) c.in-Some.label
+    at lead (sym (c.in-Some.ensures there.0)) refl (λ f is. c.pages_before.ensures d sorted t f at lead is) refl c.marks.ensures.immutable refl
 
 pub returns-in-None : goal.returns-in-None
 returns-in-None c = λ d from are sorted t at lead.

@@ -75,6 +75,12 @@ invariant_of-self-in-Some-found g c =
       formed = formed_more (kept_in c.look.new.self) (kept_in c.keep.new.self) c.in-Some-found.interval c.keep.ensures.room c.keep.ensures.full c.keep.ensures.few (subst AreFormed (sym c.look.ensures.kept) c.args.self.now.formed) form.0;
     }
 
+pub invariant_of-self : goal.invariant_of-self
+invariant_of-self g c = record { some = c.args.self.now.some; few = c.args.self.now.few; formed = subst AreFormed (sym c.look.ensures.kept) c.args.self.now.formed }
+
+pub invariant_of-self-in-Break-1 : goal.invariant_of-self-in-Break-1
+invariant_of-self-in-Break-1 g c = record { some = c.args.self.now.some; few = c.args.self.now.few; formed = subst AreFormed (sym c.look.ensures.kept) c.args.self.now.formed }
+
 pub invariant_of-self-in_default-found : goal.invariant_of-self-in_default-found
 invariant_of-self-in_default-found g c = record { some = c.args.self.now.some; few = c.args.self.now.few; formed = subst AreFormed (sym c.look.ensures.kept) c.args.self.now.formed }
 

@@ -1,8 +1,9 @@
-use Rattle.std.proofs.Common.{rules, ◌≡◌, ◌≢◌, ◌∙◌, sym, ap, subst, refl, Option}
+use Rattle.std.proofs.Common.{rules, ◌≡◌, true, false, ◌∙◌, sym, ap, subst, refl, Option}
 use Rattle.std.specs.Prelude.{IfSome, is_ok}
 use Rattle.std.proofs.lemmas.Bool.{true≢false}
 use Rattle.std.proofs.lemmas.Option.{none-some}
 use Rattle.swap_units.specs.declared.interval.Interval.{Interval}
+use Rattle.swap_units.specs.Mode.{is_mapped}
 use Rattle.space_tables.specs.SpaceTables.{IsIntervalAt}
 use Rattle.fault_core.specs.Unit.{IsWhole}
 use Rattle.fault_core.proofs.KeptLemmas.{ready_found, same_answer}
@@ -19,18 +20,18 @@ returns-in-Err-clause-idle g c = λ ready apart.
     let e = c.describe.ensures.idle ready.interval (ready_found (kept c.args.self.now) c.args.self.now.filer.swapper.pool c.args.page ready apart) in
     absurd (true≢false (ap is_ok (sym e.0 ∙ c.in-Err.is)))
 
-pub returns-then-x-eq0-clause-none : goal.returns-then-x-eq0-clause-none
-returns-then-x-eq0-clause-none g c = λ m named ss knows.
+pub returns-then-not-is_mapped-clause-none : goal.returns-then-not-is_mapped-clause-none
+returns-then-not-is_mapped-clause-none g c = λ m named ss knows.
     let at = subst (λ (o : Option Interval). IfSome o (IsIntervalAt ss c.args.page)) c.in-Ok-Some.field-0-is (c.in-Ok-Some.ensures.interval m named ss knows) in
-    let bare : c.in-Ok-Some.x.mode ≡ 0 = search rules in
+    let bare : is_mapped c.in-Ok-Some.x.mode ≡ false = search rules in
     (λ _. shown_none knows.tables c.in-Ok-Some.x (interval_of ss c.args.page c.in-Ok-Some.x at) c.args.page at.holds bare, λ _. refl)
 
-pub returns-then-x-eq0-clause-idle : goal.returns-then-x-eq0-clause-idle
-returns-then-x-eq0-clause-idle g c = λ ready apart.
+pub returns-then-not-is_mapped-clause-idle : goal.returns-then-not-is_mapped-clause-idle
+returns-then-not-is_mapped-clause-idle g c = λ ready apart.
     let e = c.describe.ensures.idle ready.interval (ready_found (kept c.args.self.now) c.args.self.now.filer.swapper.pool c.args.page ready apart) in
     let same : ready.interval ≡ c.in-Ok-Some.x = same_answer c.describe.result ready.interval c.in-Ok-Some.x c.in-Ok-Some.field-0 e.0 c.in-Ok-Some.is c.in-Ok-Some.field-0-is in
-    let bare : c.in-Ok-Some.x.mode ≡ 0 = search rules in
-    absurd (ready.mapped (ap (λ (x : Interval). x.mode) same ∙ bare))
+    let bare : is_mapped c.in-Ok-Some.x.mode ≡ false = search rules in
+    absurd (true≢false (sym ready.mapped ∙ ap (λ (x : Interval). is_mapped x.mode) same ∙ bare))
 
 pub returns-clause-interval : goal.returns-clause-interval
 returns-clause-interval g c = λ m named ss knows. subst (λ (o : Option Interval). IfSome o (IsIntervalAt ss c.args.page)) c.in-Ok-Some.field-0-is (c.in-Ok-Some.ensures.interval m named ss knows)
@@ -38,7 +39,7 @@ returns-clause-interval g c = λ m named ss knows. subst (λ (o : Option Interva
 pub returns-clause-none : goal.returns-clause-none
 returns-clause-none g c = λ m named ss knows.
     let at = subst (λ (o : Option Interval). IfSome o (IsIntervalAt ss c.args.page)) c.in-Ok-Some.field-0-is (c.in-Ok-Some.ensures.interval m named ss knows) in
-    let mapped : c.in-Ok-Some.x.mode ≢ 0 = search rules in (
+    let mapped : is_mapped c.in-Ok-Some.x.mode ≡ true = search rules in (
       λ e. absurd (none-some c.in-Ok-Some.x (sym e)),
       λ none. absurd (none-some _ (sym none ∙ shown_is knows.tables c.in-Ok-Some.x (interval_of ss c.args.page c.in-Ok-Some.x at) c.args.page at.holds mapped)),
     )

@@ -1,4 +1,6 @@
-use Rattle.std.proofs.Common.{◌+◌, ◌≤◌, inl, inr, arith}
+use Rattle.std.proofs.Common.{rules, ◌≡◌, ◌+◌, ◌≤◌, true, false, inl, inr, arith}
+use Rattle.swap_units.specs.Mode.{is_mapped}
+use Rattle.swapper_kernel.specs.HaltLaws.{brings_then}
 use Rattle.fault_core.specs.Core.{state}
 use Rattle.fault_core.specs.Reach.{no_break}
 use Rattle.fault_core.specs.Revealed.{BreaksTables}
@@ -28,26 +30,27 @@ returns-in-Err-clause-frames g c = λ y found inside.
 
 -- ---- No window shows the interval.
 
-pub returns-then-x-eq0-clause-frames : goal.returns-then-x-eq0-clause-frames
-returns-then-x-eq0-clause-frames g c = λ y found inside.
+pub returns-then-not-is_mapped-clause-frames : goal.returns-then-not-is_mapped-clause-frames
+returns-then-not-is_mapped-clause-frames g c = λ y found inside.
     let idle = c.describe.ensures.idle y found in
     leaves_same c.args.write_back y.id _ _ c.args.self.now.filer.swapper.pool c.describe.new.self.filer.swapper.pool (λ i. (idle.1 i).swapper.pool)
 
-pub returns-then-x-eq0-clause-all : goal.returns-then-x-eq0-clause-all
-returns-then-x-eq0-clause-all g c = λ y found inside.
+pub returns-then-not-is_mapped-clause-all : goal.returns-then-not-is_mapped-clause-all
+returns-then-not-is_mapped-clause-all g c = λ y found inside.
     let idle = c.describe.ensures.idle y found in
     part_all c.in-Ok-Some.x y c.min-next.result c.args.end c.min-next.ensures (same_answer c.describe.result y c.in-Ok-Some.x c.in-Ok-Some.field-0 idle.0 c.in-Ok-Some.is c.in-Ok-Some.field-0-is) inside
 
-pub returns-then-x-eq0-clause-rest : goal.returns-then-x-eq0-clause-rest
-returns-then-x-eq0-clause-rest g c = λ m named ss knows.
+pub returns-then-not-is_mapped-clause-rest : goal.returns-then-not-is_mapped-clause-rest
+returns-then-not-is_mapped-clause-rest g c = λ m named ss knows.
     let x = c.in-Ok-Some.x in
     let at = at_of ss c.in-Ok-Some.field-0 x c.args.page c.in-Ok-Some.field-0-is (c.in-Ok-Some.ensures.interval m named ss knows) in
     let least = c.min-next.ensures in
     let inside : c.min-next.result ≤ x.first + x.pages = omega (arith, least) in
-    bare_written_back knows.tables c.args.write_back c.describe.new.self.filer.swapper.pool c.args.page c.min-next.result x (interval_of ss c.args.page x at) at.holds inside c.if-x-eq0.true
+    let bare : is_mapped x.mode ≡ false = search rules in
+    bare_written_back knows.tables c.args.write_back c.describe.new.self.filer.swapper.pool c.args.page c.min-next.result x (interval_of ss c.args.page x at) at.holds inside bare
 
-pub returns-then-x-eq0-clause-part : goal.returns-then-x-eq0-clause-part
-returns-then-x-eq0-clause-part g c = λ m named ss knows.
+pub returns-then-not-is_mapped-clause-part : goal.returns-then-not-is_mapped-clause-part
+returns-then-not-is_mapped-clause-part g c = λ m named ss knows.
     let x = c.in-Ok-Some.x in
     let at = at_of ss c.in-Ok-Some.field-0 x c.args.page c.in-Ok-Some.field-0-is (c.in-Ok-Some.ensures.interval m named ss knows) in
     elim (next_of c.min-next.result (x.first + x.pages) c.args.end c.min-next.ensures) [ inl is ↦ inl is | inr is ↦ inr (x, at, is) ]
@@ -60,7 +63,8 @@ returns-in-Ok-clause-rest g c = λ m named ss knows.
     let at = at_of ss c.in-Ok-Some.field-0 x c.args.page c.in-Ok-Some.field-0-is (c.in-Ok-Some.ensures.interval m named ss knows) in
     let least = c.min-next.ensures in
     let inside : c.min-next.result ≤ x.first + x.pages = omega (arith, least) in
-    run_written_back knows.tables c.args.write_back c.write_back_run.new.filer.swapper.pool c.args.page c.min-next.result x (interval_of ss c.args.page x at) at.holds inside c.if-x-eq0.false c.in-Ok.ensures.rest
+    let mapped : is_mapped x.mode ≡ true = search rules in
+    run_written_back knows.tables c.args.write_back c.write_back_run.new.filer.swapper.pool c.args.page c.min-next.result x (interval_of ss c.args.page x at) at.holds inside mapped c.in-Ok.ensures.rest
 
 pub returns-in-Ok-clause-part : goal.returns-in-Ok-clause-part
 returns-in-Ok-clause-part g c = λ m named ss knows.
@@ -139,8 +143,8 @@ returns-in-Ok-None-clause-stay g c = λ forced. c.describe.ensures.stay
 pub returns-in-Err-clause-stay : goal.returns-in-Err-clause-stay
 returns-in-Err-clause-stay g c = λ forced. c.describe.ensures.stay
 
-pub returns-then-x-eq0-clause-stay : goal.returns-then-x-eq0-clause-stay
-returns-then-x-eq0-clause-stay g c = λ forced. c.describe.ensures.stay
+pub returns-then-not-is_mapped-clause-stay : goal.returns-then-not-is_mapped-clause-stay
+returns-then-not-is_mapped-clause-stay g c = λ forced. c.describe.ensures.stay
 
 pub returns-in-Ok-clause-stay : goal.returns-in-Ok-clause-stay
 returns-in-Ok-clause-stay g c = run_yields c.args.write_back _ _ _ c.args.self.now.filer.swapper.pool c.describe.new.self.filer.swapper.pool c.write_back_run.new.filer.swapper.pool c.describe.ensures.stay c.write_back_run.ensures.frames
@@ -155,3 +159,6 @@ returns-in-Ok-clause-sees g c = λ ss s. sees_after (c.in-Ok-Some.ensures.sees s
 
 pub returns-in-Err-write_back_run-clause-sees : goal.returns-in-Err-write_back_run-clause-sees
 returns-in-Err-write_back_run-clause-sees g c = λ ss s. sees_after (c.in-Ok-Some.ensures.sees ss s) _ _ c.write_back_run.ensures.reaches (λ x one. inl one)
+
+pub returns-in-Err-write_back_run-clause-came : goal.returns-in-Err-write_back_run-clause-came
+returns-in-Err-write_back_run-clause-came g c = brings_then c.describe.ensures.came c.write_back_run.ensures.came

@@ -1,8 +1,8 @@
 use Rattle.std.proofs.Common.{◌≡◌, refl}
 use Rattle.swapper_kernel.specs.declared.manager.Manager.TheVariants.{FileMap}
 use Rattle.swapper_kernel.proofs.WindowLemmas.{reveals_swapped}
-use Rattle.filer_kernel.specs.TableLaws.{beside_tables_itself}
-use Rattle.filer_kernel.proofs.TableLemmas.{table_shown, table_there, table_shown_there, beside_fetched, revealed_fetched, accounted_fetched, found_missing}
+use Rattle.filer_kernel.specs.TableLaws.{beside_tables_itself, looked_tables_itself}
+use Rattle.filer_kernel.proofs.TableLemmas.{table_shown, table_there, table_shown_there, beside_fetched, looked_fetched, revealed_fetched, accounted_fetched, found_missing}
 use Rattle.filer_kernel.proofs.filer.Filer.fetch_table_page.Goals as goal
 
 pub returns-in-Some-clause-shown : goal.returns-in-Some-clause-shown
@@ -16,6 +16,11 @@ pub returns-in-Some-clause-kept : goal.returns-in-Some-clause-kept
 returns-in-Some-clause-kept g c =
     let self = c.args.self.now in
     beside_tables_itself (g.D.Disk.state self.swapper.disk) self.swapper.pool self.swapper.layout self.runs
+
+pub returns-in-Some-clause-looked : goal.returns-in-Some-clause-looked
+returns-in-Some-clause-looked g c =
+    let self = c.args.self.now in
+    looked_tables_itself (g.D.Disk.state self.swapper.disk) self.swapper.pool self.swapper.layout self.runs
 
 pub returns-clause-there : goal.returns-clause-there
 returns-clause-there g c = table_there c.fetch.result c.fetch.new.self.pool c.in_ok-home.home c.args.page c.in_ok-home.ensures.found.table.of_tables c.in_ok-home.ensures.page c.fetch.ensures.there
@@ -39,6 +44,13 @@ returns-clause-error g c =
 pub returns-clause-kept : goal.returns-clause-kept
 returns-clause-kept g c =
     beside_fetched c.in_ok-home.home c.in_ok-home.ensures.kept c.in_ok-home.ensures.found c.args.self.now.swapper.accepted c.fetch.ensures.swaps c.fetch.ensures.brings c.fetch.ensures.steps c.fetch.ensures.layout
+
+pub returns-clause-looked : goal.returns-clause-looked
+returns-clause-looked g c =
+    looked_fetched c.in_ok-home.home c.in_ok-home.ensures.looked c.in_ok-home.ensures.found c.args.self.now.swapper.accepted c.fetch.ensures.swaps c.fetch.ensures.brings c.fetch.ensures.steps c.fetch.ensures.layout
+
+pub returns-in_err-home-clause-idle : goal.returns-in_err-home-clause-idle
+returns-in_err-home-clause-idle g c = λ i has. absurd (c.find.ensures.nowhere.0 c.in_default.is i has.0 (rw c.frames.ensures has.1) has.2.0 has.2.1)
 
 pub returns-clause-idle : goal.returns-clause-idle
 returns-clause-idle g c = λ i has. absurd (c.find.ensures.nowhere.0 c.in_default.is i has.0 (rw c.frames.ensures has.1) has.2.0 has.2.1)

@@ -2,6 +2,8 @@ use Rattle.std.proofs.Common.{rules, ◌≡◌, ℕ, ◌∙◌, sym, subst, inl,
 use Rattle.file_map.specs.Run.{holds, run_bytes}
 use Rattle.file_map.specs.FileMap.{IsFound}
 use Rattle.file_map.specs.Entries.{Entry}
+use Rattle.swapper_kernel.specs.declared.manager.Manager.TheVariants.{FileMap}
+use Rattle.swapper_kernel.specs.WindowLaws.{looked_itself}
 use Rattle.filer_kernel.specs.Cached.{runs_of}
 use Rattle.filer_kernel.specs.Causes.{IsGiven, MapShows}
 use Rattle.filer_kernel.specs.Runs.{newest}
@@ -14,6 +16,11 @@ pub returns-in-Some-clause-found : goal.returns-in-Some-clause-found
 returns-in-Some-clause-found g c = λ m named stands map are.
     let kept = found_in (λ r. holds r c.args.id c.args.page) (runs_of c.args.self.now.swapper.layout.sectors c.args.self.now.runs) c.in-Some.run' (sym (rw c.layout-sectors.ensures at c.find.ensures) ∙ c.in-Some.is) in
     (kept.1, of_one named _ c.in-Some.run' c.args.id c.args.page are kept.0 kept.1)
+
+pub returns-in-Some-clause-looked : goal.returns-in-Some-clause-looked
+returns-in-Some-clause-looked g c =
+    let swapper = c.args.self.now.swapper in
+    looked_itself FileMap (g.D.Disk.state swapper.disk) swapper.pool swapper.layout
 
 pub returns-in-Some-clause-form : goal.returns-in-Some-clause-form
 returns-in-Some-clause-form g c =

@@ -4,9 +4,9 @@ use Rattle.file_map.specs.Run.{sector_at}
 use Rattle.file_map.specs.FileMap.{IsFound}
 use Rattle.swapper_kernel.specs.Stands.{Stands}
 use Rattle.filer_kernel.specs.Cached.{runs_of}
-use Rattle.filer_kernel.specs.Tables.{BesideTables, TablesReveal}
+use Rattle.filer_kernel.specs.Tables.{BesideTables, LookedTables, TablesReveal}
 use Rattle.filer_kernel.specs.TableOnce.{map_over, tables_stay}
-use Rattle.filer_kernel.proofs.FoundLemmas.{memory_stays, beside_found, accounted_found, accounted_missing, none_missing, found_home, found_named}
+use Rattle.filer_kernel.proofs.FoundLemmas.{memory_stays, beside_found, looked_found, accounted_found, accounted_missing, none_missing, found_home, found_named}
 use Rattle.filer_kernel.proofs.filer.Filer.table_home.Given as given
 use Rattle.filer_kernel.proofs.filer.Filer.table_home.Goals as goal
 use Rattle.filer_kernel.proofs.filer.Filer.table_home.Goals.{After-find}
@@ -27,6 +27,10 @@ kept : (g : given.Over) (c : After-find g)
     → BesideTables (g.D.Disk.state c.args.self.now.swapper.disk) c.args.self.now.swapper.pool c.args.self.now.swapper.layout c.args.self.now.runs (g.D.Disk.state c.find.new.self.swapper.disk) c.find.new.self.swapper.pool c.find.new.self.swapper.layout c.find.new.self.runs
 kept g c = beside_found c.find.ensures.beside (stays g c) c.find.ensures.runs_given c.find.ensures.runs_are
 
+looked : (g : given.Over) (c : After-find g)
+    → LookedTables (g.D.Disk.state c.args.self.now.swapper.disk) c.args.self.now.swapper.pool c.args.self.now.swapper.layout c.args.self.now.runs (g.D.Disk.state c.find.new.self.swapper.disk) c.find.new.self.swapper.pool c.find.new.self.swapper.layout c.find.new.self.runs
+looked g c = looked_found c.find.ensures.looked c.find.ensures.runs_given c.find.ensures.runs_are
+
 -- ---- It failed.
 
 pub returns-in_err-run-clause-stays : goal.returns-in_err-run-clause-stays
@@ -37,6 +41,9 @@ returns-in_err-run-clause-same g c = same g (goal.at.returns-in_err-run-clause-s
 
 pub returns-in_err-run-clause-kept : goal.returns-in_err-run-clause-kept
 returns-in_err-run-clause-kept g c = kept g (goal.at.returns-in_err-run-clause-kept g c).After-find
+
+pub returns-in_err-run-clause-looked : goal.returns-in_err-run-clause-looked
+returns-in_err-run-clause-looked g c = looked g (goal.at.returns-in_err-run-clause-looked g c).After-find
 
 pub returns-in_err-run-clause-error : goal.returns-in_err-run-clause-error
 returns-in_err-run-clause-error g c =
@@ -61,6 +68,9 @@ returns-in_default-clause-same g c = same g (goal.at.returns-in_default-clause-s
 pub returns-in_default-clause-kept : goal.returns-in_default-clause-kept
 returns-in_default-clause-kept g c = kept g (goal.at.returns-in_default-clause-kept g c).After-find
 
+pub returns-in_default-clause-looked : goal.returns-in_default-clause-looked
+returns-in_default-clause-looked g c = looked g (goal.at.returns-in_default-clause-looked g c).After-find
+
 pub returns-in_default-clause-error : goal.returns-in_default-clause-error
 returns-in_default-clause-error g c =
     let self = c.args.self.now in
@@ -77,6 +87,9 @@ returns-clause-same g c = same g (goal.at.returns-clause-same g c).After-find
 
 pub returns-clause-kept : goal.returns-clause-kept
 returns-clause-kept g c = kept g (goal.at.returns-clause-kept g c).After-find
+
+pub returns-clause-looked : goal.returns-clause-looked
+returns-clause-looked g c = looked g (goal.at.returns-clause-looked g c).After-find
 
 pub returns-clause-found : goal.returns-clause-found
 returns-clause-found g c =

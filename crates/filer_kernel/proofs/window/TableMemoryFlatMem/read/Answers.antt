@@ -2,13 +2,18 @@ use Rattle.std.proofs.Common.{◌≡◌, ◌+◌, ◌*◌, ◌/◌, ◌%◌, ℕ
 use Rattle.flat_mem.specs.Memory.{part}
 use Rattle.flat_mem.specs.Parts.{part-part}
 use Rattle.frame_pool.specs.FrameLaws.{filled_of}
-use Rattle.filer_kernel.specs.TableLaws.{beside_tables_itself}
+use Rattle.filer_kernel.specs.TableLaws.{beside_tables_itself, looked_tables_itself}
 use Rattle.filer_kernel.proofs.window.TableMemoryFlatMem.read.Goals as goal
 
 pub returns-then-is_empty-clause-kept : goal.returns-then-is_empty-clause-kept
 returns-then-is_empty-clause-kept g c =
     let filer = c.args.self.now.filer.now in
     (refl, beside_tables_itself _ filer.swapper.pool filer.swapper.layout filer.runs)
+
+pub returns-then-is_empty-clause-looked : goal.returns-then-is_empty-clause-looked
+returns-then-is_empty-clause-looked g c =
+    let filer = c.args.self.now.filer.now in
+    (refl, looked_tables_itself _ filer.swapper.pool filer.swapper.layout filer.runs)
 
 pub copy_out-requires-clause-filled : goal.copy_out-requires-clause-filled
 copy_out-requires-clause-filled g c =

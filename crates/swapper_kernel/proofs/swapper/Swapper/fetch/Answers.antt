@@ -4,13 +4,18 @@ use Rattle.frame_pool.specs.FrameLaws.{not_victim}
 use Rattle.swapper_kernel.specs.Homes.{no_home}
 use Rattle.swapper_kernel.specs.GoesLaws.{swaps_then, swaps_stands, went_itself}
 use Rattle.swapper_kernel.specs.CourseLaws.{steps_then, steps_wider}
-use Rattle.swapper_kernel.specs.HaltLaws.{brings_same, brings_then, halts_later}
+use Rattle.swapper_kernel.specs.HaltLaws.{brings_same, brings_then, halts_later, halts_wider}
 use Rattle.swapper_kernel.proofs.swapper.Swapper.fetch.Goals as goal
 
 pub returns-in_err-write_out-clause-sound : goal.returns-in_err-write_out-clause-sound
 returns-in_err-write_out-clause-sound g c = λ m h named.
     let same : c.from_residual.result ≡ Err c.in_err-write_out.field-0.0 = search rules in
     rw same (c.in_err-write_out.ensures.sound m (rw c.victim-slot.ensures.same h))
+
+pub returns-in_err-write_out-clause-cause : goal.returns-in_err-write_out-clause-cause
+returns-in_err-write_out-clause-cause g c =
+    let same : c.from_residual.result ≡ Err c.in_err-write_out.field-0.0 = search rules in
+    rw (same, ← c.victim-slot.ensures.same) (halts_wider no_home (λ (h : Home). h ≡ c.args.home) (g.D.Disk.state c.args.self.now.disk) (g.D.Disk.state c.write_out.new.self.disk) _ (λ h no. absurd no) c.in_err-write_out.field-0.0 c.in_err-write_out.ensures.cause)
 
 pub returns-in_err-write_out-clause-steps : goal.returns-in_err-write_out-clause-steps
 returns-in_err-write_out-clause-steps g c =

@@ -3,7 +3,7 @@ use Rattle.flat_mem.specs.Memory.{part}
 use Rattle.frame_pool.specs.FrameLaws.{filled_of}
 use Rattle.swapper_kernel.specs.Maps.{pages_of}
 use Rattle.swapper_kernel.specs.GoesLaws.{swaps_stands}
-use Rattle.swapper_kernel.proofs.WindowLemmas.{accounted_at, beside_swaps, read_shown}
+use Rattle.swapper_kernel.proofs.WindowLemmas.{accounted_at, beside_swaps, looked_swaps, read_shown}
 use Rattle.swapper_kernel.proofs.window.MapMemoryFlatMem.read.Goals as goal
 
 pub returns-in_err-slot-clause-kept : goal.returns-in_err-slot-clause-kept
@@ -11,6 +11,12 @@ returns-in_err-slot-clause-kept g c =
     let self = c.args.self.now in
     let below : c.args.at / 512 < pages_of self.which self.swapper.now.layout = search rules in
     (refl, refl, beside_swaps self.which (c.args.at / 512) below c.fetch_map_page.ensures.layout c.fetch_map_page.ensures.swaps c.fetch_map_page.ensures.brings c.fetch_map_page.ensures.steps)
+
+pub returns-in_err-slot-clause-looked : goal.returns-in_err-slot-clause-looked
+returns-in_err-slot-clause-looked g c =
+    let self = c.args.self.now in
+    let below : c.args.at / 512 < pages_of self.which self.swapper.now.layout = search rules in
+    (refl, refl, looked_swaps self.which (c.args.at / 512) below c.fetch_map_page.ensures.layout c.fetch_map_page.ensures.swaps c.fetch_map_page.ensures.brings c.fetch_map_page.ensures.steps)
 
 pub returns-in_err-slot-clause-cause : goal.returns-in_err-slot-clause-cause
 returns-in_err-slot-clause-cause g c =
@@ -40,3 +46,9 @@ returns-clause-kept g c =
     let self = c.args.self.now in
     let below : c.args.at / 512 < pages_of self.which self.swapper.now.layout = search rules in
     (refl, refl, beside_swaps self.which (c.args.at / 512) below c.fetch_map_page.ensures.layout c.fetch_map_page.ensures.swaps c.fetch_map_page.ensures.brings c.fetch_map_page.ensures.steps)
+
+pub returns-clause-looked : goal.returns-clause-looked
+returns-clause-looked g c =
+    let self = c.args.self.now in
+    let below : c.args.at / 512 < pages_of self.which self.swapper.now.layout = search rules in
+    (refl, refl, looked_swaps self.which (c.args.at / 512) below c.fetch_map_page.ensures.layout c.fetch_map_page.ensures.swaps c.fetch_map_page.ensures.brings c.fetch_map_page.ensures.steps)

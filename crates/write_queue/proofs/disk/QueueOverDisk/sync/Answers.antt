@@ -22,6 +22,7 @@ invariant_of-self-2 g c =
       unchanged = λ d is. left.unchanged d (sym c.sync.ensures.same.contents ∙ is);
       counted = left.counted;
       differs = left.differs;
+      few_transfers = left.few_transfers;
       paid = λ below. omega (arith, self.paid (omega (arith, below, c.empty.ensures.same.transfers)), long, swept.all.2, c.sync.ensures.transfers, c.empty.ensures.same.begun, c.empty.ensures.same.transfers);
     }
 

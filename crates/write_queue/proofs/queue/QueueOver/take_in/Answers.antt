@@ -34,6 +34,7 @@ invariant_of-self g c =
       unchanged = λ d is. self.unchanged d (sym c.read.ensures.same.contents ∙ is);
       counted = self.counted;
       differs = self.differs;
+      few_transfers = self.few_transfers;
       paid = search rules;
     }
 

@@ -38,6 +38,7 @@ invariant_of-self g c =
       unchanged = λ d is. let t = revealed_after old new e.sector e.wanted e.page c.write_data.result c.write_data.ensures d is in self.unchanged t.0 t.1;
       counted = self.counted;
       differs = self.differs;
+      few_transfers = self.few_transfers;
       paid = search rules;
     }
 
@@ -57,6 +58,7 @@ invariant_of-self-in-Err-Failed g c =
       unchanged = λ d is. let t = revealed_after old new e.sector e.wanted e.page c.write_data.result c.write_data.ensures d is in self.unchanged t.0 t.1;
       counted = self.counted;
       differs = self.differs;
+      few_transfers = self.few_transfers;
       paid = search rules;
     }
 
@@ -77,6 +79,7 @@ invariant_of-self-in-Err-Wrong g c =
       unchanged = λ d is. absurd (never_wrong old new e c.in-Err-Wrong.found (c.args.self.now.waiting.each c.first_place-place.result c.index.result.now (there c.args.self.now.entries.items c.first_place-place.result c.index.result.now c.first_place-place.ensures.below c.index.ensures)) wrong d is);
       counted = λ is. absurd (cc is);
       differs = differs_then c.index.result.now.sector c.index.result.now.wanted c.in-Err-Wrong.found wrong.wrong.0;
+      few_transfers = self.few_transfers;
       paid = search rules;
     }
 

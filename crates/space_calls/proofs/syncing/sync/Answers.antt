@@ -3,7 +3,7 @@ use Rattle.labelled_disk.specs.Calls.{Syncs}
 use Rattle.fault_core.specs.Core.{state}
 use Rattle.space_calls.proofs.SettledCore.{settled_reaches, settled_went}
 use Rattle.space_calls.proofs.SeesLemmas.{reached_sees}
-use Rattle.space_calls.proofs.sync.sync.Goals as goal
+use Rattle.space_calls.proofs.syncing.sync.Goals as goal
 
 pub returns-in-Ok-clause-reaches : goal.returns-in-Ok-clause-reaches
 returns-in-Ok-clause-reaches g c =

@@ -1,0 +1,4 @@
+pub mod RunLemmas
+pub mod TimesLemmas
+pub mod OrderLemmas
+pub mod TryLemmas
