@@ -2,10 +2,7 @@
 ghost use Rattle.std.specs.Prelude.{◌≡◌, ℕ, ◌+◌, ◌-◌, ◌*◌, ◌%◌, ◌^◌, ◌≤◌, ◌<◌, Bool, true, false, not, List};
 ghost use Rattle.alloc_map.specs.Bits.{is_used as is_used_in, AreAll, IsMarked, free_in};
 
-use flat_mem::PAGE_BYTES;
-
-/// The bytes of a page of the map.
-pub type Page = [u8; PAGE_BYTES];
+use flat_mem::{PAGE_BYTES, Page};
 
 /// Whether a sector is used.
 pub fn is_used(page: &Page, sector: u32) -> bool

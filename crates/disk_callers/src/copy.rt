@@ -5,7 +5,7 @@ ghost use Rattle.labelled_disk.specs.Label.{names};
 ghost use Rattle.labelled_disk.specs.State.{HasLabel, NamesThere};
 ghost use Rattle.disk_callers.specs.Copies.{RevealsCopy};
 
-use labelled_disk::{Disk, DiskError, Wanted};
+use labelled_disk::{Disk, DiskError, PAGE_BYTES, Wanted};
 
 /// Copies the page of sector `from` to sector `to`, whose label names the wanted page and stays.
 /// Two sectors are moved at most.
@@ -30,7 +30,7 @@ pub fn copy_page<D: Disk>(disk: &mut D, from: u32, to: u32, wanted: Wanted) -> R
     ensures lent { (D.state disk.new).lent ≡ (D.state disk.old).lent }
     ensures cost { (D.state disk.new).transfers ≤ (D.state disk.old).transfers + 2 }
 {
-    let mut page = [0; 512];
+    let mut page = [0; PAGE_BYTES];
     disk.read(from, &mut page)?;
     disk.write_data(to, wanted, &page)
 }

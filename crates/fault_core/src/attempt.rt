@@ -17,7 +17,7 @@ ghost use Rattle.fault_core.specs.Lack.{Sees};
 use crate::Core;
 use crate::reference::{Access, Reference, last_page};
 use filer_kernel::Filer;
-use labelled_disk::{Disk, Halt};
+use labelled_disk::{Disk, Halt, PAGE_BYTES};
 use std::alloc::Allocator;
 use swap_units::Interval;
 
@@ -68,7 +68,7 @@ fn look_for<D: Disk, A: Allocator>(
     ensures no_access { IfSettled (IfAccess (λ a. ⊥)) result }
     ensures same { filer.new ≡ filer.old }
 {
-    let low = address / 512;
+    let low = address / PAGE_BYTES as u32;
     let high = last_page(address, count);
     let i = match slot_at(filer, first, low) {
         Some(slot) => slot,

@@ -19,7 +19,7 @@ ghost use Rattle.fault_core.specs.Room.{KeepsSlots};
 ghost use Rattle.fault_core.specs.View.{view_of};
 
 use filer_kernel::Filer;
-use labelled_disk::Disk;
+use labelled_disk::{Disk, PAGE_BYTES};
 use std::alloc::Allocator;
 
 /// Reads from a page in a frame.
@@ -57,8 +57,8 @@ pub(crate) fn copy_pages<D: Disk, A: Allocator>(
     ensures width { length into.new ≡ length into.old }
     ensures same { filer.new ≡ filer.old }
 {
-    let from = (address % 512) as usize;
-    let room = 512 - from;
+    let from = (address % PAGE_BYTES as u32) as usize;
+    let room = PAGE_BYTES - from;
     if into.len() <= room {
         return copy_out(filer, first, from, into);
     }
@@ -108,8 +108,8 @@ pub(crate) fn change_pages<D: Disk, A: Allocator>(
     ensures slots { KeepsSlots filer.old.swapper.pool filer.new.swapper.pool }
     ensures disk { filer.new.swapper.disk ≡ filer.old.swapper.disk }
 {
-    let from = address % 512;
-    let room = (512 - from) as usize;
+    let from = address % PAGE_BYTES as u32;
+    let room = (PAGE_BYTES as u32 - from) as usize;
     if bytes.len() <= room {
         return change_in(filer, first, from, bytes);
     }

@@ -23,7 +23,7 @@ use crate::frames::{copy_out, copy_pages};
 use crate::reference::{Access, Reference};
 use crate::touch::touch;
 use filer_kernel::Filer;
-use labelled_disk::{Disk, Halt};
+use labelled_disk::{Disk, Halt, PAGE_BYTES};
 use std::alloc::Allocator;
 use swap_units::Interval;
 
@@ -82,17 +82,17 @@ fn load_shown<D: Disk, A: Allocator>(
     ensures idle { IsWhole filer.old.swapper.pool first.now (address / 512) → IsWhole filer.old.swapper.pool last.now (last_page address (length into.old)) → IsOk result × (filer.new ≡ filer.old) }
     ensures cost { (D.state filer.new.swapper.disk).transfers ≤ (D.state filer.old.swapper.disk).transfers + 512 }
 {
-    let from = (address % 512) as usize;
-    let room = 512 - from;
+    let from = (address % PAGE_BYTES as u32) as usize;
+    let room = PAGE_BYTES - from;
     if into.len() <= room {
-        return load_in(filer, first, address / 512, from, into);
+        return load_in(filer, first, address / PAGE_BYTES as u32, from, into);
     }
     let (low, high) = into.split_at_mut(room);
-    match load_in(filer, first, address / 512, from, low) {
+    match load_in(filer, first, address / PAGE_BYTES as u32, from, low) {
         Ok(()) => (),
         Err(halt) => return Err(halt),
     }
-    load_in(filer, last, address / 512 + 1, 0, high)
+    load_in(filer, last, address / PAGE_BYTES as u32 + 1, 0, high)
 }
 
 impl<D: Disk, A: Allocator> Core<D, A> {

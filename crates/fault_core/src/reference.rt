@@ -14,7 +14,7 @@ ghost use Rattle.fault_core.specs.Unit.{IsReady, IsWhole};
 ghost use Rattle.fault_core.specs.Lack.{Sees};
 
 use crate::Core;
-use labelled_disk::{Disk, Halt};
+use labelled_disk::{Disk, Halt, PAGE_BYTES};
 use std::alloc::Allocator;
 use swap_units::Interval;
 
@@ -42,7 +42,7 @@ pub(crate) fn last_page(address: u32, count: u32) -> u32
     requires few { count ≤ 512 }
     ensures { result ≡ last_page address count }
 {
-    ((u64::from(address) + u64::from(count) - 1) / 512) as u32
+    ((u64::from(address) + u64::from(count) - 1) / PAGE_BYTES as u64) as u32
 }
 
 // Whether the pages of an interval may be loaded only.
@@ -63,7 +63,7 @@ fn allowed(first: Interval, last: Interval, address: u32, count: u32, writes: bo
         return Reference::Shown { first, last };
     }
     if is_load_only(&first) {
-        return Reference::ReadOnly(address / 512);
+        return Reference::ReadOnly(address / PAGE_BYTES as u32);
     }
     if is_load_only(&last) {
         return Reference::ReadOnly(last_page(address, count));
@@ -130,7 +130,7 @@ impl<D: Disk, A: Allocator> Core<D, A> {
             × IsOk result × (self.new.filer ≡ self.old.filer) × (kept self.new ≡ kept self.old) }
         ensures cost { (D.state self.new.filer.swapper.disk).transfers ≤ (D.state self.old.filer.swapper.disk).transfers + 392 }
     {
-        let first = address / 512;
+        let first = address / PAGE_BYTES as u32;
         let last = last_page(address, count);
         let x = match self.shown(first) {
             Ok(Some(x)) => x,

@@ -27,7 +27,7 @@ use crate::frames::{change_in, change_pages};
 use crate::reference::{Access, Reference};
 use crate::touch::touch;
 use filer_kernel::Filer;
-use labelled_disk::{Disk, Halt};
+use labelled_disk::{Disk, Halt, PAGE_BYTES};
 use std::alloc::Allocator;
 use swap_units::Interval;
 
@@ -88,17 +88,17 @@ fn store_shown<D: Disk, A: Allocator>(
     ensures idle { IsWhole filer.old.swapper.pool first.now (address / 512) → IsWhole filer.old.swapper.pool last.now (last_page address (length bytes.now)) → IsOk result × (D.state filer.new.swapper.disk ≡ D.state filer.old.swapper.disk) }
     ensures cost { (D.state filer.new.swapper.disk).transfers ≤ (D.state filer.old.swapper.disk).transfers + 512 }
 {
-    let from = address % 512;
-    let room = (512 - from) as usize;
+    let from = address % PAGE_BYTES as u32;
+    let room = (PAGE_BYTES as u32 - from) as usize;
     if bytes.len() <= room {
-        return store_in(filer, first, address / 512, from, bytes);
+        return store_in(filer, first, address / PAGE_BYTES as u32, from, bytes);
     }
     let (low, high) = bytes.split_at(room);
-    match store_in(filer, first, address / 512, from, low) {
+    match store_in(filer, first, address / PAGE_BYTES as u32, from, low) {
         Ok(()) => (),
         Err(halt) => return Err(halt),
     }
-    store_in(filer, last, address / 512 + 1, 0, high)
+    store_in(filer, last, address / PAGE_BYTES as u32 + 1, 0, high)
 }
 
 impl<D: Disk, A: Allocator> Core<D, A> {

@@ -102,8 +102,11 @@ impl<'s, D: Disk, A: Allocator> FlatMem for TableMemory<'s, D, A> {
         if into.is_empty() {
             return Ok(());
         }
-        let slot = self.filer.fetch_table_page((at / 512) as u32)?;
-        self.filer.copy_out(slot, (at % 512) as usize, into);
+        let slot = self
+            .filer
+            .fetch_table_page((at / PAGE_BYTES as u64) as u32)?;
+        self.filer
+            .copy_out(slot, (at % PAGE_BYTES as u64) as usize, into);
         Ok(())
     }
 
@@ -111,8 +114,12 @@ impl<'s, D: Disk, A: Allocator> FlatMem for TableMemory<'s, D, A> {
         if bytes.is_empty() {
             return Ok(());
         }
-        let slot = self.filer.fetch_table_page((at / 512) as u32)?;
-        self.filer.swapper.change(slot, (at % 512) as u32, bytes);
+        let slot = self
+            .filer
+            .fetch_table_page((at / PAGE_BYTES as u64) as u32)?;
+        self.filer
+            .swapper
+            .change(slot, (at % PAGE_BYTES as u64) as u32, bytes);
         Ok(())
     }
 }

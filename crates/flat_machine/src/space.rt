@@ -5,6 +5,9 @@ ghost use Rattle.flat_machine.specs.Space.{end, overlap};
 
 use labelled_disk::FileId;
 
+/// How many pages the virtual memory has.
+pub const ROOT_PAGES: u32 = 8126464;
+
 /// Which file is shown, from which of its pages on, and how.
 #[derive(Clone, Copy, Debug, PartialEq, Eq)]
 pub struct Window {

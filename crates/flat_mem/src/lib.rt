@@ -13,5 +13,8 @@ pub use memory::FlatMem;
 pub use part::Part;
 pub use vec_mem::{Never, NoPages, VecMem};
 
-/// The bytes of a page.
+/// How many bytes a page has.
 pub const PAGE_BYTES: usize = 512;
+
+/// The bytes of a page.
+pub type Page = [u8; PAGE_BYTES];

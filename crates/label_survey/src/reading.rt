@@ -4,7 +4,7 @@ ghost use Rattle.labelled_disk.specs.Calls.{ReadsAtMost, Rose};
 ghost use Rattle.labelled_disk.specs.Layout.{IsCount, layout_of, first_data, data_sectors};
 ghost use Rattle.labelled_disk.specs.Sectors.{Sector};
 
-use labelled_disk::{Disk, Label, Layout};
+use labelled_disk::{Disk, Label, Layout, PAGE_BYTES};
 use std::alloc::Allocator;
 use thiserror::Error;
 
@@ -40,7 +40,7 @@ pub fn read_labels<A: Allocator, D: Disk>(
     let Ok(mut labels) = Vec::with_capacity(alloc, count as usize) else {
         return Err(SurveyFault::NoMemory);
     };
-    let mut page = [0; 512];
+    let mut page = [0; PAGE_BYTES];
     for sector in layout.first..layout.sectors {
         let Ok(label) = disk.read(sector, &mut page) else {
             return Err(SurveyFault::Disk);

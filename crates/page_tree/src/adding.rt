@@ -12,10 +12,10 @@ ghost use Rattle.page_tree.specs.Climb.{IsHead, IsReady, IsLow, IsPutIn};
 use crate::climb::{climb, store_halves};
 use crate::error::TreeError;
 use crate::look::{Header, Path, capacity_of_pages, descend, read_header};
-use crate::pages::{Page, count_at_most, filled_of, put_record, store};
+use crate::pages::{count_at_most, filled_of, put_record, store};
 use crate::split::{make_leaf, split_leaf};
 use crate::take::{finish, take_page};
-use flat_mem::FlatMem;
+use flat_mem::{FlatMem, PAGE_BYTES, Page};
 
 /// Puts a record into its leaf, and says whether there was room. Else the leaf is split, and `key` and `link` name its new half.
 fn put_low<M: FlatMem, const E: usize, const K: usize>(
@@ -56,7 +56,7 @@ fn put_low<M: FlatMem, const E: usize, const K: usize>(
             Err(error) => return Err(error),
         }
     }
-    let mut right = [0; 512];
+    let mut right = [0; PAGE_BYTES];
     split_leaf(page, &mut right, count, place, entry, key);
     let new = match store_halves(mem, header, at, page, &right) {
         Ok(new) => new,
@@ -89,7 +89,7 @@ fn put_first<M: FlatMem, const E: usize, const K: usize>(
         Ok(new) => new,
         Err(error) => return Err(error),
     };
-    let mut page = [0; 512];
+    let mut page = [0; PAGE_BYTES];
     make_leaf(&mut page, entry);
     match store(mem, new, &page) {
         Ok(()) => (),
@@ -128,7 +128,7 @@ fn put_in<M: FlatMem, const E: usize, const K: usize>(
         pages: [0; 7],
         index: [0; 7],
     };
-    let mut page = [0; 512];
+    let mut page = [0; PAGE_BYTES];
     let at = match descend::<M, E, K>(mem, header.root, header.levels, &key, &mut path, &mut page) {
         Ok(at) => at,
         Err(error) => return Err(error),
@@ -160,8 +160,8 @@ pub fn insert<M: FlatMem, const E: usize, const K: usize>(
     ensures cause { IfErr result (IfMemory (M.accounted mem.old mem.new)) }
     ensures cost { M.spent mem.new ≤ M.spent mem.old + 33 * M.cost }
 {
-    let capacity = capacity_of_pages::<E>((mem.len() / 512) as u32);
-    let mut head = [0; 512];
+    let capacity = capacity_of_pages::<E>((mem.len() / PAGE_BYTES as u64) as u32);
+    let mut head = [0; PAGE_BYTES];
     let mut header = match read_header::<M, E, K>(mem, &mut head) {
         Ok(header) => header,
         Err(error) => return Err(error),

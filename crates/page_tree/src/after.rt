@@ -8,9 +8,9 @@ ghost use Rattle.page_tree.specs.Reveals.{StandsIn};
 
 use crate::error::TreeError;
 use crate::look::{Path, descend, read_header};
-use crate::pages::{Page, count_at_most, filled_of};
+use crate::pages::{count_at_most, filled_of};
 use crate::walk::next_leaf;
-use flat_mem::FlatMem;
+use flat_mem::{FlatMem, PAGE_BYTES, Page};
 
 /// Copies the record at `index` of a leaf.
 pub fn record_of<const E: usize>(page: &Page, index: usize, into: &mut [u8; E])
@@ -40,7 +40,7 @@ pub fn look_after<M: FlatMem, const E: usize, const K: usize>(
     ensures cause { IfErr result (IfMemNotFull (M.accounted mem.old mem.new)) }
     ensures cost { M.spent mem.new ≤ M.spent mem.old + 18 * M.cost }
 {
-    let mut page = [0; 512];
+    let mut page = [0; PAGE_BYTES];
     let mut path = Path {
         pages: [0; 7],
         index: [0; 7],

@@ -6,9 +6,8 @@ ghost use Rattle.page_tree.specs.Climb.{IsHalves};
 ghost use Rattle.page_tree.specs.Neighbours.{IsBalanced};
 
 use crate::edits::{append_children, append_records, record_of, remove_child, remove_record};
-use crate::pages::{
-    Page, filled_of, first_key_of, key_of, link_of, put_child, put_count, put_record,
-};
+use crate::pages::{filled_of, first_key_of, key_of, link_of, put_child, put_count, put_record};
+use flat_mem::Page;
 
 // The first record of the second leaf goes after those of the first.
 fn record_left<const E: usize, const K: usize>(

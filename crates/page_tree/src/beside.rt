@@ -10,9 +10,9 @@ ghost use Rattle.page_tree.specs.Rebalancing.{IsLike, IsRebalancing, IsBesideOf,
 
 use crate::error::TreeError;
 use crate::look::{Header, Path};
-use crate::pages::{Page, filled_of, key_of, link_of, load};
+use crate::pages::{filled_of, key_of, link_of, load};
 use crate::redistribute::redistribute_page;
-use flat_mem::FlatMem;
+use flat_mem::{FlatMem, PAGE_BYTES, Page};
 
 /// Reads the page above level `level` on the path.
 pub fn load_above<M: FlatMem, const K: usize>(
@@ -86,7 +86,7 @@ fn load_beside<M: FlatMem, const E: usize, const K: usize>(
     ensures cause { IfErr result (IfMemNotFull (M.accounted mem.old mem.new)) }
     ensures cost { M.spent mem.new ≤ M.spent mem.old + M.cost }
 {
-    let pages = (mem.len() / 512) as u32;
+    let pages = (mem.len() / PAGE_BYTES as u64) as u32;
     let at = link_of::<K>(above, index);
     if at == 0 || at >= pages {
         return Err(TreeError::Malformed { page: up });

@@ -16,9 +16,9 @@ ghost use Rattle.page_tree.specs.Indexed.{IsIndexed, IsNth, MissesNth};
 use crate::after::record_of;
 use crate::error::TreeError;
 use crate::look::{Header, Path, read_header};
-use crate::pages::{Page, filled_of};
+use crate::pages::filled_of;
 use crate::walk::{go_down, next_leaf};
-use flat_mem::FlatMem;
+use flat_mem::{FlatMem, PAGE_BYTES, Page};
 
 /// Where a record stands: the page of its leaf, and its place in the leaf.
 #[derive(Clone, Copy, Drop)]
@@ -86,7 +86,7 @@ pub fn find_place<M: FlatMem, const E: usize, const K: usize>(
     ensures cause { IfErr result (IfMemNotFull (M.accounted mem.old mem.new)) }
     ensures cost { M.spent mem.new ≤ M.spent mem.old + (6 + 11 * (M.size mem.old / 512)) * M.cost }
 {
-    let pages = (mem.len() / 512) as u32;
+    let pages = (mem.len() / PAGE_BYTES as u64) as u32;
     let mut at = match first_leaf::<M, E, K>(mem, header.root, header.levels, path, page) {
         Ok(at) => at,
         Err(error) => return Err(error),
@@ -136,7 +136,7 @@ pub fn nth<M: FlatMem, const E: usize, const K: usize>(
     ensures cause { IfErr result (IfMemNotFull (M.accounted mem.old mem.new)) }
     ensures cost { M.spent mem.new ≤ M.spent mem.old + 12 * (M.size mem.old / 512) * M.cost }
 {
-    let mut page = [0; 512];
+    let mut page = [0; PAGE_BYTES];
     let header = match read_header::<M, E, K>(mem, &mut page) {
         Ok(header) => header,
         Err(error) => return Err(error),

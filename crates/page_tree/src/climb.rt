@@ -12,10 +12,10 @@ ghost use Rattle.page_tree.specs.Put.{capacity_of};
 
 use crate::error::TreeError;
 use crate::look::{Header, Path};
-use crate::pages::{Page, filled_of, load, put_child, store};
+use crate::pages::{filled_of, load, put_child, store};
 use crate::split::{make_root, split_inner};
 use crate::take::take_page;
-use flat_mem::FlatMem;
+use flat_mem::{FlatMem, PAGE_BYTES, Page};
 
 /// Writes the halves of a page: the first in its place, the second into a page that is taken.
 pub fn store_halves<M: FlatMem>(
@@ -84,7 +84,7 @@ pub fn put_up<M: FlatMem, const K: usize>(
 {
     let at = path.pages[level as usize + 1];
     let place = path.index[level as usize + 1] as usize + 1;
-    let mut page = [0; 512];
+    let mut page = [0; PAGE_BYTES];
     match load(mem, at, &mut page) {
         Ok(()) => (),
         Err(error) => return Err(error),
@@ -100,7 +100,7 @@ pub fn put_up<M: FlatMem, const K: usize>(
             Err(error) => return Err(error),
         }
     }
-    let mut right = [0; 512];
+    let mut right = [0; PAGE_BYTES];
     split_inner(&mut page, &mut right, count, place, key, *link);
     let new = match store_halves(mem, header, at, &page, &right) {
         Ok(new) => new,
@@ -139,7 +139,7 @@ pub fn grow<M: FlatMem, const K: usize>(
         Ok(new) => new,
         Err(error) => return Err(error),
     };
-    let mut page = [0; 512];
+    let mut page = [0; PAGE_BYTES];
     make_root(&mut page, header.root, key, link);
     match store(mem, new, &page) {
         Ok(()) => (),

@@ -13,8 +13,8 @@ use crate::by_index::find_place;
 use crate::edits::set_record;
 use crate::error::TreeError;
 use crate::look::{Header, Path, read_header};
-use crate::pages::{Page, store};
-use flat_mem::FlatMem;
+use crate::pages::store;
+use flat_mem::{FlatMem, PAGE_BYTES, Page};
 
 // Writes a record over the one of this index.
 fn set_in<M: FlatMem, const E: usize, const K: usize>(
@@ -69,7 +69,7 @@ pub fn replace<M: FlatMem, const E: usize, const K: usize>(
     ensures cause { IfErr result (IfMemNotFull (M.accounted mem.old mem.new)) }
     ensures cost { M.spent mem.new ≤ M.spent mem.old + 12 * (M.size mem.old / 512) * M.cost }
 {
-    let mut page = [0; 512];
+    let mut page = [0; PAGE_BYTES];
     let header = match read_header::<M, E, K>(mem, &mut page) {
         Ok(header) => header,
         Err(error) => return Err(error),

@@ -4,7 +4,8 @@ ghost use Rattle.flat_mem.specs.Memory.{overwritten};
 ghost use Rattle.page_tree.specs.Page.{key_room, leaf_room, record_at};
 ghost use Rattle.page_tree.specs.Copied.{copy_cells, leaf_without, leaf_joined, inner_without, inner_joined, with_free};
 
-use crate::pages::{Page, put, put_count};
+use crate::pages::{put, put_count};
+use flat_mem::Page;
 
 /// Moves the cells from `from` up to `count` of another page to place `at` and after it. The cells stand `width` bytes apart from byte `base` on.
 fn copy_cells(

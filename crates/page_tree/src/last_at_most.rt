@@ -12,9 +12,9 @@ ghost use Rattle.page_tree.specs.Placed.{IsCounted};
 use crate::by_index::first_leaf;
 use crate::error::TreeError;
 use crate::look::{Header, Path, read_header};
-use crate::pages::{Page, count_at_most, filled_of};
+use crate::pages::{count_at_most, filled_of};
 use crate::walk::next_leaf;
-use flat_mem::FlatMem;
+use flat_mem::{FlatMem, PAGE_BYTES, Page};
 
 // How many records have a key that is at most this one, leaf by leaf from the first.
 fn count_to<M: FlatMem, const E: usize, const K: usize>(
@@ -36,7 +36,7 @@ fn count_to<M: FlatMem, const E: usize, const K: usize>(
     ensures cause { IfErr result (IfMemNotFull (M.accounted mem.old mem.new)) }
     ensures cost { M.spent mem.new ≤ M.spent mem.old + (6 + 11 * (M.size mem.old / 512)) * M.cost }
 {
-    let pages = (mem.len() / 512) as u32;
+    let pages = (mem.len() / PAGE_BYTES as u64) as u32;
     match first_leaf::<M, E, K>(mem, header.root, header.levels, path, page) {
         Ok(_) => (),
         Err(error) => return Err(error),
@@ -79,7 +79,7 @@ pub fn find_last_at_most<M: FlatMem, const E: usize, const K: usize>(
     ensures cause { IfErr result (IfMemNotFull (M.accounted mem.old mem.new)) }
     ensures cost { M.spent mem.new ≤ M.spent mem.old + 12 * (M.size mem.old / 512) * M.cost }
 {
-    let mut page = [0; 512];
+    let mut page = [0; PAGE_BYTES];
     let header = match read_header::<M, E, K>(mem, &mut page) {
         Ok(header) => header,
         Err(error) => return Err(error),

@@ -12,9 +12,9 @@ ghost use Rattle.page_tree.specs.Reveals.{StandsIn};
 ghost use Rattle.page_tree.specs.Answer.{IsLastEntry, IsLastInPage, CanBegin, FromMemory, IfMemNotFull, IsPast};
 
 use crate::error::TreeError;
-use crate::pages::{Page, count_at_most, filled_of, link_of, load};
+use crate::pages::{count_at_most, filled_of, link_of, load};
 use byteorder::{BigEndian, ByteOrder};
-use flat_mem::FlatMem;
+use flat_mem::{FlatMem, PAGE_BYTES, Page};
 
 #[derive(Clone, Copy, Drop)]
 pub struct Header {
@@ -75,7 +75,7 @@ pub fn descend<M: FlatMem, const E: usize, const K: usize>(
     ensures cause { IfErr result (IfMemNotFull (M.accounted mem.old mem.new)) }
     ensures cost { M.spent mem.new ≤ M.spent mem.old + levels * M.cost }
 {
-    let pages = (mem.len() / 512) as u32;
+    let pages = (mem.len() / PAGE_BYTES as u64) as u32;
     let mut at = root;
     let mut level = levels;
     'descent: while level > 1 {
@@ -175,7 +175,7 @@ pub fn read_header<M: FlatMem, const E: usize, const K: usize>(
     ensures cause { IfErr result (IfMemNotFull (M.accounted mem.old mem.new)) }
     ensures cost { M.spent mem.new ≤ M.spent mem.old + M.cost }
 {
-    let pages = (mem.len() / 512) as u32;
+    let pages = (mem.len() / PAGE_BYTES as u64) as u32;
     load(mem, 0, page)?;
     let header = header_of(page);
     if !is_in_form::<E>(&header, pages) {
@@ -200,7 +200,7 @@ pub fn count<M: FlatMem, const E: usize, const K: usize>(
     ensures cause { IfErr result (IfMemNotFull (M.accounted mem.old mem.new)) }
     ensures cost { M.spent mem.new ≤ M.spent mem.old + M.cost }
 {
-    let mut page = [0; 512];
+    let mut page = [0; PAGE_BYTES];
     match read_header::<M, E, K>(mem, &mut page) {
         Ok(header) => Ok(header.count),
         Err(error) => Err(error),
@@ -225,7 +225,7 @@ pub fn look_up<M: FlatMem, const E: usize, const K: usize>(
     ensures cause { IfErr result (IfMemNotFull (M.accounted mem.old mem.new)) }
     ensures cost { M.spent mem.new ≤ M.spent mem.old + 7 * M.cost }
 {
-    let mut page = [0; 512];
+    let mut page = [0; PAGE_BYTES];
     let mut path = Path {
         pages: [0; 7],
         index: [0; 7],

@@ -6,8 +6,8 @@ ghost use Rattle.page_tree.specs.Named.{IsLowestTurn, CanName, IsNamed};
 use crate::edits::set_key;
 use crate::error::TreeError;
 use crate::look::Path;
-use crate::pages::{Page, filled_of, load, store};
-use flat_mem::FlatMem;
+use crate::pages::{filled_of, load, store};
+use flat_mem::{FlatMem, PAGE_BYTES, Page};
 
 // The lowest level at which the path does not take the first child.
 fn lowest_turn(path: &Path, levels: u32) -> Option<u32>
@@ -46,7 +46,7 @@ pub fn name_leaf<M: FlatMem, const K: usize>(
         Some(level) => level,
         None => return Ok(()),
     };
-    let pages = (mem.len() / 512) as u32;
+    let pages = (mem.len() / PAGE_BYTES as u64) as u32;
     let at = path.pages[level as usize];
     let index = path.index[level as usize] as usize;
     if at >= pages {

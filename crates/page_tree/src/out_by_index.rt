@@ -13,11 +13,11 @@ ghost use Rattle.page_tree.specs.Indexed.{HasNth, MissesNth};
 use crate::by_index::{Place, find_place};
 use crate::error::TreeError;
 use crate::look::{Header, Path, read_header};
-use crate::pages::{Page, filled_of};
+use crate::pages::filled_of;
 use crate::redistribute::give_page;
 use crate::take::finish;
 use crate::taking::{take_first, take_later};
-use flat_mem::FlatMem;
+use flat_mem::{FlatMem, PAGE_BYTES, Page};
 
 // Takes the record at this place out. Only the header is left to be written.
 fn take_out<M: FlatMem, const E: usize, const K: usize>(
@@ -102,7 +102,7 @@ fn remove_in<M: FlatMem, const E: usize, const K: usize>(
         Ok(place) => place,
         Err(error) => return Err(error),
     };
-    let mut above = [0; 512];
+    let mut above = [0; PAGE_BYTES];
     let mut second = [0; E];
     let mut second_key = [0; K];
     match take_out::<M, E, K>(
@@ -139,7 +139,7 @@ pub fn remove<M: FlatMem, const E: usize, const K: usize>(
     ensures cause { IfErr result (IfMemNotFull (M.accounted mem.old mem.new)) }
     ensures cost { M.spent mem.new ≤ M.spent mem.old + 15 * (M.size mem.old / 512) * M.cost }
 {
-    let mut head = [0; 512];
+    let mut head = [0; PAGE_BYTES];
     let mut header = match read_header::<M, E, K>(mem, &mut head) {
         Ok(header) => header,
         Err(error) => return Err(error),
@@ -154,7 +154,7 @@ pub fn remove<M: FlatMem, const E: usize, const K: usize>(
         pages: [0; 7],
         index: [0; 7],
     };
-    let mut page = [0; 512];
+    let mut page = [0; PAGE_BYTES];
     match remove_in::<M, E, K>(mem, &mut header, index, &mut path, &mut page) {
         Ok(()) => (),
         Err(error) => return Err(error),

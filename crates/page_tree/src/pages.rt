@@ -9,9 +9,7 @@ ghost use Rattle.page_tree.specs.Change.{with_record, with_cell, with_count, wit
 
 use crate::error::TreeError;
 use byteorder::{BigEndian, ByteOrder};
-use flat_mem::FlatMem;
-
-pub type Page = [u8; 512];
+use flat_mem::{FlatMem, PAGE_BYTES, Page};
 
 #[tactic(auto, unfolding(flat_mem::specs::Order::at_most))]
 pub fn is_at_most(key: &[u8], other: &[u8]) -> bool
@@ -31,7 +29,7 @@ pub fn load<M: FlatMem>(mem: &mut M, index: u32, page: &mut Page) -> Result<(), 
     ensures cause { IfErr result (IfMemNotFull (M.accounted mem.old mem.new)) }
     ensures cost { M.spent mem.new ≤ M.spent mem.old + M.cost }
 {
-    match mem.read(512 * index as u64, page) {
+    match mem.read(PAGE_BYTES as u64 * index as u64, page) {
         Ok(()) => Ok(()),
         Err(error) => Err(TreeError::Mem(error)),
     }
@@ -105,7 +103,7 @@ pub fn store<M: FlatMem>(mem: &mut M, index: u32, page: &Page) -> Result<(), Tre
     ensures cause { IfErr result (IfMemNotFull (M.accounted mem.old mem.new)) }
     ensures cost { M.spent mem.new ≤ M.spent mem.old + M.cost }
 {
-    match mem.write(512 * index as u64, page) {
+    match mem.write(PAGE_BYTES as u64 * index as u64, page) {
         Ok(()) => Ok(()),
         Err(error) => Err(TreeError::Mem(error)),
     }

@@ -11,8 +11,8 @@ use crate::balance::{balance_inners, balance_leaves};
 use crate::edits::set_free;
 use crate::error::TreeError;
 use crate::look::Header;
-use crate::pages::{Page, store};
-use flat_mem::FlatMem;
+use crate::pages::store;
+use flat_mem::{FlatMem, PAGE_BYTES, Page};
 
 /// Puts a page at the head of the list of free pages.
 pub fn give_page<M: FlatMem>(
@@ -32,7 +32,7 @@ pub fn give_page<M: FlatMem>(
     ensures cause { IfErr result (IfMemNotFull (M.accounted mem.old mem.new)) }
     ensures cost { M.spent mem.new ≤ M.spent mem.old + M.cost }
 {
-    let mut page = [0; 512];
+    let mut page = [0; PAGE_BYTES];
     write_free(mem, &mut page, at, header.free)?;
     header.free = at;
     Ok(())

@@ -10,12 +10,12 @@ ghost use Rattle.page_tree.specs.Broken.{Meets, Breaks, IfMalformed};
 
 use crate::error::TreeError;
 use crate::look::{Header, Path, descend, read_header};
-use crate::pages::{Page, filled_of};
+use crate::pages::filled_of;
 use crate::redistribute::give_page;
 use crate::sought::last_of_key;
 use crate::take::finish;
 use crate::taking::{take_first, take_later};
-use flat_mem::FlatMem;
+use flat_mem::{FlatMem, PAGE_BYTES, Page};
 
 // Takes the last record of the key out. Only the header is left to be written.
 fn remove_in<M: FlatMem, const E: usize, const K: usize>(
@@ -92,7 +92,7 @@ pub fn remove_key<M: FlatMem, const E: usize, const K: usize>(
     ensures cause { IfErr result (IfMemNotFull (M.accounted mem.old mem.new)) }
     ensures cost { M.spent mem.new ≤ M.spent mem.old + 36 * M.cost }
 {
-    let mut head = [0; 512];
+    let mut head = [0; PAGE_BYTES];
     let mut header = match read_header::<M, E, K>(mem, &mut head) {
         Ok(header) => header,
         Err(error) => return Err(error),
@@ -104,8 +104,8 @@ pub fn remove_key<M: FlatMem, const E: usize, const K: usize>(
         pages: [0; 7],
         index: [0; 7],
     };
-    let mut page = [0; 512];
-    let mut above = [0; 512];
+    let mut page = [0; PAGE_BYTES];
+    let mut above = [0; PAGE_BYTES];
     let mut second = [0; E];
     let mut second_key = [0; K];
     let found = match remove_in::<M, E, K>(

@@ -10,9 +10,9 @@ ghost use Rattle.page_tree.specs.Broken.{Meets, Breaks, IfMalformed};
 use crate::edits::set_record;
 use crate::error::TreeError;
 use crate::look::{Header, Path, descend, read_header};
-use crate::pages::{Page, store};
+use crate::pages::store;
 use crate::sought::last_of_key;
-use flat_mem::FlatMem;
+use flat_mem::{FlatMem, PAGE_BYTES, Page};
 
 fn replace_in<M: FlatMem, const E: usize, const K: usize>(
     mem: &mut M,
@@ -64,7 +64,7 @@ pub fn replace_key<M: FlatMem, const E: usize, const K: usize>(
     ensures cause { IfErr result (IfMemNotFull (M.accounted mem.old mem.new)) }
     ensures cost { M.spent mem.new ≤ M.spent mem.old + 8 * M.cost }
 {
-    let mut page = [0; 512];
+    let mut page = [0; PAGE_BYTES];
     let header = match read_header::<M, E, K>(mem, &mut page) {
         Ok(header) => header,
         Err(error) => return Err(error),

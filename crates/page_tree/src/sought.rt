@@ -4,7 +4,8 @@ ghost use Rattle.std.specs.Str.{bytes_eq};
 ghost use Rattle.page_tree.specs.Page.{IsWidths, filled, leaf_room};
 ghost use Rattle.page_tree.specs.Removed.{IsSought};
 
-use crate::pages::{Page, count_at_most, filled_of};
+use crate::pages::{count_at_most, filled_of};
+use flat_mem::Page;
 
 fn is_same(key: &[u8], other: &[u8]) -> bool
     ensures { result ≡ bytes_eq key.now other.now }

@@ -12,9 +12,9 @@ ghost use Rattle.page_tree.specs.Open.{IsOpen, IsTaken, CanTake, IsFirstFree};
 
 use crate::error::TreeError;
 use crate::look::Header;
-use crate::pages::{Page, load, put, store};
+use crate::pages::{load, put, store};
 use byteorder::{BigEndian, ByteOrder};
-use flat_mem::FlatMem;
+use flat_mem::{FlatMem, PAGE_BYTES, Page};
 
 /// Takes a page: the first free one, or else the one above all that were ever used.
 pub fn take_page<M: FlatMem>(mem: &mut M, header: &mut Header) -> Result<u32, TreeError<M::Error>>
@@ -34,7 +34,7 @@ pub fn take_page<M: FlatMem>(mem: &mut M, header: &mut Header) -> Result<u32, Tr
     ensures cause { IfErr result (IfMemNotFull (M.accounted mem.old mem.new)) }
     ensures cost { M.spent mem.new ≤ M.spent mem.old + M.cost }
 {
-    let pages = (mem.len() / 512) as u32;
+    let pages = (mem.len() / PAGE_BYTES as u64) as u32;
     let first = header.free;
     if first == 0 {
         if header.top >= pages - 1 {
@@ -43,7 +43,7 @@ pub fn take_page<M: FlatMem>(mem: &mut M, header: &mut Header) -> Result<u32, Tr
         header.top += 1;
         return Ok(header.top);
     }
-    let mut bytes = [0; 512];
+    let mut bytes = [0; PAGE_BYTES];
     match load(mem, first, &mut bytes) {
         Ok(()) => (),
         Err(error) => return Err(error),
@@ -104,7 +104,7 @@ pub fn begin<M: FlatMem, const E: usize, const K: usize>(
     ensures cause { IfErr result (IfMemNotFull (M.accounted mem.old mem.new)) }
     ensures cost { M.spent mem.new ≤ M.spent mem.old + M.cost }
 {
-    let mut page = [0; 512];
+    let mut page = [0; PAGE_BYTES];
     write_empty(mem, &mut page)
 }
 

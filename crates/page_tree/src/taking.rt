@@ -13,9 +13,8 @@ use crate::edits::{record_of, remove_record};
 use crate::error::TreeError;
 use crate::look::{Header, Path};
 use crate::naming::name_leaf;
-use crate::pages::Page;
 use crate::underfull::rebalance;
-use flat_mem::FlatMem;
+use flat_mem::{FlatMem, Page};
 
 /// Takes out a record that is not the first of its leaf.
 pub fn take_later<M: FlatMem, const E: usize, const K: usize>(

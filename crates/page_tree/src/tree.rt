@@ -13,7 +13,7 @@ use crate::{
     adding, after, by_index, edit_by_index, last_at_most, look, out_by_index, removing, replacing,
     take,
 };
-use flat_mem::FlatMem;
+use flat_mem::{FlatMem, PAGE_BYTES};
 
 /// A sorted list of entries of `E` bytes, whose first `K` bytes are the key, kept as a tree of pages.
 ///
@@ -66,7 +66,7 @@ impl<M: FlatMem, const E: usize, const K: usize> PageTree<M, E, K> {
     pub fn capacity(&self) -> u32
         ensures { result ≡ capacity_of E (M.size (tree_memory self.now) / 512) }
     {
-        look::capacity_of_pages::<E>((self.mem.len() / 512) as u32)
+        look::capacity_of_pages::<E>((self.mem.len() / PAGE_BYTES as u64) as u32)
     }
 
     /// How many entries there are, as the header says.

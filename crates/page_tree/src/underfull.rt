@@ -13,9 +13,9 @@ use crate::beside::{load_above, rebalance_beside};
 use crate::edits::{remove_child, set_key};
 use crate::error::TreeError;
 use crate::look::{Header, Path};
-use crate::pages::{Page, filled_of, link_of, store};
+use crate::pages::{filled_of, link_of, store};
 use crate::redistribute::give_page;
-use flat_mem::FlatMem;
+use flat_mem::{FlatMem, PAGE_BYTES, Page};
 
 // Whether a page of level `level` is filled enough.
 fn is_ample<const E: usize, const K: usize>(level: u32, page: &Page) -> bool
@@ -197,8 +197,8 @@ fn rebalance_up<M: FlatMem, const E: usize, const K: usize>(
             Err(error) => return Err(error),
         }
     }
-    let mut above = [0; 512];
-    let mut other = [0; 512];
+    let mut above = [0; PAGE_BYTES];
+    let mut other = [0; PAGE_BYTES];
     let mut key = [0; K];
     match rebalance_underfull::<M, E, K>(
         mem, header, path, level, at, page, &mut above, &mut other, &mut key,

@@ -10,8 +10,8 @@ ghost use Rattle.page_tree.specs.Walked.{IsThread, IsLedDown, IsLastUntil, IsWal
 
 use crate::error::TreeError;
 use crate::look::Path;
-use crate::pages::{Page, filled_of, link_of, load};
-use flat_mem::FlatMem;
+use crate::pages::{filled_of, link_of, load};
+use flat_mem::{FlatMem, PAGE_BYTES, Page};
 
 /// Reads an inner page, and tests it. The answer is how many keys it has.
 pub fn read_inner<M: FlatMem, const K: usize>(
@@ -102,7 +102,7 @@ pub fn go_down<M: FlatMem, const E: usize, const K: usize>(
     ensures cause { IfErr result (IfMemNotFull (M.accounted mem.old mem.new)) }
     ensures cost { M.spent mem.new ≤ M.spent mem.old + level * M.cost }
 {
-    let pages = (mem.len() / 512) as u32;
+    let pages = (mem.len() / PAGE_BYTES as u64) as u32;
     let mut at = at;
     let mut place = place;
     let mut level = level;

@@ -5,8 +5,8 @@ ghost use Rattle.record_table.specs.Table.{per_page, capacity_of, pages_of, entr
 ghost use Rattle.record_table.specs.Pages.{IsPushed, IsPulled};
 ghost use Rattle.record_table.specs.Moves.{MovesUp, MovesDown};
 
-use crate::pages::{Page, read_page, write_page};
-use flat_mem::FlatMem;
+use crate::pages::{read_page, write_page};
+use flat_mem::{FlatMem, PAGE_BYTES, Page};
 
 // Writes over some bytes of a page.
 fn put(page: &mut Page, at: usize, bytes: &[u8])
@@ -27,7 +27,7 @@ fn push<const E: usize>(page: &mut Page, slot: usize, carried: &mut [u8; E])
 {
     let old = *page;
     let from = E * slot;
-    let end = E * (512 / E);
+    let end = E * (PAGE_BYTES / E);
     put(page, from + E, &old[from..end - E]);
     put(page, from, carried);
     carried.copy_from_slice(&old[end - E..end]);
@@ -44,7 +44,7 @@ fn pull<const E: usize>(page: &mut Page, slot: usize, carried: &mut [u8; E])
 {
     let old = *page;
     let from = E * slot;
-    let end = E * (512 / E);
+    let end = E * (PAGE_BYTES / E);
     put(page, from, &old[from + E..end]);
     put(page, end - E, carried);
     carried.copy_from_slice(&old[from..from + E]);
@@ -65,9 +65,9 @@ fn push_page<M: FlatMem, const E: usize>(
     ensures cause { IfErr result (λ e. M.accounted mem.old mem.new e) }
     ensures cost { M.spent mem.new ≤ M.spent mem.old + 2 * M.cost }
 {
-    let per_page = (512 / E) as u32;
+    let per_page = (PAGE_BYTES / E) as u32;
     let index = at / per_page;
-    let mut page = [0; 512];
+    let mut page = [0; PAGE_BYTES];
     read_page(mem, index, &mut page)?;
     push(&mut page, (at % per_page) as usize, carried);
     write_page(mem, index, &page)
@@ -88,9 +88,9 @@ fn pull_page<M: FlatMem, const E: usize>(
     ensures cause { IfErr result (λ e. M.accounted mem.old mem.new e) }
     ensures cost { M.spent mem.new ≤ M.spent mem.old + 2 * M.cost }
 {
-    let per_page = (512 / E) as u32;
+    let per_page = (PAGE_BYTES / E) as u32;
     let index = at / per_page;
-    let mut page = [0; 512];
+    let mut page = [0; PAGE_BYTES];
     read_page(mem, index, &mut page)?;
     pull(&mut page, (at % per_page) as usize, carried);
     write_page(mem, index, &page)
@@ -115,7 +115,7 @@ pub fn put_at<M: FlatMem, const E: usize>(
     // one read and one write a page
     ensures cost { M.spent mem.new ≤ M.spent mem.old + 2 * pages_of E (count + 1) * M.cost }
 {
-    let per_page = (512 / E) as u32;
+    let per_page = (PAGE_BYTES / E) as u32;
     let mut carried = *new;
     let mut place = at;
     'moving: while place <= count {
@@ -142,7 +142,7 @@ pub fn take_out<M: FlatMem, const E: usize>(
     // one read and one write a page
     ensures cost { M.spent mem.new ≤ M.spent mem.old + 2 * pages_of E count * M.cost }
 {
-    let per_page = (512 / E) as u32;
+    let per_page = (PAGE_BYTES / E) as u32;
     let mut carried = [0; E];
     let mut end = count;
     'moving: while end > at {

@@ -10,7 +10,7 @@ ghost use Rattle.scavenger.specs.Orders.{opening, map_writes};
 
 use flat_mem::{FlatMem, VecMem};
 use label_survey::SectorState;
-use labelled_disk::{Disk, DiskError, FileId, Label, Page};
+use labelled_disk::{Disk, DiskError, FileId, Label, PAGE_BYTES, Page};
 use std::alloc::Allocator;
 use volume_root::{Root, write_root};
 
@@ -80,8 +80,8 @@ fn page_of<A: Allocator>(map: &mut VecMem<A>, index: u32) -> Page
     ensures page { result ≡ page_at (vec_mem_bytes map.old) index }
     ensures same { vec_mem_bytes map.new ≡ vec_mem_bytes map.old }
 {
-    let mut page = [0; 512];
-    match map.read(512 * u64::from(index), &mut page) {
+    let mut page = [0; PAGE_BYTES];
+    match map.read(PAGE_BYTES as u64 * u64::from(index), &mut page) {
         Ok(()) => page,
         Err(never) => match never {},
     }

@@ -3,7 +3,7 @@
 use crate::stored::StoredFile;
 use crate::{SlowMachine, look};
 use flat_machine::{Piece, Reply};
-use labelled_disk::FileId;
+use labelled_disk::{FileId, PAGE_BYTES};
 use std::alloc::Allocator;
 
 impl<A: Allocator + Clone> SlowMachine<A> {
@@ -85,9 +85,9 @@ impl<A: Allocator + Clone> SlowMachine<A> {
         requires { address < 2 ^ 33 }
         ensures { result ≡ cell_at self.now address }
     {
-        let shown = look::shown_at(&self.spaces, (address / 512) as u32)?;
+        let shown = look::shown_at(&self.spaces, (address / PAGE_BYTES as u64) as u32)?;
         let file = look::file_at(&self.files, shown.file)?;
-        file.cell(shown.page, (address % 512) as u32)
+        file.cell(shown.page, (address % PAGE_BYTES as u64) as u32)
     }
 
     /// The bytes at so many addresses, with 0 for any.

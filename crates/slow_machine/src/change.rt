@@ -3,7 +3,7 @@
 use crate::stored::StoredFile;
 use crate::{SlowMachine, files, gap, look, spaces, unforced};
 use flat_machine::{Piece, Reply, Space, Window};
-use labelled_disk::FileId;
+use labelled_disk::{FileId, PAGE_BYTES};
 use std::alloc::{AllocError, Allocator};
 
 impl<A: Allocator + Clone> SlowMachine<A> {
@@ -176,7 +176,10 @@ impl<A: Allocator + Clone> SlowMachine<A> {
     {
         let piece = bytes.as_slice();
         let last = u64::from(address) + piece.len() as u64 - 1;
-        let pages = (address / 512, (last / 512) as u32);
+        let pages = (
+            address / PAGE_BYTES as u32,
+            (last / PAGE_BYTES as u64) as u32,
+        );
         unforced::mark_both(&self.spaces, &mut self.unforced, pages.0, pages.1)?;
         files::store_bytes(&self.spaces, address, piece, &mut self.files);
         Ok(())

@@ -9,7 +9,7 @@ ghost use Rattle.flat_machine.specs.File as of_file;
 use crate::look;
 use crate::stored::StoredFile;
 use flat_machine::{Space, Window};
-use labelled_disk::FileId;
+use labelled_disk::{FileId, PAGE_BYTES};
 use std::alloc::{AllocError, Allocator};
 
 /// The first file whose identifier is not below that one.
@@ -142,8 +142,14 @@ fn store_byte<A: Allocator>(spaces: &[Space], address: u64, byte: u8, files: &mu
     requires { address < 2 ^ 33 }
     ensures { files.new ≡ after.store_byte spaces.now address byte files.old }
 {
-    if let Some(shown) = look::shown_at(spaces, (address / 512) as u32) {
-        write_at(files, shown.file, shown.page, (address % 512) as u32, byte);
+    if let Some(shown) = look::shown_at(spaces, (address / PAGE_BYTES as u64) as u32) {
+        write_at(
+            files,
+            shown.file,
+            shown.page,
+            (address % PAGE_BYTES as u64) as u32,
+            byte,
+        );
     }
 }
 

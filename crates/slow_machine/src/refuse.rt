@@ -4,8 +4,8 @@ ghost use Rattle.std.specs.Prelude.{◌≡◌};
 ghost use Rattle.flat_machine.specs.Refusal as of_call;
 
 use crate::{SlowMachine, gap, look};
-use flat_machine::{Piece, Refusal};
-use labelled_disk::FileId;
+use flat_machine::{Piece, ROOT_PAGES, Refusal};
+use labelled_disk::{FileId, PAGE_BYTES};
 use std::alloc::Allocator;
 
 /// The word of the first test that holds.
@@ -50,7 +50,7 @@ pub fn is_root(space: u32) -> Option<Refusal>
 pub fn past_root(page: u32) -> Option<Refusal>
     ensures { result ≡ of_call.past_root page }
 {
-    if page >= 8_126_464 {
+    if page >= ROOT_PAGES {
         return Some(Refusal::Range);
     }
     None
@@ -248,7 +248,11 @@ impl<A: Allocator + Clone> SlowMachine<A> {
         ensures { result ≡ no_map self.now address count }
     {
         let last = u64::from(address) + u64::from(count) - 1;
-        let page = look::first_unmapped(&self.spaces, address / 512, (last / 512) as u32)?;
+        let page = look::first_unmapped(
+            &self.spaces,
+            address / PAGE_BYTES as u32,
+            (last / PAGE_BYTES as u64) as u32,
+        )?;
         Some(Refusal::NoMap(page))
     }
 
@@ -257,7 +261,11 @@ impl<A: Allocator + Clone> SlowMachine<A> {
         ensures { result ≡ read_only self.now address count }
     {
         let last = u64::from(address) + u64::from(count) - 1;
-        let page = look::first_read_only(&self.spaces, address / 512, (last / 512) as u32)?;
+        let page = look::first_read_only(
+            &self.spaces,
+            address / PAGE_BYTES as u32,
+            (last / PAGE_BYTES as u64) as u32,
+        )?;
         Some(Refusal::ReadOnly(page))
     }
 }

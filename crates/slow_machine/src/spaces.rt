@@ -5,7 +5,7 @@ ghost use Rattle.std.specs.List.{position_or_len};
 ghost use Rattle.flat_machine.specs.Next as after;
 ghost use Rattle.flat_machine.specs.Space as of_space;
 
-use flat_machine::{Space, Window};
+use flat_machine::{ROOT_PAGES, Space, Window};
 use std::alloc::{AllocError, Allocator};
 
 /// The space that every other lies in.
@@ -16,7 +16,7 @@ pub fn root() -> Space
         handle: 0,
         parent: 0,
         first: 0,
-        pages: 8_126_464,
+        pages: ROOT_PAGES,
         unit: 16,
         window: None,
     }

@@ -5,23 +5,23 @@ ghost use Rattle.flat_machine.specs.File.{zero_page as zeros, any_page as anythi
 
 use crate::kill::kill_pages;
 use flat_machine::Space;
-use labelled_disk::FileId;
+use labelled_disk::{FileId, PAGE_BYTES};
 use std::alloc::{AllocError, Allocator};
 use std::marker::Model;
 
 /// 512 cells. A cell without a byte may be any.
-pub type CellPage = [Option<u8>; 512];
+pub type CellPage = [Option<u8>; PAGE_BYTES];
 
 fn zero_page() -> CellPage
     ensures { result ≡ zeros }
 {
-    [Some(0); 512]
+    [Some(0); PAGE_BYTES]
 }
 
 pub fn any_page() -> CellPage
     ensures { result ≡ anything }
 {
-    [None; 512]
+    [None; PAGE_BYTES]
 }
 
 /// A file and its pages.

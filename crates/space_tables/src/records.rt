@@ -11,7 +11,7 @@ ghost use Rattle.space_tables.specs.Stored.{AreTables, HoldTables, AreReadable, 
 use crate::SpaceError;
 use crate::code::{Record, interval_bytes, read_interval, read_slot};
 use flat_machine::Space;
-use flat_mem::FlatMem;
+use flat_mem::{FlatMem, PAGE_BYTES, Page};
 use swap_units::Interval;
 
 // Reads a record: the hierarchy has those below 512, and the projection those from there on.
@@ -77,9 +77,6 @@ pub fn slot<M: FlatMem>(mem: &mut M, handle: u32) -> Result<Option<Space>, Space
     }
 }
 
-/// The bytes of a page of the hierarchy: the records of 16 handles.
-pub type Page = [u8; 512];
-
 /// Reads the page of the hierarchy that has the record of this handle.
 pub fn load_page<M: FlatMem>(
     mem: &mut M,
@@ -97,7 +94,7 @@ pub fn load_page<M: FlatMem>(
     ensures cause { IfErr result (IfMem (M.accounted mem.old mem.new)) }
     ensures cost { M.spent mem.new ≤ M.spent mem.old + M.cost }
 {
-    match mem.read(512 * u64::from(handle / 16), page) {
+    match mem.read(PAGE_BYTES as u64 * u64::from(handle / 16), page) {
         Ok(()) => Ok(()),
         Err(error) => Err(SpaceError::Mem(error)),
     }

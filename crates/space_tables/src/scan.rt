@@ -10,10 +10,10 @@ ghost use Rattle.space_tables.specs.Stored.{AreTables, HoldTables, AreReadable};
 ghost use Rattle.space_tables.specs.Scan.{passes, kept, end_on, IsFirstOn, IsLowestFrom, IsLowestFree};
 
 use crate::SpaceError;
-use crate::records::{Page, has_space_on, load_page, slot_on};
+use crate::records::{has_space_on, load_page, slot_on};
 use flat_machine::{Space, Window};
-use flat_mem::FlatMem;
-use labelled_disk::FileId;
+use flat_mem::{FlatMem, Page};
+use labelled_disk::{FileId, PAGE_BYTES};
 
 /// Which space is looked for.
 #[derive(Clone, Copy, Debug)]
@@ -104,7 +104,7 @@ pub fn find_space<M: FlatMem>(
     ensures cause { IfErr result (IfMem (M.accounted mem.old mem.new)) }
     ensures cost { M.spent mem.new ≤ M.spent mem.old + 512 * M.cost }
 {
-    let mut page = [0; 512];
+    let mut page = [0; PAGE_BYTES];
     let mut first = 0;
     'scan: while first < 512 {
         load_page(mem, first, &mut page)?;
@@ -151,7 +151,7 @@ pub fn free_handle<M: FlatMem>(mem: &mut M) -> Result<Option<u32>, SpaceError<M:
     ensures cause { IfErr result (IfMem (M.accounted mem.old mem.new)) }
     ensures cost { M.spent mem.new ≤ M.spent mem.old + 511 * M.cost }
 {
-    let mut page = [0; 512];
+    let mut page = [0; PAGE_BYTES];
     let mut from = 1;
     'scan: while from < 512 {
         load_page(mem, from, &mut page)?;

@@ -5,9 +5,6 @@ ghost use Rattle.swap_units.specs.Unit.{Holds, has_page, IsUnit, IsAmong, LiesIn
 use crate::Mode;
 use labelled_disk::FileId;
 
-/// How many pages the root has.
-pub const ROOT_PAGES: u32 = 8126464;
-
 /// A longest run of pages of the root that have the same innermost space and the same mapped space.
 #[derive(Clone, Copy, Debug, Default, PartialEq, Eq)]
 pub struct Interval {

@@ -6,5 +6,6 @@ mod mode;
 #[cfg(test)]
 mod tests;
 
-pub use interval::{Interval, ROOT_PAGES, unit_of};
+pub use flat_machine::ROOT_PAGES;
+pub use interval::{Interval, unit_of};
 pub use mode::Mode;

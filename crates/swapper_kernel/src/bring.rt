@@ -14,7 +14,7 @@ ghost use Rattle.swapper_kernel.specs.Halts.{Halts};
 
 use crate::{Manager, Swapper};
 use frame_pool::Home;
-use labelled_disk::{Disk, DiskError, Evidence, Halt, Wanted};
+use labelled_disk::{Disk, DiskError, Evidence, Halt, PAGE_BYTES, Wanted};
 use std::alloc::Allocator;
 
 impl<D: Disk, A: Allocator> Swapper<D, A> {
@@ -78,7 +78,7 @@ impl<D: Disk, A: Allocator> Swapper<D, A> {
     {
         let Home { sector, id, page } = home;
         let wanted = Wanted { id, page };
-        let mut bytes = [0; 512];
+        let mut bytes = [0; PAGE_BYTES];
         let Ok(found) = self.disk.read(sector, &mut bytes) else {
             return Err(Halt::Disk);
         };

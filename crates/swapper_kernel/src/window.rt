@@ -6,7 +6,7 @@ ghost use Rattle.swapper_kernel.specs.Window.{size_in};
 
 use crate::{Manager, Swapper};
 use flat_mem::FlatMem;
-use labelled_disk::{Disk, Halt};
+use labelled_disk::{Disk, Halt, PAGE_BYTES};
 use std::alloc::Allocator;
 
 /// The pages of a map, through the frames. Each access takes at most two transfers.
@@ -37,7 +37,7 @@ impl<D: Disk, A: Allocator> Swapper<D, A> {
         ensures { result ≡ size_in which (D.state self.now.disk).sectors self.now.layout }
     {
         if self.disk.sectors() == self.layout.sectors {
-            512 * u64::from(which.pages(&self.layout))
+            PAGE_BYTES as u64 * u64::from(which.pages(&self.layout))
         } else {
             0
         }
@@ -108,8 +108,11 @@ impl<'s, D: Disk, A: Allocator> FlatMem for MapMemory<'s, D, A> {
         if into.is_empty() {
             return Ok(());
         }
-        let slot = self.swapper.fetch_map_page(self.which, (at / 512) as u32)?;
-        self.swapper.copy_out(slot, (at % 512) as usize, into);
+        let slot = self
+            .swapper
+            .fetch_map_page(self.which, (at / PAGE_BYTES as u64) as u32)?;
+        self.swapper
+            .copy_out(slot, (at % PAGE_BYTES as u64) as usize, into);
         Ok(())
     }
 
@@ -117,8 +120,11 @@ impl<'s, D: Disk, A: Allocator> FlatMem for MapMemory<'s, D, A> {
         if bytes.is_empty() {
             return Ok(());
         }
-        let slot = self.swapper.fetch_map_page(self.which, (at / 512) as u32)?;
-        self.swapper.change(slot, (at % 512) as u32, bytes);
+        let slot = self
+            .swapper
+            .fetch_map_page(self.which, (at / PAGE_BYTES as u64) as u32)?;
+        self.swapper
+            .change(slot, (at % PAGE_BYTES as u64) as u32, bytes);
         Ok(())
     }
 }

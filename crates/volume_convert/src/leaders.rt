@@ -8,7 +8,7 @@ ghost use Rattle.volume_convert.specs.Settled.{is_spare};
 
 use crate::heads::Head;
 use label_survey::SectorState;
-use labelled_disk::{Disk, DiskError};
+use labelled_disk::{Disk, DiskError, PAGE_BYTES};
 
 /// Writes each leader, with a page of zeros, to the lowest sector that is not kept and has none
 /// yet; the first of them all is sector `first`.
@@ -25,7 +25,7 @@ pub(crate) fn write_leaders<D: Disk>(
     let mut placed = 0;
     for i in 0..sector_states.len() {
         if !sector_states[i].is_kept() && placed < heads.len() {
-            disk.write(first + i as u32, &heads[placed].leader(), &[0; 512])?;
+            disk.write(first + i as u32, &heads[placed].leader(), &[0; PAGE_BYTES])?;
             placed += 1;
         }
     }

@@ -12,7 +12,7 @@ ghost use Rattle.volume_root.specs.Later.{IsLater};
 
 use crate::read::VERSION;
 use crate::{Layout, Root, RootFault, write_root};
-use labelled_disk::{Disk, DiskError, DiskWrite, Label, Page};
+use labelled_disk::{Disk, DiskError, DiskWrite, Label, PAGE_BYTES, Page};
 
 // The bytes whose first bits are set: none, one, and so on.
 const HIGH_BITS: [u8; 9] = [0, 128, 192, 224, 240, 248, 252, 254, 255];
@@ -28,9 +28,9 @@ fn used_page(used: u32, page: u32) -> Page
     requires { page < 256 }
     ensures { result ≡ used_page used page }
 {
-    let mut bytes = [0; 512];
-    for at in 0..512 {
-        bytes[at] = used_byte(used, 512 * page + at as u32);
+    let mut bytes = [0; PAGE_BYTES];
+    for at in 0..PAGE_BYTES {
+        bytes[at] = used_byte(used, PAGE_BYTES as u32 * page + at as u32);
     }
     bytes
 }
@@ -41,16 +41,19 @@ fn new_sector(layout: &Layout, sector: u32) -> (Label, Page)
     ensures { result ≡ new_sector layout.now sector }
 {
     if sector == 0 {
-        (Label::FREE, [0; 512])
+        (Label::FREE, [0; PAGE_BYTES])
     } else if sector <= layout.vam {
         (
             Label::of_page(1, 0, sector - 1),
             used_page(layout.first, sector - 1),
         )
     } else if sector < layout.first {
-        (Label::of_page(2, 0, sector - 1 - layout.vam), [0; 512])
+        (
+            Label::of_page(2, 0, sector - 1 - layout.vam),
+            [0; PAGE_BYTES],
+        )
     } else {
-        (Label::FREE, [0; 512])
+        (Label::FREE, [0; PAGE_BYTES])
     }
 }
 
@@ -95,7 +98,7 @@ fn write_sectors<D: Disk>(disk: &mut D, layout: &Layout) -> Result<(), RootFault
     ensures err_disk { IfErr result (λ fault. fault ≡ RootFault.Disk) }
     ensures later { IsLater (D.state disk.old) (D.state disk.new) }
 {
-    let zeros = [0; 512];
+    let zeros = [0; PAGE_BYTES];
     for sector in 0..layout.sectors {
         let Ok(()) = write_sector(disk, layout, sector, &zeros) else {
             return Err(RootFault::Disk);

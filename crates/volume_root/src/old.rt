@@ -8,7 +8,7 @@ ghost use Rattle.volume_root.specs.RootPage.{IsUnlessFault};
 use crate::page::short_at;
 use crate::read::judge;
 use crate::{Layout, Root, RootFault};
-use labelled_disk::Disk;
+use labelled_disk::{Disk, PAGE_BYTES};
 
 /// An old volume has no more sectors.
 const OLD_SECTORS: u32 = 65_536;
@@ -41,7 +41,7 @@ pub fn read_old_root<D: Disk>(disk: &mut D) -> Result<Root, RootFault>
     if sectors > OLD_SECTORS {
         return Err(RootFault::BadCount(sectors));
     }
-    let mut page = [0; 512];
+    let mut page = [0; PAGE_BYTES];
     let Ok(label) = disk.read(0, &mut page) else {
         return Err(RootFault::Disk);
     };

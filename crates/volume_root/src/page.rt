@@ -4,6 +4,7 @@ ghost use Rattle.labelled_disk.specs.Root.{short_at, number_at};
 ghost use Rattle.volume_root.specs.RootPage.{has_magic, first_rest};
 
 use byteorder::{BigEndian, ByteOrder};
+use flat_mem::PAGE_BYTES;
 
 /// The page begins with this text.
 pub(crate) const MAGIC: &[u8; 8] = b"PILOTVOL";
@@ -37,7 +38,7 @@ pub(crate) fn first_rest(page: &[u8]) -> Option<u16>
     requires { length page.now ≡ 512 }
     ensures { result ≡ first_rest page.now }
 {
-    for at in FIELDS..512 {
+    for at in FIELDS..PAGE_BYTES {
         if page[at] != 0 {
             return Some(at as u16);
         }

@@ -7,7 +7,7 @@ ghost use Rattle.volume_root.specs.RootPage.{judged, judged_by, first_of, is_lab
 
 use crate::page::{first_rest, has_magic, number_at, short_at};
 use crate::{Difference, Layout, Root, RootFault};
-use labelled_disk::{Disk, Label, Wanted};
+use labelled_disk::{Disk, Label, PAGE_BYTES, Wanted};
 
 /// The version of the volumes that are read.
 pub(crate) const VERSION: u16 = 3;
@@ -147,7 +147,7 @@ pub fn read_root<D: Disk>(disk: &mut D, clean_only: bool) -> Result<Root, RootFa
 {
     let sectors = disk.sectors();
     let _layout = Layout::of(sectors)?;
-    let mut page = [0; 512];
+    let mut page = [0; PAGE_BYTES];
     let Ok(label) = disk.read(0, &mut page) else {
         return Err(RootFault::Disk);
     };

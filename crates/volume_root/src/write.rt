@@ -8,7 +8,7 @@ ghost use Rattle.volume_root.specs.RootPage.{number_bytes, root_fields};
 use crate::page::MAGIC;
 use crate::{Root, RootFault};
 use byteorder::{BigEndian, ByteOrder};
-use labelled_disk::{Disk, Label, Page};
+use labelled_disk::{Disk, Label, PAGE_BYTES, Page};
 
 fn write_numbers(bytes: &mut [u8], root: &Root)
     requires { 12 ≤ length bytes.old }
@@ -32,7 +32,7 @@ fn write_fields(bytes: &mut [u8], root: &Root)
 fn page_of(root: &Root) -> Page
     ensures { result ≡ root_bytes root.now }
 {
-    let mut page = [0; 512];
+    let mut page = [0; PAGE_BYTES];
     write_fields(&mut page, root);
     page
 }

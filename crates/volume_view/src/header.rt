@@ -7,7 +7,7 @@ ghost use Rattle.volume_view.specs.Walk.{IsHeaderForm};
 
 use byteorder::{BigEndian, ByteOrder};
 use flat_mem::{FlatMem, VecMem};
-use labelled_disk::Page;
+use labelled_disk::{PAGE_BYTES, Page};
 use std::alloc::Allocator;
 
 /// The numbers of the header.
@@ -29,8 +29,8 @@ pub(crate) fn load_page<A: Allocator>(map: &mut VecMem<A>, index: u32) -> Page
     ensures page { result ≡ page_at (vec_mem_bytes map.old) index }
     ensures same { vec_mem_bytes map.new ≡ vec_mem_bytes map.old }
 {
-    let mut page = [0; 512];
-    match map.read(512 * u64::from(index), &mut page) {
+    let mut page = [0; PAGE_BYTES];
+    match map.read(PAGE_BYTES as u64 * u64::from(index), &mut page) {
         Ok(()) => page,
         Err(never) => match never {},
     }

@@ -11,14 +11,14 @@ ghost use Rattle.volume_view.specs.Placed.{IsPlace};
 use crate::LookFault;
 use flat_mem::{FlatMem, VecMem};
 use label_survey::Run;
-use labelled_disk::{Disk, FileId, Page, Wanted};
+use labelled_disk::{Disk, FileId, PAGE_BYTES, Page, Wanted};
 use std::alloc::Allocator;
 
 fn put_page<A: Allocator>(mem: &mut VecMem<A>, index: u32, page: &Page)
     requires { 512 * index + 512 ≤ length (vec_mem_bytes mem.old) }
     ensures { vec_mem_bytes mem.new ≡ overwritten (vec_mem_bytes mem.old) (512 * index) page.now }
 {
-    match mem.write(512 * u64::from(index), page) {
+    match mem.write(PAGE_BYTES as u64 * u64::from(index), page) {
         Ok(()) => {}
         Err(never) => match never {},
     }
@@ -48,7 +48,7 @@ pub(crate) fn read_pages<A: Allocator, D: Disk>(
     let Ok(mut mem) = VecMem::zeroed(alloc, count) else {
         return Err(LookFault::NoMemory);
     };
-    let mut page = [0; 512];
+    let mut page = [0; PAGE_BYTES];
     for index in 0..count {
         let Ok(label) = disk.read(first + index, &mut page) else {
             return Err(LookFault::Disk);
@@ -97,7 +97,7 @@ pub fn read_page<D: Disk>(disk: &mut D, sector: u32) -> Result<Page, LookFault>
         → Rose (D.state disk.old).faults (D.state disk.new).faults }
     ensures cost { ReadsAtMost 1 (D.state disk.old) (D.state disk.new) }
 {
-    let mut page = [0; 512];
+    let mut page = [0; PAGE_BYTES];
     match disk.read(sector, &mut page) {
         Ok(_) => Ok(page),
         Err(_) => Err(LookFault::Disk),

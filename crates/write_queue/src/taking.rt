@@ -8,7 +8,7 @@ ghost use Rattle.write_queue.specs.Inside.{MakesRoom, RoomMade};
 ghost use Rattle.write_queue.specs.View.{Covers};
 
 use crate::{Entry, QueueOver};
-use labelled_disk::{Disk, DiskError, Page, Wanted};
+use labelled_disk::{Disk, DiskError, PAGE_BYTES, Page, Wanted};
 use std::alloc::Allocator;
 
 impl<D: Disk, A: Allocator> QueueOver<D, A> {
@@ -58,7 +58,7 @@ impl<D: Disk, A: Allocator> QueueOver<D, A> {
         ensures takes { TakesIn sector wanted page.now (view_of self.old) result (view_of self.new) }
         ensures same { SameBut self.old self.new }
     {
-        let mut scratch = [0; 512];
+        let mut scratch = [0; PAGE_BYTES];
         let label = self.under.read(sector, &mut scratch)?;
         if !label.names(wanted) {
             return Err(DiskError::Wrong { found: label });
