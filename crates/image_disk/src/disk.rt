@@ -4,6 +4,7 @@ ghost use Rattle.labelled_disk.specs.Calls.{Reads, Writes, WritesData, Syncs, Ro
 ghost use Rattle.labelled_disk.specs.Label.{label_of, label_bytes, names};
 ghost use Rattle.labelled_disk.specs.Memory.{CountsFault};
 
+use crate::neighbours::{MOST, Neighbours};
 use labelled_disk::{Disk, DiskError, DiskWrite, Label, Page, Wanted};
 use std::fs::OpenFile;
 use std::io;
@@ -27,7 +28,10 @@ pub const SECTOR_BYTES: u64 = 528;
 const LABEL_BYTES: u64 = 16;
 
 /// A disk over an image file. It reveals nothing of what the file holds, since no contract can: only
-/// its counts. It is synced from an Ok of `sync` to the next call that may write.
+/// its counts. It is synced from an Ok of `sync` to the next call that may write, and a `sync` until
+/// then is no call of the system.
+///
+/// Where sectors are read one after the other, it reads up to 32 of them at once.
 #[derive(Drop)]
 pub struct ImageDisk<F: FileExt + OpenFile> {
     file: Option<F>,
@@ -36,6 +40,13 @@ pub struct ImageDisk<F: FileExt + OpenFile> {
     faults: u64,
     synced: bool,
     trouble: Option<Trouble>,
+    // The sector after the one that was read last.
+    next: u32,
+    // Sectors that were read before they were asked for. No write has been made since.
+    ahead: Neighbours,
+    // Whether neighbouring sectors are written in one call of the system, and those that wait for it.
+    joins: bool,
+    waiting: Neighbours,
     ghost few: { sectors < 2 ^ 32 },
     ghost few_transfers: { transfers < 2 ^ 64 },
 }
@@ -65,6 +76,10 @@ impl<F: FileExt + OpenFile> ImageDisk<F> {
             faults: 0,
             synced: false,
             trouble: None,
+            next: 0,
+            ahead: Neighbours::none(),
+            joins: false,
+            waiting: Neighbours::none(),
         }
     }
 
@@ -91,7 +106,39 @@ impl<F: FileExt + OpenFile> ImageDisk<F> {
             faults: 0,
             synced: false,
             trouble: None,
+            next: 0,
+            ahead: Neighbours::none(),
+            joins: false,
+            waiting: Neighbours::none(),
         }
+    }
+
+    /// From now on, up to 32 sectors that are written one after the other, each whole, are written
+    /// in one call of the system: when the next call of another kind, or on another place, comes, or
+    /// `write_out`.
+    pub fn join_writes(&mut self)
+        ensures same { image_state self.new ≡ image_state self.old }
+    {
+        self.joins = true;
+    }
+
+    /// Writes what waits.
+    pub fn write_out(&mut self) -> Result<(), Trouble>
+        ensures same { image_state self.new ≡ image_state self.old }
+    {
+        let Some(file) = &self.file else {
+            return Ok(());
+        };
+        if !self.waiting.is_empty() {
+            if let Err(error) = self.waiting.write_to(file) {
+                return Err(Trouble::Sector {
+                    sector: self.waiting.first(),
+                    error,
+                });
+            }
+            self.waiting.clear();
+        }
+        Ok(())
     }
 
     /// What the system answered to the last call that failed, if one did.
@@ -104,6 +151,44 @@ impl<F: FileExt + OpenFile> ImageDisk<F> {
         match &self.file {
             Some(file) => file.read_exact_at(bytes, at),
             None => Err(io::ErrorKind::NotFound.into()),
+        }
+    }
+
+    // Reads a sector; and where the one before it was read last, those after it as well.
+    fn get_sector(&mut self, sector: u32, bytes: &mut [u8; 528]) -> io::Result<()>
+        requires { sector < (image_state self.old).sectors }
+        ensures same { image_state self.new ≡ image_state self.old }
+    {
+        let is_next = sector == self.next && sector > 0;
+        self.next = sector.wrapping_add(1);
+        if self.ahead.copy(sector, bytes) {
+            return Ok(());
+        }
+        if is_next && let Some(file) = &self.file {
+            let count = MOST.min(self.sectors - sector);
+            if self.ahead.fill(file, sector, count).is_ok() && self.ahead.copy(sector, bytes) {
+                return Ok(());
+            }
+        }
+        self.get(label_at(sector), bytes)
+    }
+
+    // Writes a sector, or keeps it until its neighbours are written too.
+    fn put_sector(&mut self, sector: u32, bytes: &[u8; 528]) -> Result<(), Trouble>
+        ensures same { image_state self.new ≡ image_state self.old }
+    {
+        if self.joins {
+            if self.waiting.push(sector, bytes) {
+                return Ok(());
+            }
+            self.write_out()?;
+            if self.waiting.push(sector, bytes) {
+                return Ok(());
+            }
+        }
+        match self.put(label_at(sector), bytes) {
+            Ok(()) => Ok(()),
+            Err(error) => Err(Trouble::Sector { sector, error }),
         }
     }
 
@@ -140,6 +225,17 @@ impl<F: FileExt + OpenFile> ImageDisk<F> {
         self.transfers = self.transfers.saturating_add(1);
     }
 
+    // Counts a call that may write: what was read ahead may not stand there any more.
+    fn count_write(&mut self)
+        ensures counted { image_state self.new
+            ≡ record (image_state self.old) { transfers = min (self.old.transfers + 1) (2 ^ 64 - 1); synced = false } }
+        ensures moved { Moved self.old.transfers self.new.transfers }
+    {
+        self.count_transfer();
+        self.synced = false;
+        self.ahead.clear();
+    }
+
     // Counts a fault of the system, and keeps what it answered.
     fn fault(&mut self, trouble: Trouble) -> DiskError
         ensures result { result ≡ DiskError.Failed }
@@ -157,7 +253,7 @@ impl<F: FileExt + OpenFile> ImageDisk<F> {
 }
 
 // Where the label of a sector begins in the file.
-fn label_at(sector: u32) -> u64
+pub(crate) fn label_at(sector: u32) -> u64
     ensures { result ≡ sector * 528 }
 {
     u64::from(sector) * SECTOR_BYTES
@@ -217,8 +313,11 @@ impl<F: FileExt + OpenFile> Disk for ImageDisk<F> {
         ensures counts { Counts result (image_state self.old) (image_state self.new) }
     {
         self.count_transfer();
+        if let Err(trouble) = self.write_out() {
+            return Err(self.fault(trouble));
+        }
         let mut bytes = [0; 528];
-        match self.get(label_at(sector), &mut bytes) {
+        match self.get_sector(sector, &mut bytes) {
             Ok(()) => Ok(parted(&bytes, page)),
             Err(error) => Err(self.fault(Trouble::Sector { sector, error })),
         }
@@ -231,11 +330,10 @@ impl<F: FileExt + OpenFile> Disk for ImageDisk<F> {
         ensures counts { Counts result (image_state self.old) (image_state self.new) }
         ensures synced { (image_state self.new).synced ≡ false }
     {
-        self.count_transfer();
-        self.synced = false;
-        match self.put(label_at(sector), &joined(label, page)) {
+        self.count_write();
+        match self.put_sector(sector, &joined(label, page)) {
             Ok(()) => Ok(()),
-            Err(error) => Err(self.fault(Trouble::Sector { sector, error })),
+            Err(trouble) => Err(self.fault(trouble)),
         }
     }
 
@@ -246,8 +344,10 @@ impl<F: FileExt + OpenFile> Disk for ImageDisk<F> {
         ensures counts { Counts result (image_state self.old) (image_state self.new) }
         ensures synced { (image_state self.new).synced ≡ false }
     {
-        self.count_transfer();
-        self.synced = false;
+        self.count_write();
+        if let Err(trouble) = self.write_out() {
+            return Err(self.fault(trouble));
+        }
         match self.put(label_at(sector), &label.to_bytes()) {
             Ok(()) => Ok(()),
             Err(error) => Err(self.fault(Trouble::Sector { sector, error })),
@@ -261,8 +361,10 @@ impl<F: FileExt + OpenFile> Disk for ImageDisk<F> {
         ensures counts { Counts result (image_state self.old) (image_state self.new) }
         ensures synced { (image_state self.new).synced ≡ false }
     {
-        self.count_transfer();
-        self.synced = false;
+        self.count_write();
+        if let Err(trouble) = self.write_out() {
+            return Err(self.fault(trouble));
+        }
         let mut bytes = [0; 16];
         if let Err(error) = self.get(label_at(sector), &mut bytes) {
             return Err(self.fault(Trouble::Sector { sector, error }));
@@ -281,6 +383,12 @@ impl<F: FileExt + OpenFile> Disk for ImageDisk<F> {
         ensures syncs { Syncs (image_state self.old) result (image_state self.new) }
         ensures faults { CountsFault result self.old.faults self.new.faults }
     {
+        if self.synced {
+            return Ok(());
+        }
+        if let Err(trouble) = self.write_out() {
+            return Err(self.fault(trouble));
+        }
         if let Err(error) = self.sync_file() {
             return Err(self.fault(Trouble::Syncing(error)));
         }

@@ -3,6 +3,7 @@
 
 mod disk;
 mod files;
+mod neighbours;
 mod word;
 
 pub use disk::{ImageDisk, SECTOR_BYTES, Trouble};

@@ -39,9 +39,22 @@ fn on_loose(rt: &HostRuntime, why: io::Error, words: &[String]) -> Status {
     on_none(rt, words)
 }
 
+/// Whether a command answers nothing before all that it writes is on the medium.
+fn answers_at_its_end(meant: Command) -> bool {
+    matches!(
+        meant,
+        Command::Format { .. } | Command::Scavenge | Command::Convert
+    )
+}
+
 /// Carries out a command on the disk in an image file.
 fn on_disk(rt: &HostRuntime, mut disk: ImageDisk<File>, task: Task<'_>) -> Status {
+    if answers_at_its_end(task.meant) {
+        disk.join_writes();
+    }
     let status = command(rt, &mut disk, task.words);
+    // Nothing waits after a command that was carried out: it ends with a sync.
+    let _ = disk.write_out();
     reasons::image_stopped(rt, status, &mut disk, task);
     status
 }

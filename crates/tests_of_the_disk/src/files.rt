@@ -35,6 +35,31 @@ fn read(rt: &HostRuntime, disk: &mut ImageDisk<File>, sector: u32) -> Result<Str
     Ok(format!(in rt.alloc(); "{label:032x} {} {}", page[0], page[511])?)
 }
 
+/// Calls on one opened image, each a letter and a sector: `j` has writes joined from then on, `w` writes a page whose bytes are
+/// the call's number, and `r` reads. The answers are the bytes that were read.
+fn calls(rt: &HostRuntime, disk: &mut ImageDisk<File>, words: &str) -> Result<String> {
+    let mut text = String::new(rt.alloc());
+    let mut page = [0; 512];
+    for (number, word) in words.split(' ').enumerate() {
+        if word == "j" {
+            disk.join_writes();
+        } else if let Some(sector) = word.strip_prefix('w') {
+            let sector = sector.parse()?;
+            if sector < disk.sectors() {
+                disk.write(sector, &Label::FREE, &[(number % 256) as u8; 512])?;
+            }
+        } else if let Some(sector) = word.strip_prefix('r') {
+            let sector = sector.parse()?;
+            if sector < disk.sectors() {
+                disk.read(sector, &mut page)?;
+                text.push_str(&format!(in rt.alloc(); "{} ", page[0])?)?;
+            }
+        }
+    }
+    disk.sync()?;
+    Ok(text)
+}
+
 /// Bytes of a file, from one on, in hexadecimal digits.
 fn dump(rt: &HostRuntime, name: &str, words: &str) -> Result<String> {
     let (from, count) = words.split_once(' ').context("no count")?;
@@ -66,6 +91,7 @@ pub(crate) fn answer(rt: &HostRuntime, verb: &str, rest: &str) -> Result<String>
             Ok(second)
         }
         "write" => write(rt, &mut open_image(rt, name)?, words),
+        "calls" => calls(rt, &mut open_image(rt, name)?, words),
         "read" => read(rt, &mut open_image(rt, name)?, words.parse()?),
         "dump" => dump(rt, name, words),
         "size" => size(rt, name),
