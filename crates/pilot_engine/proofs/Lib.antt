@@ -44,6 +44,7 @@ pub mod AnonymousLemmas
 pub mod NewWindow
 pub mod OwnLemmas
 pub mod ShutLemmas
+pub mod ShutBySyncLemmas
 pub mod UnsetLemmas
 pub mod LackLemmas
 pub mod HomeLemmas

@@ -7,7 +7,7 @@ ghost use Rattle.filer_kernel.specs.Evidence.{IsEvident};
 ghost use Rattle.flat_machine.specs.Machine.{Machine};
 ghost use Rattle.trace_io.specs.Stream.{IsPrefixOf};
 ghost use Rattle.running_words.specs.Bound.{CostsOther};
-ghost use Rattle.pilot_engine.specs.Closing.{HasShut, IsStop, Throughout, WroteOn};
+ghost use Rattle.pilot_engine.specs.Closing.{HasShut, IsStop, ShutsBySync, Throughout, WroteOn};
 ghost use Rattle.pilot_engine.specs.Opening.{IsUnset};
 ghost use Rattle.running_words.specs.Session.{IsOpen};
 ghost use Rattle.running_words.specs.Running.{Runs};
@@ -55,6 +55,8 @@ pub(crate) fn close<D: Disk, A: Allocator, K: Sink>(
     ensures ends { (result.0 ≡ None) ⊎ (result.0 ≡ Some Status.DiskFault)
         ⊎ (result.0 ≡ Some Status.Damaged) }
     ensures wrote { WroteOn session.core.filer.swapper.pool (D.state session.core.filer.swapper.disk) (D.state result.1) }
+    ensures syncs { (m : Machine) → Runs session.core session.volume m
+        → ShutsBySync (D.state session.core.filer.swapper.disk) (D.state result.1) }
     ensures later { K.faults sink.old ≤ K.faults sink.new }
 {
     let (closed, disk) = session.finish();
@@ -98,6 +100,8 @@ pub(crate) fn end_trace<D: Disk, A: Allocator, K: Sink>(
     ensures ends { (result.0 ≡ Status.Done) ⊎ (result.0 ≡ Status.StreamFault)
         ⊎ (result.0 ≡ Status.DiskFault) ⊎ (result.0 ≡ Status.Damaged) }
     ensures wrote { WroteOn session.core.filer.swapper.pool (D.state session.core.filer.swapper.disk) (D.state result.1) }
+    ensures syncs { (m : Machine) → Runs session.core session.volume m
+        → ShutsBySync (D.state session.core.filer.swapper.disk) (D.state result.1) }
     ensures later { K.faults sink.old ≤ K.faults sink.new }
 {
     if end == End::Halt {

@@ -12,12 +12,13 @@ ghost use Rattle.trace_io.specs.Reading.{IsShort, reading, rest_of};
 ghost use Rattle.volume_root.specs.Flag.{IsRefused};
 ghost use Rattle.volume_root.specs.Sound.{Sound};
 ghost use Rattle.running_words.specs.Bound.{other_bound};
-ghost use Rattle.pilot_engine.specs.Closing.{HasShut};
+ghost use Rattle.pilot_engine.specs.Closing.{HasShut, ShutsBySync};
 ghost use Rattle.running_words.specs.Session.{IsOpen};
 ghost use Rattle.running_words.specs.Running.{Runs};
 ghost use Rattle.pilot_top.specs.Ending.{halts, closes};
 ghost use Rattle.pilot_top.specs.Headline.{Answering, EndsEarly, HasFilesAt, IsLeftOpen, Run, RevealsDamage, at_end, line_bound, run_bound};
 ghost use Rattle.pilot_top.specs.Last.{last_line, Puts};
+ghost use Rattle.pilot_top.specs.Cuts.{HonestCuts};
 ghost use Rattle.pilot_top.specs.CrashStates.{Lawfully, CrashStates, ShutsLast};
 ghost use Rattle.pilot_top.specs.InitialState.{FromEachInitialState, FromInitialState};
 ghost use Rattle.pilot_top.specs.Replied.{Replied};
@@ -80,6 +81,8 @@ fn answer_lines<D: Disk, A: Allocator, S: Source, K: Sink>(
         → (revealed : RevealsDamage t (K.took sink.new) (Rose (K.faults sink.old) (K.faults sink.new)) (D.state result.1))
         × FromEachInitialState session (D.state result.1) revealed.evidence }
     ensures permitted { ShutsLast (D.state session.core.filer.swapper.disk) (D.state result.1) }
+    ensures syncs { (m : Machine) → Runs session.core session.volume m
+        → ShutsBySync (D.state session.core.filer.swapper.disk) (D.state result.1) }
     ensures same_disk { Went (D.state session.core.filer.swapper.disk) (D.state result.1) }
     ensures disk_cause { result.0 ≡ Status.DiskFault
         → Rose (D.state session.core.filer.swapper.disk).faults (D.state result.1).faults }
@@ -160,6 +163,8 @@ pub(crate) fn run<A: Allocator, D: Disk, S: Source, K: Sink>(
         → (revealed : RevealsDamage t (K.took sink.new) (Rose (K.faults sink.old) (K.faults sink.new)) (D.state result.1))
         × FromInitialState (D.state disk) (D.state result.1) revealed.evidence }
     ensures permitted { Lawfully (D.state disk) (D.state result.1) }
+    ensures cuts { (d : List Sector) → (D.state disk).contents ≡ Some d → Sound d
+        → HonestCuts d (D.state disk) (D.state result.1) }
     ensures same_disk { Went (D.state disk) (D.state result.1) }
 
     // The volume can't be opened.

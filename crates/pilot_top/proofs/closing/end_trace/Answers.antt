@@ -1,6 +1,7 @@
 use Rattle.std.proofs.Common.{rules, ◌≡◌, Option, Some, None, sym, ◌∙◌, ap, subst}
 use denote.Enum.Bare.{same_true}
-use Rattle.pilot_engine.specs.Closing.{IsStop, Throughout, WroteOn}
+use Rattle.pilot_engine.specs.Closing.{IsStop, ShutsBySync, Throughout, WroteOn}
+use Rattle.pilot_engine.proofs.ShutBySyncLemmas.{shuts_itself}
 use Rattle.pilot_engine.proofs.ShutLemmas.{wrote_on}
 use Rattle.pilot_engine.proofs.WroteLemmas.{wrote_nothing}
 use Rattle.pilot_top.specs.contracts.turn.End.{the_type}
@@ -56,3 +57,11 @@ returns-in-Some-clause-damage_line g c damaged = c.close-stopped.ensures.evidenc
 
 pub returns-in-Some-clause-left_open : goal.returns-in-Some-clause-left_open
 returns-in-Some-clause-left_open g c unset damaged = c.close-stopped.ensures.left_open unset (c.in-Some.is ∙ ap (λ (s : Status). Some s) damaged)
+
+pub returns-in-Ok-clause-syncs : goal.returns-in-Ok-clause-syncs
+returns-in-Ok-clause-syncs g c m is =
+    subst (λ d. ShutsBySync (g.D.Disk.state c.args.session.core.filer.swapper.disk) (g.D.Disk.state d)) (sym c.into_disk.ensures) (shuts_itself (g.D.Disk.state c.args.session.core.filer.swapper.disk))
+
+pub returns-in-Err-clause-syncs : goal.returns-in-Err-clause-syncs
+returns-in-Err-clause-syncs g c m is =
+    subst (λ d. ShutsBySync (g.D.Disk.state c.args.session.core.filer.swapper.disk) (g.D.Disk.state d)) (sym c.into_disk-in-Err.ensures) (shuts_itself (g.D.Disk.state c.args.session.core.filer.swapper.disk))

@@ -25,6 +25,7 @@ use Rattle.pilot_top.proofs.EndLemmas.{End-answering, End-rest, End-short}
 use Rattle.pilot_top.proofs.ExitLemmas.{halt_not_damaged, halt_evidence, three_ways, stopped_files, takes_more, still_crash_states, still_spends, line_spends, end_spent, still_files, line_crash_states, halt_files, reply_files, line_not_close, end_closed, end_unheard, end_crash_states}
 use Rattle.pilot_top.proofs.PrefixLemmas.{End-has}
 use Rattle.pilot_top.proofs.PermittedRuns.{called_openly, ended_last, openly_last, openly_none, openly_then}
+use Rattle.pilot_top.proofs.ShutLemmas.{openly_shuts, shuts_after}
 use Rattle.pilot_top.proofs.OpenLemmas.{early_halt}
 use Rattle.pilot_top.proofs.PlaceLemmas.{stop_revealed}
 use Rattle.pilot_top.proofs.ReasonLemmas.{damage_same, goes_nowhere, goes_then, reason_before, reason_halted}
@@ -141,6 +142,7 @@ returns-in_default g c =
       sound = λ m stands is. absurd (cc is);
       damage = λ t left sink is. absurd (cc is);
       permitted = rw c.into_disk.ensures permitted;
+      syncs = λ m stands. rw c.into_disk.ensures (openly_shuts (openly_then i.turned.permitted (called_openly c.take_turn.ensures.wrote)));
       same_disk = rw c.into_disk.ensures went;
       disk_cause = λ is. absurd (cc is);
       stream_cause = λ is. inr rose;
@@ -177,6 +179,7 @@ returns-in-ReadFault g c =
       sound = λ m stands is. absurd (cc is);
       damage = λ t left sink is. absurd (cc is);
       permitted = rw c.into_disk-in-ReadFault.ensures permitted;
+      syncs = λ m stands. rw c.into_disk-in-ReadFault.ensures (openly_shuts (openly_then i.turned.permitted (called_openly c.take_turn.ensures.wrote)));
       same_disk = rw c.into_disk-in-ReadFault.ensures went;
       disk_cause = λ is. absurd (cc is);
       stream_cause = λ is. inl rose;
@@ -213,6 +216,7 @@ returns-in-Long g c =
       sound = λ m stands is. absurd (cc is);
       damage = λ t left sink is. absurd (cc is);
       permitted = rw c.into_disk-in-Long.ensures permitted;
+      syncs = λ m stands. rw c.into_disk-in-Long.ensures (openly_shuts (openly_then i.turned.permitted (called_openly c.take_turn.ensures.wrote)));
       same_disk = rw c.into_disk-in-Long.ensures went;
       disk_cause = λ is. absurd (cc is);
       stream_cause = λ is. absurd (cc is);
@@ -267,6 +271,7 @@ returns-in-Halts g c =
           let revealed = damage_revealed _ _ _ _ t c.turns.lines _ _ _ why.0 disk evidence_seen (unset_then (i.left_open left) c.take_turn.ensures.wrote) (Going-sink _ _ _ _ _ _ _ t i.turned.going sink) line in
           damage_same c.args.session c.into_disk-in-Halts.result c.take_turn.new.session.core.filer.swapper.disk c.into_disk-in-Halts.ensures (revealed, reason why.0 why.1);
       permitted = rw c.into_disk-in-Halts.ensures permitted;
+      syncs = λ m stands. rw c.into_disk-in-Halts.ensures (openly_shuts (openly_then i.turned.permitted (called_openly c.take_turn.ensures.wrote)));
       same_disk = rw c.into_disk-in-Halts.ensures went;
       disk_cause = λ is.
           let why = halt_disk c.in-Halts.halt c.stop.result stopped is in
@@ -341,6 +346,7 @@ returns-in-Ends g c =
           let revealed = damage_revealed _ _ _ _ t c.turns.lines _ _ _ line.0 disk line.1 open_still (Going-sink _ _ _ _ _ _ _ t i.turned.going sink) (Puts-later _ _ _ _ _ (rose_later _ _ _ i.sink) line.3) in
           (revealed, reason line.0 line.2);
       permitted = ended_last (openly_then i.turned.permitted (called_openly c.take_turn.ensures.wrote)) e.wrote;
+      syncs = λ m stands. shuts_after (openly_then i.turned.permitted (called_openly c.take_turn.ensures.wrote)) (e.syncs _ (stands_still.going.stands m stands));
       same_disk = went_then went e.wrote.went;
       disk_cause = λ is. rose_later _ _ _ went.faults (e.disk_cause is);
       stream_cause = λ is. inr (rose_later _ _ _ i.sink (e.stream_cause is).0);
