@@ -50,3 +50,4 @@ pub mod HomeLemmas
 pub mod SpaceMisses
 pub mod HomeSteps
 pub mod EndNeverBlames
+pub mod RestLemmas
