@@ -56,12 +56,12 @@ started g c e =
     c.in-Ok.ensures.keeps_to c.in-Ok.ensures.sees c.in-Ok.ensures.monotone
 
 pub returns-in-Ok-clause-damage : goal.returns-in-Ok-clause-damage
-returns-in-Ok-clause-damage g c t sink is = let all = c.answer_lines.ensures.damage t c.in-Ok.ensures.left_open sink is in (all.0, started g c all.0.evidence all.1)
+returns-in-Ok-clause-damage g c t sink is = let all = c.answer_lines.ensures.damage t c.in-Ok.ensures.left_open sink is (c.requires.plain c.answer_lines.result.1) in (all.0, started g c all.0.evidence all.1)
 
 pub returns-in-Ok-clause-replied : goal.returns-in-Ok-clause-replied
 returns-in-Ok-clause-replied g c b t source sink =
     replied_reasoned c.answer_lines.result.0 b t _ _ _ (g.D.Disk.state c.answer_lines.result.1) (FromEachInitialState c.in-Ok.session (g.D.Disk.state c.answer_lines.result.1)) (FromInitialState (g.D.Disk.state c.args.disk) (g.D.Disk.state c.answer_lines.result.1)) (started g c)
-    (c.answer_lines.ensures.replied b t c.in-Ok.ensures.left_open source sink)
+    (c.answer_lines.ensures.replied b t c.in-Ok.ensures.left_open source sink (λ is. c.requires.plain c.answer_lines.result.1))
 
 pub returns-in-Ok-clause-sound : goal.returns-in-Ok-clause-sound
 returns-in-Ok-clause-sound g c d revealed sound = (c.answer_lines.ensures.opened.1, c.answer_lines.ensures.sound (start d) (c.in-Ok.ensures.stands d revealed sound))
