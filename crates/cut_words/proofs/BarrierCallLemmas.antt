@@ -39,9 +39,11 @@ module _ (first middle last : List DiskWrite) (one : length first ≡ 1) (end : 
   first_failed a b part = (part.0, stopped_first first middle last one end part.0 a b part.1 part.2)
 
   pub first_unsynced : (a b c : DiskState) (e : DiskError) → Appended first a b → Syncs b (Err e) c → MadePart row a c
-  first_unsynced a b c e made call =
-      (length first, stopped_first first middle last one end (length first) a c (omega arith)
-          (subst (λ (ws : List DiskWrite). Appended ws a c) (sym (take_all (length first) first (omega arith))) (appended_no_more first made call.same)))
+  first_unsynced a b c e made call = (
+    length first,
+    stopped_first first middle last one end (length first) a c (omega arith)
+        (subst (λ (ws : List DiskWrite). Appended ws a c) (sym (take_all (length first) first (omega arith))) (appended_no_more first made call.same)),
+  )
 
   pub first_synced : (a b c : DiskState) → Appended first a b → Syncs b (Ok tt) c → IsFirstSynced a c
   first_synced a b c made call = record {
@@ -50,19 +52,23 @@ module _ (first middle last : List DiskWrite) (one : length first ≡ 1) (end : 
   }
 
   pub middle_failed : (a b c : DiskState) → IsFirstSynced a b → Part middle b c → KeepsSyncs b c → MadePart row a c
-  middle_failed a b c so_far part keeps =
-      (length first + part.0, stopped_middle first middle last one end part.0 a c part.1
-          (appended_then first (take part.0 middle) so_far.made part.2) (synced_later a b c 1 so_far.synced keeps))
+  middle_failed a b c so_far part keeps = (
+    length first + part.0,
+    stopped_middle first middle last one end part.0 a c part.1
+        (appended_then first (take part.0 middle) so_far.made part.2) (synced_later a b c 1 so_far.synced keeps),
+  )
 
   module _ (a b c : DiskState) (so_far : IsFirstSynced a b) (more : Appended middle b c) (keeps : KeepsSyncs b c) where
     both_made : Appended (first ++ middle) a c
     both_made = appended_then first middle so_far.made more
 
     pub middle_unsynced : (f : DiskState) (e : DiskError) → Syncs c (Err e) f → MadePart row a f
-    middle_unsynced f e call =
-        (length first + length middle, stopped_middle first middle last one end (length middle) a f (omega arith)
-            (subst (λ (ws : List DiskWrite). Appended (first ++ ws) a f) (sym (take_all (length middle) middle (omega arith))) (appended_no_more (first ++ middle) both_made call.same))
-            (synced_later a c f 1 (synced_later a b c 1 so_far.synced keeps) (sync_keeps c f (Err e) call)))
+    middle_unsynced f e call = (
+      length first + length middle,
+      stopped_middle first middle last one end (length middle) a f (omega arith)
+          (subst (λ (ws : List DiskWrite). Appended (first ++ ws) a f) (sym (take_all (length middle) middle (omega arith))) (appended_no_more (first ++ middle) both_made call.same))
+          (synced_later a c f 1 (synced_later a b c 1 so_far.synced keeps) (sync_keeps c f (Err e) call)),
+    )
 
     pub middle_synced : (f : DiskState) → Syncs c (Ok tt) f → AreTwoSynced a f
     middle_synced f call = record {
@@ -76,10 +82,12 @@ module _ (first middle last : List DiskWrite) (one : length first ≡ 1) (end : 
     before = length first + length middle
 
     pub last_failed : Part last b c → MadePart row a c
-    last_failed part =
-        (length first + (length middle + part.0), stopped_last first middle last one end part.0 a c part.1
-            (subst (λ (ws : List DiskWrite). Appended ws a c) (append_assoc first middle (take part.0 last)) (appended_then (first ++ middle) (take part.0 last) so_far.made part.2))
-            (synced_later a b c 1 so_far.synced keeps) (synced_later a b c before so_far.both keeps))
+    last_failed part = (
+      length first + (length middle + part.0),
+      stopped_last first middle last one end part.0 a c part.1
+          (subst (λ (ws : List DiskWrite). Appended ws a c) (append_assoc first middle (take part.0 last)) (appended_then (first ++ middle) (take part.0 last) so_far.made part.2))
+          (synced_later a b c 1 so_far.synced keeps) (synced_later a b c before so_far.both keeps),
+    )
 
     module _ (made : Appended last b c) where
       all_made : (f : DiskState) → KeepsSyncs c f → Appended row a f → HasBarriers row (length row) a f
