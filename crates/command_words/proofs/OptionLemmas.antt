@@ -4,24 +4,28 @@ use Rattle.clap.proofs.OnLiterals.{clap_on_literals}
 use Rattle.clap.specs.Faults.{is_simple_and_free}
 use Rattle.clap.specs.Simple.{built}
 use Rattle.clap.specs.Walk.{Text}
-use Rattle.command_words.specs.Options.{NumberOption, calls, counter, frames, name_of, options_of, parser_with, seed, serial}
+use Rattle.command_words.specs.Options.{NumberOption, calls, counter, frames, name_of, options_of, parser_with, queue, seed, serial}
 use Rattle.command_words.specs.declared.words.Command.{Command}
 use Rattle.command_words.specs.declared.words.Command.TheVariants as command
 use Rattle.command_words.proofs.PlainLemmas.{HasOptions, rule_named}
 use Rattle.command_words.proofs.RangeLemmas.{OnlyOne}
 use Rattle.command_words.proofs.Walks.{IsOption, IsPlainApp}
 
-run_is_free : is_simple_and_free (parser_with (codes "run") (frames ∷ [])) ≡ true
+run_is_free : is_simple_and_free (parser_with (codes "run") (frames ∷ queue ∷ [])) ≡ true
 unfolding clap_on_literals
 run_is_free = refl
 
-run_is_plain : IsPlainApp (parser_with (codes "run") (frames ∷ []))
+run_is_plain : IsPlainApp (parser_with (codes "run") (frames ∷ queue ∷ []))
 unfolding clap_on_literals
 run_is_plain = record { simple = refl; leaf = refl; named = refl; defaults_pass = refl; no_defaults = refl; valid = λ rows. refl }
 
-run_frames : IsOption (built (parser_with (codes "run") (frames ∷ []))).top (codes "frames") (rule_named (frames ∷ []) (codes "frames"))
+run_frames : IsOption (built (parser_with (codes "run") (frames ∷ queue ∷ []))).top (codes "frames") (rule_named (frames ∷ queue ∷ []) (codes "frames"))
 unfolding clap_on_literals
 run_frames = record { by_long = refl; by_id = refl; id = refl; values = refl; most = refl; least = refl; set = refl; reading = refl; word = refl; dashes = refl }
+
+run_queue : IsOption (built (parser_with (codes "run") (frames ∷ queue ∷ []))).top (codes "queue") (rule_named (frames ∷ queue ∷ []) (codes "queue"))
+unfolding clap_on_literals
+run_queue = record { by_long = refl; by_id = refl; id = refl; values = refl; most = refl; least = refl; set = refl; reading = refl; word = refl; dashes = refl }
 
 format_is_free : is_simple_and_free (parser_with (codes "format") (serial ∷ counter ∷ [])) ≡ true
 unfolding clap_on_literals
@@ -77,7 +81,7 @@ trial_frames = record { by_long = refl; by_id = refl; id = refl; values = refl; 
 
 -- each command has its options
 pub has_options : (c : Command) → HasOptions (name_of c) (options_of c)
-has_options (command.Run n) = record { plain = run_is_plain; free = run_is_free; each = (run_frames, lit< tt, tt) }
+has_options (command.Run n q) = record { plain = run_is_plain; free = run_is_free; each = (run_frames, lit< tt, (run_queue, lit< tt, tt)) }
 has_options (command.Format s k) = record { plain = format_is_plain; free = format_is_free; each = (format_serial, lit< tt, (format_counter, lit< tt, tt)) }
 has_options command.Scavenge = record { plain = scavenge_is_plain; free = scavenge_is_free; each = tt }
 has_options command.Convert = record { plain = convert_is_plain; free = convert_is_free; each = tt }
@@ -98,8 +102,23 @@ pub record IsOf (options : List NumberOption) (o : NumberOption) : Type 0 where
 own_frames : (frames.name ≡ codes "help" → ⊥) × (frames.name ≡ codes "version" → ⊥) × (frames.name ≡ [] → ⊥)
 own_frames = (other_letter _ _ (λ e. omega (arith, e)), other_letter _ _ (λ e. omega (arith, e)), other_letter _ _ (λ e. omega (arith, e)))
 
-pub frames_of_run : IsOf (frames ∷ []) frames
-frames_of_run = record { one = ((λ e. (refl, refl)), tt); own = own_frames; low = omega arith; high = omega arith; small = omega arith }
+pub frames_of_run : IsOf (frames ∷ queue ∷ []) frames
+frames_of_run = record {
+  one = ((λ e. (refl, refl)), ((λ e. absurd (other_letter _ _ (λ f. omega (arith, f)) e)), tt));
+  own = own_frames;
+  low = omega arith;
+  high = omega arith;
+  small = omega arith;
+}
+
+pub queue_of_run : IsOf (frames ∷ queue ∷ []) queue
+queue_of_run = record {
+  one = ((λ e. absurd (other_letter _ _ (λ f. omega (arith, f)) e)), ((λ e. (refl, refl)), tt));
+  own = (other_letter _ _ (λ e. omega (arith, e)), other_letter _ _ (λ e. omega (arith, e)), other_letter _ _ (λ e. omega (arith, e)));
+  low = omega arith;
+  high = omega arith;
+  small = omega arith;
+}
 
 pub serial_of_format : IsOf (serial ∷ counter ∷ []) serial
 serial_of_format = record {

@@ -19,6 +19,10 @@ pub record NumberOption : Type 0 where
 abbrev pub frames : NumberOption
 frames = record { name = codes "frames"; least = 24; most = 4096; otherwise = 64 }
 
+-- how many pages may wait before the disk
+abbrev pub queue : NumberOption
+queue = record { name = codes "queue"; least = 0; most = 256; otherwise = 0 }
+
 -- the high half of each identifier of a volume
 abbrev pub serial : NumberOption
 serial = record { name = codes "serial"; least = 1; most = 4294967295; otherwise = 1 }
@@ -37,7 +41,7 @@ calls = record { name = codes "calls"; least = 0; most = 1000000; otherwise = 10
 
 -- the word of a command
 abbrev pub name_of : Command → Text
-name_of (command.Run n) = codes "run"
+name_of (command.Run n q) = codes "run"
 name_of (command.Format s c) = codes "format"
 name_of command.Scavenge = codes "scavenge"
 name_of command.Convert = codes "convert"
@@ -45,7 +49,7 @@ name_of (command.Trial s n f) = codes "trial"
 
 -- its options
 abbrev pub options_of : Command → List NumberOption
-options_of (command.Run n) = frames ∷ []
+options_of (command.Run n q) = frames ∷ queue ∷ []
 options_of (command.Format s c) = serial ∷ counter ∷ []
 options_of command.Scavenge = []
 options_of command.Convert = []
@@ -53,7 +57,7 @@ options_of (command.Trial s n f) = seed ∷ calls ∷ frames ∷ []
 
 -- the number that it has for each of them
 abbrev pub numbers_of : Command → List ℕ
-numbers_of (command.Run n) = n ∷ []
+numbers_of (command.Run n q) = n ∷ q ∷ []
 numbers_of (command.Format s c) = s ∷ c ∷ []
 numbers_of command.Scavenge = []
 numbers_of command.Convert = []

@@ -5,7 +5,7 @@ ghost use Rattle.std.specs.Option.{option_map_or};
 ghost use Rattle.clap.specs.Words.{HasMatchesOf, IsParsedFrom, Text, app_of, fault_of, found_of, is_simple_and_free, one_text, rule_of, takes};
 ghost use Rattle.clap.specs.Values.{IsUnsignedIn};
 ghost use Rattle.command_words.specs.Meaning.{number_of};
-ghost use Rattle.command_words.specs.Options.{NumberOption, calls, counter, frames, option_rule, parser_with, rule_for, seed, serial};
+ghost use Rattle.command_words.specs.Options.{NumberOption, calls, counter, frames, option_rule, parser_with, queue, rule_for, seed, serial};
 
 use crate::refusal::{Refused, refusal_of};
 use clap::builder::ValueParser;
@@ -32,11 +32,12 @@ fn frames_option<'a>(alloc: Global) -> Arg<'a>
 
 /// The options of `run`.
 pub(crate) fn run_parser<'a>(alloc: Global) -> Result<Command<'a>, AllocError>
-    ensures { IfOk result (λ c. app_of c ≡ parser_with (codes "run") (frames ∷ [])) }
+    ensures { IfOk result (λ c. app_of c ≡ parser_with (codes "run") (frames ∷ queue ∷ [])) }
 {
     Command::new(alloc, "run")
         .disable_help_flag(true)
-        .arg(frames_option(alloc))
+        .arg(frames_option(alloc))?
+        .arg(number_option(alloc, "queue", 0, 256))
 }
 
 /// The options of `format`.

@@ -15,7 +15,7 @@ use std::alloc::Global;
 #[derive(Clone, Copy, Debug, PartialEq, Eq)]
 pub enum Command {
     /// Answers a trace on a volume.
-    Run { frames: u32 },
+    Run { frames: u32, queue: u32 },
     /// Makes a volume.
     Format { serial: u32, counter: u32 },
     /// Restores a volume from its labels.
@@ -36,7 +36,8 @@ fn run_of(alloc: Global, words: &[String]) -> Result<Command, Refused>
     let parser = run_parser(alloc)?;
     let matches = read(parser, words)?;
     let frames = number_or(&matches, "frames", 64);
-    Ok(Command::Run { frames })
+    let queue = number_or(&matches, "queue", 0);
+    Ok(Command::Run { frames, queue })
 }
 
 // The command `format` with these words.

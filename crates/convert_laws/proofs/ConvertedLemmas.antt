@@ -13,16 +13,16 @@ use Rattle.labelled_disk.specs.File.{File, total_room}
 use Rattle.labelled_disk.specs.FilesOn.{files_on, files_by}
 use Rattle.labelled_disk.specs.Lowest.{is_needed}
 use Rattle.labelled_disk.specs.CrashState.{crash_state}
-use Rattle.labelled_disk.specs.Root.{IsRoot, page_in, root_page, number_at, serial_of, counter_of}
+use Rattle.labelled_disk.specs.Root.{IsRoot, page_in, root_page, short_at, number_at, serial_of, counter_of}
 use Rattle.labelled_disk.specs.WriteRuns.{after_writes}
 use Rattle.labelled_disk.proofs.Finds.{get_set_same}
 use Rattle.labelled_disk.proofs.WriteLemmas as laws
 use Rattle.labelled_disk.proofs.WriteRunLemmas.{after_writes-append, crash_state-end}
 use Rattle.volume_root.specs.RootPage.{IsValidRoot, root_in, root_bytes, root_write}
-use Rattle.volume_root.proofs.WrittenLemmas.{is_root, root_read, serial_read, counter_read}
+use Rattle.volume_root.proofs.WrittenLemmas.{is_root, flag_read, root_read, serial_read, counter_read}
 use Rattle.label_laws.specs.Counts.{places, unneeded_sectors, needs_place}
 use Rattle.label_survey.specs.Counter.{IsRaised}
-use Rattle.scavenger.specs.Orders.{Orders, AreFor, map_writes, scavenge_writes}
+use Rattle.scavenger.specs.Orders.{Orders, AreFor, map_writes, closing_writes}
 use Rattle.scavenger.specs.Restored.{RestoresEach, IsRestored}
 use Rattle.old_files.specs.OldFiles.{files_old}
 use Rattle.old_files.proofs.ArrangeLemmas.{settled_has_files}
@@ -113,14 +113,13 @@ module _ (d : List Sector) (c : Conversion) (is : IsConversionOf d c) where
   has_root = subst (λ (s : Option Sector). IsRoot (length (settled_disk d c)) s) (sym root_here)
       (subst (λ (n : ℕ). IsRoot n (Some (root_label, root_bytes (today c.root)))) (sym long) (is_root (length d) (today c.root) valid is.serial.1 is.counter.1))
 
-  restored : RestoresEach → IsRestored (settled_disk d c) (after_writes (scavenge_writes o) (settled_disk d c))
-  restored restores = (restores (settled_disk d c) o is.sectors has_root for_it).restored
+  restored : RestoresEach → IsRestored (settled_disk d c) (after_writes (closing_writes o) (settled_disk d c))
+  restored restores = (restores (settled_disk d c) o is.sectors has_root for_it).closing (ap (λ (p : List ℕ). short_at p 10) page_here ∙ flag_read (today c.root))
 
   -- the same writes
-  same_end : after_writes (scavenge_writes o) (settled_disk d c) ≡ after_writes (convert_writes c) d
+  same_end : after_writes (closing_writes o) (settled_disk d c) ≡ after_writes (convert_writes c) d
   same_end =
-      ap (λ (ws : List DiskWrite). after_writes ws (settled_disk d c)) (append_right (map_writes 1 1 c.bits (vam c.root.sectors)) (map_writes 2 (1 + vam c.root.sectors) c.names (vfm c.root.sectors)) (root_write (closed_today c) ∷ []))
-      ∙ root_is_overwritten (after_writes c.arrange d) (both_maps c) root_label (root_bytes (closed_today c)) (root_label, root_bytes (today c.root)) low_there
+      root_is_overwritten (after_writes c.arrange d) (both_maps c) root_label (root_bytes (closed_today c)) (root_label, root_bytes (today c.root)) low_there
       ∙ after_writes-append c.arrange (both_maps c ++ root_write (closed_today c) ∷ []) d
       ∙ ap (λ (ws : List DiskWrite). after_writes ws d) (append_right c.arrange (both_maps c) (root_write (closed_today c) ∷ []))
     where
@@ -135,7 +134,7 @@ module _ (d : List Sector) (c : Conversion) (is : IsConversionOf d c) where
     sound = (restored restores).sound.1 (subst (λ (fs : List File). total_room fs ≤ capacity (length (settled_disk d c))) (sym same_files) (subst (λ (n : ℕ). total_room (files_old d) ≤ capacity n) (sym long) is.room));
     files = (restored restores).files ∙ same_files;
     has_serial = (restored restores).has_serial ∙ serial_here;
-    has_counter = subst (λ (n : ℕ). IsRaised (settled_disk d c) n c.root.counter (counter_of (after_writes (scavenge_writes o) (settled_disk d c)))) serial_here (subst (λ (n : ℕ). IsRaised (settled_disk d c) (serial_of (settled_disk d c)) n (counter_of (after_writes (scavenge_writes o) (settled_disk d c)))) counter_here (restored restores).has_counter);
+    has_counter = subst (λ (n : ℕ). IsRaised (settled_disk d c) n c.root.counter (counter_of (after_writes (closing_writes o) (settled_disk d c)))) serial_here (subst (λ (n : ℕ). IsRaised (settled_disk d c) (serial_of (settled_disk d c)) n (counter_of (after_writes (closing_writes o) (settled_disk d c)))) counter_here (restored restores).has_counter);
   })
 
   ends : (k : ℕ) → length (c.arrange ++ both_maps c) < k → crash_state d (convert_writes c) k ≡ after_writes (convert_writes c) d

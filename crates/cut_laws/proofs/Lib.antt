@@ -9,7 +9,8 @@ pub mod SteadyLemmas
 pub mod StayLemmas
 mod ShapeLemmas
 mod RestoredLemmas
-mod RootLemmas
+pub mod RootLemmas
+pub mod HonestLemmas
 pub mod OwnLemmas
 mod NumberLemmas
 pub mod SizeLemmas

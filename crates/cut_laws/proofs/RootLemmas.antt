@@ -4,7 +4,6 @@ use Rattle.std.specs.Prelude.{slice_get, slice_set, slice_range, IsSomeAnd, IsTr
 use Rattle.std.proofs.lemmas.Bool.{cases_eq}
 use Rattle.std.proofs.lemmas.List.{get_or-take, get_or-drop, take-take, drop-drop}
 use Rattle.std.proofs.lemmas.Option.{same_Some, none-some, slice_get_within, get_or_from_slice_get}
-use Rattle.byteorder.specs.Endian.{big_from, big_number}
 use Rattle.labelled_disk.specs.declared.label.Label.{Label}
 use Rattle.labelled_disk.specs.declared.disk.DiskWrite.{DiskWrite}
 use Rattle.labelled_disk.specs.declared.disk.DiskWrite.TheVariants as kind
@@ -20,36 +19,11 @@ use Rattle.labelled_disk.proofs.WriteLemmas as laws
 use Rattle.label_laws.specs.PermittedRuns.{ArePermitted}
 use Rattle.label_laws.proofs.PermittedLemmas.{each_permitted}
 use Rattle.label_laws.proofs.MixedLemmas.{crash_state_long, written_long, written_other}
+use Rattle.cut_words.proofs.NumberLemmas.{number_same, prefix_same}
 use Rattle.cut_laws.specs.Cut.{unit, AtSome, IsCutSince}
 use Rattle.cut_laws.specs.Roots.{FlagLaws, OneUnitApart, RootOfCrashStates, SetsFlag, flag_of}
 use Rattle.cut_laws.proofs.UnitLemmas.{in_unit, same_units}
 use Rattle.cut_laws.proofs.CrashStateLemmas.{get_some, history}
-
--- Bytes of one unit.
-
-same_byte : (u a : ℕ) (xs ys : List ℕ) → a < 16 → unit u xs ≡ unit u ys → get_or xs (16 * u + a) 0 ≡ get_or ys (16 * u + a) 0
-same_byte u a xs ys low same = sym (byte xs) ∙ ap (λ (l : List ℕ). get_or l a 0) same ∙ byte ys
-  where
-    byte : (zs : List ℕ) → get_or (unit u zs) a 0 ≡ get_or zs (16 * u + a) 0
-    byte zs = get_or-take 16 (drop (16 * u) zs) a 0 low ∙ get_or-drop (16 * u) zs a 0
-
-big_same : (i n k : ℕ) (xs ys : List ℕ) → ((m : ℕ) → i ≤ m → m < i + n → get_or xs (k + m) 0 ≡ get_or ys (k + m) 0) → big_from i n (drop k xs) ≡ big_from i n (drop k ys)
-big_same i zero k xs ys same = refl
-big_same i (suc n) k xs ys same =
-    let first : get_or (drop k xs) i 0 ≡ get_or (drop k ys) i 0 = get_or-drop k xs i 0 ∙ same i (omega arith) (omega arith) ∙ sym (get_or-drop k ys i 0) in
-    let rest = big_same (suc i) n k xs ys (λ m low high. same m (omega (arith, low)) (omega (arith, high))) in
-    ap (λ (b : ℕ). b * 256 ^ n + big_from (suc i) n (drop k xs)) first ∙ ap (λ (b : ℕ). get_or (drop k ys) i 0 * 256 ^ n + b) rest
-
-number_same : (u a n : ℕ) (xs ys : List ℕ) → a + n ≤ 16 → unit u xs ≡ unit u ys → big_number n (drop (16 * u + a) xs) ≡ big_number n (drop (16 * u + a) ys)
-number_same u a n xs ys fits same = big_same 0 n (16 * u + a) xs ys byte
-  where
-    byte : (m : ℕ) → 0 ≤ m → m < 0 + n → get_or xs (16 * u + a + m) 0 ≡ get_or ys (16 * u + a + m) 0
-    byte m low high =
-        let z : 16 * u + (a + m) ≡ 16 * u + a + m = omega arith in
-        subst (λ (k : ℕ). get_or xs k 0 ≡ get_or ys k 0) z (same_byte u (a + m) xs ys (omega (arith, fits, high)) same)
-
-prefix_same : (xs ys : List ℕ) → unit 0 xs ≡ unit 0 ys → slice_range xs 0 8 ≡ slice_range ys 0 8
-prefix_same xs ys same = sym (take-take 8 16 xs (omega arith)) ∙ ap (λ (l : List ℕ). take 8 l) same ∙ take-take 8 16 ys (omega arith)
 
 -- The root's sector.
 

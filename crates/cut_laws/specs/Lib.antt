@@ -1,6 +1,7 @@
 pub mod Cut
 pub mod CutLaws
 pub mod Example
+pub mod Honest
 pub mod Mixes
 pub mod OwnBytes
 pub mod OwnRuns

@@ -4,6 +4,7 @@ ghost use Rattle.std.specs.Prelude.{ℕ, Bool, List};
 ghost use Rattle.labelled_disk.specs.Syncing.{AreSyncs};
 ghost use Rattle.cut_laws.specs.CutLaws.{CutLaws, WindowLaws};
 ghost use Rattle.cut_laws.specs.Example.{ExampleCuts};
+ghost use Rattle.cut_laws.specs.Honest.{CutsAreHonest};
 ghost use Rattle.cut_laws.specs.Mixes.{MixLaws};
 ghost use Rattle.cut_laws.specs.OwnBytes.{OwnBytes};
 ghost use Rattle.cut_laws.specs.OwnRuns.{OwnRunLaws};
@@ -60,6 +61,12 @@ pub fn root_in_cuts()
 /// A file has bytes of its own in a cut, where its sectors were no other's since the last sync.
 pub fn own_bytes_in_cuts()
     ensures { (id : ℕ) → OwnBytes id }
+{}
+
+/// A run opens the volume and may close it, with a sync after the first write and before the last: each cut that says closed is
+/// sound.
+pub fn flag_is_honest_in_cuts()
+    ensures { CutsAreHonest }
 {}
 
 /// A file that gets more pages, or fewer, has a size in a cut that it had in some crash state.

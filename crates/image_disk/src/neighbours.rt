@@ -71,10 +71,12 @@ impl Neighbours {
     pub(crate) fn fill<F: FileExt>(&mut self, file: &F, first: u32, count: u32) -> io::Result<()>
         requires { count ≤ 32 }
     {
+        let mut bytes = [0; 16896];
         self.count = 0;
-        file.read_exact_at(&mut self.bytes[..528 * count as usize], label_at(first))?;
+        file.read_exact_at(&mut bytes[..528 * count as usize], label_at(first))?;
         self.first = first;
         self.count = count;
+        self.bytes = bytes;
         Ok(())
     }
 

@@ -14,7 +14,7 @@ pub mod MixedRunLemmas
 mod QuietLemmas
 mod LeaderLemmas
 mod AssemblyLemmas
-mod SoundLemmas
+pub mod SoundLemmas
 pub mod PermanentLemmas
 mod TemporaryLemmas
 mod LabelWriteLemmas

@@ -17,8 +17,10 @@ commands  format   makes an empty volume of the whole disk; what was there is
           run      opens the volume, reads calls from standard input, a line
                    each, and writes a reply to each; files are made, sized,
                    marked, deleted and asked for, and mapped to spaces, where
-                   bytes are loaded and stored; option --frames n, 24 to 4096,
-                   by default 64: how many pages are kept in memory
+                   bytes are loaded and stored; options --frames n, 24 to 4096,
+                   by default 64: how many pages are kept in memory, and
+                   --queue n, 0 to 256, by default 0: how many pages may wait
+                   before the disk, and are written in ascending sectors
           scavenge restores the volume from its labels, and writes a line for
                    each lost sector and the counts
           convert  brings a volume of version 1 or 2 to version 3, with the same

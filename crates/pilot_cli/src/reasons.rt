@@ -99,7 +99,8 @@ pub(crate) fn stream_failed(rt: &HostRuntime, source: Option<io::Error>, sink: O
 /// What a command takes memory for.
 fn what_takes_memory(meant: Command) -> &'static str {
     match meant {
-        Command::Run { .. } | Command::Trial { .. } => "the frames",
+        Command::Run { queue: 0, .. } | Command::Trial { .. } => "the frames",
+        Command::Run { .. } => "the frames and the queue",
         Command::Scavenge | Command::Convert => "labels and maps",
         _ => "the words",
     }

@@ -44,9 +44,11 @@ pub mod AnonymousLemmas
 pub mod NewWindow
 pub mod OwnLemmas
 pub mod ShutLemmas
+pub mod ShutBySyncLemmas
 pub mod UnsetLemmas
 pub mod LackLemmas
 pub mod HomeLemmas
 pub mod SpaceMisses
 pub mod HomeSteps
 pub mod EndNeverBlames
+pub mod RestLemmas

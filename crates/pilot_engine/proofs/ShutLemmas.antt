@@ -17,7 +17,7 @@ use Rattle.labelled_disk.specs.WriteRuns.{after_writes}
 use Rattle.labelled_disk.proofs.WriteRunLemmas.{appended_no_more, appended_none, appended_one, appended_then, crash_state-earlier, crash_state-later}
 use Rattle.frame_pool.specs.Frames.{Slots}
 use Rattle.swapper_kernel.specs.Goes.{IsDirty, Makes, Pages, Went, is_page_write}
-use Rattle.swapper_kernel.specs.GoesLaws.{went_then}
+use Rattle.swapper_kernel.specs.GoesLaws.{same_syncs, went_then}
 use Rattle.session_words.specs.Volume.{volume_page}
 use Rattle.volume_root.specs.declared.root.Root.{Root}
 use Rattle.volume_root.specs.RootPage.{IsValidRoot, root_bytes, root_write}
@@ -121,7 +121,7 @@ shut_still h same k = record {
 module _ (old new : DiskState) (slots : Slots) (n : ℕ) (root : Root) (valid : IsValidRoot n (closed_root root)) (serial : root.serial < 2 ^ 32) (counter : root.counter < 2 ^ 32)
     (whole : (d : List Sector) → old.contents ≡ Some d → length d ≡ n) (moves : Moves old new) where
   went : Went old new
-  went = record { sectors = moves.sectors; lent = moves.lent; faults = moves.faults; transfers = moves.transfers.later }
+  went = record { sectors = moves.sectors; lent = moves.lent; syncs = same_syncs old new moves.syncs; faults = moves.faults; transfers = moves.transfers.later }
 
   form : (k : ℕ) (w : DiskWrite) → slice_get (root_write (closed_root root) ∷ []) k ≡ Some w → IsWriteInForm w
   form zero w here = subst IsWriteInForm (same_Some (root_write (closed_root root)) w here) (root_in_form (closed_root root))

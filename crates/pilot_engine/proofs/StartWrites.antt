@@ -1,5 +1,5 @@
 -- What a start has written, exit by exit.
-use Rattle.std.proofs.Common.{◌≡◌, ◌⊎◌, inl, inr, ℕ, zero, suc, ◌<◌, ◌^◌, false, ◌++◌, List, [], ◌∷◌, length, Some, refl, sym, ◌∙◌, ap, append-nil, subst, arith}
+use Rattle.std.proofs.Common.{◌≡◌, ◌⊎◌, inl, inr, ℕ, zero, suc, ◌+◌, ◌≤◌, ◌<◌, ◌^◌, false, ◌++◌, List, [], ◌∷◌, length, Some, refl, sym, ◌∙◌, ap, append-nil, subst, arith}
 use Rattle.std.specs.Prelude.{option_map, slice_get}
 use Rattle.std.proofs.lemmas.Option.{none-some, same_Some}
 use Rattle.labelled_disk.specs.declared.disk.DiskWrite.{DiskWrite}
@@ -19,21 +19,22 @@ use Rattle.labelled_disk.proofs.WriteRunLemmas.{appended_none, appended_then}
 use Rattle.frame_pool.specs.Frames.{Slots}
 use Rattle.label_calls.specs.Labels.{MayHaveWritten}
 use Rattle.swapper_kernel.specs.declared.manager.Manager.TheVariants.{AllocationMap}
-use Rattle.swapper_kernel.specs.Goes.{IsDirty, Makes, no_page}
-use Rattle.swapper_kernel.specs.GoesLaws.{makes_then, went_then}
+use Rattle.swapper_kernel.specs.Goes.{IsDirty, Makes, Went, no_page}
+use Rattle.swapper_kernel.specs.GoesLaws.{makes_then, same_syncs, went_itself, went_then}
+use Rattle.swapper_kernel.specs.SyncLaws.{has_sync_later}
 use Rattle.swapper_kernel.specs.Window.{Beside}
 use Rattle.session_words.specs.Volume.{volume_page}
 use Rattle.volume_root.specs.declared.root.Root.{Root}
 use Rattle.volume_root.specs.RootPage.{IsValidRoot, root_in, root_write}
 use Rattle.file_manager.specs.Making.{MakesAll, MakesSome}
 use Rattle.file_manager.proofs.RunLeads.{map_makes, take_all}
-use Rattle.pilot_engine.specs.Opening.{in_use, IsBare, StartsSome, WroteFirst, KeepsFiles}
+use Rattle.pilot_engine.specs.Opening.{in_use, IsBare, StartsSome, SyncsFirst, WroteFirst, KeepsFiles}
 use Rattle.running_words.proofs.FlagLemmas.{labels_alone}
 use Rattle.pilot_engine.proofs.StartCrashStates.{files_kept}
 
 module _ (root : Root) (a : DiskState) (s : Slots) (bare : IsBare s) where
   -- where no frame is there, no page is written out
-  alone : {run : List DiskWrite} {b : DiskState} (made : Makes no_page run a s b s) → made.wrote.writes ≡ run
+  pub alone : {run : List DiskWrite} {b : DiskState} (made : Makes no_page run a s b s) → made.wrote.writes ≡ run
   alone made =
       labels_alone made.wrote.writes (λ k sector wanted bytes here. elim (made.wrote.of_dirty k sector wanted bytes here) [ inl was ↦ bare was.slot was.frame was.has | inr none ↦ none ])
       ∙ made.wrote.labels
@@ -56,8 +57,8 @@ module _ (root : Root) (a : DiskState) (s : Slots) (bare : IsBare s) where
 
   -- the write of the root failed
   pub root_some : {b : DiskState} → MayHaveWritten (root_write (in_use root)) a s b → StartsSome root a s b s
-  root_some (inl none) = record { sectors = []; few = omega arith; count = 0; makes = wider none; first = inl (alone none) }
-  root_some (inr made) = record { sectors = []; few = omega arith; count = 1; makes = wider made; first = inr ([], alone made) }
+  root_some (inl none) = record { sectors = []; few = omega arith; count = 0; makes = wider none; first = inl (alone none); syncs = inl (let n = ap length (alone none) in omega (arith, n)) }
+  root_some (inr made) = record { sectors = []; few = omega arith; count = 1; makes = wider made; first = inr ([], alone made); syncs = inl (let n = ap length (alone made) in omega (arith, n)) }
 
   module _ {b : DiskState} (made : Makes no_page (root_write (in_use root) ∷ []) a s b s) where
     pub first_made : Appended (root_write (in_use root) ∷ []) a b
@@ -96,14 +97,17 @@ module _ (root : Root) (a : DiskState) (s : Slots) (bare : IsBare s) where
         count = k.count ∙ made.count;
       }
 
-    module _ {layout later : Layout} {c : DiskState} {t : Slots} (beside : Beside AllocationMap b s layout c t later) where
+    module _ (synced : SyncsFirst a b) {layout later : Layout} {c : DiskState} {t : Slots} (beside : Beside AllocationMap b s layout c t later) where
+      synced_still : {d : DiskState} → Went c d → SyncsFirst a d
+      synced_still went writes is = has_sync_later (length writes + 1) (went_then (map_makes beside).went went) (synced writes is)
+
       -- the free sectors were looked for
       pub count_some : StartsSome root a s c t
-      count_some = record { sectors = []; few = omega arith; count = 1; makes = then_more (map_makes beside); first = inr (_, refl) }
+      count_some = record { sectors = []; few = omega arith; count = 1; makes = then_more (map_makes beside); first = inr (_, refl); syncs = inr (synced_still (went_itself c)) }
 
       -- the pages of the space tables were made, or some of them
       pub tables_some : {d : DiskState} {u : Slots} → MakesSome 3 0 0 96 c t d u → StartsSome root a s d u
-      tables_some some = record { sectors = some.sectors; few = some.few; count = suc some.count; makes = then_more (makes_then (map_makes beside) some.makes); first = inr (_, refl) }
+      tables_some some = record { sectors = some.sectors; few = some.few; count = suc some.count; makes = then_more (makes_then (map_makes beside) some.makes); first = inr (_, refl); syncs = inr (synced_still some.makes.went) }
 
       -- all of them were made, and then bytes of theirs were written
       pub tables_all : {d e : DiskState} {u v : Slots} → MakesAll 3 0 0 96 c t d u → Makes volume_page [] d u e v → StartsSome root a s e v
@@ -114,6 +118,7 @@ module _ (root : Root) (a : DiskState) (s : Slots) (bare : IsBare s) where
         makes = then_more (makes_then (map_makes beside)
             (subst (λ (ws : List DiskWrite). Makes volume_page ws c t e v) (append-nil (growth 3 0 0 all.sectors) ∙ sym (take_all (growth 3 0 0 all.sectors))) (makes_then all.makes bytes)));
         first = inr (_, refl);
+        syncs = inr (synced_still (went_then all.makes.went bytes.went));
       }
 
 -- After calls that wrote nothing.
@@ -131,7 +136,7 @@ module _ {o a : DiskState} (reads : OnlyReads o a) where
     sectors = [];
     few = omega arith;
     count = 0;
-    went = record { sectors = reads.sectors; lent = reads.lent; faults = reads.faults; transfers = reads.transfers };
+    went = record { sectors = reads.sectors; lent = reads.lent; syncs = same_syncs o a reads.syncs; faults = reads.faults; transfers = reads.transfers };
     wrote = record {
       writes = [];
       appended = appended_none (record { contents = reads.contents; writes = reads.writes });
@@ -141,6 +146,7 @@ module _ {o a : DiskState} (reads : OnlyReads o a) where
       of_dirty = λ k sector wanted bytes here. absurd (none-some (Page sector wanted bytes) here);
     };
     first = inl refl;
+    syncs = inl (omega arith);
   }
 
   pub read_keeps : (d : List Sector) → LabelsRight d → KeepsFiles d o a
@@ -175,6 +181,7 @@ module _ {o a : DiskState} (reads : OnlyReads o a) where
           went = record {
             sectors = went.sectors ∙ reads.sectors;
             lent = went.lent ∙ reads.lent;
+            syncs = λ syncs is. went.syncs syncs (reads.syncs ∙ is);
             faults = omega (arith, reads.faults, went.faults);
             transfers = omega (arith, reads.transfers, went.transfers);
           };
@@ -187,6 +194,7 @@ module _ {o a : DiskState} (reads : OnlyReads o a) where
             of_dirty = λ k sector wanted bytes here. elim (w.of_dirty k sector wanted bytes here) [ inl was ↦ absurd (bare was.slot was.frame was.has) | inr own ↦ inr own ];
           };
           first = starts.first;
+          syncs = elim starts.syncs [ inl few ↦ inl few | inr synced ↦ inr (λ writes is. synced writes (reads.writes ∙ is)) ];
         }
 
     -- and the files in each crash state of it

@@ -1,14 +1,15 @@
 -- A session's end: its temporary files go, then the pages of the space tables, and the volume is closed.
-use Rattle.std.specs.Prelude.{◌≡◌, ◌⊎◌, ℕ, ◌<◌, ◌≤◌, true, List, [], ◌∷◌, ◌++◌, filter, length, Option, Some, None}
+use Rattle.std.specs.Prelude.{◌≡◌, ◌⊎◌, ℕ, ◌+◌, ◌<◌, ◌≤◌, true, List, [], ◌∷◌, ◌++◌, filter, length, Option, Some, None}
 use Rattle.labelled_disk.specs.declared.disk.DiskWrite.{DiskWrite}
 use Rattle.labelled_disk.specs.declared.layout.Layout.{Layout}
 use Rattle.labelled_disk.specs.File.{File, file_at}
 use Rattle.labelled_disk.specs.Layout.{capacity}
-use Rattle.labelled_disk.specs.CrashState.{crash_state}
+use Rattle.labelled_disk.specs.Calls.{RevealsSame, RevealsWrite}
+use Rattle.labelled_disk.specs.CrashState.{crash_state, written}
 use Rattle.labelled_disk.specs.Root.{root_page, short_at, serial_of, counter_of}
 use Rattle.labelled_disk.specs.Sectors.{Sector}
 use Rattle.labelled_disk.specs.State.{DiskState}
-use Rattle.labelled_disk.specs.WriteRuns.{Appended}
+use Rattle.labelled_disk.specs.WriteRuns.{Appended, after_writes}
 use Rattle.volume_root.specs.RootPage.{root_write}
 use Rattle.volume_root.specs.Sound.{Sound}
 use Rattle.volume_root.specs.declared.root.Root.{Root}
@@ -19,6 +20,7 @@ use Rattle.flat_machine.specs.Next.{next}
 use Rattle.swapper_kernel.specs.declared.manager.Manager.{Manager}
 use Rattle.swapper_kernel.specs.Goes.{IsDirty, Makes, Wrote, Went}
 use Rattle.swapper_kernel.specs.Maps.{id_of}
+use Rattle.swapper_kernel.specs.SyncLaws.{HasSync}
 use Rattle.swapper_kernel.specs.Stands.{Stands}
 use Rattle.filer_kernel.specs.declared.cached.CachedRuns.{CachedRuns}
 use Rattle.session_words.specs.CloseLaws.{IsClosed}
@@ -128,6 +130,28 @@ pub record HasShut (m : Machine) (disk : DiskState) : Type 0 where
 -- none of these writes sets the clean flag, or the last alone, which is the root of a closed volume
 abbrev pub ShutLast : List DiskWrite → Type 0
 ShutLast writes = AreOpen writes ⊎ ((earlier : List DiskWrite) × (root : Root) × (writes ≡ earlier ++ root_write (closed_root root) ∷ []) × AreOpen earlier)
+
+-- nothing was written, or the root of the closed volume, with the counter of the one that stood there
+abbrev pub MayClose : Root → DiskState → DiskState → Type 0
+MayClose root old new = RevealsSame old new ⊎ (RevealsWrite (root_write (closed_root root)) old new
+    × ((d : List Sector) → old.contents ≡ Some d → counter_of (written (root_write (closed_root root)) d) ≡ counter_of d))
+
+-- The last of these writes alone sets the clean flag: it is a root with the counter of the one that stood there, and the disk
+-- was synced just before it.
+pub record ShutAfterSync (writes : List DiskWrite) (old new : DiskState) : Type 0 where
+  pub earlier : List DiskWrite
+  pub root : Root
+  pub is : writes ≡ earlier ++ root_write (closed_root root) ∷ []
+  pub opens : AreOpen earlier
+  pub synced : (made : List DiskWrite) → old.writes ≡ Some made → HasSync new (length made + length earlier)
+  pub same_counter : (d : List Sector) → old.contents ≡ Some d
+      → counter_of (written (root_write (closed_root root)) (after_writes earlier d)) ≡ counter_of (after_writes earlier d)
+
+-- so it is with the writes that were made, or none of them sets the flag
+pub record ShutsBySync (old new : DiskState) : Type 0 where
+  pub writes : List DiskWrite
+  pub appended : Appended writes old new
+  pub shut : AreOpen writes ⊎ ShutAfterSync writes old new
 
 -- over any contents: the writes of an end, whose last may set the clean flag, were permitted, each where it is made, and no page but
 -- those of the volume's own became dirty

@@ -11,3 +11,4 @@ pub mod Beginning
 pub mod NewCrashStates
 pub mod Reasons
 pub mod EndLaws
+pub mod Rest

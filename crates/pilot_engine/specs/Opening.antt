@@ -16,6 +16,7 @@ use Rattle.frame_pool.specs.Frames.{Slots, Frame, Has}
 use Rattle.file_map.specs.FileMap.{most_records}
 use Rattle.flat_machine.specs.Space.{root}
 use Rattle.swapper_kernel.specs.Goes.{Went, Wrote, Makes}
+use Rattle.swapper_kernel.specs.SyncLaws.{HasSync}
 use Rattle.filer_kernel.specs.Evidence.{ShowsEvidence}
 use Rattle.session_words.specs.Parts.{TablesMeaning}
 use Rattle.session_words.specs.Volume.{volume_page}
@@ -39,6 +40,14 @@ in_use root = record root { clean = false }
 abbrev pub IsBare : Slots → Type 0
 IsBare slots = (i : ℕ) (f : Frame) → Has slots i f → ⊥
 
+-- once the first write after these was made, the disk was synced
+abbrev pub SyncsFirst : DiskState → DiskState → Type 0
+SyncsFirst old new = (writes : List DiskWrite) → old.writes ≡ Some writes → HasSync new (length writes + 1)
+
+-- or no other was made
+abbrev pub SyncsFirstOrStops : List DiskWrite → DiskState → DiskState → Type 0
+SyncsFirstOrStops made old new = (length made ≤ 1) ⊎ SyncsFirst old new
+
 -- The first of the writes of a start were made: the root of a volume in use, before all others, and labels of the space
 -- tables. Page bytes were written where pages of the volume's own have them.
 pub record StartsSome (root : Root) (old : DiskState) (before : Slots) (new : DiskState) (after : Slots) : Type 0 where
@@ -47,6 +56,7 @@ pub record StartsSome (root : Root) (old : DiskState) (before : Slots) (new : Di
   pub count : ℕ
   pub makes : Makes volume_page (take count (root_write (in_use root) ∷ growth 3 0 0 sectors)) old before new after
   pub first : BeginWith (root_write (in_use root)) makes.wrote.writes
+  pub syncs : SyncsFirstOrStops makes.wrote.writes old new
 
 -- Over any contents: the first of the writes of a start were made, with some root, which goes before all others, and in some
 -- sectors, each permitted where it is made; and page bytes of the volume's own pages alone.
@@ -58,6 +68,7 @@ pub record WroteFirst (old new : DiskState) : Type 0 where
   pub went : Went old new
   pub wrote : Wrote volume_page (take count (root_write (in_use root) ∷ growth 3 0 0 sectors)) old [] new
   pub first : BeginWith (root_write (in_use root)) wrote.writes
+  pub syncs : SyncsFirstOrStops wrote.writes old new
 
 -- over any contents: the clean flag of the disk is 0
 abbrev pub IsUnset : DiskState → Type 0

@@ -13,7 +13,7 @@ ghost use Rattle.session_words.specs.Parts.{TablesMeaning};
 ghost use Rattle.running_words.specs.Bound.{CostsOther, emptying_bound};
 ghost use Rattle.running_words.specs.Running.{Runs};
 ghost use Rattle.running_words.specs.Session.{IsOpen, IsAlone, Wrote};
-ghost use Rattle.pilot_engine.specs.Closing.{AreWritten, HasShut, IsEmptied, IsOpenStop, IsReady, IsStop, RevealsShut, Throughout, WroteAny, WroteOn, closed_root};
+ghost use Rattle.pilot_engine.specs.Closing.{AreWritten, HasShut, IsEmptied, IsOpenStop, IsReady, IsStop, RevealsShut, MayClose, ShutsBySync, Throughout, WroteAny, WroteOn, closed_root};
 ghost use Rattle.pilot_engine.specs.Opening.{IsUnset, LeavesOpen, root_alone};
 ghost use Rattle.fault_core.specs.Core.{state};
 ghost use Rattle.fault_core.specs.Kill.{BreaksWithin};
@@ -193,6 +193,32 @@ impl<D: Disk, A: Allocator> Session<D, A> {
         }
     }
 
+    // The same, and waits until all that was written is on the medium: what is written next comes after it there, too.
+    fn sync_maps(&mut self) -> Result<(), Halt>
+        requires size { (D.state self.old.core.filer.swapper.disk).sectors ≡ self.old.core.filer.swapper.layout.sectors }
+        ensures clean { OnOk result (AreWritten self.new.core.filer.swapper.pool) }
+        ensures synced { OnOk result ((D.state self.new.core.filer.swapper.disk).synced ≡ true) }
+        ensures sound { (x : List Sector) → Stands (D.state self.old.core.filer.swapper.disk) self.old.core.filer.swapper.pool x → IfErr result (λ e. e ≡ halt.Disk) }
+        ensures counted { result ≡ Err halt.Disk → Rose (D.state self.old.core.filer.swapper.disk).faults (D.state self.new.core.filer.swapper.disk).faults }
+        ensures cause { IfErr result (After Made WriteHalts (state self.old.core) (state self.new.core)) }
+        ensures reasons { (o : InitialState) → KeepsBare o self.old.core.filer → IfErr result (ShowsReason o self.old.core.filer.swapper.layout (D.state self.new.core.filer.swapper.disk)) }
+        ensures right { (o : InitialState) → IfErr result (NeverBlamesEnd o (D.state self.new.core.filer.swapper.disk)) }
+        ensures evidence_seen { IfErr result (ShowsEvidence (D.state self.new.core.filer.swapper.disk)) }
+        ensures swaps { Swaps (D.state self.old.core.filer.swapper.disk) self.old.core.filer.swapper.pool (D.state self.new.core.filer.swapper.disk) self.new.core.filer.swapper.pool }
+        ensures layout { self.new.core.filer.swapper.layout ≡ self.old.core.filer.swapper.layout }
+        ensures volume { self.new.volume ≡ self.old.volume }
+        ensures cost { (D.state self.new.core.filer.swapper.disk).transfers ≤ (D.state self.old.core.filer.swapper.disk).transfers + 8192 }
+    {
+        match self.write_maps() {
+            Ok(()) => (),
+            Err(halt) => return Err(halt),
+        }
+        match space_calls::sync(&mut self.core) {
+            Ok(()) => Ok(()),
+            Err(halt) => Err(halt),
+        }
+    }
+
     // Writes the root of the closed volume.
     fn write_clean(&mut self) -> Result<(), Halt>
         requires size { (D.state self.old.core.filer.swapper.disk).sectors ≡ self.old.core.filer.swapper.layout.sectors }
@@ -203,6 +229,8 @@ impl<D: Disk, A: Allocator> Session<D, A> {
         ensures stops { (m : Machine) → IsReady m self.old.volume.root (D.state self.old.core.filer.swapper.disk) → ((d : List Sector) → (D.state self.old.core.filer.swapper.disk).contents ≡ Some d → IsOpenStop m d)
             → Throughout (IsStop m) (D.state self.old.core.filer.swapper.disk) (D.state self.new.core.filer.swapper.disk) }
         ensures wrote { WroteAny (D.state self.old.core.filer.swapper.disk) self.old.core.filer.swapper.pool (D.state self.new.core.filer.swapper.disk) self.new.core.filer.swapper.pool }
+        ensures sets { (m : Machine) → IsReady m self.old.volume.root (D.state self.old.core.filer.swapper.disk)
+            → MayClose self.old.volume.root (D.state self.old.core.filer.swapper.disk) (D.state self.new.core.filer.swapper.disk) }
         ensures cost { (D.state self.new.core.filer.swapper.disk).transfers ≤ (D.state self.old.core.filer.swapper.disk).transfers + 1 }
     {
         let root = closed(self.volume.root);
@@ -231,6 +259,8 @@ impl<D: Disk, A: Allocator> Session<D, A> {
         ensures evidence_seen { IfErr result (ShowsEvidence (D.state self.new.core.filer.swapper.disk)) }
         ensures left_open { IsUnset (D.state self.old.core.filer.swapper.disk) → IfErr result (LeavesOpen (D.state self.new.core.filer.swapper.disk)) }
         ensures wrote { WroteAny (D.state self.old.core.filer.swapper.disk) self.old.core.filer.swapper.pool (D.state self.new.core.filer.swapper.disk) self.new.core.filer.swapper.pool }
+        ensures syncs { (m : Machine) → Runs self.old.core self.old.volume m
+            → ShutsBySync (D.state self.old.core.filer.swapper.disk) (D.state self.new.core.filer.swapper.disk) }
         ensures cost { (m : Machine) → Runs self.old.core self.old.volume m
             → CostsOther (D.state self.old.core.filer.swapper.disk) (D.state self.new.core.filer.swapper.disk) }
     {
@@ -242,7 +272,7 @@ impl<D: Disk, A: Allocator> Session<D, A> {
             Ok(()) => (),
             Err(halt) => return Err(halt),
         }
-        match self.write_maps() {
+        match self.sync_maps() {
             Ok(()) => (),
             Err(halt) => return Err(halt),
         }
@@ -269,8 +299,8 @@ impl<D: Disk, A: Allocator> Session<D, A> {
     }
 
     /// Ends the session, and hands the disk back: the temporary files are deleted, the pages of the space tables are
-    /// freed, both maps are written, then the root with its clean flag set, and all of it is on the medium. After a halt
-    /// the volume is to be restored before it can be opened.
+    /// freed, both maps are written, and once all of it is on the medium the root with its clean flag set, which then is
+    /// so too. After a halt the volume is to be restored before it can be opened.
     pub fn finish(self) -> (Result<(), Halt>, D)
         requires size { (D.state self.core.filer.swapper.disk).sectors ≡ self.core.filer.swapper.layout.sectors }
         requires opened { IsOpen self.core.filer.swapper.layout self.volume }
@@ -289,6 +319,8 @@ impl<D: Disk, A: Allocator> Session<D, A> {
         ensures evidence_seen { IfErr result.0 (ShowsEvidence (D.state result.1)) }
         ensures left_open { IsUnset (D.state self.core.filer.swapper.disk) → IfErr result.0 (LeavesOpen (D.state result.1)) }
         ensures wrote { WroteOn self.core.filer.swapper.pool (D.state self.core.filer.swapper.disk) (D.state result.1) }
+        ensures syncs { (m : Machine) → Runs self.core self.volume m
+            → ShutsBySync (D.state self.core.filer.swapper.disk) (D.state result.1) }
         ensures cost { (m : Machine) → Runs self.core self.volume m
             → CostsOther (D.state self.core.filer.swapper.disk) (D.state result.1) }
     {

@@ -13,6 +13,7 @@ mod fresh;
 mod laws;
 mod marks;
 mod order;
+mod rooted;
 mod session;
 mod set_size;
 mod sight;

@@ -1,5 +1,5 @@
 //! A session is started on a volume that was closed.
-ghost use Rattle.std.specs.Prelude.{◌≡◌, ◌⊎◌, ℕ, ◌+◌, ◌-◌, ◌*◌, ◌^◌, ◌<◌, ◌≤◌, min, true, List, [], ◌∷◌, ◌++◌, length, Some, Err, IfOk, IfErr, OnOk, MatchResult};
+ghost use Rattle.std.specs.Prelude.{◌≡◌, ◌⊎◌, ℕ, ◌+◌, ◌-◌, ◌*◌, ◌^◌, ◌<◌, ◌≤◌, min, true, List, [], ◌∷◌, ◌++◌, length, Some, Err, IfOk, IfErr, OnErr, OnOk, MatchResult};
 ghost use Rattle.labelled_disk.specs.declared.evidence.Halt.TheVariants as halt;
 ghost use Rattle.labelled_disk.specs.declared.layout.RootFault.TheVariants as fault;
 ghost use Rattle.labelled_disk.specs.Calls.{OnlyReads, ReadsAtMost, Rose};
@@ -12,21 +12,23 @@ ghost use Rattle.filer_kernel.specs.Evidence.{ShowsEvidence};
 ghost use Rattle.fault_core.specs.View.{TablesAre, view_of};
 ghost use Rattle.filer_kernel.specs.Cached.{runs_of};
 ghost use Rattle.flat_machine.specs.Start.{start};
-ghost use Rattle.swapper_kernel.specs.Goes.{Makes, no_page};
+ghost use Rattle.swapper_kernel.specs.Goes.{Goes, Makes, no_page};
+ghost use Rattle.label_calls.specs.Labels.{MayHaveWritten};
+ghost use Rattle.labelled_disk.specs.CrashState.{written};
 ghost use Rattle.session_words.specs.Volume.{volume_page};
 ghost use Rattle.volume_root.specs.Flag.{IsRefused};
 ghost use Rattle.volume_root.specs.RootPage.{IsValidRoot, root_in, root_write};
 ghost use Rattle.volume_root.specs.Sound.{Sound};
 ghost use Rattle.running_words.specs.Bound.{CostsOther};
 ghost use Rattle.pilot_engine.specs.declared.fault.StartFault.TheVariants as start_fault;
-ghost use Rattle.pilot_engine.specs.Opening.{root_alone, in_use, IsBare, StartsSome, WroteFirst, KeepsFiles, CostsStart, IsDiskFault, IsOutside, IsEarly, IsRightRefusal, IsUnset, LeavesOpen, IsSoAtStart, LeavesOpenAtStart};
+ghost use Rattle.pilot_engine.specs.Opening.{root_alone, in_use, IsBare, StartsSome, WroteFirst, SyncsFirst, KeepsFiles, CostsStart, IsDiskFault, IsOutside, IsEarly, IsRightRefusal, IsUnset, LeavesOpen, IsSoAtStart, LeavesOpenAtStart};
 ghost use Rattle.running_words.specs.Running.{IsRunning, Runs};
 ghost use Rattle.running_words.specs.Session.{IsOpen, IsSession};
 ghost use Rattle.pilot_engine.specs.Beginning.{HasStartCause, StartHalts, TablesHalts};
-ghost use Rattle.file_manager.specs.Reasons.{KeepsOn, InitialState, ShowsReason, initial_state};
+ghost use Rattle.file_manager.specs.Reasons.{Keeps, KeepsOn, InitialState, ShowsReason, initial_state};
 ghost use Rattle.pilot_engine.specs.Reasons.{FromStart, IsBegun, SeesRoot, ShowsReasonAtStart, NeverBlamesFiles, NeverBlamesFilesAtStart};
 ghost use Rattle.space_calls.specs.Sees.{SeesFiles};
-ghost use Rattle.file_manager.specs.Creating.{IsMonotone};
+ghost use Rattle.file_manager.specs.Creating.{IsMonotone, next_id};
 
 use crate::frames::look_at_frames;
 use crate::{Session, StartFault};
@@ -85,8 +87,37 @@ fn write_tables<D: Disk, A: Allocator>(filer: &mut Filer<D, A>) -> Result<(), Ha
     Ok(())
 }
 
-/// Puts a volume with this root into use: the root is written with the clean flag 0, the pages of the space tables are made,
-/// and the tables of the root alone are written into them. No frame is there yet.
+// Writes the root of a volume in use, and waits until it is on the medium: no other write is there before it.
+fn put_in_use<D: Disk, A: Allocator>(filer: &mut Filer<D, A>, root: Root) -> Result<(), Halt>
+    requires size { (D.state filer.old.swapper.disk).sectors ≡ filer.old.swapper.layout.sectors }
+    requires valid { IsValidRoot filer.old.swapper.layout.sectors root }
+    requires serial { root.serial < 2 ^ 32 }
+    requires counter { root.counter < 2 ^ 32 }
+    requires bare { IsBare filer.old.swapper.pool }
+    ensures made { OnOk result (Goes (λ m n. n ≡ written (root_write root) m) no_page (root_write root ∷ []) (D.state filer.old.swapper.disk) filer.old.swapper.pool (D.state filer.new.swapper.disk) filer.old.swapper.pool) }
+    ensures stopped { OnErr result (MayHaveWritten (root_write root) (D.state filer.old.swapper.disk) filer.old.swapper.pool (D.state filer.new.swapper.disk)) }
+    ensures synced { OnOk result (SyncsFirst (D.state filer.old.swapper.disk) (D.state filer.new.swapper.disk)) }
+    ensures fault { IfErr result (λ e. e ≡ halt.Disk) }
+    ensures keeps_to { (o : InitialState) (named : Triples) → Keeps o filer.old named → next_id root ≤ o.next → OnOk result (Keeps o filer.new named) }
+    ensures counted { OnErr result (Rose (D.state filer.old.swapper.disk).faults (D.state filer.new.swapper.disk).faults) }
+    ensures frames { filer.new.swapper.pool ≡ filer.old.swapper.pool }
+    ensures layout { filer.new.swapper.layout ≡ filer.old.swapper.layout }
+    ensures runs { filer.new.runs ≡ filer.old.runs }
+    ensures cost { (D.state filer.new.swapper.disk).transfers ≤ (D.state filer.old.swapper.disk).transfers + 1 }
+{
+    match write_over(filer, root) {
+        Ok(()) => (),
+        Err(halt) => return Err(halt),
+    }
+    let disk = filer.disk_over();
+    match disk.sync() {
+        Ok(()) => Ok(()),
+        Err(_) => Err(Halt::Disk),
+    }
+}
+
+/// Puts a volume with this root into use: the root is written with the clean flag 0, and is on the medium before all else; the
+/// pages of the space tables are made, and the tables of the root alone are written into them. No frame is there yet.
 pub(crate) fn begin<D: Disk, A: Allocator>(
     filer: &mut Filer<D, A>,
     layout: Layout,
@@ -102,6 +133,7 @@ pub(crate) fn begin<D: Disk, A: Allocator>(
     ensures sound { (d : List Sector) → (D.state filer.old.swapper.disk).contents ≡ Some d → Sound d → root ≡ root_in (root_page d) → IfErr result (λ e. e ≡ halt.Disk) }
     ensures opened { IfOk result (IsOpen filer.new.swapper.layout) }
     ensures starts { StartsSome root (D.state filer.old.swapper.disk) filer.old.swapper.pool (D.state filer.new.swapper.disk) filer.new.swapper.pool }
+    ensures synced { IfOk result (λ volume. SyncsFirst (D.state filer.old.swapper.disk) (D.state filer.new.swapper.disk)) }
     ensures counted { result ≡ Err halt.Disk → Rose (D.state filer.old.swapper.disk).faults (D.state filer.new.swapper.disk).faults }
     ensures cause { IfErr result (StartHalts root (view_of filer.old) (view_of filer.new)) }
     ensures keeps_to { (d : List Sector) (named : Triples) (ws : List DiskWrite) → IsBegun d named ws (D.state filer.old.swapper.disk)
@@ -119,7 +151,7 @@ pub(crate) fn begin<D: Disk, A: Allocator>(
     ensures cost { (D.state filer.new.swapper.disk).transfers ≤ (D.state filer.old.swapper.disk).transfers + (14393 + 2 * filer.old.swapper.layout.vam + 2 * (1 + 51 * most_records filer.old.swapper.layout.sectors) + 96 * (8 * filer.old.swapper.layout.vam + 100)) }
 {
     let root = in_use(root);
-    match write_over(filer, root) {
+    match put_in_use(filer, root) {
         Ok(()) => (),
         Err(halt) => return Err(halt),
     }
@@ -216,6 +248,7 @@ impl<D: Disk, A: Allocator> Session<D, A> {
         // What was written, whether or not one starts.
         ensures crash_states { (d : List Sector) → (D.state disk).contents ≡ Some d → LabelsRight d
             → MatchResult result (λ s. KeepsFiles d (D.state disk) (D.state s.core.filer.swapper.disk)) (λ e. KeepsFiles d (D.state disk) (D.state e.1)) }
+        ensures synced { IfOk result (λ s. SyncsFirst (D.state disk) (D.state s.core.filer.swapper.disk)) }
         ensures wrote { MatchResult result (λ s. WroteFirst (D.state disk) (D.state s.core.filer.swapper.disk)) (λ e. WroteFirst (D.state disk) (D.state e.1)) }
         ensures left_open { MatchResult result (λ s. IsUnset (D.state s.core.filer.swapper.disk)) (λ e. LeavesOpenAtStart (D.state e.1) e.0) }
         ensures cost { MatchResult result (λ s. CostsStart (D.state disk) (D.state s.core.filer.swapper.disk)) (λ e. CostsStart (D.state disk) (D.state e.1)) }

@@ -15,6 +15,7 @@ use Rattle.pilot_engine.specs.Closing.{HasShut}
 use Rattle.filer_kernel.specs.Evidence.{IsEvident}
 use Rattle.file_manager.specs.Reasons.{HasReason, InitialState, initial_state}
 use Rattle.pilot_top.specs.Headline.{IsLeftOpen, Run, RevealsDamage}
+use Rattle.pilot_top.specs.Cuts.{HonestCuts}
 use Rattle.pilot_top.specs.CrashStates.{Lawfully, CrashStates}
 use Rattle.pilot_top.specs.InitialState.{FromInitialState}
 use Rattle.pilot_top.specs.Replied.{AreToFirst, Replied}
@@ -99,6 +100,10 @@ module _ {D : Type 0} (state : D → DiskState) (x y : D) (same : x ≡ y) where
   run_after status.Usage d b t left took failed n is = absurd is
   run_after status.Damaged d b t left took failed n is = absurd is
   run_after status.Unfit d b t left took failed n is = absurd is
+
+  -- a cut is said of what a disk reveals, whatever names it has
+  pub cuts_after : (first : DiskState) (d : List Sector) → HonestCuts d first (state y) → HonestCuts d first (state x)
+  cuts_after first d honest = subst (λ (z : D). HonestCuts d first (state z)) (sym same) honest
 
   module _ (first : DiskState) (m n : ℕ) where
     -- evidence that has its reason through the references has it here

@@ -19,6 +19,7 @@ use Rattle.pilot_top.specs.Running.{Ran}
 use Rattle.pilot_top.specs.Trying.{Tried}
 use Rattle.pilot_top.specs.World.{World}
 use Rattle.pilot_top.specs.declared.status.Status.TheVariants as status
+use Rattle.pilot_top.proofs.CutLemmas.{nothing_honest}
 use Rattle.pilot_top.proofs.PermittedRuns.{lawfully_none}
 use Rattle.pilot_top.proofs.StagedLemmas.{from_nothing, crash_states_before}
 
@@ -41,6 +42,7 @@ module _ (w : World) where
     closed_unheard = λ d b revealed sound source failed held rest closes. absurd (cc failed);
     crash_states = λ d b revealed sound source. crash_states_before (start d) [] (reading b) (from_nothing d sound revealed);
     some_crash_states = λ d revealed sound. ([], from_nothing d sound revealed);
+    cuts = λ d revealed sound. nothing_honest d w.disk sound;
     stays_open = λ b source early. absurd early;
     untaken = λ b source failed some. absurd (cc failed);
     left_open = λ is. absurd (elim is [ inl long ↦ cc long | inr damaged ↦ cc damaged ]);

@@ -99,7 +99,7 @@ module _ {a b : DiskState} (wrote : WroteFirst a b) where
   first_open = open_writes wrote.wrote.writes (subst AreOpen (sym wrote.wrote.labels)
       (take_open wrote.count (root_write (in_use wrote.root) ∷ growth 3 0 0 wrote.sectors) (root_open (in_use wrote.root) (growth 3 0 0 wrote.sectors) refl (growth_open 3 0 0 wrote.sectors))))
 
-  first_flag : (d : List Sector) (k : ℕ) → a.contents ≡ Some d → 1 ≤ k → k ≤ length wrote.wrote.writes → short_at (root_page (crash_state d wrote.wrote.writes k)) 10 ≡ 0
+  pub first_flag : (d : List Sector) (k : ℕ) → a.contents ≡ Some d → 1 ≤ k → k ≤ length wrote.wrote.writes → short_at (root_page (crash_state d wrote.wrote.writes k)) 10 ≡ 0
   first_flag d k revealed some few = begun_flag wrote.wrote.writes (in_use wrote.root) refl wrote.first first_open d (λ j w here. wrote.wrote.permitted d j w revealed here) k some few
 
   -- no session started

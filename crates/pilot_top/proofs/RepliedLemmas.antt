@@ -25,6 +25,7 @@ use Rattle.filer_kernel.specs.Evidence.{IsEvident, ShowsEvidence}
 use Rattle.pilot_top.specs.Ending.{end_text}
 use Rattle.pilot_top.specs.Headline.{HasWritten, IsLeftOpen}
 use Rattle.pilot_top.specs.Last.{last_line, Puts}
+use Rattle.pilot_top.specs.Queued.{RepliesChange}
 use Rattle.pilot_top.specs.Replied.{AreTo, AreToFirst, IsCutShort, Replied, Suits}
 use Rattle.pilot_top.specs.Stopping.{status_of, cause_of}
 use Rattle.pilot_top.specs.Turn.{EndsTrace}
@@ -63,6 +64,10 @@ module _ (x t : List ℕ) {b u : Option (List ℕ)} {p : Progress} {first now : 
       → Puts failed u v (last_line (cause_of why)) → Replied s x c t v failed disk reasoned
   Replied-halted s halt.Disk c v more are is evidence_seen reason open_still put = subst (λ (z : Status). Replied z x c t v failed disk reasoned) (sym is) (Replied-disk c v more are put)
   Replied-halted s (halt.Damaged e) c v more are is evidence_seen reason open_still put = subst (λ (z : Status). Replied z x c t v failed disk reasoned) (sym is) (Replied-damaged c v more are e evidence_seen (reason e refl) open_still put)
+
+  -- the session stopped, and a label had changed
+  pub Replied-changed : (v : Option (List ℕ)) (more : List TraceLine) → reading x ≡ going.lines ++ more → (e : Evidence) → Puts failed u v (last_line (cause.Damaged e)) → RepliesChange x t v failed e
+  Replied-changed v more are e put = (going.replies, to_first more are, stopped_line v (last_line (cause.Damaged e)) put)
 
   -- as many bytes as the limit were taken
   pub Replied-long : (c v : Option (List ℕ)) (q : Progress) → p.stopped ≡ None → TakesPart stop.Long b c p q → q.taken ≡ 2 ^ 32 → Puts failed u v (last_line cause.Long)

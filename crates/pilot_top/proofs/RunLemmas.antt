@@ -90,6 +90,23 @@ is_early f why (inr is) = rw is tt
 
 -- A session that did not start.
 module _ {K : Type 0} (f : StartFault) (s : Status) (old new : K) (took : K → Option (List ℕ)) (failed : Type 0) (stops : StopsAs f s old new (Puts failed (took old) (took new))) where
+  -- nothing was written where the volume was refused, or memory was not found
+  pub refused_early : s ≡ status.NotOpened → IsEarly f
+  refused_early is = elim (how f s old new (Puts failed (took old) (took new)) stops) [
+    | inl refusal ↦ subst IsEarly (sym refusal.1) tt
+    | inr (inl disk) ↦ absurd (let e = sym disk.1 ∙ is in cc e)
+    | inr (inr (inl memory)) ↦ absurd (let e = sym memory.1 ∙ is in cc e)
+    | inr (inr (inr damage)) ↦ absurd (let e = sym damage.2 ∙ is in cc e)
+  ]
+
+  pub memory_early : s ≡ status.NoMemory → IsEarly f × (new ≡ old)
+  memory_early is = elim (how f s old new (Puts failed (took old) (took new)) stops) [
+    | inl refusal ↦ absurd (let e = sym refusal.3 ∙ is in cc e)
+    | inr (inl disk) ↦ absurd (let e = sym disk.1 ∙ is in cc e)
+    | inr (inr (inl memory)) ↦ (subst IsEarly (sym memory.0) tt, memory.2)
+    | inr (inr (inr damage)) ↦ absurd (let e = sym damage.2 ∙ is in cc e)
+  ]
+
   -- a sound volume can't be refused, and is not damaged
   pub not_sound : IsOutside f → s ≢ status.NotOpened × s ≢ status.Damaged
   not_sound outside = elim (how f s old new (Puts failed (took old) (took new)) stops) [

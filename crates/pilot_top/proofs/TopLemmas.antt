@@ -22,6 +22,7 @@ use Rattle.trace_io.specs.Course.{AreLines, HasRead, HasReadAll}
 use Rattle.trace_io.specs.declared.progress.Stop.TheVariants as stop
 use Rattle.trace_io.proofs.CourseLemmas.{HasRead-none, HasRead-line, HasRead-last, HasRead-end, HasRead-part, HasRead-item, HasRead-long}
 use Rattle.pilot_top.specs.Ending.{is_halt, halts}
+use Rattle.pilot_top.specs.Queued.{WroteChange}
 use Rattle.pilot_top.specs.Replied.{AreTo}
 use Rattle.pilot_top.specs.Turn.{Answers}
 use Rattle.pilot_top.specs.Last.{last_line, Puts}
@@ -260,6 +261,10 @@ module _ (a b u v : Option (List ℕ)) (t : List ℕ) (p : Progress) (first now 
     left_open = open_still;
     written = rw (sym going.said) (wrote_last failed t u v going.out (last_line (cause.Damaged e)) going.wrote put);
   }
+
+-- replies were written, and then the line of a label that had changed
+pub change_revealed : (a b u v : Option (List ℕ)) (t : List ℕ) (p : Progress) (first now : Machine → Type 0) (failed : Type 0) (e : Evidence) → Going a b (Some t) u p first now → Puts failed u v (last_line (cause.Damaged e)) → WroteChange t v failed e
+change_revealed a b u v t p first now failed e going put = (going.replies, rw (sym going.said) (wrote_last failed t u v going.out (last_line (cause.Damaged e)) going.wrote put))
 
 -- a trace that was read to its end is short enough, and one of which as many bytes as the limit were taken is not
 module _ (x : List ℕ) (b t u : Option (List ℕ)) (p : Progress) (first now : Machine → Type 0) (going : Going (Some x) b t u p first now) where

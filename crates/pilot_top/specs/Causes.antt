@@ -32,12 +32,12 @@ pub record HasReason (words : List (String Global)) (s : Status) (before after :
       → (s ≡ status.NoMemory) ⊎ ((s ≡ status.NotOpened) × WritesLast before after (cause.Root (fault.BadCount before.disk.sectors)))
   -- only a trace that is too long ends so, and it is read by `run` alone
   pub long : (b : List ℕ) → Gives before b → s ≡ status.Long → ¬ IsShort (2 ^ 32) b
-  pub long_run : s ≡ status.Long → (frames : ℕ) × Means words (command.Run frames)
+  pub long_run : s ≡ status.Long → (frames queue : ℕ) × Means words (command.Run frames queue)
   -- nothing was written, and the first word is a command
   pub memory : s ≡ status.NoMemory → StaysUnwritten before after × (c : Command) × Names words c
   -- only a `run` ends so, and a `trial` on a disk that does not reveal what it holds
   pub damaged : s ≡ status.Damaged
-      → ((frames : ℕ) × Means words (command.Run frames)) ⊎ ((seed : ℕ) × (calls : ℕ) × (frames : ℕ) × Means words (command.Trial seed calls frames) × ((d : List Sector) → ¬ Holds before d))
+      → ((frames queue : ℕ) × Means words (command.Run frames queue)) ⊎ ((seed : ℕ) × (calls : ℕ) × (frames : ℕ) × Means words (command.Trial seed calls frames) × ((d : List Sector) → ¬ Holds before d))
   -- only a `convert` ends so: nothing was written, and the line has how many sectors are wanted, and that there are fewer
   pub unfit : s ≡ status.Unfit
       → StaysUnwritten before after × Means words command.Convert × (wanted : ℕ) × (capacity before.disk.sectors < wanted) × WritesLast before after (cause.Unfit wanted (capacity before.disk.sectors))
@@ -45,5 +45,5 @@ pub record HasReason (words : List (String Global)) (s : Status) (before after :
 -- nothing is taken from the source: the command is another than `run`, or it was not begun, or the volume is refused
 abbrev pub TakesNothing : List (String Global) → Status → World → Type 0
 TakesNothing words s before =
-    ((frames : ℕ) → ¬ Means words (command.Run frames)) ⊎ (s ≡ status.Usage) ⊎ (s ≡ status.NotOpened) ⊎ (s ≡ status.NoMemory)
+    ((frames queue : ℕ) → ¬ Means words (command.Run frames queue)) ⊎ (s ≡ status.Usage) ⊎ (s ≡ status.NotOpened) ⊎ (s ≡ status.NoMemory)
     ⊎ ((d : List Sector) × (why : RootFault) × Holds before d × IsRefused d why)

@@ -10,6 +10,7 @@ use Rattle.volume_root.specs.Sound.{Sound}
 use Rattle.pilot_engine.specs.Closing.{HasShut}
 use Rattle.pilot_top.specs.Ending.{halts, closes}
 use Rattle.pilot_top.specs.Headline.{EndsEarly, IsLeftOpen, Run, RevealsDamage, at_end, run_bound}
+use Rattle.pilot_top.specs.Cuts.{HonestCuts}
 use Rattle.pilot_top.specs.CrashStates.{Lawfully, CrashStates}
 use Rattle.pilot_top.specs.InitialState.{FromInitialState}
 use Rattle.pilot_top.specs.Replied.{Replied}
@@ -33,6 +34,9 @@ pub record Ran (s : Status) (before after : World) : Type 0 where
   -- reveals, and else of some trace.
   pub crash_states : (d : List Sector) (b : List ℕ) → Holds before d → Sound d → Gives before b → CrashStates (start d) (reading b) before.disk after.disk
   pub some_crash_states : (d : List Sector) → Holds before d → Sound d → (lines : List TraceLine) × CrashStates (start d) lines before.disk after.disk
+  -- Where the power goes: in each cut of its writes since the disk was synced the root is valid, and a volume that says that it
+  -- was closed is sound.
+  pub cuts : (d : List Sector) → Holds before d → Sound d → HonestCuts d before.disk after.disk
   -- Where it ended before its session did, the volume is left open; so where lines are left after the one that was answered
   -- last, and where the trace is too long or the volume damaged, whatever the source reveals.
   pub stays_open : (b : List ℕ) → Gives before b → EndsEarly s (reading b) → IsLeftOpen after.disk

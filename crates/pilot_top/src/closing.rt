@@ -2,21 +2,24 @@
 ghost use Rattle.std.specs.Prelude.{◌≡◌, ◌≢◌, ◌⊎◌, ◌≤◌, ℕ, List, Some, None, true};
 ghost use Rattle.std.specs.Io.KnownBytes.{Appends};
 ghost use Rattle.labelled_disk.specs.declared.evidence.Evidence.{Evidence};
-ghost use Rattle.labelled_disk.specs.Calls.{Rose};
+ghost use Rattle.labelled_disk.specs.Calls.{RevealsSame, Rose};
 ghost use Rattle.filer_kernel.specs.Evidence.{IsEvident};
 ghost use Rattle.flat_machine.specs.Machine.{Machine};
 ghost use Rattle.trace_io.specs.Stream.{IsPrefixOf};
 ghost use Rattle.running_words.specs.Bound.{CostsOther};
-ghost use Rattle.pilot_engine.specs.Closing.{HasShut, IsStop, Throughout, WroteOn};
+ghost use Rattle.pilot_engine.specs.Closing.{HasShut, IsStop, ShutsBySync, Throughout, WroteOn};
 ghost use Rattle.pilot_engine.specs.Opening.{IsUnset};
 ghost use Rattle.running_words.specs.Session.{IsOpen};
 ghost use Rattle.running_words.specs.Running.{Runs};
 ghost use Rattle.pilot_top.specs.Ending.{end_text};
 ghost use Rattle.pilot_top.specs.Last.{last_line, Puts};
 ghost use Rattle.pilot_top.specs.InitialState.{FromEachInitialState};
+ghost use Rattle.pilot_top.specs.RunDisk.{HasSeen};
 
 use crate::Status;
+use crate::ending::{bring, close_run};
 use crate::last::Cause;
+use crate::run_disk::RunDisk;
 use crate::stopping::stop;
 use crate::turn::End;
 use flat_machine::Reply;
@@ -55,6 +58,8 @@ pub(crate) fn close<D: Disk, A: Allocator, K: Sink>(
     ensures ends { (result.0 ≡ None) ⊎ (result.0 ≡ Some Status.DiskFault)
         ⊎ (result.0 ≡ Some Status.Damaged) }
     ensures wrote { WroteOn session.core.filer.swapper.pool (D.state session.core.filer.swapper.disk) (D.state result.1) }
+    ensures syncs { (m : Machine) → Runs session.core session.volume m
+        → ShutsBySync (D.state session.core.filer.swapper.disk) (D.state result.1) }
     ensures later { K.faults sink.old ≤ K.faults sink.new }
 {
     let (closed, disk) = session.finish();
@@ -65,7 +70,7 @@ pub(crate) fn close<D: Disk, A: Allocator, K: Sink>(
 }
 
 /// Ends the session, unless the trace was stopped, and writes the reply to the line that ended it.
-pub(crate) fn end_trace<D: Disk, A: Allocator, K: Sink>(
+pub(crate) fn end_trace<D: RunDisk, A: Allocator, K: Sink>(
     session: Session<D, A>,
     end: End,
     sink: &mut K,
@@ -79,7 +84,8 @@ pub(crate) fn end_trace<D: Disk, A: Allocator, K: Sink>(
         → Throughout (IsStop m) (D.state session.core.filer.swapper.disk) (D.state result.1) }
     ensures sound { (m : Machine) → Runs session.core session.volume m
         → result.0 ≢ Status.Damaged }
-    ensures halted { end ≡ End.Halt → result.1 ≡ session.core.filer.swapper.disk }
+    ensures halted { end ≡ End.Halt → RevealsSame (D.state session.core.filer.swapper.disk) (D.state result.1) }
+    ensures rests { result.0 ≡ Status.Done → D.rests result.1 }
     ensures cost { (m : Machine) → Runs session.core session.volume m
         → CostsOther (D.state session.core.filer.swapper.disk) (D.state result.1) }
     ensures done { result.0 ≡ Status.Done → Appends (K.took sink.old) (K.took sink.new) (end_text end) }
@@ -87,26 +93,31 @@ pub(crate) fn end_trace<D: Disk, A: Allocator, K: Sink>(
         × Appends (K.took sink.old) (K.took sink.new) prefix }
     ensures stream_cause { result.0 ≡ Status.StreamFault
         → Rose (K.faults sink.old) (K.faults sink.new) × (end ≢ End.Trace) }
-    ensures disk_line { result.0 ≡ Status.DiskFault
-        → Puts (Rose (K.faults sink.old) (K.faults sink.new)) (K.took sink.old) (K.took sink.new)
-        (last_line Cause.DiskFault) }
-    ensures disk_cause { result.0 ≡ Status.DiskFault
-        → Rose (D.state session.core.filer.swapper.disk).faults (D.state result.1).faults }
-    ensures damage_line { result.0 ≡ Status.Damaged → (e : Evidence) × IsEvident (D.state result.1) e × FromEachInitialState session (D.state result.1) e × Puts (Rose (K.faults sink.old) (K.faults sink.new)) (K.took sink.old) (K.took sink.new)
-        (last_line (Cause.Damaged e)) }
+    ensures disk_fault { result.0 ≡ Status.DiskFault → (D.shown result.1 ≡ None)
+        × Rose (D.state session.core.filer.swapper.disk).faults (D.state result.1).faults
+        × Puts (Rose (K.faults sink.old) (K.faults sink.new)) (K.took sink.old) (K.took sink.new) (last_line Cause.DiskFault) }
+    ensures damage { result.0 ≡ Status.Damaged → (e : Evidence)
+        × HasSeen (D.shown result.1) (D.state result.1) (FromEachInitialState session (D.state result.1)) e
+        × Puts (Rose (K.faults sink.old) (K.faults sink.new)) (K.took sink.old) (K.took sink.new) (last_line (Cause.Damaged e)) }
     ensures left_open { IsUnset (D.state session.core.filer.swapper.disk) → result.0 ≡ Status.Damaged → IsUnset (D.state result.1) }
     ensures ends { (result.0 ≡ Status.Done) ⊎ (result.0 ≡ Status.StreamFault)
         ⊎ (result.0 ≡ Status.DiskFault) ⊎ (result.0 ≡ Status.Damaged) }
     ensures wrote { WroteOn session.core.filer.swapper.pool (D.state session.core.filer.swapper.disk) (D.state result.1) }
+    ensures syncs { (m : Machine) → Runs session.core session.volume m
+        → ShutsBySync (D.state session.core.filer.swapper.disk) (D.state result.1) }
     ensures later { K.faults sink.old ≤ K.faults sink.new }
 {
     if end == End::Halt {
+        let mut disk = session.into_disk();
+        if let Some(status) = bring(&mut disk, sink) {
+            return (status, disk);
+        }
         return match write_reply(sink, &Reply::Done) {
-            Ok(()) => (Status::Done, session.into_disk()),
-            Err(_) => (Status::StreamFault, session.into_disk()),
+            Ok(()) => (Status::Done, disk),
+            Err(_) => (Status::StreamFault, disk),
         };
     }
-    let (stopped, disk) = close(session, sink);
+    let (stopped, disk) = close_run(session, sink);
     if let Some(status) = stopped {
         return (status, disk);
     }

@@ -1,6 +1,6 @@
 //! A run: a session is started, a trace is answered line by line, and the session is ended.
-ghost use Rattle.std.specs.Prelude.{◌≡◌, ◌≢◌, ◌⊎◌, ◌+◌, ◌^◌, ◌≤◌, ℕ, List, Some, length, sum_by, true, false};
-ghost use Rattle.labelled_disk.specs.declared.evidence.Halt.TheVariants as halt;
+ghost use Rattle.std.specs.Prelude.{◌≡◌, ◌≢◌, ◌⊎◌, ◌+◌, ◌^◌, ◌≤◌, ℕ, List, Some, None, length, sum_by, true, false};
+ghost use Rattle.labelled_disk.specs.declared.evidence.Evidence.{Evidence};
 ghost use Rattle.labelled_disk.specs.Sectors.{Sector};
 ghost use Rattle.labelled_disk.specs.Calls.{OnlyReads, Rose};
 ghost use Rattle.labelled_disk.specs.Layout.{IsCount};
@@ -12,22 +12,26 @@ ghost use Rattle.trace_io.specs.Reading.{IsShort, reading, rest_of};
 ghost use Rattle.volume_root.specs.Flag.{IsRefused};
 ghost use Rattle.volume_root.specs.Sound.{Sound};
 ghost use Rattle.running_words.specs.Bound.{other_bound};
-ghost use Rattle.pilot_engine.specs.Closing.{HasShut};
+ghost use Rattle.pilot_engine.specs.Closing.{HasShut, ShutsBySync};
 ghost use Rattle.running_words.specs.Session.{IsOpen};
 ghost use Rattle.running_words.specs.Running.{Runs};
 ghost use Rattle.pilot_top.specs.Ending.{halts, closes};
 ghost use Rattle.pilot_top.specs.Headline.{Answering, EndsEarly, HasFilesAt, IsLeftOpen, Run, RevealsDamage, at_end, line_bound, run_bound};
 ghost use Rattle.pilot_top.specs.Last.{last_line, Puts};
+ghost use Rattle.pilot_top.specs.Cuts.{HonestCuts};
 ghost use Rattle.pilot_top.specs.CrashStates.{Lawfully, CrashStates, ShutsLast};
 ghost use Rattle.pilot_top.specs.InitialState.{FromEachInitialState, FromInitialState};
+ghost use Rattle.pilot_top.specs.Queued.{RepliesChange, WroteChange};
 ghost use Rattle.pilot_top.specs.Replied.{Replied};
 
 use crate::Status;
 use crate::closing::end_trace;
-use crate::last::{Cause, put_last};
-use crate::stopping::{refuse, stop};
+use crate::ending::{end_long, stop_on};
+use crate::last::Cause;
+use crate::run_disk::RunDisk;
+use crate::stopping::refuse;
 use crate::turn::{Turn, take_turn};
-use labelled_disk::{Disk, RootFault};
+use labelled_disk::RootFault;
 use pilot_engine::Session;
 use std::alloc::Allocator;
 use trace_io::{Lines, Sink, Source, write_reply};
@@ -36,7 +40,7 @@ use trace_io::{Lines, Sink, Source, write_reply};
 const LIMIT: u64 = 1 << 32;
 
 // Reads a trace, and writes a reply to each line, in a session that was started.
-fn answer_lines<D: Disk, A: Allocator, S: Source, K: Sink>(
+pub(crate) fn answer_lines<D: RunDisk, A: Allocator, S: Source, K: Sink>(
     session: Session<D, A>,
     source: &mut S,
     sink: &mut K,
@@ -49,9 +53,12 @@ fn answer_lines<D: Disk, A: Allocator, S: Source, K: Sink>(
         → Answering result.0 m b (S.left source.new) t (K.took sink.new)
         (Rose (K.faults sink.old) (K.faults sink.new)) (HasFilesAt m (reading b) (D.state result.1)) }
     ensures replied { (b t : List ℕ) → IsLeftOpen (D.state session.core.filer.swapper.disk)
-        → S.left source.old ≡ Some b → K.took sink.old ≡ Some t
+        → S.left source.old ≡ Some b → K.took sink.old ≡ Some t → (result.0 ≡ Status.Damaged → D.shown result.1 ≡ None)
         → Replied result.0 b (S.left source.new) t (K.took sink.new)
         (Rose (K.faults sink.old) (K.faults sink.new)) (D.state result.1) (FromEachInitialState session (D.state result.1)) }
+    ensures changed { (b t : List ℕ) (e : Evidence) → S.left source.old ≡ Some b → K.took sink.old ≡ Some t
+        → result.0 ≡ Status.Damaged → D.shown result.1 ≡ Some e
+        → RepliesChange b t (K.took sink.new) (Rose (K.faults sink.old) (K.faults sink.new)) e }
     ensures crash_states { (m : Machine) (b : List ℕ) → Runs session.core session.volume m
         → S.left source.old ≡ Some b → CrashStates m (reading b) (D.state session.core.filer.swapper.disk) (D.state result.1) }
     ensures closed { (m : Machine) (b : List ℕ) → Runs session.core session.volume m
@@ -76,13 +83,19 @@ fn answer_lines<D: Disk, A: Allocator, S: Source, K: Sink>(
     ensures sound { (m : Machine) → Runs session.core session.volume m
         → result.0 ≢ Status.Damaged }
     ensures damage { (t : List ℕ) → IsLeftOpen (D.state session.core.filer.swapper.disk)
-        → K.took sink.old ≡ Some t → result.0 ≡ Status.Damaged
+        → K.took sink.old ≡ Some t → result.0 ≡ Status.Damaged → D.shown result.1 ≡ None
         → (revealed : RevealsDamage t (K.took sink.new) (Rose (K.faults sink.old) (K.faults sink.new)) (D.state result.1))
         × FromEachInitialState session (D.state result.1) revealed.evidence }
+    ensures changed_line { (t : List ℕ) (e : Evidence) → K.took sink.old ≡ Some t
+        → result.0 ≡ Status.Damaged → D.shown result.1 ≡ Some e
+        → WroteChange t (K.took sink.new) (Rose (K.faults sink.old) (K.faults sink.new)) e }
+    ensures rests { (result.0 ≡ Status.Done) ⊎ (result.0 ≡ Status.Long) → D.rests result.1 }
     ensures permitted { ShutsLast (D.state session.core.filer.swapper.disk) (D.state result.1) }
+    ensures syncs { (m : Machine) → Runs session.core session.volume m
+        → ShutsBySync (D.state session.core.filer.swapper.disk) (D.state result.1) }
     ensures same_disk { Went (D.state session.core.filer.swapper.disk) (D.state result.1) }
-    ensures disk_cause { result.0 ≡ Status.DiskFault
-        → Rose (D.state session.core.filer.swapper.disk).faults (D.state result.1).faults }
+    ensures disk_cause { result.0 ≡ Status.DiskFault → (D.shown result.1 ≡ None)
+        × Rose (D.state session.core.filer.swapper.disk).faults (D.state result.1).faults }
     ensures stream_cause { result.0 ≡ Status.StreamFault
         → Rose (S.faults source.old) (S.faults source.new)
         ⊎ Rose (K.faults sink.old) (K.faults sink.new) }
@@ -104,18 +117,19 @@ fn answer_lines<D: Disk, A: Allocator, S: Source, K: Sink>(
             }
             Turn::Ends(end) => return end_trace(session, end, sink),
             Turn::ReadFault => return (Status::StreamFault, session.into_disk()),
-            Turn::Halts(halt) => return (stop(halt, sink), session.into_disk()),
-            Turn::Long => {
-                put_last(sink, Cause::Long);
-                return (Status::Long, session.into_disk());
+            Turn::Halts(halt) => {
+                let disk = session.into_disk();
+                let status = stop_on(&disk, halt, sink);
+                return (status, disk);
             }
+            Turn::Long => return end_long(session.into_disk(), sink),
         }
     }
 }
 
 /// Starts a session on the volume of a disk, with so many frames, carries out a trace, ends the session, and hands the
 /// disk back.
-pub(crate) fn run<A: Allocator, D: Disk, S: Source, K: Sink>(
+pub(crate) fn run<A: Allocator, D: RunDisk, S: Source, K: Sink>(
     alloc: A,
     frames: u32,
     disk: D,
@@ -124,6 +138,7 @@ pub(crate) fn run<A: Allocator, D: Disk, S: Source, K: Sink>(
 ) -> (Status, D)
     requires least { 24 ≤ frames }
     requires most { frames ≤ 4096 }
+    requires plain { (e : D) → D.shown e ≡ None }
     ensures run { (d : List Sector) (b t : List ℕ)
         → (D.state disk).contents ≡ Some d → Sound d → S.left source.old ≡ Some b
         → K.took sink.old ≡ Some t
@@ -160,6 +175,8 @@ pub(crate) fn run<A: Allocator, D: Disk, S: Source, K: Sink>(
         → (revealed : RevealsDamage t (K.took sink.new) (Rose (K.faults sink.old) (K.faults sink.new)) (D.state result.1))
         × FromInitialState (D.state disk) (D.state result.1) revealed.evidence }
     ensures permitted { Lawfully (D.state disk) (D.state result.1) }
+    ensures cuts { (d : List Sector) → (D.state disk).contents ≡ Some d → Sound d
+        → HonestCuts d (D.state disk) (D.state result.1) }
     ensures same_disk { Went (D.state disk) (D.state result.1) }
 
     // The volume can't be opened.

@@ -4,6 +4,8 @@ pub mod LowLemmas
 mod FreedLemmas
 mod FoundLemmas
 mod RestoreLemmas
+mod CutLemmas
+mod ScavengeLemmas
 mod AmongLemmas
 mod NamingLemmas
 mod MarkLemmas

@@ -4,7 +4,7 @@ use Rattle.std.specs.Prelude.{◌↔◌, slice_get, slice_set, IsTrue, IsSomeAnd
 use Rattle.std.specs.Option.{option_map_or}
 use Rattle.std.specs.List.{AllByRecursion}
 use Rattle.std.proofs.lemmas.Option.{slice_get_past}
-use Rattle.std.proofs.lemmas.Bool.{leb-true, le-leb, lt-leb, lt-ltb, true≢false, eqb-false}
+use Rattle.std.proofs.lemmas.Bool.{leb-true, le-leb, lt-leb, lt-ltb, true≢false}
 use Rattle.labelled_disk.specs.declared.disk.DiskWrite.{DiskWrite}
 use Rattle.labelled_disk.specs.declared.label.Label.{Label}
 use Rattle.labelled_disk.specs.Label.{is_file, is_free, names, root_label, page_label}
@@ -16,10 +16,11 @@ use Rattle.labelled_disk.specs.CrashState.{written, crash_state}
 use Rattle.labelled_disk.specs.Right.{IsGiven}
 use Rattle.labelled_disk.specs.Root.{IsRoot, HasMaps, LabelsRight, page_in, root_page, serial_of, counter_of, short_at, number_at}
 use Rattle.labelled_disk.specs.Runs.{freeing}
-use Rattle.labelled_disk.specs.Sectors.{Sector, AreSectors}
+use Rattle.labelled_disk.specs.Sectors.{Sector}
 use Rattle.labelled_disk.specs.WriteLaws.{HasData}
 use Rattle.labelled_disk.specs.WriteRuns.{after_writes}
 use Rattle.labelled_disk.proofs.Finds.{get_set_same, get_set_other}
+use Rattle.labelled_disk.proofs.RootLemmas as roots
 use Rattle.labelled_disk.proofs.WriteLemmas as writes
 use Rattle.labelled_disk.proofs.WriteRunLemmas.{after_writes-append}
 use Rattle.alloc_map.specs.Bits.{is_used}
@@ -28,25 +29,25 @@ use Rattle.file_map.specs.InSectors.{label_triples, map_bytes as file_bytes}
 use Rattle.page_tree.specs.Page.{page_at}
 use Rattle.page_tree.specs.Reveals.{RevealsTree}
 use Rattle.volume_root.specs.declared.root.Root.{Root}
-use Rattle.volume_root.specs.Flag.{with_flag, flag_write}
 use Rattle.volume_root.specs.RootPage.{IsValidRoot, root_write, root_bytes}
 use Rattle.volume_root.specs.Sound.{Sound, HasBits, HasFileMap, map_bytes}
-use Rattle.volume_root.proofs.FlagLemmas.{flag_keeps_volume}
 use Rattle.volume_root.proofs.WrittenLemmas.{flag_read, serial_read, counter_read, is_root}
 use Rattle.label_laws.specs.Counts.{places, needs_place, unneeded_sectors}
 use Rattle.label_laws.specs.MapLabels.{map_page, MapRelabelled}
 use Rattle.label_laws.specs.SoundParts.{IsSoundButRoom, SoundByRoom}
-use Rattle.label_laws.specs.Unneeded.{AreFreeOrNeeded, FreedCrashStates, FreedStayRight}
+use Rattle.label_laws.specs.Unneeded.{IsUnneeded, AreFreeOrNeeded, FreedCrashStates, FreedStayRight}
+use Rattle.label_laws.proofs.CountLemmas.{list_laws}
 use Rattle.label_laws.proofs.FileLemmas.{free_none}
+use Rattle.cut_laws.specs.Restored.{IsRestoring}
 use Rattle.label_survey.specs.Counter.{IsRaised}
 use Rattle.label_survey.specs.Laws.{NeededAreFiles}
-use Rattle.scavenger.specs.Orders.{Orders, AreFor, closed, map_writes, scavenge_writes}
-use Rattle.scavenger.specs.Restored.{IsBetween, IsRestored, ScavengingRestores}
+use Rattle.scavenger.specs.Orders.{Orders, AreFor, closed, map_writes, opened as first_root, preparing_writes}
+use Rattle.scavenger.specs.Restored.{IsBetween, IsRestored}
 use Rattle.scavenger.specs.Stays.{stays, staying}
 use Rattle.scavenger.proofs.FoundLemmas.{gathered, taken_as_needed, named_alike}
 use Rattle.scavenger.proofs.FreedLemmas.{IsSameVolume, same_volume_then, low_same_volume, freed, freed_crash_states, freed_needs, free_or_needed, needed_stays}
 use Rattle.scavenger.proofs.LayoutLemmas.{first_is, first_within}
-use Rattle.scavenger.proofs.LowLemmas.{IsLow, low_then, low_crash_states, map_writes_are, map_written, map_there, map_other, labelled_so}
+use Rattle.scavenger.proofs.LowLemmas.{IsLow, IsMapWrite, low_then, low_crash_states, map_writes_are, map_written, map_there, map_other, labelled_so}
 use Rattle.scavenger.proofs.CrashStateLemmas.{AtEach, each_then, at_end}
 
 -- the files of g, and labels that are right where those of g were; a crash state whose clean flag is 1 is g or h
@@ -55,7 +56,7 @@ pub record IsOnTheWay (g h now : List Sector) : Type 0 where
   pub right : LabelsRight g → LabelsRight now
   pub clean : short_at (root_page now) 10 ≡ 1 → (now ≡ g) ⊎ (now ≡ h)
 
-on_way_between : (g h now : List Sector) → IsRestored g h → IsOnTheWay g h now → IsBetween g now
+pub on_way_between : (g h now : List Sector) → IsRestored g h → IsOnTheWay g h now → IsBetween g now
 on_way_between g h now restored way = record {
   files = way.files;
   right = way.right;
@@ -95,27 +96,49 @@ pub record IsOpened (g e : List Sector) : Type 0 where
   pub flag : short_at (root_page e) 10 ≡ 0
   pub right : LabelsRight g → LabelsRight e
 
-opened_clear : (g : List Sector) → short_at (root_page g) 10 ≡ 0 → IsOpened g g
+pub opened_clear : (g : List Sector) → short_at (root_page g) 10 ≡ 0 → IsOpened g g
 opened_clear g flag = record { sectors = refl; same_data = refl; others = λ i other. refl; files = refl; flag = flag; right = λ r. r }
 
-opened_set : (g : List Sector) → AreSectors g → IsRoot (length g) (slice_get g 0) → IsOpened g (with_flag false g)
-opened_set g are has =
-    let flags = flag_keeps_volume g are has in
-    record {
-      sectors = flags.sectors false;
-      same_data = flags.same_data false;
-      others = flags.others false;
-      files = flags.files false;
-      flag = flags.flag false;
-      right = flags.right false;
-    }
+-- the root of a restoration, that is not clean and has the new counter
+module _ (g : List Sector) (o : Orders) (has : IsRoot (length g) (slice_get g 0)) (is_for : AreFor g o) where
+  abbrev pub open_sector : Sector
+  open_sector = (root_label, root_bytes (first_root o))
+
+  abbrev pub open_disk : List Sector
+  open_disk = written (root_write (first_root o)) g
+
+  pub open_there : slice_get open_disk 0 ≡ Some open_sector
+  open_there = get_set_same g 0 open_sector (omega (arith, has.accepted.0))
+
+  open_valid : IsValidRoot (length g) (first_root o)
+  open_valid = record {
+    version = ap (λ (r : Root). r.version) is_for.root ∙ has.version;
+    accepted = has.accepted;
+    count = ap (λ (r : Root). r.sectors) is_for.root ∙ has.count;
+    serial = omega (arith, ap (λ (r : Root). r.serial) is_for.root, has.serial);
+    counter = omega (arith, is_for.counter.kept, has.counter);
+  }
+
+  pub opened_first : IsOpened g open_disk
+  opened_first =
+      let same : data_sectors open_disk ≡ data_sectors g = writes.data_past false 0 0 g 0 open_sector (writes.first_positive false 0 0 (length g)) in
+      record {
+        sectors = length-set g 0 open_sector;
+        same_data = same;
+        others = λ i other. get_set_other g 0 i open_sector other;
+        files = ap (λ (xs : List Sector). files_by false xs xs) same;
+        flag = ap (λ (s : Option Sector). short_at (page_in s) 10) open_there ∙ flag_read (first_root o);
+        right = λ r. (roots.root_written false g open_sector r (is_root (length g) (first_root o) open_valid is_for.serial_fits is_for.counter_fits)
+            (serial_read (first_root o) is_for.serial_fits ∙ ap (λ (r : Root). r.serial) is_for.root)
+            (subst (λ (n : ℕ). counter_of g ≤ n) (sym (counter_read (first_root o) is_for.counter_fits)) is_for.counter.kept)).right;
+      }
 
 -- The unneeded sectors of a disk of so many sectors with these data sectors.
 abbrev unneeded_of : ℕ → List Sector → List ℕ
 unneeded_of n xs = places (λ i s. not (is_free s.0) && not (is_needed false xs (i - first_data n))) (first_data n) xs
 
 -- the writes after the opening, on a volume of m sectors
-abbrev after : Orders → ℕ → List ℕ → List DiskWrite
+abbrev pub after : Orders → ℕ → List ℕ → List DiskWrite
 after o m freed = freeing freed ++ (map_writes 1 1 o.bits (vam m) ++ (map_writes 2 (1 + vam m) o.names (vfm m) ++ root_write (closed o) ∷ []))
 
 -- From a disk that is open: its unneeded sectors are freed, both maps are written, and the root is closed.
@@ -190,6 +213,46 @@ module _ (laws : Laws) (g e : List Sector) (o : Orders) (has : IsRoot (length g)
 
   volume2 : IsSameVolume e e2
   volume2 = at_end (IsSameVolume e) e (freeing (unneeded_sectors false e)) (freed_crash_states laws.freed_crash_states laws.freed_right e)
+
+  -- What comes before the root.
+  abbrev pub prep : List DiskWrite
+  prep = freeing (unneeded_sectors false e) ++ (bits_writes ++ names_writes)
+
+  pub same_prep : preparing_writes o ≡ prep
+  same_prep =
+      ap (λ (m : ℕ). freeing o.freed ++ (map_writes 1 1 o.bits (vam m) ++ map_writes 2 (1 + vam m) o.names (vfm m))) same_count
+      ∙ ap (λ (is : List ℕ). freeing is ++ (bits_writes ++ names_writes)) same_unneeded
+
+  pub prep_crash_states : AtEach (IsSameVolume e) e prep
+  prep_crash_states = each_then (IsSameVolume e) e (freeing (unneeded_sectors false e)) (bits_writes ++ names_writes)
+      (λ k. freed_crash_states laws.freed_crash_states laws.freed_right e k)
+      (each_then (IsSameVolume e) e2 bits_writes names_writes
+      (λ k. same_volume_then volume2 (low_same_volume (bits_low k)))
+      (λ k. same_volume_then volume2 (low_same_volume (low_then low3 (names_low k)))))
+
+  -- each write of it frees a sector that no file needs, or is of a map
+  pub prep_restoring : AllByRecursion (IsRestoring false e) prep
+  prep_restoring =
+      all_then (freeing (unneeded_sectors false e)) (bits_writes ++ names_writes)
+      (frees_restoring (unneeded_sectors false e) ((list_laws false).each e))
+      (all_then bits_writes names_writes
+      (maps_restoring bits_writes (map_writes_are n 1 1 o.bits (vam n) (omega arith) (omega (arith, first_is n)) (low_page n)))
+      (maps_restoring names_writes (map_writes_are n 2 (1 + vam n) o.names (vfm n) (omega arith) (omega (arith, first_is n)) (λ k low. high_page n k))))
+    where
+      all_then : (xs ys : List DiskWrite) → AllByRecursion (IsRestoring false e) xs → AllByRecursion (IsRestoring false e) ys → AllByRecursion (IsRestoring false e) (xs ++ ys)
+      all_then [] ys one more = more
+      all_then (x ∷ xs) ys one more = (one.0, all_then xs ys one.1 more)
+
+      frees_restoring : (is : List ℕ) → AllByRecursion (IsUnneeded false e) is → AllByRecursion (IsRestoring false e) (freeing is)
+      frees_restoring [] each = tt
+      frees_restoring (i ∷ is) each = (inr (each.0, refl), frees_restoring is each.1)
+
+      maps_restoring : (ws : List DiskWrite) → AllByRecursion (IsMapWrite n) ws → AllByRecursion (IsRestoring false e) ws
+      maps_restoring [] each = tt
+      maps_restoring (w ∷ ws) each = (
+        subst (λ (v : DiskWrite). IsRestoring false e v) (sym each.0.is) (subst (λ (m : ℕ). each.0.place < first_data m) (sym opened.sectors) each.0.below),
+        maps_restoring ws each.1,
+      )
 
   -- each crash state is on the way, or the end
   pub row_crash_states : (k : ℕ) → IsSameVolume e (crash_state e row k) ⊎ (crash_state e row k ≡ h)
@@ -421,58 +484,3 @@ module _ (laws : Laws) (g e : List Sector) (o : Orders) (has : IsRoot (length g)
 
   pub ends_so : after_writes (after o o.root.sectors o.freed) e ≡ h
   ends_so = ap (λ (ws : List DiskWrite). after_writes ws e) same_row ∙ row_end
-
--- the disk before all
-at_first : (g h : List Sector) → IsOnTheWay g h g
-at_first g h = record { files = refl; right = λ r. r; clean = λ flag. inl refl }
-
--- the crash states of one write and a row
-first_then : (g end : List Sector) (w : DiskWrite) (ws : List DiskWrite) → ((k : ℕ) → IsOnTheWay g end (crash_state (written w g) ws k)) → (k : ℕ) → IsOnTheWay g end (crash_state g (w ∷ ws) k)
-first_then g end w ws each zero = at_first g end
-first_then g end w ws each (suc k) = each k
-
-module _ (laws : Laws) (g : List Sector) (o : Orders) (are : AreSectors g) (has : IsRoot (length g) (slice_get g 0)) (is_for : AreFor g o) where
-  -- these are the writes, this is the end, and each crash state is on the way to it
-  by_row : (ws : List DiskWrite) (end : List Sector) → scavenge_writes o ≡ ws → after_writes ws g ≡ end → IsRestored g end → ((k : ℕ) → IsOnTheWay g end (crash_state g ws k)) → ScavengingRestores g o
-  by_row ws end same ends restored each =
-      let so : after_writes (scavenge_writes o) g ≡ end = ap (λ (vs : List DiskWrite). after_writes vs g) same ∙ ends in
-      let all : (k : ℕ) → IsOnTheWay g end (crash_state g (scavenge_writes o) k) = λ k. subst (λ (vs : List DiskWrite). IsOnTheWay g end (crash_state g vs k)) (sym same) (each k) in
-      record {
-        restored = subst (IsRestored g) (sym so) restored;
-        crash_states = λ k. on_way_between g end (crash_state g (scavenge_writes o) k) restored (all k);
-        ends = λ k. subst (λ (x : List Sector). short_at (root_page (crash_state g (scavenge_writes o) k)) 10 ≡ 1 → (crash_state g (scavenge_writes o) k ≡ g) ⊎ (crash_state g (scavenge_writes o) k ≡ x)) (sym so) (all k).clean;
-      }
-
-  abbrev rest : List DiskWrite
-  rest = after o o.root.sectors o.freed
-
-  flag_is : (b : Bool) → eqb (short_at (root_page g) 10) 1 ≡ b → o.root.clean ≡ b
-  flag_is b e = ap (λ (r : Root). r.clean) is_for.root ∙ e
-
-  -- it is open already
-  was_open : eqb (short_at (root_page g) 10) 1 ≡ false → ScavengingRestores g o
-  was_open e =
-      let flag : short_at (root_page g) 10 ≡ 0 = omega (arith, has.flag, eqb-false (short_at (root_page g) 10) 1 e) in
-      let opened = opened_clear g flag in
-      by_row rest (h laws g g o has is_for opened)
-      (ap (λ (b : Bool). cond b (root_write (record o.root { clean = false }) ∷ []) [] ++ rest) (flag_is false e))
-      (ends_so laws g g o has is_for opened) (the_end laws g g o has is_for opened) (each_on_the_way laws g g o has is_for opened)
-
-  -- the first write opens it
-  was_closed : eqb (short_at (root_page g) 10) 1 ≡ true → ScavengingRestores g o
-  was_closed e =
-      let now = with_flag false g in
-      let opened = opened_set g are has in
-      let end = h laws g now o has is_for opened in
-      by_row (flag_write false g ∷ rest) end
-      (ap (λ (b : Bool). cond b (root_write (record o.root { clean = false }) ∷ []) [] ++ rest) (flag_is true e)
-      ∙ ap (λ (r : Root). root_write (record r { clean = false }) ∷ rest) is_for.root)
-      (ends_so laws g now o has is_for opened) (the_end laws g now o has is_for opened)
-      (first_then g end (flag_write false g) rest (each_on_the_way laws g now o has is_for opened))
-
-  pub restores : ScavengingRestores g o
-  restores = either (eqb (short_at (root_page g) 10) 1) refl
-    where
-      either : (b : Bool) → eqb (short_at (root_page g) 10) 1 ≡ b → ScavengingRestores g o
-      either true e = was_closed e
-      either false e = was_open e

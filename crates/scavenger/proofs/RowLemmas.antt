@@ -9,9 +9,10 @@ use Rattle.labelled_disk.specs.State.{DiskState}
 use Rattle.labelled_disk.specs.WriteRuns.{Appended}
 use Rattle.labelled_disk.proofs.CallLemmas.{rose_earlier}
 use Rattle.labelled_disk.proofs.WriteRunLemmas.{appended_none, appended_one, appended_then, appended_no_more}
+use Rattle.cut_words.proofs.KeepLemmas.{keeps_same, keeps_then, moved_keeps, sync_keeps}
 use Rattle.volume_root.specs.Format.{PartMade}
 use Rattle.volume_root.specs.Later.{IsLater}
-use Rattle.scavenger.specs.Carries.{Carries}
+use Rattle.scavenger.specs.Carries.{Carries, MakesWithBarriers}
 
 pub later_itself : (a : DiskState) → IsLater a a
 later_itself a = record { sectors = refl; lent = refl; faults = omega arith }
@@ -55,6 +56,7 @@ carries_none a = record {
   part = tt;
   cause = tt;
   later = later_itself a;
+  syncs = keeps_same a a refl;
   transfers = omega arith;
 }
 
@@ -65,6 +67,7 @@ carries_made w a b reveals moves = record {
   part = tt;
   cause = tt;
   later = moved_later moves;
+  syncs = moved_keeps a b moves;
   transfers = omega (arith, moves.transfers.by_one);
 }
 
@@ -75,6 +78,7 @@ carries_failed e w a b reveals rose moves = record {
   part = either reveals;
   cause = rose;
   later = moved_later moves;
+  syncs = moved_keeps a b moves;
   transfers = omega (arith, moves.transfers.by_one);
 }
   where
@@ -94,6 +98,7 @@ carries_then first next a b c (Ok x) one more = record {
   part = tt;
   cause = tt;
   later = later_then one.later more.later;
+  syncs = keeps_then a b c one.syncs more.syncs;
   transfers = omega (arith, one.transfers, more.transfers, length-append first next);
 }
 carries_then first next a b c (Err e) one more = record {
@@ -101,6 +106,7 @@ carries_then first next a b c (Err e) one more = record {
   part = part_then first next a b c one.all more.part;
   cause = rose_earlier a.faults b.faults c.faults one.later.faults more.cause;
   later = later_then one.later more.later;
+  syncs = keeps_then a b c one.syncs more.syncs;
   transfers = omega (arith, one.transfers, more.transfers, length-append first next);
 }
 
@@ -111,6 +117,7 @@ carries_stopped first next a b e f failed = record {
   part = part_longer first next a b failed.part;
   cause = failed.cause;
   later = failed.later;
+  syncs = failed.syncs;
   transfers = omega (arith, failed.transfers, length-append first next);
 }
 
@@ -129,6 +136,7 @@ carries_settled writes a b c made settled = record {
   part = tt;
   cause = tt;
   later = later_then made.later (record { sectors = settled.sectors; lent = settled.lent; faults = settled.faults });
+  syncs = keeps_then a b c made.syncs (sync_keeps b c (Ok tt) settled);
   transfers = omega (arith, made.transfers, settled.transfers);
 }
 
@@ -139,5 +147,10 @@ carries_unsettled f e writes a b c made settled = record {
   part = all_made writes a c (appended_no_more writes made.all settled.same);
   cause = rose_earlier a.faults b.faults c.faults made.later.faults settled.fails.cause;
   later = later_then made.later (record { sectors = settled.sectors; lent = settled.lent; faults = settled.faults });
+  syncs = keeps_then a b c made.syncs (sync_keeps b c (Err e) settled);
   transfers = omega (arith, made.transfers, settled.transfers);
 }
+
+-- the same of barriers
+pub barriers_err : {E : Type 0} (writes : List DiskWrite) (a b : DiskState) (r : Result (Unit {0}) E) (e : E) → r ≡ Err e → MakesWithBarriers writes a (Err e) b → MakesWithBarriers writes a r b
+barriers_err writes a b r e same makes = subst (λ (x : _). MakesWithBarriers writes a x b) (sym same) makes

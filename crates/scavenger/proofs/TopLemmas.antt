@@ -1,5 +1,7 @@
 -- What the writes of a restoration leave, after calls that wrote nothing.
-use Rattle.std.proofs.Common.{◌≡◌, List, ◌++◌, length, take, Some, Result, Ok, Err, sym, ◌∙◌, ap, subst}
+use Rattle.std.proofs.Common.{◌≡◌, ℕ, ◌+◌, List, [], ◌++◌, length, take, Some, Result, Ok, Err, sym, ◌∙◌, ap, subst, arith, append-nil}
+use Rattle.std.proofs.lemmas.List.{append_cancel_left}
+use Rattle.std.proofs.lemmas.Option.{same_Some}
 use Rattle.std.specs.Prelude.{slice_get, option_map, IfErr, OnErr}
 use Rattle.labelled_disk.specs.declared.disk.DiskWrite.{DiskWrite}
 use Rattle.labelled_disk.specs.Calls.{OnlyReads}
@@ -8,13 +10,18 @@ use Rattle.labelled_disk.specs.Sectors.{Sector, AreSectors}
 use Rattle.labelled_disk.specs.State.{DiskState}
 use Rattle.labelled_disk.specs.WriteRuns.{Appended, after_writes}
 use Rattle.labelled_disk.specs.declared.layout.RootFault.{RootFault}
+use Rattle.cut_words.specs.Barriers.{HasBarriers}
+use Rattle.cut_words.specs.Between.{IsCutBetween, EachCutFromFirstSync}
+use Rattle.cut_words.proofs.BarrierLemmas.{two_windows}
+use Rattle.cut_words.proofs.LastSyncLemmas.{sync_laws}
 use Rattle.volume_root.specs.declared.root.Root.{Root}
 use Rattle.volume_root.specs.Format.{PartMade}
 use Rattle.scavenger.specs.declared.fault.ScavengeFault.{ScavengeFault}
 use Rattle.scavenger.specs.declared.fault.ScavengeFault.TheVariants.{Disk}
 use Rattle.scavenger.specs.Opening.{Accords}
 use Rattle.scavenger.specs.Orders.{Orders, AreFor, scavenge_writes}
-use Rattle.scavenger.specs.Restored.{IsRestored, RestoresEach}
+use Rattle.scavenger.specs.Carries.{MakesWithBarriers}
+use Rattle.scavenger.specs.Restored.{IsRestored, RestoresEach, ScavengingRestores, Survives}
 
 -- writes after calls that wrote nothing
 pub appended_after : (ws : List DiskWrite) (a b c : DiskState) → OnlyReads a b → Appended ws b c → Appended ws a c
@@ -40,3 +47,41 @@ on_err {T} {E} {P} r e same holds = subst (λ (x : Result T E). OnErr x P) same 
 pub accords_by : {T : Type 0} (r : Result T ScavengeFault) (right : Result Root RootFault) → IfErr r (λ w. w ≡ Disk) → (root : Root) × (right ≡ Ok root) → Accords r right
 accords_by (Ok x) right err accepted = accepted
 accords_by (Err e) right err accepted = subst (λ (w : ScavengeFault). Accords {T = Root} (Err w) right) (sym err) tt
+
+-- where nothing was written there is no cut after a first write
+pub none_cut : (P : List Sector → List Sector → Type 0) (a c : DiskState) → OnlyReads a c → EachCutFromFirstSync P a c
+none_cut P a c only d e s k cut from =
+    let same : cut.writes ≡ [] =
+    append_cancel_left cut.earlier cut.writes []
+    (same_Some (cut.earlier ++ cut.writes) (cut.earlier ++ []) (sym cut.wrote ∙ only.writes ∙ cut.wrote_before ∙ ap (λ (l : List DiskWrite). Some l) (sym (append-nil cut.earlier)))) in
+    let last = ((sync_laws cut.syncs (length cut.earlier + k)).revealed (length cut.earlier + s)).0 cut.last in
+    absurd (omega (arith, ap (λ (l : List DiskWrite). length l) same, cut.made, last.by_then, from))
+
+-- calls that wrote nothing, and then others
+later_cut : (a b c : DiskState) (d e : List Sector) (s k : ℕ) → OnlyReads a b → IsCutBetween a c d s k e → IsCutBetween b c d s k e
+later_cut a b c d e s k only cut = record {
+  earlier = cut.earlier;
+  writes = cut.writes;
+  syncs = cut.syncs;
+  held = only.contents ∙ cut.held;
+  wrote_before = only.writes ∙ cut.wrote_before;
+  wrote = cut.wrote;
+  settled = cut.settled;
+  made = cut.made;
+  last = cut.last;
+  cut = cut.cut;
+}
+
+pub cuts_after : (P : List Sector → List Sector → Type 0) (a b c : DiskState) → OnlyReads a b → EachCutFromFirstSync P b c → EachCutFromFirstSync P a c
+cuts_after P a b c only each d e s k cut from = each d e s k (later_cut a b c d e s k only cut) from
+
+some_made : {E : Type 0} (writes : List DiskWrite) (b c : DiskState) (r : Result (Unit {0}) E) → MakesWithBarriers writes b r c → (made : ℕ) × HasBarriers writes made b c
+some_made writes b c (Ok x) has = (length writes, has)
+some_made writes b c (Err e) has = has
+
+-- the cuts of a restoration
+pub survives_made : {E : Type 0} (o : Orders) (a b c : DiskState) (r : Result (Unit {0}) E) → OnlyReads a b → MakesWithBarriers (scavenge_writes o) b r c
+    → ((g : List Sector) → a.contents ≡ Some g → ScavengingRestores g o) → EachCutFromFirstSync Survives a c
+survives_made o a b c r only makes laws d e s k cut from =
+    let has = some_made (scavenge_writes o) b c r makes in
+    (laws d cut.held).cuts e (two_windows (scavenge_writes o) has.0 b c has.1 d e s k (later_cut a b c d e s k only cut) from)

@@ -1,5 +1,5 @@
 -- The writes by which a volume is restored, in their order.
-use Rattle.std.specs.Prelude.{◌≡◌, ℕ, ◌+◌, ◌<◌, ◌^◌, true, false, if◌then◌else◌, List, [], ◌∷◌, ◌++◌, map}
+use Rattle.std.specs.Prelude.{◌≡◌, ℕ, ◌+◌, ◌<◌, ◌^◌, true, false, List, [], ◌∷◌, ◌++◌, map}
 use Rattle.std.specs.List.{range_with_len}
 use Rattle.labelled_disk.specs.Label.{page_label}
 use Rattle.labelled_disk.specs.declared.disk.DiskWrite.{DiskWrite}
@@ -23,23 +23,29 @@ pub record Orders : Type 0 where
   pub names : List ℕ
   pub counter : ℕ
 
--- the root as it was, with the clean flag 0, where that flag was 1
-abbrev pub opening : Root → List DiskWrite
-opening root = if root.clean then root_write (record root { clean = false }) ∷ [] else []
-
 -- the first k pages of a map whose page 0 stands in this sector, each with its label
 abbrev pub map_writes : ℕ → ℕ → List ℕ → ℕ → List DiskWrite
 map_writes id first bytes k = map (λ i. Whole (first + i) (page_label id 0 i) (page_at bytes i)) (range_with_len 0 k)
 
--- the root, clean, with the new counter
+-- the root with the new counter: not clean, as it is written first, and clean, as it is written last
+abbrev pub opened : Orders → Root
+opened o = record o.root { clean = false; counter = o.counter }
+
 abbrev pub closed : Orders → Root
 closed o = record o.root { clean = true; counter = o.counter }
 
--- the root opened; a free label for each freed sector; the allocation map; the file map; the root closed
+-- a free label for each freed sector; the allocation map; the file map
+abbrev pub preparing_writes : Orders → List DiskWrite
+preparing_writes o = freeing o.freed ++ (map_writes 1 1 o.bits (vam o.root.sectors)
+    ++ map_writes 2 (1 + vam o.root.sectors) o.names (vfm o.root.sectors))
+
+-- on a volume that is not clean: these, and the root closed
+abbrev pub closing_writes : Orders → List DiskWrite
+closing_writes o = preparing_writes o ++ root_write (closed o) ∷ []
+
+-- the root opened, whether it was clean or not; then those
 abbrev pub scavenge_writes : Orders → List DiskWrite
-scavenge_writes o =
-    opening o.root ++ (freeing o.freed ++ (map_writes 1 1 o.bits (vam o.root.sectors)
-    ++ (map_writes 2 (1 + vam o.root.sectors) o.names (vfm o.root.sectors) ++ root_write (closed o) ∷ [])))
+scavenge_writes o = root_write (opened o) ∷ closing_writes o
 
 -- They are those for a disk of these sectors: its root, all its unneeded sectors, ascending, what stays in both maps, and a
 -- counter above its files.

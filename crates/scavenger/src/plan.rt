@@ -1,12 +1,13 @@
 //! What is to be written, made in memory before the first write.
-ghost use Rattle.std.specs.Prelude.{◌≡◌, ◌-◌, ◌≤◌, List, length, IfOk};
+ghost use Rattle.std.specs.Prelude.{◌≡◌, ◌-◌, ◌≤◌, List, length, true, IfOk, OnOk};
 ghost use Rattle.labelled_disk.specs.Layout.{IsCount, layout_of, first_data};
 ghost use Rattle.labelled_disk.specs.Root.{root_page};
 ghost use Rattle.labelled_disk.specs.Sectors.{Sector};
 ghost use Rattle.volume_root.specs.RootPage.{IsValidRoot, root_in};
+ghost use Rattle.volume_root.specs.declared.root.Root.{Root};
 ghost use Rattle.label_survey.specs.SectorStates.{AreSectorStates};
-ghost use Rattle.scavenger.specs.Carries.{Carries};
-ghost use Rattle.scavenger.specs.Orders.{AreFor, scavenge_writes};
+ghost use Rattle.scavenger.specs.Carries.{Carries, MakesWithBarriers};
+ghost use Rattle.scavenger.specs.Orders.{AreFor, closing_writes, preparing_writes, scavenge_writes};
 ghost use Rattle.scavenger.specs.Stays.{HasLabels};
 
 use crate::bits::make_bits;
@@ -64,8 +65,30 @@ impl<A: Allocator + Clone> Plan<A> {
         })
     }
 
-    /// Makes all its writes on a volume with this root: where that is open, and no sector is freed,
-    /// these are both maps, and the root closed.
+    // Frees the sectors that it frees, and writes both maps.
+    fn prepare<D: Disk>(self, disk: &mut D, layout: &Layout) -> Result<(), DiskError>
+        requires counted { IsCount (D.state disk.old).sectors }
+        requires layout { layout.now ≡ layout_of (D.state disk.old).sectors }
+        requires sized { IsSized (D.state disk.old).sectors self }
+        ensures { (root : Root) → root.sectors ≡ (D.state disk.old).sectors
+            → Carries (preparing_writes (orders root layout.now.first self))
+            (D.state disk.old) result (D.state disk.new) }
+    {
+        let Plan {
+            sector_states,
+            mut bits,
+            mut names,
+            ..
+        } = self;
+        free_sectors(disk, layout.first, &sector_states)?;
+        drop(sector_states);
+        write_map(disk, 1, 1, layout.vam, &mut bits)?;
+        drop(bits);
+        write_map(disk, 2, 1 + layout.vam, layout.vfm, &mut names)
+    }
+
+    /// Makes its writes on a volume with this root that is not clean: where no sector is freed, these
+    /// are both maps, and the root closed, which waits until they are on the medium.
     pub fn carry_out<D: Disk>(
         self,
         disk: &mut D,
@@ -76,22 +99,39 @@ impl<A: Allocator + Clone> Plan<A> {
         requires root { IsValidRoot (D.state disk.old).sectors root.now }
         requires sized { IsSized (D.state disk.old).sectors self }
         requires counter { root.now.counter ≤ self.counter }
-        ensures { Carries (scavenge_writes (orders root.now layout.now.first self))
+        ensures { Carries (closing_writes (orders root.now layout.now.first self))
             (D.state disk.old) result (D.state disk.new) }
     {
-        let Plan {
-            sector_states,
-            mut bits,
-            mut names,
-            counter,
-        } = self;
-        open_root(disk, root)?;
-        free_sectors(disk, layout.first, &sector_states)?;
-        drop(sector_states);
-        write_map(disk, 1, 1, layout.vam, &mut bits)?;
-        drop(bits);
-        write_map(disk, 2, 1 + layout.vam, layout.vfm, &mut names)?;
-        drop(names);
+        let counter = self.counter;
+        self.prepare(disk, layout)?;
+        disk.sync()?;
         close_root(disk, root, counter)
+    }
+
+    /// Restores a volume with this root. No other write is made before the root that is not clean is
+    /// on the medium, and the closed root waits until all others are.
+    pub(crate) fn restore<D: Disk>(
+        self,
+        disk: &mut D,
+        layout: &Layout,
+        root: &Root,
+    ) -> Result<(), DiskError>
+        requires layout { layout.now ≡ layout_of (D.state disk.old).sectors }
+        requires root { IsValidRoot (D.state disk.old).sectors root.now }
+        requires sized { IsSized (D.state disk.old).sectors self }
+        requires counter { root.now.counter ≤ self.counter }
+        ensures carries { Carries (scavenge_writes (orders root.now layout.now.first self))
+            (D.state disk.old) result (D.state disk.new) }
+        ensures synced { OnOk result ((D.state disk.new).synced ≡ true) }
+        ensures barriers { MakesWithBarriers (scavenge_writes (orders root.now layout.now.first self))
+            (D.state disk.old) result (D.state disk.new) }
+    {
+        let counter = self.counter;
+        open_root(disk, root, counter)?;
+        disk.sync()?;
+        self.prepare(disk, layout)?;
+        disk.sync()?;
+        close_root(disk, root, counter)?;
+        disk.sync()
     }
 }

@@ -1,5 +1,6 @@
 //! A volume is restored from its labels.
 ghost use Rattle.std.specs.Prelude.{◌≡◌, ◌⊎◌, ℕ, ◌-◌, ◌≤◌, List, [], ◌++◌, Some, Err, true, false, length, slice_get, IfOk, IfErr, OnOk};
+ghost use Rattle.cut_words.specs.Between.{EachCutFromFirstSync};
 ghost use Rattle.labelled_disk.specs.Calls.{OnlyReads, ReadsAtMost, Rose, RevealsSame};
 ghost use Rattle.labelled_disk.specs.Layout.{IsCount, layout_of, first_data};
 ghost use Rattle.labelled_disk.specs.CrashState.{crash_state};
@@ -10,11 +11,11 @@ ghost use Rattle.volume_root.specs.Format.{PartMade};
 ghost use Rattle.volume_root.specs.Later.{IsLater};
 ghost use Rattle.volume_root.specs.RootPage.{judged, root_in, IsValidRoot};
 ghost use Rattle.scavenger.specs.Opening.{Accords, IsDiskOrMemory};
-ghost use Rattle.scavenger.specs.Carries.{Carries};
+ghost use Rattle.scavenger.specs.Carries.{Carries, MakesWithBarriers};
 ghost use Rattle.scavenger.specs.Plan.{orders, IsSized};
 ghost use Rattle.scavenger.specs.Orders.{Orders, AreFor, scavenge_writes};
 ghost use Rattle.scavenger.specs.Reported.{lost_in, Reports};
-ghost use Rattle.scavenger.specs.Restored.{IsBetween, IsRestored};
+ghost use Rattle.scavenger.specs.Restored.{IsBetween, IsRestored, Survives};
 ghost use Rattle.scavenger.specs.Stays.{HasLabels};
 
 use crate::laws::scavenging_restores;
@@ -89,7 +90,7 @@ fn make_plan<A: Allocator + Clone, D: Disk>(
     }
 }
 
-// Carries a plan out, and waits until all is on the medium.
+// Carries a plan out.
 fn finish<A: Allocator + Clone, D: Disk>(
     plan: Plan<A>,
     disk: &mut D,
@@ -103,23 +104,23 @@ fn finish<A: Allocator + Clone, D: Disk>(
     ensures carries { Carries (scavenge_writes (orders root.now layout.now.first plan))
         (D.state disk.old) result (D.state disk.new) }
     ensures synced { OnOk result ((D.state disk.new).synced ≡ true) }
+    ensures barriers { MakesWithBarriers (scavenge_writes (orders root.now layout.now.first plan))
+        (D.state disk.old) result (D.state disk.new) }
     ensures err { IfErr result (λ why. why ≡ ScavengeFault.Disk) }
 {
-    let Ok(()) = plan.carry_out(disk, layout, root) else {
-        return Err(ScavengeFault::Disk);
-    };
-    let Ok(()) = disk.sync() else {
-        return Err(ScavengeFault::Disk);
-    };
-    Ok(())
+    match plan.restore(disk, layout, root) {
+        Ok(()) => Ok(()),
+        Err(_) => Err(ScavengeFault::Disk),
+    }
 }
 
 /// Restores a volume from its labels, whatever stands in its maps, and reveals in an empty report
 /// what was found. The permanent files stay as they are; each other data sector is freed.
 ///
 /// All labels are read, and both maps are made in memory, before the first write. Then the root is
-/// written with the clean flag 0, if that was 1; each freed sector, ascending, gets a free label; each
-/// sector of both maps its label and its new page; and the root comes last, clean.
+/// written with the new counter and the clean flag 0, whatever it was; once that is on the medium,
+/// each freed sector, ascending, gets a free label, and each sector of both maps its label and its new
+/// page; and once all of these are, the root comes last, clean.
 ///
 /// On a volume of 65,536 sectors this takes some 7 MB at most, and 105 bytes for each sector of a
 /// larger one, all given back at the end.
@@ -151,6 +152,9 @@ pub fn scavenge<A: Allocator + Clone, D: Disk>(
         → (D.state disk.old).contents ≡ Some g → (D.state disk.old).writes ≡ Some before
         → (D.state disk.new).writes ≡ Some (before ++ writes)
         → (k : ℕ) → IsBetween g (crash_state g writes k) }
+
+    // What stands where the power went, once its first write is on the medium.
+    ensures cuts { EachCutFromFirstSync Survives (D.state disk.old) (D.state disk.new) }
 
     // The root that was read is refused.
     ensures count { ¬ IsCount (D.state disk.old).sectors

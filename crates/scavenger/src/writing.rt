@@ -1,12 +1,12 @@
 //! The writes that restore a volume.
-ghost use Rattle.std.specs.Prelude.{◌≡◌, ◌+◌, ◌*◌, ◌-◌, ◌≤◌, ◌<◌, ◌^◌, ◌∷◌, [], true, length};
+ghost use Rattle.std.specs.Prelude.{◌≡◌, ◌+◌, ◌*◌, ◌-◌, ◌≤◌, ◌<◌, ◌^◌, ◌∷◌, [], true, false, length};
 ghost use Rattle.flat_mem.specs.Vec.{vec_mem_bytes};
 ghost use Rattle.labelled_disk.specs.Runs.{freeing};
 ghost use Rattle.page_tree.specs.Page.{page_at};
 ghost use Rattle.volume_root.specs.RootPage.{IsValidRoot, root_write};
 ghost use Rattle.label_survey.specs.Survey.{is_freed, places_by};
 ghost use Rattle.scavenger.specs.Carries.{Carries};
-ghost use Rattle.scavenger.specs.Orders.{opening, map_writes};
+ghost use Rattle.scavenger.specs.Orders.{map_writes};
 
 use flat_mem::{FlatMem, VecMem};
 use label_survey::SectorState;
@@ -24,23 +24,25 @@ fn put_root<D: Disk>(disk: &mut D, root: &Root) -> Result<(), DiskError>
     }
 }
 
-/// Clears the clean flag, where it is set.
-pub(crate) fn open_root<D: Disk>(disk: &mut D, root: &Root) -> Result<(), DiskError>
-    requires { IsValidRoot (D.state disk.old).sectors root.now }
-    ensures { Carries (opening root.now) (D.state disk.old) result (D.state disk.new) }
+/// Writes the root with this counter and the clean flag 0, whatever it was: a flag that is read as 0
+/// need not be on the medium. The counter comes with it, since a root that changes the flag and the
+/// counter at once may be found with the one and without the other.
+pub(crate) fn open_root<D: Disk>(disk: &mut D, root: &Root, counter: u32) -> Result<(), DiskError>
+    requires valid { IsValidRoot (D.state disk.old).sectors root.now }
+    requires counter { 1 ≤ counter }
+    ensures { Carries (root_write (record root.now { clean = false; counter = counter }) ∷ [])
+        (D.state disk.old) result (D.state disk.new) }
 {
-    if !root.clean {
-        return Ok(());
-    }
     let opened = Root {
         clean: false,
+        counter,
         ..*root
     };
     put_root(disk, &opened)
 }
 
-/// Waits until all that was written is on the medium, and writes the root, clean, with this counter: so no root that
-/// says that the volume is whole is on the medium before what it speaks of.
+/// Writes the root with this counter and the clean flag 1. All else is to be on the medium before: so
+/// no root that says that the volume is whole is there before what it speaks of.
 pub(crate) fn close_root<D: Disk>(disk: &mut D, root: &Root, counter: u32) -> Result<(), DiskError>
     requires valid { IsValidRoot (D.state disk.old).sectors root.now }
     requires counter { 1 ≤ counter }
@@ -52,7 +54,6 @@ pub(crate) fn close_root<D: Disk>(disk: &mut D, root: &Root, counter: u32) -> Re
         counter,
         ..*root
     };
-    disk.sync()?;
     put_root(disk, &closed)
 }
 

@@ -1,7 +1,6 @@
 -- A disk that is settled reveals the same, and a core over it knows the same.
-use Rattle.std.proofs.Common.{inl, ℕ, List, [], Result, ◌∙◌, refl, arith}
-use Rattle.labelled_disk.specs.declared.disk.DiskError.{DiskError}
-use Rattle.labelled_disk.specs.Calls.{Syncs, RevealsSame}
+use Rattle.std.proofs.Common.{inl, ℕ, List, [], ◌∙◌, refl, arith}
+use Rattle.labelled_disk.specs.Calls.{RevealsSame}
 use Rattle.labelled_disk.specs.Sectors.{Sector}
 use Rattle.labelled_disk.specs.State.{DiskState}
 use Rattle.file_map.specs.FileMap.{Triples}
@@ -70,7 +69,3 @@ module _ (v : View) (disk : DiskState) (went : Went v.disk disk) (same : Reveals
     cached = t.cached;
     stored = t.stored;
   }
-
--- the same disk later
-pub settled_went : (old new : DiskState) (result : Result (Unit {0}) DiskError) → Syncs old result new → Went old new
-settled_went old new result s = record { sectors = s.sectors; lent = s.lent; faults = s.faults; transfers = omega (arith, s.transfers) }

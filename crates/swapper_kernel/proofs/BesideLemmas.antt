@@ -15,6 +15,7 @@ use Rattle.labelled_disk.specs.Runs.{IsWriteInForm}
 use Rattle.labelled_disk.proofs.WriteRunLemmas.{appended_one}
 use Rattle.frame_pool.specs.Frames.{Frame, Slots, Has}
 use Rattle.swapper_kernel.specs.Stands.{IsMerged}
+use Rattle.swapper_kernel.specs.GoesLaws.{same_syncs}
 use Rattle.swapper_kernel.specs.Goes.{Goes, Makes, Wrote, no_page, is_page_write}
 use Rattle.swapper_kernel.specs.StepLaws.{IsLabelled}
 use Rattle.swapper_kernel.proofs.MoveLemmas.{move_laws}
@@ -49,7 +50,7 @@ module _ (old new : DiskState) (slots : Slots) (w : DiskWrite) (sector : ℕ) (i
   -- whatever stands in frames, one label was written
   pub label_written : ((d : List Sector) → old.contents ≡ Some d → Permitted d w) → Makes no_page (w ∷ []) old slots new slots
   label_written permitted = record {
-    went = record { sectors = moves.sectors; lent = moves.lent; faults = moves.faults; transfers = moves.transfers.later };
+    went = record { sectors = moves.sectors; lent = moves.lent; syncs = same_syncs old new moves.syncs; faults = moves.faults; transfers = moves.transfers.later };
     dirty = λ id page d. inl d;
     wrote = record {
       writes = w ∷ [];

@@ -21,13 +21,13 @@ use Rattle.frame_pool.specs.FrameLaws.{has_below, has_set, frame_of_has}
 use Rattle.swapper_kernel.specs.Homes.{wanted_at}
 use Rattle.swapper_kernel.specs.Stands.{Stands}
 use Rattle.swapper_kernel.specs.Goes.{IsDirty, Went, Wrote, no_page, Swaps}
-use Rattle.swapper_kernel.specs.GoesLaws.{went_itself, wrote_none}
+use Rattle.swapper_kernel.specs.GoesLaws.{same_syncs, went_itself, wrote_none}
 use Rattle.swapper_kernel.specs.StepLaws.{StepLaws}
 use Rattle.swapper_kernel.proofs.MoveLemmas.{move_laws, written_there}
 use Rattle.swapper_kernel.proofs.BesideLemmas.{label_written, beside_frames}
 
 pub went_by : {a b : DiskState} → Moves a b → Went a b
-went_by m = record { sectors = m.sectors; lent = m.lent; faults = m.faults; transfers = m.transfers.later }
+went_by {a = a} {b = b} m = record { sectors = m.sectors; lent = m.lent; syncs = same_syncs a b m.syncs; faults = m.faults; transfers = m.transfers.later }
 
 pub stands_revealed : {old new : DiskState} {slots : Slots} {m : List Sector} → new.contents ≡ old.contents → Stands old slots m → Stands new slots m
 stands_revealed same h = record { sectors = h.sectors; revealed = same ∙ h.revealed; merged = h.merged }

@@ -1,6 +1,6 @@
 -- What a call of any layer does to disk and frames: what holds over any contents, and a relation of the memories that
 -- they make before and after it.
-use Rattle.std.specs.Prelude.{◌≡◌, ◌⊎◌, ◌≤◌, ℕ, Bool, true, false, not, List, [], length, filter, Some, slice_get}
+use Rattle.std.specs.Prelude.{◌≡◌, ◌⊎◌, ◌≤◌, ℕ, Bool, true, false, not, List, [], length, filter, Some, slice_get, Contains}
 use Rattle.labelled_disk.specs.declared.label.Wanted.{Wanted}
 use Rattle.labelled_disk.specs.declared.disk.DiskWrite.{DiskWrite}
 use Rattle.labelled_disk.specs.declared.disk.DiskWrite.TheVariants as write
@@ -34,10 +34,16 @@ pub record IsDirty (slots : Slots) (id page : ℕ) : Type 0 where
   pub same_id : frame.home.id ≡ id
   pub same_page : frame.home.page ≡ page
 
+-- where the disk revealed its syncs it reveals each of them still
+abbrev pub KeepsSyncs : DiskState → DiskState → Type 0
+KeepsSyncs old new = (syncs : List ℕ) → old.syncs ≡ Some syncs → (later : List ℕ) × (new.syncs ≡ Some later)
+    × ((s : ℕ) → Contains syncs s → Contains later s)
+
 -- the same disk later
 pub record Went (old new : DiskState) : Type 0 where
   pub sectors : new.sectors ≡ old.sectors
   pub lent : new.lent ≡ old.lent
+  pub syncs : KeepsSyncs old new
   pub faults : old.faults ≤ new.faults
   pub transfers : old.transfers ≤ new.transfers
 

@@ -14,15 +14,23 @@ use Rattle.labelled_disk.specs.WriteRuns.{after_writes}
 use Rattle.labelled_disk.proofs.WriteRunLemmas.{appended_none, appended_then, crash_state-earlier, after_writes-append, crash_state-later}
 use Rattle.frame_pool.specs.Frames.{Slots}
 use Rattle.swapper_kernel.specs.Stands.{Stands}
-use Rattle.swapper_kernel.specs.Goes.{Change, Pages, IsDirty, Went, Wrote, Makes, Goes, Same, no_page, Swaps, is_page_write}
+use Rattle.swapper_kernel.specs.Goes.{Change, Pages, IsDirty, KeepsSyncs, Went, Wrote, Makes, Goes, Same, no_page, Swaps, is_page_write}
+
+-- no sync was made
+pub same_syncs : (a b : DiskState) → b.syncs ≡ a.syncs → KeepsSyncs a b
+same_syncs a b same syncs is = (syncs, same ∙ is, λ s has. has)
 
 pub went_itself : (a : DiskState) → Went a a
-went_itself a = record { sectors = refl; lent = refl; faults = omega arith; transfers = omega arith }
+went_itself a = record { sectors = refl; lent = refl; syncs = same_syncs a a refl; faults = omega arith; transfers = omega arith }
 
 pub went_then : {a b c : DiskState} → Went a b → Went b c → Went a c
 went_then h k = record {
   sectors = k.sectors ∙ h.sectors;
   lent = k.lent ∙ h.lent;
+  syncs = λ syncs is.
+      let between = h.syncs syncs is in
+      let later = k.syncs between.0 between.1 in
+      (later.0, later.1, λ s has. later.2 s (between.2 s has));
   faults = omega (arith, h.faults, k.faults);
   transfers = omega (arith, h.transfers, k.transfers);
 }

@@ -17,6 +17,7 @@ pub mod OnceLaws
 pub mod Stands
 pub mod StepLaws
 pub mod Steps
+pub mod SyncLaws
 pub mod ThereLaws
 pub mod CourseLaws
 pub mod Window

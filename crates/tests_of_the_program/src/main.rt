@@ -37,6 +37,9 @@ fn wrong_of(rt: &HostRuntime, section: &Section<'_>) -> Result<String> {
     if let Some((steps, look)) = blocks.split_once("\n\n?") {
         return stops::wrong(rt.alloc(), sectors, steps, look);
     }
+    if let Some((steps, order)) = blocks.split_once("\n\n!") {
+        return rows::wrong_order(rt.alloc(), sectors, steps, order);
+    }
     for frames in ["24", "4096"] {
         let wrong = rows::wrong_in_memory(rt.alloc(), sectors, frames, blocks)?;
         if !wrong.is_empty() {

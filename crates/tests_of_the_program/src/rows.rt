@@ -4,9 +4,12 @@ use crate::part::Part;
 use crate::sector;
 use anyhow::Result;
 use image_disk::{new_image, open_image};
-use labelled_disk::{Disk, MemoryDisk};
+use labelled_disk::{Disk, DiskWrite, MemoryDisk};
 use std::alloc::Global;
 use std::fs;
+
+/// How many writes a disk records.
+const WRITES: u32 = 1_000;
 
 /// The image file of the sections.
 const IMAGE: &str = "image";
@@ -40,6 +43,36 @@ pub(crate) fn wrong_in_memory(
         }
     }
     Ok(String::new(alloc))
+}
+
+/// What such blocks show over a disk that records its writes; and whether the pages of these sectors were written in this order.
+pub(crate) fn wrong_order(
+    alloc: Global,
+    sectors: u32,
+    blocks: &str,
+    order: &str,
+) -> Result<String> {
+    let mut disk = MemoryDisk::failing(alloc, sectors, &[], WRITES)?;
+    for block in blocks.split("\n\n") {
+        let wrong = wrong(alloc, &mut disk, "24", block)?;
+        if !wrong.is_empty() {
+            return Ok(wrong);
+        }
+    }
+    let mut written = String::new(alloc);
+    for write in disk.written() {
+        if let DiskWrite::Page { sector, .. } = write {
+            let place = format!(in alloc; "{sector}")?;
+            if order.split(' ').any(|place_of| place_of == place.as_str()) {
+                written.push_str(&place)?;
+                written.push(' ')?;
+            }
+        }
+    }
+    if written.trim_end() == order {
+        return Ok(String::new(alloc));
+    }
+    Ok(format!(in alloc; "written in this order: {written}")?)
 }
 
 /// The same over an image file, which is opened anew for each block, in 24 frames.

@@ -11,3 +11,5 @@ mod fickle;
 mod memory;
 #[cfg(test)]
 mod rows;
+#[cfg(test)]
+mod stopping;

@@ -147,8 +147,7 @@ module _ {A : Type 0} (n : ℕ) (labels : List Label) (root : Root) (first : ℕ
 
     writes_are : all_writes root first c ≡ convert_writes (orders_of root first c)
     writes_are =
-        ap (λ (is : List ℕ). arranging first c ++ (freeing is ++ (map_writes 1 1 (vec_mem_bytes c.maps.bits) (vam root.sectors) ++ (map_writes 2 (1 + vam root.sectors) (vec_mem_bytes c.maps.names) (vfm root.sectors) ++ root_write (closed_today (orders_of root first c)) ∷ [])))) none_freed
-        ∙ ap (λ (ws : List DiskWrite). arranging first c ++ ws) (sym (append_assoc (map_writes 1 1 (vec_mem_bytes c.maps.bits) (vam root.sectors)) (map_writes 2 (1 + vam root.sectors) (vec_mem_bytes c.maps.names) (vfm root.sectors)) (root_write (closed_today (orders_of root first c)) ∷ [])))
+        ap (λ (is : List ℕ). arranging first c ++ ((freeing is ++ (map_writes 1 1 (vec_mem_bytes c.maps.bits) (vam root.sectors) ++ map_writes 2 (1 + vam root.sectors) (vec_mem_bytes c.maps.names) (vfm root.sectors))) ++ root_write (closed_today (orders_of root first c)) ∷ [])) none_freed
         ∙ sym (append_assoc (arranging first c) (both_maps (orders_of root first c)) (root_write (closed_today (orders_of root first c)) ∷ []))
 
     pub planned_for : IsPlannedFor d root first c

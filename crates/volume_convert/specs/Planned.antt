@@ -7,7 +7,7 @@ use Rattle.labelled_disk.specs.Runs.{freeing}
 use Rattle.labelled_disk.specs.Sectors.{Sector}
 use Rattle.volume_root.specs.declared.root.Root.{Root}
 use Rattle.label_survey.specs.Survey.{is_freed, places_by}
-use Rattle.scavenger.specs.Orders.{scavenge_writes}
+use Rattle.scavenger.specs.Orders.{closing_writes}
 use Rattle.scavenger.specs.Plan.{orders, IsSized}
 use Rattle.convert_laws.specs.Converted.{Conversion as Orders, convert_writes, today}
 use Rattle.convert_laws.specs.Conversions.{IsFor}
@@ -36,7 +36,7 @@ module _ {A : Type 0} where
   -- all that is written: free labels and leaders, and what is written where these stand on a volume of today that is
   -- open
   abbrev pub all_writes : Root → ℕ → Conversion A → List DiskWrite
-  all_writes root first c = arranging first c ++ scavenge_writes (orders (today root) first c.maps)
+  all_writes root first c = arranging first c ++ closing_writes (orders (today root) first c.maps)
 
   -- its parts are those of a volume of n sectors with this root
   pub record IsFit (n : ℕ) (root : Root) (c : Conversion A) : Type 0 where

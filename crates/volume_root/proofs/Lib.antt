@@ -15,5 +15,7 @@ mod ThreeFilesLabels
 mod ThreeFilesMap
 mod ThreeFilesTriples
 mod SectorRuns
+mod MakeLemmas
+mod FormatCuts
 mod UsedBits
 pub mod WrittenLemmas

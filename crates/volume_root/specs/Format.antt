@@ -1,5 +1,5 @@
 -- A new volume: what each of its sectors holds.
-use Rattle.std.specs.Prelude.{ℕ, ◌≤◌, ◌++◌, length, take, ◌-◌, ◌*◌, min, true, ◌==◌, nat_le, nat_lt, if◌then◌else◌, List, [], ◌∷◌, map, replicate, slice_index, slice_set}
+use Rattle.std.specs.Prelude.{◌≡◌, ◌⊎◌, ℕ, ◌≤◌, ◌++◌, length, take, ◌-◌, ◌*◌, min, true, ◌==◌, nat_le, nat_lt, if◌then◌else◌, List, [], ◌∷◌, map, replicate, slice_get, slice_index, slice_set}
 use Rattle.std.specs.List.{range_with_len}
 use Rattle.labelled_disk.specs.declared.disk.DiskWrite.{DiskWrite}
 use Rattle.labelled_disk.specs.declared.disk.DiskWrite.TheVariants.{Whole}
@@ -7,6 +7,7 @@ use Rattle.labelled_disk.specs.declared.layout.Layout.{Layout}
 use Rattle.labelled_disk.specs.declared.layout.RootFault.{RootFault}
 use Rattle.labelled_disk.specs.declared.layout.RootFault.TheVariants as fault
 use Rattle.labelled_disk.specs.Layout.{layout_of}
+use Rattle.labelled_disk.specs.Root.{IsRoot}
 use Rattle.labelled_disk.specs.Sectors.{Sector, zero_sector}
 use Rattle.labelled_disk.specs.State.{DiskState}
 use Rattle.labelled_disk.specs.WriteRuns.{Appended}
@@ -46,13 +47,21 @@ new_root n serial counter = record { version = 3; clean = true; sectors = n; ser
 abbrev pub formatted : ℕ → ℕ → ℕ → List Sector
 formatted n serial counter = slice_set (new_sectors (layout_of n) n) 0 (root_label, root_bytes (new_root n serial counter))
 
--- the writes of these sectors, ascending
-abbrev pub new_writes : Layout → ℕ → List DiskWrite
-new_writes layout k = map (λ i. Whole i (new_sector layout i).0 (new_sector layout i).1) (range_with_len 0 k)
+-- the writes of sectors of a new volume, so many, ascending from this one on
+abbrev pub sector_writes : Layout → ℕ → ℕ → List DiskWrite
+sector_writes layout from count = map (λ i. Whole i (new_sector layout i).0 (new_sector layout i).1) (range_with_len from count)
 
--- the writes that make a new volume of n sectors: each sector, ascending, sector 0 as a free one; then the root
+-- from sector 0 on
+abbrev pub new_writes : Layout → ℕ → List DiskWrite
+new_writes layout k = sector_writes layout 0 k
+
+-- the writes that make a volume: each sector, ascending, sector 0 as a free one; then the root
+abbrev pub volume_writes : Layout → Root → List DiskWrite
+volume_writes layout root = new_writes layout layout.sectors ++ root_write root ∷ []
+
+-- those that make a new volume of n sectors
 abbrev pub format_writes : ℕ → ℕ → ℕ → List DiskWrite
-format_writes n serial counter = new_writes (layout_of n) n ++ root_write (new_root n serial counter) ∷ []
+format_writes n serial counter = volume_writes (layout_of n) (new_root n serial counter)
 
 -- the first of these writes were made, so many, and no others
 abbrev pub PartMade : List DiskWrite → DiskState → DiskState → Type 0
@@ -63,3 +72,7 @@ abbrev pub IsFormatFault : RootFault → Type 0
 IsFormatFault fault.Disk = Unit {0}
 IsFormatFault (fault.BadCount n) = Unit {0}
 IsFormatFault why = ⊥
+
+-- no root that is accepted stands there, or it is the new volume
+abbrev pub IsNoneOrNew : ℕ → ℕ → ℕ → List Sector → Type 0
+IsNoneOrNew n serial counter e = (¬ IsRoot n (slice_get e 0)) ⊎ (e ≡ formatted n serial counter)

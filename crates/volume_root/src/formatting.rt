@@ -1,14 +1,17 @@
 //! A new volume.
-ghost use Rattle.std.specs.Prelude.{◌≡◌, ◌≤◌, ◌<◌, ℕ, List, Some, Err, true, length, replicate};
+ghost use Rattle.std.specs.Prelude.{◌≡◌, ◌-◌, ◌≤◌, ◌<◌, ℕ, List, Some, Ok, Err, true, length, replicate};
 ghost use Rattle.std.specs.Prelude.{IfOk, IfErr, OnOk, OnErr};
-ghost use Rattle.labelled_disk.specs.Calls.{OnlyReads, Rose, Writes};
+ghost use Rattle.cut_words.specs.Barriers.{HasBarriers};
+ghost use Rattle.cut_words.specs.Between.{EachCutFromFirstSync};
+ghost use Rattle.labelled_disk.specs.Calls.{OnlyReads, Rose, Syncs, Writes};
 ghost use Rattle.labelled_disk.specs.Layout.{IsCount, layout_of};
 ghost use Rattle.labelled_disk.specs.Sectors.{Sector, zero_sector};
 ghost use Rattle.labelled_disk.specs.WriteRuns.{Appended};
-ghost use Rattle.volume_root.specs.Format.{format_writes, formatted, IsFormatFault, PartMade};
-ghost use Rattle.volume_root.specs.Format.{new_sector, new_sectors, new_writes};
+ghost use Rattle.volume_root.specs.Format.{format_writes, formatted, IsFormatFault, IsNoneOrNew, PartMade};
+ghost use Rattle.volume_root.specs.Format.{new_sector, sector_writes, volume_writes};
 ghost use Rattle.volume_root.specs.Format.{used_byte, used_page};
 ghost use Rattle.volume_root.specs.Later.{IsLater};
+ghost use Rattle.volume_root.specs.RootPage.{IsValidRoot};
 
 use crate::read::VERSION;
 use crate::{Layout, Root, RootFault, write_root};
@@ -84,22 +87,27 @@ fn write_sector<D: Disk>(
     disk.write(sector, &label, &page)
 }
 
-// Writes each sector, ascending, as a new volume has it before its root.
-fn write_sectors<D: Disk>(disk: &mut D, layout: &Layout) -> Result<(), RootFault>
-    requires sectors { layout.now.sectors ≡ (D.state disk.old).sectors }
+// Writes the sectors from `from` up to `to`, ascending, as a new volume has them before its root.
+fn write_sectors<D: Disk>(
+    disk: &mut D,
+    layout: &Layout,
+    from: u32,
+    to: u32,
+) -> Result<(), RootFault>
+    requires order { from ≤ to }
+    requires inside { to ≤ (D.state disk.old).sectors }
     requires vam { layout.now.vam ≤ 256 }
-    ensures contents { OnOk result ((d : List Sector) → (D.state disk.old).contents ≡ Some d
-        → (D.state disk.new).contents ≡ Some (new_sectors layout.now layout.now.sectors)) }
-    ensures made { OnOk result (Appended (new_writes layout.now layout.now.sectors)
+    ensures made { OnOk result (Appended (sector_writes layout.now from (to - from))
         (D.state disk.old) (D.state disk.new)) }
-    ensures part { OnErr result (PartMade (new_writes layout.now layout.now.sectors)
+    ensures part { OnErr result (PartMade (sector_writes layout.now from (to - from))
         (D.state disk.old) (D.state disk.new)) }
     ensures cause { OnErr result (Rose (D.state disk.old).faults (D.state disk.new).faults) }
     ensures err_disk { IfErr result (λ fault. fault ≡ RootFault.Disk) }
     ensures later { IsLater (D.state disk.old) (D.state disk.new) }
+    ensures syncs { (D.state disk.new).syncs ≡ (D.state disk.old).syncs }
 {
     let zeros = [0; PAGE_BYTES];
-    for sector in 0..layout.sectors {
+    for sector in from..to {
         let Ok(()) = write_sector(disk, layout, sector, &zeros) else {
             return Err(RootFault::Disk);
         };
@@ -107,8 +115,43 @@ fn write_sectors<D: Disk>(disk: &mut D, layout: &Layout) -> Result<(), RootFault
     Ok(())
 }
 
-/// Makes a new volume of all sectors of the disk, clean and without a file. Each sector is written,
-/// ascending, sector 0 as a free one; then the root, and the disk is settled.
+fn sync<D: Disk>(disk: &mut D) -> Result<(), RootFault>
+    ensures ok { OnOk result (Syncs (D.state disk.old) (Ok tt) (D.state disk.new)) }
+    ensures err { OnErr result (Syncs (D.state disk.old) (Err DiskError.Failed) (D.state disk.new)) }
+    ensures err_disk { IfErr result (λ fault. fault ≡ RootFault.Disk) }
+{
+    match disk.sync() {
+        Ok(()) => Ok(()),
+        Err(_) => Err(RootFault::Disk),
+    }
+}
+
+// Makes a volume with this root. No other sector is written before the free sector 0 is on the
+// medium, and the root is not written before all others are.
+fn make_volume<D: Disk>(disk: &mut D, layout: &Layout, root: &Root) -> Result<(), RootFault>
+    requires layout { layout.now ≡ layout_of (D.state disk.old).sectors }
+    requires root { IsValidRoot (D.state disk.old).sectors root.now }
+    ensures made { OnOk result (HasBarriers (volume_writes layout.now root.now)
+        (length (volume_writes layout.now root.now)) (D.state disk.old) (D.state disk.new)) }
+    ensures part { OnErr result ((made : ℕ)
+        × HasBarriers (volume_writes layout.now root.now) made (D.state disk.old) (D.state disk.new)) }
+    ensures synced { OnOk result ((D.state disk.new).synced ≡ true) }
+    ensures cause { OnErr result (Rose (D.state disk.old).faults (D.state disk.new).faults) }
+    ensures err_disk { IfErr result (λ fault. fault ≡ RootFault.Disk) }
+    ensures later { IsLater (D.state disk.old) (D.state disk.new) }
+{
+    write_sectors(disk, layout, 0, 1)?;
+    sync(disk)?;
+    write_sectors(disk, layout, 1, layout.sectors)?;
+    sync(disk)?;
+    write_root(disk, root)?;
+    sync(disk)
+}
+
+/// Makes a new volume of all sectors of the disk, clean and without a file. Sector 0 is written as a
+/// free one, so that no older root is left; then every other sector, ascending; and then the root.
+/// Each of the three waits until what was written before it is on the medium, and so does the
+/// answer.
 pub fn format<D: Disk>(disk: &mut D, serial: u32, counter: u32) -> Result<Layout, RootFault>
     requires serial { 1 ≤ serial }
     requires counter { 1 ≤ counter }
@@ -118,6 +161,10 @@ pub fn format<D: Disk>(disk: &mut D, serial: u32, counter: u32) -> Result<Layout
     ensures made { OnOk result (Appended (format_writes (D.state disk.old).sectors serial counter)
         (D.state disk.old) (D.state disk.new)) }
     ensures synced { OnOk result ((D.state disk.new).synced ≡ true) }
+
+    // What stands where the power went, whatever it answers.
+    ensures cuts { EachCutFromFirstSync (λ d e. IsNoneOrNew (D.state disk.old).sectors serial counter e)
+        (D.state disk.old) (D.state disk.new) }
 
     // A count of sectors that no volume has.
     ensures count { ¬ IsCount (D.state disk.old).sectors
@@ -138,7 +185,6 @@ pub fn format<D: Disk>(disk: &mut D, serial: u32, counter: u32) -> Result<Layout
     ensures later { IsLater (D.state disk.old) (D.state disk.new) }
 {
     let layout = Layout::of(disk.sectors())?;
-    write_sectors(disk, &layout)?;
     let root = Root {
         version: VERSION,
         clean: true,
@@ -146,9 +192,6 @@ pub fn format<D: Disk>(disk: &mut D, serial: u32, counter: u32) -> Result<Layout
         serial,
         counter,
     };
-    write_root(disk, &root)?;
-    let Ok(()) = disk.sync() else {
-        return Err(RootFault::Disk);
-    };
+    make_volume(disk, &layout, &root)?;
     Ok(layout)
 }

@@ -7,7 +7,7 @@ run_of-requires c = record { named = first_named c.args.words.now c.first.result
 
 pub returns-in-run-clause-unknown : goal.returns-in-run-clause-unknown
 returns-in-run-clause-unknown c none =
-    absurd (none (command.Run 64) (first_named c.args.words.now c.first.result c.in-Some.word c.as_str.result.now _ c.first.ensures.value c.in-Some.is c.as_str.ensures.value c.in-run.is))
+    absurd (none (command.Run 64 0) (first_named c.args.words.now c.first.result c.in-Some.word c.as_str.result.now _ c.first.ensures.value c.in-Some.is c.as_str.ensures.value c.in-run.is))
 
 pub format_of-requires : goal.format_of-requires
 format_of-requires c = record { named = first_named c.args.words.now c.first.result c.in-Some.word c.as_str.result.now _ c.first.ensures.value c.in-Some.is c.as_str.ensures.value c.in-format.is }
@@ -38,7 +38,7 @@ returns-in-trial-clause-unknown c none =
     absurd (none (command.Trial 0 1000 64) (first_named c.args.words.now c.first.result c.in-Some.word c.as_str.result.now _ c.first.ensures.value c.in-Some.is c.as_str.ensures.value c.in-trial.is))
 
 pub returns-in-run-clause-memory : goal.returns-in-run-clause-memory
-returns-in-run-clause-memory c is = (command.Run 64, first_named c.args.words.now c.first.result c.in-Some.word c.as_str.result.now _ c.first.ensures.value c.in-Some.is c.as_str.ensures.value c.in-run.is)
+returns-in-run-clause-memory c is = (command.Run 64 0, first_named c.args.words.now c.first.result c.in-Some.word c.as_str.result.now _ c.first.ensures.value c.in-Some.is c.as_str.ensures.value c.in-run.is)
 
 pub returns-in-format-clause-memory : goal.returns-in-format-clause-memory
 returns-in-format-clause-memory c is = (command.Format 1 1, first_named c.args.words.now c.first.result c.in-Some.word c.as_str.result.now _ c.first.ensures.value c.in-Some.is c.as_str.ensures.value c.in-format.is)

@@ -1,4 +1,4 @@
-use Rattle.std.proofs.Common.{◌≡◌, ◌<◌, ◌≤◌, ◌-◌, min, [], ◌∷◌, refl, ◌∙◌, subst, inl, inr, rules, ◌++◌, sym, arith}
+use Rattle.std.proofs.Common.{◌≡◌, ◌+◌, length, ◌<◌, ◌≤◌, ◌-◌, min, [], ◌∷◌, refl, ◌∙◌, subst, inl, inr, rules, ◌++◌, sym, arith}
 use Rattle.volume_root.specs.declared.root.Root.{Root}
 use Rattle.labelled_disk.specs.FilesOn.{files_on}
 use Rattle.flat_machine.specs.Space.{root}
@@ -28,6 +28,8 @@ use Rattle.fault_core.proofs.LackLemmas.{brought_misses}
 use Rattle.pilot_engine.proofs.FormLemmas.{create_form, label_form}
 use Rattle.pilot_engine.proofs.LackLemmas.{new_misses}
 use Rattle.pilot_engine.proofs.InitialStateLemmas.{begun_keeps, begun_untabled, counted_reasons, counted_unframed, keeps_counted, rooted_at, rooted_untabled, rooted_writes}
+use Rattle.swapper_kernel.specs.GoesLaws.{went_then}
+use Rattle.swapper_kernel.specs.SyncLaws.{has_sync_later}
 use Rattle.pilot_engine.proofs.start.begin.Goals as goal
 
 pub used_of-requires-clause-first : goal.used_of-requires-clause-first
@@ -46,13 +48,13 @@ returns-in-Err-free_count-clause-sound g c = λ d revealed sound same.
     let sectors = g.met.D.Disk.in_form c.args.filer.now.swapper.disk d revealed in
     let long = g.met.D.Disk.whole c.args.filer.now.swapper.disk d revealed ∙ c.requires.size in
     let made = (rw c.in_use-root.ensures.root at c.in-Ok.ensures.made).memory d (bare_stands (g.D.Disk.state c.args.filer.now.swapper.disk) slots d c.requires.bare revealed) in
-    let d1 = g.D.Disk.state c.write_over.new.filer.swapper.disk in
-    let form = g.met.D.Disk.in_form c.write_over.new.filer.swapper.disk in
+    let d1 = g.D.Disk.state c.put_in_use.new.filer.swapper.disk in
+    let form = g.met.D.Disk.in_form c.put_in_use.new.filer.swapper.disk in
     (rw (c.in-Ok.ensures.frames, c.in-Ok.ensures.layout) at c.in-Err-free_count.ensures.sound) (opened d sectors sound layout is long c.args.root same slots c.requires.bare kept none d1 form made) (opened_stands d sectors sound layout is long c.args.root same slots c.requires.bare kept none d1 form made) (map_named d sectors sound layout is long c.args.root same slots c.requires.bare kept none d1 form made)
 
 pub returns-in-Err-free_count-clause-starts : goal.returns-in-Err-free_count-clause-starts
 returns-in-Err-free_count-clause-starts g c =
-    count_some c.args.root _ _ c.requires.bare (rw c.in_use-root.ensures.root at c.in-Ok.ensures.made).makes (rw (c.in-Ok.ensures.frames, c.in-Ok.ensures.layout) at c.in-Err-free_count.ensures.kept)
+    count_some c.args.root _ _ c.requires.bare (rw c.in_use-root.ensures.root at c.in-Ok.ensures.made).makes c.in-Ok.ensures.synced (rw (c.in-Ok.ensures.frames, c.in-Ok.ensures.layout) at c.in-Err-free_count.ensures.kept)
 
 pub returns-in-Err-make_tables-clause-sound : goal.returns-in-Err-make_tables-clause-sound
 returns-in-Err-make_tables-clause-sound g c = λ d revealed sound same.
@@ -64,8 +66,8 @@ returns-in-Err-make_tables-clause-sound g c = λ d revealed sound same.
     let sectors = g.met.D.Disk.in_form c.args.filer.now.swapper.disk d revealed in
     let long = g.met.D.Disk.whole c.args.filer.now.swapper.disk d revealed ∙ c.requires.size in
     let made = (rw c.in_use-root.ensures.root at c.in-Ok.ensures.made).memory d (bare_stands (g.D.Disk.state c.args.filer.now.swapper.disk) slots d c.requires.bare revealed) in
-    let d1 = g.D.Disk.state c.write_over.new.filer.swapper.disk in
-    let form = g.met.D.Disk.in_form c.write_over.new.filer.swapper.disk in
+    let d1 = g.D.Disk.state c.put_in_use.new.filer.swapper.disk in
+    let form = g.met.D.Disk.in_form c.put_in_use.new.filer.swapper.disk in
     let x = opened d sectors sound layout is long c.args.root same slots c.requires.bare kept none d1 form made in
     let now = opened_stands d sectors sound layout is long c.args.root same slots c.requires.bare kept none d1 form made in
     let beside = rw (c.in-Ok.ensures.frames, c.in-Ok.ensures.layout) at c.in-Ok-free_count.ensures.kept in
@@ -77,7 +79,7 @@ returns-in-Err-make_tables-clause-sound g c = λ d revealed sound same.
 
 pub returns-in-Err-make_tables-clause-starts : goal.returns-in-Err-make_tables-clause-starts
 returns-in-Err-make_tables-clause-starts g c =
-    tables_some c.args.root _ _ c.requires.bare (rw c.in_use-root.ensures.root at c.in-Ok.ensures.made).makes (rw (c.in-Ok.ensures.frames, c.in-Ok.ensures.layout) at c.in-Ok-free_count.ensures.kept) c.in-Err-make_tables.ensures.stopped
+    tables_some c.args.root _ _ c.requires.bare (rw c.in_use-root.ensures.root at c.in-Ok.ensures.made).makes c.in-Ok.ensures.synced (rw (c.in-Ok.ensures.frames, c.in-Ok.ensures.layout) at c.in-Ok-free_count.ensures.kept) c.in-Err-make_tables.ensures.stopped
 
 pub returns-clause-begun : goal.returns-clause-begun
 returns-clause-begun g c = λ d revealed sound same.
@@ -89,8 +91,8 @@ returns-clause-begun g c = λ d revealed sound same.
     let sectors = g.met.D.Disk.in_form c.args.filer.now.swapper.disk d revealed in
     let long = g.met.D.Disk.whole c.args.filer.now.swapper.disk d revealed ∙ c.requires.size in
     let made = (rw c.in_use-root.ensures.root at c.in-Ok.ensures.made).memory d (bare_stands (g.D.Disk.state c.args.filer.now.swapper.disk) slots d c.requires.bare revealed) in
-    let d1 = g.D.Disk.state c.write_over.new.filer.swapper.disk in
-    let form = g.met.D.Disk.in_form c.write_over.new.filer.swapper.disk in
+    let d1 = g.D.Disk.state c.put_in_use.new.filer.swapper.disk in
+    let form = g.met.D.Disk.in_form c.put_in_use.new.filer.swapper.disk in
     let x = opened d sectors sound layout is long c.args.root same slots c.requires.bare kept none d1 form made in
     let now = opened_stands d sectors sound layout is long c.args.root same slots c.requires.bare kept none d1 form made in
     let beside = rw (c.in-Ok.ensures.frames, c.in-Ok.ensures.layout) at c.in-Ok-free_count.ensures.kept in
@@ -115,8 +117,8 @@ returns-in-Err-write_tables-clause-sound g c = λ d revealed sound same.
     let sectors = g.met.D.Disk.in_form c.args.filer.now.swapper.disk d revealed in
     let long = g.met.D.Disk.whole c.args.filer.now.swapper.disk d revealed ∙ c.requires.size in
     let made = (rw c.in_use-root.ensures.root at c.in-Ok.ensures.made).memory d (bare_stands (g.D.Disk.state c.args.filer.now.swapper.disk) slots d c.requires.bare revealed) in
-    let d1 = g.D.Disk.state c.write_over.new.filer.swapper.disk in
-    let form = g.met.D.Disk.in_form c.write_over.new.filer.swapper.disk in
+    let d1 = g.D.Disk.state c.put_in_use.new.filer.swapper.disk in
+    let form = g.met.D.Disk.in_form c.put_in_use.new.filer.swapper.disk in
     let x = opened d sectors sound layout is long c.args.root same slots c.requires.bare kept none d1 form made in
     let now = opened_stands d sectors sound layout is long c.args.root same slots c.requires.bare kept none d1 form made in
     let beside = rw (c.in-Ok.ensures.frames, c.in-Ok.ensures.layout) at c.in-Ok-free_count.ensures.kept in
@@ -133,18 +135,18 @@ returns-in-Err-write_tables-clause-sound g c = λ d revealed sound same.
 
 pub returns-clause-starts : goal.returns-clause-starts
 returns-clause-starts g c =
-    tables_all c.args.root _ _ c.requires.bare (rw c.in_use-root.ensures.root at c.in-Ok.ensures.made).makes (rw (c.in-Ok.ensures.frames, c.in-Ok.ensures.layout) at c.in-Ok-free_count.ensures.kept) c.in-Ok-make_tables.ensures.makes c.write_tables.ensures.makes
+    tables_all c.args.root _ _ c.requires.bare (rw c.in_use-root.ensures.root at c.in-Ok.ensures.made).makes c.in-Ok.ensures.synced (rw (c.in-Ok.ensures.frames, c.in-Ok.ensures.layout) at c.in-Ok-free_count.ensures.kept) c.in-Ok-make_tables.ensures.makes c.write_tables.ensures.makes
 
 pub returns-in-Err-write_tables-clause-starts : goal.returns-in-Err-write_tables-clause-starts
 returns-in-Err-write_tables-clause-starts g c =
-    tables_all c.args.root _ _ c.requires.bare (rw c.in_use-root.ensures.root at c.in-Ok.ensures.made).makes (rw (c.in-Ok.ensures.frames, c.in-Ok.ensures.layout) at c.in-Ok-free_count.ensures.kept) c.in-Ok-make_tables.ensures.makes c.write_tables.ensures.makes
+    tables_all c.args.root _ _ c.requires.bare (rw c.in_use-root.ensures.root at c.in-Ok.ensures.made).makes c.in-Ok.ensures.synced (rw (c.in-Ok.ensures.frames, c.in-Ok.ensures.layout) at c.in-Ok-free_count.ensures.kept) c.in-Ok-make_tables.ensures.makes c.write_tables.ensures.makes
 
 -- what evidence says is so
 pub returns-in-Err-clause-evidence_seen : goal.returns-in-Err-clause-evidence_seen
 returns-in-Err-clause-evidence_seen g c = rw c.in-Err.ensures.fault tt
 
 pub returns-in-Err-free_count-clause-evidence_seen : goal.returns-in-Err-free_count-clause-evidence_seen
-returns-in-Err-free_count-clause-evidence_seen g c = so_of_halts (fits c.write_over.new.filer.swapper (search rules)) (map_makes c.in-Err-free_count.ensures.kept) c.in-Err-free_count.halt _ (map_homes_placed AllocationMap _) c.in-Err-free_count.ensures.cause
+returns-in-Err-free_count-clause-evidence_seen g c = so_of_halts (fits c.put_in_use.new.filer.swapper (search rules)) (map_makes c.in-Err-free_count.ensures.kept) c.in-Err-free_count.halt _ (map_homes_placed AllocationMap _) c.in-Err-free_count.ensures.cause
 
 -- the clean flag is 0 from the first write on
 pub returns-in-Err-clause-left_open : goal.returns-in-Err-clause-left_open
@@ -177,6 +179,10 @@ returns-clause-left_open g c =
     let all = c.in-Ok-make_tables.ensures.makes in
     unset_open (unset_open (unset_open begun (map_makes c.in-Ok-free_count.ensures.kept).wrote tt) all.makes.wrote (growth_open 3 0 0 all.sectors)) c.write_tables.ensures.makes.wrote tt
 
+pub returns-clause-synced : goal.returns-clause-synced
+returns-clause-synced g c = λ writes is.
+    has_sync_later (length writes + 1) (went_then (map_makes c.in-Ok-free_count.ensures.kept).went (went_then c.in-Ok-make_tables.ensures.makes.makes.went c.write_tables.ensures.makes.went)) (c.in-Ok.ensures.synced writes is)
+
 -- ---- Why it failed.
 
 pub returns-in-Err-clause-cause : goal.returns-in-Err-clause-cause
@@ -184,19 +190,19 @@ returns-in-Err-clause-cause g c = inl (c.in-Err.ensures.fault, c.in-Err.ensures.
 
 pub returns-in-Err-free_count-clause-cause : goal.returns-in-Err-free_count-clause-cause
 returns-in-Err-free_count-clause-cause g c =
-    let u = view_of c.write_over.new.filer in
+    let u = view_of c.put_in_use.new.filer in
     let begun = rooted c.args.root c.in_use-root.result (view_of c.args.filer.now) u c.in_use-root.ensures.root c.in-Ok.ensures.made c.in-Ok.ensures.frames c.in-Ok.ensures.layout in
     inr (u, begun, inl c.in-Err-free_count.ensures.cause)
 
 pub returns-in-Err-make_tables-clause-cause : goal.returns-in-Err-make_tables-clause-cause
 returns-in-Err-make_tables-clause-cause g c =
-    let u = view_of c.write_over.new.filer in
+    let u = view_of c.put_in_use.new.filer in
     let begun = rooted c.args.root c.in_use-root.result (view_of c.args.filer.now) u c.in_use-root.ensures.root c.in-Ok.ensures.made c.in-Ok.ensures.frames c.in-Ok.ensures.layout in
     inr (u, begun, inr (view_of c.free_count.new.self, c.in-Ok-free_count.ensures.kept, inl c.in-Err-make_tables.ensures.cause))
 
 pub returns-in-Err-write_tables-clause-cause : goal.returns-in-Err-write_tables-clause-cause
 returns-in-Err-write_tables-clause-cause g c =
-    let u = view_of c.write_over.new.filer in
+    let u = view_of c.put_in_use.new.filer in
     let begun = rooted c.args.root c.in_use-root.result (view_of c.args.filer.now) u c.in_use-root.ensures.root c.in-Ok.ensures.made c.in-Ok.ensures.frames c.in-Ok.ensures.layout in
     let made = c.in-Ok-make_tables.ensures in
     inr (u, begun, inr (view_of c.free_count.new.self, c.in-Ok-free_count.ensures.kept, inr (view_of c.make_tables.new.filer, (made.makes, made.layout), c.in-Err-write_tables.ensures.cause)))
@@ -217,8 +223,8 @@ returns-in-Err-free_count-clause-reasons g c = λ d named ws begun.
     (g.met.D.Disk.whole filer.swapper.disk d begun.contents ∙ c.requires.size) c.requires.bare (c.requires.no_runs filer.swapper.layout.sectors) begun in
     let written = rooted_writes ws (root_write root) (rw c.in_use-root.ensures.root at c.in-Ok.ensures.made).makes c.requires.bare begun.writes in
     let bare = subst IsBare (sym c.in-Ok.ensures.frames) c.requires.bare in
-    let rooted_keeps = rooted_at d named ws root next (view_of c.write_over.new.filer) c.write_over.new.filer.swapper.accepted bare written (c.in-Ok.ensures.keeps_to (giving (initial_state d named ws) next) named first least) in
-    let v = view_of c.write_over.new.filer in
+    let rooted_keeps = rooted_at d named ws root next (view_of c.put_in_use.new.filer) c.put_in_use.new.filer.swapper.accepted bare written (c.in-Ok.ensures.keeps_to (giving (initial_state d named ws) next) named first least) in
+    let v = view_of c.put_in_use.new.filer in
     let w = view_of c.free_count.new.self in
     subst (λ (l : Layout). ShowsReason o l w.disk c.in-Err-free_count.halt) c.in-Ok.ensures.layout (counted_reasons o v w named rooted_keeps c.in-Err-free_count.ensures.kept c.in-Err-free_count.halt c.in-Err-free_count.ensures.cause)
 
@@ -233,8 +239,8 @@ returns-in-Err-make_tables-clause-reasons g c = λ d named ws begun.
     (g.met.D.Disk.whole filer.swapper.disk d begun.contents ∙ c.requires.size) c.requires.bare (c.requires.no_runs filer.swapper.layout.sectors) begun in
     let written = rooted_writes ws (root_write root) (rw c.in_use-root.ensures.root at c.in-Ok.ensures.made).makes c.requires.bare begun.writes in
     let bare = subst IsBare (sym c.in-Ok.ensures.frames) c.requires.bare in
-    let rooted_keeps = rooted_at d named ws root next (view_of c.write_over.new.filer) c.write_over.new.filer.swapper.accepted bare written (c.in-Ok.ensures.keeps_to (giving (initial_state d named ws) next) named first least) in
-    let counted = keeps_counted o (view_of c.write_over.new.filer) (view_of c.free_count.new.self) named rooted_keeps c.in-Ok-free_count.ensures.kept c.in-Ok-free_count.ensures.same c.in-Ok-free_count.ensures.runs in
+    let rooted_keeps = rooted_at d named ws root next (view_of c.put_in_use.new.filer) c.put_in_use.new.filer.swapper.accepted bare written (c.in-Ok.ensures.keeps_to (giving (initial_state d named ws) next) named first least) in
+    let counted = keeps_counted o (view_of c.put_in_use.new.filer) (view_of c.free_count.new.self) named rooted_keeps c.in-Ok-free_count.ensures.kept c.in-Ok-free_count.ensures.same c.in-Ok-free_count.ensures.runs in
     subst (λ (l : Layout). ShowsReason o l (g.D.Disk.state c.make_tables.new.filer.swapper.disk) c.in-Err-make_tables.halt) (c.in-Ok-free_count.ensures.kept.layout ∙ c.in-Ok.ensures.layout)
     (c.in-Err-make_tables.ensures.reasons o named counted (counted_unframed bare c.in-Ok-free_count.ensures.kept) refl)
 
@@ -249,8 +255,8 @@ returns-in-Err-write_tables-clause-reasons g c = λ d named ws begun.
     (g.met.D.Disk.whole filer.swapper.disk d begun.contents ∙ c.requires.size) c.requires.bare (c.requires.no_runs filer.swapper.layout.sectors) begun in
     let written = rooted_writes ws (root_write root) (rw c.in_use-root.ensures.root at c.in-Ok.ensures.made).makes c.requires.bare begun.writes in
     let bare = subst IsBare (sym c.in-Ok.ensures.frames) c.requires.bare in
-    let rooted_keeps = rooted_at d named ws root next (view_of c.write_over.new.filer) c.write_over.new.filer.swapper.accepted bare written (c.in-Ok.ensures.keeps_to (giving (initial_state d named ws) next) named first least) in
-    let counted = keeps_counted o (view_of c.write_over.new.filer) (view_of c.free_count.new.self) named rooted_keeps c.in-Ok-free_count.ensures.kept c.in-Ok-free_count.ensures.same c.in-Ok-free_count.ensures.runs in
+    let rooted_keeps = rooted_at d named ws root next (view_of c.put_in_use.new.filer) c.put_in_use.new.filer.swapper.accepted bare written (c.in-Ok.ensures.keeps_to (giving (initial_state d named ws) next) named first least) in
+    let counted = keeps_counted o (view_of c.put_in_use.new.filer) (view_of c.free_count.new.self) named rooted_keeps c.in-Ok-free_count.ensures.kept c.in-Ok-free_count.ensures.same c.in-Ok-free_count.ensures.runs in
     let none = counted_unframed bare c.in-Ok-free_count.ensures.kept in
     let made = c.in-Ok-make_tables.ensures.keeps_to o named counted none refl in
     subst (λ (l : Layout). ShowsReason o l (g.D.Disk.state c.write_tables.new.filer.swapper.disk) c.in-Err-write_tables.halt) (c.in-Ok-make_tables.ensures.layout ∙ c.in-Ok-free_count.ensures.kept.layout ∙ c.in-Ok.ensures.layout)
@@ -267,8 +273,8 @@ returns-clause-keeps_to g c = λ d named ws begun.
     (g.met.D.Disk.whole filer.swapper.disk d begun.contents ∙ c.requires.size) c.requires.bare (c.requires.no_runs filer.swapper.layout.sectors) begun in
     let written = rooted_writes ws (root_write root) (rw c.in_use-root.ensures.root at c.in-Ok.ensures.made).makes c.requires.bare begun.writes in
     let bare = subst IsBare (sym c.in-Ok.ensures.frames) c.requires.bare in
-    let rooted_keeps = rooted_at d named ws root next (view_of c.write_over.new.filer) c.write_over.new.filer.swapper.accepted bare written (c.in-Ok.ensures.keeps_to (giving (initial_state d named ws) next) named first least) in
-    let counted = keeps_counted o (view_of c.write_over.new.filer) (view_of c.free_count.new.self) named rooted_keeps c.in-Ok-free_count.ensures.kept c.in-Ok-free_count.ensures.same c.in-Ok-free_count.ensures.runs in
+    let rooted_keeps = rooted_at d named ws root next (view_of c.put_in_use.new.filer) c.put_in_use.new.filer.swapper.accepted bare written (c.in-Ok.ensures.keeps_to (giving (initial_state d named ws) next) named first least) in
+    let counted = keeps_counted o (view_of c.put_in_use.new.filer) (view_of c.free_count.new.self) named rooted_keeps c.in-Ok-free_count.ensures.kept c.in-Ok-free_count.ensures.same c.in-Ok-free_count.ensures.runs in
     let none = counted_unframed bare c.in-Ok-free_count.ensures.kept in
     let made = c.in-Ok-make_tables.ensures.keeps_to o named counted none refl in
     c.in-Ok-write_tables.ensures.keeps_to o made
@@ -280,9 +286,9 @@ returns-in-Err-clause-sees g c = λ d named ws begun. rw c.in-Err.ensures.fault 
 
 pub returns-in-Err-free_count-clause-sees : goal.returns-in-Err-free_count-clause-sees
 returns-in-Err-free_count-clause-sees g c = λ d named ws begun.
-    let homes = IsMapHome AllocationMap c.write_over.new.filer.swapper.layout in
-    let before = g.D.Disk.state c.write_over.new.filer.swapper.disk in
-    let slots = c.write_over.new.filer.swapper.pool in
+    let homes = IsMapHome AllocationMap c.put_in_use.new.filer.swapper.layout in
+    let before = g.D.Disk.state c.put_in_use.new.filer.swapper.disk in
+    let slots = c.put_in_use.new.filer.swapper.pool in
     let after = g.D.Disk.state c.free_count.new.self.swapper.disk in (
       label_form homes before slots after c.in-Err-free_count.halt c.in-Err-free_count.ensures.cause,
       brought_misses homes before slots after no_page c.in-Err-free_count.halt c.in-Err-free_count.ensures.cause,
@@ -307,8 +313,8 @@ returns-in-Err-write_tables-clause-sees g c = λ d named ws begun.
     (g.met.D.Disk.whole filer.swapper.disk d begun.contents ∙ c.requires.size) c.requires.bare (c.requires.no_runs filer.swapper.layout.sectors) begun in
     let written = rooted_writes ws (root_write root) (rw c.in_use-root.ensures.root at c.in-Ok.ensures.made).makes c.requires.bare begun.writes in
     let bare = subst IsBare (sym c.in-Ok.ensures.frames) c.requires.bare in
-    let rooted_keeps = rooted_untabled d named ws root next (view_of c.write_over.new.filer) c.write_over.new.filer.swapper.accepted bare written (c.in-Ok.ensures.keeps_to (telling (giving (initial_state d named ws) next) []) named first least) in
-    let counted = keeps_counted o (view_of c.write_over.new.filer) (view_of c.free_count.new.self) named rooted_keeps c.in-Ok-free_count.ensures.kept c.in-Ok-free_count.ensures.same c.in-Ok-free_count.ensures.runs in
+    let rooted_keeps = rooted_untabled d named ws root next (view_of c.put_in_use.new.filer) c.put_in_use.new.filer.swapper.accepted bare written (c.in-Ok.ensures.keeps_to (telling (giving (initial_state d named ws) next) []) named first least) in
+    let counted = keeps_counted o (view_of c.put_in_use.new.filer) (view_of c.free_count.new.self) named rooted_keeps c.in-Ok-free_count.ensures.kept c.in-Ok-free_count.ensures.same c.in-Ok-free_count.ensures.runs in
     let none = counted_unframed bare c.in-Ok-free_count.ensures.kept in
     let made = c.in-Ok-make_tables.ensures.tables (initial_state d named (ws ++ (root_write root ∷ []))) named counted none in
     let revealed : TablesAre (view_of c.make_tables.new.filer) made.1.0 = tables_of (initial_state d named (ws ++ (root_write root ∷ []))) made.1.0 made.1.1.1.0 made.1.1.0 in
@@ -325,8 +331,8 @@ returns-clause-sees g c = λ d named ws begun.
     (g.met.D.Disk.whole filer.swapper.disk d begun.contents ∙ c.requires.size) c.requires.bare (c.requires.no_runs filer.swapper.layout.sectors) begun in
     let written = rooted_writes ws (root_write root) (rw c.in_use-root.ensures.root at c.in-Ok.ensures.made).makes c.requires.bare begun.writes in
     let bare = subst IsBare (sym c.in-Ok.ensures.frames) c.requires.bare in
-    let rooted_keeps = rooted_untabled d named ws root next (view_of c.write_over.new.filer) c.write_over.new.filer.swapper.accepted bare written (c.in-Ok.ensures.keeps_to (telling (giving (initial_state d named ws) next) []) named first least) in
-    let counted = keeps_counted o (view_of c.write_over.new.filer) (view_of c.free_count.new.self) named rooted_keeps c.in-Ok-free_count.ensures.kept c.in-Ok-free_count.ensures.same c.in-Ok-free_count.ensures.runs in
+    let rooted_keeps = rooted_untabled d named ws root next (view_of c.put_in_use.new.filer) c.put_in_use.new.filer.swapper.accepted bare written (c.in-Ok.ensures.keeps_to (telling (giving (initial_state d named ws) next) []) named first least) in
+    let counted = keeps_counted o (view_of c.put_in_use.new.filer) (view_of c.free_count.new.self) named rooted_keeps c.in-Ok-free_count.ensures.kept c.in-Ok-free_count.ensures.same c.in-Ok-free_count.ensures.runs in
     let none = counted_unframed bare c.in-Ok-free_count.ensures.kept in
     let made = c.in-Ok-make_tables.ensures.tables (initial_state d named (ws ++ (root_write root ∷ []))) named counted none in
     let revealed : TablesAre (view_of c.make_tables.new.filer) made.1.0 = tables_of (initial_state d named (ws ++ (root_write root ∷ []))) made.1.0 made.1.1.1.0 made.1.1.0 in

@@ -50,3 +50,9 @@ pub returns-in-Err-clause-damage_line : goal.returns-in-Err-clause-damage_line
 returns-in-Err-clause-damage_line g c damaged =
     let revealed = damage_revealed c.in-Err.halt c.stop.result _ _ _ (g.D.Disk.state c.finish-closed.result.1) (subst (λ r. IfErr r (ShowsEvidence (g.D.Disk.state c.finish-closed.result.1))) c.in-Err.is c.finish-closed.ensures.evidence_seen) c.stop.ensures.status damaged c.stop.ensures.line in
     (revealed.0, revealed.2)
+
+pub returns-in-Ok-clause-syncs : goal.returns-in-Ok-clause-syncs
+returns-in-Ok-clause-syncs g c m is = c.finish-closed.ensures.syncs m is
+
+pub returns-in-Err-clause-syncs : goal.returns-in-Err-clause-syncs
+returns-in-Err-clause-syncs g c m is = c.finish-closed.ensures.syncs m is

@@ -1,38 +1,48 @@
-use Rattle.std.proofs.Common.{◌≡◌, inl, inr, ◌∙◌, refl, sym, ap, subst, arith, Some, List, []}
+use Rattle.std.proofs.Common.{◌≡◌, length, inl, inr, ◌∙◌, refl, sym, ap, subst, arith, Some, None, Option, List, []}
 use Rattle.labelled_disk.specs.declared.evidence.Evidence.{Evidence}
 use Rattle.labelled_disk.specs.declared.evidence.Halt.{Halt}
 use Rattle.labelled_disk.specs.declared.evidence.Halt.TheVariants as halt
-use Rattle.labelled_disk.specs.Calls.{Rose}
+use Rattle.labelled_disk.specs.declared.disk.DiskWrite.{DiskWrite}
+use Rattle.labelled_disk.specs.Calls.{RevealsSame, Rose}
 use Rattle.labelled_disk.specs.Sectors.{Sector}
 use Rattle.labelled_disk.specs.State.{DiskState}
+use Rattle.labelled_disk.specs.WriteRuns.{Appended}
+use Rattle.labelled_disk.proofs.WriteRunLemmas.{appended_none}
 use Rattle.flat_machine.specs.Machine.{Machine}
+use Rattle.swapper_kernel.specs.Goes.{Went}
 use Rattle.swapper_kernel.specs.GoesLaws.{went_itself, went_then}
 use Rattle.trace_io.specs.Reading.{reading}
 use Rattle.session_words.specs.StandsFor.{RevealsSettled}
 use Rattle.filer_kernel.specs.Evidence.{IsEvident, ShowsEvidence}
 use Rattle.pilot_engine.specs.declared.session.Session.{Session}
+use Rattle.pilot_engine.specs.Opening.{IsUnset}
 use Rattle.pilot_engine.proofs.UnsetLemmas.{unset_then}
 use Rattle.running_words.specs.Running.{Runs}
+use Rattle.pilot_top.specs.CrashStates.{CrashStates}
 use Rattle.pilot_top.specs.Headline.{HasFilesAt}
 use Rattle.pilot_top.specs.Last.{last_line, Puts}
 use Rattle.pilot_top.specs.InitialState.{FromEachInitialState}
+use Rattle.pilot_top.specs.RunDisk.{halt_on}
 use Rattle.pilot_top.specs.Stopping.{status_of, cause_of}
 use Rattle.pilot_top.specs.declared.last.Cause.{Cause}
 use Rattle.pilot_top.specs.declared.last.Cause.TheVariants as cause
 use Rattle.pilot_top.specs.declared.status.Status.TheVariants as status
 use Rattle.pilot_top.specs.declared.turn.Turn.TheVariants.{Halts}
-use Rattle.pilot_top.proofs.EndLemmas.{End-answering, End-rest, End-short}
+use Rattle.pilot_top.proofs.EndLemmas.{End-answering, End-prefix, End-rest, End-short}
 use Rattle.pilot_top.proofs.ExitLemmas.{halt_not_damaged, halt_evidence, three_ways, stopped_files, takes_more, still_crash_states, still_spends, line_spends, end_spent, still_files, line_crash_states, halt_files, reply_files, line_not_close, end_closed, end_unheard, end_crash_states}
 use Rattle.pilot_top.proofs.PrefixLemmas.{End-has}
 use Rattle.pilot_top.proofs.PermittedRuns.{called_openly, ended_last, openly_last, openly_none, openly_then}
+use Rattle.pilot_top.proofs.ShutLemmas.{openly_shuts, shuts_after}
 use Rattle.pilot_top.proofs.OpenLemmas.{early_halt}
 use Rattle.pilot_top.proofs.PlaceLemmas.{stop_revealed}
 use Rattle.pilot_top.proofs.ReasonLemmas.{damage_same, goes_nowhere, goes_then, reason_before, reason_halted}
-use Rattle.pilot_top.proofs.RepliedLemmas.{Replied-end, Replied-halted, Replied-long, Replied-read_fault, Replied-write_fault}
+use Rattle.pilot_top.proofs.RepliedLemmas.{Replied-changed, Replied-end, Replied-halted, Replied-long, Replied-read_fault, Replied-write_fault}
 use Rattle.pilot_top.proofs.StagedLemmas.{from_rest, stands_revealed}
 use Rattle.pilot_top.proofs.StatusLemmas.{halt_disk, halt_ends, trace_ends}
-use Rattle.pilot_top.proofs.TopLemmas.{Run-disk, Run-long, Run-read_fault, Run-write_fault, not_short, rose_later, Puts-later, damage_revealed, revealed_prefix, Going-sink, Going-revealed}
+use Rattle.pilot_top.proofs.TopLemmas.{change_revealed, last_of, Run-disk, Run-long, Run-read_fault, Run-write_fault, not_short, rose_later, Puts-later, damage_revealed, revealed_prefix, Going-sink, Going-revealed}
 use Rattle.pilot_top.proofs.TurnedLemmas.{more_crash_states, ended_crash_states, Turned-start, Turned-reply, Turned-source, Turned-revealed, Turned-same}
+use Rattle.pilot_top.proofs.SameLemmas.{crash_states_same, files_same, shuts_same, unset_same}
+use Rattle.pilot_top.proofs.ShownLemmas.{long_ends, none_shown, not_shown, on_disk, on_plain, one_shown, revealed_then, seen_plain, seen_shown}
 use Rattle.pilot_top.proofs.run.answer_lines.Given as given
 use Rattle.pilot_top.proofs.run.answer_lines.Goals as goal
 
@@ -50,6 +60,13 @@ stands_of g s m = Runs s.core s.volume m
 reveals : (g : given.Over) (s : Sessions g) (m : Machine) → stands_of g s m → (e : List Sector) → (disk_of g s).contents ≡ Some e → RevealsSettled e m
 reveals g s m stands e revealed =
     (stands_revealed m stands (λ d is. g.met.D.Disk.in_form s.core.filer.swapper.disk d is) e revealed).revealed
+
+-- a disk that reveals what it holds shows no label that had changed
+plain_by : (g : given.Over) (s : Sessions g) (m : Machine) → stands_of g s m → (disk : g.row.D.Denot) (writes : List DiskWrite) → Appended writes (disk_of g s) (g.D.Disk.state disk) → g.D.RunDisk.shown disk ≡ None
+plain_by g s m stands disk writes appended =
+    let at = stands.session.stands.stands in
+    let revealed = revealed_then writes (disk_of g s) (g.D.Disk.state disk) appended at.sectors at.revealed in
+    none_shown (g.D.RunDisk.shown disk) (g.D.Disk.state disk) (g.met.D.RunDisk.unrevealed disk) revealed.0 revealed.1
 
 -- the last line was put
 abbrev PutsLast : (g : given.Over) → g.row.K.Denot → g.row.K.Denot → Cause → Type 0
@@ -127,7 +144,7 @@ returns-in_default g c =
           let has = reply_files m turned stands turn.0 turn.2 turn.4 (disk_of g c.take_turn.new.session) turn.3 (reveals g c.take_turn.new.session) in
           Run-write_fault m b t _ _ c.turns.lines _ _ turned.going stands _ (HasFilesAt m (reading b) (g.D.Disk.state c.into_disk.result)) _ _ c.take_turn.new.lines _ turn.1 c.in-Replies.reply turn.0 turn.2 turn.3
           rose put.0 put.1 put.2 (rw c.into_disk.ensures has);
-      replied = λ b t left source sink.
+      replied = λ b t left source sink plain.
           Replied-write_fault b t (Going-revealed _ _ _ _ _ _ _ b t i.turned.going source sink) _ (g.D.Disk.state c.into_disk.result) (FromEachInitialState c.args.session (g.D.Disk.state c.into_disk.result)) (g.S.Source.left c.take_turn.new.source) _ c.take_turn.new.lines turn.1 c.in-Replies.reply turn.0 turn.2 turn.3.suits
           rose put.0 put.1 put.2;
       crash_states = λ m b stands source. rw c.into_disk.ensures (line_crash_states m (Turned-source i.turned source) stands turn.0 turn.2 turn.4 turn.5);
@@ -139,8 +156,12 @@ returns-in_default g c =
       left_open = λ left is. rw c.into_disk.ensures (unset_then (i.left_open left) c.take_turn.ensures.wrote);
       transfers = λ m b stands source. rw c.into_disk.ensures (line_spends m (Turned-source i.turned source) stands turn.0 turn.2 turn.4 i.same_disk.sectors turn.5);
       sound = λ m stands is. absurd (cc is);
-      damage = λ t left sink is. absurd (cc is);
+      damage = λ t left sink is plain. absurd (cc is);
+      changed = λ b t e source sink is shown. absurd (cc is);
+      changed_line = λ t e sink is shown. absurd (cc is);
+      rests = λ is. elim is [ inl done ↦ absurd (cc done) | inr long ↦ absurd (cc long) ];
       permitted = rw c.into_disk.ensures permitted;
+      syncs = λ m stands. rw c.into_disk.ensures (openly_shuts (openly_then i.turned.permitted (called_openly c.take_turn.ensures.wrote)));
       same_disk = rw c.into_disk.ensures went;
       disk_cause = λ is. absurd (cc is);
       stream_cause = λ is. inr rose;
@@ -164,7 +185,7 @@ returns-in-ReadFault g c =
           let turned = Turned-same {S = Sessions g} (disk_of g) (stands_of g) same (Turned-revealed i.turned source sink) in
           Run-read_fault m b t _ _ c.turns.lines _ _ turned.going stands _ (HasFilesAt m (reading b) (g.D.Disk.state c.into_disk-in-ReadFault.result)) _ c.take_turn.new.lines turn.0 turn.1
           (rw c.into_disk-in-ReadFault.ensures (still_files m turned stands (reveals g c.take_turn.new.session)));
-      replied = λ b t left source sink.
+      replied = λ b t left source sink plain.
           Replied-read_fault b t (Going-revealed _ _ _ _ _ _ _ b t i.turned.going source sink) _ (g.D.Disk.state c.into_disk-in-ReadFault.result) (FromEachInitialState c.args.session (g.D.Disk.state c.into_disk-in-ReadFault.result)) (g.S.Source.left c.take_turn.new.source) c.take_turn.new.lines turn.0 turn.1;
       crash_states = λ m b stands source. rw c.into_disk-in-ReadFault.ensures (still_crash_states m (Turned-same {S = Sessions g} (disk_of g) (stands_of g) same (Turned-source i.turned source)) stands);
       closed = λ m b stands source done going. absurd (cc done);
@@ -175,8 +196,12 @@ returns-in-ReadFault g c =
       left_open = λ left is. rw c.into_disk-in-ReadFault.ensures (unset_then (i.left_open left) c.take_turn.ensures.wrote);
       transfers = λ m b stands source. rw (c.into_disk-in-ReadFault.ensures, same) (still_spends m (Turned-source i.turned source) stands);
       sound = λ m stands is. absurd (cc is);
-      damage = λ t left sink is. absurd (cc is);
+      damage = λ t left sink is plain. absurd (cc is);
+      changed = λ b t e source sink is shown. absurd (cc is);
+      changed_line = λ t e sink is shown. absurd (cc is);
+      rests = λ is. elim is [ inl done ↦ absurd (cc done) | inr long ↦ absurd (cc long) ];
       permitted = rw c.into_disk-in-ReadFault.ensures permitted;
+      syncs = λ m stands. rw c.into_disk-in-ReadFault.ensures (openly_shuts (openly_then i.turned.permitted (called_openly c.take_turn.ensures.wrote)));
       same_disk = rw c.into_disk-in-ReadFault.ensures went;
       disk_cause = λ is. absurd (cc is);
       stream_cause = λ is. inl rose;
@@ -191,35 +216,81 @@ pub returns-in-Long : goal.returns-in-Long
 returns-in-Long g c =
     let i = c.turns.invariant in
     let turn = c.in-Long.ensures.turns in
+    let e = c.end_long.ensures in
     let same : c.take_turn.new.session ≡ c.turns.session = c.in-Long.ensures.idle tt in
+    let mid = disk_of g c.take_turn.new.session in
+    let disk = g.D.Disk.state c.end_long.result.1 in
+    let there : RevealsSame mid disk = subst (λ (d : g.row.D.Denot). RevealsSame (g.D.Disk.state d) disk) c.into_disk-in-Long.ensures e.same in
+    let later : Went mid disk = subst (λ (d : g.row.D.Denot). Went (g.D.Disk.state d) disk) c.into_disk-in-Long.ensures e.went in
+    let spent : disk.transfers ≡ mid.transfers = e.transfers ∙ ap (λ (d : g.row.D.Denot). (g.D.Disk.state d).transfers) c.into_disk-in-Long.ensures in
+    let before = went_then i.same_disk c.take_turn.ensures.wrote.makes.went in
+    let open_then : IsUnset (disk_of g c.args.session) → IsUnset disk = λ left. unset_same there (unset_then (i.left_open left) c.take_turn.ensures.wrote) in
+    let other = long_ends c.end_long.result.0 e.ends in
     let permitted = openly_last (openly_then i.turned.permitted (called_openly c.take_turn.ensures.wrote)) in
-    let went = went_then i.same_disk c.take_turn.ensures.wrote.makes.went in
+    let plain : (m : Machine) → stands_of g c.args.session m → g.D.RunDisk.shown c.end_long.result.1 ≡ None = λ m stands. plain_by g c.take_turn.new.session (last_of m i.turned.going.lines) (subst (λ (s : Sessions g). stands_of g s (last_of m i.turned.going.lines)) (sym same) (i.turned.going.stands m stands)) c.end_long.result.1 [] (appended_none there) in
     record {
       answering = λ m b t stands source sink.
           let turned = Turned-same {S = Sessions g} (disk_of g) (stands_of g) same (Turned-revealed i.turned source sink) in
-          Run-long m b t _ _ c.turns.lines _ _ turned.going stands _ (HasFilesAt m (reading b) (g.D.Disk.state c.into_disk-in-Long.result)) _ _ c.take_turn.new.lines turn.0 turn.1 (turn.2 ∙ turn.1.limit ∙ i.limit)
-          (Puts-later _ _ _ _ _ (rose_later _ _ _ i.sink) c.put_last.ensures.put) (rw c.into_disk-in-Long.ensures (still_files m turned stands (reveals g c.take_turn.new.session)));
-      replied = λ b t left source sink.
-          Replied-long b t (Going-revealed _ _ _ _ _ _ _ b t i.turned.going source sink) _ (g.D.Disk.state c.into_disk-in-Long.result) (FromEachInitialState c.args.session (g.D.Disk.state c.into_disk-in-Long.result)) (g.S.Source.left c.take_turn.new.source) _ c.take_turn.new.lines turn.0 turn.1 (turn.2 ∙ turn.1.limit ∙ i.limit)
-          (Puts-later _ _ _ _ _ (rose_later _ _ _ i.sink) c.put_last.ensures.put);
-      crash_states = λ m b stands source. rw c.into_disk-in-Long.ensures (still_crash_states m (Turned-same {S = Sessions g} (disk_of g) (stands_of g) same (Turned-source i.turned source)) stands);
-      closed = λ m b stands source done going. absurd (cc done);
-      closed_unheard = λ m b stands source is heard left closed. absurd (cc is);
-      some_crash_states = λ m stands. rw (c.into_disk-in-Long.ensures, same) (_, i.turned.along m stands);
-      stays_open = λ b left source early. rw c.into_disk-in-Long.ensures (unset_then (i.left_open left) c.take_turn.ensures.wrote);
-      untaken = λ b left source is some. rw c.into_disk-in-Long.ensures (unset_then (i.left_open left) c.take_turn.ensures.wrote);
-      left_open = λ left is. rw c.into_disk-in-Long.ensures (unset_then (i.left_open left) c.take_turn.ensures.wrote);
-      transfers = λ m b stands source. rw (c.into_disk-in-Long.ensures, same) (still_spends m (Turned-source i.turned source) stands);
-      sound = λ m stands is. absurd (cc is);
-      damage = λ t left sink is. absurd (cc is);
-      permitted = rw c.into_disk-in-Long.ensures permitted;
-      same_disk = rw c.into_disk-in-Long.ensures went;
-      disk_cause = λ is. absurd (cc is);
-      stream_cause = λ is. absurd (cc is);
-      short = λ b source done. absurd (cc done);
+          let has = files_same there m (reading b) (length turned.going.lines) 0 (still_files m turned stands (reveals g c.take_turn.new.session)) in
+          elim e.ends [
+            | inl long ↦
+                rw long
+                (Run-long m b t _ _ c.turns.lines _ _ turned.going stands _ (HasFilesAt m (reading b) disk) _ _ c.take_turn.new.lines turn.0 turn.1 (turn.2 ∙ turn.1.limit ∙ i.limit)
+                (Puts-later _ _ _ _ _ (rose_later _ _ _ i.sink) (e.line long)) has)
+            | inr (inl failed) ↦
+                rw failed
+                (Run-disk m b t _ _ c.turns.lines _ _ turned.going stands _ (HasFilesAt m (reading b) disk) (g.S.Source.left c.take_turn.new.source) _ turn.0
+                (Puts-later _ _ _ _ _ (rose_later _ _ _ i.sink) (e.disk_fault failed).2) 0 has)
+            | inr (inr damaged) ↦ not_shown (plain m stands) (e.changed damaged).1
+          ];
+      replied = λ b t left source sink plain.
+          let going = Going-revealed _ _ _ _ _ _ _ b t i.turned.going source sink in
+          let prefix = revealed_prefix b _ c.turns.lines going.lines going.read turn.0 in
+          elim e.ends [
+            | inl long ↦
+                rw long
+                (Replied-long b t going _ disk (FromEachInitialState c.args.session disk) (g.S.Source.left c.take_turn.new.source) _ c.take_turn.new.lines turn.0 turn.1 (turn.2 ∙ turn.1.limit ∙ i.limit)
+                (Puts-later _ _ _ _ _ (rose_later _ _ _ i.sink) (e.line long)))
+            | inr (inl failed) ↦
+                Replied-halted b t going _ disk (FromEachInitialState c.args.session disk) c.end_long.result.0 halt.Disk (g.S.Source.left c.take_turn.new.source) _ prefix.0 prefix.1 failed
+                tt (λ f is. absurd (cc is)) (open_then left) (Puts-later _ _ _ _ _ (rose_later _ _ _ i.sink) (e.disk_fault failed).2)
+            | inr (inr damaged) ↦ not_shown (plain damaged) (e.changed damaged).1
+          ];
+      changed = λ b t f source sink is shown.
+          let going = Going-revealed _ _ _ _ _ _ _ b t i.turned.going source sink in
+          let prefix = revealed_prefix b _ c.turns.lines going.lines going.read turn.0 in
+          let line = e.changed is in
+          Replied-changed b t going _ disk (FromEachInitialState c.args.session disk) _ prefix.0 prefix.1 f
+          (Puts-later _ _ _ _ _ (rose_later _ _ _ i.sink) (subst (λ (x : Evidence). PutsLast g c.turns.sink c.end_long.new.sink (cause.Damaged x)) (one_shown line.1 shown) line.2));
+      changed_line = λ t f sink is shown.
+          let line = e.changed is in
+          change_revealed _ _ _ _ t c.turns.lines _ _ _ f (Going-sink _ _ _ _ _ _ _ t i.turned.going sink)
+          (Puts-later _ _ _ _ _ (rose_later _ _ _ i.sink) (subst (λ (x : Evidence). PutsLast g c.turns.sink c.end_long.new.sink (cause.Damaged x)) (one_shown line.1 shown) line.2));
+      rests = λ is. elim is [ inl done ↦ absurd (other.0 done) | inr long ↦ e.rests long ];
+      crash_states = λ m b stands source. crash_states_same there (still_crash_states m (Turned-same {S = Sessions g} (disk_of g) (stands_of g) same (Turned-source i.turned source)) stands);
+      closed = λ m b stands source done going. absurd (other.0 done);
+      closed_unheard = λ m b stands source is heard left closed. absurd (other.1 is);
+      some_crash_states = λ m stands.
+          let along : CrashStates m i.turned.going.lines (disk_of g c.args.session) mid = rw same (i.turned.along m stands) in
+          (i.turned.going.lines, crash_states_same there along);
+      stays_open = λ b left source early. open_then left;
+      untaken = λ b left source is some. open_then left;
+      left_open = λ left is. open_then left;
+      transfers = λ m b stands source. let most = still_spends m (Turned-same {S = Sessions g} (disk_of g) (stands_of g) same (Turned-source i.turned source)) stands in omega (arith, most, spent);
+      sound = λ m stands is. not_shown (plain m stands) (e.changed is).1;
+      damage = λ t left sink is plain. not_shown plain (e.changed is).1;
+      permitted = shuts_same there permitted;
+      syncs = λ m stands. openly_shuts (openly_then (openly_then i.turned.permitted (called_openly c.take_turn.ensures.wrote)) (openly_none there));
+      same_disk = went_then before later;
+      disk_cause = λ is.
+          let failed = e.disk_fault is in
+          let rose : Rose mid.faults disk.faults = subst (λ (d : g.row.D.Denot). Rose (g.D.Disk.state d).faults disk.faults) c.into_disk-in-Long.ensures failed.1 in
+          (failed.0, rose_later _ _ _ before.faults rose);
+      stream_cause = λ is. absurd (other.1 is);
+      short = λ b source done. absurd (other.0 done);
       long = λ b source is. not_short b _ _ _ c.turns.lines _ _ (Turned-source i.turned source).going _ c.take_turn.new.lines turn.0 turn.1 turn.2 i.limit;
-      opened = (λ is. cc is, λ is. cc is);
-      no_other = (λ is. cc is, λ is. cc is);
+      opened = (other.2, other.3);
+      no_other = (other.4, other.5);
     }
 
 -- a call stopped the session
@@ -227,50 +298,70 @@ pub returns-in-Halts : goal.returns-in-Halts
 returns-in-Halts g c =
     let i = c.turns.invariant in
     let turn = c.in-Halts.ensures.turns in
-    let stopped = c.stop.ensures.status in
-    let other = halt_ends c.in-Halts.halt c.stop.result stopped in
+    let shown = g.D.RunDisk.shown c.into_disk-disk.result in
+    let s = c.stop_on-status.result in
+    let stopped : s ≡ status_of (halt_on shown c.in-Halts.halt) = c.stop_on-status.ensures.status in
+    let other = halt_ends (halt_on shown c.in-Halts.halt) s stopped in
     let permitted = openly_last (openly_then i.turned.permitted (called_openly c.take_turn.ensures.wrote)) in
     let went = went_then i.same_disk c.take_turn.ensures.wrote.makes.went in
     let disk = disk_of g c.take_turn.new.session in
+    let line = c.stop_on-status.ensures.line in
+    let plain_status : shown ≡ None → s ≡ status_of c.in-Halts.halt = λ none. stopped ∙ ap (λ (o : Option Evidence). status_of (halt_on o c.in-Halts.halt)) none in
+    let plain_line : shown ≡ None → PutsLast g c.turns.sink c.stop_on-status.new.sink (cause_of c.in-Halts.halt) = λ none.
+    subst (λ (o : Option Evidence). PutsLast g c.turns.sink c.stop_on-status.new.sink (cause_of (halt_on o c.in-Halts.halt))) none line in
+    let change_line : (e : Evidence) → shown ≡ Some e → PutsLast g c.turns.sink c.stop_on-status.new.sink (cause.Damaged e) = λ e is.
+    subst (λ (o : Option Evidence). PutsLast g c.turns.sink c.stop_on-status.new.sink (cause_of (halt_on o c.in-Halts.halt))) is line in
+    let plain : (m : Machine) → stands_of g c.args.session m → shown ≡ None = λ m stands.
+    let made = (turn.4 (last_of m i.turned.going.lines) (i.turned.going.stands m stands)).0 in
+    plain_by g c.turns.session (last_of m i.turned.going.lines) (i.turned.going.stands m stands) c.into_disk-disk.result made.writes (rw c.into_disk-disk.ensures made.appended) in
     let reason = λ (e : Evidence). reason_halted c.args.session c.turns.session i.layout i.goes disk e c.in-Halts.halt (λ o keeps not_older. (c.in-Halts.ensures.reasons o keeps not_older c.in-Halts.halt refl, λ seen. c.in-Halts.ensures.right o keeps not_older seen c.in-Halts.halt refl)) in
     record {
       answering = λ m b t stands source sink.
           let turned = Turned-revealed i.turned source sink in
+          let none = plain m stands in
           let why : c.in-Halts.halt ≡ halt.Disk = c.in-Halts.ensures.sound _ c.in-Halts.halt (turned.going.stands m stands) refl in
-          let is : c.stop.result ≡ status.DiskFault = stopped ∙ ap status_of why in
-          let line : PutsLast g c.turns.sink c.stop.new.sink cause.DiskFault = subst (λ (h : Halt). PutsLast g c.turns.sink c.stop.new.sink (cause_of h)) why c.stop.ensures.line in
+          let is : s ≡ status.DiskFault = plain_status none ∙ ap status_of why in
+          let line : PutsLast g c.turns.sink c.stop_on-status.new.sink cause.DiskFault = subst (λ (h : Halt). PutsLast g c.turns.sink c.stop_on-status.new.sink (cause_of h)) why (plain_line none) in
           let has = halt_files m turned stands turn.0 turn.2 turn.3 turn.4 (λ n stands. stands.session.stands.is.by.machine) in
           rw is
-          (Run-disk m b t _ _ c.turns.lines _ _ turned.going stands _ (HasFilesAt m (reading b) (g.D.Disk.state c.into_disk-in-Halts.result)) (g.S.Source.left c.take_turn.new.source) _ turn.0
-          (Puts-later _ _ _ _ _ (rose_later _ _ _ i.sink) line) has.0 (rw c.into_disk-in-Halts.ensures has.1));
-      replied = λ b t left source sink.
+          (Run-disk m b t _ _ c.turns.lines _ _ turned.going stands _ (HasFilesAt m (reading b) (g.D.Disk.state c.into_disk-disk.result)) (g.S.Source.left c.take_turn.new.source) _ turn.0
+          (Puts-later _ _ _ _ _ (rose_later _ _ _ i.sink) line) has.0 (rw c.into_disk-disk.ensures has.1));
+      replied = λ b t left source sink plain.
+          let none = on_plain shown c.in-Halts.halt s stopped plain in
           let going = Going-revealed _ _ _ _ _ _ _ b t i.turned.going source sink in
           let prefix = revealed_prefix b _ c.turns.lines going.lines going.read turn.0 in
-          rw c.into_disk-in-Halts.ensures
-          (Replied-halted b t going _ disk (FromEachInitialState c.args.session disk) c.stop.result c.in-Halts.halt (g.S.Source.left c.take_turn.new.source) _ prefix.0 prefix.1 stopped
+          rw c.into_disk-disk.ensures
+          (Replied-halted b t going _ disk (FromEachInitialState c.args.session disk) s c.in-Halts.halt (g.S.Source.left c.take_turn.new.source) _ prefix.0 prefix.1 (plain_status none)
           (c.in-Halts.ensures.evidence_seen c.in-Halts.halt refl) reason (unset_then (i.left_open left) c.take_turn.ensures.wrote)
-          (Puts-later _ _ _ _ _ (rose_later _ _ _ i.sink) c.stop.ensures.line));
-      crash_states = λ m b stands source. rw c.into_disk-in-Halts.ensures (line_crash_states m (Turned-source i.turned source) stands turn.0 turn.2 turn.3 turn.4);
+          (Puts-later _ _ _ _ _ (rose_later _ _ _ i.sink) (plain_line none)));
+      changed = λ b t e source sink is shows.
+          let going = Going-revealed _ _ _ _ _ _ _ b t i.turned.going source sink in
+          let prefix = revealed_prefix b _ c.turns.lines going.lines going.read turn.0 in
+          Replied-changed b t going _ disk (FromEachInitialState c.args.session disk) _ prefix.0 prefix.1 e (Puts-later _ _ _ _ _ (rose_later _ _ _ i.sink) (change_line e shows));
+      changed_line = λ t e sink is shows. change_revealed _ _ _ _ t c.turns.lines _ _ _ e (Going-sink _ _ _ _ _ _ _ t i.turned.going sink) (Puts-later _ _ _ _ _ (rose_later _ _ _ i.sink) (change_line e shows));
+      rests = λ is. elim is [ inl done ↦ absurd (other.0 done) | inr long ↦ absurd (other.2 long) ];
+      crash_states = λ m b stands source. rw c.into_disk-disk.ensures (line_crash_states m (Turned-source i.turned source) stands turn.0 turn.2 turn.3 turn.4);
       closed = λ m b stands source done going. absurd (other.0 done);
       closed_unheard = λ m b stands source is heard left closed. absurd (other.1 is);
-      some_crash_states = λ m stands. rw c.into_disk-in-Halts.ensures (_, more_crash_states i.turned turn.4 m stands);
-      stays_open = λ b left source early. rw c.into_disk-in-Halts.ensures (unset_then (i.left_open left) c.take_turn.ensures.wrote);
+      some_crash_states = λ m stands. rw c.into_disk-disk.ensures (_, more_crash_states i.turned turn.4 m stands);
+      stays_open = λ b left source early. rw c.into_disk-disk.ensures (unset_then (i.left_open left) c.take_turn.ensures.wrote);
       untaken = λ b left source is some. absurd (other.1 is);
-      left_open = λ left is. rw c.into_disk-in-Halts.ensures (unset_then (i.left_open left) c.take_turn.ensures.wrote);
-      transfers = λ m b stands source. rw c.into_disk-in-Halts.ensures (line_spends m (Turned-source i.turned source) stands turn.0 turn.2 turn.3 i.same_disk.sectors turn.4);
+      left_open = λ left is. rw c.into_disk-disk.ensures (unset_then (i.left_open left) c.take_turn.ensures.wrote);
+      transfers = λ m b stands source. rw c.into_disk-disk.ensures (line_spends m (Turned-source i.turned source) stands turn.0 turn.2 turn.3 i.same_disk.sectors turn.4);
       -- no session that stood for a machine stops at a damaged volume
-      sound = λ m stands is. halt_not_damaged c.in-Halts.halt c.stop.result stopped (c.in-Halts.ensures.sound _ c.in-Halts.halt (i.turned.going.stands m stands) refl) is;
-      damage = λ t left sink is.
-          let why = halt_evidence c.in-Halts.halt c.stop.result stopped is in
+      sound = λ m stands is. halt_not_damaged c.in-Halts.halt s (plain_status (plain m stands)) (c.in-Halts.ensures.sound _ c.in-Halts.halt (i.turned.going.stands m stands) refl) is;
+      damage = λ t left sink is none.
+          let why = halt_evidence c.in-Halts.halt s (plain_status none) is in
           let evidence_seen : IsEvident disk why.0 = subst (λ (h : Halt). ShowsEvidence disk h) why.1 (c.in-Halts.ensures.evidence_seen c.in-Halts.halt refl) in
-          let line = Puts-later _ _ _ _ _ (rose_later _ _ _ i.sink) (subst (λ (h : Halt). PutsLast g c.turns.sink c.stop.new.sink (cause_of h)) why.1 c.stop.ensures.line) in
+          let line = Puts-later _ _ _ _ _ (rose_later _ _ _ i.sink) (subst (λ (h : Halt). PutsLast g c.turns.sink c.stop_on-status.new.sink (cause_of h)) why.1 (plain_line none)) in
           let revealed = damage_revealed _ _ _ _ t c.turns.lines _ _ _ why.0 disk evidence_seen (unset_then (i.left_open left) c.take_turn.ensures.wrote) (Going-sink _ _ _ _ _ _ _ t i.turned.going sink) line in
-          damage_same c.args.session c.into_disk-in-Halts.result c.take_turn.new.session.core.filer.swapper.disk c.into_disk-in-Halts.ensures (revealed, reason why.0 why.1);
-      permitted = rw c.into_disk-in-Halts.ensures permitted;
-      same_disk = rw c.into_disk-in-Halts.ensures went;
+          damage_same c.args.session c.into_disk-disk.result c.take_turn.new.session.core.filer.swapper.disk c.into_disk-disk.ensures (revealed, reason why.0 why.1);
+      permitted = rw c.into_disk-disk.ensures permitted;
+      syncs = λ m stands. rw c.into_disk-disk.ensures (openly_shuts (openly_then i.turned.permitted (called_openly c.take_turn.ensures.wrote)));
+      same_disk = rw c.into_disk-disk.ensures went;
       disk_cause = λ is.
-          let why = halt_disk c.in-Halts.halt c.stop.result stopped is in
-          rw c.into_disk-in-Halts.ensures (rose_later _ _ _ i.same_disk.faults (c.in-Halts.ensures.counted (ap (λ (h : Halt). Halts h) why)));
+          let failed = on_disk shown c.in-Halts.halt s stopped _ _ _ is line in
+          (failed.0, rw c.into_disk-disk.ensures (rose_later _ _ _ i.same_disk.faults (c.in-Halts.ensures.counted (ap (λ (h : Halt). Halts h) failed.1))));
       stream_cause = λ is. absurd (other.1 is);
       short = λ b source done. absurd (other.0 done);
       long = λ b source is. absurd (other.2 is);
@@ -304,14 +395,14 @@ returns-in-Ends g c =
           End-answering m b t _ _ c.turns.lines _ _ turned.going stands _ (HasFilesAt m (reading b) disk) c.end_trace.result.0 c.in-Ends.end _ _ c.take_turn.new.lines ended
           (three_ways c.end_trace.result.0 e.ends (e.sound _ there)) e.done e.part
           (λ is. (rose_later _ _ _ i.sink (e.stream_cause is).0, (e.stream_cause is).1))
-          (λ is. Puts-later _ _ _ _ _ (rose_later _ _ _ i.sink) (e.disk_line is))
+          (λ is. Puts-later _ _ _ _ _ (rose_later _ _ _ i.sink) (e.disk_fault is).2)
           (λ well. End-has m b _ _ _ c.turns.lines _ _ turned.going disk revealed c.in-Ends.end _ c.take_turn.new.lines ended (λ other. e.closed _ there other well))
           (stopped_files m turned stands disk revealed);
-      replied = λ b t left source sink.
+      replied = λ b t left source sink plain.
           Replied-end b t (Going-revealed _ _ _ _ _ _ _ b t i.turned.going source sink) _ disk (FromEachInitialState c.args.session disk) c.end_trace.result.0 c.in-Ends.end (g.S.Source.left c.take_turn.new.source) _ c.take_turn.new.lines ended e.ends e.done e.part
           (λ is. (rose_later _ _ _ i.sink (e.stream_cause is).0, (e.stream_cause is).1))
-          (λ is. Puts-later _ _ _ _ _ (rose_later _ _ _ i.sink) (e.disk_line is))
-          (λ is. let line = e.damage_line is in (line.0, line.1, reason line.0 line.2, Puts-later _ _ _ _ _ (rose_later _ _ _ i.sink) line.3))
+          (λ is. Puts-later _ _ _ _ _ (rose_later _ _ _ i.sink) (e.disk_fault is).2)
+          (λ is. let line = e.damage is in let seen = seen_plain disk (FromEachInitialState c.take_turn.new.session disk) line.0 (plain is) line.1 in (line.0, seen.0, reason line.0 seen.1, Puts-later _ _ _ _ _ (rose_later _ _ _ i.sink) line.2))
           (λ is. e.left_open (unset_then (i.left_open left) c.take_turn.ensures.wrote) is);
       crash_states = λ m b stands source. let turned = Turned-source stands_still source in end_crash_states m turned stands _ (e.stops _ (turned.going.stands m stands));
       closed = λ m b stands source done going.
@@ -325,7 +416,7 @@ returns-in-Ends g c =
           let now = unset_then (i.left_open left) c.take_turn.ensures.wrote in
           let turned = Turned-source i.turned source in
           elim (early_halt b _ _ _ c.turns.lines _ _ turned.going c.end_trace.result.0 c.in-Ends.end _ c.take_turn.new.lines ended e.ends (λ is. (e.stream_cause is).1) early) [
-            | inl halted ↦ rw (e.halted halted) now
+            | inl halted ↦ unset_same (e.halted halted) now
             | inr damaged ↦ e.left_open now damaged
           ];
       untaken = λ b left source is some. absurd (some (End-rest b _ _ _ c.turns.lines _ _ (Turned-source i.turned source).going c.in-Ends.end _ c.take_turn.new.lines ended));
@@ -335,14 +426,27 @@ returns-in-Ends g c =
       ];
       transfers = λ m b stands source. let turned = Turned-source stands_still source in end_spent m turned stands disk went.sectors (e.cost _ (turned.going.stands m stands));
       sound = λ m stands. e.sound _ (stands_still.going.stands m stands);
-      damage = λ t left sink is.
-          let line = e.damage_line is in
+      changed = λ b t f source sink is shown.
+          let going = Going-revealed _ _ _ _ _ _ _ b t i.turned.going source sink in
+          let prefix = End-prefix b _ (Some t) _ c.turns.lines _ _ going c.in-Ends.end _ c.take_turn.new.lines ended in
+          let line = e.damage is in
+          Replied-changed b t going _ disk (FromEachInitialState c.args.session disk) _ prefix.0 prefix.1 f
+          (Puts-later _ _ _ _ _ (rose_later _ _ _ i.sink) (subst (λ (x : Evidence). PutsLast g c.turns.sink c.end_trace.new.sink (cause.Damaged x)) (sym (seen_shown disk (FromEachInitialState c.take_turn.new.session disk) line.0 f shown line.1)) line.2));
+      changed_line = λ t f sink is shown.
+          let line = e.damage is in
+          change_revealed _ _ _ _ t c.turns.lines _ _ _ f (Going-sink _ _ _ _ _ _ _ t i.turned.going sink)
+          (Puts-later _ _ _ _ _ (rose_later _ _ _ i.sink) (subst (λ (x : Evidence). PutsLast g c.turns.sink c.end_trace.new.sink (cause.Damaged x)) (sym (seen_shown disk (FromEachInitialState c.take_turn.new.session disk) line.0 f shown line.1)) line.2));
+      rests = λ is. elim is [ inl done ↦ e.rests done | inr long ↦ absurd (other.0 long) ];
+      damage = λ t left sink is plain.
+          let line = e.damage is in
+          let seen = seen_plain disk (FromEachInitialState c.take_turn.new.session disk) line.0 plain line.1 in
           let open_still = e.left_open (unset_then (i.left_open left) c.take_turn.ensures.wrote) is in
-          let revealed = damage_revealed _ _ _ _ t c.turns.lines _ _ _ line.0 disk line.1 open_still (Going-sink _ _ _ _ _ _ _ t i.turned.going sink) (Puts-later _ _ _ _ _ (rose_later _ _ _ i.sink) line.3) in
-          (revealed, reason line.0 line.2);
+          let revealed = damage_revealed _ _ _ _ t c.turns.lines _ _ _ line.0 disk seen.0 open_still (Going-sink _ _ _ _ _ _ _ t i.turned.going sink) (Puts-later _ _ _ _ _ (rose_later _ _ _ i.sink) line.2) in
+          (revealed, reason line.0 seen.1);
       permitted = ended_last (openly_then i.turned.permitted (called_openly c.take_turn.ensures.wrote)) e.wrote;
+      syncs = λ m stands. shuts_after (openly_then i.turned.permitted (called_openly c.take_turn.ensures.wrote)) (e.syncs _ (stands_still.going.stands m stands));
       same_disk = went_then went e.wrote.went;
-      disk_cause = λ is. rose_later _ _ _ went.faults (e.disk_cause is);
+      disk_cause = λ is. let failed = e.disk_fault is in (failed.0, rose_later _ _ _ went.faults failed.1);
       stream_cause = λ is. inr (rose_later _ _ _ i.sink (e.stream_cause is).0);
       short = λ b source done. End-short b _ _ _ c.turns.lines _ _ (Turned-source i.turned source).going c.in-Ends.end _ c.take_turn.new.lines ended i.limit;
       long = λ b source is. absurd (other.0 is);

@@ -7,9 +7,10 @@ use Rattle.pilot_top.specs.Headline.{EndsEarly}
 use Rattle.pilot_top.specs.InitialState.{FromEachInitialState, FromInitialState}
 use Rattle.pilot_top.specs.declared.status.Status.{Status}
 use Rattle.pilot_top.proofs.CostLemmas.{run_spends, start_spends}
+use Rattle.pilot_top.proofs.CutLemmas.{ran_honest, started_honest}
 use Rattle.pilot_top.proofs.PermittedRuns.{ran_lawfully, started_lawfully}
 use Rattle.pilot_top.proofs.ReasonLemmas.{reason_refused, reason_started, replied_reasoned}
-use Rattle.pilot_top.proofs.RunLemmas.{run_of, not_sound, not_done, left_early, run_refused, damage_first, replied_refused, refused_why, refused_line, refused_ends, is_early}
+use Rattle.pilot_top.proofs.RunLemmas.{memory_early, refused_early, run_of, not_sound, not_done, left_early, run_refused, damage_first, replied_refused, refused_why, refused_line, refused_ends, is_early}
 use Rattle.pilot_top.proofs.StagedLemmas.{from_start, crash_states_before, crash_states_then}
 use Rattle.pilot_top.proofs.run.run.Given as given
 use Rattle.pilot_top.proofs.run.run.Goals as goal
@@ -56,12 +57,12 @@ started g c e =
     c.in-Ok.ensures.keeps_to c.in-Ok.ensures.sees c.in-Ok.ensures.monotone
 
 pub returns-in-Ok-clause-damage : goal.returns-in-Ok-clause-damage
-returns-in-Ok-clause-damage g c t sink is = let all = c.answer_lines.ensures.damage t c.in-Ok.ensures.left_open sink is in (all.0, started g c all.0.evidence all.1)
+returns-in-Ok-clause-damage g c t sink is = let all = c.answer_lines.ensures.damage t c.in-Ok.ensures.left_open sink is (c.requires.plain c.answer_lines.result.1) in (all.0, started g c all.0.evidence all.1)
 
 pub returns-in-Ok-clause-replied : goal.returns-in-Ok-clause-replied
 returns-in-Ok-clause-replied g c b t source sink =
     replied_reasoned c.answer_lines.result.0 b t _ _ _ (g.D.Disk.state c.answer_lines.result.1) (FromEachInitialState c.in-Ok.session (g.D.Disk.state c.answer_lines.result.1)) (FromInitialState (g.D.Disk.state c.args.disk) (g.D.Disk.state c.answer_lines.result.1)) (started g c)
-    (c.answer_lines.ensures.replied b t c.in-Ok.ensures.left_open source sink)
+    (c.answer_lines.ensures.replied b t c.in-Ok.ensures.left_open source sink (λ is. c.requires.plain c.answer_lines.result.1))
 
 pub returns-in-Ok-clause-sound : goal.returns-in-Ok-clause-sound
 returns-in-Ok-clause-sound g c d revealed sound = (c.answer_lines.ensures.opened.1, c.answer_lines.ensures.sound (start d) (c.in-Ok.ensures.stands d revealed sound))
@@ -144,3 +145,26 @@ returns-in-Err-clause-short g c b source done = absurd ((not_done c.in-Err.fault
 
 pub returns-in-Err-clause-refused_unwritten : goal.returns-in-Err-clause-refused_unwritten
 returns-in-Err-clause-refused_unwritten g c d why revealed refused = (c.in-Err.ensures.unwritten (is_early c.in-Err.fault why (c.in-Err.ensures.refused d why revealed refused)), refl)
+
+-- ---- Where the power goes.
+
+pub returns-in-Ok-clause-cuts : goal.returns-in-Ok-clause-cuts
+returns-in-Ok-clause-cuts g c d revealed sound =
+    let states = returns-in-Ok-clause-some_crash_states g c d revealed sound in
+    ran_honest d revealed c.in-Ok.ensures.wrote (c.in-Ok.ensures.crash_states d revealed sound.labels) sound c.in-Ok.ensures.left_open c.in-Ok.ensures.synced c.answer_lines.ensures.same_disk
+    (c.answer_lines.ensures.syncs (start d) (c.in-Ok.ensures.stands d revealed sound)) c.answer_lines.ensures.permitted states.0 states.1 (returns-in-Ok-clause-permitted g c)
+
+pub returns-in-Err-clause-cuts : goal.returns-in-Err-clause-cuts
+returns-in-Err-clause-cuts g c d revealed sound =
+    let states = returns-in-Err-clause-some_crash_states g c d revealed sound in
+    started_honest d revealed c.in-Err.ensures.wrote (c.in-Err.ensures.crash_states d revealed sound.labels) states.0 states.1 (returns-in-Err-clause-permitted g c)
+
+-- ---- Nothing was written.
+
+pub returns-in-Err-clause-unwritten : goal.returns-in-Err-clause-unwritten
+returns-in-Err-clause-unwritten g c is = (c.in-Err.ensures.unwritten (refused_early c.in-Err.fault c.refuse.result _ _ g.K.Sink.took _ c.refuse.ensures.stops is), refl)
+
+pub returns-in-Err-clause-memory : goal.returns-in-Err-clause-memory
+returns-in-Err-clause-memory g c is =
+    let early = memory_early c.in-Err.fault c.refuse.result _ _ g.K.Sink.took _ c.refuse.ensures.stops is in
+    (c.in-Err.ensures.unwritten early.0, refl, early.1)

@@ -1,4 +1,5 @@
 use Rattle.std.proofs.Common.{rules, ◌≡◌, inl, inr, ◌++◌, Option, Some, None, ◌∙◌, ap}
+use Rattle.swapper_kernel.specs.GoesLaws.{went_then}
 use Rattle.pilot_top.specs.Trial.{after_calls, drawn_calls, first_calls, trial_line}
 use Rattle.pilot_top.specs.declared.status.Status.{Status}
 use Rattle.pilot_top.proofs.CloseLemmas.{damage_revealed, not_closed}
@@ -83,3 +84,14 @@ pub returns-in-Err-put-clause-left : goal.returns-in-Err-put-clause-left
 returns-in-Err-put-clause-left g c =
     let none : ◌≡◌ {A = Option Status} c.close-stopped.result.0 None = search rules in
     λ m stands ends. c.close-stopped.ensures.closed (after_calls m (first_calls ++ drawn_calls c.args.seed c.args.calls)) (c.in-Ok.ensures.answered.3 m stands).1 none
+
+-- ---- The disk is the same one later.
+
+pub returns-in-Some-clause-went : goal.returns-in-Some-clause-went
+returns-in-Some-clause-went g c = went_then c.try_calls.ensures.went c.close-stopped.ensures.wrote.went
+
+pub returns-in-Ok-put-clause-went : goal.returns-in-Ok-put-clause-went
+returns-in-Ok-put-clause-went g c = went_then c.try_calls.ensures.went c.close-stopped.ensures.wrote.went
+
+pub returns-in-Err-put-clause-went : goal.returns-in-Err-put-clause-went
+returns-in-Err-put-clause-went g c = went_then c.try_calls.ensures.went c.close-stopped.ensures.wrote.went

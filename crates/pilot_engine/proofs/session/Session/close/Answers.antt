@@ -10,6 +10,8 @@ use Rattle.pilot_engine.proofs.EndCosts.{closed_bounded}
 use Rattle.pilot_engine.proofs.EndLemmas.{has_shut, made_ready}
 use Rattle.pilot_engine.proofs.StopLemmas.{ends, open_is_stop, throughout_less, throughout_still, throughout_then}
 use Rattle.pilot_engine.proofs.TableStops.{stops_closed, stops_forcing}
+use Rattle.swapper_kernel.specs.GoesLaws.{went_then}
+use Rattle.pilot_engine.proofs.ShutBySyncLemmas.{openly_shut, reveals_itself, sets_shut}
 use Rattle.pilot_engine.proofs.ShutLemmas.{any_of, shut_still, shut_then}
 use Rattle.pilot_engine.proofs.UnsetLemmas.{leaves_open, unset_then}
 use Rattle.pilot_engine.proofs.WroteLemmas.{rose_after, wrote_by, wrote_swapping, wrote_then}
@@ -25,8 +27,8 @@ use Rattle.pilot_engine.proofs.session.Session.close.Goals as goal
 pub returns-in-Err-empty-clause-sound : goal.returns-in-Err-empty-clause-sound
 returns-in-Err-empty-clause-sound g c = λ m r. c.in-Err-empty.ensures.sound root_alone (forgotten m) (c.in-Ok.ensures.alone m r)
 
-pub returns-in-Err-write_maps-clause-sound : goal.returns-in-Err-write_maps-clause-sound
-returns-in-Err-write_maps-clause-sound g c = λ m r. let e = c.in-Ok-empty.ensures.emptied root_alone (forgotten m) (c.in-Ok.ensures.alone m r) in c.in-Err-write_maps.ensures.sound e.memory e.stands
+pub returns-in-Err-sync_maps-clause-sound : goal.returns-in-Err-sync_maps-clause-sound
+returns-in-Err-sync_maps-clause-sound g c = λ m r. let e = c.in-Ok-empty.ensures.emptied root_alone (forgotten m) (c.in-Ok.ensures.alone m r) in c.in-Err-sync_maps.ensures.sound e.memory e.stands
 
 pub returns-in-Err-clause-wrote : goal.returns-in-Err-clause-wrote
 returns-in-Err-clause-wrote g c = any_of c.evict_all.ensures.wrote
@@ -34,23 +36,23 @@ returns-in-Err-clause-wrote g c = any_of c.evict_all.ensures.wrote
 pub returns-in-Err-empty-clause-wrote : goal.returns-in-Err-empty-clause-wrote
 returns-in-Err-empty-clause-wrote g c = any_of (wrote_then c.evict_all.ensures.wrote c.empty.ensures.wrote)
 
-pub returns-in-Err-write_maps-clause-wrote : goal.returns-in-Err-write_maps-clause-wrote
-returns-in-Err-write_maps-clause-wrote g c = any_of (wrote_then (wrote_then c.evict_all.ensures.wrote c.empty.ensures.wrote) (wrote_swapping c.write_maps.ensures.swaps))
+pub returns-in-Err-sync_maps-clause-wrote : goal.returns-in-Err-sync_maps-clause-wrote
+returns-in-Err-sync_maps-clause-wrote g c = any_of (wrote_then (wrote_then c.evict_all.ensures.wrote c.empty.ensures.wrote) (wrote_swapping c.sync_maps.ensures.swaps))
 
 pub returns-in-Err-write_clean-clause-wrote : goal.returns-in-Err-write_clean-clause-wrote
-returns-in-Err-write_clean-clause-wrote g c = shut_then (wrote_then (wrote_then c.evict_all.ensures.wrote c.empty.ensures.wrote) (wrote_swapping c.write_maps.ensures.swaps)) c.write_clean.ensures.wrote
+returns-in-Err-write_clean-clause-wrote g c = shut_then (wrote_then (wrote_then c.evict_all.ensures.wrote c.empty.ensures.wrote) (wrote_swapping c.sync_maps.ensures.swaps)) c.write_clean.ensures.wrote
 
 pub returns-in-Ok-sync-clause-wrote : goal.returns-in-Ok-sync-clause-wrote
-returns-in-Ok-sync-clause-wrote g c = shut_still (shut_then (wrote_then (wrote_then c.evict_all.ensures.wrote c.empty.ensures.wrote) (wrote_swapping c.write_maps.ensures.swaps)) c.write_clean.ensures.wrote) c.sync.ensures.same (wrote_by (reached_makes c.sync.ensures.reaches) tt)
+returns-in-Ok-sync-clause-wrote g c = shut_still (shut_then (wrote_then (wrote_then c.evict_all.ensures.wrote c.empty.ensures.wrote) (wrote_swapping c.sync_maps.ensures.swaps)) c.write_clean.ensures.wrote) c.sync.ensures.same (wrote_by (reached_makes c.sync.ensures.reaches) tt)
 
 pub returns-in-Err-sync-clause-wrote : goal.returns-in-Err-sync-clause-wrote
-returns-in-Err-sync-clause-wrote g c = shut_still (shut_then (wrote_then (wrote_then c.evict_all.ensures.wrote c.empty.ensures.wrote) (wrote_swapping c.write_maps.ensures.swaps)) c.write_clean.ensures.wrote) c.sync.ensures.same (wrote_by (reached_makes c.sync.ensures.reaches) tt)
+returns-in-Err-sync-clause-wrote g c = shut_still (shut_then (wrote_then (wrote_then c.evict_all.ensures.wrote c.empty.ensures.wrote) (wrote_swapping c.sync_maps.ensures.swaps)) c.write_clean.ensures.wrote) c.sync.ensures.same (wrote_by (reached_makes c.sync.ensures.reaches) tt)
 
 pub returns-in-Ok-sync-clause-closed : goal.returns-in-Ok-sync-clause-closed
 returns-in-Ok-sync-clause-closed g c = λ m r.
     let e = c.in-Ok-empty.ensures.emptied root_alone (forgotten m) (c.in-Ok.ensures.alone m r) in
-    let ready = made_ready (forgotten m) _ _ _ _ _ e c.write_maps.ensures.swaps c.in-Ok-write_maps.ensures.clean in
-    shut_same m _ (has_shut (forgotten m) _ _ _ _ _ c.write_maps.ensures.volume ready (c.in-Ok-write_clean.ensures.made (forgotten m)) c.sync.ensures.same.contents c.in-Ok-sync.ensures.synced)
+    let ready = made_ready (forgotten m) _ _ _ _ _ e c.sync_maps.ensures.swaps c.in-Ok-sync_maps.ensures.clean in
+    shut_same m _ (has_shut (forgotten m) _ _ _ _ _ c.sync_maps.ensures.volume ready (c.in-Ok-write_clean.ensures.made (forgotten m)) c.sync.ensures.same.contents c.in-Ok-sync.ensures.synced)
 
 pub returns-in-Err-clause-stops : goal.returns-in-Err-clause-stops
 returns-in-Err-clause-stops g c = λ m r. throughout_less (IsOpenStop m) (IsStop m) (open_is_stop m) (c.evict_all.ensures.stops m r)
@@ -62,13 +64,13 @@ returns-in-Err-empty-clause-stops g c = λ m r.
     let first = c.empty.ensures.stops root_alone n s in
     stops_closed m r.session.stands.is.by.machine (c.evict_all.ensures.stops m r) (throughout_less (IsOpenStop n) (IsStop n) (open_is_stop n) first)
 
-pub returns-in-Err-write_maps-clause-stops : goal.returns-in-Err-write_maps-clause-stops
-returns-in-Err-write_maps-clause-stops g c = λ m r.
+pub returns-in-Err-sync_maps-clause-stops : goal.returns-in-Err-sync_maps-clause-stops
+returns-in-Err-sync_maps-clause-stops g c = λ m r.
     let n = forgotten m in
     let s = c.in-Ok.ensures.alone m r in
     let first = c.empty.ensures.stops root_alone n s in
     let e = c.in-Ok-empty.ensures.emptied root_alone n s in
-    let maps = throughout_then (IsOpenStop n) first (stops_forcing n _ _ _ _ _ e c.write_maps.ensures.swaps (ends (IsOpenStop n) first)) in
+    let maps = throughout_then (IsOpenStop n) first (stops_forcing n _ _ _ _ _ e c.sync_maps.ensures.swaps (ends (IsOpenStop n) first)) in
     stops_closed m r.session.stands.is.by.machine (c.evict_all.ensures.stops m r) (throughout_less (IsOpenStop n) (IsStop n) (open_is_stop n) maps)
 
 pub returns-in-Err-write_clean-clause-stops : goal.returns-in-Err-write_clean-clause-stops
@@ -77,9 +79,9 @@ returns-in-Err-write_clean-clause-stops g c = λ m r.
     let s = c.in-Ok.ensures.alone m r in
     let first = c.empty.ensures.stops root_alone n s in
     let e = c.in-Ok-empty.ensures.emptied root_alone n s in
-    let maps = throughout_then (IsOpenStop n) first (stops_forcing n _ _ _ _ _ e c.write_maps.ensures.swaps (ends (IsOpenStop n) first)) in
-    let ready = made_ready n _ _ _ _ _ e c.write_maps.ensures.swaps c.in-Ok-write_maps.ensures.clean in
-    let now = subst (λ (v : Volume). IsReady n v.root (g.D.Disk.state c.write_maps.new.self.core.filer.swapper.disk)) (sym c.write_maps.ensures.volume) ready in
+    let maps = throughout_then (IsOpenStop n) first (stops_forcing n _ _ _ _ _ e c.sync_maps.ensures.swaps (ends (IsOpenStop n) first)) in
+    let ready = made_ready n _ _ _ _ _ e c.sync_maps.ensures.swaps c.in-Ok-sync_maps.ensures.clean in
+    let now = subst (λ (v : Volume). IsReady n v.root (g.D.Disk.state c.sync_maps.new.self.core.filer.swapper.disk)) (sym c.sync_maps.ensures.volume) ready in
     let all = throughout_then (IsStop n) (throughout_less (IsOpenStop n) (IsStop n) (open_is_stop n) maps) (c.write_clean.ensures.stops n now (ends (IsOpenStop n) maps)) in
     stops_closed m r.session.stands.is.by.machine (c.evict_all.ensures.stops m r) all
 
@@ -89,9 +91,9 @@ returns-in-Ok-sync-clause-stops g c = λ m r.
     let s = c.in-Ok.ensures.alone m r in
     let first = c.empty.ensures.stops root_alone n s in
     let e = c.in-Ok-empty.ensures.emptied root_alone n s in
-    let maps = throughout_then (IsOpenStop n) first (stops_forcing n _ _ _ _ _ e c.write_maps.ensures.swaps (ends (IsOpenStop n) first)) in
-    let ready = made_ready n _ _ _ _ _ e c.write_maps.ensures.swaps c.in-Ok-write_maps.ensures.clean in
-    let now = subst (λ (v : Volume). IsReady n v.root (g.D.Disk.state c.write_maps.new.self.core.filer.swapper.disk)) (sym c.write_maps.ensures.volume) ready in
+    let maps = throughout_then (IsOpenStop n) first (stops_forcing n _ _ _ _ _ e c.sync_maps.ensures.swaps (ends (IsOpenStop n) first)) in
+    let ready = made_ready n _ _ _ _ _ e c.sync_maps.ensures.swaps c.in-Ok-sync_maps.ensures.clean in
+    let now = subst (λ (v : Volume). IsReady n v.root (g.D.Disk.state c.sync_maps.new.self.core.filer.swapper.disk)) (sym c.sync_maps.ensures.volume) ready in
     let all = throughout_then (IsStop n) (throughout_less (IsOpenStop n) (IsStop n) (open_is_stop n) maps) (c.write_clean.ensures.stops n now (ends (IsOpenStop n) maps)) in
     throughout_still (IsStop m) (stops_closed m r.session.stands.is.by.machine (c.evict_all.ensures.stops m r) all) c.sync.ensures.same
 
@@ -101,23 +103,23 @@ returns-in-Err-sync-clause-stops g c = λ m r.
     let s = c.in-Ok.ensures.alone m r in
     let first = c.empty.ensures.stops root_alone n s in
     let e = c.in-Ok-empty.ensures.emptied root_alone n s in
-    let maps = throughout_then (IsOpenStop n) first (stops_forcing n _ _ _ _ _ e c.write_maps.ensures.swaps (ends (IsOpenStop n) first)) in
-    let ready = made_ready n _ _ _ _ _ e c.write_maps.ensures.swaps c.in-Ok-write_maps.ensures.clean in
-    let now = subst (λ (v : Volume). IsReady n v.root (g.D.Disk.state c.write_maps.new.self.core.filer.swapper.disk)) (sym c.write_maps.ensures.volume) ready in
+    let maps = throughout_then (IsOpenStop n) first (stops_forcing n _ _ _ _ _ e c.sync_maps.ensures.swaps (ends (IsOpenStop n) first)) in
+    let ready = made_ready n _ _ _ _ _ e c.sync_maps.ensures.swaps c.in-Ok-sync_maps.ensures.clean in
+    let now = subst (λ (v : Volume). IsReady n v.root (g.D.Disk.state c.sync_maps.new.self.core.filer.swapper.disk)) (sym c.sync_maps.ensures.volume) ready in
     let all = throughout_then (IsStop n) (throughout_less (IsOpenStop n) (IsStop n) (open_is_stop n) maps) (c.write_clean.ensures.stops n now (ends (IsOpenStop n) maps)) in
     throughout_still (IsStop m) (stops_closed m r.session.stands.is.by.machine (c.evict_all.ensures.stops m r) all) c.sync.ensures.same
 
 pub returns-in-Err-empty-clause-counted : goal.returns-in-Err-empty-clause-counted
 returns-in-Err-empty-clause-counted g c = counted_then _ _ _ c.evict_all.ensures.wrote.makes.went.faults c.in-Err-empty.ensures.counted
 
-pub returns-in-Err-write_maps-clause-counted : goal.returns-in-Err-write_maps-clause-counted
-returns-in-Err-write_maps-clause-counted g c = counted_then _ _ _ (wrote_then c.evict_all.ensures.wrote c.empty.ensures.wrote).makes.went.faults c.in-Err-write_maps.ensures.counted
+pub returns-in-Err-sync_maps-clause-counted : goal.returns-in-Err-sync_maps-clause-counted
+returns-in-Err-sync_maps-clause-counted g c = counted_then _ _ _ (wrote_then c.evict_all.ensures.wrote c.empty.ensures.wrote).makes.went.faults c.in-Err-sync_maps.ensures.counted
 
 pub returns-in-Err-write_clean-clause-counted : goal.returns-in-Err-write_clean-clause-counted
-returns-in-Err-write_clean-clause-counted g c = λ is. rose_after _ _ _ (wrote_then (wrote_then c.evict_all.ensures.wrote c.empty.ensures.wrote) (wrote_swapping c.write_maps.ensures.swaps)).makes.went.faults c.in-Err-write_clean.ensures.counted
+returns-in-Err-write_clean-clause-counted g c = λ is. rose_after _ _ _ (wrote_then (wrote_then c.evict_all.ensures.wrote c.empty.ensures.wrote) (wrote_swapping c.sync_maps.ensures.swaps)).makes.went.faults c.in-Err-write_clean.ensures.counted
 
 pub returns-in-Err-sync-clause-counted : goal.returns-in-Err-sync-clause-counted
-returns-in-Err-sync-clause-counted g c = λ is. rose_after _ _ _ (shut_then (wrote_then (wrote_then c.evict_all.ensures.wrote c.empty.ensures.wrote) (wrote_swapping c.write_maps.ensures.swaps)) c.write_clean.ensures.wrote).makes.went.faults c.in-Err-sync.ensures.counted
+returns-in-Err-sync-clause-counted g c = λ is. rose_after _ _ _ (shut_then (wrote_then (wrote_then c.evict_all.ensures.wrote c.empty.ensures.wrote) (wrote_swapping c.sync_maps.ensures.swaps)) c.write_clean.ensures.wrote).makes.went.faults c.in-Err-sync.ensures.counted
 
 pub returns-in-Err-clause-cost : goal.returns-in-Err-clause-cost
 returns-in-Err-clause-cost g c = λ m r.
@@ -135,19 +137,19 @@ returns-in-Err-empty-clause-cost g c = λ m r.
     (g.D.Disk.state c.args.self.now.core.filer.swapper.disk).transfers (g.D.Disk.state c.evict_all.new.self.core.filer.swapper.disk).transfers (g.D.Disk.state c.empty.new.self.core.filer.swapper.disk).transfers (g.D.Disk.state c.empty.new.self.core.filer.swapper.disk).transfers
     c.evict_all.ensures.cost (c.empty.ensures.cost root_alone (forgotten m) (c.in-Ok.ensures.alone m r)) (omega (arith)))
 
-pub returns-in-Err-write_maps-clause-cost : goal.returns-in-Err-write_maps-clause-cost
-returns-in-Err-write_maps-clause-cost g c = λ m r.
+pub returns-in-Err-sync_maps-clause-cost : goal.returns-in-Err-sync_maps-clause-cost
+returns-in-Err-sync_maps-clause-cost g c = λ m r.
     let layout = c.args.self.now.core.filer.swapper.layout in
-    let maps = c.write_maps.ensures.cost in
-    on_layout layout (g.D.Disk.state c.args.self.now.core.filer.swapper.disk) (g.D.Disk.state c.write_maps.new.self.core.filer.swapper.disk) c.requires.size
+    let maps = c.sync_maps.ensures.cost in
+    on_layout layout (g.D.Disk.state c.args.self.now.core.filer.swapper.disk) (g.D.Disk.state c.sync_maps.new.self.core.filer.swapper.disk) c.requires.size
     (closed_bounded layout c.args.self.now.core.filer.swapper.accepted c.evict_all.new.self.core.filer.swapper.layout c.evict_all.ensures.layout
-    (g.D.Disk.state c.args.self.now.core.filer.swapper.disk).transfers (g.D.Disk.state c.evict_all.new.self.core.filer.swapper.disk).transfers (g.D.Disk.state c.empty.new.self.core.filer.swapper.disk).transfers (g.D.Disk.state c.write_maps.new.self.core.filer.swapper.disk).transfers
+    (g.D.Disk.state c.args.self.now.core.filer.swapper.disk).transfers (g.D.Disk.state c.evict_all.new.self.core.filer.swapper.disk).transfers (g.D.Disk.state c.empty.new.self.core.filer.swapper.disk).transfers (g.D.Disk.state c.sync_maps.new.self.core.filer.swapper.disk).transfers
     c.evict_all.ensures.cost (c.empty.ensures.cost root_alone (forgotten m) (c.in-Ok.ensures.alone m r)) (omega (arith, maps)))
 
 pub returns-in-Err-write_clean-clause-cost : goal.returns-in-Err-write_clean-clause-cost
 returns-in-Err-write_clean-clause-cost g c = λ m r.
     let layout = c.args.self.now.core.filer.swapper.layout in
-    let maps = c.write_maps.ensures.cost in
+    let maps = c.sync_maps.ensures.cost in
     let written = c.write_clean.ensures.cost in
     on_layout layout (g.D.Disk.state c.args.self.now.core.filer.swapper.disk) (g.D.Disk.state c.write_clean.new.self.core.filer.swapper.disk) c.requires.size
     (closed_bounded layout c.args.self.now.core.filer.swapper.accepted c.evict_all.new.self.core.filer.swapper.layout c.evict_all.ensures.layout
@@ -157,7 +159,7 @@ returns-in-Err-write_clean-clause-cost g c = λ m r.
 pub returns-in-Ok-sync-clause-cost : goal.returns-in-Ok-sync-clause-cost
 returns-in-Ok-sync-clause-cost g c = λ m r.
     let layout = c.args.self.now.core.filer.swapper.layout in
-    let maps = c.write_maps.ensures.cost in
+    let maps = c.sync_maps.ensures.cost in
     let written = c.write_clean.ensures.cost in
     let settled = c.sync.ensures.cost in
     on_layout layout (g.D.Disk.state c.args.self.now.core.filer.swapper.disk) (g.D.Disk.state c.sync.new.core.filer.swapper.disk) c.requires.size
@@ -168,7 +170,7 @@ returns-in-Ok-sync-clause-cost g c = λ m r.
 pub returns-in-Err-sync-clause-cost : goal.returns-in-Err-sync-clause-cost
 returns-in-Err-sync-clause-cost g c = λ m r.
     let layout = c.args.self.now.core.filer.swapper.layout in
-    let maps = c.write_maps.ensures.cost in
+    let maps = c.sync_maps.ensures.cost in
     let written = c.write_clean.ensures.cost in
     let settled = c.sync.ensures.cost in
     on_layout layout (g.D.Disk.state c.args.self.now.core.filer.swapper.disk) (g.D.Disk.state c.sync.new.core.filer.swapper.disk) c.requires.size
@@ -183,8 +185,8 @@ returns-in-Err-clause-left_open g c = λ unset. leaves_open (g.D.Disk.state c.ev
 pub returns-in-Err-empty-clause-left_open : goal.returns-in-Err-empty-clause-left_open
 returns-in-Err-empty-clause-left_open g c = λ unset. leaves_open (g.D.Disk.state c.empty.new.self.core.filer.swapper.disk) (unset_then unset (wrote_then c.evict_all.ensures.wrote c.empty.ensures.wrote)) c.in-Err-empty.halt
 
-pub returns-in-Err-write_maps-clause-left_open : goal.returns-in-Err-write_maps-clause-left_open
-returns-in-Err-write_maps-clause-left_open g c = λ unset. leaves_open (g.D.Disk.state c.write_maps.new.self.core.filer.swapper.disk) (unset_then unset (wrote_then (wrote_then c.evict_all.ensures.wrote c.empty.ensures.wrote) (wrote_swapping c.write_maps.ensures.swaps))) c.in-Err-write_maps.halt
+pub returns-in-Err-sync_maps-clause-left_open : goal.returns-in-Err-sync_maps-clause-left_open
+returns-in-Err-sync_maps-clause-left_open g c = λ unset. leaves_open (g.D.Disk.state c.sync_maps.new.self.core.filer.swapper.disk) (unset_then unset (wrote_then (wrote_then c.evict_all.ensures.wrote c.empty.ensures.wrote) (wrote_swapping c.sync_maps.ensures.swaps))) c.in-Err-sync_maps.halt
 
 pub returns-in-Err-write_clean-clause-left_open : goal.returns-in-Err-write_clean-clause-left_open
 returns-in-Err-write_clean-clause-left_open g c = λ unset. rw c.in-Err-write_clean.ensures.fault tt
@@ -208,9 +210,9 @@ returns-in-Err-empty-clause-cause g c =
     let later = c.in-Err-empty.ensures.cause in
     inr (later.0, made_then (state c.args.self.now.core) (state c.evict_all.new.self.core) later.0 (c.evict_all.ensures.wrote, c.evict_all.ensures.layout) later.1, elim later.2 [ inl cleared ↦ inl cleared | inr freed ↦ inr (inl freed) ])
 
-pub returns-in-Err-write_maps-clause-cause : goal.returns-in-Err-write_maps-clause-cause
-returns-in-Err-write_maps-clause-cause g c =
-    let later = c.in-Err-write_maps.ensures.cause in
+pub returns-in-Err-sync_maps-clause-cause : goal.returns-in-Err-sync_maps-clause-cause
+returns-in-Err-sync_maps-clause-cause g c =
+    let later = c.in-Err-sync_maps.ensures.cause in
     let v = state c.args.self.now.core in
     let x = state c.empty.new.self.core in
     let emptied = made_then v (state c.evict_all.new.self.core) x (c.evict_all.ensures.wrote, c.evict_all.ensures.layout) (c.empty.ensures.wrote, c.empty.ensures.layout) in
@@ -219,16 +221,16 @@ returns-in-Err-write_maps-clause-cause g c =
 pub returns-in-Err-write_clean-clause-cause : goal.returns-in-Err-write_clean-clause-cause
 returns-in-Err-write_clean-clause-cause g c =
     let v = state c.args.self.now.core in
-    let x = state c.write_maps.new.self.core in
+    let x = state c.sync_maps.new.self.core in
     let w = state c.write_clean.new.self.core in
-    inl (fault_halt (BreaksWithin v c.args.self.now.core.intervals 0 root_pages) v x w c.in-Err-write_clean.halt (wrote_then (wrote_then c.evict_all.ensures.wrote c.empty.ensures.wrote) (wrote_swapping c.write_maps.ensures.swaps)).makes.went.faults c.in-Err-write_clean.ensures.fault c.in-Err-write_clean.ensures.counted)
+    inl (fault_halt (BreaksWithin v c.args.self.now.core.intervals 0 root_pages) v x w c.in-Err-write_clean.halt (wrote_then (wrote_then c.evict_all.ensures.wrote c.empty.ensures.wrote) (wrote_swapping c.sync_maps.ensures.swaps)).makes.went.faults c.in-Err-write_clean.ensures.fault c.in-Err-write_clean.ensures.counted)
 
 pub returns-in-Err-sync-clause-cause : goal.returns-in-Err-sync-clause-cause
 returns-in-Err-sync-clause-cause g c =
     let v = state c.args.self.now.core in
     let x = state c.write_clean.new.self.core in
     let w = state c.sync.new.core in
-    inl (fault_halt (BreaksWithin v c.args.self.now.core.intervals 0 root_pages) v x w c.in-Err-sync.halt (shut_then (wrote_then (wrote_then c.evict_all.ensures.wrote c.empty.ensures.wrote) (wrote_swapping c.write_maps.ensures.swaps)) c.write_clean.ensures.wrote).makes.went.faults c.in-Err-sync.ensures.fault c.in-Err-sync.ensures.counted)
+    inl (fault_halt (BreaksWithin v c.args.self.now.core.intervals 0 root_pages) v x w c.in-Err-sync.halt (shut_then (wrote_then (wrote_then c.evict_all.ensures.wrote c.empty.ensures.wrote) (wrote_swapping c.sync_maps.ensures.swaps)) c.write_clean.ensures.wrote).makes.went.faults c.in-Err-sync.ensures.fault c.in-Err-sync.ensures.counted)
 
 -- ---- What began stays a reason.
 
@@ -236,10 +238,10 @@ pub returns-in-Err-empty-clause-reasons : goal.returns-in-Err-empty-clause-reaso
 returns-in-Err-empty-clause-reasons g c = λ o keeps.
     subst (λ (l : Layout). ShowsReason o l (g.D.Disk.state c.empty.new.self.core.filer.swapper.disk) c.in-Err-empty.halt) c.evict_all.ensures.layout (c.in-Err-empty.ensures.reasons o (c.in-Ok.ensures.keeps_to o keeps))
 
-pub returns-in-Err-write_maps-clause-reasons : goal.returns-in-Err-write_maps-clause-reasons
-returns-in-Err-write_maps-clause-reasons g c = λ o keeps.
-    subst (λ (l : Layout). ShowsReason o l (g.D.Disk.state c.write_maps.new.self.core.filer.swapper.disk) c.in-Err-write_maps.halt) (c.empty.ensures.layout ∙ c.evict_all.ensures.layout)
-    (c.in-Err-write_maps.ensures.reasons o (c.in-Ok-empty.ensures.keeps_to o (c.in-Ok.ensures.keeps_to o keeps)))
+pub returns-in-Err-sync_maps-clause-reasons : goal.returns-in-Err-sync_maps-clause-reasons
+returns-in-Err-sync_maps-clause-reasons g c = λ o keeps.
+    subst (λ (l : Layout). ShowsReason o l (g.D.Disk.state c.sync_maps.new.self.core.filer.swapper.disk) c.in-Err-sync_maps.halt) (c.empty.ensures.layout ∙ c.evict_all.ensures.layout)
+    (c.in-Err-sync_maps.ensures.reasons o (c.in-Ok-empty.ensures.keeps_to o (c.in-Ok.ensures.keeps_to o keeps)))
 
 pub returns-in-Err-write_clean-clause-reasons : goal.returns-in-Err-write_clean-clause-reasons
 returns-in-Err-write_clean-clause-reasons g c = λ o keeps. rw c.in-Err-write_clean.ensures.fault tt
@@ -252,11 +254,54 @@ returns-in-Err-sync-clause-reasons g c = λ o keeps. rw c.in-Err-sync.ensures.fa
 pub returns-in-Err-empty-clause-sees : goal.returns-in-Err-empty-clause-sees
 returns-in-Err-empty-clause-sees g c = λ o keeps seen. c.in-Err-empty.ensures.sees o (c.in-Ok.ensures.keeps_to o keeps) (c.in-Ok.ensures.sees o keeps seen)
 
-pub returns-in-Err-write_maps-clause-sees : goal.returns-in-Err-write_maps-clause-sees
-returns-in-Err-write_maps-clause-sees g c = λ o keeps seen. c.in-Err-write_maps.ensures.right o
+pub returns-in-Err-sync_maps-clause-sees : goal.returns-in-Err-sync_maps-clause-sees
+returns-in-Err-sync_maps-clause-sees g c = λ o keeps seen. c.in-Err-sync_maps.ensures.right o
 
 pub returns-in-Err-write_clean-clause-sees : goal.returns-in-Err-write_clean-clause-sees
 returns-in-Err-write_clean-clause-sees g c = λ o keeps seen. rw c.in-Err-write_clean.ensures.fault (tt, tt)
 
 pub returns-in-Err-sync-clause-sees : goal.returns-in-Err-sync-clause-sees
 returns-in-Err-sync-clause-sees g c = λ o keeps seen. rw c.in-Err-sync.ensures.fault (tt, tt)
+
+-- ---- The flag is set after a sync.
+
+pub returns-in-Err-clause-syncs : goal.returns-in-Err-clause-syncs
+returns-in-Err-clause-syncs g c = λ m r. openly_shut c.evict_all.ensures.wrote
+
+pub returns-in-Err-empty-clause-syncs : goal.returns-in-Err-empty-clause-syncs
+returns-in-Err-empty-clause-syncs g c = λ m r. openly_shut (wrote_then c.evict_all.ensures.wrote c.empty.ensures.wrote)
+
+pub returns-in-Err-sync_maps-clause-syncs : goal.returns-in-Err-sync_maps-clause-syncs
+returns-in-Err-sync_maps-clause-syncs g c = λ m r.
+    openly_shut (wrote_then (wrote_then c.evict_all.ensures.wrote c.empty.ensures.wrote) (wrote_swapping c.sync_maps.ensures.swaps))
+
+pub returns-in-Err-write_clean-clause-syncs : goal.returns-in-Err-write_clean-clause-syncs
+returns-in-Err-write_clean-clause-syncs g c = λ m r.
+    let n = forgotten m in
+    let e = c.in-Ok-empty.ensures.emptied root_alone n (c.in-Ok.ensures.alone m r) in
+    let ready = made_ready n _ _ _ _ _ e c.sync_maps.ensures.swaps c.in-Ok-sync_maps.ensures.clean in
+    let now = subst (λ (v : Volume). IsReady n v.root (g.D.Disk.state c.sync_maps.new.self.core.filer.swapper.disk)) (sym c.sync_maps.ensures.volume) ready in
+    let disk = c.sync_maps.new.self.core.filer.swapper.disk in
+    let later = g.D.Disk.state c.write_clean.new.self.core.filer.swapper.disk in
+    sets_shut (wrote_then (wrote_then c.evict_all.ensures.wrote c.empty.ensures.wrote) (wrote_swapping c.sync_maps.ensures.swaps)) (g.met.D.Disk.sync_counts disk) c.in-Ok-sync_maps.ensures.synced
+    c.write_clean.ensures.wrote.makes.went c.sync_maps.new.self.volume.root (reveals_itself later) (c.write_clean.ensures.sets n now)
+
+pub returns-in-Ok-sync-clause-syncs : goal.returns-in-Ok-sync-clause-syncs
+returns-in-Ok-sync-clause-syncs g c = λ m r.
+    let n = forgotten m in
+    let e = c.in-Ok-empty.ensures.emptied root_alone n (c.in-Ok.ensures.alone m r) in
+    let ready = made_ready n _ _ _ _ _ e c.sync_maps.ensures.swaps c.in-Ok-sync_maps.ensures.clean in
+    let now = subst (λ (v : Volume). IsReady n v.root (g.D.Disk.state c.sync_maps.new.self.core.filer.swapper.disk)) (sym c.sync_maps.ensures.volume) ready in
+    let disk = c.sync_maps.new.self.core.filer.swapper.disk in
+    sets_shut (wrote_then (wrote_then c.evict_all.ensures.wrote c.empty.ensures.wrote) (wrote_swapping c.sync_maps.ensures.swaps)) (g.met.D.Disk.sync_counts disk) c.in-Ok-sync_maps.ensures.synced
+    (went_then c.write_clean.ensures.wrote.makes.went (reached_makes c.sync.ensures.reaches).went) c.sync_maps.new.self.volume.root c.sync.ensures.same (c.write_clean.ensures.sets n now)
+
+pub returns-in-Err-sync-clause-syncs : goal.returns-in-Err-sync-clause-syncs
+returns-in-Err-sync-clause-syncs g c = λ m r.
+    let n = forgotten m in
+    let e = c.in-Ok-empty.ensures.emptied root_alone n (c.in-Ok.ensures.alone m r) in
+    let ready = made_ready n _ _ _ _ _ e c.sync_maps.ensures.swaps c.in-Ok-sync_maps.ensures.clean in
+    let now = subst (λ (v : Volume). IsReady n v.root (g.D.Disk.state c.sync_maps.new.self.core.filer.swapper.disk)) (sym c.sync_maps.ensures.volume) ready in
+    let disk = c.sync_maps.new.self.core.filer.swapper.disk in
+    sets_shut (wrote_then (wrote_then c.evict_all.ensures.wrote c.empty.ensures.wrote) (wrote_swapping c.sync_maps.ensures.swaps)) (g.met.D.Disk.sync_counts disk) c.in-Ok-sync_maps.ensures.synced
+    (went_then c.write_clean.ensures.wrote.makes.went (reached_makes c.sync.ensures.reaches).went) c.sync_maps.new.self.volume.root c.sync.ensures.same (c.write_clean.ensures.sets n now)

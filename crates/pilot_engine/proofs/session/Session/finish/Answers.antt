@@ -24,3 +24,6 @@ returns-clause-reasons g c = λ o keeps. rw c.into_disk.ensures (c.close-closed.
 
 pub returns-clause-sees : goal.returns-clause-sees
 returns-clause-sees g c = λ o keeps seen. rw c.into_disk.ensures (c.close-closed.ensures.sees o keeps seen)
+
+pub returns-clause-syncs : goal.returns-clause-syncs
+returns-clause-syncs g c = λ m r. rw c.into_disk.ensures (c.close-closed.ensures.syncs m r)

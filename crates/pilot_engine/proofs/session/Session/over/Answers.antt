@@ -3,7 +3,7 @@ use Rattle.volume_root.specs.declared.root.Root.{Root}
 use Rattle.flat_machine.specs.Start.{start}
 use Rattle.volume_root.specs.RootPage.{root_write}
 use Rattle.volume_root.specs.declared.root.Root.{Root}
-use Rattle.pilot_engine.specs.Opening.{in_use}
+use Rattle.pilot_engine.specs.Opening.{SyncsFirst, in_use}
 use Rattle.pilot_engine.proofs.StartFaults.{early_cause, early_left, early_outside, early_reason, early_so, early_never_blames}
 use Rattle.pilot_engine.proofs.StartRuns.{runs_over, sees_over}
 use Rattle.pilot_engine.proofs.StartWrites.{read_wrote, read_keeps, start_wrote, start_keeps}
@@ -36,6 +36,11 @@ returns-in-Ok-begin-clause-crash_states g c = λ d revealed right. rw c.over.ens
 
 pub returns-in-Ok-begin-clause-wrote : goal.returns-in-Ok-begin-clause-wrote
 returns-in-Ok-begin-clause-wrote g c = rw c.over.ensures.filer (start_wrote c.in-Ok.ensures.reads.only c.in-Ok.opened.2 c.in-Ok.ensures.bare c.in-Ok-begin.ensures.starts)
+
+pub returns-in-Ok-begin-clause-synced : goal.returns-in-Ok-begin-clause-synced
+returns-in-Ok-begin-clause-synced g c =
+    let synced : SyncsFirst (g.D.Disk.state c.args.disk) (g.D.Disk.state c.begin.new.filer.swapper.disk) = λ writes is. c.in-Ok-begin.ensures.synced writes (c.in-Ok.ensures.reads.only.writes ∙ is) in
+    rw c.over.ensures.filer synced
 
 pub returns-in-Err-begin-clause-refused : goal.returns-in-Err-begin-clause-refused
 returns-in-Err-begin-clause-refused g c = λ d why revealed is. absurd (c.in-Ok.ensures.refused d why revealed is)

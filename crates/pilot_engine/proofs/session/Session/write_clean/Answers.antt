@@ -3,6 +3,7 @@ use Rattle.labelled_disk.specs.Calls.{Moves, RevealsSame, RevealsWrite}
 use Rattle.volume_root.specs.declared.root.Root.{Root}
 use Rattle.volume_root.specs.RootPage.{root_write}
 use Rattle.pilot_engine.proofs.EndLemmas.{closed_valid, reveals_shut, valid_at}
+use Rattle.pilot_engine.proofs.ShutBySyncLemmas.{sets_flag}
 use Rattle.pilot_engine.proofs.ShutLemmas.{any_root}
 use Rattle.pilot_engine.proofs.TableStops.{stops_root}
 use Rattle.pilot_engine.proofs.session.Session.write_clean.Goals as goal
@@ -59,3 +60,24 @@ returns-in-Err-clause-stops g c =
     λ m ready start.
     let long = g.met.D.Disk.whole c.args.self.now.core.filer.swapper.disk ready.sectors ready.revealed ∙ c.requires.size in
     stops_root m r old new ready (valid_at _ _ r long c.requires.opened.valid) start either
+
+pub returns-in-Ok-clause-sets : goal.returns-in-Ok-clause-sets
+returns-in-Ok-clause-sets g c = λ m ready.
+    let r = c.args.self.now.volume.root in
+    let old = g.D.Disk.state c.args.self.now.core.filer.swapper.disk in
+    let new = g.D.Disk.state c.write_root.new.disk in
+    let wrote : RevealsWrite (root_write c.closed-root.result) old new = search rules in
+    let made = subst (λ (w : Root). RevealsWrite (root_write w) old new) c.closed-root.ensures.closed wrote in
+    let long = g.met.D.Disk.whole c.args.self.now.core.filer.swapper.disk ready.sectors ready.revealed ∙ c.requires.size in
+    sets_flag m r old new ready (valid_at _ _ r long c.requires.opened.valid) (inr made)
+
+pub returns-in-Err-clause-sets : goal.returns-in-Err-clause-sets
+returns-in-Err-clause-sets g c =
+    let r = c.args.self.now.volume.root in
+    let old = g.D.Disk.state c.args.self.now.core.filer.swapper.disk in
+    let new = g.D.Disk.state c.write_root.new.disk in
+    let wrote : RevealsSame old new ⊎ RevealsWrite (root_write c.closed-root.result) old new = search rules in
+    let either = subst (λ (w : Root). RevealsSame old new ⊎ RevealsWrite (root_write w) old new) c.closed-root.ensures.closed wrote in
+    λ m ready.
+    let long = g.met.D.Disk.whole c.args.self.now.core.filer.swapper.disk ready.sectors ready.revealed ∙ c.requires.size in
+    sets_flag m r old new ready (valid_at _ _ r long c.requires.opened.valid) either

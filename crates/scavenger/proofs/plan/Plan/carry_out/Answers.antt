@@ -1,56 +1,18 @@
-use Rattle.std.proofs.Common.{◌≡◌, ℕ, ◌+◌, List, Err, Ok, Result, length, rules, ◌∙◌, sym, ap, arith}
-use Rattle.labelled_disk.specs.declared.disk.DiskError.{DiskError}
-use Rattle.labelled_disk.specs.Layout.{vam, vfm}
-use Rattle.labelled_disk.specs.Runs.{freeing}
-use Rattle.labelled_disk.specs.State.{DiskState}
-use Rattle.label_survey.specs.declared.sector_state.SectorState.{SectorState}
-use Rattle.label_survey.specs.Survey.{is_freed, places_by}
-use Rattle.scavenger.specs.Carries.{Carries}
+use Rattle.std.proofs.Common.{rules}
 use Rattle.scavenger.specs.Plan.{orders}
-use Rattle.scavenger.proofs.LayoutLemmas.{of_layout, first_within}
-use Rattle.scavenger.proofs.OrderLemmas.{stopped_frees, stopped_bits, stopped_names, all_parts}
-use Rattle.scavenger.proofs.RowLemmas.{carries_as, carries_err}
+use Rattle.scavenger.proofs.OrderLemmas.{unprepared, prepared_unsynced, closes}
+use Rattle.scavenger.proofs.RowLemmas.{carries_err}
 use Rattle.scavenger.proofs.plan.Plan.carry_out.Goals as goal
 
--- freed by sector states that are the same ones
-freed_as : (first : ℕ) (xs ys : List SectorState) (a b : DiskState) (r : Result (Unit {0}) DiskError) → xs ≡ ys → Carries (freeing (places_by is_freed first xs)) a r b → Carries (freeing (places_by is_freed first ys)) a r b
-freed_as first xs ys a b r same = carries_as (freeing (places_by is_freed first xs)) (freeing (places_by is_freed first ys)) a b r (ap (λ (l : List SectorState). freeing (places_by is_freed first l)) same)
+pub returns-in_err-prepare : goal.returns-in_err-prepare
+returns-in_err-prepare g c =
+    carries_err _ _ _ _ c.in_err-prepare.field-0.0 (search rules)
+    (unprepared (orders c.args.root.now c.args.layout.now.first c.args.self) _ _ _ _ (c.in_err-prepare.ensures c.args.root.now c.requires.root.count))
 
-pub free_sectors-requires : goal.free_sectors-requires
-free_sectors-requires g c =
-    let parts = of_layout c.args.layout.now (g.D.Disk.state c.args.disk.now).sectors c.requires.layout in
-    omega (
-      arith,
-      parts.first,
-      c.requires.sized.sector_states,
-      ap (λ (l : List SectorState). length l) c.deref.ensures.value,
-      c.in_ok-open_root.ensures.later.sectors,
-      first_within (g.D.Disk.state c.args.disk.now).sectors c.requires.root.accepted,
-    )
-
-pub returns-in_err-free_sectors : goal.returns-in_err-free_sectors
-returns-in_err-free_sectors g c =
-    let parts = of_layout c.args.layout.now (g.D.Disk.state c.args.disk.now).sectors c.requires.layout in
-    carries_err _ _ _ _ c.in_err-free_sectors.field-0.0 (search rules)
-    (stopped_frees (orders c.args.root.now c.args.layout.now.first c.args.self) c.args.layout.now.vam c.args.layout.now.vfm (parts.bits ∙ ap vam (sym c.requires.root.count)) (parts.names ∙ ap vfm (sym c.requires.root.count))
-    _ _ _ c.in_ok-open_root.ensures _ _ (freed_as c.args.layout.now.first _ _ _ _ _ c.deref.ensures.value c.in_err-free_sectors.ensures))
-
-pub returns-in_err-write_map : goal.returns-in_err-write_map
-returns-in_err-write_map g c =
-    let parts = of_layout c.args.layout.now (g.D.Disk.state c.args.disk.now).sectors c.requires.layout in
-    carries_err _ _ _ _ c.in_err-write_map.field-0.0 (search rules)
-    (stopped_bits (orders c.args.root.now c.args.layout.now.first c.args.self) c.args.layout.now.vam c.args.layout.now.vfm (parts.bits ∙ ap vam (sym c.requires.root.count)) (parts.names ∙ ap vfm (sym c.requires.root.count))
-    _ _ _ _ c.in_ok-open_root.ensures (freed_as c.args.layout.now.first _ _ _ _ _ c.deref.ensures.value c.in_ok-free_sectors.ensures) _ _ c.in_err-write_map.ensures)
-
-pub returns-in_err-write_map-2 : goal.returns-in_err-write_map-2
-returns-in_err-write_map-2 g c =
-    let parts = of_layout c.args.layout.now (g.D.Disk.state c.args.disk.now).sectors c.requires.layout in
-    carries_err _ _ _ _ c.in_err-write_map-2.field-0.0 (search rules)
-    (stopped_names (orders c.args.root.now c.args.layout.now.first c.args.self) c.args.layout.now.vam c.args.layout.now.vfm (parts.bits ∙ ap vam (sym c.requires.root.count)) (parts.names ∙ ap vfm (sym c.requires.root.count))
-    _ _ _ _ _ c.in_ok-open_root.ensures (freed_as c.args.layout.now.first _ _ _ _ _ c.deref.ensures.value c.in_ok-free_sectors.ensures) c.in_ok-write_map.ensures _ _ c.in_err-write_map-2.ensures)
+pub returns-in_err-sync : goal.returns-in_err-sync
+returns-in_err-sync g c =
+    carries_err _ _ _ _ c.in_err-sync.field-0.0 (search rules)
+    (prepared_unsynced (orders c.args.root.now c.args.layout.now.first c.args.self) _ _ _ (c.in_ok-prepare.ensures c.args.root.now c.requires.root.count) _ _ c.in_err-sync.ensures)
 
 pub returns : goal.returns
-returns g c =
-    let parts = of_layout c.args.layout.now (g.D.Disk.state c.args.disk.now).sectors c.requires.layout in
-    all_parts (orders c.args.root.now c.args.layout.now.first c.args.self) c.args.layout.now.vam c.args.layout.now.vfm (parts.bits ∙ ap vam (sym c.requires.root.count)) (parts.names ∙ ap vfm (sym c.requires.root.count))
-    _ _ _ _ _ c.in_ok-open_root.ensures (freed_as c.args.layout.now.first _ _ _ _ _ c.deref.ensures.value c.in_ok-free_sectors.ensures) c.in_ok-write_map.ensures _ c.close_root.result c.in_ok-write_map-2.ensures c.close_root.ensures
+returns g c = closes (orders c.args.root.now c.args.layout.now.first c.args.self) _ _ _ (c.in_ok-prepare.ensures c.args.root.now c.requires.root.count) _ c.close_root.result c.in_ok-sync.ensures c.close_root.ensures

@@ -1,0 +1,4 @@
+pub mod Cut
+pub mod Syncs
+pub mod Between
+pub mod Barriers

@@ -1,0 +1,183 @@
+-- From the answer to one load or store to bytes and stores in a row.
+use Rattle.std.proofs.Common.{◌≡◌, ◌≢◌, ◌⊎◌, ◌∙◌, ℕ, zero, suc, ◌+◌, ◌-◌, ◌<◌, ◌≤◌, sym, ap, subst, refl, arith, List, [], ◌∷◌, ◌++◌, length, length-append, Option, Some, None, is_none, MatchOption, Result, Ok, Err, inl, inr, if◌then◌else◌}
+use Rattle.std.specs.Prelude.{slice_get, slice_range, take, drop}
+use Rattle.std.proofs.Math.Seq.{take-add}
+use Rattle.std.proofs.lemmas.Bool.{cases_lt}
+use Rattle.std.proofs.lemmas.List.{append-nil, length-take-le}
+use Rattle.std.proofs.lemmas.List.Folds.{concat-append}
+use Rattle.std.specs.List.{AllZip, concat}
+use Rattle.labelled_disk.specs.declared.disk.Disk.{Ghosts}
+use Rattle.labelled_disk.specs.declared.evidence.Halt.TheVariants as halt
+use Rattle.flat_machine.specs.declared.call.Call.{Call}
+use Rattle.flat_machine.specs.declared.call.Call.TheVariants as call
+use Rattle.flat_machine.specs.declared.call.Refusal.{Refusal}
+use Rattle.flat_machine.specs.declared.call.Reply.{Reply}
+use Rattle.flat_machine.specs.declared.call.Reply.TheVariants as reply
+use Rattle.flat_machine.specs.Allows.{AgreesWithCells, Answers}
+use Rattle.flat_machine.specs.At.{cells_at}
+use Rattle.flat_machine.specs.Machine.{Machine}
+use Rattle.flat_machine.specs.Next.{next, change}
+use Rattle.flat_machine.specs.Refusal.{refusal}
+use Rattle.embedded.specs.declared.code.Code.{Code}
+use Rattle.embedded.specs.declared.code.Code.TheVariants as code
+use Rattle.embedded.specs.declared.engine.Engine.{Engine}
+use Rattle.embedded.specs.Answers.{answer_to}
+use Rattle.embedded.specs.Called.{Called, Follows}
+use Rattle.embedded.specs.Engine.{StandsFor}
+use Rattle.embedded.specs.References.{AreAt, IsAt, Lead, Stored, StoredPiece}
+
+-- Replies and answers.
+
+-- an answer that is a reply is that reply
+same_reply : {x : Reply} (r : Reply) → Ok x ≡ answer_to r → x ≡ r
+same_reply (reply.Refused word) is = absurd (cc is)
+same_reply reply.Nothing is = absurd (cc is)
+same_reply other is = cc is
+
+-- what is answered by a reply was not refused
+unrefused : {x : Reply} (o : Option Refusal) (P : Type 0) (r : Reply) → MatchOption o P (λ word. r ≡ reply.Refused word) → Ok x ≡ answer_to r → (o ≡ None) × P
+unrefused None P r p is = (refl, p)
+unrefused (Some word) P r p is = absurd (cc (is ∙ ap answer_to p))
+
+-- a call that leaves the machine as it is leaves it so whether or not it is refused
+unchanged : (o : Option Refusal) (m : Machine) → (if is_none o then m else m) ≡ m
+unchanged None m = refl
+unchanged (Some word) m = refl
+
+-- what is answered by a code changes nothing, where the one reply is that it is done
+refused_next : {e : Code} (o : Option Refusal) (m n : Machine) (r : Reply) → MatchOption o (r ≡ reply.Done) (λ word. r ≡ reply.Refused word) → Err e ≡ answer_to r
+    → (if is_none o then n else m) ≡ m
+refused_next None m n r p is = absurd (cc (is ∙ ap answer_to p))
+refused_next (Some word) m n r p is = refl
+
+-- Loads.
+
+-- bytes that agree with cells are those of the addresses, one by one
+agreed : (m : Machine) (address count : ℕ) (bytes : List ℕ) → AgreesWithCells (cells_at m address count) bytes → AreAt m address count bytes
+agreed m address zero bytes agrees k b below got = absurd (omega (arith, below))
+agreed m address (suc n) [] agrees k b below got = absurd agrees
+agreed m address (suc n) (x ∷ xs) agrees zero b below got =
+    let same : x ≡ b = cc got in
+    let there : address ≡ address + 0 = omega arith in
+    subst (λ (a : ℕ). IsAt m a b) there (subst (λ (y : ℕ). IsAt m address y) same agrees.0)
+agreed m address (suc n) (x ∷ xs) agrees (suc k) b below got =
+    let there : (address + 1) + k ≡ address + suc k = omega arith in
+    subst (λ (a : ℕ). IsAt m a b) there (agreed m (address + 1) n xs agrees.1 k b (omega (arith, below)) got)
+
+-- bytes that came first, and the piece after them
+pub placed : (m : Machine) (address done n : ℕ) (old new piece : List ℕ) → AreAt m address done old → AreAt m (address + done) n piece
+    → ((k : ℕ) → (k < done) ⊎ (done + n ≤ k) → slice_get new k ≡ slice_get old k) → ((k : ℕ) → k < n → slice_get new (done + k) ≡ slice_get piece k)
+    → AreAt m address (done + n) new
+placed m address done n old new piece had more rest put k b below got = elim (cases_lt k done) [
+  | inl early ↦ had k b early (sym (rest k (inl early)) ∙ got)
+  | inr late ↦
+      let there : done + (k - done) ≡ k = omega (arith, late) in
+      let within : k - done < n = omega (arith, late, below) in
+      let at : (address + done) + (k - done) ≡ address + k = omega (arith, late) in
+      subst (λ (a : ℕ). IsAt m a b) at
+      (more (k - done) b within (sym (put (k - done) within) ∙ (subst (λ (i : ℕ). slice_get new i ≡ Some b) (sym there) got)))
+]
+
+-- and they are as many
+agreed_long : (m : Machine) (address count : ℕ) (bytes : List ℕ) → AgreesWithCells (cells_at m address count) bytes → length bytes ≡ count
+agreed_long m address zero [] agrees = refl
+agreed_long m address zero (x ∷ xs) agrees = absurd agrees
+agreed_long m address (suc n) [] agrees = absurd agrees
+agreed_long m address (suc n) (x ∷ xs) agrees = ap suc (agreed_long m (address + 1) n xs agrees.1)
+
+-- Stores in a row.
+
+-- and one more after them
+pub lead_then : (m : Machine) (address : ℕ) (pieces : List (List ℕ)) (n : Machine) (piece : List ℕ) → Lead m address pieces n
+    → refusal n (call.Store (address + length (concat pieces)) piece) ≡ None
+    → Lead m address (pieces ++ piece ∷ []) (next n (call.Store (address + length (concat pieces)) piece))
+lead_then m address [] n piece lead free =
+    let at : address + 0 ≡ address = omega arith in
+    subst (λ (a : ℕ). Lead m address (piece ∷ []) (next n (call.Store a piece))) (sym at)
+    (subst (λ (x : Machine). Lead m address (piece ∷ []) (next x (call.Store address piece))) (sym lead)
+    (subst (λ (x : Machine). refusal x (call.Store address piece) ≡ None) lead (subst (λ (a : ℕ). refusal n (call.Store a piece) ≡ None) at free), refl))
+lead_then m address (bytes ∷ rest) n piece lead free =
+    let at : address + length (concat (bytes ∷ rest)) ≡ (address + length bytes) + length (concat rest) = omega (arith, length-append bytes (concat rest)) in (
+      lead.0,
+      subst (λ (a : ℕ). Lead (next m (call.Store address bytes)) (address + length bytes) (rest ++ piece ∷ []) (next n (call.Store a piece))) (sym at)
+          (lead_then (next m (call.Store address bytes)) (address + length bytes) rest n piece lead.1 (subst (λ (a : ℕ). refusal n (call.Store a piece) ≡ None) at free)),
+    )
+
+module _ {D A : Type 0} {G : Ghosts D} where
+  -- a load that is answered by a reply
+  pub load_replied : (m : Machine) (address count : ℕ) (x : Reply) (new : Engine D A G) → Follows m (call.Load address count) (Ok x) new
+      → (bytes : List ℕ) × (x ≡ reply.Bytes bytes) × (length bytes ≡ count) × AreAt m address count bytes × StandsFor new m
+  load_replied m address count x new f =
+      let p = unrefused (refusal m (call.Load address count)) (Answers m (call.Load address count) f.reply) f.reply f.allowed f.answered in (
+        p.1.0,
+        same_reply f.reply f.answered ∙ p.1.1,
+        agreed_long m address count p.1.0 p.1.2,
+        agreed m address count p.1.0 p.1.2,
+        subst (λ (n : Machine). StandsFor new n) (unchanged (refusal m (call.Load address count)) m) f.stands,
+      )
+
+  pub load_stands : (m : Machine) (address count : ℕ) (answer : Result Reply Code) (new : Engine D A G) → Follows m (call.Load address count) answer new → StandsFor new m
+  load_stands m address count answer new f = subst (λ (n : Machine). StandsFor new n) (unchanged (refusal m (call.Load address count)) m) f.stands
+
+  -- a store that is answered by a reply was not refused
+  pub store_replied : (m : Machine) (address : ℕ) (bytes : List ℕ) (x : Reply) (new : Engine D A G) → Follows m (call.Store address bytes) (Ok x) new
+      → (refusal m (call.Store address bytes) ≡ None) × StandsFor new (next m (call.Store address bytes))
+  store_replied m address bytes x new f =
+      ((unrefused (refusal m (call.Store address bytes)) (Answers m (call.Store address bytes) f.reply) f.reply f.allowed f.answered).0, f.stands)
+
+  -- one that is answered by a code changed nothing
+  pub store_refused : (m : Machine) (address : ℕ) (bytes : List ℕ) (e : Code) (new : Engine D A G) → Follows m (call.Store address bytes) (Err e) new → StandsFor new m
+  store_refused m address bytes e new f =
+      subst (λ (n : Machine). StandsFor new n)
+      (refused_next (refusal m (call.Store address bytes)) m (change m (call.Store address bytes)) f.reply f.allowed f.answered) f.stands
+
+  -- nothing was stored yet
+  pub stored_none : (m : Machine) (address : ℕ) (bytes : List ℕ) (e : Engine D A G) → StandsFor e m → Stored m address 0 bytes e
+  stored_none m address bytes e stands = record { pieces = []; whole = refl; after = m; lead = refl; stands = stands }
+
+  -- and a piece after the first bytes
+  pub stored_then : (m : Machine) (address done n : ℕ) (bytes : List ℕ) (old new : Engine D A G) (s : Stored m address done bytes old) → done ≤ length bytes
+      → StoredPiece s.after (address + done) (slice_range bytes done (done + n)) new → Stored m address (done + n) bytes new
+  stored_then m address done n bytes old new s within p =
+      let piece = slice_range bytes done (done + n) in
+      let long : length (concat s.pieces) ≡ done = ap (λ (l : List ℕ). length l) s.whole ∙ length-take-le done bytes within in
+      let at : address + done ≡ address + length (concat s.pieces) = omega (arith, long) in
+      let count : (done + n) - done ≡ n = omega arith in
+      record {
+        pieces = s.pieces ++ piece ∷ [];
+        whole = concat-append s.pieces (piece ∷ []) ∙ ap (λ (l : List ℕ). l ++ (piece ++ [])) s.whole ∙ ap (λ (l : List ℕ). take done bytes ++ l) (append-nil piece)
+            ∙ ap (λ (k : ℕ). take done bytes ++ take k (drop done bytes)) count ∙ sym (take-add done n bytes);
+        after = next s.after (call.Store (address + length (concat s.pieces)) piece);
+        lead = lead_then m address s.pieces s.after piece s.lead (subst (λ (a : ℕ). refusal s.after (call.Store a piece) ≡ None) at p.0);
+        stands = subst (λ (a : ℕ). StandsFor new (next s.after (call.Store a piece))) at p.1;
+      }
+
+  -- The same, from what the call did to the engine.
+
+  pub load_ok : (m : Machine) (address count : ℕ) (old new : Engine D A G) (x : Reply) → Called (call.Load address count) old (Ok x) new → StandsFor old m
+      → (bytes : List ℕ) × (x ≡ reply.Bytes bytes) × (length bytes ≡ count) × AreAt m address count bytes × StandsFor new m
+  load_ok m address count old new x c stands = elim (c.answers m stands) [
+    | inl f ↦ load_replied m address count x new f
+    | inr is ↦ absurd (cc is)
+  ]
+
+  pub load_err : (m : Machine) (address count : ℕ) (old new : Engine D A G) (e : Code) → Called (call.Load address count) old (Err e) new → StandsFor old m
+      → StandsFor new m ⊎ (e ≡ code.Halted halt.Disk)
+  load_err m address count old new e c stands = elim (c.answers m stands) [
+    | inl f ↦ inl (load_stands m address count (Err e) new f)
+    | inr is ↦ inr (cc is)
+  ]
+
+  pub store_ok : (m : Machine) (address : ℕ) (bytes : List ℕ) (old new : Engine D A G) (x : Reply) → Called (call.Store address bytes) old (Ok x) new → StandsFor old m
+      → StoredPiece m address bytes new
+  store_ok m address bytes old new x c stands = elim (c.answers m stands) [
+    | inl f ↦ store_replied m address bytes x new f
+    | inr is ↦ absurd (cc is)
+  ]
+
+  pub store_err : (m : Machine) (address : ℕ) (bytes : List ℕ) (old new : Engine D A G) (e : Code) → Called (call.Store address bytes) old (Err e) new → StandsFor old m
+      → StandsFor new m ⊎ (e ≡ code.Halted halt.Disk)
+  store_err m address bytes old new e c stands = elim (c.answers m stands) [
+    | inl f ↦ inl (store_refused m address bytes e new f)
+    | inr is ↦ inr (cc is)
+  ]

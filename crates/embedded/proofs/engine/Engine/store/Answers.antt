@@ -1,0 +1,10 @@
+use Rattle.std.proofs.Common.{◌≡◌, ◌∙◌, ap, Err}
+use Rattle.embedded.specs.declared.code.Code.{Code}
+use Rattle.embedded.specs.declared.code.Code.TheVariants as code
+use Rattle.embedded.proofs.engine.Engine.store.Goals as goal
+
+-- a halt is the piece's
+pub returns-in-Err-clause-stopped : goal.returns-in-Err-clause-stopped
+returns-in-Err-clause-stopped g c = λ why is.
+    let same : c.in-Err.code ≡ code.Halted why = cc is in
+    c.store_next.ensures.stopped why (c.in-Err.is ∙ ap (λ (e : Code). Err e) same)

@@ -1,0 +1,30 @@
+-- What one call does to a session.
+use Rattle.std.specs.Prelude.{◌≡◌, true, None, Result, Err, IfOk, IfErr, OnOk}
+use Rattle.labelled_disk.specs.Calls.{Rose}
+use Rattle.labelled_disk.specs.declared.disk.Disk.{Ghosts}
+use Rattle.labelled_disk.specs.declared.evidence.Halt.{Halt}
+use Rattle.labelled_disk.specs.declared.evidence.Halt.TheVariants as halt
+use Rattle.filer_kernel.specs.Evidence.{ShowsEvidence}
+use Rattle.flat_machine.specs.declared.call.Call.{Call}
+use Rattle.flat_machine.specs.declared.call.Reply.{Reply}
+use Rattle.flat_machine.specs.Machine.{Machine}
+use Rattle.flat_machine.specs.Refusal.{refusal}
+use Rattle.running_words.specs.Running.{Carried, Runs}
+use Rattle.running_words.specs.Stages.{Passes}
+use Rattle.pilot_engine.specs.declared.session.Session.{Session}
+use Rattle.pilot_engine.specs.Stepping.{waits}
+
+module _ {D A : Type 0} {G : Ghosts D} where
+  -- the reply and the session after it, of a session that stood for a machine; and what is so of every session
+  pub record Stepped (call : Call) (old : Session D A G) (result : Result Reply Halt) (new : Session D A G)
+      : Type 0 where
+    pub carried : (m : Machine) → Runs old.core old.volume m → IfOk result (Carried m call new.core new.volume)
+    pub sound : (m : Machine) → Runs old.core old.volume m → IfErr result (λ e. e ≡ halt.Disk)
+    pub passes : (m : Machine) → Runs old.core old.volume m
+        → Passes m call (G.state old.core.filer.swapper.disk) (G.state new.core.filer.swapper.disk)
+    pub forced : (m : Machine) → waits call ≡ true → refusal m call ≡ None → Runs old.core old.volume m
+        → OnOk result ((G.state new.core.filer.swapper.disk).synced ≡ true)
+    pub counted : result ≡ Err halt.Disk
+        → Rose (G.state old.core.filer.swapper.disk).faults (G.state new.core.filer.swapper.disk).faults
+    pub evidence_seen : IfErr result (ShowsEvidence (G.state new.core.filer.swapper.disk))
+    pub goes_on : OnOk result (new.running ≡ true)

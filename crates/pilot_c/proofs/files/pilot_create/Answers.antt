@@ -1,0 +1,10 @@
+use Rattle.std.proofs.Common.{sym, to_z-of_z, arith}
+use Rattle.pilot_c.proofs.files.pilot_create.Goals as goal
+
+pub returns : goal.returns
+returns c = record {
+  answer = c.create.result;
+  called = rw (sym c.engine.ensures.value) c.create.ensures;
+  number_is = grind (arith, to_z-of_z);
+  numbers_are = c.reply_with.ensures.numbers;
+}

@@ -1,0 +1,10 @@
+use Rattle.std.proofs.Common.{sym, to_z-of_z, arith}
+use Rattle.pilot_c.proofs.spaces.pilot_map.Goals as goal
+
+pub returns : goal.returns
+returns c = record {
+  answer = c.map.result;
+  called = rw (sym c.engine.ensures.value) c.map.ensures;
+  number_is = grind (arith, to_z-of_z);
+  numbers_are = c.reply_with.ensures.numbers;
+}
