@@ -1,8 +1,16 @@
-//! Rows of a line of a trace and the call that it says.
+//! Rows of a line and what it says.
 
+use crate::events;
 use anyhow::{Context, Result};
 use std::alloc::Global;
 use trace_io::{Line, Lines, MemorySink, MemorySource, write_call};
+
+/// What lines are read as.
+#[derive(Clone, Copy)]
+pub(crate) enum Grammar {
+    Calls,
+    Events,
+}
 
 /// The bytes of a line, which may be revealed by hexadecimal digits after `=`.
 fn bytes_of(alloc: Global, line: &str) -> Result<Vec<u8>> {
@@ -37,8 +45,16 @@ fn text(alloc: Global, line: &Line) -> Result<String> {
     Ok(String::from_str(alloc, "written otherwise\n")?)
 }
 
+/// What the first two lines of a text say.
+fn read(alloc: Global, grammar: Grammar, trace: &[u8]) -> Result<(String, String)> {
+    match grammar {
+        Grammar::Calls => read_calls(alloc, trace),
+        Grammar::Events => events::read(alloc, trace),
+    }
+}
+
 /// What the first two lines of a trace say.
-fn read(alloc: Global, trace: &[u8]) -> Result<(String, String)> {
+fn read_calls(alloc: Global, trace: &[u8]) -> Result<(String, String)> {
     let mut source = MemorySource::new(alloc, trace, &[])?;
     let mut lines = Lines::with_limit(1 << 32);
     let first = text(alloc, &lines.next(&mut source))?;
@@ -47,12 +63,12 @@ fn read(alloc: Global, trace: &[u8]) -> Result<(String, String)> {
 }
 
 /// The title, and the first row whose line says something else, with a line feed after it or without.
-pub(crate) fn report(alloc: Global, title: &str, rows: &str) -> Result<String> {
+pub(crate) fn report(alloc: Global, grammar: Grammar, title: &str, rows: &str) -> Result<String> {
     for row in rows.lines() {
         let (line, wanted) = row.rsplit_once('|').context("a row has no bar")?;
         let mut trace = bytes_of(alloc, line)?;
         for _ in 0..2 {
-            let (found, then) = read(alloc, &trace)?;
+            let (found, then) = read(alloc, grammar, &trace)?;
             let is_said = found.strip_suffix('\n') == Some(wanted) && then.as_str() == "end\n";
             if !is_said && !trace.is_empty() {
                 return Ok(format!(in alloc; "{title}: {row} and not {found}{then}")?);

@@ -1,20 +1,25 @@
 //! Lines of traces beside what they say, and traces beside the replies of the plain machine.
 #![tactic(auto)]
 
+mod events;
 mod lines;
 mod machine;
 mod streams;
 
+use crate::lines::Grammar;
 use anyhow::{Context, Result};
 use std::alloc::Global;
 use std::{env, fs};
 
-/// What a section says: `lines TITLE` or `SERIAL COUNTER CAPACITY TITLE`, and rows. It gives the title, and what is wrong, if anything.
+/// What a section says: `lines TITLE`, `events TITLE` or `SERIAL COUNTER CAPACITY TITLE`, and rows. It gives the title, and what is wrong, if anything.
 fn section(alloc: Global, text: &str) -> Result<String> {
     let (head, rows) = text.split_once("\n\n").context("no rows")?;
     let rows = rows.trim_end_matches('\n');
-    match head.strip_prefix("lines ") {
-        Some(title) => lines::report(alloc, title, rows),
+    if let Some(title) = head.strip_prefix("lines ") {
+        return lines::report(alloc, Grammar::Calls, title, rows);
+    }
+    match head.strip_prefix("events ") {
+        Some(title) => lines::report(alloc, Grammar::Events, title, rows),
         None => machine::report(alloc, head, rows),
     }
 }
@@ -27,6 +32,8 @@ fn main(rt: HostRuntime) -> Result<()> {
             println!(rt; "{report}")?;
         }
     }
+    let report = events::report(rt.alloc())?;
+    print!(rt; "{report}")?;
     let report = streams::report(rt.alloc())?;
     print!(rt; "{report}")?;
     Ok(())

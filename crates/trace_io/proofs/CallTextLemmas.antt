@@ -36,7 +36,7 @@ Misses-cons : (c x : ℕ) (xs : List ℕ) → x ≢ c → Misses c xs → Misses
 Misses-cons c x xs other rest zero l = other
 Misses-cons c x xs other rest (suc k) l = rest k (omega arith)
 
-Misses-append : (c : ℕ) (xs ys : List ℕ) → Misses c xs → Misses c ys → Misses c (xs ++ ys)
+pub Misses-append : (c : ℕ) (xs ys : List ℕ) → Misses c xs → Misses c ys → Misses c (xs ++ ys)
 Misses-append c xs ys prefix back k l = elim (cases_lt k (length xs)) [
   | inl below ↦ rw (get_or_append_left xs ys 0 k below) (prefix k below)
   | inr past ↦ rw (get_or-append_right xs ys k 0 past) (back (k - length xs) (omega (arith, length-append xs ys)))

@@ -70,7 +70,7 @@ fields-form verb.Force ws c e = let a = then_some _ (only_number ws) c e in subs
 fields-form verb.Close ws c e = let a = then_some _ (nothing ws) c e in subst IsInForm (some_same a.2) tt
 fields-form verb.Halt ws c e = let a = then_some _ (nothing ws) c e in subst IsInForm (some_same a.2) tt
 
-words-form : (ws : List (List ℕ)) (c : Call) → call_of_words ws ≡ Some c → IsInForm c
+pub words-form : (ws : List (List ℕ)) (c : Call) → call_of_words ws ≡ Some c → IsInForm c
 unfolding call_of_words
 words-form [] c e = absurd (cc)
 words-form (w ∷ ws) c e =

@@ -249,24 +249,21 @@ fn with_fields(verb: Verb, rest: Option<&[u8]>) -> Option<Call>
     }
 }
 
-// What a verb says with the words after it.
-fn said(verb: Verb, rest: Option<&[u8]>) -> Line
-    ensures { result ≡ line_of (with_fields verb (rest_words rest.entry)) }
+/// The call of a line, if it is one.
+#[tactic(auto, unfolding(crate::specs::Grammar::call_of_words))]
+pub(crate) fn call_of(line: &[u8]) -> Option<Call>
+    ensures { result ≡ call_of line.now }
 {
-    match with_fields(verb, rest) {
-        Some(call) => Line::Call(call),
-        None => Line::Bad,
-    }
+    let (word, rest) = cut(line);
+    with_fields(verb_of(word)?, rest)
 }
 
 /// What a line says.
-#[tactic(auto, unfolding(crate::specs::Grammar::call_of_words))]
 pub(crate) fn line_of(line: &[u8]) -> Line
     ensures { result ≡ line_of (call_of line.now) }
 {
-    let (word, rest) = cut(line);
-    match verb_of(word) {
-        Some(verb) => said(verb, rest),
+    match call_of(line) {
+        Some(call) => Line::Call(call),
         None => Line::Bad,
     }
 }

@@ -1,10 +1,11 @@
-//! What a client writes as calls is read as those calls.
+//! What a client writes as calls is read as those calls, and how a text of events is read.
 ghost use Rattle.std.specs.Prelude.{◌≡◌, ◌≤◌, List, length, map, Some};
 ghost use Rattle.std.specs.List.{AllByRecursion};
 ghost use Rattle.flat_machine.specs.declared.call.Call.{Call};
 ghost use Rattle.trace_io.specs.Stream.{Misses};
 ghost use Rattle.trace_io.specs.Grammar.{call_of};
 ghost use Rattle.trace_io.specs.Reading.{reading, through_last};
+ghost use Rattle.trace_io.specs.EventReading.{EventsGoOn, EventsEnd};
 ghost use Rattle.trace_io.specs.CallText.{call_text, trace_text, IsWritable};
 
 /// The text of a call says that call, has no line feed, and is short enough to be read. The lines
@@ -16,4 +17,11 @@ pub fn calls_are_read_back()
     ensures short { (c : Call) → IsWritable c → length (call_text c) ≤ 255 }
     ensures trace { (calls : List Call) → AllByRecursion IsWritable calls
         → reading (trace_text calls) ≡ through_last (map Some calls) }
+{}
+
+/// A text of events is read line by line: a whole line says its event, and what follows is read
+/// after it, unless it is the last.
+pub fn events_are_read_by_lines()
+    ensures line { EventsGoOn }
+    ensures last { EventsEnd }
 {}

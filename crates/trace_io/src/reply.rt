@@ -12,7 +12,7 @@ use flat_machine::{Refusal, Reply};
 fn put_reply(line: &mut Text, reply: &Reply)
     requires { line.old ≡ [] }
     ensures text { line.new ≡ reply_text reply.now }
-    ensures short { length line.new ≤ 191 }
+    ensures short { length line.new ≤ 160 }
 {
     match reply {
         Reply::Done => line.put(b"ok"),
@@ -74,7 +74,7 @@ fn put_reply(line: &mut Text, reply: &Reply)
 fn put_refusal(line: &mut Text, why: Refusal)
     requires { line.old ≡ [] }
     ensures text { line.new ≡ codes "error " ++ refusal_text why }
-    ensures short { length line.new ≤ 191 }
+    ensures short { length line.new ≤ 160 }
 {
     match why {
         Refusal::Syntax => line.put(b"error syntax"),
@@ -110,6 +110,16 @@ fn put_refusal(line: &mut Text, why: Refusal)
     }
 }
 
+// The text of a reply.
+pub(crate) fn replied(reply: &Reply) -> Text
+    ensures text { result ≡ reply_text reply.now }
+    ensures short { length result ≤ 160 }
+{
+    let mut line = Text::new();
+    put_reply(&mut line, reply);
+    line
+}
+
 /// Writes the line of a reply, or at an error a prefix of it.
 #[tactic(auto, unfolding(flat_machine::specs::Text::text))]
 pub fn write_reply<K: Sink>(sink: &mut K, reply: &Reply) -> Result<(), SinkFault>
@@ -117,8 +127,7 @@ pub fn write_reply<K: Sink>(sink: &mut K, reply: &Reply) -> Result<(), SinkFault
     ensures err { OnErr result (AppendsPrefix (K.took sink.old) (K.took sink.new) (text reply.now)) }
     ensures cause { HasCause (K.faults sink.old) (K.faults sink.new) result }
 {
-    let mut line = Text::new();
-    put_reply(&mut line, reply);
+    let mut line = replied(reply);
     line.put(b"\n");
     sink.put(line.as_slice())
 }

@@ -50,6 +50,14 @@ impl Text {
         self.put(Buffer::new().format(n).as_bytes());
     }
 
+    pub(crate) fn put_wide(&mut self, n: u64)
+        requires { length self.old + 20 ≤ 192 }
+        ensures text { self.new ≡ self.old ++ decimal n }
+        ensures size { length self.new ≤ length self.old + 20 }
+    {
+        self.put(Buffer::new().format(n).as_bytes());
+    }
+
     pub(crate) fn put_hex(&mut self, bytes: &[u8])
         requires room { length self.old + 128 ≤ 192 }
         requires short { length bytes.now ≤ 64 }

@@ -1,0 +1,98 @@
+//! What a line of events says.
+ghost use Rattle.std.specs.Prelude.{◌≡◌, ◌≤◌, length};
+ghost use Rattle.trace_io.specs.Grammar.{words_of};
+ghost use Rattle.trace_io.specs.EventGrammar.{event_of, event_of_words, asked, landed, closed, halted};
+ghost use Rattle.trace_io.specs.Events.{event_at};
+ghost use Rattle.trace_io.specs.Words.{rest_words};
+
+use crate::event_fields::{client_and_call, only_flight};
+use crate::fields::nothing;
+use crate::words::cut;
+use flat_machine::Call;
+
+/// The next event of clients that share a session.
+#[derive(Drop)]
+pub enum Event {
+    /// A client from 1 to 16 asks for a call. It is in form, and does not end the session.
+    Ask { client: u8, call: Call },
+    /// The flight of this number is done.
+    Done(u64),
+    /// The session is closed.
+    Close,
+    /// The session is halted.
+    Halt,
+    /// The line is no event.
+    Bad,
+    /// The source ended, with fewer bytes than the limit taken, and no byte stands after the last
+    /// line.
+    End,
+    /// The source failed.
+    ReadFault,
+    /// As many bytes as the limit were taken, and a further one is needed.
+    Long,
+}
+
+fn ask_in(rest: Option<&[u8]>) -> Event
+    ensures { result ≡ event_at (asked (rest_words rest.entry)) }
+{
+    match client_and_call(rest) {
+        Some((client, call)) => Event::Ask { client, call },
+        None => Event::Bad,
+    }
+}
+
+fn done_in(rest: Option<&[u8]>) -> Event
+    ensures { result ≡ event_at (landed (rest_words rest.entry)) }
+{
+    match only_flight(rest) {
+        Some(flight) => Event::Done(flight),
+        None => Event::Bad,
+    }
+}
+
+fn close_in(rest: Option<&[u8]>) -> Event
+    ensures { result ≡ event_at (closed (rest_words rest.entry)) }
+{
+    match nothing(rest) {
+        Some(()) => Event::Close,
+        None => Event::Bad,
+    }
+}
+
+fn halt_in(rest: Option<&[u8]>) -> Event
+    ensures { result ≡ event_at (halted (rest_words rest.entry)) }
+{
+    match nothing(rest) {
+        Some(()) => Event::Halt,
+        None => Event::Bad,
+    }
+}
+
+// What the words of a line say.
+#[tactic(auto, unfolding(crate::specs::EventGrammar::event_of_words))]
+fn event_by_words(line: &[u8]) -> Event
+    ensures { result ≡ event_at (event_of_words (words_of line.now)) }
+{
+    let (word, rest) = cut(line);
+    if word == b"on".as_slice() {
+        return ask_in(rest);
+    }
+    if word == b"done".as_slice() {
+        return done_in(rest);
+    }
+    if word == b"close".as_slice() {
+        return close_in(rest);
+    }
+    if word == b"halt".as_slice() {
+        return halt_in(rest);
+    }
+    Event::Bad
+}
+
+// What a line says that is not too long.
+pub(crate) fn event_in(line: &[u8]) -> Event
+    requires { length line.now ≤ 255 }
+    ensures { result ≡ event_at (event_of line.now) }
+{
+    event_by_words(line)
+}
