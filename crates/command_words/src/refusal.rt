@@ -1,5 +1,5 @@
 //! Why words were not read.
-ghost use Rattle.std.specs.Prelude.{◌≡◌};
+ghost use Rattle.std.specs.Prelude.{◌≡◌, ◌≢◌};
 ghost use Rattle.clap.specs.Words.{kind_of};
 
 use clap::Error;
@@ -30,6 +30,7 @@ impl From<AllocError> for Refused {
 /// What an error of `clap` says.
 pub(crate) fn refusal_of(error: &Error) -> Refused
     ensures memory { kind_of error.now ≡ ErrorKind.OutOfMemory → result ≡ Refused.NoMemory }
+    ensures usage { kind_of error.now ≢ ErrorKind.OutOfMemory → result ≡ Refused.Usage }
 {
     match error.kind() {
         ErrorKind::OutOfMemory => Refused::NoMemory,

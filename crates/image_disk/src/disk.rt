@@ -1,11 +1,11 @@
 //! A disk over a file of sectors of 528 bytes, each a label of 16 bytes and then a page of 512.
-ghost use Rattle.std.specs.Prelude.{◌≡◌, ◌<◌, ◌≤◌, ◌+◌, ◌-◌, ◌*◌, ◌/◌, ◌^◌, ◌++◌, min, true, false, take, drop};
-ghost use Rattle.labelled_disk.specs.Calls.{Reads, Writes, WritesData, Syncs, Rose, Moved};
-ghost use Rattle.labelled_disk.specs.Label.{label_of, label_bytes, names};
-ghost use Rattle.labelled_disk.specs.Memory.{CountsFault};
+ghost use Rattle.std.specs.Prelude.{◌≡◌, ◌<◌, ◌≤◌, ◌+◌, ◌-◌, ◌/◌, ◌^◌, min, false};
+ghost use Rattle.labelled_disk.specs.Calls.{Rose, Moved};
 
-use crate::neighbours::{MOST, Neighbours};
-use labelled_disk::{Disk, DiskError, DiskWrite, Label, Page, Wanted};
+use crate::Remembered;
+use crate::neighbours::Neighbours;
+use labelled_disk::{DiskError, Label};
+use std::alloc::Global;
 use std::fs::OpenFile;
 use std::io;
 use std::os::unix::fs::FileExt;
@@ -25,28 +25,31 @@ pub enum Trouble {
 /// The bytes of a sector in an image file.
 pub const SECTOR_BYTES: u64 = 528;
 
-const LABEL_BYTES: u64 = 16;
+// How many places there are for sectors, and for labels, two each.
+const SECTOR_PLACES: usize = 64;
+
+const LABEL_PLACES: usize = 512;
 
 /// A disk over an image file. It reveals nothing of what the file holds, since no contract can: only
 /// its counts. It is synced from an Ok of `sync` to the next call that may write, and a `sync` until
 /// then is no call of the system.
 ///
-/// Where sectors are read one after the other, it reads up to 32 of them at once.
+/// It may remember sectors that it read last, and labels that it read or wrote last, so that another
+/// look at them is no call of the system. Then it also reads up to 32 sectors at once, where these are
+/// read one after the other.
 #[derive(Drop)]
 pub struct ImageDisk<F: FileExt + OpenFile> {
-    file: Option<F>,
-    sectors: u32,
-    transfers: u64,
-    faults: u64,
-    synced: bool,
+    pub(crate) file: Option<F>,
+    pub(crate) sectors: u32,
+    pub(crate) transfers: u64,
+    pub(crate) faults: u64,
+    pub(crate) synced: bool,
     trouble: Option<Trouble>,
-    // The sector after the one that was read last.
-    next: u32,
-    // Sectors that were read before they were asked for. No write has been made since.
-    ahead: Neighbours,
-    // Whether neighbouring sectors are written in one call of the system, and those that wait for it.
-    joins: bool,
-    waiting: Neighbours,
+    // Sectors and labels as they stand in the file.
+    pub(crate) last: Remembered<[u8; 528]>,
+    pub(crate) labels: Remembered<Label>,
+    // Neighbouring sectors that wait to be written in one call of the system, where writes are joined.
+    pub(crate) waiting: Option<Neighbours>,
     ghost few: { sectors < 2 ^ 32 },
     ghost few_transfers: { transfers < 2 ^ 64 },
 }
@@ -76,10 +79,9 @@ impl<F: FileExt + OpenFile> ImageDisk<F> {
             faults: 0,
             synced: false,
             trouble: None,
-            next: 0,
-            ahead: Neighbours::none(),
-            joins: false,
-            waiting: Neighbours::none(),
+            last: Remembered::none(),
+            labels: Remembered::none(),
+            waiting: None,
         }
     }
 
@@ -106,20 +108,28 @@ impl<F: FileExt + OpenFile> ImageDisk<F> {
             faults: 0,
             synced: false,
             trouble: None,
-            next: 0,
-            ahead: Neighbours::none(),
-            joins: false,
-            waiting: Neighbours::none(),
+            last: Remembered::none(),
+            labels: Remembered::none(),
+            waiting: None,
         }
+    }
+
+    /// From now on, up to 128 sectors and 1,024 labels are remembered, where there is
+    /// memory for them.
+    pub fn remember(&mut self, alloc: Global)
+        ensures same { image_state self.new ≡ image_state self.old }
+    {
+        self.last = Remembered::with_places(alloc, SECTOR_PLACES);
+        self.labels = Remembered::with_places(alloc, LABEL_PLACES);
     }
 
     /// From now on, up to 32 sectors that are written one after the other, each whole, are written
     /// in one call of the system: when the next call of another kind, or on another place, comes, or
-    /// `write_out`.
-    pub fn join_writes(&mut self)
+    /// `write_out`. Where there is no memory for them each is written by itself.
+    pub fn join_writes(&mut self, alloc: Global)
         ensures same { image_state self.new ≡ image_state self.old }
     {
-        self.joins = true;
+        self.waiting = Neighbours::with_room(alloc).ok();
     }
 
     /// Writes what waits.
@@ -129,16 +139,16 @@ impl<F: FileExt + OpenFile> ImageDisk<F> {
         let Some(file) = &self.file else {
             return Ok(());
         };
-        if !self.waiting.is_empty() {
-            if let Err(error) = self.waiting.write_to(file) {
-                return Err(Trouble::Sector {
-                    sector: self.waiting.first(),
-                    error,
-                });
-            }
-            self.waiting.clear();
+        let Some(waiting) = &mut self.waiting else {
+            return Ok(());
+        };
+        match waiting.write_to(file) {
+            Ok(()) => Ok(()),
+            Err(error) => Err(Trouble::Sector {
+                sector: waiting.first(),
+                error,
+            }),
         }
-        Ok(())
     }
 
     /// What the system answered to the last call that failed, if one did.
@@ -146,76 +156,7 @@ impl<F: FileExt + OpenFile> ImageDisk<F> {
         self.trouble
     }
 
-    // Reads as many bytes as there are to fill, from this byte of the file on.
-    fn get(&self, at: u64, bytes: &mut [u8]) -> io::Result<()> {
-        match &self.file {
-            Some(file) => file.read_exact_at(bytes, at),
-            None => Err(io::ErrorKind::NotFound.into()),
-        }
-    }
-
-    // Reads a sector; and where the one before it was read last, those after it as well.
-    fn get_sector(&mut self, sector: u32, bytes: &mut [u8; 528]) -> io::Result<()>
-        requires { sector < (image_state self.old).sectors }
-        ensures same { image_state self.new ≡ image_state self.old }
-    {
-        let is_next = sector == self.next && sector > 0;
-        self.next = sector.wrapping_add(1);
-        if self.ahead.copy(sector, bytes) {
-            return Ok(());
-        }
-        if is_next && let Some(file) = &self.file {
-            let count = MOST.min(self.sectors - sector);
-            if self.ahead.fill(file, sector, count).is_ok() && self.ahead.copy(sector, bytes) {
-                return Ok(());
-            }
-        }
-        self.get(label_at(sector), bytes)
-    }
-
-    // Writes a sector, or keeps it until its neighbours are written too.
-    fn put_sector(&mut self, sector: u32, bytes: &[u8; 528]) -> Result<(), Trouble>
-        ensures same { image_state self.new ≡ image_state self.old }
-    {
-        if self.joins {
-            if self.waiting.push(sector, bytes) {
-                return Ok(());
-            }
-            self.write_out()?;
-            if self.waiting.push(sector, bytes) {
-                return Ok(());
-            }
-        }
-        match self.put(label_at(sector), bytes) {
-            Ok(()) => Ok(()),
-            Err(error) => Err(Trouble::Sector { sector, error }),
-        }
-    }
-
-    // Writes all bytes, from this byte of the file on.
-    fn put(&self, at: u64, bytes: &[u8]) -> io::Result<()> {
-        match &self.file {
-            Some(file) => file.write_all_at(bytes, at),
-            None => Err(io::ErrorKind::NotFound.into()),
-        }
-    }
-
-    // Writes the page of a sector whose label was found to name it.
-    fn put_page(&self, sector: u32, _found: Label, _wanted: Wanted, page: &Page) -> io::Result<()>
-        requires { names _found _wanted ≡ true }
-    {
-        self.put(page_at(sector), page.as_slice())
-    }
-
-    // Waits until what was written to the file is on the medium.
-    fn sync_file(&self) -> io::Result<()> {
-        match &self.file {
-            Some(file) => file.sync_data(),
-            None => Ok(()),
-        }
-    }
-
-    fn count_transfer(&mut self)
+    pub(crate) fn count_transfer(&mut self)
         ensures moved { Moved self.old.transfers self.new.transfers }
         ensures transfers { self.new.transfers ≡ min (self.old.transfers + 1) (2 ^ 64 - 1) }
         ensures faults { self.new.faults ≡ self.old.faults }
@@ -225,19 +166,18 @@ impl<F: FileExt + OpenFile> ImageDisk<F> {
         self.transfers = self.transfers.saturating_add(1);
     }
 
-    // Counts a call that may write: what was read ahead may not stand there any more.
-    fn count_write(&mut self)
+    // Counts a call that may write.
+    pub(crate) fn count_write(&mut self)
         ensures counted { image_state self.new
             ≡ record (image_state self.old) { transfers = min (self.old.transfers + 1) (2 ^ 64 - 1); synced = false } }
         ensures moved { Moved self.old.transfers self.new.transfers }
     {
         self.count_transfer();
         self.synced = false;
-        self.ahead.clear();
     }
 
-    // Counts a fault of the system, and keeps what it answered.
-    fn fault(&mut self, trouble: Trouble) -> DiskError
+    // Counts a fault of the system, and keeps what it answered. Nothing else is remembered then.
+    pub(crate) fn fault(&mut self, trouble: Trouble) -> DiskError
         ensures result { result ≡ DiskError.Failed }
         ensures cause { Rose self.old.faults self.new.faults }
         ensures never_falls { self.old.faults ≤ self.new.faults }
@@ -248,159 +188,8 @@ impl<F: FileExt + OpenFile> ImageDisk<F> {
     {
         self.faults = self.faults.saturating_add(1);
         self.trouble = Some(trouble);
+        self.last.clear();
+        self.labels.clear();
         DiskError::Failed
-    }
-}
-
-// Where the label of a sector begins in the file.
-pub(crate) fn label_at(sector: u32) -> u64
-    ensures { result ≡ sector * 528 }
-{
-    u64::from(sector) * SECTOR_BYTES
-}
-
-// Where its page begins.
-fn page_at(sector: u32) -> u64
-    ensures { result ≡ sector * 528 + 16 }
-{
-    label_at(sector) + LABEL_BYTES
-}
-
-// The bytes of a sector: those of the label and then those of the page.
-fn joined(label: &Label, page: &Page) -> [u8; 528]
-    ensures { result ≡ label_bytes label.now ++ page.now }
-{
-    let mut bytes = [0; 528];
-    bytes[..16].copy_from_slice(&label.to_bytes());
-    bytes[16..].copy_from_slice(page.as_slice());
-    bytes
-}
-
-// The label of a sector of these bytes; its page is put in `page`.
-fn parted(bytes: &[u8; 528], page: &mut Page) -> Label
-    ensures label { result ≡ label_of (take 16 bytes.now) }
-    ensures page { page.new ≡ drop 16 bytes.now }
-{
-    let mut label = [0; 16];
-    label.copy_from_slice(&bytes[..16]);
-    page.copy_from_slice(&bytes[16..]);
-    Label::from_bytes(&label)
-}
-
-impl<F: FileExt + OpenFile> Disk for ImageDisk<F> {
-    ghost use Rattle.image_disk.specs.Image.{image_state, not_revealed, Counts};
-    ghost use Rattle.labelled_disk.specs.Syncing.{no_syncs};
-
-    ghost state = { image_state };
-
-    ghost whole = { λ d all revealed. not_revealed all revealed };
-
-    ghost in_form = { λ d all revealed. not_revealed all revealed };
-
-    ghost few = { λ d. d.few };
-
-    ghost few_transfers = { λ d. d.few_transfers };
-
-    ghost sync_counts = { λ d. no_syncs d.synced };
-
-    fn sectors(&self) -> u32 {
-        self.sectors
-    }
-
-    fn read(&mut self, sector: u32, page: &mut Page) -> Result<Label, DiskError>
-        requires { sector < (image_state self.old).sectors }
-        ensures reads { Reads (image_state self.old) sector page.new result (image_state self.new) }
-        ensures counts { Counts result (image_state self.old) (image_state self.new) }
-    {
-        self.count_transfer();
-        if let Err(trouble) = self.write_out() {
-            return Err(self.fault(trouble));
-        }
-        let mut bytes = [0; 528];
-        match self.get_sector(sector, &mut bytes) {
-            Ok(()) => Ok(parted(&bytes, page)),
-            Err(error) => Err(self.fault(Trouble::Sector { sector, error })),
-        }
-    }
-
-    fn write(&mut self, sector: u32, label: &Label, page: &Page) -> Result<(), DiskError>
-        requires { sector < (image_state self.old).sectors }
-        ensures writes { Writes (DiskWrite.Whole sector label.now page.now) (image_state self.old)
-            result (image_state self.new) }
-        ensures counts { Counts result (image_state self.old) (image_state self.new) }
-        ensures synced { (image_state self.new).synced ≡ false }
-    {
-        self.count_write();
-        match self.put_sector(sector, &joined(label, page)) {
-            Ok(()) => Ok(()),
-            Err(trouble) => Err(self.fault(trouble)),
-        }
-    }
-
-    fn write_label(&mut self, sector: u32, label: &Label) -> Result<(), DiskError>
-        requires { sector < (image_state self.old).sectors }
-        ensures writes { Writes (DiskWrite.LabelOnly sector label.now) (image_state self.old)
-            result (image_state self.new) }
-        ensures counts { Counts result (image_state self.old) (image_state self.new) }
-        ensures synced { (image_state self.new).synced ≡ false }
-    {
-        self.count_write();
-        if let Err(trouble) = self.write_out() {
-            return Err(self.fault(trouble));
-        }
-        match self.put(label_at(sector), &label.to_bytes()) {
-            Ok(()) => Ok(()),
-            Err(error) => Err(self.fault(Trouble::Sector { sector, error })),
-        }
-    }
-
-    fn write_data(&mut self, sector: u32, wanted: Wanted, page: &Page) -> Result<(), DiskError>
-        requires { sector < (image_state self.old).sectors }
-        ensures writes { WritesData sector wanted page.now (image_state self.old) result
-            (image_state self.new) }
-        ensures counts { Counts result (image_state self.old) (image_state self.new) }
-        ensures synced { (image_state self.new).synced ≡ false }
-    {
-        self.count_write();
-        if let Err(trouble) = self.write_out() {
-            return Err(self.fault(trouble));
-        }
-        let mut bytes = [0; 16];
-        if let Err(error) = self.get(label_at(sector), &mut bytes) {
-            return Err(self.fault(Trouble::Sector { sector, error }));
-        }
-        let found = Label::from_bytes(&bytes);
-        if !found.names(wanted) {
-            return Err(DiskError::Wrong { found });
-        }
-        match self.put_page(sector, found, wanted, page) {
-            Ok(()) => Ok(()),
-            Err(error) => Err(self.fault(Trouble::Sector { sector, error })),
-        }
-    }
-
-    fn sync(&mut self) -> Result<(), DiskError>
-        ensures syncs { Syncs (image_state self.old) result (image_state self.new) }
-        ensures faults { CountsFault result self.old.faults self.new.faults }
-    {
-        if self.synced {
-            return Ok(());
-        }
-        if let Err(trouble) = self.write_out() {
-            return Err(self.fault(trouble));
-        }
-        if let Err(error) = self.sync_file() {
-            return Err(self.fault(Trouble::Syncing(error)));
-        }
-        self.synced = true;
-        Ok(())
-    }
-
-    fn transfers(&self) -> u64 {
-        self.transfers
-    }
-
-    fn faults(&self) -> u64 {
-        self.faults
     }
 }

@@ -30,11 +30,13 @@ impl From<io::Error> for NoImage {
 /// file can't be locked or can't get its length, it is removed again.
 pub fn new_image(rt: &HostRuntime, sectors: u32, path: &str) -> Result<ImageDisk<File>, NoImage> {
     let file = new_file(rt, path).map_err(NoImage::System)?;
-    let disk = with_sectors(file, sectors);
-    if disk.is_err() {
-        let _ = remove_image(rt, path);
+    match with_sectors(file, sectors) {
+        Ok(disk) => Ok(remembering(rt, disk)),
+        Err(why) => {
+            let _ = remove_image(rt, path);
+            Err(why)
+        }
     }
-    disk
 }
 
 /// Removes the file of an image that no volume was made in.
@@ -49,7 +51,13 @@ pub fn open_image(rt: &HostRuntime, path: &str) -> Result<ImageDisk<File>, NoIma
     if disk.sectors() == 0 {
         return Err(NoImage::Short);
     }
-    Ok(disk)
+    Ok(remembering(rt, disk))
+}
+
+// The disk that remembers what it read or wrote last, where there is memory for that.
+fn remembering(rt: &HostRuntime, mut disk: ImageDisk<File>) -> ImageDisk<File> {
+    disk.remember(rt.alloc());
+    disk
 }
 
 fn new_file(rt: &HostRuntime, path: &str) -> io::Result<File> {

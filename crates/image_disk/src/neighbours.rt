@@ -1,90 +1,90 @@
 //! Sectors that lie in the file one after the other: read in one call of the system, or written in one.
-ghost use Rattle.std.specs.Prelude.{◌≡◌, ◌≤◌, ◌+◌, ◌-◌, ◌*◌};
+ghost use Rattle.std.specs.Prelude.{◌≤◌};
 
-use crate::SECTOR_BYTES;
-use crate::disk::label_at;
+use crate::Remembered;
+use crate::bytes::{label_at, label_in};
+use labelled_disk::Label;
+use std::alloc::{AllocError, Global};
 use std::io;
 use std::os::unix::fs::FileExt;
 
 /// How many sectors are moved in one call of the system at most.
 pub(crate) const MOST: u32 = 32;
 
-/// Up to 32 neighbouring sectors, as they stand in the file or will stand there.
+/// Reads so many sectors in one call, and remembers them.
+pub(crate) fn read_neighbours<F: FileExt>(
+    file: &F,
+    first: u32,
+    count: u32,
+    into: &mut Remembered<[u8; 528]>,
+) -> io::Result<()>
+    requires { count ≤ 32 }
+{
+    let mut bytes = [0; 16896];
+    let bytes = &mut bytes[..528 * count as usize];
+    file.read_exact_at(bytes, label_at(first))?;
+    let (sectors, _) = bytes.as_chunks::<528>();
+    for (sector, bytes) in (first..=u32::MAX).zip(sectors) {
+        into.keep(sector, *bytes);
+    }
+    Ok(())
+}
+
+/// Reads so many sectors in one call, and remembers their labels.
+pub(crate) fn read_labels<F: FileExt>(
+    file: &F,
+    first: u32,
+    count: u32,
+    into: &mut Remembered<Label>,
+) -> io::Result<()>
+    requires { count ≤ 32 }
+{
+    let mut bytes = [0; 16896];
+    let bytes = &mut bytes[..528 * count as usize];
+    file.read_exact_at(bytes, label_at(first))?;
+    let (sectors, _) = bytes.as_chunks::<528>();
+    for (sector, bytes) in (first..=u32::MAX).zip(sectors) {
+        into.keep(sector, label_in(bytes));
+    }
+    Ok(())
+}
+
+/// Up to 32 neighbouring sectors that wait to be written.
 #[derive(Drop)]
 pub(crate) struct Neighbours {
     first: u32,
-    count: u32,
-    bytes: [u8; 16896],
-    ghost few: { count ≤ 32 },
+    sectors: Vec<[u8; 528]>,
 }
 
 impl Neighbours {
-    pub(crate) fn none() -> Neighbours {
-        Neighbours {
+    pub(crate) fn with_room(alloc: Global) -> Result<Neighbours, AllocError> {
+        Ok(Neighbours {
             first: 0,
-            count: 0,
-            bytes: [0; 16896],
-        }
+            sectors: Vec::with_capacity(alloc, MOST as usize)?,
+        })
     }
 
     pub(crate) fn first(&self) -> u32 {
         self.first
     }
 
-    pub(crate) fn is_empty(&self) -> bool {
-        self.count == 0
-    }
-
-    pub(crate) fn clear(&mut self) {
-        self.count = 0;
-    }
-
-    /// Copies the bytes of a sector, where it is one of these.
-    pub(crate) fn copy(&self, sector: u32, into: &mut [u8; 528]) -> bool {
-        let Some(place) = sector.checked_sub(self.first) else {
-            return false;
-        };
-        if place >= self.count {
-            return false;
-        }
-        let from = 528 * place as usize;
-        into.copy_from_slice(&self.bytes[from..from + 528]);
-        true
-    }
-
     /// Takes a sector in that comes next after these, while there is room.
     pub(crate) fn push(&mut self, sector: u32, bytes: &[u8; 528]) -> bool {
-        if self.count == 0 {
+        let count = self.sectors.len() as u64;
+        if count == 0 {
             self.first = sector;
         }
-        let place = self.count;
-        if place >= MOST || u64::from(self.first) + u64::from(place) != u64::from(sector) {
-            return false;
+        count < u64::from(MOST)
+            && u64::from(self.first) + count == u64::from(sector)
+            && self.sectors.push(*bytes).is_ok()
+    }
+
+    /// Writes these sectors into a file, after which none waits.
+    pub(crate) fn write_to<F: FileExt>(&mut self, file: &F) -> io::Result<()> {
+        if !self.sectors.is_empty() {
+            file.write_all_at(self.sectors.as_flattened(), label_at(self.first))?;
+            self.sectors.clear();
         }
-        let from = 528 * place as usize;
-        self.bytes[from..from + 528].copy_from_slice(bytes);
-        self.count = place + 1;
-        true
-    }
-
-    /// Reads so many sectors of a file in the place of these, or none where that fails.
-    pub(crate) fn fill<F: FileExt>(&mut self, file: &F, first: u32, count: u32) -> io::Result<()>
-        requires { count ≤ 32 }
-    {
-        let mut bytes = [0; 16896];
-        self.count = 0;
-        file.read_exact_at(&mut bytes[..528 * count as usize], label_at(first))?;
-        self.first = first;
-        self.count = count;
-        self.bytes = bytes;
         Ok(())
-    }
-
-    /// Writes these sectors into a file.
-    pub(crate) fn write_to<F: FileExt>(&self, file: &F) -> io::Result<()> {
-        file.write_all_at(
-            &self.bytes[..528 * self.count as usize],
-            label_at(self.first),
-        )
     }
 }

@@ -50,10 +50,11 @@ fn answers_at_its_end(meant: Command) -> bool {
 /// Carries out a command on the disk in an image file.
 fn on_disk(rt: &HostRuntime, mut disk: ImageDisk<File>, task: Task<'_>) -> Status {
     if answers_at_its_end(task.meant) {
-        disk.join_writes();
+        disk.join_writes(rt.alloc());
     }
     let status = command(rt, &mut disk, task.words);
-    // Nothing waits after a command that was carried out: it ends with a sync.
+    // Nothing waits after a command that was carried out, since it ends with a sync. After one that was not,
+    // what waits is written as far as that goes.
     let _ = disk.write_out();
     reasons::image_stopped(rt, status, &mut disk, task);
     status

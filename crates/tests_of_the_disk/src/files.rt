@@ -1,10 +1,12 @@
 //! Images in files of the system, in the folder that the program runs in.
 
+use crate::drawn;
 use anyhow::{Context, Result};
 use image_disk::{ImageDisk, NoImage, new_image, open_image, remove_image};
-use labelled_disk::{Disk, Label};
+use labelled_disk::{Disk, Label, Wanted};
 use std::fs;
-use std::fs::File;
+use std::fs::{File, OpenFile};
+use std::os::unix::fs::FileExt;
 
 /// How many sectors an image has, or why there is none.
 fn revealed(rt: &HostRuntime, image: Result<ImageDisk<File>, NoImage>) -> Result<String> {
@@ -35,25 +37,43 @@ fn read(rt: &HostRuntime, disk: &mut ImageDisk<File>, sector: u32) -> Result<Str
     Ok(format!(in rt.alloc(); "{label:032x} {} {}", page[0], page[511])?)
 }
 
-/// Calls on one opened image, each a letter and a sector: `j` has writes joined from then on, `w` writes a page whose bytes are
-/// the call's number, and `r` reads. The answers are the bytes that were read.
-fn calls(rt: &HostRuntime, disk: &mut ImageDisk<File>, words: &str) -> Result<String> {
+/// The page of a free label.
+const WANTED: Wanted = Wanted { id: 0, page: 0 };
+
+/// A call on an image, a letter and a sector: `w` writes a page whose bytes are the call's number, `p` writes it over the label that
+/// is there, `l` writes a label, and `r` reads. The answer is a byte that was read, or what went wrong.
+fn call<D: Disk>(rt: &HostRuntime, disk: &mut D, number: usize, word: &str) -> Result<String> {
+    let (letter, sector) = word.split_at_checked(1).context("no call")?;
+    let sector = sector.parse()?;
+    let mut page = [(number % 256) as u8; 512];
+    if sector >= disk.sectors() {
+        return Ok(String::from_str(rt.alloc(), "no sector")?);
+    }
+    let done = match letter {
+        "w" => disk.write(sector, &Label::FREE, &page),
+        "p" => disk.write_data(sector, WANTED, &page),
+        "l" => disk.write_label(sector, &Label::FREE),
+        _ => disk.read(sector, &mut page).map(|_| ()),
+    };
+    match done {
+        Ok(()) if letter == "r" => Ok(format!(in rt.alloc(); "{} ", page[0])?),
+        Ok(()) => Ok(String::new(rt.alloc())),
+        Err(why) => Ok(format!(in rt.alloc(); "{why} ")?),
+    }
+}
+
+/// Calls on one opened image; `j` has writes joined from then on.
+pub(crate) fn calls<F: FileExt + OpenFile>(
+    rt: &HostRuntime,
+    disk: &mut ImageDisk<F>,
+    words: &str,
+) -> Result<String> {
     let mut text = String::new(rt.alloc());
-    let mut page = [0; 512];
     for (number, word) in words.split(' ').enumerate() {
         if word == "j" {
-            disk.join_writes();
-        } else if let Some(sector) = word.strip_prefix('w') {
-            let sector = sector.parse()?;
-            if sector < disk.sectors() {
-                disk.write(sector, &Label::FREE, &[(number % 256) as u8; 512])?;
-            }
-        } else if let Some(sector) = word.strip_prefix('r') {
-            let sector = sector.parse()?;
-            if sector < disk.sectors() {
-                disk.read(sector, &mut page)?;
-                text.push_str(&format!(in rt.alloc(); "{} ", page[0])?)?;
-            }
+            disk.join_writes(rt.alloc());
+        } else {
+            text.push_str(&call(rt, disk, number, word)?)?;
         }
     }
     disk.sync()?;
@@ -93,6 +113,7 @@ pub(crate) fn answer(rt: &HostRuntime, verb: &str, rest: &str) -> Result<String>
         "write" => write(rt, &mut open_image(rt, name)?, words),
         "calls" => calls(rt, &mut open_image(rt, name)?, words),
         "read" => read(rt, &mut open_image(rt, name)?, words.parse()?),
+        "drawn" => drawn::answer_all(rt, name, words),
         "dump" => dump(rt, name, words),
         "size" => size(rt, name),
         "remove" => {

@@ -1,6 +1,7 @@
-//! A file that moves at most 100 bytes a call and fails at one call, and a disk over it.
+//! A file that moves few bytes a call and fails at one call, and a disk over it.
 
-use anyhow::Result;
+use crate::files::calls;
+use anyhow::{Context, Result};
 use image_disk::{ImageDisk, Trouble, new_image};
 use labelled_disk::{Disk, Label, Wanted};
 use std::cell::Cell;
@@ -30,6 +31,7 @@ struct Halting<'a> {
     file: &'a File,
     calls: &'a Cell<u32>,
     failing: u32,
+    most: usize,
 }
 
 impl Halting<'_> {
@@ -46,13 +48,13 @@ impl Halting<'_> {
 impl FileExt for Halting<'_> {
     fn read_at(&self, buf: &mut [u8], offset: u64) -> io::Result<usize> {
         self.turn()?;
-        let count = buf.len().min(100);
+        let count = buf.len().min(self.most);
         self.file.read_at(&mut buf[..count], offset)
     }
 
     fn write_at(&self, buf: &[u8], offset: u64) -> io::Result<usize> {
         self.turn()?;
-        let count = buf.len().min(100);
+        let count = buf.len().min(self.most);
         self.file.write_at(&buf[..count], offset)
     }
 }
@@ -119,8 +121,28 @@ pub(crate) fn answer(rt: &HostRuntime, failing: u32) -> Result<String> {
         file: &file,
         calls: &calls,
         failing,
+        most: 100,
     });
     let text = marks(rt, &mut disk)?;
     let place = place(rt, &disk)?;
     Ok(format!(in rt.alloc(); "{text} {} {place}", calls.get())?)
+}
+
+/// What calls on a new image of 1,200 sectors answer that remembers what it read or wrote last, and how many calls of the system they
+/// make. One of these fails, none being 0.
+pub(crate) fn counted(rt: &HostRuntime, words: &str) -> Result<String> {
+    let (failing, words) = words.split_once(' ').context("no calls")?;
+    let _ = fs::remove_file(rt, NAME);
+    drop(new_image(rt, 1200, NAME)?);
+    let file = OpenOptions::new().read(true).write(true).open(rt, NAME)?;
+    let made = Cell::new(0);
+    let mut disk = ImageDisk::over(Halting {
+        file: &file,
+        calls: &made,
+        failing: failing.parse()?,
+        most: 1_000_000,
+    });
+    disk.remember(rt.alloc());
+    let text = calls(rt, &mut disk, words)?;
+    Ok(format!(in rt.alloc(); "{text}{}", made.get())?)
 }

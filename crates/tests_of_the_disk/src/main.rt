@@ -1,6 +1,7 @@
 //! Rows of what is done to image files, and of what words, labels, layouts and errors are.
 #![tactic(auto)]
 
+mod drawn;
 mod files;
 mod halting;
 mod values;
@@ -14,6 +15,7 @@ fn answer(rt: &HostRuntime, command: &str) -> Result<String> {
     match verb {
         "word" | "layout" | "label" | "text" => values::answer(rt.alloc(), verb, rest),
         "halts" => halting::answer(rt, rest.parse()?),
+        "counts" => halting::counted(rt, rest),
         _ => files::answer(rt, verb, rest),
     }
 }

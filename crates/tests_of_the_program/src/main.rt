@@ -1,6 +1,7 @@
 //! Carries out scripts over volumes, and writes for each of their sections whether all was as it says.
 #![tactic(auto)]
 
+mod fickle;
 mod part;
 mod rows;
 mod sector;
@@ -40,11 +41,13 @@ fn wrong_of(rt: &HostRuntime, section: &Section<'_>) -> Result<String> {
     if let Some((steps, order)) = blocks.split_once("\n\n!") {
         return rows::wrong_order(rt.alloc(), sectors, steps, order);
     }
-    for frames in ["24", "4096"] {
-        let wrong = rows::wrong_in_memory(rt.alloc(), sectors, frames, blocks)?;
-        if !wrong.is_empty() {
-            return Ok(wrong);
-        }
+    let (blocks, fewer) = match blocks.strip_suffix("\n\n^") {
+        Some(blocks) => (blocks, true),
+        None => (blocks, false),
+    };
+    let wrong = rows::wrong_in_memory(rt.alloc(), sectors, blocks, fewer)?;
+    if !wrong.is_empty() {
+        return Ok(wrong);
     }
     if sectors == 0 {
         return Ok(String::new(rt.alloc()));

@@ -1,5 +1,6 @@
 //! A command, what it is given, and what it must write and leave.
 
+use crate::fickle::FickleDisk;
 use anyhow::{Context, Result};
 use labelled_disk::{Disk, MemoryDisk};
 use linked_list_allocator::LocalHeap;
@@ -21,7 +22,8 @@ pub(crate) struct Fails {
     pub(crate) sink: u64,
 }
 
-/// A command with its exit, its trace, what it writes, and what it leaves of the trace; and the bytes that its memory has.
+/// A command with its exit, its trace, what it writes, and what it leaves of the trace; the bytes that its memory has; and the sector
+/// whose label changes, where one does.
 #[derive(Drop)]
 pub(crate) struct Part {
     words: Vec<String>,
@@ -31,6 +33,7 @@ pub(crate) struct Part {
     left: String,
     room: u64,
     fails: Fails,
+    fickle: Option<u32>,
 }
 
 /// What a command did: its exit, what it wrote, and what it left.
@@ -47,7 +50,7 @@ fn push_line(text: &mut String, line: &str) -> Result<(), AllocError> {
 }
 
 impl Part {
-    /// A command, `EXIT WORDS`. A run without an option has so many frames.
+    /// A command, `EXIT WORDS`. A run without an option has so many frames; elsewhere the word `?` stands for their number.
     pub(crate) fn of_words(alloc: Global, frames: &str, text: &str) -> Result<Part> {
         let (exit, given) = match text.split_once(' ') {
             Some((exit, given)) => (exit, Some(given)),
@@ -56,6 +59,7 @@ impl Part {
         let mut words = Vec::new(alloc);
         if let Some(given) = given {
             for word in given.split(' ') {
+                let word = if word == "?" { frames } else { word };
                 words.push(String::from_str(alloc, word)?)?;
             }
             if given == "run" {
@@ -71,6 +75,7 @@ impl Part {
             left: String::new(alloc),
             room: if frames == "24" { LITTLE_ROOM } else { ROOM },
             fails: Fails { source: 0, sink: 0 },
+            fickle: None,
         })
     }
 
@@ -122,14 +127,14 @@ impl Part {
         Ok(())
     }
 
-    /// A call that fails, or the room of the memory.
+    /// A call that fails, the sector whose label changes, or the room of the memory.
     fn set(&mut self, option: &str) -> Result<()> {
         let (name, number) = option.split_once(' ').context("no option")?;
-        let number = number.parse()?;
         match name {
-            "source" => self.fails.source = number,
-            "sink" => self.fails.sink = number,
-            _ => self.room = number,
+            "source" => self.fails.source = number.parse()?,
+            "sink" => self.fails.sink = number.parse()?,
+            "fickle" => self.fickle = Some(number.parse()?),
+            _ => self.room = number.parse()?,
         }
         Ok(())
     }
@@ -191,9 +196,17 @@ impl Part {
         self.exit == ended.exit && self.out == ended.out && self.left == ended.left
     }
 
+    /// Carries the command out as its rows say.
+    fn end<D: Disk>(&self, alloc: Global, disk: &mut D) -> Result<Ended> {
+        match self.fickle {
+            Some(fickle) => self.carry_out(alloc, &mut FickleDisk { disk, fickle }, self.fails),
+            None => self.carry_out(alloc, disk, self.fails),
+        }
+    }
+
     /// What the command did where it did not do what its rows say; else no text.
     pub(crate) fn wrong<D: Disk>(&self, alloc: Global, disk: &mut D) -> Result<String> {
-        let ended = self.carry_out(alloc, disk, self.fails)?;
+        let ended = self.end(alloc, disk)?;
         if self.is(&ended) {
             return Ok(String::new(alloc));
         }

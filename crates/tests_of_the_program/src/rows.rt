@@ -28,21 +28,47 @@ fn wrong<D: Disk>(alloc: Global, disk: &mut D, frames: &str, block: &str) -> Res
     Ok(String::new(alloc))
 }
 
-/// What the first of such blocks shows over a disk in memory.
-pub(crate) fn wrong_in_memory(
-    alloc: Global,
-    sectors: u32,
-    frames: &str,
-    blocks: &str,
-) -> Result<String> {
+/// What such blocks show over a disk in memory, and how many sectors they moved.
+#[derive(Drop)]
+struct Shown {
+    wrong: String,
+    moved: u64,
+}
+
+/// The same of blocks with so many frames, up to the first that is not as it says.
+fn shown_in_memory(alloc: Global, sectors: u32, frames: &str, blocks: &str) -> Result<Shown> {
     let mut disk = MemoryDisk::new(alloc, sectors)?;
     for block in blocks.split("\n\n") {
         let wrong = wrong(alloc, &mut disk, frames, block)?;
         if !wrong.is_empty() {
-            return Ok(format!(in alloc; "with {frames} frames: {wrong}\n{block}")?);
+            let wrong = format!(in alloc; "with {frames} frames: {wrong}\n{block}")?;
+            return Ok(Shown { wrong, moved: 0 });
         }
     }
-    Ok(String::new(alloc))
+    Ok(Shown {
+        wrong: String::new(alloc),
+        moved: disk.transfers(),
+    })
+}
+
+/// What such blocks show over a disk in memory, in few frames and in many; and where fewer sectors have to be moved in the many,
+/// whether they are.
+pub(crate) fn wrong_in_memory(
+    alloc: Global,
+    sectors: u32,
+    blocks: &str,
+    fewer: bool,
+) -> Result<String> {
+    let few = shown_in_memory(alloc, sectors, "24", blocks)?;
+    if !few.wrong.is_empty() {
+        return Ok(few.wrong);
+    }
+    let many = shown_in_memory(alloc, sectors, "4096", blocks)?;
+    if many.wrong.is_empty() && fewer && few.moved <= many.moved {
+        let (few, many) = (few.moved, many.moved);
+        return Ok(format!(in alloc; "with 24 frames it moves {few} sectors, with 4096 {many}")?);
+    }
+    Ok(many.wrong)
 }
 
 /// What such blocks show over a disk that records its writes; and whether the pages of these sectors were written in this order.

@@ -28,7 +28,8 @@ pub(crate) fn open_image(rt: &HostRuntime, path: &str) -> Result<ImageDisk<File>
     if !metadata(rt, path).map_err(NoImage::System)?.is_file() {
         return Err(NoImage::NoFile);
     }
-    let disk = ImageDisk::over(open_file(rt, path).map_err(NoImage::System)?);
+    let mut disk = ImageDisk::over(open_file(rt, path).map_err(NoImage::System)?);
+    disk.remember(rt.alloc());
     if disk.sectors() == 0 {
         return Err(NoImage::Short);
     }

@@ -1,14 +1,14 @@
 -- Where a page stands among those that wait, by the list of their sectors.
-use Rattle.std.proofs.Common.{◌≡◌, ℕ, zero, suc, ◌+◌, ◌-◌, ◌<◌, ◌≤◌, Bool, true, false, cond, map, List, [], ◌∷◌, length, take, set, get_or, Option, Some, None, refl, sym, ◌∙◌, ap, subst, arith, eqb-true, eq-eqb, lt-ltb}
-use mathlib.Core.Bool.{not}
-use Rattle.std.specs.Prelude.{slice_get, swap_remove, ◌==◌, IfSome, position, option_map}
-use Rattle.std.specs.List.{position_or_len}
-use Rattle.std.proofs.lemmas.List.{length-map, take-map, map-set, get_or-map}
-use Rattle.std.proofs.lemmas.List.Quantifiers.{position-Some}
+use Rattle.std.proofs.Common.{◌≡◌, ◌≢◌, ℕ, zero, suc, ◌+◌, ◌-◌, ◌%◌, ◌^◌, ◌<◌, ◌≤◌, min, Bool, true, false, eqb, map, List, [], ◌∷◌, ◌++◌, length, take, drop, set, get_or, Some, None, refl, sym, ◌∙◌, ap, subst, arith, inl, inr}
+use Rattle.std.specs.Prelude.{slice_get, swap_remove, option_map, nat_lt, if◌then◌else◌}
+use Rattle.std.specs.List.{list_any}
+use Rattle.std.proofs.Math.Seq.{take-add}
+use Rattle.std.proofs.lemmas.Bool.{cases_lt, or_parts}
+use Rattle.std.proofs.lemmas.List.{length-map, length-append, length-take-le, take-map, take_all, map-set, get_or-map, get_or-take, get_or_append_left, get_or-append_right}
 use Rattle.std.proofs.lemmas.Option.{none-some, same_Some, slice_get-map, slice_get_within, slice_get-get_or, get_or_from_slice_get}
-use Rattle.std.proofs.lemmas.Bool.{true≢false}
 use Rattle.write_queue.specs.declared.entry.Entry.{Entry}
 use Rattle.write_queue.specs.Entries.{waiting_at}
+use Rattle.write_queue.specs.Finding.{IsFirstAt, IsFirstOf, Misses}
 use Rattle.write_queue.specs.Inside.{HasFirst}
 use Rattle.write_queue.specs.Sweeps.{sweep_key}
 use Rattle.write_queue.proofs.ListLemmas.{nowhere_waits}
@@ -27,39 +27,117 @@ waits_where [] j s is = absurd (none-some s is)
 waits_where (e ∷ es) zero s is = (e, refl, same_Some e.sector s is)
 waits_where (e ∷ es) (suc j) s is = waits_where es j s is
 
--- one that passes is found
-within : (p : ℕ → Bool) (xs : List ℕ) (k x : ℕ) → slice_get xs k ≡ Some x → p x ≡ true → position_or_len p xs < length xs
-within p [] k x is passes = absurd (none-some x is)
-within p (y ∷ xs) zero x is passes = rw (ap p (same_Some y x is) ∙ passes) (omega arith)
-within p (y ∷ xs) (suc k) x is passes = either (p y) (within p xs k x is passes)
+-- the sector stands in neither of two lists
+Misses-append : (c : ℕ) (xs ys : List ℕ) → Misses c xs → Misses c ys → Misses c (xs ++ ys)
+Misses-append c xs ys first second k l =
+    elim (cases_lt k (length xs)) [
+      | inl below ↦ rw (get_or_append_left xs ys 0 k below) (first k below)
+      | inr past ↦ rw (get_or-append_right xs ys (length xs) k 0 refl past) (second (k - length xs) (omega (arith, length-append xs ys)))
+    ]
+
+-- nor in a prefix that the two make up
+pub misses_both : (c n m : ℕ) (ss : List ℕ) → Misses c (take n ss) → Misses c (take m (drop n ss)) → Misses c (take (n + m) ss)
+misses_both c n m ss first second = rw (take-add n m ss) (Misses-append c (take n ss) (take m (drop n ss)) first second)
+
+-- what passes no test stands nowhere
+pub misses_none : (c : ℕ) (xs : List ℕ) → list_any (λ s. eqb s c) xs ≡ false → Misses c xs
+misses_none c [] none k l here = absurd (omega arith)
+misses_none c (x ∷ xs) none zero l here = let other = (or_parts (eqb x c) (list_any (λ s. eqb s c) xs) none).0 in absurd (grind arith)
+misses_none c (x ∷ xs) none (suc k) l here = misses_none c xs (or_parts (eqb x c) (list_any (λ s. eqb s c) xs) none).1 k (omega arith) here
+
+-- a page waits where its sector stands
+pub found_where : (es : List Entry) (ss : List ℕ) (sector place : ℕ) → ss ≡ sectors_of es → place < length ss → get_or ss place 0 ≡ sector
+    → (e : Entry) × (slice_get es place ≡ Some e) × (e.sector ≡ sector)
+found_where es ss sector place list inside stands =
+    waits_where es place sector (ap (λ (x : List ℕ). slice_get x place) (sym list) ∙ slice_get-get_or ss place 0 inside ∙ ap (λ (n : ℕ). Some n) stands)
+
+-- and none waits where it stands nowhere
+pub found_nowhere : (es : List Entry) (ss : List ℕ) (sector : ℕ) → ss ≡ sectors_of es → Misses sector ss → waiting_at es sector ≡ None
+found_nowhere es ss sector list misses =
+    nowhere_waits es sector (λ j e is same.
+    let at : slice_get ss j ≡ Some e.sector = ap (λ (x : List ℕ). slice_get x j) list ∙ slice_get-map (λ (x : Entry). x.sector) es j ∙ ap (option_map (λ (x : Entry). x.sector)) is in
+    misses j (slice_get_within ss j e.sector at) (get_or_from_slice_get ss j e.sector 0 at ∙ same))
+
+-- the least way ahead of the head to those so far, and whose it is
+pub record LeastSoFar (head least n : ℕ) (ss : List ℕ) : Type 0 where
+  pub place : ℕ
+  pub inside : place < length ss
+  pub short : get_or ss place 0 < 2 ^ 32
+  pub same : least + head ≡ sweep_key head (get_or ss place 0)
+  pub so_far : (k : ℕ) → k < n → least + head ≤ sweep_key head (get_or ss k 0)
+
+pub least_first : (head least : ℕ) (ss : List ℕ) → 0 < length ss → get_or ss 0 0 < 2 ^ 32 → least + head ≡ sweep_key head (get_or ss 0 0)
+    → LeastSoFar head least 0 ss
+least_first head least ss some short same = record { place = 0; inside = some; short = short; same = same; so_far = λ k below. absurd (omega (arith, below)) }
+
+pub least_next : (head least n key : ℕ) (ss : List ℕ) → LeastSoFar head least n ss → n < length ss → get_or ss n 0 < 2 ^ 32
+    → key + head ≡ sweep_key head (get_or ss n 0) → LeastSoFar head (min least key) (n + 1) ss
+least_next head least n key ss so inside short same =
+    elim (cases_lt key least) [
+      | inl less ↦ (let is : min least key ≡ key = omega (arith, less) in record {
+        place = n;
+        inside = inside;
+        short = short;
+        same = ap (λ (x : ℕ). x + head) is ∙ same;
+        so_far = each;
+      })
+      | inr more ↦ (let is : min least key ≡ least = omega (arith, more) in record {
+        place = so.place;
+        inside = so.inside;
+        short = so.short;
+        same = ap (λ (x : ℕ). x + head) is ∙ so.same;
+        so_far = each;
+      })
+    ]
   where
-    either : (b : Bool) → position_or_len p xs < length xs → cond (not b) (1 + position_or_len p xs) 0 < suc (length xs)
-    either true more = omega arith
-    either false more = omega (arith, more)
+    each : (k : ℕ) → k < n + 1 → min least key + head ≤ sweep_key head (get_or ss k 0)
+    each k below = elim (cases_lt k n) [
+      | inl before ↦ omega (arith, so.so_far k before)
+      | inr here ↦ (let last : k ≡ n = omega (arith, below, here) in subst (λ (x : ℕ). min least key + head ≤ sweep_key head (get_or ss x 0)) (sym last) (omega (arith, same)))
+    ]
 
-none_at : (p : ℕ → Bool) (xs : List ℕ) → position p xs ≡ None → (k x : ℕ) → slice_get xs k ≡ Some x → p x ≡ false
-none_at p xs none k x is = either (p x) refl
+-- the sector that lies so far ahead
+ahead_of : (head least x : ℕ) (b : Bool) → x < 2 ^ 32 → least + head ≡ (if b then 2 ^ 32 + x else x) → (head + least) % 2 ^ 32 ≡ x
+ahead_of head least x true short same = omega (arith, short, same)
+ahead_of head least x false short same = omega (arith, short, same)
+
+pub least_of_all : (head least n : ℕ) (ss : List ℕ) → LeastSoFar head least n ss → length ss ≤ n → IsFirstOf head ((head + least) % 2 ^ 32) ss
+least_of_all head least n ss so all =
+    let x = get_or ss so.place 0 in
+    let is : (head + least) % 2 ^ 32 ≡ x = ahead_of head least x (nat_lt x head) so.short so.same in
+    record {
+      place = so.place;
+      inside = so.inside;
+      there = sym is;
+      least = λ k below. subst (λ (n : ℕ). sweep_key head n ≤ sweep_key head (get_or ss k 0)) (sym is)
+          (subst (λ (n : ℕ). n ≤ sweep_key head (get_or ss k 0)) so.same (so.so_far k (omega (arith, below, all))));
+    }
+
+-- the sector after the head is the first, where the head is none of them
+at_next : (head x : ℕ) (b : Bool) → nat_lt x head ≡ b → head + 1 < 2 ^ 32 → x ≢ head → head + 1 ≤ (if b then 2 ^ 32 + x else x)
+at_next head x true is short other = omega (arith, short)
+at_next head x false is short other = let more : head ≤ x = grind (arith, is) in grind (arith, more, other)
+
+pub next_first : (head place n : ℕ) (ss : List ℕ) → head + 1 < 2 ^ 32 → place < length ss → get_or ss place 0 ≡ head + 1 → length ss ≤ n → Misses head (take n ss)
+    → IsFirstAt head place ss
+next_first head place n ss short inside next all misses = record {
+  below = inside;
+  least = λ k below.
+      let other : get_or ss k 0 ≢ head = subst (Misses head) (take_all n ss all) misses k below in
+      subst (λ (s : ℕ). sweep_key head s ≤ sweep_key head (get_or ss k 0)) (sym next)
+      (rw key_next (at_next head (get_or ss k 0) (nat_lt (get_or ss k 0) head) refl short other));
+}
   where
-    either : (b : Bool) → p x ≡ b → p x ≡ false
-    either false t = t
-    either true t =
-        let found = lt-ltb (position_or_len p xs) (length xs) (within p xs k x is t) in
-        absurd (none-some (position_or_len p xs) (sym none ∙ ap (λ (b : Bool). cond b (Some (position_or_len p xs)) None) found))
+    key_next : sweep_key head (head + 1) ≡ head + 1
+    key_next = grind arith
 
--- a page waits where its sector was found
-pub found_where : (es : List Entry) (sector : ℕ) (o : Option ℕ) → o ≡ position (λ s. s == sector) (sectors_of es)
-    → IfSome o (λ j. (e : Entry) × (slice_get es j ≡ Some e) × (e.sector ≡ sector))
-found_where es sector None is = tt
-found_where es sector (Some j) is =
-    let p = position-Some (λ s. s == sector) (sectors_of es) j 0 (sym is) in
-    let e = waits_where es j (get_or (sectors_of es) j 0) (slice_get-get_or (sectors_of es) j 0 p.0) in
-    (e.0, e.1, e.2 ∙ eqb-true (get_or (sectors_of es) j 0) sector p.1)
-
--- and none waits where it was not
-pub found_nowhere : (es : List Entry) (sector : ℕ) → position (λ s. s == sector) (sectors_of es) ≡ None → waiting_at es sector ≡ None
-found_nowhere es sector none =
-    nowhere_waits es sector (λ j e is same. true≢false (sym (ap (λ (n : ℕ). n == sector) same ∙ eq-eqb sector sector refl)
-    ∙ none_at (λ s. s == sector) (sectors_of es) none j e.sector (slice_get-map (λ (x : Entry). x.sector) es j ∙ ap (option_map (λ (x : Entry). x.sector)) is)))
+-- what stands in the list is found
+pub found_first : (ss : List ℕ) (s place k : ℕ) → place ≤ length ss → Misses s (take place ss) → k < length ss → get_or ss k 0 ≡ s → place < length ss
+found_first ss s place k within misses inside there =
+    elim (cases_lt k place) [
+      | inl before ↦ absurd (misses k (omega (arith, before, length-take-le place ss within)) (get_or-take place ss k 0 before ∙ there))
+      | inr past ↦ omega (arith, past, inside)
+    ]
 
 -- one page less is one sector less
 pub sectors-removed : (es : List Entry) (ss : List ℕ) (j : ℕ) (e : Entry) (s : ℕ) → ss ≡ sectors_of es → j < length es → swap_remove ss j s ≡ sectors_of (swap_remove es j e)

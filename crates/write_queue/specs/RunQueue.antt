@@ -1,13 +1,15 @@
 -- The disk that the queue of a run is, and what lies beneath it.
-use Rattle.std.specs.Prelude.{◌≡◌, ℕ, ◌+◌, ◌*◌, ◌≤◌, true, List, ◌∷◌, Option, None}
+use Rattle.std.specs.Prelude.{◌≡◌, ℕ, ◌+◌, ◌*◌, ◌≤◌, true, List, ◌∷◌, Option, None, Result, Err}
 use Rattle.labelled_disk.specs.declared.disk.Disk.{Ghosts}
+use Rattle.labelled_disk.specs.declared.disk.DiskError.{DiskError}
+use Rattle.labelled_disk.specs.declared.disk.DiskError.TheVariants as error
 use Rattle.labelled_disk.specs.declared.label.Label.{Label}
 use Rattle.labelled_disk.specs.declared.label.Wanted.{Wanted}
 use Rattle.labelled_disk.specs.Calls.{Rose}
 use Rattle.labelled_disk.specs.State.{DiskState, HasLabel}
 use Rattle.write_queue.specs.declared.run_queue.RunQueue.{RunQueue}
 use Rattle.write_queue.specs.Queue.{state_of}
-use Rattle.write_queue.specs.Stopping.{stopping}
+use Rattle.write_queue.specs.Stopping.{has_stopped, stopping}
 
 module _ {D A : Type 0} {G : Ghosts D} where
   -- the disk that it is
@@ -21,6 +23,10 @@ module _ {D A : Type 0} {G : Ghosts D} where
   -- the label that was met and had changed
   abbrev pub changed_by : RunQueue D A G → Option (ℕ × Wanted × Label)
   changed_by q = q.queue.changed
+
+  -- once a syncing failed a call fails, and nothing comes of it
+  abbrev pub StaysStopped : {T : Type 0} → RunQueue D A G → Result T DiskError → RunQueue D A G → Type 0
+  StaysStopped old result new = has_stopped old.queue ≡ true → (result ≡ Err error.Failed) × (new ≡ old)
 
 -- A queue that was made over a disk: it is as that disk is, no sector was moved, and it is known by the counts that stood then.
 pub record Starts (under queue : DiskState) : Type 0 where

@@ -1,13 +1,18 @@
 //! Where a page stands among those that wait.
-ghost use Rattle.std.specs.Prelude.{◌≡◌, ℕ, ◌<◌, ◌≤◌, ◌+◌, ◌==◌, length, slice_get, slice_index, position, Some, None, IfSome};
+ghost use Rattle.std.specs.Prelude.{◌≡◌, ◌<◌, ◌≤◌, ◌+◌, ◌==◌, length, slice_get, slice_index, take, Some, None, IfSome};
+ghost use Rattle.std.specs.List.{list_any};
 ghost use Rattle.write_queue.specs.declared.entry.Entry.{Entry};
 ghost use Rattle.write_queue.specs.Entries.{waiting_at};
+ghost use Rattle.write_queue.specs.Finding.{IsFirstAt, IsFirstOf, Misses};
 ghost use Rattle.write_queue.specs.Inside.{HasFirst};
 ghost use Rattle.write_queue.specs.Sweeps.{sweep_key};
 
 use crate::QueueOver;
 use labelled_disk::Disk;
 use std::alloc::Allocator;
+
+// How many sectors are compared in one step.
+const BLOCK: usize = 32;
 
 // How far a sector is ahead of the head, round the disk.
 fn ahead(head: u32, sector: u32) -> u32
@@ -16,30 +21,87 @@ fn ahead(head: u32, sector: u32) -> u32
     sector.wrapping_sub(head)
 }
 
-// The index of the first sector of the sweep.
-fn first_ahead(head: u32, sectors: &[u32]) -> usize
+// The first sector of the sweep.
+fn first_of_sweep(head: u32, sectors: &[u32]) -> u32
     requires { 0 < length sectors.now }
-    ensures below { result < length sectors.now }
-    ensures least { (k : ℕ) → k < length sectors.now → sweep_key head (slice_index sectors.now result)
-        ≤ sweep_key head (slice_index sectors.now k) }
+    ensures { IsFirstOf head result sectors.now }
 {
-    let mut best = 0;
     let mut least = ahead(head, sectors[0]);
-    for (k, sector) in sectors.iter().enumerate() {
-        let key = ahead(head, *sector);
-        if key < least {
-            best = k;
-            least = key;
-        }
+    for sector in sectors {
+        least = least.min(ahead(head, *sector));
     }
-    best
+    head.wrapping_add(least)
 }
 
-// The index of a sector.
-fn index_of(sectors: &[u32], sector: u32) -> Option<usize>
-    ensures { result ≡ position (λ s. s == sector) sectors.now }
+// Whether the sector is in the block. It looks at each, also after the first.
+fn has(sector: u32, block: &[u32]) -> bool
+    ensures { result ≡ list_any (λ s. s == sector) block.now }
 {
-    sectors.iter().position(|s| *s == sector)
+    let mut any = false;
+    for other in block {
+        any |= *other == sector;
+    }
+    any
+}
+
+// How many sectors the whole blocks before the first that has the sector hold.
+fn length_of_blocks_before(sector: u32, sectors: &[u32]) -> usize
+    ensures within { result ≤ length sectors.now }
+    ensures misses { Misses sector (take result sectors.now) }
+{
+    let mut length = 0;
+    while sectors.len() - length >= BLOCK && !has(sector, &sectors[length..length + BLOCK]) {
+        length += BLOCK;
+    }
+    length
+}
+
+// How many sectors stand before this one; all, if it is none of them.
+fn length_before(sector: u32, sectors: &[u32]) -> usize
+    ensures misses { Misses sector (take result sectors.now) }
+    ensures stands { result < length sectors.now → slice_index sectors.now result ≡ sector }
+    ensures within { result ≤ length sectors.now }
+{
+    for (place, other) in sectors.iter().enumerate() {
+        if *other == sector {
+            return place;
+        }
+    }
+    sectors.len()
+}
+
+// The index of a sector; the length of the list, if it is not there.
+fn index_of(sectors: &[u32], sector: u32) -> usize
+    ensures misses { Misses sector (take result sectors.now) }
+    ensures stands { result < length sectors.now → slice_index sectors.now result ≡ sector }
+    ensures within { result ≤ length sectors.now }
+{
+    let blocks = length_of_blocks_before(sector, sectors);
+    blocks + length_before(sector, &sectors[blocks..])
+}
+
+// The index of the sector after the head, where it stands there and the head does not.
+fn next_after(head: u32, sectors: &[u32]) -> Option<usize>
+    ensures { IfSome result (λ place. IsFirstAt head place sectors.now) }
+{
+    let next = head.checked_add(1)?;
+    let place = index_of(sectors, next);
+    if place < sectors.len() && index_of(sectors, head) == sectors.len() {
+        return Some(place);
+    }
+    None
+}
+
+// The index of the first sector of the sweep. Most often that is the one after the head.
+fn first_ahead(head: u32, sectors: &[u32]) -> usize
+    requires { 0 < length sectors.now }
+    ensures { IsFirstAt head result sectors.now }
+{
+    if let Some(place) = next_after(head, sectors) {
+        return place;
+    }
+    let first = first_of_sweep(head, sectors);
+    index_of(sectors, first)
 }
 
 impl<D: Disk, A: Allocator> QueueOver<D, A> {
@@ -57,6 +119,10 @@ impl<D: Disk, A: Allocator> QueueOver<D, A> {
             × (e.sector ≡ sector)) }
         ensures nowhere { result ≡ None → waiting_at self.now.entries.items sector ≡ None }
     {
-        index_of(&self.sectors, sector)
+        let place = index_of(&self.sectors, sector);
+        if place < self.sectors.len() {
+            return Some(place);
+        }
+        None
     }
 }

@@ -1,9 +1,10 @@
 //! The queue of a run: nothing comes of its calls after a syncing that failed.
-ghost use Rattle.std.specs.Prelude.{◌≡◌, ◌≤◌, IfOk, IfErr};
+ghost use Rattle.std.specs.Prelude.{◌≡◌, ◌<◌, ◌≤◌, IfOk, IfErr};
+ghost use Rattle.labelled_disk.specs.Calls.{Reads, Writes, WritesData, Syncs};
 ghost use Rattle.write_queue.specs.Stopping.{IsLow, IsStoppedByFault, FailedOnce, has_stopped};
 
 use crate::QueueOver;
-use labelled_disk::{Disk, DiskError, Label, NoMemory, Page, Wanted};
+use labelled_disk::{Disk, DiskError, DiskWrite, Label, NoMemory, Page, Wanted};
 use std::alloc::Allocator;
 
 /// A queue, until a `sync` fails. Each later call fails, and nothing comes of it beneath. So one syncing
@@ -68,7 +69,7 @@ impl<D: Disk, A: Allocator> RunQueue<D, A> {
 }
 
 impl<D: Disk, A: Allocator> Disk for RunQueue<D, A> {
-    ghost use Rattle.write_queue.specs.RunQueue.{run_state};
+    ghost use Rattle.write_queue.specs.RunQueue.{run_state, StaysStopped};
     ghost use Rattle.labelled_disk.specs.Syncing.{no_syncs};
     ghost use Rattle.write_queue.specs.QueueLaws.{revealed_whole, revealed_in_form};
 
@@ -90,35 +91,57 @@ impl<D: Disk, A: Allocator> Disk for RunQueue<D, A> {
         self.queue.sectors()
     }
 
-    fn read(&mut self, sector: u32, page: &mut Page) -> Result<Label, DiskError> {
+    fn read(&mut self, sector: u32, page: &mut Page) -> Result<Label, DiskError>
+        requires { sector < (run_state self.old).sectors }
+        ensures stopped { StaysStopped self.old result self.new }
+        ensures reads { Reads (run_state self.old) sector page.new result (run_state self.new) }
+    {
         if self.has_stopped() {
             return Err(DiskError::Failed);
         }
         self.queue.read(sector, page)
     }
 
-    fn write(&mut self, sector: u32, label: &Label, page: &Page) -> Result<(), DiskError> {
+    fn write(&mut self, sector: u32, label: &Label, page: &Page) -> Result<(), DiskError>
+        requires { sector < (run_state self.old).sectors }
+        ensures stopped { StaysStopped self.old result self.new }
+        ensures writes { Writes (DiskWrite.Whole sector label.now page.now) (run_state self.old) result
+            (run_state self.new) }
+    {
         if self.has_stopped() {
             return Err(DiskError::Failed);
         }
         self.queue.write(sector, label, page)
     }
 
-    fn write_label(&mut self, sector: u32, label: &Label) -> Result<(), DiskError> {
+    fn write_label(&mut self, sector: u32, label: &Label) -> Result<(), DiskError>
+        requires { sector < (run_state self.old).sectors }
+        ensures stopped { StaysStopped self.old result self.new }
+        ensures writes { Writes (DiskWrite.LabelOnly sector label.now) (run_state self.old) result
+            (run_state self.new) }
+    {
         if self.has_stopped() {
             return Err(DiskError::Failed);
         }
         self.queue.write_label(sector, label)
     }
 
-    fn write_data(&mut self, sector: u32, wanted: Wanted, page: &Page) -> Result<(), DiskError> {
+    fn write_data(&mut self, sector: u32, wanted: Wanted, page: &Page) -> Result<(), DiskError>
+        requires { sector < (run_state self.old).sectors }
+        ensures stopped { StaysStopped self.old result self.new }
+        ensures writes { WritesData sector wanted page.now (run_state self.old) result
+            (run_state self.new) }
+    {
         if self.has_stopped() {
             return Err(DiskError::Failed);
         }
         self.queue.write_data(sector, wanted, page)
     }
 
-    fn sync(&mut self) -> Result<(), DiskError> {
+    fn sync(&mut self) -> Result<(), DiskError>
+        ensures stopped { StaysStopped self.old result self.new }
+        ensures syncs { Syncs (run_state self.old) result (run_state self.new) }
+    {
         if self.has_stopped() {
             return Err(DiskError::Failed);
         }

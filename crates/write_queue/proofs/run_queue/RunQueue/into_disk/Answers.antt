@@ -1,6 +1,3 @@
-use Rattle.std.proofs.Common.{rules, ◌≡◌, true, sym, subst}
-use Rattle.write_queue.specs.Queue.{disk_of, state_of}
-use Rattle.write_queue.specs.RunQueue.{changed_by, run_state, LiesBeneath}
 use Rattle.write_queue.proofs.StoppingLemmas.{lies_beneath}
 use Rattle.write_queue.proofs.run_queue.RunQueue.into_disk.Goals as goal
 

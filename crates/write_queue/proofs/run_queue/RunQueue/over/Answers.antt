@@ -1,4 +1,4 @@
-use Rattle.std.proofs.Common.{rules, ◌≡◌, ◌<◌, ◌^◌}
+use Rattle.std.proofs.Common.{rules, ◌<◌, ◌^◌}
 use Rattle.write_queue.specs.Queue.{view_of, tally_of}
 use Rattle.write_queue.proofs.StoppingLemmas.{starts_of}
 use Rattle.write_queue.proofs.run_queue.RunQueue.over.Goals as goal

@@ -1,0 +1,165 @@
+//! Bytes are moved between the file and the memory.
+ghost use Rattle.std.specs.Prelude.{◌≡◌, ◌<◌, true};
+ghost use Rattle.labelled_disk.specs.Label.{names};
+
+use crate::bytes::{label_at, label_in, page_at};
+use crate::neighbours::{MOST, read_labels, read_neighbours};
+use crate::{ImageDisk, Trouble};
+use labelled_disk::{Label, Page, Wanted};
+use std::fs::OpenFile;
+use std::io;
+use std::os::unix::fs::FileExt;
+
+impl<F: FileExt + OpenFile> ImageDisk<F> {
+    ghost use Rattle.image_disk.specs.Image.{image_state};
+
+    // Reads as many bytes as there are to fill, from this byte of the file on.
+    pub(crate) fn get(&self, at: u64, bytes: &mut [u8]) -> io::Result<()> {
+        match &self.file {
+            Some(file) => file.read_exact_at(bytes, at),
+            None => Err(io::ErrorKind::NotFound.into()),
+        }
+    }
+
+    // The bytes of a sector, which are remembered or read. Where the sector before it was read lately,
+    // those after it are read as well.
+    pub(crate) fn get_sector(&mut self, sector: u32) -> io::Result<[u8; 528]>
+        requires { sector < (image_state self.old).sectors }
+        ensures same { image_state self.new ≡ image_state self.old }
+    {
+        if let Some(bytes) = self.last.get(sector) {
+            return Ok(bytes);
+        }
+        if sector > 0 && self.last.has(sector - 1) {
+            self.get_neighbours(sector);
+            if let Some(bytes) = self.last.get(sector) {
+                return Ok(bytes);
+            }
+        }
+        let mut bytes = [0; 528];
+        self.get(label_at(sector), &mut bytes)?;
+        self.last.keep(sector, bytes);
+        Ok(bytes)
+    }
+
+    // Reads up to 32 sectors from this one on, and remembers them.
+    fn get_neighbours(&mut self, sector: u32)
+        requires { sector < (image_state self.old).sectors }
+        ensures same { image_state self.new ≡ image_state self.old }
+    {
+        if let Some(file) = &self.file {
+            let count = MOST.min(self.sectors - sector);
+            let _ = read_neighbours(file, sector, count, &mut self.last);
+        }
+    }
+
+    // The label of a sector, which is remembered or read. Where that of the sector before it is
+    // remembered, those of the ones after it are read as well.
+    pub(crate) fn get_label(&mut self, sector: u32) -> io::Result<Label>
+        requires { sector < (image_state self.old).sectors }
+        ensures same { image_state self.new ≡ image_state self.old }
+    {
+        if let Some(label) = self.known_label(sector) {
+            return Ok(label);
+        }
+        if sector > 0 && self.labels.has(sector - 1) {
+            self.get_labels(sector);
+            if let Some(label) = self.known_label(sector) {
+                return Ok(label);
+            }
+        }
+        let mut bytes = [0; 16];
+        self.get(label_at(sector), &mut bytes)?;
+        let label = Label::from_bytes(&bytes);
+        self.labels.keep(sector, label);
+        Ok(label)
+    }
+
+    // The label of a sector where it, or the whole sector, is remembered.
+    fn known_label(&self, sector: u32) -> Option<Label> {
+        match self.labels.get(sector) {
+            Some(label) => Some(label),
+            None => self.last.get(sector).map(|bytes| label_in(&bytes)),
+        }
+    }
+
+    // Reads up to 32 sectors from this one on, and remembers their labels.
+    fn get_labels(&mut self, sector: u32)
+        requires { sector < (image_state self.old).sectors }
+        ensures same { image_state self.new ≡ image_state self.old }
+    {
+        if let Some(file) = &self.file {
+            let count = MOST.min(self.sectors - sector);
+            let _ = read_labels(file, sector, count, &mut self.labels);
+        }
+    }
+
+    // Writes a sector, or lets it wait until its neighbours are written too.
+    pub(crate) fn put_sector(&mut self, sector: u32, bytes: &[u8; 528]) -> Result<(), Trouble>
+        ensures same { image_state self.new ≡ image_state self.old }
+    {
+        if self.lets_wait(sector, bytes) {
+            return Ok(());
+        }
+        self.write_out()?;
+        if self.lets_wait(sector, bytes) {
+            return Ok(());
+        }
+        match self.put(label_at(sector), bytes) {
+            Ok(()) => Ok(()),
+            Err(error) => Err(Trouble::Sector { sector, error }),
+        }
+    }
+
+    // Remembers a sector that was written, unless it may wait still.
+    pub(crate) fn remember_sector(&mut self, sector: u32, label: Label, bytes: &[u8; 528])
+        ensures same { image_state self.new ≡ image_state self.old }
+    {
+        if self.waiting.is_some() {
+            self.last.discard(sector);
+            self.labels.discard(sector);
+            return;
+        }
+        self.last.keep(sector, *bytes);
+        self.labels.keep(sector, label);
+    }
+
+    // Lets a sector wait, where writes are joined and it comes next after those that wait.
+    fn lets_wait(&mut self, sector: u32, bytes: &[u8; 528]) -> bool
+        ensures same { image_state self.new ≡ image_state self.old }
+    {
+        match &mut self.waiting {
+            Some(waiting) => waiting.push(sector, bytes),
+            None => false,
+        }
+    }
+
+    // Writes all bytes, from this byte of the file on.
+    pub(crate) fn put(&self, at: u64, bytes: &[u8]) -> io::Result<()> {
+        match &self.file {
+            Some(file) => file.write_all_at(bytes, at),
+            None => Err(io::ErrorKind::NotFound.into()),
+        }
+    }
+
+    // Writes the page of a sector whose label was found to name it.
+    pub(crate) fn put_page(
+        &self,
+        sector: u32,
+        _found: Label,
+        _wanted: Wanted,
+        page: &Page,
+    ) -> io::Result<()>
+        requires { names _found _wanted ≡ true }
+    {
+        self.put(page_at(sector), page.as_slice())
+    }
+
+    // Waits until what was written to the file is on the medium.
+    pub(crate) fn sync_file(&self) -> io::Result<()> {
+        match &self.file {
+            Some(file) => file.sync_data(),
+            None => Ok(()),
+        }
+    }
+}
