@@ -29,7 +29,7 @@ use Rattle.fault_core.specs.Reach.{Reaches}
 use Rattle.fault_core.specs.Unit.{IsReady}
 use Rattle.fault_core.specs.Moves.{AreSeen}
 use Rattle.fault_core.specs.Revealed.{BreaksTables, IsIntervalOf, Revealed}
-use Rattle.fault_core.specs.View.{View}
+use Rattle.filer_kernel.specs.View.{View}
 use Rattle.fault_core.proofs.KeptLemmas.{find_is}
 use Rattle.fault_core.proofs.ShowLemmas.{reveals_page, shown_is, seen_of}
 use Rattle.fault_core.proofs.RevealedLemmas.{interval_of}

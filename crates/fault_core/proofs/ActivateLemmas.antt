@@ -26,7 +26,7 @@ use Rattle.fault_core.specs.Reach.{Reaches, TouchHalts}
 use Rattle.fault_core.specs.Revealed.{BreaksTables, Revealed}
 use Rattle.fault_core.specs.Unit.{IsReady, IsTouched}
 use Rattle.fault_core.specs.Room.{KeepsWhileEmpty}
-use Rattle.fault_core.specs.View.{View}
+use Rattle.filer_kernel.specs.View.{View}
 use Rattle.fault_core.proofs.AccessLemmas.{breaks_before}
 use Rattle.fault_core.proofs.RangeLemmas.{IsNotOlder, ahead_next, tables_are}
 use Rattle.fault_core.proofs.ReachLemmas.{reaches_itself, reaches_then, finds_before}

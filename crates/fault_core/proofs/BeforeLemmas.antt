@@ -32,7 +32,7 @@ use Rattle.swapper_kernel.proofs.PlacedLemmas.{parts}
 use Rattle.filer_kernel.specs.Triples.{MapIs}
 use Rattle.filer_kernel.specs.Causes.{MapShows, IsGiven}
 use Rattle.filer_kernel.specs.Tables.{in_tables}
-use Rattle.fault_core.specs.View.{View, kept_by}
+use Rattle.filer_kernel.specs.View.{View, kept_by}
 use Rattle.fault_core.specs.Reach.{IsReachedHome, IsReached, Reaches, FindEvidence, FindHalts}
 use Rattle.fault_core.specs.Touch.{on_data, and_own, Touches}
 

@@ -25,7 +25,7 @@ use Rattle.force_calls.specs.Run.{OnlyRun}
 use Rattle.fault_core.specs.Moves.{Leaves}
 use Rattle.fault_core.specs.Revealed.{Known}
 use Rattle.fault_core.specs.Touch.{and_own, on_data, Touches}
-use Rattle.fault_core.specs.View.{View}
+use Rattle.filer_kernel.specs.View.{View}
 use Rattle.fault_core.proofs.BeforeLemmas.{map_still}
 use Rattle.fault_core.proofs.FrameLemmas.{client_on_data}
 use Rattle.fault_core.proofs.StoreLemmas.{named_still}

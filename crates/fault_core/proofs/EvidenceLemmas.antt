@@ -9,7 +9,7 @@ use Rattle.filer_kernel.specs.Evidence.{IsEvident, MayBeMissing, ShowsEvidence}
 use Rattle.filer_kernel.specs.EvidenceLaws.{Fits, held_or_file, other_so, so_of_cause}
 use Rattle.fault_core.specs.Reach.{IsReachedHome, FindEvidence, ReachHalts, TouchHalts}
 use Rattle.fault_core.specs.ReachLaws.{touch_of_reach}
-use Rattle.fault_core.specs.View.{View}
+use Rattle.filer_kernel.specs.View.{View}
 
 -- the homes that are reached lie where the layout lets them be
 reached_so : (breaks : ℕ → Type 0) (v : View) → Fits v.layout v.disk v.slots → (e : Evidence) → FindEvidence breaks MayBeMissing v e → IsEvident v.disk e

@@ -19,7 +19,7 @@ use Rattle.filer_kernel.specs.Evidence.{MayBeMissing}
 use Rattle.filer_kernel.specs.PlaceLaws.{data_first}
 use Rattle.swapper_kernel.specs.Homes.{IsLayout, IsAmong}
 use Rattle.swapper_kernel.specs.HaltLaws.{brings_itself, brings_then}
-use Rattle.fault_core.specs.View.{View, kept_by}
+use Rattle.filer_kernel.specs.View.{View, kept_by}
 use Rattle.fault_core.specs.Reach.{IsReachedHome, Reaches, TouchHalts, BringsOwn, no_break}
 use Rattle.fault_core.specs.Revealed.{Known}
 use Rattle.fault_core.specs.Homes.{AreHomesOf, HaveSectors}

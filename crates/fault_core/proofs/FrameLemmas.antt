@@ -21,7 +21,7 @@ use Rattle.session_words.proofs.FoundLemmas.{above_reserved, file_label}
 use Rattle.filer_kernel.specs.PlaceLaws.{data_first}
 use Rattle.fault_core.specs.Moves.{HasBytes}
 use Rattle.fault_core.specs.Revealed.{Known}
-use Rattle.fault_core.specs.View.{View}
+use Rattle.filer_kernel.specs.View.{View}
 
 of_no_map : (id : ℕ) → 16 ≤ id → (which : Manager) → id ≢ id_of which
 of_no_map id client AllocationMap same = absurd (omega (arith, client, same))

@@ -29,7 +29,7 @@ use Rattle.fault_core.specs.Range.{IsNextPart}
 use Rattle.fault_core.specs.Reach.{BringsOwn, ReachHalts, table_page}
 use Rattle.fault_core.specs.Revealed.{BreaksTables, Revealed}
 use Rattle.fault_core.specs.Touch.{Touches}
-use Rattle.fault_core.specs.View.{View}
+use Rattle.filer_kernel.specs.View.{View}
 use Rattle.fault_core.proofs.BeforeLemmas.{halt_before, touches_of, touches_then}
 use Rattle.fault_core.proofs.LeaveLemmas.{goes_revealed, revealed_stands}
 use Rattle.fault_core.proofs.ReachLemmas.{reaches_itself}

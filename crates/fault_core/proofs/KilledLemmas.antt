@@ -37,7 +37,7 @@ use Rattle.fault_core.specs.Kill.{AreWritableSo, LeavesCore, may_store, of_part}
 use Rattle.fault_core.specs.Moves.{Leaves}
 use Rattle.fault_core.specs.Revealed.{IsIntervalOf, Revealed}
 use Rattle.fault_core.specs.Unit.{file_page}
-use Rattle.fault_core.specs.View.{View}
+use Rattle.filer_kernel.specs.View.{View}
 use Rattle.fault_core.proofs.LeaveLemmas.{revealed_leaves}
 use Rattle.fault_core.proofs.ShowLemmas.{shown_is, shown_none, shows_through, reveals_page}
 

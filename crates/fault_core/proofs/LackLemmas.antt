@@ -18,7 +18,7 @@ use Rattle.fault_core.specs.Lack.{MissesPage, Sees, run_pages, shown_unit, unit_
 use Rattle.fault_core.specs.Reach.{Reaches}
 use Rattle.fault_core.specs.Revealed.{IsIntervalOf}
 use Rattle.fault_core.specs.Unit.{IsUnitRun}
-use Rattle.fault_core.specs.View.{View}
+use Rattle.filer_kernel.specs.View.{View}
 use Rattle.fault_core.proofs.ShowLemmas.{shown_is}
 use Rattle.fault_core.proofs.RevealedLemmas.{interval_at}
 

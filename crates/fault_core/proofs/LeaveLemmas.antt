@@ -17,7 +17,7 @@ use Rattle.fault_core.specs.Reach.{Reaches}
 use Rattle.fault_core.specs.Revealed.{Revealed}
 use Rattle.fault_core.specs.Touch.{and_own, Touches}
 use Rattle.fault_core.specs.Unit.{AreShownStored, file_page}
-use Rattle.fault_core.specs.View.{View}
+use Rattle.filer_kernel.specs.View.{View}
 use Rattle.fault_core.proofs.AccessLemmas.{first_touched, last_touched}
 use Rattle.fault_core.proofs.BeforeLemmas.{touches_of}
 use Rattle.fault_core.proofs.PieceLemmas.{one_piece, next_address, next_offset}

@@ -16,7 +16,7 @@ use Rattle.fault_core.specs.Revealed.{AreStored, Known}
 use Rattle.fault_core.specs.Touch.{and_own}
 use Rattle.fault_core.specs.Unit.{IsSlotOf}
 use Rattle.fault_core.specs.Room.{KeepsSlots}
-use Rattle.fault_core.specs.View.{View}
+use Rattle.filer_kernel.specs.View.{View}
 use Rattle.fault_core.proofs.AccessLemmas.{first_touched, last_touched}
 use Rattle.fault_core.proofs.FrameLemmas.{frame_bytes}
 use Rattle.fault_core.proofs.LeaveLemmas.{leaves_then, leaves_wider, one_stored, two_stored}

@@ -35,7 +35,7 @@ use Rattle.fault_core.specs.ReachLaws.{touch_of_reach}
 use Rattle.fault_core.specs.NeverBlames.{NeverBlamesTables}
 use Rattle.fault_core.specs.Revealed.{BreaksTables}
 use Rattle.fault_core.specs.Touch.{Touches}
-use Rattle.fault_core.specs.View.{View, TablesAre}
+use Rattle.filer_kernel.specs.View.{View, TablesAre}
 
 plain_record : (x : Interval) → in_form x ≡ true → interval_in (bytes_of x) ≡ x → is_interval_record (bytes_of x) ≡ true
 plain_record x form back = and_from _ _ (and_from _ _ (has_mode x.mode) (ap in_form back ∙ form)) refl

@@ -26,7 +26,7 @@ use Rattle.fault_core.specs.Range.{AreWrittenBack, IsNextPart, LeavesFrames}
 use Rattle.fault_core.specs.Unit.{file_page}
 use Rattle.fault_core.specs.Reach.{Reaches, ReachHalts, BringsOwn, StayOrYield}
 use Rattle.fault_core.specs.Revealed.{BreaksTables, Revealed}
-use Rattle.fault_core.specs.View.{View}
+use Rattle.filer_kernel.specs.View.{View}
 use Rattle.fault_core.proofs.AccessLemmas.{breaks_before}
 use Rattle.fault_core.specs.Kept.{AreFormed}
 use Rattle.fault_core.proofs.KeptLemmas.{find_is}

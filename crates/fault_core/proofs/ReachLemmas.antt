@@ -28,7 +28,7 @@ use Rattle.filer_kernel.specs.NamedLaws.{maps_named_once}
 use Rattle.filer_kernel.specs.PlaceLaws.{map_kept, one_sector}
 use Rattle.filer_kernel.specs.Tables.{in_tables, table_pages, IsTablePage, TablesReveal}
 use Rattle.filer_kernel.proofs.MapLemmas.{same_elements}
-use Rattle.fault_core.specs.View.{View, TablesAre}
+use Rattle.filer_kernel.specs.View.{View, TablesAre}
 use Rattle.fault_core.specs.Reach.{IsReachedHome, IsReached, Reaches, FindHalts, ReachHalts, table_page}
 use Rattle.fault_core.specs.Revealed.{IsTabled, Known}
 use Rattle.fault_core.proofs.BeforeLemmas.{touches_of, given_before, found_before, came_before, halt_before}

@@ -25,7 +25,7 @@ use Rattle.fault_core.specs.Range.{AreWrittenBack, IsWrittenBack, LeavesFrames}
 use Rattle.fault_core.specs.Reach.{Reaches, BringsOwn, StayOrYield}
 use Rattle.fault_core.specs.Revealed.{IsIntervalOf, Revealed}
 use Rattle.fault_core.specs.Unit.{file_page}
-use Rattle.fault_core.specs.View.{View}
+use Rattle.filer_kernel.specs.View.{View}
 use Rattle.fault_core.proofs.ReachLemmas.{reaches_itself}
 use Rattle.fault_core.proofs.ShowLemmas.{none_past, shown_is, shown_none}
 use Rattle.fault_core.proofs.TurnLemmas.{reaches_brought}

@@ -11,7 +11,7 @@ use Rattle.space_tables.specs.SpaceTables.{IsIntervalAt}
 use Rattle.space_tables.specs.Stored.{RevealSpaces}
 use Rattle.swapper_kernel.specs.Homes.{IsLayout}
 use Rattle.fault_core.specs.Kept.{IsKept, IsFormed}
-use Rattle.fault_core.specs.View.{View, TablesAre}
+use Rattle.filer_kernel.specs.View.{View, TablesAre}
 use Rattle.fault_core.specs.Reach.{Reaches}
 use Rattle.fault_core.specs.Revealed.{Revealed, IsIntervalOf}
 use Rattle.fault_core.proofs.ReachLemmas.{tables_of, known_after}

@@ -12,7 +12,7 @@ use Rattle.swapper_kernel.specs.Bring.{AreThere}
 use Rattle.swapper_kernel.specs.Homes.{AreFileHomes, AreNamed, Brings, IsAmong, IsFileHome, IsNamed, IsRow}
 use Rattle.swapper_kernel.specs.HaltLaws.{brings_then, brings_wider}
 use Rattle.filer_kernel.specs.PlaceLaws.{one_sector}
-use Rattle.fault_core.specs.View.{View}
+use Rattle.filer_kernel.specs.View.{View}
 use Rattle.fault_core.specs.Reach.{IsReachedHome, BringsOwn}
 use Rattle.fault_core.specs.Revealed.{Known, IsStored}
 use Rattle.fault_core.specs.Homes.{AreHomesOf, HaveSectors}

@@ -29,7 +29,7 @@ use Rattle.fault_core.specs.Moves.{Leaves}
 use Rattle.fault_core.specs.Revealed.{IsStored, Known}
 use Rattle.fault_core.specs.Touch.{and_own, on_data, Touches}
 use Rattle.fault_core.specs.Room.{KeepsSlots}
-use Rattle.fault_core.specs.View.{View}
+use Rattle.filer_kernel.specs.View.{View}
 use Rattle.fault_core.proofs.BeforeLemmas.{map_still}
 use Rattle.fault_core.proofs.FrameLemmas.{client_on_data, frame_kind}
 

@@ -25,7 +25,7 @@ use Rattle.filer_kernel.specs.Causes.{IsGiven, MapHalts}
 use Rattle.filer_kernel.specs.Tables.{in_tables, table_pages, IsFoundHome, FoundHalts, IsComing, BesideTables, IsTableAccounted}
 use Rattle.filer_kernel.specs.TableOnce.{ComeOver, come_over, map_over, run_home_over, same_sectors, tables_stay, tables_swapped}
 use Rattle.filer_kernel.proofs.FoundLemmas.{memory_stays, beside_found}
-use Rattle.fault_core.specs.View.{View, kept_by, TablesAre}
+use Rattle.filer_kernel.specs.View.{View, kept_by, TablesAre}
 use Rattle.fault_core.specs.Reach.{IsReachedHome, IsReached, Reaches, ReachHalts, BringsOwn, no_break}
 
 found_reached : (v : View) (home : Home) → IsFoundHome v.layout v.disk v.slots (kept_by v) home → IsReachedHome v home

@@ -19,7 +19,7 @@ use Rattle.fault_core.specs.Activate.{AreBare, AreWhole, IsShownAt, IsUnitAt}
 use Rattle.fault_core.specs.Revealed.{Revealed}
 use Rattle.fault_core.specs.Unit.{IsReady, IsResident, IsWhole, file_page}
 use Rattle.fault_core.specs.Room.{KeepsWhileEmpty}
-use Rattle.fault_core.specs.View.{View}
+use Rattle.filer_kernel.specs.View.{View}
 use Rattle.fault_core.proofs.ShowLemmas.{none_past, shown_is, shown_none}
 use Rattle.fault_core.proofs.RevealedLemmas.{interval_at, interval_of}
 

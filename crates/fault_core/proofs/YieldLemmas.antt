@@ -16,7 +16,7 @@ use Rattle.swapper_kernel.specs.Homes.{Homes}
 use Rattle.swapper_kernel.specs.Steps.{Step, IsStep, IsCourse, fills, writes_out, alters}
 use Rattle.filer_kernel.specs.Tables.{BesideTables, IsComing, IsChanging}
 use Rattle.fault_core.specs.Reach.{IsManagersPage, StayOrYield}
-use Rattle.fault_core.specs.View.{View, kept_by}
+use Rattle.filer_kernel.specs.View.{View, kept_by}
 
 pub yield_itself : (s : Slots) → StayOrYield s s
 yield_itself s i f has = (f, has, inl (refl, refl))

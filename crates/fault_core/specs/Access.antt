@@ -13,7 +13,7 @@ use Rattle.fault_core.specs.declared.reference.Reference.{Reference}
 use Rattle.fault_core.specs.declared.reference.Reference.TheVariants as reference
 use Rattle.fault_core.specs.Kept.{IsFormed}
 use Rattle.fault_core.specs.Revealed.{BreaksTables}
-use Rattle.fault_core.specs.View.{View}
+use Rattle.filer_kernel.specs.View.{View}
 
 -- the first page that no window shows, else the first one that is read-only
 abbrev pub refused_by : Option ℕ → Option ℕ → Access

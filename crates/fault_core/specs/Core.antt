@@ -7,7 +7,7 @@ use Rattle.flat_machine.specs.declared.space.Space.{Space}
 use Rattle.swap_units.specs.declared.interval.Interval.{Interval}
 use Rattle.descriptor_cache.specs.Cache.{kept_in}
 use Rattle.fault_core.specs.declared.core_over.Core.{Core}
-use Rattle.fault_core.specs.View.{View, view_of}
+use Rattle.filer_kernel.specs.View.{View, view_of}
 use Rattle.fault_core.specs.Revealed.{Revealed}
 
 module _ {D A : Type 0} {G : Ghosts D} where

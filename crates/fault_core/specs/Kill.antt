@@ -16,7 +16,7 @@ use Rattle.swapper_kernel.specs.Goes.{Change, Pages}
 use Rattle.fault_core.specs.Access.{Shows}
 use Rattle.fault_core.specs.Revealed.{BreaksTables, Revealed}
 use Rattle.fault_core.specs.Unit.{IsResident, file_page}
-use Rattle.fault_core.specs.View.{View}
+use Rattle.filer_kernel.specs.View.{View}
 
 -- the page has no frame
 abbrev pub is_absent : Slots → Pages

@@ -13,7 +13,7 @@ use Rattle.fault_core.specs.Access.{Shows, last_page}
 use Rattle.fault_core.specs.Kept.{IsKept}
 use Rattle.fault_core.specs.Revealed.{IsIntervalOf}
 use Rattle.fault_core.specs.Unit.{InUnit, file_page}
-use Rattle.fault_core.specs.View.{View, TablesAre}
+use Rattle.filer_kernel.specs.View.{View, TablesAre}
 
 -- where the halt is that the map has no sector for a page, it is a page of the space tables or one of these
 abbrev pub MissesPage : Pages → Halt → Type 0

@@ -1,4 +1,3 @@
-pub mod View
 pub mod Reach
 pub mod ReachLaws
 pub mod Revealed

@@ -16,7 +16,7 @@ use Rattle.fault_core.specs.declared.reference.Access.{Access}
 use Rattle.fault_core.specs.declared.reference.Access.TheVariants.{Done, NoMap, ReadOnly}
 use Rattle.fault_core.specs.Access.{last_page}
 use Rattle.fault_core.specs.Revealed.{Known}
-use Rattle.fault_core.specs.View.{View}
+use Rattle.filer_kernel.specs.View.{View}
 use Rattle.fault_core.specs.Unit.{AreShownStored, file_page}
 
 -- these bytes stand in the sector of a file's page, from this byte of it on

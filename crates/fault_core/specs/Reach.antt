@@ -21,7 +21,7 @@ use Rattle.filer_kernel.specs.Triples.{MapIs, AreOf, IsOneOf}
 use Rattle.filer_kernel.specs.Causes.{MapShows, IsGiven, IsRunHome}
 use Rattle.filer_kernel.specs.Evidence.{MayBeMissing}
 use Rattle.filer_kernel.specs.Tables.{in_tables, table_pages}
-use Rattle.fault_core.specs.View.{View, kept_by, TablesAre}
+use Rattle.filer_kernel.specs.View.{View, kept_by, TablesAre}
 
 -- a page on a data sector, where a run that was kept, or was read from the map, has it
 pub record IsReachedHome (v : View) (home : Home) : Type 0 where

@@ -7,7 +7,7 @@ use Rattle.swapper_kernel.specs.Goes.{Pages}
 use Rattle.filer_kernel.specs.Evidence.{MayBeMissing}
 use Rattle.fault_core.specs.Lack.{MissesPage}
 use Rattle.fault_core.specs.Reach.{FindHalts, ReachHalts, TouchHalts, table_page}
-use Rattle.fault_core.specs.View.{View}
+use Rattle.filer_kernel.specs.View.{View}
 
 module _ (breaks : ℕ → Type 0) (v w : View) where
   -- more pages may be missing

@@ -20,7 +20,7 @@ use Rattle.swapper_kernel.specs.Stands.{Stands}
 use Rattle.filer_kernel.specs.Triples.{MapIs, AreOf}
 use Rattle.filer_kernel.specs.Tables.{AreOverTables, IsTablePage}
 use Rattle.fault_core.specs.Kept.{IsKept}
-use Rattle.fault_core.specs.View.{View, kept_by, TablesAre}
+use Rattle.filer_kernel.specs.View.{View, kept_by, TablesAre}
 
 -- each data sector whose label has the identifier of the space tables is where the file map has one of their pages
 abbrev pub IsTabled : Layout → Triples → List Sector → Type 0

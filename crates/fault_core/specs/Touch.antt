@@ -12,7 +12,7 @@ use Rattle.swapper_kernel.specs.Goes.{Goes, Pages}
 use Rattle.filer_kernel.specs.Triples.{MapIs, AreOf, IsOneOf}
 use Rattle.filer_kernel.specs.Causes.{IsGiven}
 use Rattle.filer_kernel.specs.Tables.{table_pages}
-use Rattle.fault_core.specs.View.{View, kept_by, TablesAre}
+use Rattle.filer_kernel.specs.View.{View, kept_by, TablesAre}
 use Rattle.fault_core.specs.Reach.{IsReached}
 
 -- whether a sector is a data sector

@@ -15,6 +15,7 @@ ghost use Rattle.fault_core.specs.Revealed.{BreaksTables};
 ghost use Rattle.fault_core.specs.Room.{KeepsWhileEmpty};
 ghost use Rattle.fault_core.specs.Lack.{MissesPage, Sees, range_units, shown_unit};
 ghost use Rattle.fault_core.specs.NeverBlames.{NeverBlamesTables};
+ghost use Rattle.filer_kernel.specs.View.{FitsLayout, view_of};
 
 use crate::Core;
 use crate::walk::end_of;
@@ -35,7 +36,7 @@ pub(crate) struct Progress {
 
 // Half of the frames: more pages are not brought in, but for the first swap unit.
 fn half_of<D: Disk, A: Allocator>(filer: &mut Filer<D, A>) -> u32
-    ensures half { result ≡ length filer.old.swapper.pool / 2 }
+    ensures half { result ≡ length (view_of filer.old).slots / 2 }
     ensures some { 1 ≤ result }
     ensures few { result ≤ 2048 }
     ensures same { filer.new ≡ filer.old }
@@ -49,7 +50,7 @@ impl<D: Disk, A: Allocator> Core<D, A> {
     // The page after the swap unit that a page is in, and how many pages the unit has; or where no window shows the page, that
     // after its interval, or the end of the range, and 0.
     fn unit_at(&mut self, page: u32, end: u32) -> Result<(u32, u32), Halt>
-        requires size { (D.state self.old.filer.swapper.disk).sectors ≡ self.old.filer.swapper.layout.sectors }
+        requires size { FitsLayout (state self.old) }
         requires before { page < end }
         requires in_root { end ≤ root_pages }
         ensures further { IfOk result (λ r. page < r.0) }
@@ -60,10 +61,10 @@ impl<D: Disk, A: Allocator> Core<D, A> {
         ensures sound { (m : List Sector) (named : Triples) (ss : List Space) → Knows self.old m named ss → IfErr result (λ e. e ≡ halt.Disk) }
         ensures same { (m : List Sector) (named : Triples) (ss : List Space) → Knows self.old m named ss → Knows self.new m named ss }
         ensures reaches { Reaches (state self.old) (state self.new) }
-        ensures came { BringsOwn self.old.filer.swapper.pool self.new.filer.swapper.pool }
-        ensures room { KeepsWhileEmpty self.old.filer.swapper.pool self.new.filer.swapper.pool }
+        ensures came { BringsOwn (state self.old).slots (state self.new).slots }
+        ensures room { KeepsWhileEmpty (state self.old).slots (state self.new).slots }
         ensures intervals { self.new.intervals ≡ self.old.intervals }
-        ensures cost { (D.state self.new.filer.swapper.disk).transfers ≤ (D.state self.old.filer.swapper.disk).transfers + 196 }
+        ensures cost { (state self.new).disk.transfers ≤ (state self.old).disk.transfers + 196 }
     {
         let (x, next) = match self.part_at(page, end) {
             Ok(part) => part,
@@ -79,14 +80,14 @@ impl<D: Disk, A: Allocator> Core<D, A> {
     // The page that is next is brought in with its swap unit, or its interval is passed where no window shows it. None where
     // the unit has more pages than may still be brought in, and is not the first one.
     fn bring_next(&mut self, so_far: Progress, end: u32) -> Result<Option<Progress>, Halt>
-        requires size { (D.state self.old.filer.swapper.disk).sectors ≡ self.old.filer.swapper.layout.sectors }
+        requires size { FitsLayout (state self.old) }
         requires before { so_far.page < end }
         requires in_root { end ≤ root_pages }
         requires some { 1 ≤ so_far.units + so_far.left }
         requires few { so_far.units + so_far.left ≤ 2048 }
         ensures turn { IfOk result (λ o. IfSome o (IsTurn so_far)) }
         ensures further { (m : List Sector) (named : Triples) (ss : List Space) → Knows self.old m named ss → IfOk result (λ o. IfSome o (IsFurther ss end so_far)) }
-        ensures whole { (m : List Sector) (named : Triples) (ss : List Space) → Knows self.old m named ss → IfOk result (λ o. IfSome o (λ now. AreWhole ss self.new.filer.swapper.pool so_far.page now.page)) }
+        ensures whole { (m : List Sector) (named : Triples) (ss : List Space) → Knows self.old m named ss → IfOk result (λ o. IfSome o (λ now. AreWhole ss (state self.new).slots so_far.page now.page)) }
         ensures too_long { (m : List Sector) (named : Triples) (ss : List Space) → Knows self.old m named ss → IfOk result (λ o. o ≡ None → IsTooLong ss so_far) }
         ensures cause { IfErr result (TouchHalts (BreaksTables (state self.old) self.old.intervals so_far.page) (state self.old) (state self.new)) }
         ensures missing { (ss : List Space) → Sees (state self.old) (kept self.old) self.old.intervals ss → IfErr result (MissesPage (shown_unit ss so_far.page)) }
@@ -94,10 +95,10 @@ impl<D: Disk, A: Allocator> Core<D, A> {
         ensures sound { (m : List Sector) (named : Triples) (ss : List Space) → Knows self.old m named ss → IfErr result (λ e. e ≡ halt.Disk) }
         ensures same { (m : List Sector) (named : Triples) (ss : List Space) → Knows self.old m named ss → Knows self.new m named ss }
         ensures reaches { Reaches (state self.old) (state self.new) }
-        ensures came { (m : List Sector) (named : Triples) (ss : List Space) → Knows self.old m named ss → BringsKnown ss self.old.filer.swapper.pool self.new.filer.swapper.pool }
-        ensures room { KeepsWhileEmpty self.old.filer.swapper.pool self.new.filer.swapper.pool }
+        ensures came { (m : List Sector) (named : Triples) (ss : List Space) → Knows self.old m named ss → BringsKnown ss (state self.old).slots (state self.new).slots }
+        ensures room { KeepsWhileEmpty (state self.old).slots (state self.new).slots }
         ensures intervals { self.new.intervals ≡ self.old.intervals }
-        ensures cost { (D.state self.new.filer.swapper.disk).transfers ≤ (D.state self.old.filer.swapper.disk).transfers + 840 }
+        ensures cost { (state self.new).disk.transfers ≤ (state self.old).disk.transfers + 840 }
     {
         let (next, pages) = match self.unit_at(so_far.page, end) {
             Ok(unit) => unit,
@@ -126,21 +127,21 @@ impl<D: Disk, A: Allocator> Core<D, A> {
     // Brings in the swap units of the pages that windows show in a range. Gives how many there were, and the page that was
     // brought in last.
     fn bring_units(&mut self, first: u32, pages: u32) -> Result<(u32, u32), Halt>
-        requires size { (D.state self.old.filer.swapper.disk).sectors ≡ self.old.filer.swapper.layout.sectors }
+        requires size { FitsLayout (state self.old) }
         ensures within { IfOk result (λ r. r.0 ≢ 0 → (first ≤ r.1) × (r.1 < first + pages)) }
-        ensures units { (m : List Sector) (named : Triples) (ss : List Space) → Knows self.old m named ss → IfOk result (λ r. AreUnits ss (first + pages) (start_at first (length self.old.filer.swapper.pool / 2)) r.0 r.1) }
+        ensures units { (m : List Sector) (named : Triples) (ss : List Space) → Knows self.old m named ss → IfOk result (λ r. AreUnits ss (first + pages) (start_at first (length (state self.old).slots / 2)) r.0 r.1) }
         ensures shown { (m : List Sector) (named : Triples) (ss : List Space) → Knows self.old m named ss → IfOk result (λ r. r.0 ≢ 0 → IsShownAt ss r.1) }
-        ensures all { (m : List Sector) (named : Triples) (ss : List Space) → Knows self.old m named ss → IfOk result (λ r. (slot : ℕ) → IsEmpty self.new.filer.swapper.pool slot → r.0 ≢ 0 → AreWhole ss self.new.filer.swapper.pool first (r.1 + 1)) }
+        ensures all { (m : List Sector) (named : Triples) (ss : List Space) → Knows self.old m named ss → IfOk result (λ r. (slot : ℕ) → IsEmpty (state self.new).slots slot → r.0 ≢ 0 → AreWhole ss (state self.new).slots first (r.1 + 1)) }
         ensures cause { IfErr result (TouchHalts (BreaksWithin (state self.old) self.old.intervals first (first + pages)) (state self.old) (state self.new)) }
         ensures missing { (ss : List Space) → Sees (state self.old) (kept self.old) self.old.intervals ss → IfErr result (MissesPage (range_units ss first (first + pages))) }
         ensures sees { (ss : List Space) → Sees (state self.old) (kept self.old) self.old.intervals ss → Sees (state self.new) (kept self.new) self.new.intervals ss }
         ensures sound { (m : List Sector) (named : Triples) (ss : List Space) → Knows self.old m named ss → IfErr result (λ e. e ≡ halt.Disk) }
         ensures same { (m : List Sector) (named : Triples) (ss : List Space) → Knows self.old m named ss → Knows self.new m named ss }
         ensures reaches { Reaches (state self.old) (state self.new) }
-        ensures came { (m : List Sector) (named : Triples) (ss : List Space) → Knows self.old m named ss → BringsKnown ss self.old.filer.swapper.pool self.new.filer.swapper.pool }
+        ensures came { (m : List Sector) (named : Triples) (ss : List Space) → Knows self.old m named ss → BringsKnown ss (state self.old).slots (state self.new).slots }
         ensures intervals { self.new.intervals ≡ self.old.intervals }
-        ensures cost { (D.state self.new.filer.swapper.disk).transfers ≤ (D.state self.old.filer.swapper.disk).transfers + (self.old.intervals + length self.old.filer.swapper.pool / 2 + 1) * 840 }
-        ensures at_most { (D.state self.new.filer.swapper.disk).transfers ≤ (D.state self.old.filer.swapper.disk).transfers + 2580480 }
+        ensures cost { (state self.new).disk.transfers ≤ (state self.old).disk.transfers + (self.old.intervals + length (state self.old).slots / 2 + 1) * 840 }
+        ensures at_most { (state self.new).disk.transfers ≤ (state self.old).disk.transfers + 2580480 }
     {
         let end = end_of(first, pages);
         let half = half_of(&mut self.filer);
@@ -168,9 +169,9 @@ impl<D: Disk, A: Allocator> Core<D, A> {
     /// that was brought in last is resident, all of it: it is touched once more, after the tables were asked for what is next.
     /// While a slot of the frames is empty, so is each of them.
     pub fn activate(&mut self, first: u32, pages: u32) -> Result<u32, Halt>
-        requires size { (D.state self.old.filer.swapper.disk).sectors ≡ self.old.filer.swapper.layout.sectors }
-        ensures whole { (m : List Sector) (named : Triples) (ss : List Space) → Knows self.old m named ss → OnOk result (IsActive ss (kept self.new) self.new.filer.swapper.pool first (first + pages)) }
-        ensures units { (m : List Sector) (named : Triples) (ss : List Space) → Knows self.old m named ss → IfOk result (AreBrought ss (kept self.new) self.new.filer.swapper.pool first (first + pages) (length self.old.filer.swapper.pool / 2)) }
+        requires size { FitsLayout (state self.old) }
+        ensures whole { (m : List Sector) (named : Triples) (ss : List Space) → Knows self.old m named ss → OnOk result (IsActive ss (kept self.new) (state self.new).slots first (first + pages)) }
+        ensures units { (m : List Sector) (named : Triples) (ss : List Space) → Knows self.old m named ss → IfOk result (AreBrought ss (kept self.new) (state self.new).slots first (first + pages) (length (state self.old).slots / 2)) }
         ensures cause { IfErr result (TouchHalts (BreaksWithin (state self.old) self.old.intervals first (first + pages)) (state self.old) (state self.new)) }
         ensures missing { (ss : List Space) → Sees (state self.old) (kept self.old) self.old.intervals ss → IfErr result (MissesPage (range_units ss first (first + pages))) }
         ensures sees { (ss : List Space) → Sees (state self.old) (kept self.old) self.old.intervals ss → Sees (state self.new) (kept self.new) self.new.intervals ss }
@@ -178,10 +179,10 @@ impl<D: Disk, A: Allocator> Core<D, A> {
         ensures sound { (m : List Sector) (named : Triples) (ss : List Space) → Knows self.old m named ss → IfErr result (λ e. e ≡ halt.Disk) }
         ensures same { (m : List Sector) (named : Triples) (ss : List Space) → Knows self.old m named ss → Knows self.new m named ss }
         ensures reaches { Reaches (state self.old) (state self.new) }
-        ensures came { (m : List Sector) (named : Triples) (ss : List Space) → Knows self.old m named ss → BringsKnown ss self.old.filer.swapper.pool self.new.filer.swapper.pool }
+        ensures came { (m : List Sector) (named : Triples) (ss : List Space) → Knows self.old m named ss → BringsKnown ss (state self.old).slots (state self.new).slots }
         ensures intervals { self.new.intervals ≡ self.old.intervals }
-        ensures cost { (D.state self.new.filer.swapper.disk).transfers ≤ (D.state self.old.filer.swapper.disk).transfers + (self.old.intervals + length self.old.filer.swapper.pool / 2 + 2) * 840 }
-        ensures at_most { (D.state self.new.filer.swapper.disk).transfers ≤ (D.state self.old.filer.swapper.disk).transfers + 2581320 }
+        ensures cost { (state self.new).disk.transfers ≤ (state self.old).disk.transfers + (self.old.intervals + length (state self.old).slots / 2 + 2) * 840 }
+        ensures at_most { (state self.new).disk.transfers ≤ (state self.old).disk.transfers + 2581320 }
     {
         let (units, last) = match self.bring_units(first, pages) {
             Ok(brought) => brought,

@@ -13,6 +13,7 @@ ghost use Rattle.fault_core.specs.Kill.{is_absent};
 ghost use Rattle.fault_core.specs.Reach.{BringsOwn, Reaches, ReachHalts};
 ghost use Rattle.fault_core.specs.Unit.{IsReady, IsSlotOf, file_page};
 ghost use Rattle.fault_core.specs.Lack.{Sees};
+ghost use Rattle.filer_kernel.specs.View.{FitsLayout, view_of};
 
 use crate::Core;
 use crate::reference::{Access, Reference, last_page};
@@ -39,8 +40,8 @@ pub(crate) enum Prospect {
 // The slot of a page that an interval shows, or None where the page is not resident.
 fn slot_at<D: Disk, A: Allocator>(filer: &mut Filer<D, A>, x: &Interval, page: u32) -> Option<u32>
     requires shows { Shows x.now page }
-    ensures slot { IfSome result (λ i. HasPage filer.old.swapper.pool i x.now.id (file_page x.now page)) }
-    ensures absent { result ≡ None → is_absent filer.old.swapper.pool x.now.id (file_page x.now page) }
+    ensures slot { IfSome result (λ i. HasPage (view_of filer.old).slots i x.now.id (file_page x.now page)) }
+    ensures absent { result ≡ None → is_absent (view_of filer.old).slots x.now.id (file_page x.now page) }
     ensures same { filer.new ≡ filer.old }
 {
     filer
@@ -62,9 +63,9 @@ fn look_for<D: Disk, A: Allocator>(
     requires few { count ≤ 512 }
     requires first { Shows first.now (address / 512) }
     requires last { Shows last.now (last_page address count) }
-    ensures first { IfReady (λ i j. HasPage filer.old.swapper.pool i first.now.id (file_page first.now (address / 512))) result }
-    ensures last { IfReady (λ i j. HasPage filer.old.swapper.pool j last.now.id (file_page last.now (last_page address count))) result }
-    ensures absent { IfSettled (IfAbsent (IsUnfound filer.old.swapper.pool first.now last.now address count)) result }
+    ensures first { IfReady (λ i j. HasPage (view_of filer.old).slots i first.now.id (file_page first.now (address / 512))) result }
+    ensures last { IfReady (λ i j. HasPage (view_of filer.old).slots j last.now.id (file_page last.now (last_page address count))) result }
+    ensures absent { IfSettled (IfAbsent (IsUnfound (view_of filer.old).slots first.now last.now address count)) result }
     ensures no_access { IfSettled (IfAccess (λ a. ⊥)) result }
     ensures same { filer.new ≡ filer.old }
 {
@@ -92,16 +93,16 @@ impl<D: Disk, A: Allocator> Core<D, A> {
         count: u32,
         writes: bool,
     ) -> Result<Prospect, Halt>
-        requires size { (D.state self.old.filer.swapper.disk).sectors ≡ self.old.filer.swapper.layout.sectors }
+        requires size { FitsLayout (state self.old) }
         requires some { 1 ≤ count }
         requires few { count ≤ 512 }
-        ensures clients { IfOk result (IfReady (λ i j. HasClient self.new.filer.swapper.pool i × HasClient self.new.filer.swapper.pool j)) }
-        ensures here { IfOk result (IfReady (λ i j. IsHere (kept self.new) self.new.filer.swapper.pool (last_page address count))) }
+        ensures clients { IfOk result (IfReady (λ i j. HasClient (state self.new).slots i × HasClient (state self.new).slots j)) }
+        ensures here { IfOk result (IfReady (λ i j. IsHere (kept self.new) (state self.new).slots (last_page address count))) }
         ensures slots { (m : List Sector) (named : Triples) (ss : List Space) → Knows self.old m named ss
-            → IfOk result (IfReady (λ i j. IsSlotOf ss self.new.filer.swapper.pool (address / 512) i × IsSlotOf ss self.new.filer.swapper.pool (last_page address count) j)) }
+            → IfOk result (IfReady (λ i j. IsSlotOf ss (state self.new).slots (address / 512) i × IsSlotOf ss (state self.new).slots (last_page address count) j)) }
         ensures granted { (m : List Sector) (named : Triples) (ss : List Space) → Knows self.old m named ss → IfOk result (IfReady (λ i j. access.Done ≡ access_of ss writes address count)) }
         ensures access { (m : List Sector) (named : Triples) (ss : List Space) → Knows self.old m named ss → IfOk result (IfSettled (IfAccess (λ a. a ≡ access_of ss writes address count))) }
-        ensures absent { (m : List Sector) (named : Triples) (ss : List Space) → Knows self.old m named ss → IfOk result (IfSettled (IfAbsent (IsAbsent ss self.new.filer.swapper.pool writes address count))) }
+        ensures absent { (m : List Sector) (named : Triples) (ss : List Space) → Knows self.old m named ss → IfOk result (IfSettled (IfAbsent (IsAbsent ss (state self.new).slots writes address count))) }
         ensures referred { IfOk result (IfSettled (IfAbsent (IsReferred address count))) }
         ensures unmoved { IfOk result (IfSettled (λ t. t ≢ moved)) }
         ensures cause { IfErr result (ReachHalts (BreaksFor (state self.old) self.old.intervals address count) (state self.old) (state self.new)) }
@@ -109,13 +110,13 @@ impl<D: Disk, A: Allocator> Core<D, A> {
         ensures sound { (m : List Sector) (named : Triples) (ss : List Space) → Knows self.old m named ss → IfErr result (λ e. e ≡ halt.Disk) }
         ensures same { (m : List Sector) (named : Triples) (ss : List Space) → Knows self.old m named ss → Knows self.new m named ss }
         ensures reaches { Reaches (state self.old) (state self.new) }
-        ensures came { BringsOwn self.old.filer.swapper.pool self.new.filer.swapper.pool }
+        ensures came { BringsOwn (state self.old).slots (state self.new).slots }
         ensures intervals { self.new.intervals ≡ self.old.intervals }
-        ensures present { IsReady (kept self.old) self.old.filer.swapper.pool (address / 512) → IsReady (kept self.old) self.old.filer.swapper.pool (last_page address count) → AreApart (kept self.old)
+        ensures present { IsReady (kept self.old) (state self.old).slots (address / 512) → IsReady (kept self.old) (state self.old).slots (last_page address count) → AreApart (kept self.old)
             → IfOk result (IfSettled (IfAbsent (λ page. ⊥))) }
-        ensures idle { IsReady (kept self.old) self.old.filer.swapper.pool (address / 512) → IsReady (kept self.old) self.old.filer.swapper.pool (last_page address count) → AreApart (kept self.old)
+        ensures idle { IsReady (kept self.old) (state self.old).slots (address / 512) → IsReady (kept self.old) (state self.old).slots (last_page address count) → AreApart (kept self.old)
             → IsOk result × (self.new.filer ≡ self.old.filer) × (kept self.new ≡ kept self.old) }
-        ensures cost { (D.state self.new.filer.swapper.disk).transfers ≤ (D.state self.old.filer.swapper.disk).transfers + 392 }
+        ensures cost { (state self.new).disk.transfers ≤ (state self.old).disk.transfers + 392 }
     {
         let (first, last) = match self.refer(address, count, writes) {
             Ok(Reference::Shown { first, last }) => (first, last),

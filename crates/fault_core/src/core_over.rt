@@ -2,6 +2,7 @@
 ghost use Rattle.std.specs.Prelude.{◌≡◌, ◌≤◌, []};
 ghost use Rattle.descriptor_cache.specs.Cache.{kept_in};
 ghost use Rattle.fault_core.specs.Kept.{AreFormed, are_formed_once};
+ghost use Rattle.filer_kernel.specs.View.{FitsLayout};
 
 use descriptor_cache::DescriptorCache;
 use filer_kernel::{Filer, LentFiler, TableMemory};
@@ -86,12 +87,13 @@ impl<D: Disk, A: Allocator> Core<D, A> {
 impl<D: Disk, A: Allocator> Core<D, A> {
     ghost use Rattle.std.specs.Borrow.{sem};
     ghost use Rattle.space_tables.specs.SpaceTables.{interval_count, tables_memory};
+    ghost use Rattle.fault_core.specs.Core.{state};
     ghost use Rattle.fault_core.specs.Lending.{LendsFiler};
 
     /// The space tables, with as many intervals as the core counts. Where they are changed, the intervals that are kept are to
     /// be forgotten, and how many there are is to be revealed.
     pub fn tables<'s>(&'s mut self) -> SpaceTables<TableMemory<'s, D, A>>
-        requires size { (D.state self.old.filer.swapper.disk).sectors ≡ self.old.filer.swapper.layout.sectors }
+        requires size { FitsLayout (state self.old) }
         ensures value { (tables_memory result).filer.now ≡ self.old.filer }
         ensures intervals { interval_count result ≡ self.old.intervals }
         ensures* lends { sem 𝓛 (LendsFiler D.row A.row D.Disk A.Allocator self.entry (tables_memory result).filer) }

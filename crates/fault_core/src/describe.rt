@@ -13,7 +13,7 @@ ghost use Rattle.space_tables.specs.SpaceTables.{IsIntervalAt};
 ghost use Rattle.space_tables.specs.Stored.{RevealSpaces};
 ghost use Rattle.filer_kernel.specs.Tables.{BesideTables, IsTableAccounted};
 ghost use Rattle.fault_core.specs.Kept.{IsFormed, IsKept};
-ghost use Rattle.fault_core.specs.View.{view_of, TablesAre};
+ghost use Rattle.filer_kernel.specs.View.{FitsLayout, TablesAre, TablesBeside, view_of};
 ghost use Rattle.fault_core.specs.Reach.{Reaches, ReachHalts, BringsOwn, StayOrYield};
 ghost use Rattle.fault_core.specs.Revealed.{Known, BreaksTables};
 ghost use Rattle.fault_core.specs.Room.{KeepsWhileEmpty};
@@ -33,7 +33,7 @@ fn ask<D: Disk, A: Allocator>(
     intervals: u32,
     page: u32,
 ) -> Result<Option<Interval>, SpaceError<Halt>>
-    requires size { (D.state filer.old.swapper.disk).sectors ≡ filer.old.swapper.layout.sectors }
+    requires size { FitsLayout (view_of filer.old) }
     requires some { 1 ≤ intervals }
     requires few { intervals ≤ 1023 }
     ensures interval { (ss : List Space) → RevealSpaces (TablesAre (view_of filer.old)) intervals ss → IfOk result (λ o. IfSome o (IsIntervalAt ss page)) }
@@ -42,10 +42,10 @@ fn ask<D: Disk, A: Allocator>(
     ensures form { IfOk result (λ o. IfSome o (λ x. IsFormed x × Holds x page)) }
     ensures malformed { (b : List ℕ) → TablesAre (view_of filer.old) b → IfErr result (IfMalformed (BreaksLookUp page intervals b)) }
     ensures refused { IfErr result NotRefused }
-    ensures cause { IfErr result (IfMem (IsTableAccounted (D.state filer.old.swapper.disk) filer.old.swapper.pool filer.old.swapper.layout filer.old.runs (D.state filer.new.swapper.disk))) }
+    ensures cause { IfErr result (IfMem (IsTableAccounted (view_of filer.old).disk (view_of filer.old).slots (view_of filer.old).layout (view_of filer.old).runs (view_of filer.new).disk)) }
     ensures same { (b : List ℕ) → TablesAre (view_of filer.old) b → TablesAre (view_of filer.new) b }
-    ensures kept { BesideTables (D.state filer.old.swapper.disk) filer.old.swapper.pool filer.old.swapper.layout filer.old.runs (D.state filer.new.swapper.disk) filer.new.swapper.pool filer.new.swapper.layout filer.new.runs }
-    ensures cost { (D.state filer.new.swapper.disk).transfers ≤ (D.state filer.old.swapper.disk).transfers + 196 }
+    ensures kept { TablesBeside (view_of filer.old) (view_of filer.new) }
+    ensures cost { (view_of filer.new).disk.transfers ≤ (view_of filer.old).disk.transfers + 196 }
 {
     let mut tables = SpaceTables::<TableMemory<D, A>>::over(filer.table_memory(), intervals);
     tables.describe(page)
@@ -57,7 +57,7 @@ fn look_up<D: Disk, A: Allocator>(
     intervals: u32,
     page: u32,
 ) -> Result<Option<Interval>, Halt>
-    requires size { (D.state filer.old.swapper.disk).sectors ≡ filer.old.swapper.layout.sectors }
+    requires size { FitsLayout (view_of filer.old) }
     requires some { 1 ≤ intervals }
     requires few { intervals ≤ 1023 }
     ensures none { IfOk result (λ o. (o ≡ None) ↔ (root_pages ≤ page)) }
@@ -66,10 +66,10 @@ fn look_up<D: Disk, A: Allocator>(
     ensures interval { (b : List ℕ) (ss : List Space) → TablesAre (view_of filer.old) b → RevealSpaces (λ c. c ≡ b) intervals ss → IfOk result (λ o. IfSome o (IsIntervalAt ss page)) }
     ensures sound { (m : List Sector) (named : Triples) (b : List ℕ) (ss : List Space) → Known (view_of filer.old) m named b → RevealSpaces (λ c. c ≡ b) intervals ss → IfErr result (λ e. e ≡ halt.Disk) }
     ensures reaches { Reaches (view_of filer.old) (view_of filer.new) }
-    ensures came { BringsOwn filer.old.swapper.pool filer.new.swapper.pool }
-    ensures room { KeepsWhileEmpty filer.old.swapper.pool filer.new.swapper.pool }
-    ensures stay { StayOrYield filer.old.swapper.pool filer.new.swapper.pool }
-    ensures cost { (D.state filer.new.swapper.disk).transfers ≤ (D.state filer.old.swapper.disk).transfers + 196 }
+    ensures came { BringsOwn (view_of filer.old).slots (view_of filer.new).slots }
+    ensures room { KeepsWhileEmpty (view_of filer.old).slots (view_of filer.new).slots }
+    ensures stay { StayOrYield (view_of filer.old).slots (view_of filer.new).slots }
+    ensures cost { (view_of filer.new).disk.transfers ≤ (view_of filer.old).disk.transfers + 196 }
 {
     if page >= ROOT_PAGES {
         return Ok(None);
@@ -91,7 +91,7 @@ impl<D: Disk, A: Allocator> Core<D, A> {
     /// The interval of the projection that holds a page, or None where the page is not one of the root. An interval that is
     /// kept is given without a transfer.
     pub fn describe(&mut self, page: u32) -> Result<Option<Interval>, Halt>
-        requires size { (D.state self.old.filer.swapper.disk).sectors ≡ self.old.filer.swapper.layout.sectors }
+        requires size { FitsLayout (state self.old) }
         ensures none { IfOk result (λ o. (o ≡ None) ↔ (root_pages ≤ page)) }
         ensures form { IfOk result (λ o. IfSome o (λ x. IsFormed x × Holds x page)) }
         ensures is_kept { IfOk result (λ o. IfSome o (IsKept (kept self.new))) }
@@ -102,12 +102,12 @@ impl<D: Disk, A: Allocator> Core<D, A> {
         ensures sound { (m : List Sector) (named : Triples) (ss : List Space) → Knows self.old m named ss → IfErr result (λ e. e ≡ halt.Disk) }
         ensures same { (m : List Sector) (named : Triples) (ss : List Space) → Knows self.old m named ss → Knows self.new m named ss }
         ensures reaches { Reaches (state self.old) (state self.new) }
-        ensures came { BringsOwn self.old.filer.swapper.pool self.new.filer.swapper.pool }
-        ensures room { KeepsWhileEmpty self.old.filer.swapper.pool self.new.filer.swapper.pool }
-        ensures stay { StayOrYield self.old.filer.swapper.pool self.new.filer.swapper.pool }
+        ensures came { BringsOwn (state self.old).slots (state self.new).slots }
+        ensures room { KeepsWhileEmpty (state self.old).slots (state self.new).slots }
+        ensures stay { StayOrYield (state self.old).slots (state self.new).slots }
         ensures intervals { self.new.intervals ≡ self.old.intervals }
         ensures idle { (x : Interval) → find (has_page page) (kept self.old) ≡ Some x → (result ≡ Ok (Some x)) × (self.new.filer ≡ self.old.filer) × (kept self.new ≡ kept self.old) }
-        ensures cost { (D.state self.new.filer.swapper.disk).transfers ≤ (D.state self.old.filer.swapper.disk).transfers + 196 }
+        ensures cost { (state self.new).disk.transfers ≤ (state self.old).disk.transfers + 196 }
     {
         if let Some(interval) = self.descriptors.look(page) {
             return Ok(Some(interval));

@@ -16,7 +16,7 @@ ghost use Rattle.fault_core.specs.Revealed.{AreStored, Known};
 ghost use Rattle.fault_core.specs.Touch.{Touches};
 ghost use Rattle.fault_core.specs.Unit.{IsShownDirty, IsSlotOf};
 ghost use Rattle.fault_core.specs.Room.{KeepsSlots};
-ghost use Rattle.fault_core.specs.View.{view_of};
+ghost use Rattle.filer_kernel.specs.View.{disk_of, view_of};
 
 use filer_kernel::Filer;
 use labelled_disk::{Disk, PAGE_BYTES};
@@ -29,10 +29,10 @@ pub(crate) fn copy_out<D: Disk, A: Allocator>(
     from: usize,
     into: &mut [u8],
 )
-    requires below { slot < length filer.old.swapper.pool }
-    requires filled { IsSome (frame_at filer.old.swapper.pool slot) }
+    requires below { slot < length (view_of filer.old).slots }
+    requires filled { IsSome (frame_at (view_of filer.old).slots slot) }
     requires inside { from + length into.old ≤ 512 }
-    ensures bytes { (f : Frame) → Has filer.old.swapper.pool slot f → into.new ≡ part f.bytes from (length into.old) }
+    ensures bytes { (f : Frame) → Has (view_of filer.old).slots slot f → into.new ≡ part f.bytes from (length into.old) }
     ensures width { length into.new ≡ length into.old }
     ensures same { filer.new ≡ filer.old }
 {
@@ -50,10 +50,10 @@ pub(crate) fn copy_pages<D: Disk, A: Allocator>(
 )
     requires some { 1 ≤ length into.old }
     requires few { length into.old ≤ 512 }
-    requires first { HasClient filer.old.swapper.pool first }
-    requires last { HasClient filer.old.swapper.pool last }
+    requires first { HasClient (view_of filer.old).slots first }
+    requires last { HasClient (view_of filer.old).slots last }
     ensures bytes { (m : List Sector) (named : Triples) (b : List ℕ) (ss : List Space) → Known (view_of filer.old) m named b → AreStored named m ss
-        → IsSlotOf ss filer.old.swapper.pool (address / 512) first → IsSlotOf ss filer.old.swapper.pool (last_page address (length into.old)) last → Loads ss address into.new m }
+        → IsSlotOf ss (view_of filer.old).slots (address / 512) first → IsSlotOf ss (view_of filer.old).slots (last_page address (length into.old)) last → Loads ss address into.new m }
     ensures width { length into.new ≡ length into.old }
     ensures same { filer.new ≡ filer.old }
 {
@@ -74,15 +74,15 @@ pub(crate) fn change_in<D: Disk, A: Allocator>(
     from: u32,
     bytes: &[u8],
 )
-    requires slot { HasClient filer.old.swapper.pool slot }
+    requires slot { HasClient (view_of filer.old).slots slot }
     requires inside { from + length bytes.now ≤ 512 }
-    ensures stored { (m : List Sector) (named : Triples) (b : List ℕ) (id page : ℕ) → Known (view_of filer.old) m named b → HasPage filer.old.swapper.pool slot id page → is_file_id id ≡ true
+    ensures stored { (m : List Sector) (named : Triples) (b : List ℕ) (id page : ℕ) → Known (view_of filer.old) m named b → HasPage (view_of filer.old).slots slot id page → is_file_id id ≡ true
         → Leaves (StoresAt id page from bytes.now) m named b (view_of filer.new) }
-    ensures dirty { (id page : ℕ) → HasPage filer.old.swapper.pool slot id page → IsDirty filer.new.swapper.pool id page }
-    ensures touches { (id page : ℕ) → HasPage filer.old.swapper.pool slot id page → 16 ≤ id → Touches (this_page id page) (view_of filer.old) (view_of filer.new) }
-    ensures came { BringsOwn filer.old.swapper.pool filer.new.swapper.pool }
-    ensures slots { KeepsSlots filer.old.swapper.pool filer.new.swapper.pool }
-    ensures disk { filer.new.swapper.disk ≡ filer.old.swapper.disk }
+    ensures dirty { (id page : ℕ) → HasPage (view_of filer.old).slots slot id page → IsDirty (view_of filer.new).slots id page }
+    ensures touches { (id page : ℕ) → HasPage (view_of filer.old).slots slot id page → 16 ≤ id → Touches (this_page id page) (view_of filer.old) (view_of filer.new) }
+    ensures came { BringsOwn (view_of filer.old).slots (view_of filer.new).slots }
+    ensures slots { KeepsSlots (view_of filer.old).slots (view_of filer.new).slots }
+    ensures disk { (disk_of filer.new) ≡ (disk_of filer.old) }
 {
     filer.swapper_over().change(slot, from, bytes);
 }
@@ -97,16 +97,16 @@ pub(crate) fn change_pages<D: Disk, A: Allocator>(
 )
     requires some { 1 ≤ length bytes.now }
     requires few { length bytes.now ≤ 512 }
-    requires first { HasClient filer.old.swapper.pool first }
-    requires last { HasClient filer.old.swapper.pool last }
+    requires first { HasClient (view_of filer.old).slots first }
+    requires last { HasClient (view_of filer.old).slots last }
     ensures stored { (m : List Sector) (named : Triples) (b : List ℕ) (ss : List Space) → Known (view_of filer.old) m named b → AreStored named m ss
-        → IsSlotOf ss filer.old.swapper.pool (address / 512) first → IsSlotOf ss filer.old.swapper.pool (last_page address (length bytes.now)) last → Leaves (Stores ss address bytes.now) m named b (view_of filer.new) }
-    ensures dirty { (ss : List Space) → IsSlotOf ss filer.old.swapper.pool (address / 512) first → IsSlotOf ss filer.old.swapper.pool (last_page address (length bytes.now)) last
-        → IsShownDirty ss filer.new.swapper.pool (last_page address (length bytes.now)) }
-    ensures touches { (i p j q : ℕ) → HasPage filer.old.swapper.pool first i p → HasPage filer.old.swapper.pool last j q → 16 ≤ i → 16 ≤ j → Touches (either i p j q) (view_of filer.old) (view_of filer.new) }
-    ensures came { BringsOwn filer.old.swapper.pool filer.new.swapper.pool }
-    ensures slots { KeepsSlots filer.old.swapper.pool filer.new.swapper.pool }
-    ensures disk { filer.new.swapper.disk ≡ filer.old.swapper.disk }
+        → IsSlotOf ss (view_of filer.old).slots (address / 512) first → IsSlotOf ss (view_of filer.old).slots (last_page address (length bytes.now)) last → Leaves (Stores ss address bytes.now) m named b (view_of filer.new) }
+    ensures dirty { (ss : List Space) → IsSlotOf ss (view_of filer.old).slots (address / 512) first → IsSlotOf ss (view_of filer.old).slots (last_page address (length bytes.now)) last
+        → IsShownDirty ss (view_of filer.new).slots (last_page address (length bytes.now)) }
+    ensures touches { (i p j q : ℕ) → HasPage (view_of filer.old).slots first i p → HasPage (view_of filer.old).slots last j q → 16 ≤ i → 16 ≤ j → Touches (either i p j q) (view_of filer.old) (view_of filer.new) }
+    ensures came { BringsOwn (view_of filer.old).slots (view_of filer.new).slots }
+    ensures slots { KeepsSlots (view_of filer.old).slots (view_of filer.new).slots }
+    ensures disk { (disk_of filer.new) ≡ (disk_of filer.old) }
 {
     let from = address % PAGE_BYTES as u32;
     let room = (PAGE_BYTES as u32 - from) as usize;

@@ -20,7 +20,7 @@ ghost use Rattle.fault_core.specs.Reach.{ReachHalts, BringsOwn};
 ghost use Rattle.fault_core.specs.Revealed.{BreaksTables, Known};
 ghost use Rattle.fault_core.specs.Touch.{Touches};
 ghost use Rattle.fault_core.specs.Unit.{file_page};
-ghost use Rattle.fault_core.specs.View.{view_of};
+ghost use Rattle.filer_kernel.specs.View.{disk_of, FitsLayout, GoesTo, HasMemory, view_of};
 ghost use Rattle.fault_core.specs.Lack.{Sees};
 ghost use Rattle.fault_core.specs.NeverBlames.{NeverBlamesTables};
 
@@ -41,11 +41,11 @@ fn may_store(x: &Interval) -> bool
 // Gives up the pages from one on up to another, by the interval that shows them.
 fn discard_shown<D: Disk, A: Allocator>(filer: &mut Filer<D, A>, x: &Interval, page: u32, next: u32)
     requires shows { ShowsPart x.now page next }
-    ensures gone { (p : ℕ) → page ≤ p → p < next → is_absent filer.new.swapper.pool x.now.id (file_page x.now p) }
-    ensures left { (m : List Sector) (named : Triples) (b : List ℕ) → Known (view_of filer.old) m named b → Leaves (Differs (of_part filer.old.swapper.layout.first x.now page next)) m named b (view_of filer.new) }
+    ensures gone { (p : ℕ) → page ≤ p → p < next → is_absent (view_of filer.new).slots x.now.id (file_page x.now p) }
+    ensures left { (m : List Sector) (named : Triples) (b : List ℕ) → Known (view_of filer.old) m named b → Leaves (Differs (of_part (view_of filer.old).layout.first x.now page next)) m named b (view_of filer.new) }
     ensures touches { Touches no_page (view_of filer.old) (view_of filer.new) }
-    ensures came { BringsOwn filer.old.swapper.pool filer.new.swapper.pool }
-    ensures disk { filer.new.swapper.disk ≡ filer.old.swapper.disk }
+    ensures came { BringsOwn (view_of filer.old).slots (view_of filer.new).slots }
+    ensures disk { (disk_of filer.new) ≡ (disk_of filer.old) }
 {
     force_calls::discard(
         filer.swapper_over(),
@@ -61,22 +61,22 @@ impl<D: Disk, A: Allocator> Core<D, A> {
     // The same of the interval that holds a page, from that page on, where it may be stored to. Gives the page where it ends,
     // or the range does.
     fn kill_part(&mut self, page: u32, end: u32) -> Result<u32, Halt>
-        requires size { (D.state self.old.filer.swapper.disk).sectors ≡ self.old.filer.swapper.layout.sectors }
+        requires size { FitsLayout (state self.old) }
         requires before { page < end }
         requires in_root { end ≤ root_pages }
         ensures next { IfOk result (λ next. (page < next) × (next ≤ end)) }
         ensures part { (m : List Sector) (named : Triples) (ss : List Space) → Knows self.old m named ss → IfOk result (IsNextPart ss page end) }
-        ensures gone { (m : List Sector) (named : Triples) (ss : List Space) → Knows self.old m named ss → IfOk result (AreWritableSo (is_absent self.new.filer.swapper.pool) ss page) }
+        ensures gone { (m : List Sector) (named : Triples) (ss : List Space) → Knows self.old m named ss → IfOk result (AreWritableSo (is_absent (state self.new).slots) ss page) }
         ensures cause { IfErr result (ReachHalts (BreaksTables (state self.old) self.old.intervals page) (state self.old) (state self.new)) }
         ensures sees { (ss : List Space) → Sees (state self.old) (kept self.old) self.old.intervals ss → Sees (state self.new) (kept self.new) self.new.intervals ss }
         ensures sound { (m : List Sector) (named : Triples) (ss : List Space) → Knows self.old m named ss → IfErr result (λ e. e ≡ halt.Disk) }
         ensures left { (m : List Sector) (named : Triples) (ss : List Space) (range : Space) → Knows self.old m named ss → range.first ≤ page → end ≤ range.first + range.pages
-            → LeavesCore (Differs (is_killed self.old.filer.swapper.layout.sectors ss range)) m named ss (state self.new) (kept self.new) self.new.intervals }
+            → LeavesCore (Differs (is_killed (state self.old).layout.sectors ss range)) m named ss (state self.new) (kept self.new) self.new.intervals }
         ensures touches { Touches no_page (state self.old) (state self.new) }
-        ensures came { BringsOwn self.old.filer.swapper.pool self.new.filer.swapper.pool }
+        ensures came { BringsOwn (state self.old).slots (state self.new).slots }
         ensures intervals { self.new.intervals ≡ self.old.intervals }
-        ensures idle { (x : IntervalIs) → find (has_page page) (kept self.old) ≡ Some x → IsOk result × (D.state self.new.filer.swapper.disk ≡ D.state self.old.filer.swapper.disk) × (kept self.new ≡ kept self.old) }
-        ensures cost { (D.state self.new.filer.swapper.disk).transfers ≤ (D.state self.old.filer.swapper.disk).transfers + 196 }
+        ensures idle { (x : IntervalIs) → find (has_page page) (kept self.old) ≡ Some x → IsOk result × ((state self.new).disk ≡ (state self.old).disk) × (kept self.new ≡ kept self.old) }
+        ensures cost { (state self.new).disk.transfers ≤ (state self.old).disk.transfers + 196 }
     {
         let (x, next) = match self.part_at(page, end) {
             Ok(part) => part,
@@ -93,20 +93,20 @@ impl<D: Disk, A: Allocator> Core<D, A> {
     /// dirty is lost: the bytes of these pages are those of the disk. Where intervals that are kept have the range, no sector is
     /// read or written.
     pub fn kill(&mut self, first: u32, pages: u32) -> Result<(), Halt>
-        requires size { (D.state self.old.filer.swapper.disk).sectors ≡ self.old.filer.swapper.layout.sectors }
-        ensures gone { (m : List Sector) (named : Triples) (ss : List Space) → Knows self.old m named ss → OnOk result (AreWritableSo (is_absent self.new.filer.swapper.pool) ss first (first + pages)) }
+        requires size { FitsLayout (state self.old) }
+        ensures gone { (m : List Sector) (named : Triples) (ss : List Space) → Knows self.old m named ss → OnOk result (AreWritableSo (is_absent (state self.new).slots) ss first (first + pages)) }
         ensures cause { IfErr result (ReachHalts (BreaksWithin (state self.old) self.old.intervals first (first + pages)) (state self.old) (state self.new)) }
         ensures sees { (ss : List Space) → Sees (state self.old) (kept self.old) self.old.intervals ss → Sees (state self.new) (kept self.new) self.new.intervals ss }
         ensures right { (ss : List Space) → Sees (state self.old) (kept self.old) self.old.intervals ss → IfErr result NeverBlamesTables }
         ensures sound { (m : List Sector) (named : Triples) (ss : List Space) → Knows self.old m named ss → IfErr result (λ e. e ≡ halt.Disk) }
         ensures killed { (m : List Sector) (named : Triples) (ss : List Space) (range : Space) → Knows self.old m named ss → range.first ≡ first → range.pages ≡ pages
-            → Goes (Kills ss range) volume_page [] (D.state self.old.filer.swapper.disk) self.old.filer.swapper.pool (D.state self.new.filer.swapper.disk) self.new.filer.swapper.pool }
-        ensures known { (m n : List Sector) (named : Triples) (ss : List Space) → Knows self.old m named ss → Stands (D.state self.new.filer.swapper.disk) self.new.filer.swapper.pool n → Knows self.new n named ss }
+            → GoesTo (Kills ss range) volume_page [] (state self.old) (state self.new) }
+        ensures known { (m n : List Sector) (named : Triples) (ss : List Space) → Knows self.old m named ss → HasMemory (state self.new) n → Knows self.new n named ss }
         ensures touches { Touches no_page (state self.old) (state self.new) }
-        ensures came { BringsOwn self.old.filer.swapper.pool self.new.filer.swapper.pool }
+        ensures came { BringsOwn (state self.old).slots (state self.new).slots }
         ensures intervals { self.new.intervals ≡ self.old.intervals }
-        ensures idle { AreFound (kept self.old) first (first + pages) → IsOk result × (D.state self.new.filer.swapper.disk ≡ D.state self.old.filer.swapper.disk) × (kept self.new ≡ kept self.old) }
-        ensures cost { (D.state self.new.filer.swapper.disk).transfers ≤ (D.state self.old.filer.swapper.disk).transfers + (self.old.intervals + 1) * 196 }
+        ensures idle { AreFound (kept self.old) first (first + pages) → IsOk result × ((state self.new).disk ≡ (state self.old).disk) × (kept self.new ≡ kept self.old) }
+        ensures cost { (state self.new).disk.transfers ≤ (state self.old).disk.transfers + (self.old.intervals + 1) * 196 }
     {
         let end = end_of(first, pages);
         let mut page = first;

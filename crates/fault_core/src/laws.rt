@@ -4,7 +4,7 @@ ghost use Rattle.labelled_disk.specs.Sectors.{Sector};
 ghost use Rattle.file_map.specs.FileMap.{Triples};
 ghost use Rattle.swapper_kernel.specs.Homes.{IsLayout};
 ghost use Rattle.session_words.specs.Volume.{Searches};
-ghost use Rattle.fault_core.specs.View.{View};
+ghost use Rattle.filer_kernel.specs.View.{View};
 ghost use Rattle.fault_core.specs.Range.{ForcedRanges, OwnAreKnown};
 ghost use Rattle.fault_core.specs.Reach.{Reaches};
 ghost use Rattle.fault_core.specs.ReferenceLaws.{LoadsAreAllowed, LoadsAreAnswered, LoadsAreTested, StoresAreAnswered, StoresAreTested, StoresStand};

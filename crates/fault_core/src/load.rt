@@ -10,7 +10,7 @@ ghost use Rattle.fault_core.specs.Access.{BreaksFor, Shows, access_of, last_page
 ghost use Rattle.fault_core.specs.Attempt.{ArePresent, IfAbsent, IfAccess, IsAbsent, IsHere, IsReferred, moved};
 ghost use Rattle.fault_core.specs.Kept.{AreApart};
 ghost use Rattle.fault_core.specs.Moves.{AreSeen, HasBytes, Loads};
-ghost use Rattle.fault_core.specs.View.{view_of};
+ghost use Rattle.filer_kernel.specs.View.{FitsLayout, view_of};
 ghost use Rattle.fault_core.specs.Reach.{BringsOwn, Reaches, ReachHalts, TouchHalts, no_break};
 ghost use Rattle.fault_core.specs.Revealed.{Known};
 ghost use Rattle.fault_core.specs.Unit.{AreShownStored, BringsBoth, BringsShown, IsReady, IsWhole, file_page};
@@ -35,19 +35,19 @@ fn load_in<D: Disk, A: Allocator>(
     from: usize,
     into: &mut [u8],
 ) -> Result<(), Halt>
-    requires size { (D.state filer.old.swapper.disk).sectors ≡ filer.old.swapper.layout.sectors }
+    requires size { FitsLayout (view_of filer.old) }
     requires shows { Shows x.now page }
     requires inside { from + length into.old ≤ 512 }
     ensures bytes { (m : List Sector) (named : Triples) (b : List ℕ) → Known (view_of filer.old) m named b → AreShownStored named m x.now → OnOk result (HasBytes x.now.id (file_page x.now page) from into.new m) }
     ensures width { length into.new ≡ length into.old }
-    ensures whole { OnOk result (IsWhole filer.new.swapper.pool x.now page) }
+    ensures whole { OnOk result (IsWhole (view_of filer.new).slots x.now page) }
     ensures cause { IfErr result (TouchHalts no_break (view_of filer.old) (view_of filer.new)) }
     ensures misses { IfErr result (MissesPage (unit_pages x.now page)) }
     ensures sound { (m : List Sector) (named : Triples) (b : List ℕ) → Known (view_of filer.old) m named b → AreShownStored named m x.now → IfErr result (λ e. e ≡ halt.Disk) }
     ensures reaches { Reaches (view_of filer.old) (view_of filer.new) }
-    ensures came { BringsShown x.now filer.old.swapper.pool filer.new.swapper.pool }
-    ensures idle { IsWhole filer.old.swapper.pool x.now page → IsOk result × (filer.new ≡ filer.old) }
-    ensures cost { (D.state filer.new.swapper.disk).transfers ≤ (D.state filer.old.swapper.disk).transfers + 256 }
+    ensures came { BringsShown x.now (view_of filer.old).slots (view_of filer.new).slots }
+    ensures idle { IsWhole (view_of filer.old).slots x.now page → IsOk result × (filer.new ≡ filer.old) }
+    ensures cost { (view_of filer.new).disk.transfers ≤ (view_of filer.old).disk.transfers + 256 }
 {
     let slot = match touch(filer, x, page) {
         Ok(slot) => slot,
@@ -65,7 +65,7 @@ fn load_shown<D: Disk, A: Allocator>(
     address: u32,
     into: &mut [u8],
 ) -> Result<(), Halt>
-    requires size { (D.state filer.old.swapper.disk).sectors ≡ filer.old.swapper.layout.sectors }
+    requires size { FitsLayout (view_of filer.old) }
     requires some { 1 ≤ length into.old }
     requires few { length into.old ≤ 512 }
     requires first { Shows first.now (address / 512) }
@@ -73,14 +73,14 @@ fn load_shown<D: Disk, A: Allocator>(
     requires one { address / 512 ≡ last_page address (length into.old) → last.now ≡ first.now }
     ensures bytes { (m : List Sector) (named : Triples) (b : List ℕ) (ss : List Space) → Known (view_of filer.old) m named b → AreSeen ss named m first.now → AreSeen ss named m last.now → OnOk result (Loads ss address into.new m) }
     ensures width { length into.new ≡ length into.old }
-    ensures whole { OnOk result (IsWhole filer.new.swapper.pool last.now (last_page address (length into.old))) }
+    ensures whole { OnOk result (IsWhole (view_of filer.new).slots last.now (last_page address (length into.old))) }
     ensures cause { IfErr result (TouchHalts no_break (view_of filer.old) (view_of filer.new)) }
     ensures misses { IfErr result (MissesPage (both_units first.now last.now address (length into.old))) }
     ensures sound { (m : List Sector) (named : Triples) (b : List ℕ) → Known (view_of filer.old) m named b → AreShownStored named m first.now → AreShownStored named m last.now → IfErr result (λ e. e ≡ halt.Disk) }
     ensures reaches { Reaches (view_of filer.old) (view_of filer.new) }
-    ensures came { BringsBoth first.now last.now filer.old.swapper.pool filer.new.swapper.pool }
-    ensures idle { IsWhole filer.old.swapper.pool first.now (address / 512) → IsWhole filer.old.swapper.pool last.now (last_page address (length into.old)) → IsOk result × (filer.new ≡ filer.old) }
-    ensures cost { (D.state filer.new.swapper.disk).transfers ≤ (D.state filer.old.swapper.disk).transfers + 512 }
+    ensures came { BringsBoth first.now last.now (view_of filer.old).slots (view_of filer.new).slots }
+    ensures idle { IsWhole (view_of filer.old).slots first.now (address / 512) → IsWhole (view_of filer.old).slots last.now (last_page address (length into.old)) → IsOk result × (filer.new ≡ filer.old) }
+    ensures cost { (view_of filer.new).disk.transfers ≤ (view_of filer.old).disk.transfers + 512 }
 {
     let from = (address % PAGE_BYTES as u32) as usize;
     let room = PAGE_BYTES - from;
@@ -101,14 +101,14 @@ impl<D: Disk, A: Allocator> Core<D, A> {
     /// Loads 1 to 512 bytes from an address on. All pages of the reference are tested before the first byte is moved. After
     /// `Done` the last page is ready.
     pub fn load(&mut self, address: u32, into: &mut [u8]) -> Result<Access, Halt>
-        requires size { (D.state self.old.filer.swapper.disk).sectors ≡ self.old.filer.swapper.layout.sectors }
+        requires size { FitsLayout (state self.old) }
         requires some { 1 ≤ length into.old }
         requires few { length into.old ≤ 512 }
         ensures access { (m : List Sector) (named : Triples) (ss : List Space) → Knows self.old m named ss → IfOk result (λ a. a ≡ access_of ss false address (length into.old)) }
         ensures bytes { (m : List Sector) (named : Triples) (ss : List Space) → Knows self.old m named ss → IfOk result (λ a. a ≡ access.Done → Loads ss address into.new m) }
         ensures width { length into.new ≡ length into.old }
         ensures refused { IfOk result (λ a. a ≢ access.Done → into.new ≡ into.old) }
-        ensures ready { IfOk result (λ a. a ≡ access.Done → IsReady (kept self.new) self.new.filer.swapper.pool (last_page address (length into.old))) }
+        ensures ready { IfOk result (λ a. a ≡ access.Done → IsReady (kept self.new) (state self.new).slots (last_page address (length into.old))) }
         ensures cause { IfErr result (TouchHalts (BreaksFor (state self.old) self.old.intervals address (length into.old)) (state self.old) (state self.new)) }
         ensures missing { (ss : List Space) → Sees (state self.old) (kept self.old) self.old.intervals ss → IfErr result (MissesPage (shown_units ss address (length into.old))) }
         ensures sees { (ss : List Space) → Sees (state self.old) (kept self.old) self.old.intervals ss → Sees (state self.new) (kept self.new) self.new.intervals ss }
@@ -116,11 +116,11 @@ impl<D: Disk, A: Allocator> Core<D, A> {
         ensures sound { (m : List Sector) (named : Triples) (ss : List Space) → Knows self.old m named ss → IfErr result (λ e. e ≡ halt.Disk) }
         ensures same { (m : List Sector) (named : Triples) (ss : List Space) → Knows self.old m named ss → Knows self.new m named ss }
         ensures reaches { Reaches (state self.old) (state self.new) }
-        ensures came { (m : List Sector) (named : Triples) (ss : List Space) → Knows self.old m named ss → BringsKnown ss self.old.filer.swapper.pool self.new.filer.swapper.pool }
+        ensures came { (m : List Sector) (named : Triples) (ss : List Space) → Knows self.old m named ss → BringsKnown ss (state self.old).slots (state self.new).slots }
         ensures intervals { self.new.intervals ≡ self.old.intervals }
-        ensures idle { IsReady (kept self.old) self.old.filer.swapper.pool (address / 512) → IsReady (kept self.old) self.old.filer.swapper.pool (last_page address (length into.old)) → AreApart (kept self.old)
+        ensures idle { IsReady (kept self.old) (state self.old).slots (address / 512) → IsReady (kept self.old) (state self.old).slots (last_page address (length into.old)) → AreApart (kept self.old)
             → IsOk result × (self.new.filer ≡ self.old.filer) × (kept self.new ≡ kept self.old) }
-        ensures cost { (D.state self.new.filer.swapper.disk).transfers ≤ (D.state self.old.filer.swapper.disk).transfers + 1680 }
+        ensures cost { (state self.new).disk.transfers ≤ (state self.old).disk.transfers + 1680 }
     {
         let (first, last) = match self.refer(address, into.len() as u32, false) {
             Ok(Reference::Shown { first, last }) => (first, last),
@@ -137,30 +137,30 @@ impl<D: Disk, A: Allocator> Core<D, A> {
     /// Loads 1 to 512 bytes from an address on where all pages of the reference are resident, and brings in no page of a
     /// client: it gives the first of them that is not, where the reference is not refused.
     pub fn try_load(&mut self, address: u32, into: &mut [u8]) -> Result<Attempt, Halt>
-        requires size { (D.state self.old.filer.swapper.disk).sectors ≡ self.old.filer.swapper.layout.sectors }
+        requires size { FitsLayout (state self.old) }
         requires some { 1 ≤ length into.old }
         requires few { length into.old ≤ 512 }
         ensures access { (m : List Sector) (named : Triples) (ss : List Space) → Knows self.old m named ss → IfOk result (IfAccess (λ a. a ≡ access_of ss false address (length into.old))) }
-        ensures absent { (m : List Sector) (named : Triples) (ss : List Space) → Knows self.old m named ss → IfOk result (IfAbsent (IsAbsent ss self.new.filer.swapper.pool false address (length into.old))) }
-        ensures present { (m : List Sector) (named : Triples) (ss : List Space) → Knows self.old m named ss → IfOk result (λ t. t ≡ moved → ArePresent ss self.new.filer.swapper.pool address (length into.old)) }
+        ensures absent { (m : List Sector) (named : Triples) (ss : List Space) → Knows self.old m named ss → IfOk result (IfAbsent (IsAbsent ss (state self.new).slots false address (length into.old))) }
+        ensures present { (m : List Sector) (named : Triples) (ss : List Space) → Knows self.old m named ss → IfOk result (λ t. t ≡ moved → ArePresent ss (state self.new).slots address (length into.old)) }
         ensures bytes { (m : List Sector) (named : Triples) (ss : List Space) → Knows self.old m named ss → IfOk result (λ t. t ≡ moved → Loads ss address into.new m) }
         ensures width { length into.new ≡ length into.old }
         ensures unmoved { result ≢ Ok moved → into.new ≡ into.old }
         ensures referred { IfOk result (IfAbsent (IsReferred address (length into.old))) }
-        ensures here { IfOk result (λ t. t ≡ moved → IsHere (kept self.new) self.new.filer.swapper.pool (last_page address (length into.old))) }
+        ensures here { IfOk result (λ t. t ≡ moved → IsHere (kept self.new) (state self.new).slots (last_page address (length into.old))) }
         ensures cause { IfErr result (ReachHalts (BreaksFor (state self.old) self.old.intervals address (length into.old)) (state self.old) (state self.new)) }
         ensures sees { (ss : List Space) → Sees (state self.old) (kept self.old) self.old.intervals ss → Sees (state self.new) (kept self.new) self.new.intervals ss }
         ensures right { (ss : List Space) → Sees (state self.old) (kept self.old) self.old.intervals ss → IfErr result NeverBlamesTables }
         ensures sound { (m : List Sector) (named : Triples) (ss : List Space) → Knows self.old m named ss → IfErr result (λ e. e ≡ halt.Disk) }
         ensures same { (m : List Sector) (named : Triples) (ss : List Space) → Knows self.old m named ss → Knows self.new m named ss }
         ensures reaches { Reaches (state self.old) (state self.new) }
-        ensures came { BringsOwn self.old.filer.swapper.pool self.new.filer.swapper.pool }
+        ensures came { BringsOwn (state self.old).slots (state self.new).slots }
         ensures intervals { self.new.intervals ≡ self.old.intervals }
-        ensures ready { IsReady (kept self.old) self.old.filer.swapper.pool (address / 512) → IsReady (kept self.old) self.old.filer.swapper.pool (last_page address (length into.old)) → AreApart (kept self.old)
+        ensures ready { IsReady (kept self.old) (state self.old).slots (address / 512) → IsReady (kept self.old) (state self.old).slots (last_page address (length into.old)) → AreApart (kept self.old)
             → IfOk result (IfAbsent (λ page. ⊥)) }
-        ensures idle { IsReady (kept self.old) self.old.filer.swapper.pool (address / 512) → IsReady (kept self.old) self.old.filer.swapper.pool (last_page address (length into.old)) → AreApart (kept self.old)
+        ensures idle { IsReady (kept self.old) (state self.old).slots (address / 512) → IsReady (kept self.old) (state self.old).slots (last_page address (length into.old)) → AreApart (kept self.old)
             → IsOk result × (self.new.filer ≡ self.old.filer) × (kept self.new ≡ kept self.old) }
-        ensures cost { (D.state self.new.filer.swapper.disk).transfers ≤ (D.state self.old.filer.swapper.disk).transfers + 392 }
+        ensures cost { (state self.new).disk.transfers ≤ (state self.old).disk.transfers + 392 }
     {
         let (first, last) = match self.look_ahead(address, into.len() as u32, false) {
             Ok(Prospect::Ready { first, last }) => (first, last),

@@ -11,6 +11,7 @@ ghost use Rattle.fault_core.specs.Reach.{Reaches, TouchHalts, BringsOwn};
 ghost use Rattle.fault_core.specs.Revealed.{BreaksTables};
 ghost use Rattle.fault_core.specs.Lack.{MissesPage, Sees, kept_unit, shown_unit};
 ghost use Rattle.fault_core.specs.NeverBlames.{NeverBlamesTables};
+ghost use Rattle.filer_kernel.specs.View.{FitsLayout};
 
 use crate::Core;
 use crate::homes::Homes;
@@ -32,7 +33,7 @@ impl<D: Disk, A: Allocator> Core<D, A> {
     /// The swap unit of a page, and the home of each of its pages, or None where no window shows the page. None of them is
     /// brought in.
     pub fn resolve(&mut self, page: u32) -> Result<Option<Plan>, Halt>
-        requires size { (D.state self.old.filer.swapper.disk).sectors ≡ self.old.filer.swapper.layout.sectors }
+        requires size { FitsLayout (state self.old) }
         ensures unit { IfOk result (λ o. IfSome o (λ plan. IsKeptPlan (kept self.new) page plan.first (homes_in plan.homes))) }
         ensures homes { (m : List Sector) (named : Triples) (ss : List Space) → Knows self.old m named ss → IfOk result (λ o. IfSome o (λ plan. IsPlanAt ss named page plan.first (homes_in plan.homes))) }
         ensures none { (m : List Sector) (named : Triples) (ss : List Space) → Knows self.old m named ss → IfOk result (λ o. (o ≡ None) ↔ (shown_at ss page ≡ None)) }
@@ -44,9 +45,9 @@ impl<D: Disk, A: Allocator> Core<D, A> {
         ensures sound { (m : List Sector) (named : Triples) (ss : List Space) → Knows self.old m named ss → IfErr result (λ e. e ≡ halt.Disk) }
         ensures same { (m : List Sector) (named : Triples) (ss : List Space) → Knows self.old m named ss → Knows self.new m named ss }
         ensures reaches { Reaches (state self.old) (state self.new) }
-        ensures came { BringsOwn self.old.filer.swapper.pool self.new.filer.swapper.pool }
+        ensures came { BringsOwn (state self.old).slots (state self.new).slots }
         ensures intervals { self.new.intervals ≡ self.old.intervals }
-        ensures cost { (D.state self.new.filer.swapper.disk).transfers ≤ (D.state self.old.filer.swapper.disk).transfers + 420 }
+        ensures cost { (state self.new).disk.transfers ≤ (state self.old).disk.transfers + 420 }
     {
         let x = match self.shown(page) {
             Ok(Some(x)) => x,

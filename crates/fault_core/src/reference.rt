@@ -12,6 +12,7 @@ ghost use Rattle.fault_core.specs.Reach.{Reaches, ReachHalts, BringsOwn};
 ghost use Rattle.fault_core.specs.Revealed.{BreaksTables};
 ghost use Rattle.fault_core.specs.Unit.{IsReady, IsWhole};
 ghost use Rattle.fault_core.specs.Lack.{Sees};
+ghost use Rattle.filer_kernel.specs.View.{FitsLayout};
 
 use crate::Core;
 use labelled_disk::{Disk, Halt, PAGE_BYTES};
@@ -76,7 +77,7 @@ impl<D: Disk, A: Allocator> Core<D, A> {
 
     // The interval of the last page of a reference, where it is mapped: that of the first page, where they are one.
     fn shown_last(&mut self, x: Interval, first: u32, last: u32) -> Result<Option<Interval>, Halt>
-        requires size { (D.state self.old.filer.swapper.disk).sectors ≡ self.old.filer.swapper.layout.sectors }
+        requires size { FitsLayout (state self.old) }
         requires shows { Shows x first }
         requires is_kept { IsKept (kept self.old) x }
         ensures form { IfOk result (λ o. IfSome o (λ y. Shows y last)) }
@@ -89,11 +90,11 @@ impl<D: Disk, A: Allocator> Core<D, A> {
         ensures sound { (m : List Sector) (named : Triples) (ss : List Space) → Knows self.old m named ss → IfErr result (λ e. e ≡ halt.Disk) }
         ensures same { (m : List Sector) (named : Triples) (ss : List Space) → Knows self.old m named ss → Knows self.new m named ss }
         ensures reaches { Reaches (state self.old) (state self.new) }
-        ensures came { BringsOwn self.old.filer.swapper.pool self.new.filer.swapper.pool }
+        ensures came { BringsOwn (state self.old).slots (state self.new).slots }
         ensures intervals { self.new.intervals ≡ self.old.intervals }
-        ensures idle { IsReady (kept self.old) self.old.filer.swapper.pool last → AreApart (kept self.old)
-            → IfOk result (λ o. IfSome o (λ y. IsWhole self.old.filer.swapper.pool y last) × (o ≢ None)) × IsOk result × (self.new.filer ≡ self.old.filer) × (kept self.new ≡ kept self.old) }
-        ensures cost { (D.state self.new.filer.swapper.disk).transfers ≤ (D.state self.old.filer.swapper.disk).transfers + 196 }
+        ensures idle { IsReady (kept self.old) (state self.old).slots last → AreApart (kept self.old)
+            → IfOk result (λ o. IfSome o (λ y. IsWhole (state self.old).slots y last) × (o ≢ None)) × IsOk result × (self.new.filer ≡ self.old.filer) × (kept self.new ≡ kept self.old) }
+        ensures cost { (state self.new).disk.transfers ≤ (state self.old).disk.transfers + 196 }
     {
         if last == first {
             return Ok(Some(x));
@@ -109,7 +110,7 @@ impl<D: Disk, A: Allocator> Core<D, A> {
         count: u32,
         writes: bool,
     ) -> Result<Reference, Halt>
-        requires size { (D.state self.old.filer.swapper.disk).sectors ≡ self.old.filer.swapper.layout.sectors }
+        requires size { FitsLayout (state self.old) }
         requires some { 1 ≤ count }
         requires few { count ≤ 512 }
         ensures form { IfOk result (IfShown (λ x y. Shows x (address / 512) × Shows y (last_page address count))) }
@@ -123,12 +124,12 @@ impl<D: Disk, A: Allocator> Core<D, A> {
         ensures sound { (m : List Sector) (named : Triples) (ss : List Space) → Knows self.old m named ss → IfErr result (λ e. e ≡ halt.Disk) }
         ensures same { (m : List Sector) (named : Triples) (ss : List Space) → Knows self.old m named ss → Knows self.new m named ss }
         ensures reaches { Reaches (state self.old) (state self.new) }
-        ensures came { BringsOwn self.old.filer.swapper.pool self.new.filer.swapper.pool }
+        ensures came { BringsOwn (state self.old).slots (state self.new).slots }
         ensures intervals { self.new.intervals ≡ self.old.intervals }
-        ensures idle { IsReady (kept self.old) self.old.filer.swapper.pool (address / 512) → IsReady (kept self.old) self.old.filer.swapper.pool (last_page address count) → AreApart (kept self.old)
-            → IfOk result (IfShown (λ x y. IsWhole self.old.filer.swapper.pool x (address / 512) × IsWhole self.old.filer.swapper.pool y (last_page address count)))
+        ensures idle { IsReady (kept self.old) (state self.old).slots (address / 512) → IsReady (kept self.old) (state self.old).slots (last_page address count) → AreApart (kept self.old)
+            → IfOk result (IfShown (λ x y. IsWhole (state self.old).slots x (address / 512) × IsWhole (state self.old).slots y (last_page address count)))
             × IsOk result × (self.new.filer ≡ self.old.filer) × (kept self.new ≡ kept self.old) }
-        ensures cost { (D.state self.new.filer.swapper.disk).transfers ≤ (D.state self.old.filer.swapper.disk).transfers + 392 }
+        ensures cost { (state self.new).disk.transfers ≤ (state self.old).disk.transfers + 392 }
     {
         let first = address / PAGE_BYTES as u32;
         let last = last_page(address, count);

@@ -10,7 +10,7 @@ ghost use Rattle.frame_pool.specs.Frames.{ArePages};
 ghost use Rattle.frame_pool.specs.declared.home.Home.{Home as HomeIs};
 ghost use Rattle.swapper_kernel.specs.Homes.{IsAmong};
 ghost use Rattle.swapper_kernel.specs.Stands.{Stands};
-ghost use Rattle.fault_core.specs.View.{view_of, kept_by};
+ghost use Rattle.filer_kernel.specs.View.{FitsLayout, HasMemory, kept_by, view_of};
 ghost use Rattle.fault_core.specs.Reach.{IsReachedHome, Reaches, ReachHalts, TouchHalts, BringsOwn, no_break};
 ghost use Rattle.fault_core.specs.Revealed.{Known};
 ghost use Rattle.fault_core.specs.Homes.{homes_in, AreHomesOf, HaveSectors};
@@ -27,7 +27,7 @@ use std::alloc::Allocator;
 
 // How many frames there are. The bytes of each are a page's.
 fn count_frames<D: Disk, A: Allocator>(filer: &mut Filer<D, A>) -> u32
-    ensures pages { ArePages filer.old.swapper.pool }
+    ensures pages { ArePages (view_of filer.old).slots }
     ensures same { filer.new ≡ filer.old }
 {
     filer.swapper_over().frames().frames()
@@ -39,18 +39,18 @@ fn run_of<D: Disk, A: Allocator>(
     id: FileId,
     page: u32,
 ) -> Result<Option<Run>, Halt>
-    requires size { (D.state filer.old.swapper.disk).sectors ≡ filer.old.swapper.layout.sectors }
-    ensures form { IfOk result (λ o. IfSome o (IsRun filer.old.swapper.layout.sectors)) }
+    requires size { FitsLayout (view_of filer.old) }
+    ensures form { IfOk result (λ o. IfSome o (IsRun (view_of filer.old).layout.sectors)) }
     ensures holds { IfOk result (λ o. IfSome o (λ run. holds run id page ≡ true)) }
-    ensures given { IfOk result (λ o. IfSome o (IsGiven filer.old.swapper.layout (D.state filer.old.swapper.disk) filer.old.swapper.pool (kept_by (view_of filer.old)))) }
-    ensures nowhere { (m : List Sector) (named : Triples) → Stands (D.state filer.old.swapper.disk) filer.old.swapper.pool m → MapIs filer.old.swapper.layout named m → result ≡ Ok None → IsNowhere named id page }
+    ensures given { IfOk result (λ o. IfSome o (IsGiven (view_of filer.old).layout (view_of filer.old).disk (view_of filer.old).slots (kept_by (view_of filer.old)))) }
+    ensures nowhere { (m : List Sector) (named : Triples) → HasMemory (view_of filer.old) m → MapIs (view_of filer.old).layout named m → result ≡ Ok None → IsNowhere named id page }
     ensures cause { IfErr result (ReachHalts no_break (view_of filer.old) (view_of filer.new)) }
     ensures found { (m : List Sector) (named : Triples) (b : List ℕ) → Known (view_of filer.old) m named b → IfOk result (IsFound named id page) }
     ensures sound { (m : List Sector) (named : Triples) (b : List ℕ) → Known (view_of filer.old) m named b → IfErr result (λ e. e ≡ halt.Disk) }
     ensures reaches { Reaches (view_of filer.old) (view_of filer.new) }
-    ensures came { BringsOwn filer.old.swapper.pool filer.new.swapper.pool }
-    ensures room { KeepsWhileEmpty filer.old.swapper.pool filer.new.swapper.pool }
-    ensures cost { (D.state filer.new.swapper.disk).transfers ≤ (D.state filer.old.swapper.disk).transfers + 14 }
+    ensures came { BringsOwn (view_of filer.old).slots (view_of filer.new).slots }
+    ensures room { KeepsWhileEmpty (view_of filer.old).slots (view_of filer.new).slots }
+    ensures cost { (view_of filer.new).disk.transfers ≤ (view_of filer.old).disk.transfers + 14 }
 {
     count_frames(filer);
     filer.find(id, page)
@@ -62,7 +62,7 @@ fn home_of<D: Disk, A: Allocator>(
     id: FileId,
     page: u32,
 ) -> Result<Home, Halt>
-    requires size { (D.state filer.old.swapper.disk).sectors ≡ filer.old.swapper.layout.sectors }
+    requires size { FitsLayout (view_of filer.old) }
     requires client { 16 ≤ id }
     ensures found { IfOk result (IsReachedHome (view_of filer.old)) }
     ensures is { IfOk result (λ home. (home.id ≡ id) × (home.page ≡ page)) }
@@ -71,9 +71,9 @@ fn home_of<D: Disk, A: Allocator>(
     ensures named { (m : List Sector) (named : Triples) (b : List ℕ) → Known (view_of filer.old) m named b → IfOk result (λ home. named id page home.sector ≡ true) }
     ensures sound { (m : List Sector) (named : Triples) (b : List ℕ) (sector : ℕ) → Known (view_of filer.old) m named b → named id page sector ≡ true → IfErr result (λ e. e ≡ halt.Disk) }
     ensures reaches { Reaches (view_of filer.old) (view_of filer.new) }
-    ensures came { BringsOwn filer.old.swapper.pool filer.new.swapper.pool }
-    ensures room { KeepsWhileEmpty filer.old.swapper.pool filer.new.swapper.pool }
-    ensures cost { (D.state filer.new.swapper.disk).transfers ≤ (D.state filer.old.swapper.disk).transfers + 14 }
+    ensures came { BringsOwn (view_of filer.old).slots (view_of filer.new).slots }
+    ensures room { KeepsWhileEmpty (view_of filer.old).slots (view_of filer.new).slots }
+    ensures cost { (view_of filer.new).disk.transfers ≤ (view_of filer.old).disk.transfers + 14 }
 {
     match run_of(filer, id, page) {
         Ok(Some(run)) => Ok(Home {
@@ -93,7 +93,7 @@ pub(crate) fn homes_of<D: Disk, A: Allocator>(
     first: u32,
     pages: u32,
 ) -> Result<Homes, Halt>
-    requires size { (D.state filer.old.swapper.disk).sectors ≡ filer.old.swapper.layout.sectors }
+    requires size { FitsLayout (view_of filer.old) }
     requires client { 16 ≤ id }
     requires some { 1 ≤ pages }
     requires few { pages ≤ 16 }
@@ -105,9 +105,9 @@ pub(crate) fn homes_of<D: Disk, A: Allocator>(
     ensures named { (m : List Sector) (named : Triples) (b : List ℕ) → Known (view_of filer.old) m named b → IfOk result (λ homes. (h : HomeIs) → IsAmong (homes_in homes) h → named h.id h.page h.sector ≡ true) }
     ensures sound { (m : List Sector) (named : Triples) (b : List ℕ) → Known (view_of filer.old) m named b → HaveSectors named id first pages → IfErr result (λ e. e ≡ halt.Disk) }
     ensures reaches { Reaches (view_of filer.old) (view_of filer.new) }
-    ensures came { BringsOwn filer.old.swapper.pool filer.new.swapper.pool }
-    ensures room { KeepsWhileEmpty filer.old.swapper.pool filer.new.swapper.pool }
-    ensures cost { (D.state filer.new.swapper.disk).transfers ≤ (D.state filer.old.swapper.disk).transfers + 14 * pages }
+    ensures came { BringsOwn (view_of filer.old).slots (view_of filer.new).slots }
+    ensures room { KeepsWhileEmpty (view_of filer.old).slots (view_of filer.new).slots }
+    ensures cost { (view_of filer.new).disk.transfers ≤ (view_of filer.old).disk.transfers + 14 * pages }
 {
     let mut homes = [Home {
         sector: 0,

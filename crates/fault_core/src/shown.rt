@@ -14,6 +14,7 @@ ghost use Rattle.fault_core.specs.Revealed.{BreaksTables};
 ghost use Rattle.fault_core.specs.Unit.{IsReady, IsWhole};
 ghost use Rattle.fault_core.specs.Room.{KeepsWhileEmpty};
 ghost use Rattle.fault_core.specs.Lack.{Sees};
+ghost use Rattle.filer_kernel.specs.View.{FitsLayout};
 
 use crate::Core;
 use labelled_disk::{Disk, Halt};
@@ -25,7 +26,7 @@ impl<D: Disk, A: Allocator> Core<D, A> {
 
     // The interval that holds a page, where it is mapped.
     pub(crate) fn shown(&mut self, page: u32) -> Result<Option<Interval>, Halt>
-        requires size { (D.state self.old.filer.swapper.disk).sectors ≡ self.old.filer.swapper.layout.sectors }
+        requires size { FitsLayout (state self.old) }
         ensures form { IfOk result (λ o. IfSome o (λ x. IsFormed x × Holds x page × (is_mapped x.mode ≡ true))) }
         ensures is_kept { IfOk result (λ o. IfSome o (IsKept (kept self.new))) }
         ensures cause { IfErr result (ReachHalts (BreaksTables (state self.old) self.old.intervals page) (state self.old) (state self.new)) }
@@ -35,12 +36,12 @@ impl<D: Disk, A: Allocator> Core<D, A> {
         ensures sound { (m : List Sector) (named : Triples) (ss : List Space) → Knows self.old m named ss → IfErr result (λ e. e ≡ halt.Disk) }
         ensures same { (m : List Sector) (named : Triples) (ss : List Space) → Knows self.old m named ss → Knows self.new m named ss }
         ensures reaches { Reaches (state self.old) (state self.new) }
-        ensures came { BringsOwn self.old.filer.swapper.pool self.new.filer.swapper.pool }
-        ensures room { KeepsWhileEmpty self.old.filer.swapper.pool self.new.filer.swapper.pool }
+        ensures came { BringsOwn (state self.old).slots (state self.new).slots }
+        ensures room { KeepsWhileEmpty (state self.old).slots (state self.new).slots }
         ensures intervals { self.new.intervals ≡ self.old.intervals }
-        ensures idle { IsReady (kept self.old) self.old.filer.swapper.pool page → AreApart (kept self.old)
-            → IfOk result (λ o. IfSome o (λ x. IsWhole self.old.filer.swapper.pool x page) × (o ≢ None)) × IsOk result × (self.new.filer ≡ self.old.filer) × (kept self.new ≡ kept self.old) }
-        ensures cost { (D.state self.new.filer.swapper.disk).transfers ≤ (D.state self.old.filer.swapper.disk).transfers + 196 }
+        ensures idle { IsReady (kept self.old) (state self.old).slots page → AreApart (kept self.old)
+            → IfOk result (λ o. IfSome o (λ x. IsWhole (state self.old).slots x page) × (o ≢ None)) × IsOk result × (self.new.filer ≡ self.old.filer) × (kept self.new ≡ kept self.old) }
+        ensures cost { (state self.new).disk.transfers ≤ (state self.old).disk.transfers + 196 }
     {
         let x = match self.describe(page) {
             Ok(Some(x)) => x,

@@ -13,7 +13,7 @@ ghost use Rattle.fault_core.specs.Access.{BreaksFor, Shows, access_of, last_page
 ghost use Rattle.fault_core.specs.Attempt.{ArePresent, IfAbsent, IfAccess, IsAbsent, IsHere, IsReferred, StoresTried, moved};
 ghost use Rattle.fault_core.specs.Kept.{AreApart};
 ghost use Rattle.fault_core.specs.Moves.{AreSeen, Leaves, StoresAs, StoresSome, client_page, of_reference};
-ghost use Rattle.fault_core.specs.View.{view_of};
+ghost use Rattle.filer_kernel.specs.View.{FitsLayout, GoesTo, HasMemory, view_of};
 ghost use Rattle.fault_core.specs.Reach.{BringsOwn, Reaches, ReachHalts, TouchHalts, no_break};
 ghost use Rattle.fault_core.specs.Revealed.{Known};
 ghost use Rattle.fault_core.specs.Touch.{Touches};
@@ -39,20 +39,20 @@ fn store_in<D: Disk, A: Allocator>(
     from: u32,
     bytes: &[u8],
 ) -> Result<(), Halt>
-    requires size { (D.state filer.old.swapper.disk).sectors ≡ filer.old.swapper.layout.sectors }
+    requires size { FitsLayout (view_of filer.old) }
     requires shows { Shows x.now page }
     requires inside { from + length bytes.now ≤ 512 }
     ensures stored { (m : List Sector) (named : Triples) (b : List ℕ) → Known (view_of filer.old) m named b → AreShownStored named m x.now → OnOk result (Leaves (StoresAt x.now.id (file_page x.now page) from bytes.now) m named b (view_of filer.new)) }
     ensures halted { (m : List Sector) (named : Triples) (b : List ℕ) → Known (view_of filer.old) m named b → OnErr result (Leaves Same m named b (view_of filer.new)) }
-    ensures whole { OnOk result (IsWhole filer.new.swapper.pool x.now page) }
-    ensures dirty { OnOk result (IsDirty filer.new.swapper.pool x.now.id (file_page x.now page)) }
+    ensures whole { OnOk result (IsWhole (view_of filer.new).slots x.now page) }
+    ensures dirty { OnOk result (IsDirty (view_of filer.new).slots x.now.id (file_page x.now page)) }
     ensures cause { IfErr result (TouchHalts no_break (view_of filer.old) (view_of filer.new)) }
     ensures misses { IfErr result (MissesPage (unit_pages x.now page)) }
     ensures sound { (m : List Sector) (named : Triples) (b : List ℕ) → Known (view_of filer.old) m named b → AreShownStored named m x.now → IfErr result (λ e. e ≡ halt.Disk) }
     ensures touches { Touches (this_page x.now.id (file_page x.now page)) (view_of filer.old) (view_of filer.new) }
-    ensures came { BringsShown x.now filer.old.swapper.pool filer.new.swapper.pool }
-    ensures idle { IsWhole filer.old.swapper.pool x.now page → IsOk result × (D.state filer.new.swapper.disk ≡ D.state filer.old.swapper.disk) × KeepsResident filer.old.swapper.pool filer.new.swapper.pool }
-    ensures cost { (D.state filer.new.swapper.disk).transfers ≤ (D.state filer.old.swapper.disk).transfers + 256 }
+    ensures came { BringsShown x.now (view_of filer.old).slots (view_of filer.new).slots }
+    ensures idle { IsWhole (view_of filer.old).slots x.now page → IsOk result × ((view_of filer.new).disk ≡ (view_of filer.old).disk) × KeepsResident (view_of filer.old).slots (view_of filer.new).slots }
+    ensures cost { (view_of filer.new).disk.transfers ≤ (view_of filer.old).disk.transfers + 256 }
 {
     let slot = match touch(filer, x, page) {
         Ok(slot) => slot,
@@ -70,7 +70,7 @@ fn store_shown<D: Disk, A: Allocator>(
     address: u32,
     bytes: &[u8],
 ) -> Result<(), Halt>
-    requires size { (D.state filer.old.swapper.disk).sectors ≡ filer.old.swapper.layout.sectors }
+    requires size { FitsLayout (view_of filer.old) }
     requires some { 1 ≤ length bytes.now }
     requires few { length bytes.now ≤ 512 }
     requires first { Shows first.now (address / 512) }
@@ -78,15 +78,15 @@ fn store_shown<D: Disk, A: Allocator>(
     requires one { address / 512 ≡ last_page address (length bytes.now) → last.now ≡ first.now }
     ensures stored { (m : List Sector) (named : Triples) (b : List ℕ) (ss : List Space) → Known (view_of filer.old) m named b → AreSeen ss named m first.now → AreSeen ss named m last.now → OnOk result (Leaves (Stores ss address bytes.now) m named b (view_of filer.new)) }
     ensures halted { (m : List Sector) (named : Triples) (b : List ℕ) (ss : List Space) → Known (view_of filer.old) m named b → AreSeen ss named m first.now → OnErr result (Leaves (StoresSome ss address bytes.now) m named b (view_of filer.new)) }
-    ensures whole { OnOk result (IsWhole filer.new.swapper.pool last.now (last_page address (length bytes.now))) }
-    ensures dirty { OnOk result (IsDirty filer.new.swapper.pool last.now.id (file_page last.now (last_page address (length bytes.now)))) }
+    ensures whole { OnOk result (IsWhole (view_of filer.new).slots last.now (last_page address (length bytes.now))) }
+    ensures dirty { OnOk result (IsDirty (view_of filer.new).slots last.now.id (file_page last.now (last_page address (length bytes.now)))) }
     ensures cause { IfErr result (TouchHalts no_break (view_of filer.old) (view_of filer.new)) }
     ensures misses { IfErr result (MissesPage (both_units first.now last.now address (length bytes.now))) }
     ensures sound { (m : List Sector) (named : Triples) (b : List ℕ) → Known (view_of filer.old) m named b → AreShownStored named m first.now → AreShownStored named m last.now → IfErr result (λ e. e ≡ halt.Disk) }
     ensures touches { Touches (of_reference first.now last.now address (length bytes.now)) (view_of filer.old) (view_of filer.new) }
-    ensures came { BringsBoth first.now last.now filer.old.swapper.pool filer.new.swapper.pool }
-    ensures idle { IsWhole filer.old.swapper.pool first.now (address / 512) → IsWhole filer.old.swapper.pool last.now (last_page address (length bytes.now)) → IsOk result × (D.state filer.new.swapper.disk ≡ D.state filer.old.swapper.disk) }
-    ensures cost { (D.state filer.new.swapper.disk).transfers ≤ (D.state filer.old.swapper.disk).transfers + 512 }
+    ensures came { BringsBoth first.now last.now (view_of filer.old).slots (view_of filer.new).slots }
+    ensures idle { IsWhole (view_of filer.old).slots first.now (address / 512) → IsWhole (view_of filer.old).slots last.now (last_page address (length bytes.now)) → IsOk result × ((view_of filer.new).disk ≡ (view_of filer.old).disk) }
+    ensures cost { (view_of filer.new).disk.transfers ≤ (view_of filer.old).disk.transfers + 512 }
 {
     let from = address % PAGE_BYTES as u32;
     let room = (PAGE_BYTES as u32 - from) as usize;
@@ -107,30 +107,30 @@ impl<D: Disk, A: Allocator> Core<D, A> {
     /// Stores 1 to 512 bytes from an address on. All pages of the reference are tested before the first byte is moved: one
     /// that is refused changes nothing. After `Done` the last page is ready, and its frame dirty.
     pub fn store(&mut self, address: u32, bytes: &[u8]) -> Result<Access, Halt>
-        requires size { (D.state self.old.filer.swapper.disk).sectors ≡ self.old.filer.swapper.layout.sectors }
+        requires size { FitsLayout (state self.old) }
         requires some { 1 ≤ length bytes.now }
         requires few { length bytes.now ≤ 512 }
         ensures access { (m : List Sector) (named : Triples) (ss : List Space) → Knows self.old m named ss → IfOk result (λ a. a ≡ access_of ss true address (length bytes.now)) }
         ensures stored { (m : List Sector) (named : Triples) (ss : List Space) → Knows self.old m named ss
-            → IfOk result (λ a. Goes (StoresAs a ss address bytes.now) (IsTouchedOrOwn ss address (length bytes.now)) [] (D.state self.old.filer.swapper.disk) self.old.filer.swapper.pool (D.state self.new.filer.swapper.disk) self.new.filer.swapper.pool) }
+            → IfOk result (λ a. GoesTo (StoresAs a ss address bytes.now) (IsTouchedOrOwn ss address (length bytes.now)) [] (state self.old) (state self.new)) }
         ensures halted { (m : List Sector) (named : Triples) (ss : List Space) → Knows self.old m named ss
-            → OnErr result (Goes (StoresSome ss address bytes.now) (IsTouchedOrOwn ss address (length bytes.now)) [] (D.state self.old.filer.swapper.disk) self.old.filer.swapper.pool (D.state self.new.filer.swapper.disk) self.new.filer.swapper.pool) }
-        ensures known { (m n : List Sector) (named : Triples) (ss : List Space) → Knows self.old m named ss → Stands (D.state self.new.filer.swapper.disk) self.new.filer.swapper.pool n → Knows self.new n named ss }
+            → OnErr result (GoesTo (StoresSome ss address bytes.now) (IsTouchedOrOwn ss address (length bytes.now)) [] (state self.old) (state self.new)) }
+        ensures known { (m n : List Sector) (named : Triples) (ss : List Space) → Knows self.old m named ss → HasMemory (state self.new) n → Knows self.new n named ss }
         ensures tested { (m : List Sector) (named : Triples) (ss : List Space) → Knows self.old m named ss → access_of ss true address (length bytes.now) ≢ access.Done → Reaches (state self.old) (state self.new) }
         ensures refused { IfOk result (λ a. a ≢ access.Done → Reaches (state self.old) (state self.new)) }
-        ensures ready { IfOk result (λ a. a ≡ access.Done → IsReady (kept self.new) self.new.filer.swapper.pool (last_page address (length bytes.now))) }
-        ensures dirty { (m : List Sector) (named : Triples) (ss : List Space) → Knows self.old m named ss → IfOk result (λ a. a ≡ access.Done → IsShownDirty ss self.new.filer.swapper.pool (last_page address (length bytes.now))) }
+        ensures ready { IfOk result (λ a. a ≡ access.Done → IsReady (kept self.new) (state self.new).slots (last_page address (length bytes.now))) }
+        ensures dirty { (m : List Sector) (named : Triples) (ss : List Space) → Knows self.old m named ss → IfOk result (λ a. a ≡ access.Done → IsShownDirty ss (state self.new).slots (last_page address (length bytes.now))) }
         ensures cause { IfErr result (TouchHalts (BreaksFor (state self.old) self.old.intervals address (length bytes.now)) (state self.old) (state self.new)) }
         ensures missing { (ss : List Space) → Sees (state self.old) (kept self.old) self.old.intervals ss → IfErr result (MissesPage (shown_units ss address (length bytes.now))) }
         ensures sees { (ss : List Space) → Sees (state self.old) (kept self.old) self.old.intervals ss → Sees (state self.new) (kept self.new) self.new.intervals ss }
         ensures right { (ss : List Space) → Sees (state self.old) (kept self.old) self.old.intervals ss → IfErr result NeverBlamesTables }
         ensures sound { (m : List Sector) (named : Triples) (ss : List Space) → Knows self.old m named ss → IfErr result (λ e. e ≡ halt.Disk) }
         ensures touches { Touches client_page (state self.old) (state self.new) }
-        ensures came { (m : List Sector) (named : Triples) (ss : List Space) → Knows self.old m named ss → BringsKnown ss self.old.filer.swapper.pool self.new.filer.swapper.pool }
+        ensures came { (m : List Sector) (named : Triples) (ss : List Space) → Knows self.old m named ss → BringsKnown ss (state self.old).slots (state self.new).slots }
         ensures intervals { self.new.intervals ≡ self.old.intervals }
-        ensures idle { IsReady (kept self.old) self.old.filer.swapper.pool (address / 512) → IsReady (kept self.old) self.old.filer.swapper.pool (last_page address (length bytes.now)) → AreApart (kept self.old)
-            → IsOk result × (D.state self.new.filer.swapper.disk ≡ D.state self.old.filer.swapper.disk) × (kept self.new ≡ kept self.old) }
-        ensures cost { (D.state self.new.filer.swapper.disk).transfers ≤ (D.state self.old.filer.swapper.disk).transfers + 1680 }
+        ensures idle { IsReady (kept self.old) (state self.old).slots (address / 512) → IsReady (kept self.old) (state self.old).slots (last_page address (length bytes.now)) → AreApart (kept self.old)
+            → IsOk result × ((state self.new).disk ≡ (state self.old).disk) × (kept self.new ≡ kept self.old) }
+        ensures cost { (state self.new).disk.transfers ≤ (state self.old).disk.transfers + 1680 }
     {
         let (first, last) = match self.refer(address, bytes.len() as u32, true) {
             Ok(Reference::Shown { first, last }) => (first, last),
@@ -147,31 +147,31 @@ impl<D: Disk, A: Allocator> Core<D, A> {
     /// Stores 1 to 512 bytes from an address on where all pages of the reference are resident, and brings in no page of a
     /// client: it gives the first of them that is not, where the reference is not refused.
     pub fn try_store(&mut self, address: u32, bytes: &[u8]) -> Result<Attempt, Halt>
-        requires size { (D.state self.old.filer.swapper.disk).sectors ≡ self.old.filer.swapper.layout.sectors }
+        requires size { FitsLayout (state self.old) }
         requires some { 1 ≤ length bytes.now }
         requires few { length bytes.now ≤ 512 }
         ensures access { (m : List Sector) (named : Triples) (ss : List Space) → Knows self.old m named ss → IfOk result (IfAccess (λ a. a ≡ access_of ss true address (length bytes.now))) }
-        ensures absent { (m : List Sector) (named : Triples) (ss : List Space) → Knows self.old m named ss → IfOk result (IfAbsent (IsAbsent ss self.new.filer.swapper.pool true address (length bytes.now))) }
-        ensures present { (m : List Sector) (named : Triples) (ss : List Space) → Knows self.old m named ss → IfOk result (λ t. t ≡ moved → ArePresent ss self.new.filer.swapper.pool address (length bytes.now)) }
+        ensures absent { (m : List Sector) (named : Triples) (ss : List Space) → Knows self.old m named ss → IfOk result (IfAbsent (IsAbsent ss (state self.new).slots true address (length bytes.now))) }
+        ensures present { (m : List Sector) (named : Triples) (ss : List Space) → Knows self.old m named ss → IfOk result (λ t. t ≡ moved → ArePresent ss (state self.new).slots address (length bytes.now)) }
         ensures stored { (m : List Sector) (named : Triples) (ss : List Space) → Knows self.old m named ss
-            → IfOk result (λ t. Goes (StoresTried t ss address bytes.now) (IsTouchedOrOwn ss address (length bytes.now)) [] (D.state self.old.filer.swapper.disk) self.old.filer.swapper.pool (D.state self.new.filer.swapper.disk) self.new.filer.swapper.pool) }
-        ensures known { (m n : List Sector) (named : Triples) (ss : List Space) → Knows self.old m named ss → Stands (D.state self.new.filer.swapper.disk) self.new.filer.swapper.pool n → Knows self.new n named ss }
+            → IfOk result (λ t. GoesTo (StoresTried t ss address bytes.now) (IsTouchedOrOwn ss address (length bytes.now)) [] (state self.old) (state self.new)) }
+        ensures known { (m n : List Sector) (named : Triples) (ss : List Space) → Knows self.old m named ss → HasMemory (state self.new) n → Knows self.new n named ss }
         ensures unmoved { result ≢ Ok moved → Reaches (state self.old) (state self.new) }
         ensures referred { IfOk result (IfAbsent (IsReferred address (length bytes.now))) }
-        ensures here { IfOk result (λ t. t ≡ moved → IsHere (kept self.new) self.new.filer.swapper.pool (last_page address (length bytes.now))) }
-        ensures dirty { (m : List Sector) (named : Triples) (ss : List Space) → Knows self.old m named ss → IfOk result (λ t. t ≡ moved → IsShownDirty ss self.new.filer.swapper.pool (last_page address (length bytes.now))) }
+        ensures here { IfOk result (λ t. t ≡ moved → IsHere (kept self.new) (state self.new).slots (last_page address (length bytes.now))) }
+        ensures dirty { (m : List Sector) (named : Triples) (ss : List Space) → Knows self.old m named ss → IfOk result (λ t. t ≡ moved → IsShownDirty ss (state self.new).slots (last_page address (length bytes.now))) }
         ensures cause { IfErr result (ReachHalts (BreaksFor (state self.old) self.old.intervals address (length bytes.now)) (state self.old) (state self.new)) }
         ensures sees { (ss : List Space) → Sees (state self.old) (kept self.old) self.old.intervals ss → Sees (state self.new) (kept self.new) self.new.intervals ss }
         ensures right { (ss : List Space) → Sees (state self.old) (kept self.old) self.old.intervals ss → IfErr result NeverBlamesTables }
         ensures sound { (m : List Sector) (named : Triples) (ss : List Space) → Knows self.old m named ss → IfErr result (λ e. e ≡ halt.Disk) }
         ensures touches { Touches client_page (state self.old) (state self.new) }
-        ensures came { BringsOwn self.old.filer.swapper.pool self.new.filer.swapper.pool }
+        ensures came { BringsOwn (state self.old).slots (state self.new).slots }
         ensures intervals { self.new.intervals ≡ self.old.intervals }
-        ensures ready { IsReady (kept self.old) self.old.filer.swapper.pool (address / 512) → IsReady (kept self.old) self.old.filer.swapper.pool (last_page address (length bytes.now)) → AreApart (kept self.old)
+        ensures ready { IsReady (kept self.old) (state self.old).slots (address / 512) → IsReady (kept self.old) (state self.old).slots (last_page address (length bytes.now)) → AreApart (kept self.old)
             → IfOk result (IfAbsent (λ page. ⊥)) }
-        ensures idle { IsReady (kept self.old) self.old.filer.swapper.pool (address / 512) → IsReady (kept self.old) self.old.filer.swapper.pool (last_page address (length bytes.now)) → AreApart (kept self.old)
-            → IsOk result × (D.state self.new.filer.swapper.disk ≡ D.state self.old.filer.swapper.disk) × (kept self.new ≡ kept self.old) }
-        ensures cost { (D.state self.new.filer.swapper.disk).transfers ≤ (D.state self.old.filer.swapper.disk).transfers + 392 }
+        ensures idle { IsReady (kept self.old) (state self.old).slots (address / 512) → IsReady (kept self.old) (state self.old).slots (last_page address (length bytes.now)) → AreApart (kept self.old)
+            → IsOk result × ((state self.new).disk ≡ (state self.old).disk) × (kept self.new ≡ kept self.old) }
+        ensures cost { (state self.new).disk.transfers ≤ (state self.old).disk.transfers + 392 }
     {
         let (first, last) = match self.look_ahead(address, bytes.len() as u32, true) {
             Ok(Prospect::Ready { first, last }) => (first, last),

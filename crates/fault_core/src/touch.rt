@@ -9,7 +9,7 @@ ghost use Rattle.flat_machine.specs.At.{shown_at};
 ghost use Rattle.session_words.specs.FrameLaws.{BringsKnown};
 ghost use Rattle.fault_core.specs.Access.{Shows};
 ghost use Rattle.fault_core.specs.Kept.{AreApart};
-ghost use Rattle.fault_core.specs.View.{view_of};
+ghost use Rattle.filer_kernel.specs.View.{FitsLayout, view_of};
 ghost use Rattle.fault_core.specs.Reach.{Reaches, TouchHalts, no_break};
 ghost use Rattle.fault_core.specs.Revealed.{BreaksTables, Known};
 ghost use Rattle.fault_core.specs.Unit.{AreShownStored, BringsShown, IsReady, IsSlotOf, IsTouched, IsWhole, file_page};
@@ -30,17 +30,17 @@ fn bring_unit<D: Disk, A: Allocator>(
     x: &Interval,
     page: u32,
 ) -> Result<(), Halt>
-    requires size { (D.state filer.old.swapper.disk).sectors ≡ filer.old.swapper.layout.sectors }
+    requires size { FitsLayout (view_of filer.old) }
     requires shows { Shows x.now page }
-    ensures whole { OnOk result (IsWhole filer.new.swapper.pool x.now page) }
+    ensures whole { OnOk result (IsWhole (view_of filer.new).slots x.now page) }
     ensures cause { IfErr result (TouchHalts no_break (view_of filer.old) (view_of filer.new)) }
     ensures misses { IfErr result (MissesPage (unit_pages x.now page)) }
     ensures sound { (m : List Sector) (named : Triples) (b : List ℕ) → Known (view_of filer.old) m named b → AreShownStored named m x.now → IfErr result (λ e. e ≡ halt.Disk) }
     ensures reaches { Reaches (view_of filer.old) (view_of filer.new) }
-    ensures came { BringsShown x.now filer.old.swapper.pool filer.new.swapper.pool }
-    ensures room { KeepsWhileEmpty filer.old.swapper.pool filer.new.swapper.pool }
-    ensures idle { IsWhole filer.old.swapper.pool x.now page → IsOk result × (filer.new ≡ filer.old) }
-    ensures cost { (D.state filer.new.swapper.disk).transfers ≤ (D.state filer.old.swapper.disk).transfers + 256 }
+    ensures came { BringsShown x.now (view_of filer.old).slots (view_of filer.new).slots }
+    ensures room { KeepsWhileEmpty (view_of filer.old).slots (view_of filer.new).slots }
+    ensures idle { IsWhole (view_of filer.old).slots x.now page → IsOk result × (filer.new ≡ filer.old) }
+    ensures cost { (view_of filer.new).disk.transfers ≤ (view_of filer.old).disk.transfers + 256 }
 {
     let (first, pages) = unit_run(x, page);
     if is_there(filer, x.id, first, pages) {
@@ -55,19 +55,19 @@ pub(crate) fn touch<D: Disk, A: Allocator>(
     x: &Interval,
     page: u32,
 ) -> Result<u32, Halt>
-    requires size { (D.state filer.old.swapper.disk).sectors ≡ filer.old.swapper.layout.sectors }
+    requires size { FitsLayout (view_of filer.old) }
     requires shows { Shows x.now page }
-    ensures slot { IfOk result (λ i. HasPage filer.new.swapper.pool i x.now.id (file_page x.now page)) }
-    ensures below { IfOk result (λ i. i < length filer.new.swapper.pool) }
-    ensures whole { OnOk result (IsWhole filer.new.swapper.pool x.now page) }
+    ensures slot { IfOk result (λ i. HasPage (view_of filer.new).slots i x.now.id (file_page x.now page)) }
+    ensures below { IfOk result (λ i. i < length (view_of filer.new).slots) }
+    ensures whole { OnOk result (IsWhole (view_of filer.new).slots x.now page) }
     ensures cause { IfErr result (TouchHalts no_break (view_of filer.old) (view_of filer.new)) }
     ensures misses { IfErr result (MissesPage (unit_pages x.now page)) }
     ensures sound { (m : List Sector) (named : Triples) (b : List ℕ) → Known (view_of filer.old) m named b → AreShownStored named m x.now → IfErr result (λ e. e ≡ halt.Disk) }
     ensures reaches { Reaches (view_of filer.old) (view_of filer.new) }
-    ensures came { BringsShown x.now filer.old.swapper.pool filer.new.swapper.pool }
-    ensures room { KeepsWhileEmpty filer.old.swapper.pool filer.new.swapper.pool }
-    ensures idle { IsWhole filer.old.swapper.pool x.now page → IsOk result × (filer.new ≡ filer.old) }
-    ensures cost { (D.state filer.new.swapper.disk).transfers ≤ (D.state filer.old.swapper.disk).transfers + 256 }
+    ensures came { BringsShown x.now (view_of filer.old).slots (view_of filer.new).slots }
+    ensures room { KeepsWhileEmpty (view_of filer.old).slots (view_of filer.new).slots }
+    ensures idle { IsWhole (view_of filer.old).slots x.now page → IsOk result × (filer.new ≡ filer.old) }
+    ensures cost { (view_of filer.new).disk.transfers ≤ (view_of filer.old).disk.transfers + 256 }
 {
     match bring_unit(filer, x, page) {
         Ok(()) => (),
@@ -81,9 +81,9 @@ impl<D: Disk, A: Allocator> Core<D, A> {
 
     /// Makes the whole swap unit of a page resident, and gives the slot of the page, or None where no window shows it.
     pub fn fetch_page(&mut self, page: u32) -> Result<Option<u32>, Halt>
-        requires size { (D.state self.old.filer.swapper.disk).sectors ≡ self.old.filer.swapper.layout.sectors }
-        ensures ready { IfOk result (λ o. IfSome o (IsTouched (kept self.new) self.new.filer.swapper.pool page)) }
-        ensures slot { (m : List Sector) (named : Triples) (ss : List Space) → Knows self.old m named ss → IfOk result (λ o. IfSome o (IsSlotOf ss self.new.filer.swapper.pool page)) }
+        requires size { FitsLayout (state self.old) }
+        ensures ready { IfOk result (λ o. IfSome o (IsTouched (kept self.new) (state self.new).slots page)) }
+        ensures slot { (m : List Sector) (named : Triples) (ss : List Space) → Knows self.old m named ss → IfOk result (λ o. IfSome o (IsSlotOf ss (state self.new).slots page)) }
         ensures none { (m : List Sector) (named : Triples) (ss : List Space) → Knows self.old m named ss → IfOk result (λ o. (o ≡ None) ↔ (shown_at ss page ≡ None)) }
         ensures cause { IfErr result (TouchHalts (BreaksTables (state self.old) self.old.intervals page) (state self.old) (state self.new)) }
         ensures misses { IfErr result (MissesPage (kept_unit (kept self.new) page)) }
@@ -93,11 +93,11 @@ impl<D: Disk, A: Allocator> Core<D, A> {
         ensures sound { (m : List Sector) (named : Triples) (ss : List Space) → Knows self.old m named ss → IfErr result (λ e. e ≡ halt.Disk) }
         ensures same { (m : List Sector) (named : Triples) (ss : List Space) → Knows self.old m named ss → Knows self.new m named ss }
         ensures reaches { Reaches (state self.old) (state self.new) }
-        ensures came { (m : List Sector) (named : Triples) (ss : List Space) → Knows self.old m named ss → BringsKnown ss self.old.filer.swapper.pool self.new.filer.swapper.pool }
-        ensures room { KeepsWhileEmpty self.old.filer.swapper.pool self.new.filer.swapper.pool }
+        ensures came { (m : List Sector) (named : Triples) (ss : List Space) → Knows self.old m named ss → BringsKnown ss (state self.old).slots (state self.new).slots }
+        ensures room { KeepsWhileEmpty (state self.old).slots (state self.new).slots }
         ensures intervals { self.new.intervals ≡ self.old.intervals }
-        ensures idle { IsReady (kept self.old) self.old.filer.swapper.pool page → AreApart (kept self.old) → IsOk result × (self.new.filer ≡ self.old.filer) × (kept self.new ≡ kept self.old) }
-        ensures cost { (D.state self.new.filer.swapper.disk).transfers ≤ (D.state self.old.filer.swapper.disk).transfers + 644 }
+        ensures idle { IsReady (kept self.old) (state self.old).slots page → AreApart (kept self.old) → IsOk result × (self.new.filer ≡ self.old.filer) × (kept self.new ≡ kept self.old) }
+        ensures cost { (state self.new).disk.transfers ≤ (state self.old).disk.transfers + 644 }
     {
         let x = match self.shown(page) {
             Ok(Some(x)) => x,

@@ -12,7 +12,7 @@ ghost use Rattle.swapper_kernel.specs.Halts.{Halts};
 ghost use Rattle.swapper_kernel.specs.Homes.{AreFileHomes, AreNamed, Brings, IsAmong, IsRow, no_home};
 ghost use Rattle.swapper_kernel.specs.Stands.{Stands};
 ghost use Rattle.fault_core.specs.Kept.{IsFormed};
-ghost use Rattle.fault_core.specs.View.{view_of};
+ghost use Rattle.filer_kernel.specs.View.{FitsLayout, HasMemory, SwapsOnly, view_of};
 ghost use Rattle.fault_core.specs.Reach.{Reaches, TouchHalts, no_break};
 ghost use Rattle.fault_core.specs.Revealed.{Known};
 ghost use Rattle.fault_core.specs.Homes.{homes_in, AreHomesOf, HaveSectors};
@@ -47,7 +47,7 @@ pub(crate) fn is_there<D: Disk, A: Allocator>(
     pages: u32,
 ) -> bool
     requires fits { first + pages ≤ 2 ^ 32 }
-    ensures there { result ≡ true ↔ AreResident filer.old.swapper.pool id first pages }
+    ensures there { result ≡ true ↔ AreResident (view_of filer.old).slots id first pages }
     ensures same { filer.new ≡ filer.old }
 {
     filer.swapper_over().has_run(id, first, pages)
@@ -55,9 +55,9 @@ pub(crate) fn is_there<D: Disk, A: Allocator>(
 
 /// The slot of a page that is resident.
 pub(crate) fn slot_of<D: Disk, A: Allocator>(filer: &mut Filer<D, A>, id: FileId, page: u32) -> u32
-    requires resident { IsResident filer.old.swapper.pool id page }
-    ensures slot { HasPage filer.old.swapper.pool result id page }
-    ensures below { result < length filer.old.swapper.pool }
+    requires resident { IsResident (view_of filer.old).slots id page }
+    ensures slot { HasPage (view_of filer.old).slots result id page }
+    ensures below { result < length (view_of filer.old).slots }
     ensures same { filer.new ≡ filer.old }
 {
     match filer.swapper_over().frames().find(id, page) {
@@ -68,18 +68,18 @@ pub(crate) fn slot_of<D: Disk, A: Allocator>(filer: &mut Filer<D, A>, id: FileId
 
 // Brings the pages of these homes in.
 fn bring<D: Disk, A: Allocator>(filer: &mut Filer<D, A>, homes: &Homes) -> Result<(), Halt>
-    requires size { (D.state filer.old.swapper.disk).sectors ≡ filer.old.swapper.layout.sectors }
+    requires size { FitsLayout (view_of filer.old) }
     requires row { IsRow (homes_in homes.now) }
-    requires homes { AreFileHomes (homes_in homes.now) filer.old.swapper.layout }
-    ensures there { OnOk result (AreThere filer.new.swapper.pool (homes_in homes.now) (length (homes_in homes.now))) }
-    ensures sound { (m : List Sector) → Stands (D.state filer.old.swapper.disk) filer.old.swapper.pool m → AreNamed m (IsAmong (homes_in homes.now)) → IfErr result (λ e. e ≡ halt.Disk) }
-    ensures cause { IfErr result (Halts (IsAmong (homes_in homes.now)) (D.state filer.old.swapper.disk) filer.old.swapper.pool (D.state filer.new.swapper.disk)) }
-    ensures swaps { Swaps (D.state filer.old.swapper.disk) filer.old.swapper.pool (D.state filer.new.swapper.disk) filer.new.swapper.pool }
-    ensures brings { Brings (IsAmong (homes_in homes.now)) filer.old.swapper.pool filer.new.swapper.pool }
-    ensures steps { Steps (IsAmong (homes_in homes.now)) no_home (D.state filer.old.swapper.disk) filer.old.swapper.pool (D.state filer.new.swapper.disk) filer.new.swapper.pool }
-    ensures layout { filer.new.swapper.layout ≡ filer.old.swapper.layout }
-    ensures runs { filer.new.runs ≡ filer.old.runs }
-    ensures cost { (D.state filer.new.swapper.disk).transfers ≤ (D.state filer.old.swapper.disk).transfers + 32 }
+    requires homes { AreFileHomes (homes_in homes.now) (view_of filer.old).layout }
+    ensures there { OnOk result (AreThere (view_of filer.new).slots (homes_in homes.now) (length (homes_in homes.now))) }
+    ensures sound { (m : List Sector) → HasMemory (view_of filer.old) m → AreNamed m (IsAmong (homes_in homes.now)) → IfErr result (λ e. e ≡ halt.Disk) }
+    ensures cause { IfErr result (Halts (IsAmong (homes_in homes.now)) (view_of filer.old).disk (view_of filer.old).slots (view_of filer.new).disk) }
+    ensures swaps { SwapsOnly (view_of filer.old) (view_of filer.new) }
+    ensures brings { Brings (IsAmong (homes_in homes.now)) (view_of filer.old).slots (view_of filer.new).slots }
+    ensures steps { Steps (IsAmong (homes_in homes.now)) no_home (view_of filer.old).disk (view_of filer.old).slots (view_of filer.new).disk (view_of filer.new).slots }
+    ensures layout { (view_of filer.new).layout ≡ (view_of filer.old).layout }
+    ensures runs { (view_of filer.new).runs ≡ (view_of filer.old).runs }
+    ensures cost { (view_of filer.new).disk.transfers ≤ (view_of filer.old).disk.transfers + 32 }
 {
     filer.swapper_over().bring(homes.as_slice())
 }
@@ -91,19 +91,19 @@ pub(crate) fn bring_run<D: Disk, A: Allocator>(
     first: u32,
     pages: u32,
 ) -> Result<(), Halt>
-    requires size { (D.state filer.old.swapper.disk).sectors ≡ filer.old.swapper.layout.sectors }
+    requires size { FitsLayout (view_of filer.old) }
     requires client { 16 ≤ id }
     requires some { 1 ≤ pages }
     requires few { pages ≤ 16 }
     requires fits { first + pages ≤ 2 ^ 32 }
-    ensures there { OnOk result (AreResident filer.new.swapper.pool id first pages) }
+    ensures there { OnOk result (AreResident (view_of filer.new).slots id first pages) }
     ensures cause { IfErr result (TouchHalts no_break (view_of filer.old) (view_of filer.new)) }
     ensures misses { IfErr result (MissesPage (run_pages id first pages)) }
     ensures sound { (m : List Sector) (named : Triples) (b : List ℕ) → Known (view_of filer.old) m named b → AreRunStored named m id first pages → IfErr result (λ e. e ≡ halt.Disk) }
     ensures reaches { Reaches (view_of filer.old) (view_of filer.new) }
-    ensures came { BringsRun id first pages filer.old.swapper.pool filer.new.swapper.pool }
-    ensures room { KeepsWhileEmpty filer.old.swapper.pool filer.new.swapper.pool }
-    ensures cost { (D.state filer.new.swapper.disk).transfers ≤ (D.state filer.old.swapper.disk).transfers + 256 }
+    ensures came { BringsRun id first pages (view_of filer.old).slots (view_of filer.new).slots }
+    ensures room { KeepsWhileEmpty (view_of filer.old).slots (view_of filer.new).slots }
+    ensures cost { (view_of filer.new).disk.transfers ≤ (view_of filer.old).disk.transfers + 256 }
 {
     let homes = match homes_of(filer, id, first, pages) {
         Ok(homes) => homes,

@@ -15,6 +15,7 @@ ghost use Rattle.fault_core.specs.Reach.{Reaches, ReachHalts, BringsOwn};
 ghost use Rattle.fault_core.specs.Revealed.{BreaksTables};
 ghost use Rattle.fault_core.specs.Room.{KeepsWhileEmpty};
 ghost use Rattle.fault_core.specs.Lack.{Sees};
+ghost use Rattle.filer_kernel.specs.View.{FitsLayout};
 
 use crate::Core;
 use labelled_disk::{Disk, Halt};
@@ -35,7 +36,7 @@ impl<D: Disk, A: Allocator> Core<D, A> {
 
     /// The interval that holds a page, and where it ends, or the range does.
     pub(crate) fn part_at(&mut self, page: u32, end: u32) -> Result<(Interval, u32), Halt>
-        requires size { (D.state self.old.filer.swapper.disk).sectors ≡ self.old.filer.swapper.layout.sectors }
+        requires size { FitsLayout (state self.old) }
         requires before { page < end }
         requires in_root { end ≤ root_pages }
         ensures form { IfOk result (λ r. IsFormed r.0 × Holds r.0 page) }
@@ -47,11 +48,11 @@ impl<D: Disk, A: Allocator> Core<D, A> {
         ensures sound { (m : List Sector) (named : Triples) (ss : List Space) → Knows self.old m named ss → IfErr result (λ e. e ≡ halt.Disk) }
         ensures same { (m : List Sector) (named : Triples) (ss : List Space) → Knows self.old m named ss → Knows self.new m named ss }
         ensures reaches { Reaches (state self.old) (state self.new) }
-        ensures came { BringsOwn self.old.filer.swapper.pool self.new.filer.swapper.pool }
-        ensures room { KeepsWhileEmpty self.old.filer.swapper.pool self.new.filer.swapper.pool }
+        ensures came { BringsOwn (state self.old).slots (state self.new).slots }
+        ensures room { KeepsWhileEmpty (state self.old).slots (state self.new).slots }
         ensures intervals { self.new.intervals ≡ self.old.intervals }
         ensures idle { (x : IntervalIs) → find (has_page page) (kept self.old) ≡ Some x → IsOk result × (self.new.filer ≡ self.old.filer) × (kept self.new ≡ kept self.old) }
-        ensures cost { (D.state self.new.filer.swapper.disk).transfers ≤ (D.state self.old.filer.swapper.disk).transfers + 196 }
+        ensures cost { (state self.new).disk.transfers ≤ (state self.old).disk.transfers + 196 }
     {
         match self.describe(page) {
             Ok(Some(x)) => Ok((x, end.min(x.first + x.pages))),

@@ -33,6 +33,7 @@ use Rattle.volume_root.specs.declared.root.Root.{Root}
 use Rattle.volume_root.specs.RootPage.{root_in}
 use Rattle.file_manager.specs.Creating.{IsMonotone, next_id}
 use Rattle.file_manager.specs.Grounds.{IsMapsHome, IsUnframed}
+use Rattle.filer_kernel.specs.View.{view_of}
 
 -- What stood when the time began: which triples the file map named, which sectors the allocation map had as used, the root, and
 -- the writes that had been made. Beside it what is so meanwhile: from which identifier on no root that was written since has given
@@ -286,7 +287,7 @@ MissesNone (Damaged (Missing id page)) = ⊥
 module _ {D A : Type 0} {G : Ghosts D} where
   -- a filer's disk, frames and runs keep to it, and its file map names these triples
   abbrev pub Keeps : InitialState → Filer D A G → Triples → Type 0
-  Keeps o f named = KeepsTo o f.swapper.layout (runs_of f.swapper.layout.sectors f.runs) (G.state f.swapper.disk) f.swapper.pool named
+  Keeps o f named = KeepsTo o (view_of f).layout (runs_of (view_of f).layout.sectors f.runs) (view_of f).disk (view_of f).slots named
 
   -- whatever it names, all pages of the space tables where these were named
   abbrev pub KeepsFrom : InitialState → Triples → Filer D A G → Type 0

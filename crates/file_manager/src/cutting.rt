@@ -23,6 +23,7 @@ ghost use Rattle.file_manager.specs.Freeing.{MakesFree, MakesSomeFree};
 ghost use Rattle.file_manager.specs.Shrinking.{MayShrink, ShrunkBy, ShrunkSome, IsLeaderAlone, cut_triples};
 ghost use Rattle.file_manager.specs.Reasons.{AreReleased, Keeps, KeepsFrom, InitialState, ShowsReason};
 ghost use Rattle.file_manager.specs.Taking.{NamesNoneOf};
+ghost use Rattle.filer_kernel.specs.View.{FitsLayout, HasMemory, kept_by, view_of};
 
 use crate::Volume;
 use crate::growth::frames_of;
@@ -39,23 +40,23 @@ fn cut_to<D: Disk, A: Allocator>(
     from: u32,
     leader: u32,
 ) -> Result<(), Halt>
-    requires size { (D.state filer.old.swapper.disk).sectors ≡ filer.old.swapper.layout.sectors }
+    requires size { FitsLayout (view_of filer.old) }
     requires of_file { 16 ≤ id }
-    requires data { filer.old.swapper.layout.first ≤ leader }
-    requires inside { leader < filer.old.swapper.layout.sectors }
-    ensures cut { (m : List Sector) (named : Triples) → Stands (D.state filer.old.swapper.disk) filer.old.swapper.pool m → MapIs filer.old.swapper.layout named m
-        → OnOk result (Becomes FileMapPages filer.old.swapper.layout m (MapIs filer.old.swapper.layout (cut_triples named id from leader)) (D.state filer.new.swapper.disk) filer.new.swapper.pool) }
-    ensures in_form { OnOk result ((y : List Sector) → Stands (D.state filer.new.swapper.disk) filer.new.swapper.pool y → AreSectors y) }
-    ensures sound { (m : List Sector) (named : Triples) → Stands (D.state filer.old.swapper.disk) filer.old.swapper.pool m → MapIs filer.old.swapper.layout named m → AreNamed m (IsMapHome FileMapPages filer.old.swapper.layout)
+    requires data { (view_of filer.old).layout.first ≤ leader }
+    requires inside { leader < (view_of filer.old).layout.sectors }
+    ensures cut { (m : List Sector) (named : Triples) → HasMemory (view_of filer.old) m → MapIs (view_of filer.old).layout named m
+        → OnOk result (Becomes FileMapPages (view_of filer.old).layout m (MapIs (view_of filer.old).layout (cut_triples named id from leader)) (view_of filer.new).disk (view_of filer.new).slots) }
+    ensures in_form { OnOk result ((y : List Sector) → HasMemory (view_of filer.new) y → AreSectors y) }
+    ensures sound { (m : List Sector) (named : Triples) → HasMemory (view_of filer.old) m → MapIs (view_of filer.old).layout named m → AreNamed m (IsMapHome FileMapPages (view_of filer.old).layout)
         → AreOnce named → IsLeaderAlone named id leader → IfErr result (λ e. e ≡ halt.Disk) }
-    ensures runs { (n : ℕ) → runs_of n filer.new.runs ≡ filter (λ r. not (r.id == id)) (runs_of n filer.old.runs) }
-    ensures cause { IfErr result (ShrinkHalts (IsUnframed filer.old.swapper.pool id) filer.old.swapper.layout (runs_of filer.old.swapper.layout.sectors filer.old.runs) id from (λ p. ⊥) (D.state filer.old.swapper.disk) filer.old.swapper.pool (D.state filer.new.swapper.disk) filer.new.swapper.pool) }
-    ensures keeps_to { (o : InitialState) (named : Triples) → Keeps o filer.old named → named id leader_page leader ≡ true → AreReleased o (D.state filer.old.swapper.disk) named id (λ p. (from ≤ p) × (p < 4294967295)) → OnOk result (KeepsFrom o named filer.new) }
-    ensures reasons { (o : InitialState) (named : Triples) → Keeps o filer.old named → named id leader_page leader ≡ true → IfErr result (ShowsReason o filer.old.swapper.layout (D.state filer.new.swapper.disk)) }
-    ensures evidence_seen { IfErr result (ShowsEvidence (D.state filer.new.swapper.disk)) }
-    ensures counted { IfErr result (λ e. e ≡ halt.Disk → Rose (D.state filer.old.swapper.disk).faults (D.state filer.new.swapper.disk).faults) }
-    ensures beside { Beside FileMapPages (D.state filer.old.swapper.disk) filer.old.swapper.pool filer.old.swapper.layout (D.state filer.new.swapper.disk) filer.new.swapper.pool filer.new.swapper.layout }
-    ensures cost { (D.state filer.new.swapper.disk).transfers ≤ (D.state filer.old.swapper.disk).transfers + (100 + 102 * most_records filer.old.swapper.layout.sectors) }
+    ensures runs { (n : ℕ) → runs_of n (view_of filer.new).runs ≡ filter (λ r. not (r.id == id)) (runs_of n (view_of filer.old).runs) }
+    ensures cause { IfErr result (ShrinkHalts (IsUnframed (view_of filer.old).slots id) (view_of filer.old).layout (kept_by (view_of filer.old)) id from (λ p. ⊥) (view_of filer.old).disk (view_of filer.old).slots (view_of filer.new).disk (view_of filer.new).slots) }
+    ensures keeps_to { (o : InitialState) (named : Triples) → Keeps o filer.old named → named id leader_page leader ≡ true → AreReleased o (view_of filer.old).disk named id (λ p. (from ≤ p) × (p < 4294967295)) → OnOk result (KeepsFrom o named filer.new) }
+    ensures reasons { (o : InitialState) (named : Triples) → Keeps o filer.old named → named id leader_page leader ≡ true → IfErr result (ShowsReason o (view_of filer.old).layout (view_of filer.new).disk) }
+    ensures evidence_seen { IfErr result (ShowsEvidence (view_of filer.new).disk) }
+    ensures counted { IfErr result (λ e. e ≡ halt.Disk → Rose (view_of filer.old).disk.faults (view_of filer.new).disk.faults) }
+    ensures beside { Beside FileMapPages (view_of filer.old).disk (view_of filer.old).slots (view_of filer.old).layout (view_of filer.new).disk (view_of filer.new).slots (view_of filer.new).layout }
+    ensures cost { (view_of filer.new).disk.transfers ≤ (view_of filer.old).disk.transfers + (100 + 102 * most_records (view_of filer.old).layout.sectors) }
 {
     match filer.cut(id, from) {
         Ok(()) => (),
@@ -84,31 +85,31 @@ pub(crate) fn shrink<D: Disk, A: Allocator>(
     pages: u32,
     size: u32,
 ) -> Result<(), Halt>
-    requires sectors { (D.state filer.old.swapper.disk).sectors ≡ filer.old.swapper.layout.sectors }
+    requires sectors { FitsLayout (view_of filer.old) }
     requires of_file { 16 ≤ id }
-    requires data { filer.old.swapper.layout.first ≤ leader }
-    requires inside { leader < filer.old.swapper.layout.sectors }
+    requires data { (view_of filer.old).layout.first ≤ leader }
+    requires inside { leader < (view_of filer.old).layout.sectors }
     requires order { pages ≤ size }
-    ensures shrunk { (x : List Sector) (shapes : Shapes) (spaces : List Space) (f : Shape) → MayShrink (D.state filer.old.swapper.disk) filer.old.swapper.pool filer.old.swapper.layout filer.old.runs shapes spaces id f pages x
+    ensures shrunk { (x : List Sector) (shapes : Shapes) (spaces : List Space) (f : Shape) → MayShrink (view_of filer.old).disk (view_of filer.old).slots (view_of filer.old).layout (view_of filer.old).runs shapes spaces id f pages x
         → f.size ≡ size → IsTriple (labels_of x) id leader_page leader
-        → OnOk result (ShrunkBy id pages size x (D.state filer.old.swapper.disk) filer.old.swapper.pool filer.old.swapper.layout (D.state filer.new.swapper.disk) filer.new.swapper.pool filer.new.runs) }
-    ensures sound { (x : List Sector) (shapes : Shapes) (spaces : List Space) (f : Shape) → MayShrink (D.state filer.old.swapper.disk) filer.old.swapper.pool filer.old.swapper.layout filer.old.runs shapes spaces id f pages x
+        → OnOk result (ShrunkBy id pages size x (view_of filer.old).disk (view_of filer.old).slots (view_of filer.old).layout (view_of filer.new).disk (view_of filer.new).slots (view_of filer.new).runs) }
+    ensures sound { (x : List Sector) (shapes : Shapes) (spaces : List Space) (f : Shape) → MayShrink (view_of filer.old).disk (view_of filer.old).slots (view_of filer.old).layout (view_of filer.old).runs shapes spaces id f pages x
         → f.size ≡ size → IsTriple (labels_of x) id leader_page leader → IfErr result (λ e. e ≡ halt.Disk) }
-    ensures cause { IfErr result (ShrinkHalts (IsUnframed filer.old.swapper.pool id) filer.old.swapper.layout (runs_of filer.old.swapper.layout.sectors filer.old.runs) id pages (λ p. (pages ≤ p) × (p < size)) (D.state filer.old.swapper.disk) filer.old.swapper.pool (D.state filer.new.swapper.disk) filer.new.swapper.pool) }
+    ensures cause { IfErr result (ShrinkHalts (IsUnframed (view_of filer.old).slots id) (view_of filer.old).layout (kept_by (view_of filer.old)) id pages (λ p. (pages ≤ p) × (p < size)) (view_of filer.old).disk (view_of filer.old).slots (view_of filer.new).disk (view_of filer.new).slots) }
     ensures keeps_to { (o : InitialState) (named : Triples) → Keeps o filer.old named → named id leader_page leader ≡ true → NamesNoneOf id (λ p. (size ≤ p) × (p < 4294967295)) named → OnOk result (KeepsFrom o named filer.new) }
-    ensures reasons { (o : InitialState) (named : Triples) → Keeps o filer.old named → named id leader_page leader ≡ true → IfErr result (ShowsReason o filer.old.swapper.layout (D.state filer.new.swapper.disk)) }
-    ensures evidence_seen { IfErr result (ShowsEvidence (D.state filer.new.swapper.disk)) }
-    ensures counted { IfErr result (λ e. e ≡ halt.Disk → Rose (D.state filer.old.swapper.disk).faults (D.state filer.new.swapper.disk).faults) }
-    ensures broken { (x : List Sector) (shapes : Shapes) (spaces : List Space) (f : Shape) → MayShrink (D.state filer.old.swapper.disk) filer.old.swapper.pool filer.old.swapper.layout filer.old.runs shapes spaces id f pages x
+    ensures reasons { (o : InitialState) (named : Triples) → Keeps o filer.old named → named id leader_page leader ≡ true → IfErr result (ShowsReason o (view_of filer.old).layout (view_of filer.new).disk) }
+    ensures evidence_seen { IfErr result (ShowsEvidence (view_of filer.new).disk) }
+    ensures counted { IfErr result (λ e. e ≡ halt.Disk → Rose (view_of filer.old).disk.faults (view_of filer.new).disk.faults) }
+    ensures broken { (x : List Sector) (shapes : Shapes) (spaces : List Space) (f : Shape) → MayShrink (view_of filer.old).disk (view_of filer.old).slots (view_of filer.old).layout (view_of filer.old).runs shapes spaces id f pages x
         → f.size ≡ size → IsTriple (labels_of x) id leader_page leader
-        → OnErr result (ShrunkSome id pages size x (D.state filer.old.swapper.disk) filer.old.swapper.pool (D.state filer.new.swapper.disk) filer.new.swapper.pool) }
-    ensures makes { OnOk result (MakesFree (size - pages) (D.state filer.old.swapper.disk) filer.old.swapper.pool (D.state filer.new.swapper.disk) filer.new.swapper.pool) }
-    ensures stopped { OnErr result (MakesSomeFree (D.state filer.old.swapper.disk) filer.old.swapper.pool (D.state filer.new.swapper.disk) filer.new.swapper.pool) }
+        → OnErr result (ShrunkSome id pages size x (view_of filer.old).disk (view_of filer.old).slots (view_of filer.new).disk (view_of filer.new).slots) }
+    ensures makes { OnOk result (MakesFree (size - pages) (view_of filer.old).disk (view_of filer.old).slots (view_of filer.new).disk (view_of filer.new).slots) }
+    ensures stopped { OnErr result (MakesSomeFree (view_of filer.old).disk (view_of filer.old).slots (view_of filer.new).disk (view_of filer.new).slots) }
     ensures used { OnOk result (volume.new ≡ record volume.old { used = volume.old.used - (size - pages) }) }
     ensures same_volume { OnErr result (volume.new ≡ volume.old) }
-    ensures layout { filer.new.swapper.layout ≡ filer.old.swapper.layout }
-    ensures cost { (D.state filer.new.swapper.disk).transfers ≤ (D.state filer.old.swapper.disk).transfers + ((size - pages) * (16 + 4 * filer.old.swapper.layout.vam) + (100 + 102 * most_records filer.old.swapper.layout.sectors)) }
-    ensures own { RelabelsOwn id (D.state filer.old.swapper.disk) (D.state filer.new.swapper.disk) }
+    ensures layout { (view_of filer.new).layout ≡ (view_of filer.old).layout }
+    ensures cost { (view_of filer.new).disk.transfers ≤ (view_of filer.old).disk.transfers + ((size - pages) * (16 + 4 * (view_of filer.old).layout.vam) + (100 + 102 * most_records (view_of filer.old).layout.sectors)) }
+    ensures own { RelabelsOwn id (view_of filer.old).disk (view_of filer.new).disk }
 {
     match free_down(filer, id, pages, size) {
         Ok(()) => (),

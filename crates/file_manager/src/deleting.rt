@@ -16,6 +16,7 @@ ghost use Rattle.file_manager.specs.Deleting.{DeletedBy, DeletesFirst, MakesOneF
 ghost use Rattle.file_manager.specs.Freeing.{MakesSomeFree};
 ghost use Rattle.file_manager.specs.Roots.{RootStays};
 ghost use Rattle.file_manager.specs.Reasons.{Keeps, KeepsFrom, InitialState, ShowsReason};
+ghost use Rattle.filer_kernel.specs.View.{FitsLayout, kept_by, view_of};
 
 use crate::Volume;
 use crate::free_all::free_all;
@@ -31,37 +32,37 @@ pub fn delete<D: Disk, A: Allocator>(
     volume: &mut Volume,
     id: FileId,
 ) -> Result<(), Halt>
-    requires size { (D.state filer.old.swapper.disk).sectors ≡ filer.old.swapper.layout.sectors }
+    requires size { FitsLayout (view_of filer.old) }
     requires client { 16 ≤ id }
-    ensures deleted { (x : List Sector) (shapes : Shapes) (spaces : List Space) (f : Shape) → Books (D.state filer.old.swapper.disk) filer.old.swapper.pool filer.old.swapper.layout filer.old.runs shapes spaces x
+    ensures deleted { (x : List Sector) (shapes : Shapes) (spaces : List Space) (f : Shape) → Books (view_of filer.old).disk (view_of filer.old).slots (view_of filer.old).layout (view_of filer.old).runs shapes spaces x
         → shapes id ≡ Some f → ((page : ℕ) → is_shown spaces id page ≡ false)
-        → OnOk result (DeletedBy id f.size x (D.state filer.old.swapper.disk) filer.old.swapper.pool filer.old.swapper.layout (D.state filer.new.swapper.disk) filer.new.swapper.pool filer.new.runs) }
-    ensures used { (x : List Sector) (shapes : Shapes) (spaces : List Space) (f : Shape) → Books (D.state filer.old.swapper.disk) filer.old.swapper.pool filer.old.swapper.layout filer.old.runs shapes spaces x
+        → OnOk result (DeletedBy id f.size x (view_of filer.old).disk (view_of filer.old).slots (view_of filer.old).layout (view_of filer.new).disk (view_of filer.new).slots (view_of filer.new).runs) }
+    ensures used { (x : List Sector) (shapes : Shapes) (spaces : List Space) (f : Shape) → Books (view_of filer.old).disk (view_of filer.old).slots (view_of filer.old).layout (view_of filer.old).runs shapes spaces x
         → shapes id ≡ Some f → OnOk result (volume.new.used ≡ volume.old.used - (f.size + 1)) }
-    ensures sound { (x : List Sector) (shapes : Shapes) (spaces : List Space) (f : Shape) → Books (D.state filer.old.swapper.disk) filer.old.swapper.pool filer.old.swapper.layout filer.old.runs shapes spaces x
+    ensures sound { (x : List Sector) (shapes : Shapes) (spaces : List Space) (f : Shape) → Books (view_of filer.old).disk (view_of filer.old).slots (view_of filer.old).layout (view_of filer.old).runs shapes spaces x
         → shapes id ≡ Some f → ((page : ℕ) → is_shown spaces id page ≡ false) → IfErr result (λ e. e ≡ halt.Disk) }
-    ensures first { (x : List Sector) (shapes : Shapes) (spaces : List Space) (f : Shape) → Books (D.state filer.old.swapper.disk) filer.old.swapper.pool filer.old.swapper.layout filer.old.runs shapes spaces x
+    ensures first { (x : List Sector) (shapes : Shapes) (spaces : List Space) (f : Shape) → Books (view_of filer.old).disk (view_of filer.old).slots (view_of filer.old).layout (view_of filer.old).runs shapes spaces x
         → shapes id ≡ Some f → ((page : ℕ) → is_shown spaces id page ≡ false)
-        → OnErr result (DeletesFirst id x (D.state filer.old.swapper.disk) filer.old.swapper.pool (D.state filer.new.swapper.disk) filer.new.swapper.pool) }
+        → OnErr result (DeletesFirst id x (view_of filer.old).disk (view_of filer.old).slots (view_of filer.new).disk (view_of filer.new).slots) }
     ensures same_volume { OnErr result (volume.new ≡ volume.old) }
     ensures rest_of_volume { volume.new ≡ record volume.old { used = volume.new.used } }
     ensures less { volume.new.used ≤ volume.old.used }
-    ensures makes { OnOk result (MakesOneFree (D.state filer.old.swapper.disk) filer.old.swapper.pool (D.state filer.new.swapper.disk) filer.new.swapper.pool) }
-    ensures stopped { OnErr result (MakesSomeFree (D.state filer.old.swapper.disk) filer.old.swapper.pool (D.state filer.new.swapper.disk) filer.new.swapper.pool) }
-    ensures cause { IfErr result (DeleteHalts filer.old.swapper.layout (runs_of filer.old.swapper.layout.sectors filer.old.runs) id (D.state filer.old.swapper.disk) filer.old.swapper.pool (D.state filer.new.swapper.disk)) }
+    ensures makes { OnOk result (MakesOneFree (view_of filer.old).disk (view_of filer.old).slots (view_of filer.new).disk (view_of filer.new).slots) }
+    ensures stopped { OnErr result (MakesSomeFree (view_of filer.old).disk (view_of filer.old).slots (view_of filer.new).disk (view_of filer.new).slots) }
+    ensures cause { IfErr result (DeleteHalts (view_of filer.old).layout (kept_by (view_of filer.old)) id (view_of filer.old).disk (view_of filer.old).slots (view_of filer.new).disk) }
     ensures keeps_to { (o : InitialState) (named : Triples) → Keeps o filer.old named → OnOk result (KeepsFrom o named filer.new) }
-    ensures reasons { (o : InitialState) (named : Triples) → Keeps o filer.old named → IfErr result (ShowsReason o filer.old.swapper.layout (D.state filer.new.swapper.disk)) }
-    ensures evidence_seen { IfErr result (ShowsEvidence (D.state filer.new.swapper.disk)) }
-    ensures counted { result ≡ Err halt.Disk → Rose (D.state filer.old.swapper.disk).faults (D.state filer.new.swapper.disk).faults }
-    ensures root { RootStays (D.state filer.old.swapper.disk) (D.state filer.new.swapper.disk) }
-    ensures layout { filer.new.swapper.layout ≡ filer.old.swapper.layout }
-    ensures cost { (D.state filer.new.swapper.disk).transfers ≤ (D.state filer.old.swapper.disk).transfers + (14 + 2 ^ 32 * (16 + 4 * filer.old.swapper.layout.vam) + 2 * (1 + 51 * most_records filer.old.swapper.layout.sectors)) }
-    ensures cost_revealed { (x : List Sector) (shapes : Shapes) (spaces : List Space) (f : Shape) → Books (D.state filer.old.swapper.disk) filer.old.swapper.pool filer.old.swapper.layout filer.old.runs shapes spaces x → shapes id ≡ Some f
-        → (D.state filer.new.swapper.disk).transfers ≤ (D.state filer.old.swapper.disk).transfers + (14 + (1 + f.size) * (16 + 4 * filer.old.swapper.layout.vam) + 2 * (1 + 51 * most_records filer.old.swapper.layout.sectors)) }
-    ensures cost_sized { (x : List Sector) (shapes : Shapes) (spaces : List Space) (f : Shape) → Books (D.state filer.old.swapper.disk) filer.old.swapper.pool filer.old.swapper.layout filer.old.runs shapes spaces x → shapes id ≡ Some f
+    ensures reasons { (o : InitialState) (named : Triples) → Keeps o filer.old named → IfErr result (ShowsReason o (view_of filer.old).layout (view_of filer.new).disk) }
+    ensures evidence_seen { IfErr result (ShowsEvidence (view_of filer.new).disk) }
+    ensures counted { result ≡ Err halt.Disk → Rose (view_of filer.old).disk.faults (view_of filer.new).disk.faults }
+    ensures root { RootStays (view_of filer.old).disk (view_of filer.new).disk }
+    ensures layout { (view_of filer.new).layout ≡ (view_of filer.old).layout }
+    ensures cost { (view_of filer.new).disk.transfers ≤ (view_of filer.old).disk.transfers + (14 + 2 ^ 32 * (16 + 4 * (view_of filer.old).layout.vam) + 2 * (1 + 51 * most_records (view_of filer.old).layout.sectors)) }
+    ensures cost_revealed { (x : List Sector) (shapes : Shapes) (spaces : List Space) (f : Shape) → Books (view_of filer.old).disk (view_of filer.old).slots (view_of filer.old).layout (view_of filer.old).runs shapes spaces x → shapes id ≡ Some f
+        → (view_of filer.new).disk.transfers ≤ (view_of filer.old).disk.transfers + (14 + (1 + f.size) * (16 + 4 * (view_of filer.old).layout.vam) + 2 * (1 + 51 * most_records (view_of filer.old).layout.sectors)) }
+    ensures cost_sized { (x : List Sector) (shapes : Shapes) (spaces : List Space) (f : Shape) → Books (view_of filer.old).disk (view_of filer.old).slots (view_of filer.old).layout (view_of filer.old).runs shapes spaces x → shapes id ≡ Some f
         → ((page : ℕ) → is_shown spaces id page ≡ false)
-        → (D.state filer.new.swapper.disk).transfers ≤ (D.state filer.old.swapper.disk).transfers + (14 + (1 + f.size) * (16 + 4 * filer.old.swapper.layout.vam) + 2 * (1 + 51 * (f.size + 2))) }
-    ensures own { RelabelsOwn id (D.state filer.old.swapper.disk) (D.state filer.new.swapper.disk) }
+        → (view_of filer.new).disk.transfers ≤ (view_of filer.old).disk.transfers + (14 + (1 + f.size) * (16 + 4 * (view_of filer.old).layout.vam) + 2 * (1 + 51 * (f.size + 2))) }
+    ensures own { RelabelsOwn id (view_of filer.old).disk (view_of filer.new).disk }
 {
     let pages = match filer.size(id) {
         Ok(pages) => pages,

@@ -26,6 +26,7 @@ ghost use Rattle.file_manager.specs.Finding.{IsFoundFile, FileHalts};
 ghost use Rattle.file_manager.specs.Book.{Books, BringsOwn};
 ghost use Rattle.file_manager.specs.Causes.{NamesNone};
 ghost use Rattle.file_manager.specs.Reasons.{Keeps, InitialState, ShowsReason};
+ghost use Rattle.filer_kernel.specs.View.{FitsLayout, HasMemory, kept_by, MakesOnly, view_of};
 
 use crate::leader::leader_of;
 use filer_kernel::Filer;
@@ -48,20 +49,20 @@ fn leader_label<D: Disk, A: Allocator>(
     id: FileId,
     sector: u32,
 ) -> Result<Label, Halt>
-    requires inside { sector < (D.state filer.old.swapper.disk).sectors }
-    ensures found { IfOk result (HasLabel (D.state filer.old.swapper.disk) sector) }
+    requires inside { sector < (view_of filer.old).disk.sectors }
+    ensures found { IfOk result (HasLabel (view_of filer.old).disk sector) }
     ensures named { IfOk result (λ label. names label (record { id = id; page = leader_page }) ≡ true) }
-    ensures sound { (m : List Sector) → Stands (D.state filer.old.swapper.disk) filer.old.swapper.pool m → HasOne (ones_of (record { id = id; page = leader_page })) m sector → IfErr result (λ e. e ≡ halt.Disk) }
-    ensures cause { IfErr result (HasCause (IsNotOf sector (record { id = id; page = leader_page }) (D.state filer.old.swapper.disk)) (D.state filer.old.swapper.disk) (D.state filer.new.swapper.disk)) }
+    ensures sound { (m : List Sector) → HasMemory (view_of filer.old) m → HasOne (ones_of (record { id = id; page = leader_page })) m sector → IfErr result (λ e. e ≡ halt.Disk) }
+    ensures cause { IfErr result (HasCause (IsNotOf sector (record { id = id; page = leader_page }) (view_of filer.old).disk) (view_of filer.old).disk (view_of filer.new).disk) }
     ensures keeps_to { (o : InitialState) (named : Triples) → Keeps o filer.old named → OnOk result (Keeps o filer.new named) }
-    ensures reasons { (o : InitialState) (named : Triples) → Keeps o filer.old named → named id leader_page sector ≡ true → IfErr result (ShowsReason o filer.old.swapper.layout (D.state filer.new.swapper.disk)) }
-    ensures evidence_seen { MayBeIn (D.state filer.old.swapper.disk).sectors sector (record { id = id; page = leader_page }) → IfErr result (ShowsEvidence (D.state filer.new.swapper.disk)) }
-    ensures same { RevealsSame (D.state filer.old.swapper.disk) (D.state filer.new.swapper.disk) }
-    ensures makes { Makes no_page [] (D.state filer.old.swapper.disk) filer.old.swapper.pool (D.state filer.new.swapper.disk) filer.new.swapper.pool }
-    ensures frames { filer.new.swapper.pool ≡ filer.old.swapper.pool }
-    ensures layout { filer.new.swapper.layout ≡ filer.old.swapper.layout }
-    ensures runs { filer.new.runs ≡ filer.old.runs }
-    ensures cost { (D.state filer.new.swapper.disk).transfers ≤ (D.state filer.old.swapper.disk).transfers + 1 }
+    ensures reasons { (o : InitialState) (named : Triples) → Keeps o filer.old named → named id leader_page sector ≡ true → IfErr result (ShowsReason o (view_of filer.old).layout (view_of filer.new).disk) }
+    ensures evidence_seen { MayBeIn (view_of filer.old).disk.sectors sector (record { id = id; page = leader_page }) → IfErr result (ShowsEvidence (view_of filer.new).disk) }
+    ensures same { RevealsSame (view_of filer.old).disk (view_of filer.new).disk }
+    ensures makes { MakesOnly no_page [] (view_of filer.old) (view_of filer.new) }
+    ensures frames { (view_of filer.new).slots ≡ (view_of filer.old).slots }
+    ensures layout { (view_of filer.new).layout ≡ (view_of filer.old).layout }
+    ensures runs { (view_of filer.new).runs ≡ (view_of filer.old).runs }
+    ensures cost { (view_of filer.new).disk.transfers ≤ (view_of filer.old).disk.transfers + 1 }
 {
     let wanted = Wanted { id, page: LEADER };
     let swapper = filer.swapper_over();
@@ -84,33 +85,33 @@ pub(crate) fn find_file<D: Disk, A: Allocator>(
     filer: &mut Filer<D, A>,
     id: FileId,
 ) -> Result<Option<FoundFile>, Halt>
-    requires size { (D.state filer.old.swapper.disk).sectors ≡ filer.old.swapper.layout.sectors }
+    requires size { FitsLayout (view_of filer.old) }
     requires client { 16 ≤ id }
-    ensures revealed { (x : List Sector) (shapes : Shapes) (spaces : List Space) → Books (D.state filer.old.swapper.disk) filer.old.swapper.pool filer.old.swapper.layout filer.old.runs shapes spaces x
+    ensures revealed { (x : List Sector) (shapes : Shapes) (spaces : List Space) → Books (view_of filer.old).disk (view_of filer.old).slots (view_of filer.old).layout (view_of filer.old).runs shapes spaces x
         → MatchResult result (IsFoundFile (labels_of x) shapes id) (λ e. e ≡ halt.Disk) }
-    ensures same { (x : List Sector) (shapes : Shapes) (spaces : List Space) → Books (D.state filer.old.swapper.disk) filer.old.swapper.pool filer.old.swapper.layout filer.old.runs shapes spaces x
-        → Books (D.state filer.new.swapper.disk) filer.new.swapper.pool filer.old.swapper.layout filer.new.runs shapes spaces x }
-    ensures place { IfOk result (λ found. IfSome found (λ file. (filer.old.swapper.layout.first ≤ file.sector) × (file.sector < filer.old.swapper.layout.sectors))) }
-    ensures size { (m : List Sector) (named : Triples) → Stands (D.state filer.old.swapper.disk) filer.old.swapper.pool m → MapIs filer.old.swapper.layout named m → IfOk result (λ found. IfSome found (λ file. IsSize named id file.pages)) }
-    ensures names { (m : List Sector) (named : Triples) → Stands (D.state filer.old.swapper.disk) filer.old.swapper.pool m → MapIs filer.old.swapper.layout named m → AreOf named (runs_of filer.old.swapper.layout.sectors filer.old.runs)
+    ensures same { (x : List Sector) (shapes : Shapes) (spaces : List Space) → Books (view_of filer.old).disk (view_of filer.old).slots (view_of filer.old).layout (view_of filer.old).runs shapes spaces x
+        → Books (view_of filer.new).disk (view_of filer.new).slots (view_of filer.old).layout (view_of filer.new).runs shapes spaces x }
+    ensures place { IfOk result (λ found. IfSome found (λ file. ((view_of filer.old).layout.first ≤ file.sector) × (file.sector < (view_of filer.old).layout.sectors))) }
+    ensures size { (m : List Sector) (named : Triples) → HasMemory (view_of filer.old) m → MapIs (view_of filer.old).layout named m → IfOk result (λ found. IfSome found (λ file. IsSize named id file.pages)) }
+    ensures names { (m : List Sector) (named : Triples) → HasMemory (view_of filer.old) m → MapIs (view_of filer.old).layout named m → AreOf named (kept_by (view_of filer.old))
         → IfOk result (λ found. IfSome found (λ file. named id leader_page file.sector ≡ true)) }
-    ensures missing { result ≡ Ok None → NamesNone filer.old.swapper.layout (D.state filer.old.swapper.disk) filer.old.swapper.pool id leader_page }
-    ensures same_bytes { (b : List ℕ) → Reveals FileMap (D.state filer.old.swapper.disk) filer.old.swapper.pool filer.old.swapper.layout b → Reveals FileMap (D.state filer.new.swapper.disk) filer.new.swapper.pool filer.old.swapper.layout b }
-    ensures beside { Beside FileMap (D.state filer.old.swapper.disk) filer.old.swapper.pool filer.old.swapper.layout (D.state filer.new.swapper.disk) filer.new.swapper.pool filer.new.swapper.layout }
-    ensures looked { Looked FileMap (D.state filer.old.swapper.disk) filer.old.swapper.pool filer.old.swapper.layout (D.state filer.new.swapper.disk) filer.new.swapper.pool filer.new.swapper.layout }
-    ensures runs_given { (r : RunIs) → IsOneOf r (runs_of filer.old.swapper.layout.sectors filer.new.runs) → IsGiven filer.old.swapper.layout (D.state filer.old.swapper.disk) filer.old.swapper.pool (runs_of filer.old.swapper.layout.sectors filer.old.runs) r }
-    ensures runs_are { (m : List Sector) (named : Triples) → Stands (D.state filer.old.swapper.disk) filer.old.swapper.pool m → MapIs filer.old.swapper.layout named m → AreOf named (runs_of filer.old.swapper.layout.sectors filer.old.runs)
-        → AreOf named (runs_of filer.old.swapper.layout.sectors filer.new.runs) }
-    ensures takes { OnOk result (MakesFor filer.old.swapper.layout id no_page_of (D.state filer.old.swapper.disk) filer.old.swapper.pool (D.state filer.new.swapper.disk) filer.new.swapper.pool) }
-    ensures makes { Makes volume_page [] (D.state filer.old.swapper.disk) filer.old.swapper.pool (D.state filer.new.swapper.disk) filer.new.swapper.pool }
-    ensures brings { BringsOwn filer.old.swapper.pool filer.new.swapper.pool }
-    ensures cause { IfErr result (FileHalts filer.old.swapper.layout (runs_of filer.old.swapper.layout.sectors filer.old.runs) id (D.state filer.old.swapper.disk) filer.old.swapper.pool (D.state filer.new.swapper.disk)) }
+    ensures missing { result ≡ Ok None → NamesNone (view_of filer.old).layout (view_of filer.old).disk (view_of filer.old).slots id leader_page }
+    ensures same_bytes { (b : List ℕ) → Reveals FileMap (view_of filer.old).disk (view_of filer.old).slots (view_of filer.old).layout b → Reveals FileMap (view_of filer.new).disk (view_of filer.new).slots (view_of filer.old).layout b }
+    ensures beside { Beside FileMap (view_of filer.old).disk (view_of filer.old).slots (view_of filer.old).layout (view_of filer.new).disk (view_of filer.new).slots (view_of filer.new).layout }
+    ensures looked { Looked FileMap (view_of filer.old).disk (view_of filer.old).slots (view_of filer.old).layout (view_of filer.new).disk (view_of filer.new).slots (view_of filer.new).layout }
+    ensures runs_given { (r : RunIs) → IsOneOf r (runs_of (view_of filer.old).layout.sectors (view_of filer.new).runs) → IsGiven (view_of filer.old).layout (view_of filer.old).disk (view_of filer.old).slots (kept_by (view_of filer.old)) r }
+    ensures runs_are { (m : List Sector) (named : Triples) → HasMemory (view_of filer.old) m → MapIs (view_of filer.old).layout named m → AreOf named (kept_by (view_of filer.old))
+        → AreOf named (runs_of (view_of filer.old).layout.sectors (view_of filer.new).runs) }
+    ensures takes { OnOk result (MakesFor (view_of filer.old).layout id no_page_of (view_of filer.old).disk (view_of filer.old).slots (view_of filer.new).disk (view_of filer.new).slots) }
+    ensures makes { MakesOnly volume_page [] (view_of filer.old) (view_of filer.new) }
+    ensures brings { BringsOwn (view_of filer.old).slots (view_of filer.new).slots }
+    ensures cause { IfErr result (FileHalts (view_of filer.old).layout (kept_by (view_of filer.old)) id (view_of filer.old).disk (view_of filer.old).slots (view_of filer.new).disk) }
     ensures keeps_to { (o : InitialState) (named : Triples) → Keeps o filer.old named → OnOk result (Keeps o filer.new named) }
-    ensures reasons { (o : InitialState) (named : Triples) → Keeps o filer.old named → IfErr result (ShowsReason o filer.old.swapper.layout (D.state filer.new.swapper.disk)) }
-    ensures keeps { KeepsMap (IsUnframed filer.old.swapper.pool id) filer.old.swapper.layout id (D.state filer.old.swapper.disk) filer.old.swapper.pool (runs_of filer.old.swapper.layout.sectors filer.old.runs) (D.state filer.new.swapper.disk) filer.new.swapper.pool (runs_of filer.old.swapper.layout.sectors filer.new.runs) }
-    ensures evidence_seen { IfErr result (ShowsEvidence (D.state filer.new.swapper.disk)) }
-    ensures layout { filer.new.swapper.layout ≡ filer.old.swapper.layout }
-    ensures cost { (D.state filer.new.swapper.disk).transfers ≤ (D.state filer.old.swapper.disk).transfers + 29 }
+    ensures reasons { (o : InitialState) (named : Triples) → Keeps o filer.old named → IfErr result (ShowsReason o (view_of filer.old).layout (view_of filer.new).disk) }
+    ensures keeps { KeepsMap (IsUnframed (view_of filer.old).slots id) (view_of filer.old).layout id (view_of filer.old).disk (view_of filer.old).slots (kept_by (view_of filer.old)) (view_of filer.new).disk (view_of filer.new).slots (runs_of (view_of filer.old).layout.sectors (view_of filer.new).runs) }
+    ensures evidence_seen { IfErr result (ShowsEvidence (view_of filer.new).disk) }
+    ensures layout { (view_of filer.new).layout ≡ (view_of filer.old).layout }
+    ensures cost { (view_of filer.new).disk.transfers ≤ (view_of filer.old).disk.transfers + 29 }
 {
     let sector = match leader_of(filer, id) {
         Ok(Some(sector)) => sector,

@@ -1,6 +1,7 @@
 //! Frames of a file's pages that are given up.
 ghost use Rattle.std.specs.Prelude.{◌≡◌, ◌⊎◌, ◌+◌, ◌^◌, ◌≤◌};
 ghost use Rattle.file_manager.specs.Forgetting.{Forgets};
+ghost use Rattle.filer_kernel.specs.View.{disk_of, view_of};
 
 use filer_kernel::Filer;
 use labelled_disk::{Disk, FileId};
@@ -36,10 +37,10 @@ pub(crate) fn discard_run<D: Disk, A: Allocator>(
 )
     requires of_file { (id ≡ 3) ⊎ (16 ≤ id) }
     requires fits { first + pages ≤ 2 ^ 32 }
-    ensures forgets { Forgets id first pages filer.old.swapper.layout (D.state filer.old.swapper.disk) filer.old.swapper.pool filer.new.swapper.pool }
-    ensures disk { filer.new.swapper.disk ≡ filer.old.swapper.disk }
-    ensures layout { filer.new.swapper.layout ≡ filer.old.swapper.layout }
-    ensures runs { filer.new.runs ≡ filer.old.runs }
+    ensures forgets { Forgets id first pages (view_of filer.old).layout (view_of filer.old).disk (view_of filer.old).slots (view_of filer.new).slots }
+    ensures disk { (disk_of filer.new) ≡ (disk_of filer.old) }
+    ensures layout { (view_of filer.new).layout ≡ (view_of filer.old).layout }
+    ensures runs { (view_of filer.new).runs ≡ (view_of filer.old).runs }
 {
     let swapper = filer.swapper_over();
     discard_pages(swapper, id, first, pages);

@@ -12,6 +12,7 @@ ghost use Rattle.filer_kernel.specs.Evidence.{ShowsEvidence};
 ghost use Rattle.label_calls.specs.Own.{RelabelsOwn};
 ghost use Rattle.file_manager.specs.Freeing.{MayFreeAll, FreedAll, FreedFirst, MakesFree, MakesSomeFree};
 ghost use Rattle.file_manager.specs.Reasons.{AreReleased, Keeps, InitialState, ShowsReason};
+ghost use Rattle.filer_kernel.specs.View.{FitsLayout, kept_by, view_of};
 
 use crate::release::{free_run, free_up};
 use filer_kernel::Filer;
@@ -24,26 +25,26 @@ pub(crate) fn free_all<D: Disk, A: Allocator>(
     id: FileId,
     pages: u32,
 ) -> Result<(), Halt>
-    requires size { (D.state filer.old.swapper.disk).sectors ≡ filer.old.swapper.layout.sectors }
+    requires size { FitsLayout (view_of filer.old) }
     requires of_file { 16 ≤ id }
-    ensures freed { (named : Triples) (spaces : List Space) (m : List Sector) → MayFreeAll (D.state filer.old.swapper.disk) filer.old.swapper.pool filer.old.swapper.layout filer.old.runs named spaces id pages m
-        → OnOk result (FreedAll filer.old.swapper.layout named spaces id pages (D.state filer.old.swapper.disk) filer.old.swapper.pool (D.state filer.new.swapper.disk) filer.new.swapper.pool filer.new.runs) }
-    ensures sound { (named : Triples) (spaces : List Space) (m : List Sector) → MayFreeAll (D.state filer.old.swapper.disk) filer.old.swapper.pool filer.old.swapper.layout filer.old.runs named spaces id pages m
+    ensures freed { (named : Triples) (spaces : List Space) (m : List Sector) → MayFreeAll (view_of filer.old).disk (view_of filer.old).slots (view_of filer.old).layout (view_of filer.old).runs named spaces id pages m
+        → OnOk result (FreedAll (view_of filer.old).layout named spaces id pages (view_of filer.old).disk (view_of filer.old).slots (view_of filer.new).disk (view_of filer.new).slots (view_of filer.new).runs) }
+    ensures sound { (named : Triples) (spaces : List Space) (m : List Sector) → MayFreeAll (view_of filer.old).disk (view_of filer.old).slots (view_of filer.old).layout (view_of filer.old).runs named spaces id pages m
         → IfErr result (λ e. e ≡ halt.Disk) }
-    ensures first { (named : Triples) (spaces : List Space) (m : List Sector) → MayFreeAll (D.state filer.old.swapper.disk) filer.old.swapper.pool filer.old.swapper.layout filer.old.runs named spaces id pages m
-        → OnErr result (FreedFirst named id pages (D.state filer.old.swapper.disk) filer.old.swapper.pool (D.state filer.new.swapper.disk) filer.new.swapper.pool) }
-    ensures makes { OnOk result (MakesFree (1 + pages) (D.state filer.old.swapper.disk) filer.old.swapper.pool (D.state filer.new.swapper.disk) filer.new.swapper.pool) }
-    ensures stopped { OnErr result (MakesSomeFree (D.state filer.old.swapper.disk) filer.old.swapper.pool (D.state filer.new.swapper.disk) filer.new.swapper.pool) }
-    ensures cause { IfErr result (FreeHalts (IsUnframed filer.old.swapper.pool id) filer.old.swapper.layout (runs_of filer.old.swapper.layout.sectors filer.old.runs) id (λ p. (p ≡ leader_page) ⊎ (p < pages)) (D.state filer.old.swapper.disk) filer.old.swapper.pool (D.state filer.new.swapper.disk)) }
+    ensures first { (named : Triples) (spaces : List Space) (m : List Sector) → MayFreeAll (view_of filer.old).disk (view_of filer.old).slots (view_of filer.old).layout (view_of filer.old).runs named spaces id pages m
+        → OnErr result (FreedFirst named id pages (view_of filer.old).disk (view_of filer.old).slots (view_of filer.new).disk (view_of filer.new).slots) }
+    ensures makes { OnOk result (MakesFree (1 + pages) (view_of filer.old).disk (view_of filer.old).slots (view_of filer.new).disk (view_of filer.new).slots) }
+    ensures stopped { OnErr result (MakesSomeFree (view_of filer.old).disk (view_of filer.old).slots (view_of filer.new).disk (view_of filer.new).slots) }
+    ensures cause { IfErr result (FreeHalts (IsUnframed (view_of filer.old).slots id) (view_of filer.old).layout (kept_by (view_of filer.old)) id (λ p. (p ≡ leader_page) ⊎ (p < pages)) (view_of filer.old).disk (view_of filer.old).slots (view_of filer.new).disk) }
     ensures keeps_to { (o : InitialState) (named : Triples) → Keeps o filer.old named → OnOk result (Keeps o filer.new named) }
-    ensures evict { (o : InitialState) (named : Triples) → Keeps o filer.old named → OnOk result (AreReleased o (D.state filer.new.swapper.disk) named id (λ p. (p ≡ leader_page) ⊎ (p < pages))) }
-    ensures reasons { (o : InitialState) (named : Triples) → Keeps o filer.old named → IfErr result (ShowsReason o filer.old.swapper.layout (D.state filer.new.swapper.disk)) }
-    ensures keeps { OnOk result (KeepsMap (IsUnframed filer.old.swapper.pool id) filer.old.swapper.layout id (D.state filer.old.swapper.disk) filer.old.swapper.pool (runs_of filer.old.swapper.layout.sectors filer.old.runs) (D.state filer.new.swapper.disk) filer.new.swapper.pool (runs_of filer.old.swapper.layout.sectors filer.new.runs)) }
-    ensures evidence_seen { IfErr result (ShowsEvidence (D.state filer.new.swapper.disk)) }
-    ensures counted { result ≡ Err halt.Disk → Rose (D.state filer.old.swapper.disk).faults (D.state filer.new.swapper.disk).faults }
-    ensures layout { filer.new.swapper.layout ≡ filer.old.swapper.layout }
-    ensures cost { (D.state filer.new.swapper.disk).transfers ≤ (D.state filer.old.swapper.disk).transfers + (1 + pages) * (16 + 4 * filer.old.swapper.layout.vam) }
-    ensures own { RelabelsOwn id (D.state filer.old.swapper.disk) (D.state filer.new.swapper.disk) }
+    ensures evict { (o : InitialState) (named : Triples) → Keeps o filer.old named → OnOk result (AreReleased o (view_of filer.new).disk named id (λ p. (p ≡ leader_page) ⊎ (p < pages))) }
+    ensures reasons { (o : InitialState) (named : Triples) → Keeps o filer.old named → IfErr result (ShowsReason o (view_of filer.old).layout (view_of filer.new).disk) }
+    ensures keeps { OnOk result (KeepsMap (IsUnframed (view_of filer.old).slots id) (view_of filer.old).layout id (view_of filer.old).disk (view_of filer.old).slots (kept_by (view_of filer.old)) (view_of filer.new).disk (view_of filer.new).slots (runs_of (view_of filer.old).layout.sectors (view_of filer.new).runs)) }
+    ensures evidence_seen { IfErr result (ShowsEvidence (view_of filer.new).disk) }
+    ensures counted { result ≡ Err halt.Disk → Rose (view_of filer.old).disk.faults (view_of filer.new).disk.faults }
+    ensures layout { (view_of filer.new).layout ≡ (view_of filer.old).layout }
+    ensures cost { (view_of filer.new).disk.transfers ≤ (view_of filer.old).disk.transfers + (1 + pages) * (16 + 4 * (view_of filer.old).layout.vam) }
+    ensures own { RelabelsOwn id (view_of filer.old).disk (view_of filer.new).disk }
 {
     match free_run(filer, id, LEADER, 1) {
         Ok(_) => (),

@@ -13,6 +13,7 @@ ghost use Rattle.file_manager.specs.Broken.{GrewSome};
 ghost use Rattle.file_manager.specs.Making.{MayGrow, GrownBy, MakesAll, MakesSome};
 ghost use Rattle.file_manager.specs.Reasons.{Keeps, KeepsFrom, MayTake, InitialState, ShowsReason};
 ghost use Rattle.file_manager.specs.Taking.{NamesNoneOf};
+ghost use Rattle.filer_kernel.specs.View.{FitsLayout, view_of};
 
 use crate::Volume;
 use crate::growth::make_up;
@@ -29,28 +30,28 @@ pub fn grow<D: Disk, A: Allocator>(
     size: u32,
     pages: u32,
 ) -> Result<(), Halt>
-    requires sectors { (D.state filer.old.swapper.disk).sectors ≡ filer.old.swapper.layout.sectors }
+    requires sectors { FitsLayout (view_of filer.old) }
     requires of_file { is_file_id id ≡ true }
     requires order { size ≤ pages }
     requires numbers { pages < 4294967295 }
-    ensures grown { (x : List Sector) (shapes : Shapes) (spaces : List Space) (f : Shape) → MayGrow (D.state filer.old.swapper.disk) filer.old.swapper.pool filer.old.swapper.layout filer.old.runs shapes spaces id f pages x → f.size ≡ size
-        → OnOk result (GrownBy id kind size (pages - size) (D.state filer.old.swapper.disk) filer.old.swapper.pool filer.old.swapper.layout (D.state filer.new.swapper.disk) filer.new.swapper.pool filer.new.runs) }
-    ensures sound { (x : List Sector) (shapes : Shapes) (spaces : List Space) (f : Shape) → MayGrow (D.state filer.old.swapper.disk) filer.old.swapper.pool filer.old.swapper.layout filer.old.runs shapes spaces id f pages x → f.size ≡ size
+    ensures grown { (x : List Sector) (shapes : Shapes) (spaces : List Space) (f : Shape) → MayGrow (view_of filer.old).disk (view_of filer.old).slots (view_of filer.old).layout (view_of filer.old).runs shapes spaces id f pages x → f.size ≡ size
+        → OnOk result (GrownBy id kind size (pages - size) (view_of filer.old).disk (view_of filer.old).slots (view_of filer.old).layout (view_of filer.new).disk (view_of filer.new).slots (view_of filer.new).runs) }
+    ensures sound { (x : List Sector) (shapes : Shapes) (spaces : List Space) (f : Shape) → MayGrow (view_of filer.old).disk (view_of filer.old).slots (view_of filer.old).layout (view_of filer.old).runs shapes spaces id f pages x → f.size ≡ size
         → IfErr result (λ e. e ≡ halt.Disk) }
-    ensures broken { (x : List Sector) (shapes : Shapes) (spaces : List Space) (f : Shape) → MayGrow (D.state filer.old.swapper.disk) filer.old.swapper.pool filer.old.swapper.layout filer.old.runs shapes spaces id f pages x → f.size ≡ size
-        → OnErr result (GrewSome id kind size (pages - size) x (D.state filer.old.swapper.disk) filer.old.swapper.pool (D.state filer.new.swapper.disk) filer.new.swapper.pool) }
-    ensures makes { OnOk result (MakesAll id kind size (pages - size) (D.state filer.old.swapper.disk) filer.old.swapper.pool (D.state filer.new.swapper.disk) filer.new.swapper.pool) }
-    ensures stopped { OnErr result (MakesSome id kind size (pages - size) (D.state filer.old.swapper.disk) filer.old.swapper.pool (D.state filer.new.swapper.disk) filer.new.swapper.pool) }
-    ensures cause { IfErr result (RangeHalts filer.old.swapper.layout id size pages (D.state filer.old.swapper.disk) filer.old.swapper.pool (D.state filer.new.swapper.disk) filer.new.swapper.pool) }
+    ensures broken { (x : List Sector) (shapes : Shapes) (spaces : List Space) (f : Shape) → MayGrow (view_of filer.old).disk (view_of filer.old).slots (view_of filer.old).layout (view_of filer.old).runs shapes spaces id f pages x → f.size ≡ size
+        → OnErr result (GrewSome id kind size (pages - size) x (view_of filer.old).disk (view_of filer.old).slots (view_of filer.new).disk (view_of filer.new).slots) }
+    ensures makes { OnOk result (MakesAll id kind size (pages - size) (view_of filer.old).disk (view_of filer.old).slots (view_of filer.new).disk (view_of filer.new).slots) }
+    ensures stopped { OnErr result (MakesSome id kind size (pages - size) (view_of filer.old).disk (view_of filer.old).slots (view_of filer.new).disk (view_of filer.new).slots) }
+    ensures cause { IfErr result (RangeHalts (view_of filer.old).layout id size pages (view_of filer.old).disk (view_of filer.old).slots (view_of filer.new).disk (view_of filer.new).slots) }
     ensures keeps_to { (o : InitialState) (named : Triples) → Keeps o filer.old named → MayTake o id → NamesNoneOf id (λ p. (size ≤ p) × (p < pages)) named → OnOk result (KeepsFrom o named filer.new) }
-    ensures reasons { (o : InitialState) (named : Triples) → Keeps o filer.old named → MayTake o id → NamesNoneOf id (λ p. (size ≤ p) × (p < pages)) named → IfErr result (ShowsReason o filer.old.swapper.layout (D.state filer.new.swapper.disk)) }
-    ensures evidence_seen { IfErr result (ShowsEvidence (D.state filer.new.swapper.disk)) }
-    ensures counted { result ≡ Err halt.Disk → Rose (D.state filer.old.swapper.disk).faults (D.state filer.new.swapper.disk).faults }
+    ensures reasons { (o : InitialState) (named : Triples) → Keeps o filer.old named → MayTake o id → NamesNoneOf id (λ p. (size ≤ p) × (p < pages)) named → IfErr result (ShowsReason o (view_of filer.old).layout (view_of filer.new).disk) }
+    ensures evidence_seen { IfErr result (ShowsEvidence (view_of filer.new).disk) }
+    ensures counted { result ≡ Err halt.Disk → Rose (view_of filer.old).disk.faults (view_of filer.new).disk.faults }
     ensures used { OnOk result (volume.new ≡ record volume.old { used = min (volume.old.used + (pages - size)) volume.old.layout.capacity }) }
     ensures same_volume { OnErr result (volume.new ≡ volume.old) }
-    ensures layout { filer.new.swapper.layout ≡ filer.old.swapper.layout }
-    ensures runs { filer.new.runs ≡ filer.old.runs }
-    ensures cost { (D.state filer.new.swapper.disk).transfers ≤ (D.state filer.old.swapper.disk).transfers + (pages - size) * (8 * filer.old.swapper.layout.vam + 100) }
+    ensures layout { (view_of filer.new).layout ≡ (view_of filer.old).layout }
+    ensures runs { (view_of filer.new).runs ≡ (view_of filer.old).runs }
+    ensures cost { (view_of filer.new).disk.transfers ≤ (view_of filer.old).disk.transfers + (pages - size) * (8 * (view_of filer.old).layout.vam + 100) }
 {
     match make_up(filer, id, kind, size, pages) {
         Ok(()) => (),

@@ -30,6 +30,7 @@ ghost use Rattle.file_manager.specs.Broken.{GrewSome};
 ghost use Rattle.file_manager.specs.Making.{AreUnowned, AreUnownedUpto, ShowsNoFree, free_count, sectors_of, IsRunFor, MayGrow, GrownBy, MakesAll, MakesSome};
 ghost use Rattle.file_manager.specs.Reasons.{Keeps, KeepsFrom, MayTake, InitialState, ShowsReason, telling};
 ghost use Rattle.file_manager.specs.Taking.{NamesNoneOf};
+ghost use Rattle.filer_kernel.specs.View.{FitsLayout, HasMemory, MakesOnly, view_of};
 
 use alloc_map::AllocError;
 use file_map::Run;
@@ -40,21 +41,21 @@ use std::alloc::Allocator;
 
 // Takes the lowest free data sector, and free ones after it, at most so many together.
 fn take_run<D: Disk, A: Allocator>(filer: &mut Filer<D, A>, most: u32) -> Result<(u32, u32), Halt>
-    requires size { (D.state filer.old.swapper.disk).sectors ≡ filer.old.swapper.layout.sectors }
+    requires size { FitsLayout (view_of filer.old) }
     requires some { 1 ≤ most }
-    ensures lowest { (m : List Sector) (marks : Marks) → Stands (D.state filer.old.swapper.disk) filer.old.swapper.pool m → BitsAre filer.old.swapper.layout marks m → IfOk result (IsLowestRun filer.old.swapper.layout marks most) }
-    ensures taken { (m : List Sector) (marks : Marks) → Stands (D.state filer.old.swapper.disk) filer.old.swapper.pool m → BitsAre filer.old.swapper.layout marks m
-        → IfOk result (λ run. Becomes AllocationMap filer.old.swapper.layout m (BitsAre filer.old.swapper.layout (marked true run.0 run.1 marks)) (D.state filer.new.swapper.disk) filer.new.swapper.pool) }
-    ensures sound { (m : List Sector) (marks : Marks) (k : ℕ) → Stands (D.state filer.old.swapper.disk) filer.old.swapper.pool m → BitsAre filer.old.swapper.layout marks m → AreNamed m (IsMapHome AllocationMap filer.old.swapper.layout)
-        → filer.old.swapper.layout.first ≤ k → k < filer.old.swapper.layout.sectors → marks k ≡ false → IfErr result (λ e. e ≡ halt.Disk) }
-    ensures cause { IfErr result (TakeHalts filer.old.swapper.layout (D.state filer.old.swapper.disk) filer.old.swapper.pool (D.state filer.new.swapper.disk) filer.new.swapper.pool) }
-    ensures reasons { (o : InitialState) (named : Triples) → Keeps o filer.old named → IfErr result (ShowsReason o filer.old.swapper.layout (D.state filer.new.swapper.disk)) }
-    ensures evidence_seen { IfErr result (ShowsEvidence (D.state filer.new.swapper.disk)) }
-    ensures counted { result ≡ Err halt.Disk → Rose (D.state filer.old.swapper.disk).faults (D.state filer.new.swapper.disk).faults }
-    ensures form { IfOk result (IsDataRun filer.old.swapper.layout.first filer.old.swapper.layout.sectors most) }
-    ensures kept { Beside AllocationMap (D.state filer.old.swapper.disk) filer.old.swapper.pool filer.old.swapper.layout (D.state filer.new.swapper.disk) filer.new.swapper.pool filer.new.swapper.layout }
-    ensures runs { filer.new.runs ≡ filer.old.runs }
-    ensures cost { (D.state filer.new.swapper.disk).transfers ≤ (D.state filer.old.swapper.disk).transfers + 8 * filer.old.swapper.layout.vam }
+    ensures lowest { (m : List Sector) (marks : Marks) → HasMemory (view_of filer.old) m → BitsAre (view_of filer.old).layout marks m → IfOk result (IsLowestRun (view_of filer.old).layout marks most) }
+    ensures taken { (m : List Sector) (marks : Marks) → HasMemory (view_of filer.old) m → BitsAre (view_of filer.old).layout marks m
+        → IfOk result (λ run. Becomes AllocationMap (view_of filer.old).layout m (BitsAre (view_of filer.old).layout (marked true run.0 run.1 marks)) (view_of filer.new).disk (view_of filer.new).slots) }
+    ensures sound { (m : List Sector) (marks : Marks) (k : ℕ) → HasMemory (view_of filer.old) m → BitsAre (view_of filer.old).layout marks m → AreNamed m (IsMapHome AllocationMap (view_of filer.old).layout)
+        → (view_of filer.old).layout.first ≤ k → k < (view_of filer.old).layout.sectors → marks k ≡ false → IfErr result (λ e. e ≡ halt.Disk) }
+    ensures cause { IfErr result (TakeHalts (view_of filer.old).layout (view_of filer.old).disk (view_of filer.old).slots (view_of filer.new).disk (view_of filer.new).slots) }
+    ensures reasons { (o : InitialState) (named : Triples) → Keeps o filer.old named → IfErr result (ShowsReason o (view_of filer.old).layout (view_of filer.new).disk) }
+    ensures evidence_seen { IfErr result (ShowsEvidence (view_of filer.new).disk) }
+    ensures counted { result ≡ Err halt.Disk → Rose (view_of filer.old).disk.faults (view_of filer.new).disk.faults }
+    ensures form { IfOk result (IsDataRun (view_of filer.old).layout.first (view_of filer.old).layout.sectors most) }
+    ensures kept { Beside AllocationMap (view_of filer.old).disk (view_of filer.old).slots (view_of filer.old).layout (view_of filer.new).disk (view_of filer.new).slots (view_of filer.new).layout }
+    ensures runs { (view_of filer.new).runs ≡ (view_of filer.old).runs }
+    ensures cost { (view_of filer.new).disk.transfers ≤ (view_of filer.old).disk.transfers + 8 * (view_of filer.old).layout.vam }
 {
     match filer.take(most) {
         Ok(run) => Ok(run),
@@ -72,24 +73,24 @@ fn label_run<D: Disk, A: Allocator>(
     run: Run,
     kind: u16,
 ) -> Result<(), Halt>
-    requires size { (D.state filer.old.swapper.disk).sectors ≡ filer.old.swapper.layout.sectors }
-    requires data { filer.old.swapper.layout.first ≤ run.sector }
-    requires inside { run.sector + run.pages ≤ filer.old.swapper.layout.sectors }
+    requires size { FitsLayout (view_of filer.old) }
+    requires data { (view_of filer.old).layout.first ≤ run.sector }
+    requires inside { run.sector + run.pages ≤ (view_of filer.old).layout.sectors }
     requires numbers { run.first + run.pages ≤ 2 ^ 32 }
     requires of_file { AreOfFile run.id kind run.first run.pages }
-    ensures made { OnOk result (RelabelsRun run.sector run.pages (growth run.id kind run.first (sectors_of run)) (D.state filer.old.swapper.disk) filer.old.swapper.pool (D.state filer.new.swapper.disk)) }
-    ensures were { OnOk result ((d : List Sector) → (D.state filer.old.swapper.disk).contents ≡ Some d → HaveOnes (λ k. free_ones) d run.sector run.pages) }
-    ensures stopped { OnErr result (MadeSome (growth run.id kind run.first (sectors_of run)) (D.state filer.old.swapper.disk) filer.old.swapper.pool (D.state filer.new.swapper.disk)) }
-    ensures named { OnErr result (NamedSome (λ k. run.sector + k) (λ k. free_ones) (growth run.id kind run.first (sectors_of run)) (D.state filer.old.swapper.disk) filer.old.swapper.pool (D.state filer.new.swapper.disk)) }
-    ensures sound { (m : List Sector) → Stands (D.state filer.old.swapper.disk) filer.old.swapper.pool m → AreUncovered filer.old.swapper.pool run.sector run.pages
+    ensures made { OnOk result (RelabelsRun run.sector run.pages (growth run.id kind run.first (sectors_of run)) (view_of filer.old).disk (view_of filer.old).slots (view_of filer.new).disk) }
+    ensures were { OnOk result ((d : List Sector) → (view_of filer.old).disk.contents ≡ Some d → HaveOnes (λ k. free_ones) d run.sector run.pages) }
+    ensures stopped { OnErr result (MadeSome (growth run.id kind run.first (sectors_of run)) (view_of filer.old).disk (view_of filer.old).slots (view_of filer.new).disk) }
+    ensures named { OnErr result (NamedSome (λ k. run.sector + k) (λ k. free_ones) (growth run.id kind run.first (sectors_of run)) (view_of filer.old).disk (view_of filer.old).slots (view_of filer.new).disk) }
+    ensures sound { (m : List Sector) → HasMemory (view_of filer.old) m → AreUncovered (view_of filer.old).slots run.sector run.pages
         → HaveOnes (λ k. free_ones) m run.sector run.pages → IfErr result (λ e. e ≡ halt.Disk) }
-    ensures cause { IfErr result (HasCause (IsOneTaken run.sector run.pages (D.state filer.old.swapper.disk)) (D.state filer.old.swapper.disk) (D.state filer.new.swapper.disk)) }
-    ensures evidence_seen { IfErr result (ShowsEvidence (D.state filer.new.swapper.disk)) }
-    ensures counted { result ≡ Err halt.Disk → Rose (D.state filer.old.swapper.disk).faults (D.state filer.new.swapper.disk).faults }
-    ensures frames { filer.new.swapper.pool ≡ filer.old.swapper.pool }
-    ensures layout { filer.new.swapper.layout ≡ filer.old.swapper.layout }
-    ensures runs { filer.new.runs ≡ filer.old.runs }
-    ensures cost { (D.state filer.new.swapper.disk).transfers ≤ (D.state filer.old.swapper.disk).transfers + 2 * run.pages }
+    ensures cause { IfErr result (HasCause (IsOneTaken run.sector run.pages (view_of filer.old).disk) (view_of filer.old).disk (view_of filer.new).disk) }
+    ensures evidence_seen { IfErr result (ShowsEvidence (view_of filer.new).disk) }
+    ensures counted { result ≡ Err halt.Disk → Rose (view_of filer.old).disk.faults (view_of filer.new).disk.faults }
+    ensures frames { (view_of filer.new).slots ≡ (view_of filer.old).slots }
+    ensures layout { (view_of filer.new).layout ≡ (view_of filer.old).layout }
+    ensures runs { (view_of filer.new).runs ≡ (view_of filer.old).runs }
+    ensures cost { (view_of filer.new).disk.transfers ≤ (view_of filer.old).disk.transfers + 2 * run.pages }
 {
     let swapper = filer.swapper_over();
     match make_pages(swapper, run.sector, run.pages, run.id, kind, run.first) {
@@ -100,7 +101,7 @@ fn label_run<D: Disk, A: Allocator>(
 
 // How many frames there are. The bytes of each are a page's.
 pub(crate) fn frames_of<D: Disk, A: Allocator>(filer: &mut Filer<D, A>) -> u32
-    ensures pages { ArePages filer.old.swapper.pool }
+    ensures pages { ArePages (view_of filer.old).slots }
     ensures same { filer.new ≡ filer.old }
 {
     filer.swapper_over().frames().frames()
@@ -115,35 +116,35 @@ pub(crate) fn make_run<D: Disk, A: Allocator>(
     page: u32,
     most: u32,
 ) -> Result<Run, Halt>
-    requires size { (D.state filer.old.swapper.disk).sectors ≡ filer.old.swapper.layout.sectors }
+    requires size { FitsLayout (view_of filer.old) }
     requires some { 1 ≤ most }
     requires numbers { page + most ≤ 2 ^ 32 }
     requires of_file { AreOfFile id kind page most }
-    ensures made { (tables : ℕ) (x : List Sector) (shapes : Shapes) (spaces : List Space) → BooksUpto tables (D.state filer.old.swapper.disk) filer.old.swapper.pool filer.old.swapper.layout filer.old.runs shapes spaces x → ShowsNoFree spaces
-        → AreUnownedUpto tables shapes id page most → 1 ≤ free_count filer.old.swapper.layout x
-        → IfOk result (λ run. Leads (Grows id kind page (sectors_of run)) (growth id kind page (sectors_of run)) (D.state filer.old.swapper.disk) filer.old.swapper.pool filer.old.swapper.layout (D.state filer.new.swapper.disk) filer.new.swapper.pool filer.new.runs) }
-    ensures cause { IfErr result (RangeHalts filer.old.swapper.layout id page (page + most) (D.state filer.old.swapper.disk) filer.old.swapper.pool (D.state filer.new.swapper.disk) filer.new.swapper.pool) }
+    ensures made { (tables : ℕ) (x : List Sector) (shapes : Shapes) (spaces : List Space) → BooksUpto tables (view_of filer.old).disk (view_of filer.old).slots (view_of filer.old).layout (view_of filer.old).runs shapes spaces x → ShowsNoFree spaces
+        → AreUnownedUpto tables shapes id page most → 1 ≤ free_count (view_of filer.old).layout x
+        → IfOk result (λ run. Leads (Grows id kind page (sectors_of run)) (growth id kind page (sectors_of run)) (view_of filer.old).disk (view_of filer.old).slots (view_of filer.old).layout (view_of filer.new).disk (view_of filer.new).slots (view_of filer.new).runs) }
+    ensures cause { IfErr result (RangeHalts (view_of filer.old).layout id page (page + most) (view_of filer.old).disk (view_of filer.old).slots (view_of filer.new).disk (view_of filer.new).slots) }
     ensures keeps_to { (o : InitialState) (named : Triples) → Keeps o filer.old named → MayTake o id → (id ≡ 3 → o.tables ≡ None) → NamesNoneOf id (λ p. (page ≤ p) × (p < page + most)) named → IfOk result (λ run. Keeps o filer.new (with_run named run)) }
     ensures tables { (o : InitialState) (named : Triples) (b : List ℕ) → id ≡ 3 → page + most ≤ 96 → length b ≡ 512 * page → Keeps (telling o b) filer.old named → NamesNoneOf id (λ p. (page ≤ p) × (p < page + most)) named
         → IfOk result (λ run. (c : List ℕ) × (Keeps (telling o c) filer.new (with_run named run) × (length c ≡ 512 * (page + run.pages)))) }
-    ensures reasons { (o : InitialState) (named : Triples) → Keeps o filer.old named → NamesNoneOf id (λ p. (page ≤ p) × (p < page + most)) named → IfErr result (ShowsReason o filer.old.swapper.layout (D.state filer.new.swapper.disk)) }
-    ensures longest { IfOk result (λ run. run.pages < most → (m : List Sector) (marks : Marks) → Stands (D.state filer.old.swapper.disk) filer.old.swapper.pool m → BitsAre filer.old.swapper.layout marks m
-        → run.sector + run.pages < filer.old.swapper.layout.sectors → marks (run.sector + run.pages) ≡ true) }
-    ensures takes { IfOk result (λ run. MakesFor filer.old.swapper.layout id (λ p. (page ≤ p) × (p < page + run.pages)) (D.state filer.old.swapper.disk) filer.old.swapper.pool (D.state filer.new.swapper.disk) filer.new.swapper.pool) }
-    ensures come { Brings (IsMapsHome filer.old.swapper.layout) filer.old.swapper.pool filer.new.swapper.pool }
-    ensures evidence_seen { IfErr result (ShowsEvidence (D.state filer.new.swapper.disk)) }
-    ensures counted { result ≡ Err halt.Disk → Rose (D.state filer.old.swapper.disk).faults (D.state filer.new.swapper.disk).faults }
-    ensures form { IfOk result (IsRunFor filer.old.swapper.layout.sectors id page most) }
-    ensures sound { (tables : ℕ) (x : List Sector) (shapes : Shapes) (spaces : List Space) → BooksUpto tables (D.state filer.old.swapper.disk) filer.old.swapper.pool filer.old.swapper.layout filer.old.runs shapes spaces x → ShowsNoFree spaces
-        → AreUnownedUpto tables shapes id page most → 1 ≤ free_count filer.old.swapper.layout x → IfErr result (λ e. e ≡ halt.Disk) }
-    ensures broken { (x : List Sector) (shapes : Shapes) (spaces : List Space) → Books (D.state filer.old.swapper.disk) filer.old.swapper.pool filer.old.swapper.layout filer.old.runs shapes spaces x → ShowsNoFree spaces
-        → AreUnowned shapes id page most → 1 ≤ free_count filer.old.swapper.layout x → OnErr result (GrewSome id kind page most x (D.state filer.old.swapper.disk) filer.old.swapper.pool (D.state filer.new.swapper.disk) filer.new.swapper.pool) }
-    ensures makes { IfOk result (λ run. Makes volume_page (growth id kind page (sectors_of run)) (D.state filer.old.swapper.disk) filer.old.swapper.pool (D.state filer.new.swapper.disk) filer.new.swapper.pool) }
-    ensures stopped { OnErr result (MakesSome id kind page most (D.state filer.old.swapper.disk) filer.old.swapper.pool (D.state filer.new.swapper.disk) filer.new.swapper.pool) }
-    ensures layout { filer.new.swapper.layout ≡ filer.old.swapper.layout }
-    ensures runs { filer.new.runs ≡ filer.old.runs }
-    ensures cost { (D.state filer.new.swapper.disk).transfers ≤ (D.state filer.old.swapper.disk).transfers + (8 * filer.old.swapper.layout.vam + 2 * most + 98) }
-    ensures cost_made { IfOk result (λ run. (D.state filer.new.swapper.disk).transfers ≤ (D.state filer.old.swapper.disk).transfers + (8 * filer.old.swapper.layout.vam + 2 * run.pages + 98)) }
+    ensures reasons { (o : InitialState) (named : Triples) → Keeps o filer.old named → NamesNoneOf id (λ p. (page ≤ p) × (p < page + most)) named → IfErr result (ShowsReason o (view_of filer.old).layout (view_of filer.new).disk) }
+    ensures longest { IfOk result (λ run. run.pages < most → (m : List Sector) (marks : Marks) → HasMemory (view_of filer.old) m → BitsAre (view_of filer.old).layout marks m
+        → run.sector + run.pages < (view_of filer.old).layout.sectors → marks (run.sector + run.pages) ≡ true) }
+    ensures takes { IfOk result (λ run. MakesFor (view_of filer.old).layout id (λ p. (page ≤ p) × (p < page + run.pages)) (view_of filer.old).disk (view_of filer.old).slots (view_of filer.new).disk (view_of filer.new).slots) }
+    ensures come { Brings (IsMapsHome (view_of filer.old).layout) (view_of filer.old).slots (view_of filer.new).slots }
+    ensures evidence_seen { IfErr result (ShowsEvidence (view_of filer.new).disk) }
+    ensures counted { result ≡ Err halt.Disk → Rose (view_of filer.old).disk.faults (view_of filer.new).disk.faults }
+    ensures form { IfOk result (IsRunFor (view_of filer.old).layout.sectors id page most) }
+    ensures sound { (tables : ℕ) (x : List Sector) (shapes : Shapes) (spaces : List Space) → BooksUpto tables (view_of filer.old).disk (view_of filer.old).slots (view_of filer.old).layout (view_of filer.old).runs shapes spaces x → ShowsNoFree spaces
+        → AreUnownedUpto tables shapes id page most → 1 ≤ free_count (view_of filer.old).layout x → IfErr result (λ e. e ≡ halt.Disk) }
+    ensures broken { (x : List Sector) (shapes : Shapes) (spaces : List Space) → Books (view_of filer.old).disk (view_of filer.old).slots (view_of filer.old).layout (view_of filer.old).runs shapes spaces x → ShowsNoFree spaces
+        → AreUnowned shapes id page most → 1 ≤ free_count (view_of filer.old).layout x → OnErr result (GrewSome id kind page most x (view_of filer.old).disk (view_of filer.old).slots (view_of filer.new).disk (view_of filer.new).slots) }
+    ensures makes { IfOk result (λ run. MakesOnly volume_page (growth id kind page (sectors_of run)) (view_of filer.old) (view_of filer.new)) }
+    ensures stopped { OnErr result (MakesSome id kind page most (view_of filer.old).disk (view_of filer.old).slots (view_of filer.new).disk (view_of filer.new).slots) }
+    ensures layout { (view_of filer.new).layout ≡ (view_of filer.old).layout }
+    ensures runs { (view_of filer.new).runs ≡ (view_of filer.old).runs }
+    ensures cost { (view_of filer.new).disk.transfers ≤ (view_of filer.old).disk.transfers + (8 * (view_of filer.old).layout.vam + 2 * most + 98) }
+    ensures cost_made { IfOk result (λ run. (view_of filer.new).disk.transfers ≤ (view_of filer.old).disk.transfers + (8 * (view_of filer.old).layout.vam + 2 * run.pages + 98)) }
 {
     let (sector, pages) = match take_run(filer, most) {
         Ok(taken) => taken,
@@ -175,28 +176,28 @@ pub(crate) fn make_up<D: Disk, A: Allocator>(
     from: u32,
     end: u32,
 ) -> Result<(), Halt>
-    requires size { (D.state filer.old.swapper.disk).sectors ≡ filer.old.swapper.layout.sectors }
+    requires size { FitsLayout (view_of filer.old) }
     requires of_file { is_file_id id ≡ true }
     requires order { from ≤ end }
     requires numbers { end < 4294967295 }
-    ensures made { (x : List Sector) (shapes : Shapes) (spaces : List Space) (f : Shape) → MayGrow (D.state filer.old.swapper.disk) filer.old.swapper.pool filer.old.swapper.layout filer.old.runs shapes spaces id f end x → f.size ≡ from
-        → OnOk result (GrownBy id kind from (end - from) (D.state filer.old.swapper.disk) filer.old.swapper.pool filer.old.swapper.layout (D.state filer.new.swapper.disk) filer.new.swapper.pool filer.new.runs) }
-    ensures sound { (x : List Sector) (shapes : Shapes) (spaces : List Space) (f : Shape) → MayGrow (D.state filer.old.swapper.disk) filer.old.swapper.pool filer.old.swapper.layout filer.old.runs shapes spaces id f end x → f.size ≡ from
+    ensures made { (x : List Sector) (shapes : Shapes) (spaces : List Space) (f : Shape) → MayGrow (view_of filer.old).disk (view_of filer.old).slots (view_of filer.old).layout (view_of filer.old).runs shapes spaces id f end x → f.size ≡ from
+        → OnOk result (GrownBy id kind from (end - from) (view_of filer.old).disk (view_of filer.old).slots (view_of filer.old).layout (view_of filer.new).disk (view_of filer.new).slots (view_of filer.new).runs) }
+    ensures sound { (x : List Sector) (shapes : Shapes) (spaces : List Space) (f : Shape) → MayGrow (view_of filer.old).disk (view_of filer.old).slots (view_of filer.old).layout (view_of filer.old).runs shapes spaces id f end x → f.size ≡ from
         → IfErr result (λ e. e ≡ halt.Disk) }
-    ensures broken { (x : List Sector) (shapes : Shapes) (spaces : List Space) (f : Shape) → MayGrow (D.state filer.old.swapper.disk) filer.old.swapper.pool filer.old.swapper.layout filer.old.runs shapes spaces id f end x → f.size ≡ from
-        → OnErr result (GrewSome id kind from (end - from) x (D.state filer.old.swapper.disk) filer.old.swapper.pool (D.state filer.new.swapper.disk) filer.new.swapper.pool) }
-    ensures makes { OnOk result (MakesAll id kind from (end - from) (D.state filer.old.swapper.disk) filer.old.swapper.pool (D.state filer.new.swapper.disk) filer.new.swapper.pool) }
-    ensures stopped { OnErr result (MakesSome id kind from (end - from) (D.state filer.old.swapper.disk) filer.old.swapper.pool (D.state filer.new.swapper.disk) filer.new.swapper.pool) }
-    ensures cause { IfErr result (RangeHalts filer.old.swapper.layout id from end (D.state filer.old.swapper.disk) filer.old.swapper.pool (D.state filer.new.swapper.disk) filer.new.swapper.pool) }
+    ensures broken { (x : List Sector) (shapes : Shapes) (spaces : List Space) (f : Shape) → MayGrow (view_of filer.old).disk (view_of filer.old).slots (view_of filer.old).layout (view_of filer.old).runs shapes spaces id f end x → f.size ≡ from
+        → OnErr result (GrewSome id kind from (end - from) x (view_of filer.old).disk (view_of filer.old).slots (view_of filer.new).disk (view_of filer.new).slots) }
+    ensures makes { OnOk result (MakesAll id kind from (end - from) (view_of filer.old).disk (view_of filer.old).slots (view_of filer.new).disk (view_of filer.new).slots) }
+    ensures stopped { OnErr result (MakesSome id kind from (end - from) (view_of filer.old).disk (view_of filer.old).slots (view_of filer.new).disk (view_of filer.new).slots) }
+    ensures cause { IfErr result (RangeHalts (view_of filer.old).layout id from end (view_of filer.old).disk (view_of filer.old).slots (view_of filer.new).disk (view_of filer.new).slots) }
     ensures keeps_to { (o : InitialState) (named : Triples) → Keeps o filer.old named → MayTake o id → NamesNoneOf id (λ p. (from ≤ p) × (p < end)) named → OnOk result (KeepsFrom o named filer.new) }
-    ensures reasons { (o : InitialState) (named : Triples) → Keeps o filer.old named → MayTake o id → NamesNoneOf id (λ p. (from ≤ p) × (p < end)) named → IfErr result (ShowsReason o filer.old.swapper.layout (D.state filer.new.swapper.disk)) }
-    ensures takes { OnOk result (MakesFor filer.old.swapper.layout id (λ p. (from ≤ p) × (p < end)) (D.state filer.old.swapper.disk) filer.old.swapper.pool (D.state filer.new.swapper.disk) filer.new.swapper.pool) }
-    ensures come { Brings (IsMapsHome filer.old.swapper.layout) filer.old.swapper.pool filer.new.swapper.pool }
-    ensures evidence_seen { IfErr result (ShowsEvidence (D.state filer.new.swapper.disk)) }
-    ensures counted { result ≡ Err halt.Disk → Rose (D.state filer.old.swapper.disk).faults (D.state filer.new.swapper.disk).faults }
-    ensures layout { filer.new.swapper.layout ≡ filer.old.swapper.layout }
-    ensures runs { filer.new.runs ≡ filer.old.runs }
-    ensures cost { (D.state filer.new.swapper.disk).transfers ≤ (D.state filer.old.swapper.disk).transfers + (end - from) * (8 * filer.old.swapper.layout.vam + 100) }
+    ensures reasons { (o : InitialState) (named : Triples) → Keeps o filer.old named → MayTake o id → NamesNoneOf id (λ p. (from ≤ p) × (p < end)) named → IfErr result (ShowsReason o (view_of filer.old).layout (view_of filer.new).disk) }
+    ensures takes { OnOk result (MakesFor (view_of filer.old).layout id (λ p. (from ≤ p) × (p < end)) (view_of filer.old).disk (view_of filer.old).slots (view_of filer.new).disk (view_of filer.new).slots) }
+    ensures come { Brings (IsMapsHome (view_of filer.old).layout) (view_of filer.old).slots (view_of filer.new).slots }
+    ensures evidence_seen { IfErr result (ShowsEvidence (view_of filer.new).disk) }
+    ensures counted { result ≡ Err halt.Disk → Rose (view_of filer.old).disk.faults (view_of filer.new).disk.faults }
+    ensures layout { (view_of filer.new).layout ≡ (view_of filer.old).layout }
+    ensures runs { (view_of filer.new).runs ≡ (view_of filer.old).runs }
+    ensures cost { (view_of filer.new).disk.transfers ≤ (view_of filer.old).disk.transfers + (end - from) * (8 * (view_of filer.old).layout.vam + 100) }
 {
     let mut page = from;
     while page < end {

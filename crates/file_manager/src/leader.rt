@@ -23,6 +23,7 @@ ghost use Rattle.file_manager.specs.Answer.{IsLeaderOf};
 ghost use Rattle.file_manager.specs.Book.{Books, BringsOwn};
 ghost use Rattle.file_manager.specs.Causes.{NamesNone};
 ghost use Rattle.file_manager.specs.Reasons.{Keeps, InitialState, ShowsReason};
+ghost use Rattle.filer_kernel.specs.View.{FitsLayout, HasMemory, kept_by, MakesOnly, view_of};
 
 use filer_kernel::Filer;
 use labelled_disk::{Disk, FileId, Halt, LEADER};
@@ -33,33 +34,33 @@ pub(crate) fn leader_of<D: Disk, A: Allocator>(
     filer: &mut Filer<D, A>,
     id: FileId,
 ) -> Result<Option<u32>, Halt>
-    requires size { (D.state filer.old.swapper.disk).sectors ≡ filer.old.swapper.layout.sectors }
+    requires size { FitsLayout (view_of filer.old) }
     requires client { 16 ≤ id }
-    ensures revealed { (x : List Sector) (shapes : Shapes) (spaces : List Space) → Books (D.state filer.old.swapper.disk) filer.old.swapper.pool filer.old.swapper.layout filer.old.runs shapes spaces x
+    ensures revealed { (x : List Sector) (shapes : Shapes) (spaces : List Space) → Books (view_of filer.old).disk (view_of filer.old).slots (view_of filer.old).layout (view_of filer.old).runs shapes spaces x
         → MatchResult result (IsLeaderOf (labels_of x) shapes id) (λ e. e ≡ halt.Disk) }
-    ensures same { (x : List Sector) (shapes : Shapes) (spaces : List Space) → Books (D.state filer.old.swapper.disk) filer.old.swapper.pool filer.old.swapper.layout filer.old.runs shapes spaces x
-        → Books (D.state filer.new.swapper.disk) filer.new.swapper.pool filer.old.swapper.layout filer.new.runs shapes spaces x }
-    ensures place { IfOk result (λ found. IfSome found (λ sector. (filer.old.swapper.layout.first ≤ sector) × (sector < filer.old.swapper.layout.sectors))) }
-    ensures same_bytes { (b : List ℕ) → Reveals FileMapPages (D.state filer.old.swapper.disk) filer.old.swapper.pool filer.old.swapper.layout b → Reveals FileMapPages (D.state filer.new.swapper.disk) filer.new.swapper.pool filer.old.swapper.layout b }
-    ensures beside { Beside FileMapPages (D.state filer.old.swapper.disk) filer.old.swapper.pool filer.old.swapper.layout (D.state filer.new.swapper.disk) filer.new.swapper.pool filer.new.swapper.layout }
-    ensures looked { Looked FileMapPages (D.state filer.old.swapper.disk) filer.old.swapper.pool filer.old.swapper.layout (D.state filer.new.swapper.disk) filer.new.swapper.pool filer.new.swapper.layout }
-    ensures runs_given { (r : RunIs) → IsOneOf r (runs_of filer.old.swapper.layout.sectors filer.new.runs) → IsGiven filer.old.swapper.layout (D.state filer.old.swapper.disk) filer.old.swapper.pool (runs_of filer.old.swapper.layout.sectors filer.old.runs) r }
-    ensures runs_are { (m : List Sector) (named : Triples) → Stands (D.state filer.old.swapper.disk) filer.old.swapper.pool m → MapIs filer.old.swapper.layout named m → AreOf named (runs_of filer.old.swapper.layout.sectors filer.old.runs)
-        → AreOf named (runs_of filer.old.swapper.layout.sectors filer.new.runs) }
-    ensures given { IfOk result (λ found. IfSome found (λ sector. IsRunHome filer.old.swapper.layout (D.state filer.old.swapper.disk) filer.old.swapper.pool (runs_of filer.old.swapper.layout.sectors filer.old.runs) (home_at sector (record { id = id; page = leader_page })))) }
-    ensures names { (m : List Sector) (named : Triples) → Stands (D.state filer.old.swapper.disk) filer.old.swapper.pool m → MapIs filer.old.swapper.layout named m → AreOf named (runs_of filer.old.swapper.layout.sectors filer.old.runs)
+    ensures same { (x : List Sector) (shapes : Shapes) (spaces : List Space) → Books (view_of filer.old).disk (view_of filer.old).slots (view_of filer.old).layout (view_of filer.old).runs shapes spaces x
+        → Books (view_of filer.new).disk (view_of filer.new).slots (view_of filer.old).layout (view_of filer.new).runs shapes spaces x }
+    ensures place { IfOk result (λ found. IfSome found (λ sector. ((view_of filer.old).layout.first ≤ sector) × (sector < (view_of filer.old).layout.sectors))) }
+    ensures same_bytes { (b : List ℕ) → Reveals FileMapPages (view_of filer.old).disk (view_of filer.old).slots (view_of filer.old).layout b → Reveals FileMapPages (view_of filer.new).disk (view_of filer.new).slots (view_of filer.old).layout b }
+    ensures beside { Beside FileMapPages (view_of filer.old).disk (view_of filer.old).slots (view_of filer.old).layout (view_of filer.new).disk (view_of filer.new).slots (view_of filer.new).layout }
+    ensures looked { Looked FileMapPages (view_of filer.old).disk (view_of filer.old).slots (view_of filer.old).layout (view_of filer.new).disk (view_of filer.new).slots (view_of filer.new).layout }
+    ensures runs_given { (r : RunIs) → IsOneOf r (runs_of (view_of filer.old).layout.sectors (view_of filer.new).runs) → IsGiven (view_of filer.old).layout (view_of filer.old).disk (view_of filer.old).slots (kept_by (view_of filer.old)) r }
+    ensures runs_are { (m : List Sector) (named : Triples) → HasMemory (view_of filer.old) m → MapIs (view_of filer.old).layout named m → AreOf named (kept_by (view_of filer.old))
+        → AreOf named (runs_of (view_of filer.old).layout.sectors (view_of filer.new).runs) }
+    ensures given { IfOk result (λ found. IfSome found (λ sector. IsRunHome (view_of filer.old).layout (view_of filer.old).disk (view_of filer.old).slots (kept_by (view_of filer.old)) (home_at sector (record { id = id; page = leader_page })))) }
+    ensures names { (m : List Sector) (named : Triples) → HasMemory (view_of filer.old) m → MapIs (view_of filer.old).layout named m → AreOf named (kept_by (view_of filer.old))
         → IfOk result (λ found. IfSome found (λ sector. named id leader_page sector ≡ true)) }
-    ensures missing { result ≡ Ok None → NamesNone filer.old.swapper.layout (D.state filer.old.swapper.disk) filer.old.swapper.pool id leader_page }
-    ensures makes { Makes volume_page [] (D.state filer.old.swapper.disk) filer.old.swapper.pool (D.state filer.new.swapper.disk) filer.new.swapper.pool }
-    ensures brings { BringsOwn filer.old.swapper.pool filer.new.swapper.pool }
-    ensures cause { IfErr result (MapHalts filer.old.swapper.layout (D.state filer.old.swapper.disk) filer.old.swapper.pool (D.state filer.new.swapper.disk)) }
+    ensures missing { result ≡ Ok None → NamesNone (view_of filer.old).layout (view_of filer.old).disk (view_of filer.old).slots id leader_page }
+    ensures makes { MakesOnly volume_page [] (view_of filer.old) (view_of filer.new) }
+    ensures brings { BringsOwn (view_of filer.old).slots (view_of filer.new).slots }
+    ensures cause { IfErr result (MapHalts (view_of filer.old).layout (view_of filer.old).disk (view_of filer.old).slots (view_of filer.new).disk) }
     ensures keeps_to { (o : InitialState) (named : Triples) → Keeps o filer.old named → OnOk result (Keeps o filer.new named) }
-    ensures reasons { (o : InitialState) (named : Triples) → Keeps o filer.old named → IfErr result (ShowsReason o filer.old.swapper.layout (D.state filer.new.swapper.disk)) }
-    ensures keeps { KeepsMap (IsUnframed filer.old.swapper.pool id) filer.old.swapper.layout id (D.state filer.old.swapper.disk) filer.old.swapper.pool (runs_of filer.old.swapper.layout.sectors filer.old.runs) (D.state filer.new.swapper.disk) filer.new.swapper.pool (runs_of filer.old.swapper.layout.sectors filer.new.runs) }
-    ensures evidence_seen { IfErr result (ShowsEvidence (D.state filer.new.swapper.disk)) }
-    ensures counted { result ≡ Err halt.Disk → Rose (D.state filer.old.swapper.disk).faults (D.state filer.new.swapper.disk).faults }
-    ensures layout { filer.new.swapper.layout ≡ filer.old.swapper.layout }
-    ensures cost { (D.state filer.new.swapper.disk).transfers ≤ (D.state filer.old.swapper.disk).transfers + 14 }
+    ensures reasons { (o : InitialState) (named : Triples) → Keeps o filer.old named → IfErr result (ShowsReason o (view_of filer.old).layout (view_of filer.new).disk) }
+    ensures keeps { KeepsMap (IsUnframed (view_of filer.old).slots id) (view_of filer.old).layout id (view_of filer.old).disk (view_of filer.old).slots (kept_by (view_of filer.old)) (view_of filer.new).disk (view_of filer.new).slots (runs_of (view_of filer.old).layout.sectors (view_of filer.new).runs) }
+    ensures evidence_seen { IfErr result (ShowsEvidence (view_of filer.new).disk) }
+    ensures counted { result ≡ Err halt.Disk → Rose (view_of filer.old).disk.faults (view_of filer.new).disk.faults }
+    ensures layout { (view_of filer.new).layout ≡ (view_of filer.old).layout }
+    ensures cost { (view_of filer.new).disk.transfers ≤ (view_of filer.old).disk.transfers + 14 }
 {
     match filer.find(id, LEADER) {
         Ok(Some(run)) => Ok(Some(run.sector + (LEADER - run.first))),

@@ -15,6 +15,7 @@ ghost use Rattle.file_manager.specs.Answer.{IsNextFile};
 ghost use Rattle.file_manager.specs.Book.{Books, BringsOwn};
 ghost use Rattle.file_manager.specs.Looking.{Looks};
 ghost use Rattle.file_manager.specs.Reasons.{Keeps, InitialState, ShowsReason};
+ghost use Rattle.filer_kernel.specs.View.{FitsLayout, kept_by, MakesOnly, view_of};
 
 use crate::growth::frames_of;
 use filer_kernel::Filer;
@@ -26,22 +27,22 @@ pub fn next<D: Disk, A: Allocator>(
     filer: &mut Filer<D, A>,
     id: FileId,
 ) -> Result<Option<FileId>, Halt>
-    requires size { (D.state filer.old.swapper.disk).sectors ≡ filer.old.swapper.layout.sectors }
-    ensures revealed { (x : List Sector) (shapes : Shapes) (spaces : List Space) → Books (D.state filer.old.swapper.disk) filer.old.swapper.pool filer.old.swapper.layout filer.old.runs shapes spaces x
+    requires size { FitsLayout (view_of filer.old) }
+    ensures revealed { (x : List Sector) (shapes : Shapes) (spaces : List Space) → Books (view_of filer.old).disk (view_of filer.old).slots (view_of filer.old).layout (view_of filer.old).runs shapes spaces x
         → MatchResult result (IsNextFile shapes id) (λ e. e ≡ halt.Disk) }
     ensures above { IfOk result (λ found. IfSome found (λ next. (id < next) × (16 ≤ next))) }
-    ensures same { (x : List Sector) (shapes : Shapes) (spaces : List Space) → Books (D.state filer.old.swapper.disk) filer.old.swapper.pool filer.old.swapper.layout filer.old.runs shapes spaces x
-        → Books (D.state filer.new.swapper.disk) filer.new.swapper.pool filer.old.swapper.layout filer.new.runs shapes spaces x }
-    ensures makes { Makes volume_page [] (D.state filer.old.swapper.disk) filer.old.swapper.pool (D.state filer.new.swapper.disk) filer.new.swapper.pool }
-    ensures looks { Looks filer.old.swapper.layout (D.state filer.old.swapper.disk) filer.old.swapper.pool (runs_of filer.old.swapper.layout.sectors filer.old.runs) (D.state filer.new.swapper.disk) filer.new.swapper.pool (runs_of filer.old.swapper.layout.sectors filer.new.runs) }
-    ensures brings { BringsOwn filer.old.swapper.pool filer.new.swapper.pool }
-    ensures cause { IfErr result (MapHalts filer.old.swapper.layout (D.state filer.old.swapper.disk) filer.old.swapper.pool (D.state filer.new.swapper.disk)) }
+    ensures same { (x : List Sector) (shapes : Shapes) (spaces : List Space) → Books (view_of filer.old).disk (view_of filer.old).slots (view_of filer.old).layout (view_of filer.old).runs shapes spaces x
+        → Books (view_of filer.new).disk (view_of filer.new).slots (view_of filer.old).layout (view_of filer.new).runs shapes spaces x }
+    ensures makes { MakesOnly volume_page [] (view_of filer.old) (view_of filer.new) }
+    ensures looks { Looks (view_of filer.old).layout (view_of filer.old).disk (view_of filer.old).slots (kept_by (view_of filer.old)) (view_of filer.new).disk (view_of filer.new).slots (runs_of (view_of filer.old).layout.sectors (view_of filer.new).runs) }
+    ensures brings { BringsOwn (view_of filer.old).slots (view_of filer.new).slots }
+    ensures cause { IfErr result (MapHalts (view_of filer.old).layout (view_of filer.old).disk (view_of filer.old).slots (view_of filer.new).disk) }
     ensures keeps_to { (o : InitialState) (named : Triples) → Keeps o filer.old named → OnOk result (Keeps o filer.new named) }
-    ensures reasons { (o : InitialState) (named : Triples) → Keeps o filer.old named → IfErr result (ShowsReason o filer.old.swapper.layout (D.state filer.new.swapper.disk)) }
-    ensures evidence_seen { IfErr result (ShowsEvidence (D.state filer.new.swapper.disk)) }
-    ensures counted { result ≡ Err halt.Disk → Rose (D.state filer.old.swapper.disk).faults (D.state filer.new.swapper.disk).faults }
-    ensures layout { filer.new.swapper.layout ≡ filer.old.swapper.layout }
-    ensures cost { (D.state filer.new.swapper.disk).transfers ≤ (D.state filer.old.swapper.disk).transfers + 36 }
+    ensures reasons { (o : InitialState) (named : Triples) → Keeps o filer.old named → IfErr result (ShowsReason o (view_of filer.old).layout (view_of filer.new).disk) }
+    ensures evidence_seen { IfErr result (ShowsEvidence (view_of filer.new).disk) }
+    ensures counted { result ≡ Err halt.Disk → Rose (view_of filer.old).disk.faults (view_of filer.new).disk.faults }
+    ensures layout { (view_of filer.new).layout ≡ (view_of filer.old).layout }
+    ensures cost { (view_of filer.new).disk.transfers ≤ (view_of filer.old).disk.transfers + 36 }
 {
     frames_of(filer);
     match filer.next_file(id) {

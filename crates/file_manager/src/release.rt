@@ -23,6 +23,7 @@ ghost use Rattle.swapper_kernel.specs.Halts.{HasCause};
 ghost use Rattle.filer_kernel.specs.Evidence.{MayBeMissing, ShowsEvidence};
 ghost use Rattle.file_manager.specs.Freeing.{MayFree, Freed, FreedSome, IsPartOf, NamesAll, MakesFree, MakesSomeFree, run_sectors};
 ghost use Rattle.file_manager.specs.Reasons.{AreReleased, Keeps, MissesNone, LeavesTables, MayLack, InitialState, ShowsReason};
+ghost use Rattle.filer_kernel.specs.View.{FitsLayout, HasMemory, kept_by, view_of};
 
 use crate::forgetting::discard_run;
 use file_map::Run;
@@ -38,26 +39,26 @@ fn part_of<D: Disk, A: Allocator>(
     page: u32,
     most: u32,
 ) -> Result<Run, Halt>
-    requires size { (D.state filer.old.swapper.disk).sectors ≡ filer.old.swapper.layout.sectors }
+    requires size { FitsLayout (view_of filer.old) }
     requires some { 1 ≤ most }
-    ensures cause { IfErr result (FreeHalts (IsUnframed filer.old.swapper.pool id) filer.old.swapper.layout (runs_of filer.old.swapper.layout.sectors filer.old.runs) id (λ p. p ≡ page) (D.state filer.old.swapper.disk) filer.old.swapper.pool (D.state filer.new.swapper.disk)) }
+    ensures cause { IfErr result (FreeHalts (IsUnframed (view_of filer.old).slots id) (view_of filer.old).layout (kept_by (view_of filer.old)) id (λ p. p ≡ page) (view_of filer.old).disk (view_of filer.old).slots (view_of filer.new).disk) }
     ensures keeps_to { (o : InitialState) (named : Triples) → Keeps o filer.old named → OnOk result (Keeps o filer.new named) }
-    ensures reasons { (o : InitialState) (named : Triples) → Keeps o filer.old named → MayLack named id page → IfErr result (ShowsReason o filer.old.swapper.layout (D.state filer.new.swapper.disk)) }
+    ensures reasons { (o : InitialState) (named : Triples) → Keeps o filer.old named → MayLack named id page → IfErr result (ShowsReason o (view_of filer.old).layout (view_of filer.new).disk) }
     ensures right { (o : InitialState) (named : Triples) (sector : ℕ) → Keeps o filer.old named → named id page sector ≡ true → IfErr result MissesNone }
-    ensures homes { IfOk result (λ run. (k : ℕ) → k < run.pages → IsRunHome filer.old.swapper.layout (D.state filer.old.swapper.disk) filer.old.swapper.pool (runs_of filer.old.swapper.layout.sectors filer.old.runs) (home_at (run.sector + k) (record { id = id; page = run.first + k }))) }
-    ensures keeps { (id ≡ 3) ⊎ (16 ≤ id) → KeepsMap (IsUnframed filer.old.swapper.pool id) filer.old.swapper.layout id (D.state filer.old.swapper.disk) filer.old.swapper.pool (runs_of filer.old.swapper.layout.sectors filer.old.runs) (D.state filer.new.swapper.disk) filer.new.swapper.pool (runs_of filer.old.swapper.layout.sectors filer.new.runs) }
-    ensures evidence_seen { MayBeMissing id page → IfErr result (ShowsEvidence (D.state filer.new.swapper.disk)) }
-    ensures counted { result ≡ Err halt.Disk → Rose (D.state filer.old.swapper.disk).faults (D.state filer.new.swapper.disk).faults }
-    ensures form { IfOk result (IsPartOf filer.old.swapper.layout.sectors id page (page + most)) }
-    ensures named { (m : List Sector) (named : Triples) → Stands (D.state filer.old.swapper.disk) filer.old.swapper.pool m → MapIs filer.old.swapper.layout named m → AreOf named (runs_of filer.old.swapper.layout.sectors filer.old.runs)
+    ensures homes { IfOk result (λ run. (k : ℕ) → k < run.pages → IsRunHome (view_of filer.old).layout (view_of filer.old).disk (view_of filer.old).slots (kept_by (view_of filer.old)) (home_at (run.sector + k) (record { id = id; page = run.first + k }))) }
+    ensures keeps { (id ≡ 3) ⊎ (16 ≤ id) → KeepsMap (IsUnframed (view_of filer.old).slots id) (view_of filer.old).layout id (view_of filer.old).disk (view_of filer.old).slots (kept_by (view_of filer.old)) (view_of filer.new).disk (view_of filer.new).slots (runs_of (view_of filer.old).layout.sectors (view_of filer.new).runs) }
+    ensures evidence_seen { MayBeMissing id page → IfErr result (ShowsEvidence (view_of filer.new).disk) }
+    ensures counted { result ≡ Err halt.Disk → Rose (view_of filer.old).disk.faults (view_of filer.new).disk.faults }
+    ensures form { IfOk result (IsPartOf (view_of filer.old).layout.sectors id page (page + most)) }
+    ensures named { (m : List Sector) (named : Triples) → HasMemory (view_of filer.old) m → MapIs (view_of filer.old).layout named m → AreOf named (kept_by (view_of filer.old))
         → IfOk result (NamesAll named) }
-    ensures kept { (m : List Sector) (named : Triples) → Stands (D.state filer.old.swapper.disk) filer.old.swapper.pool m → MapIs filer.old.swapper.layout named m → AreOf named (runs_of filer.old.swapper.layout.sectors filer.old.runs)
-        → AreOf named (runs_of filer.old.swapper.layout.sectors filer.new.runs) }
-    ensures sound { (m : List Sector) (named : Triples) (sector : ℕ) → Stands (D.state filer.old.swapper.disk) filer.old.swapper.pool m → MapIs filer.old.swapper.layout named m → AreNamed m (IsMapHome FileMapPages filer.old.swapper.layout)
+    ensures kept { (m : List Sector) (named : Triples) → HasMemory (view_of filer.old) m → MapIs (view_of filer.old).layout named m → AreOf named (kept_by (view_of filer.old))
+        → AreOf named (runs_of (view_of filer.old).layout.sectors (view_of filer.new).runs) }
+    ensures sound { (m : List Sector) (named : Triples) (sector : ℕ) → HasMemory (view_of filer.old) m → MapIs (view_of filer.old).layout named m → AreNamed m (IsMapHome FileMapPages (view_of filer.old).layout)
         → named id page sector ≡ true → IfErr result (λ e. e ≡ halt.Disk) }
-    ensures same { (m : List Sector) (named : Triples) → Stands (D.state filer.old.swapper.disk) filer.old.swapper.pool m → MapIs filer.old.swapper.layout named m → Stands (D.state filer.new.swapper.disk) filer.new.swapper.pool m }
-    ensures beside { Beside FileMapPages (D.state filer.old.swapper.disk) filer.old.swapper.pool filer.old.swapper.layout (D.state filer.new.swapper.disk) filer.new.swapper.pool filer.new.swapper.layout }
-    ensures cost { (D.state filer.new.swapper.disk).transfers ≤ (D.state filer.old.swapper.disk).transfers + 14 }
+    ensures same { (m : List Sector) (named : Triples) → HasMemory (view_of filer.old) m → MapIs (view_of filer.old).layout named m → HasMemory (view_of filer.new) m }
+    ensures beside { Beside FileMapPages (view_of filer.old).disk (view_of filer.old).slots (view_of filer.old).layout (view_of filer.new).disk (view_of filer.new).slots (view_of filer.new).layout }
+    ensures cost { (view_of filer.new).disk.transfers ≤ (view_of filer.old).disk.transfers + 14 }
 {
     match filer.find(id, page) {
         Ok(Some(run)) => {
@@ -77,22 +78,22 @@ fn part_of<D: Disk, A: Allocator>(
 
 // Frees the labels of the sectors of a run, the first page first.
 fn free_labels<D: Disk, A: Allocator>(filer: &mut Filer<D, A>, run: Run) -> Result<(), Halt>
-    requires size { (D.state filer.old.swapper.disk).sectors ≡ filer.old.swapper.layout.sectors }
-    requires data { filer.old.swapper.layout.first ≤ run.sector }
-    requires form { IsRun filer.old.swapper.layout.sectors run }
-    ensures freed { OnOk result (RelabelsRun run.sector run.pages (freeing (run_sectors run)) (D.state filer.old.swapper.disk) filer.old.swapper.pool (D.state filer.new.swapper.disk)) }
-    ensures stopped { OnErr result (MadeSome (freeing (run_sectors run)) (D.state filer.old.swapper.disk) filer.old.swapper.pool (D.state filer.new.swapper.disk)) }
-    ensures sound { (m : List Sector) → Stands (D.state filer.old.swapper.disk) filer.old.swapper.pool m → AreUncovered filer.old.swapper.pool run.sector run.pages
+    requires size { FitsLayout (view_of filer.old) }
+    requires data { (view_of filer.old).layout.first ≤ run.sector }
+    requires form { IsRun (view_of filer.old).layout.sectors run }
+    ensures freed { OnOk result (RelabelsRun run.sector run.pages (freeing (run_sectors run)) (view_of filer.old).disk (view_of filer.old).slots (view_of filer.new).disk) }
+    ensures stopped { OnErr result (MadeSome (freeing (run_sectors run)) (view_of filer.old).disk (view_of filer.old).slots (view_of filer.new).disk) }
+    ensures sound { (m : List Sector) → HasMemory (view_of filer.old) m → AreUncovered (view_of filer.old).slots run.sector run.pages
         → HaveOnes (λ k. ones_of (record { id = run.id; page = run.first + k })) m run.sector run.pages → IfErr result (λ e. e ≡ halt.Disk) }
-    ensures cause { IfErr result (HasCause (IsOneNotOf run.sector run.pages (λ k. record { id = run.id; page = run.first + k }) (D.state filer.old.swapper.disk)) (D.state filer.old.swapper.disk) (D.state filer.new.swapper.disk)) }
-    ensures were { OnOk result ((d : List Sector) → (D.state filer.old.swapper.disk).contents ≡ Some d → HaveOnes (λ k. ones_of (record { id = run.id; page = run.first + k })) d run.sector run.pages) }
-    ensures evidence_seen { IfErr result (ShowsEvidence (D.state filer.new.swapper.disk)) }
-    ensures counted { result ≡ Err halt.Disk → Rose (D.state filer.old.swapper.disk).faults (D.state filer.new.swapper.disk).faults }
-    ensures frames { filer.new.swapper.pool ≡ filer.old.swapper.pool }
-    ensures layout { filer.new.swapper.layout ≡ filer.old.swapper.layout }
-    ensures runs { filer.new.runs ≡ filer.old.runs }
-    ensures cost { (D.state filer.new.swapper.disk).transfers ≤ (D.state filer.old.swapper.disk).transfers + 2 * run.pages }
-    ensures own { RelabelsOwn run.id (D.state filer.old.swapper.disk) (D.state filer.new.swapper.disk) }
+    ensures cause { IfErr result (HasCause (IsOneNotOf run.sector run.pages (λ k. record { id = run.id; page = run.first + k }) (view_of filer.old).disk) (view_of filer.old).disk (view_of filer.new).disk) }
+    ensures were { OnOk result ((d : List Sector) → (view_of filer.old).disk.contents ≡ Some d → HaveOnes (λ k. ones_of (record { id = run.id; page = run.first + k })) d run.sector run.pages) }
+    ensures evidence_seen { IfErr result (ShowsEvidence (view_of filer.new).disk) }
+    ensures counted { result ≡ Err halt.Disk → Rose (view_of filer.old).disk.faults (view_of filer.new).disk.faults }
+    ensures frames { (view_of filer.new).slots ≡ (view_of filer.old).slots }
+    ensures layout { (view_of filer.new).layout ≡ (view_of filer.old).layout }
+    ensures runs { (view_of filer.new).runs ≡ (view_of filer.old).runs }
+    ensures cost { (view_of filer.new).disk.transfers ≤ (view_of filer.old).disk.transfers + 2 * run.pages }
+    ensures own { RelabelsOwn run.id (view_of filer.old).disk (view_of filer.new).disk }
 {
     let swapper = filer.swapper_over();
     match free_pages_up(swapper, run.sector, run.pages, run.id, run.first) {
@@ -109,30 +110,30 @@ pub(crate) fn free_run<D: Disk, A: Allocator>(
     page: u32,
     most: u32,
 ) -> Result<u32, Halt>
-    requires size { (D.state filer.old.swapper.disk).sectors ≡ filer.old.swapper.layout.sectors }
+    requires size { FitsLayout (view_of filer.old) }
     requires of_file { (id ≡ 3) ⊎ (16 ≤ id) }
     requires some { 1 ≤ most }
-    ensures freed { (named : Triples) (spaces : List Space) (m : List Sector) → MayFree (D.state filer.old.swapper.disk) filer.old.swapper.pool filer.old.swapper.layout filer.old.runs named spaces id page (page + most) m
-        → IfOk result (λ pages. Freed filer.old.swapper.layout named spaces id page pages (page + most) (D.state filer.old.swapper.disk) filer.old.swapper.pool (D.state filer.new.swapper.disk) filer.new.swapper.pool filer.new.runs) }
+    ensures freed { (named : Triples) (spaces : List Space) (m : List Sector) → MayFree (view_of filer.old).disk (view_of filer.old).slots (view_of filer.old).layout (view_of filer.old).runs named spaces id page (page + most) m
+        → IfOk result (λ pages. Freed (view_of filer.old).layout named spaces id page pages (page + most) (view_of filer.old).disk (view_of filer.old).slots (view_of filer.new).disk (view_of filer.new).slots (view_of filer.new).runs) }
     ensures some { IfOk result (λ pages. (1 ≤ pages) × (pages ≤ most)) }
-    ensures sound { (named : Triples) (spaces : List Space) (m : List Sector) → MayFree (D.state filer.old.swapper.disk) filer.old.swapper.pool filer.old.swapper.layout filer.old.runs named spaces id page (page + most) m
+    ensures sound { (named : Triples) (spaces : List Space) (m : List Sector) → MayFree (view_of filer.old).disk (view_of filer.old).slots (view_of filer.old).layout (view_of filer.old).runs named spaces id page (page + most) m
         → IfErr result (λ e. e ≡ halt.Disk) }
-    ensures first { (named : Triples) (spaces : List Space) (m : List Sector) → MayFree (D.state filer.old.swapper.disk) filer.old.swapper.pool filer.old.swapper.layout filer.old.runs named spaces id page (page + most) m
-        → OnErr result (FreedSome named id page (page + most) (D.state filer.old.swapper.disk) filer.old.swapper.pool (D.state filer.new.swapper.disk) filer.new.swapper.pool) }
-    ensures makes { IfOk result (λ pages. MakesFree pages (D.state filer.old.swapper.disk) filer.old.swapper.pool (D.state filer.new.swapper.disk) filer.new.swapper.pool) }
-    ensures stopped { OnErr result (MakesSomeFree (D.state filer.old.swapper.disk) filer.old.swapper.pool (D.state filer.new.swapper.disk) filer.new.swapper.pool) }
-    ensures cause { IfErr result (FreeHalts (IsUnframed filer.old.swapper.pool id) filer.old.swapper.layout (runs_of filer.old.swapper.layout.sectors filer.old.runs) id (λ p. p ≡ page) (D.state filer.old.swapper.disk) filer.old.swapper.pool (D.state filer.new.swapper.disk)) }
+    ensures first { (named : Triples) (spaces : List Space) (m : List Sector) → MayFree (view_of filer.old).disk (view_of filer.old).slots (view_of filer.old).layout (view_of filer.old).runs named spaces id page (page + most) m
+        → OnErr result (FreedSome named id page (page + most) (view_of filer.old).disk (view_of filer.old).slots (view_of filer.new).disk (view_of filer.new).slots) }
+    ensures makes { IfOk result (λ pages. MakesFree pages (view_of filer.old).disk (view_of filer.old).slots (view_of filer.new).disk (view_of filer.new).slots) }
+    ensures stopped { OnErr result (MakesSomeFree (view_of filer.old).disk (view_of filer.old).slots (view_of filer.new).disk (view_of filer.new).slots) }
+    ensures cause { IfErr result (FreeHalts (IsUnframed (view_of filer.old).slots id) (view_of filer.old).layout (kept_by (view_of filer.old)) id (λ p. p ≡ page) (view_of filer.old).disk (view_of filer.old).slots (view_of filer.new).disk) }
     ensures keeps_to { (o : InitialState) (named : Triples) → Keeps o filer.old named → LeavesTables o id → OnOk result (Keeps o filer.new named) }
-    ensures evict { (o : InitialState) (named : Triples) → Keeps o filer.old named → LeavesTables o id → IfOk result (λ pages. AreReleased o (D.state filer.new.swapper.disk) named id (λ p. (page ≤ p) × (p < page + pages))) }
-    ensures reasons { (o : InitialState) (named : Triples) → Keeps o filer.old named → LeavesTables o id → MayLack named id page → IfErr result (ShowsReason o filer.old.swapper.layout (D.state filer.new.swapper.disk)) }
+    ensures evict { (o : InitialState) (named : Triples) → Keeps o filer.old named → LeavesTables o id → IfOk result (λ pages. AreReleased o (view_of filer.new).disk named id (λ p. (page ≤ p) × (p < page + pages))) }
+    ensures reasons { (o : InitialState) (named : Triples) → Keeps o filer.old named → LeavesTables o id → MayLack named id page → IfErr result (ShowsReason o (view_of filer.old).layout (view_of filer.new).disk) }
     ensures right { (o : InitialState) (named : Triples) (sector : ℕ) → Keeps o filer.old named → named id page sector ≡ true → IfErr result MissesNone }
-    ensures keeps { OnOk result (KeepsMap (IsUnframed filer.old.swapper.pool id) filer.old.swapper.layout id (D.state filer.old.swapper.disk) filer.old.swapper.pool (runs_of filer.old.swapper.layout.sectors filer.old.runs) (D.state filer.new.swapper.disk) filer.new.swapper.pool (runs_of filer.old.swapper.layout.sectors filer.new.runs)) }
-    ensures evidence_seen { MayBeMissing id page → IfErr result (ShowsEvidence (D.state filer.new.swapper.disk)) }
-    ensures counted { result ≡ Err halt.Disk → Rose (D.state filer.old.swapper.disk).faults (D.state filer.new.swapper.disk).faults }
-    ensures layout { filer.new.swapper.layout ≡ filer.old.swapper.layout }
-    ensures spent { IfOk result (λ pages. (D.state filer.new.swapper.disk).transfers ≤ (D.state filer.old.swapper.disk).transfers + (14 + 2 * pages + 4 * filer.old.swapper.layout.vam)) }
-    ensures cost { (D.state filer.new.swapper.disk).transfers ≤ (D.state filer.old.swapper.disk).transfers + (14 + 2 * most + 4 * filer.old.swapper.layout.vam) }
-    ensures own { RelabelsOwn id (D.state filer.old.swapper.disk) (D.state filer.new.swapper.disk) }
+    ensures keeps { OnOk result (KeepsMap (IsUnframed (view_of filer.old).slots id) (view_of filer.old).layout id (view_of filer.old).disk (view_of filer.old).slots (kept_by (view_of filer.old)) (view_of filer.new).disk (view_of filer.new).slots (runs_of (view_of filer.old).layout.sectors (view_of filer.new).runs)) }
+    ensures evidence_seen { MayBeMissing id page → IfErr result (ShowsEvidence (view_of filer.new).disk) }
+    ensures counted { result ≡ Err halt.Disk → Rose (view_of filer.old).disk.faults (view_of filer.new).disk.faults }
+    ensures layout { (view_of filer.new).layout ≡ (view_of filer.old).layout }
+    ensures spent { IfOk result (λ pages. (view_of filer.new).disk.transfers ≤ (view_of filer.old).disk.transfers + (14 + 2 * pages + 4 * (view_of filer.old).layout.vam)) }
+    ensures cost { (view_of filer.new).disk.transfers ≤ (view_of filer.old).disk.transfers + (14 + 2 * most + 4 * (view_of filer.old).layout.vam) }
+    ensures own { RelabelsOwn id (view_of filer.old).disk (view_of filer.new).disk }
 {
     let run = match part_of(filer, id, page, most) {
         Ok(run) => run,
@@ -157,28 +158,28 @@ pub(crate) fn free_up<D: Disk, A: Allocator>(
     from: u32,
     end: u32,
 ) -> Result<(), Halt>
-    requires size { (D.state filer.old.swapper.disk).sectors ≡ filer.old.swapper.layout.sectors }
+    requires size { FitsLayout (view_of filer.old) }
     requires of_file { (id ≡ 3) ⊎ (16 ≤ id) }
     requires order { from ≤ end }
-    ensures freed { (named : Triples) (spaces : List Space) (m : List Sector) → MayFree (D.state filer.old.swapper.disk) filer.old.swapper.pool filer.old.swapper.layout filer.old.runs named spaces id from end m
-        → OnOk result (Freed filer.old.swapper.layout named spaces id from (end - from) end (D.state filer.old.swapper.disk) filer.old.swapper.pool (D.state filer.new.swapper.disk) filer.new.swapper.pool filer.new.runs) }
-    ensures sound { (named : Triples) (spaces : List Space) (m : List Sector) → MayFree (D.state filer.old.swapper.disk) filer.old.swapper.pool filer.old.swapper.layout filer.old.runs named spaces id from end m
+    ensures freed { (named : Triples) (spaces : List Space) (m : List Sector) → MayFree (view_of filer.old).disk (view_of filer.old).slots (view_of filer.old).layout (view_of filer.old).runs named spaces id from end m
+        → OnOk result (Freed (view_of filer.old).layout named spaces id from (end - from) end (view_of filer.old).disk (view_of filer.old).slots (view_of filer.new).disk (view_of filer.new).slots (view_of filer.new).runs) }
+    ensures sound { (named : Triples) (spaces : List Space) (m : List Sector) → MayFree (view_of filer.old).disk (view_of filer.old).slots (view_of filer.old).layout (view_of filer.old).runs named spaces id from end m
         → IfErr result (λ e. e ≡ halt.Disk) }
-    ensures first { (named : Triples) (spaces : List Space) (m : List Sector) → MayFree (D.state filer.old.swapper.disk) filer.old.swapper.pool filer.old.swapper.layout filer.old.runs named spaces id from end m
-        → OnErr result (FreedSome named id from end (D.state filer.old.swapper.disk) filer.old.swapper.pool (D.state filer.new.swapper.disk) filer.new.swapper.pool) }
-    ensures makes { OnOk result (MakesFree (end - from) (D.state filer.old.swapper.disk) filer.old.swapper.pool (D.state filer.new.swapper.disk) filer.new.swapper.pool) }
-    ensures stopped { OnErr result (MakesSomeFree (D.state filer.old.swapper.disk) filer.old.swapper.pool (D.state filer.new.swapper.disk) filer.new.swapper.pool) }
-    ensures cause { IfErr result (FreeHalts (IsUnframed filer.old.swapper.pool id) filer.old.swapper.layout (runs_of filer.old.swapper.layout.sectors filer.old.runs) id (λ p. (from ≤ p) × (p < end)) (D.state filer.old.swapper.disk) filer.old.swapper.pool (D.state filer.new.swapper.disk)) }
+    ensures first { (named : Triples) (spaces : List Space) (m : List Sector) → MayFree (view_of filer.old).disk (view_of filer.old).slots (view_of filer.old).layout (view_of filer.old).runs named spaces id from end m
+        → OnErr result (FreedSome named id from end (view_of filer.old).disk (view_of filer.old).slots (view_of filer.new).disk (view_of filer.new).slots) }
+    ensures makes { OnOk result (MakesFree (end - from) (view_of filer.old).disk (view_of filer.old).slots (view_of filer.new).disk (view_of filer.new).slots) }
+    ensures stopped { OnErr result (MakesSomeFree (view_of filer.old).disk (view_of filer.old).slots (view_of filer.new).disk (view_of filer.new).slots) }
+    ensures cause { IfErr result (FreeHalts (IsUnframed (view_of filer.old).slots id) (view_of filer.old).layout (kept_by (view_of filer.old)) id (λ p. (from ≤ p) × (p < end)) (view_of filer.old).disk (view_of filer.old).slots (view_of filer.new).disk) }
     ensures keeps_to { (o : InitialState) (named : Triples) → Keeps o filer.old named → LeavesTables o id → OnOk result (Keeps o filer.new named) }
-    ensures evict { (o : InitialState) (named : Triples) → Keeps o filer.old named → LeavesTables o id → OnOk result (AreReleased o (D.state filer.new.swapper.disk) named id (λ p. (from ≤ p) × (p < end))) }
-    ensures reasons { (o : InitialState) (named : Triples) → Keeps o filer.old named → LeavesTables o id → ((page : ℕ) → page < end → MayLack named id page) → IfErr result (ShowsReason o filer.old.swapper.layout (D.state filer.new.swapper.disk)) }
+    ensures evict { (o : InitialState) (named : Triples) → Keeps o filer.old named → LeavesTables o id → OnOk result (AreReleased o (view_of filer.new).disk named id (λ p. (from ≤ p) × (p < end))) }
+    ensures reasons { (o : InitialState) (named : Triples) → Keeps o filer.old named → LeavesTables o id → ((page : ℕ) → page < end → MayLack named id page) → IfErr result (ShowsReason o (view_of filer.old).layout (view_of filer.new).disk) }
     ensures right { (o : InitialState) (named : Triples) → Keeps o filer.old named → LeavesTables o id → ((page : ℕ) → page < end → (sector : ℕ) × (named id page sector ≡ true)) → IfErr result MissesNone }
-    ensures keeps { OnOk result (KeepsMap (IsUnframed filer.old.swapper.pool id) filer.old.swapper.layout id (D.state filer.old.swapper.disk) filer.old.swapper.pool (runs_of filer.old.swapper.layout.sectors filer.old.runs) (D.state filer.new.swapper.disk) filer.new.swapper.pool (runs_of filer.old.swapper.layout.sectors filer.new.runs)) }
-    ensures evidence_seen { ((page : ℕ) → page < end → MayBeMissing id page) → IfErr result (ShowsEvidence (D.state filer.new.swapper.disk)) }
-    ensures counted { result ≡ Err halt.Disk → Rose (D.state filer.old.swapper.disk).faults (D.state filer.new.swapper.disk).faults }
-    ensures layout { filer.new.swapper.layout ≡ filer.old.swapper.layout }
-    ensures cost { (D.state filer.new.swapper.disk).transfers ≤ (D.state filer.old.swapper.disk).transfers + (end - from) * (16 + 4 * filer.old.swapper.layout.vam) }
-    ensures own { RelabelsOwn id (D.state filer.old.swapper.disk) (D.state filer.new.swapper.disk) }
+    ensures keeps { OnOk result (KeepsMap (IsUnframed (view_of filer.old).slots id) (view_of filer.old).layout id (view_of filer.old).disk (view_of filer.old).slots (kept_by (view_of filer.old)) (view_of filer.new).disk (view_of filer.new).slots (runs_of (view_of filer.old).layout.sectors (view_of filer.new).runs)) }
+    ensures evidence_seen { ((page : ℕ) → page < end → MayBeMissing id page) → IfErr result (ShowsEvidence (view_of filer.new).disk) }
+    ensures counted { result ≡ Err halt.Disk → Rose (view_of filer.old).disk.faults (view_of filer.new).disk.faults }
+    ensures layout { (view_of filer.new).layout ≡ (view_of filer.old).layout }
+    ensures cost { (view_of filer.new).disk.transfers ≤ (view_of filer.old).disk.transfers + (end - from) * (16 + 4 * (view_of filer.old).layout.vam) }
+    ensures own { RelabelsOwn id (view_of filer.old).disk (view_of filer.new).disk }
 {
     let mut page = from;
     while page < end {

@@ -24,6 +24,7 @@ ghost use Rattle.filer_kernel.specs.Evidence.{MayBeMissing, ShowsEvidence};
 ghost use Rattle.file_manager.specs.Freeing.{MayFree, NamesAll, MakesFree, MakesSomeFree};
 ghost use Rattle.file_manager.specs.Shrinking.{IsLastPart, FreedDown, StoppedDown, run_down};
 ghost use Rattle.file_manager.specs.Reasons.{AreReleased, Keeps, MayLack, InitialState, ShowsReason};
+ghost use Rattle.filer_kernel.specs.View.{FitsLayout, HasMemory, kept_by, view_of};
 
 use crate::forgetting::discard_run;
 use file_map::Run;
@@ -39,25 +40,25 @@ fn last_part<D: Disk, A: Allocator>(
     from: u32,
     end: u32,
 ) -> Result<Run, Halt>
-    requires size { (D.state filer.old.swapper.disk).sectors ≡ filer.old.swapper.layout.sectors }
+    requires size { FitsLayout (view_of filer.old) }
     requires some { from < end }
-    ensures form { IfOk result (IsLastPart filer.old.swapper.layout.sectors id from end) }
-    ensures named { (m : List Sector) (named : Triples) → Stands (D.state filer.old.swapper.disk) filer.old.swapper.pool m → MapIs filer.old.swapper.layout named m → AreOf named (runs_of filer.old.swapper.layout.sectors filer.old.runs)
+    ensures form { IfOk result (IsLastPart (view_of filer.old).layout.sectors id from end) }
+    ensures named { (m : List Sector) (named : Triples) → HasMemory (view_of filer.old) m → MapIs (view_of filer.old).layout named m → AreOf named (kept_by (view_of filer.old))
         → IfOk result (NamesAll named) }
-    ensures kept { (m : List Sector) (named : Triples) → Stands (D.state filer.old.swapper.disk) filer.old.swapper.pool m → MapIs filer.old.swapper.layout named m → AreOf named (runs_of filer.old.swapper.layout.sectors filer.old.runs)
-        → AreOf named (runs_of filer.old.swapper.layout.sectors filer.new.runs) }
-    ensures sound { (m : List Sector) (named : Triples) (sector : ℕ) → Stands (D.state filer.old.swapper.disk) filer.old.swapper.pool m → MapIs filer.old.swapper.layout named m → AreNamed m (IsMapHome FileMapPages filer.old.swapper.layout)
+    ensures kept { (m : List Sector) (named : Triples) → HasMemory (view_of filer.old) m → MapIs (view_of filer.old).layout named m → AreOf named (kept_by (view_of filer.old))
+        → AreOf named (runs_of (view_of filer.old).layout.sectors (view_of filer.new).runs) }
+    ensures sound { (m : List Sector) (named : Triples) (sector : ℕ) → HasMemory (view_of filer.old) m → MapIs (view_of filer.old).layout named m → AreNamed m (IsMapHome FileMapPages (view_of filer.old).layout)
         → named id (end - 1) sector ≡ true → IfErr result (λ e. e ≡ halt.Disk) }
-    ensures cause { IfErr result (FreeHalts (IsUnframed filer.old.swapper.pool id) filer.old.swapper.layout (runs_of filer.old.swapper.layout.sectors filer.old.runs) id (λ p. p ≡ end - 1) (D.state filer.old.swapper.disk) filer.old.swapper.pool (D.state filer.new.swapper.disk)) }
+    ensures cause { IfErr result (FreeHalts (IsUnframed (view_of filer.old).slots id) (view_of filer.old).layout (kept_by (view_of filer.old)) id (λ p. p ≡ end - 1) (view_of filer.old).disk (view_of filer.old).slots (view_of filer.new).disk) }
     ensures keeps_to { (o : InitialState) (named : Triples) → Keeps o filer.old named → OnOk result (Keeps o filer.new named) }
-    ensures reasons { (o : InitialState) (named : Triples) → Keeps o filer.old named → MayLack named id (end - 1) → IfErr result (ShowsReason o filer.old.swapper.layout (D.state filer.new.swapper.disk)) }
-    ensures homes { IfOk result (λ run. (k : ℕ) → k < run.pages → IsRunHome filer.old.swapper.layout (D.state filer.old.swapper.disk) filer.old.swapper.pool (runs_of filer.old.swapper.layout.sectors filer.old.runs) (home_at (run.sector + k) (record { id = id; page = run.first + k }))) }
-    ensures keeps { (id ≡ 3) ⊎ (16 ≤ id) → KeepsMap (IsUnframed filer.old.swapper.pool id) filer.old.swapper.layout id (D.state filer.old.swapper.disk) filer.old.swapper.pool (runs_of filer.old.swapper.layout.sectors filer.old.runs) (D.state filer.new.swapper.disk) filer.new.swapper.pool (runs_of filer.old.swapper.layout.sectors filer.new.runs) }
-    ensures evidence_seen { MayBeMissing id (end - 1) → IfErr result (ShowsEvidence (D.state filer.new.swapper.disk)) }
-    ensures counted { IfErr result (λ e. e ≡ halt.Disk → Rose (D.state filer.old.swapper.disk).faults (D.state filer.new.swapper.disk).faults) }
-    ensures same { (m : List Sector) (named : Triples) → Stands (D.state filer.old.swapper.disk) filer.old.swapper.pool m → MapIs filer.old.swapper.layout named m → Stands (D.state filer.new.swapper.disk) filer.new.swapper.pool m }
-    ensures beside { Beside FileMapPages (D.state filer.old.swapper.disk) filer.old.swapper.pool filer.old.swapper.layout (D.state filer.new.swapper.disk) filer.new.swapper.pool filer.new.swapper.layout }
-    ensures cost { (D.state filer.new.swapper.disk).transfers ≤ (D.state filer.old.swapper.disk).transfers + 14 }
+    ensures reasons { (o : InitialState) (named : Triples) → Keeps o filer.old named → MayLack named id (end - 1) → IfErr result (ShowsReason o (view_of filer.old).layout (view_of filer.new).disk) }
+    ensures homes { IfOk result (λ run. (k : ℕ) → k < run.pages → IsRunHome (view_of filer.old).layout (view_of filer.old).disk (view_of filer.old).slots (kept_by (view_of filer.old)) (home_at (run.sector + k) (record { id = id; page = run.first + k }))) }
+    ensures keeps { (id ≡ 3) ⊎ (16 ≤ id) → KeepsMap (IsUnframed (view_of filer.old).slots id) (view_of filer.old).layout id (view_of filer.old).disk (view_of filer.old).slots (kept_by (view_of filer.old)) (view_of filer.new).disk (view_of filer.new).slots (runs_of (view_of filer.old).layout.sectors (view_of filer.new).runs) }
+    ensures evidence_seen { MayBeMissing id (end - 1) → IfErr result (ShowsEvidence (view_of filer.new).disk) }
+    ensures counted { IfErr result (λ e. e ≡ halt.Disk → Rose (view_of filer.old).disk.faults (view_of filer.new).disk.faults) }
+    ensures same { (m : List Sector) (named : Triples) → HasMemory (view_of filer.old) m → MapIs (view_of filer.old).layout named m → HasMemory (view_of filer.new) m }
+    ensures beside { Beside FileMapPages (view_of filer.old).disk (view_of filer.old).slots (view_of filer.old).layout (view_of filer.new).disk (view_of filer.new).slots (view_of filer.new).layout }
+    ensures cost { (view_of filer.new).disk.transfers ≤ (view_of filer.old).disk.transfers + 14 }
 {
     match filer.find(id, end - 1) {
         Ok(Some(run)) => {
@@ -76,22 +77,22 @@ fn last_part<D: Disk, A: Allocator>(
 
 // Frees the labels of the sectors of a run, the last page first.
 fn free_labels_down<D: Disk, A: Allocator>(filer: &mut Filer<D, A>, run: Run) -> Result<(), Halt>
-    requires size { (D.state filer.old.swapper.disk).sectors ≡ filer.old.swapper.layout.sectors }
-    requires data { filer.old.swapper.layout.first ≤ run.sector }
-    requires form { IsRun filer.old.swapper.layout.sectors run }
-    ensures freed { OnOk result (RelabelsRun run.sector run.pages (freeing (run_down run)) (D.state filer.old.swapper.disk) filer.old.swapper.pool (D.state filer.new.swapper.disk)) }
-    ensures stopped { OnErr result (MadeSome (freeing (run_down run)) (D.state filer.old.swapper.disk) filer.old.swapper.pool (D.state filer.new.swapper.disk)) }
-    ensures sound { (m : List Sector) → Stands (D.state filer.old.swapper.disk) filer.old.swapper.pool m → AreUncovered filer.old.swapper.pool run.sector run.pages
+    requires size { FitsLayout (view_of filer.old) }
+    requires data { (view_of filer.old).layout.first ≤ run.sector }
+    requires form { IsRun (view_of filer.old).layout.sectors run }
+    ensures freed { OnOk result (RelabelsRun run.sector run.pages (freeing (run_down run)) (view_of filer.old).disk (view_of filer.old).slots (view_of filer.new).disk) }
+    ensures stopped { OnErr result (MadeSome (freeing (run_down run)) (view_of filer.old).disk (view_of filer.old).slots (view_of filer.new).disk) }
+    ensures sound { (m : List Sector) → HasMemory (view_of filer.old) m → AreUncovered (view_of filer.old).slots run.sector run.pages
         → HaveOnes (λ k. ones_of (record { id = run.id; page = run.first + k })) m run.sector run.pages → IfErr result (λ e. e ≡ halt.Disk) }
-    ensures cause { IfErr result (HasCause (IsOneNotOf run.sector run.pages (λ k. record { id = run.id; page = run.first + k }) (D.state filer.old.swapper.disk)) (D.state filer.old.swapper.disk) (D.state filer.new.swapper.disk)) }
-    ensures were { OnOk result ((d : List Sector) → (D.state filer.old.swapper.disk).contents ≡ Some d → HaveOnes (λ k. ones_of (record { id = run.id; page = run.first + k })) d run.sector run.pages) }
-    ensures evidence_seen { IfErr result (ShowsEvidence (D.state filer.new.swapper.disk)) }
-    ensures counted { IfErr result (λ e. e ≡ halt.Disk → Rose (D.state filer.old.swapper.disk).faults (D.state filer.new.swapper.disk).faults) }
-    ensures frames { filer.new.swapper.pool ≡ filer.old.swapper.pool }
-    ensures layout { filer.new.swapper.layout ≡ filer.old.swapper.layout }
-    ensures runs { filer.new.runs ≡ filer.old.runs }
-    ensures cost { (D.state filer.new.swapper.disk).transfers ≤ (D.state filer.old.swapper.disk).transfers + 2 * run.pages }
-    ensures own { RelabelsOwn run.id (D.state filer.old.swapper.disk) (D.state filer.new.swapper.disk) }
+    ensures cause { IfErr result (HasCause (IsOneNotOf run.sector run.pages (λ k. record { id = run.id; page = run.first + k }) (view_of filer.old).disk) (view_of filer.old).disk (view_of filer.new).disk) }
+    ensures were { OnOk result ((d : List Sector) → (view_of filer.old).disk.contents ≡ Some d → HaveOnes (λ k. ones_of (record { id = run.id; page = run.first + k })) d run.sector run.pages) }
+    ensures evidence_seen { IfErr result (ShowsEvidence (view_of filer.new).disk) }
+    ensures counted { IfErr result (λ e. e ≡ halt.Disk → Rose (view_of filer.old).disk.faults (view_of filer.new).disk.faults) }
+    ensures frames { (view_of filer.new).slots ≡ (view_of filer.old).slots }
+    ensures layout { (view_of filer.new).layout ≡ (view_of filer.old).layout }
+    ensures runs { (view_of filer.new).runs ≡ (view_of filer.old).runs }
+    ensures cost { (view_of filer.new).disk.transfers ≤ (view_of filer.old).disk.transfers + 2 * run.pages }
+    ensures own { RelabelsOwn run.id (view_of filer.old).disk (view_of filer.new).disk }
 {
     let swapper = filer.swapper_over();
     match free_pages_down(swapper, run.sector, run.pages, run.id, run.first) {
@@ -108,29 +109,29 @@ fn free_last<D: Disk, A: Allocator>(
     from: u32,
     end: u32,
 ) -> Result<u32, Halt>
-    requires size { (D.state filer.old.swapper.disk).sectors ≡ filer.old.swapper.layout.sectors }
+    requires size { FitsLayout (view_of filer.old) }
     requires of_file { 16 ≤ id }
     requires some { from < end }
-    ensures freed { (named : Triples) (spaces : List Space) (m : List Sector) → MayFree (D.state filer.old.swapper.disk) filer.old.swapper.pool filer.old.swapper.layout filer.old.runs named spaces id from end m
-        → IfOk result (λ pages. FreedDown filer.old.swapper.layout named spaces id from pages end (D.state filer.old.swapper.disk) filer.old.swapper.pool (D.state filer.new.swapper.disk) filer.new.swapper.pool filer.new.runs) }
+    ensures freed { (named : Triples) (spaces : List Space) (m : List Sector) → MayFree (view_of filer.old).disk (view_of filer.old).slots (view_of filer.old).layout (view_of filer.old).runs named spaces id from end m
+        → IfOk result (λ pages. FreedDown (view_of filer.old).layout named spaces id from pages end (view_of filer.old).disk (view_of filer.old).slots (view_of filer.new).disk (view_of filer.new).slots (view_of filer.new).runs) }
     ensures some { IfOk result (λ pages. (1 ≤ pages) × (pages ≤ end - from)) }
-    ensures sound { (named : Triples) (spaces : List Space) (m : List Sector) → MayFree (D.state filer.old.swapper.disk) filer.old.swapper.pool filer.old.swapper.layout filer.old.runs named spaces id from end m
+    ensures sound { (named : Triples) (spaces : List Space) (m : List Sector) → MayFree (view_of filer.old).disk (view_of filer.old).slots (view_of filer.old).layout (view_of filer.old).runs named spaces id from end m
         → IfErr result (λ e. e ≡ halt.Disk) }
-    ensures cause { IfErr result (FreeHalts (IsUnframed filer.old.swapper.pool id) filer.old.swapper.layout (runs_of filer.old.swapper.layout.sectors filer.old.runs) id (λ p. p ≡ end - 1) (D.state filer.old.swapper.disk) filer.old.swapper.pool (D.state filer.new.swapper.disk)) }
+    ensures cause { IfErr result (FreeHalts (IsUnframed (view_of filer.old).slots id) (view_of filer.old).layout (kept_by (view_of filer.old)) id (λ p. p ≡ end - 1) (view_of filer.old).disk (view_of filer.old).slots (view_of filer.new).disk) }
     ensures keeps_to { (o : InitialState) (named : Triples) → Keeps o filer.old named → OnOk result (Keeps o filer.new named) }
-    ensures evict { (o : InitialState) (named : Triples) → Keeps o filer.old named → IfOk result (λ pages. AreReleased o (D.state filer.new.swapper.disk) named id (λ p. (end - pages ≤ p) × (p < end))) }
-    ensures reasons { (o : InitialState) (named : Triples) → Keeps o filer.old named → IfErr result (ShowsReason o filer.old.swapper.layout (D.state filer.new.swapper.disk)) }
-    ensures keeps { OnOk result (KeepsMap (IsUnframed filer.old.swapper.pool id) filer.old.swapper.layout id (D.state filer.old.swapper.disk) filer.old.swapper.pool (runs_of filer.old.swapper.layout.sectors filer.old.runs) (D.state filer.new.swapper.disk) filer.new.swapper.pool (runs_of filer.old.swapper.layout.sectors filer.new.runs)) }
-    ensures evidence_seen { IfErr result (ShowsEvidence (D.state filer.new.swapper.disk)) }
-    ensures counted { IfErr result (λ e. e ≡ halt.Disk → Rose (D.state filer.old.swapper.disk).faults (D.state filer.new.swapper.disk).faults) }
-    ensures broken { (named : Triples) (spaces : List Space) (m : List Sector) → MayFree (D.state filer.old.swapper.disk) filer.old.swapper.pool filer.old.swapper.layout filer.old.runs named spaces id from end m
-        → OnErr result (StoppedDown named id (end - from) end (D.state filer.old.swapper.disk) filer.old.swapper.pool (D.state filer.new.swapper.disk) filer.new.swapper.pool) }
-    ensures makes { IfOk result (λ pages. MakesFree pages (D.state filer.old.swapper.disk) filer.old.swapper.pool (D.state filer.new.swapper.disk) filer.new.swapper.pool) }
-    ensures stopped { OnErr result (MakesSomeFree (D.state filer.old.swapper.disk) filer.old.swapper.pool (D.state filer.new.swapper.disk) filer.new.swapper.pool) }
-    ensures layout { filer.new.swapper.layout ≡ filer.old.swapper.layout }
-    ensures spent { IfOk result (λ pages. (D.state filer.new.swapper.disk).transfers ≤ (D.state filer.old.swapper.disk).transfers + (14 + 2 * pages + 4 * filer.old.swapper.layout.vam)) }
-    ensures cost { (D.state filer.new.swapper.disk).transfers ≤ (D.state filer.old.swapper.disk).transfers + (14 + 2 * (end - from) + 4 * filer.old.swapper.layout.vam) }
-    ensures own { RelabelsOwn id (D.state filer.old.swapper.disk) (D.state filer.new.swapper.disk) }
+    ensures evict { (o : InitialState) (named : Triples) → Keeps o filer.old named → IfOk result (λ pages. AreReleased o (view_of filer.new).disk named id (λ p. (end - pages ≤ p) × (p < end))) }
+    ensures reasons { (o : InitialState) (named : Triples) → Keeps o filer.old named → IfErr result (ShowsReason o (view_of filer.old).layout (view_of filer.new).disk) }
+    ensures keeps { OnOk result (KeepsMap (IsUnframed (view_of filer.old).slots id) (view_of filer.old).layout id (view_of filer.old).disk (view_of filer.old).slots (kept_by (view_of filer.old)) (view_of filer.new).disk (view_of filer.new).slots (runs_of (view_of filer.old).layout.sectors (view_of filer.new).runs)) }
+    ensures evidence_seen { IfErr result (ShowsEvidence (view_of filer.new).disk) }
+    ensures counted { IfErr result (λ e. e ≡ halt.Disk → Rose (view_of filer.old).disk.faults (view_of filer.new).disk.faults) }
+    ensures broken { (named : Triples) (spaces : List Space) (m : List Sector) → MayFree (view_of filer.old).disk (view_of filer.old).slots (view_of filer.old).layout (view_of filer.old).runs named spaces id from end m
+        → OnErr result (StoppedDown named id (end - from) end (view_of filer.old).disk (view_of filer.old).slots (view_of filer.new).disk (view_of filer.new).slots) }
+    ensures makes { IfOk result (λ pages. MakesFree pages (view_of filer.old).disk (view_of filer.old).slots (view_of filer.new).disk (view_of filer.new).slots) }
+    ensures stopped { OnErr result (MakesSomeFree (view_of filer.old).disk (view_of filer.old).slots (view_of filer.new).disk (view_of filer.new).slots) }
+    ensures layout { (view_of filer.new).layout ≡ (view_of filer.old).layout }
+    ensures spent { IfOk result (λ pages. (view_of filer.new).disk.transfers ≤ (view_of filer.old).disk.transfers + (14 + 2 * pages + 4 * (view_of filer.old).layout.vam)) }
+    ensures cost { (view_of filer.new).disk.transfers ≤ (view_of filer.old).disk.transfers + (14 + 2 * (end - from) + 4 * (view_of filer.old).layout.vam) }
+    ensures own { RelabelsOwn id (view_of filer.old).disk (view_of filer.new).disk }
 {
     let run = match last_part(filer, id, from, end) {
         Ok(run) => run,
@@ -155,27 +156,27 @@ pub(crate) fn free_down<D: Disk, A: Allocator>(
     from: u32,
     end: u32,
 ) -> Result<(), Halt>
-    requires size { (D.state filer.old.swapper.disk).sectors ≡ filer.old.swapper.layout.sectors }
+    requires size { FitsLayout (view_of filer.old) }
     requires of_file { 16 ≤ id }
     requires order { from ≤ end }
-    ensures freed { (named : Triples) (spaces : List Space) (m : List Sector) → MayFree (D.state filer.old.swapper.disk) filer.old.swapper.pool filer.old.swapper.layout filer.old.runs named spaces id from end m
-        → OnOk result (FreedDown filer.old.swapper.layout named spaces id from (end - from) end (D.state filer.old.swapper.disk) filer.old.swapper.pool (D.state filer.new.swapper.disk) filer.new.swapper.pool filer.new.runs) }
-    ensures sound { (named : Triples) (spaces : List Space) (m : List Sector) → MayFree (D.state filer.old.swapper.disk) filer.old.swapper.pool filer.old.swapper.layout filer.old.runs named spaces id from end m
+    ensures freed { (named : Triples) (spaces : List Space) (m : List Sector) → MayFree (view_of filer.old).disk (view_of filer.old).slots (view_of filer.old).layout (view_of filer.old).runs named spaces id from end m
+        → OnOk result (FreedDown (view_of filer.old).layout named spaces id from (end - from) end (view_of filer.old).disk (view_of filer.old).slots (view_of filer.new).disk (view_of filer.new).slots (view_of filer.new).runs) }
+    ensures sound { (named : Triples) (spaces : List Space) (m : List Sector) → MayFree (view_of filer.old).disk (view_of filer.old).slots (view_of filer.old).layout (view_of filer.old).runs named spaces id from end m
         → IfErr result (λ e. e ≡ halt.Disk) }
-    ensures cause { IfErr result (FreeHalts (IsUnframed filer.old.swapper.pool id) filer.old.swapper.layout (runs_of filer.old.swapper.layout.sectors filer.old.runs) id (λ p. (from ≤ p) × (p < end)) (D.state filer.old.swapper.disk) filer.old.swapper.pool (D.state filer.new.swapper.disk)) }
+    ensures cause { IfErr result (FreeHalts (IsUnframed (view_of filer.old).slots id) (view_of filer.old).layout (kept_by (view_of filer.old)) id (λ p. (from ≤ p) × (p < end)) (view_of filer.old).disk (view_of filer.old).slots (view_of filer.new).disk) }
     ensures keeps_to { (o : InitialState) (named : Triples) → Keeps o filer.old named → OnOk result (Keeps o filer.new named) }
-    ensures evict { (o : InitialState) (named : Triples) → Keeps o filer.old named → OnOk result (AreReleased o (D.state filer.new.swapper.disk) named id (λ p. (from ≤ p) × (p < end))) }
-    ensures reasons { (o : InitialState) (named : Triples) → Keeps o filer.old named → IfErr result (ShowsReason o filer.old.swapper.layout (D.state filer.new.swapper.disk)) }
-    ensures keeps { OnOk result (KeepsMap (IsUnframed filer.old.swapper.pool id) filer.old.swapper.layout id (D.state filer.old.swapper.disk) filer.old.swapper.pool (runs_of filer.old.swapper.layout.sectors filer.old.runs) (D.state filer.new.swapper.disk) filer.new.swapper.pool (runs_of filer.old.swapper.layout.sectors filer.new.runs)) }
-    ensures evidence_seen { IfErr result (ShowsEvidence (D.state filer.new.swapper.disk)) }
-    ensures counted { IfErr result (λ e. e ≡ halt.Disk → Rose (D.state filer.old.swapper.disk).faults (D.state filer.new.swapper.disk).faults) }
-    ensures broken { (named : Triples) (spaces : List Space) (m : List Sector) → MayFree (D.state filer.old.swapper.disk) filer.old.swapper.pool filer.old.swapper.layout filer.old.runs named spaces id from end m
-        → OnErr result (StoppedDown named id (end - from) end (D.state filer.old.swapper.disk) filer.old.swapper.pool (D.state filer.new.swapper.disk) filer.new.swapper.pool) }
-    ensures makes { OnOk result (MakesFree (end - from) (D.state filer.old.swapper.disk) filer.old.swapper.pool (D.state filer.new.swapper.disk) filer.new.swapper.pool) }
-    ensures stopped { OnErr result (MakesSomeFree (D.state filer.old.swapper.disk) filer.old.swapper.pool (D.state filer.new.swapper.disk) filer.new.swapper.pool) }
-    ensures layout { filer.new.swapper.layout ≡ filer.old.swapper.layout }
-    ensures cost { (D.state filer.new.swapper.disk).transfers ≤ (D.state filer.old.swapper.disk).transfers + (end - from) * (16 + 4 * filer.old.swapper.layout.vam) }
-    ensures own { RelabelsOwn id (D.state filer.old.swapper.disk) (D.state filer.new.swapper.disk) }
+    ensures evict { (o : InitialState) (named : Triples) → Keeps o filer.old named → OnOk result (AreReleased o (view_of filer.new).disk named id (λ p. (from ≤ p) × (p < end))) }
+    ensures reasons { (o : InitialState) (named : Triples) → Keeps o filer.old named → IfErr result (ShowsReason o (view_of filer.old).layout (view_of filer.new).disk) }
+    ensures keeps { OnOk result (KeepsMap (IsUnframed (view_of filer.old).slots id) (view_of filer.old).layout id (view_of filer.old).disk (view_of filer.old).slots (kept_by (view_of filer.old)) (view_of filer.new).disk (view_of filer.new).slots (runs_of (view_of filer.old).layout.sectors (view_of filer.new).runs)) }
+    ensures evidence_seen { IfErr result (ShowsEvidence (view_of filer.new).disk) }
+    ensures counted { IfErr result (λ e. e ≡ halt.Disk → Rose (view_of filer.old).disk.faults (view_of filer.new).disk.faults) }
+    ensures broken { (named : Triples) (spaces : List Space) (m : List Sector) → MayFree (view_of filer.old).disk (view_of filer.old).slots (view_of filer.old).layout (view_of filer.old).runs named spaces id from end m
+        → OnErr result (StoppedDown named id (end - from) end (view_of filer.old).disk (view_of filer.old).slots (view_of filer.new).disk (view_of filer.new).slots) }
+    ensures makes { OnOk result (MakesFree (end - from) (view_of filer.old).disk (view_of filer.old).slots (view_of filer.new).disk (view_of filer.new).slots) }
+    ensures stopped { OnErr result (MakesSomeFree (view_of filer.old).disk (view_of filer.old).slots (view_of filer.new).disk (view_of filer.new).slots) }
+    ensures layout { (view_of filer.new).layout ≡ (view_of filer.old).layout }
+    ensures cost { (view_of filer.new).disk.transfers ≤ (view_of filer.old).disk.transfers + (end - from) * (16 + 4 * (view_of filer.old).layout.vam) }
+    ensures own { RelabelsOwn id (view_of filer.old).disk (view_of filer.new).disk }
 {
     let mut page = end;
     while from < page {

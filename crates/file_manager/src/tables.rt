@@ -21,6 +21,7 @@ ghost use Rattle.file_manager.specs.Tables.{MayBegin, BegunBy, EndedBy, EndedSom
 ghost use Rattle.file_manager.specs.Roots.{RootStays};
 ghost use Rattle.file_manager.specs.Reasons.{Keeps, KeepsBare, KeepsOn, KeepsRevealed, MissesNone, NamesTables, InitialState, ShowsReason, telling};
 ghost use Rattle.file_manager.specs.Taking.{NamesNoneOf};
+ghost use Rattle.filer_kernel.specs.View.{disk_of, FitsLayout, GoesTo, HasMemory, kept_by, view_of};
 
 use crate::growth::{frames_of, make_run};
 use crate::release::free_up;
@@ -31,23 +32,23 @@ use std::alloc::Allocator;
 
 // Makes these pages in the lowest free data sectors, where the file map names none of them.
 fn make_pages<D: Disk, A: Allocator>(filer: &mut Filer<D, A>) -> Result<(), Halt>
-    requires size { (D.state filer.old.swapper.disk).sectors ≡ filer.old.swapper.layout.sectors }
-    ensures made { (x : List Sector) (shapes : Shapes) (spaces : List Space) → MayBegin (D.state filer.old.swapper.disk) filer.old.swapper.pool filer.old.swapper.layout filer.old.runs shapes spaces x
-        → OnOk result (BegunBy (D.state filer.old.swapper.disk) filer.old.swapper.pool filer.old.swapper.layout (D.state filer.new.swapper.disk) filer.new.swapper.pool filer.new.runs) }
-    ensures sound { (x : List Sector) (shapes : Shapes) (spaces : List Space) → MayBegin (D.state filer.old.swapper.disk) filer.old.swapper.pool filer.old.swapper.layout filer.old.runs shapes spaces x
+    requires size { FitsLayout (view_of filer.old) }
+    ensures made { (x : List Sector) (shapes : Shapes) (spaces : List Space) → MayBegin (view_of filer.old).disk (view_of filer.old).slots (view_of filer.old).layout (view_of filer.old).runs shapes spaces x
+        → OnOk result (BegunBy (view_of filer.old).disk (view_of filer.old).slots (view_of filer.old).layout (view_of filer.new).disk (view_of filer.new).slots (view_of filer.new).runs) }
+    ensures sound { (x : List Sector) (shapes : Shapes) (spaces : List Space) → MayBegin (view_of filer.old).disk (view_of filer.old).slots (view_of filer.old).layout (view_of filer.old).runs shapes spaces x
         → IfErr result (λ e. e ≡ halt.Disk) }
-    ensures makes { OnOk result (MakesAll 3 0 0 96 (D.state filer.old.swapper.disk) filer.old.swapper.pool (D.state filer.new.swapper.disk) filer.new.swapper.pool) }
-    ensures stopped { OnErr result (MakesSome 3 0 0 96 (D.state filer.old.swapper.disk) filer.old.swapper.pool (D.state filer.new.swapper.disk) filer.new.swapper.pool) }
-    ensures cause { IfErr result (MakeHalts filer.old.swapper.layout 3 (λ p. p < 96) (λ p. p < 96) (D.state filer.old.swapper.disk) filer.old.swapper.pool (D.state filer.new.swapper.disk) filer.new.swapper.pool) }
+    ensures makes { OnOk result (MakesAll 3 0 0 96 (view_of filer.old).disk (view_of filer.old).slots (view_of filer.new).disk (view_of filer.new).slots) }
+    ensures stopped { OnErr result (MakesSome 3 0 0 96 (view_of filer.old).disk (view_of filer.old).slots (view_of filer.new).disk (view_of filer.new).slots) }
+    ensures cause { IfErr result (MakeHalts (view_of filer.old).layout 3 (λ p. p < 96) (λ p. p < 96) (view_of filer.old).disk (view_of filer.old).slots (view_of filer.new).disk (view_of filer.new).slots) }
     ensures keeps_to { (o : InitialState) (named : Triples) → Keeps o filer.old named → o.tables ≡ None → NamesNoneOf 3 (λ p. p < 96) named → OnOk result (KeepsOn o filer.new) }
-    ensures reasons { (o : InitialState) (named : Triples) → Keeps o filer.old named → o.tables ≡ None → NamesNoneOf 3 (λ p. p < 96) named → IfErr result (ShowsReason o filer.old.swapper.layout (D.state filer.new.swapper.disk)) }
+    ensures reasons { (o : InitialState) (named : Triples) → Keeps o filer.old named → o.tables ≡ None → NamesNoneOf 3 (λ p. p < 96) named → IfErr result (ShowsReason o (view_of filer.old).layout (view_of filer.new).disk) }
     ensures tables { (o : InitialState) (named : Triples) → Keeps (telling o []) filer.old named → NamesNoneOf 3 (λ p. p < 96) named → OnOk result (KeepsRevealed o filer.new) }
-    ensures evidence_seen { IfErr result (ShowsEvidence (D.state filer.new.swapper.disk)) }
-    ensures counted { result ≡ Err halt.Disk → Rose (D.state filer.old.swapper.disk).faults (D.state filer.new.swapper.disk).faults }
-    ensures root { RootStays (D.state filer.old.swapper.disk) (D.state filer.new.swapper.disk) }
-    ensures layout { filer.new.swapper.layout ≡ filer.old.swapper.layout }
-    ensures runs { filer.new.runs ≡ filer.old.runs }
-    ensures cost { (D.state filer.new.swapper.disk).transfers ≤ (D.state filer.old.swapper.disk).transfers + 96 * (8 * filer.old.swapper.layout.vam + 100) }
+    ensures evidence_seen { IfErr result (ShowsEvidence (view_of filer.new).disk) }
+    ensures counted { result ≡ Err halt.Disk → Rose (view_of filer.old).disk.faults (view_of filer.new).disk.faults }
+    ensures root { RootStays (view_of filer.old).disk (view_of filer.new).disk }
+    ensures layout { (view_of filer.new).layout ≡ (view_of filer.old).layout }
+    ensures runs { (view_of filer.new).runs ≡ (view_of filer.old).runs }
+    ensures cost { (view_of filer.new).disk.transfers ≤ (view_of filer.old).disk.transfers + 96 * (8 * (view_of filer.old).layout.vam + 100) }
 {
     let mut page = 0;
     while page < TABLE_PAGES {
@@ -62,23 +63,23 @@ fn make_pages<D: Disk, A: Allocator>(filer: &mut Filer<D, A>) -> Result<(), Halt
 /// Makes the pages of the space tables, in the lowest free data sectors: zeros, with labels of file 3, and in the file map. What
 /// that might have of file 3 goes first.
 pub fn make_tables<D: Disk, A: Allocator>(filer: &mut Filer<D, A>) -> Result<(), Halt>
-    requires size { (D.state filer.old.swapper.disk).sectors ≡ filer.old.swapper.layout.sectors }
-    ensures made { (x : List Sector) (shapes : Shapes) (spaces : List Space) → MayBegin (D.state filer.old.swapper.disk) filer.old.swapper.pool filer.old.swapper.layout filer.old.runs shapes spaces x
-        → OnOk result (BegunBy (D.state filer.old.swapper.disk) filer.old.swapper.pool filer.old.swapper.layout (D.state filer.new.swapper.disk) filer.new.swapper.pool filer.new.runs) }
-    ensures sound { (x : List Sector) (shapes : Shapes) (spaces : List Space) → MayBegin (D.state filer.old.swapper.disk) filer.old.swapper.pool filer.old.swapper.layout filer.old.runs shapes spaces x
+    requires size { FitsLayout (view_of filer.old) }
+    ensures made { (x : List Sector) (shapes : Shapes) (spaces : List Space) → MayBegin (view_of filer.old).disk (view_of filer.old).slots (view_of filer.old).layout (view_of filer.old).runs shapes spaces x
+        → OnOk result (BegunBy (view_of filer.old).disk (view_of filer.old).slots (view_of filer.old).layout (view_of filer.new).disk (view_of filer.new).slots (view_of filer.new).runs) }
+    ensures sound { (x : List Sector) (shapes : Shapes) (spaces : List Space) → MayBegin (view_of filer.old).disk (view_of filer.old).slots (view_of filer.old).layout (view_of filer.old).runs shapes spaces x
         → IfErr result (λ e. e ≡ halt.Disk) }
-    ensures makes { OnOk result (MakesAll 3 0 0 96 (D.state filer.old.swapper.disk) filer.old.swapper.pool (D.state filer.new.swapper.disk) filer.new.swapper.pool) }
-    ensures stopped { OnErr result (MakesSome 3 0 0 96 (D.state filer.old.swapper.disk) filer.old.swapper.pool (D.state filer.new.swapper.disk) filer.new.swapper.pool) }
-    ensures cause { IfErr result (CreateHalts filer.old.swapper.layout 3 (λ p. p < 96) (D.state filer.old.swapper.disk) filer.old.swapper.pool (D.state filer.new.swapper.disk) filer.new.swapper.pool) }
-    ensures keeps_to { (o : InitialState) (named : Triples) → Keeps o filer.old named → IsUnframed filer.old.swapper.pool 3 → o.tables ≡ None → OnOk result (KeepsOn o filer.new) }
-    ensures reasons { (o : InitialState) (named : Triples) → Keeps o filer.old named → IsUnframed filer.old.swapper.pool 3 → o.tables ≡ None → IfErr result (ShowsReason o filer.old.swapper.layout (D.state filer.new.swapper.disk)) }
-    ensures tables { (o : InitialState) (named : Triples) → Keeps (telling o []) filer.old named → IsUnframed filer.old.swapper.pool 3 → OnOk result (KeepsRevealed o filer.new) }
-    ensures evidence_seen { IfErr result (ShowsEvidence (D.state filer.new.swapper.disk)) }
-    ensures counted { result ≡ Err halt.Disk → Rose (D.state filer.old.swapper.disk).faults (D.state filer.new.swapper.disk).faults }
-    ensures root { RootStays (D.state filer.old.swapper.disk) (D.state filer.new.swapper.disk) }
-    ensures layout { filer.new.swapper.layout ≡ filer.old.swapper.layout }
-    ensures runs { (n : ℕ) → runs_of n filer.new.runs ≡ filter (λ r. not (r.id == 3)) (runs_of n filer.old.runs) }
-    ensures cost { (D.state filer.new.swapper.disk).transfers ≤ (D.state filer.old.swapper.disk).transfers + (2 * (1 + 51 * most_records filer.old.swapper.layout.sectors) + 96 * (8 * filer.old.swapper.layout.vam + 100)) }
+    ensures makes { OnOk result (MakesAll 3 0 0 96 (view_of filer.old).disk (view_of filer.old).slots (view_of filer.new).disk (view_of filer.new).slots) }
+    ensures stopped { OnErr result (MakesSome 3 0 0 96 (view_of filer.old).disk (view_of filer.old).slots (view_of filer.new).disk (view_of filer.new).slots) }
+    ensures cause { IfErr result (CreateHalts (view_of filer.old).layout 3 (λ p. p < 96) (view_of filer.old).disk (view_of filer.old).slots (view_of filer.new).disk (view_of filer.new).slots) }
+    ensures keeps_to { (o : InitialState) (named : Triples) → Keeps o filer.old named → IsUnframed (view_of filer.old).slots 3 → o.tables ≡ None → OnOk result (KeepsOn o filer.new) }
+    ensures reasons { (o : InitialState) (named : Triples) → Keeps o filer.old named → IsUnframed (view_of filer.old).slots 3 → o.tables ≡ None → IfErr result (ShowsReason o (view_of filer.old).layout (view_of filer.new).disk) }
+    ensures tables { (o : InitialState) (named : Triples) → Keeps (telling o []) filer.old named → IsUnframed (view_of filer.old).slots 3 → OnOk result (KeepsRevealed o filer.new) }
+    ensures evidence_seen { IfErr result (ShowsEvidence (view_of filer.new).disk) }
+    ensures counted { result ≡ Err halt.Disk → Rose (view_of filer.old).disk.faults (view_of filer.new).disk.faults }
+    ensures root { RootStays (view_of filer.old).disk (view_of filer.new).disk }
+    ensures layout { (view_of filer.new).layout ≡ (view_of filer.old).layout }
+    ensures runs { (n : ℕ) → runs_of n (view_of filer.new).runs ≡ filter (λ r. not (r.id == 3)) (runs_of n (view_of filer.old).runs) }
+    ensures cost { (view_of filer.new).disk.transfers ≤ (view_of filer.old).disk.transfers + (2 * (1 + 51 * most_records (view_of filer.old).layout.sectors) + 96 * (8 * (view_of filer.old).layout.vam + 100)) }
 {
     match filer.cut(TABLES, 0) {
         Ok(()) => (),
@@ -94,13 +95,13 @@ pub fn make_tables<D: Disk, A: Allocator>(filer: &mut Filer<D, A>) -> Result<(),
 
 // Gives up the frames of the pages of the space tables, dirty or not: these pages are what the disk has.
 fn discard_tables<D: Disk, A: Allocator>(filer: &mut Filer<D, A>)
-    ensures gone { (i : ℕ) (f : Frame) → Has filer.new.swapper.pool i f → IsWithin 3 0 96 f.home → ⊥ }
-    ensures left { (i : ℕ) (f : Frame) → Has filer.new.swapper.pool i f → Has filer.old.swapper.pool i f }
-    ensures goes { Goes (Differs (of_run 3 0 96)) no_page [] (D.state filer.old.swapper.disk) filer.old.swapper.pool (D.state filer.new.swapper.disk) filer.new.swapper.pool }
-    ensures form { (m : List Sector) → Stands (D.state filer.new.swapper.disk) filer.new.swapper.pool m → AreSectors m }
-    ensures disk { filer.new.swapper.disk ≡ filer.old.swapper.disk }
-    ensures layout { filer.new.swapper.layout ≡ filer.old.swapper.layout }
-    ensures runs { filer.new.runs ≡ filer.old.runs }
+    ensures gone { (i : ℕ) (f : Frame) → Has (view_of filer.new).slots i f → IsWithin 3 0 96 f.home → ⊥ }
+    ensures left { (i : ℕ) (f : Frame) → Has (view_of filer.new).slots i f → Has (view_of filer.old).slots i f }
+    ensures goes { GoesTo (Differs (of_run 3 0 96)) no_page [] (view_of filer.old) (view_of filer.new) }
+    ensures form { (m : List Sector) → HasMemory (view_of filer.new) m → AreSectors m }
+    ensures disk { (disk_of filer.new) ≡ (disk_of filer.old) }
+    ensures layout { (view_of filer.new).layout ≡ (view_of filer.old).layout }
+    ensures runs { (view_of filer.new).runs ≡ (view_of filer.old).runs }
 {
     let swapper = filer.swapper_over();
     discard(swapper, TABLES, 0, TABLE_PAGES);
@@ -110,25 +111,25 @@ fn discard_tables<D: Disk, A: Allocator>(filer: &mut Filer<D, A>)
 /// Frees the pages of the space tables, from page 0 up, and takes them out of the file map. Their frames are given up, and
 /// nothing of them is written.
 pub fn free_tables<D: Disk, A: Allocator>(filer: &mut Filer<D, A>) -> Result<(), Halt>
-    requires size { (D.state filer.old.swapper.disk).sectors ≡ filer.old.swapper.layout.sectors }
-    ensures freed { (x : List Sector) (shapes : Shapes) (spaces : List Space) → Books (D.state filer.old.swapper.disk) filer.old.swapper.pool filer.old.swapper.layout filer.old.runs shapes spaces x
-        → OnOk result (EndedBy x (D.state filer.old.swapper.disk) filer.old.swapper.pool filer.old.swapper.layout (D.state filer.new.swapper.disk) filer.new.swapper.pool filer.new.runs) }
-    ensures sound { (x : List Sector) (shapes : Shapes) (spaces : List Space) → Books (D.state filer.old.swapper.disk) filer.old.swapper.pool filer.old.swapper.layout filer.old.runs shapes spaces x
+    requires size { FitsLayout (view_of filer.old) }
+    ensures freed { (x : List Sector) (shapes : Shapes) (spaces : List Space) → Books (view_of filer.old).disk (view_of filer.old).slots (view_of filer.old).layout (view_of filer.old).runs shapes spaces x
+        → OnOk result (EndedBy x (view_of filer.old).disk (view_of filer.old).slots (view_of filer.old).layout (view_of filer.new).disk (view_of filer.new).slots (view_of filer.new).runs) }
+    ensures sound { (x : List Sector) (shapes : Shapes) (spaces : List Space) → Books (view_of filer.old).disk (view_of filer.old).slots (view_of filer.old).layout (view_of filer.old).runs shapes spaces x
         → IfErr result (λ e. e ≡ halt.Disk) }
-    ensures first { (x : List Sector) (shapes : Shapes) (spaces : List Space) → Books (D.state filer.old.swapper.disk) filer.old.swapper.pool filer.old.swapper.layout filer.old.runs shapes spaces x
-        → OnErr result (EndedSome x (D.state filer.old.swapper.disk) filer.old.swapper.pool (D.state filer.new.swapper.disk) filer.new.swapper.pool) }
-    ensures makes { OnOk result (MakesFree 96 (D.state filer.old.swapper.disk) filer.old.swapper.pool (D.state filer.new.swapper.disk) filer.new.swapper.pool) }
-    ensures stopped { OnErr result (MakesSomeFree (D.state filer.old.swapper.disk) filer.old.swapper.pool (D.state filer.new.swapper.disk) filer.new.swapper.pool) }
-    ensures cause { IfErr result (CutFileHalts (AreTables filer.old.swapper.pool) filer.old.swapper.layout (runs_of filer.old.swapper.layout.sectors filer.old.runs) 3 0 (λ page. page < 96) (D.state filer.old.swapper.disk) filer.old.swapper.pool (D.state filer.new.swapper.disk)) }
+    ensures first { (x : List Sector) (shapes : Shapes) (spaces : List Space) → Books (view_of filer.old).disk (view_of filer.old).slots (view_of filer.old).layout (view_of filer.old).runs shapes spaces x
+        → OnErr result (EndedSome x (view_of filer.old).disk (view_of filer.old).slots (view_of filer.new).disk (view_of filer.new).slots) }
+    ensures makes { OnOk result (MakesFree 96 (view_of filer.old).disk (view_of filer.old).slots (view_of filer.new).disk (view_of filer.new).slots) }
+    ensures stopped { OnErr result (MakesSomeFree (view_of filer.old).disk (view_of filer.old).slots (view_of filer.new).disk (view_of filer.new).slots) }
+    ensures cause { IfErr result (CutFileHalts (AreTables (view_of filer.old).slots) (view_of filer.old).layout (kept_by (view_of filer.old)) 3 0 (λ page. page < 96) (view_of filer.old).disk (view_of filer.old).slots (view_of filer.new).disk) }
     ensures keeps_to { (o : InitialState) (named : Triples) → Keeps o filer.old named → o.tables ≡ None → OnOk result (KeepsBare o filer.new) }
-    ensures reasons { (o : InitialState) (named : Triples) → Keeps o filer.old named → o.tables ≡ None → NamesTables named → IfErr result (ShowsReason o filer.old.swapper.layout (D.state filer.new.swapper.disk)) }
+    ensures reasons { (o : InitialState) (named : Triples) → Keeps o filer.old named → o.tables ≡ None → NamesTables named → IfErr result (ShowsReason o (view_of filer.old).layout (view_of filer.new).disk) }
     ensures right { (o : InitialState) (named : Triples) → Keeps o filer.old named → o.tables ≡ None → NamesTables named → IfErr result MissesNone }
-    ensures evidence_seen { IfErr result (ShowsEvidence (D.state filer.new.swapper.disk)) }
-    ensures counted { result ≡ Err halt.Disk → Rose (D.state filer.old.swapper.disk).faults (D.state filer.new.swapper.disk).faults }
-    ensures root { RootStays (D.state filer.old.swapper.disk) (D.state filer.new.swapper.disk) }
-    ensures layout { filer.new.swapper.layout ≡ filer.old.swapper.layout }
-    ensures cost { (D.state filer.new.swapper.disk).transfers ≤ (D.state filer.old.swapper.disk).transfers + (96 * (16 + 4 * filer.old.swapper.layout.vam) + 2 * (1 + 51 * most_records filer.old.swapper.layout.sectors)) }
-    ensures own { RelabelsOwn 3 (D.state filer.old.swapper.disk) (D.state filer.new.swapper.disk) }
+    ensures evidence_seen { IfErr result (ShowsEvidence (view_of filer.new).disk) }
+    ensures counted { result ≡ Err halt.Disk → Rose (view_of filer.old).disk.faults (view_of filer.new).disk.faults }
+    ensures root { RootStays (view_of filer.old).disk (view_of filer.new).disk }
+    ensures layout { (view_of filer.new).layout ≡ (view_of filer.old).layout }
+    ensures cost { (view_of filer.new).disk.transfers ≤ (view_of filer.old).disk.transfers + (96 * (16 + 4 * (view_of filer.old).layout.vam) + 2 * (1 + 51 * most_records (view_of filer.old).layout.sectors)) }
+    ensures own { RelabelsOwn 3 (view_of filer.old).disk (view_of filer.new).disk }
 {
     discard_tables(filer);
     match free_up(filer, TABLES, 0, TABLE_PAGES) {

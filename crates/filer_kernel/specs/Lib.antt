@@ -15,3 +15,6 @@ pub mod TableLaws
 pub mod MapOnce
 pub mod NamedLaws
 pub mod TableOnce
+pub mod View
+pub mod Fails
+pub mod FailsLaws

@@ -42,7 +42,7 @@ use Rattle.file_manager.specs.declared.volume.Volume.{Volume}
 use Rattle.fault_core.specs.Reach.{BringsOwn, Reaches}
 use Rattle.fault_core.specs.Revealed.{Revealed}
 use Rattle.fault_core.specs.Unit.{IsResident}
-use Rattle.fault_core.specs.View.{View}
+use Rattle.filer_kernel.specs.View.{View}
 use Rattle.running_words.specs.Running.{IsRunning}
 use Rattle.running_words.specs.RunningLaws.{IsWhole, RunningLaws}
 use Rattle.running_words.specs.Session.{IsAlone}

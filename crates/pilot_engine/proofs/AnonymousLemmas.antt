@@ -184,13 +184,13 @@ module _ (m : Machine) (h : IsMachine m) (space : ℕ) (s : Space) (here : space
 
 module _ {D A : Type 0} {G : Ghosts D} where
   -- a core of which as much is known stands for the same machine
-  pub waited_running : (old new : Core D A G) → IsLayout old.filer.swapper.layout → (G.state old.filer.swapper.disk).sectors ≡ old.filer.swapper.layout.sectors → (volume : Volume) (m : Machine) → Runs old volume m
-      → Reaches (state old) (state new) → new.filer.swapper.pool ≡ old.filer.swapper.pool → new.intervals ≡ old.intervals → ((x : List Sector) (named : Triples) (ss : List Space) → Knows old x named ss → Knows new x named ss) → Runs new volume m
+  pub waited_running : (old new : Core D A G) → IsLayout (state old).layout → (state old).disk.sectors ≡ (state old).layout.sectors → (volume : Volume) (m : Machine) → Runs old volume m
+      → Reaches (state old) (state new) → (state new).slots ≡ (state old).slots → new.intervals ≡ old.intervals → ((x : List Sector) (named : Triples) (ss : List Space) → Knows old x named ss → Knows new x named ss) → Runs new volume m
   waited_running old new layout size volume m r reaches pools count known =
-      reached_runs old layout size new volume m r reaches (subst (λ (slots : Slots). BringsOwn old.filer.swapper.pool slots) (sym pools) (record { homes = λ home held. inl held })) count (known _ _ m.spaces (knows old layout size volume m r))
+      reached_runs old layout size new volume m r reaches (subst (λ (slots : Slots). BringsOwn (state old).slots slots) (sym pools) (record { homes = λ home held. inl held })) count (known _ _ m.spaces (knows old layout size volume m r))
 
-  pub waited_carried : (old new : Core D A G) → IsLayout old.filer.swapper.layout → (G.state old.filer.swapper.disk).sectors ≡ old.filer.swapper.layout.sectors → (volume : Volume) (m : Machine) (c : Call) (r : Reply) → Carried m c old volume r
-      → Reaches (state old) (state new) → new.filer.swapper.pool ≡ old.filer.swapper.pool → new.intervals ≡ old.intervals → ((x : List Sector) (named : Triples) (ss : List Space) → Knows old x named ss → Knows new x named ss) → Carried m c new volume r
+  pub waited_carried : (old new : Core D A G) → IsLayout (state old).layout → (state old).disk.sectors ≡ (state old).layout.sectors → (volume : Volume) (m : Machine) (c : Call) (r : Reply) → Carried m c old volume r
+      → Reaches (state old) (state new) → (state new).slots ≡ (state old).slots → new.intervals ≡ old.intervals → ((x : List Sector) (named : Triples) (ss : List Space) → Knows old x named ss → Knows new x named ss) → Carried m c new volume r
   waited_carried old new layout size volume m c r carried reaches pools count known =
       record { allowed = carried.allowed; runs = waited_running old new layout size volume (next m c) carried.runs reaches pools count known }
 

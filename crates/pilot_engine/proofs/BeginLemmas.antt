@@ -5,7 +5,7 @@ use Rattle.frame_pool.specs.Frames.{Slots}
 use Rattle.swapper_kernel.specs.Goes.{Goes, no_page}
 use Rattle.volume_root.specs.declared.root.Root.{Root}
 use Rattle.volume_root.specs.RootPage.{root_write}
-use Rattle.fault_core.specs.View.{View}
+use Rattle.filer_kernel.specs.View.{View}
 use Rattle.pilot_engine.specs.Beginning.{Rooted}
 use Rattle.pilot_engine.specs.Opening.{in_use}
 

@@ -3,7 +3,7 @@ use Rattle.std.proofs.Common.{inr, ℕ, Result, Ok, Err, ◌∙◌}
 use Rattle.std.specs.Prelude.{IfErr}
 use Rattle.labelled_disk.specs.declared.evidence.Halt.{Halt}
 use Rattle.fault_core.specs.Reach.{Reaches}
-use Rattle.fault_core.specs.View.{View}
+use Rattle.filer_kernel.specs.View.{View}
 use Rattle.space_calls.specs.Halts.{OnFileHalts, OnNamedHalts}
 use Rattle.pilot_engine.specs.Halting.{Made}
 use Rattle.pilot_engine.proofs.WroteLemmas.{wrote_then}

@@ -10,7 +10,7 @@ use Rattle.swapper_kernel.specs.Halts.{Halts}
 use Rattle.swapper_kernel.specs.Homes.{Homes}
 use Rattle.filer_kernel.specs.Causes.{MapHalts}
 use Rattle.file_manager.specs.Reasons.{MissesNone, InitialState}
-use Rattle.fault_core.specs.View.{View}
+use Rattle.filer_kernel.specs.View.{View}
 use Rattle.space_calls.specs.Halts.{LookHalts}
 use Rattle.pilot_engine.specs.Halting.{RemoveHalts}
 use Rattle.pilot_engine.specs.Reasons.{IsBlameless, NeverBlamesEnd}

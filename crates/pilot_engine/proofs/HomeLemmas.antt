@@ -29,6 +29,7 @@ use Rattle.space_calls.specs.Mapping.{IsLastFrom, ReachesOver}
 use Rattle.space_calls.specs.Sees.{AreOn, SeesFiles, StillSees}
 use Rattle.pilot_engine.specs.Reasons.{IsBlameless, SeesHome}
 use Rattle.pilot_engine.proofs.LackLemmas.{own_pages}
+use Rattle.fault_core.specs.Core.{state}
 
 -- the pages of what files are or were
 abbrev pub file_pages : InitialState → DiskState → Pages
@@ -104,13 +105,13 @@ found_file {named = named} h id found x is led = named_there h id leader_page (s
 
 module _ {D A : Type 0} {G : Ghosts D} (o : InitialState) (old new : Core D A G) where
   -- where the same spaces are seen after a call, what they show was there still
-  pub home_still : {pages : Pages} {run : List DiskWrite} → Makes pages run (G.state old.filer.swapper.disk) old.filer.swapper.pool (G.state new.filer.swapper.disk) new.filer.swapper.pool
+  pub home_still : {pages : Pages} {run : List DiskWrite} → Makes pages run (state old).disk (state old).slots (state new).disk (state new).slots
       → StillSees old new → SeesHome o old → SeesHome o new
   home_still makes still (ss, (sees, on)) = (ss, (still ss sees, files_later o makes ss on))
 
   -- where the last pages that windows show were below the ends of their files
-  pub home_on : {pages : Pages} {run : List DiskWrite} → Makes pages run (G.state old.filer.swapper.disk) old.filer.swapper.pool (G.state new.filer.swapper.disk) new.filer.swapper.pool
-      → SeesFiles (WasBelow o (G.state old.filer.swapper.disk)) new → SeesHome o new
+  pub home_on : {pages : Pages} {run : List DiskWrite} → Makes pages run (state old).disk (state old).slots (state new).disk (state new).slots
+      → SeesFiles (WasBelow o (state old).disk) new → SeesHome o new
   home_on makes (ss, (sees, on)) = (ss, (sees, files_later o makes ss on))
 
 -- ---- What is revealed.

@@ -30,7 +30,7 @@ use Rattle.file_manager.specs.RevealedLaws.{keeps_telling, tables_of}
 use Rattle.fault_core.specs.declared.core_over.Core.{Core}
 use Rattle.fault_core.specs.Lack.{MissesPage, Sees}
 use Rattle.fault_core.specs.NeverBlames.{NeverBlamesTables}
-use Rattle.fault_core.specs.View.{View, kept_by}
+use Rattle.filer_kernel.specs.View.{View, kept_by}
 use Rattle.running_words.specs.Blameless.{NeverBlamesForm}
 use Rattle.running_words.specs.BlamelessLaws.{never_blames_form}
 use Rattle.space_calls.specs.FilesLaws.{for_files, map_for_files}
@@ -39,6 +39,7 @@ use Rattle.space_calls.specs.Sees.{SeesFiles, SeesOn, StillOn, StillOnOr, StillS
 use Rattle.pilot_engine.specs.Reasons.{IsBlameless, SeesHome}
 use Rattle.pilot_engine.proofs.HomeLemmas.{file_later, files_blameless, home_on, home_still, of_file_later}
 use Rattle.pilot_engine.proofs.ReasonSteps.{ViewKeepsOn}
+use Rattle.fault_core.specs.Core.{state}
 
 -- a fault of the disk reveals nothing
 pub fault_blameless : (o : InitialState) (disk : DiskState) (e : Halt) → e ≡ halt.Disk → IsBlameless o disk e
@@ -47,43 +48,43 @@ fault_blameless o disk e is = subst (λ (x : Halt). IsBlameless o disk x) (sym i
 -- ---- Calls on spaces.
 
 module _ {D A : Type 0} {G : Ghosts D} (o : InitialState) (old new : Core D A G) {pages : Pages} {run : List DiskWrite}
-    (makes : Makes pages run (G.state old.filer.swapper.disk) old.filer.swapper.pool (G.state new.filer.swapper.disk) new.filer.swapper.pool) where
+    (makes : Makes pages run (state old).disk (state old).slots (state new).disk (state new).slots) where
   -- where each page that it may report as missing was one of what a file is or was
-  blameless_after : (may : Pages) → ((id page : ℕ) → may id page → IsOfFile o (G.state old.filer.swapper.disk) id page) → (e : Halt) → NeverBlamesForm e → MissesPage may e → IsBlameless o (G.state new.filer.swapper.disk) e
-  blameless_after may were e form misses = files_blameless o (G.state new.filer.swapper.disk) may
-      (λ id page one. of_file_later o (G.state old.filer.swapper.disk) (G.state new.filer.swapper.disk) (file_later o makes) id page (were id page one)) e form misses
+  blameless_after : (may : Pages) → ((id page : ℕ) → may id page → IsOfFile o (state old).disk id page) → (e : Halt) → NeverBlamesForm e → MissesPage may e → IsBlameless o (state new).disk e
+  blameless_after may were e form misses = files_blameless o (state new).disk may
+      (λ id page one. of_file_later o (state old).disk (state new).disk (file_later o makes) id page (were id page one)) e form misses
 
   -- and where windows show what was below the ends of their files before it
-  pub on_or_blameless : {X : Type 0} (r : Result X Halt) → OnOk r (SeesFiles (WasBelow o (G.state old.filer.swapper.disk)) new) → IfErr r NeverBlamesTables
-      → (may : Pages) → IfErr r (MissesPage may) → ((id page : ℕ) → may id page → IsOfFile o (G.state old.filer.swapper.disk) id page) → MatchResult r (λ _. SeesHome o new) (IsBlameless o (G.state new.filer.swapper.disk))
+  pub on_or_blameless : {X : Type 0} (r : Result X Halt) → OnOk r (SeesFiles (WasBelow o (state old).disk) new) → IfErr r NeverBlamesTables
+      → (may : Pages) → IfErr r (MissesPage may) → ((id page : ℕ) → may id page → IsOfFile o (state old).disk id page) → MatchResult r (λ _. SeesHome o new) (IsBlameless o (state new).disk)
   on_or_blameless (Ok x) seen right may misses were = home_on o old new makes seen
   on_or_blameless (Err e) seen right may misses were = blameless_after may were e (never_blames_form e right) misses
 
   -- where they show what windows showed
   pub still_or_blameless : {X : Type 0} (r : Result X Halt) → OnOk r (StillOn old new) → (SeesOn old → IfErr r NeverBlamesTables)
-      → (may : Pages) → IfErr r (MissesPage may) → ((id page : ℕ) → may id page → WasBelow o (G.state old.filer.swapper.disk) id page) → SeesHome o old → MatchResult r (λ _. SeesHome o new) (IsBlameless o (G.state new.filer.swapper.disk))
-  still_or_blameless r still right may misses were seen = on_or_blameless r (for_files old new r still (WasBelow o (G.state old.filer.swapper.disk)) seen) (right (seen.0, seen.1.0)) may misses (λ id page one. inr (were id page one))
+      → (may : Pages) → IfErr r (MissesPage may) → ((id page : ℕ) → may id page → WasBelow o (state old).disk id page) → SeesHome o old → MatchResult r (λ _. SeesHome o new) (IsBlameless o (state new).disk)
+  still_or_blameless r still right may misses were seen = on_or_blameless r (for_files old new r still (WasBelow o (state old).disk) seen) (right (seen.0, seen.1.0)) may misses (λ id page one. inr (were id page one))
 
   -- and none but pages of the space tables are missing
   pub none_or_blameless : {X : Type 0} (r : Result X Halt) → OnOk r (StillOn old new) → (SeesOn old → IfErr r NeverBlamesTables) → IfErr r (MissesPage no_page) → SeesHome o old
-      → MatchResult r (λ _. SeesHome o new) (IsBlameless o (G.state new.filer.swapper.disk))
+      → MatchResult r (λ _. SeesHome o new) (IsBlameless o (state new).disk)
   none_or_blameless r still right misses seen = still_or_blameless r still right no_page misses (λ id page none. absurd none) seen
 
   -- or this file too from this page on, up to the last of the space, which was below the file's end if the answer is that it is done
   pub map_or_blameless : (space id page : ℕ) (r : Result Reply Halt) → IfOk r (λ reply. StillOnOr (λ ss file last. (reply ≡ Done) × (file ≡ id) × IsLastFrom ss space page last) old new)
-      → (seen : SeesHome o old) → IfOk r (λ reply. reply ≡ Done → (last : ℕ) → IsLastFrom seen.0 space page last → WasBelow o (G.state old.filer.swapper.disk) id last)
-      → (SeesOn old → IfErr r NeverBlamesTables) → IfErr r (MissesPage no_page) → MatchResult r (λ _. SeesHome o new) (IsBlameless o (G.state new.filer.swapper.disk))
+      → (seen : SeesHome o old) → IfOk r (λ reply. reply ≡ Done → (last : ℕ) → IsLastFrom seen.0 space page last → WasBelow o (state old).disk id last)
+      → (SeesOn old → IfErr r NeverBlamesTables) → IfErr r (MissesPage no_page) → MatchResult r (λ _. SeesHome o new) (IsBlameless o (state new).disk)
   map_or_blameless space id page r still seen was right misses =
-      on_or_blameless r (given r (map_for_files old new space id page r still (WasBelow o (G.state old.filer.swapper.disk)) seen) was) (right (seen.0, seen.1.0)) no_page misses (λ file other none. absurd none)
+      on_or_blameless r (given r (map_for_files old new space id page r still (WasBelow o (state old).disk) seen) was) (right (seen.0, seen.1.0)) no_page misses (λ file other none. absurd none)
     where
-      given : (r : Result Reply Halt) → IfOk r (λ reply. (reply ≡ Done → (last : ℕ) → IsLastFrom seen.0 space page last → WasBelow o (G.state old.filer.swapper.disk) id last) → SeesFiles (WasBelow o (G.state old.filer.swapper.disk)) new)
-          → IfOk r (λ reply. reply ≡ Done → (last : ℕ) → IsLastFrom seen.0 space page last → WasBelow o (G.state old.filer.swapper.disk) id last) → OnOk r (SeesFiles (WasBelow o (G.state old.filer.swapper.disk)) new)
+      given : (r : Result Reply Halt) → IfOk r (λ reply. (reply ≡ Done → (last : ℕ) → IsLastFrom seen.0 space page last → WasBelow o (state old).disk id last) → SeesFiles (WasBelow o (state old).disk) new)
+          → IfOk r (λ reply. reply ≡ Done → (last : ℕ) → IsLastFrom seen.0 space page last → WasBelow o (state old).disk id last) → OnOk r (SeesFiles (WasBelow o (state old).disk) new)
       given (Ok reply) sees was = sees was
       given (Err e) sees was = tt
 
   -- or whatever spaces are seen before it, they are seen after it
-  pub same_or_blameless : {X : Type 0} (r : Result X Halt) → MatchResult r (λ _. StillSees old new) (λ e. SeesOn old → IsBlameless o (G.state new.filer.swapper.disk) e) → SeesHome o old
-      → MatchResult r (λ _. SeesHome o new) (IsBlameless o (G.state new.filer.swapper.disk))
+  pub same_or_blameless : {X : Type 0} (r : Result X Halt) → MatchResult r (λ _. StillSees old new) (λ e. SeesOn old → IsBlameless o (state new).disk e) → SeesHome o old
+      → MatchResult r (λ _. SeesHome o new) (IsBlameless o (state new).disk)
   same_or_blameless (Ok x) still seen = home_still o old new makes still seen
   same_or_blameless (Err e) never_blames seen = never_blames (seen.0, seen.1.0)
 

@@ -44,7 +44,7 @@ use Rattle.file_manager.specs.ReasonLaws.{label_reasons}
 use Rattle.file_manager.specs.Reasons.{AreTabled, giving, HasMade, HasRoot, IsAt, IsReleased, WasGiven, IsOne, KeepsTo, InitialState, initial_state, ShowsReason, Takes, telling}
 use Rattle.fault_core.specs.Reach.{IsReached, Reaches}
 use Rattle.fault_core.specs.Touch.{on_data}
-use Rattle.fault_core.specs.View.{View, kept_by}
+use Rattle.filer_kernel.specs.View.{View, kept_by}
 use Rattle.fault_core.proofs.ReachLemmas.{reaches_itself}
 use Rattle.fault_core.proofs.TurnLemmas.{reaches_brought}
 use Rattle.running_words.specs.Moving.{Moves, any_page}

@@ -15,7 +15,7 @@ use Rattle.fault_core.specs.Lack.{MissesPage}
 use Rattle.fault_core.proofs.LackLemmas.{misses_wider}
 use Rattle.fault_core.specs.Reach.{Reaches}
 use Rattle.fault_core.specs.ReachLaws.{reach_misses}
-use Rattle.fault_core.specs.View.{View, kept_by}
+use Rattle.filer_kernel.specs.View.{View, kept_by}
 use Rattle.space_calls.specs.Halts.{After, BreaksSight, SightHalts, LookHalts, NamedHalts, OnFileHalts, OnNamedHalts}
 use Rattle.pilot_engine.specs.Halting.{MarkHalts, NewFileHalts, RemoveHalts, SizeHalts}
 

@@ -43,6 +43,7 @@ pub mod SettledWider
 pub mod AnonymousLemmas
 pub mod NewWindow
 pub mod OwnLemmas
+pub mod LabelLemmas
 pub mod ShutLemmas
 pub mod ShutBySyncLemmas
 pub mod UnsetLemmas
@@ -52,3 +53,4 @@ pub mod SpaceMisses
 pub mod HomeSteps
 pub mod EndNeverBlames
 pub mod RestLemmas
+pub mod ReferLemmas

@@ -29,7 +29,7 @@ use Rattle.fault_core.specs.declared.core_over.Core.{Core}
 use Rattle.fault_core.specs.Core.{kept, state}
 use Rattle.fault_core.specs.Kept.{IsKept}
 use Rattle.fault_core.specs.Revealed.{IsIntervalOf}
-use Rattle.fault_core.specs.View.{View}
+use Rattle.filer_kernel.specs.View.{View}
 use Rattle.running_words.specs.Running.{Carried, IsRunning, Runs, exactly}
 use Rattle.running_words.specs.Session.{AreInForm, Carries, IsOpen, IsSession}
 use Rattle.running_words.specs.Stages.{Passes}

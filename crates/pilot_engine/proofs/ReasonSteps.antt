@@ -13,7 +13,7 @@ use Rattle.file_manager.specs.Creating.{next_id}
 use Rattle.file_manager.specs.Reasons.{IsNotOlder, InitialState, ShowsReason, giving}
 use Rattle.file_manager.specs.RetoldLaws.{giving_more, giving_shows}
 use Rattle.fault_core.specs.Reach.{Reaches, ReachHalts, TouchHalts}
-use Rattle.fault_core.specs.View.{View}
+use Rattle.filer_kernel.specs.View.{View}
 use Rattle.running_words.specs.Moving.{Moves, ViewKeepsTo}
 use Rattle.running_words.specs.MovingLaws.{moves_of_reaches, keeps_moved}
 use Rattle.space_calls.specs.ReasonLaws.{HasReasonAfter, after_it, moves_of_reshapes, reach_before, touch_before}

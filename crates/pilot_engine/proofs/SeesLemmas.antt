@@ -12,7 +12,7 @@ use Rattle.file_manager.specs.Creating.{counted, next_id}
 use Rattle.file_manager.specs.Reasons.{KeepsTo, NamesTables, InitialState, ShowsReason, WasBelow, telling}
 use Rattle.file_manager.specs.RevealedLaws.{keeps_telling, tables_of}
 use Rattle.fault_core.specs.Lack.{MissesPage, Sees}
-use Rattle.fault_core.specs.View.{View, kept_by}
+use Rattle.filer_kernel.specs.View.{View, kept_by}
 use Rattle.space_calls.specs.FilesLaws.{on_wider}
 use Rattle.space_calls.specs.Sees.{AreOn}
 use Rattle.running_words.specs.BlamelessLaws.{form_kept, sees_kept}

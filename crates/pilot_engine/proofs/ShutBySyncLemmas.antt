@@ -16,7 +16,7 @@ use Rattle.swapper_kernel.specs.Goes.{Pages, Swaps, Went, no_page}
 use Rattle.swapper_kernel.specs.GoesLaws.{wrote_none}
 use Rattle.swapper_kernel.specs.SyncLaws.{HasSync, has_sync_later, synced_has}
 use Rattle.fault_core.specs.Reach.{Reaches}
-use Rattle.fault_core.specs.View.{View}
+use Rattle.filer_kernel.specs.View.{View}
 use Rattle.volume_root.specs.declared.root.Root.{Root}
 use Rattle.volume_root.specs.RootPage.{IsValidRoot, root_write}
 use Rattle.running_words.specs.Session.{WroteIn}

@@ -11,7 +11,7 @@ use Rattle.swapper_kernel.specs.Goes.{Pages}
 use Rattle.fault_core.specs.Lack.{MissesPage}
 use Rattle.fault_core.specs.Reach.{Reaches, ReachHalts}
 use Rattle.fault_core.specs.ReachLaws.{reach_misses}
-use Rattle.fault_core.specs.View.{View}
+use Rattle.filer_kernel.specs.View.{View}
 use Rattle.fault_core.proofs.LackLemmas.{misses_wider}
 use Rattle.table_calls.specs.Answers.{TablesBreak}
 use Rattle.space_calls.specs.Halts.{After, ChangeHalts, MakeSpaceHalts, MapFileHalts, OnFileHalts, OnNamedHalts, PathHalts, PlaceHalts, ProtectHalts, RemoveSpaceHalts, ShownHalts, SightHalts, SlotHalts, TakeWindowHalts, WritableHalts}

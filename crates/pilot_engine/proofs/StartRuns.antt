@@ -21,7 +21,7 @@ use Rattle.fault_core.specs.Core.{kept}
 use Rattle.fault_core.specs.Lack.{Sees}
 use Rattle.fault_core.specs.Reach.{BringsOwn}
 use Rattle.fault_core.specs.Revealed.{Known}
-use Rattle.fault_core.specs.View.{View, TablesAre, view_of}
+use Rattle.filer_kernel.specs.View.{View, TablesAre, view_of}
 use Rattle.space_calls.specs.Sees.{SeesFiles}
 use Rattle.swapper_kernel.specs.Goes.{no_page}
 use Rattle.running_words.specs.Running.{IsRunning, Runs}

@@ -18,7 +18,7 @@ use Rattle.volume_root.specs.RootPage.{root_in, root_write}
 use Rattle.file_manager.specs.Grounds.{CreateHalts}
 use Rattle.file_manager.specs.Making.{MakesAll}
 use Rattle.fault_core.specs.Reach.{ReachHalts, no_break}
-use Rattle.fault_core.specs.View.{View, kept_by}
+use Rattle.filer_kernel.specs.View.{View, kept_by}
 use Rattle.space_calls.specs.Halts.{After}
 use Rattle.pilot_engine.specs.declared.fault.StartFault.{StartFault}
 use Rattle.pilot_engine.specs.declared.fault.StartFault.TheVariants.{Root as NoRoot, NoMemory, Halt as Halted}

@@ -11,7 +11,7 @@ use Rattle.labelled_disk.specs.WriteRuns.{Appended}
 use Rattle.volume_root.specs.Format.{format_writes, formatted, new_root, PartMade}
 use Rattle.volume_root.specs.Later.{IsLater}
 use Rattle.swapper_kernel.specs.Homes.{IsLayout}
-use Rattle.fault_core.specs.View.{View, kept_by}
+use Rattle.filer_kernel.specs.View.{View, kept_by}
 use Rattle.pilot_engine.specs.Beginning.{StartHalts}
 use Rattle.pilot_engine.specs.Opening.{IsBare, WroteFirst}
 use Rattle.pilot_engine.specs.declared.fault.StartFault.{StartFault}

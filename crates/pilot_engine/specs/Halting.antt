@@ -13,7 +13,7 @@ use Rattle.file_manager.specs.Grounds.{AreTables, CreateHalts, CutFileHalts, Del
 use Rattle.running_words.specs.Session.{WroteIn}
 use Rattle.fault_core.specs.Kill.{BreaksWithin}
 use Rattle.fault_core.specs.Reach.{Reaches, ReachHalts}
-use Rattle.fault_core.specs.View.{View, kept_by}
+use Rattle.filer_kernel.specs.View.{View, kept_by}
 use Rattle.space_calls.specs.Unmapping.{Reshapes}
 use Rattle.space_tables.specs.declared.shown.Shown.{Shown}
 use Rattle.space_tables.specs.Shows.{IsShownAt}

@@ -6,9 +6,12 @@ pub mod Seen
 pub mod Order
 pub mod Halting
 pub mod Stepping
+pub mod Labels
 pub mod Advised
 pub mod Beginning
 pub mod NewCrashStates
 pub mod Reasons
 pub mod EndLaws
 pub mod Rest
+pub mod Referring
+pub mod Calls

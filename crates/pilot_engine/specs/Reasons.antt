@@ -15,12 +15,13 @@ use Rattle.flat_machine.specs.Space.{root}
 use Rattle.fault_core.specs.declared.core_over.Core.{Core}
 use Rattle.fault_core.specs.Lack.{MissesPage, Sees}
 use Rattle.fault_core.specs.NeverBlames.{NeverBlamesTables}
-use Rattle.fault_core.specs.View.{View}
+use Rattle.filer_kernel.specs.View.{View}
 use Rattle.swapper_kernel.specs.Goes.{no_page}
 use Rattle.running_words.specs.Blameless.{NeverBlamesForm}
 use Rattle.space_calls.specs.Sees.{SeesFiles}
 use Rattle.pilot_engine.specs.declared.fault.StartFault.{StartFault}
 use Rattle.pilot_engine.specs.declared.fault.StartFault.TheVariants.{Root as NoRoot, NoMemory, Halt as Halted}
+use Rattle.fault_core.specs.Core.{state}
 
 -- The disk has these sectors and reveals which writes were made. Its file map is in form, and names these triples.
 pub record IsBegun (d : List Sector) (named : Triples) (ws : List DiskWrite) (disk : DiskState) : Type 0 where
@@ -66,4 +67,4 @@ NeverBlamesEnd o disk halt = NeverBlamesTables halt × MissesPage (IsOfFile o di
 module _ {D A : Type 0} {G : Ghosts D} where
   -- the space tables are revealed, and in form: each page of a file that a window shows is below the end of what the file is or was
   abbrev pub SeesHome : InitialState → Core D A G → Type 0
-  SeesHome o core = SeesFiles (WasBelow o (G.state core.filer.swapper.disk)) core
+  SeesHome o core = SeesFiles (WasBelow o (state core).disk) core

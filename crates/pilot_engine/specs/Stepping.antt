@@ -12,7 +12,7 @@ use Rattle.fault_core.specs.Access.{BreaksFor, last_page}
 use Rattle.fault_core.specs.Reach.{ReachHalts, TouchHalts}
 use Rattle.fault_core.specs.Lack.{shown_units}
 use Rattle.fault_core.specs.Unit.{IsReady}
-use Rattle.fault_core.specs.View.{View}
+use Rattle.filer_kernel.specs.View.{View}
 use Rattle.space_calls.specs.Halts.{ChangeHalts, MakeSpaceHalts, MapFileHalts, NamedHalts, OnNamedHalts, PlaceHalts, ProtectHalts, RemoveSpaceHalts}
 use Rattle.space_calls.specs.Ranges.{BreaksRange, space_units}
 use Rattle.space_calls.specs.Unmapping.{ShowsIn}

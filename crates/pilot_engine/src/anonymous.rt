@@ -18,6 +18,8 @@ ghost use Rattle.pilot_engine.specs.Reasons.{SeesHome, IsBlameless};
 ghost use Rattle.fault_core.specs.Lack.{MissesPage, Sees};
 ghost use Rattle.flat_machine.specs.declared.space.Space.{Space};
 ghost use Rattle.pilot_engine.specs.Stepping.{missing_page};
+ghost use Rattle.filer_kernel.specs.View.{FitsLayout};
+ghost use Rattle.pilot_engine.specs.Calls.{Accounts, Answers, Stays};
 
 use crate::Session;
 use flat_machine::Reply;
@@ -30,26 +32,18 @@ use table_calls::can_map;
 impl<D: Disk, A: Allocator> Session<D, A> {
     // Takes the window of a space away, and an anonymous one's file with it. What was written is on the medium then.
     pub(crate) fn unmap(&mut self, space: u32) -> Result<Reply, Halt>
-        requires size { (D.state self.old.core.filer.swapper.disk).sectors ≡ self.old.core.filer.swapper.layout.sectors }
-        requires opened { IsOpen self.old.core.filer.swapper.layout self.old.volume }
-        ensures carried { (m : Machine) → Runs self.old.core self.old.volume m → IfOk result (Carried m (call.Unmap space) self.new.core self.new.volume) }
-        ensures sound { (m : Machine) → Runs self.old.core self.old.volume m → IfErr result (λ e. e ≡ halt.Disk) }
-        ensures passes { (m : Machine) → Runs self.old.core self.old.volume m → Passes m (call.Unmap space) (D.state self.old.core.filer.swapper.disk) (D.state self.new.core.filer.swapper.disk) }
-        ensures synced { IfOk result (λ answer. answer ≡ reply.Done → (D.state self.new.core.filer.swapper.disk).synced ≡ true) }
-        ensures counted { result ≡ Err halt.Disk → Rose (D.state self.old.core.filer.swapper.disk).faults (D.state self.new.core.filer.swapper.disk).faults }
+        requires size { FitsLayout (state self.old.core) }
+        requires opened { IsOpen (state self.old.core).layout self.old.volume }
+        ensures answers { (m : Machine) → Runs self.old.core self.old.volume m → Answers m (call.Unmap space) self.old self.new result }
+        ensures synced { IfOk result (λ answer. answer ≡ reply.Done → (state self.new.core).disk.synced ≡ true) }
+        ensures counted { result ≡ Err halt.Disk → Rose (state self.old.core).disk.faults (state self.new.core).disk.faults }
         ensures cause { IfErr result (UnmapHalts space self.old.core.intervals (state self.old.core) (state self.new.core)) }
         ensures missing { (ss : List Space) → Sees (state self.old.core) (kept self.old.core) self.old.core.intervals ss → IfErr result (MissesPage (missing_page (call.Unmap space) ss)) }
-        ensures keeps_to { (o : InitialState) → KeepsOn o self.old.core.filer → OnOk result (KeepsOn o self.new.core.filer) }
-        ensures reasons { (o : InitialState) → KeepsOn o self.old.core.filer → IfErr result (ShowsReason o self.old.core.filer.swapper.layout (D.state self.new.core.filer.swapper.disk)) }
-        ensures sees { (o : InitialState) → KeepsOn o self.old.core.filer → SeesHome o self.old.core → MatchResult result (λ _. SeesHome o self.new.core) (IsBlameless o (D.state self.new.core.filer.swapper.disk)) }
-        ensures evidence_seen { IfErr result (ShowsEvidence (D.state self.new.core.filer.swapper.disk)) }
-        ensures wrote { Wrote (D.state self.old.core.filer.swapper.disk) self.old.core.filer.swapper.pool (D.state self.new.core.filer.swapper.disk) self.new.core.filer.swapper.pool }
-        ensures open_still { IsOpen self.new.core.filer.swapper.layout self.new.volume }
-        ensures monotone { next_id self.old.volume.root ≤ next_id self.new.volume.root }
-        ensures serial { self.new.volume.root.serial ≡ self.old.volume.root.serial }
-        ensures layout { self.new.core.filer.swapper.layout ≡ self.old.core.filer.swapper.layout }
+        ensures accounts { (o : InitialState) → KeepsOn o self.old.core.filer → Accounts o o self.old self.new result }
+        ensures evidence_seen { IfErr result (ShowsEvidence (state self.new.core).disk) }
+        ensures wrote { Wrote (state self.old.core).disk (state self.old.core).slots (state self.new.core).disk (state self.new.core).slots }
+        ensures stays { Stays self.old self.new }
         ensures running { self.new.running ≡ self.old.running }
-        ensures cost { (m : Machine) → Runs self.old.core self.old.volume m → CostsOther (D.state self.old.core.filer.swapper.disk) (D.state self.new.core.filer.swapper.disk) }
     {
         let shown = match take_window(&mut self.core, space) {
             Ok(Ok(shown)) => shown,
@@ -71,24 +65,16 @@ impl<D: Disk, A: Allocator> Session<D, A> {
 
     // Shows a new file of zero pages in a space, of its size.
     pub(crate) fn map_anonymous(&mut self, space: u32) -> Result<Reply, Halt>
-        requires size { (D.state self.old.core.filer.swapper.disk).sectors ≡ self.old.core.filer.swapper.layout.sectors }
-        requires opened { IsOpen self.old.core.filer.swapper.layout self.old.volume }
-        ensures carried { (m : Machine) → Runs self.old.core self.old.volume m → IfOk result (Carried m (call.MapAnonymous space) self.new.core self.new.volume) }
-        ensures sound { (m : Machine) → Runs self.old.core self.old.volume m → IfErr result (λ e. e ≡ halt.Disk) }
-        ensures passes { (m : Machine) → Runs self.old.core self.old.volume m → Passes m (call.MapAnonymous space) (D.state self.old.core.filer.swapper.disk) (D.state self.new.core.filer.swapper.disk) }
-        ensures counted { result ≡ Err halt.Disk → Rose (D.state self.old.core.filer.swapper.disk).faults (D.state self.new.core.filer.swapper.disk).faults }
+        requires size { FitsLayout (state self.old.core) }
+        requires opened { IsOpen (state self.old.core).layout self.old.volume }
+        ensures answers { (m : Machine) → Runs self.old.core self.old.volume m → Answers m (call.MapAnonymous space) self.old self.new result }
+        ensures counted { result ≡ Err halt.Disk → Rose (state self.old.core).disk.faults (state self.new.core).disk.faults }
         ensures cause { IfErr result (MapNewHalts (next_id self.old.volume.root) self.old.core.intervals (state self.old.core) (state self.new.core)) }
-        ensures keeps_to { (o : InitialState) → KeepsOn o self.old.core.filer → IsNotOlder o self.old.volume.root → OnOk result (KeepsOn (giving o (next_id self.new.volume.root)) self.new.core.filer) }
-        ensures reasons { (o : InitialState) → KeepsOn o self.old.core.filer → IsNotOlder o self.old.volume.root → IfErr result (ShowsReason o self.old.core.filer.swapper.layout (D.state self.new.core.filer.swapper.disk)) }
-        ensures sees { (o : InitialState) → KeepsOn o self.old.core.filer → IsNotOlder o self.old.volume.root → SeesHome o self.old.core → MatchResult result (λ _. SeesHome o self.new.core) (IsBlameless o (D.state self.new.core.filer.swapper.disk)) }
-        ensures evidence_seen { IfErr result (ShowsEvidence (D.state self.new.core.filer.swapper.disk)) }
-        ensures wrote { Wrote (D.state self.old.core.filer.swapper.disk) self.old.core.filer.swapper.pool (D.state self.new.core.filer.swapper.disk) self.new.core.filer.swapper.pool }
-        ensures open_still { IsOpen self.new.core.filer.swapper.layout self.new.volume }
-        ensures monotone { next_id self.old.volume.root ≤ next_id self.new.volume.root }
-        ensures serial { self.new.volume.root.serial ≡ self.old.volume.root.serial }
-        ensures layout { self.new.core.filer.swapper.layout ≡ self.old.core.filer.swapper.layout }
+        ensures accounts { (o : InitialState) → KeepsOn o self.old.core.filer → IsNotOlder o self.old.volume.root → Accounts o (giving o (next_id self.new.volume.root)) self.old self.new result }
+        ensures evidence_seen { IfErr result (ShowsEvidence (state self.new.core).disk) }
+        ensures wrote { Wrote (state self.old.core).disk (state self.old.core).slots (state self.new.core).disk (state self.new.core).slots }
+        ensures stays { Stays self.old self.new }
         ensures running { self.new.running ≡ self.old.running }
-        ensures cost { (m : Machine) → Runs self.old.core self.old.volume m → CostsOther (D.state self.old.core.filer.swapper.disk) (D.state self.new.core.filer.swapper.disk) }
     {
         let run = match can_map(&mut self.core, space) {
             Ok(Ok(run)) => run,

@@ -14,6 +14,8 @@ ghost use Rattle.space_calls.specs.Halts.{After, OnFileHalts};
 ghost use Rattle.pilot_engine.specs.Halting.{ClearHalts, Made, RemoveHalts};
 ghost use Rattle.file_manager.specs.Reasons.{KeepsOn, InitialState, ShowsReason};
 ghost use Rattle.pilot_engine.specs.Reasons.{SeesHome, NeverBlamesEnd};
+ghost use Rattle.filer_kernel.specs.View.{FitsLayout};
+ghost use Rattle.pilot_engine.specs.Calls.{AccountsEnd};
 
 use crate::Session;
 use file_manager::{attributes_of, delete, next};
@@ -26,26 +28,24 @@ const LAST_RESERVED: FileId = 15;
 impl<D: Disk, A: Allocator> Session<D, A> {
     // Deletes a file, unless it is permanent.
     fn delete_unless_permanent(&mut self, id: FileId) -> Result<(), Halt>
-        requires size { (D.state self.old.core.filer.swapper.disk).sectors ≡ self.old.core.filer.swapper.layout.sectors }
-        requires opened { IsOpen self.old.core.filer.swapper.layout self.old.volume }
+        requires size { FitsLayout (state self.old.core) }
+        requires opened { IsOpen (state self.old.core).layout self.old.volume }
         requires client { 16 ≤ id }
-        ensures shed { (spaces_of : TablesMeaning) (m : Machine) → IsAlone spaces_of (D.state self.old.core.filer.swapper.disk) self.old.core.filer.swapper.pool self.old.core.filer.swapper.layout self.old.core.filer.runs self.old.volume m
-            → OnOk result (Shed spaces_of (λ other. other ≡ id) m (D.state self.new.core.filer.swapper.disk) self.new.core.filer.swapper.pool self.new.core.filer.swapper.layout self.new.core.filer.runs self.new.volume) }
-        ensures sound { (spaces_of : TablesMeaning) (m : Machine) → IsAlone spaces_of (D.state self.old.core.filer.swapper.disk) self.old.core.filer.swapper.pool self.old.core.filer.swapper.layout self.old.core.filer.runs self.old.volume m
+        ensures shed { (spaces_of : TablesMeaning) (m : Machine) → IsAlone spaces_of (state self.old.core).disk (state self.old.core).slots (state self.old.core).layout (state self.old.core).runs self.old.volume m
+            → OnOk result (Shed spaces_of (λ other. other ≡ id) m (state self.new.core).disk (state self.new.core).slots (state self.new.core).layout (state self.new.core).runs self.new.volume) }
+        ensures sound { (spaces_of : TablesMeaning) (m : Machine) → IsAlone spaces_of (state self.old.core).disk (state self.old.core).slots (state self.old.core).layout (state self.old.core).runs self.old.volume m
             → IfErr result (λ e. e ≡ halt.Disk) }
-        ensures stops { (spaces_of : TablesMeaning) (m : Machine) → IsAlone spaces_of (D.state self.old.core.filer.swapper.disk) self.old.core.filer.swapper.pool self.old.core.filer.swapper.layout self.old.core.filer.runs self.old.volume m
-            → Throughout (IsOpenStop m) (D.state self.old.core.filer.swapper.disk) (D.state self.new.core.filer.swapper.disk) }
-        ensures counted { result ≡ Err halt.Disk → Rose (D.state self.old.core.filer.swapper.disk).faults (D.state self.new.core.filer.swapper.disk).faults }
+        ensures stops { (spaces_of : TablesMeaning) (m : Machine) → IsAlone spaces_of (state self.old.core).disk (state self.old.core).slots (state self.old.core).layout (state self.old.core).runs self.old.volume m
+            → Throughout (IsOpenStop m) (state self.old.core).disk (state self.new.core).disk }
+        ensures counted { result ≡ Err halt.Disk → Rose (state self.old.core).disk.faults (state self.new.core).disk.faults }
         ensures cause { IfErr result (OnFileHalts id (RemoveHalts id) (state self.old.core) (state self.new.core)) }
-        ensures keeps_to { (o : InitialState) → KeepsOn o self.old.core.filer → OnOk result (KeepsOn o self.new.core.filer) }
-        ensures reasons { (o : InitialState) → KeepsOn o self.old.core.filer → IfErr result (ShowsReason o self.old.core.filer.swapper.layout (D.state self.new.core.filer.swapper.disk)) }
-        ensures sees { (o : InitialState) → KeepsOn o self.old.core.filer → SeesHome o self.old.core → MatchResult result (λ _. SeesHome o self.new.core) (NeverBlamesEnd o (D.state self.new.core.filer.swapper.disk)) }
-        ensures evidence_seen { IfErr result (ShowsEvidence (D.state self.new.core.filer.swapper.disk)) }
-        ensures wrote { Wrote (D.state self.old.core.filer.swapper.disk) self.old.core.filer.swapper.pool (D.state self.new.core.filer.swapper.disk) self.new.core.filer.swapper.pool }
-        ensures open_still { IsOpen self.new.core.filer.swapper.layout self.new.volume }
-        ensures layout { self.new.core.filer.swapper.layout ≡ self.old.core.filer.swapper.layout }
-        ensures cost { (spaces_of : TablesMeaning) (m : Machine) (f : File) → IsAlone spaces_of (D.state self.old.core.filer.swapper.disk) self.old.core.filer.swapper.pool self.old.core.filer.swapper.layout self.old.core.filer.runs self.old.volume m
-            → file_at m.files id ≡ Some f → (D.state self.new.core.filer.swapper.disk).transfers ≤ (D.state self.old.core.filer.swapper.disk).transfers + delete_cost * room_of f }
+        ensures accounts { (o : InitialState) → KeepsOn o self.old.core.filer → AccountsEnd o o self.old self.new result }
+        ensures evidence_seen { IfErr result (ShowsEvidence (state self.new.core).disk) }
+        ensures wrote { Wrote (state self.old.core).disk (state self.old.core).slots (state self.new.core).disk (state self.new.core).slots }
+        ensures open_still { IsOpen (state self.new.core).layout self.new.volume }
+        ensures layout { (state self.new.core).layout ≡ (state self.old.core).layout }
+        ensures cost { (spaces_of : TablesMeaning) (m : Machine) (f : File) → IsAlone spaces_of (state self.old.core).disk (state self.old.core).slots (state self.old.core).layout (state self.old.core).runs self.old.volume m
+            → file_at m.files id ≡ Some f → (state self.new.core).disk.transfers ≤ (state self.old.core).disk.transfers + delete_cost * room_of f }
     {
         let found = match attributes_of(&mut self.core.filer, id) {
             Ok(Some(found)) => found,
@@ -63,29 +63,27 @@ impl<D: Disk, A: Allocator> Session<D, A> {
 
     // Looks at the next file above this one, which it deletes unless it is permanent.
     fn delete_next(&mut self, cursor: FileId) -> Result<Option<FileId>, Halt>
-        requires size { (D.state self.old.core.filer.swapper.disk).sectors ≡ self.old.core.filer.swapper.layout.sectors }
-        requires opened { IsOpen self.old.core.filer.swapper.layout self.old.volume }
+        requires size { FitsLayout (state self.old.core) }
+        requires opened { IsOpen (state self.old.core).layout self.old.volume }
         requires client { 15 ≤ cursor }
-        ensures shed { (spaces_of : TablesMeaning) (m : Machine) → IsAlone spaces_of (D.state self.old.core.filer.swapper.disk) self.old.core.filer.swapper.pool self.old.core.filer.swapper.layout self.old.core.filer.runs self.old.volume m
-            → IfOk result (λ next. Shed spaces_of (up_to_next cursor next) m (D.state self.new.core.filer.swapper.disk) self.new.core.filer.swapper.pool self.new.core.filer.swapper.layout self.new.core.filer.runs self.new.volume) }
+        ensures shed { (spaces_of : TablesMeaning) (m : Machine) → IsAlone spaces_of (state self.old.core).disk (state self.old.core).slots (state self.old.core).layout (state self.old.core).runs self.old.volume m
+            → IfOk result (λ next. Shed spaces_of (up_to_next cursor next) m (state self.new.core).disk (state self.new.core).slots (state self.new.core).layout (state self.new.core).runs self.new.volume) }
         ensures above { IfOk result (λ next. IfSome next (λ id. cursor < id)) }
-        ensures sound { (spaces_of : TablesMeaning) (m : Machine) → IsAlone spaces_of (D.state self.old.core.filer.swapper.disk) self.old.core.filer.swapper.pool self.old.core.filer.swapper.layout self.old.core.filer.runs self.old.volume m
+        ensures sound { (spaces_of : TablesMeaning) (m : Machine) → IsAlone spaces_of (state self.old.core).disk (state self.old.core).slots (state self.old.core).layout (state self.old.core).runs self.old.volume m
             → IfErr result (λ e. e ≡ halt.Disk) }
-        ensures stops { (spaces_of : TablesMeaning) (m : Machine) → IsAlone spaces_of (D.state self.old.core.filer.swapper.disk) self.old.core.filer.swapper.pool self.old.core.filer.swapper.layout self.old.core.filer.runs self.old.volume m
-            → Throughout (IsOpenStop m) (D.state self.old.core.filer.swapper.disk) (D.state self.new.core.filer.swapper.disk) }
-        ensures counted { result ≡ Err halt.Disk → Rose (D.state self.old.core.filer.swapper.disk).faults (D.state self.new.core.filer.swapper.disk).faults }
+        ensures stops { (spaces_of : TablesMeaning) (m : Machine) → IsAlone spaces_of (state self.old.core).disk (state self.old.core).slots (state self.old.core).layout (state self.old.core).runs self.old.volume m
+            → Throughout (IsOpenStop m) (state self.old.core).disk (state self.new.core).disk }
+        ensures counted { result ≡ Err halt.Disk → Rose (state self.old.core).disk.faults (state self.new.core).disk.faults }
         ensures cause { IfErr result (ClearHalts (state self.old.core) (state self.new.core)) }
-        ensures keeps_to { (o : InitialState) → KeepsOn o self.old.core.filer → OnOk result (KeepsOn o self.new.core.filer) }
-        ensures reasons { (o : InitialState) → KeepsOn o self.old.core.filer → IfErr result (ShowsReason o self.old.core.filer.swapper.layout (D.state self.new.core.filer.swapper.disk)) }
-        ensures sees { (o : InitialState) → KeepsOn o self.old.core.filer → SeesHome o self.old.core → MatchResult result (λ _. SeesHome o self.new.core) (NeverBlamesEnd o (D.state self.new.core.filer.swapper.disk)) }
-        ensures evidence_seen { IfErr result (ShowsEvidence (D.state self.new.core.filer.swapper.disk)) }
-        ensures wrote { Wrote (D.state self.old.core.filer.swapper.disk) self.old.core.filer.swapper.pool (D.state self.new.core.filer.swapper.disk) self.new.core.filer.swapper.pool }
-        ensures open_still { IsOpen self.new.core.filer.swapper.layout self.new.volume }
-        ensures layout { self.new.core.filer.swapper.layout ≡ self.old.core.filer.swapper.layout }
-        ensures cost { (spaces_of : TablesMeaning) (m : Machine) → IsAlone spaces_of (D.state self.old.core.filer.swapper.disk) self.old.core.filer.swapper.pool self.old.core.filer.swapper.layout self.old.core.filer.runs self.old.volume m
-            → (D.state self.new.core.filer.swapper.disk).transfers ≤ (D.state self.old.core.filer.swapper.disk).transfers + (36 + visit_cost * room_above cursor m.files) }
-        ensures paid { (spaces_of : TablesMeaning) (m : Machine) → IsAlone spaces_of (D.state self.old.core.filer.swapper.disk) self.old.core.filer.swapper.pool self.old.core.filer.swapper.layout self.old.core.filer.runs self.old.volume m
-            → IfOk result (λ next. IfSome next (λ id. (D.state self.new.core.filer.swapper.disk).transfers + visit_cost * room_above id m.files ≤ (D.state self.old.core.filer.swapper.disk).transfers + visit_cost * room_above cursor m.files)) }
+        ensures accounts { (o : InitialState) → KeepsOn o self.old.core.filer → AccountsEnd o o self.old self.new result }
+        ensures evidence_seen { IfErr result (ShowsEvidence (state self.new.core).disk) }
+        ensures wrote { Wrote (state self.old.core).disk (state self.old.core).slots (state self.new.core).disk (state self.new.core).slots }
+        ensures open_still { IsOpen (state self.new.core).layout self.new.volume }
+        ensures layout { (state self.new.core).layout ≡ (state self.old.core).layout }
+        ensures cost { (spaces_of : TablesMeaning) (m : Machine) → IsAlone spaces_of (state self.old.core).disk (state self.old.core).slots (state self.old.core).layout (state self.old.core).runs self.old.volume m
+            → (state self.new.core).disk.transfers ≤ (state self.old.core).disk.transfers + (36 + visit_cost * room_above cursor m.files) }
+        ensures paid { (spaces_of : TablesMeaning) (m : Machine) → IsAlone spaces_of (state self.old.core).disk (state self.old.core).slots (state self.old.core).layout (state self.old.core).runs self.old.volume m
+            → IfOk result (λ next. IfSome next (λ id. (state self.new.core).disk.transfers + visit_cost * room_above id m.files ≤ (state self.old.core).disk.transfers + visit_cost * room_above cursor m.files)) }
     {
         let id = match next(&mut self.core.filer, cursor) {
             Ok(Some(id)) => id,
@@ -100,25 +98,23 @@ impl<D: Disk, A: Allocator> Session<D, A> {
 
     // Deletes the temporary files.
     pub(crate) fn delete_temporary(&mut self) -> Result<(), Halt>
-        requires size { (D.state self.old.core.filer.swapper.disk).sectors ≡ self.old.core.filer.swapper.layout.sectors }
-        requires opened { IsOpen self.old.core.filer.swapper.layout self.old.volume }
-        ensures shed { (spaces_of : TablesMeaning) (m : Machine) → IsAlone spaces_of (D.state self.old.core.filer.swapper.disk) self.old.core.filer.swapper.pool self.old.core.filer.swapper.layout self.old.core.filer.runs self.old.volume m
-            → OnOk result (Shed spaces_of (λ id. Unit {0}) m (D.state self.new.core.filer.swapper.disk) self.new.core.filer.swapper.pool self.new.core.filer.swapper.layout self.new.core.filer.runs self.new.volume) }
-        ensures sound { (spaces_of : TablesMeaning) (m : Machine) → IsAlone spaces_of (D.state self.old.core.filer.swapper.disk) self.old.core.filer.swapper.pool self.old.core.filer.swapper.layout self.old.core.filer.runs self.old.volume m
+        requires size { FitsLayout (state self.old.core) }
+        requires opened { IsOpen (state self.old.core).layout self.old.volume }
+        ensures shed { (spaces_of : TablesMeaning) (m : Machine) → IsAlone spaces_of (state self.old.core).disk (state self.old.core).slots (state self.old.core).layout (state self.old.core).runs self.old.volume m
+            → OnOk result (Shed spaces_of (λ id. Unit {0}) m (state self.new.core).disk (state self.new.core).slots (state self.new.core).layout (state self.new.core).runs self.new.volume) }
+        ensures sound { (spaces_of : TablesMeaning) (m : Machine) → IsAlone spaces_of (state self.old.core).disk (state self.old.core).slots (state self.old.core).layout (state self.old.core).runs self.old.volume m
             → IfErr result (λ e. e ≡ halt.Disk) }
-        ensures stops { (spaces_of : TablesMeaning) (m : Machine) → IsAlone spaces_of (D.state self.old.core.filer.swapper.disk) self.old.core.filer.swapper.pool self.old.core.filer.swapper.layout self.old.core.filer.runs self.old.volume m
-            → Throughout (IsOpenStop m) (D.state self.old.core.filer.swapper.disk) (D.state self.new.core.filer.swapper.disk) }
-        ensures counted { result ≡ Err halt.Disk → Rose (D.state self.old.core.filer.swapper.disk).faults (D.state self.new.core.filer.swapper.disk).faults }
+        ensures stops { (spaces_of : TablesMeaning) (m : Machine) → IsAlone spaces_of (state self.old.core).disk (state self.old.core).slots (state self.old.core).layout (state self.old.core).runs self.old.volume m
+            → Throughout (IsOpenStop m) (state self.old.core).disk (state self.new.core).disk }
+        ensures counted { result ≡ Err halt.Disk → Rose (state self.old.core).disk.faults (state self.new.core).disk.faults }
         ensures cause { IfErr result (After Made ClearHalts (state self.old.core) (state self.new.core)) }
-        ensures keeps_to { (o : InitialState) → KeepsOn o self.old.core.filer → OnOk result (KeepsOn o self.new.core.filer) }
-        ensures reasons { (o : InitialState) → KeepsOn o self.old.core.filer → IfErr result (ShowsReason o self.old.core.filer.swapper.layout (D.state self.new.core.filer.swapper.disk)) }
-        ensures sees { (o : InitialState) → KeepsOn o self.old.core.filer → SeesHome o self.old.core → MatchResult result (λ _. SeesHome o self.new.core) (NeverBlamesEnd o (D.state self.new.core.filer.swapper.disk)) }
-        ensures evidence_seen { IfErr result (ShowsEvidence (D.state self.new.core.filer.swapper.disk)) }
-        ensures wrote { Wrote (D.state self.old.core.filer.swapper.disk) self.old.core.filer.swapper.pool (D.state self.new.core.filer.swapper.disk) self.new.core.filer.swapper.pool }
-        ensures open_still { IsOpen self.new.core.filer.swapper.layout self.new.volume }
-        ensures layout { self.new.core.filer.swapper.layout ≡ self.old.core.filer.swapper.layout }
-        ensures cost { (spaces_of : TablesMeaning) (m : Machine) → IsAlone spaces_of (D.state self.old.core.filer.swapper.disk) self.old.core.filer.swapper.pool self.old.core.filer.swapper.layout self.old.core.filer.runs self.old.volume m
-            → (D.state self.new.core.filer.swapper.disk).transfers ≤ (D.state self.old.core.filer.swapper.disk).transfers + (36 + visit_cost * used m) }
+        ensures accounts { (o : InitialState) → KeepsOn o self.old.core.filer → AccountsEnd o o self.old self.new result }
+        ensures evidence_seen { IfErr result (ShowsEvidence (state self.new.core).disk) }
+        ensures wrote { Wrote (state self.old.core).disk (state self.old.core).slots (state self.new.core).disk (state self.new.core).slots }
+        ensures open_still { IsOpen (state self.new.core).layout self.new.volume }
+        ensures layout { (state self.new.core).layout ≡ (state self.old.core).layout }
+        ensures cost { (spaces_of : TablesMeaning) (m : Machine) → IsAlone spaces_of (state self.old.core).disk (state self.old.core).slots (state self.old.core).layout (state self.old.core).runs self.old.volume m
+            → (state self.new.core).disk.transfers ≤ (state self.old.core).disk.transfers + (36 + visit_cost * used m) }
     {
         let mut cursor = LAST_RESERVED;
         'files: loop {

@@ -20,6 +20,8 @@ ghost use Rattle.pilot_engine.specs.Halting.{RemoveHalts};
 ghost use Rattle.file_manager.specs.Reasons.{KeepsOn, InitialState, ShowsReason};
 ghost use Rattle.file_manager.specs.Creating.{next_id};
 ghost use Rattle.pilot_engine.specs.Reasons.{SeesHome, IsBlameless};
+ghost use Rattle.filer_kernel.specs.View.{FitsLayout};
+ghost use Rattle.pilot_engine.specs.Calls.{Accounts, Answers, Stays};
 
 use crate::Session;
 use crate::sight::Sight;
@@ -31,35 +33,30 @@ use std::alloc::Allocator;
 impl<D: Disk, A: Allocator> Session<D, A> {
     // Removes a file that no window shows.
     pub(crate) fn delete_unseen(&mut self, id: FileId) -> Result<Reply, Halt>
-        requires size { (D.state self.old.core.filer.swapper.disk).sectors ≡ self.old.core.filer.swapper.layout.sectors }
-        requires opened { IsOpen self.old.core.filer.swapper.layout self.old.volume }
-        ensures carried { (spaces_of : TablesMeaning) (m : Machine) → IsSession spaces_of (D.state self.old.core.filer.swapper.disk) self.old.core.filer.swapper.pool self.old.core.filer.swapper.layout self.old.core.filer.runs self.old.volume m
+        requires size { FitsLayout (state self.old.core) }
+        requires opened { IsOpen (state self.old.core).layout self.old.volume }
+        ensures carried { (spaces_of : TablesMeaning) (m : Machine) → IsSession spaces_of (state self.old.core).disk (state self.old.core).slots (state self.old.core).layout (state self.old.core).runs self.old.volume m
             → file_mapped m id (λ w. true) ≡ None
-            → IfOk result (λ reply. Carries spaces_of m (call.Delete id) reply (D.state self.new.core.filer.swapper.disk) self.new.core.filer.swapper.pool self.new.core.filer.swapper.layout self.new.core.filer.runs self.new.volume) }
-        ensures sound { (spaces_of : TablesMeaning) (m : Machine) → IsSession spaces_of (D.state self.old.core.filer.swapper.disk) self.old.core.filer.swapper.pool self.old.core.filer.swapper.layout self.old.core.filer.runs self.old.volume m
+            → IfOk result (λ reply. Carries spaces_of m (call.Delete id) reply (state self.new.core).disk (state self.new.core).slots (state self.new.core).layout (state self.new.core).runs self.new.volume) }
+        ensures sound { (spaces_of : TablesMeaning) (m : Machine) → IsSession spaces_of (state self.old.core).disk (state self.old.core).slots (state self.old.core).layout (state self.old.core).runs self.old.volume m
             → file_mapped m id (λ w. true) ≡ None
             → IfErr result (λ e. e ≡ halt.Disk) }
-        ensures passes { (spaces_of : TablesMeaning) (m : Machine) → IsSession spaces_of (D.state self.old.core.filer.swapper.disk) self.old.core.filer.swapper.pool self.old.core.filer.swapper.layout self.old.core.filer.runs self.old.volume m
+        ensures passes { (spaces_of : TablesMeaning) (m : Machine) → IsSession spaces_of (state self.old.core).disk (state self.old.core).slots (state self.old.core).layout (state self.old.core).runs self.old.volume m
             → file_mapped m id (λ w. true) ≡ None
-            → Passes m (call.Delete id) (D.state self.old.core.filer.swapper.disk) (D.state self.new.core.filer.swapper.disk) }
-        ensures counted { result ≡ Err halt.Disk → Rose (D.state self.old.core.filer.swapper.disk).faults (D.state self.new.core.filer.swapper.disk).faults }
+            → Passes m (call.Delete id) (state self.old.core).disk (state self.new.core).disk }
+        ensures counted { result ≡ Err halt.Disk → Rose (state self.old.core).disk.faults (state self.new.core).disk.faults }
         ensures cause { IfErr result (OnFileHalts id (RemoveHalts id) (state self.old.core) (state self.new.core)) }
-        ensures keeps_to { (o : InitialState) → KeepsOn o self.old.core.filer → OnOk result (KeepsOn o self.new.core.filer) }
-        ensures reasons { (o : InitialState) → KeepsOn o self.old.core.filer → IfErr result (ShowsReason o self.old.core.filer.swapper.layout (D.state self.new.core.filer.swapper.disk)) }
-        ensures sees { (o : InitialState) → KeepsOn o self.old.core.filer → SeesHome o self.old.core → MatchResult result (λ _. SeesHome o self.new.core) (IsBlameless o (D.state self.new.core.filer.swapper.disk)) }
-        ensures evidence_seen { IfErr result (ShowsEvidence (D.state self.new.core.filer.swapper.disk)) }
-        ensures wrote { Wrote (D.state self.old.core.filer.swapper.disk) self.old.core.filer.swapper.pool (D.state self.new.core.filer.swapper.disk) self.new.core.filer.swapper.pool }
-        ensures open_still { IsOpen self.new.core.filer.swapper.layout self.new.volume }
-        ensures monotone { next_id self.old.volume.root ≤ next_id self.new.volume.root }
-        ensures serial { self.new.volume.root.serial ≡ self.old.volume.root.serial }
-        ensures layout { self.new.core.filer.swapper.layout ≡ self.old.core.filer.swapper.layout }
+        ensures accounts { (o : InitialState) → KeepsOn o self.old.core.filer → Accounts o o self.old self.new result }
+        ensures evidence_seen { IfErr result (ShowsEvidence (state self.new.core).disk) }
+        ensures wrote { Wrote (state self.old.core).disk (state self.old.core).slots (state self.new.core).disk (state self.new.core).slots }
+        ensures stays { Stays self.old self.new }
         ensures running { self.new.running ≡ self.old.running }
         ensures kept { kept self.new.core ≡ kept self.old.core }
         ensures intervals { self.new.core.intervals ≡ self.old.core.intervals }
-        ensures cost { (D.state self.new.core.filer.swapper.disk).transfers ≤ (D.state self.old.core.filer.swapper.disk).transfers + (43 + 2 ^ 32 * (16 + 4 * self.old.core.filer.swapper.layout.vam) + 2 * (1 + 51 * most_records self.old.core.filer.swapper.layout.sectors)) }
-        ensures bounded { (spaces_of : TablesMeaning) (m : Machine) → IsSession spaces_of (D.state self.old.core.filer.swapper.disk) self.old.core.filer.swapper.pool self.old.core.filer.swapper.layout self.old.core.filer.runs self.old.volume m
-            → CostsInside (D.state self.old.core.filer.swapper.disk) (D.state self.new.core.filer.swapper.disk) }
-        ensures own { RelabelsOwn id (D.state self.old.core.filer.swapper.disk) (D.state self.new.core.filer.swapper.disk) }
+        ensures cost { (state self.new.core).disk.transfers ≤ (state self.old.core).disk.transfers + (43 + 2 ^ 32 * (16 + 4 * (state self.old.core).layout.vam) + 2 * (1 + 51 * most_records (state self.old.core).layout.sectors)) }
+        ensures bounded { (spaces_of : TablesMeaning) (m : Machine) → IsSession spaces_of (state self.old.core).disk (state self.old.core).slots (state self.old.core).layout (state self.old.core).runs self.old.volume m
+            → CostsInside (state self.old.core).disk (state self.new.core).disk }
+        ensures own { RelabelsOwn id (state self.old.core).disk (state self.new.core).disk }
     {
         match attributes_of(&mut self.core.filer, id) {
             Ok(Some(_)) => (),
@@ -74,25 +71,17 @@ impl<D: Disk, A: Allocator> Session<D, A> {
 
     // Removes a file, unless a window shows it.
     pub(crate) fn delete(&mut self, id: FileId) -> Result<Reply, Halt>
-        requires size { (D.state self.old.core.filer.swapper.disk).sectors ≡ self.old.core.filer.swapper.layout.sectors }
-        requires opened { IsOpen self.old.core.filer.swapper.layout self.old.volume }
-        ensures carried { (m : Machine) → Runs self.old.core self.old.volume m → IfOk result (Carried m (call.Delete id) self.new.core self.new.volume) }
-        ensures sound { (m : Machine) → Runs self.old.core self.old.volume m → IfErr result (λ e. e ≡ halt.Disk) }
-        ensures passes { (m : Machine) → Runs self.old.core self.old.volume m → Passes m (call.Delete id) (D.state self.old.core.filer.swapper.disk) (D.state self.new.core.filer.swapper.disk) }
-        ensures counted { result ≡ Err halt.Disk → Rose (D.state self.old.core.filer.swapper.disk).faults (D.state self.new.core.filer.swapper.disk).faults }
+        requires size { FitsLayout (state self.old.core) }
+        requires opened { IsOpen (state self.old.core).layout self.old.volume }
+        ensures answers { (m : Machine) → Runs self.old.core self.old.volume m → Answers m (call.Delete id) self.old self.new result }
+        ensures counted { result ≡ Err halt.Disk → Rose (state self.old.core).disk.faults (state self.new.core).disk.faults }
         ensures cause { IfErr result (OnNamedHalts id self.old.core.intervals (RemoveHalts id) (state self.old.core) (state self.new.core)) }
-        ensures keeps_to { (o : InitialState) → KeepsOn o self.old.core.filer → OnOk result (KeepsOn o self.new.core.filer) }
-        ensures reasons { (o : InitialState) → KeepsOn o self.old.core.filer → IfErr result (ShowsReason o self.old.core.filer.swapper.layout (D.state self.new.core.filer.swapper.disk)) }
-        ensures sees { (o : InitialState) → KeepsOn o self.old.core.filer → SeesHome o self.old.core → MatchResult result (λ _. SeesHome o self.new.core) (IsBlameless o (D.state self.new.core.filer.swapper.disk)) }
-        ensures evidence_seen { IfErr result (ShowsEvidence (D.state self.new.core.filer.swapper.disk)) }
-        ensures wrote { Wrote (D.state self.old.core.filer.swapper.disk) self.old.core.filer.swapper.pool (D.state self.new.core.filer.swapper.disk) self.new.core.filer.swapper.pool }
-        ensures open_still { IsOpen self.new.core.filer.swapper.layout self.new.volume }
-        ensures monotone { next_id self.old.volume.root ≤ next_id self.new.volume.root }
-        ensures serial { self.new.volume.root.serial ≡ self.old.volume.root.serial }
-        ensures layout { self.new.core.filer.swapper.layout ≡ self.old.core.filer.swapper.layout }
+        ensures accounts { (o : InitialState) → KeepsOn o self.old.core.filer → Accounts o o self.old self.new result }
+        ensures evidence_seen { IfErr result (ShowsEvidence (state self.new.core).disk) }
+        ensures wrote { Wrote (state self.old.core).disk (state self.old.core).slots (state self.new.core).disk (state self.new.core).slots }
+        ensures stays { Stays self.old self.new }
         ensures running { self.new.running ≡ self.old.running }
-        ensures cost { (m : Machine) → Runs self.old.core self.old.volume m → CostsOther (D.state self.old.core.filer.swapper.disk) (D.state self.new.core.filer.swapper.disk) }
-        ensures own { RelabelsOwn id (D.state self.old.core.filer.swapper.disk) (D.state self.new.core.filer.swapper.disk) }
+        ensures own { RelabelsOwn id (state self.old.core).disk (state self.new.core).disk }
     {
         let seen = match self.sight(id) {
             Ok(Sight::Hidden) => return Ok(Reply::Refused(Refusal::File)),

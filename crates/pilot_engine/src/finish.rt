@@ -22,6 +22,8 @@ ghost use Rattle.space_calls.specs.Halts.{After};
 ghost use Rattle.pilot_engine.specs.Halting.{ClearHalts, EndHalts, FreeTablesHalts, Made, WriteHalts};
 ghost use Rattle.file_manager.specs.Reasons.{KeepsBare, KeepsOn, InitialState, ShowsReason};
 ghost use Rattle.pilot_engine.specs.Reasons.{SeesHome, NeverBlamesEnd};
+ghost use Rattle.filer_kernel.specs.View.{disk_of, FitsLayout, HasMemory, SwapsOnly};
+ghost use Rattle.pilot_engine.specs.Calls.{AccountsEnd};
 
 use crate::Session;
 use crate::frames::look_at_frames;
@@ -59,23 +61,21 @@ fn closed(root: Root) -> Root
 impl<D: Disk, A: Allocator> Session<D, A> {
     // Gives up the frames of all pages that windows show. What is dirty is written out first.
     fn evict_root(&mut self) -> Result<(), Halt>
-        requires size { (D.state self.old.core.filer.swapper.disk).sectors ≡ self.old.core.filer.swapper.layout.sectors }
-        requires opened { IsOpen self.old.core.filer.swapper.layout self.old.volume }
+        requires size { FitsLayout (state self.old.core) }
+        requires opened { IsOpen (state self.old.core).layout self.old.volume }
         ensures alone { (m : Machine) → Runs self.old.core self.old.volume m
-            → OnOk result (IsAlone root_alone (D.state self.new.core.filer.swapper.disk) self.new.core.filer.swapper.pool self.new.core.filer.swapper.layout self.new.core.filer.runs self.new.volume (record m { spaces = root ∷ []; unforced = [] })) }
+            → OnOk result (IsAlone root_alone (state self.new.core).disk (state self.new.core).slots (state self.new.core).layout (state self.new.core).runs self.new.volume (record m { spaces = root ∷ []; unforced = [] })) }
         ensures sound { (m : Machine) → Runs self.old.core self.old.volume m → IfErr result (λ e. e ≡ halt.Disk) }
-        ensures stops { (m : Machine) → Runs self.old.core self.old.volume m → Throughout (IsOpenStop m) (D.state self.old.core.filer.swapper.disk) (D.state self.new.core.filer.swapper.disk) }
-        ensures counted { result ≡ Err halt.Disk → Rose (D.state self.old.core.filer.swapper.disk).faults (D.state self.new.core.filer.swapper.disk).faults }
+        ensures stops { (m : Machine) → Runs self.old.core self.old.volume m → Throughout (IsOpenStop m) (state self.old.core).disk (state self.new.core).disk }
+        ensures counted { result ≡ Err halt.Disk → Rose (state self.old.core).disk.faults (state self.new.core).disk.faults }
         ensures cause { IfErr result (ReachHalts (BreaksWithin (state self.old.core) self.old.core.intervals 0 root_pages) (state self.old.core) (state self.new.core)) }
-        ensures keeps_to { (o : InitialState) → KeepsOn o self.old.core.filer → OnOk result (KeepsOn o self.new.core.filer) }
-        ensures reasons { (o : InitialState) → KeepsOn o self.old.core.filer → IfErr result (ShowsReason o self.old.core.filer.swapper.layout (D.state self.new.core.filer.swapper.disk)) }
-        ensures sees { (o : InitialState) → KeepsOn o self.old.core.filer → SeesHome o self.old.core → MatchResult result (λ _. SeesHome o self.new.core) (NeverBlamesEnd o (D.state self.new.core.filer.swapper.disk)) }
-        ensures evidence_seen { IfErr result (ShowsEvidence (D.state self.new.core.filer.swapper.disk)) }
-        ensures wrote { Wrote (D.state self.old.core.filer.swapper.disk) self.old.core.filer.swapper.pool (D.state self.new.core.filer.swapper.disk) self.new.core.filer.swapper.pool }
-        ensures layout { self.new.core.filer.swapper.layout ≡ self.old.core.filer.swapper.layout }
-        ensures open_still { IsOpen self.new.core.filer.swapper.layout self.new.volume }
+        ensures accounts { (o : InitialState) → KeepsOn o self.old.core.filer → AccountsEnd o o self.old self.new result }
+        ensures evidence_seen { IfErr result (ShowsEvidence (state self.new.core).disk) }
+        ensures wrote { Wrote (state self.old.core).disk (state self.old.core).slots (state self.new.core).disk (state self.new.core).slots }
+        ensures layout { (state self.new.core).layout ≡ (state self.old.core).layout }
+        ensures open_still { IsOpen (state self.new.core).layout self.new.volume }
         ensures volume { self.new.volume ≡ self.old.volume }
-        ensures cost { (D.state self.new.core.filer.swapper.disk).transfers ≤ (D.state self.old.core.filer.swapper.disk).transfers + 1024 * (196 + length self.old.core.filer.swapper.pool) }
+        ensures cost { (state self.new.core).disk.transfers ≤ (state self.old.core).disk.transfers + 1024 * (196 + length (state self.old.core).slots) }
     {
         match self.core.evict(0, ROOT_PAGES) {
             Ok(()) => Ok(()),
@@ -85,23 +85,21 @@ impl<D: Disk, A: Allocator> Session<D, A> {
 
     // The same, of at most 4,096 frames.
     fn evict_all(&mut self) -> Result<(), Halt>
-        requires size { (D.state self.old.core.filer.swapper.disk).sectors ≡ self.old.core.filer.swapper.layout.sectors }
-        requires opened { IsOpen self.old.core.filer.swapper.layout self.old.volume }
+        requires size { FitsLayout (state self.old.core) }
+        requires opened { IsOpen (state self.old.core).layout self.old.volume }
         ensures alone { (m : Machine) → Runs self.old.core self.old.volume m
-            → OnOk result (IsAlone root_alone (D.state self.new.core.filer.swapper.disk) self.new.core.filer.swapper.pool self.new.core.filer.swapper.layout self.new.core.filer.runs self.new.volume (record m { spaces = root ∷ []; unforced = [] })) }
+            → OnOk result (IsAlone root_alone (state self.new.core).disk (state self.new.core).slots (state self.new.core).layout (state self.new.core).runs self.new.volume (record m { spaces = root ∷ []; unforced = [] })) }
         ensures sound { (m : Machine) → Runs self.old.core self.old.volume m → IfErr result (λ e. e ≡ halt.Disk) }
-        ensures stops { (m : Machine) → Runs self.old.core self.old.volume m → Throughout (IsOpenStop m) (D.state self.old.core.filer.swapper.disk) (D.state self.new.core.filer.swapper.disk) }
-        ensures counted { result ≡ Err halt.Disk → Rose (D.state self.old.core.filer.swapper.disk).faults (D.state self.new.core.filer.swapper.disk).faults }
+        ensures stops { (m : Machine) → Runs self.old.core self.old.volume m → Throughout (IsOpenStop m) (state self.old.core).disk (state self.new.core).disk }
+        ensures counted { result ≡ Err halt.Disk → Rose (state self.old.core).disk.faults (state self.new.core).disk.faults }
         ensures cause { IfErr result (ReachHalts (BreaksWithin (state self.old.core) self.old.core.intervals 0 root_pages) (state self.old.core) (state self.new.core)) }
-        ensures keeps_to { (o : InitialState) → KeepsOn o self.old.core.filer → OnOk result (KeepsOn o self.new.core.filer) }
-        ensures reasons { (o : InitialState) → KeepsOn o self.old.core.filer → IfErr result (ShowsReason o self.old.core.filer.swapper.layout (D.state self.new.core.filer.swapper.disk)) }
-        ensures sees { (o : InitialState) → KeepsOn o self.old.core.filer → SeesHome o self.old.core → MatchResult result (λ _. SeesHome o self.new.core) (NeverBlamesEnd o (D.state self.new.core.filer.swapper.disk)) }
-        ensures evidence_seen { IfErr result (ShowsEvidence (D.state self.new.core.filer.swapper.disk)) }
-        ensures wrote { Wrote (D.state self.old.core.filer.swapper.disk) self.old.core.filer.swapper.pool (D.state self.new.core.filer.swapper.disk) self.new.core.filer.swapper.pool }
-        ensures layout { self.new.core.filer.swapper.layout ≡ self.old.core.filer.swapper.layout }
-        ensures open_still { IsOpen self.new.core.filer.swapper.layout self.new.volume }
+        ensures accounts { (o : InitialState) → KeepsOn o self.old.core.filer → AccountsEnd o o self.old self.new result }
+        ensures evidence_seen { IfErr result (ShowsEvidence (state self.new.core).disk) }
+        ensures wrote { Wrote (state self.old.core).disk (state self.old.core).slots (state self.new.core).disk (state self.new.core).slots }
+        ensures layout { (state self.new.core).layout ≡ (state self.old.core).layout }
+        ensures open_still { IsOpen (state self.new.core).layout self.new.volume }
         ensures volume { self.new.volume ≡ self.old.volume }
-        ensures cost { (D.state self.new.core.filer.swapper.disk).transfers ≤ (D.state self.old.core.filer.swapper.disk).transfers + 1024 * (196 + 4096) }
+        ensures cost { (state self.new.core).disk.transfers ≤ (state self.old.core).disk.transfers + 1024 * (196 + 4096) }
     {
         look_at_frames(&mut self.core.filer);
         match self.evict_root() {
@@ -112,25 +110,25 @@ impl<D: Disk, A: Allocator> Session<D, A> {
 
     // Deletes the temporary files, and frees the pages of the space tables.
     fn empty(&mut self) -> Result<(), Halt>
-        requires size { (D.state self.old.core.filer.swapper.disk).sectors ≡ self.old.core.filer.swapper.layout.sectors }
-        requires opened { IsOpen self.old.core.filer.swapper.layout self.old.volume }
-        ensures emptied { (spaces_of : TablesMeaning) (m : Machine) → IsAlone spaces_of (D.state self.old.core.filer.swapper.disk) self.old.core.filer.swapper.pool self.old.core.filer.swapper.layout self.old.core.filer.runs self.old.volume m
-            → OnOk result (IsEmptied m self.new.volume.root (D.state self.new.core.filer.swapper.disk) self.new.core.filer.swapper.pool) }
-        ensures sound { (spaces_of : TablesMeaning) (m : Machine) → IsAlone spaces_of (D.state self.old.core.filer.swapper.disk) self.old.core.filer.swapper.pool self.old.core.filer.swapper.layout self.old.core.filer.runs self.old.volume m
+        requires size { FitsLayout (state self.old.core) }
+        requires opened { IsOpen (state self.old.core).layout self.old.volume }
+        ensures emptied { (spaces_of : TablesMeaning) (m : Machine) → IsAlone spaces_of (state self.old.core).disk (state self.old.core).slots (state self.old.core).layout (state self.old.core).runs self.old.volume m
+            → OnOk result (IsEmptied m self.new.volume.root (state self.new.core).disk (state self.new.core).slots) }
+        ensures sound { (spaces_of : TablesMeaning) (m : Machine) → IsAlone spaces_of (state self.old.core).disk (state self.old.core).slots (state self.old.core).layout (state self.old.core).runs self.old.volume m
             → IfErr result (λ e. e ≡ halt.Disk) }
-        ensures stops { (spaces_of : TablesMeaning) (m : Machine) → IsAlone spaces_of (D.state self.old.core.filer.swapper.disk) self.old.core.filer.swapper.pool self.old.core.filer.swapper.layout self.old.core.filer.runs self.old.volume m
-            → Throughout (IsOpenStop m) (D.state self.old.core.filer.swapper.disk) (D.state self.new.core.filer.swapper.disk) }
-        ensures counted { result ≡ Err halt.Disk → Rose (D.state self.old.core.filer.swapper.disk).faults (D.state self.new.core.filer.swapper.disk).faults }
+        ensures stops { (spaces_of : TablesMeaning) (m : Machine) → IsAlone spaces_of (state self.old.core).disk (state self.old.core).slots (state self.old.core).layout (state self.old.core).runs self.old.volume m
+            → Throughout (IsOpenStop m) (state self.old.core).disk (state self.new.core).disk }
+        ensures counted { result ≡ Err halt.Disk → Rose (state self.old.core).disk.faults (state self.new.core).disk.faults }
         ensures cause { IfErr result (After Made (λ u x e. ClearHalts u x e ⊎ FreeTablesHalts u x e) (state self.old.core) (state self.new.core)) }
         ensures keeps_to { (o : InitialState) → KeepsOn o self.old.core.filer → OnOk result (KeepsBare o self.new.core.filer) }
-        ensures reasons { (o : InitialState) → KeepsOn o self.old.core.filer → IfErr result (ShowsReason o self.old.core.filer.swapper.layout (D.state self.new.core.filer.swapper.disk)) }
-        ensures sees { (o : InitialState) → KeepsOn o self.old.core.filer → SeesHome o self.old.core → IfErr result (NeverBlamesEnd o (D.state self.new.core.filer.swapper.disk)) }
-        ensures evidence_seen { IfErr result (ShowsEvidence (D.state self.new.core.filer.swapper.disk)) }
-        ensures wrote { Wrote (D.state self.old.core.filer.swapper.disk) self.old.core.filer.swapper.pool (D.state self.new.core.filer.swapper.disk) self.new.core.filer.swapper.pool }
-        ensures open_still { IsOpen self.new.core.filer.swapper.layout self.new.volume }
-        ensures layout { self.new.core.filer.swapper.layout ≡ self.old.core.filer.swapper.layout }
-        ensures cost { (spaces_of : TablesMeaning) (m : Machine) → IsAlone spaces_of (D.state self.old.core.filer.swapper.disk) self.old.core.filer.swapper.pool self.old.core.filer.swapper.layout self.old.core.filer.runs self.old.volume m
-            → (D.state self.new.core.filer.swapper.disk).transfers ≤ (D.state self.old.core.filer.swapper.disk).transfers + emptying_bound self.old.core.filer.swapper.layout.sectors }
+        ensures reasons { (o : InitialState) → KeepsOn o self.old.core.filer → IfErr result (ShowsReason o (state self.old.core).layout (state self.new.core).disk) }
+        ensures sees { (o : InitialState) → KeepsOn o self.old.core.filer → SeesHome o self.old.core → IfErr result (NeverBlamesEnd o (state self.new.core).disk) }
+        ensures evidence_seen { IfErr result (ShowsEvidence (state self.new.core).disk) }
+        ensures wrote { Wrote (state self.old.core).disk (state self.old.core).slots (state self.new.core).disk (state self.new.core).slots }
+        ensures open_still { IsOpen (state self.new.core).layout self.new.volume }
+        ensures layout { (state self.new.core).layout ≡ (state self.old.core).layout }
+        ensures cost { (spaces_of : TablesMeaning) (m : Machine) → IsAlone spaces_of (state self.old.core).disk (state self.old.core).slots (state self.old.core).layout (state self.old.core).runs self.old.volume m
+            → (state self.new.core).disk.transfers ≤ (state self.old.core).disk.transfers + emptying_bound (state self.old.core).layout.sectors }
     {
         match self.delete_temporary() {
             Ok(()) => (),
@@ -144,19 +142,19 @@ impl<D: Disk, A: Allocator> Session<D, A> {
 
     // Writes out the dirty pages of a map.
     fn write_map(&mut self, which: Manager) -> Result<(), Halt>
-        requires size { (D.state self.old.core.filer.swapper.disk).sectors ≡ self.old.core.filer.swapper.layout.sectors }
-        ensures clean { OnOk result ((page : ℕ) → IsDirty self.new.core.filer.swapper.pool (id_of which) page → ⊥) }
-        ensures sound { (x : List Sector) → Stands (D.state self.old.core.filer.swapper.disk) self.old.core.filer.swapper.pool x → IfErr result (λ e. e ≡ halt.Disk) }
-        ensures counted { result ≡ Err halt.Disk → Rose (D.state self.old.core.filer.swapper.disk).faults (D.state self.new.core.filer.swapper.disk).faults }
+        requires size { FitsLayout (state self.old.core) }
+        ensures clean { OnOk result ((page : ℕ) → IsDirty (state self.new.core).slots (id_of which) page → ⊥) }
+        ensures sound { (x : List Sector) → HasMemory (state self.old.core) x → IfErr result (λ e. e ≡ halt.Disk) }
+        ensures counted { result ≡ Err halt.Disk → Rose (state self.old.core).disk.faults (state self.new.core).disk.faults }
         ensures cause { IfErr result (WriteHalts (state self.old.core) (state self.new.core)) }
         ensures keeps_to { (o : InitialState) → KeepsBare o self.old.core.filer → OnOk result (KeepsBare o self.new.core.filer) }
-        ensures reasons { (o : InitialState) → KeepsBare o self.old.core.filer → IfErr result (ShowsReason o self.old.core.filer.swapper.layout (D.state self.new.core.filer.swapper.disk)) }
-        ensures right { (o : InitialState) → IfErr result (NeverBlamesEnd o (D.state self.new.core.filer.swapper.disk)) }
-        ensures evidence_seen { IfErr result (ShowsEvidence (D.state self.new.core.filer.swapper.disk)) }
-        ensures swaps { Swaps (D.state self.old.core.filer.swapper.disk) self.old.core.filer.swapper.pool (D.state self.new.core.filer.swapper.disk) self.new.core.filer.swapper.pool }
-        ensures layout { self.new.core.filer.swapper.layout ≡ self.old.core.filer.swapper.layout }
+        ensures reasons { (o : InitialState) → KeepsBare o self.old.core.filer → IfErr result (ShowsReason o (state self.old.core).layout (state self.new.core).disk) }
+        ensures right { (o : InitialState) → IfErr result (NeverBlamesEnd o (state self.new.core).disk) }
+        ensures evidence_seen { IfErr result (ShowsEvidence (state self.new.core).disk) }
+        ensures swaps { SwapsOnly (state self.old.core) (state self.new.core) }
+        ensures layout { (state self.new.core).layout ≡ (state self.old.core).layout }
         ensures volume { self.new.volume ≡ self.old.volume }
-        ensures cost { (D.state self.new.core.filer.swapper.disk).transfers ≤ (D.state self.old.core.filer.swapper.disk).transfers + 4096 }
+        ensures cost { (state self.new.core).disk.transfers ≤ (state self.old.core).disk.transfers + 4096 }
     {
         let swapper = self.core.filer.swapper_over();
         let layout = swapper.layout();
@@ -169,19 +167,19 @@ impl<D: Disk, A: Allocator> Session<D, A> {
 
     // Writes out the dirty pages of both maps.
     fn write_maps(&mut self) -> Result<(), Halt>
-        requires size { (D.state self.old.core.filer.swapper.disk).sectors ≡ self.old.core.filer.swapper.layout.sectors }
-        ensures clean { OnOk result (AreWritten self.new.core.filer.swapper.pool) }
-        ensures sound { (x : List Sector) → Stands (D.state self.old.core.filer.swapper.disk) self.old.core.filer.swapper.pool x → IfErr result (λ e. e ≡ halt.Disk) }
-        ensures counted { result ≡ Err halt.Disk → Rose (D.state self.old.core.filer.swapper.disk).faults (D.state self.new.core.filer.swapper.disk).faults }
+        requires size { FitsLayout (state self.old.core) }
+        ensures clean { OnOk result (AreWritten (state self.new.core).slots) }
+        ensures sound { (x : List Sector) → HasMemory (state self.old.core) x → IfErr result (λ e. e ≡ halt.Disk) }
+        ensures counted { result ≡ Err halt.Disk → Rose (state self.old.core).disk.faults (state self.new.core).disk.faults }
         ensures cause { IfErr result (After Made WriteHalts (state self.old.core) (state self.new.core)) }
         ensures keeps_to { (o : InitialState) → KeepsBare o self.old.core.filer → OnOk result (KeepsBare o self.new.core.filer) }
-        ensures reasons { (o : InitialState) → KeepsBare o self.old.core.filer → IfErr result (ShowsReason o self.old.core.filer.swapper.layout (D.state self.new.core.filer.swapper.disk)) }
-        ensures right { (o : InitialState) → IfErr result (NeverBlamesEnd o (D.state self.new.core.filer.swapper.disk)) }
-        ensures evidence_seen { IfErr result (ShowsEvidence (D.state self.new.core.filer.swapper.disk)) }
-        ensures swaps { Swaps (D.state self.old.core.filer.swapper.disk) self.old.core.filer.swapper.pool (D.state self.new.core.filer.swapper.disk) self.new.core.filer.swapper.pool }
-        ensures layout { self.new.core.filer.swapper.layout ≡ self.old.core.filer.swapper.layout }
+        ensures reasons { (o : InitialState) → KeepsBare o self.old.core.filer → IfErr result (ShowsReason o (state self.old.core).layout (state self.new.core).disk) }
+        ensures right { (o : InitialState) → IfErr result (NeverBlamesEnd o (state self.new.core).disk) }
+        ensures evidence_seen { IfErr result (ShowsEvidence (state self.new.core).disk) }
+        ensures swaps { SwapsOnly (state self.old.core) (state self.new.core) }
+        ensures layout { (state self.new.core).layout ≡ (state self.old.core).layout }
         ensures volume { self.new.volume ≡ self.old.volume }
-        ensures cost { (D.state self.new.core.filer.swapper.disk).transfers ≤ (D.state self.old.core.filer.swapper.disk).transfers + 8192 }
+        ensures cost { (state self.new.core).disk.transfers ≤ (state self.old.core).disk.transfers + 8192 }
     {
         match self.write_map(Manager::AllocationMap) {
             Ok(()) => (),
@@ -195,19 +193,19 @@ impl<D: Disk, A: Allocator> Session<D, A> {
 
     // The same, and waits until all that was written is on the medium: what is written next comes after it there, too.
     fn sync_maps(&mut self) -> Result<(), Halt>
-        requires size { (D.state self.old.core.filer.swapper.disk).sectors ≡ self.old.core.filer.swapper.layout.sectors }
-        ensures clean { OnOk result (AreWritten self.new.core.filer.swapper.pool) }
-        ensures synced { OnOk result ((D.state self.new.core.filer.swapper.disk).synced ≡ true) }
-        ensures sound { (x : List Sector) → Stands (D.state self.old.core.filer.swapper.disk) self.old.core.filer.swapper.pool x → IfErr result (λ e. e ≡ halt.Disk) }
-        ensures counted { result ≡ Err halt.Disk → Rose (D.state self.old.core.filer.swapper.disk).faults (D.state self.new.core.filer.swapper.disk).faults }
+        requires size { FitsLayout (state self.old.core) }
+        ensures clean { OnOk result (AreWritten (state self.new.core).slots) }
+        ensures synced { OnOk result ((state self.new.core).disk.synced ≡ true) }
+        ensures sound { (x : List Sector) → HasMemory (state self.old.core) x → IfErr result (λ e. e ≡ halt.Disk) }
+        ensures counted { result ≡ Err halt.Disk → Rose (state self.old.core).disk.faults (state self.new.core).disk.faults }
         ensures cause { IfErr result (After Made WriteHalts (state self.old.core) (state self.new.core)) }
-        ensures reasons { (o : InitialState) → KeepsBare o self.old.core.filer → IfErr result (ShowsReason o self.old.core.filer.swapper.layout (D.state self.new.core.filer.swapper.disk)) }
-        ensures right { (o : InitialState) → IfErr result (NeverBlamesEnd o (D.state self.new.core.filer.swapper.disk)) }
-        ensures evidence_seen { IfErr result (ShowsEvidence (D.state self.new.core.filer.swapper.disk)) }
-        ensures swaps { Swaps (D.state self.old.core.filer.swapper.disk) self.old.core.filer.swapper.pool (D.state self.new.core.filer.swapper.disk) self.new.core.filer.swapper.pool }
-        ensures layout { self.new.core.filer.swapper.layout ≡ self.old.core.filer.swapper.layout }
+        ensures reasons { (o : InitialState) → KeepsBare o self.old.core.filer → IfErr result (ShowsReason o (state self.old.core).layout (state self.new.core).disk) }
+        ensures right { (o : InitialState) → IfErr result (NeverBlamesEnd o (state self.new.core).disk) }
+        ensures evidence_seen { IfErr result (ShowsEvidence (state self.new.core).disk) }
+        ensures swaps { SwapsOnly (state self.old.core) (state self.new.core) }
+        ensures layout { (state self.new.core).layout ≡ (state self.old.core).layout }
         ensures volume { self.new.volume ≡ self.old.volume }
-        ensures cost { (D.state self.new.core.filer.swapper.disk).transfers ≤ (D.state self.old.core.filer.swapper.disk).transfers + 8192 }
+        ensures cost { (state self.new.core).disk.transfers ≤ (state self.old.core).disk.transfers + 8192 }
     {
         match self.write_maps() {
             Ok(()) => (),
@@ -221,17 +219,17 @@ impl<D: Disk, A: Allocator> Session<D, A> {
 
     // Writes the root of the closed volume.
     fn write_clean(&mut self) -> Result<(), Halt>
-        requires size { (D.state self.old.core.filer.swapper.disk).sectors ≡ self.old.core.filer.swapper.layout.sectors }
-        requires opened { IsOpen self.old.core.filer.swapper.layout self.old.volume }
-        ensures made { (m : Machine) → IsReady m self.old.volume.root (D.state self.old.core.filer.swapper.disk) → OnOk result (RevealsShut m (D.state self.new.core.filer.swapper.disk)) }
+        requires size { FitsLayout (state self.old.core) }
+        requires opened { IsOpen (state self.old.core).layout self.old.volume }
+        ensures made { (m : Machine) → IsReady m self.old.volume.root (state self.old.core).disk → OnOk result (RevealsShut m (state self.new.core).disk) }
         ensures fault { IfErr result (λ e. e ≡ halt.Disk) }
-        ensures counted { OnErr result (Rose (D.state self.old.core.filer.swapper.disk).faults (D.state self.new.core.filer.swapper.disk).faults) }
-        ensures stops { (m : Machine) → IsReady m self.old.volume.root (D.state self.old.core.filer.swapper.disk) → ((d : List Sector) → (D.state self.old.core.filer.swapper.disk).contents ≡ Some d → IsOpenStop m d)
-            → Throughout (IsStop m) (D.state self.old.core.filer.swapper.disk) (D.state self.new.core.filer.swapper.disk) }
-        ensures wrote { WroteAny (D.state self.old.core.filer.swapper.disk) self.old.core.filer.swapper.pool (D.state self.new.core.filer.swapper.disk) self.new.core.filer.swapper.pool }
-        ensures sets { (m : Machine) → IsReady m self.old.volume.root (D.state self.old.core.filer.swapper.disk)
-            → MayClose self.old.volume.root (D.state self.old.core.filer.swapper.disk) (D.state self.new.core.filer.swapper.disk) }
-        ensures cost { (D.state self.new.core.filer.swapper.disk).transfers ≤ (D.state self.old.core.filer.swapper.disk).transfers + 1 }
+        ensures counted { OnErr result (Rose (state self.old.core).disk.faults (state self.new.core).disk.faults) }
+        ensures stops { (m : Machine) → IsReady m self.old.volume.root (state self.old.core).disk → ((d : List Sector) → (state self.old.core).disk.contents ≡ Some d → IsOpenStop m d)
+            → Throughout (IsStop m) (state self.old.core).disk (state self.new.core).disk }
+        ensures wrote { WroteAny (state self.old.core).disk (state self.old.core).slots (state self.new.core).disk (state self.new.core).slots }
+        ensures sets { (m : Machine) → IsReady m self.old.volume.root (state self.old.core).disk
+            → MayClose self.old.volume.root (state self.old.core).disk (state self.new.core).disk }
+        ensures cost { (state self.new.core).disk.transfers ≤ (state self.old.core).disk.transfers + 1 }
     {
         let root = closed(self.volume.root);
         let disk = self.core.filer.disk_over();
@@ -243,26 +241,26 @@ impl<D: Disk, A: Allocator> Session<D, A> {
 
     // Closes the volume.
     fn close(&mut self) -> Result<(), Halt>
-        requires size { (D.state self.old.core.filer.swapper.disk).sectors ≡ self.old.core.filer.swapper.layout.sectors }
-        requires opened { IsOpen self.old.core.filer.swapper.layout self.old.volume }
+        requires size { FitsLayout (state self.old.core) }
+        requires opened { IsOpen (state self.old.core).layout self.old.volume }
         ensures closed { (m : Machine) → Runs self.old.core self.old.volume m
-            → OnOk result (HasShut m (D.state self.new.core.filer.swapper.disk)) }
+            → OnOk result (HasShut m (state self.new.core).disk) }
         ensures sound { (m : Machine) → Runs self.old.core self.old.volume m
             → IfErr result (λ e. e ≡ halt.Disk) }
-        ensures synced { OnOk result ((D.state self.new.core.filer.swapper.disk).synced ≡ true) }
+        ensures synced { OnOk result ((state self.new.core).disk.synced ≡ true) }
         ensures stops { (m : Machine) → Runs self.old.core self.old.volume m
-            → Throughout (IsStop m) (D.state self.old.core.filer.swapper.disk) (D.state self.new.core.filer.swapper.disk) }
-        ensures counted { result ≡ Err halt.Disk → Rose (D.state self.old.core.filer.swapper.disk).faults (D.state self.new.core.filer.swapper.disk).faults }
+            → Throughout (IsStop m) (state self.old.core).disk (state self.new.core).disk }
+        ensures counted { result ≡ Err halt.Disk → Rose (state self.old.core).disk.faults (state self.new.core).disk.faults }
         ensures cause { IfErr result (EndHalts self.old.core.intervals (state self.old.core) (state self.new.core)) }
-        ensures reasons { (o : InitialState) → KeepsOn o self.old.core.filer → IfErr result (ShowsReason o self.old.core.filer.swapper.layout (D.state self.new.core.filer.swapper.disk)) }
-        ensures sees { (o : InitialState) → KeepsOn o self.old.core.filer → SeesHome o self.old.core → IfErr result (NeverBlamesEnd o (D.state self.new.core.filer.swapper.disk)) }
-        ensures evidence_seen { IfErr result (ShowsEvidence (D.state self.new.core.filer.swapper.disk)) }
-        ensures left_open { IsUnset (D.state self.old.core.filer.swapper.disk) → IfErr result (LeavesOpen (D.state self.new.core.filer.swapper.disk)) }
-        ensures wrote { WroteAny (D.state self.old.core.filer.swapper.disk) self.old.core.filer.swapper.pool (D.state self.new.core.filer.swapper.disk) self.new.core.filer.swapper.pool }
+        ensures reasons { (o : InitialState) → KeepsOn o self.old.core.filer → IfErr result (ShowsReason o (state self.old.core).layout (state self.new.core).disk) }
+        ensures sees { (o : InitialState) → KeepsOn o self.old.core.filer → SeesHome o self.old.core → IfErr result (NeverBlamesEnd o (state self.new.core).disk) }
+        ensures evidence_seen { IfErr result (ShowsEvidence (state self.new.core).disk) }
+        ensures left_open { IsUnset (state self.old.core).disk → IfErr result (LeavesOpen (state self.new.core).disk) }
+        ensures wrote { WroteAny (state self.old.core).disk (state self.old.core).slots (state self.new.core).disk (state self.new.core).slots }
         ensures syncs { (m : Machine) → Runs self.old.core self.old.volume m
-            → ShutsBySync (D.state self.old.core.filer.swapper.disk) (D.state self.new.core.filer.swapper.disk) }
+            → ShutsBySync (state self.old.core).disk (state self.new.core).disk }
         ensures cost { (m : Machine) → Runs self.old.core self.old.volume m
-            → CostsOther (D.state self.old.core.filer.swapper.disk) (D.state self.new.core.filer.swapper.disk) }
+            → CostsOther (state self.old.core).disk (state self.new.core).disk }
     {
         match self.evict_all() {
             Ok(()) => (),
@@ -288,7 +286,7 @@ impl<D: Disk, A: Allocator> Session<D, A> {
 
     /// The disk, as it stands: what is dirty in frames is lost, and the volume stays open.
     pub fn into_disk(self) -> D
-        ensures { result ≡ self.core.filer.swapper.disk }
+        ensures { result ≡ (disk_of self.core.filer) }
     {
         let Session {
             core,
@@ -302,8 +300,8 @@ impl<D: Disk, A: Allocator> Session<D, A> {
     /// freed, both maps are written, and once all of it is on the medium the root with its clean flag set, which then is
     /// so too. After a halt the volume is to be restored before it can be opened.
     pub fn finish(self) -> (Result<(), Halt>, D)
-        requires size { (D.state self.core.filer.swapper.disk).sectors ≡ self.core.filer.swapper.layout.sectors }
-        requires opened { IsOpen self.core.filer.swapper.layout self.volume }
+        requires size { FitsLayout (state self.core) }
+        requires opened { IsOpen (state self.core).layout self.volume }
         requires running { self.running ≡ true }
         ensures closed { (m : Machine) → Runs self.core self.volume m
             → OnOk result.0 (HasShut m (D.state result.1)) }
@@ -311,18 +309,18 @@ impl<D: Disk, A: Allocator> Session<D, A> {
             → IfErr result.0 (λ e. e ≡ halt.Disk) }
         ensures synced { OnOk result.0 ((D.state result.1).synced ≡ true) }
         ensures stops { (m : Machine) → Runs self.core self.volume m
-            → Throughout (IsStop m) (D.state self.core.filer.swapper.disk) (D.state result.1) }
-        ensures counted { result.0 ≡ Err halt.Disk → Rose (D.state self.core.filer.swapper.disk).faults (D.state result.1).faults }
+            → Throughout (IsStop m) (state self.core).disk (D.state result.1) }
+        ensures counted { result.0 ≡ Err halt.Disk → Rose (state self.core).disk.faults (D.state result.1).faults }
         ensures cause { IfErr result.0 (EndHalts self.core.intervals (state self.core) (record (state self.core) { disk = D.state result.1 })) }
-        ensures reasons { (o : InitialState) → KeepsOn o self.core.filer → IfErr result.0 (ShowsReason o self.core.filer.swapper.layout (D.state result.1)) }
+        ensures reasons { (o : InitialState) → KeepsOn o self.core.filer → IfErr result.0 (ShowsReason o (state self.core).layout (D.state result.1)) }
         ensures sees { (o : InitialState) → KeepsOn o self.core.filer → SeesHome o self.core → IfErr result.0 (NeverBlamesEnd o (D.state result.1)) }
         ensures evidence_seen { IfErr result.0 (ShowsEvidence (D.state result.1)) }
-        ensures left_open { IsUnset (D.state self.core.filer.swapper.disk) → IfErr result.0 (LeavesOpen (D.state result.1)) }
-        ensures wrote { WroteOn self.core.filer.swapper.pool (D.state self.core.filer.swapper.disk) (D.state result.1) }
+        ensures left_open { IsUnset (state self.core).disk → IfErr result.0 (LeavesOpen (D.state result.1)) }
+        ensures wrote { WroteOn (state self.core).slots (state self.core).disk (D.state result.1) }
         ensures syncs { (m : Machine) → Runs self.core self.volume m
-            → ShutsBySync (D.state self.core.filer.swapper.disk) (D.state result.1) }
+            → ShutsBySync (state self.core).disk (D.state result.1) }
         ensures cost { (m : Machine) → Runs self.core self.volume m
-            → CostsOther (D.state self.core.filer.swapper.disk) (D.state result.1) }
+            → CostsOther (state self.core).disk (D.state result.1) }
     {
         let mut session = self;
         let closed = session.close();

@@ -15,6 +15,8 @@ ghost use Rattle.pilot_engine.specs.NewCrashStates.{KeepsNew};
 ghost use Rattle.pilot_engine.specs.Opening.{IsBare, IsDiskFault, IsEarly, IsOutside, IsSoAtStart, IsUnset, LeavesOpenAtStart};
 ghost use Rattle.running_words.specs.Running.{Runs};
 ghost use Rattle.running_words.specs.Session.{IsOpen};
+ghost use Rattle.filer_kernel.specs.View.{disk_of, FitsLayout, view_of};
+ghost use Rattle.fault_core.specs.Core.{state};
 
 use crate::start::begin;
 use crate::{Session, StartFault};
@@ -34,12 +36,12 @@ fn frames_for<D: Disk, A: Allocator>(
     requires least { 24 ≤ frames }
     requires most { frames ≤ 4096 }
     ensures count { IfOk result (λ r. IsCount (D.state disk).sectors) }
-    ensures layout { IfOk result (λ r. r.1 ≡ r.0.swapper.layout) }
-    ensures size { IfOk result (λ r. (D.state r.0.swapper.disk).sectors ≡ r.0.swapper.layout.sectors) }
-    ensures disk { IfOk result (λ r. r.0.swapper.disk ≡ disk) }
-    ensures bare { IfOk result (λ r. IsBare r.0.swapper.pool) }
+    ensures layout { IfOk result (λ r. r.1 ≡ (view_of r.0).layout) }
+    ensures size { IfOk result (λ r. (view_of r.0).disk.sectors ≡ (view_of r.0).layout.sectors) }
+    ensures disk { IfOk result (λ r. (disk_of r.0) ≡ disk) }
+    ensures bare { IfOk result (λ r. IsBare (view_of r.0).slots) }
     ensures no_runs { IfOk result (λ r. (n : ℕ) → runs_of n r.0.runs ≡ []) }
-    ensures frames { IfOk result (λ r. length r.0.swapper.pool ≡ frames) }
+    ensures frames { IfOk result (λ r. length (view_of r.0).slots ≡ frames) }
     ensures refused { IfErr result (λ e. IsFreshFault (D.state disk).sectors e.0 × IsEarly e.0) }
     ensures back { IfErr result (λ e. e.1 ≡ disk) }
 {
@@ -55,16 +57,16 @@ fn frames_for<D: Disk, A: Allocator>(
 
 // Makes a volume of all sectors of the disk, with serial 1 and counter 1, and gives its root. No frame is over a sector.
 fn make_volume<D: Disk, A: Allocator>(filer: &mut Filer<D, A>) -> Result<Root, Halt>
-    requires count { IsCount (D.state filer.old.swapper.disk).sectors }
-    ensures root { IfOk result (λ root. root ≡ new_root (D.state filer.old.swapper.disk).sectors 1 1) }
-    ensures made { OnOk result (MadeVolume (D.state filer.old.swapper.disk) (D.state filer.new.swapper.disk)) }
-    ensures part { OnErr result (BeganVolume (D.state filer.old.swapper.disk) (D.state filer.new.swapper.disk)) }
+    requires count { IsCount (view_of filer.old).disk.sectors }
+    ensures root { IfOk result (λ root. root ≡ new_root (view_of filer.old).disk.sectors 1 1) }
+    ensures made { OnOk result (MadeVolume (view_of filer.old).disk (view_of filer.new).disk) }
+    ensures part { OnErr result (BeganVolume (view_of filer.old).disk (view_of filer.new).disk) }
     ensures fault { IfErr result (λ e. e ≡ halt.Disk) }
-    ensures counted { OnErr result (Rose (D.state filer.old.swapper.disk).faults (D.state filer.new.swapper.disk).faults) }
-    ensures later { IsLater (D.state filer.old.swapper.disk) (D.state filer.new.swapper.disk) }
-    ensures frames { filer.new.swapper.pool ≡ filer.old.swapper.pool }
-    ensures layout { filer.new.swapper.layout ≡ filer.old.swapper.layout }
-    ensures runs { filer.new.runs ≡ filer.old.runs }
+    ensures counted { OnErr result (Rose (view_of filer.old).disk.faults (view_of filer.new).disk.faults) }
+    ensures later { IsLater (view_of filer.old).disk (view_of filer.new).disk }
+    ensures frames { (view_of filer.new).slots ≡ (view_of filer.old).slots }
+    ensures layout { (view_of filer.new).layout ≡ (view_of filer.old).layout }
+    ensures runs { (view_of filer.new).runs ≡ (view_of filer.old).runs }
 {
     let disk = filer.disk_over();
     match format(disk, 1, 1) {
@@ -88,10 +90,10 @@ impl<D: Disk, A: Allocator> Session<D, A> {
         requires most { frames ≤ 4096 }
         ensures stands { (d : List Sector) → (D.state disk).contents ≡ Some d
             → IfOk result (λ s. Runs s.core s.volume (opened 1 1 (capacity (D.state disk).sectors))) }
-        ensures size { IfOk result (λ s. (D.state s.core.filer.swapper.disk).sectors ≡ s.core.filer.swapper.layout.sectors) }
-        ensures opened { IfOk result (λ s. IsOpen s.core.filer.swapper.layout s.volume) }
+        ensures size { IfOk result (λ s. FitsLayout (state s.core)) }
+        ensures opened { IfOk result (λ s. IsOpen (state s.core).layout s.volume) }
         ensures running { IfOk result (λ s. s.running ≡ true) }
-        ensures frames { IfOk result (λ s. length s.core.filer.swapper.pool ≡ frames) }
+        ensures frames { IfOk result (λ s. length (state s.core).slots ≡ frames) }
 
         // No session starts.
         ensures count { ¬ IsCount (D.state disk).sectors → MatchResult result (λ s. ⊥) (λ e. e.0 ≡ start_fault.Root (fault.BadCount (D.state disk).sectors)) }
@@ -103,13 +105,13 @@ impl<D: Disk, A: Allocator> Session<D, A> {
         ensures evidence_seen { IfErr result (λ e. IsSoAtStart (D.state e.1) e.0) }
 
         // What was written, whether or not one starts.
-        ensures wrote { MatchResult result (λ s. WroteOnNew (D.state disk) (D.state s.core.filer.swapper.disk)) (λ e. BeganVolume (D.state disk) (D.state e.1) ⊎ WroteOnNew (D.state disk) (D.state e.1)) }
+        ensures wrote { MatchResult result (λ s. WroteOnNew (D.state disk) (state s.core).disk) (λ e. BeganVolume (D.state disk) (D.state e.1) ⊎ WroteOnNew (D.state disk) (D.state e.1)) }
         ensures crash_states { (d : List Sector) → (D.state disk).contents ≡ Some d
-            → MatchResult result (λ s. KeepsNew (D.state disk) (D.state s.core.filer.swapper.disk)) (λ e. BeganVolume (D.state disk) (D.state e.1) ⊎ KeepsNew (D.state disk) (D.state e.1)) }
-        ensures left_open { MatchResult result (λ s. IsUnset (D.state s.core.filer.swapper.disk)) (λ e. LeavesOpenAtStart (D.state e.1) e.0) }
+            → MatchResult result (λ s. KeepsNew (D.state disk) (state s.core).disk) (λ e. BeganVolume (D.state disk) (D.state e.1) ⊎ KeepsNew (D.state disk) (D.state e.1)) }
+        ensures left_open { MatchResult result (λ s. IsUnset (state s.core).disk) (λ e. LeavesOpenAtStart (D.state e.1) e.0) }
 
         // The disk is the same, later.
-        ensures later { MatchResult result (λ s. IsLater (D.state disk) (D.state s.core.filer.swapper.disk)) (λ e. IsLater (D.state disk) (D.state e.1)) }
+        ensures later { MatchResult result (λ s. IsLater (D.state disk) (state s.core).disk) (λ e. IsLater (D.state disk) (D.state e.1)) }
     {
         let (mut filer, layout) = match frames_for(alloc, disk, frames) {
             Ok(opened) => opened,

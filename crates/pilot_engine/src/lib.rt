@@ -13,6 +13,7 @@ mod fresh;
 mod laws;
 mod marks;
 mod order;
+mod referring;
 mod rooted;
 mod session;
 mod set_size;
@@ -22,5 +23,6 @@ mod start;
 mod step;
 
 pub use fault::StartFault;
+pub use fault_core::Access;
 pub use laws::{sessions_have_room, sound_volumes_are_begun};
 pub use session::{LentSession, Session};

@@ -18,6 +18,9 @@ ghost use Rattle.pilot_engine.specs.Halting.{NextHalts, TurnHalts};
 ghost use Rattle.file_manager.specs.Reasons.{KeepsOn, InitialState, ShowsReason};
 ghost use Rattle.file_manager.specs.Creating.{next_id};
 ghost use Rattle.pilot_engine.specs.Reasons.{SeesHome, IsBlameless};
+ghost use Rattle.filer_kernel.specs.View.{FitsLayout, MakesOnly};
+ghost use Rattle.pilot_engine.specs.Calls.{Accounts, Answers, Stays};
+ghost use Rattle.pilot_engine.specs.Labels.{WritesPagesAlone};
 
 use crate::Session;
 use crate::sight::Sight;
@@ -35,24 +38,22 @@ struct Passed {
 impl<D: Disk, A: Allocator> Session<D, A> {
     // The file with the least identifier above this one, named or not.
     fn next_passed(&mut self, cursor: FileId) -> Result<Option<Passed>, Halt>
-        requires size { (D.state self.old.core.filer.swapper.disk).sectors ≡ self.old.core.filer.swapper.layout.sectors }
+        requires size { FitsLayout (state self.old.core) }
         ensures turned { (m : Machine) → Runs self.old.core self.old.volume m → IfOk result (IsTurn m cursor) }
         ensures above { IfOk result (λ next. IfSome next (λ passed. cursor < passed.id)) }
         ensures runs { (m : Machine) → Runs self.old.core self.old.volume m → Runs self.new.core self.new.volume m }
         ensures sound { (m : Machine) → Runs self.old.core self.old.volume m → IfErr result (λ e. e ≡ halt.Disk) }
-        ensures counted { result ≡ Err halt.Disk → Rose (D.state self.old.core.filer.swapper.disk).faults (D.state self.new.core.filer.swapper.disk).faults }
+        ensures counted { result ≡ Err halt.Disk → Rose (state self.old.core).disk.faults (state self.new.core).disk.faults }
         ensures cause { IfErr result (TurnHalts self.old.core.intervals (state self.old.core) (state self.new.core)) }
-        ensures keeps_to { (o : InitialState) → KeepsOn o self.old.core.filer → OnOk result (KeepsOn o self.new.core.filer) }
-        ensures reasons { (o : InitialState) → KeepsOn o self.old.core.filer → IfErr result (ShowsReason o self.old.core.filer.swapper.layout (D.state self.new.core.filer.swapper.disk)) }
-        ensures sees { (o : InitialState) → KeepsOn o self.old.core.filer → SeesHome o self.old.core → MatchResult result (λ _. SeesHome o self.new.core) (IsBlameless o (D.state self.new.core.filer.swapper.disk)) }
-        ensures evidence_seen { IfErr result (ShowsEvidence (D.state self.new.core.filer.swapper.disk)) }
+        ensures accounts { (o : InitialState) → KeepsOn o self.old.core.filer → Accounts o o self.old self.new result }
+        ensures evidence_seen { IfErr result (ShowsEvidence (state self.new.core).disk) }
         ensures reaches { Reaches (state self.old.core) (state self.new.core) }
-        ensures makes { Makes volume_page [] (D.state self.old.core.filer.swapper.disk) self.old.core.filer.swapper.pool (D.state self.new.core.filer.swapper.disk) self.new.core.filer.swapper.pool }
-        ensures layout { self.new.core.filer.swapper.layout ≡ self.old.core.filer.swapper.layout }
+        ensures makes { MakesOnly volume_page [] (state self.old.core) (state self.new.core) }
+        ensures layout { (state self.new.core).layout ≡ (state self.old.core).layout }
         ensures volume { self.new.volume ≡ self.old.volume }
         ensures running { self.new.running ≡ self.old.running }
         ensures intervals { self.new.core.intervals ≡ self.old.core.intervals }
-        ensures cost { (D.state self.new.core.filer.swapper.disk).transfers ≤ (D.state self.old.core.filer.swapper.disk).transfers + turn_cost }
+        ensures cost { (state self.new.core).disk.transfers ≤ (state self.old.core).disk.transfers + turn_cost }
     {
         let id = match file_manager::next(&mut self.core.filer, cursor) {
             Ok(Some(id)) => id,
@@ -68,24 +69,17 @@ impl<D: Disk, A: Allocator> Session<D, A> {
 
     // The file with the least identifier above this one that a call may name.
     pub(crate) fn next(&mut self, id: FileId) -> Result<Reply, Halt>
-        requires size { (D.state self.old.core.filer.swapper.disk).sectors ≡ self.old.core.filer.swapper.layout.sectors }
-        requires opened { IsOpen self.old.core.filer.swapper.layout self.old.volume }
-        ensures carried { (m : Machine) → Runs self.old.core self.old.volume m → IfOk result (Carried m (call.Next id) self.new.core self.new.volume) }
-        ensures sound { (m : Machine) → Runs self.old.core self.old.volume m → IfErr result (λ e. e ≡ halt.Disk) }
-        ensures passes { (m : Machine) → Runs self.old.core self.old.volume m → Passes m (call.Next id) (D.state self.old.core.filer.swapper.disk) (D.state self.new.core.filer.swapper.disk) }
-        ensures counted { result ≡ Err halt.Disk → Rose (D.state self.old.core.filer.swapper.disk).faults (D.state self.new.core.filer.swapper.disk).faults }
+        requires size { FitsLayout (state self.old.core) }
+        requires opened { IsOpen (state self.old.core).layout self.old.volume }
+        ensures answers { (m : Machine) → Runs self.old.core self.old.volume m → Answers m (call.Next id) self.old self.new result }
+        ensures counted { result ≡ Err halt.Disk → Rose (state self.old.core).disk.faults (state self.new.core).disk.faults }
         ensures cause { IfErr result (NextHalts self.old.core.intervals (state self.old.core) (state self.new.core)) }
-        ensures keeps_to { (o : InitialState) → KeepsOn o self.old.core.filer → OnOk result (KeepsOn o self.new.core.filer) }
-        ensures reasons { (o : InitialState) → KeepsOn o self.old.core.filer → IfErr result (ShowsReason o self.old.core.filer.swapper.layout (D.state self.new.core.filer.swapper.disk)) }
-        ensures sees { (o : InitialState) → KeepsOn o self.old.core.filer → SeesHome o self.old.core → MatchResult result (λ _. SeesHome o self.new.core) (IsBlameless o (D.state self.new.core.filer.swapper.disk)) }
-        ensures evidence_seen { IfErr result (ShowsEvidence (D.state self.new.core.filer.swapper.disk)) }
-        ensures wrote { Wrote (D.state self.old.core.filer.swapper.disk) self.old.core.filer.swapper.pool (D.state self.new.core.filer.swapper.disk) self.new.core.filer.swapper.pool }
-        ensures open_still { IsOpen self.new.core.filer.swapper.layout self.new.volume }
-        ensures monotone { next_id self.old.volume.root ≤ next_id self.new.volume.root }
-        ensures serial { self.new.volume.root.serial ≡ self.old.volume.root.serial }
-        ensures layout { self.new.core.filer.swapper.layout ≡ self.old.core.filer.swapper.layout }
+        ensures accounts { (o : InitialState) → KeepsOn o self.old.core.filer → Accounts o o self.old self.new result }
+        ensures evidence_seen { IfErr result (ShowsEvidence (state self.new.core).disk) }
+        ensures wrote { Wrote (state self.old.core).disk (state self.old.core).slots (state self.new.core).disk (state self.new.core).slots }
+        ensures unlabelled { WritesPagesAlone (state self.old.core).disk (state self.new.core).disk }
+        ensures stays { Stays self.old self.new }
         ensures running { self.new.running ≡ self.old.running }
-        ensures cost { (m : Machine) → Runs self.old.core self.old.volume m → CostsOther (D.state self.old.core.filer.swapper.disk) (D.state self.new.core.filer.swapper.disk) }
     {
         let mut cursor = id;
         'files: loop {

@@ -14,6 +14,8 @@ ghost use Rattle.running_words.specs.Session.{IsOpen};
 ghost use Rattle.pilot_engine.specs.declared.fault.StartFault.TheVariants as start_fault;
 ghost use Rattle.pilot_engine.specs.Opening.{IsBare, IsDiskFault, IsOutside, IsSoAtStart, IsUnset, LeavesOpenAtStart};
 ghost use Rattle.pilot_engine.specs.Rest.{CostsRest};
+ghost use Rattle.filer_kernel.specs.View.{disk_of, FitsLayout, view_of};
+ghost use Rattle.fault_core.specs.Core.{state};
 
 use crate::start::begin;
 use crate::{Session, StartFault};
@@ -34,12 +36,12 @@ fn filer_over<D: Disk, A: Allocator>(
     requires least { 24 ≤ frames }
     requires most { frames ≤ 4096 }
     requires valid { IsValidRoot (D.state disk).sectors root }
-    ensures same_layout { IfOk result (λ r. r.1 ≡ r.0.swapper.layout) }
-    ensures valid { IfOk result (λ r. IsValidRoot r.0.swapper.layout.sectors root) }
-    ensures size { IfOk result (λ r. (D.state r.0.swapper.disk).sectors ≡ r.0.swapper.layout.sectors) }
-    ensures bare { IfOk result (λ r. IsBare r.0.swapper.pool) }
+    ensures same_layout { IfOk result (λ r. r.1 ≡ (view_of r.0).layout) }
+    ensures valid { IfOk result (λ r. IsValidRoot (view_of r.0).layout.sectors root) }
+    ensures size { IfOk result (λ r. (view_of r.0).disk.sectors ≡ (view_of r.0).layout.sectors) }
+    ensures bare { IfOk result (λ r. IsBare (view_of r.0).slots) }
     ensures no_runs { IfOk result (λ r. (n : ℕ) → runs_of n r.0.runs ≡ []) }
-    ensures over { IfOk result (λ r. r.0.swapper.disk ≡ disk) }
+    ensures over { IfOk result (λ r. (disk_of r.0) ≡ disk) }
     ensures back { IfErr result (λ e. e ≡ disk) }
 {
     let layout = match Layout::of(root.sectors) {
@@ -67,8 +69,8 @@ impl<D: Disk, A: Allocator> Session<D, A> {
         requires read { (d : List Sector) → (D.state disk).contents ≡ Some d → root ≡ root_in (root_page d) }
         ensures stands { (d : List Sector) → (D.state disk).contents ≡ Some d → Sound d
             → IfOk result (λ s. Runs s.core s.volume (start d)) }
-        ensures size { IfOk result (λ s. (D.state s.core.filer.swapper.disk).sectors ≡ s.core.filer.swapper.layout.sectors) }
-        ensures opened { IfOk result (λ s. IsOpen s.core.filer.swapper.layout s.volume) }
+        ensures size { IfOk result (λ s. FitsLayout (state s.core)) }
+        ensures opened { IfOk result (λ s. IsOpen (state s.core).layout s.volume) }
         ensures running { IfOk result (λ s. s.running ≡ true) }
 
         // No session starts.
@@ -80,9 +82,9 @@ impl<D: Disk, A: Allocator> Session<D, A> {
         ensures revealed { (d : List Sector) → (D.state disk).contents ≡ Some d → IfErr result (λ e. (h : List Sector) × ((D.state e.1).contents ≡ Some h)) }
 
         // Whether or not one starts.
-        ensures went { MatchResult result (λ s. Went (D.state disk) (D.state s.core.filer.swapper.disk)) (λ e. Went (D.state disk) (D.state e.1)) }
-        ensures left_open { MatchResult result (λ s. IsUnset (D.state s.core.filer.swapper.disk)) (λ e. LeavesOpenAtStart (D.state e.1) e.0) }
-        ensures bounded { MatchResult result (λ s. CostsRest (D.state disk) (D.state s.core.filer.swapper.disk)) (λ e. CostsRest (D.state disk) (D.state e.1)) }
+        ensures went { MatchResult result (λ s. Went (D.state disk) (state s.core).disk) (λ e. Went (D.state disk) (D.state e.1)) }
+        ensures left_open { MatchResult result (λ s. IsUnset (state s.core).disk) (λ e. LeavesOpenAtStart (D.state e.1) e.0) }
+        ensures bounded { MatchResult result (λ s. CostsRest (D.state disk) (state s.core).disk) (λ e. CostsRest (D.state disk) (D.state e.1)) }
     {
         let (mut filer, layout) = match filer_over(alloc, disk, root, frames) {
             Ok(opened) => opened,

@@ -13,6 +13,8 @@ ghost use Rattle.space_calls.specs.Halts.{SightHalts};
 ghost use Rattle.fault_core.specs.Reach.{Reaches};
 ghost use Rattle.file_manager.specs.Reasons.{KeepsOn, InitialState, ShowsReason};
 ghost use Rattle.pilot_engine.specs.Reasons.{SeesHome, IsBlameless};
+ghost use Rattle.filer_kernel.specs.View.{FitsLayout, MakesOnly};
+ghost use Rattle.pilot_engine.specs.Calls.{Accounts};
 
 use crate::Session;
 use labelled_disk::{Disk, FileId, Halt};
@@ -31,23 +33,21 @@ pub(crate) enum Sight {
 impl<D: Disk, A: Allocator> Session<D, A> {
     // Asks the space tables whose windows show a file.
     pub(crate) fn sight(&mut self, id: FileId) -> Result<Sight, Halt>
-        requires size { (D.state self.old.core.filer.swapper.disk).sectors ≡ self.old.core.filer.swapper.layout.sectors }
+        requires size { FitsLayout (state self.old.core) }
         ensures answer { (m : Machine) → Runs self.old.core self.old.volume m → IfOk result (IsSight m id) }
         ensures runs { (m : Machine) → Runs self.old.core self.old.volume m → Runs self.new.core self.new.volume m }
         ensures sound { (m : Machine) → Runs self.old.core self.old.volume m → IfErr result (λ e. e ≡ halt.Disk) }
-        ensures counted { result ≡ Err halt.Disk → Rose (D.state self.old.core.filer.swapper.disk).faults (D.state self.new.core.filer.swapper.disk).faults }
+        ensures counted { result ≡ Err halt.Disk → Rose (state self.old.core).disk.faults (state self.new.core).disk.faults }
         ensures cause { IfErr result (SightHalts self.old.core.intervals (state self.old.core) (state self.new.core)) }
-        ensures keeps_to { (o : InitialState) → KeepsOn o self.old.core.filer → OnOk result (KeepsOn o self.new.core.filer) }
-        ensures reasons { (o : InitialState) → KeepsOn o self.old.core.filer → IfErr result (ShowsReason o self.old.core.filer.swapper.layout (D.state self.new.core.filer.swapper.disk)) }
-        ensures sees { (o : InitialState) → KeepsOn o self.old.core.filer → SeesHome o self.old.core → MatchResult result (λ _. SeesHome o self.new.core) (IsBlameless o (D.state self.new.core.filer.swapper.disk)) }
-        ensures evidence_seen { IfErr result (ShowsEvidence (D.state self.new.core.filer.swapper.disk)) }
+        ensures accounts { (o : InitialState) → KeepsOn o self.old.core.filer → Accounts o o self.old self.new result }
+        ensures evidence_seen { IfErr result (ShowsEvidence (state self.new.core).disk) }
         ensures reaches { Reaches (state self.old.core) (state self.new.core) }
-        ensures makes { Makes volume_page [] (D.state self.old.core.filer.swapper.disk) self.old.core.filer.swapper.pool (D.state self.new.core.filer.swapper.disk) self.new.core.filer.swapper.pool }
-        ensures layout { self.new.core.filer.swapper.layout ≡ self.old.core.filer.swapper.layout }
+        ensures makes { MakesOnly volume_page [] (state self.old.core) (state self.new.core) }
+        ensures layout { (state self.new.core).layout ≡ (state self.old.core).layout }
         ensures volume { self.new.volume ≡ self.old.volume }
         ensures running { self.new.running ≡ self.old.running }
         ensures intervals { self.new.core.intervals ≡ self.old.core.intervals }
-        ensures cost { (D.state self.new.core.filer.swapper.disk).transfers ≤ (D.state self.old.core.filer.swapper.disk).transfers + 14532 }
+        ensures cost { (state self.new.core).disk.transfers ≤ (state self.old.core).disk.transfers + 14532 }
     {
         match window_on(&mut self.core, id, false) {
             Ok(Some((handle, shown))) => {

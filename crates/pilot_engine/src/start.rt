@@ -9,7 +9,7 @@ ghost use Rattle.file_map.specs.FileMap.{Triples, most_records};
 ghost use Rattle.labelled_disk.specs.Root.{LabelsRight, root_page};
 ghost use Rattle.labelled_disk.specs.Sectors.{Sector};
 ghost use Rattle.filer_kernel.specs.Evidence.{ShowsEvidence};
-ghost use Rattle.fault_core.specs.View.{TablesAre, view_of};
+ghost use Rattle.filer_kernel.specs.View.{FitsLayout, MakesOnly, TablesAre, view_of};
 ghost use Rattle.filer_kernel.specs.Cached.{runs_of};
 ghost use Rattle.flat_machine.specs.Start.{start};
 ghost use Rattle.swapper_kernel.specs.Goes.{Goes, Makes, no_page};
@@ -29,6 +29,7 @@ ghost use Rattle.file_manager.specs.Reasons.{Keeps, KeepsOn, InitialState, Shows
 ghost use Rattle.pilot_engine.specs.Reasons.{FromStart, IsBegun, SeesRoot, ShowsReasonAtStart, NeverBlamesFiles, NeverBlamesFilesAtStart};
 ghost use Rattle.space_calls.specs.Sees.{SeesFiles};
 ghost use Rattle.file_manager.specs.Creating.{IsMonotone, next_id};
+ghost use Rattle.fault_core.specs.Core.{state};
 
 use crate::frames::look_at_frames;
 use crate::{Session, StartFault};
@@ -64,20 +65,20 @@ fn used_of(layout: Layout, free: u32) -> u32
 
 // Writes the tables of the root alone into the pages of the space tables, which were made.
 fn write_tables<D: Disk, A: Allocator>(filer: &mut Filer<D, A>) -> Result<(), Halt>
-    requires size { (D.state filer.old.swapper.disk).sectors ≡ filer.old.swapper.layout.sectors }
-    ensures runs { (d : List Sector) (volume : Volume) → IsSession root_alone (D.state filer.old.swapper.disk) filer.old.swapper.pool filer.old.swapper.layout filer.old.runs volume (start d)
+    requires size { FitsLayout (view_of filer.old) }
+    ensures runs { (d : List Sector) (volume : Volume) → IsSession root_alone (view_of filer.old).disk (view_of filer.old).slots (view_of filer.old).layout (view_of filer.old).runs volume (start d)
         → OnOk result (IsRunning (view_of filer.new) [] 1 volume (start d)) }
-    ensures sound { (d : List Sector) (volume : Volume) → IsSession root_alone (D.state filer.old.swapper.disk) filer.old.swapper.pool filer.old.swapper.layout filer.old.runs volume (start d)
+    ensures sound { (d : List Sector) (volume : Volume) → IsSession root_alone (view_of filer.old).disk (view_of filer.old).slots (view_of filer.old).layout (view_of filer.old).runs volume (start d)
         → IfErr result (λ e. e ≡ halt.Disk) }
-    ensures makes { Makes volume_page [] (D.state filer.old.swapper.disk) filer.old.swapper.pool (D.state filer.new.swapper.disk) filer.new.swapper.pool }
-    ensures counted { result ≡ Err halt.Disk → Rose (D.state filer.old.swapper.disk).faults (D.state filer.new.swapper.disk).faults }
+    ensures makes { MakesOnly volume_page [] (view_of filer.old) (view_of filer.new) }
+    ensures counted { result ≡ Err halt.Disk → Rose (view_of filer.old).disk.faults (view_of filer.new).disk.faults }
     ensures cause { IfErr result (TablesHalts (view_of filer.old) (view_of filer.new)) }
     ensures keeps_to { (o : InitialState) → KeepsOn o filer.old → OnOk result (KeepsOn o filer.new) }
-    ensures reasons { (o : InitialState) → KeepsOn o filer.old → IfErr result (ShowsReason o filer.old.swapper.layout (D.state filer.new.swapper.disk)) }
+    ensures reasons { (o : InitialState) → KeepsOn o filer.old → IfErr result (ShowsReason o (view_of filer.old).layout (view_of filer.new).disk) }
     ensures sees { (b : List ℕ) → TablesAre (view_of filer.old) b → MatchResult result (λ _. SeesRoot (view_of filer.new)) NeverBlamesFiles }
-    ensures evidence_seen { IfErr result (ShowsEvidence (D.state filer.new.swapper.disk)) }
-    ensures layout { filer.new.swapper.layout ≡ filer.old.swapper.layout }
-    ensures cost { (D.state filer.new.swapper.disk).transfers ≤ (D.state filer.old.swapper.disk).transfers + 14392 }
+    ensures evidence_seen { IfErr result (ShowsEvidence (view_of filer.new).disk) }
+    ensures layout { (view_of filer.new).layout ≡ (view_of filer.old).layout }
+    ensures cost { (view_of filer.new).disk.transfers ≤ (view_of filer.old).disk.transfers + 14392 }
 {
     match table_calls::begin(filer) {
         Ok(()) => (),
@@ -89,21 +90,21 @@ fn write_tables<D: Disk, A: Allocator>(filer: &mut Filer<D, A>) -> Result<(), Ha
 
 // Writes the root of a volume in use, and waits until it is on the medium: no other write is there before it.
 fn put_in_use<D: Disk, A: Allocator>(filer: &mut Filer<D, A>, root: Root) -> Result<(), Halt>
-    requires size { (D.state filer.old.swapper.disk).sectors ≡ filer.old.swapper.layout.sectors }
-    requires valid { IsValidRoot filer.old.swapper.layout.sectors root }
+    requires size { FitsLayout (view_of filer.old) }
+    requires valid { IsValidRoot (view_of filer.old).layout.sectors root }
     requires serial { root.serial < 2 ^ 32 }
     requires counter { root.counter < 2 ^ 32 }
-    requires bare { IsBare filer.old.swapper.pool }
-    ensures made { OnOk result (Goes (λ m n. n ≡ written (root_write root) m) no_page (root_write root ∷ []) (D.state filer.old.swapper.disk) filer.old.swapper.pool (D.state filer.new.swapper.disk) filer.old.swapper.pool) }
-    ensures stopped { OnErr result (MayHaveWritten (root_write root) (D.state filer.old.swapper.disk) filer.old.swapper.pool (D.state filer.new.swapper.disk)) }
-    ensures synced { OnOk result (SyncsFirst (D.state filer.old.swapper.disk) (D.state filer.new.swapper.disk)) }
+    requires bare { IsBare (view_of filer.old).slots }
+    ensures made { OnOk result (Goes (λ m n. n ≡ written (root_write root) m) no_page (root_write root ∷ []) (view_of filer.old).disk (view_of filer.old).slots (view_of filer.new).disk (view_of filer.old).slots) }
+    ensures stopped { OnErr result (MayHaveWritten (root_write root) (view_of filer.old).disk (view_of filer.old).slots (view_of filer.new).disk) }
+    ensures synced { OnOk result (SyncsFirst (view_of filer.old).disk (view_of filer.new).disk) }
     ensures fault { IfErr result (λ e. e ≡ halt.Disk) }
     ensures keeps_to { (o : InitialState) (named : Triples) → Keeps o filer.old named → next_id root ≤ o.next → OnOk result (Keeps o filer.new named) }
-    ensures counted { OnErr result (Rose (D.state filer.old.swapper.disk).faults (D.state filer.new.swapper.disk).faults) }
-    ensures frames { filer.new.swapper.pool ≡ filer.old.swapper.pool }
-    ensures layout { filer.new.swapper.layout ≡ filer.old.swapper.layout }
-    ensures runs { filer.new.runs ≡ filer.old.runs }
-    ensures cost { (D.state filer.new.swapper.disk).transfers ≤ (D.state filer.old.swapper.disk).transfers + 1 }
+    ensures counted { OnErr result (Rose (view_of filer.old).disk.faults (view_of filer.new).disk.faults) }
+    ensures frames { (view_of filer.new).slots ≡ (view_of filer.old).slots }
+    ensures layout { (view_of filer.new).layout ≡ (view_of filer.old).layout }
+    ensures runs { (view_of filer.new).runs ≡ (view_of filer.old).runs }
+    ensures cost { (view_of filer.new).disk.transfers ≤ (view_of filer.old).disk.transfers + 1 }
 {
     match write_over(filer, root) {
         Ok(()) => (),
@@ -123,32 +124,32 @@ pub(crate) fn begin<D: Disk, A: Allocator>(
     layout: Layout,
     root: Root,
 ) -> Result<Volume, Halt>
-    requires same_layout { layout ≡ filer.old.swapper.layout }
-    requires size { (D.state filer.old.swapper.disk).sectors ≡ filer.old.swapper.layout.sectors }
-    requires valid { IsValidRoot filer.old.swapper.layout.sectors root }
-    requires bare { IsBare filer.old.swapper.pool }
-    requires no_runs { (n : ℕ) → runs_of n filer.old.runs ≡ [] }
-    ensures begun { (d : List Sector) → (D.state filer.old.swapper.disk).contents ≡ Some d → Sound d → root ≡ root_in (root_page d)
+    requires same_layout { layout ≡ (view_of filer.old).layout }
+    requires size { FitsLayout (view_of filer.old) }
+    requires valid { IsValidRoot (view_of filer.old).layout.sectors root }
+    requires bare { IsBare (view_of filer.old).slots }
+    requires no_runs { (n : ℕ) → runs_of n (view_of filer.old).runs ≡ [] }
+    ensures begun { (d : List Sector) → (view_of filer.old).disk.contents ≡ Some d → Sound d → root ≡ root_in (root_page d)
         → IfOk result (λ volume. IsRunning (view_of filer.new) [] 1 volume (start d)) }
-    ensures sound { (d : List Sector) → (D.state filer.old.swapper.disk).contents ≡ Some d → Sound d → root ≡ root_in (root_page d) → IfErr result (λ e. e ≡ halt.Disk) }
-    ensures opened { IfOk result (IsOpen filer.new.swapper.layout) }
-    ensures starts { StartsSome root (D.state filer.old.swapper.disk) filer.old.swapper.pool (D.state filer.new.swapper.disk) filer.new.swapper.pool }
-    ensures synced { IfOk result (λ volume. SyncsFirst (D.state filer.old.swapper.disk) (D.state filer.new.swapper.disk)) }
-    ensures counted { result ≡ Err halt.Disk → Rose (D.state filer.old.swapper.disk).faults (D.state filer.new.swapper.disk).faults }
+    ensures sound { (d : List Sector) → (view_of filer.old).disk.contents ≡ Some d → Sound d → root ≡ root_in (root_page d) → IfErr result (λ e. e ≡ halt.Disk) }
+    ensures opened { IfOk result (IsOpen (view_of filer.new).layout) }
+    ensures starts { StartsSome root (view_of filer.old).disk (view_of filer.old).slots (view_of filer.new).disk (view_of filer.new).slots }
+    ensures synced { IfOk result (λ volume. SyncsFirst (view_of filer.old).disk (view_of filer.new).disk) }
+    ensures counted { result ≡ Err halt.Disk → Rose (view_of filer.old).disk.faults (view_of filer.new).disk.faults }
     ensures cause { IfErr result (StartHalts root (view_of filer.old) (view_of filer.new)) }
-    ensures keeps_to { (d : List Sector) (named : Triples) (ws : List DiskWrite) → IsBegun d named ws (D.state filer.old.swapper.disk)
+    ensures keeps_to { (d : List Sector) (named : Triples) (ws : List DiskWrite) → IsBegun d named ws (view_of filer.old).disk
         → IfOk result (λ volume. KeepsOn (initial_state d named (ws ++ (root_write (in_use root) ∷ []))) filer.new) }
-    ensures reasons { (d : List Sector) (named : Triples) (ws : List DiskWrite) → IsBegun d named ws (D.state filer.old.swapper.disk)
-        → IfErr result (ShowsReason (initial_state d named (ws ++ (root_write (in_use root) ∷ []))) filer.old.swapper.layout (D.state filer.new.swapper.disk)) }
-    ensures sees { (d : List Sector) (named : Triples) (ws : List DiskWrite) → IsBegun d named ws (D.state filer.old.swapper.disk)
+    ensures reasons { (d : List Sector) (named : Triples) (ws : List DiskWrite) → IsBegun d named ws (view_of filer.old).disk
+        → IfErr result (ShowsReason (initial_state d named (ws ++ (root_write (in_use root) ∷ []))) (view_of filer.old).layout (view_of filer.new).disk) }
+    ensures sees { (d : List Sector) (named : Triples) (ws : List DiskWrite) → IsBegun d named ws (view_of filer.old).disk
         → MatchResult result (λ volume. SeesRoot (view_of filer.new)) NeverBlamesFiles }
     ensures monotone { IfOk result (λ volume. IsMonotone root volume.root) }
-    ensures evidence_seen { IfErr result (ShowsEvidence (D.state filer.new.swapper.disk)) }
-    ensures left_open { MatchResult result (λ volume. IsUnset (D.state filer.new.swapper.disk)) (LeavesOpen (D.state filer.new.swapper.disk)) }
+    ensures evidence_seen { IfErr result (ShowsEvidence (view_of filer.new).disk) }
+    ensures left_open { MatchResult result (λ volume. IsUnset (view_of filer.new).disk) (LeavesOpen (view_of filer.new).disk) }
     ensures serial { root.serial < 2 ^ 32 }
     ensures counter { root.counter < 2 ^ 32 }
-    ensures layout { filer.new.swapper.layout ≡ filer.old.swapper.layout }
-    ensures cost { (D.state filer.new.swapper.disk).transfers ≤ (D.state filer.old.swapper.disk).transfers + (14393 + 2 * filer.old.swapper.layout.vam + 2 * (1 + 51 * most_records filer.old.swapper.layout.sectors) + 96 * (8 * filer.old.swapper.layout.vam + 100)) }
+    ensures layout { (view_of filer.new).layout ≡ (view_of filer.old).layout }
+    ensures cost { (view_of filer.new).disk.transfers ≤ (view_of filer.old).disk.transfers + (14393 + 2 * (view_of filer.old).layout.vam + 2 * (1 + 51 * most_records (view_of filer.old).layout.sectors) + 96 * (8 * (view_of filer.old).layout.vam + 100)) }
 {
     let root = in_use(root);
     match put_in_use(filer, root) {
@@ -182,12 +183,12 @@ fn frames_over<D: Disk, A: Allocator>(
 ) -> Result<(Filer<D, A>, Layout, Root), (StartFault, D)>
     requires least { 24 ≤ frames }
     requires most { frames ≤ 4096 }
-    ensures same_layout { IfOk result (λ r. r.1 ≡ r.0.swapper.layout) }
-    ensures valid { IfOk result (λ r. IsValidRoot r.0.swapper.layout.sectors r.2) }
-    ensures size { IfOk result (λ r. (D.state r.0.swapper.disk).sectors ≡ r.0.swapper.layout.sectors) }
-    ensures bare { IfOk result (λ r. IsBare r.0.swapper.pool) }
+    ensures same_layout { IfOk result (λ r. r.1 ≡ (view_of r.0).layout) }
+    ensures valid { IfOk result (λ r. IsValidRoot (view_of r.0).layout.sectors r.2) }
+    ensures size { IfOk result (λ r. (view_of r.0).disk.sectors ≡ (view_of r.0).layout.sectors) }
+    ensures bare { IfOk result (λ r. IsBare (view_of r.0).slots) }
     ensures no_runs { IfOk result (λ r. (n : ℕ) → runs_of n r.0.runs ≡ []) }
-    ensures frames { IfOk result (λ r. length r.0.swapper.pool ≡ frames) }
+    ensures frames { IfOk result (λ r. length (view_of r.0).slots ≡ frames) }
     ensures read { (d : List Sector) → (D.state disk).contents ≡ Some d → IfOk result (λ r. r.2 ≡ root_in (root_page d)) }
     ensures count { ¬ IsCount (D.state disk).sectors → MatchResult result (λ r. ⊥) (λ e. e.0 ≡ start_fault.Root (fault.BadCount (D.state disk).sectors)) }
     ensures bad_count { (n : ℕ) → IfErr result (λ e. e.0 ≡ start_fault.Root (fault.BadCount n) → ¬ IsCount (D.state disk).sectors × (n ≡ (D.state disk).sectors)) }
@@ -196,7 +197,7 @@ fn frames_over<D: Disk, A: Allocator>(
     ensures judged { (d : List Sector) → (D.state disk).contents ≡ Some d → IfErr result (λ e. IsRightRefusal d e.0) }
     ensures early { IfErr result (λ e. IsEarly e.0) }
     ensures counted { IfErr result (λ e. IsDiskFault e.0 → Rose (D.state disk).faults (D.state e.1).faults) }
-    ensures reads { MatchResult result (λ r. ReadsAtMost 1 (D.state disk) (D.state r.0.swapper.disk)) (λ e. ReadsAtMost 1 (D.state disk) (D.state e.1)) }
+    ensures reads { MatchResult result (λ r. ReadsAtMost 1 (D.state disk) (view_of r.0).disk) (λ e. ReadsAtMost 1 (D.state disk) (D.state e.1)) }
 {
     let mut disk = disk;
     let root = match read_root(&mut disk, true) {
@@ -221,10 +222,10 @@ impl<D: Disk, A: Allocator> Session<D, A> {
         requires most { frames ≤ 4096 }
         ensures stands { (d : List Sector) → (D.state disk).contents ≡ Some d → Sound d
             → IfOk result (λ s. Runs s.core s.volume (start d)) }
-        ensures size { IfOk result (λ s. (D.state s.core.filer.swapper.disk).sectors ≡ s.core.filer.swapper.layout.sectors) }
-        ensures opened { IfOk result (λ s. IsOpen s.core.filer.swapper.layout s.volume) }
+        ensures size { IfOk result (λ s. FitsLayout (state s.core)) }
+        ensures opened { IfOk result (λ s. IsOpen (state s.core).layout s.volume) }
         ensures running { IfOk result (λ s. s.running ≡ true) }
-        ensures frames { IfOk result (λ s. length s.core.filer.swapper.pool ≡ frames) }
+        ensures frames { IfOk result (λ s. length (state s.core).slots ≡ frames) }
 
         // No session starts.
         ensures count { ¬ IsCount (D.state disk).sectors → MatchResult result (λ s. ⊥) (λ e. e.0 ≡ start_fault.Root (fault.BadCount (D.state disk).sectors)) }
@@ -247,12 +248,12 @@ impl<D: Disk, A: Allocator> Session<D, A> {
 
         // What was written, whether or not one starts.
         ensures crash_states { (d : List Sector) → (D.state disk).contents ≡ Some d → LabelsRight d
-            → MatchResult result (λ s. KeepsFiles d (D.state disk) (D.state s.core.filer.swapper.disk)) (λ e. KeepsFiles d (D.state disk) (D.state e.1)) }
-        ensures synced { IfOk result (λ s. SyncsFirst (D.state disk) (D.state s.core.filer.swapper.disk)) }
-        ensures wrote { MatchResult result (λ s. WroteFirst (D.state disk) (D.state s.core.filer.swapper.disk)) (λ e. WroteFirst (D.state disk) (D.state e.1)) }
-        ensures left_open { MatchResult result (λ s. IsUnset (D.state s.core.filer.swapper.disk)) (λ e. LeavesOpenAtStart (D.state e.1) e.0) }
-        ensures cost { MatchResult result (λ s. CostsStart (D.state disk) (D.state s.core.filer.swapper.disk)) (λ e. CostsStart (D.state disk) (D.state e.1)) }
-        ensures bounded { MatchResult result (λ s. CostsOther (D.state disk) (D.state s.core.filer.swapper.disk)) (λ e. CostsOther (D.state disk) (D.state e.1)) }
+            → MatchResult result (λ s. KeepsFiles d (D.state disk) (state s.core).disk) (λ e. KeepsFiles d (D.state disk) (D.state e.1)) }
+        ensures synced { IfOk result (λ s. SyncsFirst (D.state disk) (state s.core).disk) }
+        ensures wrote { MatchResult result (λ s. WroteFirst (D.state disk) (state s.core).disk) (λ e. WroteFirst (D.state disk) (D.state e.1)) }
+        ensures left_open { MatchResult result (λ s. IsUnset (state s.core).disk) (λ e. LeavesOpenAtStart (D.state e.1) e.0) }
+        ensures cost { MatchResult result (λ s. CostsStart (D.state disk) (state s.core).disk) (λ e. CostsStart (D.state disk) (D.state e.1)) }
+        ensures bounded { MatchResult result (λ s. CostsOther (D.state disk) (state s.core).disk) (λ e. CostsOther (D.state disk) (D.state e.1)) }
     {
         let (mut filer, layout, root) = match frames_over(alloc, disk, frames) {
             Ok(opened) => opened,

@@ -12,7 +12,7 @@ use Rattle.projection_laws.proofs.OneLemmas.{intervals_are_one}
 use Rattle.file_manager.specs.declared.volume.Volume.{Volume}
 use Rattle.fault_core.specs.Kept.{AreApart}
 use Rattle.fault_core.specs.Revealed.{IsIntervalOf}
-use Rattle.fault_core.specs.View.{View}
+use Rattle.filer_kernel.specs.View.{View}
 use Rattle.running_words.specs.Running.{IsRunning}
 
 -- intervals of the same spaces that share a page

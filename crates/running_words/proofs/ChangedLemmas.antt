@@ -40,7 +40,7 @@ use Rattle.file_manager.specs.declared.volume.Volume.{Volume}
 use Rattle.file_manager.proofs.BookLemmas.{known_after, true_by_map}
 use Rattle.fault_core.specs.Reach.{BringsOwn}
 use Rattle.fault_core.specs.Revealed.{IsTabled, Known}
-use Rattle.fault_core.specs.View.{View, TablesAre}
+use Rattle.filer_kernel.specs.View.{View, TablesAre}
 use Rattle.running_words.specs.Running.{IsRunning, exactly}
 use Rattle.running_words.specs.RunningLaws.{IsWhole}
 use Rattle.running_words.specs.Session.{AreInForm, IsKept, IsSession}

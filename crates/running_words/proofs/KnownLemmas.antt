@@ -45,7 +45,7 @@ use Rattle.file_manager.specs.Book.{AreTrue}
 use Rattle.file_manager.specs.declared.volume.Volume.{Volume}
 use Rattle.file_manager.proofs.BookLemmas.{map_named}
 use Rattle.fault_core.specs.Revealed.{IsStored, IsTabled, Known, Revealed}
-use Rattle.fault_core.specs.View.{View}
+use Rattle.filer_kernel.specs.View.{View}
 use Rattle.running_words.specs.Running.{IsRunning, exactly}
 use Rattle.running_words.specs.RunningLaws.{IsWhole}
 use Rattle.running_words.specs.Session.{IsSession}

@@ -25,7 +25,7 @@ use Rattle.file_manager.proofs.BookLemmas.{true_by_map}
 use Rattle.filer_kernel.specs.MapOnce.{named_once}
 use Rattle.fault_core.specs.Reach.{Reaches}
 use Rattle.fault_core.specs.Revealed.{IsIntervalOf, Known, Revealed}
-use Rattle.fault_core.specs.View.{View}
+use Rattle.filer_kernel.specs.View.{View}
 use Rattle.running_words.specs.Running.{IsRunning, exactly}
 use Rattle.running_words.specs.RunningLaws.{IsWhole}
 use Rattle.running_words.specs.Session.{AreInForm, IsKept}

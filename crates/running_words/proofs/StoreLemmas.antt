@@ -40,7 +40,7 @@ use Rattle.session_words.proofs.ShapeLemmas.{changed_from, stored_shapes}
 use Rattle.session_words.proofs.UnforcedLemmas.{loose_more, loose_unforced, pages_stay, pages_there, shown_high}
 use Rattle.swap_units.specs.declared.interval.Interval.{Interval}
 use Rattle.file_manager.specs.declared.volume.Volume.{Volume}
-use Rattle.fault_core.specs.View.{View}
+use Rattle.filer_kernel.specs.View.{View}
 use Rattle.running_words.specs.Running.{IsRunning, exactly}
 use Rattle.running_words.specs.Session.{AreInForm}
 use Rattle.running_words.specs.Stages.{Passes}

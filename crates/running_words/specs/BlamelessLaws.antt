@@ -16,7 +16,7 @@ use Rattle.file_manager.specs.Reasons.{InitialState, KeepsTo, ShowsReason, telli
 use Rattle.file_manager.specs.RevealedLaws.{keeps_telling, tables_of}
 use Rattle.fault_core.specs.Lack.{Sees}
 use Rattle.fault_core.specs.NeverBlames.{NeverBlamesTables}
-use Rattle.fault_core.specs.View.{View, TablesAre, kept_by}
+use Rattle.filer_kernel.specs.View.{View, TablesAre, kept_by}
 use Rattle.running_words.specs.Moving.{ViewKeepsTo}
 use Rattle.running_words.specs.Blameless.{NeverBlamesForm}
 

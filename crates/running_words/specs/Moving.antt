@@ -12,7 +12,7 @@ use Rattle.filer_kernel.specs.Triples.{MapIs, AreOf, IsOneOf}
 use Rattle.file_manager.specs.Reasons.{InitialState, HasTables, KeepsTo}
 use Rattle.fault_core.specs.Reach.{IsReached}
 use Rattle.fault_core.specs.Touch.{on_data}
-use Rattle.fault_core.specs.View.{View, kept_by}
+use Rattle.filer_kernel.specs.View.{View, kept_by}
 
 -- every page
 abbrev pub any_page : Pages

@@ -44,7 +44,7 @@ use Rattle.file_manager.specs.Reasons.{InitialState, AreTabled, IsAtHome, KeepsT
 use Rattle.fault_core.specs.Reach.{IsReached, Reaches, FindEvidence, ReachHalts, TouchHalts}
 use Rattle.fault_core.specs.ReachLaws.{touch_of_reach}
 use Rattle.fault_core.specs.Touch.{on_data, Touches}
-use Rattle.fault_core.specs.View.{View, kept_by}
+use Rattle.filer_kernel.specs.View.{View, kept_by}
 use Rattle.fault_core.proofs.BeforeLemmas.{map_still, touches_of}
 use Rattle.fault_core.proofs.ReachLemmas.{reaches_itself}
 use Rattle.running_words.specs.Moving.{any_page, Moves, ViewKeepsTo}

@@ -25,7 +25,7 @@ use Rattle.file_manager.specs.declared.volume.Volume.{Volume}
 use Rattle.fault_core.specs.Kept.{AreApart}
 use Rattle.fault_core.specs.Reach.{Reaches, BringsOwn}
 use Rattle.fault_core.specs.Revealed.{Revealed}
-use Rattle.fault_core.specs.View.{View, TablesAre}
+use Rattle.filer_kernel.specs.View.{View, TablesAre}
 use Rattle.running_words.specs.Running.{IsRunning, exactly}
 use Rattle.running_words.specs.Session.{AreInForm}
 use Rattle.running_words.specs.Stages.{Passes}

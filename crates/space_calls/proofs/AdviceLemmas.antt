@@ -19,10 +19,11 @@ use Rattle.fault_core.specs.Core.{kept, state}
 use Rattle.running_words.specs.RunningLaws.{IsWhole}
 use Rattle.table_calls.specs.Answers.{Asked, Reveals}
 use Rattle.space_calls.proofs.CameLemmas.{Came, came_own}
+use Rattle.filer_kernel.specs.View.{accepted}
 
 -- the disk fits the layout
 pub whole_core : {D A : Type 0} {G : Ghosts D} (c : Core D A G) → (state c).disk.sectors ≡ (state c).layout.sectors → IsWhole (state c)
-whole_core c size = record { layout = c.filer.swapper.accepted; size = size }
+whole_core c size = record { layout = (accepted c.filer); size = size }
 
 -- the tables were asked
 pub came_asked : {D A : Type 0} {G : Ghosts D} {old new : Core D A G} → Asked old new → Came (state old) (state new) (kept old) (kept new) old.intervals new.intervals

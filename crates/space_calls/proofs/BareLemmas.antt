@@ -30,6 +30,7 @@ use Rattle.fault_core.specs.declared.core_over.Core.{Core}
 use Rattle.fault_core.specs.Core.{Knows}
 use Rattle.running_words.specs.Running.{Runs}
 use Rattle.space_calls.proofs.RunLemmas.{knows}
+use Rattle.filer_kernel.specs.View.{view_of}
 
 -- ---- A space that is mapped is shown at its first page.
 
@@ -103,7 +104,7 @@ is_not : (b : Bool) → not b ≡ true → b ≡ false
 is_not true e = absurd (false≢true e)
 is_not false e = refl
 
-module _ {D A : Type 0} {G : Ghosts D} (c : Core D A G) (layout : IsLayout c.filer.swapper.layout) (size : (G.state c.filer.swapper.disk).sectors ≡ c.filer.swapper.layout.sectors) where
+module _ {D A : Type 0} {G : Ghosts D} (c : Core D A G) (layout : IsLayout (view_of c.filer).layout) (size : (view_of c.filer).disk.sectors ≡ (view_of c.filer).layout.sectors) where
   pub bare_core : (volume : Volume) (m : Machine) → Runs c volume m → (x : Interval) (o : Option Interval) → o ≡ Some x → ((memory : List Sector) (named : Triples) (ss : List Space) → Knows c memory named ss → IfSome o (IsIntervalAt ss 0)) → c.intervals ≡ 1
       → not (mode.is_mapped x.mode) ≡ true → list_any is_mapped m.spaces ≡ false
   bare_core volume m r x o is reveals one bare =

@@ -22,7 +22,7 @@ use Rattle.fault_core.specs.Moves.{client_page}
 use Rattle.fault_core.specs.Reach.{Reaches, BringsOwn}
 use Rattle.fault_core.specs.Revealed.{Revealed}
 use Rattle.fault_core.specs.Touch.{Touches}
-use Rattle.fault_core.specs.View.{View}
+use Rattle.filer_kernel.specs.View.{accepted, View}
 use Rattle.fault_core.proofs.ReachLemmas.{reaches_then}
 use Rattle.fault_core.proofs.ShowLemmas.{own_came}
 use Rattle.running_words.proofs.LaterLemmas.{tables_own}
@@ -90,5 +90,5 @@ module _ (laws : RunningLaws) {v : View} {kept : List Interval} {count : ℕ} (w
   still_reveals w form call makes = laws.quiet call v w kept count volume m form r makes
 
 -- of a core
-pub whole_of : {D A : Type 0} {G : Ghosts D} (core : Core D A G) → (G.state core.filer.swapper.disk).sectors ≡ core.filer.swapper.layout.sectors → IsWhole (state core)
-whole_of core size = record { layout = core.filer.swapper.accepted; size = size }
+pub whole_of : {D A : Type 0} {G : Ghosts D} (core : Core D A G) → (state core).disk.sectors ≡ (state core).layout.sectors → IsWhole (state core)
+whole_of core size = record { layout = (accepted core.filer); size = size }

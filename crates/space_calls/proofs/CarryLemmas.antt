@@ -19,7 +19,7 @@ use Rattle.session_words.specs.FrameLaws.{is_shown}
 use Rattle.file_manager.specs.declared.volume.Volume.{Volume}
 use Rattle.fault_core.specs.declared.core_over.Core.{Core}
 use Rattle.fault_core.specs.Core.{state}
-use Rattle.fault_core.specs.View.{TablesAre}
+use Rattle.filer_kernel.specs.View.{TablesAre, view_of}
 use Rattle.table_calls.specs.Answers.{Changes, Retabled}
 use Rattle.running_words.specs.Running.{Carried, Runs}
 use Rattle.running_words.specs.Session.{AreInForm}
@@ -59,10 +59,10 @@ module _ {D A : Type 0} {G : Ghosts D} (d : Core D A G) (volume : Volume) (m : M
 
 -- ---- Calls that change the tables alone: what windows show is still shown.
 
-module _ {D A : Type 0} {G : Ghosts D} (c d e : Core D A G) (layout : IsLayout c.filer.swapper.layout) (size : (G.state c.filer.swapper.disk).sectors ≡ c.filer.swapper.layout.sectors)
-    (form : AreInForm (G.state d.filer.swapper.disk)) (pages : ArePages e.filer.swapper.pool) (same : e ≡ d) (retabled : Retabled c d) (volume : Volume) (m : Machine) (r : Runs c volume m) (call : Call) where
-  pages_then : ArePages d.filer.swapper.pool
-  pages_then = subst (λ (x : Core D A G). ArePages x.filer.swapper.pool) same pages
+module _ {D A : Type 0} {G : Ghosts D} (c d e : Core D A G) (layout : IsLayout (view_of c.filer).layout) (size : (view_of c.filer).disk.sectors ≡ (view_of c.filer).layout.sectors)
+    (form : AreInForm (view_of d.filer).disk) (pages : ArePages (view_of e.filer).slots) (same : e ≡ d) (retabled : Retabled c d) (volume : Volume) (m : Machine) (r : Runs c volume m) (call : Call) where
+  pages_then : ArePages (view_of d.filer).slots
+  pages_then = subst (λ (x : Core D A G). ArePages (view_of x.filer).slots) same pages
 
   pub tables_refused : (word : Refusal) → refusal m call ≡ Some word → RevealSpaces (TablesAre (state d)) d.intervals m.spaces → Carried m call e volume (reply.Refused word)
   tables_refused word some reveals =

@@ -19,7 +19,7 @@ use Rattle.filer_kernel.specs.Triples.{AreOf, IsOneOf}
 use Rattle.file_manager.specs.Looking.{Looks}
 use Rattle.fault_core.specs.Reach.{IsReached, Reaches, ReachHalts}
 use Rattle.fault_core.specs.Revealed.{BreaksTables}
-use Rattle.fault_core.specs.View.{View, kept_by}
+use Rattle.filer_kernel.specs.View.{View, kept_by}
 use Rattle.fault_core.proofs.ReachLemmas.{halts_before, reaches_itself}
 use Rattle.table_calls.specs.Answers.{TablesBreak, TablesSay}
 use Rattle.space_calls.specs.Ranges.{BreaksWindow}

@@ -10,11 +10,11 @@ pub mod WindowLemmas
 mod AdviceLemmas
 mod RefusedCalls
 mod SameBooks
-mod CameLemmas
+pub mod CameLemmas
 mod SettledCore
-mod LoadLemmas
-mod MovedLemmas
-mod StoreLemmas
+pub mod LoadLemmas
+pub mod MovedLemmas
+pub mod StoreLemmas
 pub mod RangeLemmas
 mod WindowHalts
 mod ReshapeLemmas
@@ -28,3 +28,4 @@ pub mod TakeLemmas
 pub mod SeesLemmas
 pub mod OnLemmas
 pub mod SizeLemmas
+mod LookLemmas

@@ -18,7 +18,7 @@ use Rattle.fault_core.specs.Access.{access_of}
 use Rattle.fault_core.specs.Moves.{Loads}
 use Rattle.fault_core.specs.ReferenceLaws.{reply_to, word_of}
 use Rattle.fault_core.specs.Revealed.{Revealed}
-use Rattle.fault_core.specs.View.{View}
+use Rattle.filer_kernel.specs.View.{View}
 use Rattle.file_manager.specs.declared.volume.Volume.{Volume}
 use Rattle.file_map.specs.FileMap.{Triples}
 use Rattle.flat_machine.specs.declared.space.Space.{Space}

@@ -25,7 +25,7 @@ use Rattle.fault_core.specs.Moves.{StoresAs}
 use Rattle.fault_core.specs.Range.{AreClean}
 use Rattle.fault_core.specs.Reach.{BringsOwn}
 use Rattle.fault_core.specs.Revealed.{Revealed}
-use Rattle.fault_core.specs.View.{View}
+use Rattle.filer_kernel.specs.View.{View}
 use Rattle.fault_core.proofs.AnswerLemmas.{stores_lead}
 use Rattle.fault_core.proofs.ForcedLemmas.{forced_ranges}
 use Rattle.fault_core.proofs.ReachLemmas.{reaches_searches, same_memory}

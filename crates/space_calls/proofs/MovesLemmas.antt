@@ -2,7 +2,7 @@
 use Rattle.swapper_kernel.specs.Homes.{IsLayout}
 use Rattle.filer_kernel.specs.Tables.{BesideTables}
 use Rattle.fault_core.specs.Reach.{Reaches}
-use Rattle.fault_core.specs.View.{View}
+use Rattle.filer_kernel.specs.View.{View}
 use Rattle.running_words.specs.Moving.{Moves}
 use Rattle.running_words.specs.MovingLaws.{moves_of_reaches, moves_then}
 use Rattle.space_calls.specs.ReasonLaws.{moves_of_reshapes}

@@ -21,7 +21,7 @@ use Rattle.fault_core.specs.Kill.{BreaksWithin}
 use Rattle.filer_kernel.specs.Evidence.{MayBeMissing}
 use Rattle.fault_core.specs.Lack.{MissesPage, range_units}
 use Rattle.fault_core.specs.Reach.{BringsOwn, Reaches, ReachHalts, TouchHalts}
-use Rattle.fault_core.specs.View.{View}
+use Rattle.filer_kernel.specs.View.{View}
 use Rattle.fault_core.proofs.ReachLemmas.{finds_before, halts_before, reaches_itself}
 use Rattle.fault_core.proofs.LackLemmas.{misses_wider}
 use Rattle.table_calls.specs.Answers.{IfGiven, TablesBreak, TablesSay, Reveals}

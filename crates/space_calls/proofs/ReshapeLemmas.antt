@@ -14,7 +14,7 @@ use Rattle.filer_kernel.specs.PlaceLaws.{map_kept}
 use Rattle.filer_kernel.specs.Tables.{in_tables, table_pages, IsComing, BesideTables}
 use Rattle.filer_kernel.specs.Triples.{AreOf, IsOneOf}
 use Rattle.fault_core.specs.Reach.{IsReached, Reaches}
-use Rattle.fault_core.specs.View.{View, kept_by}
+use Rattle.filer_kernel.specs.View.{View, kept_by}
 use Rattle.fault_core.proofs.BeforeLemmas.{touches_of, given_before, came_before}
 use Rattle.space_calls.specs.Unmapping.{Reshapes}
 

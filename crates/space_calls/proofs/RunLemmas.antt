@@ -27,7 +27,7 @@ use Rattle.fault_core.specs.declared.core_over.Core.{Core}
 use Rattle.fault_core.specs.Core.{kept, state, Knows}
 use Rattle.fault_core.specs.Reach.{Reaches, BringsOwn}
 use Rattle.fault_core.specs.Revealed.{Revealed}
-use Rattle.fault_core.specs.View.{View, TablesAre}
+use Rattle.filer_kernel.specs.View.{TablesAre, View, view_of}
 use Rattle.table_calls.specs.Answers.{Asked, Retabled}
 use Rattle.running_words.specs.Running.{exactly, IsRunning, Runs}
 use Rattle.running_words.specs.RunningLaws.{IsWhole}
@@ -78,7 +78,7 @@ module _ {D A : Type 0} {G : Ghosts D} where
       subst (λ (v : View). IsRunning v (kept d) d.intervals volume m) (sym view) (subst (λ (k : List Interval). IsRunning (state c) k d.intervals volume m) (sym intervals)
       (subst (λ (n : ℕ). IsRunning (state c) (kept c) n volume m) (sym count) r))
 
-  module _ (c : Core D A G) (layout : IsLayout c.filer.swapper.layout) (size : (G.state c.filer.swapper.disk).sectors ≡ c.filer.swapper.layout.sectors) where
+  module _ (c : Core D A G) (layout : IsLayout (view_of c.filer).layout) (size : (view_of c.filer).disk.sectors ≡ (view_of c.filer).layout.sectors) where
     whole : IsWhole (state c)
     whole = record { layout = layout; size = size }
 
@@ -87,10 +87,10 @@ module _ {D A : Type 0} {G : Ghosts D} where
     knows volume m r = running_laws.known (state c) (kept c) c.intervals volume m whole r
 
     -- a core of which as much is known
-    pub reached_runs : (d : Core D A G) (volume : Volume) (m : Machine) (r : Runs c volume m) → Reaches (state c) (state d) → BringsOwn c.filer.swapper.pool d.filer.swapper.pool → d.intervals ≡ c.intervals
+    pub reached_runs : (d : Core D A G) (volume : Volume) (m : Machine) (r : Runs c volume m) → Reaches (state c) (state d) → BringsOwn (view_of c.filer).slots (view_of d.filer).slots → d.intervals ≡ c.intervals
         → Knows d r.session.stands.memory r.session.stands.is.named m.spaces → Runs d volume m
     reached_runs d volume m r reaches came count known =
-        let brought : BringsKnown m.spaces (state c).slots (state d).slots = known_brought (exactly r.pages m.spaces) m c.filer.swapper.pool d.filer.swapper.pool came in
+        let brought : BringsKnown m.spaces (state c).slots (state d).slots = known_brought (exactly r.pages m.spaces) m (view_of c.filer).slots (view_of d.filer).slots came in
         subst (λ (n : ℕ). IsRunning (state d) (kept d) n volume m) (sym count)
         (running_laws.asked (state c) (state d) (kept c) (kept d) c.intervals volume m whole r reaches brought
         (subst (λ (n : ℕ). Revealed (state d) (kept d) n r.session.stands.memory r.session.stands.is.named m.spaces) count known))
@@ -99,7 +99,7 @@ module _ {D A : Type 0} {G : Ghosts D} where
     pub asked_runs : (d : Core D A G) (volume : Volume) (m : Machine) → Asked c d → Runs c volume m → Runs d volume m
     asked_runs d volume m asked r = reached_runs d volume m r asked.reaches asked.came asked.intervals (asked.same _ _ m.spaces (knows volume m r))
 
-    module _ (d : Core D A G) (form : AreInForm (G.state d.filer.swapper.disk)) (pages : ArePages d.filer.swapper.pool) (volume : Volume) (m : Machine) (retabled : Retabled c d) (spaces : List Space)
+    module _ (d : Core D A G) (form : AreInForm (view_of d.filer).disk) (pages : ArePages (view_of d.filer).slots) (volume : Volume) (m : Machine) (retabled : Retabled c d) (spaces : List Space)
         (reveals : RevealSpaces (TablesAre (state d)) d.intervals spaces) (r : Runs c volume m) where
       -- the tables were changed, and what windows show is still shown
       pub reshaped_runs : IsMachine (record m { spaces = spaces }) → ((id page : ℕ) → is_shown m.spaces id page ≡ true → is_shown spaces id page ≡ true) → Runs d volume (record m { spaces = spaces })
@@ -108,33 +108,33 @@ module _ {D A : Type 0} {G : Ghosts D} where
           (running_laws.reshaped (state c) (state d) (kept c) c.intervals d.intervals volume m spaces whole form pages r retabled.beside retabled.came reveals is still)
 
       -- and pages became settled
-      pub changed_runs : (unforced : List FilePage) → IsMachine (record m { spaces = spaces; unforced = unforced }) → HasFrames d.filer.swapper.pool spaces → DirtyAreLoose d.filer.swapper.pool unforced
+      pub changed_runs : (unforced : List FilePage) → IsMachine (record m { spaces = spaces; unforced = unforced }) → HasFrames (view_of d.filer).slots spaces → DirtyAreLoose (view_of d.filer).slots unforced
           → Runs d volume (record m { spaces = spaces; unforced = unforced })
       changed_runs unforced is frames loose =
           subst (λ (k : List Interval). IsRunning (state d) k d.intervals volume (record m { spaces = spaces; unforced = unforced })) (sym retabled.kept)
           (running_laws.changed (state c) (state d) (kept c) c.intervals d.intervals volume m spaces unforced whole form pages r retabled.beside reveals is frames loose)
 
   -- each crash state reveals the settled files of before
-  pub quiet_passes : (c d : Core D A G) (volume : Volume) (m : Machine) (call : Call) → AreInForm (G.state c.filer.swapper.disk) → Runs c volume m
-      → Makes volume_page [] (G.state c.filer.swapper.disk) c.filer.swapper.pool (G.state d.filer.swapper.disk) d.filer.swapper.pool
-      → Passes m call (G.state c.filer.swapper.disk) (G.state d.filer.swapper.disk)
+  pub quiet_passes : (c d : Core D A G) (volume : Volume) (m : Machine) (call : Call) → AreInForm (view_of c.filer).disk → Runs c volume m
+      → Makes volume_page [] (view_of c.filer).disk (view_of c.filer).slots (view_of d.filer).disk (view_of d.filer).slots
+      → Passes m call (view_of c.filer).disk (view_of d.filer).disk
   quiet_passes c d volume m call form r makes = running_laws.quiet call (state c) (state d) (kept c) c.intervals volume m form r makes
 
   -- ---- What tables that were changed or asked did to the frames.
 
-  pub retabled_makes : (c d : Core D A G) → Retabled c d → Makes volume_page [] (G.state c.filer.swapper.disk) c.filer.swapper.pool (G.state d.filer.swapper.disk) d.filer.swapper.pool
+  pub retabled_makes : (c d : Core D A G) → Retabled c d → Makes volume_page [] (view_of c.filer).disk (view_of c.filer).slots (view_of d.filer).disk (view_of d.filer).slots
   retabled_makes c d retabled = makes_wider volume_page tables_own retabled.beside.goes.makes
 
-  pub retabled_then : (c d e : Core D A G) → Retabled c d → e ≡ d → Makes volume_page [] (G.state c.filer.swapper.disk) c.filer.swapper.pool (G.state e.filer.swapper.disk) e.filer.swapper.pool
+  pub retabled_then : (c d e : Core D A G) → Retabled c d → e ≡ d → Makes volume_page [] (view_of c.filer).disk (view_of c.filer).slots (view_of e.filer).disk (view_of e.filer).slots
   retabled_then c d e retabled same =
-      subst (λ (x : Core D A G). Makes volume_page [] (G.state c.filer.swapper.disk) c.filer.swapper.pool (G.state x.filer.swapper.disk) x.filer.swapper.pool) (sym same) (retabled_makes c d retabled)
+      subst (λ (x : Core D A G). Makes volume_page [] (view_of c.filer).disk (view_of c.filer).slots (view_of x.filer).disk (view_of x.filer).slots) (sym same) (retabled_makes c d retabled)
 
-  pub asked_makes : (c d : Core D A G) → Asked c d → Makes volume_page [] (G.state c.filer.swapper.disk) c.filer.swapper.pool (G.state d.filer.swapper.disk) d.filer.swapper.pool
+  pub asked_makes : (c d : Core D A G) → Asked c d → Makes volume_page [] (view_of c.filer).disk (view_of c.filer).slots (view_of d.filer).disk (view_of d.filer).slots
   asked_makes c d asked = makes_wider volume_page tables_own asked.reaches.goes.makes
 
   -- the disk still has as many sectors as the layout
-  pub size_kept : (c d : Core D A G) → Makes volume_page [] (G.state c.filer.swapper.disk) c.filer.swapper.pool (G.state d.filer.swapper.disk) d.filer.swapper.pool
-      → d.filer.swapper.layout ≡ c.filer.swapper.layout → (G.state c.filer.swapper.disk).sectors ≡ c.filer.swapper.layout.sectors → (G.state d.filer.swapper.disk).sectors ≡ d.filer.swapper.layout.sectors
+  pub size_kept : (c d : Core D A G) → Makes volume_page [] (view_of c.filer).disk (view_of c.filer).slots (view_of d.filer).disk (view_of d.filer).slots
+      → (view_of d.filer).layout ≡ (view_of c.filer).layout → (view_of c.filer).disk.sectors ≡ (view_of c.filer).layout.sectors → (view_of d.filer).disk.sectors ≡ (view_of d.filer).layout.sectors
   size_kept c d makes layout size = makes.went.sectors ∙ size ∙ ap (λ (l : Layout). l.sectors) (sym layout)
 
   -- ---- The same core.
@@ -142,16 +142,16 @@ module _ {D A : Type 0} {G : Ghosts D} where
   pub moved_runs : (c e : Core D A G) (volume : Volume) (m : Machine) → e ≡ c → Runs c volume m → Runs e volume m
   moved_runs c e volume m same r = subst (λ (x : Core D A G). Runs x volume m) (sym same) r
 
-  pub moved_size : (c e : Core D A G) → e ≡ c → (G.state c.filer.swapper.disk).sectors ≡ c.filer.swapper.layout.sectors → (G.state e.filer.swapper.disk).sectors ≡ e.filer.swapper.layout.sectors
-  moved_size c e same size = subst (λ (x : Core D A G). (G.state x.filer.swapper.disk).sectors ≡ x.filer.swapper.layout.sectors) (sym same) size
+  pub moved_size : (c e : Core D A G) → e ≡ c → (view_of c.filer).disk.sectors ≡ (view_of c.filer).layout.sectors → (view_of e.filer).disk.sectors ≡ (view_of e.filer).layout.sectors
+  moved_size c e same size = subst (λ (x : Core D A G). (view_of x.filer).disk.sectors ≡ (view_of x.filer).layout.sectors) (sym same) size
 
-  pub moved_reaches : (c e d : Core D A G) → e ≡ c → Reaches (state e) (state d) → Makes volume_page [] (G.state c.filer.swapper.disk) c.filer.swapper.pool (G.state d.filer.swapper.disk) d.filer.swapper.pool
+  pub moved_reaches : (c e d : Core D A G) → e ≡ c → Reaches (state e) (state d) → Makes volume_page [] (view_of c.filer).disk (view_of c.filer).slots (view_of d.filer).disk (view_of d.filer).slots
   moved_reaches c e d same reaches =
-      subst (λ (x : Core D A G). Makes volume_page [] (G.state x.filer.swapper.disk) x.filer.swapper.pool (G.state d.filer.swapper.disk) d.filer.swapper.pool) same (makes_wider volume_page tables_own reaches.goes.makes)
+      subst (λ (x : Core D A G). Makes volume_page [] (view_of x.filer).disk (view_of x.filer).slots (view_of d.filer).disk (view_of d.filer).slots) same (makes_wider volume_page tables_own reaches.goes.makes)
 
   -- what was written is on the medium
-  pub settled_runs : (c d : Core D A G) → IsLayout c.filer.swapper.layout → (G.state c.filer.swapper.disk).sectors ≡ c.filer.swapper.layout.sectors → (volume : Volume) (m : Machine) → Runs c volume m → Reaches (state c) (state d)
-      → d.filer.swapper.pool ≡ c.filer.swapper.pool → d.intervals ≡ c.intervals → ((x : List Sector) (named : Triples) (ss : List Space) → Knows c x named ss → Knows d x named ss) → Runs d volume m
+  pub settled_runs : (c d : Core D A G) → IsLayout (view_of c.filer).layout → (view_of c.filer).disk.sectors ≡ (view_of c.filer).layout.sectors → (volume : Volume) (m : Machine) → Runs c volume m → Reaches (state c) (state d)
+      → (view_of d.filer).slots ≡ (view_of c.filer).slots → d.intervals ≡ c.intervals → ((x : List Sector) (named : Triples) (ss : List Space) → Knows c x named ss → Knows d x named ss) → Runs d volume m
   settled_runs c d layout size volume m r reaches frames count same =
-      let came : BringsOwn c.filer.swapper.pool d.filer.swapper.pool = subst (λ (s : Slots). BringsOwn c.filer.swapper.pool s) (sym frames) (brings_itself (λ home. (1 ≤ home.id) × (home.id ≤ 3)) c.filer.swapper.pool) in
+      let came : BringsOwn (view_of c.filer).slots (view_of d.filer).slots = subst (λ (s : Slots). BringsOwn (view_of c.filer).slots s) (sym frames) (brings_itself (λ home. (1 ≤ home.id) × (home.id ≤ 3)) (view_of c.filer).slots) in
       reached_runs c layout size d volume m r reaches came count (same _ _ m.spaces (knows c layout size volume m r))

@@ -23,7 +23,7 @@ use Rattle.swap_units.specs.declared.interval.Interval.{Interval}
 use Rattle.fault_core.specs.Lack.{Sees}
 use Rattle.fault_core.specs.Reach.{Reaches}
 use Rattle.fault_core.specs.NeverBlames.{NeverBlamesTables}
-use Rattle.fault_core.specs.View.{View}
+use Rattle.filer_kernel.specs.View.{View}
 use Rattle.fault_core.proofs.LackLemmas.{sees_after}
 use Rattle.table_calls.specs.Answers.{Changes, IsDone}
 use Rattle.file_manager.specs.declared.attributes.Attributes.{Attributes}

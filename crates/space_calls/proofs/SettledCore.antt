@@ -14,7 +14,7 @@ use Rattle.swapper_kernel.specs.Stands.{Stands}
 use Rattle.filer_kernel.specs.Tables.{in_tables, table_pages}
 use Rattle.fault_core.specs.Reach.{IsReached, Reaches}
 use Rattle.fault_core.specs.Revealed.{Revealed}
-use Rattle.fault_core.specs.View.{View, TablesAre}
+use Rattle.filer_kernel.specs.View.{View, TablesAre}
 
 module _ (v : View) (disk : DiskState) (went : Went v.disk disk) (same : RevealsSame v.disk disk) where
   now_view : View

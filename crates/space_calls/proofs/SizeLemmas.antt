@@ -17,7 +17,7 @@ use Rattle.swapper_kernel.specs.Homes.{IsLayout}
 use Rattle.swapper_kernel.specs.Stands.{Stands}
 use Rattle.filer_kernel.specs.Triples.{AreOf, MapIs}
 use Rattle.fault_core.specs.Reach.{Reaches}
-use Rattle.fault_core.specs.View.{View, kept_by}
+use Rattle.filer_kernel.specs.View.{View, kept_by}
 use Rattle.fault_core.proofs.BeforeLemmas.{map_still}
 use Rattle.running_words.specs.MovingLaws.{moves_of_reaches}
 use Rattle.space_calls.specs.Mapping.{ReachesOver}

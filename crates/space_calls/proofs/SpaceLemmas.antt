@@ -22,15 +22,15 @@ use Rattle.space_tables.specs.Stored.{RevealSpaces}
 use Rattle.file_manager.specs.declared.volume.Volume.{Volume}
 use Rattle.fault_core.specs.declared.core_over.Core.{Core}
 use Rattle.fault_core.specs.Core.{state}
-use Rattle.fault_core.specs.View.{TablesAre}
+use Rattle.filer_kernel.specs.View.{TablesAre, view_of}
 use Rattle.table_calls.specs.Answers.{Changes, Retabled, Reveals}
 use Rattle.running_words.specs.Running.{Carried, Runs}
 use Rattle.running_words.specs.Session.{AreInForm}
 use Rattle.space_calls.proofs.CarryLemmas.{answered, declined, done_carried, refused_carried, tables_done, tables_refused}
 use Rattle.space_calls.proofs.ShownLemmas.{left_shown, put_shown, refitted_shown, unmapped_bare}
 
-module _ {D A : Type 0} {G : Ghosts D} (c d e : Core D A G) (layout : IsLayout c.filer.swapper.layout) (size : (G.state c.filer.swapper.disk).sectors ≡ c.filer.swapper.layout.sectors)
-    (form : AreInForm (G.state d.filer.swapper.disk)) (pages : ArePages e.filer.swapper.pool) (same : e ≡ d) (retabled : Retabled c d) (volume : Volume) (m : Machine) (r : Runs c volume m) where
+module _ {D A : Type 0} {G : Ghosts D} (c d e : Core D A G) (layout : IsLayout (view_of c.filer).layout) (size : (view_of c.filer).disk.sectors ≡ (view_of c.filer).layout.sectors)
+    (form : AreInForm (view_of d.filer).disk) (pages : ArePages (view_of e.filer).slots) (same : e ≡ d) (retabled : Retabled c d) (volume : Volume) (m : Machine) (r : Runs c volume m) where
   module _ (parent long : ℕ) (first : Option ℕ) (answer : Result (ℕ × ℕ) Refusal) where
     -- what the tables answer to a call for a space
     abbrev pub Made : Type 0

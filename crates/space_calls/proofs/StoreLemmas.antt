@@ -25,7 +25,7 @@ use Rattle.fault_core.specs.Moves.{StoresAs}
 use Rattle.fault_core.specs.Reach.{Reaches}
 use Rattle.fault_core.specs.ReferenceLaws.{reply_to, word_of}
 use Rattle.fault_core.specs.Revealed.{Revealed}
-use Rattle.fault_core.specs.View.{View}
+use Rattle.filer_kernel.specs.View.{View}
 use Rattle.fault_core.proofs.AllowedLemmas.{stores_tested}
 use Rattle.fault_core.proofs.AnswerLemmas.{stores_answered}
 use Rattle.running_words.specs.Running.{IsRunning}
@@ -66,7 +66,7 @@ stays_where v w a b ss address bytes x same refused stands goes =
 
 module _ (laws : RunningLaws) {v : View} {kept : List Interval} {count : ℕ} (whole : IsWhole v) {volume : Volume} {m : Machine} (r : IsRunning v kept count volume m) (form : AreInForm v.disk) where
   -- whatever it came to
-  pub store_reveals : (w : View) (address : ℕ) (bytes : List ℕ) → IsTyped (call.Store address bytes) → length bytes ≤ 64
+  pub store_reveals : (w : View) (address : ℕ) (bytes : List ℕ) → IsTyped (call.Store address bytes) → length bytes ≤ 512
       → Makes (IsTouchedOrOwn m.spaces address (length bytes)) [] v.disk v.slots w.disk w.slots → (access_of m.spaces true address (length bytes) ≢ Done → Reaches v w)
       → Passes m (call.Store address bytes) v.disk w.disk
   store_reveals w address bytes typed few makes tested = by (access_of m.spaces true address (length bytes)) refl
@@ -75,7 +75,7 @@ module _ (laws : RunningLaws) {v : View} {kept : List Interval} {count : ℕ} (w
       found reaches = laws.quiet (call.Store address bytes) v w kept count volume m form r (reached_makes reaches)
 
       by : (a : Access) → access_of m.spaces true address (length bytes) ≡ a → Passes m (call.Store address bytes) v.disk w.disk
-      by Done is = laws.store_passes address bytes v w kept count volume m form typed (omega (arith, few)) (stores_tested m address bytes ∙ ap word_of is) r makes
+      by Done is = laws.store_passes address bytes v w kept count volume m form typed few (stores_tested m address bytes ∙ ap word_of is) r makes
       by (NoMap page) is = found (tested (λ done. other_than_done (NoMap page) (λ no. no) (sym is ∙ done)))
       by (ReadOnly page) is = found (tested (λ done. other_than_done (ReadOnly page) (λ no. no) (sym is ∙ done)))
 

@@ -36,6 +36,7 @@ use Rattle.space_calls.proofs.AwayLemmas.{frames_left, gone_clean, loose_left}
 use Rattle.space_calls.proofs.CarryLemmas.{done_carried, next_done}
 use Rattle.space_calls.proofs.ShownLemmas.{moded_shown}
 use Rattle.space_calls.proofs.TakenMachine.{may_have, named, row_passed, taken_machine}
+use Rattle.filer_kernel.specs.View.{view_of}
 
 -- ---- The tests.
 
@@ -81,18 +82,18 @@ module _ {D A : Type 0} {G : Ghosts D} (l : Core D A G) (volume : Volume) (m : M
   machine_left = taken_machine m is k s (window_of shown) at has
 
   module _ (first pages : ℕ) (begins : first ≡ s.first) (long : pages ≡ s.pages) where
-    pub gone_frames : AreGone m.spaces l.filer.swapper.pool first (first + pages) → HasFrames l.filer.swapper.pool (set_window k None m.spaces)
+    pub gone_frames : AreGone m.spaces (view_of l.filer).slots first (first + pages) → HasFrames (view_of l.filer).slots (set_window k None m.spaces)
     gone_frames gone =
-        frames_left m.spaces (spaces_of m is) k s (window_of shown) at has l.filer.swapper.pool
-        (subst (λ (n : ℕ). AreGone m.spaces l.filer.swapper.pool n (n + s.pages)) begins (subst (λ (n : ℕ). AreGone m.spaces l.filer.swapper.pool first (first + n)) long gone)) r.session.stands.frames
+        frames_left m.spaces (spaces_of m is) k s (window_of shown) at has (view_of l.filer).slots
+        (subst (λ (n : ℕ). AreGone m.spaces (view_of l.filer).slots n (n + s.pages)) begins (subst (λ (n : ℕ). AreGone m.spaces (view_of l.filer).slots first (first + n)) long gone)) r.session.stands.frames
 
-    pub clean_loose : AreClean m.spaces l.filer.swapper.pool first (first + pages) → DirtyAreLoose l.filer.swapper.pool (without_window_of s m.unforced)
+    pub clean_loose : AreClean m.spaces (view_of l.filer).slots first (first + pages) → DirtyAreLoose (view_of l.filer).slots (without_window_of s m.unforced)
     clean_loose clean =
-        loose_left m.spaces (spaces_of m is) k s (window_of shown) at has l.filer.swapper.pool
-        (subst (λ (n : ℕ). AreClean m.spaces l.filer.swapper.pool n (n + s.pages)) begins (subst (λ (n : ℕ). AreClean m.spaces l.filer.swapper.pool first (first + n)) long clean)) m.unforced r.session.stands.dirty
+        loose_left m.spaces (spaces_of m is) k s (window_of shown) at has (view_of l.filer).slots
+        (subst (λ (n : ℕ). AreClean m.spaces (view_of l.filer).slots n (n + s.pages)) begins (subst (λ (n : ℕ). AreClean m.spaces (view_of l.filer).slots first (first + n)) long clean)) m.unforced r.session.stands.dirty
 
-    pub gone_loose : AreGone m.spaces l.filer.swapper.pool first (first + pages) → DirtyAreLoose l.filer.swapper.pool (without_window_of s m.unforced)
-    gone_loose gone = clean_loose (gone_clean m.spaces l.filer.swapper.pool first (first + pages) gone)
+    pub gone_loose : AreGone m.spaces (view_of l.filer).slots first (first + pages) → DirtyAreLoose (view_of l.filer).slots (without_window_of s m.unforced)
+    gone_loose gone = clean_loose (gone_clean m.spaces (view_of l.filer).slots first (first + pages) gone)
 
   -- ---- It gets another mode.
 
@@ -108,7 +109,7 @@ module _ {D A : Type 0} {G : Ghosts D} (l : Core D A G) (volume : Volume) (m : M
         let of : WindowFits s.pages (window_of shown) = subst (λ (o : Option Window). IfSome o (WindowFits s.pages)) has one in
         record { above_reserved = of.above_reserved; small = of.small; pages_fit = of.pages_fit }
 
-    pub mode_frames : HasFrames l.filer.swapper.pool (set_window k (Some now) m.spaces)
+    pub mode_frames : HasFrames (view_of l.filer).slots (set_window k (Some now) m.spaces)
     mode_frames = record { known = λ id page there. elim (r.session.stands.frames.known id page there) [ inl low ↦ inl low | inr before ↦ inr (moded_shown m.spaces id page before (spaces_of m is) k s at (window_of shown) now has refl refl) ] }
 
     spaces_are : set_mode s.handle writable m.spaces ≡ set_window k (Some now) m.spaces

@@ -7,7 +7,7 @@ use Rattle.space_tables.specs.Shows.{IsRunAt}
 use Rattle.swapper_kernel.specs.Homes.{IsLayout}
 use Rattle.fault_core.specs.Kill.{BreaksWithin}
 use Rattle.fault_core.specs.Reach.{Reaches, ReachHalts}
-use Rattle.fault_core.specs.View.{View}
+use Rattle.filer_kernel.specs.View.{View}
 use Rattle.fault_core.proofs.ReachLemmas.{halts_before, reaches_itself}
 use Rattle.table_calls.specs.Answers.{TablesBreak, TablesSay}
 use Rattle.space_calls.specs.Ranges.{BreaksPart, BreaksWindow}

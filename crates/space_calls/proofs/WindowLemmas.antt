@@ -26,7 +26,7 @@ use Rattle.space_tables.specs.Stored.{RevealSpaces}
 use Rattle.file_manager.specs.declared.volume.Volume.{Volume}
 use Rattle.fault_core.specs.declared.core_over.Core.{Core}
 use Rattle.fault_core.specs.Core.{state}
-use Rattle.fault_core.specs.View.{TablesAre}
+use Rattle.filer_kernel.specs.View.{TablesAre, view_of}
 use Rattle.table_calls.specs.Answers.{IsDone, Retabled}
 use Rattle.running_words.specs.Running.{Carried, Runs, exactly}
 use Rattle.running_words.specs.Session.{AreInForm}
@@ -37,8 +37,8 @@ use Rattle.space_calls.proofs.RunLemmas.{changed_runs, reshaped_runs}
 use Rattle.space_calls.proofs.ShownLemmas.{given_shown, unmapped_bare}
 use Rattle.space_calls.proofs.TableAnswers.{was_done}
 
-module _ {D A : Type 0} {G : Ghosts D} (c d e : Core D A G) (layout : IsLayout c.filer.swapper.layout) (size : (G.state c.filer.swapper.disk).sectors ≡ c.filer.swapper.layout.sectors)
-    (form : AreInForm (G.state d.filer.swapper.disk)) (pages : ArePages e.filer.swapper.pool) (same : e ≡ d) (retabled : Retabled c d) (volume : Volume) (m : Machine) (r : Runs c volume m)
+module _ {D A : Type 0} {G : Ghosts D} (c d e : Core D A G) (layout : IsLayout (view_of c.filer).layout) (size : (view_of c.filer).disk.sectors ≡ (view_of c.filer).layout.sectors)
+    (form : AreInForm (view_of d.filer).disk) (pages : ArePages (view_of e.filer).slots) (same : e ≡ d) (retabled : Retabled c d) (volume : Volume) (m : Machine) (r : Runs c volume m)
     (handle : ℕ) (x : Space) (may : MayHaveWindow m.spaces x) (named : x.handle ≡ handle) where
   at : space_at m.spaces handle ≡ Some x
   at = subst (λ (n : ℕ). space_at m.spaces n ≡ Some x) named may.there
@@ -52,25 +52,25 @@ module _ {D A : Type 0} {G : Ghosts D} (c d e : Core D A G) (layout : IsLayout c
       let are = spaces_of m r.session.stands.is.by.machine in (
         refl,
         subst (λ (y : Core D A G). Runs y volume (record m { spaces = set_window handle (Some (window_of shown)) m.spaces })) (sym same)
-            (reshaped_runs c layout size d form (subst (λ (y : Core D A G). ArePages y.filer.swapper.pool) same pages) volume m retabled spaces reveals r is
+            (reshaped_runs c layout size d form (subst (λ (y : Core D A G). ArePages (view_of y.filer).slots) same pages) volume m retabled spaces reveals r is
             (λ id page before. given_shown m.spaces id page before are handle x at (unmapped_bare m.spaces id page before are handle x at bare) (Some (window_of shown)))),
       )
 
 -- ---- Another window, or none.
 
-module _ {D A : Type 0} {G : Ghosts D} (c d e : Core D A G) (layout : IsLayout c.filer.swapper.layout) (size : (G.state c.filer.swapper.disk).sectors ≡ c.filer.swapper.layout.sectors)
-    (form : AreInForm (G.state d.filer.swapper.disk)) (pages : ArePages e.filer.swapper.pool) (same : e ≡ d) (retabled : Retabled c d) (volume : Volume) (m : Machine) (r : Runs c volume m)
-    (spaces : List Space) (unforced : List FilePage) (is : IsMachine (record m { spaces = spaces; unforced = unforced })) (frames : HasFrames c.filer.swapper.pool spaces) (loose : DirtyAreLoose c.filer.swapper.pool unforced) where
-  frames_then : HasFrames d.filer.swapper.pool spaces
-  frames_then = frames_brought c.filer.swapper.pool d.filer.swapper.pool spaces (known_brought (exactly r.pages m.spaces) (record m { spaces = spaces }) c.filer.swapper.pool d.filer.swapper.pool retabled.came) frames
+module _ {D A : Type 0} {G : Ghosts D} (c d e : Core D A G) (layout : IsLayout (view_of c.filer).layout) (size : (view_of c.filer).disk.sectors ≡ (view_of c.filer).layout.sectors)
+    (form : AreInForm (view_of d.filer).disk) (pages : ArePages (view_of e.filer).slots) (same : e ≡ d) (retabled : Retabled c d) (volume : Volume) (m : Machine) (r : Runs c volume m)
+    (spaces : List Space) (unforced : List FilePage) (is : IsMachine (record m { spaces = spaces; unforced = unforced })) (frames : HasFrames (view_of c.filer).slots spaces) (loose : DirtyAreLoose (view_of c.filer).slots unforced) where
+  frames_then : HasFrames (view_of d.filer).slots spaces
+  frames_then = frames_brought (view_of c.filer).slots (view_of d.filer).slots spaces (known_brought (exactly r.pages m.spaces) (record m { spaces = spaces }) (view_of c.filer).slots (view_of d.filer).slots retabled.came) frames
 
-  loose_then : DirtyAreLoose d.filer.swapper.pool unforced
+  loose_then : DirtyAreLoose (view_of d.filer).slots unforced
   loose_then id page dirty = elim (retabled.beside.goes.makes.dirty id page dirty) [ inl was ↦ loose id page was | inr own ↦ volume_loose unforced id page (tables_own id page own) ]
 
   pub window_changed : (o : Result Unit Refusal) → IsDone (RevealSpaces (TablesAre (state d)) d.intervals spaces) o → IsDone (Runs e volume (record m { spaces = spaces; unforced = unforced })) o
   window_changed (Ok u) reveals =
       subst (λ (y : Core D A G). Runs y volume (record m { spaces = spaces; unforced = unforced })) (sym same)
-      (changed_runs c layout size d form (subst (λ (y : Core D A G). ArePages y.filer.swapper.pool) same pages) volume m retabled spaces reveals r unforced is frames_then loose_then)
+      (changed_runs c layout size d form (subst (λ (y : Core D A G). ArePages (view_of y.filer).slots) same pages) volume m retabled spaces reveals r unforced is frames_then loose_then)
   window_changed (Err word) no_way = no_way
 
 -- the machine's next after a call that maps a space

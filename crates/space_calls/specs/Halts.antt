@@ -8,7 +8,7 @@ use Rattle.space_tables.specs.Shows.{IsShownAt}
 use Rattle.file_manager.specs.Finding.{FileHalts}
 use Rattle.fault_core.specs.Reach.{Reaches, ReachHalts}
 use Rattle.fault_core.specs.Revealed.{BreaksTables}
-use Rattle.fault_core.specs.View.{View, kept_by}
+use Rattle.filer_kernel.specs.View.{View, kept_by}
 use Rattle.table_calls.specs.Answers.{TablesBreak, TablesSay}
 use Rattle.space_calls.specs.Ranges.{BreaksWindow}
 

@@ -6,3 +6,4 @@ pub mod Halts
 pub mod ReasonLaws
 pub mod Sees
 pub mod FilesLaws
+pub mod Calls

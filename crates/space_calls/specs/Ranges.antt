@@ -7,7 +7,7 @@ use Rattle.space_tables.specs.Form.{Breaks, BreaksSlot}
 use Rattle.space_tables.specs.Shows.{IsRunAt}
 use Rattle.fault_core.specs.Kill.{BreaksWithin}
 use Rattle.fault_core.specs.Lack.{range_units}
-use Rattle.fault_core.specs.View.{View}
+use Rattle.filer_kernel.specs.View.{View}
 use Rattle.table_calls.specs.Answers.{TablesBreak, TablesSay}
 
 -- A page of them breaks its form for the look-up of a page of the space's range. Where the tables are revealed, that range is the one

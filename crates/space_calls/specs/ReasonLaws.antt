@@ -24,7 +24,7 @@ use Rattle.file_manager.specs.ShownLaws.{run_home_named, in_form}
 use Rattle.file_manager.specs.Reasons.{InitialState, IsAtHome, HasReason, ShowsReason}
 use Rattle.fault_core.specs.Reach.{Reaches, ReachHalts, TouchHalts}
 use Rattle.fault_core.specs.Touch.{on_data}
-use Rattle.fault_core.specs.View.{View, kept_by}
+use Rattle.filer_kernel.specs.View.{View, kept_by}
 use Rattle.running_words.specs.Moving.{any_page, Moves, ViewKeepsTo}
 use Rattle.running_words.specs.MovingLaws.{moves_of_reaches, keeps_moved, moved_before, reach_shows, touch_shows}
 use Rattle.space_tables.specs.Form.{first_in_slot, Breaks, BreaksAt, BreaksFor, BreaksHierarchy, BreaksSlot, MakesTooMany}

@@ -11,7 +11,7 @@ use Rattle.filer_kernel.specs.Causes.{IsGiven}
 use Rattle.filer_kernel.specs.Tables.{in_tables, table_pages}
 use Rattle.filer_kernel.specs.Triples.{MapIs, AreOf, IsOneOf}
 use Rattle.fault_core.specs.Reach.{IsReached}
-use Rattle.fault_core.specs.View.{View, kept_by}
+use Rattle.filer_kernel.specs.View.{View, kept_by}
 use Rattle.flat_machine.specs.declared.call.Refusal.{Refusal}
 use Rattle.flat_machine.specs.declared.space.Space.{Space}
 use Rattle.flat_machine.specs.Machine.{Machine}

@@ -16,6 +16,8 @@ ghost use Rattle.fault_core.specs.Reach.{Reaches, ReachHalts};
 ghost use Rattle.fault_core.specs.Revealed.{BreaksTables};
 ghost use Rattle.fault_core.specs.NeverBlames.{NeverBlamesTables};
 ghost use Rattle.space_calls.specs.Sees.{SeesOn, StillSees};
+ghost use Rattle.filer_kernel.specs.View.{FitsLayout, MakesOnly};
+ghost use Rattle.space_calls.specs.Calls.{Looks};
 
 use fault_core::Core;
 use labelled_disk::{Disk, Halt};
@@ -24,20 +26,15 @@ use std::alloc::Allocator;
 // Whether the projection is one interval, which shows nothing. From the second time on that costs nothing, since the core
 // keeps the interval.
 pub(crate) fn shows_nothing<D: Disk, A: Allocator>(core: &mut Core<D, A>) -> Result<bool, Halt>
-    requires size { (D.state core.old.filer.swapper.disk).sectors ≡ core.old.filer.swapper.layout.sectors }
+    requires size { FitsLayout (state core.old) }
     ensures answer { (volume : Volume) (m : Machine) → Runs core.old volume m → IfOk result (λ none. none ≡ true → list_any is_mapped m.spaces ≡ false) }
-    ensures runs { (volume : Volume) (m : Machine) → Runs core.old volume m → Runs core.new volume m }
+    ensures looks { Looks core.old core.new }
     ensures sound { (volume : Volume) (m : Machine) → Runs core.old volume m → IfErr result (λ e. e ≡ halt.Disk) }
-    ensures counted { result ≡ Err halt.Disk → Rose (D.state core.old.filer.swapper.disk).faults (D.state core.new.filer.swapper.disk).faults }
+    ensures counted { result ≡ Err halt.Disk → Rose (state core.old).disk.faults (state core.new).disk.faults }
     ensures cause { IfErr result (ReachHalts (BreaksTables (state core.old) core.old.intervals 0) (state core.old) (state core.new)) }
-    ensures evidence_seen { IfErr result (ShowsEvidence (D.state core.new.filer.swapper.disk)) }
-    ensures still { StillSees core.old core.new }
+    ensures evidence_seen { IfErr result (ShowsEvidence (state core.new).disk) }
     ensures right { SeesOn core.old → IfErr result NeverBlamesTables }
-    ensures reaches { Reaches (state core.old) (state core.new) }
-    ensures makes { Makes volume_page [] (D.state core.old.filer.swapper.disk) core.old.filer.swapper.pool (D.state core.new.filer.swapper.disk) core.new.filer.swapper.pool }
-    ensures layout { core.new.filer.swapper.layout ≡ core.old.filer.swapper.layout }
-    ensures intervals { core.new.intervals ≡ core.old.intervals }
-    ensures cost { (D.state core.new.filer.swapper.disk).transfers ≤ (D.state core.old.filer.swapper.disk).transfers + 196 }
+    ensures cost { (state core.new).disk.transfers ≤ (state core.old).disk.transfers + 196 }
 {
     if core.interval_count() != 1 {
         return Ok(false);

@@ -34,7 +34,8 @@ ghost use Rattle.labelled_disk.specs.Sectors.{Sector};
 ghost use Rattle.file_map.specs.FileMap.{Triples};
 ghost use Rattle.swapper_kernel.specs.Stands.{Stands};
 ghost use Rattle.filer_kernel.specs.Triples.{AreOf, MapIs};
-ghost use Rattle.fault_core.specs.View.{kept_by};
+ghost use Rattle.filer_kernel.specs.View.{FitsLayout, HasMemory, kept_by, MakesOnly};
+ghost use Rattle.space_calls.specs.Calls.{Answers, Looks};
 
 use crate::framing::frame_count;
 use crate::naming::named_file;
@@ -52,21 +53,21 @@ pub fn give_window<D: Disk, A: Allocator>(
     space: u32,
     shown: Shown,
 ) -> Result<Reply, Halt>
-    requires size { (D.state core.old.filer.swapper.disk).sectors ≡ core.old.filer.swapper.layout.sectors }
+    requires size { FitsLayout (state core.old) }
     ensures given { (volume : Volume) (m : Machine) (x : Space) → Runs core.old volume m → MayHaveWindow m.spaces x → x.handle ≡ space → x.window ≡ None → WindowFits x.pages (window_of shown)
         → IsMachine (record m { spaces = set_window space (Some (window_of shown)) m.spaces })
         → IfOk result (λ reply. (reply ≡ answer.Done) × Runs core.new volume (record m { spaces = set_window space (Some (window_of shown)) m.spaces })) }
     ensures sound { (volume : Volume) (m : Machine) (x : Space) → Runs core.old volume m → MayHaveWindow m.spaces x → x.handle ≡ space → x.window ≡ None → WindowFits x.pages (window_of shown) → IfErr result (λ e. e ≡ halt.Disk) }
-    ensures counted { result ≡ Err halt.Disk → Rose (D.state core.old.filer.swapper.disk).faults (D.state core.new.filer.swapper.disk).faults }
+    ensures counted { result ≡ Err halt.Disk → Rose (state core.old).disk.faults (state core.new).disk.faults }
     ensures cause { IfErr result (ChangeHalts core.old.intervals (state core.old) (state core.new)) }
-    ensures evidence_seen { IfErr result (ShowsEvidence (D.state core.new.filer.swapper.disk)) }
-    ensures makes { Makes volume_page [] (D.state core.old.filer.swapper.disk) core.old.filer.swapper.pool (D.state core.new.filer.swapper.disk) core.new.filer.swapper.pool }
+    ensures evidence_seen { IfErr result (ShowsEvidence (state core.new).disk) }
+    ensures makes { MakesOnly volume_page [] (state core.old) (state core.new) }
     ensures sees { (ss : List Space) (x : Space) → Sees (state core.old) (kept core.old) core.old.intervals ss → MayHaveWindow ss x → x.handle ≡ space → WindowFits x.pages (window_of shown)
         → IfOk result (λ reply. (reply ≡ answer.Done) × SeesFiles (λ file last. IsShown ss file last ⊎ ((file ≡ shown.id) × IsLastFrom ss space shown.page last)) core.new) }
     ensures right { SeesOn core.old → IfErr result NeverBlamesTables }
     ensures moves { Moves (state core.old) (state core.new) }
-    ensures layout { core.new.filer.swapper.layout ≡ core.old.filer.swapper.layout }
-    ensures cost { (D.state core.new.filer.swapper.disk).transfers ≤ (D.state core.old.filer.swapper.disk).transfers + 57344 }
+    ensures layout { (state core.new).layout ≡ (state core.old).layout }
+    ensures cost { (state core.new).disk.transfers ≤ (state core.old).disk.transfers + 57344 }
 {
     let answer = match set_window(core, space, Some(shown)) {
         Ok(answer) => answer,
@@ -94,23 +95,18 @@ fn may_map<D: Disk, A: Allocator>(
     page: u32,
     writable: bool,
 ) -> Result<Result<(), Refusal>, Halt>
-    requires size { (D.state core.old.filer.swapper.disk).sectors ≡ core.old.filer.swapper.layout.sectors }
+    requires size { FitsLayout (state core.old) }
     ensures answer { (volume : Volume) (m : Machine) → Runs core.old volume m → IfOk result (Reveals (refusal m (call.Map space id page writable)) (λ _. IsInReach m space page)) }
-    ensures runs { (volume : Volume) (m : Machine) → Runs core.old volume m → Runs core.new volume m }
+    ensures looks { Looks core.old core.new }
     ensures sound { (volume : Volume) (m : Machine) → Runs core.old volume m → IfErr result (λ e. e ≡ halt.Disk) }
-    ensures counted { result ≡ Err halt.Disk → Rose (D.state core.old.filer.swapper.disk).faults (D.state core.new.filer.swapper.disk).faults }
+    ensures counted { result ≡ Err halt.Disk → Rose (state core.old).disk.faults (state core.new).disk.faults }
     ensures cause { IfErr result (MapFileHalts space id core.old.intervals (state core.old) (state core.new)) }
-    ensures evidence_seen { IfErr result (ShowsEvidence (D.state core.new.filer.swapper.disk)) }
-    ensures still { StillSees core.old core.new }
+    ensures evidence_seen { IfErr result (ShowsEvidence (state core.new).disk) }
     ensures seen { (ss : List Space) → Sees (state core.old) (kept core.old) core.old.intervals ss → IfOk result (IfGiven (λ _. MayShow ss space id page writable)) }
     ensures right { SeesOn core.old → IfErr result NeverBlamesTables }
-    ensures found { (ss : List Space) (m : List Sector) (named : Triples) → Sees (state core.old) (kept core.old) core.old.intervals ss → Stands (D.state core.old.filer.swapper.disk) core.old.filer.swapper.pool m → MapIs core.old.filer.swapper.layout named m → AreOf named (kept_by (state core.old))
+    ensures found { (ss : List Space) (m : List Sector) (named : Triples) → Sees (state core.old) (kept core.old) core.old.intervals ss → HasMemory (state core.old) m → MapIs (state core.old).layout named m → AreOf named (kept_by (state core.old))
         → IfOk result (IfGiven (λ _. ReachesOver ss space id page named)) }
-    ensures reaches { Reaches (state core.old) (state core.new) }
-    ensures makes { Makes volume_page [] (D.state core.old.filer.swapper.disk) core.old.filer.swapper.pool (D.state core.new.filer.swapper.disk) core.new.filer.swapper.pool }
-    ensures layout { core.new.filer.swapper.layout ≡ core.old.filer.swapper.layout }
-    ensures intervals { core.new.intervals ≡ core.old.intervals }
-    ensures cost { (D.state core.new.filer.swapper.disk).transfers ≤ (D.state core.old.filer.swapper.disk).transfers + 28953 }
+    ensures cost { (state core.new).disk.transfers ≤ (state core.old).disk.transfers + 28953 }
 {
     match bounds(core, space) {
         Ok(Ok(_)) => (),
@@ -147,21 +143,19 @@ pub fn map<D: Disk, A: Allocator>(
     page: u32,
     writable: bool,
 ) -> Result<Reply, Halt>
-    requires size { (D.state core.old.filer.swapper.disk).sectors ≡ core.old.filer.swapper.layout.sectors }
-    ensures carried { (volume : Volume) (m : Machine) → Runs core.old volume m → IfOk result (Carried m (call.Map space id page writable) core.new volume) }
-    ensures sound { (volume : Volume) (m : Machine) → Runs core.old volume m → IfErr result (λ e. e ≡ halt.Disk) }
-    ensures passes { (volume : Volume) (m : Machine) → Runs core.old volume m → Passes m (call.Map space id page writable) (D.state core.old.filer.swapper.disk) (D.state core.new.filer.swapper.disk) }
-    ensures counted { result ≡ Err halt.Disk → Rose (D.state core.old.filer.swapper.disk).faults (D.state core.new.filer.swapper.disk).faults }
+    requires size { FitsLayout (state core.old) }
+    ensures answers { (volume : Volume) (m : Machine) → Runs core.old volume m → Answers m (call.Map space id page writable) core.old core.new volume result }
+    ensures counted { result ≡ Err halt.Disk → Rose (state core.old).disk.faults (state core.new).disk.faults }
     ensures cause { IfErr result (MapFileHalts space id core.old.intervals (state core.old) (state core.new)) }
-    ensures evidence_seen { IfErr result (ShowsEvidence (D.state core.new.filer.swapper.disk)) }
-    ensures wrote { WroteIn (volume_page) (D.state core.old.filer.swapper.disk) core.old.filer.swapper.pool (D.state core.new.filer.swapper.disk) core.new.filer.swapper.pool }
+    ensures evidence_seen { IfErr result (ShowsEvidence (state core.new).disk) }
+    ensures wrote { WroteIn (volume_page) (state core.old).disk (state core.old).slots (state core.new).disk (state core.new).slots }
     ensures sees { IfOk result (λ reply. StillOnOr (λ ss file last. (reply ≡ answer.Done) × (file ≡ id) × IsLastFrom ss space page last) core.old core.new) }
-    ensures found { (ss : List Space) (m : List Sector) (named : Triples) → Sees (state core.old) (kept core.old) core.old.intervals ss → Stands (D.state core.old.filer.swapper.disk) core.old.filer.swapper.pool m → MapIs core.old.filer.swapper.layout named m → AreOf named (kept_by (state core.old))
+    ensures found { (ss : List Space) (m : List Sector) (named : Triples) → Sees (state core.old) (kept core.old) core.old.intervals ss → HasMemory (state core.old) m → MapIs (state core.old).layout named m → AreOf named (kept_by (state core.old))
         → IfOk result (λ reply. reply ≡ answer.Done → ReachesOver ss space id page named) }
     ensures right { SeesOn core.old → IfErr result NeverBlamesTables }
     ensures moves { Moves (state core.old) (state core.new) }
-    ensures layout { core.new.filer.swapper.layout ≡ core.old.filer.swapper.layout }
-    ensures cost { CostsOther (D.state core.old.filer.swapper.disk) (D.state core.new.filer.swapper.disk) }
+    ensures layout { (state core.new).layout ≡ (state core.old).layout }
+    ensures cost { CostsOther (state core.old).disk (state core.new).disk }
 {
     match may_map(core, space, id, page, writable) {
         Ok(Ok(())) => (),

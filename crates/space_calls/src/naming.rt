@@ -27,7 +27,8 @@ ghost use Rattle.labelled_disk.specs.Sectors.{Sector};
 ghost use Rattle.file_map.specs.FileMap.{Triples, IsSize};
 ghost use Rattle.swapper_kernel.specs.Stands.{Stands};
 ghost use Rattle.filer_kernel.specs.Triples.{AreOf, MapIs};
-ghost use Rattle.fault_core.specs.View.{kept_by};
+ghost use Rattle.filer_kernel.specs.View.{FitsLayout, HasMemory, kept_by, MakesOnly};
+ghost use Rattle.space_calls.specs.Calls.{Looks};
 
 use crate::bare::shows_nothing;
 use fault_core::Core;
@@ -43,20 +44,15 @@ pub fn window_on<D: Disk, A: Allocator>(
     id: FileId,
     writable_only: bool,
 ) -> Result<Option<(u32, Shown)>, Halt>
-    requires size { (D.state core.old.filer.swapper.disk).sectors ≡ core.old.filer.swapper.layout.sectors }
+    requires size { FitsLayout (state core.old) }
     ensures answer { (volume : Volume) (m : Machine) → Runs core.old volume m → IfOk result (IsFirstWith (shows id writable_only) m.spaces) }
-    ensures runs { (volume : Volume) (m : Machine) → Runs core.old volume m → Runs core.new volume m }
+    ensures looks { Looks core.old core.new }
     ensures sound { (volume : Volume) (m : Machine) → Runs core.old volume m → IfErr result (λ e. e ≡ halt.Disk) }
-    ensures counted { result ≡ Err halt.Disk → Rose (D.state core.old.filer.swapper.disk).faults (D.state core.new.filer.swapper.disk).faults }
+    ensures counted { result ≡ Err halt.Disk → Rose (state core.old).disk.faults (state core.new).disk.faults }
     ensures cause { IfErr result (SightHalts core.old.intervals (state core.old) (state core.new)) }
-    ensures evidence_seen { IfErr result (ShowsEvidence (D.state core.new.filer.swapper.disk)) }
-    ensures still { StillSees core.old core.new }
+    ensures evidence_seen { IfErr result (ShowsEvidence (state core.new).disk) }
     ensures right { SeesOn core.old → IfErr result NeverBlamesTables }
-    ensures reaches { Reaches (state core.old) (state core.new) }
-    ensures makes { Makes volume_page [] (D.state core.old.filer.swapper.disk) core.old.filer.swapper.pool (D.state core.new.filer.swapper.disk) core.new.filer.swapper.pool }
-    ensures layout { core.new.filer.swapper.layout ≡ core.old.filer.swapper.layout }
-    ensures intervals { core.new.intervals ≡ core.old.intervals }
-    ensures cost { (D.state core.new.filer.swapper.disk).transfers ≤ (D.state core.old.filer.swapper.disk).transfers + 14532 }
+    ensures cost { (state core.new).disk.transfers ≤ (state core.old).disk.transfers + 14532 }
 {
     match shows_nothing(core) {
         Ok(true) => return Ok(None),
@@ -68,20 +64,15 @@ pub fn window_on<D: Disk, A: Allocator>(
 
 // Whether no anonymous window shows the file: the calls on files then see it, if it is there.
 fn may_be_named<D: Disk, A: Allocator>(core: &mut Core<D, A>, id: FileId) -> Result<bool, Halt>
-    requires size { (D.state core.old.filer.swapper.disk).sectors ≡ core.old.filer.swapper.layout.sectors }
+    requires size { FitsLayout (state core.old) }
     ensures answer { (volume : Volume) (m : Machine) → Runs core.old volume m → IfOk result (IsSeen m id) }
-    ensures runs { (volume : Volume) (m : Machine) → Runs core.old volume m → Runs core.new volume m }
+    ensures looks { Looks core.old core.new }
     ensures sound { (volume : Volume) (m : Machine) → Runs core.old volume m → IfErr result (λ e. e ≡ halt.Disk) }
-    ensures counted { result ≡ Err halt.Disk → Rose (D.state core.old.filer.swapper.disk).faults (D.state core.new.filer.swapper.disk).faults }
+    ensures counted { result ≡ Err halt.Disk → Rose (state core.old).disk.faults (state core.new).disk.faults }
     ensures cause { IfErr result (SightHalts core.old.intervals (state core.old) (state core.new)) }
-    ensures evidence_seen { IfErr result (ShowsEvidence (D.state core.new.filer.swapper.disk)) }
-    ensures still { StillSees core.old core.new }
+    ensures evidence_seen { IfErr result (ShowsEvidence (state core.new).disk) }
     ensures right { SeesOn core.old → IfErr result NeverBlamesTables }
-    ensures reaches { Reaches (state core.old) (state core.new) }
-    ensures makes { Makes volume_page [] (D.state core.old.filer.swapper.disk) core.old.filer.swapper.pool (D.state core.new.filer.swapper.disk) core.new.filer.swapper.pool }
-    ensures layout { core.new.filer.swapper.layout ≡ core.old.filer.swapper.layout }
-    ensures intervals { core.new.intervals ≡ core.old.intervals }
-    ensures cost { (D.state core.new.filer.swapper.disk).transfers ≤ (D.state core.old.filer.swapper.disk).transfers + 14532 }
+    ensures cost { (state core.new).disk.transfers ≤ (state core.old).disk.transfers + 14532 }
 {
     match window_on(core, id, false) {
         Ok(Some((_, shown))) => Ok(!shown.anonymous),
@@ -95,23 +86,18 @@ pub fn named_file<D: Disk, A: Allocator>(
     core: &mut Core<D, A>,
     id: FileId,
 ) -> Result<Option<Attributes>, Halt>
-    requires size { (D.state core.old.filer.swapper.disk).sectors ≡ core.old.filer.swapper.layout.sectors }
+    requires size { FitsLayout (state core.old) }
     ensures answer { (volume : Volume) (m : Machine) → Runs core.old volume m → IfOk result (IsNameable (nameable m id)) }
-    ensures runs { (volume : Volume) (m : Machine) → Runs core.old volume m → Runs core.new volume m }
+    ensures looks { Looks core.old core.new }
     ensures sound { (volume : Volume) (m : Machine) → Runs core.old volume m → IfErr result (λ e. e ≡ halt.Disk) }
-    ensures counted { result ≡ Err halt.Disk → Rose (D.state core.old.filer.swapper.disk).faults (D.state core.new.filer.swapper.disk).faults }
+    ensures counted { result ≡ Err halt.Disk → Rose (state core.old).disk.faults (state core.new).disk.faults }
     ensures cause { IfErr result (NamedHalts id core.old.intervals (state core.old) (state core.new)) }
-    ensures evidence_seen { IfErr result (ShowsEvidence (D.state core.new.filer.swapper.disk)) }
-    ensures still { StillSees core.old core.new }
+    ensures evidence_seen { IfErr result (ShowsEvidence (state core.new).disk) }
     ensures client { IfOk result (λ o. IfSome o (λ _. 16 ≤ id)) }
-    ensures size { (m : List Sector) (named : Triples) → Stands (D.state core.old.filer.swapper.disk) core.old.filer.swapper.pool m → MapIs core.old.filer.swapper.layout named m → AreOf named (kept_by (state core.old))
+    ensures size { (m : List Sector) (named : Triples) → HasMemory (state core.old) m → MapIs (state core.old).layout named m → AreOf named (kept_by (state core.old))
         → IfOk result (λ o. IfSome o (λ found. IsSize named id found.pages)) }
     ensures right { SeesOn core.old → IfErr result NeverBlamesTables }
-    ensures reaches { Reaches (state core.old) (state core.new) }
-    ensures makes { Makes volume_page [] (D.state core.old.filer.swapper.disk) core.old.filer.swapper.pool (D.state core.new.filer.swapper.disk) core.new.filer.swapper.pool }
-    ensures layout { core.new.filer.swapper.layout ≡ core.old.filer.swapper.layout }
-    ensures intervals { core.new.intervals ≡ core.old.intervals }
-    ensures cost { (D.state core.new.filer.swapper.disk).transfers ≤ (D.state core.old.filer.swapper.disk).transfers + 14561 }
+    ensures cost { (state core.new).disk.transfers ≤ (state core.old).disk.transfers + 14561 }
 {
     match may_be_named(core, id) {
         Ok(true) => (),

@@ -30,6 +30,8 @@ ghost use Rattle.filer_kernel.specs.Evidence.{ShowsEvidence};
 ghost use Rattle.running_words.specs.Moving.{Moves};
 ghost use Rattle.fault_core.specs.NeverBlames.{NeverBlamesTables};
 ghost use Rattle.space_calls.specs.Sees.{SeesOn, StillSees, StillOn};
+ghost use Rattle.filer_kernel.specs.View.{FitsLayout};
+ghost use Rattle.space_calls.specs.Calls.{Answers};
 
 use crate::framing::frame_count;
 use crate::syncing::sync;
@@ -44,18 +46,18 @@ fn range_of<D: Disk, A: Allocator>(
     core: &mut Core<D, A>,
     space: u32,
 ) -> Result<Result<(u32, u32), Refusal>, Halt>
-    requires size { (D.state core.old.filer.swapper.disk).sectors ≡ core.old.filer.swapper.layout.sectors }
+    requires size { FitsLayout (state core.old) }
     ensures answer { (m : List Sector) (named : Triples) (ss : List Space) → Knows core.old m named ss → IfOk result (Reveals (no_space ss space) (λ run. (s : Space) × (space_at ss space ≡ Some s) × (run ≡ (s.first, s.pages)))) }
     ensures read { IfOk result (IfGiven (TablesSay (state core.old) (λ b. IsRunAt b space))) }
-    ensures counted { result ≡ Err halt.Disk → Rose (D.state core.old.filer.swapper.disk).faults (D.state core.new.filer.swapper.disk).faults }
+    ensures counted { result ≡ Err halt.Disk → Rose (state core.old).disk.faults (state core.new).disk.faults }
     ensures sound { (m : List Sector) (named : Triples) (ss : List Space) → Knows core.old m named ss → IfErr result (λ e. e ≡ halt.Disk) }
     ensures cause { IfErr result (ReachHalts (TablesBreak (state core.old) (λ b page. BreaksSlot b page space)) (state core.old) (state core.new)) }
-    ensures evidence_seen { IfErr result (ShowsEvidence (D.state core.new.filer.swapper.disk)) }
+    ensures evidence_seen { IfErr result (ShowsEvidence (state core.new).disk) }
     ensures still { StillSees core.old core.new }
     ensures right { SeesOn core.old → IfErr result NeverBlamesTables }
     ensures asked { Asked core.old core.new }
-    ensures frames { length core.old.filer.swapper.pool ≤ 4096 }
-    ensures cost { (D.state core.new.filer.swapper.disk).transfers ≤ (D.state core.old.filer.swapper.disk).transfers + 28 }
+    ensures frames { length (state core.old).slots ≤ 4096 }
+    ensures cost { (state core.new).disk.transfers ≤ (state core.old).disk.transfers + 28 }
 {
     let _frames = frame_count(core);
     bounds(core, space)
@@ -63,20 +65,18 @@ fn range_of<D: Disk, A: Allocator>(
 
 /// Writes out what is dirty of the pages of a space, and gives their frames up.
 pub fn deactivate<D: Disk, A: Allocator>(core: &mut Core<D, A>, space: u32) -> Result<Reply, Halt>
-    requires size { (D.state core.old.filer.swapper.disk).sectors ≡ core.old.filer.swapper.layout.sectors }
-    ensures carried { (volume : Volume) (m : Machine) → Runs core.old volume m → IfOk result (Carried m (call.Deactivate space) core.new volume) }
-    ensures sound { (volume : Volume) (m : Machine) → Runs core.old volume m → IfErr result (λ e. e ≡ halt.Disk) }
-    ensures passes { (volume : Volume) (m : Machine) → Runs core.old volume m → Passes m (call.Deactivate space) (D.state core.old.filer.swapper.disk) (D.state core.new.filer.swapper.disk) }
-    ensures counted { result ≡ Err halt.Disk → Rose (D.state core.old.filer.swapper.disk).faults (D.state core.new.filer.swapper.disk).faults }
-    ensures wrote { WroteIn (volume_page) (D.state core.old.filer.swapper.disk) core.old.filer.swapper.pool (D.state core.new.filer.swapper.disk) core.new.filer.swapper.pool }
+    requires size { FitsLayout (state core.old) }
+    ensures answers { (volume : Volume) (m : Machine) → Runs core.old volume m → Answers m (call.Deactivate space) core.old core.new volume result }
+    ensures counted { result ≡ Err halt.Disk → Rose (state core.old).disk.faults (state core.new).disk.faults }
+    ensures wrote { WroteIn (volume_page) (state core.old).disk (state core.old).slots (state core.new).disk (state core.new).slots }
     ensures sees { OnOk result (StillOn core.old core.new) }
     ensures right { SeesOn core.old → IfErr result NeverBlamesTables }
     ensures moves { Moves (state core.old) (state core.new) }
-    ensures layout { core.new.filer.swapper.layout ≡ core.old.filer.swapper.layout }
-    ensures cost { CostsOther (D.state core.old.filer.swapper.disk) (D.state core.new.filer.swapper.disk) }
-    ensures gone { (volume : Volume) (m : Machine) (s : Space) → Runs core.old volume m → space_at m.spaces space ≡ Some s → OnOk result (AreGone m.spaces core.new.filer.swapper.pool s.first (s.first + s.pages)) }
+    ensures layout { (state core.new).layout ≡ (state core.old).layout }
+    ensures cost { CostsOther (state core.old).disk (state core.new).disk }
+    ensures gone { (volume : Volume) (m : Machine) (s : Space) → Runs core.old volume m → space_at m.spaces space ≡ Some s → OnOk result (AreGone m.spaces (state core.new).slots s.first (s.first + s.pages)) }
     ensures cause { IfErr result (ReachHalts (BreaksRange (state core.old) core.old.intervals space) (state core.old) (state core.new)) }
-    ensures evidence_seen { IfErr result (ShowsEvidence (D.state core.new.filer.swapper.disk)) }
+    ensures evidence_seen { IfErr result (ShowsEvidence (state core.new).disk) }
 {
     let (first, pages) = match range_of(core, space) {
         Ok(Ok(found)) => found,
@@ -93,22 +93,20 @@ pub fn deactivate<D: Disk, A: Allocator>(core: &mut Core<D, A>, space: u32) -> R
 /// Gives up the frames of the pages of a space that may be stored to. What is dirty of them is lost: where intervals that are kept have
 /// all of them, no table is asked but for where the space lies.
 pub fn kill<D: Disk, A: Allocator>(core: &mut Core<D, A>, space: u32) -> Result<Reply, Halt>
-    requires size { (D.state core.old.filer.swapper.disk).sectors ≡ core.old.filer.swapper.layout.sectors }
-    ensures carried { (volume : Volume) (m : Machine) → Runs core.old volume m → IfOk result (Carried m (call.Kill space) core.new volume) }
-    ensures sound { (volume : Volume) (m : Machine) → Runs core.old volume m → IfErr result (λ e. e ≡ halt.Disk) }
-    ensures passes { (volume : Volume) (m : Machine) → Runs core.old volume m → Passes m (call.Kill space) (D.state core.old.filer.swapper.disk) (D.state core.new.filer.swapper.disk) }
-    ensures counted { result ≡ Err halt.Disk → Rose (D.state core.old.filer.swapper.disk).faults (D.state core.new.filer.swapper.disk).faults }
-    ensures wrote { WroteIn (volume_page) (D.state core.old.filer.swapper.disk) core.old.filer.swapper.pool (D.state core.new.filer.swapper.disk) core.new.filer.swapper.pool }
+    requires size { FitsLayout (state core.old) }
+    ensures answers { (volume : Volume) (m : Machine) → Runs core.old volume m → Answers m (call.Kill space) core.old core.new volume result }
+    ensures counted { result ≡ Err halt.Disk → Rose (state core.old).disk.faults (state core.new).disk.faults }
+    ensures wrote { WroteIn (volume_page) (state core.old).disk (state core.old).slots (state core.new).disk (state core.new).slots }
     ensures sees { OnOk result (StillOn core.old core.new) }
     ensures right { SeesOn core.old → IfErr result NeverBlamesTables }
     ensures moves { Moves (state core.old) (state core.new) }
-    ensures layout { core.new.filer.swapper.layout ≡ core.old.filer.swapper.layout }
-    ensures cost { CostsOther (D.state core.old.filer.swapper.disk) (D.state core.new.filer.swapper.disk) }
-    ensures gone { (volume : Volume) (m : Machine) (s : Space) → Runs core.old volume m → space_at m.spaces space ≡ Some s → OnOk result (AreWritableSo (is_absent core.new.filer.swapper.pool) m.spaces s.first (s.first + s.pages)) }
+    ensures layout { (state core.new).layout ≡ (state core.old).layout }
+    ensures cost { CostsOther (state core.old).disk (state core.new).disk }
+    ensures gone { (volume : Volume) (m : Machine) (s : Space) → Runs core.old volume m → space_at m.spaces space ≡ Some s → OnOk result (AreWritableSo (is_absent (state core.new).slots) m.spaces s.first (s.first + s.pages)) }
     ensures cause { IfErr result (ReachHalts (BreaksRange (state core.old) core.old.intervals space) (state core.old) (state core.new)) }
-    ensures evidence_seen { IfErr result (ShowsEvidence (D.state core.new.filer.swapper.disk)) }
-    ensures idle { (volume : Volume) (m : Machine) (s : Space) → Runs core.old volume m → space_at m.spaces space ≡ Some s → AreFound (kept core.old) s.first (s.first + s.pages) → (D.state core.new.filer.swapper.disk).transfers ≤ (D.state core.old.filer.swapper.disk).transfers + 28 }
-    ensures short { (D.state core.new.filer.swapper.disk).transfers ≤ (D.state core.old.filer.swapper.disk).transfers + (28 + (core.old.intervals + 1) * 196) }
+    ensures evidence_seen { IfErr result (ShowsEvidence (state core.new).disk) }
+    ensures idle { (volume : Volume) (m : Machine) (s : Space) → Runs core.old volume m → space_at m.spaces space ≡ Some s → AreFound (kept core.old) s.first (s.first + s.pages) → (state core.new).disk.transfers ≤ (state core.old).disk.transfers + 28 }
+    ensures short { (state core.new).disk.transfers ≤ (state core.old).disk.transfers + (28 + (core.old.intervals + 1) * 196) }
 {
     let (first, pages) = match range_of(core, space) {
         Ok(Ok(found)) => found,
@@ -125,23 +123,21 @@ pub fn kill<D: Disk, A: Allocator>(core: &mut Core<D, A>, space: u32) -> Result<
 /// Makes the files hold what the pages of a space hold: what is dirty of them is written out, and all of it is on the medium. The
 /// frames stay, but where pages of the tables and of the map, which are asked, take their slots.
 pub fn force_out<D: Disk, A: Allocator>(core: &mut Core<D, A>, space: u32) -> Result<Reply, Halt>
-    requires size { (D.state core.old.filer.swapper.disk).sectors ≡ core.old.filer.swapper.layout.sectors }
-    ensures carried { (volume : Volume) (m : Machine) → Runs core.old volume m → IfOk result (Carried m (call.ForceOut space) core.new volume) }
-    ensures sound { (volume : Volume) (m : Machine) → Runs core.old volume m → IfErr result (λ e. e ≡ halt.Disk) }
-    ensures passes { (volume : Volume) (m : Machine) → Runs core.old volume m → Passes m (call.ForceOut space) (D.state core.old.filer.swapper.disk) (D.state core.new.filer.swapper.disk) }
-    ensures counted { result ≡ Err halt.Disk → Rose (D.state core.old.filer.swapper.disk).faults (D.state core.new.filer.swapper.disk).faults }
-    ensures wrote { WroteIn (volume_page) (D.state core.old.filer.swapper.disk) core.old.filer.swapper.pool (D.state core.new.filer.swapper.disk) core.new.filer.swapper.pool }
+    requires size { FitsLayout (state core.old) }
+    ensures answers { (volume : Volume) (m : Machine) → Runs core.old volume m → Answers m (call.ForceOut space) core.old core.new volume result }
+    ensures counted { result ≡ Err halt.Disk → Rose (state core.old).disk.faults (state core.new).disk.faults }
+    ensures wrote { WroteIn (volume_page) (state core.old).disk (state core.old).slots (state core.new).disk (state core.new).slots }
     ensures sees { OnOk result (StillOn core.old core.new) }
     ensures right { SeesOn core.old → IfErr result NeverBlamesTables }
     ensures moves { Moves (state core.old) (state core.new) }
-    ensures layout { core.new.filer.swapper.layout ≡ core.old.filer.swapper.layout }
-    ensures cost { CostsOther (D.state core.old.filer.swapper.disk) (D.state core.new.filer.swapper.disk) }
-    ensures clean { (volume : Volume) (m : Machine) (s : Space) → Runs core.old volume m → space_at m.spaces space ≡ Some s → OnOk result (AreClean m.spaces core.new.filer.swapper.pool s.first (s.first + s.pages)) }
-    ensures synced { (volume : Volume) (m : Machine) → Runs core.old volume m → refusal m (call.ForceOut space) ≡ None → OnOk result ((D.state core.new.filer.swapper.disk).synced ≡ true) }
+    ensures layout { (state core.new).layout ≡ (state core.old).layout }
+    ensures cost { CostsOther (state core.old).disk (state core.new).disk }
+    ensures clean { (volume : Volume) (m : Machine) (s : Space) → Runs core.old volume m → space_at m.spaces space ≡ Some s → OnOk result (AreClean m.spaces (state core.new).slots s.first (s.first + s.pages)) }
+    ensures synced { (volume : Volume) (m : Machine) → Runs core.old volume m → refusal m (call.ForceOut space) ≡ None → OnOk result ((state core.new).disk.synced ≡ true) }
     ensures cause { IfErr result (ReachHalts (BreaksRange (state core.old) core.old.intervals space) (state core.old) (state core.new)) }
-    ensures evidence_seen { IfErr result (ShowsEvidence (D.state core.new.filer.swapper.disk)) }
-    ensures stay { StayOrYield core.old.filer.swapper.pool core.new.filer.swapper.pool }
-    ensures settled { IfOk result (λ answer. answer ≡ reply.Done → (D.state core.new.filer.swapper.disk).synced ≡ true) }
+    ensures evidence_seen { IfErr result (ShowsEvidence (state core.new).disk) }
+    ensures stay { StayOrYield (state core.old).slots (state core.new).slots }
+    ensures settled { IfOk result (λ answer. answer ≡ reply.Done → (state core.new).disk.synced ≡ true) }
 {
     let (first, pages) = match range_of(core, space) {
         Ok(Ok(found)) => found,

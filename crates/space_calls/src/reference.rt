@@ -21,6 +21,8 @@ ghost use Rattle.fault_core.specs.NeverBlames.{NeverBlamesTables};
 ghost use Rattle.space_calls.specs.Sees.{SeesOn, StillOn};
 ghost use Rattle.fault_core.specs.Lack.{MissesPage, Sees, shown_units};
 ghost use Rattle.flat_machine.specs.declared.space.Space.{Space};
+ghost use Rattle.filer_kernel.specs.View.{FitsLayout};
+ghost use Rattle.space_calls.specs.Calls.{Answers};
 
 use fault_core::{Access, Core};
 use flat_machine::{Piece, Refusal, Reply};
@@ -33,24 +35,22 @@ pub fn load<D: Disk, A: Allocator>(
     address: u32,
     count: u8,
 ) -> Result<Reply, Halt>
-    requires size { (D.state core.old.filer.swapper.disk).sectors ≡ core.old.filer.swapper.layout.sectors }
+    requires size { FitsLayout (state core.old) }
     requires some { 1 ≤ count }
     requires few { count ≤ 64 }
-    ensures carried { (volume : Volume) (m : Machine) → Runs core.old volume m → IfOk result (Carried m (call.Load address count) core.new volume) }
-    ensures sound { (volume : Volume) (m : Machine) → Runs core.old volume m → IfErr result (λ e. e ≡ halt.Disk) }
-    ensures passes { (volume : Volume) (m : Machine) → Runs core.old volume m → Passes m (call.Load address count) (D.state core.old.filer.swapper.disk) (D.state core.new.filer.swapper.disk) }
-    ensures counted { result ≡ Err halt.Disk → Rose (D.state core.old.filer.swapper.disk).faults (D.state core.new.filer.swapper.disk).faults }
-    ensures wrote { WroteIn (volume_page) (D.state core.old.filer.swapper.disk) core.old.filer.swapper.pool (D.state core.new.filer.swapper.disk) core.new.filer.swapper.pool }
+    ensures answers { (volume : Volume) (m : Machine) → Runs core.old volume m → Answers m (call.Load address count) core.old core.new volume result }
+    ensures counted { result ≡ Err halt.Disk → Rose (state core.old).disk.faults (state core.new).disk.faults }
+    ensures wrote { WroteIn (volume_page) (state core.old).disk (state core.old).slots (state core.new).disk (state core.new).slots }
     ensures sees { OnOk result (StillOn core.old core.new) }
     ensures right { SeesOn core.old → IfErr result NeverBlamesTables }
     ensures moves { Moves (state core.old) (state core.new) }
-    ensures layout { core.new.filer.swapper.layout ≡ core.old.filer.swapper.layout }
-    ensures cost { (D.state core.new.filer.swapper.disk).transfers ≤ (D.state core.old.filer.swapper.disk).transfers + 1680 }
-    ensures ready { (volume : Volume) (m : Machine) → Runs core.old volume m → refusal m (call.Load address count) ≡ None → OnOk result (IsReady (kept core.new) core.new.filer.swapper.pool (last_page address count)) }
+    ensures layout { (state core.new).layout ≡ (state core.old).layout }
+    ensures cost { (state core.new).disk.transfers ≤ (state core.old).disk.transfers + 1680 }
+    ensures ready { (volume : Volume) (m : Machine) → Runs core.old volume m → refusal m (call.Load address count) ≡ None → OnOk result (IsReady (kept core.new) (state core.new).slots (last_page address count)) }
     ensures cause { IfErr result (TouchHalts (BreaksFor (state core.old) core.old.intervals address count) (state core.old) (state core.new)) }
     ensures missing { (ss : List Space) → Sees (state core.old) (kept core.old) core.old.intervals ss → IfErr result (MissesPage (shown_units ss address count)) }
-    ensures evidence_seen { IfErr result (ShowsEvidence (D.state core.new.filer.swapper.disk)) }
-    ensures idle { (volume : Volume) (m : Machine) → Runs core.old volume m → IsReady (kept core.old) core.old.filer.swapper.pool (address / 512) → IsReady (kept core.old) core.old.filer.swapper.pool (last_page address count)
+    ensures evidence_seen { IfErr result (ShowsEvidence (state core.new).disk) }
+    ensures idle { (volume : Volume) (m : Machine) → Runs core.old volume m → IsReady (kept core.old) (state core.old).slots (address / 512) → IsReady (kept core.old) (state core.old).slots (last_page address count)
         → IsOk result × (core.new.filer ≡ core.old.filer) × (kept core.new ≡ kept core.old) }
 {
     let mut room = [0; 64];
@@ -69,25 +69,23 @@ pub fn store<D: Disk, A: Allocator>(
     address: u32,
     bytes: &[u8],
 ) -> Result<Reply, Halt>
-    requires size { (D.state core.old.filer.swapper.disk).sectors ≡ core.old.filer.swapper.layout.sectors }
+    requires size { FitsLayout (state core.old) }
     requires some { 1 ≤ length bytes.now }
     requires few { length bytes.now ≤ 64 }
-    ensures carried { (volume : Volume) (m : Machine) → Runs core.old volume m → IfOk result (Carried m (call.Store address bytes.now) core.new volume) }
-    ensures sound { (volume : Volume) (m : Machine) → Runs core.old volume m → IfErr result (λ e. e ≡ halt.Disk) }
-    ensures passes { (volume : Volume) (m : Machine) → Runs core.old volume m → Passes m (call.Store address bytes.now) (D.state core.old.filer.swapper.disk) (D.state core.new.filer.swapper.disk) }
-    ensures counted { result ≡ Err halt.Disk → Rose (D.state core.old.filer.swapper.disk).faults (D.state core.new.filer.swapper.disk).faults }
-    ensures wrote { WroteIn (client_or_own) (D.state core.old.filer.swapper.disk) core.old.filer.swapper.pool (D.state core.new.filer.swapper.disk) core.new.filer.swapper.pool }
+    ensures answers { (volume : Volume) (m : Machine) → Runs core.old volume m → Answers m (call.Store address bytes.now) core.old core.new volume result }
+    ensures counted { result ≡ Err halt.Disk → Rose (state core.old).disk.faults (state core.new).disk.faults }
+    ensures wrote { WroteIn (client_or_own) (state core.old).disk (state core.old).slots (state core.new).disk (state core.new).slots }
     ensures sees { OnOk result (StillOn core.old core.new) }
     ensures right { SeesOn core.old → IfErr result NeverBlamesTables }
     ensures moves { Moves (state core.old) (state core.new) }
-    ensures layout { core.new.filer.swapper.layout ≡ core.old.filer.swapper.layout }
-    ensures cost { (D.state core.new.filer.swapper.disk).transfers ≤ (D.state core.old.filer.swapper.disk).transfers + 1680 }
-    ensures ready { (volume : Volume) (m : Machine) → Runs core.old volume m → refusal m (call.Store address bytes.now) ≡ None → OnOk result (IsReady (kept core.new) core.new.filer.swapper.pool (last_page address (length bytes.now))) }
+    ensures layout { (state core.new).layout ≡ (state core.old).layout }
+    ensures cost { (state core.new).disk.transfers ≤ (state core.old).disk.transfers + 1680 }
+    ensures ready { (volume : Volume) (m : Machine) → Runs core.old volume m → refusal m (call.Store address bytes.now) ≡ None → OnOk result (IsReady (kept core.new) (state core.new).slots (last_page address (length bytes.now))) }
     ensures cause { IfErr result (TouchHalts (BreaksFor (state core.old) core.old.intervals address (length bytes.now)) (state core.old) (state core.new)) }
     ensures missing { (ss : List Space) → Sees (state core.old) (kept core.old) core.old.intervals ss → IfErr result (MissesPage (shown_units ss address (length bytes.now))) }
-    ensures evidence_seen { IfErr result (ShowsEvidence (D.state core.new.filer.swapper.disk)) }
-    ensures idle { (volume : Volume) (m : Machine) → Runs core.old volume m → IsReady (kept core.old) core.old.filer.swapper.pool (address / 512) → IsReady (kept core.old) core.old.filer.swapper.pool (last_page address (length bytes.now))
-        → IsOk result × (D.state core.new.filer.swapper.disk ≡ D.state core.old.filer.swapper.disk) × (kept core.new ≡ kept core.old) }
+    ensures evidence_seen { IfErr result (ShowsEvidence (state core.new).disk) }
+    ensures idle { (volume : Volume) (m : Machine) → Runs core.old volume m → IsReady (kept core.old) (state core.old).slots (address / 512) → IsReady (kept core.old) (state core.old).slots (last_page address (length bytes.now))
+        → IsOk result × ((state core.new).disk ≡ (state core.old).disk) × (kept core.new ≡ kept core.old) }
 {
     match core.store(address, bytes) {
         Ok(Access::Done) => Ok(Reply::Done),

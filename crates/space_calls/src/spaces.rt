@@ -18,6 +18,8 @@ ghost use Rattle.space_calls.specs.Halts.{ChangeHalts, MakeSpaceHalts, PlaceHalt
 ghost use Rattle.running_words.specs.Moving.{Moves};
 ghost use Rattle.fault_core.specs.NeverBlames.{NeverBlamesTables};
 ghost use Rattle.space_calls.specs.Sees.{SeesOn, StillOn};
+ghost use Rattle.filer_kernel.specs.View.{FitsLayout};
+ghost use Rattle.space_calls.specs.Calls.{Answers};
 
 use crate::framing::frame_count;
 use fault_core::Core;
@@ -33,19 +35,19 @@ pub fn make_space<D: Disk, A: Allocator>(
     pages: u32,
     first: Option<u32>,
 ) -> Result<Reply, Halt>
-    requires size { (D.state core.old.filer.swapper.disk).sectors ≡ core.old.filer.swapper.layout.sectors }
+    requires size { FitsLayout (state core.old) }
     ensures carried { (volume : Volume) (m : Machine) → Runs core.old volume m → IfOk result (Carried m (call.MakeSpace parent pages first) core.new volume) }
     ensures sound { (volume : Volume) (m : Machine) → Runs core.old volume m → IfErr result (λ e. e ≡ halt.Disk) }
-    ensures passes { (volume : Volume) (m : Machine) → Runs core.old volume m → Passes m (call.MakeSpace parent pages first) (D.state core.old.filer.swapper.disk) (D.state core.new.filer.swapper.disk) }
-    ensures counted { result ≡ Err halt.Disk → Rose (D.state core.old.filer.swapper.disk).faults (D.state core.new.filer.swapper.disk).faults }
+    ensures passes { (volume : Volume) (m : Machine) → Runs core.old volume m → Passes m (call.MakeSpace parent pages first) (state core.old).disk (state core.new).disk }
+    ensures counted { result ≡ Err halt.Disk → Rose (state core.old).disk.faults (state core.new).disk.faults }
     ensures cause { IfErr result (MakeSpaceHalts parent pages first core.old.intervals (state core.old) (state core.new)) }
-    ensures evidence_seen { IfErr result (ShowsEvidence (D.state core.new.filer.swapper.disk)) }
-    ensures wrote { WroteIn (volume_page) (D.state core.old.filer.swapper.disk) core.old.filer.swapper.pool (D.state core.new.filer.swapper.disk) core.new.filer.swapper.pool }
+    ensures evidence_seen { IfErr result (ShowsEvidence (state core.new).disk) }
+    ensures wrote { WroteIn (volume_page) (state core.old).disk (state core.old).slots (state core.new).disk (state core.new).slots }
     ensures sees { OnOk result (StillOn core.old core.new) }
     ensures right { SeesOn core.old → IfErr result NeverBlamesTables }
     ensures moves { Moves (state core.old) (state core.new) }
-    ensures layout { core.new.filer.swapper.layout ≡ core.old.filer.swapper.layout }
-    ensures cost { CostsOther (D.state core.old.filer.swapper.disk) (D.state core.new.filer.swapper.disk) }
+    ensures layout { (state core.new).layout ≡ (state core.old).layout }
+    ensures cost { CostsOther (state core.old).disk (state core.new).disk }
 {
     let answer = match add(core, parent, pages, first) {
         Ok(answer) => answer,
@@ -60,19 +62,19 @@ pub fn make_space<D: Disk, A: Allocator>(
 
 /// Removes a space that has no children and is not mapped.
 pub fn remove_space<D: Disk, A: Allocator>(core: &mut Core<D, A>, space: u32) -> Result<Reply, Halt>
-    requires size { (D.state core.old.filer.swapper.disk).sectors ≡ core.old.filer.swapper.layout.sectors }
+    requires size { FitsLayout (state core.old) }
     ensures carried { (volume : Volume) (m : Machine) → Runs core.old volume m → IfOk result (Carried m (call.RemoveSpace space) core.new volume) }
     ensures sound { (volume : Volume) (m : Machine) → Runs core.old volume m → IfErr result (λ e. e ≡ halt.Disk) }
-    ensures passes { (volume : Volume) (m : Machine) → Runs core.old volume m → Passes m (call.RemoveSpace space) (D.state core.old.filer.swapper.disk) (D.state core.new.filer.swapper.disk) }
-    ensures counted { result ≡ Err halt.Disk → Rose (D.state core.old.filer.swapper.disk).faults (D.state core.new.filer.swapper.disk).faults }
+    ensures passes { (volume : Volume) (m : Machine) → Runs core.old volume m → Passes m (call.RemoveSpace space) (state core.old).disk (state core.new).disk }
+    ensures counted { result ≡ Err halt.Disk → Rose (state core.old).disk.faults (state core.new).disk.faults }
     ensures cause { IfErr result (RemoveSpaceHalts space core.old.intervals (state core.old) (state core.new)) }
-    ensures evidence_seen { IfErr result (ShowsEvidence (D.state core.new.filer.swapper.disk)) }
-    ensures wrote { WroteIn (volume_page) (D.state core.old.filer.swapper.disk) core.old.filer.swapper.pool (D.state core.new.filer.swapper.disk) core.new.filer.swapper.pool }
+    ensures evidence_seen { IfErr result (ShowsEvidence (state core.new).disk) }
+    ensures wrote { WroteIn (volume_page) (state core.old).disk (state core.old).slots (state core.new).disk (state core.new).slots }
     ensures sees { OnOk result (StillOn core.old core.new) }
     ensures right { SeesOn core.old → IfErr result NeverBlamesTables }
     ensures moves { Moves (state core.old) (state core.new) }
-    ensures layout { core.new.filer.swapper.layout ≡ core.old.filer.swapper.layout }
-    ensures cost { CostsOther (D.state core.old.filer.swapper.disk) (D.state core.new.filer.swapper.disk) }
+    ensures layout { (state core.new).layout ≡ (state core.old).layout }
+    ensures cost { CostsOther (state core.old).disk (state core.new).disk }
 {
     let answer = match remove(core, space) {
         Ok(answer) => answer,
@@ -87,19 +89,17 @@ pub fn remove_space<D: Disk, A: Allocator>(core: &mut Core<D, A>, space: u32) ->
 
 /// The innermost space at a page.
 pub fn place<D: Disk, A: Allocator>(core: &mut Core<D, A>, page: u32) -> Result<Reply, Halt>
-    requires size { (D.state core.old.filer.swapper.disk).sectors ≡ core.old.filer.swapper.layout.sectors }
-    ensures carried { (volume : Volume) (m : Machine) → Runs core.old volume m → IfOk result (Carried m (call.Place page) core.new volume) }
-    ensures sound { (volume : Volume) (m : Machine) → Runs core.old volume m → IfErr result (λ e. e ≡ halt.Disk) }
-    ensures passes { (volume : Volume) (m : Machine) → Runs core.old volume m → Passes m (call.Place page) (D.state core.old.filer.swapper.disk) (D.state core.new.filer.swapper.disk) }
-    ensures counted { result ≡ Err halt.Disk → Rose (D.state core.old.filer.swapper.disk).faults (D.state core.new.filer.swapper.disk).faults }
+    requires size { FitsLayout (state core.old) }
+    ensures answers { (volume : Volume) (m : Machine) → Runs core.old volume m → Answers m (call.Place page) core.old core.new volume result }
+    ensures counted { result ≡ Err halt.Disk → Rose (state core.old).disk.faults (state core.new).disk.faults }
     ensures cause { IfErr result (PlaceHalts page core.old.intervals (state core.old) (state core.new)) }
-    ensures evidence_seen { IfErr result (ShowsEvidence (D.state core.new.filer.swapper.disk)) }
-    ensures wrote { WroteIn (volume_page) (D.state core.old.filer.swapper.disk) core.old.filer.swapper.pool (D.state core.new.filer.swapper.disk) core.new.filer.swapper.pool }
+    ensures evidence_seen { IfErr result (ShowsEvidence (state core.new).disk) }
+    ensures wrote { WroteIn (volume_page) (state core.old).disk (state core.old).slots (state core.new).disk (state core.new).slots }
     ensures sees { OnOk result (StillOn core.old core.new) }
     ensures right { SeesOn core.old → IfErr result NeverBlamesTables }
     ensures moves { Moves (state core.old) (state core.new) }
-    ensures layout { core.new.filer.swapper.layout ≡ core.old.filer.swapper.layout }
-    ensures cost { CostsOther (D.state core.old.filer.swapper.disk) (D.state core.new.filer.swapper.disk) }
+    ensures layout { (state core.new).layout ≡ (state core.old).layout }
+    ensures cost { CostsOther (state core.old).disk (state core.new).disk }
 {
     match innermost(core, page) {
         Ok(Ok((handle, first, pages))) => Ok(Reply::Place {
@@ -118,19 +118,19 @@ pub fn set_units<D: Disk, A: Allocator>(
     space: u32,
     pages: u32,
 ) -> Result<Reply, Halt>
-    requires size { (D.state core.old.filer.swapper.disk).sectors ≡ core.old.filer.swapper.layout.sectors }
+    requires size { FitsLayout (state core.old) }
     ensures carried { (volume : Volume) (m : Machine) → Runs core.old volume m → IfOk result (Carried m (call.Units space pages) core.new volume) }
     ensures sound { (volume : Volume) (m : Machine) → Runs core.old volume m → IfErr result (λ e. e ≡ halt.Disk) }
-    ensures passes { (volume : Volume) (m : Machine) → Runs core.old volume m → Passes m (call.Units space pages) (D.state core.old.filer.swapper.disk) (D.state core.new.filer.swapper.disk) }
-    ensures counted { result ≡ Err halt.Disk → Rose (D.state core.old.filer.swapper.disk).faults (D.state core.new.filer.swapper.disk).faults }
+    ensures passes { (volume : Volume) (m : Machine) → Runs core.old volume m → Passes m (call.Units space pages) (state core.old).disk (state core.new).disk }
+    ensures counted { result ≡ Err halt.Disk → Rose (state core.old).disk.faults (state core.new).disk.faults }
     ensures cause { IfErr result (ChangeHalts core.old.intervals (state core.old) (state core.new)) }
-    ensures evidence_seen { IfErr result (ShowsEvidence (D.state core.new.filer.swapper.disk)) }
-    ensures wrote { WroteIn (volume_page) (D.state core.old.filer.swapper.disk) core.old.filer.swapper.pool (D.state core.new.filer.swapper.disk) core.new.filer.swapper.pool }
+    ensures evidence_seen { IfErr result (ShowsEvidence (state core.new).disk) }
+    ensures wrote { WroteIn (volume_page) (state core.old).disk (state core.old).slots (state core.new).disk (state core.new).slots }
     ensures sees { OnOk result (StillOn core.old core.new) }
     ensures right { SeesOn core.old → IfErr result NeverBlamesTables }
     ensures moves { Moves (state core.old) (state core.new) }
-    ensures layout { core.new.filer.swapper.layout ≡ core.old.filer.swapper.layout }
-    ensures cost { CostsOther (D.state core.old.filer.swapper.disk) (D.state core.new.filer.swapper.disk) }
+    ensures layout { (state core.new).layout ≡ (state core.old).layout }
+    ensures cost { CostsOther (state core.old).disk (state core.new).disk }
 {
     let answer = match set_unit(core, space, pages) {
         Ok(answer) => answer,

@@ -17,21 +17,21 @@ use std::alloc::Allocator;
 
 /// Waits until all that was written is on the medium.
 pub fn sync<D: Disk, A: Allocator>(core: &mut Core<D, A>) -> Result<(), Halt>
-    ensures synced { OnOk result ((D.state core.new.filer.swapper.disk).synced ≡ true) }
+    ensures synced { OnOk result ((state core.new).disk.synced ≡ true) }
     ensures still { StillSees core.old core.new }
     ensures right { SeesOn core.old → IfErr result NeverBlamesTables }
     ensures reaches { Reaches (state core.old) (state core.new) }
     ensures known { (m : List Sector) (named : Triples) (ss : List Space) → Knows core.old m named ss → Knows core.new m named ss }
-    ensures same { RevealsSame (D.state core.old.filer.swapper.disk) (D.state core.new.filer.swapper.disk) }
+    ensures same { RevealsSame (state core.old).disk (state core.new).disk }
     ensures fault { IfErr result (λ e. e ≡ halt.Disk) }
-    ensures counted { OnErr result (Rose (D.state core.old.filer.swapper.disk).faults (D.state core.new.filer.swapper.disk).faults) }
-    ensures evidence_seen { IfErr result (ShowsEvidence (D.state core.new.filer.swapper.disk)) }
-    ensures frames { core.new.filer.swapper.pool ≡ core.old.filer.swapper.pool }
-    ensures layout { core.new.filer.swapper.layout ≡ core.old.filer.swapper.layout }
-    ensures runs { core.new.filer.runs ≡ core.old.filer.runs }
+    ensures counted { OnErr result (Rose (state core.old).disk.faults (state core.new).disk.faults) }
+    ensures evidence_seen { IfErr result (ShowsEvidence (state core.new).disk) }
+    ensures frames { (state core.new).slots ≡ (state core.old).slots }
+    ensures layout { (state core.new).layout ≡ (state core.old).layout }
+    ensures runs { (state core.new).runs ≡ (state core.old).runs }
     ensures kept { kept core.new ≡ kept core.old }
     ensures intervals { core.new.intervals ≡ core.old.intervals }
-    ensures cost { (D.state core.new.filer.swapper.disk).transfers ≤ (D.state core.old.filer.swapper.disk).transfers }
+    ensures cost { (state core.new).disk.transfers ≤ (state core.old).disk.transfers }
 {
     let disk = core.filer.disk_over();
     match disk.sync() {

@@ -30,6 +30,8 @@ ghost use Rattle.running_words.specs.Moving.{Moves};
 ghost use Rattle.fault_core.specs.NeverBlames.{NeverBlamesTables};
 ghost use Rattle.space_calls.specs.Sees.{SeesOn, SeesFiles, IsShown, StillOn};
 ghost use Rattle.fault_core.specs.Lack.{Sees};
+ghost use Rattle.filer_kernel.specs.View.{FitsLayout, MakesOnly};
+ghost use Rattle.space_calls.specs.Calls.{Answers};
 
 use crate::syncing::sync;
 use crate::windows::{change_window, evict_range, find_window, flush_range, shows_immutable};
@@ -44,22 +46,22 @@ pub fn take_window<D: Disk, A: Allocator>(
     core: &mut Core<D, A>,
     space: u32,
 ) -> Result<Result<Shown, Refusal>, Halt>
-    requires size { (D.state core.old.filer.swapper.disk).sectors ≡ core.old.filer.swapper.layout.sectors }
+    requires size { FitsLayout (state core.old) }
     ensures taken { (volume : Volume) (m : Machine) → Runs core.old volume m → IfOk result (Reveals (first_of (window_row m.spaces space)) (IsTaken m space (λ n. Runs core.new volume n))) }
     ensures refused { (volume : Volume) (m : Machine) → Runs core.old volume m → IfOk result (IsRefused (Runs core.new volume m)) }
     ensures read { IfOk result (IfGiven (TablesSay (state core.old) (λ b. IsShownAt b space))) }
     ensures seen { (ss : List Space) → Sees (state core.old) (kept core.old) core.old.intervals ss → IfOk result (IfGiven (ShowsIn ss space)) }
     ensures sound { (volume : Volume) (m : Machine) → Runs core.old volume m → IfErr result (λ e. e ≡ halt.Disk) }
-    ensures counted { result ≡ Err halt.Disk → Rose (D.state core.old.filer.swapper.disk).faults (D.state core.new.filer.swapper.disk).faults }
+    ensures counted { result ≡ Err halt.Disk → Rose (state core.old).disk.faults (state core.new).disk.faults }
     ensures cause { IfErr result (TakeWindowHalts space core.old.intervals (state core.old) (state core.new)) }
-    ensures evidence_seen { IfErr result (ShowsEvidence (D.state core.new.filer.swapper.disk)) }
+    ensures evidence_seen { IfErr result (ShowsEvidence (state core.new).disk) }
     ensures sees { OnOk result (StillOn core.old core.new) }
     ensures right { SeesOn core.old → IfErr result NeverBlamesTables }
     ensures reshapes { Reshapes (state core.old) (state core.new) }
-    ensures makes { Makes volume_page [] (D.state core.old.filer.swapper.disk) core.old.filer.swapper.pool (D.state core.new.filer.swapper.disk) core.new.filer.swapper.pool }
-    ensures synced { IfOk result (IsGivenUp ((D.state core.new.filer.swapper.disk).synced ≡ true)) }
-    ensures layout { core.new.filer.swapper.layout ≡ core.old.filer.swapper.layout }
-    ensures cost { (D.state core.new.filer.swapper.disk).transfers ≤ (D.state core.old.filer.swapper.disk).transfers + 2 ^ 23 }
+    ensures makes { MakesOnly volume_page [] (state core.old) (state core.new) }
+    ensures synced { IfOk result (IsGivenUp ((state core.new).disk.synced ≡ true)) }
+    ensures layout { (state core.new).layout ≡ (state core.old).layout }
+    ensures cost { (state core.new).disk.transfers ≤ (state core.old).disk.transfers + 2 ^ 23 }
 {
     let (shown, first, pages) = match find_window(core, space) {
         Ok(Ok(found)) => found,
@@ -87,18 +89,18 @@ fn protect_writable<D: Disk, A: Allocator>(
     space: u32,
     shown: Shown,
 ) -> Result<Reply, Halt>
-    requires size { (D.state core.old.filer.swapper.disk).sectors ≡ core.old.filer.swapper.layout.sectors }
+    requires size { FitsLayout (state core.old) }
     ensures carried { (volume : Volume) (m : Machine) (s : Space) → Runs core.old volume m → space_at m.spaces space ≡ Some s → s.window ≡ Some (window_of shown) → IfOk result (Carried m (call.Protect space true) core.new volume) }
     ensures sound { (volume : Volume) (m : Machine) (s : Space) → Runs core.old volume m → space_at m.spaces space ≡ Some s → s.window ≡ Some (window_of shown) → IfErr result (λ e. e ≡ halt.Disk) }
-    ensures counted { result ≡ Err halt.Disk → Rose (D.state core.old.filer.swapper.disk).faults (D.state core.new.filer.swapper.disk).faults }
+    ensures counted { result ≡ Err halt.Disk → Rose (state core.old).disk.faults (state core.new).disk.faults }
     ensures cause { IfErr result (WritableHalts shown.id core.old.intervals (state core.old) (state core.new)) }
-    ensures evidence_seen { IfErr result (ShowsEvidence (D.state core.new.filer.swapper.disk)) }
-    ensures makes { Makes volume_page [] (D.state core.old.filer.swapper.disk) core.old.filer.swapper.pool (D.state core.new.filer.swapper.disk) core.new.filer.swapper.pool }
+    ensures evidence_seen { IfErr result (ShowsEvidence (state core.new).disk) }
+    ensures makes { MakesOnly volume_page [] (state core.old) (state core.new) }
     ensures sees { (ss : List Space) (s : Space) → Sees (state core.old) (kept core.old) core.old.intervals ss → space_at ss space ≡ Some s → s.window ≡ Some (window_of shown) → OnOk result (SeesFiles (IsShown ss) core.new) }
     ensures right { SeesOn core.old → IfErr result NeverBlamesTables }
     ensures moves { Moves (state core.old) (state core.new) }
-    ensures layout { core.new.filer.swapper.layout ≡ core.old.filer.swapper.layout }
-    ensures cost { (D.state core.new.filer.swapper.disk).transfers ≤ (D.state core.old.filer.swapper.disk).transfers + 57373 }
+    ensures layout { (state core.new).layout ≡ (state core.old).layout }
+    ensures cost { (state core.new).disk.transfers ≤ (state core.old).disk.transfers + 57373 }
 {
     match shows_immutable(core, shown.id) {
         Ok(true) => return Ok(Reply::Refused(Refusal::Immutable)),
@@ -124,20 +126,20 @@ fn protect_read_only<D: Disk, A: Allocator>(
     first: u32,
     pages: u32,
 ) -> Result<Reply, Halt>
-    requires size { (D.state core.old.filer.swapper.disk).sectors ≡ core.old.filer.swapper.layout.sectors }
+    requires size { FitsLayout (state core.old) }
     ensures carried { (volume : Volume) (m : Machine) (s : Space) → Runs core.old volume m → space_at m.spaces space ≡ Some s → s.window ≡ Some (window_of shown) → first ≡ s.first → pages ≡ s.pages → IfOk result (Carried m (call.Protect space false) core.new volume) }
     ensures sound { (volume : Volume) (m : Machine) (s : Space) → Runs core.old volume m → space_at m.spaces space ≡ Some s → s.window ≡ Some (window_of shown) → first ≡ s.first → pages ≡ s.pages → IfErr result (λ e. e ≡ halt.Disk) }
-    ensures synced { (volume : Volume) (m : Machine) (s : Space) → Runs core.old volume m → space_at m.spaces space ≡ Some s → s.window ≡ Some (window_of shown) → first ≡ s.first → pages ≡ s.pages → OnOk result ((D.state core.new.filer.swapper.disk).synced ≡ true) }
-    ensures settled { IfOk result (λ answer. answer ≡ reply.Done → (D.state core.new.filer.swapper.disk).synced ≡ true) }
-    ensures counted { result ≡ Err halt.Disk → Rose (D.state core.old.filer.swapper.disk).faults (D.state core.new.filer.swapper.disk).faults }
+    ensures synced { (volume : Volume) (m : Machine) (s : Space) → Runs core.old volume m → space_at m.spaces space ≡ Some s → s.window ≡ Some (window_of shown) → first ≡ s.first → pages ≡ s.pages → OnOk result ((state core.new).disk.synced ≡ true) }
+    ensures settled { IfOk result (λ answer. answer ≡ reply.Done → (state core.new).disk.synced ≡ true) }
+    ensures counted { result ≡ Err halt.Disk → Rose (state core.old).disk.faults (state core.new).disk.faults }
     ensures cause { IfErr result (ReachHalts (BreaksPart (state core.old) core.old.intervals first (first + pages)) (state core.old) (state core.new)) }
-    ensures evidence_seen { IfErr result (ShowsEvidence (D.state core.new.filer.swapper.disk)) }
-    ensures makes { Makes volume_page [] (D.state core.old.filer.swapper.disk) core.old.filer.swapper.pool (D.state core.new.filer.swapper.disk) core.new.filer.swapper.pool }
+    ensures evidence_seen { IfErr result (ShowsEvidence (state core.new).disk) }
+    ensures makes { MakesOnly volume_page [] (state core.old) (state core.new) }
     ensures sees { (ss : List Space) (s : Space) → Sees (state core.old) (kept core.old) core.old.intervals ss → space_at ss space ≡ Some s → s.window ≡ Some (window_of shown) → OnOk result (SeesFiles (IsShown ss) core.new) }
     ensures right { SeesOn core.old → IfErr result NeverBlamesTables }
     ensures moves { Moves (state core.old) (state core.new) }
-    ensures layout { core.new.filer.swapper.layout ≡ core.old.filer.swapper.layout }
-    ensures cost { (D.state core.new.filer.swapper.disk).transfers ≤ (D.state core.old.filer.swapper.disk).transfers + 4452352 }
+    ensures layout { (state core.new).layout ≡ (state core.old).layout }
+    ensures cost { (state core.new).disk.transfers ≤ (state core.old).disk.transfers + 4452352 }
 {
     match flush_range(core, first, pages) {
         Ok(()) => (),
@@ -164,21 +166,19 @@ pub fn protect<D: Disk, A: Allocator>(
     space: u32,
     writable: bool,
 ) -> Result<Reply, Halt>
-    requires size { (D.state core.old.filer.swapper.disk).sectors ≡ core.old.filer.swapper.layout.sectors }
-    ensures carried { (volume : Volume) (m : Machine) → Runs core.old volume m → IfOk result (Carried m (call.Protect space writable) core.new volume) }
-    ensures sound { (volume : Volume) (m : Machine) → Runs core.old volume m → IfErr result (λ e. e ≡ halt.Disk) }
-    ensures passes { (volume : Volume) (m : Machine) → Runs core.old volume m → Passes m (call.Protect space writable) (D.state core.old.filer.swapper.disk) (D.state core.new.filer.swapper.disk) }
-    ensures counted { result ≡ Err halt.Disk → Rose (D.state core.old.filer.swapper.disk).faults (D.state core.new.filer.swapper.disk).faults }
+    requires size { FitsLayout (state core.old) }
+    ensures answers { (volume : Volume) (m : Machine) → Runs core.old volume m → Answers m (call.Protect space writable) core.old core.new volume result }
+    ensures counted { result ≡ Err halt.Disk → Rose (state core.old).disk.faults (state core.new).disk.faults }
     ensures cause { IfErr result (ProtectHalts space writable core.old.intervals (state core.old) (state core.new)) }
-    ensures evidence_seen { IfErr result (ShowsEvidence (D.state core.new.filer.swapper.disk)) }
-    ensures wrote { WroteIn (volume_page) (D.state core.old.filer.swapper.disk) core.old.filer.swapper.pool (D.state core.new.filer.swapper.disk) core.new.filer.swapper.pool }
+    ensures evidence_seen { IfErr result (ShowsEvidence (state core.new).disk) }
+    ensures wrote { WroteIn (volume_page) (state core.old).disk (state core.old).slots (state core.new).disk (state core.new).slots }
     ensures sees { OnOk result (StillOn core.old core.new) }
     ensures right { SeesOn core.old → IfErr result NeverBlamesTables }
     ensures moves { Moves (state core.old) (state core.new) }
-    ensures layout { core.new.filer.swapper.layout ≡ core.old.filer.swapper.layout }
-    ensures cost { CostsOther (D.state core.old.filer.swapper.disk) (D.state core.new.filer.swapper.disk) }
-    ensures synced { (volume : Volume) (m : Machine) → Runs core.old volume m → writable ≡ false → refusal m (call.Protect space writable) ≡ None → OnOk result ((D.state core.new.filer.swapper.disk).synced ≡ true) }
-    ensures settled { writable ≡ false → IfOk result (λ answer. answer ≡ reply.Done → (D.state core.new.filer.swapper.disk).synced ≡ true) }
+    ensures layout { (state core.new).layout ≡ (state core.old).layout }
+    ensures cost { CostsOther (state core.old).disk (state core.new).disk }
+    ensures synced { (volume : Volume) (m : Machine) → Runs core.old volume m → writable ≡ false → refusal m (call.Protect space writable) ≡ None → OnOk result ((state core.new).disk.synced ≡ true) }
+    ensures settled { writable ≡ false → IfOk result (λ answer. answer ≡ reply.Done → (state core.new).disk.synced ≡ true) }
 {
     let (shown, first, pages) = match find_window(core, space) {
         Ok(Ok(found)) => found,

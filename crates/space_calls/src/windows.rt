@@ -31,6 +31,8 @@ ghost use Rattle.space_calls.specs.Halts.{ChangeHalts, LookHalts, SlotHalts};
 ghost use Rattle.fault_core.specs.NeverBlames.{NeverBlamesTables};
 ghost use Rattle.space_calls.specs.Sees.{SeesOn, StillSees};
 ghost use Rattle.fault_core.specs.Lack.{Sees};
+ghost use Rattle.filer_kernel.specs.View.{FitsLayout, MakesOnly};
+ghost use Rattle.space_calls.specs.Calls.{Looks};
 
 use crate::framing::frame_count;
 use fault_core::Core;
@@ -46,23 +48,18 @@ pub(crate) fn find_window<D: Disk, A: Allocator>(
     core: &mut Core<D, A>,
     space: u32,
 ) -> Result<Result<(Shown, u32, u32), Refusal>, Halt>
-    requires size { (D.state core.old.filer.swapper.disk).sectors ≡ core.old.filer.swapper.layout.sectors }
+    requires size { FitsLayout (state core.old) }
     ensures answer { (volume : Volume) (m : Machine) → Runs core.old volume m → IfOk result (Reveals (first_of (window_row m.spaces space)) (IsWindowIn m.spaces space)) }
     ensures read { IfOk result (IfGiven (λ found. TablesSay (state core.old) (λ b. IsShownAt b space) found.0)) }
     ensures range { IfOk result (IfGiven (λ found. TablesSay (state core.old) (λ b. IsRunAt b space) (found.1, found.2))) }
-    ensures runs { (volume : Volume) (m : Machine) → Runs core.old volume m → Runs core.new volume m }
+    ensures looks { Looks core.old core.new }
     ensures sound { (volume : Volume) (m : Machine) → Runs core.old volume m → IfErr result (λ e. e ≡ halt.Disk) }
-    ensures counted { result ≡ Err halt.Disk → Rose (D.state core.old.filer.swapper.disk).faults (D.state core.new.filer.swapper.disk).faults }
+    ensures counted { result ≡ Err halt.Disk → Rose (state core.old).disk.faults (state core.new).disk.faults }
     ensures cause { IfErr result (SlotHalts space (state core.old) (state core.new)) }
-    ensures evidence_seen { IfErr result (ShowsEvidence (D.state core.new.filer.swapper.disk)) }
-    ensures still { StillSees core.old core.new }
+    ensures evidence_seen { IfErr result (ShowsEvidence (state core.new).disk) }
     ensures seen { (ss : List Space) → Sees (state core.old) (kept core.old) core.old.intervals ss → IfOk result (Reveals (first_of (window_row ss space)) (IsWindowIn ss space)) }
     ensures right { SeesOn core.old → IfErr result NeverBlamesTables }
-    ensures reaches { Reaches (state core.old) (state core.new) }
-    ensures intervals { core.new.intervals ≡ core.old.intervals }
-    ensures makes { Makes volume_page [] (D.state core.old.filer.swapper.disk) core.old.filer.swapper.pool (D.state core.new.filer.swapper.disk) core.new.filer.swapper.pool }
-    ensures layout { core.new.filer.swapper.layout ≡ core.old.filer.swapper.layout }
-    ensures cost { (D.state core.new.filer.swapper.disk).transfers ≤ (D.state core.old.filer.swapper.disk).transfers + 56 }
+    ensures cost { (state core.new).disk.transfers ≤ (state core.old).disk.transfers + 56 }
 {
     let shows = match shown(core, space) {
         Ok(Ok(shows)) => shows,
@@ -82,20 +79,15 @@ pub(crate) fn evict_range<D: Disk, A: Allocator>(
     first: u32,
     pages: u32,
 ) -> Result<(), Halt>
-    requires size { (D.state core.old.filer.swapper.disk).sectors ≡ core.old.filer.swapper.layout.sectors }
-    ensures rest { (volume : Volume) (m : Machine) → Runs core.old volume m → OnOk result (AreGone m.spaces core.new.filer.swapper.pool first (first + pages)) }
-    ensures runs { (volume : Volume) (m : Machine) → Runs core.old volume m → Runs core.new volume m }
+    requires size { FitsLayout (state core.old) }
+    ensures rest { (volume : Volume) (m : Machine) → Runs core.old volume m → OnOk result (AreGone m.spaces (state core.new).slots first (first + pages)) }
+    ensures looks { Looks core.old core.new }
     ensures sound { (volume : Volume) (m : Machine) → Runs core.old volume m → IfErr result (λ e. e ≡ halt.Disk) }
-    ensures counted { result ≡ Err halt.Disk → Rose (D.state core.old.filer.swapper.disk).faults (D.state core.new.filer.swapper.disk).faults }
+    ensures counted { result ≡ Err halt.Disk → Rose (state core.old).disk.faults (state core.new).disk.faults }
     ensures cause { IfErr result (ReachHalts (BreaksWithin (state core.old) core.old.intervals first (first + pages)) (state core.old) (state core.new)) }
-    ensures evidence_seen { IfErr result (ShowsEvidence (D.state core.new.filer.swapper.disk)) }
-    ensures still { StillSees core.old core.new }
+    ensures evidence_seen { IfErr result (ShowsEvidence (state core.new).disk) }
     ensures right { SeesOn core.old → IfErr result NeverBlamesTables }
-    ensures reaches { Reaches (state core.old) (state core.new) }
-    ensures intervals { core.new.intervals ≡ core.old.intervals }
-    ensures makes { Makes volume_page [] (D.state core.old.filer.swapper.disk) core.old.filer.swapper.pool (D.state core.new.filer.swapper.disk) core.new.filer.swapper.pool }
-    ensures layout { core.new.filer.swapper.layout ≡ core.old.filer.swapper.layout }
-    ensures cost { (D.state core.new.filer.swapper.disk).transfers ≤ (D.state core.old.filer.swapper.disk).transfers + 4395008 }
+    ensures cost { (state core.new).disk.transfers ≤ (state core.old).disk.transfers + 4395008 }
 {
     let _frames = frame_count(core);
     core.evict(first, pages)
@@ -107,20 +99,15 @@ pub(crate) fn flush_range<D: Disk, A: Allocator>(
     first: u32,
     pages: u32,
 ) -> Result<(), Halt>
-    requires size { (D.state core.old.filer.swapper.disk).sectors ≡ core.old.filer.swapper.layout.sectors }
-    ensures rest { (volume : Volume) (m : Machine) → Runs core.old volume m → OnOk result (AreClean m.spaces core.new.filer.swapper.pool first (first + pages)) }
-    ensures runs { (volume : Volume) (m : Machine) → Runs core.old volume m → Runs core.new volume m }
+    requires size { FitsLayout (state core.old) }
+    ensures rest { (volume : Volume) (m : Machine) → Runs core.old volume m → OnOk result (AreClean m.spaces (state core.new).slots first (first + pages)) }
+    ensures looks { Looks core.old core.new }
     ensures sound { (volume : Volume) (m : Machine) → Runs core.old volume m → IfErr result (λ e. e ≡ halt.Disk) }
-    ensures counted { result ≡ Err halt.Disk → Rose (D.state core.old.filer.swapper.disk).faults (D.state core.new.filer.swapper.disk).faults }
+    ensures counted { result ≡ Err halt.Disk → Rose (state core.old).disk.faults (state core.new).disk.faults }
     ensures cause { IfErr result (ReachHalts (BreaksWithin (state core.old) core.old.intervals first (first + pages)) (state core.old) (state core.new)) }
-    ensures evidence_seen { IfErr result (ShowsEvidence (D.state core.new.filer.swapper.disk)) }
-    ensures still { StillSees core.old core.new }
+    ensures evidence_seen { IfErr result (ShowsEvidence (state core.new).disk) }
     ensures right { SeesOn core.old → IfErr result NeverBlamesTables }
-    ensures reaches { Reaches (state core.old) (state core.new) }
-    ensures intervals { core.new.intervals ≡ core.old.intervals }
-    ensures makes { Makes volume_page [] (D.state core.old.filer.swapper.disk) core.old.filer.swapper.pool (D.state core.new.filer.swapper.disk) core.new.filer.swapper.pool }
-    ensures layout { core.new.filer.swapper.layout ≡ core.old.filer.swapper.layout }
-    ensures cost { (D.state core.new.filer.swapper.disk).transfers ≤ (D.state core.old.filer.swapper.disk).transfers + 4395008 }
+    ensures cost { (state core.new).disk.transfers ≤ (state core.old).disk.transfers + 4395008 }
 {
     let _frames = frame_count(core);
     core.flush(first, pages)
@@ -132,21 +119,21 @@ pub(crate) fn change_window<D: Disk, A: Allocator>(
     space: u32,
     shown: Option<Shown>,
 ) -> Result<Result<(), Refusal>, Halt>
-    requires size { (D.state core.old.filer.swapper.disk).sectors ≡ core.old.filer.swapper.layout.sectors }
+    requires size { FitsLayout (state core.old) }
     ensures done { (volume : Volume) (m : Machine) (x : Space) (unforced : List FilePage) → Runs core.old volume m → MayHaveWindow m.spaces x → x.handle ≡ space → IfSome shown (λ w. WindowFits x.pages (window_of w))
-        → IsMachine (record m { spaces = with_window space (option_map window_of shown) m.spaces; unforced = unforced }) → HasFrames core.old.filer.swapper.pool (with_window space (option_map window_of shown) m.spaces) → DirtyAreLoose core.old.filer.swapper.pool unforced
+        → IsMachine (record m { spaces = with_window space (option_map window_of shown) m.spaces; unforced = unforced }) → HasFrames (state core.old).slots (with_window space (option_map window_of shown) m.spaces) → DirtyAreLoose (state core.old).slots unforced
         → IfOk result (IsDone (Runs core.new volume (record m { spaces = with_window space (option_map window_of shown) m.spaces; unforced = unforced }))) }
     ensures sound { (volume : Volume) (m : Machine) (x : Space) → Runs core.old volume m → MayHaveWindow m.spaces x → x.handle ≡ space → IfSome shown (λ w. WindowFits x.pages (window_of w)) → IfErr result (λ e. e ≡ halt.Disk) }
-    ensures counted { result ≡ Err halt.Disk → Rose (D.state core.old.filer.swapper.disk).faults (D.state core.new.filer.swapper.disk).faults }
+    ensures counted { result ≡ Err halt.Disk → Rose (state core.old).disk.faults (state core.new).disk.faults }
     ensures cause { IfErr result (ChangeHalts core.old.intervals (state core.old) (state core.new)) }
-    ensures evidence_seen { IfErr result (ShowsEvidence (D.state core.new.filer.swapper.disk)) }
+    ensures evidence_seen { IfErr result (ShowsEvidence (state core.new).disk) }
     ensures sees { (ss : List Space) (x : Space) → Sees (state core.old) (kept core.old) core.old.intervals ss → MayHaveWindow ss x → x.handle ≡ space → IfSome shown (λ w. WindowFits x.pages (window_of w))
         → OnOk result (Sees (state core.new) (kept core.new) core.new.intervals (with_window space (option_map window_of shown) ss)) }
     ensures right { SeesOn core.old → IfErr result NeverBlamesTables }
     ensures reshapes { Reshapes (state core.old) (state core.new) }
-    ensures makes { Makes volume_page [] (D.state core.old.filer.swapper.disk) core.old.filer.swapper.pool (D.state core.new.filer.swapper.disk) core.new.filer.swapper.pool }
-    ensures layout { core.new.filer.swapper.layout ≡ core.old.filer.swapper.layout }
-    ensures cost { (D.state core.new.filer.swapper.disk).transfers ≤ (D.state core.old.filer.swapper.disk).transfers + 57344 }
+    ensures makes { MakesOnly volume_page [] (state core.old) (state core.new) }
+    ensures layout { (state core.new).layout ≡ (state core.old).layout }
+    ensures cost { (state core.new).disk.transfers ≤ (state core.old).disk.transfers + 57344 }
 {
     let answer = match set_window(core, space, shown) {
         Ok(answer) => answer,
@@ -161,20 +148,15 @@ pub(crate) fn shows_immutable<D: Disk, A: Allocator>(
     core: &mut Core<D, A>,
     id: FileId,
 ) -> Result<bool, Halt>
-    requires size { (D.state core.old.filer.swapper.disk).sectors ≡ core.old.filer.swapper.layout.sectors }
+    requires size { FitsLayout (state core.old) }
     ensures answer { (volume : Volume) (m : Machine) → Runs core.old volume m → IfOk result (λ is. is_immutable m id ≡ then_some is why.Immutable) }
-    ensures runs { (volume : Volume) (m : Machine) → Runs core.old volume m → Runs core.new volume m }
+    ensures looks { Looks core.old core.new }
     ensures sound { (volume : Volume) (m : Machine) → Runs core.old volume m → IfErr result (λ e. e ≡ halt.Disk) }
-    ensures counted { result ≡ Err halt.Disk → Rose (D.state core.old.filer.swapper.disk).faults (D.state core.new.filer.swapper.disk).faults }
+    ensures counted { result ≡ Err halt.Disk → Rose (state core.old).disk.faults (state core.new).disk.faults }
     ensures cause { IfErr result (LookHalts id (state core.old) (state core.new)) }
-    ensures evidence_seen { IfErr result (ShowsEvidence (D.state core.new.filer.swapper.disk)) }
-    ensures still { StillSees core.old core.new }
+    ensures evidence_seen { IfErr result (ShowsEvidence (state core.new).disk) }
     ensures right { SeesOn core.old → IfErr result NeverBlamesTables }
-    ensures reaches { Reaches (state core.old) (state core.new) }
-    ensures makes { Makes volume_page [] (D.state core.old.filer.swapper.disk) core.old.filer.swapper.pool (D.state core.new.filer.swapper.disk) core.new.filer.swapper.pool }
-    ensures layout { core.new.filer.swapper.layout ≡ core.old.filer.swapper.layout }
-    ensures intervals { core.new.intervals ≡ core.old.intervals }
-    ensures cost { (D.state core.new.filer.swapper.disk).transfers ≤ (D.state core.old.filer.swapper.disk).transfers + 29 }
+    ensures cost { (state core.new).disk.transfers ≤ (state core.old).disk.transfers + 29 }
 {
     match attributes_of(&mut core.filer, id) {
         Ok(Some(found)) => Ok(found.immutable),

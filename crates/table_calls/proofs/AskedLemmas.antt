@@ -7,7 +7,7 @@ use Rattle.fault_core.specs.declared.core_over.Core.{Core}
 use Rattle.fault_core.specs.Core.{kept, state}
 use Rattle.fault_core.specs.Kept.{IsKept}
 use Rattle.fault_core.specs.Revealed.{Revealed}
-use Rattle.fault_core.specs.View.{View, TablesAre}
+use Rattle.filer_kernel.specs.View.{accepted, TablesAre, View}
 use Rattle.fault_core.proofs.RevealedLemmas.{revealed_after}
 use Rattle.fault_core.proofs.TurnLemmas.{reaches_tables, own_tables}
 use Rattle.fault_core.proofs.YieldLemmas.{tables_yield}
@@ -23,10 +23,10 @@ asked old new beside same keeps count =
     let reaches = reaches_tables (state old) (state new) beside same in
     record {
       reaches = reaches;
-      came = own_tables (state old) new.filer.swapper.pool beside.brings;
+      came = own_tables (state old) (state new).slots beside.brings;
       stay = tables_yield (state old) (state new) beside;
       kept = keeps;
       intervals = count;
       same = λ m named ss knows. subst (λ (n : ℕ). Revealed (state new) (kept new) n m named ss) (sym count)
-          (revealed_after knows (state new) (kept new) old.filer.swapper.accepted reaches (λ x one. inl (subst (λ (l : List Interval). IsKept l x) keeps one)));
+          (revealed_after knows (state new) (kept new) (accepted old.filer) reaches (λ x one. inl (subst (λ (l : List Interval). IsKept l x) keeps one)));
     }

@@ -13,7 +13,7 @@ use Rattle.space_tables.specs.declared.error.SpaceError.TheVariants.{Refused, Ma
 use Rattle.space_tables.specs.Answer.{FromMemory, IfMem, IfMalformed, Answers}
 use Rattle.space_tables.specs.Stored.{RevealSpaces}
 use Rattle.filer_kernel.specs.Tables.{IsTableAccounted}
-use Rattle.fault_core.specs.View.{View, TablesAre}
+use Rattle.filer_kernel.specs.View.{View, TablesAre}
 use Rattle.fault_core.specs.Reach.{ReachHalts}
 use Rattle.fault_core.specs.Revealed.{Revealed}
 use Rattle.fault_core.proofs.RevealedLemmas.{spaces_in, tables_revealed}

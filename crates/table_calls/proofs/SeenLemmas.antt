@@ -15,7 +15,7 @@ use Rattle.filer_kernel.proofs.Outcomes.{err_wider}
 use Rattle.fault_core.specs.Lack.{Sees}
 use Rattle.fault_core.specs.Reach.{ReachHalts, no_break}
 use Rattle.fault_core.specs.NeverBlames.{NeverBlamesTables}
-use Rattle.fault_core.specs.View.{View, TablesAre}
+use Rattle.filer_kernel.specs.View.{View, TablesAre}
 use Rattle.fault_core.proofs.NeverBlamesLemmas.{form_is_right, never_blames_revealed}
 use Rattle.fault_core.proofs.RevealedLemmas.{spaces_in}
 use Rattle.fault_core.proofs.TurnLemmas.{tables_halt}

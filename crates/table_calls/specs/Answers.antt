@@ -15,7 +15,7 @@ use Rattle.filer_kernel.specs.Tables.{BesideTables}
 use Rattle.fault_core.specs.declared.core_over.Core.{Core}
 use Rattle.fault_core.specs.Core.{kept, state, Knows}
 use Rattle.fault_core.specs.Reach.{Reaches, BringsOwn, StayOrYield}
-use Rattle.fault_core.specs.View.{View, TablesAre}
+use Rattle.filer_kernel.specs.View.{View, TablesAre}
 
 -- what the tables answered, where a refusal is revealed from a halt: a page that breaks its form is one of the space tables
 abbrev pub refused_or_halted : {A : Type 0} → Result A (SpaceError Halt) → Result (Result A Refusal) Halt
@@ -55,8 +55,8 @@ module _ {D A : Type 0} {G : Ghosts D} where
   -- Pages were found and brought in, and nothing that is known has changed.
   pub record Asked (old new : Core D A G) : Type 0 where
     pub reaches : Reaches (state old) (state new)
-    pub came : BringsOwn old.filer.swapper.pool new.filer.swapper.pool
-    pub stay : StayOrYield old.filer.swapper.pool new.filer.swapper.pool
+    pub came : BringsOwn (state old).slots (state new).slots
+    pub stay : StayOrYield (state old).slots (state new).slots
     pub kept : kept new ≡ kept old
     pub intervals : new.intervals ≡ old.intervals
     pub same : (m : List Sector) (named : Triples) (spaces : List Space) → Knows old m named spaces → Knows new m named spaces
@@ -64,5 +64,5 @@ module _ {D A : Type 0} {G : Ghosts D} where
   -- Pages of the space tables alone may have changed, and no interval is kept any more.
   pub record Retabled (old new : Core D A G) : Type 0 where
     pub beside : BesideTables (state old).disk (state old).slots (state old).layout (state old).runs (state new).disk (state new).slots (state new).layout (state new).runs
-    pub came : BringsOwn old.filer.swapper.pool new.filer.swapper.pool
+    pub came : BringsOwn (state old).slots (state new).slots
     pub kept : kept new ≡ []

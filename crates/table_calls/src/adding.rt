@@ -11,7 +11,7 @@ ghost use Rattle.space_tables.specs.Form.{first_in_slot, BreaksHierarchy, Breaks
 ghost use Rattle.space_tables.specs.Answer.{IfMem, IfMalformed, Answers};
 ghost use Rattle.space_tables.specs.Stored.{RevealSpaces};
 ghost use Rattle.filer_kernel.specs.Tables.{BesideTables, IsTableAccounted};
-ghost use Rattle.fault_core.specs.View.{view_of, TablesAre};
+ghost use Rattle.filer_kernel.specs.View.{FitsLayout, TablesAre, TablesBeside, view_of};
 ghost use Rattle.fault_core.specs.Reach.{ReachHalts};
 ghost use Rattle.fault_core.specs.Lack.{Sees};
 ghost use Rattle.fault_core.specs.NeverBlames.{NeverBlamesTables};
@@ -35,15 +35,15 @@ fn add_in<D: Disk, A: Allocator>(
     pages: u32,
     first: Option<u32>,
 ) -> (Result<(u32, u32), SpaceError<Halt>>, u32)
-    requires size { (D.state filer.old.swapper.disk).sectors ≡ filer.old.swapper.layout.sectors }
+    requires size { FitsLayout (view_of filer.old) }
     requires some { 1 ≤ intervals }
     requires few { intervals ≤ 1023 }
     ensures answer { (ss : List Space) → RevealSpaces (TablesAre (view_of filer.old)) intervals ss → Answers (first_of (add_row ss parent pages first)) (λ at. RevealSpaces (TablesAre (view_of filer.new)) result.1 (put_space (made ss parent pages first) ss) × (at.0 ≡ (made ss parent pages first).handle) × (at.1 ≡ (made ss parent pages first).first)) (RevealSpaces (TablesAre (view_of filer.new)) result.1 ss) result.0 }
     ensures malformed { (b : List ℕ) → TablesAre (view_of filer.old) b → IfErr result.0 (IfMalformed (λ page. BreaksHierarchy b page ⊎ (BreaksAt first intervals b page ⊎ MakesTooMany intervals b parent pages first page))) }
-    ensures cause { IfErr result.0 (IfMem (IsTableAccounted (D.state filer.old.swapper.disk) filer.old.swapper.pool filer.old.swapper.layout filer.old.runs (D.state filer.new.swapper.disk))) }
+    ensures cause { IfErr result.0 (IfMem (IsTableAccounted (view_of filer.old).disk (view_of filer.old).slots (view_of filer.old).layout (view_of filer.old).runs (view_of filer.new).disk)) }
     ensures count { (1 ≤ result.1) × (result.1 ≤ 1023) }
-    ensures kept { BesideTables (D.state filer.old.swapper.disk) filer.old.swapper.pool filer.old.swapper.layout filer.old.runs (D.state filer.new.swapper.disk) filer.new.swapper.pool filer.new.swapper.layout filer.new.runs }
-    ensures cost { (D.state filer.new.swapper.disk).transfers ≤ (D.state filer.old.swapper.disk).transfers + 50204 }
+    ensures kept { TablesBeside (view_of filer.old) (view_of filer.new) }
+    ensures cost { (view_of filer.new).disk.transfers ≤ (view_of filer.old).disk.transfers + 50204 }
 {
     let mut tables = SpaceTables::<TableMemory<D, A>>::over(filer.table_memory(), intervals);
     let answer = tables.add(parent, pages, first);
@@ -58,7 +58,7 @@ pub fn add<D: Disk, A: Allocator>(
     pages: u32,
     first: Option<u32>,
 ) -> Result<Result<(u32, u32), Refusal>, Halt>
-    requires size { (D.state core.old.filer.swapper.disk).sectors ≡ core.old.filer.swapper.layout.sectors }
+    requires size { FitsLayout (state core.old) }
     ensures answer { (m : List Sector) (named : Triples) (ss : List Space) → Knows core.old m named ss
         → IfOk result (Changes (first_of (add_row ss parent pages first)) (λ at. RevealSpaces (TablesAre (state core.new)) core.new.intervals (put_space (made ss parent pages first) ss) × (at.0 ≡ (made ss parent pages first).handle) × (at.1 ≡ (made ss parent pages first).first)) (RevealSpaces (TablesAre (state core.new)) core.new.intervals ss)) }
     ensures cause { IfErr result (ReachHalts (TablesBreak (state core.old) (λ b page. BreaksHierarchy b page ⊎ (BreaksAt first core.old.intervals b page ⊎ MakesTooMany core.old.intervals b parent pages first page))) (state core.old) (state core.new)) }
@@ -67,7 +67,7 @@ pub fn add<D: Disk, A: Allocator>(
     ensures right { (ss : List Space) → Sees (state core.old) (kept core.old) core.old.intervals ss → IfErr result NeverBlamesTables }
     ensures sound { (m : List Sector) (named : Triples) (ss : List Space) → Knows core.old m named ss → IfErr result (λ e. e ≡ halt.Disk) }
     ensures retabled { Retabled core.old core.new }
-    ensures cost { (D.state core.new.filer.swapper.disk).transfers ≤ (D.state core.old.filer.swapper.disk).transfers + 50204 }
+    ensures cost { (state core.new).disk.transfers ≤ (state core.old).disk.transfers + 50204 }
 {
     let intervals = opened(core);
     let (answer, intervals) = add_in(&mut core.filer, intervals, parent, pages, first);
@@ -81,15 +81,15 @@ fn remove_in<D: Disk, A: Allocator>(
     intervals: u32,
     space: u32,
 ) -> (Result<(), SpaceError<Halt>>, u32)
-    requires size { (D.state filer.old.swapper.disk).sectors ≡ filer.old.swapper.layout.sectors }
+    requires size { FitsLayout (view_of filer.old) }
     requires some { 1 ≤ intervals }
     requires few { intervals ≤ 1023 }
     ensures answer { (ss : List Space) → RevealSpaces (TablesAre (view_of filer.old)) intervals ss → Answers (first_of (remove_row ss space)) (λ _. RevealSpaces (TablesAre (view_of filer.new)) result.1 (without_space space ss)) (RevealSpaces (TablesAre (view_of filer.new)) result.1 ss) result.0 }
     ensures malformed { (b : List ℕ) → TablesAre (view_of filer.old) b → IfErr result.0 (IfMalformed (λ page. BreaksFor (first_in_slot b space) intervals b page)) }
-    ensures cause { IfErr result.0 (IfMem (IsTableAccounted (D.state filer.old.swapper.disk) filer.old.swapper.pool filer.old.swapper.layout filer.old.runs (D.state filer.new.swapper.disk))) }
+    ensures cause { IfErr result.0 (IfMem (IsTableAccounted (view_of filer.old).disk (view_of filer.old).slots (view_of filer.old).layout (view_of filer.old).runs (view_of filer.new).disk)) }
     ensures count { (1 ≤ result.1) × (result.1 ≤ 1023) }
-    ensures kept { BesideTables (D.state filer.old.swapper.disk) filer.old.swapper.pool filer.old.swapper.layout filer.old.runs (D.state filer.new.swapper.disk) filer.new.swapper.pool filer.new.swapper.layout filer.new.runs }
-    ensures cost { (D.state filer.new.swapper.disk).transfers ≤ (D.state filer.old.swapper.disk).transfers + 21924 }
+    ensures kept { TablesBeside (view_of filer.old) (view_of filer.new) }
+    ensures cost { (view_of filer.new).disk.transfers ≤ (view_of filer.old).disk.transfers + 21924 }
 {
     let mut tables = SpaceTables::<TableMemory<D, A>>::over(filer.table_memory(), intervals);
     let answer = tables.remove(space);
@@ -101,7 +101,7 @@ pub fn remove<D: Disk, A: Allocator>(
     core: &mut Core<D, A>,
     space: u32,
 ) -> Result<Result<(), Refusal>, Halt>
-    requires size { (D.state core.old.filer.swapper.disk).sectors ≡ core.old.filer.swapper.layout.sectors }
+    requires size { FitsLayout (state core.old) }
     ensures answer { (m : List Sector) (named : Triples) (ss : List Space) → Knows core.old m named ss
         → IfOk result (Changes (first_of (remove_row ss space)) (λ _. RevealSpaces (TablesAre (state core.new)) core.new.intervals (without_space space ss)) (RevealSpaces (TablesAre (state core.new)) core.new.intervals ss)) }
     ensures cause { IfErr result (ReachHalts (TablesBreak (state core.old) (λ b page. BreaksFor (first_in_slot b space) core.old.intervals b page)) (state core.old) (state core.new)) }
@@ -110,7 +110,7 @@ pub fn remove<D: Disk, A: Allocator>(
     ensures right { (ss : List Space) → Sees (state core.old) (kept core.old) core.old.intervals ss → IfErr result NeverBlamesTables }
     ensures sound { (m : List Sector) (named : Triples) (ss : List Space) → Knows core.old m named ss → IfErr result (λ e. e ≡ halt.Disk) }
     ensures retabled { Retabled core.old core.new }
-    ensures cost { (D.state core.new.filer.swapper.disk).transfers ≤ (D.state core.old.filer.swapper.disk).transfers + 21924 }
+    ensures cost { (state core.new).disk.transfers ≤ (state core.old).disk.transfers + 21924 }
 {
     let intervals = opened(core);
     let (answer, intervals) = remove_in(&mut core.filer, intervals, space);

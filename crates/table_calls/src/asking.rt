@@ -12,7 +12,7 @@ ghost use Rattle.space_tables.specs.Shows.{IsRunAt};
 ghost use Rattle.space_tables.specs.Answer.{IfMem, IfMalformed, Replies};
 ghost use Rattle.space_tables.specs.Stored.{RevealSpaces};
 ghost use Rattle.filer_kernel.specs.Tables.{BesideTables, IsTableAccounted};
-ghost use Rattle.fault_core.specs.View.{view_of, TablesAre};
+ghost use Rattle.filer_kernel.specs.View.{FitsLayout, TablesAre, TablesBeside, view_of};
 ghost use Rattle.fault_core.specs.Reach.{ReachHalts};
 ghost use Rattle.fault_core.specs.Lack.{Sees};
 ghost use Rattle.fault_core.specs.NeverBlames.{NeverBlamesTables};
@@ -33,17 +33,17 @@ fn ask_bounds<D: Disk, A: Allocator>(
     intervals: u32,
     space: u32,
 ) -> Result<(u32, u32), SpaceError<Halt>>
-    requires size { (D.state filer.old.swapper.disk).sectors ≡ filer.old.swapper.layout.sectors }
+    requires size { FitsLayout (view_of filer.old) }
     requires some { 1 ≤ intervals }
     requires few { intervals ≤ 1023 }
     ensures answer { (ss : List Space) → RevealSpaces (TablesAre (view_of filer.old)) intervals ss → Replies (no_space ss space) (λ run. (s : Space) × (space_at ss space ≡ Some s) × (run ≡ (s.first, s.pages))) result }
     ensures form { IfOk result (λ run. lies_in_root run.0 run.1 ≡ true) }
     ensures read { (b : List ℕ) → TablesAre (view_of filer.old) b → IfOk result (IsRunAt b space) }
     ensures malformed { (b : List ℕ) → TablesAre (view_of filer.old) b → IfErr result (IfMalformed (λ page. BreaksSlot b page space)) }
-    ensures cause { IfErr result (IfMem (IsTableAccounted (D.state filer.old.swapper.disk) filer.old.swapper.pool filer.old.swapper.layout filer.old.runs (D.state filer.new.swapper.disk))) }
+    ensures cause { IfErr result (IfMem (IsTableAccounted (view_of filer.old).disk (view_of filer.old).slots (view_of filer.old).layout (view_of filer.old).runs (view_of filer.new).disk)) }
     ensures same { (b : List ℕ) → TablesAre (view_of filer.old) b → TablesAre (view_of filer.new) b }
-    ensures kept { BesideTables (D.state filer.old.swapper.disk) filer.old.swapper.pool filer.old.swapper.layout filer.old.runs (D.state filer.new.swapper.disk) filer.new.swapper.pool filer.new.swapper.layout filer.new.runs }
-    ensures cost { (D.state filer.new.swapper.disk).transfers ≤ (D.state filer.old.swapper.disk).transfers + 28 }
+    ensures kept { TablesBeside (view_of filer.old) (view_of filer.new) }
+    ensures cost { (view_of filer.new).disk.transfers ≤ (view_of filer.old).disk.transfers + 28 }
 {
     let mut tables = SpaceTables::<TableMemory<D, A>>::over(filer.table_memory(), intervals);
     tables.bounds(space)
@@ -54,7 +54,7 @@ pub fn bounds<D: Disk, A: Allocator>(
     core: &mut Core<D, A>,
     space: u32,
 ) -> Result<Result<(u32, u32), Refusal>, Halt>
-    requires size { (D.state core.old.filer.swapper.disk).sectors ≡ core.old.filer.swapper.layout.sectors }
+    requires size { FitsLayout (state core.old) }
     ensures answer { (m : List Sector) (named : Triples) (ss : List Space) → Knows core.old m named ss → IfOk result (Reveals (no_space ss space) (λ run. (s : Space) × (space_at ss space ≡ Some s) × (run ≡ (s.first, s.pages)))) }
     ensures form { IfOk result (IfGiven (λ run. lies_in_root run.0 run.1 ≡ true)) }
     ensures read { IfOk result (IfGiven (TablesSay (state core.old) (λ b. IsRunAt b space))) }
@@ -64,7 +64,7 @@ pub fn bounds<D: Disk, A: Allocator>(
     ensures right { (ss : List Space) → Sees (state core.old) (kept core.old) core.old.intervals ss → IfErr result NeverBlamesTables }
     ensures sound { (m : List Sector) (named : Triples) (ss : List Space) → Knows core.old m named ss → IfErr result (λ e. e ≡ halt.Disk) }
     ensures asked { Asked core.old core.new }
-    ensures cost { (D.state core.new.filer.swapper.disk).transfers ≤ (D.state core.old.filer.swapper.disk).transfers + 28 }
+    ensures cost { (state core.new).disk.transfers ≤ (state core.old).disk.transfers + 28 }
 {
     let intervals = core.interval_count();
     refused_or_halted(ask_bounds(&mut core.filer, intervals, space))
@@ -76,16 +76,16 @@ fn ask_place<D: Disk, A: Allocator>(
     intervals: u32,
     page: u32,
 ) -> Result<(u32, u32, u32), SpaceError<Halt>>
-    requires size { (D.state filer.old.swapper.disk).sectors ≡ filer.old.swapper.layout.sectors }
+    requires size { FitsLayout (view_of filer.old) }
     requires some { 1 ≤ intervals }
     requires few { intervals ≤ 1023 }
     ensures answer { (ss : List Space) → RevealSpaces (TablesAre (view_of filer.old)) intervals ss → Replies (first_of (past_root page ∷ [])) (λ at. (s : Space) × (innermost ss page ≡ Some s) × (at ≡ (s.handle, s.first, s.pages))) result }
     ensures form { IfOk result (λ at. lies_in_root at.1 at.2 ≡ true) }
     ensures malformed { (b : List ℕ) → TablesAre (view_of filer.old) b → IfErr result (IfMalformed (λ broken. BreaksFor page intervals b broken)) }
-    ensures cause { IfErr result (IfMem (IsTableAccounted (D.state filer.old.swapper.disk) filer.old.swapper.pool filer.old.swapper.layout filer.old.runs (D.state filer.new.swapper.disk))) }
+    ensures cause { IfErr result (IfMem (IsTableAccounted (view_of filer.old).disk (view_of filer.old).slots (view_of filer.old).layout (view_of filer.old).runs (view_of filer.new).disk)) }
     ensures same { (b : List ℕ) → TablesAre (view_of filer.old) b → TablesAre (view_of filer.new) b }
-    ensures kept { BesideTables (D.state filer.old.swapper.disk) filer.old.swapper.pool filer.old.swapper.layout filer.old.runs (D.state filer.new.swapper.disk) filer.new.swapper.pool filer.new.swapper.layout filer.new.runs }
-    ensures cost { (D.state filer.new.swapper.disk).transfers ≤ (D.state filer.old.swapper.disk).transfers + 224 }
+    ensures kept { TablesBeside (view_of filer.old) (view_of filer.new) }
+    ensures cost { (view_of filer.new).disk.transfers ≤ (view_of filer.old).disk.transfers + 224 }
 {
     let mut tables = SpaceTables::<TableMemory<D, A>>::over(filer.table_memory(), intervals);
     tables.place(page)
@@ -96,7 +96,7 @@ pub fn place<D: Disk, A: Allocator>(
     core: &mut Core<D, A>,
     page: u32,
 ) -> Result<Result<(u32, u32, u32), Refusal>, Halt>
-    requires size { (D.state core.old.filer.swapper.disk).sectors ≡ core.old.filer.swapper.layout.sectors }
+    requires size { FitsLayout (state core.old) }
     ensures answer { (m : List Sector) (named : Triples) (ss : List Space) → Knows core.old m named ss → IfOk result (Reveals (first_of (past_root page ∷ [])) (λ at. (s : Space) × (innermost ss page ≡ Some s) × (at ≡ (s.handle, s.first, s.pages)))) }
     ensures form { IfOk result (IfGiven (λ at. lies_in_root at.1 at.2 ≡ true)) }
     ensures cause { IfErr result (ReachHalts (TablesBreak (state core.old) (λ b broken. BreaksFor page core.old.intervals b broken)) (state core.old) (state core.new)) }
@@ -105,7 +105,7 @@ pub fn place<D: Disk, A: Allocator>(
     ensures right { (ss : List Space) → Sees (state core.old) (kept core.old) core.old.intervals ss → IfErr result NeverBlamesTables }
     ensures sound { (m : List Sector) (named : Triples) (ss : List Space) → Knows core.old m named ss → IfErr result (λ e. e ≡ halt.Disk) }
     ensures asked { Asked core.old core.new }
-    ensures cost { (D.state core.new.filer.swapper.disk).transfers ≤ (D.state core.old.filer.swapper.disk).transfers + 224 }
+    ensures cost { (state core.new).disk.transfers ≤ (state core.old).disk.transfers + 224 }
 {
     let intervals = core.interval_count();
     refused_or_halted(ask_place(&mut core.filer, intervals, page))
@@ -117,16 +117,16 @@ fn ask_can_map<D: Disk, A: Allocator>(
     intervals: u32,
     space: u32,
 ) -> Result<(u32, u32), SpaceError<Halt>>
-    requires size { (D.state filer.old.swapper.disk).sectors ≡ filer.old.swapper.layout.sectors }
+    requires size { FitsLayout (view_of filer.old) }
     requires some { 1 ≤ intervals }
     requires few { intervals ≤ 1023 }
     ensures answer { (ss : List Space) → RevealSpaces (TablesAre (view_of filer.old)) intervals ss → Replies (first_of (map_row ss space)) (λ run. (s : Space) × (space_at ss space ≡ Some s) × (run ≡ (s.first, s.pages))) result }
     ensures form { IfOk result (λ run. lies_in_root run.0 run.1 ≡ true) }
     ensures malformed { (b : List ℕ) → TablesAre (view_of filer.old) b → IfErr result (IfMalformed (λ page. BreaksHierarchy b page)) }
-    ensures cause { IfErr result (IfMem (IsTableAccounted (D.state filer.old.swapper.disk) filer.old.swapper.pool filer.old.swapper.layout filer.old.runs (D.state filer.new.swapper.disk))) }
+    ensures cause { IfErr result (IfMem (IsTableAccounted (view_of filer.old).disk (view_of filer.old).slots (view_of filer.old).layout (view_of filer.old).runs (view_of filer.new).disk)) }
     ensures same { (b : List ℕ) → TablesAre (view_of filer.old) b → TablesAre (view_of filer.new) b }
-    ensures kept { BesideTables (D.state filer.old.swapper.disk) filer.old.swapper.pool filer.old.swapper.layout filer.old.runs (D.state filer.new.swapper.disk) filer.new.swapper.pool filer.new.swapper.layout filer.new.runs }
-    ensures cost { (D.state filer.new.swapper.disk).transfers ≤ (D.state filer.old.swapper.disk).transfers + 14364 }
+    ensures kept { TablesBeside (view_of filer.old) (view_of filer.new) }
+    ensures cost { (view_of filer.new).disk.transfers ≤ (view_of filer.old).disk.transfers + 14364 }
 {
     let mut tables = SpaceTables::<TableMemory<D, A>>::over(filer.table_memory(), intervals);
     tables.can_map(space)
@@ -137,7 +137,7 @@ pub fn can_map<D: Disk, A: Allocator>(
     core: &mut Core<D, A>,
     space: u32,
 ) -> Result<Result<(u32, u32), Refusal>, Halt>
-    requires size { (D.state core.old.filer.swapper.disk).sectors ≡ core.old.filer.swapper.layout.sectors }
+    requires size { FitsLayout (state core.old) }
     ensures answer { (m : List Sector) (named : Triples) (ss : List Space) → Knows core.old m named ss → IfOk result (Reveals (first_of (map_row ss space)) (λ run. (s : Space) × (space_at ss space ≡ Some s) × (run ≡ (s.first, s.pages)))) }
     ensures form { IfOk result (IfGiven (λ run. lies_in_root run.0 run.1 ≡ true)) }
     ensures cause { IfErr result (ReachHalts (TablesBreak (state core.old) (λ b page. BreaksHierarchy b page)) (state core.old) (state core.new)) }
@@ -146,7 +146,7 @@ pub fn can_map<D: Disk, A: Allocator>(
     ensures right { (ss : List Space) → Sees (state core.old) (kept core.old) core.old.intervals ss → IfErr result NeverBlamesTables }
     ensures sound { (m : List Sector) (named : Triples) (ss : List Space) → Knows core.old m named ss → IfErr result (λ e. e ≡ halt.Disk) }
     ensures asked { Asked core.old core.new }
-    ensures cost { (D.state core.new.filer.swapper.disk).transfers ≤ (D.state core.old.filer.swapper.disk).transfers + 14364 }
+    ensures cost { (state core.new).disk.transfers ≤ (state core.old).disk.transfers + 14364 }
 {
     let intervals = core.interval_count();
     refused_or_halted(ask_can_map(&mut core.filer, intervals, space))

@@ -11,7 +11,7 @@ ghost use Rattle.fault_core.specs.Reach.{ReachHalts, BringsOwn};
 ghost use Rattle.fault_core.specs.Lack.{Sees};
 ghost use Rattle.fault_core.specs.NeverBlames.{NeverBlamesTables};
 ghost use Rattle.fault_core.specs.Revealed.{Known};
-ghost use Rattle.fault_core.specs.View.{view_of, TablesAre};
+ghost use Rattle.filer_kernel.specs.View.{FitsLayout, TablesAre, TablesBeside, view_of};
 
 use filer_kernel::{Filer, TableMemory};
 use labelled_disk::{Disk, Halt};
@@ -20,12 +20,12 @@ use std::alloc::Allocator;
 
 // Begins the tables that stand in a filer's space tables.
 fn begin_in<D: Disk, A: Allocator>(filer: &mut Filer<D, A>) -> Result<(), SpaceError<Halt>>
-    requires size { (D.state filer.old.swapper.disk).sectors ≡ filer.old.swapper.layout.sectors }
+    requires size { FitsLayout (view_of filer.old) }
     ensures begun { (b : List ℕ) → TablesAre (view_of filer.old) b → OnOk result (RevealSpaces (TablesAre (view_of filer.new)) 1 (root ∷ [])) }
     ensures memory { IfErr result FromMemory }
-    ensures cause { IfErr result (IfMem (IsTableAccounted (D.state filer.old.swapper.disk) filer.old.swapper.pool filer.old.swapper.layout filer.old.runs (D.state filer.new.swapper.disk))) }
-    ensures kept { BesideTables (D.state filer.old.swapper.disk) filer.old.swapper.pool filer.old.swapper.layout filer.old.runs (D.state filer.new.swapper.disk) filer.new.swapper.pool filer.new.swapper.layout filer.new.runs }
-    ensures cost { (D.state filer.new.swapper.disk).transfers ≤ (D.state filer.old.swapper.disk).transfers + 14392 }
+    ensures cause { IfErr result (IfMem (IsTableAccounted (view_of filer.old).disk (view_of filer.old).slots (view_of filer.old).layout (view_of filer.old).runs (view_of filer.new).disk)) }
+    ensures kept { TablesBeside (view_of filer.old) (view_of filer.new) }
+    ensures cost { (view_of filer.new).disk.transfers ≤ (view_of filer.old).disk.transfers + 14392 }
 {
     let mut window = filer.table_memory();
     SpaceTables::<TableMemory<D, A>>::begin_in(&mut window)
@@ -33,15 +33,15 @@ fn begin_in<D: Disk, A: Allocator>(filer: &mut Filer<D, A>) -> Result<(), SpaceE
 
 /// Writes the tables of the root alone, with one interval, over whatever bytes stand in the space tables.
 pub fn begin<D: Disk, A: Allocator>(filer: &mut Filer<D, A>) -> Result<(), Halt>
-    requires size { (D.state filer.old.swapper.disk).sectors ≡ filer.old.swapper.layout.sectors }
+    requires size { FitsLayout (view_of filer.old) }
     ensures begun { (b : List ℕ) → TablesAre (view_of filer.old) b → OnOk result (RevealSpaces (TablesAre (view_of filer.new)) 1 (root ∷ [])) }
     ensures sees { (b : List ℕ) → TablesAre (view_of filer.old) b → OnOk result (Sees (view_of filer.new) [] 1 (root ∷ [])) }
     ensures cause { IfErr result (ReachHalts (λ page. ⊥) (view_of filer.old) (view_of filer.new)) }
     ensures right { (b : List ℕ) → TablesAre (view_of filer.old) b → IfErr result NeverBlamesTables }
     ensures sound { (m : List Sector) (named : Triples) (b : List ℕ) → Known (view_of filer.old) m named b → IfErr result (λ e. e ≡ halt.Disk) }
-    ensures came { BringsOwn filer.old.swapper.pool filer.new.swapper.pool }
-    ensures kept { BesideTables (D.state filer.old.swapper.disk) filer.old.swapper.pool filer.old.swapper.layout filer.old.runs (D.state filer.new.swapper.disk) filer.new.swapper.pool filer.new.swapper.layout filer.new.runs }
-    ensures cost { (D.state filer.new.swapper.disk).transfers ≤ (D.state filer.old.swapper.disk).transfers + 14392 }
+    ensures came { BringsOwn (view_of filer.old).slots (view_of filer.new).slots }
+    ensures kept { TablesBeside (view_of filer.old) (view_of filer.new) }
+    ensures cost { (view_of filer.new).disk.transfers ≤ (view_of filer.old).disk.transfers + 14392 }
 {
     match begin_in(filer) {
         Ok(()) => Ok(()),

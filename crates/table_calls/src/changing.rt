@@ -14,7 +14,7 @@ ghost use Rattle.space_tables.specs.Shows.{window_of};
 ghost use Rattle.space_tables.specs.Answer.{FromMemory, IfMem, IfMalformed, Answers};
 ghost use Rattle.space_tables.specs.Stored.{RevealSpaces};
 ghost use Rattle.filer_kernel.specs.Tables.{BesideTables, IsTableAccounted};
-ghost use Rattle.fault_core.specs.View.{view_of, TablesAre};
+ghost use Rattle.filer_kernel.specs.View.{FitsLayout, TablesAre, TablesBeside, view_of};
 ghost use Rattle.fault_core.specs.Reach.{ReachHalts};
 ghost use Rattle.fault_core.specs.Lack.{Sees};
 ghost use Rattle.fault_core.specs.NeverBlames.{NeverBlamesTables};
@@ -37,14 +37,14 @@ fn set_unit_in<D: Disk, A: Allocator>(
     space: u32,
     unit: u32,
 ) -> Result<(), SpaceError<Halt>>
-    requires size { (D.state filer.old.swapper.disk).sectors ≡ filer.old.swapper.layout.sectors }
+    requires size { FitsLayout (view_of filer.old) }
     requires some { 1 ≤ intervals }
     requires few { intervals ≤ 1023 }
     ensures answer { (ss : List Space) → RevealSpaces (TablesAre (view_of filer.old)) intervals ss → Answers (first_of (unit_row ss space unit)) (λ _. RevealSpaces (TablesAre (view_of filer.new)) intervals (change_space space (λ s. record s { unit = unit }) ss)) (RevealSpaces (TablesAre (view_of filer.new)) intervals ss) result }
     ensures malformed { (b : List ℕ) → TablesAre (view_of filer.old) b → IfErr result (IfMalformed (λ page. Breaks intervals b page)) }
-    ensures cause { IfErr result (IfMem (IsTableAccounted (D.state filer.old.swapper.disk) filer.old.swapper.pool filer.old.swapper.layout filer.old.runs (D.state filer.new.swapper.disk))) }
-    ensures kept { BesideTables (D.state filer.old.swapper.disk) filer.old.swapper.pool filer.old.swapper.layout filer.old.runs (D.state filer.new.swapper.disk) filer.new.swapper.pool filer.new.swapper.layout filer.new.runs }
-    ensures cost { (D.state filer.new.swapper.disk).transfers ≤ (D.state filer.old.swapper.disk).transfers + 57344 }
+    ensures cause { IfErr result (IfMem (IsTableAccounted (view_of filer.old).disk (view_of filer.old).slots (view_of filer.old).layout (view_of filer.old).runs (view_of filer.new).disk)) }
+    ensures kept { TablesBeside (view_of filer.old) (view_of filer.new) }
+    ensures cost { (view_of filer.new).disk.transfers ≤ (view_of filer.old).disk.transfers + 57344 }
 {
     let mut tables = SpaceTables::<TableMemory<D, A>>::over(filer.table_memory(), intervals);
     tables.set_unit(space, unit)
@@ -56,7 +56,7 @@ pub fn set_unit<D: Disk, A: Allocator>(
     space: u32,
     unit: u32,
 ) -> Result<Result<(), Refusal>, Halt>
-    requires size { (D.state core.old.filer.swapper.disk).sectors ≡ core.old.filer.swapper.layout.sectors }
+    requires size { FitsLayout (state core.old) }
     ensures answer { (m : List Sector) (named : Triples) (ss : List Space) → Knows core.old m named ss
         → IfOk result (Changes (first_of (unit_row ss space unit)) (λ _. RevealSpaces (TablesAre (state core.new)) core.new.intervals (change_space space (λ s. record s { unit = unit }) ss)) (RevealSpaces (TablesAre (state core.new)) core.new.intervals ss)) }
     ensures cause { IfErr result (ReachHalts (TablesBreak (state core.old) (λ b page. Breaks core.old.intervals b page)) (state core.old) (state core.new)) }
@@ -66,7 +66,7 @@ pub fn set_unit<D: Disk, A: Allocator>(
     ensures sound { (m : List Sector) (named : Triples) (ss : List Space) → Knows core.old m named ss → IfErr result (λ e. e ≡ halt.Disk) }
     ensures retabled { Retabled core.old core.new }
     ensures intervals { core.new.intervals ≡ core.old.intervals }
-    ensures cost { (D.state core.new.filer.swapper.disk).transfers ≤ (D.state core.old.filer.swapper.disk).transfers + 57344 }
+    ensures cost { (state core.new).disk.transfers ≤ (state core.old).disk.transfers + 57344 }
 {
     let intervals = opened(core);
     refused_or_halted(set_unit_in(&mut core.filer, intervals, space, unit))
@@ -79,15 +79,15 @@ fn set_window_in<D: Disk, A: Allocator>(
     space: u32,
     shown: Option<Shown>,
 ) -> Result<(), SpaceError<Halt>>
-    requires size { (D.state filer.old.swapper.disk).sectors ≡ filer.old.swapper.layout.sectors }
+    requires size { FitsLayout (view_of filer.old) }
     requires some { 1 ≤ intervals }
     requires few { intervals ≤ 1023 }
     ensures done { (ss : List Space) (x : Space) → RevealSpaces (TablesAre (view_of filer.old)) intervals ss → MayHaveWindow ss x → x.handle ≡ space → IfSome shown (λ w. WindowFits x.pages (window_of w))
         → MatchResult result (λ _. RevealSpaces (TablesAre (view_of filer.new)) intervals (set_window space (option_map window_of shown) ss)) FromMemory }
     ensures malformed { (b : List ℕ) → TablesAre (view_of filer.old) b → IfErr result (IfMalformed (Breaks intervals b)) }
-    ensures cause { IfErr result (IfMem (IsTableAccounted (D.state filer.old.swapper.disk) filer.old.swapper.pool filer.old.swapper.layout filer.old.runs (D.state filer.new.swapper.disk))) }
-    ensures kept { BesideTables (D.state filer.old.swapper.disk) filer.old.swapper.pool filer.old.swapper.layout filer.old.runs (D.state filer.new.swapper.disk) filer.new.swapper.pool filer.new.swapper.layout filer.new.runs }
-    ensures cost { (D.state filer.new.swapper.disk).transfers ≤ (D.state filer.old.swapper.disk).transfers + 57344 }
+    ensures cause { IfErr result (IfMem (IsTableAccounted (view_of filer.old).disk (view_of filer.old).slots (view_of filer.old).layout (view_of filer.old).runs (view_of filer.new).disk)) }
+    ensures kept { TablesBeside (view_of filer.old) (view_of filer.new) }
+    ensures cost { (view_of filer.new).disk.transfers ≤ (view_of filer.old).disk.transfers + 57344 }
 {
     let mut tables = SpaceTables::<TableMemory<D, A>>::over(filer.table_memory(), intervals);
     tables.set_window(space, shown)
@@ -100,7 +100,7 @@ pub fn set_window<D: Disk, A: Allocator>(
     space: u32,
     shown: Option<Shown>,
 ) -> Result<Result<(), Refusal>, Halt>
-    requires size { (D.state core.old.filer.swapper.disk).sectors ≡ core.old.filer.swapper.layout.sectors }
+    requires size { FitsLayout (state core.old) }
     ensures done { (m : List Sector) (named : Triples) (ss : List Space) (x : Space) → Knows core.old m named ss → MayHaveWindow ss x → x.handle ≡ space → IfSome shown (λ w. WindowFits x.pages (window_of w))
         → IfOk result (IsDone (RevealSpaces (TablesAre (state core.new)) core.new.intervals (set_window space (option_map window_of shown) ss))) }
     ensures sound { (m : List Sector) (named : Triples) (ss : List Space) (x : Space) → Knows core.old m named ss → MayHaveWindow ss x → x.handle ≡ space → IfSome shown (λ w. WindowFits x.pages (window_of w))
@@ -111,7 +111,7 @@ pub fn set_window<D: Disk, A: Allocator>(
     ensures right { (ss : List Space) → Sees (state core.old) (kept core.old) core.old.intervals ss → IfErr result NeverBlamesTables }
     ensures retabled { Retabled core.old core.new }
     ensures intervals { core.new.intervals ≡ core.old.intervals }
-    ensures cost { (D.state core.new.filer.swapper.disk).transfers ≤ (D.state core.old.filer.swapper.disk).transfers + 57344 }
+    ensures cost { (state core.new).disk.transfers ≤ (state core.old).disk.transfers + 57344 }
 {
     let intervals = opened(core);
     refused_or_halted(set_window_in(&mut core.filer, intervals, space, shown))

@@ -12,7 +12,7 @@ ghost use Rattle.space_tables.specs.Shows.{window_of, shows, IsFirstWith, IsShow
 ghost use Rattle.space_tables.specs.Answer.{FromMemory, NotRefused, IfMem, IfMalformed, Replies};
 ghost use Rattle.space_tables.specs.Stored.{RevealSpaces};
 ghost use Rattle.filer_kernel.specs.Tables.{BesideTables, IsTableAccounted};
-ghost use Rattle.fault_core.specs.View.{view_of, TablesAre};
+ghost use Rattle.filer_kernel.specs.View.{FitsLayout, TablesAre, TablesBeside, view_of};
 ghost use Rattle.fault_core.specs.Reach.{ReachHalts};
 ghost use Rattle.fault_core.specs.Lack.{Sees};
 ghost use Rattle.fault_core.specs.NeverBlames.{NeverBlamesTables};
@@ -33,17 +33,17 @@ fn ask_shown<D: Disk, A: Allocator>(
     intervals: u32,
     space: u32,
 ) -> Result<Shown, SpaceError<Halt>>
-    requires size { (D.state filer.old.swapper.disk).sectors ≡ filer.old.swapper.layout.sectors }
+    requires size { FitsLayout (view_of filer.old) }
     requires some { 1 ≤ intervals }
     requires few { intervals ≤ 1023 }
     ensures answer { (ss : List Space) → RevealSpaces (TablesAre (view_of filer.old)) intervals ss → Replies (first_of (window_row ss space)) (λ x. (s : Space) × (space_at ss space ≡ Some s) × (s.window ≡ Some (window_of x))) result }
     ensures form { IfOk result (λ x. 16 ≤ x.id) }
     ensures read { (b : List ℕ) → TablesAre (view_of filer.old) b → IfOk result (IsShownAt b space) }
     ensures malformed { (b : List ℕ) → TablesAre (view_of filer.old) b → IfErr result (IfMalformed (λ page. BreaksSlot b page space)) }
-    ensures cause { IfErr result (IfMem (IsTableAccounted (D.state filer.old.swapper.disk) filer.old.swapper.pool filer.old.swapper.layout filer.old.runs (D.state filer.new.swapper.disk))) }
+    ensures cause { IfErr result (IfMem (IsTableAccounted (view_of filer.old).disk (view_of filer.old).slots (view_of filer.old).layout (view_of filer.old).runs (view_of filer.new).disk)) }
     ensures same { (b : List ℕ) → TablesAre (view_of filer.old) b → TablesAre (view_of filer.new) b }
-    ensures kept { BesideTables (D.state filer.old.swapper.disk) filer.old.swapper.pool filer.old.swapper.layout filer.old.runs (D.state filer.new.swapper.disk) filer.new.swapper.pool filer.new.swapper.layout filer.new.runs }
-    ensures cost { (D.state filer.new.swapper.disk).transfers ≤ (D.state filer.old.swapper.disk).transfers + 28 }
+    ensures kept { TablesBeside (view_of filer.old) (view_of filer.new) }
+    ensures cost { (view_of filer.new).disk.transfers ≤ (view_of filer.old).disk.transfers + 28 }
 {
     let mut tables = SpaceTables::<TableMemory<D, A>>::over(filer.table_memory(), intervals);
     tables.shown(space)
@@ -54,7 +54,7 @@ pub fn shown<D: Disk, A: Allocator>(
     core: &mut Core<D, A>,
     space: u32,
 ) -> Result<Result<Shown, Refusal>, Halt>
-    requires size { (D.state core.old.filer.swapper.disk).sectors ≡ core.old.filer.swapper.layout.sectors }
+    requires size { FitsLayout (state core.old) }
     ensures answer { (m : List Sector) (named : Triples) (ss : List Space) → Knows core.old m named ss → IfOk result (Reveals (first_of (window_row ss space)) (λ x. (s : Space) × (space_at ss space ≡ Some s) × (s.window ≡ Some (window_of x)))) }
     ensures form { IfOk result (IfGiven (λ x. 16 ≤ x.id)) }
     ensures read { IfOk result (IfGiven (TablesSay (state core.old) (λ b. IsShownAt b space))) }
@@ -64,7 +64,7 @@ pub fn shown<D: Disk, A: Allocator>(
     ensures right { (ss : List Space) → Sees (state core.old) (kept core.old) core.old.intervals ss → IfErr result NeverBlamesTables }
     ensures sound { (m : List Sector) (named : Triples) (ss : List Space) → Knows core.old m named ss → IfErr result (λ e. e ≡ halt.Disk) }
     ensures asked { Asked core.old core.new }
-    ensures cost { (D.state core.new.filer.swapper.disk).transfers ≤ (D.state core.old.filer.swapper.disk).transfers + 28 }
+    ensures cost { (state core.new).disk.transfers ≤ (state core.old).disk.transfers + 28 }
 {
     let intervals = core.interval_count();
     refused_or_halted(ask_shown(&mut core.filer, intervals, space))
@@ -77,7 +77,7 @@ fn ask_shows_file<D: Disk, A: Allocator>(
     id: FileId,
     writable_only: bool,
 ) -> Result<Option<(u32, Shown)>, SpaceError<Halt>>
-    requires size { (D.state filer.old.swapper.disk).sectors ≡ filer.old.swapper.layout.sectors }
+    requires size { FitsLayout (view_of filer.old) }
     requires some { 1 ≤ intervals }
     requires few { intervals ≤ 1023 }
     ensures answer { (ss : List Space) → RevealSpaces (TablesAre (view_of filer.old)) intervals ss → IfOk result (IsFirstWith (shows id writable_only) ss) }
@@ -85,10 +85,10 @@ fn ask_shows_file<D: Disk, A: Allocator>(
     ensures form { IfOk result (λ o. IfSome o (λ at. (16 ≤ at.1.id) × (at.1.id ≡ id) × (writable_only ≡ true → at.1.writable ≡ true))) }
     ensures malformed { (b : List ℕ) → TablesAre (view_of filer.old) b → IfErr result (IfMalformed (BreaksHierarchy b)) }
     ensures refused { IfErr result NotRefused }
-    ensures cause { IfErr result (IfMem (IsTableAccounted (D.state filer.old.swapper.disk) filer.old.swapper.pool filer.old.swapper.layout filer.old.runs (D.state filer.new.swapper.disk))) }
+    ensures cause { IfErr result (IfMem (IsTableAccounted (view_of filer.old).disk (view_of filer.old).slots (view_of filer.old).layout (view_of filer.old).runs (view_of filer.new).disk)) }
     ensures same { (b : List ℕ) → TablesAre (view_of filer.old) b → TablesAre (view_of filer.new) b }
-    ensures kept { BesideTables (D.state filer.old.swapper.disk) filer.old.swapper.pool filer.old.swapper.layout filer.old.runs (D.state filer.new.swapper.disk) filer.new.swapper.pool filer.new.swapper.layout filer.new.runs }
-    ensures cost { (D.state filer.new.swapper.disk).transfers ≤ (D.state filer.old.swapper.disk).transfers + 14336 }
+    ensures kept { TablesBeside (view_of filer.old) (view_of filer.new) }
+    ensures cost { (view_of filer.new).disk.transfers ≤ (view_of filer.old).disk.transfers + 14336 }
 {
     let mut tables = SpaceTables::<TableMemory<D, A>>::over(filer.table_memory(), intervals);
     tables.shows_file(id, writable_only)
@@ -100,7 +100,7 @@ pub fn shows_file<D: Disk, A: Allocator>(
     id: FileId,
     writable_only: bool,
 ) -> Result<Option<(u32, Shown)>, Halt>
-    requires size { (D.state core.old.filer.swapper.disk).sectors ≡ core.old.filer.swapper.layout.sectors }
+    requires size { FitsLayout (state core.old) }
     ensures answer { (m : List Sector) (named : Triples) (ss : List Space) → Knows core.old m named ss → IfOk result (IsFirstWith (shows id writable_only) ss) }
     ensures form { IfOk result (λ o. IfSome o (λ at. (16 ≤ at.1.id) × (at.1.id ≡ id) × (writable_only ≡ true → at.1.writable ≡ true))) }
     ensures cause { IfErr result (ReachHalts (TablesBreak (state core.old) BreaksHierarchy) (state core.old) (state core.new)) }
@@ -109,7 +109,7 @@ pub fn shows_file<D: Disk, A: Allocator>(
     ensures right { (ss : List Space) → Sees (state core.old) (kept core.old) core.old.intervals ss → IfErr result NeverBlamesTables }
     ensures sound { (m : List Sector) (named : Triples) (ss : List Space) → Knows core.old m named ss → IfErr result (λ e. e ≡ halt.Disk) }
     ensures asked { Asked core.old core.new }
-    ensures cost { (D.state core.new.filer.swapper.disk).transfers ≤ (D.state core.old.filer.swapper.disk).transfers + 14336 }
+    ensures cost { (state core.new).disk.transfers ≤ (state core.old).disk.transfers + 14336 }
 {
     let intervals = core.interval_count();
     match refused_or_halted(ask_shows_file(&mut core.filer, intervals, id, writable_only)) {

@@ -2,7 +2,7 @@ use Rattle.std.proofs.Common.{subst, refl, inr}
 use Rattle.space_tables.specs.Answer.{IfMem, IfMalformed, FromMemory}
 use Rattle.space_tables.specs.Form.{BreaksLookUp}
 use Rattle.filer_kernel.specs.Tables.{IsTableAccounted}
-use Rattle.fault_core.specs.View.{view_of, TablesAre}
+use Rattle.filer_kernel.specs.View.{view_of, TablesAre}
 use Rattle.fault_core.proofs.ReachLemmas.{tables_of}
 use Rattle.fault_core.proofs.RoomLemmas.{room_itself, steps_room}
 use Rattle.fault_core.proofs.RevealedLemmas.{spaces_in}
@@ -14,7 +14,7 @@ pub returns-in-Ok-clause-reaches : goal.returns-in-Ok-clause-reaches
 returns-in-Ok-clause-reaches g c = reaches_tables (view_of c.args.filer.now) (view_of c.ask.new.filer) c.ask.ensures.kept c.ask.ensures.same
 
 pub returns-in-Ok-clause-came : goal.returns-in-Ok-clause-came
-returns-in-Ok-clause-came g c = own_tables (view_of c.args.filer.now) c.ask.new.filer.swapper.pool c.ask.ensures.kept.brings
+returns-in-Ok-clause-came g c = own_tables (view_of c.args.filer.now) (view_of c.ask.new.filer).slots c.ask.ensures.kept.brings
 
 pub returns-in-Ok-clause-interval : goal.returns-in-Ok-clause-interval
 returns-in-Ok-clause-interval g c = λ b ss revealed t. c.in-Ok.ensures.interval ss (spaces_in (TablesAre (view_of c.args.filer.now)) c.args.intervals ss b revealed t)
@@ -37,30 +37,30 @@ pub returns-in-Err-Malformed-clause-reaches : goal.returns-in-Err-Malformed-clau
 returns-in-Err-Malformed-clause-reaches g c = reaches_tables (view_of c.args.filer.now) (view_of c.ask.new.filer) c.ask.ensures.kept c.ask.ensures.same
 
 pub returns-in-Err-Malformed-clause-came : goal.returns-in-Err-Malformed-clause-came
-returns-in-Err-Malformed-clause-came g c = own_tables (view_of c.args.filer.now) c.ask.new.filer.swapper.pool c.ask.ensures.kept.brings
+returns-in-Err-Malformed-clause-came g c = own_tables (view_of c.args.filer.now) (view_of c.ask.new.filer).slots c.ask.ensures.kept.brings
 
 pub returns-in-Err-Mem-clause-cause : goal.returns-in-Err-Mem-clause-cause
 returns-in-Err-Mem-clause-cause g c =
     let filer = c.args.filer.now in
-    let fault = subst (IfMem (IsTableAccounted (g.D.Disk.state filer.swapper.disk) filer.swapper.pool filer.swapper.layout filer.runs (g.D.Disk.state c.ask.new.filer.swapper.disk))) c.in-Err-Mem.field-0-is c.in-Err-Mem.ensures.cause in
+    let fault = subst (IfMem (IsTableAccounted (view_of filer).disk (view_of filer).slots (view_of filer).layout filer.runs (view_of c.ask.new.filer).disk)) c.in-Err-Mem.field-0-is c.in-Err-Mem.ensures.cause in
     tables_halt (view_of filer) (view_of c.ask.new.filer) _ c.in-Err-Mem.halt fault
 
 pub returns-in-Err-Mem-clause-sound : goal.returns-in-Err-Mem-clause-sound
 returns-in-Err-Mem-clause-sound g c = λ m named b ss known t.
     let filer = c.args.filer.now in
-    let fault = subst (IfMem (IsTableAccounted (g.D.Disk.state filer.swapper.disk) filer.swapper.pool filer.swapper.layout filer.runs (g.D.Disk.state c.ask.new.filer.swapper.disk))) c.in-Err-Mem.field-0-is c.in-Err-Mem.ensures.cause in
+    let fault = subst (IfMem (IsTableAccounted (view_of filer).disk (view_of filer).slots (view_of filer).layout filer.runs (view_of c.ask.new.filer).disk)) c.in-Err-Mem.field-0-is c.in-Err-Mem.ensures.cause in
     fault.sound m b known.stands known.map_labels (tables_of (view_of filer) m named b known)
 
 pub returns-in-Err-Mem-clause-reaches : goal.returns-in-Err-Mem-clause-reaches
 returns-in-Err-Mem-clause-reaches g c = reaches_tables (view_of c.args.filer.now) (view_of c.ask.new.filer) c.ask.ensures.kept c.ask.ensures.same
 
 pub returns-in-Err-Mem-clause-came : goal.returns-in-Err-Mem-clause-came
-returns-in-Err-Mem-clause-came g c = own_tables (view_of c.args.filer.now) c.ask.new.filer.swapper.pool c.ask.ensures.kept.brings
+returns-in-Err-Mem-clause-came g c = own_tables (view_of c.args.filer.now) (view_of c.ask.new.filer).slots c.ask.ensures.kept.brings
 
 -- ---- Frames stay, or give way.
 
 pub returns-then-page-ge-ROOT_PAGES-clause-stay : goal.returns-then-page-ge-ROOT_PAGES-clause-stay
-returns-then-page-ge-ROOT_PAGES-clause-stay g c = yield_itself c.args.filer.now.swapper.pool
+returns-then-page-ge-ROOT_PAGES-clause-stay g c = yield_itself (view_of c.args.filer.now).slots
 
 pub returns-in-Ok-clause-stay : goal.returns-in-Ok-clause-stay
 returns-in-Ok-clause-stay g c = tables_yield (view_of c.args.filer.now) (view_of c.ask.new.filer) c.ask.ensures.kept
@@ -74,7 +74,7 @@ returns-in-Err-Mem-clause-stay g c = tables_yield (view_of c.args.filer.now) (vi
 -- ---- While a slot is empty no page leaves.
 
 pub returns-then-page-ge-ROOT_PAGES-clause-room : goal.returns-then-page-ge-ROOT_PAGES-clause-room
-returns-then-page-ge-ROOT_PAGES-clause-room g c = room_itself c.args.filer.now.swapper.pool
+returns-then-page-ge-ROOT_PAGES-clause-room g c = room_itself (view_of c.args.filer.now).slots
 
 pub returns-in-Ok-clause-room : goal.returns-in-Ok-clause-room
 returns-in-Ok-clause-room g c = steps_room c.ask.ensures.kept.steps

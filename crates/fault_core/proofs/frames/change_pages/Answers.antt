@@ -5,7 +5,7 @@ use Rattle.session_words.specs.CellLaws.{StoresAt}
 use Rattle.fault_core.specs.Moves.{Leaves}
 use Rattle.fault_core.specs.Attempt.{either}
 use Rattle.fault_core.specs.Unit.{IsSlotOf}
-use Rattle.fault_core.specs.View.{view_of}
+use Rattle.filer_kernel.specs.View.{accepted, view_of}
 use Rattle.fault_core.proofs.BeforeLemmas.{touches_then, touches_wider}
 use Rattle.fault_core.proofs.MovedLemmas.{client_stays, of_a_file, written_both, written_one}
 use Rattle.fault_core.proofs.PieceLemmas.{last_is_next, one_page}
@@ -37,7 +37,7 @@ pub returns-clause-stored : goal.returns-clause-stored
 returns-clause-stored g c = λ m named b ss known stored first last.
     let past = c.if-bytes-room.false in
     let page = last_is_next c.args.address (length c.args.bytes.now) c.requires.few (omega (arith, past)) in
-    let next : IsSlotOf ss c.args.filer.now.swapper.pool (c.args.address / 512 + 1) c.args.last = rw page last in
+    let next : IsSlotOf ss (view_of c.args.filer.now).slots (c.args.address / 512 + 1) c.args.last = rw page last in
     let low = c.change_in-2.ensures.stored m named b first.shown.file first.shown.page known first.has (of_a_file stored first) in
     let l : Leaves (StoresAt first.shown.file first.shown.page (c.args.address % 512) (take (512 - c.args.address % 512) c.args.bytes.now)) m named b (view_of c.change_in-2.new.filer) =
     subst (λ (bs : List ℕ). Leaves (StoresAt first.shown.file first.shown.page (c.args.address % 512) bs) m named b (view_of c.change_in-2.new.filer)) c.split_at.ensures.front low in
@@ -54,7 +54,7 @@ returns-clause-dirty g c = λ ss first last. record {
 
 pub returns-clause-touches : goal.returns-clause-touches
 returns-clause-touches g c = λ i p j q first last high also.
-    touches_then (view_of c.args.filer.now) (view_of c.change_in-2.new.filer) c.args.filer.now.swapper.accepted (touches_wider (this_page i p) (either i p j q) (λ id page own. inl own) (c.change_in-2.ensures.touches i p first high))
+    touches_then (view_of c.args.filer.now) (view_of c.change_in-2.new.filer) (accepted c.args.filer.now) (touches_wider (this_page i p) (either i p j q) (λ id page own. inl own) (c.change_in-2.ensures.touches i p first high))
     (view_of c.change_in-3.new.filer) (touches_wider (this_page j q) (either i p j q) (λ id page own. inr own) (c.change_in-3.ensures.touches j q (c.change_in-2.ensures.slots c.args.last j q last) also))
 
 pub returns-clause-came : goal.returns-clause-came

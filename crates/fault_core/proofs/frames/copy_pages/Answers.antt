@@ -4,6 +4,7 @@ use Rattle.fault_core.specs.Unit.{IsSlotOf}
 use Rattle.fault_core.proofs.MovedLemmas.{read_first, read_next}
 use Rattle.fault_core.proofs.PieceLemmas.{last_is_next, one_loaded, two_loaded}
 use Rattle.fault_core.proofs.frames.copy_pages.Goals as goal
+use Rattle.filer_kernel.specs.View.{accepted, placed, view_of}
 
 -- ---- On one page.
 
@@ -15,7 +16,7 @@ returns-then-into-room-clause-bytes g c = λ m named b ss known stored first las
     let fits = c.if-into-room.true in
     let inside : c.args.address % 512 + length into ≤ 512 = omega (arith, fits, width) in
     one_loaded ss named m c.args.address into inside
-    (read_first filer.swapper.accepted filer.swapper.placed known stored c.args.address first into inside (λ f has. c.copy_out.ensures.bytes f has ∙ ap (part f.bytes (c.args.address % 512)) (sym width)))
+    (read_first (accepted filer) (placed filer) known stored c.args.address first into inside (λ f has. c.copy_out.ensures.bytes f has ∙ ap (part f.bytes (c.args.address % 512)) (sym width)))
 
 -- ---- On two pages.
 
@@ -26,12 +27,12 @@ returns-clause-bytes g c = λ m named b ss known stored first last.
     let high = c.copy_out-3.new.into in
     let past = c.if-into-room.false in
     let page = last_is_next c.args.address (length c.args.into.now) c.requires.few (omega (arith, past)) in
-    let next : IsSlotOf ss filer.swapper.pool (c.args.address / 512 + 1) c.args.last = rw page last in
+    let next : IsSlotOf ss (view_of filer).slots (c.args.address / 512 + 1) c.args.last = rw page last in
     let prefix : length low ≡ 512 - c.args.address % 512 = search rules in
     let back : 1 ≤ length high = search rules in
     let inside : length high ≤ 512 = search rules in
     let bytes_low = c.copy_out-2.ensures.bytes in
     let bytes_high = rw c.copy_out-2.ensures.same at c.copy_out-3.ensures.bytes in
     two_loaded ss named m c.args.address low high prefix back
-    (read_first filer.swapper.accepted filer.swapper.placed known stored c.args.address first low (omega (arith, prefix)) (λ f has. bytes_low f has ∙ ap (part f.bytes (c.args.address % 512)) (sym c.copy_out-2.ensures.width)))
-    (read_next filer.swapper.accepted filer.swapper.placed known stored c.args.address next high inside (λ f has. bytes_high f has ∙ ap (part f.bytes 0) (sym c.copy_out-3.ensures.width)))
+    (read_first (accepted filer) (placed filer) known stored c.args.address first low (omega (arith, prefix)) (λ f has. bytes_low f has ∙ ap (part f.bytes (c.args.address % 512)) (sym c.copy_out-2.ensures.width)))
+    (read_next (accepted filer) (placed filer) known stored c.args.address next high inside (λ f has. bytes_high f has ∙ ap (part f.bytes 0) (sym c.copy_out-3.ensures.width)))

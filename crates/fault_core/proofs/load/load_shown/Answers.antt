@@ -6,7 +6,7 @@ use Rattle.filer_kernel.proofs.Outcomes.{err_wider, on_ok_wider}
 use Rattle.filer_kernel.specs.Evidence.{MayBeMissing}
 use Rattle.fault_core.specs.Reach.{TouchHalts, no_break}
 use Rattle.fault_core.specs.Unit.{IsWhole}
-use Rattle.fault_core.specs.View.{view_of}
+use Rattle.filer_kernel.specs.View.{accepted, view_of}
 use Rattle.fault_core.proofs.PieceLemmas.{one_page, last_is_next, loads_first, loads_next, one_loaded, two_loaded}
 use Rattle.fault_core.proofs.ReachLemmas.{known_after, finds_before, reaches_then}
 use Rattle.fault_core.proofs.ShowLemmas.{came_first, came_last}
@@ -25,7 +25,7 @@ returns-then-into-room-clause-bytes g c = λ m named b ss known seen also.
 pub returns-then-into-room-clause-whole : goal.returns-then-into-room-clause-whole
 returns-then-into-room-clause-whole g c =
     let fits = c.if-into-room.true in
-    let pool = c.load_in.new.filer.swapper.pool in
+    let pool = (view_of c.load_in.new.filer).slots in
     let page = one_page c.args.address (length c.args.into.now) c.requires.some (omega (arith, fits)) in
     on_ok_wider c.load_in.result _ _ (λ whole. subst (IsWhole pool c.args.last.now) page (subst (λ (x : Interval). IsWhole pool x (c.args.address / 512)) (sym (c.requires.one page)) whole)) c.load_in.ensures.whole
 
@@ -48,7 +48,7 @@ returns-in-Err-clause-came g c = came_first c.args.first.now c.args.last.now _ _
 pub returns-clause-bytes : goal.returns-clause-bytes
 returns-clause-bytes g c = λ m named b ss known seen also.
     let v = view_of c.args.filer.now in
-    let after = known_after v (view_of c.load_in-2.new.filer) m named b c.args.filer.now.swapper.accepted c.load_in-2.ensures.reaches known in
+    let after = known_after v (view_of c.load_in-2.new.filer) m named b (accepted c.args.filer.now) c.load_in-2.ensures.reaches known in
     let low = c.load_in-2.new.into in
     let high = c.load_in-3.new.into in
     let past = c.if-into-room.false in
@@ -63,7 +63,7 @@ pub returns-clause-whole : goal.returns-clause-whole
 returns-clause-whole g c =
     let past = c.if-into-room.false in
     let page = last_is_next c.args.address (length c.args.into.now) c.requires.few (omega (arith, past)) in
-    on_ok_wider c.load_in-3.result _ _ (λ whole. subst (IsWhole c.load_in-3.new.filer.swapper.pool c.args.last.now) page whole) c.load_in-3.ensures.whole
+    on_ok_wider c.load_in-3.result _ _ (λ whole. subst (IsWhole (view_of c.load_in-3.new.filer).slots c.args.last.now) page whole) c.load_in-3.ensures.whole
 
 pub returns-clause-cause : goal.returns-clause-cause
 returns-clause-cause g c =
@@ -71,15 +71,15 @@ returns-clause-cause g c =
     let w = view_of c.load_in-2.new.filer in
     let x = view_of c.load_in-3.new.filer in
     err_wider c.load_in-3.result (TouchHalts no_break w x) (TouchHalts no_break v x)
-    (finds_before v w c.args.filer.now.swapper.accepted c.load_in-2.ensures.reaches MayBeMissing no_break no_break (λ page none. none) x x (omega arith)) c.load_in-3.ensures.cause
+    (finds_before v w (accepted c.args.filer.now) c.load_in-2.ensures.reaches MayBeMissing no_break no_break (λ page none. none) x x (omega arith)) c.load_in-3.ensures.cause
 
 pub returns-clause-sound : goal.returns-clause-sound
 returns-clause-sound g c = λ m named b known first last.
-    c.load_in-3.ensures.sound m named b (known_after (view_of c.args.filer.now) (view_of c.load_in-2.new.filer) m named b c.args.filer.now.swapper.accepted c.load_in-2.ensures.reaches known) last
+    c.load_in-3.ensures.sound m named b (known_after (view_of c.args.filer.now) (view_of c.load_in-2.new.filer) m named b (accepted c.args.filer.now) c.load_in-2.ensures.reaches known) last
 
 pub returns-clause-reaches : goal.returns-clause-reaches
 returns-clause-reaches g c =
-    reaches_then (view_of c.args.filer.now) (view_of c.load_in-2.new.filer) c.args.filer.now.swapper.accepted c.load_in-2.ensures.reaches (view_of c.load_in-3.new.filer) c.load_in-3.ensures.reaches
+    reaches_then (view_of c.args.filer.now) (view_of c.load_in-2.new.filer) (accepted c.args.filer.now) c.load_in-2.ensures.reaches (view_of c.load_in-3.new.filer) c.load_in-3.ensures.reaches
 
 pub returns-clause-came : goal.returns-clause-came
 returns-clause-came g c =
@@ -90,7 +90,7 @@ returns-clause-idle g c = λ first last.
     let past = c.if-into-room.false in
     let one = c.in-Ok.ensures.idle first in
     let page = last_is_next c.args.address (length c.args.into.now) c.requires.few (omega (arith, past)) in
-    let whole : IsWhole c.load_in-2.new.filer.swapper.pool c.args.last.now (c.args.address / 512 + 1) = rw (one.1, page) last in
+    let whole : IsWhole (view_of c.load_in-2.new.filer).slots c.args.last.now (c.args.address / 512 + 1) = rw (one.1, page) last in
     let two = c.load_in-3.ensures.idle whole in
     (two.0, two.1 ∙ one.1)
 

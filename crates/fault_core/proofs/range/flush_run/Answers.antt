@@ -1,6 +1,6 @@
 use Rattle.std.proofs.Common.{refl, arith}
 use Rattle.swapper_kernel.specs.HaltLaws.{brings_same}
-use Rattle.fault_core.specs.View.{View, view_of}
+use Rattle.filer_kernel.specs.View.{accepted, View, view_of}
 use Rattle.fault_core.proofs.RestLemmas.{few_dirty, write_back_reaches}
 use Rattle.fault_core.proofs.range.flush_run.Goals as goal
 
@@ -11,7 +11,7 @@ pub returns-clause-reaches : goal.returns-clause-reaches
 returns-clause-reaches g c =
     let now = c.flush.new.swapper in
     let x : View = record { disk = g.D.Disk.state now.disk; slots = now.pool; layout = now.layout; runs = c.args.filer.now.runs } in
-    write_back_reaches (view_of c.args.filer.now) x c.args.filer.now.swapper.accepted (rw c.swapper_over.ensures.value at c.flush.ensures.swaps) (rw c.swapper_over.ensures.value at c.flush.ensures.run).frames (rw c.swapper_over.ensures.value at c.flush.ensures.layout) refl
+    write_back_reaches (view_of c.args.filer.now) x (accepted c.args.filer.now) (rw c.swapper_over.ensures.value at c.flush.ensures.swaps) (rw c.swapper_over.ensures.value at c.flush.ensures.run).frames (rw c.swapper_over.ensures.value at c.flush.ensures.layout) refl
 
 pub returns-clause-came : goal.returns-clause-came
 returns-clause-came g c = brings_same _ (rw c.swapper_over.ensures.value at c.flush.ensures.run).frames
@@ -19,7 +19,7 @@ returns-clause-came g c = brings_same _ (rw c.swapper_over.ensures.value at c.fl
 pub returns-clause-cost : goal.returns-clause-cost
 returns-clause-cost g c =
     let cost = (rw c.swapper_over.ensures.value at c.flush.ensures.cost) in
-    let few = few_dirty c.args.id c.args.first c.args.pages c.args.filer.now.swapper.pool in
+    let few = few_dirty c.args.id c.args.first c.args.pages (view_of c.args.filer.now).slots in
     omega (arith, cost, few)
 
 pub returns-clause-frames : goal.returns-clause-frames

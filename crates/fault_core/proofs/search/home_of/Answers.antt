@@ -7,7 +7,7 @@ use Rattle.file_map.specs.FileMap.{IsFound}
 use Rattle.filer_kernel.specs.Causes.{IsGiven}
 use Rattle.fault_core.specs.Reach.{no_break}
 use Rattle.fault_core.specs.ReachLaws.{reach_misses, touch_of_reach}
-use Rattle.fault_core.specs.View.{view_of, kept_by}
+use Rattle.filer_kernel.specs.View.{accepted, kept_by, view_of}
 use Rattle.fault_core.proofs.FindLemmas.{home_found}
 use Rattle.swapper_kernel.specs.Goes.{this_page}
 use Rattle.fault_core.proofs.search.home_of.Goals as goal
@@ -18,7 +18,7 @@ returns-in-Ok-Some-clause-found g c =
     let form = subst (λ (o : Option Run). IfSome o (IsRun v.layout.sectors)) c.in-Ok-Some.field-0-is c.in-Ok-Some.ensures.form in
     let held = subst (λ (o : Option Run). IfSome o (λ run. holds run c.args.id c.args.page ≡ true)) c.in-Ok-Some.field-0-is c.in-Ok-Some.ensures.holds in
     let given = subst (λ (o : Option Run). IfSome o (IsGiven v.layout v.disk v.slots (kept_by v))) c.in-Ok-Some.field-0-is c.in-Ok-Some.ensures.given in
-    home_found v c.in-Ok-Some.run' c.args.id c.args.page c.args.filer.now.swapper.accepted c.requires.client given form held
+    home_found v c.in-Ok-Some.run' c.args.id c.args.page (accepted c.args.filer.now) c.requires.client given form held
 
 pub returns-in-Ok-Some-clause-named : goal.returns-in-Ok-Some-clause-named
 returns-in-Ok-Some-clause-named g c = λ m named b known.

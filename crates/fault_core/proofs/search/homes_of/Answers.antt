@@ -1,6 +1,6 @@
 use Rattle.std.proofs.Common.{◌≡◌, subst, arith, ◌+◌}
 use Rattle.std.proofs.lemmas.List.{length-replicate}
-use Rattle.fault_core.specs.View.{view_of}
+use Rattle.filer_kernel.specs.View.{accepted, view_of}
 use Rattle.fault_core.proofs.FindLemmas.{IsFinding, finding_none, finding_more, finding_halt, finding_sound, finding_came, finding_room, finding_stopped, finding_cost, found_are, found_each, found_named}
 use Rattle.fault_core.proofs.search.homes_of.Given as given
 use Rattle.fault_core.specs.Lack.{run_pages}
@@ -16,26 +16,26 @@ pub home_of-requires-clause-size : goal.home_of-requires-clause-size
 home_of-requires-clause-size g c = c.loop-k.invariant.size
 
 pub returns-in-Err-clause-cause : goal.returns-in-Err-clause-cause
-returns-in-Err-clause-cause g c = finding_halt c.args.filer.now.swapper.accepted c.loop-k.invariant (view_of c.home_of.new.filer) c.in-Err.halt c.in-Err.ensures.cause
+returns-in-Err-clause-cause g c = finding_halt (accepted c.args.filer.now) c.loop-k.invariant (view_of c.home_of.new.filer) c.in-Err.halt c.in-Err.ensures.cause
 
 pub returns-in-Err-clause-sound : goal.returns-in-Err-clause-sound
-returns-in-Err-clause-sound g c = finding_sound c.args.filer.now.swapper.accepted c.loop-k.invariant c.in-Err.halt c.loop-k-test.true c.in-Err.ensures.sound
+returns-in-Err-clause-sound g c = finding_sound (accepted c.args.filer.now) c.loop-k.invariant c.in-Err.halt c.loop-k-test.true c.in-Err.ensures.sound
 
 pub returns-in-Err-clause-reaches : goal.returns-in-Err-clause-reaches
-returns-in-Err-clause-reaches g c = finding_stopped c.args.filer.now.swapper.accepted c.loop-k.invariant (view_of c.home_of.new.filer) c.home_of.ensures.reaches
+returns-in-Err-clause-reaches g c = finding_stopped (accepted c.args.filer.now) c.loop-k.invariant (view_of c.home_of.new.filer) c.home_of.ensures.reaches
 
 pub returns-in-Err-clause-came : goal.returns-in-Err-clause-came
-returns-in-Err-clause-came g c = finding_came c.args.filer.now.swapper.accepted c.loop-k.invariant c.home_of.new.filer.swapper.pool c.home_of.ensures.came
+returns-in-Err-clause-came g c = finding_came (accepted c.args.filer.now) c.loop-k.invariant (view_of c.home_of.new.filer).slots c.home_of.ensures.came
 
 pub returns-in-Err-clause-room : goal.returns-in-Err-clause-room
-returns-in-Err-clause-room g c = finding_room c.args.filer.now.swapper.accepted c.loop-k.invariant c.home_of.new.filer.swapper.pool c.home_of.ensures.room
+returns-in-Err-clause-room g c = finding_room (accepted c.args.filer.now) c.loop-k.invariant (view_of c.home_of.new.filer).slots c.home_of.ensures.room
 
 pub returns-in-Err-clause-cost : goal.returns-in-Err-clause-cost
-returns-in-Err-clause-cost g c = finding_cost c.args.filer.now.swapper.accepted c.loop-k.invariant (view_of c.home_of.new.filer) c.loop-k-test.true c.home_of.ensures.cost
+returns-in-Err-clause-cost g c = finding_cost (accepted c.args.filer.now) c.loop-k.invariant (view_of c.home_of.new.filer) c.loop-k-test.true c.home_of.ensures.cost
 
 pub loop-k-preserved : goal.loop-k-preserved
 loop-k-preserved g c =
-    finding_more c.args.filer.now.swapper.accepted c.loop-k.invariant (view_of c.home_of.new.filer) c.in-Ok.home c.requires.few c.loop-k-test.true c.in-Ok.ensures.found c.in-Ok.ensures.is.0 c.in-Ok.ensures.is.1 c.in-Ok.ensures.named
+    finding_more (accepted c.args.filer.now) c.loop-k.invariant (view_of c.home_of.new.filer) c.in-Ok.home c.requires.few c.loop-k-test.true c.in-Ok.ensures.found c.in-Ok.ensures.is.0 c.in-Ok.ensures.is.1 c.in-Ok.ensures.named
     c.home_of.ensures.reaches c.home_of.ensures.came c.home_of.ensures.room c.home_of.ensures.cost
 
 -- ---- All were found.

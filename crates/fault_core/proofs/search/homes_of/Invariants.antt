@@ -1,4 +1,4 @@
-use Rattle.fault_core.specs.View.{view_of}
+use Rattle.filer_kernel.specs.View.{view_of}
 use Rattle.fault_core.proofs.FindLemmas.{IsFinding}
 use Rattle.fault_core.proofs.search.homes_of.Given as goal
 

@@ -1,6 +1,6 @@
 use Rattle.filer_kernel.specs.Causes.{MapHalts}
 use Rattle.filer_kernel.proofs.Outcomes.{err_wider}
-use Rattle.fault_core.specs.View.{view_of}
+use Rattle.filer_kernel.specs.View.{accepted, disk_of, view_of}
 use Rattle.fault_core.specs.Reach.{ReachHalts, no_break}
 use Rattle.fault_core.specs.Revealed.{Known}
 use Rattle.fault_core.proofs.RoomLemmas.{steps_room}
@@ -28,8 +28,8 @@ returns-clause-sound g c = λ m named b known.
 
 pub returns-clause-reaches : goal.returns-clause-reaches
 returns-clause-reaches g c =
-    rw (← c.count_frames.ensures.same) (reaches_map (view_of c.count_frames.new.filer) (view_of c.find.new.self) c.count_frames.new.filer.swapper.accepted (rw c.count_frames.ensures.same c.requires.size)
-    (g.met.D.Disk.whole c.count_frames.new.filer.swapper.disk) (g.met.D.Disk.in_form c.count_frames.new.filer.swapper.disk) (rw c.count_frames.ensures.same c.count_frames.ensures.pages)
+    rw (← c.count_frames.ensures.same) (reaches_map (view_of c.count_frames.new.filer) (view_of c.find.new.self) (accepted c.count_frames.new.filer) (rw c.count_frames.ensures.same c.requires.size)
+    (g.met.D.Disk.whole (disk_of c.count_frames.new.filer)) (g.met.D.Disk.in_form (disk_of c.count_frames.new.filer)) (rw c.count_frames.ensures.same c.count_frames.ensures.pages)
     c.find.ensures.beside c.find.ensures.same_bytes c.find.ensures.runs_given c.find.ensures.runs_are)
 
 pub returns-clause-came : goal.returns-clause-came

@@ -1,7 +1,7 @@
 use Rattle.std.proofs.Common.{◌≡◌, ◌⊎◌, ◌≤◌, inl, refl, ap}
 use Rattle.swapper_kernel.specs.HaltLaws.{brings_then, brings_wider}
 use Rattle.fault_core.specs.Unit.{IsOfInterval, KeepsResident, file_page}
-use Rattle.fault_core.specs.View.{view_of}
+use Rattle.filer_kernel.specs.View.{accepted, view_of}
 use Rattle.fault_core.proofs.AttemptLemmas.{client_slot}
 use Rattle.fault_core.proofs.BeforeLemmas.{touches_of, touches_then}
 use Rattle.fault_core.proofs.ReachLemmas.{known_after}
@@ -11,7 +11,7 @@ use Rattle.fault_core.proofs.store.store_in.Goals as goal
 
 pub returns-in-Err-clause-halted : goal.returns-in-Err-clause-halted
 returns-in-Err-clause-halted g c = λ m named b known.
-    record { memory = m; changed = refl; known = known_after (view_of c.args.filer.now) (view_of c.touch.new.filer) m named b c.args.filer.now.swapper.accepted c.touch.ensures.reaches known; labels = refl }
+    record { memory = m; changed = refl; known = known_after (view_of c.args.filer.now) (view_of c.touch.new.filer) m named b (accepted c.args.filer.now) c.touch.ensures.reaches known; labels = refl }
 
 pub returns-in-Err-clause-touches : goal.returns-in-Err-clause-touches
 returns-in-Err-clause-touches g c = touches_of _ c.touch.ensures.reaches
@@ -19,11 +19,11 @@ returns-in-Err-clause-touches g c = touches_of _ c.touch.ensures.reaches
 -- ---- Its frame changes.
 
 pub change_in-requires-clause-slot : goal.change_in-requires-clause-slot
-change_in-requires-clause-slot g c = client_slot c.touch.new.filer.swapper.pool c.args.x.now c.args.page c.in-Ok.slot c.requires.shows c.in-Ok.ensures.slot
+change_in-requires-clause-slot g c = client_slot (view_of c.touch.new.filer).slots c.args.x.now c.args.page c.in-Ok.slot c.requires.shows c.in-Ok.ensures.slot
 
 pub returns-clause-stored : goal.returns-clause-stored
 returns-clause-stored g c = λ m named b known stored.
-    let after = known_after (view_of c.args.filer.now) (view_of c.touch.new.filer) m named b c.args.filer.now.swapper.accepted c.touch.ensures.reaches known in
+    let after = known_after (view_of c.args.filer.now) (view_of c.touch.new.filer) m named b (accepted c.args.filer.now) c.touch.ensures.reaches known in
     c.change_in.ensures.stored m named b c.args.x.now.id (file_page c.args.x.now c.args.page) after c.in-Ok.ensures.slot (stored c.args.page c.requires.shows.holds).of_file
 
 pub returns-clause-whole : goal.returns-clause-whole
@@ -36,7 +36,7 @@ returns-clause-dirty g c = c.change_in.ensures.dirty c.args.x.now.id (file_page 
 
 pub returns-clause-touches : goal.returns-clause-touches
 returns-clause-touches g c =
-    touches_then (view_of c.args.filer.now) (view_of c.touch.new.filer) c.args.filer.now.swapper.accepted (touches_of _ c.touch.ensures.reaches) (view_of c.change_in.new.filer)
+    touches_then (view_of c.args.filer.now) (view_of c.touch.new.filer) (accepted c.args.filer.now) (touches_of _ c.touch.ensures.reaches) (view_of c.change_in.new.filer)
     (c.change_in.ensures.touches c.args.x.now.id (file_page c.args.x.now c.args.page) c.in-Ok.ensures.slot (c.requires.shows.formed.shows c.requires.shows.mapped).0)
 
 pub returns-clause-came : goal.returns-clause-came
@@ -46,6 +46,6 @@ returns-clause-came g c =
 pub returns-clause-idle : goal.returns-clause-idle
 returns-clause-idle g c = λ whole.
     let one = c.in-Ok.ensures.idle whole in
-    let same : g.D.Disk.state c.change_in.new.filer.swapper.disk ≡ g.D.Disk.state c.touch.new.filer.swapper.disk = ap g.D.Disk.state c.change_in.ensures.disk in
-    let stays : KeepsResident c.touch.new.filer.swapper.pool c.change_in.new.filer.swapper.pool = λ id page there. (there.0, c.change_in.ensures.slots there.0 id page there.1) in
+    let same : (view_of c.change_in.new.filer).disk ≡ (view_of c.touch.new.filer).disk = ap g.D.Disk.state c.change_in.ensures.disk in
+    let stays : KeepsResident (view_of c.touch.new.filer).slots (view_of c.change_in.new.filer).slots = λ id page there. (there.0, c.change_in.ensures.slots there.0 id page there.1) in
     (refl, rw (← one.1) same, rw (← one.1) stays)

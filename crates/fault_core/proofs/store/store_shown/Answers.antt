@@ -13,7 +13,7 @@ use Rattle.filer_kernel.specs.Evidence.{MayBeMissing}
 use Rattle.fault_core.specs.Reach.{TouchHalts, no_break}
 use Rattle.fault_core.specs.Revealed.{Known}
 use Rattle.fault_core.specs.Unit.{AreShownStored, IsWhole, file_page}
-use Rattle.fault_core.specs.View.{view_of}
+use Rattle.filer_kernel.specs.View.{accepted, view_of}
 use Rattle.fault_core.proofs.BeforeLemmas.{halt_before, touches_then, touches_wider}
 use Rattle.fault_core.proofs.LeaveLemmas.{still_stored, stored_on_one, stored_none, stored_first, stored_both, on_err_wider}
 use Rattle.fault_core.proofs.PieceLemmas.{one_page, last_is_next}
@@ -36,7 +36,7 @@ returns-then-bytes-room-clause-halted g c = λ m named b ss known seen. on_err_w
 pub returns-then-bytes-room-clause-whole : goal.returns-then-bytes-room-clause-whole
 returns-then-bytes-room-clause-whole g c =
     let fits = c.if-bytes-room.true in
-    let pool = c.store_in.new.filer.swapper.pool in
+    let pool = (view_of c.store_in.new.filer).slots in
     let page = one_page c.args.address (length c.args.bytes.now) c.requires.some (omega (arith, fits)) in
     on_ok_wider c.store_in.result _ _ (λ whole. subst (IsWhole pool c.args.last.now) page (subst (λ (x : Interval). IsWhole pool x (c.args.address / 512)) (sym (c.requires.one page)) whole)) c.store_in.ensures.whole
 
@@ -88,7 +88,7 @@ pub returns-clause-whole : goal.returns-clause-whole
 returns-clause-whole g c =
     let past = c.if-bytes-room.false in
     let page = last_is_next c.args.address (length c.args.bytes.now) c.requires.few (omega (arith, past)) in
-    on_ok_wider c.store_in-3.result _ _ (λ whole. subst (IsWhole c.store_in-3.new.filer.swapper.pool c.args.last.now) page whole) c.store_in-3.ensures.whole
+    on_ok_wider c.store_in-3.result _ _ (λ whole. subst (IsWhole (view_of c.store_in-3.new.filer).slots c.args.last.now) page whole) c.store_in-3.ensures.whole
 
 pub returns-clause-cause : goal.returns-clause-cause
 returns-clause-cause g c =
@@ -96,7 +96,7 @@ returns-clause-cause g c =
     let w = view_of c.store_in-2.new.filer in
     let x = view_of c.store_in-3.new.filer in
     err_wider c.store_in-3.result (TouchHalts no_break w x) (TouchHalts no_break v x)
-    (halt_before v w c.args.filer.now.swapper.accepted {pages = this_page c.args.first.now.id (file_page c.args.first.now (c.args.address / 512))} c.store_in-2.ensures.touches no_break no_break (λ page none. none) MayBeMissing x x (omega arith)) c.store_in-3.ensures.cause
+    (halt_before v w (accepted c.args.filer.now) {pages = this_page c.args.first.now.id (file_page c.args.first.now (c.args.address / 512))} c.store_in-2.ensures.touches no_break no_break (λ page none. none) MayBeMissing x x (omega arith)) c.store_in-3.ensures.cause
 
 pub returns-clause-sound : goal.returns-clause-sound
 returns-clause-sound g c = λ m named b known first last.
@@ -108,7 +108,7 @@ returns-clause-touches g c =
     let past = c.if-bytes-room.false in
     let page = last_is_next c.args.address (length c.args.bytes.now) c.requires.few (omega (arith, past)) in
     let pages = of_reference c.args.first.now c.args.last.now c.args.address (length c.args.bytes.now) in
-    touches_then (view_of c.args.filer.now) (view_of c.store_in-2.new.filer) c.args.filer.now.swapper.accepted (touches_wider (this_page c.args.first.now.id (file_page c.args.first.now (c.args.address / 512))) pages (λ id number own. inl own) c.store_in-2.ensures.touches) (view_of c.store_in-3.new.filer)
+    touches_then (view_of c.args.filer.now) (view_of c.store_in-2.new.filer) (accepted c.args.filer.now) (touches_wider (this_page c.args.first.now.id (file_page c.args.first.now (c.args.address / 512))) pages (λ id number own. inl own) c.store_in-2.ensures.touches) (view_of c.store_in-3.new.filer)
     (touches_wider (this_page c.args.last.now.id (file_page c.args.last.now (c.args.address / 512 + 1))) pages (λ id number own. inr (own.0, own.1 ∙ ap (λ (p : ℕ). file_page c.args.last.now p) page)) c.store_in-3.ensures.touches)
 
 pub returns-clause-came : goal.returns-clause-came
@@ -120,7 +120,7 @@ returns-clause-idle g c = λ first last.
     let past = c.if-bytes-room.false in
     let one = c.in-Ok.ensures.idle first in
     let page = last_is_next c.args.address (length c.args.bytes.now) c.requires.few (omega (arith, past)) in
-    let was : IsWhole c.args.filer.now.swapper.pool c.args.last.now (c.args.address / 512 + 1) = rw page last in
+    let was : IsWhole (view_of c.args.filer.now).slots c.args.last.now (c.args.address / 512 + 1) = rw page last in
     let two = c.store_in-3.ensures.idle (λ other own. one.2 c.args.last.now.id (file_page c.args.last.now other) (was other own)) in
     (two.0, two.1 ∙ one.1)
 

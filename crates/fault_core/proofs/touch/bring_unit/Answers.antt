@@ -2,7 +2,7 @@ use Rattle.std.proofs.Common.{◌∙◌, sym, ap}
 use Rattle.std.proofs.lemmas.Bool.{true≢false}
 use Rattle.filer_kernel.proofs.Outcomes.{on_ok_wider, err_wider}
 use Rattle.fault_core.specs.Revealed.{Known}
-use Rattle.fault_core.specs.View.{view_of}
+use Rattle.filer_kernel.specs.View.{view_of}
 use Rattle.fault_core.proofs.ReachLemmas.{reaches_itself}
 use Rattle.fault_core.proofs.RoomLemmas.{room_same}
 use Rattle.fault_core.proofs.UnitLemmas.{whole_of_run, run_of_whole, run_stored, run_shown}
@@ -11,10 +11,10 @@ use Rattle.fault_core.proofs.LackLemmas.{misses_wider, run_unit}
 use Rattle.fault_core.proofs.touch.bring_unit.Goals as goal
 
 pub returns-then-is_there-clause-whole : goal.returns-then-is_there-clause-whole
-returns-then-is_there-clause-whole g c = rw c.is_there.ensures.same (whole_of_run c.unit_run-first.ensures c.args.filer.now.swapper.pool (c.is_there.ensures.there.0 c.if-is_there.true))
+returns-then-is_there-clause-whole g c = rw c.is_there.ensures.same (whole_of_run c.unit_run-first.ensures (view_of c.args.filer.now).slots (c.is_there.ensures.there.0 c.if-is_there.true))
 
 pub returns-clause-whole : goal.returns-clause-whole
-returns-clause-whole g c = on_ok_wider c.bring_run.result _ _ (whole_of_run c.unit_run-first.ensures c.bring_run.new.filer.swapper.pool) c.bring_run.ensures.there
+returns-clause-whole g c = on_ok_wider c.bring_run.result _ _ (whole_of_run c.unit_run-first.ensures (view_of c.bring_run.new.filer).slots) c.bring_run.ensures.there
 
 pub returns-clause-sound : goal.returns-clause-sound
 returns-clause-sound g c = λ m named b known stored.
@@ -22,13 +22,13 @@ returns-clause-sound g c = λ m named b known stored.
     c.bring_run.ensures.sound m named b k (run_stored c.unit_run-first.ensures named m stored)
 
 pub returns-clause-came : goal.returns-clause-came
-returns-clause-came g c = rw (← c.is_there.ensures.same) (run_shown c.unit_run-first.ensures c.is_there.new.filer.swapper.pool c.bring_run.new.filer.swapper.pool c.bring_run.ensures.came)
+returns-clause-came g c = rw (← c.is_there.ensures.same) (run_shown c.unit_run-first.ensures (view_of c.is_there.new.filer).slots (view_of c.bring_run.new.filer).slots c.bring_run.ensures.came)
 
 pub returns-clause-idle : goal.returns-clause-idle
-returns-clause-idle g c = λ whole. absurd (true≢false (sym (c.is_there.ensures.there.1 (run_of_whole c.unit_run-first.ensures c.args.filer.now.swapper.pool whole)) ∙ c.if-is_there.false))
+returns-clause-idle g c = λ whole. absurd (true≢false (sym (c.is_there.ensures.there.1 (run_of_whole c.unit_run-first.ensures (view_of c.args.filer.now).slots whole)) ∙ c.if-is_there.false))
 
 pub returns-then-is_there-clause-room : goal.returns-then-is_there-clause-room
-returns-then-is_there-clause-room g c = room_same c.args.filer.now.swapper.pool c.is_there.new.filer.swapper.pool (ap (λ f. f.swapper.pool) c.is_there.ensures.same)
+returns-then-is_there-clause-room g c = room_same (view_of c.args.filer.now).slots (view_of c.is_there.new.filer).slots (ap (λ f. (view_of f).slots) c.is_there.ensures.same)
 
 pub returns-clause-room : goal.returns-clause-room
 returns-clause-room g c = rw (← c.is_there.ensures.same) c.bring_run.ensures.room

@@ -5,7 +5,7 @@ use Rattle.swapper_kernel.specs.HaltLaws.{brings_wider}
 use Rattle.swapper_kernel.specs.Homes.{IsAmong}
 use Rattle.filer_kernel.proofs.Outcomes.{err_wider, on_ok_wider}
 use Rattle.fault_core.specs.Homes.{homes_in}
-use Rattle.fault_core.specs.View.{view_of}
+use Rattle.filer_kernel.specs.View.{accepted, view_of}
 use Rattle.fault_core.specs.Reach.{TouchHalts, no_break}
 use Rattle.fault_core.specs.ReachLaws.{touch_of_reach}
 use Rattle.fault_core.proofs.ReachLemmas.{known_after}
@@ -29,7 +29,7 @@ pub bring-requires-clause-homes : goal.bring-requires-clause-homes
 bring-requires-clause-homes g c = homes_placed (view_of c.args.filer.now) (view_of c.homes_of.new.filer) (homes_in c.in-Ok.homes) c.homes_of.ensures.reaches.layout c.in-Ok.ensures.found
 
 pub returns-clause-there : goal.returns-clause-there
-returns-clause-there g c = on_ok_wider c.bring.result _ _ (homes_resident c.in-Ok.ensures.are c.bring.new.filer.swapper.pool) c.bring.ensures.there
+returns-clause-there g c = on_ok_wider c.bring.result _ _ (homes_resident c.in-Ok.ensures.are (view_of c.bring.new.filer).slots) c.bring.ensures.there
 
 pub returns-clause-cause : goal.returns-clause-cause
 returns-clause-cause g c =
@@ -37,21 +37,21 @@ returns-clause-cause g c =
     let w = view_of c.homes_of.new.filer in
     let x = view_of c.bring.new.filer in
     err_wider c.bring.result (Halts (IsAmong (homes_in c.in-Ok.homes)) w.disk w.slots x.disk) (TouchHalts no_break v x)
-    (λ e is. touch_of_reach no_break v x e (brought_halt v w x c.args.filer.now.swapper.accepted c.homes_of.ensures.reaches (IsAmong (homes_in c.in-Ok.homes)) c.in-Ok.ensures.found e is)) c.bring.ensures.cause
+    (λ e is. touch_of_reach no_break v x e (brought_halt v w x (accepted c.args.filer.now) c.homes_of.ensures.reaches (IsAmong (homes_in c.in-Ok.homes)) c.in-Ok.ensures.found e is)) c.bring.ensures.cause
 
 pub returns-clause-sound : goal.returns-clause-sound
 returns-clause-sound g c = λ m named b known stored.
     let v = view_of c.args.filer.now in
-    let after = known_after v (view_of c.homes_of.new.filer) m named b c.args.filer.now.swapper.accepted c.homes_of.ensures.reaches known in
+    let after = known_after v (view_of c.homes_of.new.filer) m named b (accepted c.args.filer.now) c.homes_of.ensures.reaches known in
     c.bring.ensures.sound m after.stands (homes_are_named c.in-Ok.ensures.are v m named b known stored (c.in-Ok.ensures.named m named b known))
 
 pub returns-clause-reaches : goal.returns-clause-reaches
 returns-clause-reaches g c =
-    reaches_brought (view_of c.args.filer.now) (view_of c.homes_of.new.filer) (view_of c.bring.new.filer) c.args.filer.now.swapper.accepted c.homes_of.ensures.reaches (IsAmong (homes_in c.in-Ok.homes)) c.in-Ok.ensures.found
+    reaches_brought (view_of c.args.filer.now) (view_of c.homes_of.new.filer) (view_of c.bring.new.filer) (accepted c.args.filer.now) c.homes_of.ensures.reaches (IsAmong (homes_in c.in-Ok.homes)) c.in-Ok.ensures.found
     c.bring.ensures.swaps c.bring.ensures.brings c.bring.ensures.layout c.bring.ensures.runs
 
 pub returns-clause-came : goal.returns-clause-came
-returns-clause-came g c = run_came c.in-Ok.ensures.are c.args.filer.now.swapper.pool c.homes_of.new.filer.swapper.pool c.bring.new.filer.swapper.pool c.homes_of.ensures.came c.bring.ensures.brings
+returns-clause-came g c = run_came c.in-Ok.ensures.are (view_of c.args.filer.now).slots (view_of c.homes_of.new.filer).slots (view_of c.bring.new.filer).slots c.homes_of.ensures.came c.bring.ensures.brings
 
 pub returns-clause-room : goal.returns-clause-room
 returns-clause-room g c = room_then c.homes_of.ensures.room (steps_room c.bring.ensures.steps)

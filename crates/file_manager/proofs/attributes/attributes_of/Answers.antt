@@ -9,6 +9,7 @@ use Rattle.file_manager.specs.Finding.{IsFoundFile}
 use Rattle.file_manager.proofs.CountedLemmas.{rose_of, of_answer}
 use Rattle.file_manager.proofs.LookLemmas.{looks_nothing, looks_searched}
 use Rattle.file_manager.proofs.attributes.attributes_of.Goals as goal
+use Rattle.filer_kernel.specs.View.{view_of}
 
 pub returns-in-Ok-Some-clause-revealed : goal.returns-in-Ok-Some-clause-revealed
 returns-in-Ok-Some-clause-revealed g c = rw (← c.frames_of.ensures.same, c.marks-marks.ensures.permanent, c.marks-marks.ensures.immutable) (λ x shapes spaces books. (subst (IsFoundFile (labels_of x) shapes c.args.id) c.in-Ok-Some.field-0-is (c.in-Ok-Some.ensures.revealed x shapes spaces books)).1)
@@ -20,7 +21,7 @@ pub returns-in-Err-clause-revealed : goal.returns-in-Err-clause-revealed
 returns-in-Err-clause-revealed g c = rw (← c.frames_of.ensures.same) (λ x shapes spaces books. c.in-Err.ensures.revealed x shapes spaces books)
 
 pub returns-in-Err-clause-counted : goal.returns-in-Err-clause-counted
-returns-in-Err-clause-counted g c = rw (← c.frames_of.ensures.same) (of_answer c.in-Err.halt (rose_of _ (g.D.Disk.state c.frames_of.new.filer.swapper.disk) (g.D.Disk.state c.find_file.new.filer.swapper.disk) c.in-Err.halt c.in-Err.ensures.cause))
+returns-in-Err-clause-counted g c = rw (← c.frames_of.ensures.same) (of_answer c.in-Err.halt (rose_of _ (view_of c.frames_of.new.filer).disk (view_of c.find_file.new.filer).disk c.in-Err.halt c.in-Err.ensures.cause))
 
 pub returns-in-Ok-None-clause-none : goal.returns-in-Ok-None-clause-none
 returns-in-Ok-None-clause-none g c none = rw (← c.frames_of.ensures.same) (inr (c.in-Ok-None.ensures.missing (search rules)))
@@ -54,21 +55,21 @@ returns-in-Ok-Some-clause-looks g c =
     let f = c.frames_of.new.filer in
     let found = c.find_file.ensures in
     rw (← c.frames_of.ensures.same)
-    (looks_searched {kept = runs_of f.swapper.layout.sectors f.runs} {runs = runs_of f.swapper.layout.sectors c.find_file.new.filer.runs} found.looked found.runs_given found.runs_are)
+    (looks_searched {kept = runs_of (view_of f).layout.sectors f.runs} {runs = runs_of (view_of f).layout.sectors c.find_file.new.filer.runs} found.looked found.runs_given found.runs_are)
 
 pub returns-in-Ok-None-clause-looks : goal.returns-in-Ok-None-clause-looks
 returns-in-Ok-None-clause-looks g c =
     let f = c.frames_of.new.filer in
     let found = c.find_file.ensures in
     rw (← c.frames_of.ensures.same)
-    (looks_searched {kept = runs_of f.swapper.layout.sectors f.runs} {runs = runs_of f.swapper.layout.sectors c.find_file.new.filer.runs} found.looked found.runs_given found.runs_are)
+    (looks_searched {kept = runs_of (view_of f).layout.sectors f.runs} {runs = runs_of (view_of f).layout.sectors c.find_file.new.filer.runs} found.looked found.runs_given found.runs_are)
 
 pub returns-in-Err-clause-looks : goal.returns-in-Err-clause-looks
 returns-in-Err-clause-looks g c =
     let f = c.frames_of.new.filer in
     let found = c.find_file.ensures in
     rw (← c.frames_of.ensures.same)
-    (looks_searched {kept = runs_of f.swapper.layout.sectors f.runs} {runs = runs_of f.swapper.layout.sectors c.find_file.new.filer.runs} found.looked found.runs_given found.runs_are)
+    (looks_searched {kept = runs_of (view_of f).layout.sectors f.runs} {runs = runs_of (view_of f).layout.sectors c.find_file.new.filer.runs} found.looked found.runs_given found.runs_are)
 
 -- ---- What it keeps to, and the reasons of its halts.
 

@@ -5,25 +5,26 @@ use Rattle.volume_root.proofs.WrittenLemmas.{root_read}
 use Rattle.file_manager.proofs.RootForm.{root_goes, root_may}
 use Rattle.file_manager.proofs.RootKeeps.{root_keeps}
 use Rattle.file_manager.proofs.creating.write_over.Goals as goal
+use Rattle.filer_kernel.specs.View.{accepted, disk_of, placed, view_of}
 
 pub returns-in-Ok-clause-made : goal.returns-in-Ok-clause-made
 returns-in-Ok-clause-made g c =
-    let old = g.D.Disk.state c.args.filer.now.swapper.disk in
+    let old = (view_of c.args.filer.now).disk in
     let new = g.D.Disk.state c.write_root.new.disk in
     let made : RevealsWrite (root_write c.args.root) old new = search rules in
     let moves : Moves old new = search rules in
-    root_goes old new c.args.filer.now.swapper.pool c.args.filer.now.swapper.layout c.args.root c.args.filer.now.swapper.accepted c.args.filer.now.swapper.placed c.requires.valid c.requires.serial c.requires.counter
-    (λ d revealed. g.met.D.Disk.whole c.args.filer.now.swapper.disk d revealed ∙ c.requires.size) moves made
+    root_goes old new (view_of c.args.filer.now).slots (view_of c.args.filer.now).layout c.args.root (accepted c.args.filer.now) (placed c.args.filer.now) c.requires.valid c.requires.serial c.requires.counter
+    (λ d revealed. g.met.D.Disk.whole (disk_of c.args.filer.now) d revealed ∙ c.requires.size) moves made
 
 pub returns-in-Err-clause-stopped : goal.returns-in-Err-clause-stopped
 returns-in-Err-clause-stopped g c =
-    let old = g.D.Disk.state c.args.filer.now.swapper.disk in
+    let old = (view_of c.args.filer.now).disk in
     let new = g.D.Disk.state c.write_root.new.disk in
     let either : RevealsSame old new ⊎ RevealsWrite (root_write c.args.root) old new = search rules in
     let moves : Moves old new = search rules in
-    root_may old new c.args.filer.now.swapper.pool c.args.filer.now.swapper.layout c.args.root c.args.filer.now.swapper.accepted c.args.filer.now.swapper.placed c.requires.valid c.requires.serial c.requires.counter
-    (λ d revealed. g.met.D.Disk.whole c.args.filer.now.swapper.disk d revealed ∙ c.requires.size) moves either
+    root_may old new (view_of c.args.filer.now).slots (view_of c.args.filer.now).layout c.args.root (accepted c.args.filer.now) (placed c.args.filer.now) c.requires.valid c.requires.serial c.requires.counter
+    (λ d revealed. g.met.D.Disk.whole (disk_of c.args.filer.now) d revealed ∙ c.requires.size) moves either
 
 pub returns-in-Ok-clause-keeps_to : goal.returns-in-Ok-clause-keeps_to
 returns-in-Ok-clause-keeps_to g c = λ o named h below.
-    root_keeps c.args.root c.args.filer.now.swapper.accepted (root_read c.args.filer.now.swapper.layout.sectors c.args.root c.requires.valid c.requires.serial c.requires.counter) h below (returns-in-Ok-clause-made g c)
+    root_keeps c.args.root (accepted c.args.filer.now) (root_read (view_of c.args.filer.now).layout.sectors c.args.root c.requires.valid c.requires.serial c.requires.counter) h below (returns-in-Ok-clause-made g c)

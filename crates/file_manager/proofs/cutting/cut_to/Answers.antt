@@ -25,33 +25,34 @@ use Rattle.file_manager.specs.TabledLaws.{client_leaves}
 use Rattle.file_manager.proofs.KeepCut.{keeps_led, less_named, tables_left, tables_more}
 use Rattle.file_manager.proofs.ReasonCauses.{cut_reasons}
 use Rattle.file_manager.proofs.cutting.cut_to.Goals as goal
+use Rattle.filer_kernel.specs.View.{accepted, disk_of, swapper_of, view_of}
 
 pub returns-in-Err-clause-sound : goal.returns-in-Err-clause-sound
 returns-in-Err-clause-sound g c = λ m named stands map labels once alone. c.in-Err.ensures.sound m named stands map labels
 
 pub returns-in-Err-clause-counted : goal.returns-in-Err-clause-counted
-returns-in-Err-clause-counted g c = rose_of _ (g.D.Disk.state c.args.filer.now.swapper.disk) (g.D.Disk.state c.cut.new.self.swapper.disk) c.in-Err.halt c.in-Err.ensures.cause
+returns-in-Err-clause-counted g c = rose_of _ (view_of c.args.filer.now).disk (view_of c.cut.new.self).disk c.in-Err.halt c.in-Err.ensures.cause
 
 pub add-requires-clause-form : goal.add-requires-clause-form
 add-requires-clause-form g c =
     subst (λ (l : Layout). IsRun l.sectors (leader_run c.args.id c.args.leader)) (sym c.cut.ensures.beside.layout)
-    (leader_in_form c.args.filer.now.swapper.layout c.args.id c.args.leader c.args.filer.now.swapper.accepted c.requires.of_file c.ranges.id.fits c.requires.data c.requires.inside)
+    (leader_in_form (view_of c.args.filer.now).layout c.args.id c.args.leader (accepted c.args.filer.now) c.requires.of_file c.ranges.id.fits c.requires.data c.requires.inside)
 
 pub returns-in-Err-add-clause-sound : goal.returns-in-Err-add-clause-sound
 returns-in-Err-add-clause-sound g c = λ m named stands map labels once alone.
-    let layout = c.args.filer.now.swapper.layout in
+    let layout = (view_of c.args.filer.now).layout in
     let lay = c.cut.ensures.beside.layout in
     let fits = c.ranges.from.fits in
     let few : c.args.from ≤ leader_page = omega (arith, fits) in
     let b = c.in-Ok.ensures.cut m named stands map in
-    let first = data_first layout c.args.filer.now.swapper.accepted in
+    let first = data_first layout (accepted c.args.filer.now) in
     let above = c.requires.data in
     (rw lay at c.in-Err-add.ensures.sound) b.memory _ _ b.stands b.is (leader_new named c.args.id c.args.from c.args.leader few)
     (named_kept (IsMapHome FileMap layout) m b.memory b.differs.labels labels) (once_left named c.args.id c.args.from c.args.leader once) (others_left named c.args.id c.args.from c.args.leader few alone)
     (few_left layout.sectors c.args.leader (omega (arith, first, above)) c.requires.inside)
 
 pub returns-in-Err-add-clause-counted : goal.returns-in-Err-add-clause-counted
-returns-in-Err-add-clause-counted g c = rose_after (g.D.Disk.state c.args.filer.now.swapper.disk) (g.D.Disk.state c.cut.new.self.swapper.disk) (g.D.Disk.state c.add.new.self.swapper.disk) c.cut.ensures.beside.goes.makes.went.faults (rose_of _ (g.D.Disk.state c.cut.new.self.swapper.disk) (g.D.Disk.state c.add.new.self.swapper.disk) c.in-Err-add.halt c.in-Err-add.ensures.cause)
+returns-in-Err-add-clause-counted g c = rose_after (view_of c.args.filer.now).disk (view_of c.cut.new.self).disk (view_of c.add.new.self).disk c.cut.ensures.beside.goes.makes.went.faults (rose_of _ (view_of c.cut.new.self).disk (view_of c.add.new.self).disk c.in-Err-add.halt c.in-Err-add.ensures.cause)
 
 pub returns-in-Err-add-clause-runs : goal.returns-in-Err-add-clause-runs
 returns-in-Err-add-clause-runs g c = λ n. rw c.add.ensures.runs (c.cut.ensures.runs n)
@@ -61,7 +62,7 @@ returns-in-Err-add-clause-beside g c = beside_then refl c.cut.ensures.beside c.a
 
 pub returns-clause-cut : goal.returns-clause-cut
 returns-clause-cut g c = λ m named stands map.
-    let layout = c.args.filer.now.swapper.layout in
+    let layout = (view_of c.args.filer.now).layout in
     let lay = c.cut.ensures.beside.layout in
     let fits = c.ranges.from.fits in
     let few : c.args.from ≤ leader_page = omega (arith, fits) in
@@ -70,7 +71,7 @@ returns-clause-cut g c = λ m named stands map.
     rw c.frames_of.ensures.same (record { memory = a.memory; stands = a.stands; differs = differs_then (in_map FileMap layout) m b.memory a.memory b.differs a.differs; is = a.is })
 
 pub returns-clause-in_form : goal.returns-clause-in_form
-returns-clause-in_form g c = rw c.frames_of.ensures.same (λ y stands. memory_in_form _ _ y stands (g.met.D.Disk.in_form c.add.new.self.swapper.disk stands.sectors stands.revealed) c.frames_of.ensures.pages)
+returns-clause-in_form g c = rw c.frames_of.ensures.same (λ y stands. memory_in_form _ _ y stands (g.met.D.Disk.in_form (disk_of c.add.new.self) stands.sectors stands.revealed) c.frames_of.ensures.pages)
 
 pub returns-clause-runs : goal.returns-clause-runs
 returns-clause-runs g c = λ n. rw (c.frames_of.ensures.same, c.add.ensures.runs) (c.cut.ensures.runs n)
@@ -79,29 +80,29 @@ pub returns-clause-beside : goal.returns-clause-beside
 returns-clause-beside g c = rw c.frames_of.ensures.same (beside_then refl c.cut.ensures.beside c.add.ensures.beside)
 
 pub returns-in-Err-clause-evidence_seen : goal.returns-in-Err-clause-evidence_seen
-returns-in-Err-clause-evidence_seen g c = so_of_cut (fits c.args.filer.now.swapper c.requires.size) c.cut.ensures.beside.goes.makes c.in-Err.halt c.in-Err.ensures.cause
+returns-in-Err-clause-evidence_seen g c = so_of_cut (fits (swapper_of c.args.filer.now) c.requires.size) c.cut.ensures.beside.goes.makes c.in-Err.halt c.in-Err.ensures.cause
 
 pub returns-in-Err-add-clause-evidence_seen : goal.returns-in-Err-add-clause-evidence_seen
-returns-in-Err-add-clause-evidence_seen g c = so_of_add (fits c.cut.new.self.swapper (search rules)) c.add.ensures.beside.goes.makes c.in-Err-add.halt c.in-Err-add.ensures.cause
+returns-in-Err-add-clause-evidence_seen g c = so_of_add (fits (swapper_of c.cut.new.self) (search rules)) c.add.ensures.beside.goes.makes c.in-Err-add.halt c.in-Err-add.ensures.cause
 
 pub returns-in-Err-clause-cause : goal.returns-in-Err-clause-cause
 returns-in-Err-clause-cause g c =
-    let layout = c.args.filer.now.swapper.layout in
-    let old = (g.D.Disk.state c.args.filer.now.swapper.disk) in
-    let pool = c.args.filer.now.swapper.pool in
+    let layout = (view_of c.args.filer.now).layout in
+    let old = (view_of c.args.filer.now).disk in
+    let pool = (view_of c.args.filer.now).slots in
     let kept = runs_of layout.sectors c.args.filer.now.runs in
-    let new = (g.D.Disk.state c.cut.new.self.swapper.disk) in
-    shrink_of_cut (IsUnframed pool c.args.id) layout kept c.args.id c.args.from (λ p. ⊥) old new pool c.cut.new.self.swapper.pool c.in-Err.halt
-    (cut_halts_after (keeps_none (IsUnframed pool c.args.id) layout c.args.id old pool kept (λ none. none)) c.args.from (λ p. ⊥) new c.cut.new.self.swapper.pool c.in-Err.halt c.in-Err.ensures.begun c.in-Err.ensures.cause)
+    let new = (view_of c.cut.new.self).disk in
+    shrink_of_cut (IsUnframed pool c.args.id) layout kept c.args.id c.args.from (λ p. ⊥) old new pool (view_of c.cut.new.self).slots c.in-Err.halt
+    (cut_halts_after (keeps_none (IsUnframed pool c.args.id) layout c.args.id old pool kept (λ none. none)) c.args.from (λ p. ⊥) new (view_of c.cut.new.self).slots c.in-Err.halt c.in-Err.ensures.begun c.in-Err.ensures.cause)
 
 pub returns-in-Err-add-clause-cause : goal.returns-in-Err-add-clause-cause
 returns-in-Err-add-clause-cause g c =
-    let layout = c.args.filer.now.swapper.layout in
+    let layout = (view_of c.args.filer.now).layout in
     let lay = c.cut.ensures.beside.layout in
     let fits = c.ranges.from.fits in
     let few : c.args.from ≤ leader_page = omega (arith, fits) in
     let right = rw lay at c.in-Err-add.ensures.right in
-    shrink_of_add (IsUnframed c.args.filer.now.swapper.pool c.args.id) (runs_of layout.sectors c.args.filer.now.runs) c.args.id c.args.from (λ p. ⊥) c.cut.ensures.beside (rw lay at c.add.ensures.beside) c.in-Err-add.halt (rw lay at c.in-Err-add.ensures.cause)
+    shrink_of_add (IsUnframed (view_of c.args.filer.now).slots c.args.id) (runs_of layout.sectors c.args.filer.now.runs) c.args.id c.args.from (λ p. ⊥) c.cut.ensures.beside (rw lay at c.add.ensures.beside) c.in-Err-add.halt (rw lay at c.in-Err-add.ensures.cause)
     (λ m named stands map.
     let b = c.in-Ok.ensures.cut m named stands map in
     (b.memory, b.stands, b.is, right b.memory (without_from named c.args.id c.args.from) b.stands b.is (leader_new named c.args.id c.args.from c.args.leader few)))
@@ -115,8 +116,8 @@ pub returns-in-Err-add-clause-reasons : goal.returns-in-Err-add-clause-reasons
 returns-in-Err-add-clause-reasons g c = λ o named k led.
     let fits = c.ranges.from.fits in
     let few : c.args.from ≤ leader_page = omega (arith, fits) in
-    let layout = c.args.filer.now.swapper.layout in
-    let is = c.args.filer.now.swapper.accepted in
+    let layout = (view_of c.args.filer.now).layout in
+    let is = (accepted c.args.filer.now) in
     let lay = c.cut.ensures.beside.layout in
     let cut = c.in-Ok.ensures.cut k.memory named k.stands k.map in
     let beside = rw lay at c.add.ensures.beside in
@@ -127,5 +128,5 @@ returns-in-Err-add-clause-reasons g c = λ o named k led.
 
 pub returns-clause-keeps_to : goal.returns-clause-keeps_to
 returns-clause-keeps_to g c = λ o named k led evict.
-    let layout = c.args.filer.now.swapper.layout in
-    (_, keeps_at c.frames_of.new.filer.runs (returns-clause-beside g c).layout (keeps_led k (returns-clause-beside g c) c.args.id c.args.from (returns-clause-runs g c layout.sectors) c.args.filer.now.swapper.accepted (client_leaves o c.args.id c.requires.of_file) (client_untabled c.args.id c.requires.of_file) c.args.leader led evict (returns-clause-cut g c)), λ all. tables_more (without_from named c.args.id c.args.from) (leader_run c.args.id c.args.leader) (tables_left named c.args.id c.args.from c.requires.of_file all))
+    let layout = (view_of c.args.filer.now).layout in
+    (_, keeps_at c.frames_of.new.filer.runs (returns-clause-beside g c).layout (keeps_led k (returns-clause-beside g c) c.args.id c.args.from (returns-clause-runs g c layout.sectors) (accepted c.args.filer.now) (client_leaves o c.args.id c.requires.of_file) (client_untabled c.args.id c.requires.of_file) c.args.leader led evict (returns-clause-cut g c)), λ all. tables_more (without_from named c.args.id c.args.from) (leader_run c.args.id c.args.leader) (tables_left named c.args.id c.args.from c.requires.of_file all))

@@ -11,25 +11,26 @@ use Rattle.file_manager.proofs.OwnSteps.{map_own, freed_own, own_after}
 use Rattle.labelled_disk.specs.declared.layout.Layout.{Layout}
 use Rattle.file_manager.specs.Reasons.{ShowsReason}
 use Rattle.file_manager.proofs.cutting.shrink.Goals as goal
+use Rattle.filer_kernel.specs.View.{accepted, view_of}
 
 pub returns-in-Err-clause-sound : goal.returns-in-Err-clause-sound
 returns-in-Err-clause-sound g c = λ x shapes spaces f may size t.
-    let layout = c.args.filer.now.swapper.layout in
-    let is = c.args.filer.now.swapper.accepted in
+    let layout = (view_of c.args.filer.now).layout in
+    let is = (accepted c.args.filer.now) in
     let free = may_free layout is c.args.filer.now.runs shapes spaces x _ _ c.args.id f c.args.pages c.requires.of_file may in
     (rw (← size) at c.in-Err.ensures.sound) may.books.booked.named spaces x free
 
 pub returns-in-Err-clause-broken : goal.returns-in-Err-clause-broken
 returns-in-Err-clause-broken g c = λ x shapes spaces f may size t.
-    let layout = c.args.filer.now.swapper.layout in
-    let is = c.args.filer.now.swapper.accepted in
+    let layout = (view_of c.args.filer.now).layout in
+    let is = (accepted c.args.filer.now) in
     let free = may_free layout is c.args.filer.now.runs shapes spaces x _ _ c.args.id f c.args.pages c.requires.of_file may in
     rw (← size) (stopped_in layout is c.args.filer.now.runs shapes spaces x _ _ c.args.id f c.args.pages c.requires.of_file may ((rw (← size) at c.in-Err.ensures.broken) may.books.booked.named spaces x free))
 
 pub returns-in-Err-cut_to-clause-sound : goal.returns-in-Err-cut_to-clause-sound
 returns-in-Err-cut_to-clause-sound g c = λ x shapes spaces f may size t.
-    let layout = c.args.filer.now.swapper.layout in
-    let is = c.args.filer.now.swapper.accepted in
+    let layout = (view_of c.args.filer.now).layout in
+    let is = (accepted c.args.filer.now) in
     let free = may_free layout is c.args.filer.now.runs shapes spaces x _ _ c.args.id f c.args.pages c.requires.of_file may in
     let h = (rw (← size) at c.in-Ok.ensures.freed) may.books.booked.named spaces x free in
     (rw c.in-Ok.ensures.layout at c.in-Err-cut_to.ensures.sound) h.memory may.books.booked.named h.rest.stands h.rest.map (h.rest.map_labels FileMap)
@@ -38,8 +39,8 @@ returns-in-Err-cut_to-clause-sound g c = λ x shapes spaces f may size t.
 
 pub returns-in-Err-cut_to-clause-broken : goal.returns-in-Err-cut_to-clause-broken
 returns-in-Err-cut_to-clause-broken g c = λ x shapes spaces f may size t.
-    let layout = c.args.filer.now.swapper.layout in
-    let is = c.args.filer.now.swapper.accepted in
+    let layout = (view_of c.args.filer.now).layout in
+    let is = (accepted c.args.filer.now) in
     let free = may_free layout is c.args.filer.now.runs shapes spaces x _ _ c.args.id f c.args.pages c.requires.of_file may in
     let h = (rw (← size) at c.in-Ok.ensures.freed) may.books.booked.named spaces x free in
     rw (← size) (stopped_cut layout is c.args.filer.now.runs shapes spaces x _ _ c.args.id f c.args.pages c.requires.of_file may h c.cut_to.ensures.beside)
@@ -48,12 +49,12 @@ pub returns-in-Err-cut_to-clause-stopped : goal.returns-in-Err-cut_to-clause-sto
 returns-in-Err-cut_to-clause-stopped g c = all_stop (makes_cut c.in-Ok.ensures.makes c.cut_to.ensures.beside)
 
 pub returns-in-Err-cut_to-clause-counted : goal.returns-in-Err-cut_to-clause-counted
-returns-in-Err-cut_to-clause-counted g c = rose_after (g.D.Disk.state c.args.filer.now.swapper.disk) (g.D.Disk.state c.free_down.new.filer.swapper.disk) (g.D.Disk.state c.cut_to.new.filer.swapper.disk) c.in-Ok.ensures.makes.makes.went.faults c.in-Err-cut_to.ensures.counted
+returns-in-Err-cut_to-clause-counted g c = rose_after (view_of c.args.filer.now).disk (view_of c.free_down.new.filer).disk (view_of c.cut_to.new.filer).disk c.in-Ok.ensures.makes.makes.went.faults c.in-Err-cut_to.ensures.counted
 
 pub returns-clause-shrunk : goal.returns-clause-shrunk
 returns-clause-shrunk g c = λ x shapes spaces f may size t.
-    let layout = c.args.filer.now.swapper.layout in
-    let is = c.args.filer.now.swapper.accepted in
+    let layout = (view_of c.args.filer.now).layout in
+    let is = (accepted c.args.filer.now) in
     let free = may_free layout is c.args.filer.now.runs shapes spaces x _ _ c.args.id f c.args.pages c.requires.of_file may in
     let h = (rw (← size) at c.in-Ok.ensures.freed) may.books.booked.named spaces x free in
     let cut = (rw c.in-Ok.ensures.layout at c.in-Ok-cut_to.ensures.cut) h.memory may.books.booked.named h.rest.stands h.rest.map in
@@ -65,15 +66,15 @@ returns-clause-makes g c = makes_cut c.in-Ok.ensures.makes c.cut_to.ensures.besi
 
 pub returns-in-Err-clause-cause : goal.returns-in-Err-clause-cause
 returns-in-Err-clause-cause g c =
-    let layout = c.args.filer.now.swapper.layout in
-    let old = (g.D.Disk.state c.args.filer.now.swapper.disk) in
-    let pool = c.args.filer.now.swapper.pool in
+    let layout = (view_of c.args.filer.now).layout in
+    let old = (view_of c.args.filer.now).disk in
+    let pool = (view_of c.args.filer.now).slots in
     let kept = runs_of layout.sectors c.args.filer.now.runs in
-    shrink_of_free (IsUnframed pool c.args.id) layout kept c.args.id c.args.pages (λ p. (c.args.pages ≤ p) × (p < c.args.size)) old (g.D.Disk.state c.free_down.new.filer.swapper.disk) pool c.free_down.new.filer.swapper.pool c.in-Err.halt c.in-Err.ensures.cause
+    shrink_of_free (IsUnframed pool c.args.id) layout kept c.args.id c.args.pages (λ p. (c.args.pages ≤ p) × (p < c.args.size)) old (view_of c.free_down.new.filer).disk pool (view_of c.free_down.new.filer).slots c.in-Err.halt c.in-Err.ensures.cause
 
 pub returns-in-Err-cut_to-clause-cause : goal.returns-in-Err-cut_to-clause-cause
 returns-in-Err-cut_to-clause-cause g c =
-    shrink_halts_after c.in-Ok.ensures.keeps c.requires.sectors c.args.pages (λ p. ⊥) (λ p. (c.args.pages ≤ p) × (p < c.args.size)) (λ p none. absurd none) (g.D.Disk.state c.cut_to.new.filer.swapper.disk) c.cut_to.new.filer.swapper.pool c.in-Err-cut_to.halt
+    shrink_halts_after c.in-Ok.ensures.keeps c.requires.sectors c.args.pages (λ p. ⊥) (λ p. (c.args.pages ≤ p) × (p < c.args.size)) (λ p none. absurd none) (view_of c.cut_to.new.filer).disk (view_of c.cut_to.new.filer).slots c.in-Err-cut_to.halt
     (rw c.in-Ok.ensures.layout at c.in-Err-cut_to.ensures.cause)
 
 pub returns-in-Err-clause-own : goal.returns-in-Err-clause-own
@@ -92,7 +93,7 @@ returns-in-Err-clause-reasons g c = λ o named k led. c.in-Err.ensures.reasons o
 
 pub returns-in-Err-cut_to-clause-reasons : goal.returns-in-Err-cut_to-clause-reasons
 returns-in-Err-cut_to-clause-reasons g c = λ o named k led.
-    subst (λ (l : Layout). ShowsReason o l (g.D.Disk.state c.cut_to.new.filer.swapper.disk) c.in-Err-cut_to.halt) c.in-Ok.ensures.layout (c.in-Err-cut_to.ensures.reasons o named (c.in-Ok.ensures.keeps_to o named k) led)
+    subst (λ (l : Layout). ShowsReason o l (view_of c.cut_to.new.filer).disk c.in-Err-cut_to.halt) c.in-Ok.ensures.layout (c.in-Err-cut_to.ensures.reasons o named (c.in-Ok.ensures.keeps_to o named k) led)
 
 pub returns-clause-keeps_to : goal.returns-clause-keeps_to
 returns-clause-keeps_to g c = λ o named k led none.

@@ -25,10 +25,11 @@ use Rattle.file_manager.proofs.ReasonCauses.{cut_reasons}
 use Rattle.file_manager.specs.ReasonLaws.{map_reasons}
 use Rattle.file_manager.specs.Reasons.{ShowsReason}
 use Rattle.file_manager.proofs.deleting.delete.Goals as goal
+use Rattle.filer_kernel.specs.View.{accepted, disk_of, swapper_of, view_of}
 
 pub returns-in-Err-clause-sound : goal.returns-in-Err-clause-sound
 returns-in-Err-clause-sound g c = λ x shapes spaces f books found hidden.
-    let is = c.args.filer.now.swapper.accepted in
+    let is = (accepted c.args.filer.now) in
     let b = books.booked in
     c.in-Err.ensures.sound x b.named books.stands (map_is _ _ shapes x is b) (map_named _ x is b.long b.map_labels)
 
@@ -40,8 +41,8 @@ returns-in-Err-clause-stopped g c = map_stops c.size.ensures.beside
 
 pub returns-in-Err-free_all-clause-sound : goal.returns-in-Err-free_all-clause-sound
 returns-in-Err-free_all-clause-sound g c = λ x shapes spaces f books found hidden.
-    let layout = c.args.filer.now.swapper.layout in
-    let is = c.args.filer.now.swapper.accepted in
+    let layout = (view_of c.args.filer.now).layout in
+    let is = (accepted c.args.filer.now) in
     let b = books.booked in
     let map = map_is _ _ shapes x is b in
     let asked = c.in-Ok.ensures.size x b.named books.stands map in
@@ -51,8 +52,8 @@ returns-in-Err-free_all-clause-sound g c = λ x shapes spaces f books found hidd
 
 pub returns-in-Err-free_all-clause-first : goal.returns-in-Err-free_all-clause-first
 returns-in-Err-free_all-clause-first g c = λ x shapes spaces f books found hidden.
-    let layout = c.args.filer.now.swapper.layout in
-    let is = c.args.filer.now.swapper.accepted in
+    let layout = (view_of c.args.filer.now).layout in
+    let is = (accepted c.args.filer.now) in
     let b = books.booked in
     let map = map_is _ _ shapes x is b in
     let asked = c.in-Ok.ensures.size x b.named books.stands map in
@@ -66,28 +67,28 @@ returns-in-Err-free_all-clause-stopped g c = free_stops c.size.ensures.beside c.
 
 pub returns-in-Err-cut-clause-sound : goal.returns-in-Err-cut-clause-sound
 returns-in-Err-cut-clause-sound g c = λ x shapes spaces f books found hidden.
-    let layout = c.args.filer.now.swapper.layout in
-    let is = c.args.filer.now.swapper.accepted in
+    let layout = (view_of c.args.filer.now).layout in
+    let is = (accepted c.args.filer.now) in
     let b = books.booked in
     let map = map_is _ _ shapes x is b in
     let asked = c.in-Ok.ensures.size x b.named books.stands map in
     let stands = c.size.ensures.same x b.named books.stands map in
     let may = may_free layout is c.args.filer.now.runs shapes spaces x _ _ books c.args.id c.requires.client f found hidden _ _ _ _ c.size.ensures.runs c.size.ensures.beside stands c.in-Ok.pages asked in
     let freed = (rw (c.size.ensures.beside.layout) at c.in-Ok-free_all.ensures.freed) b.named spaces x may in
-    let lay : c.free_all.new.filer.swapper.layout ≡ layout = c.in-Ok-free_all.ensures.layout ∙ c.size.ensures.beside.layout in
+    let lay : (view_of c.free_all.new.filer).layout ≡ layout = c.in-Ok-free_all.ensures.layout ∙ c.size.ensures.beside.layout in
     (rw lay at c.in-Err-cut.ensures.sound) freed.memory b.named freed.rest.stands freed.rest.map (freed.rest.map_labels FileMap)
 
 pub returns-in-Err-cut-clause-first : goal.returns-in-Err-cut-clause-first
 returns-in-Err-cut-clause-first g c = λ x shapes spaces f books found hidden.
-    let layout = c.args.filer.now.swapper.layout in
-    let is = c.args.filer.now.swapper.accepted in
+    let layout = (view_of c.args.filer.now).layout in
+    let is = (accepted c.args.filer.now) in
     let b = books.booked in
     let map = map_is _ _ shapes x is b in
     let asked = c.in-Ok.ensures.size x b.named books.stands map in
     let stands = c.size.ensures.same x b.named books.stands map in
     let may = may_free layout is c.args.filer.now.runs shapes spaces x _ _ books c.args.id c.requires.client f found hidden _ _ _ _ c.size.ensures.runs c.size.ensures.beside stands c.in-Ok.pages asked in
     let freed = (rw (c.size.ensures.beside.layout) at c.in-Ok-free_all.ensures.freed) b.named spaces x may in
-    let lay : c.free_all.new.filer.swapper.layout ≡ layout = c.in-Ok-free_all.ensures.layout ∙ c.size.ensures.beside.layout in
+    let lay : (view_of c.free_all.new.filer).layout ≡ layout = c.in-Ok-free_all.ensures.layout ∙ c.size.ensures.beside.layout in
     deletes_all layout is c.args.filer.now.runs shapes spaces x _ _ books c.args.id c.requires.client f found hidden _ _ _ _ c.size.ensures.runs c.size.ensures.beside stands c.in-Ok.pages asked _ _ _ freed
     (rw lay at c.in-Err-cut.ensures.beside)
 
@@ -98,24 +99,24 @@ returns-in-Err-cut-clause-stopped g c =
 
 pub returns-clause-deleted : goal.returns-clause-deleted
 returns-clause-deleted g c = λ x shapes spaces f books found hidden.
-    let layout = c.args.filer.now.swapper.layout in
-    let is = c.args.filer.now.swapper.accepted in
+    let layout = (view_of c.args.filer.now).layout in
+    let is = (accepted c.args.filer.now) in
     let b = books.booked in
     let map = map_is _ _ shapes x is b in
     let asked = c.in-Ok.ensures.size x b.named books.stands map in
     let stands = c.size.ensures.same x b.named books.stands map in
     let may = may_free layout is c.args.filer.now.runs shapes spaces x _ _ books c.args.id c.requires.client f found hidden _ _ _ _ c.size.ensures.runs c.size.ensures.beside stands c.in-Ok.pages asked in
     let freed = (rw (c.size.ensures.beside.layout) at c.in-Ok-free_all.ensures.freed) b.named spaces x may in
-    let lay : c.free_all.new.filer.swapper.layout ≡ layout = c.in-Ok-free_all.ensures.layout ∙ c.size.ensures.beside.layout in
+    let lay : (view_of c.free_all.new.filer).layout ≡ layout = c.in-Ok-free_all.ensures.layout ∙ c.size.ensures.beside.layout in
     let cut = (rw lay at c.in-Ok-cut.ensures.cut) freed.memory b.named freed.rest.stands freed.rest.map in
     rw c.frames_of-volume.ensures.same
     (deleted_by layout is c.args.filer.now.runs shapes spaces x _ _ books c.args.id c.requires.client f found hidden _ _ _ _ c.size.ensures.runs c.size.ensures.beside stands c.in-Ok.pages asked _ _ _ freed
     _ _ _ c.cut.new.self.runs (rw lay at c.in-Ok-cut.ensures.beside) cut (c.in-Ok-cut.ensures.runs layout.sectors)
-    (λ y stood. memory_in_form _ _ y stood (g.met.D.Disk.in_form c.cut.new.self.swapper.disk stood.sectors stood.revealed) c.frames_of-volume.ensures.pages))
+    (λ y stood. memory_in_form _ _ y stood (g.met.D.Disk.in_form (disk_of c.cut.new.self) stood.sectors stood.revealed) c.frames_of-volume.ensures.pages))
 
 pub returns-clause-used : goal.returns-clause-used
 returns-clause-used g c = λ x shapes spaces f books found.
-    let is = c.args.filer.now.swapper.accepted in
+    let is = (accepted c.args.filer.now) in
     let b = books.booked in
     let map = map_is _ _ shapes x is b in
     let asked = c.in-Ok.ensures.size x b.named books.stands map in
@@ -129,43 +130,43 @@ returns-clause-makes g c =
 
 pub returns-in-Err-free_all-clause-cost_revealed : goal.returns-in-Err-free_all-clause-cost_revealed
 returns-in-Err-free_all-clause-cost_revealed g c = λ x shapes spaces f books found.
-    let layout = c.args.filer.now.swapper.layout in
-    let is = c.args.filer.now.swapper.accepted in
+    let layout = (view_of c.args.filer.now).layout in
+    let is = (accepted c.args.filer.now) in
     let b = books.booked in
     let map = map_is _ _ shapes x is b in
     let asked = c.in-Ok.ensures.size x b.named books.stands map in
     let size : c.in-Ok.pages ≡ f.size = size_is _ _ shapes x b c.args.id c.requires.client f found c.in-Ok.pages asked in
     let two = rw (c.size.ensures.beside.layout) at c.free_all.ensures.cost in
-    revealed_cost (g.D.Disk.state c.args.filer.now.swapper.disk).transfers (g.D.Disk.state c.size.new.self.swapper.disk).transfers (g.D.Disk.state c.free_all.new.filer.swapper.disk).transfers (g.D.Disk.state c.free_all.new.filer.swapper.disk).transfers f.size c.in-Ok.pages (16 + 4 * layout.vam) (2 * (1 + 51 * most_records layout.sectors)) size c.size.ensures.cost two (omega arith)
+    revealed_cost (view_of c.args.filer.now).disk.transfers (view_of c.size.new.self).disk.transfers (view_of c.free_all.new.filer).disk.transfers (view_of c.free_all.new.filer).disk.transfers f.size c.in-Ok.pages (16 + 4 * layout.vam) (2 * (1 + 51 * most_records layout.sectors)) size c.size.ensures.cost two (omega arith)
 
 pub returns-in-Err-cut-clause-cost_revealed : goal.returns-in-Err-cut-clause-cost_revealed
 returns-in-Err-cut-clause-cost_revealed g c = λ x shapes spaces f books found.
-    let layout = c.args.filer.now.swapper.layout in
-    let is = c.args.filer.now.swapper.accepted in
+    let layout = (view_of c.args.filer.now).layout in
+    let is = (accepted c.args.filer.now) in
     let b = books.booked in
     let map = map_is _ _ shapes x is b in
     let asked = c.in-Ok.ensures.size x b.named books.stands map in
     let size : c.in-Ok.pages ≡ f.size = size_is _ _ shapes x b c.args.id c.requires.client f found c.in-Ok.pages asked in
     let two = rw (c.size.ensures.beside.layout) at c.free_all.ensures.cost in
-    let lay : c.free_all.new.filer.swapper.layout ≡ layout = c.free_all.ensures.layout ∙ c.size.ensures.beside.layout in
+    let lay : (view_of c.free_all.new.filer).layout ≡ layout = c.free_all.ensures.layout ∙ c.size.ensures.beside.layout in
     let three = rw lay at c.cut.ensures.cost in
-    revealed_cost (g.D.Disk.state c.args.filer.now.swapper.disk).transfers (g.D.Disk.state c.size.new.self.swapper.disk).transfers (g.D.Disk.state c.free_all.new.filer.swapper.disk).transfers (g.D.Disk.state c.cut.new.self.swapper.disk).transfers f.size c.in-Ok.pages (16 + 4 * layout.vam) (2 * (1 + 51 * most_records layout.sectors)) size c.size.ensures.cost two three
+    revealed_cost (view_of c.args.filer.now).disk.transfers (view_of c.size.new.self).disk.transfers (view_of c.free_all.new.filer).disk.transfers (view_of c.cut.new.self).disk.transfers f.size c.in-Ok.pages (16 + 4 * layout.vam) (2 * (1 + 51 * most_records layout.sectors)) size c.size.ensures.cost two three
 
 pub returns-clause-cost_revealed : goal.returns-clause-cost_revealed
 returns-clause-cost_revealed g c = λ x shapes spaces f books found.
-    let layout = c.args.filer.now.swapper.layout in
-    let is = c.args.filer.now.swapper.accepted in
+    let layout = (view_of c.args.filer.now).layout in
+    let is = (accepted c.args.filer.now) in
     let b = books.booked in
     let map = map_is _ _ shapes x is b in
     let asked = c.in-Ok.ensures.size x b.named books.stands map in
     let size : c.in-Ok.pages ≡ f.size = size_is _ _ shapes x b c.args.id c.requires.client f found c.in-Ok.pages asked in
     let two = rw (c.size.ensures.beside.layout) at c.free_all.ensures.cost in
-    let lay : c.free_all.new.filer.swapper.layout ≡ layout = c.free_all.ensures.layout ∙ c.size.ensures.beside.layout in
+    let lay : (view_of c.free_all.new.filer).layout ≡ layout = c.free_all.ensures.layout ∙ c.size.ensures.beside.layout in
     let three = rw lay at c.cut.ensures.cost in
-    rw c.frames_of-volume.ensures.same (revealed_cost (g.D.Disk.state c.args.filer.now.swapper.disk).transfers (g.D.Disk.state c.size.new.self.swapper.disk).transfers (g.D.Disk.state c.free_all.new.filer.swapper.disk).transfers (g.D.Disk.state c.cut.new.self.swapper.disk).transfers f.size c.in-Ok.pages (16 + 4 * layout.vam) (2 * (1 + 51 * most_records layout.sectors)) size c.size.ensures.cost two three)
+    rw c.frames_of-volume.ensures.same (revealed_cost (view_of c.args.filer.now).disk.transfers (view_of c.size.new.self).disk.transfers (view_of c.free_all.new.filer).disk.transfers (view_of c.cut.new.self).disk.transfers f.size c.in-Ok.pages (16 + 4 * layout.vam) (2 * (1 + 51 * most_records layout.sectors)) size c.size.ensures.cost two three)
 
 pub returns-in-Err-clause-counted : goal.returns-in-Err-clause-counted
-returns-in-Err-clause-counted g c = counted _ _ (g.D.Disk.state c.args.filer.now.swapper.disk) (g.D.Disk.state c.size.new.self.swapper.disk) _ (omega arith) c.in-Err.ensures.cause
+returns-in-Err-clause-counted g c = counted _ _ (view_of c.args.filer.now).disk (view_of c.size.new.self).disk _ (omega arith) c.in-Err.ensures.cause
 
 pub returns-in-Err-free_all-clause-counted : goal.returns-in-Err-free_all-clause-counted
 returns-in-Err-free_all-clause-counted g c = counted_then _ _ _ (map_makes c.size.ensures.beside).went.faults c.in-Err-free_all.ensures.counted
@@ -174,23 +175,23 @@ pub returns-in-Err-cut-clause-counted : goal.returns-in-Err-cut-clause-counted
 returns-in-Err-cut-clause-counted g c =
     let first = (map_makes c.size.ensures.beside).went.faults in
     let second = c.in-Ok-free_all.ensures.makes.makes.went.faults in
-    counted _ _ (g.D.Disk.state c.free_all.new.filer.swapper.disk) (g.D.Disk.state c.cut.new.self.swapper.disk) _ (omega (arith, first, second)) c.in-Err-cut.ensures.cause
+    counted _ _ (view_of c.free_all.new.filer).disk (view_of c.cut.new.self).disk _ (omega (arith, first, second)) c.in-Err-cut.ensures.cause
 
 pub returns-in-Err-free_all-clause-cost_sized : goal.returns-in-Err-free_all-clause-cost_sized
 returns-in-Err-free_all-clause-cost_sized g c = λ x shapes spaces f books found hidden.
-    let layout = c.args.filer.now.swapper.layout in
-    let is = c.args.filer.now.swapper.accepted in
+    let layout = (view_of c.args.filer.now).layout in
+    let is = (accepted c.args.filer.now) in
     let b = books.booked in
     let map = map_is _ _ shapes x is b in
     let asked = c.in-Ok.ensures.size x b.named books.stands map in
     let size : c.in-Ok.pages ≡ f.size = size_is _ _ shapes x b c.args.id c.requires.client f found c.in-Ok.pages asked in
     let two = rw (c.size.ensures.beside.layout) at c.free_all.ensures.cost in
-    sized_cost (g.D.Disk.state c.args.filer.now.swapper.disk).transfers (g.D.Disk.state c.size.new.self.swapper.disk).transfers (g.D.Disk.state c.free_all.new.filer.swapper.disk).transfers (g.D.Disk.state c.free_all.new.filer.swapper.disk).transfers f.size c.in-Ok.pages (16 + 4 * layout.vam) size c.size.ensures.cost two (omega arith)
+    sized_cost (view_of c.args.filer.now).disk.transfers (view_of c.size.new.self).disk.transfers (view_of c.free_all.new.filer).disk.transfers (view_of c.free_all.new.filer).disk.transfers f.size c.in-Ok.pages (16 + 4 * layout.vam) size c.size.ensures.cost two (omega arith)
 
 pub returns-in-Err-cut-clause-cost_sized : goal.returns-in-Err-cut-clause-cost_sized
 returns-in-Err-cut-clause-cost_sized g c = λ x shapes spaces f books found hidden.
-    let layout = c.args.filer.now.swapper.layout in
-    let is = c.args.filer.now.swapper.accepted in
+    let layout = (view_of c.args.filer.now).layout in
+    let is = (accepted c.args.filer.now) in
     let b = books.booked in
     let map = map_is _ _ shapes x is b in
     let asked = c.in-Ok.ensures.size x b.named books.stands map in
@@ -199,14 +200,14 @@ returns-in-Err-cut-clause-cost_sized g c = λ x shapes spaces f books found hidd
     let stands = c.size.ensures.same x b.named books.stands map in
     let may = may_free layout is c.args.filer.now.runs shapes spaces x _ _ books c.args.id c.requires.client f found hidden _ _ _ _ c.size.ensures.runs c.size.ensures.beside stands c.in-Ok.pages asked in
     let freed = (rw (c.size.ensures.beside.layout) at c.in-Ok-free_all.ensures.freed) b.named spaces x may in
-    let lay : c.free_all.new.filer.swapper.layout ≡ layout = c.in-Ok-free_all.ensures.layout ∙ c.size.ensures.beside.layout in
+    let lay : (view_of c.free_all.new.filer).layout ≡ layout = c.in-Ok-free_all.ensures.layout ∙ c.size.ensures.beside.layout in
     let three = (rw lay at c.cut.ensures.cost_sized) freed.memory b.named c.in-Ok.pages freed.rest.stands freed.rest.map asked in
-    sized_cost (g.D.Disk.state c.args.filer.now.swapper.disk).transfers (g.D.Disk.state c.size.new.self.swapper.disk).transfers (g.D.Disk.state c.free_all.new.filer.swapper.disk).transfers (g.D.Disk.state c.cut.new.self.swapper.disk).transfers f.size c.in-Ok.pages (16 + 4 * layout.vam) size c.size.ensures.cost two three
+    sized_cost (view_of c.args.filer.now).disk.transfers (view_of c.size.new.self).disk.transfers (view_of c.free_all.new.filer).disk.transfers (view_of c.cut.new.self).disk.transfers f.size c.in-Ok.pages (16 + 4 * layout.vam) size c.size.ensures.cost two three
 
 pub returns-clause-cost_sized : goal.returns-clause-cost_sized
 returns-clause-cost_sized g c = λ x shapes spaces f books found hidden.
-    let layout = c.args.filer.now.swapper.layout in
-    let is = c.args.filer.now.swapper.accepted in
+    let layout = (view_of c.args.filer.now).layout in
+    let is = (accepted c.args.filer.now) in
     let b = books.booked in
     let map = map_is _ _ shapes x is b in
     let asked = c.in-Ok.ensures.size x b.named books.stands map in
@@ -215,52 +216,52 @@ returns-clause-cost_sized g c = λ x shapes spaces f books found hidden.
     let stands = c.size.ensures.same x b.named books.stands map in
     let may = may_free layout is c.args.filer.now.runs shapes spaces x _ _ books c.args.id c.requires.client f found hidden _ _ _ _ c.size.ensures.runs c.size.ensures.beside stands c.in-Ok.pages asked in
     let freed = (rw (c.size.ensures.beside.layout) at c.in-Ok-free_all.ensures.freed) b.named spaces x may in
-    let lay : c.free_all.new.filer.swapper.layout ≡ layout = c.in-Ok-free_all.ensures.layout ∙ c.size.ensures.beside.layout in
+    let lay : (view_of c.free_all.new.filer).layout ≡ layout = c.in-Ok-free_all.ensures.layout ∙ c.size.ensures.beside.layout in
     let three = (rw lay at c.cut.ensures.cost_sized) freed.memory b.named c.in-Ok.pages freed.rest.stands freed.rest.map asked in
-    rw c.frames_of-volume.ensures.same (sized_cost (g.D.Disk.state c.args.filer.now.swapper.disk).transfers (g.D.Disk.state c.size.new.self.swapper.disk).transfers (g.D.Disk.state c.free_all.new.filer.swapper.disk).transfers (g.D.Disk.state c.cut.new.self.swapper.disk).transfers f.size c.in-Ok.pages (16 + 4 * layout.vam) size c.size.ensures.cost two three)
+    rw c.frames_of-volume.ensures.same (sized_cost (view_of c.args.filer.now).disk.transfers (view_of c.size.new.self).disk.transfers (view_of c.free_all.new.filer).disk.transfers (view_of c.cut.new.self).disk.transfers f.size c.in-Ok.pages (16 + 4 * layout.vam) size c.size.ensures.cost two three)
 
 pub returns-in-Err-clause-evidence_seen : goal.returns-in-Err-clause-evidence_seen
-returns-in-Err-clause-evidence_seen g c = so_of_map (fits c.args.filer.now.swapper c.requires.size) c.size.ensures.beside.goes.makes c.in-Err.halt c.in-Err.ensures.cause
+returns-in-Err-clause-evidence_seen g c = so_of_map (fits (swapper_of c.args.filer.now) c.requires.size) c.size.ensures.beside.goes.makes c.in-Err.halt c.in-Err.ensures.cause
 
 pub returns-in-Err-cut-clause-evidence_seen : goal.returns-in-Err-cut-clause-evidence_seen
-returns-in-Err-cut-clause-evidence_seen g c = so_of_cut (fits c.free_all.new.filer.swapper (search rules)) c.cut.ensures.beside.goes.makes c.in-Err-cut.halt c.in-Err-cut.ensures.cause
+returns-in-Err-cut-clause-evidence_seen g c = so_of_cut (fits (swapper_of c.free_all.new.filer) (search rules)) c.cut.ensures.beside.goes.makes c.in-Err-cut.halt c.in-Err-cut.ensures.cause
 
 pub returns-in-Err-clause-cause : goal.returns-in-Err-clause-cause
 returns-in-Err-clause-cause g c =
-    let layout = c.args.filer.now.swapper.layout in
-    let old = (g.D.Disk.state c.args.filer.now.swapper.disk) in
-    let pool = c.args.filer.now.swapper.pool in
+    let layout = (view_of c.args.filer.now).layout in
+    let old = (view_of c.args.filer.now).disk in
+    let pool = (view_of c.args.filer.now).slots in
     let kept = runs_of layout.sectors c.args.filer.now.runs in
     let pages = IsPageOf layout old pool c.args.id in
-    let new = (g.D.Disk.state c.size.new.self.swapper.disk) in
+    let new = (view_of c.size.new.self).disk in
     cut_of_free (IsUnframed pool c.args.id) layout kept c.args.id 0 pages old new pool c.in-Err.halt
     (search_halts_after (keeps_none (IsUnframed pool c.args.id) layout c.args.id old pool kept (λ none. none)) pages new c.in-Err.halt c.in-Err.ensures.cause)
 
 pub returns-in-Err-free_all-clause-cause : goal.returns-in-Err-free_all-clause-cause
 returns-in-Err-free_all-clause-cause g c =
-    let layout = c.args.filer.now.swapper.layout in
-    let old = (g.D.Disk.state c.args.filer.now.swapper.disk) in
-    let pool = c.args.filer.now.swapper.pool in
+    let layout = (view_of c.args.filer.now).layout in
+    let old = (view_of c.args.filer.now).disk in
+    let pool = (view_of c.args.filer.now).slots in
     let kept = runs_of layout.sectors c.args.filer.now.runs in
     let pages = IsPageOf layout old pool c.args.id in
     let same : runs_of layout.sectors c.size.new.self.runs ≡ kept = ap (runs_of layout.sectors) c.size.ensures.runs in
     let keep = keeps_read (inr c.requires.client) c.size.ensures.beside c.size.ensures.same_bytes (λ r one. inl (subst (IsOneOf r) same one)) in
-    let new = (g.D.Disk.state c.free_all.new.filer.swapper.disk) in
+    let new = (view_of c.free_all.new.filer).disk in
     cut_of_free (IsUnframed pool c.args.id) layout kept c.args.id 0 pages old new pool c.in-Err-free_all.halt
     (free_halts_before keep (λ p. (p ≡ leader_page) ⊎ (p < c.in-Ok.pages)) pages (λ p h. elim h [ inl leads ↦ inl leads | inr below ↦ inr (λ m named stands map. (c.in-Ok.pages, c.in-Ok.ensures.size m named stands map, below)) ]) c.requires.size
     new c.in-Err-free_all.halt (rw c.size.ensures.beside.layout at c.in-Err-free_all.ensures.cause))
 
 pub returns-in-Err-cut-clause-cause : goal.returns-in-Err-cut-clause-cause
 returns-in-Err-cut-clause-cause g c =
-    let layout = c.args.filer.now.swapper.layout in
-    let old = (g.D.Disk.state c.args.filer.now.swapper.disk) in
-    let pool = c.args.filer.now.swapper.pool in
+    let layout = (view_of c.args.filer.now).layout in
+    let old = (view_of c.args.filer.now).disk in
+    let pool = (view_of c.args.filer.now).slots in
     let kept = runs_of layout.sectors c.args.filer.now.runs in
     let pages = IsPageOf layout old pool c.args.id in
     let same : runs_of layout.sectors c.size.new.self.runs ≡ kept = ap (runs_of layout.sectors) c.size.ensures.runs in
     let keep = keeps_read (inr c.requires.client) c.size.ensures.beside c.size.ensures.same_bytes (λ r one. inl (subst (IsOneOf r) same one)) in
-    let lay : c.free_all.new.filer.swapper.layout ≡ layout = c.in-Ok-free_all.ensures.layout ∙ c.size.ensures.beside.layout in
-    cut_halts_after (keeps_then keep (rw c.size.ensures.beside.layout at c.in-Ok-free_all.ensures.keeps)) 0 pages (g.D.Disk.state c.cut.new.self.swapper.disk) c.cut.new.self.swapper.pool c.in-Err-cut.halt
+    let lay : (view_of c.free_all.new.filer).layout ≡ layout = c.in-Ok-free_all.ensures.layout ∙ c.size.ensures.beside.layout in
+    cut_halts_after (keeps_then keep (rw c.size.ensures.beside.layout at c.in-Ok-free_all.ensures.keeps)) 0 pages (view_of c.cut.new.self).disk (view_of c.cut.new.self).slots c.in-Err-cut.halt
     (rw lay at c.in-Err-cut.ensures.begun) (rw lay at c.in-Err-cut.ensures.cause)
 
 pub returns-in-Err-clause-own : goal.returns-in-Err-clause-own
@@ -290,17 +291,17 @@ returns-clause-root g c = deleted_root (returns-clause-makes g c)
 -- ---- What it keeps to, and the reasons of its halts.
 
 pub returns-in-Err-clause-reasons : goal.returns-in-Err-clause-reasons
-returns-in-Err-clause-reasons g c = λ o named k. map_reasons k c.size.ensures.beside.goes.makes c.args.filer.now.swapper.accepted c.in-Err.halt c.in-Err.ensures.cause
+returns-in-Err-clause-reasons g c = λ o named k. map_reasons k c.size.ensures.beside.goes.makes (accepted c.args.filer.now) c.in-Err.halt c.in-Err.ensures.cause
 
 pub returns-in-Err-free_all-clause-reasons : goal.returns-in-Err-free_all-clause-reasons
 returns-in-Err-free_all-clause-reasons g c = λ o named k.
-    subst (λ (l : Layout). ShowsReason o l (g.D.Disk.state c.free_all.new.filer.swapper.disk) c.in-Err-free_all.halt) c.size.ensures.beside.layout
+    subst (λ (l : Layout). ShowsReason o l (view_of c.free_all.new.filer).disk c.in-Err-free_all.halt) c.size.ensures.beside.layout
     (c.in-Err-free_all.ensures.reasons o named (keeps_asked c.args.filer.now.runs c.size.new.self.runs c.size.ensures.runs k c.size.ensures.beside c.size.ensures.same))
 
 pub returns-in-Err-cut-clause-reasons : goal.returns-in-Err-cut-clause-reasons
 returns-in-Err-cut-clause-reasons g c = λ o named k.
     let now = c.in-Ok-free_all.ensures.keeps_to o named (keeps_asked c.args.filer.now.runs c.size.new.self.runs c.size.ensures.runs k c.size.ensures.beside c.size.ensures.same) in
-    subst (λ (l : Layout). ShowsReason o l (g.D.Disk.state c.cut.new.self.swapper.disk) c.in-Err-cut.halt) (c.in-Ok-free_all.ensures.layout ∙ c.size.ensures.beside.layout)
+    subst (λ (l : Layout). ShowsReason o l (view_of c.cut.new.self).disk c.in-Err-cut.halt) (c.in-Ok-free_all.ensures.layout ∙ c.size.ensures.beside.layout)
     (cut_reasons now c.cut.ensures.beside.goes.makes c.in-Err-cut.halt c.in-Err-cut.ensures.cause (c.in-Err-cut.ensures.right now.memory named now.stands now.map))
 
 pub returns-clause-keeps_to : goal.returns-clause-keeps_to
@@ -310,8 +311,8 @@ returns-clause-keeps_to g c = λ o named k.
     let sized = c.in-Ok.ensures.size k.memory named k.stands k.map in
     rw c.frames_of-volume.ensures.same (
       _,
-      keeps_at c.cut.new.self.runs c.cut.ensures.beside.layout (keeps_cut now c.cut.ensures.beside c.args.id 0 (c.cut.ensures.runs c.free_all.new.filer.swapper.layout.sectors)
-          c.free_all.new.filer.swapper.accepted (client_leaves o c.args.id c.requires.client) (client_untabled c.args.id c.requires.client)
+      keeps_at c.cut.new.self.runs c.cut.ensures.beside.layout (keeps_cut now c.cut.ensures.beside c.args.id 0 (c.cut.ensures.runs (view_of c.free_all.new.filer).layout.sectors)
+          (accepted c.free_all.new.filer) (client_leaves o c.args.id c.requires.client) (client_untabled c.args.id c.requires.client)
           (λ page sector may from is. c.in-Ok-free_all.ensures.evict o named asked page sector (all_pages sized k.map page sector is) is) c.in-Ok-cut.ensures.cut),
       tables_left named c.args.id 0 c.requires.client,
     )

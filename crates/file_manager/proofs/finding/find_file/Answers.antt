@@ -26,6 +26,7 @@ use Rattle.file_manager.proofs.KeepSteps.{keeps_asked}
 use Rattle.file_manager.specs.ReasonLaws.{map_reasons}
 use Rattle.file_manager.specs.Reasons.{ShowsReason}
 use Rattle.file_manager.proofs.finding.find_file.Goals as goal
+use Rattle.filer_kernel.specs.View.{accepted, swapper_of, view_of}
 
 pub returns-in-Ok-None-clause-revealed : goal.returns-in-Ok-None-clause-revealed
 returns-in-Ok-None-clause-revealed g c = λ x shapes spaces books. subst (IsLeaderOf (labels_of x) shapes c.args.id) c.in-Ok-None.field-0-is (c.in-Ok-None.ensures.revealed x shapes spaces books)
@@ -34,11 +35,11 @@ pub returns-in-Err-clause-revealed : goal.returns-in-Err-clause-revealed
 returns-in-Err-clause-revealed g c = λ x shapes spaces books. c.in-Err.ensures.revealed x shapes spaces books
 
 pub returns-in-Err-clause-cause : goal.returns-in-Err-clause-cause
-returns-in-Err-clause-cause g c = leader_halts _ (runs_of c.args.filer.now.swapper.layout.sectors c.args.filer.now.runs) c.args.id (g.D.Disk.state c.args.filer.now.swapper.disk) (g.D.Disk.state c.leader_of.new.filer.swapper.disk) _ _ c.in-Err.ensures.cause
+returns-in-Err-clause-cause g c = leader_halts _ (runs_of (view_of c.args.filer.now).layout.sectors c.args.filer.now.runs) c.args.id (view_of c.args.filer.now).disk (view_of c.leader_of.new.filer).disk _ _ c.in-Err.ensures.cause
 
 pub leader_label-requires : goal.leader_label-requires
 leader_label-requires g c =
-    let at = subst (λ (o : Option ℕ). IfSome o (λ sector. (c.args.filer.now.swapper.layout.first ≤ sector) × (sector < c.args.filer.now.swapper.layout.sectors))) c.in-Ok-Some.field-0-is c.in-Ok-Some.ensures.place in
+    let at = subst (λ (o : Option ℕ). IfSome o (λ sector. ((view_of c.args.filer.now).layout.first ≤ sector) × (sector < (view_of c.args.filer.now).layout.sectors))) c.in-Ok-Some.field-0-is c.in-Ok-Some.ensures.place in
     let below = at.1 in
     let size = c.leader_of.ensures.makes.went.sectors ∙ c.requires.size in
     omega (arith, below, size)
@@ -61,23 +62,23 @@ returns-in-Err-leader_label-clause-brings g c = read_brings c.leader_of.ensures.
 
 pub returns-in-Err-leader_label-clause-cause : goal.returns-in-Err-leader_label-clause-cause
 returns-in-Err-leader_label-clause-cause g c =
-    let at = subst (λ (o : Option ℕ). IfSome o (λ sector. (c.args.filer.now.swapper.layout.first ≤ sector) × (sector < c.args.filer.now.swapper.layout.sectors))) c.in-Ok-Some.field-0-is c.in-Ok-Some.ensures.place in
-    let layout = c.args.filer.now.swapper.layout in
+    let at = subst (λ (o : Option ℕ). IfSome o (λ sector. ((view_of c.args.filer.now).layout.first ≤ sector) × (sector < (view_of c.args.filer.now).layout.sectors))) c.in-Ok-Some.field-0-is c.in-Ok-Some.ensures.place in
+    let layout = (view_of c.args.filer.now).layout in
     let kept = runs_of layout.sectors c.args.filer.now.runs in
-    let old = g.D.Disk.state c.args.filer.now.swapper.disk in
-    let given = subst (λ (o : Option ℕ). IfSome o (λ sector. IsRunHome layout old c.args.filer.now.swapper.pool kept (home_at sector (record { id = c.args.id; page = leader_page })))) c.in-Ok-Some.field-0-is c.in-Ok-Some.ensures.given in
-    no_leader_before layout c.leader_of.ensures.makes kept c.args.id c.in-Ok-Some.sector at.0 at.1 given (g.D.Disk.state c.leader_label.new.filer.swapper.disk) _ c.in-Err-leader_label.ensures.cause
+    let old = (view_of c.args.filer.now).disk in
+    let given = subst (λ (o : Option ℕ). IfSome o (λ sector. IsRunHome layout old (view_of c.args.filer.now).slots kept (home_at sector (record { id = c.args.id; page = leader_page })))) c.in-Ok-Some.field-0-is c.in-Ok-Some.ensures.given in
+    no_leader_before layout c.leader_of.ensures.makes kept c.args.id c.in-Ok-Some.sector at.0 at.1 given (view_of c.leader_label.new.filer).disk _ c.in-Err-leader_label.ensures.cause
 
 pub size-requires : goal.size-requires
 size-requires g c =
-    let lay : c.leader_label.new.filer.swapper.layout.sectors ≡ c.args.filer.now.swapper.layout.sectors = ap (λ (l : Layout). l.sectors) (c.leader_label.ensures.layout ∙ c.leader_of.ensures.layout) in
+    let lay : (view_of c.leader_label.new.filer).layout.sectors ≡ (view_of c.args.filer.now).layout.sectors = ap (λ (l : Layout). l.sectors) (c.leader_label.ensures.layout ∙ c.leader_of.ensures.layout) in
     record { sectors = c.leader_label.ensures.makes.went.sectors ∙ c.leader_of.ensures.makes.went.sectors ∙ c.requires.size ∙ sym lay }
 
 pub returns-in-Ok-size-clause-revealed : goal.returns-in-Ok-size-clause-revealed
 returns-in-Ok-size-clause-revealed g c = λ x shapes spaces books.
-    let layout = c.args.filer.now.swapper.layout in
-    let is : IsLayout layout = c.args.filer.now.swapper.accepted in
-    let lay : c.leader_label.new.filer.swapper.layout ≡ layout = c.leader_label.ensures.layout ∙ c.leader_of.ensures.layout in
+    let layout = (view_of c.args.filer.now).layout in
+    let is : IsLayout layout = (accepted c.args.filer.now) in
+    let lay : (view_of c.leader_label.new.filer).layout ≡ layout = c.leader_label.ensures.layout ∙ c.leader_of.ensures.layout in
     let mid = c.leader_of.ensures.same x shapes spaces books in
     let now = books_read c.leader_label.ensures.same c.leader_label.ensures.frames c.leader_label.ensures.runs mid in
     let triple = subst (IsLeaderOf (labels_of x) shapes c.args.id) c.in-Ok-Some.field-0-is (c.in-Ok-Some.ensures.revealed x shapes spaces books) in
@@ -86,9 +87,9 @@ returns-in-Ok-size-clause-revealed g c = λ x shapes spaces books.
 
 pub returns-in-Ok-size-clause-same : goal.returns-in-Ok-size-clause-same
 returns-in-Ok-size-clause-same g c = λ x shapes spaces books.
-    let layout = c.args.filer.now.swapper.layout in
-    let is : IsLayout layout = c.args.filer.now.swapper.accepted in
-    let lay : c.leader_label.new.filer.swapper.layout ≡ layout = c.leader_label.ensures.layout ∙ c.leader_of.ensures.layout in
+    let layout = (view_of c.args.filer.now).layout in
+    let is : IsLayout layout = (accepted c.args.filer.now) in
+    let lay : (view_of c.leader_label.new.filer).layout ≡ layout = c.leader_label.ensures.layout ∙ c.leader_of.ensures.layout in
     let mid = c.leader_of.ensures.same x shapes spaces books in
     let now = books_read c.leader_label.ensures.same c.leader_label.ensures.frames c.leader_label.ensures.runs mid in
     let map = map_is _ _ shapes x is now.booked in
@@ -96,7 +97,7 @@ returns-in-Ok-size-clause-same g c = λ x shapes spaces books.
     (subst (λ (r : CachedRuns). AreOf now.booked.named (runs_of layout.sectors r)) (sym c.size.ensures.runs) (kept_are _ _ shapes x is now.booked))
 
 pub returns-in-Ok-size-clause-place : goal.returns-in-Ok-size-clause-place
-returns-in-Ok-size-clause-place g c = subst (λ (o : Option ℕ). IfSome o (λ sector. (c.args.filer.now.swapper.layout.first ≤ sector) × (sector < c.args.filer.now.swapper.layout.sectors))) c.in-Ok-Some.field-0-is c.in-Ok-Some.ensures.place
+returns-in-Ok-size-clause-place g c = subst (λ (o : Option ℕ). IfSome o (λ sector. ((view_of c.args.filer.now).layout.first ≤ sector) × (sector < (view_of c.args.filer.now).layout.sectors))) c.in-Ok-Some.field-0-is c.in-Ok-Some.ensures.place
 
 pub returns-in-Ok-size-clause-makes : goal.returns-in-Ok-size-clause-makes
 returns-in-Ok-size-clause-makes g c = makes_then (read_makes c.leader_of.ensures.beside c.leader_label.ensures.same c.leader_label.ensures.makes c.leader_label.ensures.frames) (map_makes c.size.ensures.beside)
@@ -106,9 +107,9 @@ returns-in-Ok-size-clause-brings g c = brings_then (read_brings c.leader_of.ensu
 
 pub returns-in-Err-size-clause-revealed : goal.returns-in-Err-size-clause-revealed
 returns-in-Err-size-clause-revealed g c = λ x shapes spaces books.
-    let layout = c.args.filer.now.swapper.layout in
-    let is : IsLayout layout = c.args.filer.now.swapper.accepted in
-    let lay : c.leader_label.new.filer.swapper.layout ≡ layout = c.leader_label.ensures.layout ∙ c.leader_of.ensures.layout in
+    let layout = (view_of c.args.filer.now).layout in
+    let is : IsLayout layout = (accepted c.args.filer.now) in
+    let lay : (view_of c.leader_label.new.filer).layout ≡ layout = c.leader_label.ensures.layout ∙ c.leader_of.ensures.layout in
     let mid = c.leader_of.ensures.same x shapes spaces books in
     let now = books_read c.leader_label.ensures.same c.leader_label.ensures.frames c.leader_label.ensures.runs mid in
     let b = now.booked in
@@ -116,9 +117,9 @@ returns-in-Err-size-clause-revealed g c = λ x shapes spaces books.
 
 pub returns-in-Err-size-clause-same : goal.returns-in-Err-size-clause-same
 returns-in-Err-size-clause-same g c = λ x shapes spaces books.
-    let layout = c.args.filer.now.swapper.layout in
-    let is : IsLayout layout = c.args.filer.now.swapper.accepted in
-    let lay : c.leader_label.new.filer.swapper.layout ≡ layout = c.leader_label.ensures.layout ∙ c.leader_of.ensures.layout in
+    let layout = (view_of c.args.filer.now).layout in
+    let is : IsLayout layout = (accepted c.args.filer.now) in
+    let lay : (view_of c.leader_label.new.filer).layout ≡ layout = c.leader_label.ensures.layout ∙ c.leader_of.ensures.layout in
     let mid = c.leader_of.ensures.same x shapes spaces books in
     let now = books_read c.leader_label.ensures.same c.leader_label.ensures.frames c.leader_label.ensures.runs mid in
     let map = map_is _ _ shapes x is now.booked in
@@ -133,26 +134,26 @@ returns-in-Err-size-clause-brings g c = brings_then (read_brings c.leader_of.ens
 
 pub returns-in-Err-size-clause-cause : goal.returns-in-Err-size-clause-cause
 returns-in-Err-size-clause-cause g c =
-    let layout = c.args.filer.now.swapper.layout in
-    let lay : c.leader_label.new.filer.swapper.layout ≡ layout = c.leader_label.ensures.layout ∙ c.leader_of.ensures.layout in
+    let layout = (view_of c.args.filer.now).layout in
+    let lay : (view_of c.leader_label.new.filer).layout ≡ layout = c.leader_label.ensures.layout ∙ c.leader_of.ensures.layout in
     let beside = c.leader_of.ensures.beside in
     let revealed = c.leader_label.ensures.same in
     let read = c.leader_label.ensures.makes in
     let frames = c.leader_label.ensures.frames in
-    map_halts_before layout (read_makes beside revealed read frames) (read_map_brings beside revealed read frames) (read_bytes beside revealed read frames c.leader_of.ensures.same_bytes) (runs_of layout.sectors c.args.filer.now.runs) c.args.id (g.D.Disk.state c.size.new.self.swapper.disk) _ (rw lay at c.in-Err-size.ensures.cause)
+    map_halts_before layout (read_makes beside revealed read frames) (read_map_brings beside revealed read frames) (read_bytes beside revealed read frames c.leader_of.ensures.same_bytes) (runs_of layout.sectors c.args.filer.now.runs) c.args.id (view_of c.size.new.self).disk _ (rw lay at c.in-Err-size.ensures.cause)
 
 pub returns-in-Ok-None-clause-missing : goal.returns-in-Ok-None-clause-missing
 returns-in-Ok-None-clause-missing g c none = c.in-Ok-None.ensures.missing (search rules)
 
 pub returns-in-Err-leader_label-clause-evidence_seen : goal.returns-in-Err-leader_label-clause-evidence_seen
 returns-in-Err-leader_label-clause-evidence_seen g c =
-    let layout = c.args.filer.now.swapper.layout in
+    let layout = (view_of c.args.filer.now).layout in
     let size = c.leader_of.ensures.makes.went.sectors ∙ c.requires.size in
     let place = subst (λ (o : Option ℕ). IfSome o (λ sector. (layout.first ≤ sector) × (sector < layout.sectors))) c.in-Ok-Some.field-0-is c.in-Ok-Some.ensures.place in
-    c.in-Err-leader_label.ensures.evidence_seen (file_may layout (g.D.Disk.state c.leader_of.new.filer.swapper.disk) c.args.filer.now.swapper.accepted size c.in-Ok-Some.sector (record { id = c.args.id; page = leader_page }) (inr c.requires.client) place.0 place.1)
+    c.in-Err-leader_label.ensures.evidence_seen (file_may layout (view_of c.leader_of.new.filer).disk (accepted c.args.filer.now) size c.in-Ok-Some.sector (record { id = c.args.id; page = leader_page }) (inr c.requires.client) place.0 place.1)
 
 pub returns-in-Err-size-clause-evidence_seen : goal.returns-in-Err-size-clause-evidence_seen
-returns-in-Err-size-clause-evidence_seen g c = so_of_map (fits c.leader_label.new.filer.swapper (search rules)) c.size.ensures.beside.goes.makes c.in-Err-size.halt c.in-Err-size.ensures.cause
+returns-in-Err-size-clause-evidence_seen g c = so_of_map (fits (swapper_of c.leader_label.new.filer) (search rules)) c.size.ensures.beside.goes.makes c.in-Err-size.halt c.in-Err-size.ensures.cause
 
 pub returns-in-Err-clause-keeps : goal.returns-in-Err-clause-keeps
 returns-in-Err-clause-keeps g c = c.leader_of.ensures.keeps
@@ -162,32 +163,32 @@ returns-in-Ok-None-clause-keeps g c = c.leader_of.ensures.keeps
 
 pub returns-in-Err-leader_label-clause-keeps : goal.returns-in-Err-leader_label-clause-keeps
 returns-in-Err-leader_label-clause-keeps g c =
-    let layout = c.args.filer.now.swapper.layout in
+    let layout = (view_of c.args.filer.now).layout in
     let look = keeps_look c.leader_label.ensures.same c.leader_label.ensures.makes c.leader_label.ensures.frames (ap (runs_of layout.sectors) c.leader_label.ensures.runs) in
     keeps_then c.leader_of.ensures.keeps look
 
 pub returns-in-Ok-size-clause-keeps : goal.returns-in-Ok-size-clause-keeps
 returns-in-Ok-size-clause-keeps g c =
-    let layout = c.args.filer.now.swapper.layout in
+    let layout = (view_of c.args.filer.now).layout in
     let look = keeps_look c.leader_label.ensures.same c.leader_label.ensures.makes c.leader_label.ensures.frames (ap (runs_of layout.sectors) c.leader_label.ensures.runs) in
     let keep = keeps_then c.leader_of.ensures.keeps look in
-    let lay : c.leader_label.new.filer.swapper.layout ≡ layout = c.leader_label.ensures.layout ∙ c.leader_of.ensures.layout in
+    let lay : (view_of c.leader_label.new.filer).layout ≡ layout = c.leader_label.ensures.layout ∙ c.leader_of.ensures.layout in
     let same : runs_of layout.sectors c.size.new.self.runs ≡ runs_of layout.sectors c.leader_label.new.filer.runs = ap (runs_of layout.sectors) c.size.ensures.runs in
     keeps_then keep (keeps_read (inr c.requires.client) (rw lay at c.size.ensures.beside) (rw lay at c.size.ensures.same_bytes) (λ r one. inl (subst (IsOneOf r) same one)))
 
 pub returns-in-Err-size-clause-keeps : goal.returns-in-Err-size-clause-keeps
 returns-in-Err-size-clause-keeps g c =
-    let layout = c.args.filer.now.swapper.layout in
+    let layout = (view_of c.args.filer.now).layout in
     let look = keeps_look c.leader_label.ensures.same c.leader_label.ensures.makes c.leader_label.ensures.frames (ap (runs_of layout.sectors) c.leader_label.ensures.runs) in
     let keep = keeps_then c.leader_of.ensures.keeps look in
-    let lay : c.leader_label.new.filer.swapper.layout ≡ layout = c.leader_label.ensures.layout ∙ c.leader_of.ensures.layout in
+    let lay : (view_of c.leader_label.new.filer).layout ≡ layout = c.leader_label.ensures.layout ∙ c.leader_of.ensures.layout in
     let same : runs_of layout.sectors c.size.new.self.runs ≡ runs_of layout.sectors c.leader_label.new.filer.runs = ap (runs_of layout.sectors) c.size.ensures.runs in
     keeps_then keep (keeps_read (inr c.requires.client) (rw lay at c.size.ensures.beside) (rw lay at c.size.ensures.same_bytes) (λ r one. inl (subst (IsOneOf r) same one)))
 
 pub returns-in-Ok-size-clause-size : goal.returns-in-Ok-size-clause-size
 returns-in-Ok-size-clause-size g c = λ m named stands map.
-    let layout = c.args.filer.now.swapper.layout in
-    let lay : c.leader_label.new.filer.swapper.layout ≡ layout = c.leader_label.ensures.layout ∙ c.leader_of.ensures.layout in
+    let layout = (view_of c.args.filer.now).layout in
+    let lay : (view_of c.leader_label.new.filer).layout ≡ layout = c.leader_label.ensures.layout ∙ c.leader_of.ensures.layout in
     let now = read_bytes c.leader_of.ensures.beside c.leader_label.ensures.same c.leader_label.ensures.makes c.leader_label.ensures.frames c.leader_of.ensures.same_bytes map.bytes (record { memory = m; stands = stands; shows = map.shows; size = c.requires.size }) in
     (rw lay at c.in-Ok-size.ensures.size) now.memory named now.stands (record { bytes = map.bytes; shows = now.shows; names = map.names })
 
@@ -199,14 +200,14 @@ returns-in-Ok-None-clause-takes g c = made_read c.args.id c.requires.size c.lead
 
 pub returns-in-Ok-size-clause-same_bytes : goal.returns-in-Ok-size-clause-same_bytes
 returns-in-Ok-size-clause-same_bytes g c = λ bytes reveals.
-    let layout = c.args.filer.now.swapper.layout in
-    let lay : c.leader_label.new.filer.swapper.layout ≡ layout = c.leader_label.ensures.layout ∙ c.leader_of.ensures.layout in
+    let layout = (view_of c.args.filer.now).layout in
+    let lay : (view_of c.leader_label.new.filer).layout ≡ layout = c.leader_label.ensures.layout ∙ c.leader_of.ensures.layout in
     (rw lay at c.size.ensures.same_bytes) bytes (read_bytes c.leader_of.ensures.beside c.leader_label.ensures.same c.leader_label.ensures.makes c.leader_label.ensures.frames c.leader_of.ensures.same_bytes bytes reveals)
 
 pub returns-in-Ok-size-clause-takes : goal.returns-in-Ok-size-clause-takes
 returns-in-Ok-size-clause-takes g c =
-    let layout = c.args.filer.now.swapper.layout in
-    let lay : c.leader_label.new.filer.swapper.layout ≡ layout = c.leader_label.ensures.layout ∙ c.leader_of.ensures.layout in
+    let layout = (view_of c.args.filer.now).layout in
+    let lay : (view_of c.leader_label.new.filer).layout ≡ layout = c.leader_label.ensures.layout ∙ c.leader_of.ensures.layout in
     let size = c.leader_label.ensures.makes.went.sectors ∙ c.leader_of.ensures.makes.went.sectors ∙ c.requires.size in
     reads_then (made_read c.args.id c.requires.size c.leader_of.ensures.beside c.leader_of.ensures.same_bytes)
     (reads_then (made_look layout c.args.id c.leader_label.ensures.same c.leader_label.ensures.frames) (made_read c.args.id size (rw lay at c.size.ensures.beside) (rw lay at c.size.ensures.same_bytes)))
@@ -242,8 +243,8 @@ returns-in-Ok-size-clause-runs_are g c = rw (c.size.ensures.runs, c.leader_label
 
 pub returns-in-Err-size-clause-same_bytes : goal.returns-in-Err-size-clause-same_bytes
 returns-in-Err-size-clause-same_bytes g c = λ bytes reveals.
-    let layout = c.args.filer.now.swapper.layout in
-    let lay : c.leader_label.new.filer.swapper.layout ≡ layout = c.leader_label.ensures.layout ∙ c.leader_of.ensures.layout in
+    let layout = (view_of c.args.filer.now).layout in
+    let lay : (view_of c.leader_label.new.filer).layout ≡ layout = c.leader_label.ensures.layout ∙ c.leader_of.ensures.layout in
     (rw lay at c.size.ensures.same_bytes) bytes (read_bytes c.leader_of.ensures.beside c.leader_label.ensures.same c.leader_label.ensures.makes c.leader_label.ensures.frames c.leader_of.ensures.same_bytes bytes reveals)
 
 pub returns-in-Err-size-clause-beside : goal.returns-in-Err-size-clause-beside
@@ -272,14 +273,14 @@ returns-in-Err-leader_label-clause-reasons g c =
     λ o named k.
     let now = c.in-Ok-Some.ensures.keeps_to o named k in
     let named_there = subst (λ (o : Option ℕ). IfSome o (λ sector. named c.args.id leader_page sector ≡ true)) c.in-Ok-Some.field-0-is (led k.memory named k.stands k.map k.kept) in
-    subst (λ (l : Layout). ShowsReason o l (g.D.Disk.state c.leader_label.new.filer.swapper.disk) c.in-Err-leader_label.halt) c.leader_of.ensures.layout (c.in-Err-leader_label.ensures.reasons o named now named_there)
+    subst (λ (l : Layout). ShowsReason o l (view_of c.leader_label.new.filer).disk c.in-Err-leader_label.halt) c.leader_of.ensures.layout (c.in-Err-leader_label.ensures.reasons o named now named_there)
 
 pub returns-in-Err-size-clause-reasons : goal.returns-in-Err-size-clause-reasons
 returns-in-Err-size-clause-reasons g c = λ o named k.
     let found = c.in-Ok-Some.ensures.keeps_to o named k in
     let now = c.in-Ok.ensures.keeps_to o named found in
-    subst (λ (l : Layout). ShowsReason o l (g.D.Disk.state c.size.new.self.swapper.disk) c.in-Err-size.halt) (c.leader_label.ensures.layout ∙ c.leader_of.ensures.layout)
-    (map_reasons {k = runs_of c.leader_label.new.filer.swapper.layout.sectors c.leader_label.new.filer.runs} now c.size.ensures.beside.goes.makes c.leader_label.new.filer.swapper.accepted c.in-Err-size.halt c.in-Err-size.ensures.cause)
+    subst (λ (l : Layout). ShowsReason o l (view_of c.size.new.self).disk c.in-Err-size.halt) (c.leader_label.ensures.layout ∙ c.leader_of.ensures.layout)
+    (map_reasons {k = runs_of (view_of c.leader_label.new.filer).layout.sectors c.leader_label.new.filer.runs} now c.size.ensures.beside.goes.makes (accepted c.leader_label.new.filer) c.in-Err-size.halt c.in-Err-size.ensures.cause)
 
 pub returns-in-Ok-size-clause-keeps_to : goal.returns-in-Ok-size-clause-keeps_to
 returns-in-Ok-size-clause-keeps_to g c = λ o named k.

@@ -11,6 +11,7 @@ use Rattle.file_manager.specs.LaterLaws.{at_home_later}
 use Rattle.file_manager.proofs.KeepSteps.{keeps_at, keeps_revealed}
 use Rattle.file_manager.proofs.ReasonCauses.{fault_reason}
 use Rattle.file_manager.proofs.finding.leader_label.Goals as goal
+use Rattle.filer_kernel.specs.View.{accepted, view_of}
 
 pub returns-then-not-names-clause-sound : goal.returns-then-not-names-clause-sound
 returns-then-not-names-clause-sound g c = λ m stands one.
@@ -37,11 +38,11 @@ returns-clause-keeps_to g c = λ o named k.
     let makes = rw c.swapper_over-swapper.ensures.value at c.read_label.ensures.makes in
     let frames = rw c.swapper_over-swapper.ensures.value at c.read_label.ensures.frames in
     let lay = rw c.swapper_over-swapper.ensures.value at c.read_label.ensures.layout in
-    keeps_at c.args.filer.now.runs lay (keeps_revealed c.args.filer.now.swapper.accepted k same makes frames)
+    keeps_at c.args.filer.now.runs lay (keeps_revealed (accepted c.args.filer.now) k same makes frames)
 
 pub returns-in-Err-clause-reasons : goal.returns-in-Err-clause-reasons
 returns-in-Err-clause-reasons g c = λ o named k led.
-    fault_reason o c.args.filer.now.swapper.layout (g.D.Disk.state c.read_label.new.swapper.disk) c.in-Err.halt ((rw c.swapper_over-swapper.ensures.value at c.in-Err.ensures.cause).0)
+    fault_reason o (view_of c.args.filer.now).layout (g.D.Disk.state c.read_label.new.swapper.disk) c.in-Err.halt ((rw c.swapper_over-swapper.ensures.value at c.in-Err.ensures.cause).0)
 
 pub returns-then-not-names-clause-reasons : goal.returns-then-not-names-clause-reasons
 returns-then-not-names-clause-reasons g c = λ o named k led.

@@ -12,6 +12,7 @@ use Rattle.file_manager.proofs.OwnSteps.{freed_own, some_own, own_after}
 use Rattle.file_manager.specs.LaterLaws.{released_later}
 use Rattle.file_manager.proofs.FreedReasons.{frees_give_not}
 use Rattle.file_manager.proofs.free_all.free_all.Goals as goal
+use Rattle.filer_kernel.specs.View.{accepted, view_of}
 
 pub returns-in-Err-clause-sound : goal.returns-in-Err-clause-sound
 returns-in-Err-clause-sound g c = λ named spaces m all. c.in-Err.ensures.sound named spaces m all.leader
@@ -21,7 +22,7 @@ returns-in-Err-free_up-clause-sound g c = λ named spaces m all.
     let fits = c.ranges.pages.fits in
     let few : c.args.pages ≤ leader_page = omega (arith, fits) in
     let h = c.in-Ok.ensures.freed named spaces m all.leader in
-    (rw (c.in-Ok.ensures.layout) at c.in-Err-free_up.ensures.sound) named spaces h.memory (may_rest c.args.filer.now.swapper.accepted m all few (one_page c.in-Ok.ensures.some) h)
+    (rw (c.in-Ok.ensures.layout) at c.in-Err-free_up.ensures.sound) named spaces h.memory (may_rest (accepted c.args.filer.now) m all few (one_page c.in-Ok.ensures.some) h)
 
 pub returns-in-Err-free_up-clause-stopped : goal.returns-in-Err-free_up-clause-stopped
 returns-in-Err-free_up-clause-stopped g c = stops_then c.in-Ok.ensures.makes c.in-Err-free_up.ensures.stopped
@@ -32,8 +33,8 @@ returns-in-Ok-free_up-clause-freed g c = λ named spaces m all.
     let few : c.args.pages ≤ leader_page = omega (arith, fits) in
     let one = one_page c.in-Ok.ensures.some in
     let h = c.in-Ok.ensures.freed named spaces m all.leader in
-    let next = (rw (c.in-Ok.ensures.layout) at c.in-Ok-free_up.ensures.freed) named spaces h.memory (may_rest c.args.filer.now.swapper.accepted m all few one h) in
-    all_freed c.args.filer.now.swapper.accepted m all few one h next
+    let next = (rw (c.in-Ok.ensures.layout) at c.in-Ok-free_up.ensures.freed) named spaces h.memory (may_rest (accepted c.args.filer.now) m all few one h) in
+    all_freed (accepted c.args.filer.now) m all few one h next
 
 pub returns-in-Ok-free_up-clause-makes : goal.returns-in-Ok-free_up-clause-makes
 returns-in-Ok-free_up-clause-makes g c = all_made c.args.pages (one_page c.in-Ok.ensures.some) c.in-Ok.ensures.makes c.in-Ok-free_up.ensures.makes
@@ -47,22 +48,22 @@ returns-in-Err-free_up-clause-first g c = λ named spaces m all.
     let few : c.args.pages ≤ leader_page = omega (arith, fits) in
     let one = one_page c.in-Ok.ensures.some in
     let h = c.in-Ok.ensures.freed named spaces m all.leader in
-    pages_some one h ((rw (c.in-Ok.ensures.layout) at c.in-Err-free_up.ensures.first) named spaces h.memory (may_rest c.args.filer.now.swapper.accepted m all few one h))
+    pages_some one h ((rw (c.in-Ok.ensures.layout) at c.in-Err-free_up.ensures.first) named spaces h.memory (may_rest (accepted c.args.filer.now) m all few one h))
 
 pub returns-in-Err-free_up-clause-counted : goal.returns-in-Err-free_up-clause-counted
 returns-in-Err-free_up-clause-counted g c = counted_then _ _ _ c.in-Ok.ensures.makes.makes.went.faults c.in-Err-free_up.ensures.counted
 
 pub returns-in-Err-clause-cause : goal.returns-in-Err-clause-cause
 returns-in-Err-clause-cause g c =
-    let layout = c.args.filer.now.swapper.layout in
-    let pool = c.args.filer.now.swapper.pool in
-    free_halts_before (keeps_none (IsUnframed pool c.args.id) layout c.args.id (g.D.Disk.state c.args.filer.now.swapper.disk) pool (runs_of layout.sectors c.args.filer.now.runs) (λ none. none)) (λ p. p ≡ leader_page) (λ p. (p ≡ leader_page) ⊎ (p < c.args.pages)) (λ p same. inl same) c.requires.size
-    (g.D.Disk.state c.free_run.new.filer.swapper.disk) c.in-Err.halt c.in-Err.ensures.cause
+    let layout = (view_of c.args.filer.now).layout in
+    let pool = (view_of c.args.filer.now).slots in
+    free_halts_before (keeps_none (IsUnframed pool c.args.id) layout c.args.id (view_of c.args.filer.now).disk pool (runs_of layout.sectors c.args.filer.now.runs) (λ none. none)) (λ p. p ≡ leader_page) (λ p. (p ≡ leader_page) ⊎ (p < c.args.pages)) (λ p same. inl same) c.requires.size
+    (view_of c.free_run.new.filer).disk c.in-Err.halt c.in-Err.ensures.cause
 
 pub returns-in-Err-free_up-clause-cause : goal.returns-in-Err-free_up-clause-cause
 returns-in-Err-free_up-clause-cause g c =
     free_halts_before c.in-Ok.ensures.keeps (λ p. (0 ≤ p) × (p < c.args.pages)) (λ p. (p ≡ leader_page) ⊎ (p < c.args.pages)) (λ p below. inr below.1) c.requires.size
-    (g.D.Disk.state c.free_up.new.filer.swapper.disk) c.in-Err-free_up.halt (rw c.in-Ok.ensures.layout at c.in-Err-free_up.ensures.cause)
+    (view_of c.free_up.new.filer).disk c.in-Err-free_up.halt (rw c.in-Ok.ensures.layout at c.in-Err-free_up.ensures.cause)
 
 pub returns-in-Ok-free_up-clause-keeps : goal.returns-in-Ok-free_up-clause-keeps
 returns-in-Ok-free_up-clause-keeps g c = keeps_then c.in-Ok.ensures.keeps (rw c.in-Ok.ensures.layout at c.in-Ok-free_up.ensures.keeps)

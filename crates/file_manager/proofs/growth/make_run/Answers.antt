@@ -24,11 +24,12 @@ use Rattle.file_manager.specs.KeepLaws.{keeps_as}
 use Rattle.file_manager.proofs.MadeReasons.{label_reasons_taken, run_keeps, add_reasons, few_none}
 use Rattle.file_manager.proofs.TabledRun.{run_tables, run_within, zeros_more}
 use Rattle.file_manager.proofs.growth.make_run.Goals as goal
+use Rattle.filer_kernel.specs.View.{accepted, disk_of, swapper_of, view_of}
 
 pub returns-in-Err-clause-sound : goal.returns-in-Err-clause-sound
 returns-in-Err-clause-sound g c = λ tables x shapes spaces books hidden unowned some.
-    let layout = c.args.filer.now.swapper.layout in
-    let is = c.args.filer.now.swapper.accepted in
+    let layout = (view_of c.args.filer.now).layout in
+    let is = (accepted c.args.filer.now) in
     let runs = runs_of layout.sectors c.args.filer.now.runs in
     let one = one_free layout is runs shapes x books.booked some in
     c.in-Err.ensures.sound x (marks_shown layout is runs shapes x books.booked) one.0 books.stands (bits_shown layout is runs shapes x books.booked) (maps_named layout is runs shapes x books.booked AllocationMap) one.1 one.2 one.3
@@ -38,8 +39,8 @@ returns-in-Err-clause-stopped g c = record { sectors = []; few = omega arith; co
 
 pub returns-in-Err-label_run-clause-sound : goal.returns-in-Err-label_run-clause-sound
 returns-in-Err-label_run-clause-sound g c = λ tables x shapes spaces books hidden unowned some.
-    let layout = c.args.filer.now.swapper.layout in
-    let is = c.args.filer.now.swapper.accepted in
+    let layout = (view_of c.args.filer.now).layout in
+    let is = (accepted c.args.filer.now) in
     let kept = c.args.filer.now.runs in
     let runs = runs_of layout.sectors kept in
     let marks = marks_shown layout is runs shapes x books.booked in
@@ -62,12 +63,12 @@ pub add-requires-clause-form : goal.add-requires-clause-form
 add-requires-clause-form g c =
     let lay = c.in-Ok-label_run.ensures.layout ∙ c.in-Ok.ensures.kept.layout in
     subst (λ (l : Layout). IsRun l.sectors (record { id = c.args.id; first = c.args.page; pages = c.in-Ok.taken.1; sector = c.in-Ok.taken.0 })) (sym lay)
-    (run_in_form c.args.filer.now.swapper.layout c.args.id c.args.page c.args.most c.in-Ok.taken c.args.filer.now.swapper.accepted c.in-Ok.ensures.form (above_maps c.args.id c.args.kind c.args.page c.args.most c.requires.of_file) c.ranges.id.fits c.requires.numbers)
+    (run_in_form (view_of c.args.filer.now).layout c.args.id c.args.page c.args.most c.in-Ok.taken (accepted c.args.filer.now) c.in-Ok.ensures.form (above_maps c.args.id c.args.kind c.args.page c.args.most c.requires.of_file) c.ranges.id.fits c.requires.numbers)
 
 pub returns-in-Err-add-clause-sound : goal.returns-in-Err-add-clause-sound
 returns-in-Err-add-clause-sound g c = λ tables x shapes spaces books hidden unowned some.
-    let layout = c.args.filer.now.swapper.layout in
-    let is = c.args.filer.now.swapper.accepted in
+    let layout = (view_of c.args.filer.now).layout in
+    let is = (accepted c.args.filer.now) in
     let kept = c.args.filer.now.runs in
     let runs = runs_of layout.sectors kept in
     let marks = marks_shown layout is runs shapes x books.booked in
@@ -76,7 +77,7 @@ returns-in-Err-add-clause-sound g c = λ tables x shapes spaces books hidden uno
     let lowest = c.in-Ok.ensures.lowest x marks books.stands bits in
     let taken = c.in-Ok.ensures.taken x marks books.stands bits in
     let frames = c.in-Ok-label_run.ensures.frames in
-    let lay : c.label_run.new.filer.swapper.layout ≡ layout = c.in-Ok-label_run.ensures.layout ∙ c.in-Ok.ensures.kept.layout in
+    let lay : (view_of c.label_run.new.filer).layout ≡ layout = c.in-Ok-label_run.ensures.layout ∙ c.in-Ok.ensures.kept.layout in
     let made = c.in-Ok-label_run.ensures.made in
     let mid = labelled layout is kept shapes spaces x _ _ books hidden run c.args.most _ _ _ c.in-Ok.ensures.kept c.in-Ok.ensures.form lowest taken c.args.kind _ made in
     let few = c.in-Ok.ensures.form.few in
@@ -92,8 +93,8 @@ returns-in-Err-add-clause-stopped g c =
 
 pub returns-clause-made : goal.returns-clause-made
 returns-clause-made g c = λ tables x shapes spaces books hidden unowned some.
-    let layout = c.args.filer.now.swapper.layout in
-    let is = c.args.filer.now.swapper.accepted in
+    let layout = (view_of c.args.filer.now).layout in
+    let is = (accepted c.args.filer.now) in
     let kept = c.args.filer.now.runs in
     let runs = runs_of layout.sectors kept in
     let marks = marks_shown layout is runs shapes x books.booked in
@@ -102,7 +103,7 @@ returns-clause-made g c = λ tables x shapes spaces books hidden unowned some.
     let lowest = c.in-Ok.ensures.lowest x marks books.stands bits in
     let taken = c.in-Ok.ensures.taken x marks books.stands bits in
     let frames = c.in-Ok-label_run.ensures.frames in
-    let lay : c.label_run.new.filer.swapper.layout ≡ layout = c.in-Ok-label_run.ensures.layout ∙ c.in-Ok.ensures.kept.layout in
+    let lay : (view_of c.label_run.new.filer).layout ≡ layout = c.in-Ok-label_run.ensures.layout ∙ c.in-Ok.ensures.kept.layout in
     let made = c.in-Ok-label_run.ensures.made in
     let mid = labelled layout is kept shapes spaces x _ _ books hidden run c.args.most _ _ _ c.in-Ok.ensures.kept c.in-Ok.ensures.form lowest taken c.args.kind _ made in
     let few = c.in-Ok.ensures.form.few in
@@ -112,11 +113,11 @@ returns-clause-made g c = λ tables x shapes spaces books hidden unowned some.
     rw c.frames_of.ensures.same
     (run_leads layout is kept shapes spaces x _ _ books hidden run c.args.most _ _ _ c.in-Ok.ensures.kept c.in-Ok.ensures.form lowest taken c.args.kind _ made
     _ _ _ c.add.new.self.runs (c.in-Ok-add.ensures.runs ∙ c.in-Ok-label_run.ensures.runs ∙ c.in-Ok.ensures.runs) (rw (frames, lay) at c.in-Ok-add.ensures.beside) added
-    (λ y stands. memory_in_form _ _ y stands (g.met.D.Disk.in_form c.add.new.self.swapper.disk stands.sectors stands.revealed) c.frames_of.ensures.pages))
+    (λ y stands. memory_in_form _ _ y stands (g.met.D.Disk.in_form (disk_of c.add.new.self) stands.sectors stands.revealed) c.frames_of.ensures.pages))
 
 pub returns-clause-form : goal.returns-clause-form
 returns-clause-form g c = record {
-  form = run_in_form c.args.filer.now.swapper.layout c.args.id c.args.page c.args.most c.in-Ok.taken c.args.filer.now.swapper.accepted c.in-Ok.ensures.form (above_maps c.args.id c.args.kind c.args.page c.args.most c.requires.of_file) c.ranges.id.fits c.requires.numbers;
+  form = run_in_form (view_of c.args.filer.now).layout c.args.id c.args.page c.args.most c.in-Ok.taken (accepted c.args.filer.now) c.in-Ok.ensures.form (above_maps c.args.id c.args.kind c.args.page c.args.most c.requires.of_file) c.ranges.id.fits c.requires.numbers;
   same_id = refl;
   same_first = refl;
   few = c.in-Ok.ensures.form.few;
@@ -132,8 +133,8 @@ returns-in-Err-clause-broken g c = λ x shapes spaces books hidden unowned some.
 
 pub returns-in-Err-label_run-clause-broken : goal.returns-in-Err-label_run-clause-broken
 returns-in-Err-label_run-clause-broken g c = λ x shapes spaces books hidden unowned some.
-    let layout = c.args.filer.now.swapper.layout in
-    let is = c.args.filer.now.swapper.accepted in
+    let layout = (view_of c.args.filer.now).layout in
+    let is = (accepted c.args.filer.now) in
     let kept = c.args.filer.now.runs in
     let runs = runs_of layout.sectors kept in
     let marks = marks_shown layout is runs shapes x books.booked in
@@ -146,8 +147,8 @@ returns-in-Err-label_run-clause-broken g c = λ x shapes spaces books hidden uno
 
 pub returns-in-Err-add-clause-broken : goal.returns-in-Err-add-clause-broken
 returns-in-Err-add-clause-broken g c = λ x shapes spaces books hidden unowned some.
-    let layout = c.args.filer.now.swapper.layout in
-    let is = c.args.filer.now.swapper.accepted in
+    let layout = (view_of c.args.filer.now).layout in
+    let is = (accepted c.args.filer.now) in
     let kept = c.args.filer.now.runs in
     let runs = runs_of layout.sectors kept in
     let marks = marks_shown layout is runs shapes x books.booked in
@@ -165,34 +166,34 @@ pub returns-in-Err-add-clause-counted : goal.returns-in-Err-add-clause-counted
 returns-in-Err-add-clause-counted g c =
     let first = c.in-Ok.ensures.kept.goes.makes.went.faults in
     let second = c.in-Ok-label_run.ensures.made.makes.went.faults in
-    counted _ _ (g.D.Disk.state c.label_run.new.filer.swapper.disk) (g.D.Disk.state c.add.new.self.swapper.disk) _ (omega (arith, first, second)) c.in-Err-add.ensures.cause
+    counted _ _ (view_of c.label_run.new.filer).disk (view_of c.add.new.self).disk _ (omega (arith, first, second)) c.in-Err-add.ensures.cause
 
 pub returns-in-Err-add-clause-evidence_seen : goal.returns-in-Err-add-clause-evidence_seen
-returns-in-Err-add-clause-evidence_seen g c = so_of_add (fits c.label_run.new.filer.swapper (search rules)) c.add.ensures.beside.goes.makes c.in-Err-add.halt c.in-Err-add.ensures.cause
+returns-in-Err-add-clause-evidence_seen g c = so_of_add (fits (swapper_of c.label_run.new.filer) (search rules)) c.add.ensures.beside.goes.makes c.in-Err-add.halt c.in-Err-add.ensures.cause
 
 pub returns-in-Err-clause-cause : goal.returns-in-Err-clause-cause
 returns-in-Err-clause-cause g c =
-    let layout = c.args.filer.now.swapper.layout in
+    let layout = (view_of c.args.filer.now).layout in
     let pages = λ (p : ℕ). (c.args.page ≤ p) × (p < c.args.page + c.args.most) in
-    take_halts layout c.args.id pages pages c.args.page (let some = c.requires.some in (omega arith, omega (arith, some))) (g.D.Disk.state c.args.filer.now.swapper.disk) (g.D.Disk.state c.take_run.new.filer.swapper.disk) c.args.filer.now.swapper.pool c.take_run.new.filer.swapper.pool c.in-Err.halt c.in-Err.ensures.cause
+    take_halts layout c.args.id pages pages c.args.page (let some = c.requires.some in (omega arith, omega (arith, some))) (view_of c.args.filer.now).disk (view_of c.take_run.new.filer).disk (view_of c.args.filer.now).slots (view_of c.take_run.new.filer).slots c.in-Err.halt c.in-Err.ensures.cause
 
 pub returns-in-Err-label_run-clause-cause : goal.returns-in-Err-label_run-clause-cause
 returns-in-Err-label_run-clause-cause g c =
     let form = c.in-Ok.ensures.form in
     let pages = λ (p : ℕ). (c.args.page ≤ p) × (p < c.args.page + c.args.most) in
-    label_halts c.in-Ok.ensures.kept c.in-Ok.taken.0 c.in-Ok.taken.1 form.above form.inside (λ m marks stands bits. (c.in-Ok.ensures.lowest m marks stands bits).free) c.args.id pages pages (g.D.Disk.state c.label_run.new.filer.swapper.disk) c.label_run.new.filer.swapper.pool
+    label_halts c.in-Ok.ensures.kept c.in-Ok.taken.0 c.in-Ok.taken.1 form.above form.inside (λ m marks stands bits. (c.in-Ok.ensures.lowest m marks stands bits).free) c.args.id pages pages (view_of c.label_run.new.filer).disk (view_of c.label_run.new.filer).slots
     c.in-Err-label_run.halt c.in-Err-label_run.ensures.cause
 
 pub returns-in-Err-add-clause-cause : goal.returns-in-Err-add-clause-cause
 returns-in-Err-add-clause-cause g c =
-    let layout = c.args.filer.now.swapper.layout in
-    let is = c.args.filer.now.swapper.accepted in
+    let layout = (view_of c.args.filer.now).layout in
+    let is = (accepted c.args.filer.now) in
     let run = row_run c.args.id c.args.page c.in-Ok.taken.0 c.in-Ok.taken.1 in
     let pages = λ (p : ℕ). (c.args.page ≤ p) × (p < c.args.page + c.args.most) in
     let kept = c.in-Ok.ensures.kept in
     let form = c.in-Ok.ensures.form in
     let fewer = form.few in
-    let lay : c.label_run.new.filer.swapper.layout ≡ layout = c.in-Ok-label_run.ensures.layout ∙ kept.layout in
+    let lay : (view_of c.label_run.new.filer).layout ≡ layout = c.in-Ok-label_run.ensures.layout ∙ kept.layout in
     let frames = c.in-Ok-label_run.ensures.frames in
     let made = c.in-Ok-label_run.ensures.made in
     let were = c.in-Ok-label_run.ensures.were in
@@ -206,11 +207,11 @@ returns-clause-longest g c = λ few m marks stands bits below. (c.in-Ok.ensures.
 
 pub returns-clause-takes : goal.returns-clause-takes
 returns-clause-takes g c =
-    let layout = c.args.filer.now.swapper.layout in
-    let is = c.args.filer.now.swapper.accepted in
+    let layout = (view_of c.args.filer.now).layout in
+    let is = (accepted c.args.filer.now) in
     let run = row_run c.args.id c.args.page c.in-Ok.taken.0 c.in-Ok.taken.1 in
     let kept = c.in-Ok.ensures.kept in
-    let lay : c.label_run.new.filer.swapper.layout ≡ layout = c.in-Ok-label_run.ensures.layout ∙ kept.layout in
+    let lay : (view_of c.label_run.new.filer).layout ≡ layout = c.in-Ok-label_run.ensures.layout ∙ kept.layout in
     let frames = c.in-Ok-label_run.ensures.frames in
     let beside = rw (frames, lay) at c.in-Ok-add.ensures.beside in
     let added = rw (frames, lay) at c.in-Ok-add.ensures.added in
@@ -220,20 +221,20 @@ pub returns-in-Err-clause-come : goal.returns-in-Err-clause-come
 returns-in-Err-clause-come g c = maps_come c.in-Err.ensures.kept
 
 pub returns-in-Err-label_run-clause-come : goal.returns-in-Err-label_run-clause-come
-returns-in-Err-label_run-clause-come g c = subst (λ (s : Slots). Brings (IsMapsHome c.args.filer.now.swapper.layout) c.args.filer.now.swapper.pool s) (sym c.in-Err-label_run.ensures.frames) (maps_come c.in-Ok.ensures.kept)
+returns-in-Err-label_run-clause-come g c = subst (λ (s : Slots). Brings (IsMapsHome (view_of c.args.filer.now).layout) (view_of c.args.filer.now).slots s) (sym c.in-Err-label_run.ensures.frames) (maps_come c.in-Ok.ensures.kept)
 
 pub returns-in-Err-add-clause-come : goal.returns-in-Err-add-clause-come
 returns-in-Err-add-clause-come g c =
-    let layout = c.args.filer.now.swapper.layout in
-    let lay : c.label_run.new.filer.swapper.layout ≡ layout = c.in-Ok-label_run.ensures.layout ∙ c.in-Ok.ensures.kept.layout in
-    brings_then (subst (λ (s : Slots). Brings (IsMapsHome layout) c.args.filer.now.swapper.pool s) (sym c.in-Ok-label_run.ensures.frames) (maps_come c.in-Ok.ensures.kept)) (maps_come (rw lay at c.in-Err-add.ensures.beside))
+    let layout = (view_of c.args.filer.now).layout in
+    let lay : (view_of c.label_run.new.filer).layout ≡ layout = c.in-Ok-label_run.ensures.layout ∙ c.in-Ok.ensures.kept.layout in
+    brings_then (subst (λ (s : Slots). Brings (IsMapsHome layout) (view_of c.args.filer.now).slots s) (sym c.in-Ok-label_run.ensures.frames) (maps_come c.in-Ok.ensures.kept)) (maps_come (rw lay at c.in-Err-add.ensures.beside))
 
 pub returns-clause-come : goal.returns-clause-come
 returns-clause-come g c =
-    let layout = c.args.filer.now.swapper.layout in
-    let lay : c.label_run.new.filer.swapper.layout ≡ layout = c.in-Ok-label_run.ensures.layout ∙ c.in-Ok.ensures.kept.layout in
+    let layout = (view_of c.args.filer.now).layout in
+    let lay : (view_of c.label_run.new.filer).layout ≡ layout = c.in-Ok-label_run.ensures.layout ∙ c.in-Ok.ensures.kept.layout in
     rw c.frames_of.ensures.same
-    (brings_then (subst (λ (s : Slots). Brings (IsMapsHome layout) c.args.filer.now.swapper.pool s) (sym c.in-Ok-label_run.ensures.frames) (maps_come c.in-Ok.ensures.kept)) (maps_come (rw lay at c.in-Ok-add.ensures.beside)))
+    (brings_then (subst (λ (s : Slots). Brings (IsMapsHome layout) (view_of c.args.filer.now).slots s) (sym c.in-Ok-label_run.ensures.frames) (maps_come c.in-Ok.ensures.kept)) (maps_come (rw lay at c.in-Ok-add.ensures.beside)))
 
 pub returns-in-Err-clause-reasons : goal.returns-in-Err-clause-reasons
 returns-in-Err-clause-reasons g c = λ o named h nothing. c.in-Err.ensures.reasons o named h
@@ -250,12 +251,12 @@ returns-in-Err-label_run-clause-reasons g c = λ o named h nothing.
 
 pub returns-in-Err-add-clause-reasons : goal.returns-in-Err-add-clause-reasons
 returns-in-Err-add-clause-reasons g c = λ o named h nothing.
-    let layout = c.args.filer.now.swapper.layout in
-    let is = c.args.filer.now.swapper.accepted in
+    let layout = (view_of c.args.filer.now).layout in
+    let is = (accepted c.args.filer.now) in
     let run = row_run c.args.id c.args.page c.in-Ok.taken.0 c.in-Ok.taken.1 in
     let kept = c.in-Ok.ensures.kept in
     let form = c.in-Ok.ensures.form in
-    let lay : c.label_run.new.filer.swapper.layout ≡ layout = c.in-Ok-label_run.ensures.layout ∙ kept.layout in
+    let lay : (view_of c.label_run.new.filer).layout ≡ layout = c.in-Ok-label_run.ensures.layout ∙ kept.layout in
     let frames = c.in-Ok-label_run.ensures.frames in
     let made = c.in-Ok-label_run.ensures.made in
     let beside = rw (frames, lay) at c.add.ensures.beside in
@@ -264,12 +265,12 @@ returns-in-Err-add-clause-reasons g c = λ o named h nothing.
 
 pub returns-clause-keeps_to : goal.returns-clause-keeps_to
 returns-clause-keeps_to g c = λ o named h may untold nothing.
-    let layout = c.args.filer.now.swapper.layout in
-    let is = c.args.filer.now.swapper.accepted in
+    let layout = (view_of c.args.filer.now).layout in
+    let is = (accepted c.args.filer.now) in
     let run = row_run c.args.id c.args.page c.in-Ok.taken.0 c.in-Ok.taken.1 in
     let kept = c.in-Ok.ensures.kept in
     let form = c.in-Ok.ensures.form in
-    let lay : c.label_run.new.filer.swapper.layout ≡ layout = c.in-Ok-label_run.ensures.layout ∙ kept.layout in
+    let lay : (view_of c.label_run.new.filer).layout ≡ layout = c.in-Ok-label_run.ensures.layout ∙ kept.layout in
     let frames = c.in-Ok-label_run.ensures.frames in
     let made = c.in-Ok-label_run.ensures.made in
     let beside = rw (frames, lay) at c.in-Ok-add.ensures.beside in
@@ -279,12 +280,12 @@ returns-clause-keeps_to g c = λ o named h may untold nothing.
 
 pub returns-clause-tables : goal.returns-clause-tables
 returns-clause-tables g c = λ o named b tables fits long h nothing.
-    let layout = c.args.filer.now.swapper.layout in
-    let is = c.args.filer.now.swapper.accepted in
+    let layout = (view_of c.args.filer.now).layout in
+    let is = (accepted c.args.filer.now) in
     let run = row_run c.args.id c.args.page c.in-Ok.taken.0 c.in-Ok.taken.1 in
     let kept = c.in-Ok.ensures.kept in
     let form = c.in-Ok.ensures.form in
-    let lay : c.label_run.new.filer.swapper.layout ≡ layout = c.in-Ok-label_run.ensures.layout ∙ kept.layout in
+    let lay : (view_of c.label_run.new.filer).layout ≡ layout = c.in-Ok-label_run.ensures.layout ∙ kept.layout in
     let frames = c.in-Ok-label_run.ensures.frames in
     let made = c.in-Ok-label_run.ensures.made in
     let beside = rw (frames, lay) at c.in-Ok-add.ensures.beside in

@@ -6,6 +6,7 @@ use Rattle.file_manager.proofs.Faults.{counted_then}
 use Rattle.swapper_kernel.specs.HaltLaws.{brings_then}
 use Rattle.file_manager.proofs.KeptUpTo.{tables_still}
 use Rattle.file_manager.proofs.growth.make_up.Goals as goal
+use Rattle.filer_kernel.specs.View.{accepted, view_of}
 
 pub loop-page-init : goal.loop-page-init
 loop-page-init g c = up_none _ _ _ _ _ _ _ _ c.requires.order c.requires.size
@@ -13,16 +14,16 @@ loop-page-init g c = up_none _ _ _ _ _ _ _ _ c.requires.order c.requires.size
 pub loop-page-preserved : goal.loop-page-preserved
 loop-page-preserved g c =
     let below : c.loop-page.page < c.args.end = search rules in
-    up_more _ _ _ _ c.loop-page.page _ _ _ c.args.filer.now.swapper.accepted _ _ _ _ _ c.loop-page.invariant c.requires.numbers c.in-Ok.run' _ _ _ _ below c.in-Ok.ensures.form c.in-Ok.ensures.makes (c.in-Ok.ensures.made 96) c.in-Ok.ensures.layout c.in-Ok.ensures.runs c.in-Ok.ensures.cost_made c.make_run.ensures.come c.in-Ok.ensures.takes c.in-Ok.ensures.longest c.in-Ok.ensures.keeps_to
+    up_more _ _ _ _ c.loop-page.page _ _ _ (accepted c.args.filer.now) _ _ _ _ _ c.loop-page.invariant c.requires.numbers c.in-Ok.run' _ _ _ _ below c.in-Ok.ensures.form c.in-Ok.ensures.makes (c.in-Ok.ensures.made 96) c.in-Ok.ensures.layout c.in-Ok.ensures.runs c.in-Ok.ensures.cost_made c.make_run.ensures.come c.in-Ok.ensures.takes c.in-Ok.ensures.longest c.in-Ok.ensures.keeps_to
 
 pub returns-in-Err-clause-sound : goal.returns-in-Err-clause-sound
 returns-in-Err-clause-sound g c =
     let below : c.loop-page.page < c.args.end = search rules in
-    up_sound _ c.args.kind _ _ c.loop-page.page _ _ _ c.args.filer.now.swapper.accepted _ _ _ _ _ c.loop-page.invariant c.requires.numbers c.in-Err.halt below (c.in-Err.ensures.sound 96)
+    up_sound _ c.args.kind _ _ c.loop-page.page _ _ _ (accepted c.args.filer.now) _ _ _ _ _ c.loop-page.invariant c.requires.numbers c.in-Err.halt below (c.in-Err.ensures.sound 96)
 
 pub returns-in-Err-clause-stopped : goal.returns-in-Err-clause-stopped
 returns-in-Err-clause-stopped g c =
-    up_stopped _ _ _ _ c.loop-page.page _ _ _ c.args.filer.now.swapper.accepted _ _ _ _ _ c.loop-page.invariant c.requires.numbers _ _ c.loop-page.invariant.below c.in-Err.ensures.stopped
+    up_stopped _ _ _ _ c.loop-page.page _ _ _ (accepted c.args.filer.now) _ _ _ _ _ c.loop-page.invariant c.requires.numbers _ _ c.loop-page.invariant.below c.in-Err.ensures.stopped
 
 pub returns-clause-made : goal.returns-clause-made
 returns-clause-made g c =
@@ -32,12 +33,12 @@ returns-clause-made g c =
 pub returns-in-Err-clause-cost : goal.returns-in-Err-clause-cost
 returns-in-Err-clause-cost g c =
     let below : c.loop-page.page < c.args.end = search rules in
-    up_cost _ c.args.kind _ _ c.loop-page.page _ _ _ c.args.filer.now.swapper.accepted _ _ _ _ _ c.loop-page.invariant c.requires.numbers (g.D.Disk.state c.make_run.new.filer.swapper.disk) below c.in-Err.ensures.cost
+    up_cost _ c.args.kind _ _ c.loop-page.page _ _ _ (accepted c.args.filer.now) _ _ _ _ _ c.loop-page.invariant c.requires.numbers (view_of c.make_run.new.filer).disk below c.in-Err.ensures.cost
 
 pub returns-in-Err-clause-broken : goal.returns-in-Err-clause-broken
 returns-in-Err-clause-broken g c =
     let below : c.loop-page.page < c.args.end = search rules in
-    up_broken _ c.args.kind _ _ c.loop-page.page _ _ _ c.args.filer.now.swapper.accepted _ _ _ _ _ c.loop-page.invariant c.requires.numbers _ _ below c.in-Err.ensures.broken
+    up_broken _ c.args.kind _ _ c.loop-page.page _ _ _ (accepted c.args.filer.now) _ _ _ _ _ c.loop-page.invariant c.requires.numbers _ _ below c.in-Err.ensures.broken
 
 pub returns-in-Err-clause-counted : goal.returns-in-Err-clause-counted
 returns-in-Err-clause-counted g c = counted_then _ _ _ c.loop-page.invariant.makes.makes.went.faults c.in-Err.ensures.counted
@@ -45,7 +46,7 @@ returns-in-Err-clause-counted g c = counted_then _ _ _ c.loop-page.invariant.mak
 pub returns-in-Err-clause-cause : goal.returns-in-Err-clause-cause
 returns-in-Err-clause-cause g c =
     let below : c.loop-page.page < c.args.end = search rules in
-    up_cause _ c.args.kind _ _ c.loop-page.page _ _ _ c.args.filer.now.swapper.accepted _ _ _ _ _ c.loop-page.invariant c.requires.numbers (λ p. (c.args.from ≤ p) × (p < c.args.end)) (λ p own. own) (g.D.Disk.state c.make_run.new.filer.swapper.disk) c.make_run.new.filer.swapper.pool c.in-Err.halt below (rw c.loop-page.invariant.same_layout at c.in-Err.ensures.cause)
+    up_cause _ c.args.kind _ _ c.loop-page.page _ _ _ (accepted c.args.filer.now) _ _ _ _ _ c.loop-page.invariant c.requires.numbers (λ p. (c.args.from ≤ p) × (p < c.args.end)) (λ p own. own) (view_of c.make_run.new.filer).disk (view_of c.make_run.new.filer).slots c.in-Err.halt below (rw c.loop-page.invariant.same_layout at c.in-Err.ensures.cause)
 
 pub returns-in-Err-clause-come : goal.returns-in-Err-clause-come
 returns-in-Err-clause-come g c = brings_then c.loop-page.invariant.come (rw c.loop-page.invariant.same_layout at c.in-Err.ensures.come)

@@ -8,6 +8,7 @@ use Rattle.filer_kernel.specs.EvidenceLaws.{fits, map_homes_placed, so_of_halts}
 use Rattle.file_manager.proofs.MakeStops.{taken_halt}
 use Rattle.file_manager.proofs.MadeReasons.{room_reasons, take_reasons}
 use Rattle.file_manager.proofs.growth.take_run.Goals as goal
+use Rattle.filer_kernel.specs.View.{swapper_of, view_of}
 
 pub returns-in-Err-NoRoom-clause-sound : goal.returns-in-Err-NoRoom-clause-sound
 returns-in-Err-NoRoom-clause-sound g c = λ m marks k stands bits named above below free.
@@ -24,7 +25,7 @@ returns-in-Err-NoRoom-clause-counted g c = no_fault
 pub returns-in-Err-Mem-clause-counted : goal.returns-in-Err-Mem-clause-counted
 returns-in-Err-Mem-clause-counted g c =
     let cause = c.in-Err-Mem.ensures.cause in
-    counted _ _ (g.D.Disk.state c.args.filer.now.swapper.disk) (g.D.Disk.state c.take.new.self.swapper.disk) _ (omega arith) (rw (c.in-Err-Mem.field-0-is, c.in-Err-Mem.halt-is) at cause)
+    counted _ _ (view_of c.args.filer.now).disk (view_of c.take.new.self).disk _ (omega arith) (rw (c.in-Err-Mem.field-0-is, c.in-Err-Mem.halt-is) at cause)
 
 pub returns-in-Err-NoRoom-clause-evidence_seen : goal.returns-in-Err-NoRoom-clause-evidence_seen
 returns-in-Err-NoRoom-clause-evidence_seen g c = inl (refl, omega arith)
@@ -32,7 +33,7 @@ returns-in-Err-NoRoom-clause-evidence_seen g c = inl (refl, omega arith)
 pub returns-in-Err-Mem-clause-evidence_seen : goal.returns-in-Err-Mem-clause-evidence_seen
 returns-in-Err-Mem-clause-evidence_seen g c =
     let cause = c.in-Err-Mem.ensures.cause in
-    so_of_halts (fits c.args.filer.now.swapper c.requires.size) c.take.ensures.kept.goes.makes _ _ (map_homes_placed AllocationMap _) (rw (c.in-Err-Mem.field-0-is, c.in-Err-Mem.halt-is) at cause)
+    so_of_halts (fits (swapper_of c.args.filer.now) c.requires.size) c.take.ensures.kept.goes.makes _ _ (map_homes_placed AllocationMap _) (rw (c.in-Err-Mem.field-0-is, c.in-Err-Mem.halt-is) at cause)
 
 pub returns-in-Err-NoRoom-clause-cause : goal.returns-in-Err-NoRoom-clause-cause
 returns-in-Err-NoRoom-clause-cause g c =
@@ -43,7 +44,7 @@ returns-in-Err-NoRoom-clause-cause g c =
 pub returns-in-Err-Mem-clause-cause : goal.returns-in-Err-Mem-clause-cause
 returns-in-Err-Mem-clause-cause g c =
     let cause = c.in-Err-Mem.ensures.cause in
-    taken_halt c.args.filer.now.swapper.layout (g.D.Disk.state c.args.filer.now.swapper.disk) (g.D.Disk.state c.take.new.self.swapper.disk) c.args.filer.now.swapper.pool c.take.new.self.swapper.pool _ (rw (c.in-Err-Mem.field-0-is, c.in-Err-Mem.halt-is) at cause)
+    taken_halt (view_of c.args.filer.now).layout (view_of c.args.filer.now).disk (view_of c.take.new.self).disk (view_of c.args.filer.now).slots (view_of c.take.new.self).slots _ (rw (c.in-Err-Mem.field-0-is, c.in-Err-Mem.halt-is) at cause)
 
 pub returns-in-Err-NoRoom-clause-reasons : goal.returns-in-Err-NoRoom-clause-reasons
 returns-in-Err-NoRoom-clause-reasons g c = λ o named h.

@@ -15,10 +15,11 @@ use Rattle.file_manager.proofs.Keeping.{keeps_read}
 use Rattle.file_manager.proofs.FreedReasons.{found_keeps}
 use Rattle.file_manager.specs.ReasonLaws.{map_reasons}
 use Rattle.file_manager.proofs.leader.leader_of.Goals as goal
+use Rattle.filer_kernel.specs.View.{accepted, swapper_of, view_of}
 
 pub returns-in-Ok-Some-clause-revealed : goal.returns-in-Ok-Some-clause-revealed
 returns-in-Ok-Some-clause-revealed g c = λ x shapes spaces books.
-    let is : IsLayout c.args.filer.now.swapper.layout = search rules in
+    let is : IsLayout (view_of c.args.filer.now).layout = search rules in
     let b = books.booked in
     let here = c.in-Ok-Some.ensures.found x b.named books.stands (map_is _ _ shapes x is b) (kept_are _ _ shapes x is b) in
     let found = subst (IsFound b.named c.args.id leader_page) c.in-Ok-Some.field-0-is here in
@@ -26,21 +27,21 @@ returns-in-Ok-Some-clause-revealed g c = λ x shapes spaces books.
 
 pub returns-in-Ok-Some-clause-same : goal.returns-in-Ok-Some-clause-same
 returns-in-Ok-Some-clause-same g c = λ x shapes spaces books.
-    let is : IsLayout c.args.filer.now.swapper.layout = search rules in
+    let is : IsLayout (view_of c.args.filer.now).layout = search rules in
     let b = books.booked in
     let map = map_is _ _ shapes x is b in
-    books_stay _ _ _ _ _ _ _ shapes spaces x books (c.find.ensures.same x b.named books.stands map) (own_maps FileMap c.args.filer.now.swapper.layout _ _ c.find.ensures.beside.brings) (c.find.ensures.runs_are x b.named books.stands map (kept_are _ _ shapes x is b))
+    books_stay _ _ _ _ _ _ _ shapes spaces x books (c.find.ensures.same x b.named books.stands map) (own_maps FileMap (view_of c.args.filer.now).layout _ _ c.find.ensures.beside.brings) (c.find.ensures.runs_are x b.named books.stands map (kept_are _ _ shapes x is b))
 
 pub returns-in-Ok-Some-clause-place : goal.returns-in-Ok-Some-clause-place
 returns-in-Ok-Some-clause-place g c =
-    let is : IsLayout c.args.filer.now.swapper.layout = search rules in
-    let form : IsRun c.args.filer.now.swapper.layout.sectors c.in-Ok-Some.run' = subst (λ (o : Option Run). IfSome o (λ run. IsRun c.args.filer.now.swapper.layout.sectors run)) c.in-Ok-Some.field-0-is c.in-Ok-Some.ensures.form in
+    let is : IsLayout (view_of c.args.filer.now).layout = search rules in
+    let form : IsRun (view_of c.args.filer.now).layout.sectors c.in-Ok-Some.run' = subst (λ (o : Option Run). IfSome o (λ run. IsRun (view_of c.args.filer.now).layout.sectors run)) c.in-Ok-Some.field-0-is c.in-Ok-Some.ensures.form in
     let has : holds c.in-Ok-Some.run' c.args.id leader_page ≡ true = subst (λ (o : Option Run). IfSome o (λ run. holds run c.args.id leader_page ≡ true)) c.in-Ok-Some.field-0-is c.in-Ok-Some.ensures.holds in
-    run_place c.args.filer.now.swapper.layout c.in-Ok-Some.run' c.args.id leader_page is form has
+    run_place (view_of c.args.filer.now).layout c.in-Ok-Some.run' c.args.id leader_page is form has
 
 pub returns-in-Ok-None-clause-revealed : goal.returns-in-Ok-None-clause-revealed
 returns-in-Ok-None-clause-revealed g c = λ x shapes spaces books.
-    let is : IsLayout c.args.filer.now.swapper.layout = search rules in
+    let is : IsLayout (view_of c.args.filer.now).layout = search rules in
     let b = books.booked in
     let here = c.in-Ok-None.ensures.found x b.named books.stands (map_is _ _ shapes x is b) (kept_are _ _ shapes x is b) in
     let nowhere : IsNowhere b.named c.args.id leader_page = subst (IsFound b.named c.args.id leader_page) c.in-Ok-None.field-0-is here in
@@ -48,35 +49,35 @@ returns-in-Ok-None-clause-revealed g c = λ x shapes spaces books.
 
 pub returns-in-Ok-None-clause-same : goal.returns-in-Ok-None-clause-same
 returns-in-Ok-None-clause-same g c = λ x shapes spaces books.
-    let is : IsLayout c.args.filer.now.swapper.layout = search rules in
+    let is : IsLayout (view_of c.args.filer.now).layout = search rules in
     let b = books.booked in
     let map = map_is _ _ shapes x is b in
-    books_stay _ _ _ _ _ _ _ shapes spaces x books (c.find.ensures.same x b.named books.stands map) (own_maps FileMap c.args.filer.now.swapper.layout _ _ c.find.ensures.beside.brings) (c.find.ensures.runs_are x b.named books.stands map (kept_are _ _ shapes x is b))
+    books_stay _ _ _ _ _ _ _ shapes spaces x books (c.find.ensures.same x b.named books.stands map) (own_maps FileMap (view_of c.args.filer.now).layout _ _ c.find.ensures.beside.brings) (c.find.ensures.runs_are x b.named books.stands map (kept_are _ _ shapes x is b))
 
 pub returns-in-Err-clause-revealed : goal.returns-in-Err-clause-revealed
 returns-in-Err-clause-revealed g c = λ x shapes spaces books.
-    let is : IsLayout c.args.filer.now.swapper.layout = search rules in
+    let is : IsLayout (view_of c.args.filer.now).layout = search rules in
     let b = books.booked in
     c.in-Err.ensures.sound x b.named books.stands (map_is _ _ shapes x is b) (map_named _ x is b.long b.map_labels)
 
 pub returns-in-Err-clause-same : goal.returns-in-Err-clause-same
 returns-in-Err-clause-same g c = λ x shapes spaces books.
-    let is : IsLayout c.args.filer.now.swapper.layout = search rules in
+    let is : IsLayout (view_of c.args.filer.now).layout = search rules in
     let b = books.booked in
     let map = map_is _ _ shapes x is b in
-    books_stay _ _ _ _ _ _ _ shapes spaces x books (c.find.ensures.same x b.named books.stands map) (own_maps FileMap c.args.filer.now.swapper.layout _ _ c.find.ensures.beside.brings) (c.find.ensures.runs_are x b.named books.stands map (kept_are _ _ shapes x is b))
+    books_stay _ _ _ _ _ _ _ shapes spaces x books (c.find.ensures.same x b.named books.stands map) (own_maps FileMap (view_of c.args.filer.now).layout _ _ c.find.ensures.beside.brings) (c.find.ensures.runs_are x b.named books.stands map (kept_are _ _ shapes x is b))
 
 pub returns-in-Err-clause-counted : goal.returns-in-Err-clause-counted
-returns-in-Err-clause-counted g c = counted _ _ (g.D.Disk.state c.args.filer.now.swapper.disk) (g.D.Disk.state c.find.new.self.swapper.disk) _ (omega arith) c.in-Err.ensures.cause
+returns-in-Err-clause-counted g c = counted _ _ (view_of c.args.filer.now).disk (view_of c.find.new.self).disk _ (omega arith) c.in-Err.ensures.cause
 
 pub returns-in-Ok-Some-clause-given : goal.returns-in-Ok-Some-clause-given
 returns-in-Ok-Some-clause-given g c =
-    let layout = c.args.filer.now.swapper.layout in
-    let old = g.D.Disk.state c.args.filer.now.swapper.disk in
+    let layout = (view_of c.args.filer.now).layout in
+    let old = (view_of c.args.filer.now).disk in
     let kept = runs_of layout.sectors c.args.filer.now.runs in
     record {
       run = c.in-Ok-Some.run';
-      given = subst (λ (o : Option Run). IfSome o (λ run. IsGiven layout old c.args.filer.now.swapper.pool kept run)) c.in-Ok-Some.field-0-is c.in-Ok-Some.ensures.given;
+      given = subst (λ (o : Option Run). IfSome o (λ run. IsGiven layout old (view_of c.args.filer.now).slots kept run)) c.in-Ok-Some.field-0-is c.in-Ok-Some.ensures.given;
       form = subst (λ (o : Option Run). IfSome o (λ run. IsRun layout.sectors run)) c.in-Ok-Some.field-0-is c.in-Ok-Some.ensures.form;
       has = subst (λ (o : Option Run). IfSome o (λ run. holds run c.args.id leader_page ≡ true)) c.in-Ok-Some.field-0-is c.in-Ok-Some.ensures.holds;
       at = refl;
@@ -86,7 +87,7 @@ pub returns-in-Ok-None-clause-missing : goal.returns-in-Ok-None-clause-missing
 returns-in-Ok-None-clause-missing g c = λ is m named stands map. c.find.ensures.nowhere m named stands map (search rules)
 
 pub returns-in-Err-clause-evidence_seen : goal.returns-in-Err-clause-evidence_seen
-returns-in-Err-clause-evidence_seen g c = so_of_map (fits c.args.filer.now.swapper c.requires.size) c.find.ensures.beside.goes.makes c.in-Err.halt c.in-Err.ensures.cause
+returns-in-Err-clause-evidence_seen g c = so_of_map (fits (swapper_of c.args.filer.now) c.requires.size) c.find.ensures.beside.goes.makes c.in-Err.halt c.in-Err.ensures.cause
 
 pub returns-in-Err-clause-keeps : goal.returns-in-Err-clause-keeps
 returns-in-Err-clause-keeps g c = keeps_read (inr c.requires.client) c.find.ensures.beside c.find.ensures.same_bytes c.find.ensures.runs_given
@@ -106,7 +107,7 @@ pub returns-in-Ok-None-clause-keeps_to : goal.returns-in-Ok-None-clause-keeps_to
 returns-in-Ok-None-clause-keeps_to g c = λ o named k. found_keeps c.args.filer.now.runs c.find.new.self.runs c.find.ensures.beside c.find.ensures.same c.find.ensures.runs_are k
 
 pub returns-in-Err-clause-reasons : goal.returns-in-Err-clause-reasons
-returns-in-Err-clause-reasons g c = λ o named k. map_reasons k c.find.ensures.beside.goes.makes c.args.filer.now.swapper.accepted c.in-Err.halt c.in-Err.ensures.cause
+returns-in-Err-clause-reasons g c = λ o named k. map_reasons k c.find.ensures.beside.goes.makes (accepted c.args.filer.now) c.in-Err.halt c.in-Err.ensures.cause
 
 pub returns-in-Ok-Some-clause-names : goal.returns-in-Ok-Some-clause-names
 returns-in-Ok-Some-clause-names g c = λ m named stands map are.

@@ -17,6 +17,7 @@ use Rattle.file_manager.specs.Taking.{every_page}
 use Rattle.file_manager.proofs.MadeReasons.{none_with_run}
 use Rattle.file_manager.proofs.KeepCut.{tables_more}
 use Rattle.file_manager.proofs.making.make_file.Goals as goal
+use Rattle.filer_kernel.specs.View.{accepted, view_of}
 
 pub returns-in-Err-clause-sound : goal.returns-in-Err-clause-sound
 returns-in-Err-clause-sound g c = λ x shapes spaces may.
@@ -32,7 +33,7 @@ returns-in-Err-make_up-clause-sound g c = λ x shapes spaces may.
     let first = c.in-Ok.ensures.made 96 x shapes spaces may.books may.hidden (unowned_file shapes c.args.id leader_page 1 (above_reserved c.args.id c.requires.of_file) may.none) (omega (arith, enough)) in
     let one = one_sector _ _ _ c.in-Ok._run c.in-Ok.ensures.form in
     let leads = led_by c.args.id c.args.kind c.in-Ok._run.sector (sectors_of c.in-Ok._run) one c.in-Ok.ensures.runs first in
-    file_sound c.args.filer.now.swapper.layout c.args.filer.now.swapper.accepted c.args.filer.now.runs shapes spaces x _ _ c.args.id c.args.kind c.args.pages c.requires.of_file may c.in-Ok._run.sector _ _ leads c.in-Err-make_up.halt
+    file_sound (view_of c.args.filer.now).layout (accepted c.args.filer.now) c.args.filer.now.runs shapes spaces x _ _ c.args.id c.args.kind c.args.pages c.requires.of_file may c.in-Ok._run.sector _ _ leads c.in-Err-make_up.halt
     (rw (c.in-Ok.ensures.layout, c.in-Ok.ensures.runs) at c.in-Err-make_up.ensures.sound)
 
 pub returns-in-Err-make_up-clause-stopped : goal.returns-in-Err-make_up-clause-stopped
@@ -46,7 +47,7 @@ returns-clause-made g c = λ x shapes spaces may.
     let first = c.in-Ok.ensures.made 96 x shapes spaces may.books may.hidden (unowned_file shapes c.args.id leader_page 1 (above_reserved c.args.id c.requires.of_file) may.none) (omega (arith, enough)) in
     let one = one_sector _ _ _ c.in-Ok._run c.in-Ok.ensures.form in
     let leads = led_by c.args.id c.args.kind c.in-Ok._run.sector (sectors_of c.in-Ok._run) one c.in-Ok.ensures.runs first in
-    file_made c.args.filer.now.swapper.layout c.args.filer.now.swapper.accepted c.args.filer.now.runs shapes spaces x _ _ c.args.id c.args.kind c.args.pages c.requires.of_file may c.in-Ok._run.sector _ _ leads _ _ _
+    file_made (view_of c.args.filer.now).layout (accepted c.args.filer.now) c.args.filer.now.runs shapes spaces x _ _ c.args.id c.args.kind c.args.pages c.requires.of_file may c.in-Ok._run.sector _ _ leads _ _ _
     (c.in-Ok-make_up.ensures.runs ∙ c.in-Ok.ensures.runs) (rw (c.in-Ok.ensures.layout, c.in-Ok.ensures.runs) at c.in-Ok-make_up.ensures.made)
 
 pub returns-clause-makes : goal.returns-clause-makes
@@ -69,31 +70,31 @@ returns-in-Err-make_up-clause-broken g c = λ x shapes spaces may.
     let first = c.in-Ok.ensures.made 96 x shapes spaces may.books may.hidden (unowned_file shapes c.args.id leader_page 1 (above_reserved c.args.id c.requires.of_file) may.none) (omega (arith, enough)) in
     let one = one_sector _ _ _ c.in-Ok._run c.in-Ok.ensures.form in
     let leads = led_by c.args.id c.args.kind c.in-Ok._run.sector (sectors_of c.in-Ok._run) one c.in-Ok.ensures.runs first in
-    pages_broken c.args.filer.now.swapper.layout c.args.filer.now.swapper.accepted c.args.filer.now.runs shapes spaces x _ _ c.args.id c.args.kind c.args.pages c.requires.of_file may c.in-Ok._run.sector _ _ leads _ _
+    pages_broken (view_of c.args.filer.now).layout (accepted c.args.filer.now) c.args.filer.now.runs shapes spaces x _ _ c.args.id c.args.kind c.args.pages c.requires.of_file may c.in-Ok._run.sector _ _ leads _ _
     (rw (c.in-Ok.ensures.layout, c.in-Ok.ensures.runs) at c.in-Err-make_up.ensures.broken)
 
 pub returns-in-Err-make_up-clause-cause : goal.returns-in-Err-make_up-clause-cause
 returns-in-Err-make_up-clause-cause g c =
-    let layout = c.args.filer.now.swapper.layout in
-    let old = g.D.Disk.state c.args.filer.now.swapper.disk in
-    let pool = c.args.filer.now.swapper.pool in
+    let layout = (view_of c.args.filer.now).layout in
+    let old = (view_of c.args.filer.now).disk in
+    let pool = (view_of c.args.filer.now).slots in
     let run = c.in-Ok._run in
     let below = c.requires.numbers in
     let form = c.in-Ok.ensures.form in
     let sectors = form.form.from_data in
-    let first = data_first layout c.args.filer.now.swapper.accepted in
-    let old_run = subst (λ (n : ℕ). Makes volume_page (growth c.args.id c.args.kind n (sectors_of run)) old pool (g.D.Disk.state c.make_run.new.filer.swapper.disk) c.make_run.new.filer.swapper.pool) (sym form.same_first) c.in-Ok.ensures.makes in
-    let one : LabelsRun layout c.args.id old pool (g.D.Disk.state c.make_run.new.filer.swapper.disk) c.make_run.new.filer.swapper.pool = record { prefix = []; kind = c.args.kind; run = run; some = form.form.some; from = omega (arith, sectors, first); makes = old_run; ended = inl form.same_first } in
+    let first = data_first layout (accepted c.args.filer.now) in
+    let old_run = subst (λ (n : ℕ). Makes volume_page (growth c.args.id c.args.kind n (sectors_of run)) old pool (view_of c.make_run.new.filer).disk (view_of c.make_run.new.filer).slots) (sym form.same_first) c.in-Ok.ensures.makes in
+    let one : LabelsRun layout c.args.id old pool (view_of c.make_run.new.filer).disk (view_of c.make_run.new.filer).slots = record { prefix = []; kind = c.args.kind; run = run; some = form.form.some; from = omega (arith, sectors, first); makes = old_run; ended = inl form.same_first } in
     let leader = λ (p : ℕ). (4294967295 ≤ p) × (p < 4294967295 + run.pages) in
     let pages = λ (p : ℕ). (0 ≤ p) × (p < c.args.pages) in
     let leaves = leaves_apart layout c.args.id leader pages every_page old pool (λ p own. tt) (λ p own. tt) (λ p own other. let before = own.1 in let from = other.0 in omega (arith, below, before, from)) in
     make_halts_before leader pages every_page c.in-Ok.ensures.makes c.in-Ok.ensures.takes leaves pages (IsNewPage c.args.pages) (λ p own. inr own.1) (λ p own other. let before = own.1 in let from = other.0 in omega (arith, below, before, from)) (inr one)
-    (g.D.Disk.state c.make_up.new.filer.swapper.disk) c.make_up.new.filer.swapper.pool c.in-Err-make_up.halt (rw c.in-Ok.ensures.layout at c.in-Err-make_up.ensures.cause)
+    (view_of c.make_up.new.filer).disk (view_of c.make_up.new.filer).slots c.in-Err-make_up.halt (rw c.in-Ok.ensures.layout at c.in-Err-make_up.ensures.cause)
 
 pub returns-in-Err-clause-cause : goal.returns-in-Err-clause-cause
 returns-in-Err-clause-cause g c =
     let leader = λ (p : ℕ). (4294967295 ≤ p) × (p < 4294967295 + 1) in
-    make_halts_wider c.args.filer.now.swapper.layout c.args.id leader every_page leader (IsNewPage c.args.pages) (λ p own. tt) (λ p own. let from = own.0 in let last = own.1 in inl (omega (arith, from, last))) (g.D.Disk.state c.args.filer.now.swapper.disk) (g.D.Disk.state c.make_run.new.filer.swapper.disk) c.args.filer.now.swapper.pool c.make_run.new.filer.swapper.pool c.in-Err.halt c.in-Err.ensures.cause
+    make_halts_wider (view_of c.args.filer.now).layout c.args.id leader every_page leader (IsNewPage c.args.pages) (λ p own. tt) (λ p own. let from = own.0 in let last = own.1 in inl (omega (arith, from, last))) (view_of c.args.filer.now).disk (view_of c.make_run.new.filer).disk (view_of c.args.filer.now).slots (view_of c.make_run.new.filer).slots c.in-Err.halt c.in-Err.ensures.cause
 
 pub returns-in-Err-clause-reasons : goal.returns-in-Err-clause-reasons
 returns-in-Err-clause-reasons g c = λ o named h may none. c.in-Err.ensures.reasons o named h (λ p sector own. none p sector tt)

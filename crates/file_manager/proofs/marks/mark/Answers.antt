@@ -25,6 +25,7 @@ use Rattle.file_manager.proofs.KeepSteps.{keeps_at}
 use Rattle.file_manager.proofs.KeepCut.{keeps_marked}
 use Rattle.file_manager.proofs.ReasonCauses.{mark_reasons}
 use Rattle.file_manager.proofs.marks.mark.Goals as goal
+use Rattle.filer_kernel.specs.View.{accepted, view_of}
 
 pub returns-in-Ok-None-clause-sound : goal.returns-in-Ok-None-clause-sound
 returns-in-Ok-None-clause-sound g c = λ x shapes spaces f books is.
@@ -51,7 +52,7 @@ pub returns-in-Err-mark_leader-clause-broken : goal.returns-in-Err-mark_leader-c
 returns-in-Err-mark_leader-clause-broken g c = λ x shapes spaces f books is.
     let now = c.leader_of.ensures.same x shapes spaces books in
     let triple = subst (IsLeaderOf (labels_of x) shapes c.args.id) c.in-Ok-Some.field-0-is (c.in-Ok-Some.ensures.revealed x shapes spaces books) in
-    marks_first c.args.filer.now.swapper.layout _ _ _ _ _ _ _ shapes spaces x c.args.id c.in-Ok-Some.sector c.args.mark c.requires.client now c.leader_of.ensures.makes triple (rw c.swapper_over-swapper.ensures.value at c.mark_leader.ensures.frames)
+    marks_first (view_of c.args.filer.now).layout _ _ _ _ _ _ _ shapes spaces x c.args.id c.in-Ok-Some.sector c.args.mark c.requires.client now c.leader_of.ensures.makes triple (rw c.swapper_over-swapper.ensures.value at c.mark_leader.ensures.frames)
     (rw c.swapper_over-swapper.ensures.value at c.in-Err-mark_leader.ensures.stopped)
 
 pub returns-in-Err-mark_leader-clause-makes : goal.returns-in-Err-mark_leader-clause-makes
@@ -62,7 +63,7 @@ pub returns-clause-revealed : goal.returns-clause-revealed
 returns-clause-revealed g c = λ x shapes spaces f books is hidden.
     let now = c.leader_of.ensures.same x shapes spaces books in
     let triple = subst (IsLeaderOf (labels_of x) shapes c.args.id) c.in-Ok-Some.field-0-is (c.in-Ok-Some.ensures.revealed x shapes spaces books) in
-    marked_after c.args.filer.now.swapper.layout _ _ _ _ _ _ _ _ shapes spaces x c.args.id c.in-Ok-Some.sector c.args.mark c.requires.client books now c.leader_of.ensures.makes c.leader_of.ensures.brings triple hidden (rw c.swapper_over-swapper.ensures.value at c.mark_leader.ensures.frames) (rw c.swapper_over-swapper.ensures.value at c.in-Ok.ensures.marked)
+    marked_after (view_of c.args.filer.now).layout _ _ _ _ _ _ _ _ shapes spaces x c.args.id c.in-Ok-Some.sector c.args.mark c.requires.client books now c.leader_of.ensures.makes c.leader_of.ensures.brings triple hidden (rw c.swapper_over-swapper.ensures.value at c.mark_leader.ensures.frames) (rw c.swapper_over-swapper.ensures.value at c.in-Ok.ensures.marked)
 
 pub returns-clause-makes : goal.returns-clause-makes
 returns-clause-makes g c =
@@ -74,35 +75,35 @@ returns-in-Ok-None-clause-counted g c = no_fault
 
 pub returns-in-Err-mark_leader-clause-counted : goal.returns-in-Err-mark_leader-clause-counted
 returns-in-Err-mark_leader-clause-counted g c =
-    counted _ _ (g.D.Disk.state c.leader_of.new.filer.swapper.disk) (g.D.Disk.state c.mark_leader.new.swapper.disk) _ c.leader_of.ensures.makes.went.faults (rw c.swapper_over-swapper.ensures.value at c.in-Err-mark_leader.ensures.cause)
+    counted _ _ (view_of c.leader_of.new.filer).disk (g.D.Disk.state c.mark_leader.new.swapper.disk) _ c.leader_of.ensures.makes.went.faults (rw c.swapper_over-swapper.ensures.value at c.in-Err-mark_leader.ensures.cause)
 
 pub returns-in-Ok-None-clause-cause : goal.returns-in-Ok-None-clause-cause
 returns-in-Ok-None-clause-cause g c = (refl, refl, c.leader_of.ensures.missing (search rules))
 
 pub returns-in-Err-clause-cause : goal.returns-in-Err-clause-cause
 returns-in-Err-clause-cause g c =
-    let layout = c.args.filer.now.swapper.layout in
-    search_halts layout (runs_of layout.sectors c.args.filer.now.runs) c.args.id (g.D.Disk.state c.args.filer.now.swapper.disk) c.args.filer.now.swapper.pool (g.D.Disk.state c.leader_of.new.filer.swapper.disk) c.in-Err.halt c.in-Err.ensures.cause
+    let layout = (view_of c.args.filer.now).layout in
+    search_halts layout (runs_of layout.sectors c.args.filer.now.runs) c.args.id (view_of c.args.filer.now).disk (view_of c.args.filer.now).slots (view_of c.leader_of.new.filer).disk c.in-Err.halt c.in-Err.ensures.cause
 
 pub returns-in-Err-mark_leader-clause-cause : goal.returns-in-Err-mark_leader-clause-cause
 returns-in-Err-mark_leader-clause-cause g c =
-    let layout = c.args.filer.now.swapper.layout in
-    let old = g.D.Disk.state c.args.filer.now.swapper.disk in
+    let layout = (view_of c.args.filer.now).layout in
+    let old = (view_of c.args.filer.now).disk in
     let kept = runs_of layout.sectors c.args.filer.now.runs in
-    let given = subst (λ (o : Option ℕ). IfSome o (λ sector. IsRunHome layout old c.args.filer.now.swapper.pool kept (home_at sector (record { id = c.args.id; page = leader_page })))) c.in-Ok-Some.field-0-is c.in-Ok-Some.ensures.given in
-    label_halts layout kept c.args.id old c.args.filer.now.swapper.pool (g.D.Disk.state c.leader_of.new.filer.swapper.disk) (g.D.Disk.state c.mark_leader.new.swapper.disk) c.leader_of.new.filer.swapper.pool c.in-Ok-Some.sector c.leader_of.ensures.makes given c.in-Err-mark_leader.halt (rw c.swapper_over-swapper.ensures.value at c.in-Err-mark_leader.ensures.cause)
+    let given = subst (λ (o : Option ℕ). IfSome o (λ sector. IsRunHome layout old (view_of c.args.filer.now).slots kept (home_at sector (record { id = c.args.id; page = leader_page })))) c.in-Ok-Some.field-0-is c.in-Ok-Some.ensures.given in
+    label_halts layout kept c.args.id old (view_of c.args.filer.now).slots (view_of c.leader_of.new.filer).disk (g.D.Disk.state c.mark_leader.new.swapper.disk) (view_of c.leader_of.new.filer).slots c.in-Ok-Some.sector c.leader_of.ensures.makes given c.in-Err-mark_leader.halt (rw c.swapper_over-swapper.ensures.value at c.in-Err-mark_leader.ensures.cause)
 
 pub returns-in-Ok-None-clause-evidence_seen : goal.returns-in-Ok-None-clause-evidence_seen
 returns-in-Ok-None-clause-evidence_seen g c = inr c.requires.client
 
 pub returns-in-Err-mark_leader-clause-evidence_seen : goal.returns-in-Err-mark_leader-clause-evidence_seen
 returns-in-Err-mark_leader-clause-evidence_seen g c =
-    let layout = c.args.filer.now.swapper.layout in
+    let layout = (view_of c.args.filer.now).layout in
     let new = g.D.Disk.state c.mark_leader.new.swapper.disk in
     let wanted : Wanted = record { id = c.args.id; page = leader_page } in
     let size : new.sectors ≡ layout.sectors = marked_sectors c.args.mark _ new _ _ (returns-in-Err-mark_leader-clause-makes g c) ∙ c.requires.size in
     let place = subst (λ (o : Option ℕ). IfSome o (λ sector. (layout.first ≤ sector) × (sector < layout.sectors))) c.in-Ok-Some.field-0-is c.in-Ok-Some.ensures.place in
-    so_of_other new c.in-Ok-Some.sector wanted (file_may layout new c.args.filer.now.swapper.accepted size c.in-Ok-Some.sector wanted (inr c.requires.client) place.0 place.1) (g.D.Disk.state c.leader_of.new.filer.swapper.disk) (g.D.Disk.state c.mark_leader.new.swapper.disk) c.in-Err-mark_leader.halt (rw c.swapper_over-swapper.ensures.value at c.in-Err-mark_leader.ensures.evidence_seen)
+    so_of_other new c.in-Ok-Some.sector wanted (file_may layout new (accepted c.args.filer.now) size c.in-Ok-Some.sector wanted (inr c.requires.client) place.0 place.1) (view_of c.leader_of.new.filer).disk (g.D.Disk.state c.mark_leader.new.swapper.disk) c.in-Err-mark_leader.halt (rw c.swapper_over-swapper.ensures.value at c.in-Err-mark_leader.ensures.evidence_seen)
 
 pub returns-in-Ok-None-clause-own : goal.returns-in-Ok-None-clause-own
 returns-in-Ok-None-clause-own g c = relabels_own (quiet_own c.args.id c.leader_of.ensures.makes)
@@ -150,9 +151,9 @@ returns-in-Err-mark_leader-clause-reasons g c = λ o named k.
 pub returns-clause-keeps_to : goal.returns-clause-keeps_to
 returns-clause-keeps_to g c = λ o named k.
     let f = c.leader_of.new.filer in
-    let place = subst (λ (o : Option ℕ). IfSome o (λ sector. (c.args.filer.now.swapper.layout.first ≤ sector) × (sector < c.args.filer.now.swapper.layout.sectors))) c.in-Ok-Some.field-0-is c.in-Ok-Some.ensures.place in
+    let place = subst (λ (o : Option ℕ). IfSome o (λ sector. ((view_of c.args.filer.now).layout.first ≤ sector) × (sector < (view_of c.args.filer.now).layout.sectors))) c.in-Ok-Some.field-0-is c.in-Ok-Some.ensures.place in
     let above = subst (λ (l : Layout). l.first ≤ c.in-Ok-Some.sector) (sym c.leader_of.ensures.layout) place.0 in
     let marked = rw c.swapper_over-swapper.ensures.value at c.in-Ok.ensures.marked in
     let frames = rw c.swapper_over-swapper.ensures.value at c.mark_leader.ensures.frames in
     let lay = rw c.swapper_over-swapper.ensures.value at c.mark_leader.ensures.layout in
-    keeps_at f.runs lay (keeps_marked f.swapper.accepted (c.in-Ok-Some.ensures.keeps_to o named k) (record { id = c.args.id; page = leader_page }) c.in-Ok-Some.sector c.args.mark above c.requires.client marked frames)
+    keeps_at f.runs lay (keeps_marked (accepted f) (c.in-Ok-Some.ensures.keeps_to o named k) (record { id = c.args.id; page = leader_page }) c.in-Ok-Some.sector c.args.mark above c.requires.client marked frames)

@@ -12,57 +12,58 @@ use Rattle.file_manager.proofs.LookLemmas.{looks_searched}
 use Rattle.file_manager.proofs.KeepSteps.{keeps_asked}
 use Rattle.file_manager.specs.ReasonLaws.{map_reasons}
 use Rattle.file_manager.proofs.order.next.Goals as goal
+use Rattle.filer_kernel.specs.View.{accepted, swapper_of, view_of}
 
 pub returns-in-Ok-clause-revealed : goal.returns-in-Ok-clause-revealed
 returns-in-Ok-clause-revealed g c = rw (← c.frames_of.ensures.same) (λ x shapes spaces books.
-    let is : IsLayout c.frames_of.new.filer.swapper.layout = search rules in
+    let is : IsLayout (view_of c.frames_of.new.filer).layout = search rules in
     let b = books.booked in
-    next_is c.frames_of.new.filer.swapper.layout (runs_of c.frames_of.new.filer.swapper.layout.sectors c.frames_of.new.filer.runs) shapes x b c.args.id _ (c.in-Ok.ensures.next x b.named books.stands (map_is _ _ shapes x is b)))
+    next_is (view_of c.frames_of.new.filer).layout (runs_of (view_of c.frames_of.new.filer).layout.sectors c.frames_of.new.filer.runs) shapes x b c.args.id _ (c.in-Ok.ensures.next x b.named books.stands (map_is _ _ shapes x is b)))
 
 pub returns-in-Ok-clause-same : goal.returns-in-Ok-clause-same
 returns-in-Ok-clause-same g c = rw (← c.frames_of.ensures.same) (λ x shapes spaces books.
-    let is : IsLayout c.frames_of.new.filer.swapper.layout = search rules in
+    let is : IsLayout (view_of c.frames_of.new.filer).layout = search rules in
     let b = books.booked in
     let map = map_is _ _ shapes x is b in
-    books_stay _ _ _ _ _ _ _ shapes spaces x books (c.next_file.ensures.same x b.named books.stands map) (own_maps FileMap c.frames_of.new.filer.swapper.layout _ _ c.next_file.ensures.beside.brings)
-    (subst (λ (r : CachedRuns). AreOf b.named (runs_of c.frames_of.new.filer.swapper.layout.sectors r)) (sym c.next_file.ensures.runs) (kept_are _ _ shapes x is b)))
+    books_stay _ _ _ _ _ _ _ shapes spaces x books (c.next_file.ensures.same x b.named books.stands map) (own_maps FileMap (view_of c.frames_of.new.filer).layout _ _ c.next_file.ensures.beside.brings)
+    (subst (λ (r : CachedRuns). AreOf b.named (runs_of (view_of c.frames_of.new.filer).layout.sectors r)) (sym c.next_file.ensures.runs) (kept_are _ _ shapes x is b)))
 
 pub returns-in-Err-clause-revealed : goal.returns-in-Err-clause-revealed
 returns-in-Err-clause-revealed g c = rw (← c.frames_of.ensures.same) (λ x shapes spaces books.
-    let is : IsLayout c.frames_of.new.filer.swapper.layout = search rules in
+    let is : IsLayout (view_of c.frames_of.new.filer).layout = search rules in
     let b = books.booked in
     c.in-Err.ensures.sound x b.named books.stands (map_is _ _ shapes x is b) (map_named _ x is b.long b.map_labels))
 
 pub returns-in-Err-clause-same : goal.returns-in-Err-clause-same
 returns-in-Err-clause-same g c = rw (← c.frames_of.ensures.same) (λ x shapes spaces books.
-    let is : IsLayout c.frames_of.new.filer.swapper.layout = search rules in
+    let is : IsLayout (view_of c.frames_of.new.filer).layout = search rules in
     let b = books.booked in
     let map = map_is _ _ shapes x is b in
-    books_stay _ _ _ _ _ _ _ shapes spaces x books (c.next_file.ensures.same x b.named books.stands map) (own_maps FileMap c.frames_of.new.filer.swapper.layout _ _ c.next_file.ensures.beside.brings)
-    (subst (λ (r : CachedRuns). AreOf b.named (runs_of c.frames_of.new.filer.swapper.layout.sectors r)) (sym c.next_file.ensures.runs) (kept_are _ _ shapes x is b)))
+    books_stay _ _ _ _ _ _ _ shapes spaces x books (c.next_file.ensures.same x b.named books.stands map) (own_maps FileMap (view_of c.frames_of.new.filer).layout _ _ c.next_file.ensures.beside.brings)
+    (subst (λ (r : CachedRuns). AreOf b.named (runs_of (view_of c.frames_of.new.filer).layout.sectors r)) (sym c.next_file.ensures.runs) (kept_are _ _ shapes x is b)))
 
 pub returns-in-Err-clause-counted : goal.returns-in-Err-clause-counted
-returns-in-Err-clause-counted g c = rw (← c.frames_of.ensures.same) (counted _ _ (g.D.Disk.state c.frames_of.new.filer.swapper.disk) (g.D.Disk.state c.next_file.new.self.swapper.disk) _ (omega arith) c.in-Err.ensures.cause)
+returns-in-Err-clause-counted g c = rw (← c.frames_of.ensures.same) (counted _ _ (view_of c.frames_of.new.filer).disk (view_of c.next_file.new.self).disk _ (omega arith) c.in-Err.ensures.cause)
 
 pub returns-in-Err-clause-evidence_seen : goal.returns-in-Err-clause-evidence_seen
-returns-in-Err-clause-evidence_seen g c = so_of_map (fits c.frames_of.new.filer.swapper (search rules)) c.next_file.ensures.beside.goes.makes c.in-Err.halt c.in-Err.ensures.cause
+returns-in-Err-clause-evidence_seen g c = so_of_map (fits (swapper_of c.frames_of.new.filer) (search rules)) c.next_file.ensures.beside.goes.makes c.in-Err.halt c.in-Err.ensures.cause
 
 pub returns-in-Ok-clause-looks : goal.returns-in-Ok-clause-looks
 returns-in-Ok-clause-looks g c =
     let f = c.frames_of.new.filer in
     let found = c.next_file.ensures in
-    let kept = ap (runs_of f.swapper.layout.sectors) found.runs in
+    let kept = ap (runs_of (view_of f).layout.sectors) found.runs in
     rw (← c.frames_of.ensures.same)
-    (looks_searched {kept = runs_of f.swapper.layout.sectors f.runs} {runs = runs_of f.swapper.layout.sectors c.next_file.new.self.runs} found.looked
+    (looks_searched {kept = runs_of (view_of f).layout.sectors f.runs} {runs = runs_of (view_of f).layout.sectors c.next_file.new.self.runs} found.looked
     (λ r one. inl (subst (IsOneOf r) kept one)) (λ m named stands map are. subst (AreOf named) (sym kept) are))
 
 pub returns-in-Err-clause-looks : goal.returns-in-Err-clause-looks
 returns-in-Err-clause-looks g c =
     let f = c.frames_of.new.filer in
     let found = c.next_file.ensures in
-    let kept = ap (runs_of f.swapper.layout.sectors) found.runs in
+    let kept = ap (runs_of (view_of f).layout.sectors) found.runs in
     rw (← c.frames_of.ensures.same)
-    (looks_searched {kept = runs_of f.swapper.layout.sectors f.runs} {runs = runs_of f.swapper.layout.sectors c.next_file.new.self.runs} found.looked
+    (looks_searched {kept = runs_of (view_of f).layout.sectors f.runs} {runs = runs_of (view_of f).layout.sectors c.next_file.new.self.runs} found.looked
     (λ r one. inl (subst (IsOneOf r) kept one)) (λ m named stands map are. subst (AreOf named) (sym kept) are))
 
 -- ---- What it keeps to, and the reasons of its halts.
@@ -71,4 +72,4 @@ pub returns-in-Ok-clause-keeps_to : goal.returns-in-Ok-clause-keeps_to
 returns-in-Ok-clause-keeps_to g c = rw (← c.frames_of.ensures.same) (λ o named k. keeps_asked c.frames_of.new.filer.runs c.next_file.new.self.runs c.next_file.ensures.runs k c.next_file.ensures.beside c.next_file.ensures.same)
 
 pub returns-in-Err-clause-reasons : goal.returns-in-Err-clause-reasons
-returns-in-Err-clause-reasons g c = rw (← c.frames_of.ensures.same) (λ o named k. map_reasons k c.next_file.ensures.beside.goes.makes c.frames_of.new.filer.swapper.accepted c.in-Err.halt c.in-Err.ensures.cause)
+returns-in-Err-clause-reasons g c = rw (← c.frames_of.ensures.same) (λ o named k. map_reasons k c.next_file.ensures.beside.goes.makes (accepted c.frames_of.new.filer) c.in-Err.halt c.in-Err.ensures.cause)

@@ -23,12 +23,13 @@ use Rattle.file_manager.proofs.LackLemmas.{labels_lack_none, marks_lack_none}
 use Rattle.file_manager.proofs.release.free_run.Given as given
 use Rattle.file_manager.proofs.release.free_run.Goals as goal
 use Rattle.file_manager.proofs.release.free_run.Goals.{After-discard_run}
+use Rattle.filer_kernel.specs.View.{accepted, swapper_of, view_of}
 
 -- the search, and the frames that were given up
-after : (g : given.Over) (c : After-discard_run g) → IsPrefix c.args.filer.now.swapper.layout c.args.id (g.D.Disk.state c.args.filer.now.swapper.disk) c.args.filer.now.swapper.pool c.args.filer.now.runs c.in-Ok.run'
-    (g.D.Disk.state c.discard_run.new.filer.swapper.disk) c.discard_run.new.filer.swapper.pool c.discard_run.new.filer.swapper.layout c.discard_run.new.filer.runs
+after : (g : given.Over) (c : After-discard_run g) → IsPrefix (view_of c.args.filer.now).layout c.args.id (view_of c.args.filer.now).disk (view_of c.args.filer.now).slots c.args.filer.now.runs c.in-Ok.run'
+    (view_of c.discard_run.new.filer).disk (view_of c.discard_run.new.filer).slots (view_of c.discard_run.new.filer).layout c.discard_run.new.filer.runs
 after g c =
-    prefix c.args.filer.now.swapper.accepted c.requires.of_file c.in-Ok.ensures.form.same_id c.part_of.ensures.beside c.part_of.ensures.same (c.part_of.ensures.keeps c.requires.of_file)
+    prefix (accepted c.args.filer.now) c.requires.of_file c.in-Ok.ensures.form.same_id c.part_of.ensures.beside c.part_of.ensures.same (c.part_of.ensures.keeps c.requires.of_file)
     c.in-Ok.ensures.keeps_to c.discard_run.ensures.forgets (ap g.D.Disk.state c.discard_run.ensures.disk) c.discard_run.ensures.layout c.discard_run.ensures.runs
 
 pub returns-in-Err-clause-sound : goal.returns-in-Err-clause-sound
@@ -42,16 +43,16 @@ returns-in-Err-clause-stopped g c = map_stops c.part_of.ensures.beside
 pub free_labels-requires-clause-data : goal.free_labels-requires-clause-data
 free_labels-requires-clause-data g c =
     let f = after g (goal.at.free_labels-requires-clause-data g c).After-discard_run in
-    let first = data_first c.args.filer.now.swapper.layout c.args.filer.now.swapper.accepted in
-    let lay : c.discard_run.new.filer.swapper.layout.first ≡ c.args.filer.now.swapper.layout.first = ap (λ (l : Layout). l.first) f.same_layout in
+    let first = data_first (view_of c.args.filer.now).layout (accepted c.args.filer.now) in
+    let lay : (view_of c.discard_run.new.filer).layout.first ≡ (view_of c.args.filer.now).layout.first = ap (λ (l : Layout). l.first) f.same_layout in
     let from = c.in-Ok.ensures.form.form.from_data in
     omega (arith, first, lay, from)
 
 pub returns-in-Err-free_labels-clause-sound : goal.returns-in-Err-free_labels-clause-sound
 returns-in-Err-free_labels-clause-sound g c = λ named spaces m may.
     let f = after g (goal.at.returns-in-Err-free_labels-clause-sound g c).After-discard_run in
-    let layout = c.args.filer.now.swapper.layout in
-    let is = c.args.filer.now.swapper.accepted in
+    let layout = (view_of c.args.filer.now).layout in
+    let is = (accepted c.args.filer.now) in
     let all = c.in-Ok.ensures.named m named may.stands may.map may.kept in
     let booked = f.booked named spaces c.args.page (c.args.page + c.args.most) m may in
     c.in-Err-free_labels.ensures.sound m booked.0
@@ -66,20 +67,20 @@ returns-in-Err-free_labels-clause-stopped g c =
 pub give-requires-clause-data : goal.give-requires-clause-data
 give-requires-clause-data g c =
     let f = after g (goal.at.give-requires-clause-data g c).After-discard_run in
-    let first = data_first c.args.filer.now.swapper.layout c.args.filer.now.swapper.accepted in
-    let lay : c.free_labels.new.filer.swapper.layout.first ≡ c.args.filer.now.swapper.layout.first = ap (λ (l : Layout). l.first) (c.in-Ok-free_labels.ensures.layout ∙ f.same_layout) in
+    let first = data_first (view_of c.args.filer.now).layout (accepted c.args.filer.now) in
+    let lay : (view_of c.free_labels.new.filer).layout.first ≡ (view_of c.args.filer.now).layout.first = ap (λ (l : Layout). l.first) (c.in-Ok-free_labels.ensures.layout ∙ f.same_layout) in
     let from = c.in-Ok.ensures.form.form.from_data in
     omega (arith, first, lay, from)
 
 pub returns-in-Err-give-clause-sound : goal.returns-in-Err-give-clause-sound
 returns-in-Err-give-clause-sound g c = λ named spaces m may.
     let f = after g (goal.at.returns-in-Err-give-clause-sound g c).After-discard_run in
-    let layout = c.args.filer.now.swapper.layout in
-    let is = c.args.filer.now.swapper.accepted in
+    let layout = (view_of c.args.filer.now).layout in
+    let is = (accepted c.args.filer.now) in
     let all = c.in-Ok.ensures.named m named may.stands may.map may.kept in
     let booked = f.booked named spaces c.args.page (c.args.page + c.args.most) m may in
     let frames = c.in-Ok-free_labels.ensures.frames in
-    let lay : c.free_labels.new.filer.swapper.layout ≡ layout = c.in-Ok-free_labels.ensures.layout ∙ f.same_layout in
+    let lay : (view_of c.free_labels.new.filer).layout ≡ layout = c.in-Ok-free_labels.ensures.layout ∙ f.same_layout in
     let made = c.in-Ok-free_labels.ensures.freed in
     let mid = labelled layout is named spaces c.args.id c.args.page (c.args.page + c.args.most) c.requires.of_file m _ _ c.args.filer.now.runs may c.in-Ok.run' c.in-Ok.ensures.form all _ _ _ booked.1 booked.0 _ made in
     (rw (frames, lay) at c.in-Err-give.ensures.sound) mid.0 mid.1
@@ -93,12 +94,12 @@ returns-in-Err-give-clause-stopped g c =
 pub returns-clause-freed : goal.returns-clause-freed
 returns-clause-freed g c = λ named spaces m may.
     let f = after g (goal.at.returns-clause-freed g c).After-discard_run in
-    let layout = c.args.filer.now.swapper.layout in
-    let is = c.args.filer.now.swapper.accepted in
+    let layout = (view_of c.args.filer.now).layout in
+    let is = (accepted c.args.filer.now) in
     let all = c.in-Ok.ensures.named m named may.stands may.map may.kept in
     let booked = f.booked named spaces c.args.page (c.args.page + c.args.most) m may in
     let frames = c.in-Ok-free_labels.ensures.frames in
-    let lay : c.free_labels.new.filer.swapper.layout ≡ layout = c.in-Ok-free_labels.ensures.layout ∙ f.same_layout in
+    let lay : (view_of c.free_labels.new.filer).layout ≡ layout = c.in-Ok-free_labels.ensures.layout ∙ f.same_layout in
     let made = c.in-Ok-free_labels.ensures.freed in
     let mid = labelled layout is named spaces c.args.id c.args.page (c.args.page + c.args.most) c.requires.of_file m _ _ c.args.filer.now.runs may c.in-Ok.run' c.in-Ok.ensures.form all _ _ _ booked.1 booked.0 _ made in
     let kept = c.part_of.ensures.kept m named may.stands may.map may.kept in
@@ -138,45 +139,45 @@ returns-in-Err-give-clause-counted g c =
     let f = after g (goal.at.returns-in-Err-give-clause-counted g c).After-discard_run in
     let first = f.makes.went.faults in
     let second = c.in-Ok-free_labels.ensures.freed.makes.went.faults in
-    counted _ _ (g.D.Disk.state c.free_labels.new.filer.swapper.disk) (g.D.Disk.state c.give.new.self.swapper.disk) _ (omega (arith, first, second)) c.in-Err-give.ensures.cause
+    counted _ _ (view_of c.free_labels.new.filer).disk (view_of c.give.new.self).disk _ (omega (arith, first, second)) c.in-Err-give.ensures.cause
 
 pub returns-in-Err-clause-evidence_seen : goal.returns-in-Err-clause-evidence_seen
 returns-in-Err-clause-evidence_seen g c = c.in-Err.ensures.evidence_seen
 
 pub returns-in-Err-give-clause-evidence_seen : goal.returns-in-Err-give-clause-evidence_seen
-returns-in-Err-give-clause-evidence_seen g c = λ there. so_of_halts (fits c.free_labels.new.filer.swapper (search rules)) c.in-Err-give.ensures.kept.goes.makes c.in-Err-give.halt _ (map_homes_placed AllocationMap _) c.in-Err-give.ensures.cause
+returns-in-Err-give-clause-evidence_seen g c = λ there. so_of_halts (fits (swapper_of c.free_labels.new.filer) (search rules)) c.in-Err-give.ensures.kept.goes.makes c.in-Err-give.halt _ (map_homes_placed AllocationMap _) c.in-Err-give.ensures.cause
 
 pub returns-in-Err-free_labels-clause-cause : goal.returns-in-Err-free_labels-clause-cause
 returns-in-Err-free_labels-clause-cause g c =
     let f = after g (goal.at.returns-in-Err-free_labels-clause-cause g c).After-discard_run in
-    let layout = c.args.filer.now.swapper.layout in
+    let layout = (view_of c.args.filer.now).layout in
     let form = c.in-Ok.ensures.form in
     let keep = f.keeps in
-    at_labels c.args.filer.now.swapper.accepted c.requires.of_file c.in-Ok.run' form.form form.same_id keep (λ p. p ≡ c.args.page) c.in-Ok.ensures.homes (g.D.Disk.state c.free_labels.new.filer.swapper.disk) c.in-Err-free_labels.halt c.in-Err-free_labels.ensures.cause
+    at_labels (accepted c.args.filer.now) c.requires.of_file c.in-Ok.run' form.form form.same_id keep (λ p. p ≡ c.args.page) c.in-Ok.ensures.homes (view_of c.free_labels.new.filer).disk c.in-Err-free_labels.halt c.in-Err-free_labels.ensures.cause
 
 pub returns-in-Err-give-clause-cause : goal.returns-in-Err-give-clause-cause
 returns-in-Err-give-clause-cause g c =
     let f = after g (goal.at.returns-in-Err-give-clause-cause g c).After-discard_run in
-    let layout = c.args.filer.now.swapper.layout in
+    let layout = (view_of c.args.filer.now).layout in
     let form = c.in-Ok.ensures.form in
     let keep = f.keeps in
     let frames = c.in-Ok-free_labels.ensures.frames in
-    let lay : c.free_labels.new.filer.swapper.layout ≡ layout = c.in-Ok-free_labels.ensures.layout ∙ f.same_layout in
-    at_marks c.args.filer.now.swapper.accepted c.requires.of_file c.in-Ok.run' form.form form.same_id keep (run_sectors c.in-Ok.run') (λ j k at. let r = row_has c.in-Ok.run'.sector c.in-Ok.run'.pages j k at in (j, r.0, r.1)) c.in-Ok-free_labels.ensures.freed c.in-Ok-free_labels.ensures.were (λ p. p ≡ c.args.page) (g.D.Disk.state c.give.new.self.swapper.disk) c.in-Err-give.halt (rw (frames, lay) at c.in-Err-give.ensures.cause)
+    let lay : (view_of c.free_labels.new.filer).layout ≡ layout = c.in-Ok-free_labels.ensures.layout ∙ f.same_layout in
+    at_marks (accepted c.args.filer.now) c.requires.of_file c.in-Ok.run' form.form form.same_id keep (run_sectors c.in-Ok.run') (λ j k at. let r = row_has c.in-Ok.run'.sector c.in-Ok.run'.pages j k at in (j, r.0, r.1)) c.in-Ok-free_labels.ensures.freed c.in-Ok-free_labels.ensures.were (λ p. p ≡ c.args.page) (view_of c.give.new.self).disk c.in-Err-give.halt (rw (frames, lay) at c.in-Err-give.ensures.cause)
 
 pub returns-clause-keeps : goal.returns-clause-keeps
 returns-clause-keeps g c =
     let f = after g (goal.at.returns-clause-keeps g c).After-discard_run in
-    let layout = c.args.filer.now.swapper.layout in
+    let layout = (view_of c.args.filer.now).layout in
     let form = c.in-Ok.ensures.form in
     let keep = f.keeps in
     let frames = c.in-Ok-free_labels.ensures.frames in
-    let lay : c.free_labels.new.filer.swapper.layout ≡ layout = c.in-Ok-free_labels.ensures.layout ∙ f.same_layout in
-    let old = g.D.Disk.state c.args.filer.now.swapper.disk in
-    let pool = c.args.filer.now.swapper.pool in
+    let lay : (view_of c.free_labels.new.filer).layout ≡ layout = c.in-Ok-free_labels.ensures.layout ∙ f.same_layout in
+    let old = (view_of c.args.filer.now).disk in
+    let pool = (view_of c.args.filer.now).slots in
     let same_runs : c.give.new.self.runs ≡ c.discard_run.new.filer.runs = c.in-Ok-give.ensures.runs ∙ c.in-Ok-free_labels.ensures.runs in
-    subst (λ (r : CachedRuns). KeepsMap (IsUnframed pool c.args.id) layout c.args.id old pool (runs_of layout.sectors c.args.filer.now.runs) (g.D.Disk.state c.give.new.self.swapper.disk) c.give.new.self.swapper.pool (runs_of layout.sectors r)) (sym same_runs)
-    (run_kept c.args.filer.now.swapper.accepted c.requires.of_file c.in-Ok.run' form.form form.same_id keep (run_sectors c.in-Ok.run') (λ j k at. let r = row_has c.in-Ok.run'.sector c.in-Ok.run'.pages j k at in (j, r.0, r.1)) c.in-Ok-free_labels.ensures.freed c.in-Ok-free_labels.ensures.were (rw (frames, lay) at c.in-Ok-give.ensures.kept))
+    subst (λ (r : CachedRuns). KeepsMap (IsUnframed pool c.args.id) layout c.args.id old pool (runs_of layout.sectors c.args.filer.now.runs) (view_of c.give.new.self).disk (view_of c.give.new.self).slots (runs_of layout.sectors r)) (sym same_runs)
+    (run_kept (accepted c.args.filer.now) c.requires.of_file c.in-Ok.run' form.form form.same_id keep (run_sectors c.in-Ok.run') (λ j k at. let r = row_has c.in-Ok.run'.sector c.in-Ok.run'.pages j k at in (j, r.0, r.1)) c.in-Ok-free_labels.ensures.freed c.in-Ok-free_labels.ensures.were (rw (frames, lay) at c.in-Ok-give.ensures.kept))
 
 pub returns-in-Err-clause-own : goal.returns-in-Err-clause-own
 returns-in-Err-clause-own g c = relabels_own (map_own c.args.id c.part_of.ensures.beside)
@@ -200,29 +201,29 @@ pub returns-in-Err-free_labels-clause-reasons : goal.returns-in-Err-free_labels-
 returns-in-Err-free_labels-clause-reasons g c = λ o named h never_blames may.
     let f = after g (goal.at.returns-in-Err-free_labels-clause-reasons g c).After-discard_run in
     let all = c.in-Ok.ensures.named h.memory named h.stands h.map h.kept in
-    labels_reason (f.keeps_to o named h never_blames) c.args.filer.now.swapper.accepted c.in-Ok.run' c.in-Ok.ensures.form.form all c.in-Err-free_labels.ensures.stopped.makes c.in-Err-free_labels.halt c.in-Err-free_labels.ensures.cause
+    labels_reason (f.keeps_to o named h never_blames) (accepted c.args.filer.now) c.in-Ok.run' c.in-Ok.ensures.form.form all c.in-Err-free_labels.ensures.stopped.makes c.in-Err-free_labels.halt c.in-Err-free_labels.ensures.cause
 
 pub returns-in-Err-give-clause-reasons : goal.returns-in-Err-give-clause-reasons
 returns-in-Err-give-clause-reasons g c = λ o named h never_blames may.
     let f = after g (goal.at.returns-in-Err-give-clause-reasons g c).After-discard_run in
-    let layout = c.args.filer.now.swapper.layout in
+    let layout = (view_of c.args.filer.now).layout in
     let frames = c.in-Ok-free_labels.ensures.frames in
-    let lay : c.free_labels.new.filer.swapper.layout ≡ layout = c.in-Ok-free_labels.ensures.layout ∙ f.same_layout in
+    let lay : (view_of c.free_labels.new.filer).layout ≡ layout = c.in-Ok-free_labels.ensures.layout ∙ f.same_layout in
     let beside = rw (frames, lay) at c.in-Err-give.ensures.kept in
-    marks_reason (f.keeps_to o named h never_blames) c.args.filer.now.swapper.accepted c.in-Ok.run' c.in-Ok.ensures.form.form (run_sectors c.in-Ok.run') (λ j k at. let r = row_has c.in-Ok.run'.sector c.in-Ok.run'.pages j k at in (j, r.0, r.1)) (λ i below. (i, row_at c.in-Ok.run'.sector c.in-Ok.run'.pages i below))
+    marks_reason (f.keeps_to o named h never_blames) (accepted c.args.filer.now) c.in-Ok.run' c.in-Ok.ensures.form.form (run_sectors c.in-Ok.run') (λ j k at. let r = row_has c.in-Ok.run'.sector c.in-Ok.run'.pages j k at in (j, r.0, r.1)) (λ i below. (i, row_at c.in-Ok.run'.sector c.in-Ok.run'.pages i below))
     c.in-Ok-free_labels.ensures.freed c.in-Ok-free_labels.ensures.were f.gone (λ same. never_blames (sym c.in-Ok.ensures.form.same_id ∙ same)) beside.goes.makes c.in-Err-give.halt (rw (frames, lay) at c.in-Err-give.ensures.cause)
 
 pub returns-clause-keeps_to : goal.returns-clause-keeps_to
 returns-clause-keeps_to g c = λ o named h never_blames.
     let f = after g (goal.at.returns-clause-keeps_to g c).After-discard_run in
-    let layout = c.args.filer.now.swapper.layout in
+    let layout = (view_of c.args.filer.now).layout in
     let frames = c.in-Ok-free_labels.ensures.frames in
-    let lay : c.free_labels.new.filer.swapper.layout ≡ layout = c.in-Ok-free_labels.ensures.layout ∙ f.same_layout in
+    let lay : (view_of c.free_labels.new.filer).layout ≡ layout = c.in-Ok-free_labels.ensures.layout ∙ f.same_layout in
     let beside = rw (frames, lay) at c.in-Ok-give.ensures.kept in
     let given = rw (frames, lay) at c.in-Ok-give.ensures.given in
     let same_runs : c.give.new.self.runs ≡ c.discard_run.new.filer.runs = c.in-Ok-give.ensures.runs ∙ c.in-Ok-free_labels.ensures.runs in
     keeps_as beside.layout same_runs
-    (marks_keep (f.keeps_to o named h never_blames) c.args.filer.now.swapper.accepted c.in-Ok.run' c.in-Ok.ensures.form.form (run_sectors c.in-Ok.run') (λ j k at. let r = row_has c.in-Ok.run'.sector c.in-Ok.run'.pages j k at in (j, r.0, r.1)) (λ i below. (i, row_at c.in-Ok.run'.sector c.in-Ok.run'.pages i below))
+    (marks_keep (f.keeps_to o named h never_blames) (accepted c.args.filer.now) c.in-Ok.run' c.in-Ok.ensures.form.form (run_sectors c.in-Ok.run') (λ j k at. let r = row_has c.in-Ok.run'.sector c.in-Ok.run'.pages j k at in (j, r.0, r.1)) (λ i below. (i, row_at c.in-Ok.run'.sector c.in-Ok.run'.pages i below))
     c.in-Ok-free_labels.ensures.freed c.in-Ok-free_labels.ensures.were f.gone (λ same. never_blames (sym c.in-Ok.ensures.form.same_id ∙ same)) beside (λ m marks stands bits. given m marks stands bits))
 
 pub returns-clause-evict : goal.returns-clause-evict
@@ -230,14 +231,14 @@ returns-clause-evict g c = λ o named h never_blames.
     let f = after g (goal.at.returns-clause-evict g c).After-discard_run in
     let run = c.in-Ok.run' in
     let form = c.in-Ok.ensures.form in
-    let layout = c.args.filer.now.swapper.layout in
+    let layout = (view_of c.args.filer.now).layout in
     let frames = c.in-Ok-free_labels.ensures.frames in
-    let lay : c.free_labels.new.filer.swapper.layout ≡ layout = c.in-Ok-free_labels.ensures.layout ∙ f.same_layout in
+    let lay : (view_of c.free_labels.new.filer).layout ≡ layout = c.in-Ok-free_labels.ensures.layout ∙ f.same_layout in
     let beside = rw (frames, lay) at c.in-Ok-give.ensures.kept in
     let all = c.in-Ok.ensures.named h.memory named h.stands h.map h.kept in
     let first = form.same_first in
-    released_of_run o (g.D.Disk.state c.give.new.self.swapper.disk) named run c.args.id (λ p. (c.args.page ≤ p) × (p < c.args.page + run.pages)) form.same_id (λ p own. let from = own.0 in let below = own.1 in (omega (arith, from, first), omega (arith, below, first)))
-    (marks_released (f.keeps_to o named h never_blames) c.args.filer.now.swapper.accepted run form.form (run_sectors run) (λ j k at. let r = row_has run.sector run.pages j k at in (j, r.0, r.1)) (λ i below. (i, row_at run.sector run.pages i below))
+    released_of_run o (view_of c.give.new.self).disk named run c.args.id (λ p. (c.args.page ≤ p) × (p < c.args.page + run.pages)) form.same_id (λ p own. let from = own.0 in let below = own.1 in (omega (arith, from, first), omega (arith, below, first)))
+    (marks_released (f.keeps_to o named h never_blames) (accepted c.args.filer.now) run form.form (run_sectors run) (λ j k at. let r = row_has run.sector run.pages j k at in (j, r.0, r.1)) (λ i below. (i, row_at run.sector run.pages i below))
     c.in-Ok-free_labels.ensures.freed c.in-Ok-free_labels.ensures.were f.gone (λ same. never_blames (sym c.in-Ok.ensures.form.same_id ∙ same)) beside all)
 
 pub returns-in-Err-clause-reasons : goal.returns-in-Err-clause-reasons
@@ -251,10 +252,10 @@ returns-in-Err-clause-right g c = λ o named sector h is. c.in-Err.ensures.right
 pub returns-in-Err-free_labels-clause-right : goal.returns-in-Err-free_labels-clause-right
 returns-in-Err-free_labels-clause-right g c = λ o named sector h is.
     let run = c.in-Ok.run' in
-    let old = g.D.Disk.state c.discard_run.new.filer.swapper.disk in
-    labels_lack_none run.sector run.pages (λ k. record { id = run.id; page = run.first + k }) old old (g.D.Disk.state c.free_labels.new.filer.swapper.disk) c.in-Err-free_labels.halt c.in-Err-free_labels.ensures.cause
+    let old = (view_of c.discard_run.new.filer).disk in
+    labels_lack_none run.sector run.pages (λ k. record { id = run.id; page = run.first + k }) old old (view_of c.free_labels.new.filer).disk c.in-Err-free_labels.halt c.in-Err-free_labels.ensures.cause
 
 pub returns-in-Err-give-clause-right : goal.returns-in-Err-give-clause-right
 returns-in-Err-give-clause-right g c = λ o named sector h is.
     let old = c.free_labels.new.filer.swapper in
-    marks_lack_none (IsMapHome AllocationMap old.layout) (g.D.Disk.state old.disk) old.pool (g.D.Disk.state c.give.new.self.swapper.disk) c.in-Err-give.halt c.in-Err-give.ensures.cause
+    marks_lack_none (IsMapHome AllocationMap old.layout) (g.D.Disk.state old.disk) old.pool (view_of c.give.new.self).disk c.in-Err-give.halt c.in-Err-give.ensures.cause

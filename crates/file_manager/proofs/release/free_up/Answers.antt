@@ -8,6 +8,7 @@ use Rattle.file_manager.proofs.OwnSteps.{some_own, own_after}
 use Rattle.labelled_disk.specs.declared.layout.Layout.{Layout}
 use Rattle.file_manager.specs.Reasons.{ShowsReason}
 use Rattle.file_manager.proofs.release.free_up.Goals as goal
+use Rattle.filer_kernel.specs.View.{view_of}
 
 pub loop-page-init : goal.loop-page-init
 loop-page-init g c = to_none _ _ _ _ _ _ _ c.requires.order c.requires.size
@@ -29,7 +30,7 @@ returns-in-Err-clause-stopped g c = stops_then c.loop-page.invariant.makes c.in-
 pub returns-in-Err-clause-cost : goal.returns-in-Err-clause-cost
 returns-in-Err-clause-cost g c =
     let below : c.loop-page.page < c.args.end = search rules in
-    to_stopped_cost c.loop-page.invariant (g.D.Disk.state c.free_run.new.filer.swapper.disk) below c.in-Err.ensures.cost
+    to_stopped_cost c.loop-page.invariant (view_of c.free_run.new.filer).disk below c.in-Err.ensures.cost
 
 pub returns-clause-freed : goal.returns-clause-freed
 returns-clause-freed g c =
@@ -58,7 +59,7 @@ returns-in-Err-clause-counted g c = counted_then _ _ _ c.loop-page.invariant.mak
 pub returns-in-Err-clause-cause : goal.returns-in-Err-clause-cause
 returns-in-Err-clause-cause g c =
     let below : c.loop-page.page < c.args.end = search rules in
-    to_halts c.loop-page.invariant c.requires.size below (g.D.Disk.state c.free_run.new.filer.swapper.disk) c.in-Err.halt c.in-Err.ensures.cause
+    to_halts c.loop-page.invariant c.requires.size below (view_of c.free_run.new.filer).disk c.in-Err.halt c.in-Err.ensures.cause
 
 pub returns-clause-keeps : goal.returns-clause-keeps
 returns-clause-keeps g c = c.loop-page.invariant.keeps
@@ -78,7 +79,7 @@ pub returns-in-Err-clause-reasons : goal.returns-in-Err-clause-reasons
 returns-in-Err-clause-reasons g c = λ o named h never_blames there.
     let below : c.loop-page.page < c.args.end = search rules in
     let inv = c.loop-page.invariant in
-    subst (λ (l : Layout). ShowsReason o l (g.D.Disk.state c.free_run.new.filer.swapper.disk) c.in-Err.halt) inv.same_layout (c.in-Err.ensures.reasons o named (inv.keeps_to o named h never_blames) never_blames (there c.loop-page.page below))
+    subst (λ (l : Layout). ShowsReason o l (view_of c.free_run.new.filer).disk c.in-Err.halt) inv.same_layout (c.in-Err.ensures.reasons o named (inv.keeps_to o named h never_blames) never_blames (there c.loop-page.page below))
 
 pub returns-clause-evict : goal.returns-clause-evict
 returns-clause-evict g c = λ o named h never_blames page sector own is.

@@ -16,6 +16,7 @@ use Rattle.file_manager.specs.ReasonLaws.{map_reasons, lack_reason}
 use Rattle.file_manager.proofs.FreedReasons.{found_keeps}
 use Rattle.file_manager.proofs.LackLemmas.{search_misses_none}
 use Rattle.file_manager.proofs.release.part_of.Goals as goal
+use Rattle.filer_kernel.specs.View.{accepted, swapper_of, view_of}
 
 pub returns-in-Ok-Some-clause-named : goal.returns-in-Ok-Some-clause-named
 returns-in-Ok-Some-clause-named g c = λ m named stands map kept k below.
@@ -35,21 +36,21 @@ pub returns-in-Ok-None-clause-counted : goal.returns-in-Ok-None-clause-counted
 returns-in-Ok-None-clause-counted g c = no_fault
 
 pub returns-in-Err-clause-counted : goal.returns-in-Err-clause-counted
-returns-in-Err-clause-counted g c = counted _ _ (g.D.Disk.state c.args.filer.now.swapper.disk) (g.D.Disk.state c.find.new.self.swapper.disk) _ (omega arith) c.in-Err.ensures.cause
+returns-in-Err-clause-counted g c = counted _ _ (view_of c.args.filer.now).disk (view_of c.find.new.self).disk _ (omega arith) c.in-Err.ensures.cause
 
 pub returns-in-Err-clause-evidence_seen : goal.returns-in-Err-clause-evidence_seen
-returns-in-Err-clause-evidence_seen g c = λ of_file. so_of_map (fits c.args.filer.now.swapper c.requires.size) c.find.ensures.beside.goes.makes c.in-Err.halt c.in-Err.ensures.cause
+returns-in-Err-clause-evidence_seen g c = λ of_file. so_of_map (fits (swapper_of c.args.filer.now) c.requires.size) c.find.ensures.beside.goes.makes c.in-Err.halt c.in-Err.ensures.cause
 
 pub returns-in-Ok-None-clause-evidence_seen : goal.returns-in-Ok-None-clause-evidence_seen
 returns-in-Ok-None-clause-evidence_seen g c = λ of_file. of_file
 
 pub returns-in-Err-clause-cause : goal.returns-in-Err-clause-cause
 returns-in-Err-clause-cause g c =
-    let layout = c.args.filer.now.swapper.layout in
-    let old = g.D.Disk.state c.args.filer.now.swapper.disk in
-    let pool = c.args.filer.now.swapper.pool in
+    let layout = (view_of c.args.filer.now).layout in
+    let old = (view_of c.args.filer.now).disk in
+    let pool = (view_of c.args.filer.now).slots in
     let kept = runs_of layout.sectors c.args.filer.now.runs in
-    let new = g.D.Disk.state c.find.new.self.swapper.disk in
+    let new = (view_of c.find.new.self).disk in
     search_halts_after (keeps_none (IsUnframed pool c.args.id) layout c.args.id old pool kept (λ none. none)) (λ p. p ≡ c.args.page) new c.in-Err.halt c.in-Err.ensures.cause
 
 pub returns-in-Ok-None-clause-cause : goal.returns-in-Ok-None-clause-cause
@@ -57,9 +58,9 @@ returns-in-Ok-None-clause-cause g c = (refl, refl, λ none m named stands map. c
 
 pub returns-in-Ok-Some-clause-homes : goal.returns-in-Ok-Some-clause-homes
 returns-in-Ok-Some-clause-homes g c =
-    let layout = c.args.filer.now.swapper.layout in
-    let old = g.D.Disk.state c.args.filer.now.swapper.disk in
-    let pool = c.args.filer.now.swapper.pool in
+    let layout = (view_of c.args.filer.now).layout in
+    let old = (view_of c.args.filer.now).disk in
+    let pool = (view_of c.args.filer.now).slots in
     let kept = runs_of layout.sectors c.args.filer.now.runs in
     let is_given = subst (λ (o : Option Run). IfSome o (λ run. IsGiven layout old pool kept run)) c.in-Ok-Some.field-0-is c.in-Ok-Some.ensures.given in
     let held = subst (λ (o : Option Run). IfSome o (λ run. holds run c.args.id c.args.page ≡ true)) c.in-Ok-Some.field-0-is c.in-Ok-Some.ensures.holds in
@@ -80,7 +81,7 @@ pub returns-in-Ok-Some-clause-keeps_to : goal.returns-in-Ok-Some-clause-keeps_to
 returns-in-Ok-Some-clause-keeps_to g c = λ o named h. found_keeps c.args.filer.now.runs c.find.new.self.runs c.find.ensures.beside c.find.ensures.same c.find.ensures.runs_are h
 
 pub returns-in-Err-clause-reasons : goal.returns-in-Err-clause-reasons
-returns-in-Err-clause-reasons g c = λ o named h may. map_reasons h c.find.ensures.beside.goes.makes c.args.filer.now.swapper.accepted c.in-Err.halt c.in-Err.ensures.cause
+returns-in-Err-clause-reasons g c = λ o named h may. map_reasons h c.find.ensures.beside.goes.makes (accepted c.args.filer.now) c.in-Err.halt c.in-Err.ensures.cause
 
 pub returns-in-Ok-None-clause-reasons : goal.returns-in-Ok-None-clause-reasons
 returns-in-Ok-None-clause-reasons g c = λ o named h may. lack_reason h c.find.ensures.beside.goes.makes c.args.id c.args.page may (λ m named stands map. c.find.ensures.nowhere m named stands map (search rules))
@@ -88,7 +89,7 @@ returns-in-Ok-None-clause-reasons g c = λ o named h may. lack_reason h c.find.e
 pub returns-in-Err-clause-right : goal.returns-in-Err-clause-right
 returns-in-Err-clause-right g c = λ o named sector h is.
     let filer = c.args.filer.now in
-    search_misses_none filer.swapper.layout (g.D.Disk.state filer.swapper.disk) filer.swapper.pool (g.D.Disk.state c.find.new.self.swapper.disk) c.in-Err.halt c.in-Err.ensures.cause
+    search_misses_none (view_of filer).layout (view_of filer).disk (view_of filer).slots (view_of c.find.new.self).disk c.in-Err.halt c.in-Err.ensures.cause
 
 pub returns-in-Ok-None-clause-right : goal.returns-in-Ok-None-clause-right
 returns-in-Ok-None-clause-right g c = λ o named sector h is.

@@ -28,6 +28,7 @@ use Rattle.file_manager.specs.Reasons.{ShowsReason}
 use Rattle.file_manager.specs.ReasonLaws.{missing_reason}
 use Rattle.file_manager.proofs.KeepCut.{none_above}
 use Rattle.file_manager.proofs.resizing.set_size.Goals as goal
+use Rattle.filer_kernel.specs.View.{view_of}
 
 pub find_file-requires-clause-client : goal.find_file-requires-clause-client
 find_file-requires-clause-client g c = file_id c.args.id c.requires.of_file
@@ -222,31 +223,31 @@ pub returns-in-Ok-clause-cost : goal.returns-in-Ok-clause-cost
 returns-in-Ok-clause-cost g c =
     let fits = c.ranges.pages.fits in
     let few : c.args.pages - c.in-Ok-Some.file.pages ≤ 4294967295 = omega (arith, fits) in
-    grow_cost (g.D.Disk.state c.args.filer.now.swapper.disk).transfers (g.D.Disk.state c.find_file.new.filer.swapper.disk).transfers (g.D.Disk.state c.grow.new.filer.swapper.disk).transfers (c.args.pages - c.in-Ok-Some.file.pages) 4294967295 c.args.filer.now.swapper.layout.vam (102 * most_records c.args.filer.now.swapper.layout.sectors) few c.find_file.ensures.cost (rw c.find_file.ensures.layout at c.grow.ensures.cost)
+    grow_cost (view_of c.args.filer.now).disk.transfers (view_of c.find_file.new.filer).disk.transfers (view_of c.grow.new.filer).disk.transfers (c.args.pages - c.in-Ok-Some.file.pages) 4294967295 (view_of c.args.filer.now).layout.vam (102 * most_records (view_of c.args.filer.now).layout.sectors) few c.find_file.ensures.cost (rw c.find_file.ensures.layout at c.grow.ensures.cost)
 
 pub returns-in-Err-grow-clause-cost : goal.returns-in-Err-grow-clause-cost
 returns-in-Err-grow-clause-cost g c =
     let fits = c.ranges.pages.fits in
     let few : c.args.pages - c.in-Ok-Some.file.pages ≤ 4294967295 = omega (arith, fits) in
-    grow_cost (g.D.Disk.state c.args.filer.now.swapper.disk).transfers (g.D.Disk.state c.find_file.new.filer.swapper.disk).transfers (g.D.Disk.state c.grow.new.filer.swapper.disk).transfers (c.args.pages - c.in-Ok-Some.file.pages) 4294967295 c.args.filer.now.swapper.layout.vam (102 * most_records c.args.filer.now.swapper.layout.sectors) few c.find_file.ensures.cost (rw c.find_file.ensures.layout at c.grow.ensures.cost)
+    grow_cost (view_of c.args.filer.now).disk.transfers (view_of c.find_file.new.filer).disk.transfers (view_of c.grow.new.filer).disk.transfers (c.args.pages - c.in-Ok-Some.file.pages) 4294967295 (view_of c.args.filer.now).layout.vam (102 * most_records (view_of c.args.filer.now).layout.sectors) few c.find_file.ensures.cost (rw c.find_file.ensures.layout at c.grow.ensures.cost)
 
 pub returns-in-Ok-shrink-clause-cost : goal.returns-in-Ok-shrink-clause-cost
 returns-in-Ok-shrink-clause-cost g c =
     let fits : c.in-Ok-Some.file.pages < 4294967296 = search rules in
     let few : c.in-Ok-Some.file.pages - c.args.pages ≤ 4294967295 = omega (arith, fits) in
-    shrink_cost (g.D.Disk.state c.args.filer.now.swapper.disk).transfers (g.D.Disk.state c.find_file.new.filer.swapper.disk).transfers (g.D.Disk.state c.shrink.new.filer.swapper.disk).transfers (c.in-Ok-Some.file.pages - c.args.pages) 4294967295 c.args.filer.now.swapper.layout.vam (most_records c.args.filer.now.swapper.layout.sectors) few c.find_file.ensures.cost (rw c.find_file.ensures.layout at c.shrink.ensures.cost)
+    shrink_cost (view_of c.args.filer.now).disk.transfers (view_of c.find_file.new.filer).disk.transfers (view_of c.shrink.new.filer).disk.transfers (c.in-Ok-Some.file.pages - c.args.pages) 4294967295 (view_of c.args.filer.now).layout.vam (most_records (view_of c.args.filer.now).layout.sectors) few c.find_file.ensures.cost (rw c.find_file.ensures.layout at c.shrink.ensures.cost)
 
 pub returns-in-Err-shrink-clause-cost : goal.returns-in-Err-shrink-clause-cost
 returns-in-Err-shrink-clause-cost g c =
     let fits : c.in-Ok-Some.file.pages < 4294967296 = search rules in
     let few : c.in-Ok-Some.file.pages - c.args.pages ≤ 4294967295 = omega (arith, fits) in
-    shrink_cost (g.D.Disk.state c.args.filer.now.swapper.disk).transfers (g.D.Disk.state c.find_file.new.filer.swapper.disk).transfers (g.D.Disk.state c.shrink.new.filer.swapper.disk).transfers (c.in-Ok-Some.file.pages - c.args.pages) 4294967295 c.args.filer.now.swapper.layout.vam (most_records c.args.filer.now.swapper.layout.sectors) few c.find_file.ensures.cost (rw c.find_file.ensures.layout at c.shrink.ensures.cost)
+    shrink_cost (view_of c.args.filer.now).disk.transfers (view_of c.find_file.new.filer).disk.transfers (view_of c.shrink.new.filer).disk.transfers (c.in-Ok-Some.file.pages - c.args.pages) 4294967295 (view_of c.args.filer.now).layout.vam (most_records (view_of c.args.filer.now).layout.sectors) few c.find_file.ensures.cost (rw c.find_file.ensures.layout at c.shrink.ensures.cost)
 
 pub returns-in-Ok-None-clause-counted : goal.returns-in-Ok-None-clause-counted
 returns-in-Ok-None-clause-counted g c = no_fault
 
 pub returns-in-Err-clause-counted : goal.returns-in-Err-clause-counted
-returns-in-Err-clause-counted g c = counted _ _ (g.D.Disk.state c.args.filer.now.swapper.disk) (g.D.Disk.state c.find_file.new.filer.swapper.disk) _ (omega arith) c.in-Err.ensures.cause
+returns-in-Err-clause-counted g c = counted _ _ (view_of c.args.filer.now).disk (view_of c.find_file.new.filer).disk _ (omega arith) c.in-Err.ensures.cause
 
 pub returns-in-Err-grow-clause-counted : goal.returns-in-Err-grow-clause-counted
 returns-in-Err-grow-clause-counted g c = counted_then _ _ _ c.find_file.ensures.makes.went.faults c.in-Err-grow.ensures.counted
@@ -254,39 +255,39 @@ returns-in-Err-grow-clause-counted g c = counted_then _ _ _ c.find_file.ensures.
 pub returns-in-Err-shrink-clause-counted : goal.returns-in-Err-shrink-clause-counted
 returns-in-Err-shrink-clause-counted g c =
     of_answer c.in-Err-shrink.halt
-    (rose_after (g.D.Disk.state c.args.filer.now.swapper.disk) (g.D.Disk.state c.find_file.new.filer.swapper.disk) (g.D.Disk.state c.shrink.new.filer.swapper.disk) c.find_file.ensures.makes.went.faults c.in-Err-shrink.ensures.counted)
+    (rose_after (view_of c.args.filer.now).disk (view_of c.find_file.new.filer).disk (view_of c.shrink.new.filer).disk c.find_file.ensures.makes.went.faults c.in-Err-shrink.ensures.counted)
 
 pub returns-in-Ok-clause-cost_revealed : goal.returns-in-Ok-clause-cost_revealed
 returns-in-Ok-clause-cost_revealed g c = λ x shapes spaces f books found.
     let revealed = subst (IsFoundFile (labels_of x) shapes c.args.id) c.in-Ok-Some.field-0-is (c.in-Ok-Some.ensures.revealed x shapes spaces books) in
     let size = ap (λ (w : Shape). w.size) (shape_is shapes c.args.id f c.in-Ok-Some.file.leader c.in-Ok-Some.file.pages found revealed.1) in
     let few : c.args.pages - c.in-Ok-Some.file.pages ≤ (c.args.pages - f.size) + (f.size - c.args.pages) = omega (arith, size) in
-    grow_cost (g.D.Disk.state c.args.filer.now.swapper.disk).transfers (g.D.Disk.state c.find_file.new.filer.swapper.disk).transfers (g.D.Disk.state c.grow.new.filer.swapper.disk).transfers (c.args.pages - c.in-Ok-Some.file.pages) ((c.args.pages - f.size) + (f.size - c.args.pages)) c.args.filer.now.swapper.layout.vam
-    (102 * most_records c.args.filer.now.swapper.layout.sectors) few c.find_file.ensures.cost (rw c.find_file.ensures.layout at c.grow.ensures.cost)
+    grow_cost (view_of c.args.filer.now).disk.transfers (view_of c.find_file.new.filer).disk.transfers (view_of c.grow.new.filer).disk.transfers (c.args.pages - c.in-Ok-Some.file.pages) ((c.args.pages - f.size) + (f.size - c.args.pages)) (view_of c.args.filer.now).layout.vam
+    (102 * most_records (view_of c.args.filer.now).layout.sectors) few c.find_file.ensures.cost (rw c.find_file.ensures.layout at c.grow.ensures.cost)
 
 pub returns-in-Err-grow-clause-cost_revealed : goal.returns-in-Err-grow-clause-cost_revealed
 returns-in-Err-grow-clause-cost_revealed g c = λ x shapes spaces f books found.
     let revealed = subst (IsFoundFile (labels_of x) shapes c.args.id) c.in-Ok-Some.field-0-is (c.in-Ok-Some.ensures.revealed x shapes spaces books) in
     let size = ap (λ (w : Shape). w.size) (shape_is shapes c.args.id f c.in-Ok-Some.file.leader c.in-Ok-Some.file.pages found revealed.1) in
     let few : c.args.pages - c.in-Ok-Some.file.pages ≤ (c.args.pages - f.size) + (f.size - c.args.pages) = omega (arith, size) in
-    grow_cost (g.D.Disk.state c.args.filer.now.swapper.disk).transfers (g.D.Disk.state c.find_file.new.filer.swapper.disk).transfers (g.D.Disk.state c.grow.new.filer.swapper.disk).transfers (c.args.pages - c.in-Ok-Some.file.pages) ((c.args.pages - f.size) + (f.size - c.args.pages)) c.args.filer.now.swapper.layout.vam
-    (102 * most_records c.args.filer.now.swapper.layout.sectors) few c.find_file.ensures.cost (rw c.find_file.ensures.layout at c.grow.ensures.cost)
+    grow_cost (view_of c.args.filer.now).disk.transfers (view_of c.find_file.new.filer).disk.transfers (view_of c.grow.new.filer).disk.transfers (c.args.pages - c.in-Ok-Some.file.pages) ((c.args.pages - f.size) + (f.size - c.args.pages)) (view_of c.args.filer.now).layout.vam
+    (102 * most_records (view_of c.args.filer.now).layout.sectors) few c.find_file.ensures.cost (rw c.find_file.ensures.layout at c.grow.ensures.cost)
 
 pub returns-in-Ok-shrink-clause-cost_revealed : goal.returns-in-Ok-shrink-clause-cost_revealed
 returns-in-Ok-shrink-clause-cost_revealed g c = λ x shapes spaces f books found.
     let revealed = subst (IsFoundFile (labels_of x) shapes c.args.id) c.in-Ok-Some.field-0-is (c.in-Ok-Some.ensures.revealed x shapes spaces books) in
     let size = ap (λ (w : Shape). w.size) (shape_is shapes c.args.id f c.in-Ok-Some.file.leader c.in-Ok-Some.file.pages found revealed.1) in
     let few : c.in-Ok-Some.file.pages - c.args.pages ≤ (c.args.pages - f.size) + (f.size - c.args.pages) = omega (arith, size) in
-    shrink_cost (g.D.Disk.state c.args.filer.now.swapper.disk).transfers (g.D.Disk.state c.find_file.new.filer.swapper.disk).transfers (g.D.Disk.state c.shrink.new.filer.swapper.disk).transfers (c.in-Ok-Some.file.pages - c.args.pages) ((c.args.pages - f.size) + (f.size - c.args.pages)) c.args.filer.now.swapper.layout.vam
-    (most_records c.args.filer.now.swapper.layout.sectors) few c.find_file.ensures.cost (rw c.find_file.ensures.layout at c.shrink.ensures.cost)
+    shrink_cost (view_of c.args.filer.now).disk.transfers (view_of c.find_file.new.filer).disk.transfers (view_of c.shrink.new.filer).disk.transfers (c.in-Ok-Some.file.pages - c.args.pages) ((c.args.pages - f.size) + (f.size - c.args.pages)) (view_of c.args.filer.now).layout.vam
+    (most_records (view_of c.args.filer.now).layout.sectors) few c.find_file.ensures.cost (rw c.find_file.ensures.layout at c.shrink.ensures.cost)
 
 pub returns-in-Err-shrink-clause-cost_revealed : goal.returns-in-Err-shrink-clause-cost_revealed
 returns-in-Err-shrink-clause-cost_revealed g c = λ x shapes spaces f books found.
     let revealed = subst (IsFoundFile (labels_of x) shapes c.args.id) c.in-Ok-Some.field-0-is (c.in-Ok-Some.ensures.revealed x shapes spaces books) in
     let size = ap (λ (w : Shape). w.size) (shape_is shapes c.args.id f c.in-Ok-Some.file.leader c.in-Ok-Some.file.pages found revealed.1) in
     let few : c.in-Ok-Some.file.pages - c.args.pages ≤ (c.args.pages - f.size) + (f.size - c.args.pages) = omega (arith, size) in
-    shrink_cost (g.D.Disk.state c.args.filer.now.swapper.disk).transfers (g.D.Disk.state c.find_file.new.filer.swapper.disk).transfers (g.D.Disk.state c.shrink.new.filer.swapper.disk).transfers (c.in-Ok-Some.file.pages - c.args.pages) ((c.args.pages - f.size) + (f.size - c.args.pages)) c.args.filer.now.swapper.layout.vam
-    (most_records c.args.filer.now.swapper.layout.sectors) few c.find_file.ensures.cost (rw c.find_file.ensures.layout at c.shrink.ensures.cost)
+    shrink_cost (view_of c.args.filer.now).disk.transfers (view_of c.find_file.new.filer).disk.transfers (view_of c.shrink.new.filer).disk.transfers (c.in-Ok-Some.file.pages - c.args.pages) ((c.args.pages - f.size) + (f.size - c.args.pages)) (view_of c.args.filer.now).layout.vam
+    (most_records (view_of c.args.filer.now).layout.sectors) few c.find_file.ensures.cost (rw c.find_file.ensures.layout at c.shrink.ensures.cost)
 
 pub returns-in-Ok-None-clause-cost_revealed : goal.returns-in-Ok-None-clause-cost_revealed
 returns-in-Ok-None-clause-cost_revealed g c = λ x shapes spaces f books found. let first = c.find_file.ensures.cost in omega (arith, first)
@@ -305,45 +306,45 @@ returns-in-Ok-None-clause-evidence_seen g c = inr (file_id c.args.id c.requires.
 
 pub returns-in-Err-clause-cause : goal.returns-in-Err-clause-cause
 returns-in-Err-clause-cause g c =
-    let layout = c.args.filer.now.swapper.layout in
-    let old = (g.D.Disk.state c.args.filer.now.swapper.disk) in
-    let pool = c.args.filer.now.swapper.pool in
+    let layout = (view_of c.args.filer.now).layout in
+    let old = (view_of c.args.filer.now).disk in
+    let pool = (view_of c.args.filer.now).slots in
     let kept = runs_of layout.sectors c.args.filer.now.runs in
-    resize_of_file layout kept c.args.id c.args.pages old (g.D.Disk.state c.find_file.new.filer.swapper.disk) pool c.find_file.new.filer.swapper.pool c.in-Err.halt c.in-Err.ensures.cause
+    resize_of_file layout kept c.args.id c.args.pages old (view_of c.find_file.new.filer).disk pool (view_of c.find_file.new.filer).slots c.in-Err.halt c.in-Err.ensures.cause
 
 pub returns-in-Ok-None-clause-cause : goal.returns-in-Ok-None-clause-cause
 returns-in-Ok-None-clause-cause g c = inl (refl, refl, c.find_file.ensures.missing (search rules))
 
 pub returns-in-Err-grow-clause-cause : goal.returns-in-Err-grow-clause-cause
 returns-in-Err-grow-clause-cause g c =
-    let layout = c.args.filer.now.swapper.layout in
-    let old = (g.D.Disk.state c.args.filer.now.swapper.disk) in
-    let pool = c.args.filer.now.swapper.pool in
+    let layout = (view_of c.args.filer.now).layout in
+    let old = (view_of c.args.filer.now).disk in
+    let pool = (view_of c.args.filer.now).slots in
     let kept = runs_of layout.sectors c.args.filer.now.runs in
     let more = λ (p : ℕ). (c.in-Ok-Some.file.pages ≤ p) × (p < c.args.pages) in
     let sized = λ (m : List Sector) (named : Triples) (stands : Stands old pool m) (map : MapIs layout named m). subst (λ (o : Option FoundFile). IfSome o (λ file. IsSize named c.args.id file.pages)) c.in-Ok-Some.field-0-is (c.in-Ok-Some.ensures.size m named stands map) in
-    let new = g.D.Disk.state c.grow.new.filer.swapper.disk in
+    let new = (view_of c.grow.new.filer).disk in
     let leaves : LeavesUnnamed layout c.args.id no_page_of more no_page_of old pool = record {
       own = λ m named stands map none page sector not. absurd not;
-      next = λ m named later stands map none adds. above_size layout kept c.args.id c.args.pages old new pool c.grow.new.filer.swapper.pool c.in-Ok-Some.file.pages named later c.requires.numbers (sized m named stands map) adds;
+      next = λ m named later stands map none adds. above_size layout kept c.args.id c.args.pages old new pool (view_of c.grow.new.filer).slots c.in-Ok-Some.file.pages named later c.requires.numbers (sized m named stands map) adds;
     } in
     let fresh : (p : ℕ) → more p → (p < c.args.pages) × NamesNone layout old pool c.args.id p = λ p own. (
       own.1,
       λ m named stands map sector. none_above named c.args.id c.in-Ok-Some.file.pages c.args.pages (let few = c.requires.numbers in omega (arith, few)) (sized m named stands map) p sector own,
     ) in
-    resize_of_make layout kept c.args.id c.args.pages old new pool c.grow.new.filer.swapper.pool c.in-Err-grow.halt
-    (make_halts_before no_page_of more no_page_of c.find_file.ensures.makes c.in-Ok-Some.ensures.takes leaves more (λ p. (p < c.args.pages) × NamesNone layout old pool c.args.id p) fresh (λ p own not. not) (inl (λ none. c.find_file.ensures.same_bytes)) (g.D.Disk.state c.grow.new.filer.swapper.disk) c.grow.new.filer.swapper.pool c.in-Err-grow.halt (rw c.find_file.ensures.layout at c.in-Err-grow.ensures.cause))
+    resize_of_make layout kept c.args.id c.args.pages old new pool (view_of c.grow.new.filer).slots c.in-Err-grow.halt
+    (make_halts_before no_page_of more no_page_of c.find_file.ensures.makes c.in-Ok-Some.ensures.takes leaves more (λ p. (p < c.args.pages) × NamesNone layout old pool c.args.id p) fresh (λ p own not. not) (inl (λ none. c.find_file.ensures.same_bytes)) (view_of c.grow.new.filer).disk (view_of c.grow.new.filer).slots c.in-Err-grow.halt (rw c.find_file.ensures.layout at c.in-Err-grow.ensures.cause))
 
 pub returns-in-Err-shrink-clause-cause : goal.returns-in-Err-shrink-clause-cause
 returns-in-Err-shrink-clause-cause g c =
-    let layout = c.args.filer.now.swapper.layout in
-    let old = (g.D.Disk.state c.args.filer.now.swapper.disk) in
-    let pool = c.args.filer.now.swapper.pool in
+    let layout = (view_of c.args.filer.now).layout in
+    let old = (view_of c.args.filer.now).disk in
+    let pool = (view_of c.args.filer.now).slots in
     let kept = runs_of layout.sectors c.args.filer.now.runs in
     let pages = λ (p : ℕ). (c.args.pages ≤ p) × (p < c.in-Ok-Some.file.pages) in
     let sized = λ (m : List Sector) (named : Triples) (stands : Stands old pool m) (map : MapIs layout named m). subst (λ (o : Option FoundFile). IfSome o (λ file. IsSize named c.args.id file.pages)) c.in-Ok-Some.field-0-is (c.in-Ok-Some.ensures.size m named stands map) in
-    resize_of_shrink layout kept c.args.id c.args.pages old (g.D.Disk.state c.shrink.new.filer.swapper.disk) pool c.shrink.new.filer.swapper.pool c.in-Ok-Some.file.pages (λ p below m named stands map. (c.in-Ok-Some.file.pages, sized m named stands map, below)) c.in-Err-shrink.halt
-    (shrink_halts_after c.find_file.ensures.keeps c.requires.sectors c.args.pages pages pages (λ p own. own) (g.D.Disk.state c.shrink.new.filer.swapper.disk) c.shrink.new.filer.swapper.pool c.in-Err-shrink.halt (rw c.find_file.ensures.layout at c.in-Err-shrink.ensures.cause))
+    resize_of_shrink layout kept c.args.id c.args.pages old (view_of c.shrink.new.filer).disk pool (view_of c.shrink.new.filer).slots c.in-Ok-Some.file.pages (λ p below m named stands map. (c.in-Ok-Some.file.pages, sized m named stands map, below)) c.in-Err-shrink.halt
+    (shrink_halts_after c.find_file.ensures.keeps c.requires.sectors c.args.pages pages pages (λ p own. own) (view_of c.shrink.new.filer).disk (view_of c.shrink.new.filer).slots c.in-Err-shrink.halt (rw c.find_file.ensures.layout at c.in-Err-shrink.ensures.cause))
 
 pub returns-in-Ok-None-clause-own : goal.returns-in-Ok-None-clause-own
 returns-in-Ok-None-clause-own g c = relabels_own (quiet_own c.args.id c.find_file.ensures.makes)
@@ -401,7 +402,7 @@ returns-in-Err-grow-clause-reasons g c = λ o named k.
     let sized = subst (λ (o : Option FoundFile). IfSome o (λ file. IsSize named c.args.id file.pages)) c.in-Ok-Some.field-0-is (c.in-Ok-Some.ensures.size k.memory named k.stands k.map) in
     let none = none_above named c.args.id c.in-Ok-Some.file.pages c.args.pages (let few = c.requires.numbers in omega (arith, few)) sized in
     let led = subst (λ (o : Option FoundFile). IfSome o (λ file. named c.args.id leader_page file.sector ≡ true)) c.in-Ok-Some.field-0-is (c.in-Ok-Some.ensures.names k.memory named k.stands k.map k.kept) in
-    subst (λ (l : Layout). ShowsReason o l (g.D.Disk.state c.grow.new.filer.swapper.disk) c.in-Err-grow.halt) c.find_file.ensures.layout (c.in-Err-grow.ensures.reasons o named (c.in-Ok-Some.ensures.keeps_to o named k) (named_takes k c.args.id leader_page c.in-Ok-Some.file.sector led) none)
+    subst (λ (l : Layout). ShowsReason o l (view_of c.grow.new.filer).disk c.in-Err-grow.halt) c.find_file.ensures.layout (c.in-Err-grow.ensures.reasons o named (c.in-Ok-Some.ensures.keeps_to o named k) (named_takes k c.args.id leader_page c.in-Ok-Some.file.sector led) none)
 
 pub returns-in-Ok-shrink-clause-keeps_to : goal.returns-in-Ok-shrink-clause-keeps_to
 returns-in-Ok-shrink-clause-keeps_to g c = λ o named k.
@@ -412,4 +413,4 @@ returns-in-Ok-shrink-clause-keeps_to g c = λ o named k.
 pub returns-in-Err-shrink-clause-reasons : goal.returns-in-Err-shrink-clause-reasons
 returns-in-Err-shrink-clause-reasons g c = λ o named k.
     let led = subst (λ (o : Option FoundFile). IfSome o (λ file. named c.args.id leader_page file.sector ≡ true)) c.in-Ok-Some.field-0-is (c.in-Ok-Some.ensures.names k.memory named k.stands k.map k.kept) in
-    subst (λ (l : Layout). ShowsReason o l (g.D.Disk.state c.shrink.new.filer.swapper.disk) c.in-Err-shrink.halt) c.find_file.ensures.layout (c.in-Err-shrink.ensures.reasons o named (c.in-Ok-Some.ensures.keeps_to o named k) led)
+    subst (λ (l : Layout). ShowsReason o l (view_of c.shrink.new.filer).disk c.in-Err-shrink.halt) c.find_file.ensures.layout (c.in-Err-shrink.ensures.reasons o named (c.in-Ok-Some.ensures.keeps_to o named k) led)

@@ -4,6 +4,7 @@ use Rattle.file_manager.proofs.DownTo.{down_reason, down_none, down_then, down_r
 use Rattle.label_calls.specs.OwnLaws.{relabels_own}
 use Rattle.file_manager.proofs.OwnSteps.{some_own, own_after}
 use Rattle.file_manager.proofs.shrinking.free_down.Goals as goal
+use Rattle.filer_kernel.specs.View.{view_of}
 
 pub loop-page-init : goal.loop-page-init
 loop-page-init g c = down_none _ _ _ _ _ _ _ c.requires.order c.requires.size
@@ -27,7 +28,7 @@ returns-in-Err-clause-stopped g c = stops_then c.loop-page.invariant.makes c.in-
 pub returns-in-Err-clause-cost : goal.returns-in-Err-clause-cost
 returns-in-Err-clause-cost g c =
     let below : c.args.from < c.loop-page.page = search rules in
-    down_stopped_cost c.loop-page.invariant (g.D.Disk.state c.free_last.new.filer.swapper.disk) below c.in-Err.ensures.cost
+    down_stopped_cost c.loop-page.invariant (view_of c.free_last.new.filer).disk below c.in-Err.ensures.cost
 
 pub returns-clause-freed : goal.returns-clause-freed
 returns-clause-freed g c =
@@ -47,7 +48,7 @@ returns-clause-cost g c =
 pub returns-in-Err-clause-cause : goal.returns-in-Err-clause-cause
 returns-in-Err-clause-cause g c =
     let below : c.args.from < c.loop-page.page = search rules in
-    down_halts c.loop-page.invariant c.requires.size below (g.D.Disk.state c.free_last.new.filer.swapper.disk) c.in-Err.halt c.in-Err.ensures.cause
+    down_halts c.loop-page.invariant c.requires.size below (view_of c.free_last.new.filer).disk c.in-Err.halt c.in-Err.ensures.cause
 
 pub returns-clause-keeps : goal.returns-clause-keeps
 returns-clause-keeps g c = c.loop-page.invariant.keeps
@@ -59,7 +60,7 @@ pub returns-clause-own : goal.returns-clause-own
 returns-clause-own g c = relabels_own c.loop-page.invariant.own
 
 pub returns-in-Err-clause-reasons : goal.returns-in-Err-clause-reasons
-returns-in-Err-clause-reasons g c = down_reason c.loop-page.invariant (g.D.Disk.state c.free_last.new.filer.swapper.disk) c.in-Err.halt c.in-Err.ensures.reasons
+returns-in-Err-clause-reasons g c = down_reason c.loop-page.invariant (view_of c.free_last.new.filer).disk c.in-Err.halt c.in-Err.ensures.reasons
 
 pub returns-clause-keeps_to : goal.returns-clause-keeps_to
 returns-clause-keeps_to g c = c.loop-page.invariant.keeps_to

@@ -1,6 +1,7 @@
 use Rattle.std.proofs.Common.{◌∙◌}
 use Rattle.file_manager.proofs.SoLemmas.{so_of_run}
 use Rattle.file_manager.proofs.shrinking.free_labels_down.Goals as goal
+use Rattle.filer_kernel.specs.View.{accepted, view_of}
 
 pub returns-in-Err-clause-sound : goal.returns-in-Err-clause-sound
 returns-in-Err-clause-sound g c = λ m stands free ones. (rw (c.swapper_over-swapper.ensures.value) at c.in-Err.ensures.sound) m stands free ones
@@ -9,7 +10,7 @@ pub returns-in-Err-clause-evidence_seen : goal.returns-in-Err-clause-evidence_se
 returns-in-Err-clause-evidence_seen g c =
     let new = g.D.Disk.state c.free_pages_down.new.swapper.disk in
     let size = (rw c.swapper_over-swapper.ensures.value at c.in-Err.ensures.stopped).makes.went.sectors ∙ c.requires.size in
-    so_of_run c.args.filer.now.swapper.layout new c.args.filer.now.swapper.accepted size c.args.run c.requires.data c.requires.form (g.D.Disk.state c.args.filer.now.swapper.disk) new c.in-Err.halt (rw c.swapper_over-swapper.ensures.value at c.in-Err.ensures.evidence_seen)
+    so_of_run (view_of c.args.filer.now).layout new (accepted c.args.filer.now) size c.args.run c.requires.data c.requires.form (view_of c.args.filer.now).disk new c.in-Err.halt (rw c.swapper_over-swapper.ensures.value at c.in-Err.ensures.evidence_seen)
 
 pub returns-in-Err-clause-cause : goal.returns-in-Err-clause-cause
 returns-in-Err-clause-cause g c = rw c.swapper_over-swapper.ensures.value at c.in-Err.ensures.cause

@@ -14,6 +14,7 @@ use Rattle.file_manager.specs.Grounds.{IsUnframed}
 use Rattle.file_manager.specs.ReasonLaws.{map_reasons, lack_reason}
 use Rattle.file_manager.proofs.FreedReasons.{found_keeps}
 use Rattle.file_manager.proofs.shrinking.last_part.Goals as goal
+use Rattle.filer_kernel.specs.View.{accepted, swapper_of, view_of}
 
 pub returns-in-Ok-Some-clause-named : goal.returns-in-Ok-Some-clause-named
 returns-in-Ok-Some-clause-named g c = λ m named stands map kept k below.
@@ -30,18 +31,18 @@ pub returns-in-Err-clause-sound : goal.returns-in-Err-clause-sound
 returns-in-Err-clause-sound g c = λ m named sector stands map labels is. c.in-Err.ensures.sound m named stands map labels
 
 pub returns-in-Err-clause-evidence_seen : goal.returns-in-Err-clause-evidence_seen
-returns-in-Err-clause-evidence_seen g c = λ of_file. so_of_map (fits c.args.filer.now.swapper c.requires.size) c.find.ensures.beside.goes.makes c.in-Err.halt c.in-Err.ensures.cause
+returns-in-Err-clause-evidence_seen g c = λ of_file. so_of_map (fits (swapper_of c.args.filer.now) c.requires.size) c.find.ensures.beside.goes.makes c.in-Err.halt c.in-Err.ensures.cause
 
 pub returns-in-Ok-None-clause-evidence_seen : goal.returns-in-Ok-None-clause-evidence_seen
 returns-in-Ok-None-clause-evidence_seen g c = λ of_file. of_file
 
 pub returns-in-Err-clause-cause : goal.returns-in-Err-clause-cause
 returns-in-Err-clause-cause g c =
-    let layout = c.args.filer.now.swapper.layout in
-    let old = g.D.Disk.state c.args.filer.now.swapper.disk in
-    let pool = c.args.filer.now.swapper.pool in
+    let layout = (view_of c.args.filer.now).layout in
+    let old = (view_of c.args.filer.now).disk in
+    let pool = (view_of c.args.filer.now).slots in
     let kept = runs_of layout.sectors c.args.filer.now.runs in
-    let new = g.D.Disk.state c.find.new.self.swapper.disk in
+    let new = (view_of c.find.new.self).disk in
     search_halts_after (keeps_none (IsUnframed pool c.args.id) layout c.args.id old pool kept (λ none. none)) (λ p. p ≡ (c.args.end - 1)) new c.in-Err.halt c.in-Err.ensures.cause
 
 pub returns-in-Ok-None-clause-cause : goal.returns-in-Ok-None-clause-cause
@@ -49,9 +50,9 @@ returns-in-Ok-None-clause-cause g c = (refl, refl, λ none m named stands map. c
 
 pub returns-in-Ok-Some-clause-homes : goal.returns-in-Ok-Some-clause-homes
 returns-in-Ok-Some-clause-homes g c =
-    let layout = c.args.filer.now.swapper.layout in
-    let old = g.D.Disk.state c.args.filer.now.swapper.disk in
-    let pool = c.args.filer.now.swapper.pool in
+    let layout = (view_of c.args.filer.now).layout in
+    let old = (view_of c.args.filer.now).disk in
+    let pool = (view_of c.args.filer.now).slots in
     let kept = runs_of layout.sectors c.args.filer.now.runs in
     let is_given = subst (λ (o : Option Run). IfSome o (λ run. IsGiven layout old pool kept run)) c.in-Ok-Some.field-0-is c.in-Ok-Some.ensures.given in
     let held = subst (λ (o : Option Run). IfSome o (λ run. holds run c.args.id (c.args.end - 1) ≡ true)) c.in-Ok-Some.field-0-is c.in-Ok-Some.ensures.holds in
@@ -72,7 +73,7 @@ pub returns-in-Ok-Some-clause-keeps_to : goal.returns-in-Ok-Some-clause-keeps_to
 returns-in-Ok-Some-clause-keeps_to g c = λ o named h. found_keeps c.args.filer.now.runs c.find.new.self.runs c.find.ensures.beside c.find.ensures.same c.find.ensures.runs_are h
 
 pub returns-in-Err-clause-reasons : goal.returns-in-Err-clause-reasons
-returns-in-Err-clause-reasons g c = λ o named h may. map_reasons h c.find.ensures.beside.goes.makes c.args.filer.now.swapper.accepted c.in-Err.halt c.in-Err.ensures.cause
+returns-in-Err-clause-reasons g c = λ o named h may. map_reasons h c.find.ensures.beside.goes.makes (accepted c.args.filer.now) c.in-Err.halt c.in-Err.ensures.cause
 
 pub returns-in-Ok-None-clause-reasons : goal.returns-in-Ok-None-clause-reasons
 returns-in-Ok-None-clause-reasons g c = λ o named h may. lack_reason h c.find.ensures.beside.goes.makes c.args.id (c.args.end - 1) may (λ m named stands map. c.find.ensures.nowhere m named stands map (search rules))

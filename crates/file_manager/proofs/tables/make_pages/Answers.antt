@@ -4,6 +4,7 @@ use Rattle.file_manager.proofs.UpTo.{up_cause, up_cost, up_stopped}
 use Rattle.file_manager.proofs.Faults.{counted_then}
 use Rattle.file_manager.proofs.RootCalls.{grew_root, grown_root}
 use Rattle.file_manager.proofs.tables.make_pages.Goals as goal
+use Rattle.filer_kernel.specs.View.{accepted, view_of}
 
 pub loop-page-init : goal.loop-page-init
 loop-page-init g c = tables_none _ _ _ _ c.requires.size
@@ -11,7 +12,7 @@ loop-page-init g c = tables_none _ _ _ _ c.requires.size
 pub loop-page-preserved : goal.loop-page-preserved
 loop-page-preserved g c =
     let below : c.loop-page.page < 96 = search rules in
-    tables_more c.loop-page.page _ _ _ c.args.filer.now.swapper.accepted _ _ _ _ _ c.loop-page.invariant below c.in-Ok.run' _ _ _ _ c.in-Ok.ensures.form c.in-Ok.ensures.makes c.in-Ok.ensures.made c.in-Ok.ensures.layout c.in-Ok.ensures.runs c.in-Ok.ensures.cost_made c.make_run.ensures.come c.in-Ok.ensures.takes c.in-Ok.ensures.longest c.in-Ok.ensures.keeps_to c.in-Ok.ensures.tables
+    tables_more c.loop-page.page _ _ _ (accepted c.args.filer.now) _ _ _ _ _ c.loop-page.invariant below c.in-Ok.run' _ _ _ _ c.in-Ok.ensures.form c.in-Ok.ensures.makes c.in-Ok.ensures.made c.in-Ok.ensures.layout c.in-Ok.ensures.runs c.in-Ok.ensures.cost_made c.make_run.ensures.come c.in-Ok.ensures.takes c.in-Ok.ensures.longest c.in-Ok.ensures.keeps_to c.in-Ok.ensures.tables
 
 pub make_run-requires-clause-of_file : goal.make_run-requires-clause-of_file
 make_run-requires-clause-of_file g c = let below = c.loop-page.invariant.up.below in inl (refl, refl, omega (arith, below))
@@ -19,16 +20,16 @@ make_run-requires-clause-of_file g c = let below = c.loop-page.invariant.up.belo
 pub returns-in-Err-clause-sound : goal.returns-in-Err-clause-sound
 returns-in-Err-clause-sound g c =
     let below : c.loop-page.page < 96 = search rules in
-    tables_sound c.loop-page.page _ _ _ c.args.filer.now.swapper.accepted _ _ _ _ _ c.loop-page.invariant below c.in-Err.halt c.in-Err.ensures.sound
+    tables_sound c.loop-page.page _ _ _ (accepted c.args.filer.now) _ _ _ _ _ c.loop-page.invariant below c.in-Err.halt c.in-Err.ensures.sound
 
 pub returns-in-Err-clause-stopped : goal.returns-in-Err-clause-stopped
 returns-in-Err-clause-stopped g c =
-    up_stopped 3 0 0 96 c.loop-page.page _ _ _ c.args.filer.now.swapper.accepted _ _ _ _ _ c.loop-page.invariant.up (omega arith) _ _ c.loop-page.invariant.up.below c.in-Err.ensures.stopped
+    up_stopped 3 0 0 96 c.loop-page.page _ _ _ (accepted c.args.filer.now) _ _ _ _ _ c.loop-page.invariant.up (omega arith) _ _ c.loop-page.invariant.up.below c.in-Err.ensures.stopped
 
 pub returns-in-Err-clause-cost : goal.returns-in-Err-clause-cost
 returns-in-Err-clause-cost g c =
     let below : c.loop-page.page < 96 = search rules in
-    up_cost 3 0 0 96 c.loop-page.page _ _ _ c.args.filer.now.swapper.accepted _ _ _ _ _ c.loop-page.invariant.up (omega arith) (g.D.Disk.state c.make_run.new.filer.swapper.disk) below c.in-Err.ensures.cost
+    up_cost 3 0 0 96 c.loop-page.page _ _ _ (accepted c.args.filer.now) _ _ _ _ _ c.loop-page.invariant.up (omega arith) (view_of c.make_run.new.filer).disk below c.in-Err.ensures.cost
 
 pub returns-clause-made : goal.returns-clause-made
 returns-clause-made g c =
@@ -51,7 +52,7 @@ returns-in-Err-clause-counted g c = counted_then _ _ _ c.loop-page.invariant.up.
 pub returns-in-Err-clause-cause : goal.returns-in-Err-clause-cause
 returns-in-Err-clause-cause g c =
     let below : c.loop-page.page < 96 = search rules in
-    up_cause 3 0 0 96 c.loop-page.page _ _ _ c.args.filer.now.swapper.accepted _ _ _ _ _ c.loop-page.invariant.up (omega arith) (λ p. p < 96) (λ p own. own.1) (g.D.Disk.state c.make_run.new.filer.swapper.disk) c.make_run.new.filer.swapper.pool c.in-Err.halt below (rw c.loop-page.invariant.up.same_layout at c.in-Err.ensures.cause)
+    up_cause 3 0 0 96 c.loop-page.page _ _ _ (accepted c.args.filer.now) _ _ _ _ _ c.loop-page.invariant.up (omega arith) (λ p. p < 96) (λ p own. own.1) (view_of c.make_run.new.filer).disk (view_of c.make_run.new.filer).slots c.in-Err.halt below (rw c.loop-page.invariant.up.same_layout at c.in-Err.ensures.cause)
 
 pub returns-in-Err-clause-root : goal.returns-in-Err-clause-root
 returns-in-Err-clause-root g c = grew_root {id = 3} (λ same. omega (arith, same)) (returns-in-Err-clause-stopped g c)

@@ -25,18 +25,19 @@ use Rattle.file_manager.proofs.TablesCut.{may_begin_cut, begun_after, tables_unm
 use Rattle.file_manager.proofs.tables.make_tables.Given as given
 use Rattle.file_manager.proofs.tables.make_tables.Goals.{After-frames_of}
 use Rattle.file_manager.proofs.tables.make_tables.Goals as goal
+use Rattle.filer_kernel.specs.View.{accepted, disk_of, swapper_of, view_of}
 
 -- after the cut each memory is in form
-formed : (g : given.Over) (c : After-frames_of g) (y : List Sector) → Stands (g.D.Disk.state c.cut.new.self.swapper.disk) c.cut.new.self.swapper.pool y → AreSectors y
-formed g c y stood = memory_in_form _ _ y stood (g.met.D.Disk.in_form c.cut.new.self.swapper.disk stood.sectors stood.revealed) c.frames_of.ensures.pages
+formed : (g : given.Over) (c : After-frames_of g) (y : List Sector) → Stands (view_of c.cut.new.self).disk (view_of c.cut.new.self).slots y → AreSectors y
+formed g c y stood = memory_in_form _ _ y stood (g.met.D.Disk.in_form (disk_of c.cut.new.self) stood.sectors stood.revealed) c.frames_of.ensures.pages
 
 -- and the pages may still be made
 after : (g : given.Over) (c : After-frames_of g) (x : List Sector) (shapes : Shapes) (spaces : List Space)
-    → MayBegin (g.D.Disk.state c.args.filer.now.swapper.disk) c.args.filer.now.swapper.pool c.args.filer.now.swapper.layout c.args.filer.now.runs shapes spaces x
-    → (y : List Sector) × MayBegin (g.D.Disk.state c.cut.new.self.swapper.disk) c.cut.new.self.swapper.pool c.args.filer.now.swapper.layout c.cut.new.self.runs shapes spaces y
+    → MayBegin (view_of c.args.filer.now).disk (view_of c.args.filer.now).slots (view_of c.args.filer.now).layout c.args.filer.now.runs shapes spaces x
+    → (y : List Sector) × MayBegin (view_of c.cut.new.self).disk (view_of c.cut.new.self).slots (view_of c.args.filer.now).layout c.cut.new.self.runs shapes spaces y
 after g c x shapes spaces may =
-    let layout = c.args.filer.now.swapper.layout in
-    let is = c.args.filer.now.swapper.accepted in
+    let layout = (view_of c.args.filer.now).layout in
+    let is = (accepted c.args.filer.now) in
     let kept = c.args.filer.now.runs in
     let b = may.books.booked in
     let cut = c.in-Ok.ensures.cut x b.named may.books.stands (map_is layout is (runs_of layout.sectors kept) shapes x b b.named b.map) in
@@ -44,8 +45,8 @@ after g c x shapes spaces may =
 
 pub returns-in-Err-clause-sound : goal.returns-in-Err-clause-sound
 returns-in-Err-clause-sound g c = λ x shapes spaces may.
-    let layout = c.args.filer.now.swapper.layout in
-    let is = c.args.filer.now.swapper.accepted in
+    let layout = (view_of c.args.filer.now).layout in
+    let is = (accepted c.args.filer.now) in
     let runs = runs_of layout.sectors c.args.filer.now.runs in
     let b = may.books.booked in
     c.in-Err.ensures.sound x b.named may.books.stands (map_is layout is runs shapes x b b.named b.map) (maps_named layout is runs shapes x b FileMap)
@@ -55,9 +56,9 @@ returns-in-Err-clause-stopped g c = tables_unmade c.in-Err.ensures.beside
 
 pub returns-in-Err-clause-cause : goal.returns-in-Err-clause-cause
 returns-in-Err-clause-cause g c =
-    let old = g.D.Disk.state c.args.filer.now.swapper.disk in
-    let pool = c.args.filer.now.swapper.pool in
-    create_of_cut c.args.filer.now.swapper.layout c.args.filer.now.swapper.accepted 3 (makes_nothing no_page old pool) nothing_after (λ p. p < 96) (g.D.Disk.state c.cut.new.self.swapper.disk) c.cut.new.self.swapper.pool c.in-Err.halt
+    let old = (view_of c.args.filer.now).disk in
+    let pool = (view_of c.args.filer.now).slots in
+    create_of_cut (view_of c.args.filer.now).layout (accepted c.args.filer.now) 3 (makes_nothing no_page old pool) nothing_after (λ p. p < 96) (view_of c.cut.new.self).disk (view_of c.cut.new.self).slots c.in-Err.halt
     c.in-Err.ensures.begun c.in-Err.ensures.cause
 
 pub returns-in-Err-clause-reasons : goal.returns-in-Err-clause-reasons
@@ -65,12 +66,12 @@ returns-in-Err-clause-reasons g c = λ o named h bare untold.
     cut_reasons h c.cut.ensures.beside.goes.makes c.in-Err.halt c.in-Err.ensures.cause (c.in-Err.ensures.right h.memory named h.stands h.map)
 
 pub returns-in-Err-clause-evidence_seen : goal.returns-in-Err-clause-evidence_seen
-returns-in-Err-clause-evidence_seen g c = so_of_cut (fits c.args.filer.now.swapper (search rules)) c.cut.ensures.beside.goes.makes c.in-Err.halt c.in-Err.ensures.cause
+returns-in-Err-clause-evidence_seen g c = so_of_cut (fits (swapper_of c.args.filer.now) (search rules)) c.cut.ensures.beside.goes.makes c.in-Err.halt c.in-Err.ensures.cause
 
 pub returns-in-Err-clause-counted : goal.returns-in-Err-clause-counted
 returns-in-Err-clause-counted g c =
-    let old = g.D.Disk.state c.args.filer.now.swapper.disk in
-    counted _ old.faults old (g.D.Disk.state c.cut.new.self.swapper.disk) _ (omega arith) c.in-Err.ensures.cause
+    let old = (view_of c.args.filer.now).disk in
+    counted _ old.faults old (view_of c.cut.new.self).disk _ (omega arith) c.in-Err.ensures.cause
 
 pub returns-in-Err-clause-root : goal.returns-in-Err-clause-root
 returns-in-Err-clause-root g c = grew_root {id = 3} (λ same. omega (arith, same)) (returns-in-Err-clause-stopped g c)
@@ -85,16 +86,16 @@ returns-in-Err-make_pages-clause-stopped g c = tables_some_after c.in-Ok.ensures
 
 pub returns-in-Err-make_pages-clause-cause : goal.returns-in-Err-make_pages-clause-cause
 returns-in-Err-make_pages-clause-cause g c =
-    let layout = c.args.filer.now.swapper.layout in
-    let old = g.D.Disk.state c.args.filer.now.swapper.disk in
-    let pool = c.args.filer.now.swapper.pool in
-    create_of_make layout c.args.filer.now.swapper.accepted 3 (makes_nothing no_page old pool) nothing_after (λ p. p < 96) c.in-Ok.ensures.beside c.in-Ok.ensures.cut (λ p. p < 96)
-    (g.D.Disk.state c.make_pages.new.filer.swapper.disk) c.make_pages.new.filer.swapper.pool c.in-Err-make_pages.halt
+    let layout = (view_of c.args.filer.now).layout in
+    let old = (view_of c.args.filer.now).disk in
+    let pool = (view_of c.args.filer.now).slots in
+    create_of_make layout (accepted c.args.filer.now) 3 (makes_nothing no_page old pool) nothing_after (λ p. p < 96) c.in-Ok.ensures.beside c.in-Ok.ensures.cut (λ p. p < 96)
+    (view_of c.make_pages.new.filer).disk (view_of c.make_pages.new.filer).slots c.in-Err-make_pages.halt
     (rw (c.frames_of.ensures.same, c.in-Ok.ensures.beside.layout) at c.in-Err-make_pages.ensures.cause)
 
 pub returns-in-Err-make_pages-clause-reasons : goal.returns-in-Err-make_pages-clause-reasons
 returns-in-Err-make_pages-clause-reasons g c = λ o named h bare untold.
-    let cut = keeps_at c.cut.new.self.runs c.in-Ok.ensures.beside.layout (whole_cut h c.in-Ok.ensures.beside 3 (c.in-Ok.ensures.runs c.args.filer.now.swapper.layout.sectors) (λ home from may same was. absurd (omega (arith, may, same))) c.args.filer.now.swapper.accepted (untold_leaves o 3 untold) (λ tables. unframed_untabled bare) c.in-Ok.ensures.cut) in
+    let cut = keeps_at c.cut.new.self.runs c.in-Ok.ensures.beside.layout (whole_cut h c.in-Ok.ensures.beside 3 (c.in-Ok.ensures.runs (view_of c.args.filer.now).layout.sectors) (λ home from may same was. absurd (omega (arith, may, same))) (accepted c.args.filer.now) (untold_leaves o 3 untold) (λ tables. unframed_untabled bare) c.in-Ok.ensures.cut) in
     (rw (c.frames_of.ensures.same, c.in-Ok.ensures.beside.layout) at c.in-Err-make_pages.ensures.reasons) o (without_from named 3 0) (rw c.in-Ok.ensures.beside.layout at cut) untold (λ page sector own. none_left named 3 page sector tt)
 
 pub returns-in-Err-make_pages-clause-counted : goal.returns-in-Err-make_pages-clause-counted
@@ -105,8 +106,8 @@ returns-in-Err-make_pages-clause-root g c = grew_root {id = 3} (λ same. omega (
 
 pub returns-clause-made : goal.returns-clause-made
 returns-clause-made g c = λ x shapes spaces may.
-    let layout = c.args.filer.now.swapper.layout in
-    let is = c.args.filer.now.swapper.accepted in
+    let layout = (view_of c.args.filer.now).layout in
+    let is = (accepted c.args.filer.now) in
     let kept = c.args.filer.now.runs in
     let b = may.books.booked in
     let at = (goal.at.returns-clause-made g c).After-frames_of in
@@ -120,7 +121,7 @@ returns-clause-makes g c = tables_made_after c.in-Ok.ensures.beside (rw c.frames
 
 pub returns-clause-keeps_to : goal.returns-clause-keeps_to
 returns-clause-keeps_to g c = λ o named h bare untold.
-    let cut = keeps_at c.cut.new.self.runs c.in-Ok.ensures.beside.layout (whole_cut h c.in-Ok.ensures.beside 3 (c.in-Ok.ensures.runs c.args.filer.now.swapper.layout.sectors) (λ home from may same was. absurd (omega (arith, may, same))) c.args.filer.now.swapper.accepted (untold_leaves o 3 untold) (λ tables. unframed_untabled bare) c.in-Ok.ensures.cut) in
+    let cut = keeps_at c.cut.new.self.runs c.in-Ok.ensures.beside.layout (whole_cut h c.in-Ok.ensures.beside 3 (c.in-Ok.ensures.runs (view_of c.args.filer.now).layout.sectors) (λ home from may same was. absurd (omega (arith, may, same))) (accepted c.args.filer.now) (untold_leaves o 3 untold) (λ tables. unframed_untabled bare) c.in-Ok.ensures.cut) in
     (rw c.frames_of.ensures.same at c.in-Ok-make_pages.ensures.keeps_to) o (without_from named 3 0) cut untold (λ page sector own. none_left named 3 page sector tt)
 
 pub returns-clause-root : goal.returns-clause-root
@@ -128,5 +129,5 @@ returns-clause-root g c = grown_root {id = 3} (λ same. omega (arith, same)) (re
 
 pub returns-clause-tables : goal.returns-clause-tables
 returns-clause-tables g c = λ o named h bare.
-    let cut = keeps_at c.cut.new.self.runs c.in-Ok.ensures.beside.layout (whole_cut h c.in-Ok.ensures.beside 3 (c.in-Ok.ensures.runs c.args.filer.now.swapper.layout.sectors) (λ home from may same was. absurd (omega (arith, may, same))) c.args.filer.now.swapper.accepted (λ same. refl) (λ tables. unframed_untabled bare) c.in-Ok.ensures.cut) in
+    let cut = keeps_at c.cut.new.self.runs c.in-Ok.ensures.beside.layout (whole_cut h c.in-Ok.ensures.beside 3 (c.in-Ok.ensures.runs (view_of c.args.filer.now).layout.sectors) (λ home from may same was. absurd (omega (arith, may, same))) (accepted c.args.filer.now) (λ same. refl) (λ tables. unframed_untabled bare) c.in-Ok.ensures.cut) in
     (rw c.frames_of.ensures.same at c.in-Ok-make_pages.ensures.tables) o (without_from named 3 0) cut (λ page sector own. none_left named 3 page sector tt)

@@ -16,7 +16,7 @@ use Rattle.pilot_engine.proofs.UnsetLemmas.{leaves_open, unset_open, unset_root}
 use Rattle.pilot_engine.proofs.StartWrites.{first_made}
 use Rattle.running_words.proofs.FlagLemmas.{growth_open, take_open}
 use Rattle.labelled_disk.specs.Runs.{growth}
-use Rattle.fault_core.specs.View.{TablesAre, view_of}
+use Rattle.filer_kernel.specs.View.{accepted, disk_of, swapper_of, TablesAre, view_of}
 use Rattle.pilot_engine.proofs.BeginLemmas.{rooted}
 use Rattle.labelled_disk.specs.declared.layout.Layout.{Layout}
 use Rattle.swapper_kernel.specs.Maps.{IsMapHome}
@@ -33,23 +33,23 @@ use Rattle.swapper_kernel.specs.SyncLaws.{has_sync_later}
 use Rattle.pilot_engine.proofs.start.begin.Goals as goal
 
 pub used_of-requires-clause-first : goal.used_of-requires-clause-first
-used_of-requires-clause-first g c = rw c.requires.same_layout (parts c.args.filer.now.swapper.layout c.args.filer.now.swapper.accepted).1
+used_of-requires-clause-first g c = rw c.requires.same_layout (parts (view_of c.args.filer.now).layout (accepted c.args.filer.now)).1
 
 pub returns-in-Err-clause-starts : goal.returns-in-Err-clause-starts
 returns-in-Err-clause-starts g c = rw c.in-Err.ensures.frames (root_some c.args.root _ _ c.requires.bare (rw c.in_use-root.ensures.root at c.in-Err.ensures.stopped))
 
 pub returns-in-Err-free_count-clause-sound : goal.returns-in-Err-free_count-clause-sound
 returns-in-Err-free_count-clause-sound g c = λ d revealed sound same.
-    let layout = c.args.filer.now.swapper.layout in
-    let is = c.args.filer.now.swapper.accepted in
-    let slots = c.args.filer.now.swapper.pool in
+    let layout = (view_of c.args.filer.now).layout in
+    let is = (accepted c.args.filer.now) in
+    let slots = (view_of c.args.filer.now).slots in
     let kept = c.args.filer.now.runs in
     let none = c.requires.no_runs layout.sectors in
-    let sectors = g.met.D.Disk.in_form c.args.filer.now.swapper.disk d revealed in
-    let long = g.met.D.Disk.whole c.args.filer.now.swapper.disk d revealed ∙ c.requires.size in
-    let made = (rw c.in_use-root.ensures.root at c.in-Ok.ensures.made).memory d (bare_stands (g.D.Disk.state c.args.filer.now.swapper.disk) slots d c.requires.bare revealed) in
-    let d1 = g.D.Disk.state c.put_in_use.new.filer.swapper.disk in
-    let form = g.met.D.Disk.in_form c.put_in_use.new.filer.swapper.disk in
+    let sectors = g.met.D.Disk.in_form (disk_of c.args.filer.now) d revealed in
+    let long = g.met.D.Disk.whole (disk_of c.args.filer.now) d revealed ∙ c.requires.size in
+    let made = (rw c.in_use-root.ensures.root at c.in-Ok.ensures.made).memory d (bare_stands (view_of c.args.filer.now).disk slots d c.requires.bare revealed) in
+    let d1 = (view_of c.put_in_use.new.filer).disk in
+    let form = g.met.D.Disk.in_form (disk_of c.put_in_use.new.filer) in
     (rw (c.in-Ok.ensures.frames, c.in-Ok.ensures.layout) at c.in-Err-free_count.ensures.sound) (opened d sectors sound layout is long c.args.root same slots c.requires.bare kept none d1 form made) (opened_stands d sectors sound layout is long c.args.root same slots c.requires.bare kept none d1 form made) (map_named d sectors sound layout is long c.args.root same slots c.requires.bare kept none d1 form made)
 
 pub returns-in-Err-free_count-clause-starts : goal.returns-in-Err-free_count-clause-starts
@@ -58,21 +58,21 @@ returns-in-Err-free_count-clause-starts g c =
 
 pub returns-in-Err-make_tables-clause-sound : goal.returns-in-Err-make_tables-clause-sound
 returns-in-Err-make_tables-clause-sound g c = λ d revealed sound same.
-    let layout = c.args.filer.now.swapper.layout in
-    let is = c.args.filer.now.swapper.accepted in
-    let slots = c.args.filer.now.swapper.pool in
+    let layout = (view_of c.args.filer.now).layout in
+    let is = (accepted c.args.filer.now) in
+    let slots = (view_of c.args.filer.now).slots in
     let kept = c.args.filer.now.runs in
     let none = c.requires.no_runs layout.sectors in
-    let sectors = g.met.D.Disk.in_form c.args.filer.now.swapper.disk d revealed in
-    let long = g.met.D.Disk.whole c.args.filer.now.swapper.disk d revealed ∙ c.requires.size in
-    let made = (rw c.in_use-root.ensures.root at c.in-Ok.ensures.made).memory d (bare_stands (g.D.Disk.state c.args.filer.now.swapper.disk) slots d c.requires.bare revealed) in
-    let d1 = g.D.Disk.state c.put_in_use.new.filer.swapper.disk in
-    let form = g.met.D.Disk.in_form c.put_in_use.new.filer.swapper.disk in
+    let sectors = g.met.D.Disk.in_form (disk_of c.args.filer.now) d revealed in
+    let long = g.met.D.Disk.whole (disk_of c.args.filer.now) d revealed ∙ c.requires.size in
+    let made = (rw c.in_use-root.ensures.root at c.in-Ok.ensures.made).memory d (bare_stands (view_of c.args.filer.now).disk slots d c.requires.bare revealed) in
+    let d1 = (view_of c.put_in_use.new.filer).disk in
+    let form = g.met.D.Disk.in_form (disk_of c.put_in_use.new.filer) in
     let x = opened d sectors sound layout is long c.args.root same slots c.requires.bare kept none d1 form made in
     let now = opened_stands d sectors sound layout is long c.args.root same slots c.requires.bare kept none d1 form made in
     let beside = rw (c.in-Ok.ensures.frames, c.in-Ok.ensures.layout) at c.in-Ok-free_count.ensures.kept in
     let still = (rw (c.in-Ok.ensures.frames, c.in-Ok.ensures.layout) at c.in-Ok-free_count.ensures.same) x (marks d sectors sound layout is long c.args.root same slots c.requires.bare kept none d1 form made) now (bits d sectors sound layout is long c.args.root same slots c.requires.bare kept none d1 form made) in
-    let lay : c.free_count.new.self.swapper.layout ≡ layout = c.in-Ok-free_count.ensures.kept.layout ∙ c.in-Ok.ensures.layout in
+    let lay : (view_of c.free_count.new.self).layout ≡ layout = c.in-Ok-free_count.ensures.kept.layout ∙ c.in-Ok.ensures.layout in
     let runs : c.free_count.new.self.runs ≡ kept = c.in-Ok-free_count.ensures.runs ∙ c.in-Ok.ensures.runs in
     let may = may_begin d sectors sound layout is long c.args.root same slots c.requires.bare kept none d1 form made _ _ _ beside still in
     (rw (lay, runs) at c.in-Err-make_tables.ensures.sound) x (shapes_of (files_on d)) (root ∷ []) may
@@ -83,53 +83,53 @@ returns-in-Err-make_tables-clause-starts g c =
 
 pub returns-clause-begun : goal.returns-clause-begun
 returns-clause-begun g c = λ d revealed sound same.
-    let layout = c.args.filer.now.swapper.layout in
-    let is = c.args.filer.now.swapper.accepted in
-    let slots = c.args.filer.now.swapper.pool in
+    let layout = (view_of c.args.filer.now).layout in
+    let is = (accepted c.args.filer.now) in
+    let slots = (view_of c.args.filer.now).slots in
     let kept = c.args.filer.now.runs in
     let none = c.requires.no_runs layout.sectors in
-    let sectors = g.met.D.Disk.in_form c.args.filer.now.swapper.disk d revealed in
-    let long = g.met.D.Disk.whole c.args.filer.now.swapper.disk d revealed ∙ c.requires.size in
-    let made = (rw c.in_use-root.ensures.root at c.in-Ok.ensures.made).memory d (bare_stands (g.D.Disk.state c.args.filer.now.swapper.disk) slots d c.requires.bare revealed) in
-    let d1 = g.D.Disk.state c.put_in_use.new.filer.swapper.disk in
-    let form = g.met.D.Disk.in_form c.put_in_use.new.filer.swapper.disk in
+    let sectors = g.met.D.Disk.in_form (disk_of c.args.filer.now) d revealed in
+    let long = g.met.D.Disk.whole (disk_of c.args.filer.now) d revealed ∙ c.requires.size in
+    let made = (rw c.in_use-root.ensures.root at c.in-Ok.ensures.made).memory d (bare_stands (view_of c.args.filer.now).disk slots d c.requires.bare revealed) in
+    let d1 = (view_of c.put_in_use.new.filer).disk in
+    let form = g.met.D.Disk.in_form (disk_of c.put_in_use.new.filer) in
     let x = opened d sectors sound layout is long c.args.root same slots c.requires.bare kept none d1 form made in
     let now = opened_stands d sectors sound layout is long c.args.root same slots c.requires.bare kept none d1 form made in
     let beside = rw (c.in-Ok.ensures.frames, c.in-Ok.ensures.layout) at c.in-Ok-free_count.ensures.kept in
     let still = (rw (c.in-Ok.ensures.frames, c.in-Ok.ensures.layout) at c.in-Ok-free_count.ensures.same) x (marks d sectors sound layout is long c.args.root same slots c.requires.bare kept none d1 form made) now (bits d sectors sound layout is long c.args.root same slots c.requires.bare kept none d1 form made) in
-    let lay : c.free_count.new.self.swapper.layout ≡ layout = c.in-Ok-free_count.ensures.kept.layout ∙ c.in-Ok.ensures.layout in
+    let lay : (view_of c.free_count.new.self).layout ≡ layout = c.in-Ok-free_count.ensures.kept.layout ∙ c.in-Ok.ensures.layout in
     let runs : c.free_count.new.self.runs ≡ kept = c.in-Ok-free_count.ensures.runs ∙ c.in-Ok.ensures.runs in
     let may = may_begin d sectors sound layout is long c.args.root same slots c.requires.bare kept none d1 form made _ _ _ beside still in
     let begun = (rw (lay, runs) at c.in-Ok-make_tables.ensures.made) x (shapes_of (files_on d)) (root ∷ []) may in
     let free = (rw (c.in-Ok.ensures.frames, c.in-Ok.ensures.layout) at c.in-Ok-free_count.ensures.count) x (marks d sectors sound layout is long c.args.root same slots c.requires.bare kept none d1 form made) now (bits d sectors sound layout is long c.args.root same slots c.requires.bare kept none d1 form made) in
     let volume : Volume = record { layout = c.args.layout; root = c.in_use-root.result; used = c.used_of.result } in
-    let session = session_begun d sectors sound layout is long c.args.root same slots c.requires.bare kept none d1 form made _ _ _ beside still _ _ _ begun volume c.make_tables.new.filer.swapper.layout (c.in-Ok-make_tables.ensures.layout ∙ lay) c.in_use-root.ensures.root
+    let session = session_begun d sectors sound layout is long c.args.root same slots c.requires.bare kept none d1 form made _ _ _ beside still _ _ _ begun volume (view_of c.make_tables.new.filer).layout (c.in-Ok-make_tables.ensures.layout ∙ lay) c.in_use-root.ensures.root
     c.in-Ok-free_count.free (free_are d sectors sound layout is long c.args.root same slots c.requires.bare kept none d1 form made c.in-Ok-free_count.free free) (rw c.requires.same_layout at c.used_of.ensures) in
     c.in-Ok-write_tables.ensures.runs d volume session
 
 pub returns-in-Err-write_tables-clause-sound : goal.returns-in-Err-write_tables-clause-sound
 returns-in-Err-write_tables-clause-sound g c = λ d revealed sound same.
-    let layout = c.args.filer.now.swapper.layout in
-    let is = c.args.filer.now.swapper.accepted in
-    let slots = c.args.filer.now.swapper.pool in
+    let layout = (view_of c.args.filer.now).layout in
+    let is = (accepted c.args.filer.now) in
+    let slots = (view_of c.args.filer.now).slots in
     let kept = c.args.filer.now.runs in
     let none = c.requires.no_runs layout.sectors in
-    let sectors = g.met.D.Disk.in_form c.args.filer.now.swapper.disk d revealed in
-    let long = g.met.D.Disk.whole c.args.filer.now.swapper.disk d revealed ∙ c.requires.size in
-    let made = (rw c.in_use-root.ensures.root at c.in-Ok.ensures.made).memory d (bare_stands (g.D.Disk.state c.args.filer.now.swapper.disk) slots d c.requires.bare revealed) in
-    let d1 = g.D.Disk.state c.put_in_use.new.filer.swapper.disk in
-    let form = g.met.D.Disk.in_form c.put_in_use.new.filer.swapper.disk in
+    let sectors = g.met.D.Disk.in_form (disk_of c.args.filer.now) d revealed in
+    let long = g.met.D.Disk.whole (disk_of c.args.filer.now) d revealed ∙ c.requires.size in
+    let made = (rw c.in_use-root.ensures.root at c.in-Ok.ensures.made).memory d (bare_stands (view_of c.args.filer.now).disk slots d c.requires.bare revealed) in
+    let d1 = (view_of c.put_in_use.new.filer).disk in
+    let form = g.met.D.Disk.in_form (disk_of c.put_in_use.new.filer) in
     let x = opened d sectors sound layout is long c.args.root same slots c.requires.bare kept none d1 form made in
     let now = opened_stands d sectors sound layout is long c.args.root same slots c.requires.bare kept none d1 form made in
     let beside = rw (c.in-Ok.ensures.frames, c.in-Ok.ensures.layout) at c.in-Ok-free_count.ensures.kept in
     let still = (rw (c.in-Ok.ensures.frames, c.in-Ok.ensures.layout) at c.in-Ok-free_count.ensures.same) x (marks d sectors sound layout is long c.args.root same slots c.requires.bare kept none d1 form made) now (bits d sectors sound layout is long c.args.root same slots c.requires.bare kept none d1 form made) in
-    let lay : c.free_count.new.self.swapper.layout ≡ layout = c.in-Ok-free_count.ensures.kept.layout ∙ c.in-Ok.ensures.layout in
+    let lay : (view_of c.free_count.new.self).layout ≡ layout = c.in-Ok-free_count.ensures.kept.layout ∙ c.in-Ok.ensures.layout in
     let runs : c.free_count.new.self.runs ≡ kept = c.in-Ok-free_count.ensures.runs ∙ c.in-Ok.ensures.runs in
     let may = may_begin d sectors sound layout is long c.args.root same slots c.requires.bare kept none d1 form made _ _ _ beside still in
     let begun = (rw (lay, runs) at c.in-Ok-make_tables.ensures.made) x (shapes_of (files_on d)) (root ∷ []) may in
     let free = (rw (c.in-Ok.ensures.frames, c.in-Ok.ensures.layout) at c.in-Ok-free_count.ensures.count) x (marks d sectors sound layout is long c.args.root same slots c.requires.bare kept none d1 form made) now (bits d sectors sound layout is long c.args.root same slots c.requires.bare kept none d1 form made) in
     let volume : Volume = record { layout = c.args.layout; root = c.in_use-root.result; used = min ((layout.sectors - layout.first) - c.in-Ok-free_count.free) layout.capacity } in
-    let session = session_begun d sectors sound layout is long c.args.root same slots c.requires.bare kept none d1 form made _ _ _ beside still _ _ _ begun volume c.make_tables.new.filer.swapper.layout (c.in-Ok-make_tables.ensures.layout ∙ lay) c.in_use-root.ensures.root
+    let session = session_begun d sectors sound layout is long c.args.root same slots c.requires.bare kept none d1 form made _ _ _ beside still _ _ _ begun volume (view_of c.make_tables.new.filer).layout (c.in-Ok-make_tables.ensures.layout ∙ lay) c.in_use-root.ensures.root
     c.in-Ok-free_count.free (free_are d sectors sound layout is long c.args.root same slots c.requires.bare kept none d1 form made c.in-Ok-free_count.free free) refl in
     c.in-Err-write_tables.ensures.sound d volume session
 
@@ -146,7 +146,7 @@ pub returns-in-Err-clause-evidence_seen : goal.returns-in-Err-clause-evidence_se
 returns-in-Err-clause-evidence_seen g c = rw c.in-Err.ensures.fault tt
 
 pub returns-in-Err-free_count-clause-evidence_seen : goal.returns-in-Err-free_count-clause-evidence_seen
-returns-in-Err-free_count-clause-evidence_seen g c = so_of_halts (fits c.put_in_use.new.filer.swapper (search rules)) (map_makes c.in-Err-free_count.ensures.kept) c.in-Err-free_count.halt _ (map_homes_placed AllocationMap _) c.in-Err-free_count.ensures.cause
+returns-in-Err-free_count-clause-evidence_seen g c = so_of_halts (fits (swapper_of c.put_in_use.new.filer) (search rules)) (map_makes c.in-Err-free_count.ensures.kept) c.in-Err-free_count.halt _ (map_homes_placed AllocationMap _) c.in-Err-free_count.ensures.cause
 
 -- the clean flag is 0 from the first write on
 pub returns-in-Err-clause-left_open : goal.returns-in-Err-clause-left_open
@@ -156,21 +156,21 @@ pub returns-in-Err-free_count-clause-left_open : goal.returns-in-Err-free_count-
 returns-in-Err-free_count-clause-left_open g c =
     let made = (rw c.in_use-root.ensures.root at c.in-Ok.ensures.made).makes in
     let begun = unset_root c.args.root _ _ (first_made c.args.root _ _ c.requires.bare made) in
-    leaves_open (g.D.Disk.state c.free_count.new.self.swapper.disk) (unset_open begun (map_makes c.in-Err-free_count.ensures.kept).wrote tt) c.in-Err-free_count.halt
+    leaves_open (view_of c.free_count.new.self).disk (unset_open begun (map_makes c.in-Err-free_count.ensures.kept).wrote tt) c.in-Err-free_count.halt
 
 pub returns-in-Err-make_tables-clause-left_open : goal.returns-in-Err-make_tables-clause-left_open
 returns-in-Err-make_tables-clause-left_open g c =
     let made = (rw c.in_use-root.ensures.root at c.in-Ok.ensures.made).makes in
     let begun = unset_root c.args.root _ _ (first_made c.args.root _ _ c.requires.bare made) in
     let some = c.in-Err-make_tables.ensures.stopped in
-    leaves_open (g.D.Disk.state c.make_tables.new.filer.swapper.disk) (unset_open (unset_open begun (map_makes c.in-Ok-free_count.ensures.kept).wrote tt) some.makes.wrote (take_open some.count (growth 3 0 0 some.sectors) (growth_open 3 0 0 some.sectors))) c.in-Err-make_tables.halt
+    leaves_open (view_of c.make_tables.new.filer).disk (unset_open (unset_open begun (map_makes c.in-Ok-free_count.ensures.kept).wrote tt) some.makes.wrote (take_open some.count (growth 3 0 0 some.sectors) (growth_open 3 0 0 some.sectors))) c.in-Err-make_tables.halt
 
 pub returns-in-Err-write_tables-clause-left_open : goal.returns-in-Err-write_tables-clause-left_open
 returns-in-Err-write_tables-clause-left_open g c =
     let made = (rw c.in_use-root.ensures.root at c.in-Ok.ensures.made).makes in
     let begun = unset_root c.args.root _ _ (first_made c.args.root _ _ c.requires.bare made) in
     let all = c.in-Ok-make_tables.ensures.makes in
-    leaves_open (g.D.Disk.state c.write_tables.new.filer.swapper.disk) (unset_open (unset_open (unset_open begun (map_makes c.in-Ok-free_count.ensures.kept).wrote tt) all.makes.wrote (growth_open 3 0 0 all.sectors)) c.write_tables.ensures.makes.wrote tt) c.in-Err-write_tables.halt
+    leaves_open (view_of c.write_tables.new.filer).disk (unset_open (unset_open (unset_open begun (map_makes c.in-Ok-free_count.ensures.kept).wrote tt) all.makes.wrote (growth_open 3 0 0 all.sectors)) c.write_tables.ensures.makes.wrote tt) c.in-Err-write_tables.halt
 
 pub returns-clause-left_open : goal.returns-clause-left_open
 returns-clause-left_open g c =
@@ -219,11 +219,11 @@ returns-in-Err-free_count-clause-reasons g c = λ d named ws begun.
     let next = next_id c.in_use-root.result in
     let least : next ≤ next = omega arith in
     let o = initial_state d named (ws ++ (root_write root ∷ [])) in
-    let first = begun_keeps next filer.swapper.layout d named ws (g.D.Disk.state filer.swapper.disk) filer.swapper.pool filer.runs filer.swapper.accepted c.requires.size (g.met.D.Disk.in_form filer.swapper.disk d begun.contents)
-    (g.met.D.Disk.whole filer.swapper.disk d begun.contents ∙ c.requires.size) c.requires.bare (c.requires.no_runs filer.swapper.layout.sectors) begun in
+    let first = begun_keeps next (view_of filer).layout d named ws (view_of filer).disk (view_of filer).slots filer.runs (accepted filer) c.requires.size (g.met.D.Disk.in_form (disk_of filer) d begun.contents)
+    (g.met.D.Disk.whole (disk_of filer) d begun.contents ∙ c.requires.size) c.requires.bare (c.requires.no_runs (view_of filer).layout.sectors) begun in
     let written = rooted_writes ws (root_write root) (rw c.in_use-root.ensures.root at c.in-Ok.ensures.made).makes c.requires.bare begun.writes in
     let bare = subst IsBare (sym c.in-Ok.ensures.frames) c.requires.bare in
-    let rooted_keeps = rooted_at d named ws root next (view_of c.put_in_use.new.filer) c.put_in_use.new.filer.swapper.accepted bare written (c.in-Ok.ensures.keeps_to (giving (initial_state d named ws) next) named first least) in
+    let rooted_keeps = rooted_at d named ws root next (view_of c.put_in_use.new.filer) (accepted c.put_in_use.new.filer) bare written (c.in-Ok.ensures.keeps_to (giving (initial_state d named ws) next) named first least) in
     let v = view_of c.put_in_use.new.filer in
     let w = view_of c.free_count.new.self in
     subst (λ (l : Layout). ShowsReason o l w.disk c.in-Err-free_count.halt) c.in-Ok.ensures.layout (counted_reasons o v w named rooted_keeps c.in-Err-free_count.ensures.kept c.in-Err-free_count.halt c.in-Err-free_count.ensures.cause)
@@ -235,13 +235,13 @@ returns-in-Err-make_tables-clause-reasons g c = λ d named ws begun.
     let next = next_id c.in_use-root.result in
     let least : next ≤ next = omega arith in
     let o = initial_state d named (ws ++ (root_write root ∷ [])) in
-    let first = begun_keeps next filer.swapper.layout d named ws (g.D.Disk.state filer.swapper.disk) filer.swapper.pool filer.runs filer.swapper.accepted c.requires.size (g.met.D.Disk.in_form filer.swapper.disk d begun.contents)
-    (g.met.D.Disk.whole filer.swapper.disk d begun.contents ∙ c.requires.size) c.requires.bare (c.requires.no_runs filer.swapper.layout.sectors) begun in
+    let first = begun_keeps next (view_of filer).layout d named ws (view_of filer).disk (view_of filer).slots filer.runs (accepted filer) c.requires.size (g.met.D.Disk.in_form (disk_of filer) d begun.contents)
+    (g.met.D.Disk.whole (disk_of filer) d begun.contents ∙ c.requires.size) c.requires.bare (c.requires.no_runs (view_of filer).layout.sectors) begun in
     let written = rooted_writes ws (root_write root) (rw c.in_use-root.ensures.root at c.in-Ok.ensures.made).makes c.requires.bare begun.writes in
     let bare = subst IsBare (sym c.in-Ok.ensures.frames) c.requires.bare in
-    let rooted_keeps = rooted_at d named ws root next (view_of c.put_in_use.new.filer) c.put_in_use.new.filer.swapper.accepted bare written (c.in-Ok.ensures.keeps_to (giving (initial_state d named ws) next) named first least) in
+    let rooted_keeps = rooted_at d named ws root next (view_of c.put_in_use.new.filer) (accepted c.put_in_use.new.filer) bare written (c.in-Ok.ensures.keeps_to (giving (initial_state d named ws) next) named first least) in
     let counted = keeps_counted o (view_of c.put_in_use.new.filer) (view_of c.free_count.new.self) named rooted_keeps c.in-Ok-free_count.ensures.kept c.in-Ok-free_count.ensures.same c.in-Ok-free_count.ensures.runs in
-    subst (λ (l : Layout). ShowsReason o l (g.D.Disk.state c.make_tables.new.filer.swapper.disk) c.in-Err-make_tables.halt) (c.in-Ok-free_count.ensures.kept.layout ∙ c.in-Ok.ensures.layout)
+    subst (λ (l : Layout). ShowsReason o l (view_of c.make_tables.new.filer).disk c.in-Err-make_tables.halt) (c.in-Ok-free_count.ensures.kept.layout ∙ c.in-Ok.ensures.layout)
     (c.in-Err-make_tables.ensures.reasons o named counted (counted_unframed bare c.in-Ok-free_count.ensures.kept) refl)
 
 pub returns-in-Err-write_tables-clause-reasons : goal.returns-in-Err-write_tables-clause-reasons
@@ -251,15 +251,15 @@ returns-in-Err-write_tables-clause-reasons g c = λ d named ws begun.
     let next = next_id c.in_use-root.result in
     let least : next ≤ next = omega arith in
     let o = initial_state d named (ws ++ (root_write root ∷ [])) in
-    let first = begun_keeps next filer.swapper.layout d named ws (g.D.Disk.state filer.swapper.disk) filer.swapper.pool filer.runs filer.swapper.accepted c.requires.size (g.met.D.Disk.in_form filer.swapper.disk d begun.contents)
-    (g.met.D.Disk.whole filer.swapper.disk d begun.contents ∙ c.requires.size) c.requires.bare (c.requires.no_runs filer.swapper.layout.sectors) begun in
+    let first = begun_keeps next (view_of filer).layout d named ws (view_of filer).disk (view_of filer).slots filer.runs (accepted filer) c.requires.size (g.met.D.Disk.in_form (disk_of filer) d begun.contents)
+    (g.met.D.Disk.whole (disk_of filer) d begun.contents ∙ c.requires.size) c.requires.bare (c.requires.no_runs (view_of filer).layout.sectors) begun in
     let written = rooted_writes ws (root_write root) (rw c.in_use-root.ensures.root at c.in-Ok.ensures.made).makes c.requires.bare begun.writes in
     let bare = subst IsBare (sym c.in-Ok.ensures.frames) c.requires.bare in
-    let rooted_keeps = rooted_at d named ws root next (view_of c.put_in_use.new.filer) c.put_in_use.new.filer.swapper.accepted bare written (c.in-Ok.ensures.keeps_to (giving (initial_state d named ws) next) named first least) in
+    let rooted_keeps = rooted_at d named ws root next (view_of c.put_in_use.new.filer) (accepted c.put_in_use.new.filer) bare written (c.in-Ok.ensures.keeps_to (giving (initial_state d named ws) next) named first least) in
     let counted = keeps_counted o (view_of c.put_in_use.new.filer) (view_of c.free_count.new.self) named rooted_keeps c.in-Ok-free_count.ensures.kept c.in-Ok-free_count.ensures.same c.in-Ok-free_count.ensures.runs in
     let none = counted_unframed bare c.in-Ok-free_count.ensures.kept in
     let made = c.in-Ok-make_tables.ensures.keeps_to o named counted none refl in
-    subst (λ (l : Layout). ShowsReason o l (g.D.Disk.state c.write_tables.new.filer.swapper.disk) c.in-Err-write_tables.halt) (c.in-Ok-make_tables.ensures.layout ∙ c.in-Ok-free_count.ensures.kept.layout ∙ c.in-Ok.ensures.layout)
+    subst (λ (l : Layout). ShowsReason o l (view_of c.write_tables.new.filer).disk c.in-Err-write_tables.halt) (c.in-Ok-make_tables.ensures.layout ∙ c.in-Ok-free_count.ensures.kept.layout ∙ c.in-Ok.ensures.layout)
     (c.in-Err-write_tables.ensures.reasons o made)
 
 pub returns-clause-keeps_to : goal.returns-clause-keeps_to
@@ -269,11 +269,11 @@ returns-clause-keeps_to g c = λ d named ws begun.
     let next = next_id c.in_use-root.result in
     let least : next ≤ next = omega arith in
     let o = initial_state d named (ws ++ (root_write root ∷ [])) in
-    let first = begun_keeps next filer.swapper.layout d named ws (g.D.Disk.state filer.swapper.disk) filer.swapper.pool filer.runs filer.swapper.accepted c.requires.size (g.met.D.Disk.in_form filer.swapper.disk d begun.contents)
-    (g.met.D.Disk.whole filer.swapper.disk d begun.contents ∙ c.requires.size) c.requires.bare (c.requires.no_runs filer.swapper.layout.sectors) begun in
+    let first = begun_keeps next (view_of filer).layout d named ws (view_of filer).disk (view_of filer).slots filer.runs (accepted filer) c.requires.size (g.met.D.Disk.in_form (disk_of filer) d begun.contents)
+    (g.met.D.Disk.whole (disk_of filer) d begun.contents ∙ c.requires.size) c.requires.bare (c.requires.no_runs (view_of filer).layout.sectors) begun in
     let written = rooted_writes ws (root_write root) (rw c.in_use-root.ensures.root at c.in-Ok.ensures.made).makes c.requires.bare begun.writes in
     let bare = subst IsBare (sym c.in-Ok.ensures.frames) c.requires.bare in
-    let rooted_keeps = rooted_at d named ws root next (view_of c.put_in_use.new.filer) c.put_in_use.new.filer.swapper.accepted bare written (c.in-Ok.ensures.keeps_to (giving (initial_state d named ws) next) named first least) in
+    let rooted_keeps = rooted_at d named ws root next (view_of c.put_in_use.new.filer) (accepted c.put_in_use.new.filer) bare written (c.in-Ok.ensures.keeps_to (giving (initial_state d named ws) next) named first least) in
     let counted = keeps_counted o (view_of c.put_in_use.new.filer) (view_of c.free_count.new.self) named rooted_keeps c.in-Ok-free_count.ensures.kept c.in-Ok-free_count.ensures.same c.in-Ok-free_count.ensures.runs in
     let none = counted_unframed bare c.in-Ok-free_count.ensures.kept in
     let made = c.in-Ok-make_tables.ensures.keeps_to o named counted none refl in
@@ -286,10 +286,10 @@ returns-in-Err-clause-sees g c = λ d named ws begun. rw c.in-Err.ensures.fault 
 
 pub returns-in-Err-free_count-clause-sees : goal.returns-in-Err-free_count-clause-sees
 returns-in-Err-free_count-clause-sees g c = λ d named ws begun.
-    let homes = IsMapHome AllocationMap c.put_in_use.new.filer.swapper.layout in
-    let before = g.D.Disk.state c.put_in_use.new.filer.swapper.disk in
-    let slots = c.put_in_use.new.filer.swapper.pool in
-    let after = g.D.Disk.state c.free_count.new.self.swapper.disk in (
+    let homes = IsMapHome AllocationMap (view_of c.put_in_use.new.filer).layout in
+    let before = (view_of c.put_in_use.new.filer).disk in
+    let slots = (view_of c.put_in_use.new.filer).slots in
+    let after = (view_of c.free_count.new.self).disk in (
       label_form homes before slots after c.in-Err-free_count.halt c.in-Err-free_count.ensures.cause,
       brought_misses homes before slots after no_page c.in-Err-free_count.halt c.in-Err-free_count.ensures.cause,
     )
@@ -309,11 +309,11 @@ returns-in-Err-write_tables-clause-sees g c = λ d named ws begun.
     let next = next_id c.in_use-root.result in
     let least : next ≤ next = omega arith in
     let o = telling (initial_state d named (ws ++ (root_write root ∷ []))) [] in
-    let first = begun_untabled next filer.swapper.layout d named ws (g.D.Disk.state filer.swapper.disk) filer.swapper.pool filer.runs filer.swapper.accepted c.requires.size (g.met.D.Disk.in_form filer.swapper.disk d begun.contents)
-    (g.met.D.Disk.whole filer.swapper.disk d begun.contents ∙ c.requires.size) c.requires.bare (c.requires.no_runs filer.swapper.layout.sectors) begun in
+    let first = begun_untabled next (view_of filer).layout d named ws (view_of filer).disk (view_of filer).slots filer.runs (accepted filer) c.requires.size (g.met.D.Disk.in_form (disk_of filer) d begun.contents)
+    (g.met.D.Disk.whole (disk_of filer) d begun.contents ∙ c.requires.size) c.requires.bare (c.requires.no_runs (view_of filer).layout.sectors) begun in
     let written = rooted_writes ws (root_write root) (rw c.in_use-root.ensures.root at c.in-Ok.ensures.made).makes c.requires.bare begun.writes in
     let bare = subst IsBare (sym c.in-Ok.ensures.frames) c.requires.bare in
-    let rooted_keeps = rooted_untabled d named ws root next (view_of c.put_in_use.new.filer) c.put_in_use.new.filer.swapper.accepted bare written (c.in-Ok.ensures.keeps_to (telling (giving (initial_state d named ws) next) []) named first least) in
+    let rooted_keeps = rooted_untabled d named ws root next (view_of c.put_in_use.new.filer) (accepted c.put_in_use.new.filer) bare written (c.in-Ok.ensures.keeps_to (telling (giving (initial_state d named ws) next) []) named first least) in
     let counted = keeps_counted o (view_of c.put_in_use.new.filer) (view_of c.free_count.new.self) named rooted_keeps c.in-Ok-free_count.ensures.kept c.in-Ok-free_count.ensures.same c.in-Ok-free_count.ensures.runs in
     let none = counted_unframed bare c.in-Ok-free_count.ensures.kept in
     let made = c.in-Ok-make_tables.ensures.tables (initial_state d named (ws ++ (root_write root ∷ []))) named counted none in
@@ -327,11 +327,11 @@ returns-clause-sees g c = λ d named ws begun.
     let next = next_id c.in_use-root.result in
     let least : next ≤ next = omega arith in
     let o = telling (initial_state d named (ws ++ (root_write root ∷ []))) [] in
-    let first = begun_untabled next filer.swapper.layout d named ws (g.D.Disk.state filer.swapper.disk) filer.swapper.pool filer.runs filer.swapper.accepted c.requires.size (g.met.D.Disk.in_form filer.swapper.disk d begun.contents)
-    (g.met.D.Disk.whole filer.swapper.disk d begun.contents ∙ c.requires.size) c.requires.bare (c.requires.no_runs filer.swapper.layout.sectors) begun in
+    let first = begun_untabled next (view_of filer).layout d named ws (view_of filer).disk (view_of filer).slots filer.runs (accepted filer) c.requires.size (g.met.D.Disk.in_form (disk_of filer) d begun.contents)
+    (g.met.D.Disk.whole (disk_of filer) d begun.contents ∙ c.requires.size) c.requires.bare (c.requires.no_runs (view_of filer).layout.sectors) begun in
     let written = rooted_writes ws (root_write root) (rw c.in_use-root.ensures.root at c.in-Ok.ensures.made).makes c.requires.bare begun.writes in
     let bare = subst IsBare (sym c.in-Ok.ensures.frames) c.requires.bare in
-    let rooted_keeps = rooted_untabled d named ws root next (view_of c.put_in_use.new.filer) c.put_in_use.new.filer.swapper.accepted bare written (c.in-Ok.ensures.keeps_to (telling (giving (initial_state d named ws) next) []) named first least) in
+    let rooted_keeps = rooted_untabled d named ws root next (view_of c.put_in_use.new.filer) (accepted c.put_in_use.new.filer) bare written (c.in-Ok.ensures.keeps_to (telling (giving (initial_state d named ws) next) []) named first least) in
     let counted = keeps_counted o (view_of c.put_in_use.new.filer) (view_of c.free_count.new.self) named rooted_keeps c.in-Ok-free_count.ensures.kept c.in-Ok-free_count.ensures.same c.in-Ok-free_count.ensures.runs in
     let none = counted_unframed bare c.in-Ok-free_count.ensures.kept in
     let made = c.in-Ok-make_tables.ensures.tables (initial_state d named (ws ++ (root_write root ∷ []))) named counted none in

@@ -21,23 +21,23 @@ use Rattle.running_words.specs.MovingLaws.{moves_of_reaches}
 use Rattle.space_calls.proofs.MovesLemmas.{moves_twice}
 use Rattle.space_calls.specs.FilesLaws.{shown_here}
 use Rattle.space_calls.proofs.advice.activate.Goals as goal
+use Rattle.filer_kernel.specs.View.{accepted, disk_of, swapper_of}
 
 -- ---- It is refused.
 
-pub returns-in-Ok-Err-clause-carried : goal.returns-in-Ok-Err-clause-carried
-returns-in-Ok-Err-clause-carried g c = λ volume m runs.
+pub returns-in-Ok-Err-clause-answers : goal.returns-in-Ok-Err-clause-answers
+returns-in-Ok-Err-clause-answers g c = λ volume m r.
     let whole = whole_core c.args.core.now c.requires.size in
-    let revealed = knows running_laws whole runs in
+    let revealed = knows running_laws whole r in
     let is = asked_word m.spaces c.args.space c.in-Ok-Err.field-0 c.in-Ok-Err.word c.in-Ok-Err.field-0-is (c.in-Ok-Err.ensures.answer _ _ m.spaces revealed) in
     record {
-      allowed = allowed_refused m (call.Activate c.args.space) c.in-Ok-Err.word (activate_refused m c.args.space c.in-Ok-Err.word is);
-      runs = subst (λ (n : Machine). Runs c.bounds.new.core volume n) (activate_stays m c.args.space) (still_runs running_laws whole runs (came_asked c.bounds.ensures.asked));
+      carried = (record {
+        allowed = allowed_refused m (call.Activate c.args.space) c.in-Ok-Err.word (activate_refused m c.args.space c.in-Ok-Err.word is);
+        runs = subst (λ (n : Machine). Runs c.bounds.new.core volume n) (activate_stays m c.args.space) (still_runs running_laws whole r (came_asked c.bounds.ensures.asked));
+      });
+      sound = tt;
+      passes = (still_reveals running_laws whole r (state c.bounds.new.core) (g.met.D.Disk.in_form (disk_of c.args.core.now.filer)) (call.Activate c.args.space) (reached_makes c.bounds.ensures.asked.reaches));
     }
-
-pub returns-in-Ok-Err-clause-passes : goal.returns-in-Ok-Err-clause-passes
-returns-in-Ok-Err-clause-passes g c = λ volume m runs.
-    let whole = whole_core c.args.core.now c.requires.size in
-    still_reveals running_laws whole runs (state c.bounds.new.core) (g.met.D.Disk.in_form c.args.core.now.filer.swapper.disk) (call.Activate c.args.space) (reached_makes c.bounds.ensures.asked.reaches)
 
 pub returns-in-Ok-Err-clause-wrote : goal.returns-in-Ok-Err-clause-wrote
 returns-in-Ok-Err-clause-wrote g c = wrote_so (reached_makes c.bounds.ensures.asked.reaches)
@@ -46,62 +46,59 @@ pub returns-in-Ok-Err-clause-whole : goal.returns-in-Ok-Err-clause-whole
 returns-in-Ok-Err-clause-whole g c = λ volume m s runs there.
     let whole = whole_core c.args.core.now c.requires.size in
     let revealed = knows running_laws whole runs in
-    never_refused m c.args.space (kept c.bounds.new.core) c.bounds.new.core.filer.swapper.pool s c.in-Ok-Err.word there
+    never_refused m c.args.space (kept c.bounds.new.core) (state c.bounds.new.core).slots s c.in-Ok-Err.word there
     (asked_word m.spaces c.args.space c.in-Ok-Err.field-0 c.in-Ok-Err.word c.in-Ok-Err.field-0-is (c.in-Ok-Err.ensures.answer _ _ m.spaces revealed))
 
 pub returns-in-Ok-Err-clause-brought : goal.returns-in-Ok-Err-clause-brought
 returns-in-Ok-Err-clause-brought g c = λ volume m s runs there.
     let whole = whole_core c.args.core.now c.requires.size in
     let revealed = knows running_laws whole runs in
-    never_brought m c.args.space (kept c.bounds.new.core) c.bounds.new.core.filer.swapper.pool _ s c.in-Ok-Err.word there
+    never_brought m c.args.space (kept c.bounds.new.core) (state c.bounds.new.core).slots _ s c.in-Ok-Err.word there
     (asked_word m.spaces c.args.space c.in-Ok-Err.field-0 c.in-Ok-Err.word c.in-Ok-Err.field-0-is (c.in-Ok-Err.ensures.answer _ _ m.spaces revealed))
 
 -- ---- The tables could not be asked.
 
-pub returns-in-Err-clause-sound : goal.returns-in-Err-clause-sound
-returns-in-Err-clause-sound g c = λ volume m runs.
+pub returns-in-Err-clause-answers : goal.returns-in-Err-clause-answers
+returns-in-Err-clause-answers g c = λ volume m r.
     let whole = whole_core c.args.core.now c.requires.size in
-    c.in-Err.ensures.sound _ _ m.spaces (knows running_laws whole runs)
-
-pub returns-in-Err-clause-passes : goal.returns-in-Err-clause-passes
-returns-in-Err-clause-passes g c = λ volume m runs.
-    let whole = whole_core c.args.core.now c.requires.size in
-    still_reveals running_laws whole runs (state c.bounds.new.core) (g.met.D.Disk.in_form c.args.core.now.filer.swapper.disk) (call.Activate c.args.space) (reached_makes c.bounds.ensures.asked.reaches)
+    record {
+      carried = tt;
+      sound = (c.in-Err.ensures.sound _ _ m.spaces (knows running_laws whole r));
+      passes = (still_reveals running_laws whole r (state c.bounds.new.core) (g.met.D.Disk.in_form (disk_of c.args.core.now.filer)) (call.Activate c.args.space) (reached_makes c.bounds.ensures.asked.reaches));
+    }
 
 pub returns-in-Err-clause-wrote : goal.returns-in-Err-clause-wrote
 returns-in-Err-clause-wrote g c = wrote_so (reached_makes c.bounds.ensures.asked.reaches)
 
 -- ---- The units were brought in.
 
-pub returns-in-Ok-clause-carried : goal.returns-in-Ok-clause-carried
-returns-in-Ok-clause-carried g c = λ volume m runs.
+pub returns-in-Ok-clause-answers : goal.returns-in-Ok-clause-answers
+returns-in-Ok-clause-answers g c = λ volume m r.
     let whole = whole_core c.args.core.now c.requires.size in
-    let revealed = knows running_laws whole runs in
+    let revealed = knows running_laws whole r in
     let found = asked_range m.spaces c.args.space c.in-Ok-Ok.field-0 c.in-Ok-Ok.run' c.in-Ok-Ok.field-0-is (c.in-Ok-Ok.ensures.answer _ _ m.spaces revealed) in
     let e = c.activate.ensures in
-    let came = came_then (state c.args.core.now) (state c.bounds.new.core) (state c.activate.new.self) whole.layout (came_asked c.bounds.ensures.asked)
-    (record { reaches = e.reaches; brings = e.came; known = e.same; same_count = e.intervals }) in
-    record {
-      allowed = allowed_done m (call.Activate c.args.space) Done (activate_there m c.args.space found.0) refl;
-      runs = subst (λ (n : Machine). Runs c.activate.new.self volume n) (activate_stays m c.args.space) (still_runs running_laws whole runs came);
-    }
-
-pub returns-in-Ok-clause-passes : goal.returns-in-Ok-clause-passes
-returns-in-Ok-clause-passes g c = λ volume m runs.
-    let whole = whole_core c.args.core.now c.requires.size in
+    let came = came_then (state c.args.core.now) (state c.bounds.new.core) (state c.activate.new.self) whole.layout (came_asked c.bounds.ensures.asked) (record { reaches = e.reaches; brings = e.came; known = e.same; same_count = e.intervals }) in
     let reaches = reaches_then (state c.args.core.now) (state c.bounds.new.core) whole.layout c.bounds.ensures.asked.reaches (state c.activate.new.self) c.activate.ensures.reaches in
-    still_reveals running_laws whole runs (state c.activate.new.self) (g.met.D.Disk.in_form c.args.core.now.filer.swapper.disk) (call.Activate c.args.space) (reached_makes reaches)
+    record {
+      carried = (record {
+        allowed = allowed_done m (call.Activate c.args.space) Done (activate_there m c.args.space found.0) refl;
+        runs = subst (λ (n : Machine). Runs c.activate.new.self volume n) (activate_stays m c.args.space) (still_runs running_laws whole r came);
+      });
+      sound = tt;
+      passes = (still_reveals running_laws whole r (state c.activate.new.self) (g.met.D.Disk.in_form (disk_of c.args.core.now.filer)) (call.Activate c.args.space) (reached_makes reaches));
+    }
 
 pub returns-in-Ok-clause-wrote : goal.returns-in-Ok-clause-wrote
 returns-in-Ok-clause-wrote g c =
-    wrote_so (reached_makes (reaches_then (state c.args.core.now) (state c.bounds.new.core) c.args.core.now.filer.swapper.accepted c.bounds.ensures.asked.reaches (state c.activate.new.self) c.activate.ensures.reaches))
+    wrote_so (reached_makes (reaches_then (state c.args.core.now) (state c.bounds.new.core) (accepted c.args.core.now.filer) c.bounds.ensures.asked.reaches (state c.activate.new.self) c.activate.ensures.reaches))
 
 pub returns-in-Ok-clause-whole : goal.returns-in-Ok-clause-whole
 returns-in-Ok-clause-whole g c = λ volume m s runs there.
     let whole = whole_core c.args.core.now c.requires.size in
     let revealed = knows running_laws whole runs in
     let found = asked_range m.spaces c.args.space c.in-Ok-Ok.field-0 c.in-Ok-Ok.run' c.in-Ok-Ok.field-0-is (c.in-Ok-Ok.ensures.answer _ _ m.spaces revealed) in
-    range_active m.spaces (kept c.activate.new.self) c.activate.new.self.filer.swapper.pool c.args.space s c.in-Ok-Ok.run' there found.1
+    range_active m.spaces (kept c.activate.new.self) (state c.activate.new.self).slots c.args.space s c.in-Ok-Ok.run' there found.1
     (c.in-Ok.ensures.whole _ _ m.spaces (c.bounds.ensures.asked.same _ _ m.spaces revealed))
 
 pub returns-in-Ok-clause-brought : goal.returns-in-Ok-clause-brought
@@ -109,43 +106,42 @@ returns-in-Ok-clause-brought g c = λ volume m s runs there.
     let whole = whole_core c.args.core.now c.requires.size in
     let revealed = knows running_laws whole runs in
     let found = asked_range m.spaces c.args.space c.in-Ok-Ok.field-0 c.in-Ok-Ok.run' c.in-Ok-Ok.field-0-is (c.in-Ok-Ok.ensures.answer _ _ m.spaces revealed) in
-    range_brought m.spaces (kept c.activate.new.self) c.activate.new.self.filer.swapper.pool c.args.space s c.in-Ok-Ok.run' _ _ c.in-Ok._units c.bounds.ensures.asked.reaches.goes.makes.count there found.1
+    range_brought m.spaces (kept c.activate.new.self) (state c.activate.new.self).slots c.args.space s c.in-Ok-Ok.run' _ _ c.in-Ok._units c.bounds.ensures.asked.reaches.goes.makes.count there found.1
     (c.in-Ok.ensures.units _ _ m.spaces (c.bounds.ensures.asked.same _ _ m.spaces revealed))
 
 -- ---- A unit could not be brought in.
 
-pub returns-in-Err-activate-clause-sound : goal.returns-in-Err-activate-clause-sound
-returns-in-Err-activate-clause-sound g c = λ volume m runs.
-    let whole = whole_core c.args.core.now c.requires.size in
-    c.in-Err-activate.ensures.sound _ _ m.spaces (c.bounds.ensures.asked.same _ _ m.spaces (knows running_laws whole runs))
-
-pub returns-in-Err-activate-clause-passes : goal.returns-in-Err-activate-clause-passes
-returns-in-Err-activate-clause-passes g c = λ volume m runs.
+pub returns-in-Err-activate-clause-answers : goal.returns-in-Err-activate-clause-answers
+returns-in-Err-activate-clause-answers g c = λ volume m r.
     let whole = whole_core c.args.core.now c.requires.size in
     let reaches = reaches_then (state c.args.core.now) (state c.bounds.new.core) whole.layout c.bounds.ensures.asked.reaches (state c.activate.new.self) c.activate.ensures.reaches in
-    still_reveals running_laws whole runs (state c.activate.new.self) (g.met.D.Disk.in_form c.args.core.now.filer.swapper.disk) (call.Activate c.args.space) (reached_makes reaches)
+    record {
+      carried = tt;
+      sound = (c.in-Err-activate.ensures.sound _ _ m.spaces (c.bounds.ensures.asked.same _ _ m.spaces (knows running_laws whole r)));
+      passes = (still_reveals running_laws whole r (state c.activate.new.self) (g.met.D.Disk.in_form (disk_of c.args.core.now.filer)) (call.Activate c.args.space) (reached_makes reaches));
+    }
 
 pub returns-in-Err-activate-clause-wrote : goal.returns-in-Err-activate-clause-wrote
 returns-in-Err-activate-clause-wrote g c =
-    wrote_so (reached_makes (reaches_then (state c.args.core.now) (state c.bounds.new.core) c.args.core.now.filer.swapper.accepted c.bounds.ensures.asked.reaches (state c.activate.new.self) c.activate.ensures.reaches))
+    wrote_so (reached_makes (reaches_then (state c.args.core.now) (state c.bounds.new.core) (accepted c.args.core.now.filer) c.bounds.ensures.asked.reaches (state c.activate.new.self) c.activate.ensures.reaches))
 
 -- ---- Why it failed.
 
 pub returns-in-Err-clause-cause : goal.returns-in-Err-clause-cause
 returns-in-Err-clause-cause g c =
     let old = c.args.core.now in
-    let breaks = asked_halt (state old) (state c.bounds.new.core) old.filer.swapper.accepted c.args.space old.intervals c.in-Err.halt c.in-Err.ensures.cause in
+    let breaks = asked_halt (state old) (state c.bounds.new.core) (accepted old.filer) c.args.space old.intervals c.in-Err.halt c.in-Err.ensures.cause in
     touch_of_reach (BreaksRange (state old) old.intervals c.args.space) (state old) (state c.bounds.new.core) c.in-Err.halt breaks
 
 pub returns-in-Err-activate-clause-cause : goal.returns-in-Err-activate-clause-cause
 returns-in-Err-activate-clause-cause g c =
     let asked = c.bounds.ensures.asked in
-    within_touch (state c.args.core.now) (state c.bounds.new.core) c.args.core.now.filer.swapper.accepted c.args.space asked.reaches c.args.core.now.intervals c.bounds.new.core.intervals asked.intervals (state c.activate.new.self) c.in-Ok-Ok.run' (given_so (TablesSay (state c.args.core.now) (λ b. IsRunAt b c.args.space)) c.in-Ok-Ok.run' c.in-Ok-Ok.field-0 c.in-Ok-Ok.field-0-is c.in-Ok-Ok.ensures.read) c.in-Err-activate.halt c.in-Err-activate.ensures.cause
+    within_touch (state c.args.core.now) (state c.bounds.new.core) (accepted c.args.core.now.filer) c.args.space asked.reaches c.args.core.now.intervals c.bounds.new.core.intervals asked.intervals (state c.activate.new.self) c.in-Ok-Ok.run' (given_so (TablesSay (state c.args.core.now) (λ b. IsRunAt b c.args.space)) c.in-Ok-Ok.run' c.in-Ok-Ok.field-0 c.in-Ok-Ok.field-0-is c.in-Ok-Ok.ensures.read) c.in-Err-activate.halt c.in-Err-activate.ensures.cause
 
 pub returns-in-Err-clause-missing : goal.returns-in-Err-clause-missing
 returns-in-Err-clause-missing g c = λ ss s.
     let old = c.args.core.now in
-    let breaks = asked_halt (state old) (state c.bounds.new.core) old.filer.swapper.accepted c.args.space old.intervals c.in-Err.halt c.in-Err.ensures.cause in
+    let breaks = asked_halt (state old) (state c.bounds.new.core) (accepted old.filer) c.args.space old.intervals c.in-Err.halt c.in-Err.ensures.cause in
     reach_misses (BreaksRange (state old) old.intervals c.args.space) (state old) (state c.bounds.new.core) (space_units ss c.args.space) c.in-Err.halt breaks
 
 pub returns-in-Err-activate-clause-missing : goal.returns-in-Err-activate-clause-missing
@@ -154,10 +150,10 @@ returns-in-Err-activate-clause-missing g c = λ ss s.
     run_misses ss c.args.space c.in-Ok-Ok.run' found.1 c.in-Err-activate.halt (c.in-Err-activate.ensures.missing ss (c.bounds.ensures.sees ss s))
 
 pub returns-in-Err-clause-evidence_seen : goal.returns-in-Err-clause-evidence_seen
-returns-in-Err-clause-evidence_seen g c = shows_evidence _ (state c.args.core.now) (state c.bounds.new.core) (fits c.args.core.now.filer.swapper c.requires.size) c.bounds.ensures.asked.reaches.goes.makes c.in-Err.halt c.in-Err.ensures.cause
+returns-in-Err-clause-evidence_seen g c = shows_evidence _ (state c.args.core.now) (state c.bounds.new.core) (fits (swapper_of c.args.core.now.filer) c.requires.size) c.bounds.ensures.asked.reaches.goes.makes c.in-Err.halt c.in-Err.ensures.cause
 
 pub returns-in-Err-activate-clause-evidence_seen : goal.returns-in-Err-activate-clause-evidence_seen
-returns-in-Err-activate-clause-evidence_seen g c = touch_so _ (state c.bounds.new.core) (state c.activate.new.self) (fits c.bounds.new.core.filer.swapper (search rules)) c.activate.ensures.reaches.goes.makes c.in-Err-activate.halt c.in-Err-activate.ensures.cause
+returns-in-Err-activate-clause-evidence_seen g c = touch_so _ (state c.bounds.new.core) (state c.activate.new.self) (fits (swapper_of c.bounds.new.core.filer) (search rules)) c.activate.ensures.reaches.goes.makes c.in-Err-activate.halt c.in-Err-activate.ensures.cause
 
 -- ---- No label was written.
 
@@ -168,10 +164,10 @@ pub returns-in-Err-clause-moves : goal.returns-in-Err-clause-moves
 returns-in-Err-clause-moves g c = moves_of_reaches (state c.args.core.now) (state c.bounds.new.core) c.bounds.ensures.asked.reaches
 
 pub returns-in-Ok-clause-moves : goal.returns-in-Ok-clause-moves
-returns-in-Ok-clause-moves g c = moves_twice (state c.args.core.now) (state c.bounds.new.core) (state c.activate.new.self) c.args.core.now.filer.swapper.accepted c.bounds.ensures.asked.reaches c.activate.ensures.reaches
+returns-in-Ok-clause-moves g c = moves_twice (state c.args.core.now) (state c.bounds.new.core) (state c.activate.new.self) (accepted c.args.core.now.filer) c.bounds.ensures.asked.reaches c.activate.ensures.reaches
 
 pub returns-in-Err-activate-clause-moves : goal.returns-in-Err-activate-clause-moves
-returns-in-Err-activate-clause-moves g c = moves_twice (state c.args.core.now) (state c.bounds.new.core) (state c.activate.new.self) c.args.core.now.filer.swapper.accepted c.bounds.ensures.asked.reaches c.activate.ensures.reaches
+returns-in-Err-activate-clause-moves g c = moves_twice (state c.args.core.now) (state c.bounds.new.core) (state c.activate.new.self) (accepted c.args.core.now.filer) c.bounds.ensures.asked.reaches c.activate.ensures.reaches
 
 -- ---- The tables are revealed.
 

@@ -13,28 +13,29 @@ use Rattle.space_calls.specs.Sees.{IsShown, SeesFiles}
 use Rattle.space_calls.proofs.OnLemmas.{window_given_on}
 use Rattle.space_calls.proofs.SeesLemmas.{are_seen, set_so}
 use Rattle.space_calls.proofs.mapping.give_window.Goals as goal
+use Rattle.filer_kernel.specs.View.{accepted, disk_of, swapper_of}
 
 pub returns-in-Err-clause-sound : goal.returns-in-Err-clause-sound
 returns-in-Err-clause-sound g c = λ volume m x r may named bare fits.
-    c.in-Err.ensures.sound _ _ m.spaces x (knows c.args.core.now c.args.core.now.filer.swapper.accepted c.requires.size volume m r) may named fits
+    c.in-Err.ensures.sound _ _ m.spaces x (knows c.args.core.now (accepted c.args.core.now.filer) c.requires.size volume m r) may named fits
 
 pub returns-in-Ok-answer-clause-given : goal.returns-in-Ok-answer-clause-given
 returns-in-Ok-answer-clause-given g c = λ volume m x r may named bare fits is.
     let old = c.args.core.now in
-    let known = knows old old.filer.swapper.accepted c.requires.size volume m r in
-    window_given old c.set_window.new.core c.frame_count-frames.new.core old.filer.swapper.accepted c.requires.size (g.met.D.Disk.in_form c.set_window.new.core.filer.swapper.disk)
+    let known = knows old (accepted old.filer) c.requires.size volume m r in
+    window_given old c.set_window.new.core c.frame_count-frames.new.core (accepted old.filer) c.requires.size (g.met.D.Disk.in_form (disk_of c.set_window.new.core.filer))
     c.frame_count-frames.ensures.pages c.frame_count-frames.ensures.same c.set_window.ensures.retabled volume m r c.args.space x may named bare c.args.shown is c.in-Ok.answer c.in-Ok-answer.is
     (c.in-Ok.ensures.done _ _ m.spaces x known may named fits)
 
 pub returns-in-Err-answer-clause-given : goal.returns-in-Err-answer-clause-given
 returns-in-Err-answer-clause-given g c = λ volume m x r may named bare fits is.
-    let known = knows c.args.core.now c.args.core.now.filer.swapper.accepted c.requires.size volume m r in
+    let known = knows c.args.core.now (accepted c.args.core.now.filer) c.requires.size volume m r in
     absurd (not_refused _ c.in-Ok.answer c.in-Err-answer.word c.in-Err-answer.is (c.in-Ok.ensures.done _ _ m.spaces x known may named fits))
 
 -- ---- What its evidence says is so.
 
 pub returns-in-Err-clause-evidence_seen : goal.returns-in-Err-clause-evidence_seen
-returns-in-Err-clause-evidence_seen g c = shows_evidence _ (state c.args.core.now) (state c.set_window.new.core) (fits c.args.core.now.filer.swapper c.requires.size) c.set_window.ensures.retabled.beside.goes.makes c.in-Err.halt c.in-Err.ensures.cause
+returns-in-Err-clause-evidence_seen g c = shows_evidence _ (state c.args.core.now) (state c.set_window.new.core) (fits (swapper_of c.args.core.now.filer) c.requires.size) c.set_window.ensures.retabled.beside.goes.makes c.in-Err.halt c.in-Err.ensures.cause
 
 -- ---- No label was written.
 

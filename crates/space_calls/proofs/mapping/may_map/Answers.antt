@@ -18,41 +18,34 @@ use Rattle.file_map.specs.FileMap.{IsSize}
 use Rattle.space_calls.proofs.SizeLemmas.{found_later, reaches_over}
 use Rattle.space_calls.proofs.mapping.may_map.Goals as goal
 use Rattle.space_calls.proofs.mapping.may_map.Goals.{else-writable-via-then-writable+else-found, else-writable-via-else-writable}
+use Rattle.filer_kernel.specs.View.{accepted, swapper_of}
+use Rattle.space_calls.proofs.LookLemmas.{looks_asked, looks_asked_then, looks_then}
 
 -- ---- The space.
 
 pub returns-in-Ok-Err-clause-answer : goal.returns-in-Ok-Err-clause-answer
 returns-in-Ok-Err-clause-answer g c = λ volume m r.
     let old = c.args.core.now in
-    (space_missing m c.args.space c.args.id c.args.page c.args.writable c.in-Ok-Err.word (bounds_refused m.spaces c.args.space c.in-Ok-Err.field-0 c.in-Ok-Err.word c.in-Ok-Err.field-0-is (c.in-Ok-Err.ensures.answer _ _ m.spaces (knows old old.filer.swapper.accepted c.requires.size volume m r))), tt)
+    (space_missing m c.args.space c.args.id c.args.page c.args.writable c.in-Ok-Err.word (bounds_refused m.spaces c.args.space c.in-Ok-Err.field-0 c.in-Ok-Err.word c.in-Ok-Err.field-0-is (c.in-Ok-Err.ensures.answer _ _ m.spaces (knows old (accepted old.filer) c.requires.size volume m r))), tt)
 
-pub returns-in-Ok-Err-clause-runs : goal.returns-in-Ok-Err-clause-runs
-returns-in-Ok-Err-clause-runs g c = λ volume m r.
-    let old = c.args.core.now in
-    let r1 = asked_runs old old.filer.swapper.accepted c.requires.size c.bounds.new.core volume m c.bounds.ensures.asked r in
-    r1
+pub returns-in-Ok-Err-clause-looks : goal.returns-in-Ok-Err-clause-looks
+returns-in-Ok-Err-clause-looks g c = looks_asked c.requires.size c.bounds.ensures.asked c.bounds.ensures.sees
 
-pub returns-in-Err-clause-runs : goal.returns-in-Err-clause-runs
-returns-in-Err-clause-runs g c = λ volume m r.
-    let old = c.args.core.now in
-    let r1 = asked_runs old old.filer.swapper.accepted c.requires.size c.bounds.new.core volume m c.bounds.ensures.asked r in
-    r1
+pub returns-in-Err-clause-looks : goal.returns-in-Err-clause-looks
+returns-in-Err-clause-looks g c = looks_asked c.requires.size c.bounds.ensures.asked c.bounds.ensures.sees
 
-pub returns-then-space-eq0-clause-runs : goal.returns-then-space-eq0-clause-runs
-returns-then-space-eq0-clause-runs g c = λ volume m r.
-    let old = c.args.core.now in
-    let r1 = asked_runs old old.filer.swapper.accepted c.requires.size c.bounds.new.core volume m c.bounds.ensures.asked r in
-    r1
+pub returns-then-space-eq0-clause-looks : goal.returns-then-space-eq0-clause-looks
+returns-then-space-eq0-clause-looks g c = looks_asked c.requires.size c.bounds.ensures.asked c.bounds.ensures.sees
 
 pub returns-in-Err-clause-sound : goal.returns-in-Err-clause-sound
 returns-in-Err-clause-sound g c = λ volume m r.
     let old = c.args.core.now in
-    c.in-Err.ensures.sound _ _ m.spaces (knows old old.filer.swapper.accepted c.requires.size volume m r)
+    c.in-Err.ensures.sound _ _ m.spaces (knows old (accepted old.filer) c.requires.size volume m r)
 
 pub returns-then-space-eq0-clause-answer : goal.returns-then-space-eq0-clause-answer
 returns-then-space-eq0-clause-answer g c = λ volume m r.
     let old = c.args.core.now in
-    let there = (bounds_revealed m.spaces c.args.space c.in-Ok-Ok.field-0 c.in-Ok-Ok.field-0-0 c.in-Ok-Ok.field-0-is (c.in-Ok-Ok.ensures.answer _ _ m.spaces (knows old old.filer.swapper.accepted c.requires.size volume m r))).0 in
+    let there = (bounds_revealed m.spaces c.args.space c.in-Ok-Ok.field-0 c.in-Ok-Ok.field-0-0 c.in-Ok-Ok.field-0-is (c.in-Ok-Ok.ensures.answer _ _ m.spaces (knows old (accepted old.filer) c.requires.size volume m r))).0 in
     (root_given m c.args.space c.args.id c.args.page c.args.writable there c.if-space-eq0.true, tt)
 
 -- ---- The file.
@@ -60,35 +53,21 @@ returns-then-space-eq0-clause-answer g c = λ volume m r.
 pub returns-in-Ok-None-clause-answer : goal.returns-in-Ok-None-clause-answer
 returns-in-Ok-None-clause-answer g c = λ volume m r.
     let old = c.args.core.now in
-    let r1 = asked_runs old old.filer.swapper.accepted c.requires.size c.bounds.new.core volume m c.bounds.ensures.asked r in
-    let there = (bounds_revealed m.spaces c.args.space c.in-Ok-Ok.field-0 c.in-Ok-Ok.field-0-0 c.in-Ok-Ok.field-0-is (c.in-Ok-Ok.ensures.answer _ _ m.spaces (knows old old.filer.swapper.accepted c.requires.size volume m r))).0 in
+    let r1 = asked_runs old (accepted old.filer) c.requires.size c.bounds.new.core volume m c.bounds.ensures.asked r in
+    let there = (bounds_revealed m.spaces c.args.space c.in-Ok-Ok.field-0 c.in-Ok-Ok.field-0-0 c.in-Ok-Ok.field-0-is (c.in-Ok-Ok.ensures.answer _ _ m.spaces (knows old (accepted old.filer) c.requires.size volume m r))).0 in
     let revealed = subst (λ (o : Option Attributes). IsNameable (nameable m c.args.id) o) c.in-Ok-None.field-0-is (c.in-Ok-None.ensures.answer volume m r1) in
     (no_such_file m c.args.space c.args.id c.args.page c.args.writable there c.if-space-eq0.false revealed, tt)
 
-pub returns-in-Ok-None-clause-runs : goal.returns-in-Ok-None-clause-runs
-returns-in-Ok-None-clause-runs g c = λ volume m r.
-    let old = c.args.core.now in
-    let r1 = asked_runs old old.filer.swapper.accepted c.requires.size c.bounds.new.core volume m c.bounds.ensures.asked r in
-    let r2 = c.named_file.ensures.runs volume m r1 in
-    r2
+pub returns-in-Ok-None-clause-looks : goal.returns-in-Ok-None-clause-looks
+returns-in-Ok-None-clause-looks g c = looks_then (looks_asked c.requires.size c.bounds.ensures.asked c.bounds.ensures.sees) c.named_file.ensures.looks
 
-pub returns-in-Ok-None-clause-makes : goal.returns-in-Ok-None-clause-makes
-returns-in-Ok-None-clause-makes g c = makes_then (asked_makes _ _ c.bounds.ensures.asked) c.named_file.ensures.makes
-
-pub returns-in-Err-named_file-clause-runs : goal.returns-in-Err-named_file-clause-runs
-returns-in-Err-named_file-clause-runs g c = λ volume m r.
-    let old = c.args.core.now in
-    let r1 = asked_runs old old.filer.swapper.accepted c.requires.size c.bounds.new.core volume m c.bounds.ensures.asked r in
-    let r2 = c.named_file.ensures.runs volume m r1 in
-    r2
-
-pub returns-in-Err-named_file-clause-makes : goal.returns-in-Err-named_file-clause-makes
-returns-in-Err-named_file-clause-makes g c = makes_then (asked_makes _ _ c.bounds.ensures.asked) c.named_file.ensures.makes
+pub returns-in-Err-named_file-clause-looks : goal.returns-in-Err-named_file-clause-looks
+returns-in-Err-named_file-clause-looks g c = looks_then (looks_asked c.requires.size c.bounds.ensures.asked c.bounds.ensures.sees) c.named_file.ensures.looks
 
 pub returns-in-Err-named_file-clause-sound : goal.returns-in-Err-named_file-clause-sound
 returns-in-Err-named_file-clause-sound g c = λ volume m r.
     let old = c.args.core.now in
-    let r1 = asked_runs old old.filer.swapper.accepted c.requires.size c.bounds.new.core volume m c.bounds.ensures.asked r in
+    let r1 = asked_runs old (accepted old.filer) c.requires.size c.bounds.new.core volume m c.bounds.ensures.asked r in
     c.in-Err-named_file.ensures.sound volume m r1
 
 -- ---- The path.
@@ -96,104 +75,54 @@ returns-in-Err-named_file-clause-sound g c = λ volume m r.
 pub returns-in-Ok-Err-can_map-clause-answer : goal.returns-in-Ok-Err-can_map-clause-answer
 returns-in-Ok-Err-can_map-clause-answer g c = λ volume m r.
     let old = c.args.core.now in
-    let r1 = asked_runs old old.filer.swapper.accepted c.requires.size c.bounds.new.core volume m c.bounds.ensures.asked r in
-    let r2 = c.named_file.ensures.runs volume m r1 in
+    let r1 = asked_runs old (accepted old.filer) c.requires.size c.bounds.new.core volume m c.bounds.ensures.asked r in
+    let r2 = c.named_file.ensures.looks.runs volume m r1 in
     let size1 = size_kept old c.bounds.new.core (asked_makes old c.bounds.new.core c.bounds.ensures.asked) c.bounds.ensures.asked.reaches.layout c.requires.size in
-    let size2 = size_kept c.bounds.new.core c.named_file.new.core c.named_file.ensures.makes c.named_file.ensures.layout size1 in
+    let size2 = size_kept c.bounds.new.core c.named_file.new.core c.named_file.ensures.looks.makes c.named_file.ensures.looks.layout size1 in
     let named = c.named_file.new.core in
-    let there = (bounds_revealed m.spaces c.args.space c.in-Ok-Ok.field-0 c.in-Ok-Ok.field-0-0 c.in-Ok-Ok.field-0-is (c.in-Ok-Ok.ensures.answer _ _ m.spaces (knows old old.filer.swapper.accepted c.requires.size volume m r))).0 in
+    let there = (bounds_revealed m.spaces c.args.space c.in-Ok-Ok.field-0 c.in-Ok-Ok.field-0-0 c.in-Ok-Ok.field-0-is (c.in-Ok-Ok.ensures.answer _ _ m.spaces (knows old (accepted old.filer) c.requires.size volume m r))).0 in
     let revealed = subst (λ (o : Option Attributes). IsNameable (nameable m c.args.id) o) c.in-Ok-Some.field-0-is (c.in-Ok-Some.ensures.answer volume m r1) in
-    let taken = map_refused m.spaces c.args.space c.in-Ok-Err-can_map.field-0 c.in-Ok-Err-can_map.word c.in-Ok-Err-can_map.field-0-is (c.in-Ok-Err-can_map.ensures.answer _ _ m.spaces (knows named named.filer.swapper.accepted size2 volume m r2)) in
+    let taken = map_refused m.spaces c.args.space c.in-Ok-Err-can_map.field-0 c.in-Ok-Err-can_map.word c.in-Ok-Err-can_map.field-0-is (c.in-Ok-Err-can_map.ensures.answer _ _ m.spaces (knows named (accepted named.filer) size2 volume m r2)) in
     (path_taken m c.args.space c.args.id c.args.page c.args.writable there c.if-space-eq0.false c.in-Ok-Some.found revealed c.in-Ok-Err-can_map.word taken, tt)
 
 pub returns-in-Err-can_map-clause-sound : goal.returns-in-Err-can_map-clause-sound
 returns-in-Err-can_map-clause-sound g c = λ volume m r.
     let old = c.args.core.now in
-    let r1 = asked_runs old old.filer.swapper.accepted c.requires.size c.bounds.new.core volume m c.bounds.ensures.asked r in
-    let r2 = c.named_file.ensures.runs volume m r1 in
+    let r1 = asked_runs old (accepted old.filer) c.requires.size c.bounds.new.core volume m c.bounds.ensures.asked r in
+    let r2 = c.named_file.ensures.looks.runs volume m r1 in
     let size1 = size_kept old c.bounds.new.core (asked_makes old c.bounds.new.core c.bounds.ensures.asked) c.bounds.ensures.asked.reaches.layout c.requires.size in
-    let size2 = size_kept c.bounds.new.core c.named_file.new.core c.named_file.ensures.makes c.named_file.ensures.layout size1 in
+    let size2 = size_kept c.bounds.new.core c.named_file.new.core c.named_file.ensures.looks.makes c.named_file.ensures.looks.layout size1 in
     let named = c.named_file.new.core in
-    c.in-Err-can_map.ensures.sound _ _ m.spaces (knows named named.filer.swapper.accepted size2 volume m r2)
+    c.in-Err-can_map.ensures.sound _ _ m.spaces (knows named (accepted named.filer) size2 volume m r2)
 
-pub returns-in-Ok-Err-can_map-clause-runs : goal.returns-in-Ok-Err-can_map-clause-runs
-returns-in-Ok-Err-can_map-clause-runs g c = λ volume m r.
-    let old = c.args.core.now in
-    let r1 = asked_runs old old.filer.swapper.accepted c.requires.size c.bounds.new.core volume m c.bounds.ensures.asked r in
-    let r2 = c.named_file.ensures.runs volume m r1 in
-    let size1 = size_kept old c.bounds.new.core (asked_makes old c.bounds.new.core c.bounds.ensures.asked) c.bounds.ensures.asked.reaches.layout c.requires.size in
-    let size2 = size_kept c.bounds.new.core c.named_file.new.core c.named_file.ensures.makes c.named_file.ensures.layout size1 in
-    let named = c.named_file.new.core in
-    asked_runs named named.filer.swapper.accepted size2 c.can_map.new.core volume m c.can_map.ensures.asked r2
+pub returns-in-Ok-Err-can_map-clause-looks : goal.returns-in-Ok-Err-can_map-clause-looks
+returns-in-Ok-Err-can_map-clause-looks g c = looks_asked_then c.requires.size (looks_then (looks_asked c.requires.size c.bounds.ensures.asked c.bounds.ensures.sees) c.named_file.ensures.looks) c.can_map.ensures.asked c.can_map.ensures.sees
 
-pub returns-in-Ok-Err-can_map-clause-makes : goal.returns-in-Ok-Err-can_map-clause-makes
-returns-in-Ok-Err-can_map-clause-makes g c = makes_then (makes_then (asked_makes _ _ c.bounds.ensures.asked) c.named_file.ensures.makes) (asked_makes _ _ c.can_map.ensures.asked)
+pub returns-in-Err-can_map-clause-looks : goal.returns-in-Err-can_map-clause-looks
+returns-in-Err-can_map-clause-looks g c = looks_asked_then c.requires.size (looks_then (looks_asked c.requires.size c.bounds.ensures.asked c.bounds.ensures.sees) c.named_file.ensures.looks) c.can_map.ensures.asked c.can_map.ensures.sees
 
-pub returns-in-Err-can_map-clause-runs : goal.returns-in-Err-can_map-clause-runs
-returns-in-Err-can_map-clause-runs g c = λ volume m r.
-    let old = c.args.core.now in
-    let r1 = asked_runs old old.filer.swapper.accepted c.requires.size c.bounds.new.core volume m c.bounds.ensures.asked r in
-    let r2 = c.named_file.ensures.runs volume m r1 in
-    let size1 = size_kept old c.bounds.new.core (asked_makes old c.bounds.new.core c.bounds.ensures.asked) c.bounds.ensures.asked.reaches.layout c.requires.size in
-    let size2 = size_kept c.bounds.new.core c.named_file.new.core c.named_file.ensures.makes c.named_file.ensures.layout size1 in
-    let named = c.named_file.new.core in
-    asked_runs named named.filer.swapper.accepted size2 c.can_map.new.core volume m c.can_map.ensures.asked r2
+pub returns-then-from-clause-looks : goal.returns-then-from-clause-looks
+returns-then-from-clause-looks g c = looks_asked_then c.requires.size (looks_then (looks_asked c.requires.size c.bounds.ensures.asked c.bounds.ensures.sees) c.named_file.ensures.looks) c.can_map.ensures.asked c.can_map.ensures.sees
 
-pub returns-in-Err-can_map-clause-makes : goal.returns-in-Err-can_map-clause-makes
-returns-in-Err-can_map-clause-makes g c = makes_then (makes_then (asked_makes _ _ c.bounds.ensures.asked) c.named_file.ensures.makes) (asked_makes _ _ c.can_map.ensures.asked)
+pub returns-then-found-clause-looks : goal.returns-then-found-clause-looks
+returns-then-found-clause-looks g c = looks_asked_then c.requires.size (looks_then (looks_asked c.requires.size c.bounds.ensures.asked c.bounds.ensures.sees) c.named_file.ensures.looks) c.can_map.ensures.asked c.can_map.ensures.sees
 
-pub returns-then-from-clause-runs : goal.returns-then-from-clause-runs
-returns-then-from-clause-runs g c = λ volume m r.
-    let old = c.args.core.now in
-    let r1 = asked_runs old old.filer.swapper.accepted c.requires.size c.bounds.new.core volume m c.bounds.ensures.asked r in
-    let r2 = c.named_file.ensures.runs volume m r1 in
-    let size1 = size_kept old c.bounds.new.core (asked_makes old c.bounds.new.core c.bounds.ensures.asked) c.bounds.ensures.asked.reaches.layout c.requires.size in
-    let size2 = size_kept c.bounds.new.core c.named_file.new.core c.named_file.ensures.makes c.named_file.ensures.layout size1 in
-    let named = c.named_file.new.core in
-    asked_runs named named.filer.swapper.accepted size2 c.can_map.new.core volume m c.can_map.ensures.asked r2
-
-pub returns-then-from-clause-makes : goal.returns-then-from-clause-makes
-returns-then-from-clause-makes g c = makes_then (makes_then (asked_makes _ _ c.bounds.ensures.asked) c.named_file.ensures.makes) (asked_makes _ _ c.can_map.ensures.asked)
-
-pub returns-then-found-clause-runs : goal.returns-then-found-clause-runs
-returns-then-found-clause-runs g c = λ volume m r.
-    let old = c.args.core.now in
-    let r1 = asked_runs old old.filer.swapper.accepted c.requires.size c.bounds.new.core volume m c.bounds.ensures.asked r in
-    let r2 = c.named_file.ensures.runs volume m r1 in
-    let size1 = size_kept old c.bounds.new.core (asked_makes old c.bounds.new.core c.bounds.ensures.asked) c.bounds.ensures.asked.reaches.layout c.requires.size in
-    let size2 = size_kept c.bounds.new.core c.named_file.new.core c.named_file.ensures.makes c.named_file.ensures.layout size1 in
-    let named = c.named_file.new.core in
-    asked_runs named named.filer.swapper.accepted size2 c.can_map.new.core volume m c.can_map.ensures.asked r2
-
-pub returns-then-found-clause-makes : goal.returns-then-found-clause-makes
-returns-then-found-clause-makes g c = makes_then (makes_then (asked_makes _ _ c.bounds.ensures.asked) c.named_file.ensures.makes) (asked_makes _ _ c.can_map.ensures.asked)
-
-pub returns-clause-runs : goal.returns-clause-runs
-returns-clause-runs g c = λ volume m r.
-    let old = c.args.core.now in
-    let r1 = asked_runs old old.filer.swapper.accepted c.requires.size c.bounds.new.core volume m c.bounds.ensures.asked r in
-    let r2 = c.named_file.ensures.runs volume m r1 in
-    let size1 = size_kept old c.bounds.new.core (asked_makes old c.bounds.new.core c.bounds.ensures.asked) c.bounds.ensures.asked.reaches.layout c.requires.size in
-    let size2 = size_kept c.bounds.new.core c.named_file.new.core c.named_file.ensures.makes c.named_file.ensures.layout size1 in
-    let named = c.named_file.new.core in
-    asked_runs named named.filer.swapper.accepted size2 c.can_map.new.core volume m c.can_map.ensures.asked r2
-
-pub returns-clause-makes : goal.returns-clause-makes
-returns-clause-makes g c = makes_then (makes_then (asked_makes _ _ c.bounds.ensures.asked) c.named_file.ensures.makes) (asked_makes _ _ c.can_map.ensures.asked)
+pub returns-clause-looks : goal.returns-clause-looks
+returns-clause-looks g c = looks_asked_then c.requires.size (looks_then (looks_asked c.requires.size c.bounds.ensures.asked c.bounds.ensures.sees) c.named_file.ensures.looks) c.can_map.ensures.asked c.can_map.ensures.sees
 
 -- ---- The window.
 
 pub returns-then-from-clause-answer : goal.returns-then-from-clause-answer
 returns-then-from-clause-answer g c = λ volume m r.
     let old = c.args.core.now in
-    let r1 = asked_runs old old.filer.swapper.accepted c.requires.size c.bounds.new.core volume m c.bounds.ensures.asked r in
-    let r2 = c.named_file.ensures.runs volume m r1 in
+    let r1 = asked_runs old (accepted old.filer) c.requires.size c.bounds.new.core volume m c.bounds.ensures.asked r in
+    let r2 = c.named_file.ensures.looks.runs volume m r1 in
     let size1 = size_kept old c.bounds.new.core (asked_makes old c.bounds.new.core c.bounds.ensures.asked) c.bounds.ensures.asked.reaches.layout c.requires.size in
-    let size2 = size_kept c.bounds.new.core c.named_file.new.core c.named_file.ensures.makes c.named_file.ensures.layout size1 in
+    let size2 = size_kept c.bounds.new.core c.named_file.new.core c.named_file.ensures.looks.makes c.named_file.ensures.looks.layout size1 in
     let named = c.named_file.new.core in
-    let there = (bounds_revealed m.spaces c.args.space c.in-Ok-Ok.field-0 c.in-Ok-Ok.field-0-0 c.in-Ok-Ok.field-0-is (c.in-Ok-Ok.ensures.answer _ _ m.spaces (knows old old.filer.swapper.accepted c.requires.size volume m r))).0 in
+    let there = (bounds_revealed m.spaces c.args.space c.in-Ok-Ok.field-0 c.in-Ok-Ok.field-0-0 c.in-Ok-Ok.field-0-is (c.in-Ok-Ok.ensures.answer _ _ m.spaces (knows old (accepted old.filer) c.requires.size volume m r))).0 in
     let revealed = subst (λ (o : Option Attributes). IsNameable (nameable m c.args.id) o) c.in-Ok-Some.field-0-is (c.in-Ok-Some.ensures.answer volume m r1) in
-    let free = map_revealed m.spaces c.args.space c.in-Ok-Ok-can_map.field-0 c.in-Ok-Ok-can_map.run' c.in-Ok-Ok-can_map.field-0-is (c.in-Ok-Ok-can_map.ensures.answer _ _ m.spaces (knows named named.filer.swapper.accepted size2 volume m r2)) in
+    let free = map_revealed m.spaces c.args.space c.in-Ok-Ok-can_map.field-0 c.in-Ok-Ok-can_map.run' c.in-Ok-Ok-can_map.field-0-is (c.in-Ok-Ok-can_map.ensures.answer _ _ m.spaces (knows named (accepted named.filer) size2 volume m r2)) in
     let s : Space = free.1.0 in
     let long : c.in-Ok-Ok-can_map.run'.1 ≡ s.pages = ap (λ (run : ℕ × ℕ). run.1) free.1.2 in
     let first = c.from.ensures in
@@ -207,14 +136,14 @@ returns-then-from-clause-answer g c = λ volume m r.
 pub returns-then-found-clause-answer : goal.returns-then-found-clause-answer
 returns-then-found-clause-answer g c = λ volume m r.
     let old = c.args.core.now in
-    let r1 = asked_runs old old.filer.swapper.accepted c.requires.size c.bounds.new.core volume m c.bounds.ensures.asked r in
-    let r2 = c.named_file.ensures.runs volume m r1 in
+    let r1 = asked_runs old (accepted old.filer) c.requires.size c.bounds.new.core volume m c.bounds.ensures.asked r in
+    let r2 = c.named_file.ensures.looks.runs volume m r1 in
     let size1 = size_kept old c.bounds.new.core (asked_makes old c.bounds.new.core c.bounds.ensures.asked) c.bounds.ensures.asked.reaches.layout c.requires.size in
-    let size2 = size_kept c.bounds.new.core c.named_file.new.core c.named_file.ensures.makes c.named_file.ensures.layout size1 in
+    let size2 = size_kept c.bounds.new.core c.named_file.new.core c.named_file.ensures.looks.makes c.named_file.ensures.looks.layout size1 in
     let named = c.named_file.new.core in
-    let there = (bounds_revealed m.spaces c.args.space c.in-Ok-Ok.field-0 c.in-Ok-Ok.field-0-0 c.in-Ok-Ok.field-0-is (c.in-Ok-Ok.ensures.answer _ _ m.spaces (knows old old.filer.swapper.accepted c.requires.size volume m r))).0 in
+    let there = (bounds_revealed m.spaces c.args.space c.in-Ok-Ok.field-0 c.in-Ok-Ok.field-0-0 c.in-Ok-Ok.field-0-is (c.in-Ok-Ok.ensures.answer _ _ m.spaces (knows old (accepted old.filer) c.requires.size volume m r))).0 in
     let revealed = subst (λ (o : Option Attributes). IsNameable (nameable m c.args.id) o) c.in-Ok-Some.field-0-is (c.in-Ok-Some.ensures.answer volume m r1) in
-    let free = map_revealed m.spaces c.args.space c.in-Ok-Ok-can_map.field-0 c.in-Ok-Ok-can_map.run' c.in-Ok-Ok-can_map.field-0-is (c.in-Ok-Ok-can_map.ensures.answer _ _ m.spaces (knows named named.filer.swapper.accepted size2 volume m r2)) in
+    let free = map_revealed m.spaces c.args.space c.in-Ok-Ok-can_map.field-0 c.in-Ok-Ok-can_map.run' c.in-Ok-Ok-can_map.field-0-is (c.in-Ok-Ok-can_map.ensures.answer _ _ m.spaces (knows named (accepted named.filer) size2 volume m r2)) in
     let s : Space = free.1.0 in
     let long : c.in-Ok-Ok-can_map.run'.1 ≡ s.pages = ap (λ (run : ℕ × ℕ). run.1) free.1.2 in
     let first = c.from.ensures in
@@ -228,14 +157,14 @@ returns-then-found-clause-answer g c = λ volume m r.
 pub returns-clause-answer : goal.returns-clause-answer
 returns-clause-answer g c = λ volume m r.
     let old = c.args.core.now in
-    let r1 = asked_runs old old.filer.swapper.accepted c.requires.size c.bounds.new.core volume m c.bounds.ensures.asked r in
-    let r2 = c.named_file.ensures.runs volume m r1 in
+    let r1 = asked_runs old (accepted old.filer) c.requires.size c.bounds.new.core volume m c.bounds.ensures.asked r in
+    let r2 = c.named_file.ensures.looks.runs volume m r1 in
     let size1 = size_kept old c.bounds.new.core (asked_makes old c.bounds.new.core c.bounds.ensures.asked) c.bounds.ensures.asked.reaches.layout c.requires.size in
-    let size2 = size_kept c.bounds.new.core c.named_file.new.core c.named_file.ensures.makes c.named_file.ensures.layout size1 in
+    let size2 = size_kept c.bounds.new.core c.named_file.new.core c.named_file.ensures.looks.makes c.named_file.ensures.looks.layout size1 in
     let named = c.named_file.new.core in
-    let there = (bounds_revealed m.spaces c.args.space c.in-Ok-Ok.field-0 c.in-Ok-Ok.field-0-0 c.in-Ok-Ok.field-0-is (c.in-Ok-Ok.ensures.answer _ _ m.spaces (knows old old.filer.swapper.accepted c.requires.size volume m r))).0 in
+    let there = (bounds_revealed m.spaces c.args.space c.in-Ok-Ok.field-0 c.in-Ok-Ok.field-0-0 c.in-Ok-Ok.field-0-is (c.in-Ok-Ok.ensures.answer _ _ m.spaces (knows old (accepted old.filer) c.requires.size volume m r))).0 in
     let revealed = subst (λ (o : Option Attributes). IsNameable (nameable m c.args.id) o) c.in-Ok-Some.field-0-is (c.in-Ok-Some.ensures.answer volume m r1) in
-    let free = map_revealed m.spaces c.args.space c.in-Ok-Ok-can_map.field-0 c.in-Ok-Ok-can_map.run' c.in-Ok-Ok-can_map.field-0-is (c.in-Ok-Ok-can_map.ensures.answer _ _ m.spaces (knows named named.filer.swapper.accepted size2 volume m r2)) in
+    let free = map_revealed m.spaces c.args.space c.in-Ok-Ok-can_map.field-0 c.in-Ok-Ok-can_map.run' c.in-Ok-Ok-can_map.field-0-is (c.in-Ok-Ok-can_map.ensures.answer _ _ m.spaces (knows named (accepted named.filer) size2 volume m r2)) in
     let s : Space = free.1.0 in
     let long : c.in-Ok-Ok-can_map.run'.1 ≡ s.pages = ap (λ (run : ℕ × ℕ). run.1) free.1.2 in
     let first = c.from.ensures in
@@ -251,10 +180,10 @@ returns-clause-answer g c = λ volume m r.
 -- ---- What its evidence says is so.
 
 pub returns-in-Err-clause-evidence_seen : goal.returns-in-Err-clause-evidence_seen
-returns-in-Err-clause-evidence_seen g c = shows_evidence _ (state c.args.core.now) (state c.bounds.new.core) (fits c.args.core.now.filer.swapper c.requires.size) c.bounds.ensures.asked.reaches.goes.makes c.in-Err.halt c.in-Err.ensures.cause
+returns-in-Err-clause-evidence_seen g c = shows_evidence _ (state c.args.core.now) (state c.bounds.new.core) (fits (swapper_of c.args.core.now.filer) c.requires.size) c.bounds.ensures.asked.reaches.goes.makes c.in-Err.halt c.in-Err.ensures.cause
 
 pub returns-in-Err-can_map-clause-evidence_seen : goal.returns-in-Err-can_map-clause-evidence_seen
-returns-in-Err-can_map-clause-evidence_seen g c = shows_evidence _ (state c.named_file.new.core) (state c.can_map.new.core) (fits c.named_file.new.core.filer.swapper (search rules)) c.can_map.ensures.asked.reaches.goes.makes c.in-Err-can_map.halt c.in-Err-can_map.ensures.cause
+returns-in-Err-can_map-clause-evidence_seen g c = shows_evidence _ (state c.named_file.new.core) (state c.can_map.new.core) (fits (swapper_of c.named_file.new.core.filer) (search rules)) c.can_map.ensures.asked.reaches.goes.makes c.in-Err-can_map.halt c.in-Err-can_map.ensures.cause
 
 -- ---- Why it failed.
 
@@ -272,99 +201,12 @@ returns-in-Err-can_map-clause-cause g c =
     let x = c.named_file.new.core in
     let w = state c.can_map.new.core in
     let count = c.args.core.now.intervals in
-    let found = reaches_then v (state c.bounds.new.core) c.args.core.now.filer.swapper.accepted c.bounds.ensures.asked.reaches (state x) c.named_file.ensures.reaches in
-    given_map v (state x) w c.args.space c.args.id count found count refl c.in-Err-can_map.halt (path_change (state x) x.filer.swapper.accepted count w c.in-Err-can_map.halt c.in-Err-can_map.ensures.cause)
+    let found = reaches_then v (state c.bounds.new.core) (accepted c.args.core.now.filer) c.bounds.ensures.asked.reaches (state x) c.named_file.ensures.looks.reaches in
+    given_map v (state x) w c.args.space c.args.id count found count refl c.in-Err-can_map.halt (path_change (state x) (accepted x.filer) count w c.in-Err-can_map.halt c.in-Err-can_map.ensures.cause)
 
 -- ---- What the tests leave.
 
-pub returns-in-Err-clause-reaches : goal.returns-in-Err-clause-reaches
-returns-in-Err-clause-reaches g c = c.bounds.ensures.asked.reaches
-
-pub returns-in-Ok-Err-clause-reaches : goal.returns-in-Ok-Err-clause-reaches
-returns-in-Ok-Err-clause-reaches g c = c.bounds.ensures.asked.reaches
-
-pub returns-then-space-eq0-clause-reaches : goal.returns-then-space-eq0-clause-reaches
-returns-then-space-eq0-clause-reaches g c = c.bounds.ensures.asked.reaches
-
-pub returns-in-Ok-None-clause-reaches : goal.returns-in-Ok-None-clause-reaches
-returns-in-Ok-None-clause-reaches g c =
-    reaches_then (state c.args.core.now) (state c.bounds.new.core) c.args.core.now.filer.swapper.accepted c.bounds.ensures.asked.reaches (state c.named_file.new.core) c.named_file.ensures.reaches
-
-pub returns-in-Err-named_file-clause-reaches : goal.returns-in-Err-named_file-clause-reaches
-returns-in-Err-named_file-clause-reaches g c =
-    reaches_then (state c.args.core.now) (state c.bounds.new.core) c.args.core.now.filer.swapper.accepted c.bounds.ensures.asked.reaches (state c.named_file.new.core) c.named_file.ensures.reaches
-
-pub returns-in-Ok-Err-can_map-clause-reaches : goal.returns-in-Ok-Err-can_map-clause-reaches
-returns-in-Ok-Err-can_map-clause-reaches g c =
-    let v = state c.args.core.now in
-    let x = state c.named_file.new.core in
-    let is = c.args.core.now.filer.swapper.accepted in
-    let found = reaches_then v (state c.bounds.new.core) is c.bounds.ensures.asked.reaches x c.named_file.ensures.reaches in
-    reaches_then v x is found (state c.can_map.new.core) c.can_map.ensures.asked.reaches
-
-pub returns-in-Err-can_map-clause-reaches : goal.returns-in-Err-can_map-clause-reaches
-returns-in-Err-can_map-clause-reaches g c =
-    let v = state c.args.core.now in
-    let x = state c.named_file.new.core in
-    let is = c.args.core.now.filer.swapper.accepted in
-    let found = reaches_then v (state c.bounds.new.core) is c.bounds.ensures.asked.reaches x c.named_file.ensures.reaches in
-    reaches_then v x is found (state c.can_map.new.core) c.can_map.ensures.asked.reaches
-
-pub returns-then-from-clause-reaches : goal.returns-then-from-clause-reaches
-returns-then-from-clause-reaches g c =
-    let v = state c.args.core.now in
-    let x = state c.named_file.new.core in
-    let is = c.args.core.now.filer.swapper.accepted in
-    let found = reaches_then v (state c.bounds.new.core) is c.bounds.ensures.asked.reaches x c.named_file.ensures.reaches in
-    reaches_then v x is found (state c.can_map.new.core) c.can_map.ensures.asked.reaches
-
-pub returns-then-found-clause-reaches : goal.returns-then-found-clause-reaches
-returns-then-found-clause-reaches g c =
-    let v = state c.args.core.now in
-    let x = state c.named_file.new.core in
-    let is = c.args.core.now.filer.swapper.accepted in
-    let found = reaches_then v (state c.bounds.new.core) is c.bounds.ensures.asked.reaches x c.named_file.ensures.reaches in
-    reaches_then v x is found (state c.can_map.new.core) c.can_map.ensures.asked.reaches
-
-pub returns-clause-reaches : goal.returns-clause-reaches
-returns-clause-reaches g c =
-    let v = state c.args.core.now in
-    let x = state c.named_file.new.core in
-    let is = c.args.core.now.filer.swapper.accepted in
-    let found = reaches_then v (state c.bounds.new.core) is c.bounds.ensures.asked.reaches x c.named_file.ensures.reaches in
-    reaches_then v x is found (state c.can_map.new.core) c.can_map.ensures.asked.reaches
-
 -- ---- The tables are revealed.
-
-pub returns-in-Ok-Err-clause-still : goal.returns-in-Ok-Err-clause-still
-returns-in-Ok-Err-clause-still g c = λ ss s. c.bounds.ensures.sees ss s
-
-pub returns-in-Err-clause-still : goal.returns-in-Err-clause-still
-returns-in-Err-clause-still g c = λ ss s. c.bounds.ensures.sees ss s
-
-pub returns-then-space-eq0-clause-still : goal.returns-then-space-eq0-clause-still
-returns-then-space-eq0-clause-still g c = λ ss s. c.bounds.ensures.sees ss s
-
-pub returns-in-Ok-None-clause-still : goal.returns-in-Ok-None-clause-still
-returns-in-Ok-None-clause-still g c = λ ss s. c.named_file.ensures.still ss (c.bounds.ensures.sees ss s)
-
-pub returns-in-Err-named_file-clause-still : goal.returns-in-Err-named_file-clause-still
-returns-in-Err-named_file-clause-still g c = λ ss s. c.named_file.ensures.still ss (c.bounds.ensures.sees ss s)
-
-pub returns-in-Ok-Err-can_map-clause-still : goal.returns-in-Ok-Err-can_map-clause-still
-returns-in-Ok-Err-can_map-clause-still g c = λ ss s. c.can_map.ensures.sees ss (c.named_file.ensures.still ss (c.bounds.ensures.sees ss s))
-
-pub returns-in-Err-can_map-clause-still : goal.returns-in-Err-can_map-clause-still
-returns-in-Err-can_map-clause-still g c = λ ss s. c.can_map.ensures.sees ss (c.named_file.ensures.still ss (c.bounds.ensures.sees ss s))
-
-pub returns-then-from-clause-still : goal.returns-then-from-clause-still
-returns-then-from-clause-still g c = λ ss s. c.can_map.ensures.sees ss (c.named_file.ensures.still ss (c.bounds.ensures.sees ss s))
-
-pub returns-then-found-clause-still : goal.returns-then-found-clause-still
-returns-then-found-clause-still g c = λ ss s. c.can_map.ensures.sees ss (c.named_file.ensures.still ss (c.bounds.ensures.sees ss s))
-
-pub returns-clause-still : goal.returns-clause-still
-returns-clause-still g c = λ ss s. c.can_map.ensures.sees ss (c.named_file.ensures.still ss (c.bounds.ensures.sees ss s))
 
 pub returns-in-Err-clause-right : goal.returns-in-Err-clause-right
 returns-in-Err-clause-right g c = λ s. c.in-Err.ensures.right s.0 s.1
@@ -373,11 +215,11 @@ pub returns-in-Err-named_file-clause-right : goal.returns-in-Err-named_file-clau
 returns-in-Err-named_file-clause-right g c = λ s. c.in-Err-named_file.ensures.right (s.0, c.bounds.ensures.sees s.0 s.1)
 
 pub returns-in-Err-can_map-clause-right : goal.returns-in-Err-can_map-clause-right
-returns-in-Err-can_map-clause-right g c = λ s. c.in-Err-can_map.ensures.right s.0 (c.named_file.ensures.still s.0 (c.bounds.ensures.sees s.0 s.1))
+returns-in-Err-can_map-clause-right g c = λ s. c.in-Err-can_map.ensures.right s.0 (c.named_file.ensures.looks.still s.0 (c.bounds.ensures.sees s.0 s.1))
 
 pub returns-clause-seen : goal.returns-clause-seen
 returns-clause-seen g c = λ ss s.
-    let free = map_revealed ss c.args.space c.in-Ok-Ok-can_map.field-0 c.in-Ok-Ok-can_map.run' c.in-Ok-Ok-can_map.field-0-is (c.in-Ok-Ok-can_map.ensures.seen ss (c.named_file.ensures.still ss (c.bounds.ensures.sees ss s))) in
+    let free = map_revealed ss c.args.space c.in-Ok-Ok-can_map.field-0 c.in-Ok-Ok-can_map.run' c.in-Ok-Ok-can_map.field-0-is (c.in-Ok-Ok-can_map.ensures.seen ss (c.named_file.ensures.looks.still ss (c.bounds.ensures.sees ss s))) in
     let x : Space = free.1.0 in
     let long : c.in-Ok-Ok-can_map.run'.1 ≡ x.pages = ap (λ (run : ℕ × ℕ). run.1) free.1.2 in
     let first = c.from.ensures in
@@ -400,7 +242,7 @@ pub returns-clause-found : goal.returns-clause-found
 returns-clause-found g c = λ ss m named s stands map are.
     let old = c.args.core.now in
     let u = c.bounds.new.core in
-    let free = map_revealed ss c.args.space c.in-Ok-Ok-can_map.field-0 c.in-Ok-Ok-can_map.run' c.in-Ok-Ok-can_map.field-0-is (c.in-Ok-Ok-can_map.ensures.seen ss (c.named_file.ensures.still ss (c.bounds.ensures.sees ss s))) in
+    let free = map_revealed ss c.args.space c.in-Ok-Ok-can_map.field-0 c.in-Ok-Ok-can_map.run' c.in-Ok-Ok-can_map.field-0-is (c.in-Ok-Ok-can_map.ensures.seen ss (c.named_file.ensures.looks.still ss (c.bounds.ensures.sees ss s))) in
     let x : Space = free.1.0 in
     let long : c.in-Ok-Ok-can_map.run'.1 ≡ x.pages = ap (λ (run : ℕ × ℕ). run.1) free.1.2 in
     let first = c.from.ensures in
@@ -409,6 +251,6 @@ returns-clause-found g c = λ ss m named s stands map are.
     let count = c.page_count.ensures.same in
     let inside = c.if-from.false in
     let fits : c.args.page + x.pages ≤ c.in-Ok-Some.found.pages = omega (arith, inside, first, more, whole, count, long) in
-    let of_size = found_later (state old) (state u) old.filer.swapper.accepted c.bounds.ensures.asked.reaches named (IsSize named c.args.id c.in-Ok-Some.found.pages) in
+    let of_size = found_later (state old) (state u) (accepted old.filer) c.bounds.ensures.asked.reaches named (IsSize named c.args.id c.in-Ok-Some.found.pages) in
     let size = of_size (λ n now map_now kept. subst (λ (o : Option Attributes). IfSome o (λ a. IsSize named c.args.id a.pages)) c.in-Ok-Some.field-0-is (c.in-Ok-Some.ensures.size n named now map_now kept)) m stands map are in
     reaches_over ss (are_seen s) c.args.space c.args.id c.args.page c.in-Ok-Some.found.pages named x free.1.1 fits size

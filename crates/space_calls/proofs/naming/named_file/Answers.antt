@@ -1,5 +1,5 @@
 use Rattle.std.specs.Prelude.{IfOk, IfSome}
-use Rattle.std.proofs.Common.{inl, inr, refl}
+use Rattle.std.proofs.Common.{◌∙◌, inl, inr, refl, rules}
 use Rattle.session_words.specs.Parts.{shapes_of}
 use Rattle.swapper_kernel.specs.GoesLaws.{makes_then}
 use Rattle.space_calls.proofs.NameLemmas.{seen_not, seen_revealed}
@@ -14,26 +14,37 @@ use Rattle.space_calls.proofs.SeesLemmas.{client_so, look_never_blames, reached_
 use Rattle.file_map.specs.FileMap.{IsSize}
 use Rattle.space_calls.proofs.SizeLemmas.{found_later}
 use Rattle.space_calls.proofs.naming.named_file.Goals as goal
+use Rattle.filer_kernel.specs.View.{accepted}
 
 pub returns-in-Ok-false-clause-answer : goal.returns-in-Ok-false-clause-answer
 returns-in-Ok-false-clause-answer g c = λ volume m r. seen_not m c.args.id c.in-Ok-false.field-0 c.in-Ok-false.field-0-test (c.in-Ok-false.ensures.answer volume m r)
 
 pub returns-clause-answer : goal.returns-clause-answer
 returns-clause-answer g c = λ volume m r.
-    let s = c.may_be_named.ensures.runs volume m r in
+    let s = c.may_be_named.ensures.looks.runs volume m r in
     if_revealed c.attributes_of.result _ _ _ (c.attributes_of.ensures.revealed _ (shapes_of m.files) m.spaces (books_of s))
     (λ revealed same. seen_revealed m c.args.id c.in-Ok-true.field-0 revealed c.in-Ok-true.field-0-test (c.in-Ok-true.ensures.answer volume m r) same)
 
-pub returns-clause-runs : goal.returns-clause-runs
-returns-clause-runs g c = λ volume m r.
-    let s = c.may_be_named.ensures.runs volume m r in
-    looked_runs s c.attributes_of.ensures.makes c.attributes_of.ensures.brings (c.attributes_of.ensures.same _ (shapes_of m.files) m.spaces (books_of s)) c.attributes_of.ensures.layout
+pub returns-clause-looks : goal.returns-clause-looks
+returns-clause-looks g c = record {
+  runs = (λ volume m r.
+      let s = c.may_be_named.ensures.looks.runs volume m r in
+      looked_runs s c.attributes_of.ensures.makes c.attributes_of.ensures.brings (c.attributes_of.ensures.same _ (shapes_of m.files) m.spaces (books_of s)) c.attributes_of.ensures.layout);
+  still = (λ ss s.
+      let u = c.may_be_named.new.core in
+      let w = state (record u { filer = c.attributes_of.new.filer }) in
+      reached_sees (look_reaches (state u) w c.attributes_of.ensures.looks c.attributes_of.ensures.layout) refl refl (c.may_be_named.ensures.looks.still ss s));
+  reaches = (let old = c.args.core.now in
+      let u = c.may_be_named.new.core in
+      let w = state (record u { filer = c.attributes_of.new.filer }) in
+      reaches_then (state old) (state u) (accepted old.filer) c.may_be_named.ensures.looks.reaches w (look_reaches (state u) w c.attributes_of.ensures.looks c.attributes_of.ensures.layout));
+  makes = (makes_then c.may_be_named.ensures.looks.makes c.attributes_of.ensures.makes);
+  layout = (c.attributes_of.ensures.layout ∙ c.may_be_named.ensures.looks.layout);
+  intervals = c.may_be_named.ensures.looks.intervals;
+}
 
 pub returns-clause-sound : goal.returns-clause-sound
-returns-clause-sound g c = λ volume m r. if_failed c.attributes_of.result _ _ (c.attributes_of.ensures.revealed _ (shapes_of m.files) m.spaces (books_of (c.may_be_named.ensures.runs volume m r)))
-
-pub returns-clause-makes : goal.returns-clause-makes
-returns-clause-makes g c = makes_then c.may_be_named.ensures.makes c.attributes_of.ensures.makes
+returns-clause-sound g c = λ volume m r. if_failed c.attributes_of.result _ _ (c.attributes_of.ensures.revealed _ (shapes_of m.files) m.spaces (books_of (c.may_be_named.ensures.looks.runs volume m r)))
 
 -- ---- Why it failed.
 
@@ -45,22 +56,9 @@ returns-clause-cause g c =
     let old = c.args.core.now in
     let u = c.may_be_named.new.core in
     let w = state (record u { filer = c.attributes_of.new.filer }) in
-    err_wider c.attributes_of.result (LookHalts c.args.id (state u) w) (NamedHalts c.args.id old.intervals (state old) w) (λ e halts. inr (state u, c.may_be_named.ensures.reaches, halts)) c.attributes_of.ensures.cause
-
-pub returns-clause-reaches : goal.returns-clause-reaches
-returns-clause-reaches g c =
-    let old = c.args.core.now in
-    let u = c.may_be_named.new.core in
-    let w = state (record u { filer = c.attributes_of.new.filer }) in
-    reaches_then (state old) (state u) old.filer.swapper.accepted c.may_be_named.ensures.reaches w (look_reaches (state u) w c.attributes_of.ensures.looks c.attributes_of.ensures.layout)
+    err_wider c.attributes_of.result (LookHalts c.args.id (state u) w) (NamedHalts c.args.id old.intervals (state old) w) (λ e halts. inr (state u, c.may_be_named.ensures.looks.reaches, halts)) c.attributes_of.ensures.cause
 
 -- ---- The tables are revealed.
-
-pub returns-clause-still : goal.returns-clause-still
-returns-clause-still g c = λ ss s.
-    let u = c.may_be_named.new.core in
-    let w = state (record u { filer = c.attributes_of.new.filer }) in
-    reached_sees (look_reaches (state u) w c.attributes_of.ensures.looks c.attributes_of.ensures.layout) refl refl (c.may_be_named.ensures.still ss s)
 
 pub returns-clause-client : goal.returns-clause-client
 returns-clause-client g c = client_so c.args.id c.attributes_of.result (λ low. (c.attributes_of.ensures.reserved low).0)
@@ -77,5 +75,5 @@ pub returns-clause-size : goal.returns-clause-size
 returns-clause-size g c = λ m named.
     let old = c.args.core.now in
     let u = c.may_be_named.new.core in
-    found_later (state old) (state u) old.filer.swapper.accepted c.may_be_named.ensures.reaches named (IfOk c.attributes_of.result (λ o. IfSome o (λ a. IsSize named c.args.id a.pages)))
+    found_later (state old) (state u) (accepted old.filer) c.may_be_named.ensures.looks.reaches named (IfOk c.attributes_of.result (λ o. IfSome o (λ a. IsSize named c.args.id a.pages)))
     (λ n stands map are. c.attributes_of.ensures.size n named stands map) m

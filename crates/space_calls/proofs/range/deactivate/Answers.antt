@@ -20,21 +20,25 @@ use Rattle.running_words.specs.MovingLaws.{moves_of_reaches}
 use Rattle.space_calls.proofs.MovesLemmas.{moves_twice}
 use Rattle.space_calls.specs.FilesLaws.{shown_here}
 use Rattle.space_calls.proofs.range.deactivate.Goals as goal
+use Rattle.filer_kernel.specs.View.{accepted, disk_of, swapper_of}
 
 -- ---- There is no such space.
 
-pub returns-in-Ok-Err-clause-carried : goal.returns-in-Ok-Err-clause-carried
-returns-in-Ok-Err-clause-carried g c = λ volume m r.
-    let whole = whole_of c.args.core.now c.requires.size in
-    let x = r.session.stands.memory in
-    let named = r.session.stands.is.named in
-    let revealed = knows running_laws whole r in
-    let asked = c.range_of.ensures.asked in
-    let is = deactivate_refused m c.args.space c.in-Ok-Err.word (found_word m.spaces c.args.space c.in-Ok-Err.word c.in-Ok-Err.field-0 c.in-Ok-Err.field-0-is (c.in-Ok-Err.ensures.answer x named m.spaces revealed)) in
-    record {
-      allowed = allowed_refused m (call.Deactivate c.args.space) c.in-Ok-Err.word is;
-      runs = subst (λ (n : Machine). Runs c.range_of.new.core volume n) (sym (next_refused m (call.Deactivate c.args.space) c.in-Ok-Err.word is)) (still_runs running_laws whole r (came_own asked.reaches asked.came asked.same asked.intervals));
-    }
+pub returns-in-Ok-Err-clause-answers : goal.returns-in-Ok-Err-clause-answers
+returns-in-Ok-Err-clause-answers g c = λ volume m r. record {
+  carried = (let whole = whole_of c.args.core.now c.requires.size in
+      let x = r.session.stands.memory in
+      let named = r.session.stands.is.named in
+      let revealed = knows running_laws whole r in
+      let asked = c.range_of.ensures.asked in
+      let is = deactivate_refused m c.args.space c.in-Ok-Err.word (found_word m.spaces c.args.space c.in-Ok-Err.word c.in-Ok-Err.field-0 c.in-Ok-Err.field-0-is (c.in-Ok-Err.ensures.answer x named m.spaces revealed)) in
+      record {
+        allowed = allowed_refused m (call.Deactivate c.args.space) c.in-Ok-Err.word is;
+        runs = subst (λ (n : Machine). Runs c.range_of.new.core volume n) (sym (next_refused m (call.Deactivate c.args.space) c.in-Ok-Err.word is)) (still_runs running_laws whole r (came_own asked.reaches asked.came asked.same asked.intervals));
+      });
+  sound = tt;
+  passes = (still_reveals running_laws (whole_of c.args.core.now c.requires.size) r (state c.range_of.new.core) (λ d revealed. g.met.D.Disk.in_form (disk_of c.args.core.now.filer) d revealed) (call.Deactivate c.args.space) (reached_makes c.range_of.ensures.asked.reaches));
+}
 
 pub returns-in-Ok-Err-clause-gone : goal.returns-in-Ok-Err-clause-gone
 returns-in-Ok-Err-clause-gone g c = λ volume m s r there.
@@ -44,61 +48,58 @@ returns-in-Ok-Err-clause-gone g c = λ volume m s r there.
     let revealed = knows running_laws whole r in
     absurd (never_refused m.spaces c.args.space s c.in-Ok-Err.word there (found_word m.spaces c.args.space c.in-Ok-Err.word c.in-Ok-Err.field-0 c.in-Ok-Err.field-0-is (c.in-Ok-Err.ensures.answer x named m.spaces revealed)))
 
-pub returns-in-Ok-Err-clause-passes : goal.returns-in-Ok-Err-clause-passes
-returns-in-Ok-Err-clause-passes g c = λ volume m r.
-    still_reveals running_laws (whole_of c.args.core.now c.requires.size) r (state c.range_of.new.core) (λ d revealed. g.met.D.Disk.in_form c.args.core.now.filer.swapper.disk d revealed) (call.Deactivate c.args.space) (reached_makes c.range_of.ensures.asked.reaches)
-
 pub returns-in-Ok-Err-clause-wrote : goal.returns-in-Ok-Err-clause-wrote
 returns-in-Ok-Err-clause-wrote g c = wrote_so (reached_makes c.range_of.ensures.asked.reaches)
 
 -- ---- The disk failed.
 
-pub returns-in-Err-clause-sound : goal.returns-in-Err-clause-sound
-returns-in-Err-clause-sound g c = λ volume m r.
-    let whole = whole_of c.args.core.now c.requires.size in
-    let x = r.session.stands.memory in
-    let named = r.session.stands.is.named in
-    let revealed = knows running_laws whole r in
-    c.in-Err.ensures.sound x named m.spaces revealed
-
-pub returns-in-Err-clause-passes : goal.returns-in-Err-clause-passes
-returns-in-Err-clause-passes g c = λ volume m r.
-    still_reveals running_laws (whole_of c.args.core.now c.requires.size) r (state c.range_of.new.core) (λ d revealed. g.met.D.Disk.in_form c.args.core.now.filer.swapper.disk d revealed) (call.Deactivate c.args.space) (reached_makes c.range_of.ensures.asked.reaches)
+pub returns-in-Err-clause-answers : goal.returns-in-Err-clause-answers
+returns-in-Err-clause-answers g c = λ volume m r. record {
+  carried = tt;
+  sound = (let whole = whole_of c.args.core.now c.requires.size in
+      let x = r.session.stands.memory in
+      let named = r.session.stands.is.named in
+      let revealed = knows running_laws whole r in
+      c.in-Err.ensures.sound x named m.spaces revealed);
+  passes = (still_reveals running_laws (whole_of c.args.core.now c.requires.size) r (state c.range_of.new.core) (λ d revealed. g.met.D.Disk.in_form (disk_of c.args.core.now.filer) d revealed) (call.Deactivate c.args.space) (reached_makes c.range_of.ensures.asked.reaches));
+}
 
 pub returns-in-Err-clause-wrote : goal.returns-in-Err-clause-wrote
 returns-in-Err-clause-wrote g c = wrote_so (reached_makes c.range_of.ensures.asked.reaches)
 
-pub returns-in-Err-evict-clause-sound : goal.returns-in-Err-evict-clause-sound
-returns-in-Err-evict-clause-sound g c = λ volume m r.
-    let whole = whole_of c.args.core.now c.requires.size in
-    let x = r.session.stands.memory in
-    let named = r.session.stands.is.named in
-    let revealed = knows running_laws whole r in
-    c.in-Err-evict.ensures.sound x named m.spaces (c.range_of.ensures.asked.same x named m.spaces revealed)
-
-pub returns-in-Err-evict-clause-passes : goal.returns-in-Err-evict-clause-passes
-returns-in-Err-evict-clause-passes g c = λ volume m r.
-    still_reveals running_laws (whole_of c.args.core.now c.requires.size) r (state c.evict.new.self) (λ d revealed. g.met.D.Disk.in_form c.args.core.now.filer.swapper.disk d revealed) (call.Deactivate c.args.space) (makes_then (reached_makes c.range_of.ensures.asked.reaches) (reached_makes c.evict.ensures.reaches))
+pub returns-in-Err-evict-clause-answers : goal.returns-in-Err-evict-clause-answers
+returns-in-Err-evict-clause-answers g c = λ volume m r. record {
+  carried = tt;
+  sound = (let whole = whole_of c.args.core.now c.requires.size in
+      let x = r.session.stands.memory in
+      let named = r.session.stands.is.named in
+      let revealed = knows running_laws whole r in
+      c.in-Err-evict.ensures.sound x named m.spaces (c.range_of.ensures.asked.same x named m.spaces revealed));
+  passes = (still_reveals running_laws (whole_of c.args.core.now c.requires.size) r (state c.evict.new.self) (λ d revealed. g.met.D.Disk.in_form (disk_of c.args.core.now.filer) d revealed) (call.Deactivate c.args.space) (makes_then (reached_makes c.range_of.ensures.asked.reaches) (reached_makes c.evict.ensures.reaches)));
+}
 
 pub returns-in-Err-evict-clause-wrote : goal.returns-in-Err-evict-clause-wrote
 returns-in-Err-evict-clause-wrote g c = wrote_so (makes_then (reached_makes c.range_of.ensures.asked.reaches) (reached_makes c.evict.ensures.reaches))
 
 -- ---- It is done.
 
-pub returns-clause-carried : goal.returns-clause-carried
-returns-clause-carried g c = λ volume m r.
-    let whole = whole_of c.args.core.now c.requires.size in
-    let x = r.session.stands.memory in
-    let named = r.session.stands.is.named in
-    let revealed = knows running_laws whole r in
-    let asked = c.range_of.ensures.asked in
-    let found = found_run m.spaces c.args.space c.in-Ok-Ok.found c.in-Ok-Ok.field-0 c.in-Ok-Ok.field-0-is (c.in-Ok-Ok.ensures.answer x named m.spaces revealed) in
-    let gave = c.evict.ensures in
-    record {
-      allowed = allowed_done m (call.Deactivate c.args.space) reply.Done (deactivate_there m c.args.space found.0) refl;
-      runs = subst (λ (n : Machine). Runs c.evict.new.self volume n) (deactivate_stays m c.args.space) (still_runs running_laws whole r (came_then (state c.args.core.now) (state c.range_of.new.core) (state c.evict.new.self) whole.layout
-          (came_own asked.reaches asked.came asked.same asked.intervals) (came_own gave.reaches gave.came gave.same gave.intervals)));
-    }
+pub returns-clause-answers : goal.returns-clause-answers
+returns-clause-answers g c = λ volume m r. record {
+  carried = (let whole = whole_of c.args.core.now c.requires.size in
+      let x = r.session.stands.memory in
+      let named = r.session.stands.is.named in
+      let revealed = knows running_laws whole r in
+      let asked = c.range_of.ensures.asked in
+      let found = found_run m.spaces c.args.space c.in-Ok-Ok.found c.in-Ok-Ok.field-0 c.in-Ok-Ok.field-0-is (c.in-Ok-Ok.ensures.answer x named m.spaces revealed) in
+      let gave = c.evict.ensures in
+      record {
+        allowed = allowed_done m (call.Deactivate c.args.space) reply.Done (deactivate_there m c.args.space found.0) refl;
+        runs = subst (λ (n : Machine). Runs c.evict.new.self volume n) (deactivate_stays m c.args.space) (still_runs running_laws whole r (came_then (state c.args.core.now) (state c.range_of.new.core) (state c.evict.new.self) whole.layout
+            (came_own asked.reaches asked.came asked.same asked.intervals) (came_own gave.reaches gave.came gave.same gave.intervals)));
+      });
+  sound = tt;
+  passes = (still_reveals running_laws (whole_of c.args.core.now c.requires.size) r (state c.evict.new.self) (λ d revealed. g.met.D.Disk.in_form (disk_of c.args.core.now.filer) d revealed) (call.Deactivate c.args.space) (makes_then (reached_makes c.range_of.ensures.asked.reaches) (reached_makes c.evict.ensures.reaches)));
+}
 
 pub returns-clause-gone : goal.returns-clause-gone
 returns-clause-gone g c = λ volume m s r there.
@@ -107,11 +108,7 @@ returns-clause-gone g c = λ volume m s r there.
     let named = r.session.stands.is.named in
     let revealed = knows running_laws whole r in
     let found = found_run m.spaces c.args.space c.in-Ok-Ok.found c.in-Ok-Ok.field-0 c.in-Ok-Ok.field-0-is (c.in-Ok-Ok.ensures.answer x named m.spaces revealed) in
-    of_space m.spaces c.args.space s c.in-Ok-Ok.found (AreGone m.spaces c.evict.new.self.filer.swapper.pool) found.1 there (c.in-Ok.ensures.gone x named m.spaces (c.range_of.ensures.asked.same x named m.spaces revealed))
-
-pub returns-clause-passes : goal.returns-clause-passes
-returns-clause-passes g c = λ volume m r.
-    still_reveals running_laws (whole_of c.args.core.now c.requires.size) r (state c.evict.new.self) (λ d revealed. g.met.D.Disk.in_form c.args.core.now.filer.swapper.disk d revealed) (call.Deactivate c.args.space) (makes_then (reached_makes c.range_of.ensures.asked.reaches) (reached_makes c.evict.ensures.reaches))
+    of_space m.spaces c.args.space s c.in-Ok-Ok.found (AreGone m.spaces (state c.evict.new.self).slots) found.1 there (c.in-Ok.ensures.gone x named m.spaces (c.range_of.ensures.asked.same x named m.spaces revealed))
 
 pub returns-clause-wrote : goal.returns-clause-wrote
 returns-clause-wrote g c = wrote_so (makes_then (reached_makes c.range_of.ensures.asked.reaches) (reached_makes c.evict.ensures.reaches))
@@ -119,15 +116,15 @@ returns-clause-wrote g c = wrote_so (makes_then (reached_makes c.range_of.ensure
 -- ---- Why it failed.
 
 pub returns-in-Err-clause-cause : goal.returns-in-Err-clause-cause
-returns-in-Err-clause-cause g c = asked_halt (state c.args.core.now) (state c.range_of.new.core) c.args.core.now.filer.swapper.accepted c.args.space c.args.core.now.intervals c.in-Err.halt c.in-Err.ensures.cause
+returns-in-Err-clause-cause g c = asked_halt (state c.args.core.now) (state c.range_of.new.core) (accepted c.args.core.now.filer) c.args.space c.args.core.now.intervals c.in-Err.halt c.in-Err.ensures.cause
 
 pub returns-in-Err-evict-clause-cause : goal.returns-in-Err-evict-clause-cause
 returns-in-Err-evict-clause-cause g c =
     let asked = c.range_of.ensures.asked in
-    within_halt (state c.args.core.now) (state c.range_of.new.core) c.args.core.now.filer.swapper.accepted c.args.space asked.reaches c.args.core.now.intervals c.range_of.new.core.intervals asked.intervals (state c.evict.new.self) c.in-Ok-Ok.found (given_so (TablesSay (state c.args.core.now) (λ b. IsRunAt b c.args.space)) c.in-Ok-Ok.found c.in-Ok-Ok.field-0 c.in-Ok-Ok.field-0-is c.in-Ok-Ok.ensures.read) c.in-Err-evict.halt c.in-Err-evict.ensures.cause
+    within_halt (state c.args.core.now) (state c.range_of.new.core) (accepted c.args.core.now.filer) c.args.space asked.reaches c.args.core.now.intervals c.range_of.new.core.intervals asked.intervals (state c.evict.new.self) c.in-Ok-Ok.found (given_so (TablesSay (state c.args.core.now) (λ b. IsRunAt b c.args.space)) c.in-Ok-Ok.found c.in-Ok-Ok.field-0 c.in-Ok-Ok.field-0-is c.in-Ok-Ok.ensures.read) c.in-Err-evict.halt c.in-Err-evict.ensures.cause
 
 pub returns-in-Err-evict-clause-evidence_seen : goal.returns-in-Err-evict-clause-evidence_seen
-returns-in-Err-evict-clause-evidence_seen g c = shows_evidence _ (state c.range_of.new.core) (state c.evict.new.self) (fits c.range_of.new.core.filer.swapper (search rules)) c.evict.ensures.reaches.goes.makes c.in-Err-evict.halt c.in-Err-evict.ensures.cause
+returns-in-Err-evict-clause-evidence_seen g c = shows_evidence _ (state c.range_of.new.core) (state c.evict.new.self) (fits (swapper_of c.range_of.new.core.filer) (search rules)) c.evict.ensures.reaches.goes.makes c.in-Err-evict.halt c.in-Err-evict.ensures.cause
 
 -- ---- No label was written.
 
@@ -138,10 +135,10 @@ pub returns-in-Err-clause-moves : goal.returns-in-Err-clause-moves
 returns-in-Err-clause-moves g c = moves_of_reaches (state c.args.core.now) (state c.range_of.new.core) c.range_of.ensures.asked.reaches
 
 pub returns-in-Err-evict-clause-moves : goal.returns-in-Err-evict-clause-moves
-returns-in-Err-evict-clause-moves g c = moves_twice (state c.args.core.now) (state c.range_of.new.core) (state c.evict.new.self) c.args.core.now.filer.swapper.accepted c.range_of.ensures.asked.reaches c.evict.ensures.reaches
+returns-in-Err-evict-clause-moves g c = moves_twice (state c.args.core.now) (state c.range_of.new.core) (state c.evict.new.self) (accepted c.args.core.now.filer) c.range_of.ensures.asked.reaches c.evict.ensures.reaches
 
 pub returns-clause-moves : goal.returns-clause-moves
-returns-clause-moves g c = moves_twice (state c.args.core.now) (state c.range_of.new.core) (state c.evict.new.self) c.args.core.now.filer.swapper.accepted c.range_of.ensures.asked.reaches c.evict.ensures.reaches
+returns-clause-moves g c = moves_twice (state c.args.core.now) (state c.range_of.new.core) (state c.evict.new.self) (accepted c.args.core.now.filer) c.range_of.ensures.asked.reaches c.evict.ensures.reaches
 
 -- ---- The tables are revealed.
 

@@ -25,21 +25,25 @@ use Rattle.running_words.specs.MovingLaws.{moves_of_reaches}
 use Rattle.space_calls.proofs.MovesLemmas.{moves_twice, moves_before}
 use Rattle.space_calls.specs.FilesLaws.{shown_here}
 use Rattle.space_calls.proofs.range.force_out.Goals as goal
+use Rattle.filer_kernel.specs.View.{accepted, disk_of, swapper_of}
 
 -- ---- There is no such space.
 
-pub returns-in-Ok-Err-clause-carried : goal.returns-in-Ok-Err-clause-carried
-returns-in-Ok-Err-clause-carried g c = λ volume m r.
-    let whole = whole_of c.args.core.now c.requires.size in
-    let x = r.session.stands.memory in
-    let named = r.session.stands.is.named in
-    let revealed = knows running_laws whole r in
-    let asked = c.range_of.ensures.asked in
-    let is = force_refused m c.args.space c.in-Ok-Err.word (found_word m.spaces c.args.space c.in-Ok-Err.word c.in-Ok-Err.field-0 c.in-Ok-Err.field-0-is (c.in-Ok-Err.ensures.answer x named m.spaces revealed)) in
-    record {
-      allowed = allowed_refused m (call.ForceOut c.args.space) c.in-Ok-Err.word is;
-      runs = subst (λ (n : Machine). Runs c.range_of.new.core volume n) (sym (next_refused m (call.ForceOut c.args.space) c.in-Ok-Err.word is)) (still_runs running_laws whole r (came_own asked.reaches asked.came asked.same asked.intervals));
-    }
+pub returns-in-Ok-Err-clause-answers : goal.returns-in-Ok-Err-clause-answers
+returns-in-Ok-Err-clause-answers g c = λ volume m r. record {
+  carried = (let whole = whole_of c.args.core.now c.requires.size in
+      let x = r.session.stands.memory in
+      let named = r.session.stands.is.named in
+      let revealed = knows running_laws whole r in
+      let asked = c.range_of.ensures.asked in
+      let is = force_refused m c.args.space c.in-Ok-Err.word (found_word m.spaces c.args.space c.in-Ok-Err.word c.in-Ok-Err.field-0 c.in-Ok-Err.field-0-is (c.in-Ok-Err.ensures.answer x named m.spaces revealed)) in
+      record {
+        allowed = allowed_refused m (call.ForceOut c.args.space) c.in-Ok-Err.word is;
+        runs = subst (λ (n : Machine). Runs c.range_of.new.core volume n) (sym (next_refused m (call.ForceOut c.args.space) c.in-Ok-Err.word is)) (still_runs running_laws whole r (came_own asked.reaches asked.came asked.same asked.intervals));
+      });
+  sound = tt;
+  passes = (still_reveals running_laws (whole_of c.args.core.now c.requires.size) r (state c.range_of.new.core) (λ d revealed. g.met.D.Disk.in_form (disk_of c.args.core.now.filer) d revealed) (call.ForceOut c.args.space) (reached_makes c.range_of.ensures.asked.reaches));
+}
 
 pub returns-in-Ok-Err-clause-clean : goal.returns-in-Ok-Err-clause-clean
 returns-in-Ok-Err-clause-clean g c = λ volume m s r there.
@@ -58,74 +62,74 @@ returns-in-Ok-Err-clause-synced g c = λ volume m r free.
     absurd (none-some c.in-Ok-Err.word (sym free ∙ force_refused m c.args.space c.in-Ok-Err.word
     (found_word m.spaces c.args.space c.in-Ok-Err.word c.in-Ok-Err.field-0 c.in-Ok-Err.field-0-is (c.in-Ok-Err.ensures.answer x named m.spaces revealed))))
 
-pub returns-in-Ok-Err-clause-passes : goal.returns-in-Ok-Err-clause-passes
-returns-in-Ok-Err-clause-passes g c = λ volume m r.
-    still_reveals running_laws (whole_of c.args.core.now c.requires.size) r (state c.range_of.new.core) (λ d revealed. g.met.D.Disk.in_form c.args.core.now.filer.swapper.disk d revealed) (call.ForceOut c.args.space) (reached_makes c.range_of.ensures.asked.reaches)
-
 pub returns-in-Ok-Err-clause-wrote : goal.returns-in-Ok-Err-clause-wrote
 returns-in-Ok-Err-clause-wrote g c = wrote_so (reached_makes c.range_of.ensures.asked.reaches)
 
 -- ---- The disk failed.
 
-pub returns-in-Err-clause-sound : goal.returns-in-Err-clause-sound
-returns-in-Err-clause-sound g c = λ volume m r.
-    let whole = whole_of c.args.core.now c.requires.size in
-    let x = r.session.stands.memory in
-    let named = r.session.stands.is.named in
-    let revealed = knows running_laws whole r in
-    c.in-Err.ensures.sound x named m.spaces revealed
-
-pub returns-in-Err-clause-passes : goal.returns-in-Err-clause-passes
-returns-in-Err-clause-passes g c = λ volume m r.
-    still_reveals running_laws (whole_of c.args.core.now c.requires.size) r (state c.range_of.new.core) (λ d revealed. g.met.D.Disk.in_form c.args.core.now.filer.swapper.disk d revealed) (call.ForceOut c.args.space) (reached_makes c.range_of.ensures.asked.reaches)
+pub returns-in-Err-clause-answers : goal.returns-in-Err-clause-answers
+returns-in-Err-clause-answers g c = λ volume m r. record {
+  carried = tt;
+  sound = (let whole = whole_of c.args.core.now c.requires.size in
+      let x = r.session.stands.memory in
+      let named = r.session.stands.is.named in
+      let revealed = knows running_laws whole r in
+      c.in-Err.ensures.sound x named m.spaces revealed);
+  passes = (still_reveals running_laws (whole_of c.args.core.now c.requires.size) r (state c.range_of.new.core) (λ d revealed. g.met.D.Disk.in_form (disk_of c.args.core.now.filer) d revealed) (call.ForceOut c.args.space) (reached_makes c.range_of.ensures.asked.reaches));
+}
 
 pub returns-in-Err-clause-wrote : goal.returns-in-Err-clause-wrote
 returns-in-Err-clause-wrote g c = wrote_so (reached_makes c.range_of.ensures.asked.reaches)
 
-pub returns-in-Err-flush-clause-sound : goal.returns-in-Err-flush-clause-sound
-returns-in-Err-flush-clause-sound g c = λ volume m r.
-    let whole = whole_of c.args.core.now c.requires.size in
-    let x = r.session.stands.memory in
-    let named = r.session.stands.is.named in
-    let revealed = knows running_laws whole r in
-    c.in-Err-flush.ensures.sound x named m.spaces (c.range_of.ensures.asked.same x named m.spaces revealed)
-
-pub returns-in-Err-flush-clause-passes : goal.returns-in-Err-flush-clause-passes
-returns-in-Err-flush-clause-passes g c = λ volume m r.
-    still_reveals running_laws (whole_of c.args.core.now c.requires.size) r (state c.flush.new.self) (λ d revealed. g.met.D.Disk.in_form c.args.core.now.filer.swapper.disk d revealed) (call.ForceOut c.args.space) (makes_then (reached_makes c.range_of.ensures.asked.reaches) (reached_makes c.flush.ensures.reaches))
+pub returns-in-Err-flush-clause-answers : goal.returns-in-Err-flush-clause-answers
+returns-in-Err-flush-clause-answers g c = λ volume m r. record {
+  carried = tt;
+  sound = (let whole = whole_of c.args.core.now c.requires.size in
+      let x = r.session.stands.memory in
+      let named = r.session.stands.is.named in
+      let revealed = knows running_laws whole r in
+      c.in-Err-flush.ensures.sound x named m.spaces (c.range_of.ensures.asked.same x named m.spaces revealed));
+  passes = (still_reveals running_laws (whole_of c.args.core.now c.requires.size) r (state c.flush.new.self) (λ d revealed. g.met.D.Disk.in_form (disk_of c.args.core.now.filer) d revealed) (call.ForceOut c.args.space) (makes_then (reached_makes c.range_of.ensures.asked.reaches) (reached_makes c.flush.ensures.reaches)));
+}
 
 pub returns-in-Err-flush-clause-wrote : goal.returns-in-Err-flush-clause-wrote
 returns-in-Err-flush-clause-wrote g c = wrote_so (makes_then (reached_makes c.range_of.ensures.asked.reaches) (reached_makes c.flush.ensures.reaches))
 
-pub returns-in-Err-sync-clause-passes : goal.returns-in-Err-sync-clause-passes
-returns-in-Err-sync-clause-passes g c = λ volume m r.
-    still_reveals running_laws (whole_of c.args.core.now c.requires.size) r (state c.sync.new.core) (λ d revealed. g.met.D.Disk.in_form c.args.core.now.filer.swapper.disk d revealed) (call.ForceOut c.args.space) (makes_then (reached_makes c.range_of.ensures.asked.reaches) (makes_then (reached_makes c.flush.ensures.reaches) (reached_makes c.sync.ensures.reaches)))
+pub returns-in-Err-sync-clause-answers : goal.returns-in-Err-sync-clause-answers
+returns-in-Err-sync-clause-answers g c = λ volume m r. record {
+  carried = tt;
+  sound = c.in-Err-sync.ensures.fault;
+  passes = (still_reveals running_laws (whole_of c.args.core.now c.requires.size) r (state c.sync.new.core) (λ d revealed. g.met.D.Disk.in_form (disk_of c.args.core.now.filer) d revealed) (call.ForceOut c.args.space) (makes_then (reached_makes c.range_of.ensures.asked.reaches) (makes_then (reached_makes c.flush.ensures.reaches) (reached_makes c.sync.ensures.reaches))));
+}
 
 pub returns-in-Err-sync-clause-wrote : goal.returns-in-Err-sync-clause-wrote
 returns-in-Err-sync-clause-wrote g c = wrote_so (makes_then (reached_makes c.range_of.ensures.asked.reaches) (makes_then (reached_makes c.flush.ensures.reaches) (reached_makes c.sync.ensures.reaches)))
 
 -- ---- It is done.
 
-pub returns-in-Ok-sync-clause-carried : goal.returns-in-Ok-sync-clause-carried
-returns-in-Ok-sync-clause-carried g c = λ volume m r.
-    let whole = whole_of c.args.core.now c.requires.size in
-    let x = r.session.stands.memory in
-    let named = r.session.stands.is.named in
-    let revealed = knows running_laws whole r in
-    let asked = c.range_of.ensures.asked in
-    let found = found_run m.spaces c.args.space c.in-Ok-Ok.found c.in-Ok-Ok.field-0 c.in-Ok-Ok.field-0-is (c.in-Ok-Ok.ensures.answer x named m.spaces revealed) in
-    let free = force_there m c.args.space found.0 in
-    let forced = c.flush.ensures in
-    let settled = c.sync.ensures in
-    let came = came_then (state c.args.core.now) (state c.range_of.new.core) (state c.flush.new.self) whole.layout
-    (came_own asked.reaches asked.came asked.same asked.intervals) (came_own forced.reaches forced.came forced.same forced.intervals) in
-    let s = found.1.0 in
-    let rest = of_space m.spaces c.args.space s c.in-Ok-Ok.found (AreClean m.spaces c.flush.new.self.filer.swapper.pool) found.1 found.1.1 (c.in-Ok.ensures.clean x named m.spaces (asked.same x named m.spaces revealed)) in
-    record {
-      allowed = allowed_done m (call.ForceOut c.args.space) reply.Done free refl;
-      runs = still_runs running_laws (whole_after whole came.reaches) (flush_runs running_laws whole r came c.args.space s free found.1.1 rest)
-          (came_own settled.reaches (no_frame_came c.flush.new.self.filer.swapper.pool c.sync.new.core.filer.swapper.pool settled.frames) settled.known settled.intervals);
-    }
+pub returns-in-Ok-sync-clause-answers : goal.returns-in-Ok-sync-clause-answers
+returns-in-Ok-sync-clause-answers g c = λ volume m r. record {
+  carried = (let whole = whole_of c.args.core.now c.requires.size in
+      let x = r.session.stands.memory in
+      let named = r.session.stands.is.named in
+      let revealed = knows running_laws whole r in
+      let asked = c.range_of.ensures.asked in
+      let found = found_run m.spaces c.args.space c.in-Ok-Ok.found c.in-Ok-Ok.field-0 c.in-Ok-Ok.field-0-is (c.in-Ok-Ok.ensures.answer x named m.spaces revealed) in
+      let free = force_there m c.args.space found.0 in
+      let forced = c.flush.ensures in
+      let settled = c.sync.ensures in
+      let came = came_then (state c.args.core.now) (state c.range_of.new.core) (state c.flush.new.self) whole.layout
+      (came_own asked.reaches asked.came asked.same asked.intervals) (came_own forced.reaches forced.came forced.same forced.intervals) in
+      let s = found.1.0 in
+      let rest = of_space m.spaces c.args.space s c.in-Ok-Ok.found (AreClean m.spaces (state c.flush.new.self).slots) found.1 found.1.1 (c.in-Ok.ensures.clean x named m.spaces (asked.same x named m.spaces revealed)) in
+      record {
+        allowed = allowed_done m (call.ForceOut c.args.space) reply.Done free refl;
+        runs = still_runs running_laws (whole_after whole came.reaches) (flush_runs running_laws whole r came c.args.space s free found.1.1 rest)
+            (came_own settled.reaches (no_frame_came (state c.flush.new.self).slots (state c.sync.new.core).slots settled.frames) settled.known settled.intervals);
+      });
+  sound = tt;
+  passes = (still_reveals running_laws (whole_of c.args.core.now c.requires.size) r (state c.sync.new.core) (λ d revealed. g.met.D.Disk.in_form (disk_of c.args.core.now.filer) d revealed) (call.ForceOut c.args.space) (makes_then (reached_makes c.range_of.ensures.asked.reaches) (makes_then (reached_makes c.flush.ensures.reaches) (reached_makes c.sync.ensures.reaches))));
+}
 
 pub returns-in-Ok-sync-clause-clean : goal.returns-in-Ok-sync-clause-clean
 returns-in-Ok-sync-clause-clean g c = λ volume m s r there.
@@ -135,11 +139,7 @@ returns-in-Ok-sync-clause-clean g c = λ volume m s r there.
     let revealed = knows running_laws whole r in
     let found = found_run m.spaces c.args.space c.in-Ok-Ok.found c.in-Ok-Ok.field-0 c.in-Ok-Ok.field-0-is (c.in-Ok-Ok.ensures.answer x named m.spaces revealed) in
     subst (λ (p : Slots). AreClean m.spaces p s.first (s.first + s.pages)) (sym c.sync.ensures.frames)
-    (of_space m.spaces c.args.space s c.in-Ok-Ok.found (AreClean m.spaces c.flush.new.self.filer.swapper.pool) found.1 there (c.in-Ok.ensures.clean x named m.spaces (c.range_of.ensures.asked.same x named m.spaces revealed)))
-
-pub returns-in-Ok-sync-clause-passes : goal.returns-in-Ok-sync-clause-passes
-returns-in-Ok-sync-clause-passes g c = λ volume m r.
-    still_reveals running_laws (whole_of c.args.core.now c.requires.size) r (state c.sync.new.core) (λ d revealed. g.met.D.Disk.in_form c.args.core.now.filer.swapper.disk d revealed) (call.ForceOut c.args.space) (makes_then (reached_makes c.range_of.ensures.asked.reaches) (makes_then (reached_makes c.flush.ensures.reaches) (reached_makes c.sync.ensures.reaches)))
+    (of_space m.spaces c.args.space s c.in-Ok-Ok.found (AreClean m.spaces (state c.flush.new.self).slots) found.1 there (c.in-Ok.ensures.clean x named m.spaces (c.range_of.ensures.asked.same x named m.spaces revealed)))
 
 pub returns-in-Ok-sync-clause-wrote : goal.returns-in-Ok-sync-clause-wrote
 returns-in-Ok-sync-clause-wrote g c = wrote_so (makes_then (reached_makes c.range_of.ensures.asked.reaches) (makes_then (reached_makes c.flush.ensures.reaches) (reached_makes c.sync.ensures.reaches)))
@@ -147,12 +147,12 @@ returns-in-Ok-sync-clause-wrote g c = wrote_so (makes_then (reached_makes c.rang
 -- ---- Why it failed.
 
 pub returns-in-Err-clause-cause : goal.returns-in-Err-clause-cause
-returns-in-Err-clause-cause g c = asked_halt (state c.args.core.now) (state c.range_of.new.core) c.args.core.now.filer.swapper.accepted c.args.space c.args.core.now.intervals c.in-Err.halt c.in-Err.ensures.cause
+returns-in-Err-clause-cause g c = asked_halt (state c.args.core.now) (state c.range_of.new.core) (accepted c.args.core.now.filer) c.args.space c.args.core.now.intervals c.in-Err.halt c.in-Err.ensures.cause
 
 pub returns-in-Err-flush-clause-cause : goal.returns-in-Err-flush-clause-cause
 returns-in-Err-flush-clause-cause g c =
     let asked = c.range_of.ensures.asked in
-    within_halt (state c.args.core.now) (state c.range_of.new.core) c.args.core.now.filer.swapper.accepted c.args.space asked.reaches c.args.core.now.intervals c.range_of.new.core.intervals asked.intervals (state c.flush.new.self) c.in-Ok-Ok.found (given_so (TablesSay (state c.args.core.now) (λ b. IsRunAt b c.args.space)) c.in-Ok-Ok.found c.in-Ok-Ok.field-0 c.in-Ok-Ok.field-0-is c.in-Ok-Ok.ensures.read) c.in-Err-flush.halt c.in-Err-flush.ensures.cause
+    within_halt (state c.args.core.now) (state c.range_of.new.core) (accepted c.args.core.now.filer) c.args.space asked.reaches c.args.core.now.intervals c.range_of.new.core.intervals asked.intervals (state c.flush.new.self) c.in-Ok-Ok.found (given_so (TablesSay (state c.args.core.now) (λ b. IsRunAt b c.args.space)) c.in-Ok-Ok.found c.in-Ok-Ok.field-0 c.in-Ok-Ok.field-0-is c.in-Ok-Ok.ensures.read) c.in-Err-flush.halt c.in-Err-flush.ensures.cause
 
 pub returns-in-Err-sync-clause-cause : goal.returns-in-Err-sync-clause-cause
 returns-in-Err-sync-clause-cause g c =
@@ -160,7 +160,7 @@ returns-in-Err-sync-clause-cause g c =
     (makes_then (reached_makes c.range_of.ensures.asked.reaches) (reached_makes c.flush.ensures.reaches)).went.faults c.in-Err-sync.ensures.fault c.in-Err-sync.ensures.counted
 
 pub returns-in-Err-flush-clause-evidence_seen : goal.returns-in-Err-flush-clause-evidence_seen
-returns-in-Err-flush-clause-evidence_seen g c = shows_evidence _ (state c.range_of.new.core) (state c.flush.new.self) (fits c.range_of.new.core.filer.swapper (search rules)) c.flush.ensures.reaches.goes.makes c.in-Err-flush.halt c.in-Err-flush.ensures.cause
+returns-in-Err-flush-clause-evidence_seen g c = shows_evidence _ (state c.range_of.new.core) (state c.flush.new.self) (fits (swapper_of c.range_of.new.core.filer) (search rules)) c.flush.ensures.reaches.goes.makes c.in-Err-flush.halt c.in-Err-flush.ensures.cause
 
 -- ---- The frames stay, or give way.
 
@@ -174,10 +174,10 @@ pub returns-in-Err-flush-clause-stay : goal.returns-in-Err-flush-clause-stay
 returns-in-Err-flush-clause-stay g c = yield_then c.range_of.ensures.asked.stay c.flush.ensures.stay
 
 pub returns-in-Ok-sync-clause-stay : goal.returns-in-Ok-sync-clause-stay
-returns-in-Ok-sync-clause-stay g c = yield_then (yield_then c.range_of.ensures.asked.stay c.flush.ensures.stay) (yield_same c.flush.new.self.filer.swapper.pool c.sync.new.core.filer.swapper.pool c.sync.ensures.frames)
+returns-in-Ok-sync-clause-stay g c = yield_then (yield_then c.range_of.ensures.asked.stay c.flush.ensures.stay) (yield_same (state c.flush.new.self).slots (state c.sync.new.core).slots c.sync.ensures.frames)
 
 pub returns-in-Err-sync-clause-stay : goal.returns-in-Err-sync-clause-stay
-returns-in-Err-sync-clause-stay g c = yield_then (yield_then c.range_of.ensures.asked.stay c.flush.ensures.stay) (yield_same c.flush.new.self.filer.swapper.pool c.sync.new.core.filer.swapper.pool c.sync.ensures.frames)
+returns-in-Err-sync-clause-stay g c = yield_then (yield_then c.range_of.ensures.asked.stay c.flush.ensures.stay) (yield_same (state c.flush.new.self).slots (state c.sync.new.core).slots c.sync.ensures.frames)
 
 -- ---- No label was written.
 
@@ -188,13 +188,13 @@ pub returns-in-Err-clause-moves : goal.returns-in-Err-clause-moves
 returns-in-Err-clause-moves g c = moves_of_reaches (state c.args.core.now) (state c.range_of.new.core) c.range_of.ensures.asked.reaches
 
 pub returns-in-Err-flush-clause-moves : goal.returns-in-Err-flush-clause-moves
-returns-in-Err-flush-clause-moves g c = moves_twice (state c.args.core.now) (state c.range_of.new.core) (state c.flush.new.self) c.args.core.now.filer.swapper.accepted c.range_of.ensures.asked.reaches c.flush.ensures.reaches
+returns-in-Err-flush-clause-moves g c = moves_twice (state c.args.core.now) (state c.range_of.new.core) (state c.flush.new.self) (accepted c.args.core.now.filer) c.range_of.ensures.asked.reaches c.flush.ensures.reaches
 
 pub returns-in-Err-sync-clause-moves : goal.returns-in-Err-sync-clause-moves
-returns-in-Err-sync-clause-moves g c = moves_before (state c.args.core.now) (state c.flush.new.self) (state c.sync.new.core) c.args.core.now.filer.swapper.accepted (moves_twice (state c.args.core.now) (state c.range_of.new.core) (state c.flush.new.self) c.args.core.now.filer.swapper.accepted c.range_of.ensures.asked.reaches c.flush.ensures.reaches) c.sync.ensures.reaches
+returns-in-Err-sync-clause-moves g c = moves_before (state c.args.core.now) (state c.flush.new.self) (state c.sync.new.core) (accepted c.args.core.now.filer) (moves_twice (state c.args.core.now) (state c.range_of.new.core) (state c.flush.new.self) (accepted c.args.core.now.filer) c.range_of.ensures.asked.reaches c.flush.ensures.reaches) c.sync.ensures.reaches
 
 pub returns-in-Ok-sync-clause-moves : goal.returns-in-Ok-sync-clause-moves
-returns-in-Ok-sync-clause-moves g c = moves_before (state c.args.core.now) (state c.flush.new.self) (state c.sync.new.core) c.args.core.now.filer.swapper.accepted (moves_twice (state c.args.core.now) (state c.range_of.new.core) (state c.flush.new.self) c.args.core.now.filer.swapper.accepted c.range_of.ensures.asked.reaches c.flush.ensures.reaches) c.sync.ensures.reaches
+returns-in-Ok-sync-clause-moves g c = moves_before (state c.args.core.now) (state c.flush.new.self) (state c.sync.new.core) (accepted c.args.core.now.filer) (moves_twice (state c.args.core.now) (state c.range_of.new.core) (state c.flush.new.self) (accepted c.args.core.now.filer) c.range_of.ensures.asked.reaches c.flush.ensures.reaches) c.sync.ensures.reaches
 
 -- ---- The tables are revealed.
 

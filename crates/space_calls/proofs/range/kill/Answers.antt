@@ -24,21 +24,25 @@ use Rattle.space_calls.proofs.MovesLemmas.{moves_after}
 use Rattle.swapper_kernel.specs.Goes.{no_page}
 use Rattle.space_calls.specs.FilesLaws.{shown_here}
 use Rattle.space_calls.proofs.range.kill.Goals as goal
+use Rattle.filer_kernel.specs.View.{accepted, disk_of, swapper_of}
 
 -- ---- There is no such space.
 
-pub returns-in-Ok-Err-clause-carried : goal.returns-in-Ok-Err-clause-carried
-returns-in-Ok-Err-clause-carried g c = λ volume m r.
-    let whole = whole_of c.args.core.now c.requires.size in
-    let x = r.session.stands.memory in
-    let named = r.session.stands.is.named in
-    let revealed = knows running_laws whole r in
-    let asked = c.range_of.ensures.asked in
-    let is = kill_refused m c.args.space c.in-Ok-Err.word (found_word m.spaces c.args.space c.in-Ok-Err.word c.in-Ok-Err.field-0 c.in-Ok-Err.field-0-is (c.in-Ok-Err.ensures.answer x named m.spaces revealed)) in
-    record {
-      allowed = allowed_refused m (call.Kill c.args.space) c.in-Ok-Err.word is;
-      runs = subst (λ (n : Machine). Runs c.range_of.new.core volume n) (sym (next_refused m (call.Kill c.args.space) c.in-Ok-Err.word is)) (still_runs running_laws whole r (came_own asked.reaches asked.came asked.same asked.intervals));
-    }
+pub returns-in-Ok-Err-clause-answers : goal.returns-in-Ok-Err-clause-answers
+returns-in-Ok-Err-clause-answers g c = λ volume m r. record {
+  carried = (let whole = whole_of c.args.core.now c.requires.size in
+      let x = r.session.stands.memory in
+      let named = r.session.stands.is.named in
+      let revealed = knows running_laws whole r in
+      let asked = c.range_of.ensures.asked in
+      let is = kill_refused m c.args.space c.in-Ok-Err.word (found_word m.spaces c.args.space c.in-Ok-Err.word c.in-Ok-Err.field-0 c.in-Ok-Err.field-0-is (c.in-Ok-Err.ensures.answer x named m.spaces revealed)) in
+      record {
+        allowed = allowed_refused m (call.Kill c.args.space) c.in-Ok-Err.word is;
+        runs = subst (λ (n : Machine). Runs c.range_of.new.core volume n) (sym (next_refused m (call.Kill c.args.space) c.in-Ok-Err.word is)) (still_runs running_laws whole r (came_own asked.reaches asked.came asked.same asked.intervals));
+      });
+  sound = tt;
+  passes = (still_reveals running_laws (whole_of c.args.core.now c.requires.size) r (state c.range_of.new.core) (λ d revealed. g.met.D.Disk.in_form (disk_of c.args.core.now.filer) d revealed) (call.Kill c.args.space) (reached_makes c.range_of.ensures.asked.reaches));
+}
 
 pub returns-in-Ok-Err-clause-gone : goal.returns-in-Ok-Err-clause-gone
 returns-in-Ok-Err-clause-gone g c = λ volume m s r there.
@@ -48,69 +52,66 @@ returns-in-Ok-Err-clause-gone g c = λ volume m s r there.
     let revealed = knows running_laws whole r in
     absurd (never_refused m.spaces c.args.space s c.in-Ok-Err.word there (found_word m.spaces c.args.space c.in-Ok-Err.word c.in-Ok-Err.field-0 c.in-Ok-Err.field-0-is (c.in-Ok-Err.ensures.answer x named m.spaces revealed)))
 
-pub returns-in-Ok-Err-clause-passes : goal.returns-in-Ok-Err-clause-passes
-returns-in-Ok-Err-clause-passes g c = λ volume m r.
-    still_reveals running_laws (whole_of c.args.core.now c.requires.size) r (state c.range_of.new.core) (λ d revealed. g.met.D.Disk.in_form c.args.core.now.filer.swapper.disk d revealed) (call.Kill c.args.space) (reached_makes c.range_of.ensures.asked.reaches)
-
 pub returns-in-Ok-Err-clause-wrote : goal.returns-in-Ok-Err-clause-wrote
 returns-in-Ok-Err-clause-wrote g c = wrote_so (reached_makes c.range_of.ensures.asked.reaches)
 
 -- ---- The disk failed.
 
-pub returns-in-Err-clause-sound : goal.returns-in-Err-clause-sound
-returns-in-Err-clause-sound g c = λ volume m r.
-    let whole = whole_of c.args.core.now c.requires.size in
-    let x = r.session.stands.memory in
-    let named = r.session.stands.is.named in
-    let revealed = knows running_laws whole r in
-    c.in-Err.ensures.sound x named m.spaces revealed
-
-pub returns-in-Err-clause-passes : goal.returns-in-Err-clause-passes
-returns-in-Err-clause-passes g c = λ volume m r.
-    still_reveals running_laws (whole_of c.args.core.now c.requires.size) r (state c.range_of.new.core) (λ d revealed. g.met.D.Disk.in_form c.args.core.now.filer.swapper.disk d revealed) (call.Kill c.args.space) (reached_makes c.range_of.ensures.asked.reaches)
+pub returns-in-Err-clause-answers : goal.returns-in-Err-clause-answers
+returns-in-Err-clause-answers g c = λ volume m r. record {
+  carried = tt;
+  sound = (let whole = whole_of c.args.core.now c.requires.size in
+      let x = r.session.stands.memory in
+      let named = r.session.stands.is.named in
+      let revealed = knows running_laws whole r in
+      c.in-Err.ensures.sound x named m.spaces revealed);
+  passes = (still_reveals running_laws (whole_of c.args.core.now c.requires.size) r (state c.range_of.new.core) (λ d revealed. g.met.D.Disk.in_form (disk_of c.args.core.now.filer) d revealed) (call.Kill c.args.space) (reached_makes c.range_of.ensures.asked.reaches));
+}
 
 pub returns-in-Err-clause-wrote : goal.returns-in-Err-clause-wrote
 returns-in-Err-clause-wrote g c = wrote_so (reached_makes c.range_of.ensures.asked.reaches)
 
-pub returns-in-Err-kill-clause-sound : goal.returns-in-Err-kill-clause-sound
-returns-in-Err-kill-clause-sound g c = λ volume m r.
-    let whole = whole_of c.args.core.now c.requires.size in
-    let x = r.session.stands.memory in
-    let named = r.session.stands.is.named in
-    let revealed = knows running_laws whole r in
-    c.in-Err-kill.ensures.sound x named m.spaces (c.range_of.ensures.asked.same x named m.spaces revealed)
-
-pub returns-in-Err-kill-clause-passes : goal.returns-in-Err-kill-clause-passes
-returns-in-Err-kill-clause-passes g c = λ volume m r.
-    still_reveals running_laws (whole_of c.args.core.now c.requires.size) r (state c.kill.new.self) (λ d revealed. g.met.D.Disk.in_form c.args.core.now.filer.swapper.disk d revealed) (call.Kill c.args.space) (makes_then (reached_makes c.range_of.ensures.asked.reaches) (give_makes c.kill.ensures.touches))
+pub returns-in-Err-kill-clause-answers : goal.returns-in-Err-kill-clause-answers
+returns-in-Err-kill-clause-answers g c = λ volume m r. record {
+  carried = tt;
+  sound = (let whole = whole_of c.args.core.now c.requires.size in
+      let x = r.session.stands.memory in
+      let named = r.session.stands.is.named in
+      let revealed = knows running_laws whole r in
+      c.in-Err-kill.ensures.sound x named m.spaces (c.range_of.ensures.asked.same x named m.spaces revealed));
+  passes = (still_reveals running_laws (whole_of c.args.core.now c.requires.size) r (state c.kill.new.self) (λ d revealed. g.met.D.Disk.in_form (disk_of c.args.core.now.filer) d revealed) (call.Kill c.args.space) (makes_then (reached_makes c.range_of.ensures.asked.reaches) (give_makes c.kill.ensures.touches)));
+}
 
 pub returns-in-Err-kill-clause-wrote : goal.returns-in-Err-kill-clause-wrote
 returns-in-Err-kill-clause-wrote g c = wrote_so (makes_then (reached_makes c.range_of.ensures.asked.reaches) (give_makes c.kill.ensures.touches))
 
 -- ---- It is done.
 
-pub returns-clause-carried : goal.returns-clause-carried
-returns-clause-carried g c = λ volume m r.
-    let whole = whole_of c.args.core.now c.requires.size in
-    let x = r.session.stands.memory in
-    let named = r.session.stands.is.named in
-    let revealed = knows running_laws whole r in
-    let asked = c.range_of.ensures.asked in
-    let found = found_run m.spaces c.args.space c.in-Ok-Ok.found c.in-Ok-Ok.field-0 c.in-Ok-Ok.field-0-is (c.in-Ok-Ok.ensures.answer x named m.spaces revealed) in
-    let free = kill_there m c.args.space found.0 in
-    let then_whole = whole_after whole asked.reaches in
-    let then_runs = still_runs running_laws whole r (came_own asked.reaches asked.came asked.same asked.intervals) in
-    let y = then_runs.session.stands.memory in
-    let triples = then_runs.session.stands.is.named in
-    let then_revealed = knows running_laws then_whole then_runs in
-    let s = found.1.0 in
-    let run = found.1.2 in
-    record {
-      allowed = allowed_done m (call.Kill c.args.space) reply.Done free refl;
-      runs = kill_runs running_laws then_whole then_runs c.kill.ensures.intervals c.kill.ensures.touches.layout c.args.space s free found.1.1
-          (c.kill.ensures.killed y triples m.spaces s then_revealed (ap (λ (q : ℕ × ℕ). q.0) (sym run)) (ap (λ (q : ℕ × ℕ). q.1) (sym run)))
-          c.kill.ensures.came (λ z is. c.kill.ensures.known y z triples m.spaces then_revealed is);
-    }
+pub returns-clause-answers : goal.returns-clause-answers
+returns-clause-answers g c = λ volume m r. record {
+  carried = (let whole = whole_of c.args.core.now c.requires.size in
+      let x = r.session.stands.memory in
+      let named = r.session.stands.is.named in
+      let revealed = knows running_laws whole r in
+      let asked = c.range_of.ensures.asked in
+      let found = found_run m.spaces c.args.space c.in-Ok-Ok.found c.in-Ok-Ok.field-0 c.in-Ok-Ok.field-0-is (c.in-Ok-Ok.ensures.answer x named m.spaces revealed) in
+      let free = kill_there m c.args.space found.0 in
+      let then_whole = whole_after whole asked.reaches in
+      let then_runs = still_runs running_laws whole r (came_own asked.reaches asked.came asked.same asked.intervals) in
+      let y = then_runs.session.stands.memory in
+      let triples = then_runs.session.stands.is.named in
+      let then_revealed = knows running_laws then_whole then_runs in
+      let s = found.1.0 in
+      let run = found.1.2 in
+      record {
+        allowed = allowed_done m (call.Kill c.args.space) reply.Done free refl;
+        runs = kill_runs running_laws then_whole then_runs c.kill.ensures.intervals c.kill.ensures.touches.layout c.args.space s free found.1.1
+            (c.kill.ensures.killed y triples m.spaces s then_revealed (ap (λ (q : ℕ × ℕ). q.0) (sym run)) (ap (λ (q : ℕ × ℕ). q.1) (sym run)))
+            c.kill.ensures.came (λ z is. c.kill.ensures.known y z triples m.spaces then_revealed is);
+      });
+  sound = tt;
+  passes = (still_reveals running_laws (whole_of c.args.core.now c.requires.size) r (state c.kill.new.self) (λ d revealed. g.met.D.Disk.in_form (disk_of c.args.core.now.filer) d revealed) (call.Kill c.args.space) (makes_then (reached_makes c.range_of.ensures.asked.reaches) (give_makes c.kill.ensures.touches)));
+}
 
 pub returns-clause-gone : goal.returns-clause-gone
 returns-clause-gone g c = λ volume m s r there.
@@ -119,11 +120,7 @@ returns-clause-gone g c = λ volume m s r there.
     let named = r.session.stands.is.named in
     let revealed = knows running_laws whole r in
     let found = found_run m.spaces c.args.space c.in-Ok-Ok.found c.in-Ok-Ok.field-0 c.in-Ok-Ok.field-0-is (c.in-Ok-Ok.ensures.answer x named m.spaces revealed) in
-    of_space m.spaces c.args.space s c.in-Ok-Ok.found (AreWritableSo (is_absent c.kill.new.self.filer.swapper.pool) m.spaces) found.1 there (c.in-Ok.ensures.gone x named m.spaces (c.range_of.ensures.asked.same x named m.spaces revealed))
-
-pub returns-clause-passes : goal.returns-clause-passes
-returns-clause-passes g c = λ volume m r.
-    still_reveals running_laws (whole_of c.args.core.now c.requires.size) r (state c.kill.new.self) (λ d revealed. g.met.D.Disk.in_form c.args.core.now.filer.swapper.disk d revealed) (call.Kill c.args.space) (makes_then (reached_makes c.range_of.ensures.asked.reaches) (give_makes c.kill.ensures.touches))
+    of_space m.spaces c.args.space s c.in-Ok-Ok.found (AreWritableSo (is_absent (state c.kill.new.self).slots) m.spaces) found.1 there (c.in-Ok.ensures.gone x named m.spaces (c.range_of.ensures.asked.same x named m.spaces revealed))
 
 pub returns-clause-wrote : goal.returns-clause-wrote
 returns-clause-wrote g c = wrote_so (makes_then (reached_makes c.range_of.ensures.asked.reaches) (give_makes c.kill.ensures.touches))
@@ -131,15 +128,15 @@ returns-clause-wrote g c = wrote_so (makes_then (reached_makes c.range_of.ensure
 -- ---- Why it failed.
 
 pub returns-in-Err-clause-cause : goal.returns-in-Err-clause-cause
-returns-in-Err-clause-cause g c = asked_halt (state c.args.core.now) (state c.range_of.new.core) c.args.core.now.filer.swapper.accepted c.args.space c.args.core.now.intervals c.in-Err.halt c.in-Err.ensures.cause
+returns-in-Err-clause-cause g c = asked_halt (state c.args.core.now) (state c.range_of.new.core) (accepted c.args.core.now.filer) c.args.space c.args.core.now.intervals c.in-Err.halt c.in-Err.ensures.cause
 
 pub returns-in-Err-kill-clause-cause : goal.returns-in-Err-kill-clause-cause
 returns-in-Err-kill-clause-cause g c =
     let asked = c.range_of.ensures.asked in
-    within_halt (state c.args.core.now) (state c.range_of.new.core) c.args.core.now.filer.swapper.accepted c.args.space asked.reaches c.args.core.now.intervals c.range_of.new.core.intervals asked.intervals (state c.kill.new.self) c.in-Ok-Ok.found (given_so (TablesSay (state c.args.core.now) (λ b. IsRunAt b c.args.space)) c.in-Ok-Ok.found c.in-Ok-Ok.field-0 c.in-Ok-Ok.field-0-is c.in-Ok-Ok.ensures.read) c.in-Err-kill.halt c.in-Err-kill.ensures.cause
+    within_halt (state c.args.core.now) (state c.range_of.new.core) (accepted c.args.core.now.filer) c.args.space asked.reaches c.args.core.now.intervals c.range_of.new.core.intervals asked.intervals (state c.kill.new.self) c.in-Ok-Ok.found (given_so (TablesSay (state c.args.core.now) (λ b. IsRunAt b c.args.space)) c.in-Ok-Ok.found c.in-Ok-Ok.field-0 c.in-Ok-Ok.field-0-is c.in-Ok-Ok.ensures.read) c.in-Err-kill.halt c.in-Err-kill.ensures.cause
 
 pub returns-in-Err-kill-clause-evidence_seen : goal.returns-in-Err-kill-clause-evidence_seen
-returns-in-Err-kill-clause-evidence_seen g c = shows_evidence _ (state c.range_of.new.core) (state c.kill.new.self) (fits c.range_of.new.core.filer.swapper (search rules)) c.kill.ensures.touches.goes.makes c.in-Err-kill.halt c.in-Err-kill.ensures.cause
+returns-in-Err-kill-clause-evidence_seen g c = shows_evidence _ (state c.range_of.new.core) (state c.kill.new.self) (fits (swapper_of c.range_of.new.core.filer) (search rules)) c.kill.ensures.touches.goes.makes c.in-Err-kill.halt c.in-Err-kill.ensures.cause
 
 -- ---- No table was asked but for the space.
 
@@ -156,7 +153,7 @@ returns-in-Err-kill-clause-idle g c = λ volume m s r there found.
     let run = found_run m.spaces c.args.space c.in-Ok-Ok.found c.in-Ok-Ok.field-0 c.in-Ok-Ok.field-0-is (c.in-Ok-Ok.ensures.answer r.session.stands.memory r.session.stands.is.named m.spaces revealed) in
     let here = of_run m.spaces c.args.space s c.in-Ok-Ok.found (AreFound (kept c.args.core.now)) run.1 there found in
     let e = c.in-Err-kill.ensures.idle (subst (λ (k : List Interval). AreFound k c.in-Ok-Ok.found.0 (c.in-Ok-Ok.found.0 + c.in-Ok-Ok.found.1)) (sym c.range_of.ensures.asked.kept) here) in
-    let same : (g.D.Disk.state c.kill.new.self.filer.swapper.disk).transfers ≡ (g.D.Disk.state c.range_of.new.core.filer.swapper.disk).transfers = λ i. (e.1 i).transfers in
+    let same : (state c.kill.new.self).disk.transfers ≡ (state c.range_of.new.core).disk.transfers = λ i. (e.1 i).transfers in
     let cost = c.range_of.ensures.cost in
     omega (arith, same, cost)
 
@@ -167,7 +164,7 @@ returns-clause-idle g c = λ volume m s r there found.
     let run = found_run m.spaces c.args.space c.in-Ok-Ok.found c.in-Ok-Ok.field-0 c.in-Ok-Ok.field-0-is (c.in-Ok-Ok.ensures.answer r.session.stands.memory r.session.stands.is.named m.spaces revealed) in
     let here = of_run m.spaces c.args.space s c.in-Ok-Ok.found (AreFound (kept c.args.core.now)) run.1 there found in
     let e = c.in-Ok.ensures.idle (subst (λ (k : List Interval). AreFound k c.in-Ok-Ok.found.0 (c.in-Ok-Ok.found.0 + c.in-Ok-Ok.found.1)) (sym c.range_of.ensures.asked.kept) here) in
-    let same : (g.D.Disk.state c.kill.new.self.filer.swapper.disk).transfers ≡ (g.D.Disk.state c.range_of.new.core.filer.swapper.disk).transfers = λ i. (e.1 i).transfers in
+    let same : (state c.kill.new.self).disk.transfers ≡ (state c.range_of.new.core).disk.transfers = λ i. (e.1 i).transfers in
     let cost = c.range_of.ensures.cost in
     omega (arith, same, cost)
 
@@ -180,10 +177,10 @@ pub returns-in-Err-clause-moves : goal.returns-in-Err-clause-moves
 returns-in-Err-clause-moves g c = moves_of_reaches (state c.args.core.now) (state c.range_of.new.core) c.range_of.ensures.asked.reaches
 
 pub returns-in-Err-kill-clause-moves : goal.returns-in-Err-kill-clause-moves
-returns-in-Err-kill-clause-moves g c = moves_after (state c.args.core.now) (state c.range_of.new.core) (state c.kill.new.self) c.args.core.now.filer.swapper.accepted c.range_of.ensures.asked.reaches (moves_of_touches (state c.range_of.new.core) (state c.kill.new.self) no_page c.kill.ensures.touches)
+returns-in-Err-kill-clause-moves g c = moves_after (state c.args.core.now) (state c.range_of.new.core) (state c.kill.new.self) (accepted c.args.core.now.filer) c.range_of.ensures.asked.reaches (moves_of_touches (state c.range_of.new.core) (state c.kill.new.self) no_page c.kill.ensures.touches)
 
 pub returns-clause-moves : goal.returns-clause-moves
-returns-clause-moves g c = moves_after (state c.args.core.now) (state c.range_of.new.core) (state c.kill.new.self) c.args.core.now.filer.swapper.accepted c.range_of.ensures.asked.reaches (moves_of_touches (state c.range_of.new.core) (state c.kill.new.self) no_page c.kill.ensures.touches)
+returns-clause-moves g c = moves_after (state c.args.core.now) (state c.range_of.new.core) (state c.kill.new.self) (accepted c.args.core.now.filer) c.range_of.ensures.asked.reaches (moves_of_touches (state c.range_of.new.core) (state c.kill.new.self) no_page c.kill.ensures.touches)
 
 -- ---- The tables are revealed.
 

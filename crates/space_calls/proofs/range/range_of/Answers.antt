@@ -3,6 +3,7 @@ use Rattle.fault_core.specs.Core.{state}
 use Rattle.filer_kernel.specs.EvidenceLaws.{fits}
 use Rattle.fault_core.proofs.EvidenceLemmas.{if_so}
 use Rattle.space_calls.proofs.range.range_of.Goals as goal
+use Rattle.filer_kernel.specs.View.{swapper_of}
 
 pub returns-clause-answer : goal.returns-clause-answer
 returns-clause-answer g c = rw c.frame_count-frames.ensures.same at c.bounds.ensures.answer
@@ -19,7 +20,7 @@ returns-clause-cause g c = rw c.frame_count-frames.ensures.same at c.bounds.ensu
 -- ---- What its evidence says is so.
 
 pub returns-clause-evidence_seen : goal.returns-clause-evidence_seen
-returns-clause-evidence_seen g c = if_so c.bounds.result _ (state c.frame_count-frames.new.core) (state c.bounds.new.core) (fits c.frame_count-frames.new.core.filer.swapper (search rules)) c.bounds.ensures.asked.reaches.goes.makes c.bounds.ensures.cause
+returns-clause-evidence_seen g c = if_so c.bounds.result _ (state c.frame_count-frames.new.core) (state c.bounds.new.core) (fits (swapper_of c.frame_count-frames.new.core.filer) (search rules)) c.bounds.ensures.asked.reaches.goes.makes c.bounds.ensures.cause
 
 -- ---- The tables are revealed.
 

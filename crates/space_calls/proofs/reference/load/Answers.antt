@@ -17,36 +17,43 @@ use Rattle.fault_core.proofs.EvidenceLemmas.{touch_so}
 use Rattle.running_words.specs.MovingLaws.{moves_of_reaches}
 use Rattle.space_calls.specs.FilesLaws.{shown_here}
 use Rattle.space_calls.proofs.reference.load.Goals as goal
+use Rattle.filer_kernel.specs.View.{disk_of, swapper_of}
 
 -- ---- The bytes were loaded.
 
-pub returns-in-Ok-Done-clause-carried : goal.returns-in-Ok-Done-clause-carried
-returns-in-Ok-Done-clause-carried g c =
+pub returns-in-Ok-Done-clause-answers : goal.returns-in-Ok-Done-clause-answers
+returns-in-Ok-Done-clause-answers g c =
     let long : length c.load.new.into ≡ c.args.count = search rules in
     let came : Came (state c.args.core.now) (state c.load.new.self) (kept c.args.core.now) (kept c.load.new.self) c.args.core.now.intervals c.load.new.self.intervals =
     record { reaches = c.load.ensures.reaches; brings = c.load.ensures.came; known = c.load.ensures.same; same_count = c.load.ensures.intervals } in
-    λ volume m r.
-    let done = load_carried running_laws (whole_of c.args.core.now c.requires.size) r came c.args.address c.args.count _ c.load.new.into c.in-Ok-Done.field-0 access.Done
-    c.load.ensures.width long c.in-Ok-Done.field-0-is c.in-Ok-Done.ensures.access c.in-Ok-Done.ensures.bytes in
-    record { allowed = subst (λ (b : List ℕ). Allows m (call.Load c.args.address c.args.count) (reply.Bytes b)) (sym c.of.ensures) done.0; runs = done.1 }
+    λ volume m r. record {
+      carried = (let done = load_carried running_laws (whole_of c.args.core.now c.requires.size) r came c.args.address c.args.count _ c.load.new.into c.in-Ok-Done.field-0 access.Done
+          c.load.ensures.width long c.in-Ok-Done.field-0-is c.in-Ok-Done.ensures.access c.in-Ok-Done.ensures.bytes in
+          record { allowed = subst (λ (b : List ℕ). Allows m (call.Load c.args.address c.args.count) (reply.Bytes b)) (sym c.of.ensures) done.0; runs = done.1 });
+      sound = tt;
+      passes = (still_reveals running_laws (whole_of c.args.core.now c.requires.size) r (state c.load.new.self) (λ d revealed. g.met.D.Disk.in_form (disk_of c.args.core.now.filer) d revealed) (call.Load c.args.address c.args.count) (reached_makes c.load.ensures.reaches));
+    }
 
 pub returns-in-Ok-Done-clause-ready : goal.returns-in-Ok-Done-clause-ready
 returns-in-Ok-Done-clause-ready g c =
     let long : length c.load.new.into ≡ c.args.count = search rules in
     λ volume m r free.
-    subst (λ (n : ℕ). IsReady (kept c.load.new.self) c.load.new.self.filer.swapper.pool (last_page c.args.address n)) (sym c.load.ensures.width ∙ long) (c.in-Ok-Done.ensures.ready c.in-Ok-Done.field-0-is)
+    subst (λ (n : ℕ). IsReady (kept c.load.new.self) (state c.load.new.self).slots (last_page c.args.address n)) (sym c.load.ensures.width ∙ long) (c.in-Ok-Done.ensures.ready c.in-Ok-Done.field-0-is)
 
 -- ---- It was refused (NoMap).
 
-pub returns-in-Ok-NoMap-clause-carried : goal.returns-in-Ok-NoMap-clause-carried
-returns-in-Ok-NoMap-clause-carried g c =
+pub returns-in-Ok-NoMap-clause-answers : goal.returns-in-Ok-NoMap-clause-answers
+returns-in-Ok-NoMap-clause-answers g c =
     let long : length c.load.new.into ≡ c.args.count = search rules in
     let came : Came (state c.args.core.now) (state c.load.new.self) (kept c.args.core.now) (kept c.load.new.self) c.args.core.now.intervals c.load.new.self.intervals =
     record { reaches = c.load.ensures.reaches; brings = c.load.ensures.came; known = c.load.ensures.same; same_count = c.load.ensures.intervals } in
-    λ volume m r.
-    let done = load_carried running_laws (whole_of c.args.core.now c.requires.size) r came c.args.address c.args.count _ c.load.new.into c.in-Ok-NoMap.field-0 (access.NoMap c.in-Ok-NoMap.page)
-    c.load.ensures.width long c.in-Ok-NoMap.field-0-is c.in-Ok-NoMap.ensures.access c.in-Ok-NoMap.ensures.bytes in
-    record { allowed = done.0; runs = done.1 }
+    λ volume m r. record {
+      carried = (let done = load_carried running_laws (whole_of c.args.core.now c.requires.size) r came c.args.address c.args.count _ c.load.new.into c.in-Ok-NoMap.field-0 (access.NoMap c.in-Ok-NoMap.page)
+          c.load.ensures.width long c.in-Ok-NoMap.field-0-is c.in-Ok-NoMap.ensures.access c.in-Ok-NoMap.ensures.bytes in
+          record { allowed = done.0; runs = done.1 });
+      sound = tt;
+      passes = (still_reveals running_laws (whole_of c.args.core.now c.requires.size) r (state c.load.new.self) (λ d revealed. g.met.D.Disk.in_form (disk_of c.args.core.now.filer) d revealed) (call.Load c.args.address c.args.count) (reached_makes c.load.ensures.reaches));
+    }
 
 pub returns-in-Ok-NoMap-clause-ready : goal.returns-in-Ok-NoMap-clause-ready
 returns-in-Ok-NoMap-clause-ready g c =
@@ -57,15 +64,18 @@ returns-in-Ok-NoMap-clause-ready g c =
 
 -- ---- It was refused (ReadOnly).
 
-pub returns-in-Ok-ReadOnly-clause-carried : goal.returns-in-Ok-ReadOnly-clause-carried
-returns-in-Ok-ReadOnly-clause-carried g c =
+pub returns-in-Ok-ReadOnly-clause-answers : goal.returns-in-Ok-ReadOnly-clause-answers
+returns-in-Ok-ReadOnly-clause-answers g c =
     let long : length c.load.new.into ≡ c.args.count = search rules in
     let came : Came (state c.args.core.now) (state c.load.new.self) (kept c.args.core.now) (kept c.load.new.self) c.args.core.now.intervals c.load.new.self.intervals =
     record { reaches = c.load.ensures.reaches; brings = c.load.ensures.came; known = c.load.ensures.same; same_count = c.load.ensures.intervals } in
-    λ volume m r.
-    let done = load_carried running_laws (whole_of c.args.core.now c.requires.size) r came c.args.address c.args.count _ c.load.new.into c.in-Ok-ReadOnly.field-0 (access.ReadOnly c.in-Ok-ReadOnly.page)
-    c.load.ensures.width long c.in-Ok-ReadOnly.field-0-is c.in-Ok-ReadOnly.ensures.access c.in-Ok-ReadOnly.ensures.bytes in
-    record { allowed = done.0; runs = done.1 }
+    λ volume m r. record {
+      carried = (let done = load_carried running_laws (whole_of c.args.core.now c.requires.size) r came c.args.address c.args.count _ c.load.new.into c.in-Ok-ReadOnly.field-0 (access.ReadOnly c.in-Ok-ReadOnly.page)
+          c.load.ensures.width long c.in-Ok-ReadOnly.field-0-is c.in-Ok-ReadOnly.ensures.access c.in-Ok-ReadOnly.ensures.bytes in
+          record { allowed = done.0; runs = done.1 });
+      sound = tt;
+      passes = (still_reveals running_laws (whole_of c.args.core.now c.requires.size) r (state c.load.new.self) (λ d revealed. g.met.D.Disk.in_form (disk_of c.args.core.now.filer) d revealed) (call.Load c.args.address c.args.count) (reached_makes c.load.ensures.reaches));
+    }
 
 pub returns-in-Ok-ReadOnly-clause-ready : goal.returns-in-Ok-ReadOnly-clause-ready
 returns-in-Ok-ReadOnly-clause-ready g c =
@@ -76,44 +86,31 @@ returns-in-Ok-ReadOnly-clause-ready g c =
 
 -- ---- Whatever it came to.
 
-pub returns-in-Ok-Done-clause-passes : goal.returns-in-Ok-Done-clause-passes
-returns-in-Ok-Done-clause-passes g c = λ volume m r.
-    still_reveals running_laws (whole_of c.args.core.now c.requires.size) r (state c.load.new.self) (λ d revealed. g.met.D.Disk.in_form c.args.core.now.filer.swapper.disk d revealed) (call.Load c.args.address c.args.count) (reached_makes c.load.ensures.reaches)
-
 pub returns-in-Ok-Done-clause-wrote : goal.returns-in-Ok-Done-clause-wrote
 returns-in-Ok-Done-clause-wrote g c = wrote_so (reached_makes c.load.ensures.reaches)
-
-pub returns-in-Ok-NoMap-clause-passes : goal.returns-in-Ok-NoMap-clause-passes
-returns-in-Ok-NoMap-clause-passes g c = λ volume m r.
-    still_reveals running_laws (whole_of c.args.core.now c.requires.size) r (state c.load.new.self) (λ d revealed. g.met.D.Disk.in_form c.args.core.now.filer.swapper.disk d revealed) (call.Load c.args.address c.args.count) (reached_makes c.load.ensures.reaches)
 
 pub returns-in-Ok-NoMap-clause-wrote : goal.returns-in-Ok-NoMap-clause-wrote
 returns-in-Ok-NoMap-clause-wrote g c = wrote_so (reached_makes c.load.ensures.reaches)
 
-pub returns-in-Ok-ReadOnly-clause-passes : goal.returns-in-Ok-ReadOnly-clause-passes
-returns-in-Ok-ReadOnly-clause-passes g c = λ volume m r.
-    still_reveals running_laws (whole_of c.args.core.now c.requires.size) r (state c.load.new.self) (λ d revealed. g.met.D.Disk.in_form c.args.core.now.filer.swapper.disk d revealed) (call.Load c.args.address c.args.count) (reached_makes c.load.ensures.reaches)
-
 pub returns-in-Ok-ReadOnly-clause-wrote : goal.returns-in-Ok-ReadOnly-clause-wrote
 returns-in-Ok-ReadOnly-clause-wrote g c = wrote_so (reached_makes c.load.ensures.reaches)
 
-pub returns-in-Err-clause-passes : goal.returns-in-Err-clause-passes
-returns-in-Err-clause-passes g c = λ volume m r.
-    still_reveals running_laws (whole_of c.args.core.now c.requires.size) r (state c.load.new.self) (λ d revealed. g.met.D.Disk.in_form c.args.core.now.filer.swapper.disk d revealed) (call.Load c.args.address c.args.count) (reached_makes c.load.ensures.reaches)
+pub returns-in-Err-clause-answers : goal.returns-in-Err-clause-answers
+returns-in-Err-clause-answers g c = λ volume m r. record {
+  carried = tt;
+  sound = (c.in-Err.ensures.sound r.session.stands.memory r.session.stands.is.named m.spaces (knows running_laws (whole_of c.args.core.now c.requires.size) r));
+  passes = (still_reveals running_laws (whole_of c.args.core.now c.requires.size) r (state c.load.new.self) (λ d revealed. g.met.D.Disk.in_form (disk_of c.args.core.now.filer) d revealed) (call.Load c.args.address c.args.count) (reached_makes c.load.ensures.reaches));
+}
 
 pub returns-in-Err-clause-wrote : goal.returns-in-Err-clause-wrote
 returns-in-Err-clause-wrote g c = wrote_so (reached_makes c.load.ensures.reaches)
-
-pub returns-in-Err-clause-sound : goal.returns-in-Err-clause-sound
-returns-in-Err-clause-sound g c = λ volume m r.
-    c.in-Err.ensures.sound r.session.stands.memory r.session.stands.is.named m.spaces (knows running_laws (whole_of c.args.core.now c.requires.size) r)
 
 pub returns-in-Ok-Done-clause-idle : goal.returns-in-Ok-Done-clause-idle
 returns-in-Ok-Done-clause-idle g c =
     let long : length c.load.new.into ≡ c.args.count = search rules in
     λ volume m r first last.
     let apart = running_laws.apart (state c.args.core.now) (kept c.args.core.now) c.args.core.now.intervals volume m r in
-    let two = c.in-Ok-Done.ensures.idle first (subst (λ (n : ℕ). IsReady (kept c.args.core.now) c.args.core.now.filer.swapper.pool (last_page c.args.address n)) (sym long ∙ c.load.ensures.width) last) apart in
+    let two = c.in-Ok-Done.ensures.idle first (subst (λ (n : ℕ). IsReady (kept c.args.core.now) (state c.args.core.now).slots (last_page c.args.address n)) (sym long ∙ c.load.ensures.width) last) apart in
     (refl, two.1, two.2)
 
 pub returns-in-Ok-NoMap-clause-idle : goal.returns-in-Ok-NoMap-clause-idle
@@ -121,7 +118,7 @@ returns-in-Ok-NoMap-clause-idle g c =
     let long : length c.load.new.into ≡ c.args.count = search rules in
     λ volume m r first last.
     let apart = running_laws.apart (state c.args.core.now) (kept c.args.core.now) c.args.core.now.intervals volume m r in
-    let two = c.in-Ok-NoMap.ensures.idle first (subst (λ (n : ℕ). IsReady (kept c.args.core.now) c.args.core.now.filer.swapper.pool (last_page c.args.address n)) (sym long ∙ c.load.ensures.width) last) apart in
+    let two = c.in-Ok-NoMap.ensures.idle first (subst (λ (n : ℕ). IsReady (kept c.args.core.now) (state c.args.core.now).slots (last_page c.args.address n)) (sym long ∙ c.load.ensures.width) last) apart in
     (refl, two.1, two.2)
 
 pub returns-in-Ok-ReadOnly-clause-idle : goal.returns-in-Ok-ReadOnly-clause-idle
@@ -129,7 +126,7 @@ returns-in-Ok-ReadOnly-clause-idle g c =
     let long : length c.load.new.into ≡ c.args.count = search rules in
     λ volume m r first last.
     let apart = running_laws.apart (state c.args.core.now) (kept c.args.core.now) c.args.core.now.intervals volume m r in
-    let two = c.in-Ok-ReadOnly.ensures.idle first (subst (λ (n : ℕ). IsReady (kept c.args.core.now) c.args.core.now.filer.swapper.pool (last_page c.args.address n)) (sym long ∙ c.load.ensures.width) last) apart in
+    let two = c.in-Ok-ReadOnly.ensures.idle first (subst (λ (n : ℕ). IsReady (kept c.args.core.now) (state c.args.core.now).slots (last_page c.args.address n)) (sym long ∙ c.load.ensures.width) last) apart in
     (refl, two.1, two.2)
 
 pub returns-in-Err-clause-idle : goal.returns-in-Err-clause-idle
@@ -137,7 +134,7 @@ returns-in-Err-clause-idle g c =
     let long : length c.load.new.into ≡ c.args.count = search rules in
     λ volume m r first last.
     let apart = running_laws.apart (state c.args.core.now) (kept c.args.core.now) c.args.core.now.intervals volume m r in
-    let two = c.in-Err.ensures.idle first (subst (λ (n : ℕ). IsReady (kept c.args.core.now) c.args.core.now.filer.swapper.pool (last_page c.args.address n)) (sym long ∙ c.load.ensures.width) last) apart in
+    let two = c.in-Err.ensures.idle first (subst (λ (n : ℕ). IsReady (kept c.args.core.now) (state c.args.core.now).slots (last_page c.args.address n)) (sym long ∙ c.load.ensures.width) last) apart in
     (two.0, two.1, two.2)
 
 pub returns-in-Err-clause-cause : goal.returns-in-Err-clause-cause
@@ -151,7 +148,7 @@ returns-in-Err-clause-missing g c =
     λ ss s. subst (λ (n : ℕ). MissesPage (shown_units ss c.args.address n) c.in-Err.halt) (sym c.load.ensures.width ∙ long) (c.in-Err.ensures.missing ss s)
 
 pub returns-in-Err-clause-evidence_seen : goal.returns-in-Err-clause-evidence_seen
-returns-in-Err-clause-evidence_seen g c = touch_so _ (state c.args.core.now) (state c.load.new.self) (fits c.args.core.now.filer.swapper c.requires.size) c.load.ensures.reaches.goes.makes c.in-Err.halt c.in-Err.ensures.cause
+returns-in-Err-clause-evidence_seen g c = touch_so _ (state c.args.core.now) (state c.load.new.self) (fits (swapper_of c.args.core.now.filer) c.requires.size) c.load.ensures.reaches.goes.makes c.in-Err.halt c.in-Err.ensures.cause
 
 -- ---- No label was written.
 

@@ -16,62 +16,61 @@ use Rattle.fault_core.proofs.EvidenceLemmas.{touch_so}
 use Rattle.running_words.specs.MovingLaws.{moves_of_touches}
 use Rattle.space_calls.specs.FilesLaws.{shown_here}
 use Rattle.space_calls.proofs.reference.store.Goals as goal
+use Rattle.filer_kernel.specs.View.{disk_of, swapper_of}
 
 -- ---- The bytes were stored.
 
-pub returns-in-Ok-Done-clause-carried : goal.returns-in-Ok-Done-clause-carried
-returns-in-Ok-Done-clause-carried g c = λ volume m r.
-    let typed : AreBytes c.args.bytes.now = are_bytes c.args.bytes.now (λ k. let fits = c.type_inv.bytes k in omega (arith, fits)) in
-    let whole = whole_of c.args.core.now c.requires.size in
-    let x = r.session.stands.memory in
-    let named = r.session.stands.is.named in
-    let revealed = knows running_laws whole r in
-    record {
-      allowed = store_allowed running_laws whole r c.args.address c.args.bytes.now c.in-Ok-Done.field-0 access.Done c.in-Ok-Done.field-0-is c.in-Ok-Done.ensures.access;
-      runs = store_runs running_laws whole r c.store.ensures.intervals c.store.ensures.touches.layout c.args.address c.args.bytes.now typed
-          (sym c.in-Ok-Done.field-0-is ∙ c.in-Ok-Done.ensures.access x named m.spaces revealed)
-          (subst (λ (a : Access). Goes (StoresAs a m.spaces c.args.address c.args.bytes.now) (IsTouchedOrOwn m.spaces c.args.address (length c.args.bytes.now)) [] (state c.args.core.now).disk (state c.args.core.now).slots (state c.store.new.self).disk (state c.store.new.self).slots)
-          c.in-Ok-Done.field-0-is (c.in-Ok-Done.ensures.stored x named m.spaces revealed))
-          (c.store.ensures.came x named m.spaces revealed) (λ y is. c.store.ensures.known x y named m.spaces revealed is);
-    }
-
-pub returns-in-Ok-Done-clause-passes : goal.returns-in-Ok-Done-clause-passes
-returns-in-Ok-Done-clause-passes g c = λ volume m r.
-    let typed : AreBytes c.args.bytes.now = are_bytes c.args.bytes.now (λ k. let fits = c.type_inv.bytes k in omega (arith, fits)) in
-    let whole = whole_of c.args.core.now c.requires.size in
-    let x = r.session.stands.memory in
-    let named = r.session.stands.is.named in
-    let revealed = knows running_laws whole r in
-    store_reveals running_laws whole r (λ d revealed. g.met.D.Disk.in_form c.args.core.now.filer.swapper.disk d revealed) (state c.store.new.self) c.args.address c.args.bytes.now typed c.requires.few
-    (c.in-Ok-Done.ensures.stored x named m.spaces revealed).makes (c.store.ensures.tested x named m.spaces revealed)
+pub returns-in-Ok-Done-clause-answers : goal.returns-in-Ok-Done-clause-answers
+returns-in-Ok-Done-clause-answers g c = λ volume m r. record {
+  carried = (let typed : AreBytes c.args.bytes.now = are_bytes c.args.bytes.now (λ k. let fits = c.type_inv.bytes k in omega (arith, fits)) in
+      let whole = whole_of c.args.core.now c.requires.size in
+      let x = r.session.stands.memory in
+      let named = r.session.stands.is.named in
+      let revealed = knows running_laws whole r in
+      record {
+        allowed = store_allowed running_laws whole r c.args.address c.args.bytes.now c.in-Ok-Done.field-0 access.Done c.in-Ok-Done.field-0-is c.in-Ok-Done.ensures.access;
+        runs = store_runs running_laws whole r c.store.ensures.intervals c.store.ensures.touches.layout c.args.address c.args.bytes.now typed
+            (sym c.in-Ok-Done.field-0-is ∙ c.in-Ok-Done.ensures.access x named m.spaces revealed)
+            (subst (λ (a : Access). Goes (StoresAs a m.spaces c.args.address c.args.bytes.now) (IsTouchedOrOwn m.spaces c.args.address (length c.args.bytes.now)) [] (state c.args.core.now).disk (state c.args.core.now).slots (state c.store.new.self).disk (state c.store.new.self).slots)
+            c.in-Ok-Done.field-0-is (c.in-Ok-Done.ensures.stored x named m.spaces revealed))
+            (c.store.ensures.came x named m.spaces revealed) (λ y is. c.store.ensures.known x y named m.spaces revealed is);
+      });
+  sound = tt;
+  passes = (let typed : AreBytes c.args.bytes.now = are_bytes c.args.bytes.now (λ k. let fits = c.type_inv.bytes k in omega (arith, fits)) in
+      let whole = whole_of c.args.core.now c.requires.size in
+      let x = r.session.stands.memory in
+      let named = r.session.stands.is.named in
+      let revealed = knows running_laws whole r in
+      store_reveals running_laws whole r (λ d revealed. g.met.D.Disk.in_form (disk_of c.args.core.now.filer) d revealed) (state c.store.new.self) c.args.address c.args.bytes.now typed (omega (arith, c.requires.few))
+      (c.in-Ok-Done.ensures.stored x named m.spaces revealed).makes (c.store.ensures.tested x named m.spaces revealed));
+}
 
 pub returns-in-Ok-Done-clause-ready : goal.returns-in-Ok-Done-clause-ready
 returns-in-Ok-Done-clause-ready g c = λ volume m r free. c.in-Ok-Done.ensures.ready c.in-Ok-Done.field-0-is
 
 -- ---- It was refused (NoMap).
 
-pub returns-in-Ok-NoMap-clause-carried : goal.returns-in-Ok-NoMap-clause-carried
-returns-in-Ok-NoMap-clause-carried g c = λ volume m r.
-    let whole = whole_of c.args.core.now c.requires.size in
-    let a = access.NoMap c.in-Ok-NoMap.page in
-    let came : Came (state c.args.core.now) (state c.store.new.self) (kept c.args.core.now) (kept c.store.new.self) c.args.core.now.intervals c.store.new.self.intervals =
-    refused_came (c.in-Ok-NoMap.ensures.refused (λ done. other_than_done a (λ no. no) (sym c.in-Ok-NoMap.field-0-is ∙ done))) c.store.ensures.came
-    (λ x named ss revealed. stays_where (state c.args.core.now) (state c.store.new.self) (access.NoMap c.in-Ok-NoMap.page) c.in-Ok-NoMap.field-0 ss c.args.address c.args.bytes.now x c.in-Ok-NoMap.field-0-is (λ no. no) revealed.known.stands (c.in-Ok-NoMap.ensures.stored x named ss revealed))
-    c.store.ensures.known c.store.ensures.intervals in
-    record {
-      allowed = store_allowed running_laws whole r c.args.address c.args.bytes.now c.in-Ok-NoMap.field-0 a c.in-Ok-NoMap.field-0-is c.in-Ok-NoMap.ensures.access;
-      runs = store_stays running_laws whole r c.args.address c.args.bytes.now (why.NoMap c.in-Ok-NoMap.page) (store_word running_laws whole r c.args.address c.args.bytes.now c.in-Ok-NoMap.field-0 a c.in-Ok-NoMap.field-0-is c.in-Ok-NoMap.ensures.access) came;
-    }
-
-pub returns-in-Ok-NoMap-clause-passes : goal.returns-in-Ok-NoMap-clause-passes
-returns-in-Ok-NoMap-clause-passes g c = λ volume m r.
-    let typed : AreBytes c.args.bytes.now = are_bytes c.args.bytes.now (λ k. let fits = c.type_inv.bytes k in omega (arith, fits)) in
-    let whole = whole_of c.args.core.now c.requires.size in
-    let x = r.session.stands.memory in
-    let named = r.session.stands.is.named in
-    let revealed = knows running_laws whole r in
-    store_reveals running_laws whole r (λ d revealed. g.met.D.Disk.in_form c.args.core.now.filer.swapper.disk d revealed) (state c.store.new.self) c.args.address c.args.bytes.now typed c.requires.few
-    (c.in-Ok-NoMap.ensures.stored x named m.spaces revealed).makes (c.store.ensures.tested x named m.spaces revealed)
+pub returns-in-Ok-NoMap-clause-answers : goal.returns-in-Ok-NoMap-clause-answers
+returns-in-Ok-NoMap-clause-answers g c = λ volume m r. record {
+  carried = (let whole = whole_of c.args.core.now c.requires.size in
+      let a = access.NoMap c.in-Ok-NoMap.page in
+      let came : Came (state c.args.core.now) (state c.store.new.self) (kept c.args.core.now) (kept c.store.new.self) c.args.core.now.intervals c.store.new.self.intervals =
+      refused_came (c.in-Ok-NoMap.ensures.refused (λ done. other_than_done a (λ no. no) (sym c.in-Ok-NoMap.field-0-is ∙ done))) c.store.ensures.came
+      (λ x named ss revealed. stays_where (state c.args.core.now) (state c.store.new.self) (access.NoMap c.in-Ok-NoMap.page) c.in-Ok-NoMap.field-0 ss c.args.address c.args.bytes.now x c.in-Ok-NoMap.field-0-is (λ no. no) revealed.known.stands (c.in-Ok-NoMap.ensures.stored x named ss revealed))
+      c.store.ensures.known c.store.ensures.intervals in
+      record {
+        allowed = store_allowed running_laws whole r c.args.address c.args.bytes.now c.in-Ok-NoMap.field-0 a c.in-Ok-NoMap.field-0-is c.in-Ok-NoMap.ensures.access;
+        runs = store_stays running_laws whole r c.args.address c.args.bytes.now (why.NoMap c.in-Ok-NoMap.page) (store_word running_laws whole r c.args.address c.args.bytes.now c.in-Ok-NoMap.field-0 a c.in-Ok-NoMap.field-0-is c.in-Ok-NoMap.ensures.access) came;
+      });
+  sound = tt;
+  passes = (let typed : AreBytes c.args.bytes.now = are_bytes c.args.bytes.now (λ k. let fits = c.type_inv.bytes k in omega (arith, fits)) in
+      let whole = whole_of c.args.core.now c.requires.size in
+      let x = r.session.stands.memory in
+      let named = r.session.stands.is.named in
+      let revealed = knows running_laws whole r in
+      store_reveals running_laws whole r (λ d revealed. g.met.D.Disk.in_form (disk_of c.args.core.now.filer) d revealed) (state c.store.new.self) c.args.address c.args.bytes.now typed (omega (arith, c.requires.few))
+      (c.in-Ok-NoMap.ensures.stored x named m.spaces revealed).makes (c.store.ensures.tested x named m.spaces revealed));
+}
 
 pub returns-in-Ok-NoMap-clause-ready : goal.returns-in-Ok-NoMap-clause-ready
 returns-in-Ok-NoMap-clause-ready g c = λ volume m r free.
@@ -79,28 +78,27 @@ returns-in-Ok-NoMap-clause-ready g c = λ volume m r free.
 
 -- ---- It was refused (ReadOnly).
 
-pub returns-in-Ok-ReadOnly-clause-carried : goal.returns-in-Ok-ReadOnly-clause-carried
-returns-in-Ok-ReadOnly-clause-carried g c = λ volume m r.
-    let whole = whole_of c.args.core.now c.requires.size in
-    let a = access.ReadOnly c.in-Ok-ReadOnly.page in
-    let came : Came (state c.args.core.now) (state c.store.new.self) (kept c.args.core.now) (kept c.store.new.self) c.args.core.now.intervals c.store.new.self.intervals =
-    refused_came (c.in-Ok-ReadOnly.ensures.refused (λ done. other_than_done a (λ no. no) (sym c.in-Ok-ReadOnly.field-0-is ∙ done))) c.store.ensures.came
-    (λ x named ss revealed. stays_where (state c.args.core.now) (state c.store.new.self) (access.ReadOnly c.in-Ok-ReadOnly.page) c.in-Ok-ReadOnly.field-0 ss c.args.address c.args.bytes.now x c.in-Ok-ReadOnly.field-0-is (λ no. no) revealed.known.stands (c.in-Ok-ReadOnly.ensures.stored x named ss revealed))
-    c.store.ensures.known c.store.ensures.intervals in
-    record {
-      allowed = store_allowed running_laws whole r c.args.address c.args.bytes.now c.in-Ok-ReadOnly.field-0 a c.in-Ok-ReadOnly.field-0-is c.in-Ok-ReadOnly.ensures.access;
-      runs = store_stays running_laws whole r c.args.address c.args.bytes.now (why.ReadOnly c.in-Ok-ReadOnly.page) (store_word running_laws whole r c.args.address c.args.bytes.now c.in-Ok-ReadOnly.field-0 a c.in-Ok-ReadOnly.field-0-is c.in-Ok-ReadOnly.ensures.access) came;
-    }
-
-pub returns-in-Ok-ReadOnly-clause-passes : goal.returns-in-Ok-ReadOnly-clause-passes
-returns-in-Ok-ReadOnly-clause-passes g c = λ volume m r.
-    let typed : AreBytes c.args.bytes.now = are_bytes c.args.bytes.now (λ k. let fits = c.type_inv.bytes k in omega (arith, fits)) in
-    let whole = whole_of c.args.core.now c.requires.size in
-    let x = r.session.stands.memory in
-    let named = r.session.stands.is.named in
-    let revealed = knows running_laws whole r in
-    store_reveals running_laws whole r (λ d revealed. g.met.D.Disk.in_form c.args.core.now.filer.swapper.disk d revealed) (state c.store.new.self) c.args.address c.args.bytes.now typed c.requires.few
-    (c.in-Ok-ReadOnly.ensures.stored x named m.spaces revealed).makes (c.store.ensures.tested x named m.spaces revealed)
+pub returns-in-Ok-ReadOnly-clause-answers : goal.returns-in-Ok-ReadOnly-clause-answers
+returns-in-Ok-ReadOnly-clause-answers g c = λ volume m r. record {
+  carried = (let whole = whole_of c.args.core.now c.requires.size in
+      let a = access.ReadOnly c.in-Ok-ReadOnly.page in
+      let came : Came (state c.args.core.now) (state c.store.new.self) (kept c.args.core.now) (kept c.store.new.self) c.args.core.now.intervals c.store.new.self.intervals =
+      refused_came (c.in-Ok-ReadOnly.ensures.refused (λ done. other_than_done a (λ no. no) (sym c.in-Ok-ReadOnly.field-0-is ∙ done))) c.store.ensures.came
+      (λ x named ss revealed. stays_where (state c.args.core.now) (state c.store.new.self) (access.ReadOnly c.in-Ok-ReadOnly.page) c.in-Ok-ReadOnly.field-0 ss c.args.address c.args.bytes.now x c.in-Ok-ReadOnly.field-0-is (λ no. no) revealed.known.stands (c.in-Ok-ReadOnly.ensures.stored x named ss revealed))
+      c.store.ensures.known c.store.ensures.intervals in
+      record {
+        allowed = store_allowed running_laws whole r c.args.address c.args.bytes.now c.in-Ok-ReadOnly.field-0 a c.in-Ok-ReadOnly.field-0-is c.in-Ok-ReadOnly.ensures.access;
+        runs = store_stays running_laws whole r c.args.address c.args.bytes.now (why.ReadOnly c.in-Ok-ReadOnly.page) (store_word running_laws whole r c.args.address c.args.bytes.now c.in-Ok-ReadOnly.field-0 a c.in-Ok-ReadOnly.field-0-is c.in-Ok-ReadOnly.ensures.access) came;
+      });
+  sound = tt;
+  passes = (let typed : AreBytes c.args.bytes.now = are_bytes c.args.bytes.now (λ k. let fits = c.type_inv.bytes k in omega (arith, fits)) in
+      let whole = whole_of c.args.core.now c.requires.size in
+      let x = r.session.stands.memory in
+      let named = r.session.stands.is.named in
+      let revealed = knows running_laws whole r in
+      store_reveals running_laws whole r (λ d revealed. g.met.D.Disk.in_form (disk_of c.args.core.now.filer) d revealed) (state c.store.new.self) c.args.address c.args.bytes.now typed (omega (arith, c.requires.few))
+      (c.in-Ok-ReadOnly.ensures.stored x named m.spaces revealed).makes (c.store.ensures.tested x named m.spaces revealed));
+}
 
 pub returns-in-Ok-ReadOnly-clause-ready : goal.returns-in-Ok-ReadOnly-clause-ready
 returns-in-Ok-ReadOnly-clause-ready g c = λ volume m r free.
@@ -108,19 +106,18 @@ returns-in-Ok-ReadOnly-clause-ready g c = λ volume m r free.
 
 -- ---- The disk failed.
 
-pub returns-in-Err-clause-passes : goal.returns-in-Err-clause-passes
-returns-in-Err-clause-passes g c = λ volume m r.
-    let typed : AreBytes c.args.bytes.now = are_bytes c.args.bytes.now (λ k. let fits = c.type_inv.bytes k in omega (arith, fits)) in
-    let whole = whole_of c.args.core.now c.requires.size in
-    let x = r.session.stands.memory in
-    let named = r.session.stands.is.named in
-    let revealed = knows running_laws whole r in
-    store_reveals running_laws whole r (λ d revealed. g.met.D.Disk.in_form c.args.core.now.filer.swapper.disk d revealed) (state c.store.new.self) c.args.address c.args.bytes.now typed c.requires.few
-    (c.in-Err.ensures.halted x named m.spaces revealed).makes (c.store.ensures.tested x named m.spaces revealed)
-
-pub returns-in-Err-clause-sound : goal.returns-in-Err-clause-sound
-returns-in-Err-clause-sound g c = λ volume m r.
-    c.in-Err.ensures.sound r.session.stands.memory r.session.stands.is.named m.spaces (knows running_laws (whole_of c.args.core.now c.requires.size) r)
+pub returns-in-Err-clause-answers : goal.returns-in-Err-clause-answers
+returns-in-Err-clause-answers g c = λ volume m r. record {
+  carried = tt;
+  sound = (c.in-Err.ensures.sound r.session.stands.memory r.session.stands.is.named m.spaces (knows running_laws (whole_of c.args.core.now c.requires.size) r));
+  passes = (let typed : AreBytes c.args.bytes.now = are_bytes c.args.bytes.now (λ k. let fits = c.type_inv.bytes k in omega (arith, fits)) in
+      let whole = whole_of c.args.core.now c.requires.size in
+      let x = r.session.stands.memory in
+      let named = r.session.stands.is.named in
+      let revealed = knows running_laws whole r in
+      store_reveals running_laws whole r (λ d revealed. g.met.D.Disk.in_form (disk_of c.args.core.now.filer) d revealed) (state c.store.new.self) c.args.address c.args.bytes.now typed (omega (arith, c.requires.few))
+      (c.in-Err.ensures.halted x named m.spaces revealed).makes (c.store.ensures.tested x named m.spaces revealed));
+}
 
 -- ---- Whatever it came to.
 
@@ -155,7 +152,7 @@ returns-in-Ok-ReadOnly-clause-idle g c = λ volume m r first last.
     (refl, two.1, two.2)
 
 pub returns-in-Err-clause-evidence_seen : goal.returns-in-Err-clause-evidence_seen
-returns-in-Err-clause-evidence_seen g c = touch_so _ (state c.args.core.now) (state c.store.new.self) (fits c.args.core.now.filer.swapper c.requires.size) c.store.ensures.touches.goes.makes c.in-Err.halt c.in-Err.ensures.cause
+returns-in-Err-clause-evidence_seen g c = touch_so _ (state c.args.core.now) (state c.store.new.self) (fits (swapper_of c.args.core.now.filer) c.requires.size) c.store.ensures.touches.goes.makes c.in-Err.halt c.in-Err.ensures.cause
 
 pub returns-in-Err-clause-idle : goal.returns-in-Err-clause-idle
 returns-in-Err-clause-idle g c = λ volume m r first last.

@@ -11,12 +11,13 @@ use Rattle.space_calls.specs.Sees.{IsShown, SeesFiles}
 use Rattle.space_calls.proofs.OnLemmas.{put_on}
 use Rattle.space_calls.proofs.SeesLemmas.{either_way}
 use Rattle.space_calls.proofs.spaces.make_space.Goals as goal
+use Rattle.filer_kernel.specs.View.{accepted, disk_of, swapper_of}
 
 pub returns-in-Err-clause-sound : goal.returns-in-Err-clause-sound
-returns-in-Err-clause-sound g c = λ volume m r. c.in-Err.ensures.sound _ _ m.spaces (knows c.args.core.now c.args.core.now.filer.swapper.accepted c.requires.size volume m r)
+returns-in-Err-clause-sound g c = λ volume m r. c.in-Err.ensures.sound _ _ m.spaces (knows c.args.core.now (accepted c.args.core.now.filer) c.requires.size volume m r)
 
 pub returns-in-Err-clause-passes : goal.returns-in-Err-clause-passes
-returns-in-Err-clause-passes g c = λ volume m r. quiet_passes c.args.core.now c.add.new.core volume m _ (g.met.D.Disk.in_form c.args.core.now.filer.swapper.disk) r (retabled_makes _ _ c.add.ensures.retabled)
+returns-in-Err-clause-passes g c = λ volume m r. quiet_passes c.args.core.now c.add.new.core volume m _ (g.met.D.Disk.in_form (disk_of c.args.core.now.filer)) r (retabled_makes _ _ c.add.ensures.retabled)
 
 pub returns-in-Err-clause-wrote : goal.returns-in-Err-clause-wrote
 returns-in-Err-clause-wrote g c = nothing_labelled (retabled_makes _ _ c.add.ensures.retabled)
@@ -24,13 +25,13 @@ returns-in-Err-clause-wrote g c = nothing_labelled (retabled_makes _ _ c.add.ens
 pub returns-in-Ok-answer-clause-carried : goal.returns-in-Ok-answer-clause-carried
 returns-in-Ok-answer-clause-carried g c = λ volume m r.
     let old = c.args.core.now in
-    space_made old c.add.new.core c.frame_count-frames.new.core old.filer.swapper.accepted c.requires.size (g.met.D.Disk.in_form c.add.new.core.filer.swapper.disk)
+    space_made old c.add.new.core c.frame_count-frames.new.core (accepted old.filer) c.requires.size (g.met.D.Disk.in_form (disk_of c.add.new.core.filer))
     c.frame_count-frames.ensures.pages c.frame_count-frames.ensures.same c.add.ensures.retabled volume m r c.args.parent c.args.pages c.args.first c.in-Ok.answer c.in-Ok-answer.handle c.in-Ok-answer.first c.in-Ok-answer.is
-    (c.in-Ok.ensures.answer _ _ m.spaces (knows old old.filer.swapper.accepted c.requires.size volume m r))
+    (c.in-Ok.ensures.answer _ _ m.spaces (knows old (accepted old.filer) c.requires.size volume m r))
 
 pub returns-in-Ok-answer-clause-passes : goal.returns-in-Ok-answer-clause-passes
 returns-in-Ok-answer-clause-passes g c = λ volume m r.
-    quiet_passes c.args.core.now c.frame_count-frames.new.core volume m _ (g.met.D.Disk.in_form c.args.core.now.filer.swapper.disk) r (retabled_then _ _ _ c.add.ensures.retabled c.frame_count-frames.ensures.same)
+    quiet_passes c.args.core.now c.frame_count-frames.new.core volume m _ (g.met.D.Disk.in_form (disk_of c.args.core.now.filer)) r (retabled_then _ _ _ c.add.ensures.retabled c.frame_count-frames.ensures.same)
 
 pub returns-in-Ok-answer-clause-wrote : goal.returns-in-Ok-answer-clause-wrote
 returns-in-Ok-answer-clause-wrote g c = nothing_labelled (retabled_then _ _ _ c.add.ensures.retabled c.frame_count-frames.ensures.same)
@@ -38,13 +39,13 @@ returns-in-Ok-answer-clause-wrote g c = nothing_labelled (retabled_then _ _ _ c.
 pub returns-in-Err-answer-clause-carried : goal.returns-in-Err-answer-clause-carried
 returns-in-Err-answer-clause-carried g c = λ volume m r.
     let old = c.args.core.now in
-    make_refused old c.add.new.core c.frame_count-frames.new.core old.filer.swapper.accepted c.requires.size (g.met.D.Disk.in_form c.add.new.core.filer.swapper.disk)
+    make_refused old c.add.new.core c.frame_count-frames.new.core (accepted old.filer) c.requires.size (g.met.D.Disk.in_form (disk_of c.add.new.core.filer))
     c.frame_count-frames.ensures.pages c.frame_count-frames.ensures.same c.add.ensures.retabled volume m r c.args.parent c.args.pages c.args.first c.in-Ok.answer c.in-Err-answer.word c.in-Err-answer.is
-    (c.in-Ok.ensures.answer _ _ m.spaces (knows old old.filer.swapper.accepted c.requires.size volume m r))
+    (c.in-Ok.ensures.answer _ _ m.spaces (knows old (accepted old.filer) c.requires.size volume m r))
 
 pub returns-in-Err-answer-clause-passes : goal.returns-in-Err-answer-clause-passes
 returns-in-Err-answer-clause-passes g c = λ volume m r.
-    quiet_passes c.args.core.now c.frame_count-frames.new.core volume m _ (g.met.D.Disk.in_form c.args.core.now.filer.swapper.disk) r (retabled_then _ _ _ c.add.ensures.retabled c.frame_count-frames.ensures.same)
+    quiet_passes c.args.core.now c.frame_count-frames.new.core volume m _ (g.met.D.Disk.in_form (disk_of c.args.core.now.filer)) r (retabled_then _ _ _ c.add.ensures.retabled c.frame_count-frames.ensures.same)
 
 pub returns-in-Err-answer-clause-wrote : goal.returns-in-Err-answer-clause-wrote
 returns-in-Err-answer-clause-wrote g c = nothing_labelled (retabled_then _ _ _ c.add.ensures.retabled c.frame_count-frames.ensures.same)
@@ -52,7 +53,7 @@ returns-in-Err-answer-clause-wrote g c = nothing_labelled (retabled_then _ _ _ c
 -- ---- What its evidence says is so.
 
 pub returns-in-Err-clause-evidence_seen : goal.returns-in-Err-clause-evidence_seen
-returns-in-Err-clause-evidence_seen g c = shows_evidence _ (state c.args.core.now) (state c.add.new.core) (fits c.args.core.now.filer.swapper c.requires.size) c.add.ensures.retabled.beside.goes.makes c.in-Err.halt c.in-Err.ensures.cause
+returns-in-Err-clause-evidence_seen g c = shows_evidence _ (state c.args.core.now) (state c.add.new.core) (fits (swapper_of c.args.core.now.filer) c.requires.size) c.add.ensures.retabled.beside.goes.makes c.in-Err.halt c.in-Err.ensures.cause
 
 -- ---- No label was written.
 

@@ -6,36 +6,38 @@ use Rattle.fault_core.proofs.EvidenceLemmas.{shows_evidence}
 use Rattle.running_words.specs.MovingLaws.{moves_of_reaches}
 use Rattle.space_calls.specs.FilesLaws.{shown_here}
 use Rattle.space_calls.proofs.spaces.place.Goals as goal
+use Rattle.filer_kernel.specs.View.{accepted, disk_of, swapper_of}
 
-pub returns-in-Ok-Ok-clause-carried : goal.returns-in-Ok-Ok-clause-carried
-returns-in-Ok-Ok-clause-carried g c = λ volume m r.
-    let old = c.args.core.now in
-    space_placed c.place.new.core volume m (asked_runs old old.filer.swapper.accepted c.requires.size c.place.new.core volume m c.place.ensures.asked r) c.args.page c.in-Ok-Ok.field-0 c.in-Ok-Ok.handle c.in-Ok-Ok.first c.in-Ok-Ok.pages c.in-Ok-Ok.field-0-is
-    (c.in-Ok-Ok.ensures.answer _ _ m.spaces (knows old old.filer.swapper.accepted c.requires.size volume m r))
+pub returns-in-Ok-Ok-clause-answers : goal.returns-in-Ok-Ok-clause-answers
+returns-in-Ok-Ok-clause-answers g c = λ volume m r. record {
+  carried = (let old = c.args.core.now in
+      space_placed c.place.new.core volume m (asked_runs old (accepted old.filer) c.requires.size c.place.new.core volume m c.place.ensures.asked r) c.args.page c.in-Ok-Ok.field-0 c.in-Ok-Ok.handle c.in-Ok-Ok.first c.in-Ok-Ok.pages c.in-Ok-Ok.field-0-is
+      (c.in-Ok-Ok.ensures.answer _ _ m.spaces (knows old (accepted old.filer) c.requires.size volume m r)));
+  sound = tt;
+  passes = (quiet_passes c.args.core.now c.place.new.core volume m _ (g.met.D.Disk.in_form (disk_of c.args.core.now.filer)) r (asked_makes _ _ c.place.ensures.asked));
+}
 
-pub returns-in-Ok-Err-clause-carried : goal.returns-in-Ok-Err-clause-carried
-returns-in-Ok-Err-clause-carried g c = λ volume m r.
-    let old = c.args.core.now in
-    place_refused c.place.new.core volume m (asked_runs old old.filer.swapper.accepted c.requires.size c.place.new.core volume m c.place.ensures.asked r) c.args.page c.in-Ok-Err.field-0 c.in-Ok-Err.word c.in-Ok-Err.field-0-is
-    (c.in-Ok-Err.ensures.answer _ _ m.spaces (knows old old.filer.swapper.accepted c.requires.size volume m r))
+pub returns-in-Ok-Err-clause-answers : goal.returns-in-Ok-Err-clause-answers
+returns-in-Ok-Err-clause-answers g c = λ volume m r. record {
+  carried = (let old = c.args.core.now in
+      place_refused c.place.new.core volume m (asked_runs old (accepted old.filer) c.requires.size c.place.new.core volume m c.place.ensures.asked r) c.args.page c.in-Ok-Err.field-0 c.in-Ok-Err.word c.in-Ok-Err.field-0-is
+      (c.in-Ok-Err.ensures.answer _ _ m.spaces (knows old (accepted old.filer) c.requires.size volume m r)));
+  sound = tt;
+  passes = (quiet_passes c.args.core.now c.place.new.core volume m _ (g.met.D.Disk.in_form (disk_of c.args.core.now.filer)) r (asked_makes _ _ c.place.ensures.asked));
+}
 
-pub returns-in-Err-clause-sound : goal.returns-in-Err-clause-sound
-returns-in-Err-clause-sound g c = λ volume m r. c.in-Err.ensures.sound _ _ m.spaces (knows c.args.core.now c.args.core.now.filer.swapper.accepted c.requires.size volume m r)
-
-pub returns-in-Ok-Ok-clause-passes : goal.returns-in-Ok-Ok-clause-passes
-returns-in-Ok-Ok-clause-passes g c = λ volume m r. quiet_passes c.args.core.now c.place.new.core volume m _ (g.met.D.Disk.in_form c.args.core.now.filer.swapper.disk) r (asked_makes _ _ c.place.ensures.asked)
+pub returns-in-Err-clause-answers : goal.returns-in-Err-clause-answers
+returns-in-Err-clause-answers g c = λ volume m r. record {
+  carried = tt;
+  sound = (c.in-Err.ensures.sound _ _ m.spaces (knows c.args.core.now (accepted c.args.core.now.filer) c.requires.size volume m r));
+  passes = (quiet_passes c.args.core.now c.place.new.core volume m _ (g.met.D.Disk.in_form (disk_of c.args.core.now.filer)) r (asked_makes _ _ c.place.ensures.asked));
+}
 
 pub returns-in-Ok-Ok-clause-wrote : goal.returns-in-Ok-Ok-clause-wrote
 returns-in-Ok-Ok-clause-wrote g c = nothing_labelled (asked_makes _ _ c.place.ensures.asked)
 
-pub returns-in-Ok-Err-clause-passes : goal.returns-in-Ok-Err-clause-passes
-returns-in-Ok-Err-clause-passes g c = λ volume m r. quiet_passes c.args.core.now c.place.new.core volume m _ (g.met.D.Disk.in_form c.args.core.now.filer.swapper.disk) r (asked_makes _ _ c.place.ensures.asked)
-
 pub returns-in-Ok-Err-clause-wrote : goal.returns-in-Ok-Err-clause-wrote
 returns-in-Ok-Err-clause-wrote g c = nothing_labelled (asked_makes _ _ c.place.ensures.asked)
-
-pub returns-in-Err-clause-passes : goal.returns-in-Err-clause-passes
-returns-in-Err-clause-passes g c = λ volume m r. quiet_passes c.args.core.now c.place.new.core volume m _ (g.met.D.Disk.in_form c.args.core.now.filer.swapper.disk) r (asked_makes _ _ c.place.ensures.asked)
 
 pub returns-in-Err-clause-wrote : goal.returns-in-Err-clause-wrote
 returns-in-Err-clause-wrote g c = nothing_labelled (asked_makes _ _ c.place.ensures.asked)
@@ -43,7 +45,7 @@ returns-in-Err-clause-wrote g c = nothing_labelled (asked_makes _ _ c.place.ensu
 -- ---- What its evidence says is so.
 
 pub returns-in-Err-clause-evidence_seen : goal.returns-in-Err-clause-evidence_seen
-returns-in-Err-clause-evidence_seen g c = shows_evidence _ (state c.args.core.now) (state c.place.new.core) (fits c.args.core.now.filer.swapper c.requires.size) c.place.ensures.asked.reaches.goes.makes c.in-Err.halt c.in-Err.ensures.cause
+returns-in-Err-clause-evidence_seen g c = shows_evidence _ (state c.args.core.now) (state c.place.new.core) (fits (swapper_of c.args.core.now.filer) c.requires.size) c.place.ensures.asked.reaches.goes.makes c.in-Err.halt c.in-Err.ensures.cause
 
 -- ---- No label was written.
 

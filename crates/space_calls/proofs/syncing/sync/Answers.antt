@@ -8,12 +8,12 @@ use Rattle.space_calls.proofs.syncing.sync.Goals as goal
 
 pub returns-in-Ok-clause-reaches : goal.returns-in-Ok-clause-reaches
 returns-in-Ok-clause-reaches g c =
-    let syncs : Syncs (g.D.Disk.state c.args.core.now.filer.swapper.disk) c.sync.result (g.D.Disk.state c.sync.new.self) = search rules in
+    let syncs : Syncs (state c.args.core.now).disk c.sync.result (g.D.Disk.state c.sync.new.self) = search rules in
     settled_reaches (state c.args.core.now) (g.D.Disk.state c.sync.new.self) (synced_went _ _ c.sync.result syncs) syncs.same
 
 pub returns-in-Err-clause-reaches : goal.returns-in-Err-clause-reaches
 returns-in-Err-clause-reaches g c =
-    let syncs : Syncs (g.D.Disk.state c.args.core.now.filer.swapper.disk) c.sync.result (g.D.Disk.state c.sync.new.self) = search rules in
+    let syncs : Syncs (state c.args.core.now).disk c.sync.result (g.D.Disk.state c.sync.new.self) = search rules in
     settled_reaches (state c.args.core.now) (g.D.Disk.state c.sync.new.self) (synced_went _ _ c.sync.result syncs) syncs.same
 
 -- ---- The tables are revealed.

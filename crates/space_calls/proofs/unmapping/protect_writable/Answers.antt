@@ -17,10 +17,11 @@ use Rattle.space_calls.proofs.SeesLemmas.{are_seen, handle_so, shown_fits, shown
 use Rattle.space_calls.specs.FilesLaws.{shown_here}
 use Rattle.space_calls.proofs.OnLemmas.{mode_on}
 use Rattle.space_calls.proofs.unmapping.protect_writable.Goals as goal
+use Rattle.filer_kernel.specs.View.{accepted}
 
 pub returns-in-Ok-true-clause-carried : goal.returns-in-Ok-true-clause-carried
 returns-in-Ok-true-clause-carried g c = λ volume m s r at has.
-    let r1 = c.shows_immutable.ensures.runs volume m r in
+    let r1 = c.shows_immutable.ensures.looks.runs volume m r in
     let l = c.shows_immutable.new.core in
     let revealed = subst (λ (b : Bool). is_immutable m c.args.shown.id ≡ then_some b why.Immutable) c.in-Ok-true.field-0-test (c.in-Ok-true.ensures.answer volume m r) in
     let decided = mode_refused l volume m r1 c.args.space c.args.shown s at has true revealed in
@@ -31,7 +32,7 @@ returns-in-Err-clause-sound g c = λ volume m s r at has. c.in-Err.ensures.sound
 
 pub returns-in-Ok-Ok-clause-carried : goal.returns-in-Ok-Ok-clause-carried
 returns-in-Ok-Ok-clause-carried g c = λ volume m s r at has.
-    let r1 = c.shows_immutable.ensures.runs volume m r in
+    let r1 = c.shows_immutable.ensures.looks.runs volume m r in
     let l = c.shows_immutable.new.core in
     let revealed = subst (λ (b : Bool). is_immutable m c.args.shown.id ≡ then_some b why.Immutable) c.in-Ok-false.field-0-test (c.in-Ok-false.ensures.answer volume m r) in
     let decided = mode_refused l volume m r1 c.args.space c.args.shown s at has false revealed in
@@ -40,11 +41,11 @@ returns-in-Ok-Ok-clause-carried g c = λ volume m s r at has.
     mode_carried l volume m r1 c.args.space c.args.shown s at has true decided c.change_window.new.core (was_done _ c.in-Ok-Ok.field-0 c.in-Ok-Ok.field-0-is done)
 
 pub returns-in-Ok-Ok-clause-makes : goal.returns-in-Ok-Ok-clause-makes
-returns-in-Ok-Ok-clause-makes g c = makes_then c.shows_immutable.ensures.makes c.change_window.ensures.makes
+returns-in-Ok-Ok-clause-makes g c = makes_then c.shows_immutable.ensures.looks.makes c.change_window.ensures.makes
 
 pub returns-in-Ok-Err-clause-carried : goal.returns-in-Ok-Err-clause-carried
 returns-in-Ok-Err-clause-carried g c = λ volume m s r at has.
-    let r1 = c.shows_immutable.ensures.runs volume m r in
+    let r1 = c.shows_immutable.ensures.looks.runs volume m r in
     let l = c.shows_immutable.new.core in
     let revealed = subst (λ (b : Bool). is_immutable m c.args.shown.id ≡ then_some b why.Immutable) c.in-Ok-false.field-0-test (c.in-Ok-false.ensures.answer volume m r) in
     let decided = mode_refused l volume m r1 c.args.space c.args.shown s at has false revealed in
@@ -53,16 +54,16 @@ returns-in-Ok-Err-clause-carried g c = λ volume m s r at has.
     absurd (not_refused _ c.in-Ok-Err.field-0 c.in-Ok-Err.word c.in-Ok-Err.field-0-is done)
 
 pub returns-in-Ok-Err-clause-makes : goal.returns-in-Ok-Err-clause-makes
-returns-in-Ok-Err-clause-makes g c = makes_then c.shows_immutable.ensures.makes c.change_window.ensures.makes
+returns-in-Ok-Err-clause-makes g c = makes_then c.shows_immutable.ensures.looks.makes c.change_window.ensures.makes
 
 pub returns-in-Err-change_window-clause-sound : goal.returns-in-Err-change_window-clause-sound
 returns-in-Err-change_window-clause-sound g c = λ volume m s r at has.
-    let r1 = c.shows_immutable.ensures.runs volume m r in
+    let r1 = c.shows_immutable.ensures.looks.runs volume m r in
     let l = c.shows_immutable.new.core in
     c.in-Err-change_window.ensures.sound volume m s r1 (may l volume m r1 c.args.space c.args.shown s at has) (handle_is l volume m r1 c.args.space c.args.shown s at has) (mode_fits l volume m r1 c.args.space c.args.shown s at has true)
 
 pub returns-in-Err-change_window-clause-makes : goal.returns-in-Err-change_window-clause-makes
-returns-in-Err-change_window-clause-makes g c = makes_then c.shows_immutable.ensures.makes c.change_window.ensures.makes
+returns-in-Err-change_window-clause-makes g c = makes_then c.shows_immutable.ensures.looks.makes c.change_window.ensures.makes
 
 -- ---- Why it failed.
 
@@ -74,41 +75,41 @@ returns-in-Err-change_window-clause-cause g c =
     let x = c.shows_immutable.new.core in
     inr (
       state x,
-      c.shows_immutable.ensures.reaches,
-      counted_change (state x) (state c.change_window.new.core) c.args.core.now.intervals x.intervals c.shows_immutable.ensures.intervals c.in-Err-change_window.halt c.in-Err-change_window.ensures.cause,
+      c.shows_immutable.ensures.looks.reaches,
+      counted_change (state x) (state c.change_window.new.core) c.args.core.now.intervals x.intervals c.shows_immutable.ensures.looks.intervals c.in-Err-change_window.halt c.in-Err-change_window.ensures.cause,
     )
 
 -- ---- No label was written.
 
 pub returns-in-Ok-true-clause-moves : goal.returns-in-Ok-true-clause-moves
-returns-in-Ok-true-clause-moves g c = moves_of_reaches (state c.args.core.now) (state c.shows_immutable.new.core) c.shows_immutable.ensures.reaches
+returns-in-Ok-true-clause-moves g c = moves_of_reaches (state c.args.core.now) (state c.shows_immutable.new.core) c.shows_immutable.ensures.looks.reaches
 
 pub returns-in-Err-clause-moves : goal.returns-in-Err-clause-moves
-returns-in-Err-clause-moves g c = moves_of_reaches (state c.args.core.now) (state c.shows_immutable.new.core) c.shows_immutable.ensures.reaches
+returns-in-Err-clause-moves g c = moves_of_reaches (state c.args.core.now) (state c.shows_immutable.new.core) c.shows_immutable.ensures.looks.reaches
 
 pub returns-in-Ok-Ok-clause-moves : goal.returns-in-Ok-Ok-clause-moves
-returns-in-Ok-Ok-clause-moves g c = moves_after (state c.args.core.now) (state c.shows_immutable.new.core) (state c.change_window.new.core) c.args.core.now.filer.swapper.accepted c.shows_immutable.ensures.reaches (moves_of_reshapes (state c.shows_immutable.new.core) (state c.change_window.new.core) c.change_window.ensures.reshapes)
+returns-in-Ok-Ok-clause-moves g c = moves_after (state c.args.core.now) (state c.shows_immutable.new.core) (state c.change_window.new.core) (accepted c.args.core.now.filer) c.shows_immutable.ensures.looks.reaches (moves_of_reshapes (state c.shows_immutable.new.core) (state c.change_window.new.core) c.change_window.ensures.reshapes)
 
 pub returns-in-Ok-Err-clause-moves : goal.returns-in-Ok-Err-clause-moves
-returns-in-Ok-Err-clause-moves g c = moves_after (state c.args.core.now) (state c.shows_immutable.new.core) (state c.change_window.new.core) c.args.core.now.filer.swapper.accepted c.shows_immutable.ensures.reaches (moves_of_reshapes (state c.shows_immutable.new.core) (state c.change_window.new.core) c.change_window.ensures.reshapes)
+returns-in-Ok-Err-clause-moves g c = moves_after (state c.args.core.now) (state c.shows_immutable.new.core) (state c.change_window.new.core) (accepted c.args.core.now.filer) c.shows_immutable.ensures.looks.reaches (moves_of_reshapes (state c.shows_immutable.new.core) (state c.change_window.new.core) c.change_window.ensures.reshapes)
 
 pub returns-in-Err-change_window-clause-moves : goal.returns-in-Err-change_window-clause-moves
-returns-in-Err-change_window-clause-moves g c = moves_after (state c.args.core.now) (state c.shows_immutable.new.core) (state c.change_window.new.core) c.args.core.now.filer.swapper.accepted c.shows_immutable.ensures.reaches (moves_of_reshapes (state c.shows_immutable.new.core) (state c.change_window.new.core) c.change_window.ensures.reshapes)
+returns-in-Err-change_window-clause-moves g c = moves_after (state c.args.core.now) (state c.shows_immutable.new.core) (state c.change_window.new.core) (accepted c.args.core.now.filer) c.shows_immutable.ensures.looks.reaches (moves_of_reshapes (state c.shows_immutable.new.core) (state c.change_window.new.core) c.change_window.ensures.reshapes)
 
 -- ---- The tables are revealed.
 
 pub returns-in-Ok-true-clause-sees : goal.returns-in-Ok-true-clause-sees
-returns-in-Ok-true-clause-sees g c = λ ss x s at has. (ss, (c.shows_immutable.ensures.still ss s, shown_here ss))
+returns-in-Ok-true-clause-sees g c = λ ss x s at has. (ss, (c.shows_immutable.ensures.looks.still ss s, shown_here ss))
 
 pub returns-in-Ok-Ok-clause-sees : goal.returns-in-Ok-Ok-clause-sees
 returns-in-Ok-Ok-clause-sees g c = λ ss x s at has.
-    let revealed = c.in-Ok-Ok.ensures.sees ss x (c.shows_immutable.ensures.still ss s) (shown_may ss c.args.space (are_seen s) x at (window_of c.args.shown) has) (handle_so ss c.args.space (are_seen s) x at) (shown_fits ss c.args.space (are_seen s) x at (window_of c.args.shown) has (windows_seen s) true) in
+    let revealed = c.in-Ok-Ok.ensures.sees ss x (c.shows_immutable.ensures.looks.still ss s) (shown_may ss c.args.space (are_seen s) x at (window_of c.args.shown) has) (handle_so ss c.args.space (are_seen s) x at) (shown_fits ss c.args.space (are_seen s) x at (window_of c.args.shown) has (windows_seen s) true) in
     (_, (revealed, mode_on ss (are_seen s) c.args.space c.args.shown (x, at, has) true))
 
 pub returns-in-Ok-Err-clause-sees : goal.returns-in-Ok-Err-clause-sees
 returns-in-Ok-Err-clause-sees g c = λ ss x s at has.
-    let revealed = c.in-Ok-Err.ensures.sees ss x (c.shows_immutable.ensures.still ss s) (shown_may ss c.args.space (are_seen s) x at (window_of c.args.shown) has) (handle_so ss c.args.space (are_seen s) x at) (shown_fits ss c.args.space (are_seen s) x at (window_of c.args.shown) has (windows_seen s) true) in
+    let revealed = c.in-Ok-Err.ensures.sees ss x (c.shows_immutable.ensures.looks.still ss s) (shown_may ss c.args.space (are_seen s) x at (window_of c.args.shown) has) (handle_so ss c.args.space (are_seen s) x at) (shown_fits ss c.args.space (are_seen s) x at (window_of c.args.shown) has (windows_seen s) true) in
     (_, (revealed, mode_on ss (are_seen s) c.args.space c.args.shown (x, at, has) true))
 
 pub returns-in-Err-change_window-clause-right : goal.returns-in-Err-change_window-clause-right
-returns-in-Err-change_window-clause-right g c = λ s. c.in-Err-change_window.ensures.right (s.0, c.shows_immutable.ensures.still s.0 s.1)
+returns-in-Err-change_window-clause-right g c = λ s. c.in-Err-change_window.ensures.right (s.0, c.shows_immutable.ensures.looks.still s.0 s.1)

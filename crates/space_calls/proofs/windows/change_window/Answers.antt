@@ -10,21 +10,22 @@ use Rattle.flat_machine.specs.Next.{set_window}
 use Rattle.space_tables.specs.Shows.{window_of}
 use Rattle.space_calls.proofs.SeesLemmas.{set_so}
 use Rattle.space_calls.proofs.windows.change_window.Goals as goal
+use Rattle.filer_kernel.specs.View.{accepted, disk_of, swapper_of}
 
 pub returns-in-Err-clause-sound : goal.returns-in-Err-clause-sound
-returns-in-Err-clause-sound g c = λ volume m x r may named fits. c.in-Err.ensures.sound _ _ m.spaces x (knows c.args.core.now c.args.core.now.filer.swapper.accepted c.requires.size volume m r) may named fits
+returns-in-Err-clause-sound g c = λ volume m x r may named fits. c.in-Err.ensures.sound _ _ m.spaces x (knows c.args.core.now (accepted c.args.core.now.filer) c.requires.size volume m r) may named fits
 
 pub returns-clause-done : goal.returns-clause-done
 returns-clause-done g c = λ volume m x unforced r may named fits is frames loose.
     let old = c.args.core.now in
-    window_changed old c.set_window.new.core c.frame_count-frames.new.core old.filer.swapper.accepted c.requires.size (g.met.D.Disk.in_form c.set_window.new.core.filer.swapper.disk)
+    window_changed old c.set_window.new.core c.frame_count-frames.new.core (accepted old.filer) c.requires.size (g.met.D.Disk.in_form (disk_of c.set_window.new.core.filer))
     c.frame_count-frames.ensures.pages c.frame_count-frames.ensures.same c.set_window.ensures.retabled volume m r _ unforced is frames loose c.in-Ok.answer
-    (c.in-Ok.ensures.done _ _ m.spaces x (knows old old.filer.swapper.accepted c.requires.size volume m r) may named fits)
+    (c.in-Ok.ensures.done _ _ m.spaces x (knows old (accepted old.filer) c.requires.size volume m r) may named fits)
 
 -- ---- What its evidence says is so.
 
 pub returns-in-Err-clause-evidence_seen : goal.returns-in-Err-clause-evidence_seen
-returns-in-Err-clause-evidence_seen g c = shows_evidence _ (state c.args.core.now) (state c.set_window.new.core) (fits c.args.core.now.filer.swapper c.requires.size) c.set_window.ensures.retabled.beside.goes.makes c.in-Err.halt c.in-Err.ensures.cause
+returns-in-Err-clause-evidence_seen g c = shows_evidence _ (state c.args.core.now) (state c.set_window.new.core) (fits (swapper_of c.args.core.now.filer) c.requires.size) c.set_window.ensures.retabled.beside.goes.makes c.in-Err.halt c.in-Err.ensures.cause
 
 -- ---- What the change leaves.
 

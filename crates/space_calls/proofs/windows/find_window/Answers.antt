@@ -12,101 +12,70 @@ use Rattle.space_calls.proofs.RangeLemmas.{given_so}
 use Rattle.fault_core.proofs.ReachLemmas.{reaches_then}
 use Rattle.space_calls.proofs.WindowHalts.{slot_halt}
 use Rattle.space_calls.proofs.windows.find_window.Goals as goal
+use Rattle.filer_kernel.specs.View.{accepted, swapper_of}
+use Rattle.space_calls.proofs.LookLemmas.{looks_asked, looks_asked_then}
 
 pub returns-in-Ok-Err-clause-answer : goal.returns-in-Ok-Err-clause-answer
 returns-in-Ok-Err-clause-answer g c = λ volume m r.
     let old = c.args.core.now in
-    let known = knows old old.filer.swapper.accepted c.requires.size volume m r in
+    let known = knows old (accepted old.filer) c.requires.size volume m r in
     (shown_refused m.spaces c.args.space c.in-Ok-Err.field-0 c.in-Ok-Err.word c.in-Ok-Err.field-0-is (c.in-Ok-Err.ensures.answer _ _ m.spaces known), tt)
 
-pub returns-in-Ok-Err-clause-runs : goal.returns-in-Ok-Err-clause-runs
-returns-in-Ok-Err-clause-runs g c = λ volume m r.
-    let old = c.args.core.now in
-    let r1 = asked_runs old old.filer.swapper.accepted c.requires.size c.shown.new.core volume m c.shown.ensures.asked r in
-    r1
+pub returns-in-Ok-Err-clause-looks : goal.returns-in-Ok-Err-clause-looks
+returns-in-Ok-Err-clause-looks g c = looks_asked c.requires.size c.shown.ensures.asked c.shown.ensures.sees
 
-pub returns-in-Err-clause-runs : goal.returns-in-Err-clause-runs
-returns-in-Err-clause-runs g c = λ volume m r.
-    let old = c.args.core.now in
-    let r1 = asked_runs old old.filer.swapper.accepted c.requires.size c.shown.new.core volume m c.shown.ensures.asked r in
-    r1
+pub returns-in-Err-clause-looks : goal.returns-in-Err-clause-looks
+returns-in-Err-clause-looks g c = looks_asked c.requires.size c.shown.ensures.asked c.shown.ensures.sees
 
 pub returns-in-Err-clause-sound : goal.returns-in-Err-clause-sound
 returns-in-Err-clause-sound g c = λ volume m r.
     let old = c.args.core.now in
-    let known = knows old old.filer.swapper.accepted c.requires.size volume m r in
+    let known = knows old (accepted old.filer) c.requires.size volume m r in
     c.in-Err.ensures.sound _ _ m.spaces known
 
 pub returns-in-Ok-Ok-bounds-clause-answer : goal.returns-in-Ok-Ok-bounds-clause-answer
 returns-in-Ok-Ok-bounds-clause-answer g c = λ volume m r.
     let old = c.args.core.now in
-    let r1 = asked_runs old old.filer.swapper.accepted c.requires.size c.shown.new.core volume m c.shown.ensures.asked r in
+    let r1 = asked_runs old (accepted old.filer) c.requires.size c.shown.new.core volume m c.shown.ensures.asked r in
     let seen = c.shown.new.core in
     let size = size_kept old seen (asked_makes old seen c.shown.ensures.asked) c.shown.ensures.asked.reaches.layout c.requires.size in
-    let next = knows seen seen.filer.swapper.accepted size volume m r1 in
-    window_found m.spaces c.args.space c.in-Ok-Ok.field-0 c.in-Ok-Ok.shows c.in-Ok-Ok.field-0-is (c.in-Ok-Ok.ensures.answer _ _ m.spaces (knows old old.filer.swapper.accepted c.requires.size volume m r)) c.in-Ok-Ok-bounds.field-0 (c.in-Ok-Ok-bounds.ensures.answer _ _ m.spaces next) c.in-Ok-Ok-bounds.first c.in-Ok-Ok-bounds.pages c.in-Ok-Ok-bounds.field-0-is
+    let next = knows seen (accepted seen.filer) size volume m r1 in
+    window_found m.spaces c.args.space c.in-Ok-Ok.field-0 c.in-Ok-Ok.shows c.in-Ok-Ok.field-0-is (c.in-Ok-Ok.ensures.answer _ _ m.spaces (knows old (accepted old.filer) c.requires.size volume m r)) c.in-Ok-Ok-bounds.field-0 (c.in-Ok-Ok-bounds.ensures.answer _ _ m.spaces next) c.in-Ok-Ok-bounds.first c.in-Ok-Ok-bounds.pages c.in-Ok-Ok-bounds.field-0-is
 
 pub returns-in-Ok-Err-bounds-clause-answer : goal.returns-in-Ok-Err-bounds-clause-answer
 returns-in-Ok-Err-bounds-clause-answer g c = λ volume m r.
     let old = c.args.core.now in
-    let r1 = asked_runs old old.filer.swapper.accepted c.requires.size c.shown.new.core volume m c.shown.ensures.asked r in
+    let r1 = asked_runs old (accepted old.filer) c.requires.size c.shown.new.core volume m c.shown.ensures.asked r in
     let seen = c.shown.new.core in
     let size = size_kept old seen (asked_makes old seen c.shown.ensures.asked) c.shown.ensures.asked.reaches.layout c.requires.size in
-    let next = knows seen seen.filer.swapper.accepted size volume m r1 in
-    absurd (window_lost m.spaces c.args.space c.in-Ok-Ok.field-0 c.in-Ok-Ok.shows c.in-Ok-Ok.field-0-is (c.in-Ok-Ok.ensures.answer _ _ m.spaces (knows old old.filer.swapper.accepted c.requires.size volume m r)) c.in-Ok-Err-bounds.field-0 (c.in-Ok-Err-bounds.ensures.answer _ _ m.spaces next) c.in-Ok-Err-bounds.word c.in-Ok-Err-bounds.field-0-is)
+    let next = knows seen (accepted seen.filer) size volume m r1 in
+    absurd (window_lost m.spaces c.args.space c.in-Ok-Ok.field-0 c.in-Ok-Ok.shows c.in-Ok-Ok.field-0-is (c.in-Ok-Ok.ensures.answer _ _ m.spaces (knows old (accepted old.filer) c.requires.size volume m r)) c.in-Ok-Err-bounds.field-0 (c.in-Ok-Err-bounds.ensures.answer _ _ m.spaces next) c.in-Ok-Err-bounds.word c.in-Ok-Err-bounds.field-0-is)
 
 pub returns-in-Err-bounds-clause-sound : goal.returns-in-Err-bounds-clause-sound
 returns-in-Err-bounds-clause-sound g c = λ volume m r.
     let old = c.args.core.now in
-    let r1 = asked_runs old old.filer.swapper.accepted c.requires.size c.shown.new.core volume m c.shown.ensures.asked r in
+    let r1 = asked_runs old (accepted old.filer) c.requires.size c.shown.new.core volume m c.shown.ensures.asked r in
     let seen = c.shown.new.core in
     let size = size_kept old seen (asked_makes old seen c.shown.ensures.asked) c.shown.ensures.asked.reaches.layout c.requires.size in
-    let next = knows seen seen.filer.swapper.accepted size volume m r1 in
+    let next = knows seen (accepted seen.filer) size volume m r1 in
     c.in-Err-bounds.ensures.sound _ _ m.spaces next
 
-pub returns-in-Ok-Ok-bounds-clause-runs : goal.returns-in-Ok-Ok-bounds-clause-runs
-returns-in-Ok-Ok-bounds-clause-runs g c = λ volume m r.
-    let old = c.args.core.now in
-    let r1 = asked_runs old old.filer.swapper.accepted c.requires.size c.shown.new.core volume m c.shown.ensures.asked r in
-    let seen = c.shown.new.core in
-    let size = size_kept old seen (asked_makes old seen c.shown.ensures.asked) c.shown.ensures.asked.reaches.layout c.requires.size in
-    let next = knows seen seen.filer.swapper.accepted size volume m r1 in
-    asked_runs seen seen.filer.swapper.accepted size c.bounds.new.core volume m c.bounds.ensures.asked r1
+pub returns-in-Ok-Ok-bounds-clause-looks : goal.returns-in-Ok-Ok-bounds-clause-looks
+returns-in-Ok-Ok-bounds-clause-looks g c = looks_asked_then c.requires.size (looks_asked c.requires.size c.shown.ensures.asked c.shown.ensures.sees) c.bounds.ensures.asked c.bounds.ensures.sees
 
-pub returns-in-Ok-Ok-bounds-clause-makes : goal.returns-in-Ok-Ok-bounds-clause-makes
-returns-in-Ok-Ok-bounds-clause-makes g c = makes_then (asked_makes _ _ c.shown.ensures.asked) (asked_makes _ _ c.bounds.ensures.asked)
+pub returns-in-Ok-Err-bounds-clause-looks : goal.returns-in-Ok-Err-bounds-clause-looks
+returns-in-Ok-Err-bounds-clause-looks g c = looks_asked_then c.requires.size (looks_asked c.requires.size c.shown.ensures.asked c.shown.ensures.sees) c.bounds.ensures.asked c.bounds.ensures.sees
 
-pub returns-in-Ok-Err-bounds-clause-runs : goal.returns-in-Ok-Err-bounds-clause-runs
-returns-in-Ok-Err-bounds-clause-runs g c = λ volume m r.
-    let old = c.args.core.now in
-    let r1 = asked_runs old old.filer.swapper.accepted c.requires.size c.shown.new.core volume m c.shown.ensures.asked r in
-    let seen = c.shown.new.core in
-    let size = size_kept old seen (asked_makes old seen c.shown.ensures.asked) c.shown.ensures.asked.reaches.layout c.requires.size in
-    let next = knows seen seen.filer.swapper.accepted size volume m r1 in
-    asked_runs seen seen.filer.swapper.accepted size c.bounds.new.core volume m c.bounds.ensures.asked r1
-
-pub returns-in-Ok-Err-bounds-clause-makes : goal.returns-in-Ok-Err-bounds-clause-makes
-returns-in-Ok-Err-bounds-clause-makes g c = makes_then (asked_makes _ _ c.shown.ensures.asked) (asked_makes _ _ c.bounds.ensures.asked)
-
-pub returns-in-Err-bounds-clause-runs : goal.returns-in-Err-bounds-clause-runs
-returns-in-Err-bounds-clause-runs g c = λ volume m r.
-    let old = c.args.core.now in
-    let r1 = asked_runs old old.filer.swapper.accepted c.requires.size c.shown.new.core volume m c.shown.ensures.asked r in
-    let seen = c.shown.new.core in
-    let size = size_kept old seen (asked_makes old seen c.shown.ensures.asked) c.shown.ensures.asked.reaches.layout c.requires.size in
-    let next = knows seen seen.filer.swapper.accepted size volume m r1 in
-    asked_runs seen seen.filer.swapper.accepted size c.bounds.new.core volume m c.bounds.ensures.asked r1
-
-pub returns-in-Err-bounds-clause-makes : goal.returns-in-Err-bounds-clause-makes
-returns-in-Err-bounds-clause-makes g c = makes_then (asked_makes _ _ c.shown.ensures.asked) (asked_makes _ _ c.bounds.ensures.asked)
+pub returns-in-Err-bounds-clause-looks : goal.returns-in-Err-bounds-clause-looks
+returns-in-Err-bounds-clause-looks g c = looks_asked_then c.requires.size (looks_asked c.requires.size c.shown.ensures.asked c.shown.ensures.sees) c.bounds.ensures.asked c.bounds.ensures.sees
 
 -- ---- What its evidence says is so.
 
 pub returns-in-Err-clause-evidence_seen : goal.returns-in-Err-clause-evidence_seen
-returns-in-Err-clause-evidence_seen g c = shows_evidence _ (state c.args.core.now) (state c.shown.new.core) (fits c.args.core.now.filer.swapper c.requires.size) c.shown.ensures.asked.reaches.goes.makes c.in-Err.halt c.in-Err.ensures.cause
+returns-in-Err-clause-evidence_seen g c = shows_evidence _ (state c.args.core.now) (state c.shown.new.core) (fits (swapper_of c.args.core.now.filer) c.requires.size) c.shown.ensures.asked.reaches.goes.makes c.in-Err.halt c.in-Err.ensures.cause
 
 pub returns-in-Err-bounds-clause-evidence_seen : goal.returns-in-Err-bounds-clause-evidence_seen
-returns-in-Err-bounds-clause-evidence_seen g c = shows_evidence _ (state c.shown.new.core) (state c.bounds.new.core) (fits c.shown.new.core.filer.swapper (search rules)) c.bounds.ensures.asked.reaches.goes.makes c.in-Err-bounds.halt c.in-Err-bounds.ensures.cause
+returns-in-Err-bounds-clause-evidence_seen g c = shows_evidence _ (state c.shown.new.core) (state c.bounds.new.core) (fits (swapper_of c.shown.new.core.filer) (search rules)) c.bounds.ensures.asked.reaches.goes.makes c.in-Err-bounds.halt c.in-Err-bounds.ensures.cause
 
 -- ---- What the tables say.
 
@@ -124,54 +93,9 @@ returns-in-Ok-Ok-bounds-clause-range g c =
 
 pub returns-in-Err-bounds-clause-cause : goal.returns-in-Err-bounds-clause-cause
 returns-in-Err-bounds-clause-cause g c =
-    slot_halt (state c.args.core.now) (state c.shown.new.core) c.args.core.now.filer.swapper.accepted c.args.space c.shown.ensures.asked.reaches (state c.bounds.new.core) c.in-Err-bounds.halt c.in-Err-bounds.ensures.cause
-
-pub returns-in-Ok-Ok-bounds-clause-reaches : goal.returns-in-Ok-Ok-bounds-clause-reaches
-returns-in-Ok-Ok-bounds-clause-reaches g c = reaches_then (state c.args.core.now) (state c.shown.new.core) c.args.core.now.filer.swapper.accepted c.shown.ensures.asked.reaches (state c.bounds.new.core) c.bounds.ensures.asked.reaches
-
-pub returns-in-Ok-Err-bounds-clause-reaches : goal.returns-in-Ok-Err-bounds-clause-reaches
-returns-in-Ok-Err-bounds-clause-reaches g c = reaches_then (state c.args.core.now) (state c.shown.new.core) c.args.core.now.filer.swapper.accepted c.shown.ensures.asked.reaches (state c.bounds.new.core) c.bounds.ensures.asked.reaches
-
-pub returns-in-Err-bounds-clause-reaches : goal.returns-in-Err-bounds-clause-reaches
-returns-in-Err-bounds-clause-reaches g c = reaches_then (state c.args.core.now) (state c.shown.new.core) c.args.core.now.filer.swapper.accepted c.shown.ensures.asked.reaches (state c.bounds.new.core) c.bounds.ensures.asked.reaches
-
-pub returns-in-Ok-Ok-bounds-clause-intervals : goal.returns-in-Ok-Ok-bounds-clause-intervals
-returns-in-Ok-Ok-bounds-clause-intervals g c = c.bounds.ensures.asked.intervals ∙ c.shown.ensures.asked.intervals
-
-pub returns-in-Ok-Err-bounds-clause-intervals : goal.returns-in-Ok-Err-bounds-clause-intervals
-returns-in-Ok-Err-bounds-clause-intervals g c = c.bounds.ensures.asked.intervals ∙ c.shown.ensures.asked.intervals
-
-pub returns-in-Err-bounds-clause-intervals : goal.returns-in-Err-bounds-clause-intervals
-returns-in-Err-bounds-clause-intervals g c = c.bounds.ensures.asked.intervals ∙ c.shown.ensures.asked.intervals
-
-pub returns-in-Ok-Err-clause-reaches : goal.returns-in-Ok-Err-clause-reaches
-returns-in-Ok-Err-clause-reaches g c = c.shown.ensures.asked.reaches
-
-pub returns-in-Err-clause-reaches : goal.returns-in-Err-clause-reaches
-returns-in-Err-clause-reaches g c = c.shown.ensures.asked.reaches
-
-pub returns-in-Ok-Err-clause-intervals : goal.returns-in-Ok-Err-clause-intervals
-returns-in-Ok-Err-clause-intervals g c = c.shown.ensures.asked.intervals
-
-pub returns-in-Err-clause-intervals : goal.returns-in-Err-clause-intervals
-returns-in-Err-clause-intervals g c = c.shown.ensures.asked.intervals
+    slot_halt (state c.args.core.now) (state c.shown.new.core) (accepted c.args.core.now.filer) c.args.space c.shown.ensures.asked.reaches (state c.bounds.new.core) c.in-Err-bounds.halt c.in-Err-bounds.ensures.cause
 
 -- ---- The tables are revealed.
-
-pub returns-in-Ok-Err-clause-still : goal.returns-in-Ok-Err-clause-still
-returns-in-Ok-Err-clause-still g c = λ ss s. c.shown.ensures.sees ss s
-
-pub returns-in-Err-clause-still : goal.returns-in-Err-clause-still
-returns-in-Err-clause-still g c = λ ss s. c.shown.ensures.sees ss s
-
-pub returns-in-Ok-Ok-bounds-clause-still : goal.returns-in-Ok-Ok-bounds-clause-still
-returns-in-Ok-Ok-bounds-clause-still g c = λ ss s. c.bounds.ensures.sees ss (c.shown.ensures.sees ss s)
-
-pub returns-in-Ok-Err-bounds-clause-still : goal.returns-in-Ok-Err-bounds-clause-still
-returns-in-Ok-Err-bounds-clause-still g c = λ ss s. c.bounds.ensures.sees ss (c.shown.ensures.sees ss s)
-
-pub returns-in-Err-bounds-clause-still : goal.returns-in-Err-bounds-clause-still
-returns-in-Err-bounds-clause-still g c = λ ss s. c.bounds.ensures.sees ss (c.shown.ensures.sees ss s)
 
 pub returns-in-Err-clause-right : goal.returns-in-Err-clause-right
 returns-in-Err-clause-right g c = λ s. c.in-Err.ensures.right s.0 s.1

@@ -3,7 +3,7 @@ use Rattle.space_calls.proofs.FileLemmas.{immutable_revealed, missing_revealed}
 use Rattle.space_calls.proofs.RunLemmas.{books_of, looked_runs}
 use Rattle.fault_core.specs.Core.{state}
 use Rattle.space_calls.proofs.HaltLemmas.{look_reaches}
-use Rattle.std.proofs.Common.{refl}
+use Rattle.std.proofs.Common.{refl, rules}
 use Rattle.space_calls.proofs.SeesLemmas.{look_never_blames, reached_sees}
 use Rattle.space_calls.proofs.windows.shows_immutable.Goals as goal
 
@@ -16,34 +16,37 @@ returns-in-Ok-None-clause-answer g c = λ volume m r. missing_revealed m c.args.
 pub returns-in-Err-clause-sound : goal.returns-in-Err-clause-sound
 returns-in-Err-clause-sound g c = λ volume m r. c.in-Err.ensures.revealed _ (shapes_of m.files) m.spaces (books_of r)
 
-pub returns-in-Ok-Some-clause-runs : goal.returns-in-Ok-Some-clause-runs
-returns-in-Ok-Some-clause-runs g c = λ volume m r. looked_runs r c.attributes_of.ensures.makes c.attributes_of.ensures.brings (c.attributes_of.ensures.same _ (shapes_of m.files) m.spaces (books_of r)) c.attributes_of.ensures.layout
+pub returns-in-Ok-Some-clause-looks : goal.returns-in-Ok-Some-clause-looks
+returns-in-Ok-Some-clause-looks g c = record {
+  runs = (λ volume m r. looked_runs r c.attributes_of.ensures.makes c.attributes_of.ensures.brings (c.attributes_of.ensures.same _ (shapes_of m.files) m.spaces (books_of r)) c.attributes_of.ensures.layout);
+  still = (λ ss s. reached_sees (look_reaches (state c.args.core.now) (state (record c.args.core.now { filer = c.attributes_of.new.filer })) c.attributes_of.ensures.looks c.attributes_of.ensures.layout) refl refl s);
+  reaches = (look_reaches (state c.args.core.now) (state (record c.args.core.now { filer = c.attributes_of.new.filer })) c.attributes_of.ensures.looks c.attributes_of.ensures.layout);
+  makes = c.attributes_of.ensures.makes;
+  layout = c.attributes_of.ensures.layout;
+  intervals = refl;
+}
 
-pub returns-in-Ok-None-clause-runs : goal.returns-in-Ok-None-clause-runs
-returns-in-Ok-None-clause-runs g c = λ volume m r. looked_runs r c.attributes_of.ensures.makes c.attributes_of.ensures.brings (c.attributes_of.ensures.same _ (shapes_of m.files) m.spaces (books_of r)) c.attributes_of.ensures.layout
+pub returns-in-Ok-None-clause-looks : goal.returns-in-Ok-None-clause-looks
+returns-in-Ok-None-clause-looks g c = record {
+  runs = (λ volume m r. looked_runs r c.attributes_of.ensures.makes c.attributes_of.ensures.brings (c.attributes_of.ensures.same _ (shapes_of m.files) m.spaces (books_of r)) c.attributes_of.ensures.layout);
+  still = (λ ss s. reached_sees (look_reaches (state c.args.core.now) (state (record c.args.core.now { filer = c.attributes_of.new.filer })) c.attributes_of.ensures.looks c.attributes_of.ensures.layout) refl refl s);
+  reaches = (look_reaches (state c.args.core.now) (state (record c.args.core.now { filer = c.attributes_of.new.filer })) c.attributes_of.ensures.looks c.attributes_of.ensures.layout);
+  makes = c.attributes_of.ensures.makes;
+  layout = c.attributes_of.ensures.layout;
+  intervals = refl;
+}
 
-pub returns-in-Err-clause-runs : goal.returns-in-Err-clause-runs
-returns-in-Err-clause-runs g c = λ volume m r. looked_runs r c.attributes_of.ensures.makes c.attributes_of.ensures.brings (c.attributes_of.ensures.same _ (shapes_of m.files) m.spaces (books_of r)) c.attributes_of.ensures.layout
-
-pub returns-in-Ok-Some-clause-reaches : goal.returns-in-Ok-Some-clause-reaches
-returns-in-Ok-Some-clause-reaches g c = look_reaches (state c.args.core.now) (state (record c.args.core.now { filer = c.attributes_of.new.filer })) c.attributes_of.ensures.looks c.attributes_of.ensures.layout
-
-pub returns-in-Ok-None-clause-reaches : goal.returns-in-Ok-None-clause-reaches
-returns-in-Ok-None-clause-reaches g c = look_reaches (state c.args.core.now) (state (record c.args.core.now { filer = c.attributes_of.new.filer })) c.attributes_of.ensures.looks c.attributes_of.ensures.layout
-
-pub returns-in-Err-clause-reaches : goal.returns-in-Err-clause-reaches
-returns-in-Err-clause-reaches g c = look_reaches (state c.args.core.now) (state (record c.args.core.now { filer = c.attributes_of.new.filer })) c.attributes_of.ensures.looks c.attributes_of.ensures.layout
+pub returns-in-Err-clause-looks : goal.returns-in-Err-clause-looks
+returns-in-Err-clause-looks g c = record {
+  runs = (λ volume m r. looked_runs r c.attributes_of.ensures.makes c.attributes_of.ensures.brings (c.attributes_of.ensures.same _ (shapes_of m.files) m.spaces (books_of r)) c.attributes_of.ensures.layout);
+  still = (λ ss s. reached_sees (look_reaches (state c.args.core.now) (state (record c.args.core.now { filer = c.attributes_of.new.filer })) c.attributes_of.ensures.looks c.attributes_of.ensures.layout) refl refl s);
+  reaches = (look_reaches (state c.args.core.now) (state (record c.args.core.now { filer = c.attributes_of.new.filer })) c.attributes_of.ensures.looks c.attributes_of.ensures.layout);
+  makes = c.attributes_of.ensures.makes;
+  layout = c.attributes_of.ensures.layout;
+  intervals = refl;
+}
 
 -- ---- The tables are revealed.
-
-pub returns-in-Ok-Some-clause-still : goal.returns-in-Ok-Some-clause-still
-returns-in-Ok-Some-clause-still g c = λ ss s. reached_sees (returns-in-Ok-Some-clause-reaches g c) refl refl s
-
-pub returns-in-Ok-None-clause-still : goal.returns-in-Ok-None-clause-still
-returns-in-Ok-None-clause-still g c = λ ss s. reached_sees (returns-in-Ok-None-clause-reaches g c) refl refl s
-
-pub returns-in-Err-clause-still : goal.returns-in-Err-clause-still
-returns-in-Err-clause-still g c = λ ss s. reached_sees (returns-in-Err-clause-reaches g c) refl refl s
 
 pub returns-in-Err-clause-right : goal.returns-in-Err-clause-right
 returns-in-Err-clause-right g c = λ s. look_never_blames (state c.args.core.now) (state (record c.args.core.now { filer = c.attributes_of.new.filer })) c.args.id c.in-Err.halt c.in-Err.ensures.cause

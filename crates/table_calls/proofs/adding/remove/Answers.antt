@@ -4,7 +4,7 @@ use Rattle.space_tables.specs.Answer.{IfMem, IfMalformed}
 use Rattle.space_tables.specs.Form.{BreaksFor, first_in_slot}
 use Rattle.filer_kernel.specs.declared.filer.Filer.{Filer}
 use Rattle.fault_core.specs.Core.{state}
-use Rattle.fault_core.specs.View.{view_of}
+use Rattle.filer_kernel.specs.View.{view_of}
 use Rattle.table_calls.proofs.HaltingLemmas.{Accounted, answered, halted, whole, sound, known_spaces}
 use Rattle.table_calls.proofs.SeenLemmas.{changed, seen_spaces, sees_revealed, blameless}
 use Rattle.table_calls.proofs.adding.remove.Goals as goal

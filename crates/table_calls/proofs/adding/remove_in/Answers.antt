@@ -9,11 +9,12 @@ use Rattle.space_tables.specs.Stored.{RevealSpaces}
 use Rattle.filer_kernel.specs.Tables.{TablesReveal}
 use Rattle.fault_core.proofs.AskLemmas.{lent}
 use Rattle.table_calls.proofs.adding.remove_in.Goals as goal
+use Rattle.filer_kernel.specs.View.{view_of}
 
 pub returns-clause-answer : goal.returns-clause-answer
 returns-clause-answer g c = λ ss reveals.
     let now = c.remove-answer.new.self.mem.filer.now in
-    lent (λ d s x k. Answers (first_of (remove_row ss c.args.space)) (λ _. RevealSpaces (TablesReveal d s x k) c.intervals.result (without_space c.args.space ss)) (RevealSpaces (TablesReveal d s x k) c.intervals.result ss) c.remove-answer.result) _ (g.D.Disk.state now.swapper.disk) _ now.swapper.pool _ now.swapper.layout _ now.runs
+    lent (λ d s x k. Answers (first_of (remove_row ss c.args.space)) (λ _. RevealSpaces (TablesReveal d s x k) c.intervals.result (without_space c.args.space ss)) (RevealSpaces (TablesReveal d s x k) c.intervals.result ss) c.remove-answer.result) _ (view_of now).disk _ (view_of now).slots _ (view_of now).layout _ now.runs
     (search rules) (search rules) (search rules) (search rules)
     (rw c.intervals.ensures.count (c.remove-answer.ensures.answer ss (rw (c.over-tables.ensures.memory, c.over-tables.ensures.intervals, c.table_memory.ensures.value) reveals)))
 

@@ -1,6 +1,6 @@
 use Rattle.std.proofs.Common.{rules, ℕ, List}
 use Rattle.filer_kernel.specs.Tables.{TablesReveal}
-use Rattle.fault_core.specs.View.{view_of, TablesAre}
+use Rattle.filer_kernel.specs.View.{view_of, TablesAre}
 use Rattle.fault_core.proofs.AskLemmas.{lent}
 use Rattle.table_calls.proofs.asking.ask_bounds.Goals as goal
 
@@ -16,6 +16,6 @@ returns-clause-malformed g c = λ b reveals. c.bounds.ensures.malformed b (rw (c
 pub returns-clause-same : goal.returns-clause-same
 returns-clause-same g c =
     let now = c.bounds.new.self.mem.filer.now in
-    lent (λ d s x k. (b : List ℕ) → TablesAre (view_of c.args.filer.now) b → TablesReveal d s x k b) _ (g.D.Disk.state now.swapper.disk) _ now.swapper.pool _ now.swapper.layout _ now.runs
+    lent (λ d s x k. (b : List ℕ) → TablesAre (view_of c.args.filer.now) b → TablesReveal d s x k b) _ (view_of now).disk _ (view_of now).slots _ (view_of now).layout _ now.runs
     (search rules) (search rules) (search rules) (search rules)
     (λ b reveals. c.bounds.ensures.unchanged b (rw (c.over-tables.ensures.memory, c.table_memory.ensures.value) reveals))

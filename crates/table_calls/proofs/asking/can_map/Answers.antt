@@ -1,7 +1,7 @@
 use Rattle.std.proofs.Common.{inl, refl}
 use Rattle.space_tables.specs.Form.{BreaksHierarchy}
 use Rattle.fault_core.specs.Core.{state}
-use Rattle.fault_core.specs.View.{view_of}
+use Rattle.filer_kernel.specs.View.{view_of}
 use Rattle.table_calls.proofs.AskedLemmas.{asked}
 use Rattle.table_calls.proofs.HaltingLemmas.{answered, halted, whole, sound, known_spaces}
 use Rattle.fault_core.proofs.LackLemmas.{sees_after}

@@ -1,6 +1,6 @@
 use Rattle.std.proofs.Common.{subst}
 use Rattle.space_tables.specs.Answer.{IfMem}
-use Rattle.fault_core.specs.View.{view_of}
+use Rattle.filer_kernel.specs.View.{view_of}
 use Rattle.table_calls.proofs.HaltingLemmas.{Accounted}
 use Rattle.fault_core.proofs.ReachLemmas.{tables_of}
 use Rattle.fault_core.specs.Reach.{no_break}

@@ -4,7 +4,7 @@ use Rattle.space_tables.specs.Answer.{IfMem, IfMalformed}
 use Rattle.space_tables.specs.Form.{Breaks}
 use Rattle.filer_kernel.specs.declared.filer.Filer.{Filer}
 use Rattle.fault_core.specs.Core.{state}
-use Rattle.fault_core.specs.View.{view_of}
+use Rattle.filer_kernel.specs.View.{view_of}
 use Rattle.table_calls.proofs.HaltingLemmas.{Accounted, done, halted, from_memory, sound, known_spaces, right}
 use Rattle.table_calls.proofs.SeenLemmas.{done_so, seen_spaces, sees_revealed, blameless_form}
 use Rattle.table_calls.proofs.changing.set_window.Goals as goal

@@ -8,7 +8,7 @@ use Rattle.space_tables.specs.Form.{BreaksHierarchy}
 use Rattle.space_tables.specs.Shows.{shows, IsFirstWith}
 use Rattle.fault_core.specs.Core.{state}
 use Rattle.fault_core.specs.Reach.{ReachHalts}
-use Rattle.fault_core.specs.View.{view_of}
+use Rattle.filer_kernel.specs.View.{view_of}
 use Rattle.table_calls.specs.Answers.{IfGiven, TablesBreak}
 use Rattle.table_calls.proofs.AskedLemmas.{asked}
 use Rattle.table_calls.proofs.HaltingLemmas.{given, halted, from_memory, sound, known_spaces}

@@ -13,18 +13,19 @@ use Rattle.fault_core.specs.Lack.{range_units, shown_unit}
 use Rattle.fault_core.proofs.LackLemmas.{misses_wider}
 use Rattle.fault_core.proofs.NeverBlamesLemmas.{range_never_blames}
 use Rattle.fault_core.proofs.core_over.Core.activate.Goals as goal
+use Rattle.filer_kernel.specs.View.{accepted}
 
 -- ---- No window shows a page of the range.
 
 pub returns-then-units-eq0-clause-whole : goal.returns-then-units-eq0-clause-whole
 returns-then-units-eq0-clause-whole g c = λ m named ss knows.
-    none_active ss (kept c.bring_units.new.self) c.bring_units.new.self.filer.swapper.pool c.args.first (c.args.first + c.args.pages) _ c.in-Ok.brought.0 c.in-Ok.brought.1 c.if-units-eq0.true
+    none_active ss (kept c.bring_units.new.self) (state c.bring_units.new.self).slots c.args.first (c.args.first + c.args.pages) _ c.in-Ok.brought.0 c.in-Ok.brought.1 c.if-units-eq0.true
     (c.in-Ok.ensures.units m named ss knows)
 
 pub returns-then-units-eq0-clause-units : goal.returns-then-units-eq0-clause-units
 returns-then-units-eq0-clause-units g c = λ m named ss knows. record {
   last = c.in-Ok.brought.1;
-  are = subst (λ (n : ℕ). AreUnits ss (c.args.first + c.args.pages) (start_at c.args.first (length c.args.self.now.filer.swapper.pool / 2)) n c.in-Ok.brought.1) c.if-units-eq0.true (c.in-Ok.ensures.units m named ss knows);
+  are = subst (λ (n : ℕ). AreUnits ss (c.args.first + c.args.pages) (start_at c.args.first (length (state c.args.self.now).slots / 2)) n c.in-Ok.brought.1) c.if-units-eq0.true (c.in-Ok.ensures.units m named ss knows);
   whole = λ some. absurd (some refl);
   all = λ slot empty some. absurd (some refl);
 }
@@ -39,7 +40,7 @@ returns-in-Ok-fetch_page-clause-whole g c = λ m named ss knows page above below
       page = c.in-Ok.brought.1;
       above = within.0;
       below = within.1;
-      whole = touched_whole (c.fetch_page.ensures.same m named ss after) c.fetch_page.new.self.filer.swapper.pool c.in-Ok.brought.1 c.in-Ok-fetch_page._slot (c.in-Ok.ensures.shown m named ss knows c.if-units-eq0.false)
+      whole = touched_whole (c.fetch_page.ensures.same m named ss after) (state c.fetch_page.new.self).slots c.in-Ok.brought.1 c.in-Ok-fetch_page._slot (c.in-Ok.ensures.shown m named ss knows c.if-units-eq0.false)
           (c.in-Ok-fetch_page.ensures.none m named ss after).0 c.in-Ok-fetch_page.ensures.ready;
     }
 
@@ -49,11 +50,11 @@ returns-in-Ok-fetch_page-clause-units g c = λ m named ss knows.
     record {
       last = c.in-Ok.brought.1;
       are = c.in-Ok.ensures.units m named ss knows;
-      whole = λ some. touched_whole (c.fetch_page.ensures.same m named ss after) c.fetch_page.new.self.filer.swapper.pool c.in-Ok.brought.1 c.in-Ok-fetch_page._slot (c.in-Ok.ensures.shown m named ss knows some)
+      whole = λ some. touched_whole (c.fetch_page.ensures.same m named ss after) (state c.fetch_page.new.self).slots c.in-Ok.brought.1 c.in-Ok-fetch_page._slot (c.in-Ok.ensures.shown m named ss knows some)
           (c.in-Ok-fetch_page.ensures.none m named ss after).0 c.in-Ok-fetch_page.ensures.ready;
       all = λ slot empty some.
           let room = c.fetch_page.ensures.room in
-          whole_stays ss c.bring_units.new.self.filer.swapper.pool c.fetch_page.new.self.filer.swapper.pool c.args.first (c.in-Ok.brought.1 + 1) slot room empty (c.in-Ok.ensures.all m named ss knows slot (room.empty slot empty) some);
+          whole_stays ss (state c.bring_units.new.self).slots (state c.fetch_page.new.self).slots c.args.first (c.in-Ok.brought.1 + 1) slot room empty (c.in-Ok.ensures.all m named ss knows slot (room.empty slot empty) some);
     }
 
 pub returns-in-Ok-fetch_page-clause-same : goal.returns-in-Ok-fetch_page-clause-same
@@ -61,7 +62,7 @@ returns-in-Ok-fetch_page-clause-same g c = λ m named ss knows. c.fetch_page.ens
 
 pub returns-in-Ok-fetch_page-clause-reaches : goal.returns-in-Ok-fetch_page-clause-reaches
 returns-in-Ok-fetch_page-clause-reaches g c =
-    reaches_then (state c.args.self.now) (state c.bring_units.new.self) c.args.self.now.filer.swapper.accepted c.bring_units.ensures.reaches (state c.fetch_page.new.self) c.fetch_page.ensures.reaches
+    reaches_then (state c.args.self.now) (state c.bring_units.new.self) (accepted c.args.self.now.filer) c.bring_units.ensures.reaches (state c.fetch_page.new.self) c.fetch_page.ensures.reaches
 
 pub returns-in-Ok-fetch_page-clause-came : goal.returns-in-Ok-fetch_page-clause-came
 returns-in-Ok-fetch_page-clause-came g c = λ m named ss knows. brings_then (c.bring_units.ensures.came m named ss knows) (c.fetch_page.ensures.came m named ss (c.bring_units.ensures.same m named ss knows))
@@ -76,7 +77,7 @@ returns-in-Err-fetch_page-clause-cause g c =
     let page = c.in-Ok.brought.1 in
     let h = c.bring_units.ensures.reaches in
     let within = c.in-Ok.ensures.within c.if-units-eq0.false in
-    finds_before v w c.args.self.now.filer.swapper.accepted h MayBeMissing (BreaksTables w c.bring_units.new.self.intervals page) (BreaksWithin v c.args.self.now.intervals c.args.first (c.args.first + c.args.pages))
+    finds_before v w (accepted c.args.self.now.filer) h MayBeMissing (BreaksTables w c.bring_units.new.self.intervals page) (BreaksWithin v c.args.self.now.intervals c.args.first (c.args.first + c.args.pages))
     (λ broken breaks. record {
       asked = page;
       from = within.0;
@@ -92,7 +93,7 @@ returns-in-Err-fetch_page-clause-same g c = λ m named ss knows. c.fetch_page.en
 
 pub returns-in-Err-fetch_page-clause-reaches : goal.returns-in-Err-fetch_page-clause-reaches
 returns-in-Err-fetch_page-clause-reaches g c =
-    reaches_then (state c.args.self.now) (state c.bring_units.new.self) c.args.self.now.filer.swapper.accepted c.bring_units.ensures.reaches (state c.fetch_page.new.self) c.fetch_page.ensures.reaches
+    reaches_then (state c.args.self.now) (state c.bring_units.new.self) (accepted c.args.self.now.filer) c.bring_units.ensures.reaches (state c.fetch_page.new.self) c.fetch_page.ensures.reaches
 
 pub returns-in-Err-fetch_page-clause-came : goal.returns-in-Err-fetch_page-clause-came
 returns-in-Err-fetch_page-clause-came g c = λ m named ss knows. brings_then (c.bring_units.ensures.came m named ss knows) (c.fetch_page.ensures.came m named ss (c.bring_units.ensures.same m named ss knows))

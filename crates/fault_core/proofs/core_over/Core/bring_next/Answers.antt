@@ -12,6 +12,7 @@ use Rattle.fault_core.proofs.ShowLemmas.{own_came}
 use Rattle.fault_core.proofs.WholeLemmas.{none_whole, shown_here, unit_whole}
 use Rattle.fault_core.specs.Lack.{shown_unit}
 use Rattle.fault_core.proofs.core_over.Core.bring_next.Goals as goal
+use Rattle.filer_kernel.specs.View.{accepted}
 
 -- ---- No window shows the page.
 
@@ -22,7 +23,7 @@ returns-then-pages-eq0-clause-further g c = λ m named ss knows.
 
 pub returns-then-pages-eq0-clause-whole : goal.returns-then-pages-eq0-clause-whole
 returns-then-pages-eq0-clause-whole g c = λ m named ss knows.
-    none_whole knows.tables c.unit_at.new.self.filer.swapper.pool c.args.so_far.page c.in-Ok.unit.0 (c.in-Ok.ensures.bare m named ss knows c.if-pages-eq0.true).0
+    none_whole knows.tables (state c.unit_at.new.self).slots c.args.so_far.page c.in-Ok.unit.0 (c.in-Ok.ensures.bare m named ss knows c.if-pages-eq0.true).0
 
 -- ---- Its unit has too many pages.
 
@@ -42,8 +43,8 @@ returns-in-Ok-fetch_page-clause-whole g c = λ m named ss knows.
     let unit = c.in-Ok.ensures.shown m named ss knows c.if-pages-eq0.false in
     let mid = c.unit_at.ensures.same m named ss knows in
     let shown = shown_here knows.tables unit.interval c.args.so_far.page unit.projected unit.mapped in
-    unit_whole (c.fetch_page.ensures.same m named ss mid) c.fetch_page.new.self.filer.swapper.pool c.args.so_far.page c.in-Ok.unit.0 c.in-Ok.unit.1 unit
-    (touched_ready ss _ c.fetch_page.new.self.filer.swapper.pool c.args.so_far.page c.in-Ok-fetch_page._slot shown (c.in-Ok-fetch_page.ensures.none m named ss mid).0 c.in-Ok-fetch_page.ensures.ready)
+    unit_whole (c.fetch_page.ensures.same m named ss mid) (state c.fetch_page.new.self).slots c.args.so_far.page c.in-Ok.unit.0 c.in-Ok.unit.1 unit
+    (touched_ready ss _ (state c.fetch_page.new.self).slots c.args.so_far.page c.in-Ok-fetch_page._slot shown (c.in-Ok-fetch_page.ensures.none m named ss mid).0 c.in-Ok-fetch_page.ensures.ready)
 
 pub returns-in-Ok-fetch_page-clause-room : goal.returns-in-Ok-fetch_page-clause-room
 returns-in-Ok-fetch_page-clause-room g c = room_then c.unit_at.ensures.room c.fetch_page.ensures.room
@@ -56,11 +57,11 @@ returns-in-Ok-fetch_page-clause-same g c = λ m named ss knows. c.fetch_page.ens
 
 pub returns-in-Ok-fetch_page-clause-reaches : goal.returns-in-Ok-fetch_page-clause-reaches
 returns-in-Ok-fetch_page-clause-reaches g c =
-    reaches_then (state c.args.self.now) (state c.unit_at.new.self) c.args.self.now.filer.swapper.accepted c.unit_at.ensures.reaches (state c.fetch_page.new.self) c.fetch_page.ensures.reaches
+    reaches_then (state c.args.self.now) (state c.unit_at.new.self) (accepted c.args.self.now.filer) c.unit_at.ensures.reaches (state c.fetch_page.new.self) c.fetch_page.ensures.reaches
 
 pub returns-in-Ok-fetch_page-clause-came : goal.returns-in-Ok-fetch_page-clause-came
 returns-in-Ok-fetch_page-clause-came g c = λ m named ss knows.
-    brings_then (own_came ss c.args.self.now.filer.swapper.pool c.unit_at.new.self.filer.swapper.pool c.unit_at.ensures.came) (c.fetch_page.ensures.came m named ss (c.unit_at.ensures.same m named ss knows))
+    brings_then (own_came ss (state c.args.self.now).slots (state c.unit_at.new.self).slots c.unit_at.ensures.came) (c.fetch_page.ensures.came m named ss (c.unit_at.ensures.same m named ss knows))
 
 -- ---- It could not be brought in.
 
@@ -74,7 +75,7 @@ returns-in-Err-fetch_page-clause-cause g c =
     let x = state c.fetch_page.new.self in
     let page = c.args.so_far.page in
     let h = c.unit_at.ensures.reaches in
-    finds_before v w c.args.self.now.filer.swapper.accepted h MayBeMissing (BreaksTables w c.unit_at.new.self.intervals page) (BreaksTables v c.args.self.now.intervals page)
+    finds_before v w (accepted c.args.self.now.filer) h MayBeMissing (BreaksTables w c.unit_at.new.self.intervals page) (BreaksTables v c.args.self.now.intervals page)
     (λ broken breaks. breaks_before v w h c.args.self.now.intervals c.unit_at.new.self.intervals page broken c.unit_at.ensures.intervals breaks) x x (omega arith) c.in-Err-fetch_page.halt c.in-Err-fetch_page.ensures.cause
 
 pub returns-in-Err-fetch_page-clause-sound : goal.returns-in-Err-fetch_page-clause-sound
@@ -85,11 +86,11 @@ returns-in-Err-fetch_page-clause-same g c = λ m named ss knows. c.fetch_page.en
 
 pub returns-in-Err-fetch_page-clause-reaches : goal.returns-in-Err-fetch_page-clause-reaches
 returns-in-Err-fetch_page-clause-reaches g c =
-    reaches_then (state c.args.self.now) (state c.unit_at.new.self) c.args.self.now.filer.swapper.accepted c.unit_at.ensures.reaches (state c.fetch_page.new.self) c.fetch_page.ensures.reaches
+    reaches_then (state c.args.self.now) (state c.unit_at.new.self) (accepted c.args.self.now.filer) c.unit_at.ensures.reaches (state c.fetch_page.new.self) c.fetch_page.ensures.reaches
 
 pub returns-in-Err-fetch_page-clause-came : goal.returns-in-Err-fetch_page-clause-came
 returns-in-Err-fetch_page-clause-came g c = λ m named ss knows.
-    brings_then (own_came ss c.args.self.now.filer.swapper.pool c.unit_at.new.self.filer.swapper.pool c.unit_at.ensures.came) (c.fetch_page.ensures.came m named ss (c.unit_at.ensures.same m named ss knows))
+    brings_then (own_came ss (state c.args.self.now).slots (state c.unit_at.new.self).slots c.unit_at.ensures.came) (c.fetch_page.ensures.came m named ss (c.unit_at.ensures.same m named ss knows))
 
 -- ---- A page has no sector.
 

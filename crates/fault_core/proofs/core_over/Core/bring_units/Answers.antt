@@ -7,6 +7,7 @@ use Rattle.fault_core.proofs.RoomLemmas.{room_itself}
 use Rattle.fault_core.specs.Lack.{range_units, shown_unit}
 use Rattle.fault_core.proofs.LackLemmas.{misses_wider}
 use Rattle.fault_core.proofs.core_over.Core.bring_units.Goals as goal
+use Rattle.filer_kernel.specs.View.{accepted}
 
 pub loop-turn-init : goal.loop-turn-init
 loop-turn-init g c =
@@ -16,7 +17,7 @@ pub loop-turn-preserved : goal.loop-turn-preserved
 loop-turn-preserved g c =
     let new = c.bring_next.new.self in
     let e = c.in-Ok-Some.ensures in
-    activating_more c.args.self.now.filer.swapper.accepted c.loop-turn.invariant (state new) (kept new) new.intervals c.in-Ok-Some.further c.end_of-end.ensures.within c.if-so_far-end.false
+    activating_more (accepted c.args.self.now.filer) c.loop-turn.invariant (state new) (kept new) new.intervals c.in-Ok-Some.further c.end_of-end.ensures.within c.if-so_far-end.false
     (some_is _ c.in-Ok-Some.field-0 c.in-Ok-Some.further c.in-Ok-Some.field-0-is e.turn)
     (λ m named ss knows. some_is _ c.in-Ok-Some.field-0 c.in-Ok-Some.further c.in-Ok-Some.field-0-is (e.further m named ss knows)) e.same e.came
     (λ m named ss knows. some_is _ c.in-Ok-Some.field-0 c.in-Ok-Some.further c.in-Ok-Some.field-0-is (e.whole m named ss knows)) e.room e.sees e.reaches e.intervals e.cost
@@ -26,19 +27,19 @@ loop-turn-preserved g c =
 pub returns-then-so_far-end-clause-units : goal.returns-then-so_far-end-clause-units
 returns-then-so_far-end-clause-units g c = λ m named ss knows.
     subst (λ (n : ℕ). AreUnits ss (c.args.first + c.args.pages) (start_at c.args.first n) c.loop-turn.so_far.units c.loop-turn.so_far.last) c.half_of-half.ensures.half
-    (activated_all c.args.self.now.filer.swapper.accepted c.loop-turn.invariant m named ss knows c.end_of-end.ensures.all c.if-so_far-end.true)
+    (activated_all (accepted c.args.self.now.filer) c.loop-turn.invariant m named ss knows c.end_of-end.ensures.all c.if-so_far-end.true)
 
 pub returns-then-so_far-end-clause-shown : goal.returns-then-so_far-end-clause-shown
-returns-then-so_far-end-clause-shown g c = activating_shown c.args.self.now.filer.swapper.accepted c.loop-turn.invariant
+returns-then-so_far-end-clause-shown g c = activating_shown (accepted c.args.self.now.filer) c.loop-turn.invariant
 
 pub returns-then-so_far-end-clause-all : goal.returns-then-so_far-end-clause-all
-returns-then-so_far-end-clause-all g c = activating_whole c.args.self.now.filer.swapper.accepted c.loop-turn.invariant c.loop-turn.self.filer.swapper.pool (room_itself c.loop-turn.self.filer.swapper.pool)
+returns-then-so_far-end-clause-all g c = activating_whole (accepted c.args.self.now.filer) c.loop-turn.invariant (state c.loop-turn.self).slots (room_itself (state c.loop-turn.self).slots)
 
 pub returns-then-so_far-end-clause-same : goal.returns-then-so_far-end-clause-same
-returns-then-so_far-end-clause-same g c = activating_known c.args.self.now.filer.swapper.accepted c.loop-turn.invariant
+returns-then-so_far-end-clause-same g c = activating_known (accepted c.args.self.now.filer) c.loop-turn.invariant
 
 pub returns-then-so_far-end-clause-came : goal.returns-then-so_far-end-clause-came
-returns-then-so_far-end-clause-came g c = activating_came c.args.self.now.filer.swapper.accepted c.loop-turn.invariant
+returns-then-so_far-end-clause-came g c = activating_came (accepted c.args.self.now.filer) c.loop-turn.invariant
 
 -- ---- The next unit has too many pages.
 
@@ -47,20 +48,20 @@ returns-in-Ok-None-clause-units g c = λ m named ss knows.
     let upto = c.end_of-end.ensures.within in
     let test = c.if-so_far-end.false in
     subst (λ (n : ℕ). AreUnits ss (c.args.first + c.args.pages) (start_at c.args.first n) c.loop-turn.so_far.units c.loop-turn.so_far.last) c.half_of-half.ensures.half
-    (activated_some c.args.self.now.filer.swapper.accepted c.loop-turn.invariant m named ss knows (omega (arith, upto, test))
-    (c.in-Ok-None.ensures.too_long m named ss (activating_known c.args.self.now.filer.swapper.accepted c.loop-turn.invariant m named ss knows) c.in-Ok-None.field-0-is))
+    (activated_some (accepted c.args.self.now.filer) c.loop-turn.invariant m named ss knows (omega (arith, upto, test))
+    (c.in-Ok-None.ensures.too_long m named ss (activating_known (accepted c.args.self.now.filer) c.loop-turn.invariant m named ss knows) c.in-Ok-None.field-0-is))
 
 pub returns-in-Ok-None-clause-shown : goal.returns-in-Ok-None-clause-shown
-returns-in-Ok-None-clause-shown g c = activating_shown c.args.self.now.filer.swapper.accepted c.loop-turn.invariant
+returns-in-Ok-None-clause-shown g c = activating_shown (accepted c.args.self.now.filer) c.loop-turn.invariant
 
 pub returns-in-Ok-None-clause-all : goal.returns-in-Ok-None-clause-all
-returns-in-Ok-None-clause-all g c = activating_whole c.args.self.now.filer.swapper.accepted c.loop-turn.invariant c.bring_next.new.self.filer.swapper.pool c.bring_next.ensures.room
+returns-in-Ok-None-clause-all g c = activating_whole (accepted c.args.self.now.filer) c.loop-turn.invariant (state c.bring_next.new.self).slots c.bring_next.ensures.room
 
 pub returns-in-Ok-None-clause-same : goal.returns-in-Ok-None-clause-same
-returns-in-Ok-None-clause-same g c = λ m named ss knows. c.bring_next.ensures.same m named ss (activating_known c.args.self.now.filer.swapper.accepted c.loop-turn.invariant m named ss knows)
+returns-in-Ok-None-clause-same g c = λ m named ss knows. c.bring_next.ensures.same m named ss (activating_known (accepted c.args.self.now.filer) c.loop-turn.invariant m named ss knows)
 
 pub returns-in-Ok-None-clause-reaches : goal.returns-in-Ok-None-clause-reaches
-returns-in-Ok-None-clause-reaches g c = activating_reaches c.args.self.now.filer.swapper.accepted c.loop-turn.invariant (state c.bring_next.new.self) c.bring_next.ensures.reaches
+returns-in-Ok-None-clause-reaches g c = activating_reaches (accepted c.args.self.now.filer) c.loop-turn.invariant (state c.bring_next.new.self) c.bring_next.ensures.reaches
 
 pub returns-in-Ok-None-clause-came : goal.returns-in-Ok-None-clause-came
 returns-in-Ok-None-clause-came g c = λ m named ss knows.
@@ -73,16 +74,16 @@ pub returns-in-Err-clause-cause : goal.returns-in-Err-clause-cause
 returns-in-Err-clause-cause g c =
     let upto = c.end_of-end.ensures.within in
     let test = c.if-so_far-end.false in
-    activating_halt c.args.self.now.filer.swapper.accepted c.loop-turn.invariant (state c.bring_next.new.self) (omega (arith, upto, test)) c.in-Err.halt c.in-Err.ensures.cause
+    activating_halt (accepted c.args.self.now.filer) c.loop-turn.invariant (state c.bring_next.new.self) (omega (arith, upto, test)) c.in-Err.halt c.in-Err.ensures.cause
 
 pub returns-in-Err-clause-sound : goal.returns-in-Err-clause-sound
-returns-in-Err-clause-sound g c = λ m named ss knows. c.in-Err.ensures.sound m named ss (activating_known c.args.self.now.filer.swapper.accepted c.loop-turn.invariant m named ss knows)
+returns-in-Err-clause-sound g c = λ m named ss knows. c.in-Err.ensures.sound m named ss (activating_known (accepted c.args.self.now.filer) c.loop-turn.invariant m named ss knows)
 
 pub returns-in-Err-clause-same : goal.returns-in-Err-clause-same
-returns-in-Err-clause-same g c = λ m named ss knows. c.bring_next.ensures.same m named ss (activating_known c.args.self.now.filer.swapper.accepted c.loop-turn.invariant m named ss knows)
+returns-in-Err-clause-same g c = λ m named ss knows. c.bring_next.ensures.same m named ss (activating_known (accepted c.args.self.now.filer) c.loop-turn.invariant m named ss knows)
 
 pub returns-in-Err-clause-reaches : goal.returns-in-Err-clause-reaches
-returns-in-Err-clause-reaches g c = activating_reaches c.args.self.now.filer.swapper.accepted c.loop-turn.invariant (state c.bring_next.new.self) c.bring_next.ensures.reaches
+returns-in-Err-clause-reaches g c = activating_reaches (accepted c.args.self.now.filer) c.loop-turn.invariant (state c.bring_next.new.self) c.bring_next.ensures.reaches
 
 pub returns-in-Err-clause-came : goal.returns-in-Err-clause-came
 returns-in-Err-clause-came g c = λ m named ss knows.
@@ -96,19 +97,19 @@ returns-clause-units g c = λ m named ss knows.
     let past = c.loop-turn-test.false in
     let most : c.args.self.now.intervals + c.half_of-half.result < c.loop-turn._turn = omega (arith, past) in
     subst (λ (n : ℕ). AreUnits ss (c.args.first + c.args.pages) (start_at c.args.first n) c.loop-turn.so_far.units c.loop-turn.so_far.last) c.half_of-half.ensures.half
-    (activated_most c.args.self.now.filer.swapper.accepted c.loop-turn.invariant m named ss knows c.end_of-end.ensures.all most)
+    (activated_most (accepted c.args.self.now.filer) c.loop-turn.invariant m named ss knows c.end_of-end.ensures.all most)
 
 pub returns-clause-shown : goal.returns-clause-shown
-returns-clause-shown g c = activating_shown c.args.self.now.filer.swapper.accepted c.loop-turn.invariant
+returns-clause-shown g c = activating_shown (accepted c.args.self.now.filer) c.loop-turn.invariant
 
 pub returns-clause-all : goal.returns-clause-all
-returns-clause-all g c = activating_whole c.args.self.now.filer.swapper.accepted c.loop-turn.invariant c.loop-turn.self.filer.swapper.pool (room_itself c.loop-turn.self.filer.swapper.pool)
+returns-clause-all g c = activating_whole (accepted c.args.self.now.filer) c.loop-turn.invariant (state c.loop-turn.self).slots (room_itself (state c.loop-turn.self).slots)
 
 pub returns-clause-same : goal.returns-clause-same
-returns-clause-same g c = activating_known c.args.self.now.filer.swapper.accepted c.loop-turn.invariant
+returns-clause-same g c = activating_known (accepted c.args.self.now.filer) c.loop-turn.invariant
 
 pub returns-clause-came : goal.returns-clause-came
-returns-clause-came g c = activating_came c.args.self.now.filer.swapper.accepted c.loop-turn.invariant
+returns-clause-came g c = activating_came (accepted c.args.self.now.filer) c.loop-turn.invariant
 
 -- ---- The tables are revealed.
 

@@ -8,7 +8,7 @@ use Rattle.space_tables.specs.SpaceTables.{IsIntervalAt}
 use Rattle.fault_core.specs.Kept.{IsFormed, IsKept, AreFormed}
 use Rattle.fault_core.specs.ReachLaws.{touch_of_reach}
 use Rattle.fault_core.specs.Revealed.{BreaksTables, IsIntervalOf}
-use Rattle.fault_core.specs.View.{view_of}
+use Rattle.filer_kernel.specs.View.{accepted, view_of}
 use Rattle.fault_core.proofs.KeptLemmas.{kept_new, kept_before, formed_more, Looked, looked}
 use Rattle.fault_core.proofs.ReachLemmas.{reaches_itself}
 use Rattle.fault_core.proofs.RoomLemmas.{room_itself}
@@ -18,6 +18,7 @@ use Rattle.fault_core.proofs.core_over.Core.describe.Given as given
 use Rattle.fault_core.proofs.LackLemmas.{sees_after}
 use Rattle.fault_core.proofs.NeverBlamesLemmas.{table_never_blames}
 use Rattle.fault_core.proofs.core_over.Core.describe.Goals as goal
+use Rattle.fault_core.specs.Core.{state}
 
 -- ---- A kept interval has the page.
 
@@ -42,16 +43,16 @@ returns-in-Some-clause-interval g c = λ m named ss knows. let own = has g c in 
 
 pub returns-in-Some-clause-same : goal.returns-in-Some-clause-same
 returns-in-Some-clause-same g c = λ m named ss knows.
-    revealed_after knows _ _ c.args.self.now.filer.swapper.accepted (reaches_itself (view_of c.args.self.now.filer)) (λ x one. inl (subst (λ (l : List Interval). IsKept l x) c.look.ensures.kept one))
+    revealed_after knows _ _ (accepted c.args.self.now.filer) (reaches_itself (view_of c.args.self.now.filer)) (λ x one. inl (subst (λ (l : List Interval). IsKept l x) c.look.ensures.kept one))
 
 pub returns-in-Some-clause-reaches : goal.returns-in-Some-clause-reaches
 returns-in-Some-clause-reaches g c = reaches_itself (view_of c.args.self.now.filer)
 
 pub returns-in-Some-clause-room : goal.returns-in-Some-clause-room
-returns-in-Some-clause-room g c = room_itself c.args.self.now.filer.swapper.pool
+returns-in-Some-clause-room g c = room_itself (state c.args.self.now).slots
 
 pub returns-in-Some-clause-stay : goal.returns-in-Some-clause-stay
-returns-in-Some-clause-stay g c = yield_itself c.args.self.now.filer.swapper.pool
+returns-in-Some-clause-stay g c = yield_itself (state c.args.self.now).slots
 
 -- ---- The tables failed.
 
@@ -62,7 +63,7 @@ returns-in_err-found-clause-sound g c = λ m named ss knows.
 
 pub returns-in_err-found-clause-same : goal.returns-in_err-found-clause-same
 returns-in_err-found-clause-same g c = λ m named ss knows.
-    revealed_after knows _ _ c.args.self.now.filer.swapper.accepted c.look_up.ensures.reaches (λ x one. inl (subst (λ (l : List Interval). IsKept l x) c.look.ensures.kept one))
+    revealed_after knows _ _ (accepted c.args.self.now.filer) c.look_up.ensures.reaches (λ x one. inl (subst (λ (l : List Interval). IsKept l x) c.look.ensures.kept one))
 
 -- ---- The tables gave an interval, and it is kept.
 
@@ -95,7 +96,7 @@ returns-in-Some-found-clause-interval g c = λ m named ss knows.
 pub returns-in-Some-found-clause-same : goal.returns-in-Some-found-clause-same
 returns-in-Some-found-clause-same g c = λ m named ss knows.
     let at = subst (λ (o : Option Interval). IfSome o (IsIntervalAt ss c.args.page)) c.in-Some-found.is (c.in_ok-found.ensures.interval knows.bytes ss (tables_revealed knows) knows.tables) in
-    revealed_after knows _ _ c.args.self.now.filer.swapper.accepted c.look_up.ensures.reaches
+    revealed_after knows _ _ (accepted c.args.self.now.filer) c.look_up.ensures.reaches
     (λ x one. elim (kept_before (kept_in c.look.new.self) (kept_in c.keep.new.self) c.in-Some-found.interval c.keep.ensures.room c.keep.ensures.full c.keep.ensures.few x one) [
       | inl was ↦ inl (subst (λ (l : List Interval). IsKept l x) c.look.ensures.kept was)
       | inr same ↦ inr (subst (λ (y : Interval). IsIntervalOf ss y) same (interval_of ss c.args.page c.in-Some-found.interval at))
@@ -103,7 +104,7 @@ returns-in-Some-found-clause-same g c = λ m named ss knows.
 
 pub returns-in_default-found-clause-same : goal.returns-in_default-found-clause-same
 returns-in_default-found-clause-same g c = λ m named ss knows.
-    revealed_after knows _ _ c.args.self.now.filer.swapper.accepted c.look_up.ensures.reaches (λ x one. inl (subst (λ (l : List Interval). IsKept l x) c.look.ensures.kept one))
+    revealed_after knows _ _ (accepted c.args.self.now.filer) c.look_up.ensures.reaches (λ x one. inl (subst (λ (l : List Interval). IsKept l x) c.look.ensures.kept one))
 
 -- ---- The tables are revealed.
 

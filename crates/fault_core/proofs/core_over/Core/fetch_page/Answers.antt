@@ -10,7 +10,7 @@ use Rattle.fault_core.specs.Reach.{no_break}
 use Rattle.fault_core.specs.ReachLaws.{reach_misses, touch_of_reach}
 use Rattle.fault_core.specs.Revealed.{BreaksTables}
 use Rattle.fault_core.specs.Unit.{IsWhole, file_page}
-use Rattle.fault_core.specs.View.{view_of}
+use Rattle.filer_kernel.specs.View.{accepted, view_of}
 use Rattle.fault_core.proofs.AccessLemmas.{shows_of, at_of}
 use Rattle.fault_core.proofs.ReachLemmas.{reaches_then, finds_before}
 use Rattle.fault_core.proofs.RoomLemmas.{room_then}
@@ -61,26 +61,26 @@ returns-in-Ok-clause-none g c = λ m named ss knows.
 
 pub returns-in-Ok-clause-same : goal.returns-in-Ok-clause-same
 returns-in-Ok-clause-same g c = λ m named ss knows.
-    revealed_after (c.in-Ok-Some.ensures.same m named ss knows) _ _ c.shown.new.self.filer.swapper.accepted c.touch.ensures.reaches (λ x one. inl one)
+    revealed_after (c.in-Ok-Some.ensures.same m named ss knows) _ _ (accepted c.shown.new.self.filer) c.touch.ensures.reaches (λ x one. inl one)
 
 pub returns-in-Ok-clause-reaches : goal.returns-in-Ok-clause-reaches
 returns-in-Ok-clause-reaches g c =
-    reaches_then (state c.args.self.now) (state c.shown.new.self) c.args.self.now.filer.swapper.accepted c.shown.ensures.reaches (view_of c.touch.new.filer) c.touch.ensures.reaches
+    reaches_then (state c.args.self.now) (state c.shown.new.self) (accepted c.args.self.now.filer) c.shown.ensures.reaches (view_of c.touch.new.filer) c.touch.ensures.reaches
 
 pub returns-in-Ok-clause-came : goal.returns-in-Ok-clause-came
 returns-in-Ok-clause-came g c = λ m named ss knows.
     let x = c.in-Ok-Some.x in
     let shows = shows_of c.in-Ok-Some.field-0 x c.args.page c.in-Ok-Some.field-0-is c.in-Ok-Some.ensures.form in
     let at = at_of ss c.in-Ok-Some.field-0 x c.args.page c.in-Ok-Some.field-0-is (c.in-Ok-Some.ensures.interval m named ss knows) in
-    brings_then (own_came ss c.args.self.now.filer.swapper.pool c.shown.new.self.filer.swapper.pool c.shown.ensures.came)
-    (known_came knows.tables x (interval_of ss c.args.page x at) shows.mapped c.shown.new.self.filer.swapper.pool c.touch.new.filer.swapper.pool c.touch.ensures.came)
+    brings_then (own_came ss (state c.args.self.now).slots (state c.shown.new.self).slots c.shown.ensures.came)
+    (known_came knows.tables x (interval_of ss c.args.page x at) shows.mapped (state c.shown.new.self).slots (view_of c.touch.new.filer).slots c.touch.ensures.came)
 
 pub returns-in-Ok-clause-idle : goal.returns-in-Ok-clause-idle
 returns-in-Ok-clause-idle g c = λ ready apart.
     let x = c.in-Ok-Some.x in
     let one = c.in-Ok-Some.ensures.idle ready apart in
-    let was = subst (λ (o : Option Interval). IfSome o (λ x. IsWhole c.args.self.now.filer.swapper.pool x c.args.page)) c.in-Ok-Some.field-0-is one.0.0 in
-    let whole : IsWhole c.shown.new.self.filer.swapper.pool x c.args.page = rw one.2 was in
+    let was = subst (λ (o : Option Interval). IfSome o (λ x. IsWhole (state c.args.self.now).slots x c.args.page)) c.in-Ok-Some.field-0-is one.0.0 in
+    let whole : IsWhole (state c.shown.new.self).slots x c.args.page = rw one.2 was in
     let two = c.touch.ensures.idle whole in
     (refl, two.1 ∙ one.2, one.3)
 
@@ -93,7 +93,7 @@ pub returns-in-Err-touch-clause-cause : goal.returns-in-Err-touch-clause-cause
 returns-in-Err-touch-clause-cause g c =
     let v = state c.args.self.now in
     let x = view_of c.touch.new.filer in
-    finds_before v (state c.shown.new.self) c.args.self.now.filer.swapper.accepted c.shown.ensures.reaches MayBeMissing no_break (BreaksTables v c.args.self.now.intervals c.args.page) (λ page none. absurd none)
+    finds_before v (state c.shown.new.self) (accepted c.args.self.now.filer) c.shown.ensures.reaches MayBeMissing no_break (BreaksTables v c.args.self.now.intervals c.args.page) (λ page none. absurd none)
     x x (omega arith) c.in-Err-touch.halt c.in-Err-touch.ensures.cause
 
 pub returns-in-Err-touch-clause-sound : goal.returns-in-Err-touch-clause-sound
@@ -106,26 +106,26 @@ returns-in-Err-touch-clause-sound g c = λ m named ss knows.
 
 pub returns-in-Err-touch-clause-same : goal.returns-in-Err-touch-clause-same
 returns-in-Err-touch-clause-same g c = λ m named ss knows.
-    revealed_after (c.in-Ok-Some.ensures.same m named ss knows) _ _ c.shown.new.self.filer.swapper.accepted c.touch.ensures.reaches (λ x one. inl one)
+    revealed_after (c.in-Ok-Some.ensures.same m named ss knows) _ _ (accepted c.shown.new.self.filer) c.touch.ensures.reaches (λ x one. inl one)
 
 pub returns-in-Err-touch-clause-reaches : goal.returns-in-Err-touch-clause-reaches
 returns-in-Err-touch-clause-reaches g c =
-    reaches_then (state c.args.self.now) (state c.shown.new.self) c.args.self.now.filer.swapper.accepted c.shown.ensures.reaches (view_of c.touch.new.filer) c.touch.ensures.reaches
+    reaches_then (state c.args.self.now) (state c.shown.new.self) (accepted c.args.self.now.filer) c.shown.ensures.reaches (view_of c.touch.new.filer) c.touch.ensures.reaches
 
 pub returns-in-Err-touch-clause-came : goal.returns-in-Err-touch-clause-came
 returns-in-Err-touch-clause-came g c = λ m named ss knows.
     let x = c.in-Ok-Some.x in
     let shows = shows_of c.in-Ok-Some.field-0 x c.args.page c.in-Ok-Some.field-0-is c.in-Ok-Some.ensures.form in
     let at = at_of ss c.in-Ok-Some.field-0 x c.args.page c.in-Ok-Some.field-0-is (c.in-Ok-Some.ensures.interval m named ss knows) in
-    brings_then (own_came ss c.args.self.now.filer.swapper.pool c.shown.new.self.filer.swapper.pool c.shown.ensures.came)
-    (known_came knows.tables x (interval_of ss c.args.page x at) shows.mapped c.shown.new.self.filer.swapper.pool c.touch.new.filer.swapper.pool c.touch.ensures.came)
+    brings_then (own_came ss (state c.args.self.now).slots (state c.shown.new.self).slots c.shown.ensures.came)
+    (known_came knows.tables x (interval_of ss c.args.page x at) shows.mapped (state c.shown.new.self).slots (view_of c.touch.new.filer).slots c.touch.ensures.came)
 
 pub returns-in-Err-touch-clause-idle : goal.returns-in-Err-touch-clause-idle
 returns-in-Err-touch-clause-idle g c = λ ready apart.
     let x = c.in-Ok-Some.x in
     let one = c.in-Ok-Some.ensures.idle ready apart in
-    let was = subst (λ (o : Option Interval). IfSome o (λ x. IsWhole c.args.self.now.filer.swapper.pool x c.args.page)) c.in-Ok-Some.field-0-is one.0.0 in
-    let whole : IsWhole c.shown.new.self.filer.swapper.pool x c.args.page = rw one.2 was in
+    let was = subst (λ (o : Option Interval). IfSome o (λ x. IsWhole (state c.args.self.now).slots x c.args.page)) c.in-Ok-Some.field-0-is one.0.0 in
+    let whole : IsWhole (state c.shown.new.self).slots x c.args.page = rw one.2 was in
     let two = c.in-Err-touch.ensures.idle whole in
     (two.0, two.1 ∙ one.2, one.3)
 

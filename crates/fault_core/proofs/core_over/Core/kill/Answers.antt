@@ -7,6 +7,7 @@ use Rattle.fault_core.proofs.BeforeLemmas.{touches_then}
 use Rattle.fault_core.proofs.KillLemmas.{killing_none, killing_more, killing_left, killing_halt, killing_sound, killing_cost, killing_found, killed_all, killed_cost, killed_goes, killed_known, killed_most, range_of}
 use Rattle.fault_core.proofs.NeverBlamesLemmas.{range_never_blames}
 use Rattle.fault_core.proofs.core_over.Core.kill.Goals as goal
+use Rattle.filer_kernel.specs.View.{accepted}
 
 pub loop-part-init : goal.loop-part-init
 loop-part-init g c = killing_none (state c.args.self.now) (kept c.args.self.now) c.args.self.now.intervals c.args.first c.args.pages c.end_of-end.result c.requires.size
@@ -16,7 +17,7 @@ kill_part-requires-clause-size g c = c.loop-part.invariant.size
 
 pub loop-part-preserved : goal.loop-part-preserved
 loop-part-preserved g c =
-    killing_more c.args.self.now.filer.swapper.accepted c.loop-part.invariant (state c.kill_part.new.self) (kept c.kill_part.new.self) c.kill_part.new.self.intervals c.end_of-end.ensures.within c.kill_part.ensures.left
+    killing_more (accepted c.args.self.now.filer) c.loop-part.invariant (state c.kill_part.new.self) (kept c.kill_part.new.self) c.kill_part.new.self.intervals c.end_of-end.ensures.within c.kill_part.ensures.left
     c.in-Ok.next c.if-page-end.false c.in-Ok.ensures.next.0 c.kill_part.ensures.touches c.kill_part.ensures.came c.kill_part.ensures.sees c.kill_part.ensures.intervals c.in-Ok.ensures.gone c.in-Ok.ensures.part
     (λ y found. let e = c.in-Ok.ensures.idle y found in (e.1, e.2)) c.kill_part.ensures.cost
 
@@ -26,26 +27,26 @@ pub returns-in-Err-clause-cause : goal.returns-in-Err-clause-cause
 returns-in-Err-clause-cause g c =
     let upto = c.end_of-end.ensures.within in
     let test = c.if-page-end.false in
-    killing_halt c.args.self.now.filer.swapper.accepted c.loop-part.invariant (state c.kill_part.new.self) (omega (arith, upto, test)) c.in-Err.halt c.in-Err.ensures.cause
+    killing_halt (accepted c.args.self.now.filer) c.loop-part.invariant (state c.kill_part.new.self) (omega (arith, upto, test)) c.in-Err.halt c.in-Err.ensures.cause
 
 pub returns-in-Err-clause-sound : goal.returns-in-Err-clause-sound
-returns-in-Err-clause-sound g c = λ m named ss knows. killing_sound c.args.self.now.filer.swapper.accepted c.loop-part.invariant m named ss c.in-Err.halt knows c.in-Err.ensures.sound
+returns-in-Err-clause-sound g c = λ m named ss knows. killing_sound (accepted c.args.self.now.filer) c.loop-part.invariant m named ss c.in-Err.halt knows c.in-Err.ensures.sound
 
 pub returns-in-Err-clause-killed : goal.returns-in-Err-clause-killed
 returns-in-Err-clause-killed g c = λ m named ss range knows from_first so_many.
-    killed_goes range knows (killing_left c.args.self.now.filer.swapper.accepted c.loop-part.invariant (state c.kill_part.new.self) (kept c.kill_part.new.self) c.kill_part.new.self.intervals c.end_of-end.ensures.within c.kill_part.ensures.left
+    killed_goes range knows (killing_left (accepted c.args.self.now.filer) c.loop-part.invariant (state c.kill_part.new.self) (kept c.kill_part.new.self) c.kill_part.new.self.intervals c.end_of-end.ensures.within c.kill_part.ensures.left
     m named ss range knows from_first so_many)
-    (touches_then (state c.args.self.now) (state c.loop-part.self) c.args.self.now.filer.swapper.accepted c.loop-part.invariant.touches (state c.kill_part.new.self) c.kill_part.ensures.touches)
+    (touches_then (state c.args.self.now) (state c.loop-part.self) (accepted c.args.self.now.filer) c.loop-part.invariant.touches (state c.kill_part.new.self) c.kill_part.ensures.touches)
 
 pub returns-in-Err-clause-known : goal.returns-in-Err-clause-known
 returns-in-Err-clause-known g c = λ m n named ss knows stands.
     killed_known (range_of c.args.first c.args.pages) knows
-    (killing_left c.args.self.now.filer.swapper.accepted c.loop-part.invariant (state c.kill_part.new.self) (kept c.kill_part.new.self) c.kill_part.new.self.intervals c.end_of-end.ensures.within c.kill_part.ensures.left
+    (killing_left (accepted c.args.self.now.filer) c.loop-part.invariant (state c.kill_part.new.self) (kept c.kill_part.new.self) c.kill_part.new.self.intervals c.end_of-end.ensures.within c.kill_part.ensures.left
     m named ss (range_of c.args.first c.args.pages) knows refl refl) n stands
 
 pub returns-in-Err-clause-touches : goal.returns-in-Err-clause-touches
 returns-in-Err-clause-touches g c =
-    touches_then (state c.args.self.now) (state c.loop-part.self) c.args.self.now.filer.swapper.accepted c.loop-part.invariant.touches (state c.kill_part.new.self) c.kill_part.ensures.touches
+    touches_then (state c.args.self.now) (state c.loop-part.self) (accepted c.args.self.now.filer) c.loop-part.invariant.touches (state c.kill_part.new.self) c.kill_part.ensures.touches
 
 pub returns-in-Err-clause-came : goal.returns-in-Err-clause-came
 returns-in-Err-clause-came g c = brings_then c.loop-part.invariant.came c.kill_part.ensures.came
@@ -54,12 +55,12 @@ pub returns-in-Err-clause-intervals : goal.returns-in-Err-clause-intervals
 returns-in-Err-clause-intervals g c = c.kill_part.ensures.intervals ∙ c.loop-part.invariant.intervals
 
 pub returns-in-Err-clause-cost : goal.returns-in-Err-clause-cost
-returns-in-Err-clause-cost g c = killing_cost c.args.self.now.filer.swapper.accepted c.loop-part.invariant (state c.kill_part.new.self) (c.args.self.now.intervals + 1) c.loop-part-test.true c.kill_part.ensures.cost
+returns-in-Err-clause-cost g c = killing_cost (accepted c.args.self.now.filer) c.loop-part.invariant (state c.kill_part.new.self) (c.args.self.now.intervals + 1) c.loop-part-test.true c.kill_part.ensures.cost
 
 -- ---- All are given up.
 
 pub returns-then-page-end-clause-gone : goal.returns-then-page-end-clause-gone
-returns-then-page-end-clause-gone g c = killed_all c.args.self.now.filer.swapper.accepted c.loop-part.invariant c.end_of-end.ensures.all c.if-page-end.true
+returns-then-page-end-clause-gone g c = killed_all (accepted c.args.self.now.filer) c.loop-part.invariant c.end_of-end.ensures.all c.if-page-end.true
 
 pub returns-then-page-end-clause-killed : goal.returns-then-page-end-clause-killed
 returns-then-page-end-clause-killed g c = λ m named ss range knows from_first so_many. killed_goes range knows (c.loop-part.invariant.left m named ss range knows from_first so_many) c.loop-part.invariant.touches
@@ -78,7 +79,7 @@ pub returns-then-page-end-clause-intervals : goal.returns-then-page-end-clause-i
 returns-then-page-end-clause-intervals g c = c.loop-part.invariant.intervals
 
 pub returns-then-page-end-clause-cost : goal.returns-then-page-end-clause-cost
-returns-then-page-end-clause-cost g c = killed_cost c.args.self.now.filer.swapper.accepted c.loop-part.invariant (c.args.self.now.intervals + 1) c.loop-part.auto._part-end
+returns-then-page-end-clause-cost g c = killed_cost (accepted c.args.self.now.filer) c.loop-part.invariant (c.args.self.now.intervals + 1) c.loop-part.auto._part-end
 
 -- ---- So many intervals are all.
 
@@ -86,7 +87,7 @@ pub returns-clause-gone : goal.returns-clause-gone
 returns-clause-gone g c =
     let past = c.loop-part-test.false in
     let most : c.args.self.now.intervals < c.loop-part._part = omega (arith, past) in
-    killed_most c.args.self.now.filer.swapper.accepted c.loop-part.invariant c.end_of-end.ensures.all most
+    killed_most (accepted c.args.self.now.filer) c.loop-part.invariant c.end_of-end.ensures.all most
 
 pub returns-clause-killed : goal.returns-clause-killed
 returns-clause-killed g c = λ m named ss range knows from_first so_many. killed_goes range knows (c.loop-part.invariant.left m named ss range knows from_first so_many) c.loop-part.invariant.touches
@@ -105,7 +106,7 @@ pub returns-clause-intervals : goal.returns-clause-intervals
 returns-clause-intervals g c = c.loop-part.invariant.intervals
 
 pub returns-clause-cost : goal.returns-clause-cost
-returns-clause-cost g c = killed_cost c.args.self.now.filer.swapper.accepted c.loop-part.invariant (c.args.self.now.intervals + 1) c.loop-part.auto._part-end
+returns-clause-cost g c = killed_cost (accepted c.args.self.now.filer) c.loop-part.invariant (c.args.self.now.intervals + 1) c.loop-part.auto._part-end
 
 -- ---- No table was asked.
 
@@ -114,7 +115,7 @@ returns-in-Err-clause-idle g c = λ found.
     let upto = c.end_of-end.ensures.within in
     let test = c.if-page-end.false in
     let was = c.loop-part.invariant.idle found in
-    let one = killing_found c.args.self.now.filer.swapper.accepted c.loop-part.invariant (omega (arith, upto, test)) found in
+    let one = killing_found (accepted c.args.self.now.filer) c.loop-part.invariant (omega (arith, upto, test)) found in
     let e = c.in-Err.ensures.idle one.0 one.1 in
     (e.0, e.1 ∙ was.0, e.2 ∙ was.1)
 

@@ -5,7 +5,7 @@ use Rattle.swapper_kernel.specs.Goes.{no_page}
 use Rattle.session_words.specs.CellLaws.{is_killed}
 use Rattle.fault_core.specs.Kill.{LeavesCore, is_absent, may_store}
 use Rattle.fault_core.specs.Core.{kept, state}
-use Rattle.fault_core.specs.View.{view_of}
+use Rattle.filer_kernel.specs.View.{accepted, view_of}
 use Rattle.fault_core.proofs.BeforeLemmas.{touches_of, touches_then}
 use Rattle.fault_core.proofs.KilledLemmas.{part_kept, part_left, part_stored}
 use Rattle.fault_core.proofs.RevealedLemmas.{interval_of}
@@ -14,7 +14,7 @@ use Rattle.fault_core.proofs.core_over.Core.kill_part.Goals as goal
 
 pub returns-in-Err-clause-left : goal.returns-in-Err-clause-left
 returns-in-Err-clause-left g c = λ m named ss range knows from to.
-    record { memory = m; changed = differs_itself (is_killed c.args.self.now.filer.swapper.layout.sectors ss range) m; revealed = c.part_at.ensures.same m named ss knows }
+    record { memory = m; changed = differs_itself (is_killed (state c.args.self.now).layout.sectors ss range) m; revealed = c.part_at.ensures.same m named ss knows }
 
 pub returns-in-Err-clause-touches : goal.returns-in-Err-clause-touches
 returns-in-Err-clause-touches g c = touches_of _ c.part_at.ensures.reaches
@@ -25,12 +25,12 @@ pub returns-then-not-may_store-clause-gone : goal.returns-then-not-may_store-cla
 returns-then-not-may_store-clause-gone g c = λ m named ss knows.
     let r = c.in-Ok.part in
     let bare : may_store r.0 ≡ false = search rules in
-    part_kept c.part_at.new.self.filer.swapper.accepted (c.part_at.ensures.same m named ss knows) r.0 (interval_of ss c.args.page r.0 (c.in-Ok.ensures.interval m named ss knows)) c.args.page r.1 c.in-Ok.ensures.form.1 c.in-Ok.ensures.part.inside
-    (is_absent c.part_at.new.self.filer.swapper.pool) bare
+    part_kept (accepted c.part_at.new.self.filer) (c.part_at.ensures.same m named ss knows) r.0 (interval_of ss c.args.page r.0 (c.in-Ok.ensures.interval m named ss knows)) c.args.page r.1 c.in-Ok.ensures.form.1 c.in-Ok.ensures.part.inside
+    (is_absent (state c.part_at.new.self).slots) bare
 
 pub returns-then-not-may_store-clause-left : goal.returns-then-not-may_store-clause-left
 returns-then-not-may_store-clause-left g c = λ m named ss range knows from to.
-    record { memory = m; changed = differs_itself (is_killed c.args.self.now.filer.swapper.layout.sectors ss range) m; revealed = c.part_at.ensures.same m named ss knows }
+    record { memory = m; changed = differs_itself (is_killed (state c.args.self.now).layout.sectors ss range) m; revealed = c.part_at.ensures.same m named ss knows }
 
 pub returns-then-not-may_store-clause-touches : goal.returns-then-not-may_store-clause-touches
 returns-then-not-may_store-clause-touches g c = touches_of _ c.part_at.ensures.reaches
@@ -41,8 +41,8 @@ pub returns-clause-gone : goal.returns-clause-gone
 returns-clause-gone g c = λ m named ss knows.
     let r = c.in-Ok.part in
     let may : may_store r.0 ≡ true = search rules in
-    part_stored c.part_at.new.self.filer.swapper.accepted (c.part_at.ensures.same m named ss knows) r.0 (interval_of ss c.args.page r.0 (c.in-Ok.ensures.interval m named ss knows)) c.args.page r.1 c.in-Ok.ensures.form.1 c.in-Ok.ensures.part.inside
-    (is_absent c.discard_shown.new.filer.swapper.pool) may c.discard_shown.ensures.gone
+    part_stored (accepted c.part_at.new.self.filer) (c.part_at.ensures.same m named ss knows) r.0 (interval_of ss c.args.page r.0 (c.in-Ok.ensures.interval m named ss knows)) c.args.page r.1 c.in-Ok.ensures.form.1 c.in-Ok.ensures.part.inside
+    (is_absent (view_of c.discard_shown.new.filer).slots) may c.discard_shown.ensures.gone
 
 pub returns-clause-left : goal.returns-clause-left
 returns-clause-left g c = λ m named ss range knows from to.
@@ -51,25 +51,25 @@ returns-clause-left g c = λ m named ss range knows from to.
     let revealed = c.part_at.ensures.same m named ss knows in
     let last = c.in-Ok.ensures.part.within in
     subst (λ (n : ℕ). LeavesCore (Differs (is_killed n ss range)) m named ss (view_of c.discard_shown.new.filer) (kept c.part_at.new.self) c.part_at.new.self.intervals) (ap (λ l. l.sectors) c.part_at.ensures.reaches.layout)
-    (part_left c.part_at.new.self.filer.swapper.accepted revealed r.0 (interval_of ss c.args.page r.0 (c.in-Ok.ensures.interval m named ss knows)) c.args.page r.1 c.in-Ok.ensures.form.1 c.in-Ok.ensures.part.inside may (view_of c.discard_shown.new.filer) range from
+    (part_left (accepted c.part_at.new.self.filer) revealed r.0 (interval_of ss c.args.page r.0 (c.in-Ok.ensures.interval m named ss knows)) c.args.page r.1 c.in-Ok.ensures.form.1 c.in-Ok.ensures.part.inside may (view_of c.discard_shown.new.filer) range from
     (omega (arith, to, last)) (c.discard_shown.ensures.left m named revealed.bytes revealed.known))
 
 pub returns-clause-touches : goal.returns-clause-touches
 returns-clause-touches g c =
-    touches_then (state c.args.self.now) (state c.part_at.new.self) c.args.self.now.filer.swapper.accepted (touches_of _ c.part_at.ensures.reaches) (view_of c.discard_shown.new.filer) c.discard_shown.ensures.touches
+    touches_then (state c.args.self.now) (state c.part_at.new.self) (accepted c.args.self.now.filer) (touches_of _ c.part_at.ensures.reaches) (view_of c.discard_shown.new.filer) c.discard_shown.ensures.touches
 
 -- ---- No table was asked.
 
 pub returns-in-Err-clause-idle : goal.returns-in-Err-clause-idle
-returns-in-Err-clause-idle g c = λ x found. let e = c.in-Err.ensures.idle x found in (e.0, (λ i. g.D.Disk.state (e.1 i).swapper.disk), e.2)
+returns-in-Err-clause-idle g c = λ x found. let e = c.in-Err.ensures.idle x found in (e.0, (λ i. (view_of (e.1 i)).disk), e.2)
 
 pub returns-then-not-may_store-clause-idle : goal.returns-then-not-may_store-clause-idle
-returns-then-not-may_store-clause-idle g c = λ x found. let e = c.in-Ok.ensures.idle x found in (refl, (λ i. g.D.Disk.state (e.1 i).swapper.disk), e.2)
+returns-then-not-may_store-clause-idle g c = λ x found. let e = c.in-Ok.ensures.idle x found in (refl, (λ i. (view_of (e.1 i)).disk), e.2)
 
 pub returns-clause-idle : goal.returns-clause-idle
 returns-clause-idle g c = λ x found.
     let e = c.in-Ok.ensures.idle x found in
-    (refl, (λ i. g.D.Disk.state (c.discard_shown.ensures.disk i)) ∙ (λ i. g.D.Disk.state (e.1 i).swapper.disk), e.2)
+    (refl, (λ i. g.D.Disk.state (c.discard_shown.ensures.disk i)) ∙ (λ i. (view_of (e.1 i)).disk), e.2)
 
 -- ---- The tables are revealed.
 

@@ -7,7 +7,7 @@ use Rattle.filer_kernel.specs.Evidence.{MayBeMissing}
 use Rattle.fault_core.specs.Reach.{no_break}
 use Rattle.fault_core.specs.ReachLaws.{reach_misses, touch_of_reach}
 use Rattle.fault_core.specs.Unit.{IsWhole}
-use Rattle.fault_core.specs.View.{view_of}
+use Rattle.filer_kernel.specs.View.{accepted, view_of}
 use Rattle.fault_core.proofs.AccessLemmas.{at_shown, both_seen, came_to}
 use Rattle.fault_core.proofs.ReachLemmas.{reaches_then, finds_before}
 use Rattle.fault_core.proofs.ShowLemmas.{own_came, both_came}
@@ -59,11 +59,11 @@ returns-in-Ok-clause-ready g c = λ done.
 
 pub returns-in-Ok-clause-same : goal.returns-in-Ok-clause-same
 returns-in-Ok-clause-same g c = λ m named ss knows.
-    revealed_after (c.in-Ok-Shown.ensures.same m named ss knows) _ _ c.refer.new.self.filer.swapper.accepted c.load_shown.ensures.reaches (λ x one. inl one)
+    revealed_after (c.in-Ok-Shown.ensures.same m named ss knows) _ _ (accepted c.refer.new.self.filer) c.load_shown.ensures.reaches (λ x one. inl one)
 
 pub returns-in-Ok-clause-reaches : goal.returns-in-Ok-clause-reaches
 returns-in-Ok-clause-reaches g c =
-    reaches_then (state c.args.self.now) (state c.refer.new.self) c.args.self.now.filer.swapper.accepted c.refer.ensures.reaches (view_of c.load_shown.new.filer) c.load_shown.ensures.reaches
+    reaches_then (state c.args.self.now) (state c.refer.new.self) (accepted c.args.self.now.filer) c.refer.ensures.reaches (view_of c.load_shown.new.filer) c.load_shown.ensures.reaches
 
 pub returns-in-Ok-clause-came : goal.returns-in-Ok-clause-came
 returns-in-Ok-clause-came g c = λ m named ss knows.
@@ -72,9 +72,9 @@ returns-in-Ok-clause-came g c = λ m named ss knows.
     let p = c.args.address / 512 in
     let q = last_page c.args.address (length c.args.into.now) in
     let seen = both_seen knows c.in-Ok-Shown.field-0 x y p q c.in-Ok-Shown.field-0-is c.in-Ok-Shown.ensures.form (c.in-Ok-Shown.ensures.intervals_at m named ss knows) in
-    brings_then (own_came ss c.args.self.now.filer.swapper.pool c.refer.new.self.filer.swapper.pool c.refer.ensures.came)
+    brings_then (own_came ss (state c.args.self.now).slots (state c.refer.new.self).slots c.refer.ensures.came)
     (both_came ss named m x y seen.0 seen.1
-    c.refer.new.self.filer.swapper.pool c.load_shown.new.filer.swapper.pool c.load_shown.ensures.came)
+    (state c.refer.new.self).slots (view_of c.load_shown.new.filer).slots c.load_shown.ensures.came)
 
 pub returns-in-Ok-clause-idle : goal.returns-in-Ok-clause-idle
 returns-in-Ok-clause-idle g c = λ first last apart.
@@ -83,9 +83,9 @@ returns-in-Ok-clause-idle g c = λ first last apart.
     let p = c.args.address / 512 in
     let q = last_page c.args.address (length c.args.into.now) in
     let one = c.in-Ok-Shown.ensures.idle first last apart in
-    let whole = at_shown (λ x y. IsWhole c.args.self.now.filer.swapper.pool x p × IsWhole c.args.self.now.filer.swapper.pool y q) c.in-Ok-Shown.field-0 x y c.in-Ok-Shown.field-0-is one.0 in
-    let x_whole : IsWhole c.refer.new.self.filer.swapper.pool x p = rw one.2 whole.0 in
-    let y_whole : IsWhole c.refer.new.self.filer.swapper.pool y q = rw one.2 whole.1 in
+    let whole = at_shown (λ x y. IsWhole (state c.args.self.now).slots x p × IsWhole (state c.args.self.now).slots y q) c.in-Ok-Shown.field-0 x y c.in-Ok-Shown.field-0-is one.0 in
+    let x_whole : IsWhole (state c.refer.new.self).slots x p = rw one.2 whole.0 in
+    let y_whole : IsWhole (state c.refer.new.self).slots y q = rw one.2 whole.1 in
     let two = c.load_shown.ensures.idle x_whole y_whole in
     (refl, two.1 ∙ one.2, one.3)
 
@@ -98,7 +98,7 @@ pub returns-in-Err-load_shown-clause-cause : goal.returns-in-Err-load_shown-clau
 returns-in-Err-load_shown-clause-cause g c =
     let v = state c.args.self.now in
     let x = view_of c.load_shown.new.filer in
-    finds_before v (state c.refer.new.self) c.args.self.now.filer.swapper.accepted c.refer.ensures.reaches MayBeMissing no_break (BreaksFor v c.args.self.now.intervals c.args.address (length c.args.into.now)) (λ page none. absurd none)
+    finds_before v (state c.refer.new.self) (accepted c.args.self.now.filer) c.refer.ensures.reaches MayBeMissing no_break (BreaksFor v c.args.self.now.intervals c.args.address (length c.args.into.now)) (λ page none. absurd none)
     x x (omega arith) c.in-Err-load_shown.halt c.in-Err-load_shown.ensures.cause
 
 pub returns-in-Err-load_shown-clause-sound : goal.returns-in-Err-load_shown-clause-sound
@@ -113,11 +113,11 @@ returns-in-Err-load_shown-clause-sound g c = λ m named ss knows.
 
 pub returns-in-Err-load_shown-clause-same : goal.returns-in-Err-load_shown-clause-same
 returns-in-Err-load_shown-clause-same g c = λ m named ss knows.
-    revealed_after (c.in-Ok-Shown.ensures.same m named ss knows) _ _ c.refer.new.self.filer.swapper.accepted c.load_shown.ensures.reaches (λ x one. inl one)
+    revealed_after (c.in-Ok-Shown.ensures.same m named ss knows) _ _ (accepted c.refer.new.self.filer) c.load_shown.ensures.reaches (λ x one. inl one)
 
 pub returns-in-Err-load_shown-clause-reaches : goal.returns-in-Err-load_shown-clause-reaches
 returns-in-Err-load_shown-clause-reaches g c =
-    reaches_then (state c.args.self.now) (state c.refer.new.self) c.args.self.now.filer.swapper.accepted c.refer.ensures.reaches (view_of c.load_shown.new.filer) c.load_shown.ensures.reaches
+    reaches_then (state c.args.self.now) (state c.refer.new.self) (accepted c.args.self.now.filer) c.refer.ensures.reaches (view_of c.load_shown.new.filer) c.load_shown.ensures.reaches
 
 pub returns-in-Err-load_shown-clause-came : goal.returns-in-Err-load_shown-clause-came
 returns-in-Err-load_shown-clause-came g c = λ m named ss knows.
@@ -126,9 +126,9 @@ returns-in-Err-load_shown-clause-came g c = λ m named ss knows.
     let p = c.args.address / 512 in
     let q = last_page c.args.address (length c.args.into.now) in
     let seen = both_seen knows c.in-Ok-Shown.field-0 x y p q c.in-Ok-Shown.field-0-is c.in-Ok-Shown.ensures.form (c.in-Ok-Shown.ensures.intervals_at m named ss knows) in
-    brings_then (own_came ss c.args.self.now.filer.swapper.pool c.refer.new.self.filer.swapper.pool c.refer.ensures.came)
+    brings_then (own_came ss (state c.args.self.now).slots (state c.refer.new.self).slots c.refer.ensures.came)
     (both_came ss named m x y seen.0 seen.1
-    c.refer.new.self.filer.swapper.pool c.load_shown.new.filer.swapper.pool c.load_shown.ensures.came)
+    (state c.refer.new.self).slots (view_of c.load_shown.new.filer).slots c.load_shown.ensures.came)
 
 pub returns-in-Err-load_shown-clause-idle : goal.returns-in-Err-load_shown-clause-idle
 returns-in-Err-load_shown-clause-idle g c = λ first last apart.
@@ -137,9 +137,9 @@ returns-in-Err-load_shown-clause-idle g c = λ first last apart.
     let p = c.args.address / 512 in
     let q = last_page c.args.address (length c.args.into.now) in
     let one = c.in-Ok-Shown.ensures.idle first last apart in
-    let whole = at_shown (λ x y. IsWhole c.args.self.now.filer.swapper.pool x p × IsWhole c.args.self.now.filer.swapper.pool y q) c.in-Ok-Shown.field-0 x y c.in-Ok-Shown.field-0-is one.0 in
-    let x_whole : IsWhole c.refer.new.self.filer.swapper.pool x p = rw one.2 whole.0 in
-    let y_whole : IsWhole c.refer.new.self.filer.swapper.pool y q = rw one.2 whole.1 in
+    let whole = at_shown (λ x y. IsWhole (state c.args.self.now).slots x p × IsWhole (state c.args.self.now).slots y q) c.in-Ok-Shown.field-0 x y c.in-Ok-Shown.field-0-is one.0 in
+    let x_whole : IsWhole (state c.refer.new.self).slots x p = rw one.2 whole.0 in
+    let y_whole : IsWhole (state c.refer.new.self).slots y q = rw one.2 whole.1 in
     let two = c.in-Err-load_shown.ensures.idle x_whole y_whole in
     (two.0, two.1 ∙ one.2, one.3)
 

@@ -3,7 +3,7 @@ use Rattle.frame_pool.specs.Frames.{HasPage}
 use Rattle.fault_core.specs.declared.reference.Access.TheVariants as access
 use Rattle.fault_core.specs.Access.{Shows, access_of, last_page}
 use Rattle.fault_core.specs.Attempt.{HasClient, IsAbsent, IsHere, IsReferred, IsUnfound}
-use Rattle.fault_core.specs.Core.{kept}
+use Rattle.fault_core.specs.Core.{kept, state}
 use Rattle.fault_core.specs.Kept.{IsKept}
 use Rattle.fault_core.specs.Unit.{IsSlotOf, IsWhole, file_page}
 use Rattle.fault_core.proofs.AccessLemmas.{at_shown, both_seen, came_to}
@@ -42,7 +42,7 @@ returns-clause-clients g c =
     let y = c.in-Ok-Shown.last in
     let p = c.args.address / 512 in
     let q = last_page c.args.address c.args.count in
-    let pool = c.refer.new.self.filer.swapper.pool in
+    let pool = (state c.refer.new.self).slots in
     let form = at_shown (λ x y. Shows x p × Shows y q) c.in-Ok-Shown.field-0 x y c.in-Ok-Shown.field-0-is c.in-Ok-Shown.ensures.form in
     let r = c.look_for.result in
     let first = ready_wider (λ i j. HasPage pool i x.id (file_page x p)) (λ i j. HasClient pool i) r (λ i j has. client_slot pool x p i form.0 has) c.look_for.ensures.first in
@@ -55,7 +55,7 @@ returns-clause-here g c =
     let y = c.in-Ok-Shown.last in
     let p = c.args.address / 512 in
     let q = last_page c.args.address c.args.count in
-    let pool = c.refer.new.self.filer.swapper.pool in
+    let pool = (state c.refer.new.self).slots in
     let form = at_shown (λ x y. Shows x p × Shows y q) c.in-Ok-Shown.field-0 x y c.in-Ok-Shown.field-0-is c.in-Ok-Shown.ensures.form in
     let is_kept = at_shown (λ x y. IsKept (kept c.refer.new.self) y) c.in-Ok-Shown.field-0 x y c.in-Ok-Shown.field-0-is c.in-Ok-Shown.ensures.is_kept in
     rw c.look_for.ensures.same (ready_wider (λ i j. HasPage pool j y.id (file_page y q)) (λ i j. IsHere (kept c.refer.new.self) pool q) c.look_for.result
@@ -67,7 +67,7 @@ returns-clause-slots g c = λ m named ss knows.
     let y = c.in-Ok-Shown.last in
     let p = c.args.address / 512 in
     let q = last_page c.args.address c.args.count in
-    let pool = c.refer.new.self.filer.swapper.pool in
+    let pool = (state c.refer.new.self).slots in
     let form = at_shown (λ x y. Shows x p × Shows y q) c.in-Ok-Shown.field-0 x y c.in-Ok-Shown.field-0-is c.in-Ok-Shown.ensures.form in
     let seen = both_seen knows c.in-Ok-Shown.field-0 x y p q c.in-Ok-Shown.field-0-is c.in-Ok-Shown.ensures.form (c.in-Ok-Shown.ensures.intervals_at m named ss knows) in
     let r = c.look_for.result in
@@ -90,7 +90,7 @@ returns-clause-absent g c = λ m named ss knows.
     let y = c.in-Ok-Shown.last in
     let p = c.args.address / 512 in
     let q = last_page c.args.address c.args.count in
-    let pool = c.refer.new.self.filer.swapper.pool in
+    let pool = (state c.refer.new.self).slots in
     let form = at_shown (λ x y. Shows x p × Shows y q) c.in-Ok-Shown.field-0 x y c.in-Ok-Shown.field-0-is c.in-Ok-Shown.ensures.form in
     let seen = both_seen knows c.in-Ok-Shown.field-0 x y p q c.in-Ok-Shown.field-0-is c.in-Ok-Shown.ensures.form (c.in-Ok-Shown.ensures.intervals_at m named ss knows) in
     let granted = came_to (access_of ss c.args.writes c.args.address c.args.count) c.in-Ok-Shown.field-0 _ c.in-Ok-Shown.field-0-is (c.in-Ok-Shown.ensures.access m named ss knows) in
@@ -101,7 +101,7 @@ pub returns-clause-referred : goal.returns-clause-referred
 returns-clause-referred g c =
     let x = c.in-Ok-Shown.first in
     let y = c.in-Ok-Shown.last in
-    let pool = c.refer.new.self.filer.swapper.pool in
+    let pool = (state c.refer.new.self).slots in
     absent_wider (IsUnfound pool x y c.args.address c.args.count) (IsReferred c.args.address c.args.count) c.look_for.result (unfound_referred pool x y c.args.address c.args.count) c.look_for.ensures.absent
 
 pub returns-clause-unmoved : goal.returns-clause-unmoved
@@ -116,10 +116,10 @@ returns-clause-present g c = λ first last apart.
     let y = c.in-Ok-Shown.last in
     let p = c.args.address / 512 in
     let q = last_page c.args.address c.args.count in
-    let pool = c.refer.new.self.filer.swapper.pool in
+    let pool = (state c.refer.new.self).slots in
     let form = at_shown (λ x y. Shows x p × Shows y q) c.in-Ok-Shown.field-0 x y c.in-Ok-Shown.field-0-is c.in-Ok-Shown.ensures.form in
     let one = c.in-Ok-Shown.ensures.idle first last apart in
-    let whole = at_shown (λ x y. IsWhole c.args.self.now.filer.swapper.pool x p × IsWhole c.args.self.now.filer.swapper.pool y q) c.in-Ok-Shown.field-0 x y c.in-Ok-Shown.field-0-is one.0 in
+    let whole = at_shown (λ x y. IsWhole (state c.args.self.now).slots x p × IsWhole (state c.args.self.now).slots y q) c.in-Ok-Shown.field-0 x y c.in-Ok-Shown.field-0-is one.0 in
     let x_whole : IsWhole pool x p = rw one.2 whole.0 in
     let y_whole : IsWhole pool y q = rw one.2 whole.1 in
     absent_wider (IsUnfound pool x y c.args.address c.args.count) (λ page. ⊥) c.look_for.result (λ page unfound. unfound_never pool x y c.args.address c.args.count page form.0 form.1 x_whole y_whole unfound) c.look_for.ensures.absent

@@ -15,6 +15,7 @@ use Rattle.fault_core.proofs.ShowLemmas.{shown_is}
 use Rattle.fault_core.proofs.RevealedLemmas.{interval_of}
 use Rattle.fault_core.proofs.LackLemmas.{seen_at}
 use Rattle.fault_core.proofs.core_over.Core.refer.Goals as goal
+use Rattle.filer_kernel.specs.View.{accepted}
 
 -- ---- The first page.
 
@@ -26,7 +27,7 @@ pub returns-in-Err-clause-cause : goal.returns-in-Err-clause-cause
 returns-in-Err-clause-cause g c =
     let v = state c.args.self.now in
     let w = state c.shown.new.self in
-    halts_before v v c.args.self.now.filer.swapper.accepted (reaches_itself v) (BreaksTables v c.args.self.now.intervals (c.args.address / 512)) (BreaksFor v c.args.self.now.intervals c.args.address c.args.count)
+    halts_before v v (accepted c.args.self.now.filer) (reaches_itself v) (BreaksTables v c.args.self.now.intervals (c.args.address / 512)) (BreaksFor v c.args.self.now.intervals c.args.address c.args.count)
     (breaks_first v c.args.self.now.intervals c.args.address c.args.count) w w (omega arith) c.in-Err.halt c.in-Err.ensures.cause
 
 -- ---- It is shown, and no window shows the last page.
@@ -44,12 +45,12 @@ returns-in-Ok-None-shown_last-clause-same g c = λ m named ss knows. c.in-Ok-Non
 
 pub returns-in-Ok-None-shown_last-clause-reaches : goal.returns-in-Ok-None-shown_last-clause-reaches
 returns-in-Ok-None-shown_last-clause-reaches g c =
-    reaches_then (state c.args.self.now) (state c.shown.new.self) c.args.self.now.filer.swapper.accepted c.shown.ensures.reaches (state c.shown_last.new.self) c.shown_last.ensures.reaches
+    reaches_then (state c.args.self.now) (state c.shown.new.self) (accepted c.args.self.now.filer) c.shown.ensures.reaches (state c.shown_last.new.self) c.shown_last.ensures.reaches
 
 pub returns-in-Ok-None-shown_last-clause-idle : goal.returns-in-Ok-None-shown_last-clause-idle
 returns-in-Ok-None-shown_last-clause-idle g c = λ first last apart.
     let one = c.in-Ok-Some.ensures.idle first apart in
-    let ready : IsReady (kept c.shown.new.self) c.shown.new.self.filer.swapper.pool c.last_page-last.result = rw (one.3, one.2, c.last_page-last.ensures) last in
+    let ready : IsReady (kept c.shown.new.self) (state c.shown.new.self).slots c.last_page-last.result = rw (one.3, one.2, c.last_page-last.ensures) last in
     let two = c.in-Ok-None-shown_last.ensures.idle ready (subst AreApart (sym one.3) apart) in
     (tt, refl, two.2 ∙ one.2, two.3 ∙ one.3)
 
@@ -61,7 +62,7 @@ returns-in-Err-shown_last-clause-cause g c =
     let w = state c.shown.new.self in
     let x = state c.shown_last.new.self in
     let last = c.last_page-last.result in
-    halts_before v w c.args.self.now.filer.swapper.accepted c.shown.ensures.reaches (BreaksTables w c.shown.new.self.intervals last) (BreaksFor v c.args.self.now.intervals c.args.address c.args.count)
+    halts_before v w (accepted c.args.self.now.filer) c.shown.ensures.reaches (BreaksTables w c.shown.new.self.intervals last) (BreaksFor v c.args.self.now.intervals c.args.address c.args.count)
     (λ page broken. breaks_last v c.args.self.now.intervals c.args.address c.args.count page
     (rw (← c.last_page-last.ensures) (breaks_before v w c.shown.ensures.reaches c.args.self.now.intervals c.shown.new.self.intervals last page c.shown.ensures.intervals broken)))
     x x (omega arith) c.in-Err-shown_last.halt c.in-Err-shown_last.ensures.cause
@@ -74,12 +75,12 @@ returns-in-Err-shown_last-clause-same g c = λ m named ss knows. c.in-Err-shown_
 
 pub returns-in-Err-shown_last-clause-reaches : goal.returns-in-Err-shown_last-clause-reaches
 returns-in-Err-shown_last-clause-reaches g c =
-    reaches_then (state c.args.self.now) (state c.shown.new.self) c.args.self.now.filer.swapper.accepted c.shown.ensures.reaches (state c.shown_last.new.self) c.shown_last.ensures.reaches
+    reaches_then (state c.args.self.now) (state c.shown.new.self) (accepted c.args.self.now.filer) c.shown.ensures.reaches (state c.shown_last.new.self) c.shown_last.ensures.reaches
 
 pub returns-in-Err-shown_last-clause-idle : goal.returns-in-Err-shown_last-clause-idle
 returns-in-Err-shown_last-clause-idle g c = λ first last apart.
     let one = c.in-Ok-Some.ensures.idle first apart in
-    let ready : IsReady (kept c.shown.new.self) c.shown.new.self.filer.swapper.pool c.last_page-last.result = rw (one.3, one.2, c.last_page-last.ensures) last in
+    let ready : IsReady (kept c.shown.new.self) (state c.shown.new.self).slots c.last_page-last.result = rw (one.3, one.2, c.last_page-last.ensures) last in
     let two = c.in-Err-shown_last.ensures.idle ready (subst AreApart (sym one.3) apart) in
     (tt, two.1, two.2 ∙ one.2, two.3 ∙ one.3)
 
@@ -115,7 +116,7 @@ returns-clause-same g c = λ m named ss knows. c.in-Ok-Some-shown_last.ensures.s
 
 pub returns-clause-reaches : goal.returns-clause-reaches
 returns-clause-reaches g c =
-    reaches_then (state c.args.self.now) (state c.shown.new.self) c.args.self.now.filer.swapper.accepted c.shown.ensures.reaches (state c.shown_last.new.self) c.shown_last.ensures.reaches
+    reaches_then (state c.args.self.now) (state c.shown.new.self) (accepted c.args.self.now.filer) c.shown.ensures.reaches (state c.shown_last.new.self) c.shown_last.ensures.reaches
 
 pub returns-clause-came : goal.returns-clause-came
 returns-clause-came g c = brings_then c.shown.ensures.came c.shown_last.ensures.came
@@ -124,12 +125,12 @@ pub returns-clause-idle : goal.returns-clause-idle
 returns-clause-idle g c = λ first last apart.
     let x = c.in-Ok-Some.x in
     let y = c.in-Ok-Some-shown_last.y in
-    let pool = c.args.self.now.filer.swapper.pool in
+    let pool = (state c.args.self.now).slots in
     let one = c.in-Ok-Some.ensures.idle first apart in
-    let ready : IsReady (kept c.shown.new.self) c.shown.new.self.filer.swapper.pool c.last_page-last.result = rw (one.3, one.2, c.last_page-last.ensures) last in
+    let ready : IsReady (kept c.shown.new.self) (state c.shown.new.self).slots c.last_page-last.result = rw (one.3, one.2, c.last_page-last.ensures) last in
     let two = c.in-Ok-Some-shown_last.ensures.idle ready (subst AreApart (sym one.3) apart) in
     let x_whole = subst (λ (o : Option Interval). IfSome o (λ x. IsWhole pool x (c.args.address / 512))) c.in-Ok-Some.field-0-is one.0.0 in
-    let y_whole = subst (λ (o : Option Interval). IfSome o (λ x. IsWhole c.shown.new.self.filer.swapper.pool x c.last_page-last.result)) c.in-Ok-Some-shown_last.field-0-is two.0.0 in (
+    let y_whole = subst (λ (o : Option Interval). IfSome o (λ x. IsWhole (state c.shown.new.self).slots x c.last_page-last.result)) c.in-Ok-Some-shown_last.field-0-is two.0.0 in (
       shown_some (λ x y. IsWhole pool x (c.args.address / 512) × IsWhole pool y (last_page c.args.address c.args.count)) c.allowed.result x y c.allowed.ensures.shown
           (x_whole, rw (← c.last_page-last.ensures, ← one.2) y_whole),
       refl,

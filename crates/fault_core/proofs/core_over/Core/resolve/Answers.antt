@@ -6,7 +6,7 @@ use Rattle.filer_kernel.specs.Evidence.{MayBeMissing}
 use Rattle.fault_core.specs.Reach.{no_break}
 use Rattle.fault_core.specs.ReachLaws.{reach_misses, touch_of_reach}
 use Rattle.fault_core.specs.Revealed.{BreaksTables}
-use Rattle.fault_core.specs.View.{view_of}
+use Rattle.filer_kernel.specs.View.{accepted, view_of}
 use Rattle.fault_core.proofs.AccessLemmas.{shows_of, at_of}
 use Rattle.fault_core.proofs.PlanLemmas.{plan_is, unit_has_sectors}
 use Rattle.fault_core.proofs.ReachLemmas.{reaches_then, finds_before}
@@ -46,11 +46,11 @@ returns-in-Ok-clause-none g c = λ m named ss knows.
 
 pub returns-in-Ok-clause-same : goal.returns-in-Ok-clause-same
 returns-in-Ok-clause-same g c = λ m named ss knows.
-    revealed_after (c.in-Ok-Some.ensures.same m named ss knows) _ _ c.shown.new.self.filer.swapper.accepted c.homes_of.ensures.reaches (λ x one. inl one)
+    revealed_after (c.in-Ok-Some.ensures.same m named ss knows) _ _ (accepted c.shown.new.self.filer) c.homes_of.ensures.reaches (λ x one. inl one)
 
 pub returns-in-Ok-clause-reaches : goal.returns-in-Ok-clause-reaches
 returns-in-Ok-clause-reaches g c =
-    reaches_then (state c.args.self.now) (state c.shown.new.self) c.args.self.now.filer.swapper.accepted c.shown.ensures.reaches (view_of c.homes_of.new.filer) c.homes_of.ensures.reaches
+    reaches_then (state c.args.self.now) (state c.shown.new.self) (accepted c.args.self.now.filer) c.shown.ensures.reaches (view_of c.homes_of.new.filer) c.homes_of.ensures.reaches
 
 -- ---- They could not be found.
 
@@ -61,7 +61,7 @@ pub returns-in-Err-homes_of-clause-cause : goal.returns-in-Err-homes_of-clause-c
 returns-in-Err-homes_of-clause-cause g c =
     let v = state c.args.self.now in
     let x = view_of c.homes_of.new.filer in
-    finds_before v (state c.shown.new.self) c.args.self.now.filer.swapper.accepted c.shown.ensures.reaches MayBeMissing no_break (BreaksTables v c.args.self.now.intervals c.args.page) (λ page none. absurd none)
+    finds_before v (state c.shown.new.self) (accepted c.args.self.now.filer) c.shown.ensures.reaches MayBeMissing no_break (BreaksTables v c.args.self.now.intervals c.args.page) (λ page none. absurd none)
     x x (omega arith) c.in-Err-homes_of.halt c.in-Err-homes_of.ensures.cause
 
 pub returns-in-Err-homes_of-clause-sound : goal.returns-in-Err-homes_of-clause-sound
@@ -76,11 +76,11 @@ returns-in-Err-homes_of-clause-sound g c = λ m named ss knows.
 
 pub returns-in-Err-homes_of-clause-same : goal.returns-in-Err-homes_of-clause-same
 returns-in-Err-homes_of-clause-same g c = λ m named ss knows.
-    revealed_after (c.in-Ok-Some.ensures.same m named ss knows) _ _ c.shown.new.self.filer.swapper.accepted c.homes_of.ensures.reaches (λ x one. inl one)
+    revealed_after (c.in-Ok-Some.ensures.same m named ss knows) _ _ (accepted c.shown.new.self.filer) c.homes_of.ensures.reaches (λ x one. inl one)
 
 pub returns-in-Err-homes_of-clause-reaches : goal.returns-in-Err-homes_of-clause-reaches
 returns-in-Err-homes_of-clause-reaches g c =
-    reaches_then (state c.args.self.now) (state c.shown.new.self) c.args.self.now.filer.swapper.accepted c.shown.ensures.reaches (view_of c.homes_of.new.filer) c.homes_of.ensures.reaches
+    reaches_then (state c.args.self.now) (state c.shown.new.self) (accepted c.args.self.now.filer) c.shown.ensures.reaches (view_of c.homes_of.new.filer) c.homes_of.ensures.reaches
 
 -- ---- A page has no sector.
 

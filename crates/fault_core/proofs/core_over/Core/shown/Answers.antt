@@ -9,7 +9,7 @@ use Rattle.fault_core.specs.Unit.{IsWhole}
 use Rattle.fault_core.proofs.KeptLemmas.{ready_found, same_answer}
 use Rattle.fault_core.proofs.ShowLemmas.{shown_is, shown_none, none_past}
 use Rattle.fault_core.proofs.RevealedLemmas.{interval_of}
-use Rattle.fault_core.specs.Core.{kept}
+use Rattle.fault_core.specs.Core.{kept, state}
 use Rattle.fault_core.proofs.core_over.Core.shown.Goals as goal
 
 pub returns-in-Ok-None-clause-none : goal.returns-in-Ok-None-clause-none
@@ -17,7 +17,7 @@ returns-in-Ok-None-clause-none g c = λ m named ss knows. (λ _. none_past knows
 
 pub returns-in-Err-clause-idle : goal.returns-in-Err-clause-idle
 returns-in-Err-clause-idle g c = λ ready apart.
-    let e = c.describe.ensures.idle ready.interval (ready_found (kept c.args.self.now) c.args.self.now.filer.swapper.pool c.args.page ready apart) in
+    let e = c.describe.ensures.idle ready.interval (ready_found (kept c.args.self.now) (state c.args.self.now).slots c.args.page ready apart) in
     absurd (true≢false (ap is_ok (sym e.0 ∙ c.in-Err.is)))
 
 pub returns-then-not-is_mapped-clause-none : goal.returns-then-not-is_mapped-clause-none
@@ -28,7 +28,7 @@ returns-then-not-is_mapped-clause-none g c = λ m named ss knows.
 
 pub returns-then-not-is_mapped-clause-idle : goal.returns-then-not-is_mapped-clause-idle
 returns-then-not-is_mapped-clause-idle g c = λ ready apart.
-    let e = c.describe.ensures.idle ready.interval (ready_found (kept c.args.self.now) c.args.self.now.filer.swapper.pool c.args.page ready apart) in
+    let e = c.describe.ensures.idle ready.interval (ready_found (kept c.args.self.now) (state c.args.self.now).slots c.args.page ready apart) in
     let same : ready.interval ≡ c.in-Ok-Some.x = same_answer c.describe.result ready.interval c.in-Ok-Some.x c.in-Ok-Some.field-0 e.0 c.in-Ok-Some.is c.in-Ok-Some.field-0-is in
     let bare : is_mapped c.in-Ok-Some.x.mode ≡ false = search rules in
     absurd (true≢false (sym ready.mapped ∙ ap (λ (x : Interval). is_mapped x.mode) same ∙ bare))
@@ -46,6 +46,6 @@ returns-clause-none g c = λ m named ss knows.
 
 pub returns-clause-idle : goal.returns-clause-idle
 returns-clause-idle g c = λ ready apart.
-    let e = c.describe.ensures.idle ready.interval (ready_found (kept c.args.self.now) c.args.self.now.filer.swapper.pool c.args.page ready apart) in
+    let e = c.describe.ensures.idle ready.interval (ready_found (kept c.args.self.now) (state c.args.self.now).slots c.args.page ready apart) in
     let same : ready.interval ≡ c.in-Ok-Some.x = same_answer c.describe.result ready.interval c.in-Ok-Some.x c.in-Ok-Some.field-0 e.0 c.in-Ok-Some.is c.in-Ok-Some.field-0-is in
-    ((subst (λ (x : Interval). IsWhole c.args.self.now.filer.swapper.pool x c.args.page) same ready.whole, λ none. absurd (none-some c.in-Ok-Some.x (sym none))), refl, e.1, e.2)
+    ((subst (λ (x : Interval). IsWhole (state c.args.self.now).slots x c.args.page) same ready.whole, λ none. absurd (none-some c.in-Ok-Some.x (sym none))), refl, e.1, e.2)

@@ -3,12 +3,13 @@ use Rattle.std.proofs.lemmas.Option.{none-some}
 use Rattle.swap_units.specs.declared.interval.Interval.{Interval}
 use Rattle.swap_units.specs.Unit.{Holds}
 use Rattle.fault_core.specs.Unit.{IsWhole}
-use Rattle.fault_core.specs.View.{view_of}
+use Rattle.filer_kernel.specs.View.{view_of}
 use Rattle.fault_core.proofs.ReachLemmas.{reaches_itself}
 use Rattle.fault_core.proofs.ShowLemmas.{shown_is}
 use Rattle.fault_core.proofs.RevealedLemmas.{interval_at}
 use Rattle.fault_core.proofs.core_over.Core.shown_last.Given as given
 use Rattle.fault_core.proofs.core_over.Core.shown_last.Goals as goal
+use Rattle.fault_core.specs.Core.{state}
 
 -- ---- The last page is the first.
 
@@ -28,4 +29,4 @@ returns-then-last-first-clause-reaches g c = reaches_itself (view_of c.args.self
 pub returns-then-last-first-clause-idle : goal.returns-then-last-first-clause-idle
 returns-then-last-first-clause-idle g c = λ ready apart.
     let same = apart ready.interval c.args.x c.args.last ready.is_kept c.requires.is_kept ready.holds (held g c) in
-    ((subst (λ (x : Interval). IsWhole c.args.self.now.filer.swapper.pool x c.args.last) same ready.whole, λ none. absurd (none-some c.args.x (sym none))), refl, refl, refl)
+    ((subst (λ (x : Interval). IsWhole (state c.args.self.now).slots x c.args.last) same ready.whole, λ none. absurd (none-some c.args.x (sym none))), refl, refl, refl)

@@ -10,7 +10,7 @@ use Rattle.filer_kernel.specs.Evidence.{MayBeMissing}
 use Rattle.fault_core.specs.Reach.{no_break}
 use Rattle.fault_core.specs.ReachLaws.{reach_misses, touch_of_reach}
 use Rattle.fault_core.specs.Unit.{IsWhole, file_page}
-use Rattle.fault_core.specs.View.{view_of}
+use Rattle.filer_kernel.specs.View.{accepted, view_of}
 use Rattle.fault_core.proofs.AccessLemmas.{at_shown, both_seen, came_to}
 use Rattle.fault_core.proofs.BeforeLemmas.{touches_of, touches_then, touches_wider}
 use Rattle.fault_core.proofs.LeaveLemmas.{clients_alone, goes_refused, goes_revealed, none_stored, revealed_leaves, revealed_stands, touched_or_own}
@@ -89,7 +89,7 @@ returns-in-Ok-clause-stored g c = λ m named ss knows.
     let seen = both_seen after c.in-Ok-Shown.field-0 x y (a / 512) (last_page a n) c.in-Ok-Shown.field-0-is c.in-Ok-Shown.ensures.form (c.in-Ok-Shown.ensures.intervals_at m named ss knows) in
     let l = c.in-Ok.ensures.stored m named after.bytes ss after.known seen.0 seen.1 in
     goes_revealed (StoresAs access.Done ss a c.args.bytes.now) (of_reference x y a n) (IsTouchedOrOwn ss a n)
-    (touches_then (state c.args.self.now) (state c.refer.new.self) c.args.self.now.filer.swapper.accepted (touches_of (of_reference x y a n) c.refer.ensures.reaches) (view_of c.store_shown.new.filer) c.store_shown.ensures.touches)
+    (touches_then (state c.args.self.now) (state c.refer.new.self) (accepted c.args.self.now.filer) (touches_of (of_reference x y a n) c.refer.ensures.reaches) (view_of c.store_shown.new.filer) c.store_shown.ensures.touches)
     (touched_or_own ss named m x y a n seen.0 seen.1 form.0.holds form.1.holds) knows.known.stands l.memory l.known.stands l.changed
 
 pub returns-in-Ok-clause-known : goal.returns-in-Ok-clause-known
@@ -128,15 +128,15 @@ returns-in-Ok-clause-touches g c =
     let n = length c.args.bytes.now in
     let form = at_shown (λ x y. Shows x (a / 512) × Shows y (last_page a n)) c.in-Ok-Shown.field-0 x y c.in-Ok-Shown.field-0-is c.in-Ok-Shown.ensures.form in
     touches_wider (of_reference x y a n) client_page (clients_alone x y a n (form.0.formed.shows form.0.mapped).0 (form.1.formed.shows form.1.mapped).0)
-    (touches_then (state c.args.self.now) (state c.refer.new.self) c.args.self.now.filer.swapper.accepted (touches_of (of_reference x y a n) c.refer.ensures.reaches) (view_of c.store_shown.new.filer) c.store_shown.ensures.touches)
+    (touches_then (state c.args.self.now) (state c.refer.new.self) (accepted c.args.self.now.filer) (touches_of (of_reference x y a n) c.refer.ensures.reaches) (view_of c.store_shown.new.filer) c.store_shown.ensures.touches)
 
 pub returns-in-Ok-clause-came : goal.returns-in-Ok-clause-came
 returns-in-Ok-clause-came g c = λ m named ss knows.
     let x = c.in-Ok-Shown.first in
     let y = c.in-Ok-Shown.last in
     let seen = both_seen knows c.in-Ok-Shown.field-0 x y (c.args.address / 512) (last_page c.args.address (length c.args.bytes.now)) c.in-Ok-Shown.field-0-is c.in-Ok-Shown.ensures.form (c.in-Ok-Shown.ensures.intervals_at m named ss knows) in
-    brings_then (own_came ss c.args.self.now.filer.swapper.pool c.refer.new.self.filer.swapper.pool c.refer.ensures.came)
-    (both_came ss named m x y seen.0 seen.1 c.refer.new.self.filer.swapper.pool c.store_shown.new.filer.swapper.pool c.store_shown.ensures.came)
+    brings_then (own_came ss (state c.args.self.now).slots (state c.refer.new.self).slots c.refer.ensures.came)
+    (both_came ss named m x y seen.0 seen.1 (state c.refer.new.self).slots (view_of c.store_shown.new.filer).slots c.store_shown.ensures.came)
 
 pub returns-in-Ok-clause-idle : goal.returns-in-Ok-clause-idle
 returns-in-Ok-clause-idle g c = λ first last apart.
@@ -145,9 +145,9 @@ returns-in-Ok-clause-idle g c = λ first last apart.
     let p = c.args.address / 512 in
     let q = last_page c.args.address (length c.args.bytes.now) in
     let one = c.in-Ok-Shown.ensures.idle first last apart in
-    let whole = at_shown (λ x y. IsWhole c.args.self.now.filer.swapper.pool x p × IsWhole c.args.self.now.filer.swapper.pool y q) c.in-Ok-Shown.field-0 x y c.in-Ok-Shown.field-0-is one.0 in
-    let x_whole : IsWhole c.refer.new.self.filer.swapper.pool x p = rw one.2 whole.0 in
-    let y_whole : IsWhole c.refer.new.self.filer.swapper.pool y q = rw one.2 whole.1 in
+    let whole = at_shown (λ x y. IsWhole (state c.args.self.now).slots x p × IsWhole (state c.args.self.now).slots y q) c.in-Ok-Shown.field-0 x y c.in-Ok-Shown.field-0-is one.0 in
+    let x_whole : IsWhole (state c.refer.new.self).slots x p = rw one.2 whole.0 in
+    let y_whole : IsWhole (state c.refer.new.self).slots y q = rw one.2 whole.1 in
     let two = c.store_shown.ensures.idle x_whole y_whole in
     (refl, rw (← one.2) two.1, one.3)
 
@@ -168,7 +168,7 @@ returns-in-Err-store_shown-clause-halted g c = λ m named ss knows.
     let seen = both_seen after c.in-Ok-Shown.field-0 x y (a / 512) (last_page a n) c.in-Ok-Shown.field-0-is c.in-Ok-Shown.ensures.form (c.in-Ok-Shown.ensures.intervals_at m named ss knows) in
     let l = c.in-Err-store_shown.ensures.halted m named after.bytes ss after.known seen.0 in
     goes_revealed (StoresSome ss a c.args.bytes.now) (of_reference x y a n) (IsTouchedOrOwn ss a n)
-    (touches_then (state c.args.self.now) (state c.refer.new.self) c.args.self.now.filer.swapper.accepted (touches_of (of_reference x y a n) c.refer.ensures.reaches) (view_of c.store_shown.new.filer) c.store_shown.ensures.touches)
+    (touches_then (state c.args.self.now) (state c.refer.new.self) (accepted c.args.self.now.filer) (touches_of (of_reference x y a n) c.refer.ensures.reaches) (view_of c.store_shown.new.filer) c.store_shown.ensures.touches)
     (touched_or_own ss named m x y a n seen.0 seen.1 form.0.holds form.1.holds) knows.known.stands l.memory l.known.stands l.changed
 
 pub returns-in-Err-store_shown-clause-known : goal.returns-in-Err-store_shown-clause-known
@@ -181,7 +181,7 @@ pub returns-in-Err-store_shown-clause-cause : goal.returns-in-Err-store_shown-cl
 returns-in-Err-store_shown-clause-cause g c =
     let v = state c.args.self.now in
     let x = view_of c.store_shown.new.filer in
-    finds_before v (state c.refer.new.self) c.args.self.now.filer.swapper.accepted c.refer.ensures.reaches MayBeMissing no_break (BreaksFor v c.args.self.now.intervals c.args.address (length c.args.bytes.now)) (λ page none. absurd none)
+    finds_before v (state c.refer.new.self) (accepted c.args.self.now.filer) c.refer.ensures.reaches MayBeMissing no_break (BreaksFor v c.args.self.now.intervals c.args.address (length c.args.bytes.now)) (λ page none. absurd none)
     x x (omega arith) c.in-Err-store_shown.halt c.in-Err-store_shown.ensures.cause
 
 pub returns-in-Err-store_shown-clause-sound : goal.returns-in-Err-store_shown-clause-sound
@@ -198,15 +198,15 @@ returns-in-Err-store_shown-clause-touches g c =
     let n = length c.args.bytes.now in
     let form = at_shown (λ x y. Shows x (a / 512) × Shows y (last_page a n)) c.in-Ok-Shown.field-0 x y c.in-Ok-Shown.field-0-is c.in-Ok-Shown.ensures.form in
     touches_wider (of_reference x y a n) client_page (clients_alone x y a n (form.0.formed.shows form.0.mapped).0 (form.1.formed.shows form.1.mapped).0)
-    (touches_then (state c.args.self.now) (state c.refer.new.self) c.args.self.now.filer.swapper.accepted (touches_of (of_reference x y a n) c.refer.ensures.reaches) (view_of c.store_shown.new.filer) c.store_shown.ensures.touches)
+    (touches_then (state c.args.self.now) (state c.refer.new.self) (accepted c.args.self.now.filer) (touches_of (of_reference x y a n) c.refer.ensures.reaches) (view_of c.store_shown.new.filer) c.store_shown.ensures.touches)
 
 pub returns-in-Err-store_shown-clause-came : goal.returns-in-Err-store_shown-clause-came
 returns-in-Err-store_shown-clause-came g c = λ m named ss knows.
     let x = c.in-Ok-Shown.first in
     let y = c.in-Ok-Shown.last in
     let seen = both_seen knows c.in-Ok-Shown.field-0 x y (c.args.address / 512) (last_page c.args.address (length c.args.bytes.now)) c.in-Ok-Shown.field-0-is c.in-Ok-Shown.ensures.form (c.in-Ok-Shown.ensures.intervals_at m named ss knows) in
-    brings_then (own_came ss c.args.self.now.filer.swapper.pool c.refer.new.self.filer.swapper.pool c.refer.ensures.came)
-    (both_came ss named m x y seen.0 seen.1 c.refer.new.self.filer.swapper.pool c.store_shown.new.filer.swapper.pool c.store_shown.ensures.came)
+    brings_then (own_came ss (state c.args.self.now).slots (state c.refer.new.self).slots c.refer.ensures.came)
+    (both_came ss named m x y seen.0 seen.1 (state c.refer.new.self).slots (view_of c.store_shown.new.filer).slots c.store_shown.ensures.came)
 
 pub returns-in-Err-store_shown-clause-idle : goal.returns-in-Err-store_shown-clause-idle
 returns-in-Err-store_shown-clause-idle g c = λ first last apart.
@@ -215,9 +215,9 @@ returns-in-Err-store_shown-clause-idle g c = λ first last apart.
     let p = c.args.address / 512 in
     let q = last_page c.args.address (length c.args.bytes.now) in
     let one = c.in-Ok-Shown.ensures.idle first last apart in
-    let whole = at_shown (λ x y. IsWhole c.args.self.now.filer.swapper.pool x p × IsWhole c.args.self.now.filer.swapper.pool y q) c.in-Ok-Shown.field-0 x y c.in-Ok-Shown.field-0-is one.0 in
-    let x_whole : IsWhole c.refer.new.self.filer.swapper.pool x p = rw one.2 whole.0 in
-    let y_whole : IsWhole c.refer.new.self.filer.swapper.pool y q = rw one.2 whole.1 in
+    let whole = at_shown (λ x y. IsWhole (state c.args.self.now).slots x p × IsWhole (state c.args.self.now).slots y q) c.in-Ok-Shown.field-0 x y c.in-Ok-Shown.field-0-is one.0 in
+    let x_whole : IsWhole (state c.refer.new.self).slots x p = rw one.2 whole.0 in
+    let y_whole : IsWhole (state c.refer.new.self).slots y q = rw one.2 whole.1 in
     let two = c.in-Err-store_shown.ensures.idle x_whole y_whole in
     (two.0, rw (← one.2) two.1, one.3)
 

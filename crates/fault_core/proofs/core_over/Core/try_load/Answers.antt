@@ -17,7 +17,7 @@ returns-in-Ok-Settled-clause-access g c = λ m named ss knows.
 
 pub returns-in-Ok-Settled-clause-absent : goal.returns-in-Ok-Settled-clause-absent
 returns-in-Ok-Settled-clause-absent g c = λ m named ss knows.
-    at_settled (IfAbsent (IsAbsent ss c.look_ahead.new.self.filer.swapper.pool false c.args.address (length c.args.into.now))) c.in-Ok-Settled.field-0 c.in-Ok-Settled.attempt c.in-Ok-Settled.field-0-is (c.in-Ok-Settled.ensures.absent m named ss knows)
+    at_settled (IfAbsent (IsAbsent ss (state c.look_ahead.new.self).slots false c.args.address (length c.args.into.now))) c.in-Ok-Settled.field-0 c.in-Ok-Settled.attempt c.in-Ok-Settled.field-0-is (c.in-Ok-Settled.ensures.absent m named ss knows)
 
 pub returns-in-Ok-Settled-clause-present : goal.returns-in-Ok-Settled-clause-present
 returns-in-Ok-Settled-clause-present g c = λ m named ss knows done.
@@ -43,11 +43,11 @@ returns-in-Ok-Settled-clause-ready g c = λ first last apart.
 
 pub copy_pages-requires-clause-first : goal.copy_pages-requires-clause-first
 copy_pages-requires-clause-first g c =
-    (at_ready (λ i j. HasClient c.look_ahead.new.self.filer.swapper.pool i × HasClient c.look_ahead.new.self.filer.swapper.pool j) c.in-Ok-Ready.field-0 c.in-Ok-Ready.first c.in-Ok-Ready.last c.in-Ok-Ready.field-0-is c.in-Ok-Ready.ensures.clients).0
+    (at_ready (λ i j. HasClient (state c.look_ahead.new.self).slots i × HasClient (state c.look_ahead.new.self).slots j) c.in-Ok-Ready.field-0 c.in-Ok-Ready.first c.in-Ok-Ready.last c.in-Ok-Ready.field-0-is c.in-Ok-Ready.ensures.clients).0
 
 pub copy_pages-requires-clause-last : goal.copy_pages-requires-clause-last
 copy_pages-requires-clause-last g c =
-    (at_ready (λ i j. HasClient c.look_ahead.new.self.filer.swapper.pool i × HasClient c.look_ahead.new.self.filer.swapper.pool j) c.in-Ok-Ready.field-0 c.in-Ok-Ready.first c.in-Ok-Ready.last c.in-Ok-Ready.field-0-is c.in-Ok-Ready.ensures.clients).1
+    (at_ready (λ i j. HasClient (state c.look_ahead.new.self).slots i × HasClient (state c.look_ahead.new.self).slots j) c.in-Ok-Ready.field-0 c.in-Ok-Ready.first c.in-Ok-Ready.last c.in-Ok-Ready.field-0-is c.in-Ok-Ready.ensures.clients).1
 
 pub returns-clause-access : goal.returns-clause-access
 returns-clause-access g c = λ m named ss knows.
@@ -55,7 +55,7 @@ returns-clause-access g c = λ m named ss knows.
 
 pub returns-clause-present : goal.returns-clause-present
 returns-clause-present g c = λ m named ss knows done.
-    let pool = c.look_ahead.new.self.filer.swapper.pool in
+    let pool = (state c.look_ahead.new.self).slots in
     let a = c.args.address in
     let n = length c.args.into.now in
     let slots = at_ready (λ i j. IsSlotOf ss pool (a / 512) i × IsSlotOf ss pool (last_page a n) j) c.in-Ok-Ready.field-0 c.in-Ok-Ready.first c.in-Ok-Ready.last c.in-Ok-Ready.field-0-is (c.in-Ok-Ready.ensures.slots m named ss knows) in
@@ -63,7 +63,7 @@ returns-clause-present g c = λ m named ss knows done.
 
 pub returns-clause-bytes : goal.returns-clause-bytes
 returns-clause-bytes g c = λ m named ss knows done.
-    let pool = c.look_ahead.new.self.filer.swapper.pool in
+    let pool = (state c.look_ahead.new.self).slots in
     let a = c.args.address in
     let n = length c.args.into.now in
     let after = c.in-Ok-Ready.ensures.same m named ss knows in
@@ -76,7 +76,7 @@ returns-clause-unmoved g c = λ other. absurd (other refl)
 pub returns-clause-here : goal.returns-clause-here
 returns-clause-here g c = λ done.
     let self = c.look_ahead.new.self in
-    let here = at_ready (λ i j. IsHere (kept self) self.filer.swapper.pool (last_page c.args.address (length c.args.into.now))) c.in-Ok-Ready.field-0 c.in-Ok-Ready.first c.in-Ok-Ready.last c.in-Ok-Ready.field-0-is c.in-Ok-Ready.ensures.here in
+    let here = at_ready (λ i j. IsHere (kept self) (state self).slots (last_page c.args.address (length c.args.into.now))) c.in-Ok-Ready.field-0 c.in-Ok-Ready.first c.in-Ok-Ready.last c.in-Ok-Ready.field-0-is c.in-Ok-Ready.ensures.here in
     rw c.copy_pages.ensures.same here
 
 pub returns-clause-same : goal.returns-clause-same

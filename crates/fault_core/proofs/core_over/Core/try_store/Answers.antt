@@ -8,7 +8,7 @@ use Rattle.fault_core.specs.Core.{kept, state}
 use Rattle.fault_core.specs.Moves.{client_page}
 use Rattle.fault_core.specs.ReachLaws.{touch_of_reach}
 use Rattle.fault_core.specs.Unit.{IsSlotOf}
-use Rattle.fault_core.specs.View.{view_of}
+use Rattle.filer_kernel.specs.View.{accepted, view_of}
 use Rattle.fault_core.proofs.AttemptLemmas.{all_present, at_ready, at_settled, here_stays, slot_stays, tried_stays}
 use Rattle.fault_core.proofs.BeforeLemmas.{touches_of, touches_then, touches_wider}
 use Rattle.fault_core.proofs.LeaveLemmas.{goes_refused, goes_revealed, revealed_leaves, revealed_stands}
@@ -24,7 +24,7 @@ returns-in-Ok-Settled-clause-access g c = λ m named ss knows.
 
 pub returns-in-Ok-Settled-clause-absent : goal.returns-in-Ok-Settled-clause-absent
 returns-in-Ok-Settled-clause-absent g c = λ m named ss knows.
-    at_settled (IfAbsent (IsAbsent ss c.look_ahead.new.self.filer.swapper.pool true c.args.address (length c.args.bytes.now))) c.in-Ok-Settled.field-0 c.in-Ok-Settled.attempt c.in-Ok-Settled.field-0-is (c.in-Ok-Settled.ensures.absent m named ss knows)
+    at_settled (IfAbsent (IsAbsent ss (state c.look_ahead.new.self).slots true c.args.address (length c.args.bytes.now))) c.in-Ok-Settled.field-0 c.in-Ok-Settled.attempt c.in-Ok-Settled.field-0-is (c.in-Ok-Settled.ensures.absent m named ss knows)
 
 pub returns-in-Ok-Settled-clause-present : goal.returns-in-Ok-Settled-clause-present
 returns-in-Ok-Settled-clause-present g c = λ m named ss knows done.
@@ -61,7 +61,7 @@ returns-in-Ok-Settled-clause-ready g c = λ first last apart.
 pub returns-in-Ok-Settled-clause-idle : goal.returns-in-Ok-Settled-clause-idle
 returns-in-Ok-Settled-clause-idle g c = λ first last apart.
     let one = c.in-Ok-Settled.ensures.idle first last apart in
-    (refl, ap (λ f. g.D.Disk.state f.swapper.disk) one.1, one.2)
+    (refl, ap (λ f. (view_of f).disk) one.1, one.2)
 
 -- ---- The pages could not be described.
 
@@ -74,17 +74,17 @@ returns-in-Err-clause-touches g c = touches_of client_page c.look_ahead.ensures.
 pub returns-in-Err-clause-idle : goal.returns-in-Err-clause-idle
 returns-in-Err-clause-idle g c = λ first last apart.
     let one = c.in-Err.ensures.idle first last apart in
-    (one.0, ap (λ f. g.D.Disk.state f.swapper.disk) one.1, one.2)
+    (one.0, ap (λ f. (view_of f).disk) one.1, one.2)
 
 -- ---- All bytes are.
 
 pub change_pages-requires-clause-first : goal.change_pages-requires-clause-first
 change_pages-requires-clause-first g c =
-    (at_ready (λ i j. HasClient c.look_ahead.new.self.filer.swapper.pool i × HasClient c.look_ahead.new.self.filer.swapper.pool j) c.in-Ok-Ready.field-0 c.in-Ok-Ready.first c.in-Ok-Ready.last c.in-Ok-Ready.field-0-is c.in-Ok-Ready.ensures.clients).0
+    (at_ready (λ i j. HasClient (state c.look_ahead.new.self).slots i × HasClient (state c.look_ahead.new.self).slots j) c.in-Ok-Ready.field-0 c.in-Ok-Ready.first c.in-Ok-Ready.last c.in-Ok-Ready.field-0-is c.in-Ok-Ready.ensures.clients).0
 
 pub change_pages-requires-clause-last : goal.change_pages-requires-clause-last
 change_pages-requires-clause-last g c =
-    (at_ready (λ i j. HasClient c.look_ahead.new.self.filer.swapper.pool i × HasClient c.look_ahead.new.self.filer.swapper.pool j) c.in-Ok-Ready.field-0 c.in-Ok-Ready.first c.in-Ok-Ready.last c.in-Ok-Ready.field-0-is c.in-Ok-Ready.ensures.clients).1
+    (at_ready (λ i j. HasClient (state c.look_ahead.new.self).slots i × HasClient (state c.look_ahead.new.self).slots j) c.in-Ok-Ready.field-0 c.in-Ok-Ready.first c.in-Ok-Ready.last c.in-Ok-Ready.field-0-is c.in-Ok-Ready.ensures.clients).1
 
 pub returns-clause-access : goal.returns-clause-access
 returns-clause-access g c = λ m named ss knows.
@@ -92,15 +92,15 @@ returns-clause-access g c = λ m named ss knows.
 
 pub returns-clause-present : goal.returns-clause-present
 returns-clause-present g c = λ m named ss knows done.
-    let pool = c.look_ahead.new.self.filer.swapper.pool in
+    let pool = (state c.look_ahead.new.self).slots in
     let a = c.args.address in
     let n = length c.args.bytes.now in
     let slots = at_ready (λ i j. IsSlotOf ss pool (a / 512) i × IsSlotOf ss pool (last_page a n) j) c.in-Ok-Ready.field-0 c.in-Ok-Ready.first c.in-Ok-Ready.last c.in-Ok-Ready.field-0-is (c.in-Ok-Ready.ensures.slots m named ss knows) in
-    all_present ss c.change_pages.new.filer.swapper.pool a n c.in-Ok-Ready.first c.in-Ok-Ready.last (slot_stays c.change_pages.ensures.slots slots.0) (slot_stays c.change_pages.ensures.slots slots.1)
+    all_present ss (view_of c.change_pages.new.filer).slots a n c.in-Ok-Ready.first c.in-Ok-Ready.last (slot_stays c.change_pages.ensures.slots slots.0) (slot_stays c.change_pages.ensures.slots slots.1)
 
 pub returns-clause-stored : goal.returns-clause-stored
 returns-clause-stored g c = λ m named ss knows.
-    let pool = c.look_ahead.new.self.filer.swapper.pool in
+    let pool = (state c.look_ahead.new.self).slots in
     let a = c.args.address in
     let n = length c.args.bytes.now in
     let after = c.in-Ok-Ready.ensures.same m named ss knows in
@@ -109,13 +109,13 @@ returns-clause-stored g c = λ m named ss knows.
     let t = slots.1 in
     let l = c.change_pages.ensures.stored m named after.bytes ss after.known after.stored s t in
     goes_revealed (StoresTried moved ss a c.args.bytes.now) (either s.shown.file s.shown.page t.shown.file t.shown.page) (IsTouchedOrOwn ss a n)
-    (touches_then (state c.args.self.now) (state c.look_ahead.new.self) c.args.self.now.filer.swapper.accepted (touches_of (either s.shown.file s.shown.page t.shown.file t.shown.page) c.look_ahead.ensures.reaches) (view_of c.change_pages.new.filer)
+    (touches_then (state c.args.self.now) (state c.look_ahead.new.self) (accepted c.args.self.now.filer) (touches_of (either s.shown.file s.shown.page t.shown.file t.shown.page) c.look_ahead.ensures.reaches) (view_of c.change_pages.new.filer)
     (c.change_pages.ensures.touches s.shown.file s.shown.page t.shown.file t.shown.page s.has t.has (of_a_client after.stored s) (of_a_client after.stored t)))
     (either_touched a n s t) knows.known.stands l.memory l.known.stands l.changed
 
 pub returns-clause-known : goal.returns-clause-known
 returns-clause-known g c = λ m n named ss knows stands.
-    let pool = c.look_ahead.new.self.filer.swapper.pool in
+    let pool = (state c.look_ahead.new.self).slots in
     let a = c.args.address in
     let count = length c.args.bytes.now in
     let after = c.in-Ok-Ready.ensures.same m named ss knows in
@@ -129,11 +129,11 @@ pub returns-clause-here : goal.returns-clause-here
 returns-clause-here g c = λ done.
     let self = c.look_ahead.new.self in
     here_stays c.change_pages.ensures.slots
-    (at_ready (λ i j. IsHere (kept self) self.filer.swapper.pool (last_page c.args.address (length c.args.bytes.now))) c.in-Ok-Ready.field-0 c.in-Ok-Ready.first c.in-Ok-Ready.last c.in-Ok-Ready.field-0-is c.in-Ok-Ready.ensures.here)
+    (at_ready (λ i j. IsHere (kept self) (state self).slots (last_page c.args.address (length c.args.bytes.now))) c.in-Ok-Ready.field-0 c.in-Ok-Ready.first c.in-Ok-Ready.last c.in-Ok-Ready.field-0-is c.in-Ok-Ready.ensures.here)
 
 pub returns-clause-dirty : goal.returns-clause-dirty
 returns-clause-dirty g c = λ m named ss knows done.
-    let pool = c.look_ahead.new.self.filer.swapper.pool in
+    let pool = (state c.look_ahead.new.self).slots in
     let a = c.args.address in
     let n = length c.args.bytes.now in
     let slots = at_ready (λ i j. IsSlotOf ss pool (a / 512) i × IsSlotOf ss pool (last_page a n) j) c.in-Ok-Ready.field-0 c.in-Ok-Ready.first c.in-Ok-Ready.last c.in-Ok-Ready.field-0-is (c.in-Ok-Ready.ensures.slots m named ss knows) in
@@ -141,12 +141,12 @@ returns-clause-dirty g c = λ m named ss knows done.
 
 pub returns-clause-touches : goal.returns-clause-touches
 returns-clause-touches g c =
-    let pool = c.look_ahead.new.self.filer.swapper.pool in
+    let pool = (state c.look_ahead.new.self).slots in
     let own = at_ready (λ i j. HasClient pool i × HasClient pool j) c.in-Ok-Ready.field-0 c.in-Ok-Ready.first c.in-Ok-Ready.last c.in-Ok-Ready.field-0-is c.in-Ok-Ready.ensures.clients in
     let s = own.0 in
     let t = own.1 in
     touches_wider (either s.id s.page t.id t.page) client_page (either_client s.id s.page t.id t.page s.client t.client)
-    (touches_then (state c.args.self.now) (state c.look_ahead.new.self) c.args.self.now.filer.swapper.accepted (touches_of (either s.id s.page t.id t.page) c.look_ahead.ensures.reaches) (view_of c.change_pages.new.filer)
+    (touches_then (state c.args.self.now) (state c.look_ahead.new.self) (accepted c.args.self.now.filer) (touches_of (either s.id s.page t.id t.page) c.look_ahead.ensures.reaches) (view_of c.change_pages.new.filer)
     (c.change_pages.ensures.touches s.id s.page t.id t.page s.has t.has s.client t.client))
 
 pub returns-clause-came : goal.returns-clause-came
@@ -155,13 +155,13 @@ returns-clause-came g c = brings_then c.look_ahead.ensures.came c.change_pages.e
 pub returns-clause-idle : goal.returns-clause-idle
 returns-clause-idle g c = λ first last apart.
     let one = c.in-Ok-Ready.ensures.idle first last apart in
-    (refl, ap g.D.Disk.state c.change_pages.ensures.disk ∙ ap (λ f. g.D.Disk.state f.swapper.disk) one.1, one.2)
+    (refl, ap g.D.Disk.state c.change_pages.ensures.disk ∙ ap (λ f. (view_of f).disk) one.1, one.2)
 
 -- ---- The tables are revealed.
 
 pub returns-clause-sees : goal.returns-clause-sees
 returns-clause-sees g c =
-    let pool = c.look_ahead.new.self.filer.swapper.pool in
+    let pool = (state c.look_ahead.new.self).slots in
     let own = at_ready (λ i j. HasClient pool i × HasClient pool j) c.in-Ok-Ready.field-0 c.in-Ok-Ready.first c.in-Ok-Ready.last c.in-Ok-Ready.field-0-is c.in-Ok-Ready.ensures.clients in
     let p = own.0 in
     let q = own.1 in

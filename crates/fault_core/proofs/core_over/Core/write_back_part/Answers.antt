@@ -4,7 +4,7 @@ use Rattle.swapper_kernel.specs.HaltLaws.{brings_then}
 use Rattle.fault_core.specs.Core.{state}
 use Rattle.fault_core.specs.Reach.{no_break}
 use Rattle.fault_core.specs.Revealed.{BreaksTables}
-use Rattle.fault_core.specs.View.{view_of}
+use Rattle.filer_kernel.specs.View.{accepted, view_of}
 use Rattle.fault_core.proofs.AccessLemmas.{at_of}
 use Rattle.fault_core.proofs.ReachLemmas.{reaches_then, halts_before}
 use Rattle.fault_core.proofs.KeptLemmas.{same_answer}
@@ -15,25 +15,25 @@ use Rattle.fault_core.proofs.core_over.Core.write_back_part.Goals as goal
 
 pub returns-in-Ok-None-clause-rest : goal.returns-in-Ok-None-clause-rest
 returns-in-Ok-None-clause-rest g c = λ m named ss knows.
-    none_written_back knows.tables c.args.write_back c.describe.new.self.filer.swapper.pool c.args.page c.args.end (c.in-Ok-None.ensures.none.0 c.in-Ok-None.field-0-is)
+    none_written_back knows.tables c.args.write_back (state c.describe.new.self).slots c.args.page c.args.end (c.in-Ok-None.ensures.none.0 c.in-Ok-None.field-0-is)
 
 -- the tables were not asked
 pub returns-in-Ok-None-clause-frames : goal.returns-in-Ok-None-clause-frames
 returns-in-Ok-None-clause-frames g c = λ y found inside.
     let idle = c.describe.ensures.idle y found in
-    leaves_same c.args.write_back y.id _ _ c.args.self.now.filer.swapper.pool c.describe.new.self.filer.swapper.pool (λ i. (idle.1 i).swapper.pool)
+    leaves_same c.args.write_back y.id _ _ (state c.args.self.now).slots (state c.describe.new.self).slots (λ i. (view_of (idle.1 i)).slots)
 
 pub returns-in-Err-clause-frames : goal.returns-in-Err-clause-frames
 returns-in-Err-clause-frames g c = λ y found inside.
     let idle = c.describe.ensures.idle y found in
-    leaves_same c.args.write_back y.id _ _ c.args.self.now.filer.swapper.pool c.describe.new.self.filer.swapper.pool (λ i. (idle.1 i).swapper.pool)
+    leaves_same c.args.write_back y.id _ _ (state c.args.self.now).slots (state c.describe.new.self).slots (λ i. (view_of (idle.1 i)).slots)
 
 -- ---- No window shows the interval.
 
 pub returns-then-not-is_mapped-clause-frames : goal.returns-then-not-is_mapped-clause-frames
 returns-then-not-is_mapped-clause-frames g c = λ y found inside.
     let idle = c.describe.ensures.idle y found in
-    leaves_same c.args.write_back y.id _ _ c.args.self.now.filer.swapper.pool c.describe.new.self.filer.swapper.pool (λ i. (idle.1 i).swapper.pool)
+    leaves_same c.args.write_back y.id _ _ (state c.args.self.now).slots (state c.describe.new.self).slots (λ i. (view_of (idle.1 i)).slots)
 
 pub returns-then-not-is_mapped-clause-all : goal.returns-then-not-is_mapped-clause-all
 returns-then-not-is_mapped-clause-all g c = λ y found inside.
@@ -47,7 +47,7 @@ returns-then-not-is_mapped-clause-rest g c = λ m named ss knows.
     let least = c.min-next.ensures in
     let inside : c.min-next.result ≤ x.first + x.pages = omega (arith, least) in
     let bare : is_mapped x.mode ≡ false = search rules in
-    bare_written_back knows.tables c.args.write_back c.describe.new.self.filer.swapper.pool c.args.page c.min-next.result x (interval_of ss c.args.page x at) at.holds inside bare
+    bare_written_back knows.tables c.args.write_back (state c.describe.new.self).slots c.args.page c.min-next.result x (interval_of ss c.args.page x at) at.holds inside bare
 
 pub returns-then-not-is_mapped-clause-part : goal.returns-then-not-is_mapped-clause-part
 returns-then-not-is_mapped-clause-part g c = λ m named ss knows.
@@ -64,7 +64,7 @@ returns-in-Ok-clause-rest g c = λ m named ss knows.
     let least = c.min-next.ensures in
     let inside : c.min-next.result ≤ x.first + x.pages = omega (arith, least) in
     let mapped : is_mapped x.mode ≡ true = search rules in
-    run_written_back knows.tables c.args.write_back c.write_back_run.new.filer.swapper.pool c.args.page c.min-next.result x (interval_of ss c.args.page x at) at.holds inside mapped c.in-Ok.ensures.rest
+    run_written_back knows.tables c.args.write_back (view_of c.write_back_run.new.filer).slots c.args.page c.min-next.result x (interval_of ss c.args.page x at) at.holds inside mapped c.in-Ok.ensures.rest
 
 pub returns-in-Ok-clause-part : goal.returns-in-Ok-clause-part
 returns-in-Ok-clause-part g c = λ m named ss knows.
@@ -74,11 +74,11 @@ returns-in-Ok-clause-part g c = λ m named ss knows.
 
 pub returns-in-Ok-clause-same : goal.returns-in-Ok-clause-same
 returns-in-Ok-clause-same g c = λ m named ss knows.
-    revealed_after (c.in-Ok-Some.ensures.same m named ss knows) _ _ c.describe.new.self.filer.swapper.accepted c.write_back_run.ensures.reaches (λ x one. inl one)
+    revealed_after (c.in-Ok-Some.ensures.same m named ss knows) _ _ (accepted c.describe.new.self.filer) c.write_back_run.ensures.reaches (λ x one. inl one)
 
 pub returns-in-Ok-clause-reaches : goal.returns-in-Ok-clause-reaches
 returns-in-Ok-clause-reaches g c =
-    reaches_then (state c.args.self.now) (state c.describe.new.self) c.args.self.now.filer.swapper.accepted c.describe.ensures.reaches (view_of c.write_back_run.new.filer) c.write_back_run.ensures.reaches
+    reaches_then (state c.args.self.now) (state c.describe.new.self) (accepted c.args.self.now.filer) c.describe.ensures.reaches (view_of c.write_back_run.new.filer) c.write_back_run.ensures.reaches
 
 pub returns-in-Ok-clause-cost : goal.returns-in-Ok-clause-cost
 returns-in-Ok-clause-cost g c =
@@ -91,8 +91,8 @@ pub returns-in-Ok-clause-frames : goal.returns-in-Ok-clause-frames
 returns-in-Ok-clause-frames g c = λ y found inside.
     let idle = c.describe.ensures.idle y found in
     let same = same_answer c.describe.result y c.in-Ok-Some.x c.in-Ok-Some.field-0 idle.0 c.in-Ok-Some.is c.in-Ok-Some.field-0-is in
-    part_leaves c.args.write_back c.in-Ok-Some.x y c.args.page c.min-next.result c.args.end c.args.self.now.filer.swapper.pool c.describe.new.self.filer.swapper.pool c.write_back_run.new.filer.swapper.pool same
-    (part_all c.in-Ok-Some.x y c.min-next.result c.args.end c.min-next.ensures same inside) (λ i. (idle.1 i).swapper.pool) c.write_back_run.ensures.frames
+    part_leaves c.args.write_back c.in-Ok-Some.x y c.args.page c.min-next.result c.args.end (state c.args.self.now).slots (state c.describe.new.self).slots (view_of c.write_back_run.new.filer).slots same
+    (part_all c.in-Ok-Some.x y c.min-next.result c.args.end c.min-next.ensures same inside) (λ i. (view_of (idle.1 i)).slots) c.write_back_run.ensures.frames
 
 pub returns-in-Ok-clause-all : goal.returns-in-Ok-clause-all
 returns-in-Ok-clause-all g c = λ y found inside.
@@ -105,7 +105,7 @@ pub returns-in-Err-write_back_run-clause-cause : goal.returns-in-Err-write_back_
 returns-in-Err-write_back_run-clause-cause g c =
     let v = state c.args.self.now in
     let x = view_of c.write_back_run.new.filer in
-    halts_before v (state c.describe.new.self) c.args.self.now.filer.swapper.accepted c.describe.ensures.reaches no_break (BreaksTables v c.args.self.now.intervals c.args.page) (λ page none. absurd none)
+    halts_before v (state c.describe.new.self) (accepted c.args.self.now.filer) c.describe.ensures.reaches no_break (BreaksTables v c.args.self.now.intervals c.args.page) (λ page none. absurd none)
     x x (omega arith) c.in-Err-write_back_run.halt c.in-Err-write_back_run.ensures.cause
 
 pub returns-in-Err-write_back_run-clause-sound : goal.returns-in-Err-write_back_run-clause-sound
@@ -115,11 +115,11 @@ returns-in-Err-write_back_run-clause-sound g c = λ m named ss knows.
 
 pub returns-in-Err-write_back_run-clause-same : goal.returns-in-Err-write_back_run-clause-same
 returns-in-Err-write_back_run-clause-same g c = λ m named ss knows.
-    revealed_after (c.in-Ok-Some.ensures.same m named ss knows) _ _ c.describe.new.self.filer.swapper.accepted c.write_back_run.ensures.reaches (λ x one. inl one)
+    revealed_after (c.in-Ok-Some.ensures.same m named ss knows) _ _ (accepted c.describe.new.self.filer) c.write_back_run.ensures.reaches (λ x one. inl one)
 
 pub returns-in-Err-write_back_run-clause-reaches : goal.returns-in-Err-write_back_run-clause-reaches
 returns-in-Err-write_back_run-clause-reaches g c =
-    reaches_then (state c.args.self.now) (state c.describe.new.self) c.args.self.now.filer.swapper.accepted c.describe.ensures.reaches (view_of c.write_back_run.new.filer) c.write_back_run.ensures.reaches
+    reaches_then (state c.args.self.now) (state c.describe.new.self) (accepted c.args.self.now.filer) c.describe.ensures.reaches (view_of c.write_back_run.new.filer) c.write_back_run.ensures.reaches
 
 pub returns-in-Err-write_back_run-clause-cost : goal.returns-in-Err-write_back_run-clause-cost
 returns-in-Err-write_back_run-clause-cost g c =
@@ -132,8 +132,8 @@ pub returns-in-Err-write_back_run-clause-frames : goal.returns-in-Err-write_back
 returns-in-Err-write_back_run-clause-frames g c = λ y found inside.
     let idle = c.describe.ensures.idle y found in
     let same = same_answer c.describe.result y c.in-Ok-Some.x c.in-Ok-Some.field-0 idle.0 c.in-Ok-Some.is c.in-Ok-Some.field-0-is in
-    part_leaves c.args.write_back c.in-Ok-Some.x y c.args.page c.min-next.result c.args.end c.args.self.now.filer.swapper.pool c.describe.new.self.filer.swapper.pool c.write_back_run.new.filer.swapper.pool same
-    (part_all c.in-Ok-Some.x y c.min-next.result c.args.end c.min-next.ensures same inside) (λ i. (idle.1 i).swapper.pool) c.write_back_run.ensures.frames
+    part_leaves c.args.write_back c.in-Ok-Some.x y c.args.page c.min-next.result c.args.end (state c.args.self.now).slots (state c.describe.new.self).slots (view_of c.write_back_run.new.filer).slots same
+    (part_all c.in-Ok-Some.x y c.min-next.result c.args.end c.min-next.ensures same inside) (λ i. (view_of (idle.1 i)).slots) c.write_back_run.ensures.frames
 
 -- ---- Frames stay where they are forced.
 
@@ -147,10 +147,10 @@ pub returns-then-not-is_mapped-clause-stay : goal.returns-then-not-is_mapped-cla
 returns-then-not-is_mapped-clause-stay g c = λ forced. c.describe.ensures.stay
 
 pub returns-in-Ok-clause-stay : goal.returns-in-Ok-clause-stay
-returns-in-Ok-clause-stay g c = run_yields c.args.write_back _ _ _ c.args.self.now.filer.swapper.pool c.describe.new.self.filer.swapper.pool c.write_back_run.new.filer.swapper.pool c.describe.ensures.stay c.write_back_run.ensures.frames
+returns-in-Ok-clause-stay g c = run_yields c.args.write_back _ _ _ (state c.args.self.now).slots (state c.describe.new.self).slots (view_of c.write_back_run.new.filer).slots c.describe.ensures.stay c.write_back_run.ensures.frames
 
 pub returns-in-Err-write_back_run-clause-stay : goal.returns-in-Err-write_back_run-clause-stay
-returns-in-Err-write_back_run-clause-stay g c = run_yields c.args.write_back _ _ _ c.args.self.now.filer.swapper.pool c.describe.new.self.filer.swapper.pool c.write_back_run.new.filer.swapper.pool c.describe.ensures.stay c.write_back_run.ensures.frames
+returns-in-Err-write_back_run-clause-stay g c = run_yields c.args.write_back _ _ _ (state c.args.self.now).slots (state c.describe.new.self).slots (view_of c.write_back_run.new.filer).slots c.describe.ensures.stay c.write_back_run.ensures.frames
 
 -- ---- The tables are revealed.
 

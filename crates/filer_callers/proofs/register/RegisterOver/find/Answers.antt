@@ -8,6 +8,7 @@ use Rattle.filer_kernel.specs.Tables.{TablesReveal}
 use Rattle.filer_kernel.specs.TableOnce.{tables_reveal_once}
 use Rattle.filer_callers.proofs.Lent.{lent}
 use Rattle.filer_callers.proofs.register.RegisterOver.find.Goals as goal
+use Rattle.filer_kernel.specs.View.{accepted, disk_of, view_of}
 
 pub returns-clause-found : goal.returns-clause-found
 returns-clause-found g c = λ b reveals ascending.
@@ -15,7 +16,7 @@ returns-clause-found g c = λ b reveals ascending.
     let first : mem.first ≡ 32 = rw c.over-table.ensures.memory c.of.ensures.first_is in
     let pages : mem.pages ≡ 64 = rw c.over-table.ensures.memory c.of.ensures.pages_is in
     let filer = mem.mem.filer.now in
-    let before : TablesReveal (g.D.Disk.state filer.swapper.disk) filer.swapper.pool filer.swapper.layout filer.runs b = rw (c.over-table.ensures.memory, c.of.ensures.mem_is, c.table_memory.ensures.value) reveals in
+    let before : TablesReveal (view_of filer).disk (view_of filer).slots (view_of filer).layout filer.runs b = rw (c.over-table.ensures.memory, c.of.ensures.mem_is, c.table_memory.ensures.value) reveals in
     let within : 512 * 32 + 512 * 64 ≤ length b = omega (arith, reveals.count) in
     c.find_last_at_most.ensures.found (entries 32 (part b (512 * 32) (512 * 64)) c.args.self.now.count) record {
       bytes = part b (512 * 32) (512 * 64);
@@ -31,14 +32,14 @@ returns-clause-same g c =
     let now = after.mem.filer.now in
     let first : mem.first ≡ 32 = rw c.over-table.ensures.memory c.of.ensures.first_is in
     let pages : mem.pages ≡ 64 = rw c.over-table.ensures.memory c.of.ensures.pages_is in
-    lent (λ d s x k. (b : List ℕ) → TablesReveal (g.D.Disk.state old.swapper.disk) old.swapper.pool old.swapper.layout old.runs b → TablesReveal d s x k b) _ (g.D.Disk.state now.swapper.disk) _ now.swapper.pool _ now.swapper.layout _ now.runs
+    lent (λ d s x k. (b : List ℕ) → TablesReveal (view_of old).disk (view_of old).slots (view_of old).layout old.runs b → TablesReveal d s x k b) _ (view_of now).disk _ (view_of now).slots _ (view_of now).layout _ now.runs
     (search rules) (search rules) (search rules) (search rules) (λ b reveals.
     let filer = mem.mem.filer.now in
-    let before : TablesReveal (g.D.Disk.state filer.swapper.disk) filer.swapper.pool filer.swapper.layout filer.runs b = rw (c.over-table.ensures.memory, c.of.ensures.mem_is, c.table_memory.ensures.value) reveals in
+    let before : TablesReveal (view_of filer).disk (view_of filer).slots (view_of filer).layout filer.runs b = rw (c.over-table.ensures.memory, c.of.ensures.mem_is, c.table_memory.ensures.value) reveals in
     let within : 512 * 32 + 512 * 64 ≤ length b = omega (arith, reveals.count) in
     let revealed = c.find_last_at_most.ensures.same_bytes (part b (512 * mem.first) (512 * mem.pages)) record { whole = b; revealed = before; inside = rw (first, pages) within; is = refl } in
-    whole_unchanged (λ (w : TableMemory g.row.D.Denot g.row.A.Denot g.D.Disk) (x : List ℕ). TablesReveal (g.D.Disk.state w.filer.now.swapper.disk) w.filer.now.swapper.pool w.filer.now.swapper.layout w.filer.now.runs x) _
-    (λ w x y h k. tables_reveal_once _ _ _ _ x y w.filer.now.swapper.accepted h k) mem after b c.find_last_at_most.ensures.kept before revealed)
+    whole_unchanged (λ (w : TableMemory g.row.D.Denot g.row.A.Denot g.D.Disk) (x : List ℕ). TablesReveal (view_of w.filer.now).disk (view_of w.filer.now).slots (view_of w.filer.now).layout w.filer.now.runs x) _
+    (λ w x y h k. tables_reveal_once _ _ _ _ x y (accepted w.filer.now) h k) mem after b c.find_last_at_most.ensures.kept before revealed)
 
 few_pages : (n : ℕ) → n ≤ 1024 → pages_of 32 n ≤ 2 ^ 6
 few_pages n few = omega (arith, few)
@@ -49,5 +50,5 @@ at_most state u v n same h = rw same h
 pub returns-clause-cost : goal.returns-clause-cost
 returns-clause-cost g c =
     let few : pages_of 32 c.over-table.result.count ≤ 2 ^ 6 = rw c.over-table.ensures.count (few_pages c.args.self.now.count c.requires.few) in
-    at_most g.D.Disk.state _ c.find_last_at_most.new.self.mem.mem.filer.now.swapper.disk ((g.D.Disk.state c.args.self.now.filer.swapper.disk).transfers + 196) (search rules)
+    at_most g.D.Disk.state _ (disk_of c.find_last_at_most.new.self.mem.mem.filer.now) ((view_of c.args.self.now.filer).disk.transfers + 196) (search rules)
     (rw (c.over-table.ensures.memory, c.of.ensures.mem_is, c.table_memory.ensures.value) at (c.find_last_at_most.ensures.cost 6 few))

@@ -1,6 +1,7 @@
 use Rattle.std.proofs.Common.{refl, sym, ap, ◌∙◌, arith, subst}
 use Rattle.std.proofs.lemmas.Bool.{true≢false}
 use Rattle.flat_machine.specs.References.{is_reference}
+use Rattle.pilot_engine.specs.Labels.{keeps_labels}
 use Rattle.pilot_engine.specs.Stepping.{relabels, waits, IsResident}
 use Rattle.fault_core.specs.Core.{kept, state}
 use Rattle.swapper_kernel.specs.Goes.{no_page}
@@ -19,23 +20,19 @@ use Rattle.pilot_engine.proofs.LackLemmas.{fails_missing_page, mark_misses, name
 use Rattle.pilot_engine.proofs.ReasonSteps.{not_older_on}
 use Rattle.pilot_engine.proofs.SpaceMisses.{next_misses}
 use Rattle.pilot_engine.proofs.session.Session.answer.Goals as goal
+use Rattle.filer_kernel.specs.FailsLaws.{if_fails}
 
-pub returns-in-Create-clause-carried : goal.returns-in-Create-clause-carried
-returns-in-Create-clause-carried g c = λ m r.
-    rw c.in-Create.is
-    (carried_out c.args.self.now.core c.create.new.self.core c.args.self.now.volume c.create.new.self.volume m (call.Create c.in-Create.pages c.in-Create.kind) c.create.ensures.kept c.create.ensures.intervals refl r c.create.result (λ spaces_of s. c.create.ensures.carried spaces_of m s))
-
-pub returns-in-Create-clause-passes : goal.returns-in-Create-clause-passes
-returns-in-Create-clause-passes g c = λ m r. rw c.in-Create.is (c.create.ensures.passes _ m r.session)
-
-pub returns-in-Create-clause-sound : goal.returns-in-Create-clause-sound
-returns-in-Create-clause-sound g c = λ m r. c.create.ensures.sound _ m r.session
+pub returns-in-Create-clause-answers : goal.returns-in-Create-clause-answers
+returns-in-Create-clause-answers g c = λ m r. record {
+  carried = (rw c.in-Create.is
+      (carried_out c.args.self.now.core c.create.new.self.core c.args.self.now.volume c.create.new.self.volume m (call.Create c.in-Create.pages c.in-Create.kind) c.create.ensures.kept c.create.ensures.intervals refl r c.create.result (λ spaces_of s. c.create.ensures.carried spaces_of m s)));
+  sound = (c.create.ensures.sound _ m r.session);
+  passes = (rw c.in-Create.is (c.create.ensures.passes _ m r.session));
+  cost = (spent_inside (state c.args.self.now.core).disk (state c.create.new.self.core).disk c.create.ensures.bounded);
+}
 
 pub returns-in-Create-clause-wrote : goal.returns-in-Create-clause-wrote
 returns-in-Create-clause-wrote g c = rw c.in-Create.is c.create.ensures.wrote
-
-pub returns-in-Create-clause-cost : goal.returns-in-Create-clause-cost
-returns-in-Create-clause-cost g c = λ m r. spent_inside (g.D.Disk.state c.args.self.now.core.filer.swapper.disk) (g.D.Disk.state c.create.new.self.core.filer.swapper.disk) c.create.ensures.bounded
 
 pub returns-in-Create-clause-reference : goal.returns-in-Create-clause-reference
 returns-in-Create-clause-reference g c = λ revealed. absurd (true≢false (sym revealed ∙ ap is_reference c.in-Create.is))
@@ -46,17 +43,11 @@ returns-in-Create-clause-forced g c = λ m revealed free r. absurd (true≢false
 pub returns-in-Create-clause-advised : goal.returns-in-Create-clause-advised
 returns-in-Create-clause-advised g c = λ m free r. rw c.in-Create.is (nothing_revealed c.create.result)
 
-pub returns-in-Delete-clause-carried : goal.returns-in-Delete-clause-carried
-returns-in-Delete-clause-carried g c = λ m r. rw c.in-Delete.is (c.delete.ensures.carried m r)
-
-pub returns-in-Delete-clause-passes : goal.returns-in-Delete-clause-passes
-returns-in-Delete-clause-passes g c = λ m r. rw c.in-Delete.is (c.delete.ensures.passes m r)
+pub returns-in-Delete-clause-answers : goal.returns-in-Delete-clause-answers
+returns-in-Delete-clause-answers g c = λ m r. rw c.in-Delete.is (c.delete.ensures.answers m r)
 
 pub returns-in-Delete-clause-wrote : goal.returns-in-Delete-clause-wrote
 returns-in-Delete-clause-wrote g c = rw c.in-Delete.is c.delete.ensures.wrote
-
-pub returns-in-Delete-clause-cost : goal.returns-in-Delete-clause-cost
-returns-in-Delete-clause-cost g c = λ m r. c.delete.ensures.cost m r
 
 pub returns-in-Delete-clause-reference : goal.returns-in-Delete-clause-reference
 returns-in-Delete-clause-reference g c = λ revealed. absurd (true≢false (sym revealed ∙ ap is_reference c.in-Delete.is))
@@ -67,17 +58,11 @@ returns-in-Delete-clause-forced g c = λ m revealed free r. absurd (true≢false
 pub returns-in-Delete-clause-advised : goal.returns-in-Delete-clause-advised
 returns-in-Delete-clause-advised g c = λ m free r. rw c.in-Delete.is (nothing_revealed c.delete.result)
 
-pub returns-in-Attributes-clause-carried : goal.returns-in-Attributes-clause-carried
-returns-in-Attributes-clause-carried g c = λ m r. rw c.in-Attributes.is (c.attributes.ensures.carried m r)
-
-pub returns-in-Attributes-clause-passes : goal.returns-in-Attributes-clause-passes
-returns-in-Attributes-clause-passes g c = λ m r. rw c.in-Attributes.is (c.attributes.ensures.passes m r)
+pub returns-in-Attributes-clause-answers : goal.returns-in-Attributes-clause-answers
+returns-in-Attributes-clause-answers g c = λ m r. rw c.in-Attributes.is (c.attributes.ensures.answers m r)
 
 pub returns-in-Attributes-clause-wrote : goal.returns-in-Attributes-clause-wrote
 returns-in-Attributes-clause-wrote g c = rw c.in-Attributes.is c.attributes.ensures.wrote
-
-pub returns-in-Attributes-clause-cost : goal.returns-in-Attributes-clause-cost
-returns-in-Attributes-clause-cost g c = λ m r. c.attributes.ensures.cost m r
 
 pub returns-in-Attributes-clause-reference : goal.returns-in-Attributes-clause-reference
 returns-in-Attributes-clause-reference g c = λ revealed. absurd (true≢false (sym revealed ∙ ap is_reference c.in-Attributes.is))
@@ -88,17 +73,11 @@ returns-in-Attributes-clause-forced g c = λ m revealed free r. absurd (true≢f
 pub returns-in-Attributes-clause-advised : goal.returns-in-Attributes-clause-advised
 returns-in-Attributes-clause-advised g c = λ m free r. rw c.in-Attributes.is (nothing_revealed c.attributes.result)
 
-pub returns-in-SetSize-clause-carried : goal.returns-in-SetSize-clause-carried
-returns-in-SetSize-clause-carried g c = λ m r. rw c.in-SetSize.is (c.set_size.ensures.carried m r)
-
-pub returns-in-SetSize-clause-passes : goal.returns-in-SetSize-clause-passes
-returns-in-SetSize-clause-passes g c = λ m r. rw c.in-SetSize.is (c.set_size.ensures.passes m r)
+pub returns-in-SetSize-clause-answers : goal.returns-in-SetSize-clause-answers
+returns-in-SetSize-clause-answers g c = λ m r. rw c.in-SetSize.is (c.set_size.ensures.answers m r)
 
 pub returns-in-SetSize-clause-wrote : goal.returns-in-SetSize-clause-wrote
 returns-in-SetSize-clause-wrote g c = rw c.in-SetSize.is c.set_size.ensures.wrote
-
-pub returns-in-SetSize-clause-cost : goal.returns-in-SetSize-clause-cost
-returns-in-SetSize-clause-cost g c = λ m r. c.set_size.ensures.cost m r
 
 pub returns-in-SetSize-clause-reference : goal.returns-in-SetSize-clause-reference
 returns-in-SetSize-clause-reference g c = λ revealed. absurd (true≢false (sym revealed ∙ ap is_reference c.in-SetSize.is))
@@ -109,17 +88,11 @@ returns-in-SetSize-clause-forced g c = λ m revealed free r. absurd (true≢fals
 pub returns-in-SetSize-clause-advised : goal.returns-in-SetSize-clause-advised
 returns-in-SetSize-clause-advised g c = λ m free r. rw c.in-SetSize.is (nothing_revealed c.set_size.result)
 
-pub returns-in-MakePermanent-clause-carried : goal.returns-in-MakePermanent-clause-carried
-returns-in-MakePermanent-clause-carried g c = λ m r. rw c.in-MakePermanent.is (c.make_permanent.ensures.carried m r)
-
-pub returns-in-MakePermanent-clause-passes : goal.returns-in-MakePermanent-clause-passes
-returns-in-MakePermanent-clause-passes g c = λ m r. rw c.in-MakePermanent.is (c.make_permanent.ensures.passes m r)
+pub returns-in-MakePermanent-clause-answers : goal.returns-in-MakePermanent-clause-answers
+returns-in-MakePermanent-clause-answers g c = λ m r. rw c.in-MakePermanent.is (c.make_permanent.ensures.answers m r)
 
 pub returns-in-MakePermanent-clause-wrote : goal.returns-in-MakePermanent-clause-wrote
 returns-in-MakePermanent-clause-wrote g c = rw c.in-MakePermanent.is c.make_permanent.ensures.wrote
-
-pub returns-in-MakePermanent-clause-cost : goal.returns-in-MakePermanent-clause-cost
-returns-in-MakePermanent-clause-cost g c = λ m r. c.make_permanent.ensures.cost m r
 
 pub returns-in-MakePermanent-clause-reference : goal.returns-in-MakePermanent-clause-reference
 returns-in-MakePermanent-clause-reference g c = λ revealed. absurd (true≢false (sym revealed ∙ ap is_reference c.in-MakePermanent.is))
@@ -130,17 +103,11 @@ returns-in-MakePermanent-clause-forced g c = λ m revealed free r. absurd (true�
 pub returns-in-MakePermanent-clause-advised : goal.returns-in-MakePermanent-clause-advised
 returns-in-MakePermanent-clause-advised g c = λ m free r. rw c.in-MakePermanent.is (nothing_revealed c.make_permanent.result)
 
-pub returns-in-MakeImmutable-clause-carried : goal.returns-in-MakeImmutable-clause-carried
-returns-in-MakeImmutable-clause-carried g c = λ m r. rw c.in-MakeImmutable.is (c.make_immutable.ensures.carried m r)
-
-pub returns-in-MakeImmutable-clause-passes : goal.returns-in-MakeImmutable-clause-passes
-returns-in-MakeImmutable-clause-passes g c = λ m r. rw c.in-MakeImmutable.is (c.make_immutable.ensures.passes m r)
+pub returns-in-MakeImmutable-clause-answers : goal.returns-in-MakeImmutable-clause-answers
+returns-in-MakeImmutable-clause-answers g c = λ m r. rw c.in-MakeImmutable.is (c.make_immutable.ensures.answers m r)
 
 pub returns-in-MakeImmutable-clause-wrote : goal.returns-in-MakeImmutable-clause-wrote
 returns-in-MakeImmutable-clause-wrote g c = rw c.in-MakeImmutable.is c.make_immutable.ensures.wrote
-
-pub returns-in-MakeImmutable-clause-cost : goal.returns-in-MakeImmutable-clause-cost
-returns-in-MakeImmutable-clause-cost g c = λ m r. c.make_immutable.ensures.cost m r
 
 pub returns-in-MakeImmutable-clause-reference : goal.returns-in-MakeImmutable-clause-reference
 returns-in-MakeImmutable-clause-reference g c = λ revealed. absurd (true≢false (sym revealed ∙ ap is_reference c.in-MakeImmutable.is))
@@ -151,17 +118,11 @@ returns-in-MakeImmutable-clause-forced g c = λ m revealed free r. absurd (true�
 pub returns-in-MakeImmutable-clause-advised : goal.returns-in-MakeImmutable-clause-advised
 returns-in-MakeImmutable-clause-advised g c = λ m free r. rw c.in-MakeImmutable.is (nothing_revealed c.make_immutable.result)
 
-pub returns-in-Next-clause-carried : goal.returns-in-Next-clause-carried
-returns-in-Next-clause-carried g c = λ m r. rw c.in-Next.is (c.next.ensures.carried m r)
-
-pub returns-in-Next-clause-passes : goal.returns-in-Next-clause-passes
-returns-in-Next-clause-passes g c = λ m r. rw c.in-Next.is (c.next.ensures.passes m r)
+pub returns-in-Next-clause-answers : goal.returns-in-Next-clause-answers
+returns-in-Next-clause-answers g c = λ m r. rw c.in-Next.is (c.next.ensures.answers m r)
 
 pub returns-in-Next-clause-wrote : goal.returns-in-Next-clause-wrote
 returns-in-Next-clause-wrote g c = rw c.in-Next.is c.next.ensures.wrote
-
-pub returns-in-Next-clause-cost : goal.returns-in-Next-clause-cost
-returns-in-Next-clause-cost g c = λ m r. c.next.ensures.cost m r
 
 pub returns-in-Next-clause-reference : goal.returns-in-Next-clause-reference
 returns-in-Next-clause-reference g c = λ revealed. absurd (true≢false (sym revealed ∙ ap is_reference c.in-Next.is))
@@ -172,22 +133,17 @@ returns-in-Next-clause-forced g c = λ m revealed free r. absurd (true≢false (
 pub returns-in-Next-clause-advised : goal.returns-in-Next-clause-advised
 returns-in-Next-clause-advised g c = λ m free r. rw c.in-Next.is (nothing_revealed c.next.result)
 
-pub returns-in-Volume-clause-carried : goal.returns-in-Volume-clause-carried
-returns-in-Volume-clause-carried g c = λ m r.
-    rw c.in-Volume.is
-    (carried_out c.args.self.now.core c.volume.new.self.core c.args.self.now.volume c.volume.new.self.volume m call.Volume c.volume.ensures.kept c.volume.ensures.intervals refl r c.volume.result (λ spaces_of s. c.volume.ensures.carried spaces_of m s))
-
-pub returns-in-Volume-clause-passes : goal.returns-in-Volume-clause-passes
-returns-in-Volume-clause-passes g c = λ m r. rw c.in-Volume.is (c.volume.ensures.passes _ m r.session)
-
-pub returns-in-Volume-clause-sound : goal.returns-in-Volume-clause-sound
-returns-in-Volume-clause-sound g c = λ m r. c.volume.ensures.sound _ m r.session
+pub returns-in-Volume-clause-answers : goal.returns-in-Volume-clause-answers
+returns-in-Volume-clause-answers g c = λ m r. record {
+  carried = (rw c.in-Volume.is
+      (carried_out c.args.self.now.core c.volume.new.self.core c.args.self.now.volume c.volume.new.self.volume m call.Volume c.volume.ensures.kept c.volume.ensures.intervals refl r c.volume.result (λ spaces_of s. c.volume.ensures.carried spaces_of m s)));
+  sound = (c.volume.ensures.sound _ m r.session);
+  passes = (rw c.in-Volume.is (c.volume.ensures.passes _ m r.session));
+  cost = (asked_inside (state c.args.self.now.core).disk (state c.volume.new.self.core).disk 0 (omega arith) c.volume.ensures.cost);
+}
 
 pub returns-in-Volume-clause-wrote : goal.returns-in-Volume-clause-wrote
 returns-in-Volume-clause-wrote g c = rw c.in-Volume.is c.volume.ensures.wrote
-
-pub returns-in-Volume-clause-cost : goal.returns-in-Volume-clause-cost
-returns-in-Volume-clause-cost g c = λ m r. asked_inside (g.D.Disk.state c.args.self.now.core.filer.swapper.disk) (g.D.Disk.state c.volume.new.self.core.filer.swapper.disk) 0 (omega arith) c.volume.ensures.cost
 
 pub returns-in-Volume-clause-reference : goal.returns-in-Volume-clause-reference
 returns-in-Volume-clause-reference g c = λ revealed. absurd (true≢false (sym revealed ∙ ap is_reference c.in-Volume.is))
@@ -229,100 +185,103 @@ pub returns-in_default-clause-own : goal.returns-in_default-clause-own
 returns-in_default-clause-own g c = own_none c.args.call.now (none_relabelled c.args.call.now (on_spaces c.args.call.now c.requires.more c.in_default.not-Create c.in_default.not-Delete c.in_default.not-Attributes c.in_default.not-SetSize c.in_default.not-MakePermanent c.in_default.not-MakeImmutable c.in_default.not-Next c.in_default.not-Volume))
 
 pub returns-in-Create-clause-idle : goal.returns-in-Create-clause-idle
-returns-in-Create-clause-idle g c = λ m r resident. absurd (subst (λ (x : Call). IsResident x (kept c.args.self.now.core) c.args.self.now.core.filer.swapper.pool) c.in-Create.is resident)
+returns-in-Create-clause-idle g c = λ m r resident. absurd (subst (λ (x : Call). IsResident x (kept c.args.self.now.core) (state c.args.self.now.core).slots) c.in-Create.is resident)
 
 pub returns-in-Delete-clause-idle : goal.returns-in-Delete-clause-idle
-returns-in-Delete-clause-idle g c = λ m r resident. absurd (subst (λ (x : Call). IsResident x (kept c.args.self.now.core) c.args.self.now.core.filer.swapper.pool) c.in-Delete.is resident)
+returns-in-Delete-clause-idle g c = λ m r resident. absurd (subst (λ (x : Call). IsResident x (kept c.args.self.now.core) (state c.args.self.now.core).slots) c.in-Delete.is resident)
 
 pub returns-in-Attributes-clause-idle : goal.returns-in-Attributes-clause-idle
-returns-in-Attributes-clause-idle g c = λ m r resident. absurd (subst (λ (x : Call). IsResident x (kept c.args.self.now.core) c.args.self.now.core.filer.swapper.pool) c.in-Attributes.is resident)
+returns-in-Attributes-clause-idle g c = λ m r resident. absurd (subst (λ (x : Call). IsResident x (kept c.args.self.now.core) (state c.args.self.now.core).slots) c.in-Attributes.is resident)
 
 pub returns-in-SetSize-clause-idle : goal.returns-in-SetSize-clause-idle
-returns-in-SetSize-clause-idle g c = λ m r resident. absurd (subst (λ (x : Call). IsResident x (kept c.args.self.now.core) c.args.self.now.core.filer.swapper.pool) c.in-SetSize.is resident)
+returns-in-SetSize-clause-idle g c = λ m r resident. absurd (subst (λ (x : Call). IsResident x (kept c.args.self.now.core) (state c.args.self.now.core).slots) c.in-SetSize.is resident)
 
 pub returns-in-MakePermanent-clause-idle : goal.returns-in-MakePermanent-clause-idle
-returns-in-MakePermanent-clause-idle g c = λ m r resident. absurd (subst (λ (x : Call). IsResident x (kept c.args.self.now.core) c.args.self.now.core.filer.swapper.pool) c.in-MakePermanent.is resident)
+returns-in-MakePermanent-clause-idle g c = λ m r resident. absurd (subst (λ (x : Call). IsResident x (kept c.args.self.now.core) (state c.args.self.now.core).slots) c.in-MakePermanent.is resident)
 
 pub returns-in-MakeImmutable-clause-idle : goal.returns-in-MakeImmutable-clause-idle
-returns-in-MakeImmutable-clause-idle g c = λ m r resident. absurd (subst (λ (x : Call). IsResident x (kept c.args.self.now.core) c.args.self.now.core.filer.swapper.pool) c.in-MakeImmutable.is resident)
+returns-in-MakeImmutable-clause-idle g c = λ m r resident. absurd (subst (λ (x : Call). IsResident x (kept c.args.self.now.core) (state c.args.self.now.core).slots) c.in-MakeImmutable.is resident)
 
 pub returns-in-Next-clause-idle : goal.returns-in-Next-clause-idle
-returns-in-Next-clause-idle g c = λ m r resident. absurd (subst (λ (x : Call). IsResident x (kept c.args.self.now.core) c.args.self.now.core.filer.swapper.pool) c.in-Next.is resident)
+returns-in-Next-clause-idle g c = λ m r resident. absurd (subst (λ (x : Call). IsResident x (kept c.args.self.now.core) (state c.args.self.now.core).slots) c.in-Next.is resident)
 
 pub returns-in-Volume-clause-idle : goal.returns-in-Volume-clause-idle
-returns-in-Volume-clause-idle g c = λ m r resident. absurd (subst (λ (x : Call). IsResident x (kept c.args.self.now.core) c.args.self.now.core.filer.swapper.pool) c.in-Volume.is resident)
+returns-in-Volume-clause-idle g c = λ m r resident. absurd (subst (λ (x : Call). IsResident x (kept c.args.self.now.core) (state c.args.self.now.core).slots) c.in-Volume.is resident)
 
-pub returns-in-Create-clause-cause : goal.returns-in-Create-clause-cause
-returns-in-Create-clause-cause g c = rw c.in-Create.is c.create.ensures.cause
+pub returns-in-Create-clause-fails : goal.returns-in-Create-clause-fails
+returns-in-Create-clause-fails g c = if_fails _ _ _ c.create.result (rw c.in-Create.is c.create.ensures.cause) c.create.ensures.counted c.create.ensures.evidence_seen
 
-pub returns-in-Delete-clause-cause : goal.returns-in-Delete-clause-cause
-returns-in-Delete-clause-cause g c = rw c.in-Delete.is c.delete.ensures.cause
+pub returns-in-Delete-clause-fails : goal.returns-in-Delete-clause-fails
+returns-in-Delete-clause-fails g c = if_fails _ _ _ c.delete.result (rw c.in-Delete.is c.delete.ensures.cause) c.delete.ensures.counted c.delete.ensures.evidence_seen
 
-pub returns-in-Attributes-clause-cause : goal.returns-in-Attributes-clause-cause
-returns-in-Attributes-clause-cause g c = rw c.in-Attributes.is c.attributes.ensures.cause
+pub returns-in-Attributes-clause-fails : goal.returns-in-Attributes-clause-fails
+returns-in-Attributes-clause-fails g c = if_fails _ _ _ c.attributes.result (rw c.in-Attributes.is c.attributes.ensures.cause) c.attributes.ensures.counted c.attributes.ensures.evidence_seen
 
-pub returns-in-SetSize-clause-cause : goal.returns-in-SetSize-clause-cause
-returns-in-SetSize-clause-cause g c = rw c.in-SetSize.is c.set_size.ensures.cause
+pub returns-in-SetSize-clause-fails : goal.returns-in-SetSize-clause-fails
+returns-in-SetSize-clause-fails g c = if_fails _ _ _ c.set_size.result (rw c.in-SetSize.is c.set_size.ensures.cause) c.set_size.ensures.counted c.set_size.ensures.evidence_seen
 
-pub returns-in-MakePermanent-clause-cause : goal.returns-in-MakePermanent-clause-cause
-returns-in-MakePermanent-clause-cause g c = rw c.in-MakePermanent.is c.make_permanent.ensures.cause
+pub returns-in-MakePermanent-clause-fails : goal.returns-in-MakePermanent-clause-fails
+returns-in-MakePermanent-clause-fails g c = if_fails _ _ _ c.make_permanent.result (rw c.in-MakePermanent.is c.make_permanent.ensures.cause) c.make_permanent.ensures.counted c.make_permanent.ensures.evidence_seen
 
-pub returns-in-MakeImmutable-clause-cause : goal.returns-in-MakeImmutable-clause-cause
-returns-in-MakeImmutable-clause-cause g c = rw c.in-MakeImmutable.is c.make_immutable.ensures.cause
+pub returns-in-MakeImmutable-clause-fails : goal.returns-in-MakeImmutable-clause-fails
+returns-in-MakeImmutable-clause-fails g c = if_fails _ _ _ c.make_immutable.result (rw c.in-MakeImmutable.is c.make_immutable.ensures.cause) c.make_immutable.ensures.counted c.make_immutable.ensures.evidence_seen
 
-pub returns-in-Next-clause-cause : goal.returns-in-Next-clause-cause
-returns-in-Next-clause-cause g c = rw c.in-Next.is c.next.ensures.cause
+pub returns-in-Next-clause-fails : goal.returns-in-Next-clause-fails
+returns-in-Next-clause-fails g c = if_fails _ _ _ c.next.result (rw c.in-Next.is c.next.ensures.cause) c.next.ensures.counted c.next.ensures.evidence_seen
 
-pub returns-in-Volume-clause-cause : goal.returns-in-Volume-clause-cause
-returns-in-Volume-clause-cause g c = rw c.in-Volume.is c.volume.ensures.cause
+pub returns-in-Volume-clause-fails : goal.returns-in-Volume-clause-fails
+returns-in-Volume-clause-fails g c = if_fails _ _ _ c.volume.result (rw c.in-Volume.is c.volume.ensures.cause) c.volume.ensures.counted c.volume.ensures.evidence_seen
 
 -- ---- The initial state.
 
-pub returns-in-Delete-clause-keeps_to : goal.returns-in-Delete-clause-keeps_to
-returns-in-Delete-clause-keeps_to g c = λ o k up.
-    not_older_on c.delete.result o (state c.delete.new.self.core) c.args.self.now.volume.root c.delete.new.self.volume.root up c.delete.ensures.monotone (c.delete.ensures.keeps_to o k)
+pub returns-in-Delete-clause-accounts : goal.returns-in-Delete-clause-accounts
+returns-in-Delete-clause-accounts g c = λ o k n. record {
+  keeps_to = (not_older_on c.delete.result o (state c.delete.new.self.core) c.args.self.now.volume.root c.delete.new.self.volume.root n c.delete.ensures.stays.monotone ((c.delete.ensures.accounts o k).keeps_to));
+  reasons = ((c.delete.ensures.accounts o k).reasons);
+  sees = (λ seen. (c.delete.ensures.accounts o k).sees seen);
+}
 
-pub returns-in-Attributes-clause-keeps_to : goal.returns-in-Attributes-clause-keeps_to
-returns-in-Attributes-clause-keeps_to g c = λ o k up.
-    not_older_on c.attributes.result o (state c.attributes.new.self.core) c.args.self.now.volume.root c.attributes.new.self.volume.root up c.attributes.ensures.monotone (c.attributes.ensures.keeps_to o k)
+pub returns-in-Attributes-clause-accounts : goal.returns-in-Attributes-clause-accounts
+returns-in-Attributes-clause-accounts g c = λ o k n. record {
+  keeps_to = (not_older_on c.attributes.result o (state c.attributes.new.self.core) c.args.self.now.volume.root c.attributes.new.self.volume.root n c.attributes.ensures.stays.monotone ((c.attributes.ensures.accounts o k).keeps_to));
+  reasons = ((c.attributes.ensures.accounts o k).reasons);
+  sees = (λ seen. (c.attributes.ensures.accounts o k).sees seen);
+}
 
-pub returns-in-SetSize-clause-keeps_to : goal.returns-in-SetSize-clause-keeps_to
-returns-in-SetSize-clause-keeps_to g c = λ o k up.
-    not_older_on c.set_size.result o (state c.set_size.new.self.core) c.args.self.now.volume.root c.set_size.new.self.volume.root up c.set_size.ensures.monotone (c.set_size.ensures.keeps_to o k)
+pub returns-in-SetSize-clause-accounts : goal.returns-in-SetSize-clause-accounts
+returns-in-SetSize-clause-accounts g c = λ o k n. record {
+  keeps_to = (not_older_on c.set_size.result o (state c.set_size.new.self.core) c.args.self.now.volume.root c.set_size.new.self.volume.root n c.set_size.ensures.stays.monotone ((c.set_size.ensures.accounts o k).keeps_to));
+  reasons = ((c.set_size.ensures.accounts o k).reasons);
+  sees = (λ seen. (c.set_size.ensures.accounts o k).sees seen);
+}
 
-pub returns-in-MakePermanent-clause-keeps_to : goal.returns-in-MakePermanent-clause-keeps_to
-returns-in-MakePermanent-clause-keeps_to g c = λ o k up.
-    not_older_on c.make_permanent.result o (state c.make_permanent.new.self.core) c.args.self.now.volume.root c.make_permanent.new.self.volume.root up c.make_permanent.ensures.monotone (c.make_permanent.ensures.keeps_to o k)
+pub returns-in-MakePermanent-clause-accounts : goal.returns-in-MakePermanent-clause-accounts
+returns-in-MakePermanent-clause-accounts g c = λ o k n. record {
+  keeps_to = (not_older_on c.make_permanent.result o (state c.make_permanent.new.self.core) c.args.self.now.volume.root c.make_permanent.new.self.volume.root n c.make_permanent.ensures.stays.monotone ((c.make_permanent.ensures.accounts o k).keeps_to));
+  reasons = ((c.make_permanent.ensures.accounts o k).reasons);
+  sees = (λ seen. (c.make_permanent.ensures.accounts o k).sees seen);
+}
 
-pub returns-in-MakeImmutable-clause-keeps_to : goal.returns-in-MakeImmutable-clause-keeps_to
-returns-in-MakeImmutable-clause-keeps_to g c = λ o k up.
-    not_older_on c.make_immutable.result o (state c.make_immutable.new.self.core) c.args.self.now.volume.root c.make_immutable.new.self.volume.root up c.make_immutable.ensures.monotone (c.make_immutable.ensures.keeps_to o k)
+pub returns-in-MakeImmutable-clause-accounts : goal.returns-in-MakeImmutable-clause-accounts
+returns-in-MakeImmutable-clause-accounts g c = λ o k n. record {
+  keeps_to = (not_older_on c.make_immutable.result o (state c.make_immutable.new.self.core) c.args.self.now.volume.root c.make_immutable.new.self.volume.root n c.make_immutable.ensures.stays.monotone ((c.make_immutable.ensures.accounts o k).keeps_to));
+  reasons = ((c.make_immutable.ensures.accounts o k).reasons);
+  sees = (λ seen. (c.make_immutable.ensures.accounts o k).sees seen);
+}
 
-pub returns-in-Next-clause-keeps_to : goal.returns-in-Next-clause-keeps_to
-returns-in-Next-clause-keeps_to g c = λ o k up.
-    not_older_on c.next.result o (state c.next.new.self.core) c.args.self.now.volume.root c.next.new.self.volume.root up c.next.ensures.monotone (c.next.ensures.keeps_to o k)
+pub returns-in-Next-clause-accounts : goal.returns-in-Next-clause-accounts
+returns-in-Next-clause-accounts g c = λ o k n. record {
+  keeps_to = (not_older_on c.next.result o (state c.next.new.self.core) c.args.self.now.volume.root c.next.new.self.volume.root n c.next.ensures.stays.monotone ((c.next.ensures.accounts o k).keeps_to));
+  reasons = ((c.next.ensures.accounts o k).reasons);
+  sees = (λ seen. (c.next.ensures.accounts o k).sees seen);
+}
 
-pub returns-in-Volume-clause-keeps_to : goal.returns-in-Volume-clause-keeps_to
-returns-in-Volume-clause-keeps_to g c = λ o k up.
-    not_older_on c.volume.result o (state c.volume.new.self.core) c.args.self.now.volume.root c.volume.new.self.volume.root up c.volume.ensures.monotone (c.volume.ensures.keeps_to o k)
-
-pub returns-in-Delete-clause-reasons : goal.returns-in-Delete-clause-reasons
-returns-in-Delete-clause-reasons g c = λ o k up. c.delete.ensures.reasons o k
-
-pub returns-in-Attributes-clause-reasons : goal.returns-in-Attributes-clause-reasons
-returns-in-Attributes-clause-reasons g c = λ o k up. c.attributes.ensures.reasons o k
-
-pub returns-in-SetSize-clause-reasons : goal.returns-in-SetSize-clause-reasons
-returns-in-SetSize-clause-reasons g c = λ o k up. c.set_size.ensures.reasons o k
-
-pub returns-in-MakePermanent-clause-reasons : goal.returns-in-MakePermanent-clause-reasons
-returns-in-MakePermanent-clause-reasons g c = λ o k up. c.make_permanent.ensures.reasons o k
-
-pub returns-in-MakeImmutable-clause-reasons : goal.returns-in-MakeImmutable-clause-reasons
-returns-in-MakeImmutable-clause-reasons g c = λ o k up. c.make_immutable.ensures.reasons o k
-
-pub returns-in-Next-clause-reasons : goal.returns-in-Next-clause-reasons
-returns-in-Next-clause-reasons g c = λ o k up. c.next.ensures.reasons o k
+pub returns-in-Volume-clause-accounts : goal.returns-in-Volume-clause-accounts
+returns-in-Volume-clause-accounts g c = λ o k n. record {
+  keeps_to = (not_older_on c.volume.result o (state c.volume.new.self.core) c.args.self.now.volume.root c.volume.new.self.volume.root n c.volume.ensures.stays.monotone ((c.volume.ensures.accounts o k).keeps_to));
+  reasons = (c.volume.ensures.accounts o k).reasons;
+  sees = (λ seen. (c.volume.ensures.accounts o k).sees seen);
+}
 
 -- ---- Which pages are missing.
 
@@ -374,26 +333,35 @@ returns-in-Volume-clause-missing g c = λ ss sees.
 
 -- ---- The space tables are seen.
 
-pub returns-in-Create-clause-sees : goal.returns-in-Create-clause-sees
-returns-in-Create-clause-sees g c = λ o k up seen. same_or_blameless o c.args.self.now.core c.create.new.self.core c.create.ensures.wrote.makes c.create.result (c.create.ensures.sees o k up) seen
+pub returns-in-Create-clause-accounts : goal.returns-in-Create-clause-accounts
+returns-in-Create-clause-accounts g c = λ o k n. record {
+  keeps_to = (c.create.ensures.keeps_to o k n);
+  reasons = (c.create.ensures.reasons o k n);
+  sees = (λ seen. same_or_blameless o c.args.self.now.core c.create.new.self.core c.create.ensures.wrote.makes c.create.result (c.create.ensures.sees o k n) seen);
+}
 
-pub returns-in-Delete-clause-sees : goal.returns-in-Delete-clause-sees
-returns-in-Delete-clause-sees g c = λ o k up seen. c.delete.ensures.sees o k seen
+-- Labels that are not written.
 
-pub returns-in-Attributes-clause-sees : goal.returns-in-Attributes-clause-sees
-returns-in-Attributes-clause-sees g c = λ o k up seen. c.attributes.ensures.sees o k seen
+pub returns-in-Create-clause-unlabelled : goal.returns-in-Create-clause-unlabelled
+returns-in-Create-clause-unlabelled g c = λ keeps. absurd (true≢false (sym keeps ∙ ap keeps_labels c.in-Create.is))
 
-pub returns-in-SetSize-clause-sees : goal.returns-in-SetSize-clause-sees
-returns-in-SetSize-clause-sees g c = λ o k up seen. c.set_size.ensures.sees o k seen
+pub returns-in-Delete-clause-unlabelled : goal.returns-in-Delete-clause-unlabelled
+returns-in-Delete-clause-unlabelled g c = λ keeps. absurd (true≢false (sym keeps ∙ ap keeps_labels c.in-Delete.is))
 
-pub returns-in-MakePermanent-clause-sees : goal.returns-in-MakePermanent-clause-sees
-returns-in-MakePermanent-clause-sees g c = λ o k up seen. c.make_permanent.ensures.sees o k seen
+pub returns-in-Attributes-clause-unlabelled : goal.returns-in-Attributes-clause-unlabelled
+returns-in-Attributes-clause-unlabelled g c = λ keeps. c.attributes.ensures.unlabelled
 
-pub returns-in-MakeImmutable-clause-sees : goal.returns-in-MakeImmutable-clause-sees
-returns-in-MakeImmutable-clause-sees g c = λ o k up seen. c.make_immutable.ensures.sees o k seen
+pub returns-in-SetSize-clause-unlabelled : goal.returns-in-SetSize-clause-unlabelled
+returns-in-SetSize-clause-unlabelled g c = λ keeps. absurd (true≢false (sym keeps ∙ ap keeps_labels c.in-SetSize.is))
 
-pub returns-in-Next-clause-sees : goal.returns-in-Next-clause-sees
-returns-in-Next-clause-sees g c = λ o k up seen. c.next.ensures.sees o k seen
+pub returns-in-MakePermanent-clause-unlabelled : goal.returns-in-MakePermanent-clause-unlabelled
+returns-in-MakePermanent-clause-unlabelled g c = λ keeps. absurd (true≢false (sym keeps ∙ ap keeps_labels c.in-MakePermanent.is))
 
-pub returns-in-Volume-clause-sees : goal.returns-in-Volume-clause-sees
-returns-in-Volume-clause-sees g c = λ o k up seen. c.volume.ensures.sees o k seen
+pub returns-in-MakeImmutable-clause-unlabelled : goal.returns-in-MakeImmutable-clause-unlabelled
+returns-in-MakeImmutable-clause-unlabelled g c = λ keeps. absurd (true≢false (sym keeps ∙ ap keeps_labels c.in-MakeImmutable.is))
+
+pub returns-in-Next-clause-unlabelled : goal.returns-in-Next-clause-unlabelled
+returns-in-Next-clause-unlabelled g c = λ keeps. c.next.ensures.unlabelled
+
+pub returns-in-Volume-clause-unlabelled : goal.returns-in-Volume-clause-unlabelled
+returns-in-Volume-clause-unlabelled g c = λ keeps. c.volume.ensures.unlabelled

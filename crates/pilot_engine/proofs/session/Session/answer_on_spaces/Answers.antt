@@ -1,8 +1,10 @@
-use Rattle.std.proofs.Common.{◌≡◌, ◌≤◌, ℕ, List, length, refl, sym, ap, subst, ◌∙◌, arith}
+use Rattle.std.proofs.Common.{ap, arith, length, List, refl, rules, subst, sym, ℕ, ◌∙◌, ◌≡◌, ◌≤◌}
 use Rattle.std.proofs.lemmas.Bool.{true≢false}
 use Rattle.flat_machine.specs.References.{is_reference}
+use Rattle.pilot_engine.specs.Labels.{keeps_labels}
 use Rattle.pilot_engine.specs.Stepping.{IsResident, StepHalts, waits}
 use Rattle.pilot_engine.proofs.BoundLemmas.{asked_inside}
+use Rattle.pilot_engine.proofs.LabelLemmas.{pages_alone}
 use Rattle.pilot_engine.proofs.LiftLemmas.{still_open}
 use Rattle.pilot_engine.proofs.StepLemmas.{none_on_spaces, nothing_revealed, of_pages}
 use Rattle.pilot_engine.proofs.AnonymousLemmas.{done_then, unset}
@@ -38,24 +40,27 @@ use Rattle.pilot_engine.proofs.LackLemmas.{fails_missing_page}
 use Rattle.pilot_engine.proofs.ReasonSteps.{not_older_on, moving_ahead, moving_reasons, reaching_reasons, touching_reasons}
 use Rattle.pilot_engine.proofs.SpaceMisses.{change_misses, make_space_misses, map_file_misses, map_new_misses, place_misses, protect_misses, range_misses, remove_space_misses}
 use Rattle.pilot_engine.proofs.session.Session.answer_on_spaces.Goals as goal
+use Rattle.filer_kernel.specs.View.{accepted}
+use Rattle.filer_kernel.specs.FailsLaws.{if_fails}
 
-pub returns-in-MakeSpace-clause-carried : goal.returns-in-MakeSpace-clause-carried
-returns-in-MakeSpace-clause-carried g c = λ m r. rw c.in-MakeSpace.is (c.make_space.ensures.carried c.args.self.now.volume m r)
+pub returns-in-MakeSpace-clause-answers : goal.returns-in-MakeSpace-clause-answers
+returns-in-MakeSpace-clause-answers g c = λ m r. record {
+  carried = (rw c.in-MakeSpace.is (c.make_space.ensures.carried c.args.self.now.volume m r));
+  sound = (c.make_space.ensures.sound c.args.self.now.volume m r);
+  passes = (rw c.in-MakeSpace.is (c.make_space.ensures.passes c.args.self.now.volume m r));
+  cost = c.make_space.ensures.cost;
+}
 
-pub returns-in-MakeSpace-clause-passes : goal.returns-in-MakeSpace-clause-passes
-returns-in-MakeSpace-clause-passes g c = λ m r. rw c.in-MakeSpace.is (c.make_space.ensures.passes c.args.self.now.volume m r)
-
-pub returns-in-MakeSpace-clause-sound : goal.returns-in-MakeSpace-clause-sound
-returns-in-MakeSpace-clause-sound g c = λ m r. c.make_space.ensures.sound c.args.self.now.volume m r
-
-pub returns-in-MakeSpace-clause-open_still : goal.returns-in-MakeSpace-clause-open_still
-returns-in-MakeSpace-clause-open_still g c = still_open _ _ _ _ c.requires.opened c.make_space.ensures.layout refl
+pub returns-in-MakeSpace-clause-stays : goal.returns-in-MakeSpace-clause-stays
+returns-in-MakeSpace-clause-stays g c = record {
+  open_still = (still_open _ _ _ _ c.requires.opened c.make_space.ensures.layout refl);
+  monotone = (search rules);
+  serial = (search rules);
+  layout = c.make_space.ensures.layout;
+}
 
 pub returns-in-MakeSpace-clause-wrote : goal.returns-in-MakeSpace-clause-wrote
 returns-in-MakeSpace-clause-wrote g c = rw c.in-MakeSpace.is c.make_space.ensures.wrote
-
-pub returns-in-MakeSpace-clause-cost : goal.returns-in-MakeSpace-clause-cost
-returns-in-MakeSpace-clause-cost g c = λ m r. c.make_space.ensures.cost
 
 pub returns-in-MakeSpace-clause-reference : goal.returns-in-MakeSpace-clause-reference
 returns-in-MakeSpace-clause-reference g c = λ revealed. absurd (true≢false (sym revealed ∙ ap is_reference c.in-MakeSpace.is))
@@ -66,23 +71,24 @@ returns-in-MakeSpace-clause-advised g c = λ m free r. rw c.in-MakeSpace.is (not
 pub returns-in-MakeSpace-clause-forced : goal.returns-in-MakeSpace-clause-forced
 returns-in-MakeSpace-clause-forced g c = λ m revealed free r. absurd (true≢false (sym revealed ∙ ap waits c.in-MakeSpace.is))
 
-pub returns-in-RemoveSpace-clause-carried : goal.returns-in-RemoveSpace-clause-carried
-returns-in-RemoveSpace-clause-carried g c = λ m r. rw c.in-RemoveSpace.is (c.remove_space.ensures.carried c.args.self.now.volume m r)
+pub returns-in-RemoveSpace-clause-answers : goal.returns-in-RemoveSpace-clause-answers
+returns-in-RemoveSpace-clause-answers g c = λ m r. record {
+  carried = (rw c.in-RemoveSpace.is (c.remove_space.ensures.carried c.args.self.now.volume m r));
+  sound = (c.remove_space.ensures.sound c.args.self.now.volume m r);
+  passes = (rw c.in-RemoveSpace.is (c.remove_space.ensures.passes c.args.self.now.volume m r));
+  cost = c.remove_space.ensures.cost;
+}
 
-pub returns-in-RemoveSpace-clause-passes : goal.returns-in-RemoveSpace-clause-passes
-returns-in-RemoveSpace-clause-passes g c = λ m r. rw c.in-RemoveSpace.is (c.remove_space.ensures.passes c.args.self.now.volume m r)
-
-pub returns-in-RemoveSpace-clause-sound : goal.returns-in-RemoveSpace-clause-sound
-returns-in-RemoveSpace-clause-sound g c = λ m r. c.remove_space.ensures.sound c.args.self.now.volume m r
-
-pub returns-in-RemoveSpace-clause-open_still : goal.returns-in-RemoveSpace-clause-open_still
-returns-in-RemoveSpace-clause-open_still g c = still_open _ _ _ _ c.requires.opened c.remove_space.ensures.layout refl
+pub returns-in-RemoveSpace-clause-stays : goal.returns-in-RemoveSpace-clause-stays
+returns-in-RemoveSpace-clause-stays g c = record {
+  open_still = (still_open _ _ _ _ c.requires.opened c.remove_space.ensures.layout refl);
+  monotone = (search rules);
+  serial = (search rules);
+  layout = c.remove_space.ensures.layout;
+}
 
 pub returns-in-RemoveSpace-clause-wrote : goal.returns-in-RemoveSpace-clause-wrote
 returns-in-RemoveSpace-clause-wrote g c = rw c.in-RemoveSpace.is c.remove_space.ensures.wrote
-
-pub returns-in-RemoveSpace-clause-cost : goal.returns-in-RemoveSpace-clause-cost
-returns-in-RemoveSpace-clause-cost g c = λ m r. c.remove_space.ensures.cost
 
 pub returns-in-RemoveSpace-clause-reference : goal.returns-in-RemoveSpace-clause-reference
 returns-in-RemoveSpace-clause-reference g c = λ revealed. absurd (true≢false (sym revealed ∙ ap is_reference c.in-RemoveSpace.is))
@@ -93,23 +99,24 @@ returns-in-RemoveSpace-clause-advised g c = λ m free r. rw c.in-RemoveSpace.is 
 pub returns-in-RemoveSpace-clause-forced : goal.returns-in-RemoveSpace-clause-forced
 returns-in-RemoveSpace-clause-forced g c = λ m revealed free r. absurd (true≢false (sym revealed ∙ ap waits c.in-RemoveSpace.is))
 
-pub returns-in-Place-clause-carried : goal.returns-in-Place-clause-carried
-returns-in-Place-clause-carried g c = λ m r. rw c.in-Place.is (c.place.ensures.carried c.args.self.now.volume m r)
+pub returns-in-Place-clause-answers : goal.returns-in-Place-clause-answers
+returns-in-Place-clause-answers g c = λ m r. record {
+  carried = (rw c.in-Place.is ((c.place.ensures.answers c.args.self.now.volume m r).carried));
+  sound = ((c.place.ensures.answers c.args.self.now.volume m r).sound);
+  passes = (rw c.in-Place.is ((c.place.ensures.answers c.args.self.now.volume m r).passes));
+  cost = c.place.ensures.cost;
+}
 
-pub returns-in-Place-clause-passes : goal.returns-in-Place-clause-passes
-returns-in-Place-clause-passes g c = λ m r. rw c.in-Place.is (c.place.ensures.passes c.args.self.now.volume m r)
-
-pub returns-in-Place-clause-sound : goal.returns-in-Place-clause-sound
-returns-in-Place-clause-sound g c = λ m r. c.place.ensures.sound c.args.self.now.volume m r
-
-pub returns-in-Place-clause-open_still : goal.returns-in-Place-clause-open_still
-returns-in-Place-clause-open_still g c = still_open _ _ _ _ c.requires.opened c.place.ensures.layout refl
+pub returns-in-Place-clause-stays : goal.returns-in-Place-clause-stays
+returns-in-Place-clause-stays g c = record {
+  open_still = (still_open _ _ _ _ c.requires.opened c.place.ensures.layout refl);
+  monotone = (search rules);
+  serial = (search rules);
+  layout = c.place.ensures.layout;
+}
 
 pub returns-in-Place-clause-wrote : goal.returns-in-Place-clause-wrote
 returns-in-Place-clause-wrote g c = rw c.in-Place.is c.place.ensures.wrote
-
-pub returns-in-Place-clause-cost : goal.returns-in-Place-clause-cost
-returns-in-Place-clause-cost g c = λ m r. c.place.ensures.cost
 
 pub returns-in-Place-clause-reference : goal.returns-in-Place-clause-reference
 returns-in-Place-clause-reference g c = λ revealed. absurd (true≢false (sym revealed ∙ ap is_reference c.in-Place.is))
@@ -120,23 +127,24 @@ returns-in-Place-clause-advised g c = λ m free r. rw c.in-Place.is (nothing_rev
 pub returns-in-Place-clause-forced : goal.returns-in-Place-clause-forced
 returns-in-Place-clause-forced g c = λ m revealed free r. absurd (true≢false (sym revealed ∙ ap waits c.in-Place.is))
 
-pub returns-in-Units-clause-carried : goal.returns-in-Units-clause-carried
-returns-in-Units-clause-carried g c = λ m r. rw c.in-Units.is (c.set_units.ensures.carried c.args.self.now.volume m r)
+pub returns-in-Units-clause-answers : goal.returns-in-Units-clause-answers
+returns-in-Units-clause-answers g c = λ m r. record {
+  carried = (rw c.in-Units.is (c.set_units.ensures.carried c.args.self.now.volume m r));
+  sound = (c.set_units.ensures.sound c.args.self.now.volume m r);
+  passes = (rw c.in-Units.is (c.set_units.ensures.passes c.args.self.now.volume m r));
+  cost = c.set_units.ensures.cost;
+}
 
-pub returns-in-Units-clause-passes : goal.returns-in-Units-clause-passes
-returns-in-Units-clause-passes g c = λ m r. rw c.in-Units.is (c.set_units.ensures.passes c.args.self.now.volume m r)
-
-pub returns-in-Units-clause-sound : goal.returns-in-Units-clause-sound
-returns-in-Units-clause-sound g c = λ m r. c.set_units.ensures.sound c.args.self.now.volume m r
-
-pub returns-in-Units-clause-open_still : goal.returns-in-Units-clause-open_still
-returns-in-Units-clause-open_still g c = still_open _ _ _ _ c.requires.opened c.set_units.ensures.layout refl
+pub returns-in-Units-clause-stays : goal.returns-in-Units-clause-stays
+returns-in-Units-clause-stays g c = record {
+  open_still = (still_open _ _ _ _ c.requires.opened c.set_units.ensures.layout refl);
+  monotone = (search rules);
+  serial = (search rules);
+  layout = c.set_units.ensures.layout;
+}
 
 pub returns-in-Units-clause-wrote : goal.returns-in-Units-clause-wrote
 returns-in-Units-clause-wrote g c = rw c.in-Units.is c.set_units.ensures.wrote
-
-pub returns-in-Units-clause-cost : goal.returns-in-Units-clause-cost
-returns-in-Units-clause-cost g c = λ m r. c.set_units.ensures.cost
 
 pub returns-in-Units-clause-reference : goal.returns-in-Units-clause-reference
 returns-in-Units-clause-reference g c = λ revealed. absurd (true≢false (sym revealed ∙ ap is_reference c.in-Units.is))
@@ -147,23 +155,24 @@ returns-in-Units-clause-advised g c = λ m free r. rw c.in-Units.is (nothing_rev
 pub returns-in-Units-clause-forced : goal.returns-in-Units-clause-forced
 returns-in-Units-clause-forced g c = λ m revealed free r. absurd (true≢false (sym revealed ∙ ap waits c.in-Units.is))
 
-pub returns-in-Map-clause-carried : goal.returns-in-Map-clause-carried
-returns-in-Map-clause-carried g c = λ m r. rw c.in-Map.is (c.map.ensures.carried c.args.self.now.volume m r)
+pub returns-in-Map-clause-answers : goal.returns-in-Map-clause-answers
+returns-in-Map-clause-answers g c = λ m r. record {
+  carried = (rw c.in-Map.is ((c.map.ensures.answers c.args.self.now.volume m r).carried));
+  sound = ((c.map.ensures.answers c.args.self.now.volume m r).sound);
+  passes = (rw c.in-Map.is ((c.map.ensures.answers c.args.self.now.volume m r).passes));
+  cost = c.map.ensures.cost;
+}
 
-pub returns-in-Map-clause-passes : goal.returns-in-Map-clause-passes
-returns-in-Map-clause-passes g c = λ m r. rw c.in-Map.is (c.map.ensures.passes c.args.self.now.volume m r)
-
-pub returns-in-Map-clause-sound : goal.returns-in-Map-clause-sound
-returns-in-Map-clause-sound g c = λ m r. c.map.ensures.sound c.args.self.now.volume m r
-
-pub returns-in-Map-clause-open_still : goal.returns-in-Map-clause-open_still
-returns-in-Map-clause-open_still g c = still_open _ _ _ _ c.requires.opened c.map.ensures.layout refl
+pub returns-in-Map-clause-stays : goal.returns-in-Map-clause-stays
+returns-in-Map-clause-stays g c = record {
+  open_still = (still_open _ _ _ _ c.requires.opened c.map.ensures.layout refl);
+  monotone = (search rules);
+  serial = (search rules);
+  layout = c.map.ensures.layout;
+}
 
 pub returns-in-Map-clause-wrote : goal.returns-in-Map-clause-wrote
 returns-in-Map-clause-wrote g c = rw c.in-Map.is c.map.ensures.wrote
-
-pub returns-in-Map-clause-cost : goal.returns-in-Map-clause-cost
-returns-in-Map-clause-cost g c = λ m r. c.map.ensures.cost
 
 pub returns-in-Map-clause-reference : goal.returns-in-Map-clause-reference
 returns-in-Map-clause-reference g c = λ revealed. absurd (true≢false (sym revealed ∙ ap is_reference c.in-Map.is))
@@ -174,17 +183,11 @@ returns-in-Map-clause-advised g c = λ m free r. rw c.in-Map.is (nothing_reveale
 pub returns-in-Map-clause-forced : goal.returns-in-Map-clause-forced
 returns-in-Map-clause-forced g c = λ m revealed free r. absurd (true≢false (sym revealed ∙ ap waits c.in-Map.is))
 
-pub returns-in-MapAnonymous-clause-carried : goal.returns-in-MapAnonymous-clause-carried
-returns-in-MapAnonymous-clause-carried g c = λ m r. rw c.in-MapAnonymous.is (c.map_anonymous.ensures.carried m r)
-
-pub returns-in-MapAnonymous-clause-passes : goal.returns-in-MapAnonymous-clause-passes
-returns-in-MapAnonymous-clause-passes g c = λ m r. rw c.in-MapAnonymous.is (c.map_anonymous.ensures.passes m r)
+pub returns-in-MapAnonymous-clause-answers : goal.returns-in-MapAnonymous-clause-answers
+returns-in-MapAnonymous-clause-answers g c = λ m r. rw c.in-MapAnonymous.is (c.map_anonymous.ensures.answers m r)
 
 pub returns-in-MapAnonymous-clause-wrote : goal.returns-in-MapAnonymous-clause-wrote
 returns-in-MapAnonymous-clause-wrote g c = rw c.in-MapAnonymous.is c.map_anonymous.ensures.wrote
-
-pub returns-in-MapAnonymous-clause-cost : goal.returns-in-MapAnonymous-clause-cost
-returns-in-MapAnonymous-clause-cost g c = λ m r. c.map_anonymous.ensures.cost m r
 
 pub returns-in-MapAnonymous-clause-reference : goal.returns-in-MapAnonymous-clause-reference
 returns-in-MapAnonymous-clause-reference g c = λ revealed. absurd (true≢false (sym revealed ∙ ap is_reference c.in-MapAnonymous.is))
@@ -195,17 +198,11 @@ returns-in-MapAnonymous-clause-advised g c = λ m free r. rw c.in-MapAnonymous.i
 pub returns-in-MapAnonymous-clause-forced : goal.returns-in-MapAnonymous-clause-forced
 returns-in-MapAnonymous-clause-forced g c = λ m revealed free r. absurd (true≢false (sym revealed ∙ ap waits c.in-MapAnonymous.is))
 
-pub returns-in-Unmap-clause-carried : goal.returns-in-Unmap-clause-carried
-returns-in-Unmap-clause-carried g c = λ m r. rw c.in-Unmap.is (c.unmap.ensures.carried m r)
-
-pub returns-in-Unmap-clause-passes : goal.returns-in-Unmap-clause-passes
-returns-in-Unmap-clause-passes g c = λ m r. rw c.in-Unmap.is (c.unmap.ensures.passes m r)
+pub returns-in-Unmap-clause-answers : goal.returns-in-Unmap-clause-answers
+returns-in-Unmap-clause-answers g c = λ m r. rw c.in-Unmap.is (c.unmap.ensures.answers m r)
 
 pub returns-in-Unmap-clause-wrote : goal.returns-in-Unmap-clause-wrote
 returns-in-Unmap-clause-wrote g c = rw c.in-Unmap.is c.unmap.ensures.wrote
-
-pub returns-in-Unmap-clause-cost : goal.returns-in-Unmap-clause-cost
-returns-in-Unmap-clause-cost g c = λ m r. c.unmap.ensures.cost m r
 
 pub returns-in-Unmap-clause-reference : goal.returns-in-Unmap-clause-reference
 returns-in-Unmap-clause-reference g c = λ revealed. absurd (true≢false (sym revealed ∙ ap is_reference c.in-Unmap.is))
@@ -214,25 +211,26 @@ pub returns-in-Unmap-clause-advised : goal.returns-in-Unmap-clause-advised
 returns-in-Unmap-clause-advised g c = λ m free r. rw c.in-Unmap.is (nothing_revealed c.unmap.result)
 
 pub returns-in-Unmap-clause-forced : goal.returns-in-Unmap-clause-forced
-returns-in-Unmap-clause-forced g c = λ m revealed free r. done_then m c.in-Unmap.space c.unmap.new.self.core c.unmap.new.self.volume _ c.unmap.result (sym (ap (refusal m) c.in-Unmap.is) ∙ free) (c.unmap.ensures.carried m r) c.unmap.ensures.synced
+returns-in-Unmap-clause-forced g c = λ m revealed free r. done_then m c.in-Unmap.space c.unmap.new.self.core c.unmap.new.self.volume _ c.unmap.result (sym (ap (refusal m) c.in-Unmap.is) ∙ free) ((c.unmap.ensures.answers m r).carried) c.unmap.ensures.synced
 
-pub returns-in-Protect-clause-carried : goal.returns-in-Protect-clause-carried
-returns-in-Protect-clause-carried g c = λ m r. rw c.in-Protect.is (c.protect.ensures.carried c.args.self.now.volume m r)
+pub returns-in-Protect-clause-answers : goal.returns-in-Protect-clause-answers
+returns-in-Protect-clause-answers g c = λ m r. record {
+  carried = (rw c.in-Protect.is ((c.protect.ensures.answers c.args.self.now.volume m r).carried));
+  sound = ((c.protect.ensures.answers c.args.self.now.volume m r).sound);
+  passes = (rw c.in-Protect.is ((c.protect.ensures.answers c.args.self.now.volume m r).passes));
+  cost = c.protect.ensures.cost;
+}
 
-pub returns-in-Protect-clause-passes : goal.returns-in-Protect-clause-passes
-returns-in-Protect-clause-passes g c = λ m r. rw c.in-Protect.is (c.protect.ensures.passes c.args.self.now.volume m r)
-
-pub returns-in-Protect-clause-sound : goal.returns-in-Protect-clause-sound
-returns-in-Protect-clause-sound g c = λ m r. c.protect.ensures.sound c.args.self.now.volume m r
-
-pub returns-in-Protect-clause-open_still : goal.returns-in-Protect-clause-open_still
-returns-in-Protect-clause-open_still g c = still_open _ _ _ _ c.requires.opened c.protect.ensures.layout refl
+pub returns-in-Protect-clause-stays : goal.returns-in-Protect-clause-stays
+returns-in-Protect-clause-stays g c = record {
+  open_still = (still_open _ _ _ _ c.requires.opened c.protect.ensures.layout refl);
+  monotone = (search rules);
+  serial = (search rules);
+  layout = c.protect.ensures.layout;
+}
 
 pub returns-in-Protect-clause-wrote : goal.returns-in-Protect-clause-wrote
 returns-in-Protect-clause-wrote g c = rw c.in-Protect.is c.protect.ensures.wrote
-
-pub returns-in-Protect-clause-cost : goal.returns-in-Protect-clause-cost
-returns-in-Protect-clause-cost g c = λ m r. c.protect.ensures.cost
 
 pub returns-in-Protect-clause-reference : goal.returns-in-Protect-clause-reference
 returns-in-Protect-clause-reference g c = λ revealed. absurd (true≢false (sym revealed ∙ ap is_reference c.in-Protect.is))
@@ -243,23 +241,24 @@ returns-in-Protect-clause-advised g c = λ m free r. rw c.in-Protect.is (nothing
 pub returns-in-Protect-clause-forced : goal.returns-in-Protect-clause-forced
 returns-in-Protect-clause-forced g c = λ m revealed free r. c.protect.ensures.synced c.args.self.now.volume m r (unset _ (sym (ap waits c.in-Protect.is) ∙ revealed)) (sym (ap (refusal m) c.in-Protect.is) ∙ free)
 
-pub returns-in-Load-clause-carried : goal.returns-in-Load-clause-carried
-returns-in-Load-clause-carried g c = λ m r. rw c.in-Load.is (c.load.ensures.carried c.args.self.now.volume m r)
+pub returns-in-Load-clause-answers : goal.returns-in-Load-clause-answers
+returns-in-Load-clause-answers g c = λ m r. record {
+  carried = (rw c.in-Load.is ((c.load.ensures.answers c.args.self.now.volume m r).carried));
+  sound = ((c.load.ensures.answers c.args.self.now.volume m r).sound);
+  passes = (rw c.in-Load.is ((c.load.ensures.answers c.args.self.now.volume m r).passes));
+  cost = (asked_inside (state c.args.self.now.core).disk (state c.load.new.core).disk 1680 (omega arith) c.load.ensures.cost);
+}
 
-pub returns-in-Load-clause-passes : goal.returns-in-Load-clause-passes
-returns-in-Load-clause-passes g c = λ m r. rw c.in-Load.is (c.load.ensures.passes c.args.self.now.volume m r)
-
-pub returns-in-Load-clause-sound : goal.returns-in-Load-clause-sound
-returns-in-Load-clause-sound g c = λ m r. c.load.ensures.sound c.args.self.now.volume m r
-
-pub returns-in-Load-clause-open_still : goal.returns-in-Load-clause-open_still
-returns-in-Load-clause-open_still g c = still_open _ _ _ _ c.requires.opened c.load.ensures.layout refl
+pub returns-in-Load-clause-stays : goal.returns-in-Load-clause-stays
+returns-in-Load-clause-stays g c = record {
+  open_still = (still_open _ _ _ _ c.requires.opened c.load.ensures.layout refl);
+  monotone = (search rules);
+  serial = (search rules);
+  layout = c.load.ensures.layout;
+}
 
 pub returns-in-Load-clause-wrote : goal.returns-in-Load-clause-wrote
 returns-in-Load-clause-wrote g c = rw c.in-Load.is c.load.ensures.wrote
-
-pub returns-in-Load-clause-cost : goal.returns-in-Load-clause-cost
-returns-in-Load-clause-cost g c = λ m r. asked_inside (g.D.Disk.state c.args.self.now.core.filer.swapper.disk) (g.D.Disk.state c.load.new.core.filer.swapper.disk) 1680 (omega arith) c.load.ensures.cost
 
 pub returns-in-Load-clause-advised : goal.returns-in-Load-clause-advised
 returns-in-Load-clause-advised g c = λ m free r. rw c.in-Load.is (c.load.ensures.ready c.args.self.now.volume m r (sym (ap (refusal m) c.in-Load.is) ∙ free))
@@ -267,141 +266,144 @@ returns-in-Load-clause-advised g c = λ m free r. rw c.in-Load.is (c.load.ensure
 pub returns-in-Load-clause-forced : goal.returns-in-Load-clause-forced
 returns-in-Load-clause-forced g c = λ m revealed free r. absurd (true≢false (sym revealed ∙ ap waits c.in-Load.is))
 
-pub returns-in-Store-clause-carried : goal.returns-in-Store-clause-carried
-returns-in-Store-clause-carried g c = λ m r.
-    rw c.in-Store.is
-    (subst (λ (bs : List ℕ). IfOk c.store.result (Carried m (call.Store c.in-Store.address bs) c.store.new.core c.args.self.now.volume)) c.as_slice.ensures.bytes (c.store.ensures.carried c.args.self.now.volume m r))
+pub returns-in-Store-clause-answers : goal.returns-in-Store-clause-answers
+returns-in-Store-clause-answers g c = λ m r. record {
+  carried = (rw c.in-Store.is
+      (subst (λ (bs : List ℕ). IfOk c.store.result (Carried m (call.Store c.in-Store.address bs) c.store.new.core c.args.self.now.volume)) c.as_slice.ensures.bytes ((c.store.ensures.answers c.args.self.now.volume m r).carried)));
+  sound = ((c.store.ensures.answers c.args.self.now.volume m r).sound);
+  passes = (rw c.in-Store.is
+      (subst (λ (bs : List ℕ). Passes m (call.Store c.in-Store.address bs) (state c.args.self.now.core).disk (state c.store.new.core).disk) c.as_slice.ensures.bytes ((c.store.ensures.answers c.args.self.now.volume m r).passes)));
+  cost = (asked_inside (state c.args.self.now.core).disk (state c.store.new.core).disk 1680 (omega arith) c.store.ensures.cost);
+}
 
-pub returns-in-Store-clause-passes : goal.returns-in-Store-clause-passes
-returns-in-Store-clause-passes g c = λ m r.
-    rw c.in-Store.is
-    (subst (λ (bs : List ℕ). Passes m (call.Store c.in-Store.address bs) (g.D.Disk.state c.args.self.now.core.filer.swapper.disk) (g.D.Disk.state c.store.new.core.filer.swapper.disk)) c.as_slice.ensures.bytes (c.store.ensures.passes c.args.self.now.volume m r))
-
-pub returns-in-Store-clause-sound : goal.returns-in-Store-clause-sound
-returns-in-Store-clause-sound g c = λ m r. c.store.ensures.sound c.args.self.now.volume m r
-
-pub returns-in-Store-clause-open_still : goal.returns-in-Store-clause-open_still
-returns-in-Store-clause-open_still g c = still_open _ _ _ _ c.requires.opened c.store.ensures.layout refl
+pub returns-in-Store-clause-stays : goal.returns-in-Store-clause-stays
+returns-in-Store-clause-stays g c = record {
+  open_still = (still_open _ _ _ _ c.requires.opened c.store.ensures.layout refl);
+  monotone = (search rules);
+  serial = (search rules);
+  layout = c.store.ensures.layout;
+}
 
 pub returns-in-Store-clause-wrote : goal.returns-in-Store-clause-wrote
 returns-in-Store-clause-wrote g c = rw c.in-Store.is c.store.ensures.wrote
 
-pub returns-in-Store-clause-cost : goal.returns-in-Store-clause-cost
-returns-in-Store-clause-cost g c = λ m r. asked_inside (g.D.Disk.state c.args.self.now.core.filer.swapper.disk) (g.D.Disk.state c.store.new.core.filer.swapper.disk) 1680 (omega arith) c.store.ensures.cost
-
 pub returns-in-Store-clause-advised : goal.returns-in-Store-clause-advised
 returns-in-Store-clause-advised g c = λ m free r.
     rw c.in-Store.is
-    (subst (λ (bs : List ℕ). OnOk c.store.result (IsReady (kept c.store.new.core) c.store.new.core.filer.swapper.pool (last_page c.in-Store.address (length bs)))) c.as_slice.ensures.bytes
+    (subst (λ (bs : List ℕ). OnOk c.store.result (IsReady (kept c.store.new.core) (state c.store.new.core).slots (last_page c.in-Store.address (length bs)))) c.as_slice.ensures.bytes
     (c.store.ensures.ready c.args.self.now.volume m r (ap (λ (bs : List ℕ). refusal m (call.Store c.in-Store.address bs)) c.as_slice.ensures.bytes ∙ sym (ap (refusal m) c.in-Store.is) ∙ free)))
 
 pub returns-in-Store-clause-forced : goal.returns-in-Store-clause-forced
 returns-in-Store-clause-forced g c = λ m revealed free r. absurd (true≢false (sym revealed ∙ ap waits c.in-Store.is))
 
-pub returns-in-Activate-clause-carried : goal.returns-in-Activate-clause-carried
-returns-in-Activate-clause-carried g c = λ m r. rw c.in-Activate.is (c.activate.ensures.carried c.args.self.now.volume m r)
+pub returns-in-Activate-clause-answers : goal.returns-in-Activate-clause-answers
+returns-in-Activate-clause-answers g c = λ m r. record {
+  carried = (rw c.in-Activate.is ((c.activate.ensures.answers c.args.self.now.volume m r).carried));
+  sound = ((c.activate.ensures.answers c.args.self.now.volume m r).sound);
+  passes = (rw c.in-Activate.is ((c.activate.ensures.answers c.args.self.now.volume m r).passes));
+  cost = c.activate.ensures.cost;
+}
 
-pub returns-in-Activate-clause-passes : goal.returns-in-Activate-clause-passes
-returns-in-Activate-clause-passes g c = λ m r. rw c.in-Activate.is (c.activate.ensures.passes c.args.self.now.volume m r)
-
-pub returns-in-Activate-clause-sound : goal.returns-in-Activate-clause-sound
-returns-in-Activate-clause-sound g c = λ m r. c.activate.ensures.sound c.args.self.now.volume m r
-
-pub returns-in-Activate-clause-open_still : goal.returns-in-Activate-clause-open_still
-returns-in-Activate-clause-open_still g c = still_open _ _ _ _ c.requires.opened c.activate.ensures.layout refl
+pub returns-in-Activate-clause-stays : goal.returns-in-Activate-clause-stays
+returns-in-Activate-clause-stays g c = record {
+  open_still = (still_open _ _ _ _ c.requires.opened c.activate.ensures.layout refl);
+  monotone = (search rules);
+  serial = (search rules);
+  layout = c.activate.ensures.layout;
+}
 
 pub returns-in-Activate-clause-wrote : goal.returns-in-Activate-clause-wrote
 returns-in-Activate-clause-wrote g c = rw c.in-Activate.is c.activate.ensures.wrote
-
-pub returns-in-Activate-clause-cost : goal.returns-in-Activate-clause-cost
-returns-in-Activate-clause-cost g c = λ m r. c.activate.ensures.cost
 
 pub returns-in-Activate-clause-reference : goal.returns-in-Activate-clause-reference
 returns-in-Activate-clause-reference g c = λ revealed. absurd (true≢false (sym revealed ∙ ap is_reference c.in-Activate.is))
 
 pub returns-in-Activate-clause-advised : goal.returns-in-Activate-clause-advised
-returns-in-Activate-clause-advised g c = λ m free r. rw c.in-Activate.is (of_pages (IsActive m.spaces (kept c.activate.new.core) c.activate.new.core.filer.swapper.pool) m.spaces c.in-Activate.space c.activate.result (λ s at. c.activate.ensures.whole c.args.self.now.volume m s r at))
+returns-in-Activate-clause-advised g c = λ m free r. rw c.in-Activate.is (of_pages (IsActive m.spaces (kept c.activate.new.core) (state c.activate.new.core).slots) m.spaces c.in-Activate.space c.activate.result (λ s at. c.activate.ensures.whole c.args.self.now.volume m s r at))
 
 pub returns-in-Activate-clause-forced : goal.returns-in-Activate-clause-forced
 returns-in-Activate-clause-forced g c = λ m revealed free r. absurd (true≢false (sym revealed ∙ ap waits c.in-Activate.is))
 
-pub returns-in-Deactivate-clause-carried : goal.returns-in-Deactivate-clause-carried
-returns-in-Deactivate-clause-carried g c = λ m r. rw c.in-Deactivate.is (c.deactivate.ensures.carried c.args.self.now.volume m r)
+pub returns-in-Deactivate-clause-answers : goal.returns-in-Deactivate-clause-answers
+returns-in-Deactivate-clause-answers g c = λ m r. record {
+  carried = (rw c.in-Deactivate.is ((c.deactivate.ensures.answers c.args.self.now.volume m r).carried));
+  sound = ((c.deactivate.ensures.answers c.args.self.now.volume m r).sound);
+  passes = (rw c.in-Deactivate.is ((c.deactivate.ensures.answers c.args.self.now.volume m r).passes));
+  cost = c.deactivate.ensures.cost;
+}
 
-pub returns-in-Deactivate-clause-passes : goal.returns-in-Deactivate-clause-passes
-returns-in-Deactivate-clause-passes g c = λ m r. rw c.in-Deactivate.is (c.deactivate.ensures.passes c.args.self.now.volume m r)
-
-pub returns-in-Deactivate-clause-sound : goal.returns-in-Deactivate-clause-sound
-returns-in-Deactivate-clause-sound g c = λ m r. c.deactivate.ensures.sound c.args.self.now.volume m r
-
-pub returns-in-Deactivate-clause-open_still : goal.returns-in-Deactivate-clause-open_still
-returns-in-Deactivate-clause-open_still g c = still_open _ _ _ _ c.requires.opened c.deactivate.ensures.layout refl
+pub returns-in-Deactivate-clause-stays : goal.returns-in-Deactivate-clause-stays
+returns-in-Deactivate-clause-stays g c = record {
+  open_still = (still_open _ _ _ _ c.requires.opened c.deactivate.ensures.layout refl);
+  monotone = (search rules);
+  serial = (search rules);
+  layout = c.deactivate.ensures.layout;
+}
 
 pub returns-in-Deactivate-clause-wrote : goal.returns-in-Deactivate-clause-wrote
 returns-in-Deactivate-clause-wrote g c = rw c.in-Deactivate.is c.deactivate.ensures.wrote
-
-pub returns-in-Deactivate-clause-cost : goal.returns-in-Deactivate-clause-cost
-returns-in-Deactivate-clause-cost g c = λ m r. c.deactivate.ensures.cost
 
 pub returns-in-Deactivate-clause-reference : goal.returns-in-Deactivate-clause-reference
 returns-in-Deactivate-clause-reference g c = λ revealed. absurd (true≢false (sym revealed ∙ ap is_reference c.in-Deactivate.is))
 
 pub returns-in-Deactivate-clause-advised : goal.returns-in-Deactivate-clause-advised
-returns-in-Deactivate-clause-advised g c = λ m free r. rw c.in-Deactivate.is (of_pages (AreGone m.spaces c.deactivate.new.core.filer.swapper.pool) m.spaces c.in-Deactivate.space c.deactivate.result (λ s at. c.deactivate.ensures.gone c.args.self.now.volume m s r at))
+returns-in-Deactivate-clause-advised g c = λ m free r. rw c.in-Deactivate.is (of_pages (AreGone m.spaces (state c.deactivate.new.core).slots) m.spaces c.in-Deactivate.space c.deactivate.result (λ s at. c.deactivate.ensures.gone c.args.self.now.volume m s r at))
 
 pub returns-in-Deactivate-clause-forced : goal.returns-in-Deactivate-clause-forced
 returns-in-Deactivate-clause-forced g c = λ m revealed free r. absurd (true≢false (sym revealed ∙ ap waits c.in-Deactivate.is))
 
-pub returns-in-Kill-clause-carried : goal.returns-in-Kill-clause-carried
-returns-in-Kill-clause-carried g c = λ m r. rw c.in-Kill.is (c.kill.ensures.carried c.args.self.now.volume m r)
+pub returns-in-Kill-clause-answers : goal.returns-in-Kill-clause-answers
+returns-in-Kill-clause-answers g c = λ m r. record {
+  carried = (rw c.in-Kill.is ((c.kill.ensures.answers c.args.self.now.volume m r).carried));
+  sound = ((c.kill.ensures.answers c.args.self.now.volume m r).sound);
+  passes = (rw c.in-Kill.is ((c.kill.ensures.answers c.args.self.now.volume m r).passes));
+  cost = c.kill.ensures.cost;
+}
 
-pub returns-in-Kill-clause-passes : goal.returns-in-Kill-clause-passes
-returns-in-Kill-clause-passes g c = λ m r. rw c.in-Kill.is (c.kill.ensures.passes c.args.self.now.volume m r)
-
-pub returns-in-Kill-clause-sound : goal.returns-in-Kill-clause-sound
-returns-in-Kill-clause-sound g c = λ m r. c.kill.ensures.sound c.args.self.now.volume m r
-
-pub returns-in-Kill-clause-open_still : goal.returns-in-Kill-clause-open_still
-returns-in-Kill-clause-open_still g c = still_open _ _ _ _ c.requires.opened c.kill.ensures.layout refl
+pub returns-in-Kill-clause-stays : goal.returns-in-Kill-clause-stays
+returns-in-Kill-clause-stays g c = record {
+  open_still = (still_open _ _ _ _ c.requires.opened c.kill.ensures.layout refl);
+  monotone = (search rules);
+  serial = (search rules);
+  layout = c.kill.ensures.layout;
+}
 
 pub returns-in-Kill-clause-wrote : goal.returns-in-Kill-clause-wrote
 returns-in-Kill-clause-wrote g c = rw c.in-Kill.is c.kill.ensures.wrote
-
-pub returns-in-Kill-clause-cost : goal.returns-in-Kill-clause-cost
-returns-in-Kill-clause-cost g c = λ m r. c.kill.ensures.cost
 
 pub returns-in-Kill-clause-reference : goal.returns-in-Kill-clause-reference
 returns-in-Kill-clause-reference g c = λ revealed. absurd (true≢false (sym revealed ∙ ap is_reference c.in-Kill.is))
 
 pub returns-in-Kill-clause-advised : goal.returns-in-Kill-clause-advised
-returns-in-Kill-clause-advised g c = λ m free r. rw c.in-Kill.is (of_pages (AreWritableSo (is_absent c.kill.new.core.filer.swapper.pool) m.spaces) m.spaces c.in-Kill.space c.kill.result (λ s at. c.kill.ensures.gone c.args.self.now.volume m s r at))
+returns-in-Kill-clause-advised g c = λ m free r. rw c.in-Kill.is (of_pages (AreWritableSo (is_absent (state c.kill.new.core).slots) m.spaces) m.spaces c.in-Kill.space c.kill.result (λ s at. c.kill.ensures.gone c.args.self.now.volume m s r at))
 
 pub returns-in-Kill-clause-forced : goal.returns-in-Kill-clause-forced
 returns-in-Kill-clause-forced g c = λ m revealed free r. absurd (true≢false (sym revealed ∙ ap waits c.in-Kill.is))
 
-pub returns-in-ForceOut-clause-carried : goal.returns-in-ForceOut-clause-carried
-returns-in-ForceOut-clause-carried g c = λ m r. rw c.in-ForceOut.is (c.force_out.ensures.carried c.args.self.now.volume m r)
+pub returns-in-ForceOut-clause-answers : goal.returns-in-ForceOut-clause-answers
+returns-in-ForceOut-clause-answers g c = λ m r. record {
+  carried = (rw c.in-ForceOut.is ((c.force_out.ensures.answers c.args.self.now.volume m r).carried));
+  sound = ((c.force_out.ensures.answers c.args.self.now.volume m r).sound);
+  passes = (rw c.in-ForceOut.is ((c.force_out.ensures.answers c.args.self.now.volume m r).passes));
+  cost = c.force_out.ensures.cost;
+}
 
-pub returns-in-ForceOut-clause-passes : goal.returns-in-ForceOut-clause-passes
-returns-in-ForceOut-clause-passes g c = λ m r. rw c.in-ForceOut.is (c.force_out.ensures.passes c.args.self.now.volume m r)
-
-pub returns-in-ForceOut-clause-sound : goal.returns-in-ForceOut-clause-sound
-returns-in-ForceOut-clause-sound g c = λ m r. c.force_out.ensures.sound c.args.self.now.volume m r
-
-pub returns-in-ForceOut-clause-open_still : goal.returns-in-ForceOut-clause-open_still
-returns-in-ForceOut-clause-open_still g c = still_open _ _ _ _ c.requires.opened c.force_out.ensures.layout refl
+pub returns-in-ForceOut-clause-stays : goal.returns-in-ForceOut-clause-stays
+returns-in-ForceOut-clause-stays g c = record {
+  open_still = (still_open _ _ _ _ c.requires.opened c.force_out.ensures.layout refl);
+  monotone = (search rules);
+  serial = (search rules);
+  layout = c.force_out.ensures.layout;
+}
 
 pub returns-in-ForceOut-clause-wrote : goal.returns-in-ForceOut-clause-wrote
 returns-in-ForceOut-clause-wrote g c = rw c.in-ForceOut.is c.force_out.ensures.wrote
-
-pub returns-in-ForceOut-clause-cost : goal.returns-in-ForceOut-clause-cost
-returns-in-ForceOut-clause-cost g c = λ m r. c.force_out.ensures.cost
 
 pub returns-in-ForceOut-clause-reference : goal.returns-in-ForceOut-clause-reference
 returns-in-ForceOut-clause-reference g c = λ revealed. absurd (true≢false (sym revealed ∙ ap is_reference c.in-ForceOut.is))
 
 pub returns-in-ForceOut-clause-advised : goal.returns-in-ForceOut-clause-advised
-returns-in-ForceOut-clause-advised g c = λ m free r. rw c.in-ForceOut.is (of_pages (AreClean m.spaces c.force_out.new.core.filer.swapper.pool) m.spaces c.in-ForceOut.space c.force_out.result (λ s at. c.force_out.ensures.clean c.args.self.now.volume m s r at))
+returns-in-ForceOut-clause-advised g c = λ m free r. rw c.in-ForceOut.is (of_pages (AreClean m.spaces (state c.force_out.new.core).slots) m.spaces c.in-ForceOut.space c.force_out.result (λ s at. c.force_out.ensures.clean c.args.self.now.volume m s r at))
 
 pub returns-in-ForceOut-clause-forced : goal.returns-in-ForceOut-clause-forced
 returns-in-ForceOut-clause-forced g c = λ m revealed free r. c.force_out.ensures.synced c.args.self.now.volume m r (sym (ap (refusal m) c.in-ForceOut.is) ∙ free)
@@ -422,247 +424,270 @@ pub unreachable-requires : goal.unreachable-requires
 unreachable-requires g c = none_on_spaces c.args.call.now c.requires.on_spaces c.in_default.not-MakeSpace c.in_default.not-RemoveSpace c.in_default.not-Place c.in_default.not-Units c.in_default.not-Map c.in_default.not-MapAnonymous c.in_default.not-Unmap c.in_default.not-Protect c.in_default.not-Load c.in_default.not-Store c.in_default.not-Activate c.in_default.not-Deactivate c.in_default.not-Kill c.in_default.not-ForceOut
 
 pub returns-in-MakeSpace-clause-idle : goal.returns-in-MakeSpace-clause-idle
-returns-in-MakeSpace-clause-idle g c = λ m r resident. absurd (subst (λ (x : Call). IsResident x (kept c.args.self.now.core) c.args.self.now.core.filer.swapper.pool) c.in-MakeSpace.is resident)
+returns-in-MakeSpace-clause-idle g c = λ m r resident. absurd (subst (λ (x : Call). IsResident x (kept c.args.self.now.core) (state c.args.self.now.core).slots) c.in-MakeSpace.is resident)
 
 pub returns-in-RemoveSpace-clause-idle : goal.returns-in-RemoveSpace-clause-idle
-returns-in-RemoveSpace-clause-idle g c = λ m r resident. absurd (subst (λ (x : Call). IsResident x (kept c.args.self.now.core) c.args.self.now.core.filer.swapper.pool) c.in-RemoveSpace.is resident)
+returns-in-RemoveSpace-clause-idle g c = λ m r resident. absurd (subst (λ (x : Call). IsResident x (kept c.args.self.now.core) (state c.args.self.now.core).slots) c.in-RemoveSpace.is resident)
 
 pub returns-in-Place-clause-idle : goal.returns-in-Place-clause-idle
-returns-in-Place-clause-idle g c = λ m r resident. absurd (subst (λ (x : Call). IsResident x (kept c.args.self.now.core) c.args.self.now.core.filer.swapper.pool) c.in-Place.is resident)
+returns-in-Place-clause-idle g c = λ m r resident. absurd (subst (λ (x : Call). IsResident x (kept c.args.self.now.core) (state c.args.self.now.core).slots) c.in-Place.is resident)
 
 pub returns-in-Units-clause-idle : goal.returns-in-Units-clause-idle
-returns-in-Units-clause-idle g c = λ m r resident. absurd (subst (λ (x : Call). IsResident x (kept c.args.self.now.core) c.args.self.now.core.filer.swapper.pool) c.in-Units.is resident)
+returns-in-Units-clause-idle g c = λ m r resident. absurd (subst (λ (x : Call). IsResident x (kept c.args.self.now.core) (state c.args.self.now.core).slots) c.in-Units.is resident)
 
 pub returns-in-Map-clause-idle : goal.returns-in-Map-clause-idle
-returns-in-Map-clause-idle g c = λ m r resident. absurd (subst (λ (x : Call). IsResident x (kept c.args.self.now.core) c.args.self.now.core.filer.swapper.pool) c.in-Map.is resident)
+returns-in-Map-clause-idle g c = λ m r resident. absurd (subst (λ (x : Call). IsResident x (kept c.args.self.now.core) (state c.args.self.now.core).slots) c.in-Map.is resident)
 
 pub returns-in-MapAnonymous-clause-idle : goal.returns-in-MapAnonymous-clause-idle
-returns-in-MapAnonymous-clause-idle g c = λ m r resident. absurd (subst (λ (x : Call). IsResident x (kept c.args.self.now.core) c.args.self.now.core.filer.swapper.pool) c.in-MapAnonymous.is resident)
+returns-in-MapAnonymous-clause-idle g c = λ m r resident. absurd (subst (λ (x : Call). IsResident x (kept c.args.self.now.core) (state c.args.self.now.core).slots) c.in-MapAnonymous.is resident)
 
 pub returns-in-Unmap-clause-idle : goal.returns-in-Unmap-clause-idle
-returns-in-Unmap-clause-idle g c = λ m r resident. absurd (subst (λ (x : Call). IsResident x (kept c.args.self.now.core) c.args.self.now.core.filer.swapper.pool) c.in-Unmap.is resident)
+returns-in-Unmap-clause-idle g c = λ m r resident. absurd (subst (λ (x : Call). IsResident x (kept c.args.self.now.core) (state c.args.self.now.core).slots) c.in-Unmap.is resident)
 
 pub returns-in-Protect-clause-idle : goal.returns-in-Protect-clause-idle
-returns-in-Protect-clause-idle g c = λ m r resident. absurd (subst (λ (x : Call). IsResident x (kept c.args.self.now.core) c.args.self.now.core.filer.swapper.pool) c.in-Protect.is resident)
+returns-in-Protect-clause-idle g c = λ m r resident. absurd (subst (λ (x : Call). IsResident x (kept c.args.self.now.core) (state c.args.self.now.core).slots) c.in-Protect.is resident)
 
 pub returns-in-Activate-clause-idle : goal.returns-in-Activate-clause-idle
-returns-in-Activate-clause-idle g c = λ m r resident. absurd (subst (λ (x : Call). IsResident x (kept c.args.self.now.core) c.args.self.now.core.filer.swapper.pool) c.in-Activate.is resident)
+returns-in-Activate-clause-idle g c = λ m r resident. absurd (subst (λ (x : Call). IsResident x (kept c.args.self.now.core) (state c.args.self.now.core).slots) c.in-Activate.is resident)
 
 pub returns-in-Deactivate-clause-idle : goal.returns-in-Deactivate-clause-idle
-returns-in-Deactivate-clause-idle g c = λ m r resident. absurd (subst (λ (x : Call). IsResident x (kept c.args.self.now.core) c.args.self.now.core.filer.swapper.pool) c.in-Deactivate.is resident)
+returns-in-Deactivate-clause-idle g c = λ m r resident. absurd (subst (λ (x : Call). IsResident x (kept c.args.self.now.core) (state c.args.self.now.core).slots) c.in-Deactivate.is resident)
 
 pub returns-in-Kill-clause-idle : goal.returns-in-Kill-clause-idle
-returns-in-Kill-clause-idle g c = λ m r resident. absurd (subst (λ (x : Call). IsResident x (kept c.args.self.now.core) c.args.self.now.core.filer.swapper.pool) c.in-Kill.is resident)
+returns-in-Kill-clause-idle g c = λ m r resident. absurd (subst (λ (x : Call). IsResident x (kept c.args.self.now.core) (state c.args.self.now.core).slots) c.in-Kill.is resident)
 
 pub returns-in-ForceOut-clause-idle : goal.returns-in-ForceOut-clause-idle
-returns-in-ForceOut-clause-idle g c = λ m r resident. absurd (subst (λ (x : Call). IsResident x (kept c.args.self.now.core) c.args.self.now.core.filer.swapper.pool) c.in-ForceOut.is resident)
+returns-in-ForceOut-clause-idle g c = λ m r resident. absurd (subst (λ (x : Call). IsResident x (kept c.args.self.now.core) (state c.args.self.now.core).slots) c.in-ForceOut.is resident)
 
 pub returns-in-Load-clause-idle : goal.returns-in-Load-clause-idle
 returns-in-Load-clause-idle g c = λ m r resident.
-    let ready = subst (λ (x : Call). IsResident x (kept c.args.self.now.core) c.args.self.now.core.filer.swapper.pool) c.in-Load.is resident in
+    let ready = subst (λ (x : Call). IsResident x (kept c.args.self.now.core) (state c.args.self.now.core).slots) c.in-Load.is resident in
     let done = c.load.ensures.idle c.args.self.now.volume m r ready.0 ready.1 in
     (done.0, rw done.1 refl)
 
 pub returns-in-Store-clause-idle : goal.returns-in-Store-clause-idle
 returns-in-Store-clause-idle g c = λ m r resident.
-    let ready = subst (λ (x : Call). IsResident x (kept c.args.self.now.core) c.args.self.now.core.filer.swapper.pool) c.in-Store.is resident in
-    let last = subst (λ (bs : List ℕ). IsReady (kept c.args.self.now.core) c.args.self.now.core.filer.swapper.pool (last_page c.in-Store.address (length bs))) (sym c.as_slice.ensures.bytes) ready.1 in
+    let ready = subst (λ (x : Call). IsResident x (kept c.args.self.now.core) (state c.args.self.now.core).slots) c.in-Store.is resident in
+    let last = subst (λ (bs : List ℕ). IsReady (kept c.args.self.now.core) (state c.args.self.now.core).slots (last_page c.in-Store.address (length bs))) (sym c.as_slice.ensures.bytes) ready.1 in
     let done = c.store.ensures.idle c.args.self.now.volume m r ready.0 last in
     (done.0, done.1)
 
-pub returns-in-MakeSpace-clause-cause : goal.returns-in-MakeSpace-clause-cause
-returns-in-MakeSpace-clause-cause g c = rw c.in-MakeSpace.is c.make_space.ensures.cause
+pub returns-in-MakeSpace-clause-fails : goal.returns-in-MakeSpace-clause-fails
+returns-in-MakeSpace-clause-fails g c = if_fails _ _ _ c.make_space.result (rw c.in-MakeSpace.is c.make_space.ensures.cause) c.make_space.ensures.counted c.make_space.ensures.evidence_seen
 
-pub returns-in-RemoveSpace-clause-cause : goal.returns-in-RemoveSpace-clause-cause
-returns-in-RemoveSpace-clause-cause g c = rw c.in-RemoveSpace.is c.remove_space.ensures.cause
+pub returns-in-RemoveSpace-clause-fails : goal.returns-in-RemoveSpace-clause-fails
+returns-in-RemoveSpace-clause-fails g c = if_fails _ _ _ c.remove_space.result (rw c.in-RemoveSpace.is c.remove_space.ensures.cause) c.remove_space.ensures.counted c.remove_space.ensures.evidence_seen
 
-pub returns-in-Place-clause-cause : goal.returns-in-Place-clause-cause
-returns-in-Place-clause-cause g c = rw c.in-Place.is c.place.ensures.cause
+pub returns-in-Place-clause-fails : goal.returns-in-Place-clause-fails
+returns-in-Place-clause-fails g c = if_fails _ _ _ c.place.result (rw c.in-Place.is c.place.ensures.cause) c.place.ensures.counted c.place.ensures.evidence_seen
 
-pub returns-in-Units-clause-cause : goal.returns-in-Units-clause-cause
-returns-in-Units-clause-cause g c = rw c.in-Units.is c.set_units.ensures.cause
+pub returns-in-Units-clause-fails : goal.returns-in-Units-clause-fails
+returns-in-Units-clause-fails g c = if_fails _ _ _ c.set_units.result (rw c.in-Units.is c.set_units.ensures.cause) c.set_units.ensures.counted c.set_units.ensures.evidence_seen
 
-pub returns-in-Map-clause-cause : goal.returns-in-Map-clause-cause
-returns-in-Map-clause-cause g c = rw c.in-Map.is c.map.ensures.cause
+pub returns-in-Map-clause-fails : goal.returns-in-Map-clause-fails
+returns-in-Map-clause-fails g c = if_fails _ _ _ c.map.result (rw c.in-Map.is c.map.ensures.cause) c.map.ensures.counted c.map.ensures.evidence_seen
 
-pub returns-in-MapAnonymous-clause-cause : goal.returns-in-MapAnonymous-clause-cause
-returns-in-MapAnonymous-clause-cause g c = rw c.in-MapAnonymous.is c.map_anonymous.ensures.cause
+pub returns-in-MapAnonymous-clause-fails : goal.returns-in-MapAnonymous-clause-fails
+returns-in-MapAnonymous-clause-fails g c = if_fails _ _ _ c.map_anonymous.result (rw c.in-MapAnonymous.is c.map_anonymous.ensures.cause) c.map_anonymous.ensures.counted c.map_anonymous.ensures.evidence_seen
 
-pub returns-in-Unmap-clause-cause : goal.returns-in-Unmap-clause-cause
-returns-in-Unmap-clause-cause g c = rw c.in-Unmap.is c.unmap.ensures.cause
+pub returns-in-Unmap-clause-fails : goal.returns-in-Unmap-clause-fails
+returns-in-Unmap-clause-fails g c = if_fails _ _ _ c.unmap.result (rw c.in-Unmap.is c.unmap.ensures.cause) c.unmap.ensures.counted c.unmap.ensures.evidence_seen
 
-pub returns-in-Protect-clause-cause : goal.returns-in-Protect-clause-cause
-returns-in-Protect-clause-cause g c = rw c.in-Protect.is c.protect.ensures.cause
+pub returns-in-Protect-clause-fails : goal.returns-in-Protect-clause-fails
+returns-in-Protect-clause-fails g c = if_fails _ _ _ c.protect.result (rw c.in-Protect.is c.protect.ensures.cause) c.protect.ensures.counted c.protect.ensures.evidence_seen
 
-pub returns-in-Load-clause-cause : goal.returns-in-Load-clause-cause
-returns-in-Load-clause-cause g c = rw c.in-Load.is c.load.ensures.cause
+pub returns-in-Load-clause-fails : goal.returns-in-Load-clause-fails
+returns-in-Load-clause-fails g c = if_fails _ _ _ c.load.result (rw c.in-Load.is c.load.ensures.cause) c.load.ensures.counted c.load.ensures.evidence_seen
 
-pub returns-in-Store-clause-cause : goal.returns-in-Store-clause-cause
-returns-in-Store-clause-cause g c =
-    rw c.in-Store.is
-    (subst (λ (bs : List ℕ). IfErr c.store.result (StepHalts 0 (call.Store c.in-Store.address bs) c.args.self.now.core.intervals (state c.args.self.now.core) (state c.store.new.core))) c.as_slice.ensures.bytes c.store.ensures.cause)
+pub returns-in-Store-clause-fails : goal.returns-in-Store-clause-fails
+returns-in-Store-clause-fails g c = if_fails _ _ _ c.store.result (rw c.in-Store.is
+    (subst (λ (bs : List ℕ). IfErr c.store.result (StepHalts 0 (call.Store c.in-Store.address bs) c.args.self.now.core.intervals (state c.args.self.now.core) (state c.store.new.core))) c.as_slice.ensures.bytes c.store.ensures.cause)) c.store.ensures.counted c.store.ensures.evidence_seen
 
-pub returns-in-Activate-clause-cause : goal.returns-in-Activate-clause-cause
-returns-in-Activate-clause-cause g c = rw c.in-Activate.is c.activate.ensures.cause
+pub returns-in-Activate-clause-fails : goal.returns-in-Activate-clause-fails
+returns-in-Activate-clause-fails g c = if_fails _ _ _ c.activate.result (rw c.in-Activate.is c.activate.ensures.cause) c.activate.ensures.counted c.activate.ensures.evidence_seen
 
-pub returns-in-Deactivate-clause-cause : goal.returns-in-Deactivate-clause-cause
-returns-in-Deactivate-clause-cause g c = rw c.in-Deactivate.is c.deactivate.ensures.cause
+pub returns-in-Deactivate-clause-fails : goal.returns-in-Deactivate-clause-fails
+returns-in-Deactivate-clause-fails g c = if_fails _ _ _ c.deactivate.result (rw c.in-Deactivate.is c.deactivate.ensures.cause) c.deactivate.ensures.counted c.deactivate.ensures.evidence_seen
 
-pub returns-in-Kill-clause-cause : goal.returns-in-Kill-clause-cause
-returns-in-Kill-clause-cause g c = rw c.in-Kill.is c.kill.ensures.cause
+pub returns-in-Kill-clause-fails : goal.returns-in-Kill-clause-fails
+returns-in-Kill-clause-fails g c = if_fails _ _ _ c.kill.result (rw c.in-Kill.is c.kill.ensures.cause) c.kill.ensures.counted c.kill.ensures.evidence_seen
 
-pub returns-in-ForceOut-clause-cause : goal.returns-in-ForceOut-clause-cause
-returns-in-ForceOut-clause-cause g c = rw c.in-ForceOut.is c.force_out.ensures.cause
+pub returns-in-ForceOut-clause-fails : goal.returns-in-ForceOut-clause-fails
+returns-in-ForceOut-clause-fails g c = if_fails _ _ _ c.force_out.result (rw c.in-ForceOut.is c.force_out.ensures.cause) c.force_out.ensures.counted c.force_out.ensures.evidence_seen
 
 -- ---- The initial state.
 
-pub returns-in-MakeSpace-clause-keeps_to : goal.returns-in-MakeSpace-clause-keeps_to
-returns-in-MakeSpace-clause-keeps_to g c = λ o k up.
-    let old = c.args.self.now.core in
-    moving_ahead (state old) (state c.make_space.new.core) c.make_space.result old.filer.swapper.accepted c.make_space.ensures.moves o c.args.self.now.volume.root k up
-
-pub returns-in-MakeSpace-clause-reasons : goal.returns-in-MakeSpace-clause-reasons
-returns-in-MakeSpace-clause-reasons g c = λ o k up.
+pub returns-in-MakeSpace-clause-accounts : goal.returns-in-MakeSpace-clause-accounts
+returns-in-MakeSpace-clause-accounts g c = λ o k n.
     let old = c.args.self.now.core in
     let count = old.intervals in
-    moving_reasons (MakeSpaceHalts c.in-MakeSpace.parent c.in-MakeSpace.pages c.in-MakeSpace.first count) (make_space_reasons c.in-MakeSpace.parent c.in-MakeSpace.pages c.in-MakeSpace.first count)
-    (state old) (state c.make_space.new.core) c.make_space.result old.filer.swapper.accepted c.make_space.ensures.moves c.make_space.ensures.cause o k
+    record {
+      keeps_to = (moving_ahead (state old) (state c.make_space.new.core) c.make_space.result (accepted old.filer) c.make_space.ensures.moves o c.args.self.now.volume.root k n);
+      reasons = (moving_reasons (MakeSpaceHalts c.in-MakeSpace.parent c.in-MakeSpace.pages c.in-MakeSpace.first count) (make_space_reasons c.in-MakeSpace.parent c.in-MakeSpace.pages c.in-MakeSpace.first count)
+          (state old) (state c.make_space.new.core) c.make_space.result (accepted old.filer) c.make_space.ensures.moves c.make_space.ensures.cause o k);
+      sees = (λ seen. let old = c.args.self.now.core in
+          let count = old.intervals in
+          none_or_blameless o old c.make_space.new.core c.make_space.ensures.moves.goes.makes c.make_space.result c.make_space.ensures.sees c.make_space.ensures.right
+          (fails_missing_page (MakeSpaceHalts c.in-MakeSpace.parent c.in-MakeSpace.pages c.in-MakeSpace.first count) no_page (make_space_misses c.in-MakeSpace.parent c.in-MakeSpace.pages c.in-MakeSpace.first count no_page) (state old) (state c.make_space.new.core) c.make_space.result c.make_space.ensures.cause) seen);
+    }
 
-pub returns-in-RemoveSpace-clause-keeps_to : goal.returns-in-RemoveSpace-clause-keeps_to
-returns-in-RemoveSpace-clause-keeps_to g c = λ o k up.
-    let old = c.args.self.now.core in
-    moving_ahead (state old) (state c.remove_space.new.core) c.remove_space.result old.filer.swapper.accepted c.remove_space.ensures.moves o c.args.self.now.volume.root k up
-
-pub returns-in-RemoveSpace-clause-reasons : goal.returns-in-RemoveSpace-clause-reasons
-returns-in-RemoveSpace-clause-reasons g c = λ o k up.
-    let old = c.args.self.now.core in
-    let count = old.intervals in
-    moving_reasons (RemoveSpaceHalts c.in-RemoveSpace.space count) (remove_space_reasons c.in-RemoveSpace.space count)
-    (state old) (state c.remove_space.new.core) c.remove_space.result old.filer.swapper.accepted c.remove_space.ensures.moves c.remove_space.ensures.cause o k
-
-pub returns-in-Place-clause-keeps_to : goal.returns-in-Place-clause-keeps_to
-returns-in-Place-clause-keeps_to g c = λ o k up.
-    let old = c.args.self.now.core in
-    moving_ahead (state old) (state c.place.new.core) c.place.result old.filer.swapper.accepted c.place.ensures.moves o c.args.self.now.volume.root k up
-
-pub returns-in-Place-clause-reasons : goal.returns-in-Place-clause-reasons
-returns-in-Place-clause-reasons g c = λ o k up.
+pub returns-in-RemoveSpace-clause-accounts : goal.returns-in-RemoveSpace-clause-accounts
+returns-in-RemoveSpace-clause-accounts g c = λ o k n.
     let old = c.args.self.now.core in
     let count = old.intervals in
-    moving_reasons (PlaceHalts c.in-Place.page count) (place_reasons c.in-Place.page count)
-    (state old) (state c.place.new.core) c.place.result old.filer.swapper.accepted c.place.ensures.moves c.place.ensures.cause o k
+    record {
+      keeps_to = (moving_ahead (state old) (state c.remove_space.new.core) c.remove_space.result (accepted old.filer) c.remove_space.ensures.moves o c.args.self.now.volume.root k n);
+      reasons = (moving_reasons (RemoveSpaceHalts c.in-RemoveSpace.space count) (remove_space_reasons c.in-RemoveSpace.space count)
+          (state old) (state c.remove_space.new.core) c.remove_space.result (accepted old.filer) c.remove_space.ensures.moves c.remove_space.ensures.cause o k);
+      sees = (λ seen. let old = c.args.self.now.core in
+          let count = old.intervals in
+          none_or_blameless o old c.remove_space.new.core c.remove_space.ensures.moves.goes.makes c.remove_space.result c.remove_space.ensures.sees c.remove_space.ensures.right
+          (fails_missing_page (RemoveSpaceHalts c.in-RemoveSpace.space count) no_page (remove_space_misses c.in-RemoveSpace.space count no_page) (state old) (state c.remove_space.new.core) c.remove_space.result c.remove_space.ensures.cause) seen);
+    }
 
-pub returns-in-Units-clause-keeps_to : goal.returns-in-Units-clause-keeps_to
-returns-in-Units-clause-keeps_to g c = λ o k up.
-    let old = c.args.self.now.core in
-    moving_ahead (state old) (state c.set_units.new.core) c.set_units.result old.filer.swapper.accepted c.set_units.ensures.moves o c.args.self.now.volume.root k up
-
-pub returns-in-Units-clause-reasons : goal.returns-in-Units-clause-reasons
-returns-in-Units-clause-reasons g c = λ o k up.
-    let old = c.args.self.now.core in
-    let count = old.intervals in
-    moving_reasons (ChangeHalts count) (change_reasons count) (state old) (state c.set_units.new.core) c.set_units.result old.filer.swapper.accepted c.set_units.ensures.moves c.set_units.ensures.cause o k
-
-pub returns-in-Map-clause-keeps_to : goal.returns-in-Map-clause-keeps_to
-returns-in-Map-clause-keeps_to g c = λ o k up.
-    let old = c.args.self.now.core in
-    moving_ahead (state old) (state c.map.new.core) c.map.result old.filer.swapper.accepted c.map.ensures.moves o c.args.self.now.volume.root k up
-
-pub returns-in-Map-clause-reasons : goal.returns-in-Map-clause-reasons
-returns-in-Map-clause-reasons g c = λ o k up.
+pub returns-in-Place-clause-accounts : goal.returns-in-Place-clause-accounts
+returns-in-Place-clause-accounts g c = λ o k n.
     let old = c.args.self.now.core in
     let count = old.intervals in
-    moving_reasons (MapFileHalts c.in-Map.space c.in-Map.id count) (map_file_reasons c.in-Map.space c.in-Map.id count)
-    (state old) (state c.map.new.core) c.map.result old.filer.swapper.accepted c.map.ensures.moves c.map.ensures.cause o k
+    record {
+      keeps_to = (moving_ahead (state old) (state c.place.new.core) c.place.result (accepted old.filer) c.place.ensures.moves o c.args.self.now.volume.root k n);
+      reasons = (moving_reasons (PlaceHalts c.in-Place.page count) (place_reasons c.in-Place.page count)
+          (state old) (state c.place.new.core) c.place.result (accepted old.filer) c.place.ensures.moves c.place.ensures.cause o k);
+      sees = (λ seen. let old = c.args.self.now.core in
+          let count = old.intervals in
+          none_or_blameless o old c.place.new.core c.place.ensures.moves.goes.makes c.place.result c.place.ensures.sees c.place.ensures.right
+          (fails_missing_page (PlaceHalts c.in-Place.page count) no_page (place_misses c.in-Place.page count no_page) (state old) (state c.place.new.core) c.place.result c.place.ensures.cause) seen);
+    }
 
-pub returns-in-Unmap-clause-keeps_to : goal.returns-in-Unmap-clause-keeps_to
-returns-in-Unmap-clause-keeps_to g c = λ o k up.
-    not_older_on c.unmap.result o (state c.unmap.new.self.core) c.args.self.now.volume.root c.unmap.new.self.volume.root up c.unmap.ensures.monotone (c.unmap.ensures.keeps_to o k)
-
-pub returns-in-Unmap-clause-reasons : goal.returns-in-Unmap-clause-reasons
-returns-in-Unmap-clause-reasons g c = λ o k up. c.unmap.ensures.reasons o k
-
-pub returns-in-Protect-clause-keeps_to : goal.returns-in-Protect-clause-keeps_to
-returns-in-Protect-clause-keeps_to g c = λ o k up.
-    let old = c.args.self.now.core in
-    moving_ahead (state old) (state c.protect.new.core) c.protect.result old.filer.swapper.accepted c.protect.ensures.moves o c.args.self.now.volume.root k up
-
-pub returns-in-Protect-clause-reasons : goal.returns-in-Protect-clause-reasons
-returns-in-Protect-clause-reasons g c = λ o k up.
+pub returns-in-Units-clause-accounts : goal.returns-in-Units-clause-accounts
+returns-in-Units-clause-accounts g c = λ o k n.
     let old = c.args.self.now.core in
     let count = old.intervals in
-    moving_reasons (ProtectHalts c.in-Protect.space c.in-Protect.writable count) (protect_reasons c.in-Protect.space c.in-Protect.writable count)
-    (state old) (state c.protect.new.core) c.protect.result old.filer.swapper.accepted c.protect.ensures.moves c.protect.ensures.cause o k
+    record {
+      keeps_to = (moving_ahead (state old) (state c.set_units.new.core) c.set_units.result (accepted old.filer) c.set_units.ensures.moves o c.args.self.now.volume.root k n);
+      reasons = (moving_reasons (ChangeHalts count) (change_reasons count) (state old) (state c.set_units.new.core) c.set_units.result (accepted old.filer) c.set_units.ensures.moves c.set_units.ensures.cause o k);
+      sees = (λ seen. let old = c.args.self.now.core in
+          let count = old.intervals in
+          none_or_blameless o old c.set_units.new.core c.set_units.ensures.moves.goes.makes c.set_units.result c.set_units.ensures.sees c.set_units.ensures.right
+          (fails_missing_page (ChangeHalts count) no_page (change_misses count no_page) (state old) (state c.set_units.new.core) c.set_units.result c.set_units.ensures.cause) seen);
+    }
 
-pub returns-in-Load-clause-keeps_to : goal.returns-in-Load-clause-keeps_to
-returns-in-Load-clause-keeps_to g c = λ o k up.
-    let old = c.args.self.now.core in
-    moving_ahead (state old) (state c.load.new.core) c.load.result old.filer.swapper.accepted c.load.ensures.moves o c.args.self.now.volume.root k up
-
-pub returns-in-Load-clause-reasons : goal.returns-in-Load-clause-reasons
-returns-in-Load-clause-reasons g c = λ o k up.
-    let old = c.args.self.now.core in
-    let count = old.intervals in
-    touching_reasons (λ v. BreaksFor v count c.in-Load.address c.in-Load.count) (state old) (state c.load.new.core) c.load.result old.filer.swapper.accepted c.load.ensures.moves c.load.ensures.cause o k
-
-pub returns-in-Store-clause-keeps_to : goal.returns-in-Store-clause-keeps_to
-returns-in-Store-clause-keeps_to g c = λ o k up.
-    let old = c.args.self.now.core in
-    moving_ahead (state old) (state c.store.new.core) c.store.result old.filer.swapper.accepted c.store.ensures.moves o c.args.self.now.volume.root k up
-
-pub returns-in-Store-clause-reasons : goal.returns-in-Store-clause-reasons
-returns-in-Store-clause-reasons g c = λ o k up.
+pub returns-in-Map-clause-accounts : goal.returns-in-Map-clause-accounts
+returns-in-Map-clause-accounts g c = λ o k n.
     let old = c.args.self.now.core in
     let count = old.intervals in
-    touching_reasons (λ v. BreaksFor v count c.in-Store.address (length c.as_slice.result.now))
-    (state old) (state c.store.new.core) c.store.result old.filer.swapper.accepted c.store.ensures.moves c.store.ensures.cause o k
+    record {
+      keeps_to = (moving_ahead (state old) (state c.map.new.core) c.map.result (accepted old.filer) c.map.ensures.moves o c.args.self.now.volume.root k n);
+      reasons = (moving_reasons (MapFileHalts c.in-Map.space c.in-Map.id count) (map_file_reasons c.in-Map.space c.in-Map.id count)
+          (state old) (state c.map.new.core) c.map.result (accepted old.filer) c.map.ensures.moves c.map.ensures.cause o k);
+      sees = (λ seen. let old = c.args.self.now.core in
+          let count = old.intervals in
+          let reached = c.map.ensures.found seen.0 k.1.0.memory k.0 seen.1.0 k.1.0.stands k.1.0.map k.1.0.kept in
+          map_or_blameless o old c.map.new.core c.map.ensures.moves.goes.makes c.in-Map.space c.in-Map.id c.in-Map.page c.map.result c.map.ensures.sees seen
+          (ok_wider c.map.result (λ reply. reply ≡ answer.Done → ReachesOver seen.0 c.in-Map.space c.in-Map.id c.in-Map.page k.0) (λ reply. reply ≡ answer.Done → (last : ℕ) → IsLastFrom seen.0 c.in-Map.space c.in-Map.page last → WasBelow o (state old).disk c.in-Map.id last)
+          (λ reply reaches is. reached_below k.1.0 seen.0 c.in-Map.space c.in-Map.id c.in-Map.page (reaches is)) reached)
+          c.map.ensures.right (fails_missing_page (MapFileHalts c.in-Map.space c.in-Map.id count) no_page (map_file_misses c.in-Map.space c.in-Map.id count no_page) (state old) (state c.map.new.core) c.map.result c.map.ensures.cause));
+    }
 
-pub returns-in-Activate-clause-keeps_to : goal.returns-in-Activate-clause-keeps_to
-returns-in-Activate-clause-keeps_to g c = λ o k up.
-    let old = c.args.self.now.core in
-    moving_ahead (state old) (state c.activate.new.core) c.activate.result old.filer.swapper.accepted c.activate.ensures.moves o c.args.self.now.volume.root k up
+pub returns-in-Unmap-clause-accounts : goal.returns-in-Unmap-clause-accounts
+returns-in-Unmap-clause-accounts g c = λ o k n. record {
+  keeps_to = (not_older_on c.unmap.result o (state c.unmap.new.self.core) c.args.self.now.volume.root c.unmap.new.self.volume.root n c.unmap.ensures.stays.monotone ((c.unmap.ensures.accounts o k).keeps_to));
+  reasons = ((c.unmap.ensures.accounts o k).reasons);
+  sees = (λ seen. (c.unmap.ensures.accounts o k).sees seen);
+}
 
-pub returns-in-Activate-clause-reasons : goal.returns-in-Activate-clause-reasons
-returns-in-Activate-clause-reasons g c = λ o k up.
-    let old = c.args.self.now.core in
-    let count = old.intervals in
-    touching_reasons (λ v. BreaksRange v count c.in-Activate.space)
-    (state old) (state c.activate.new.core) c.activate.result old.filer.swapper.accepted c.activate.ensures.moves c.activate.ensures.cause o k
-
-pub returns-in-Deactivate-clause-keeps_to : goal.returns-in-Deactivate-clause-keeps_to
-returns-in-Deactivate-clause-keeps_to g c = λ o k up.
-    let old = c.args.self.now.core in
-    moving_ahead (state old) (state c.deactivate.new.core) c.deactivate.result old.filer.swapper.accepted c.deactivate.ensures.moves o c.args.self.now.volume.root k up
-
-pub returns-in-Deactivate-clause-reasons : goal.returns-in-Deactivate-clause-reasons
-returns-in-Deactivate-clause-reasons g c = λ o k up.
-    let old = c.args.self.now.core in
-    let count = old.intervals in
-    reaching_reasons (λ v. BreaksRange v count c.in-Deactivate.space)
-    (state old) (state c.deactivate.new.core) c.deactivate.result old.filer.swapper.accepted c.deactivate.ensures.moves c.deactivate.ensures.cause o k
-
-pub returns-in-Kill-clause-keeps_to : goal.returns-in-Kill-clause-keeps_to
-returns-in-Kill-clause-keeps_to g c = λ o k up.
-    let old = c.args.self.now.core in
-    moving_ahead (state old) (state c.kill.new.core) c.kill.result old.filer.swapper.accepted c.kill.ensures.moves o c.args.self.now.volume.root k up
-
-pub returns-in-Kill-clause-reasons : goal.returns-in-Kill-clause-reasons
-returns-in-Kill-clause-reasons g c = λ o k up.
+pub returns-in-Protect-clause-accounts : goal.returns-in-Protect-clause-accounts
+returns-in-Protect-clause-accounts g c = λ o k n.
     let old = c.args.self.now.core in
     let count = old.intervals in
-    reaching_reasons (λ v. BreaksRange v count c.in-Kill.space) (state old) (state c.kill.new.core) c.kill.result old.filer.swapper.accepted c.kill.ensures.moves c.kill.ensures.cause o k
+    record {
+      keeps_to = (moving_ahead (state old) (state c.protect.new.core) c.protect.result (accepted old.filer) c.protect.ensures.moves o c.args.self.now.volume.root k n);
+      reasons = (moving_reasons (ProtectHalts c.in-Protect.space c.in-Protect.writable count) (protect_reasons c.in-Protect.space c.in-Protect.writable count)
+          (state old) (state c.protect.new.core) c.protect.result (accepted old.filer) c.protect.ensures.moves c.protect.ensures.cause o k);
+      sees = (λ seen. let old = c.args.self.now.core in
+          let count = old.intervals in
+          none_or_blameless o old c.protect.new.core c.protect.ensures.moves.goes.makes c.protect.result c.protect.ensures.sees c.protect.ensures.right
+          (fails_missing_page (ProtectHalts c.in-Protect.space c.in-Protect.writable count) no_page (protect_misses c.in-Protect.space c.in-Protect.writable count no_page) (state old) (state c.protect.new.core) c.protect.result c.protect.ensures.cause) seen);
+    }
 
-pub returns-in-ForceOut-clause-keeps_to : goal.returns-in-ForceOut-clause-keeps_to
-returns-in-ForceOut-clause-keeps_to g c = λ o k up.
-    let old = c.args.self.now.core in
-    moving_ahead (state old) (state c.force_out.new.core) c.force_out.result old.filer.swapper.accepted c.force_out.ensures.moves o c.args.self.now.volume.root k up
-
-pub returns-in-ForceOut-clause-reasons : goal.returns-in-ForceOut-clause-reasons
-returns-in-ForceOut-clause-reasons g c = λ o k up.
+pub returns-in-Load-clause-accounts : goal.returns-in-Load-clause-accounts
+returns-in-Load-clause-accounts g c = λ o k n.
     let old = c.args.self.now.core in
     let count = old.intervals in
-    reaching_reasons (λ v. BreaksRange v count c.in-ForceOut.space)
-    (state old) (state c.force_out.new.core) c.force_out.result old.filer.swapper.accepted c.force_out.ensures.moves c.force_out.ensures.cause o k
+    record {
+      keeps_to = (moving_ahead (state old) (state c.load.new.core) c.load.result (accepted old.filer) c.load.ensures.moves o c.args.self.now.volume.root k n);
+      reasons = (touching_reasons (λ v. BreaksFor v count c.in-Load.address c.in-Load.count) (state old) (state c.load.new.core) c.load.result (accepted old.filer) c.load.ensures.moves c.load.ensures.cause o k);
+      sees = (λ seen. let old = c.args.self.now.core in
+          still_or_blameless o old c.load.new.core c.load.ensures.moves.goes.makes c.load.result c.load.ensures.sees c.load.ensures.right
+          (shown_units seen.0 c.in-Load.address c.in-Load.count) (c.load.ensures.missing seen.0 seen.1.0) (units_on (WasBelow o (state old).disk) (have_lower o (state old).disk) seen.0 seen.1.1 c.in-Load.address c.in-Load.count) seen);
+    }
+
+pub returns-in-Store-clause-accounts : goal.returns-in-Store-clause-accounts
+returns-in-Store-clause-accounts g c = λ o k n.
+    let old = c.args.self.now.core in
+    let count = old.intervals in
+    record {
+      keeps_to = (moving_ahead (state old) (state c.store.new.core) c.store.result (accepted old.filer) c.store.ensures.moves o c.args.self.now.volume.root k n);
+      reasons = (touching_reasons (λ v. BreaksFor v count c.in-Store.address (length c.as_slice.result.now))
+          (state old) (state c.store.new.core) c.store.result (accepted old.filer) c.store.ensures.moves c.store.ensures.cause o k);
+      sees = (λ seen. let old = c.args.self.now.core in
+          still_or_blameless o old c.store.new.core c.store.ensures.moves.goes.makes c.store.result c.store.ensures.sees c.store.ensures.right
+          (shown_units seen.0 c.in-Store.address (length c.as_slice.result.now)) (c.store.ensures.missing seen.0 seen.1.0) (units_on (WasBelow o (state old).disk) (have_lower o (state old).disk) seen.0 seen.1.1 c.in-Store.address (length c.as_slice.result.now)) seen);
+    }
+
+pub returns-in-Activate-clause-accounts : goal.returns-in-Activate-clause-accounts
+returns-in-Activate-clause-accounts g c = λ o k n.
+    let old = c.args.self.now.core in
+    let count = old.intervals in
+    record {
+      keeps_to = (moving_ahead (state old) (state c.activate.new.core) c.activate.result (accepted old.filer) c.activate.ensures.moves o c.args.self.now.volume.root k n);
+      reasons = (touching_reasons (λ v. BreaksRange v count c.in-Activate.space)
+          (state old) (state c.activate.new.core) c.activate.result (accepted old.filer) c.activate.ensures.moves c.activate.ensures.cause o k);
+      sees = (λ seen. let old = c.args.self.now.core in
+          still_or_blameless o old c.activate.new.core c.activate.ensures.moves.goes.makes c.activate.result c.activate.ensures.sees c.activate.ensures.right
+          (space_units seen.0 c.in-Activate.space) (c.activate.ensures.missing seen.0 seen.1.0) (space_on (WasBelow o (state old).disk) (have_lower o (state old).disk) seen.0 seen.1.1 c.in-Activate.space) seen);
+    }
+
+pub returns-in-Deactivate-clause-accounts : goal.returns-in-Deactivate-clause-accounts
+returns-in-Deactivate-clause-accounts g c = λ o k n.
+    let old = c.args.self.now.core in
+    let count = old.intervals in
+    record {
+      keeps_to = (moving_ahead (state old) (state c.deactivate.new.core) c.deactivate.result (accepted old.filer) c.deactivate.ensures.moves o c.args.self.now.volume.root k n);
+      reasons = (reaching_reasons (λ v. BreaksRange v count c.in-Deactivate.space)
+          (state old) (state c.deactivate.new.core) c.deactivate.result (accepted old.filer) c.deactivate.ensures.moves c.deactivate.ensures.cause o k);
+      sees = (λ seen. let old = c.args.self.now.core in
+          let count = old.intervals in
+          none_or_blameless o old c.deactivate.new.core c.deactivate.ensures.moves.goes.makes c.deactivate.result c.deactivate.ensures.sees c.deactivate.ensures.right
+          (fails_missing_page (λ v w e. ReachHalts (BreaksRange v count c.in-Deactivate.space) v w e) no_page (range_misses c.in-Deactivate.space count no_page) (state old) (state c.deactivate.new.core) c.deactivate.result c.deactivate.ensures.cause) seen);
+    }
+
+pub returns-in-Kill-clause-accounts : goal.returns-in-Kill-clause-accounts
+returns-in-Kill-clause-accounts g c = λ o k n.
+    let old = c.args.self.now.core in
+    let count = old.intervals in
+    record {
+      keeps_to = (moving_ahead (state old) (state c.kill.new.core) c.kill.result (accepted old.filer) c.kill.ensures.moves o c.args.self.now.volume.root k n);
+      reasons = (reaching_reasons (λ v. BreaksRange v count c.in-Kill.space) (state old) (state c.kill.new.core) c.kill.result (accepted old.filer) c.kill.ensures.moves c.kill.ensures.cause o k);
+      sees = (λ seen. let old = c.args.self.now.core in
+          let count = old.intervals in
+          none_or_blameless o old c.kill.new.core c.kill.ensures.moves.goes.makes c.kill.result c.kill.ensures.sees c.kill.ensures.right
+          (fails_missing_page (λ v w e. ReachHalts (BreaksRange v count c.in-Kill.space) v w e) no_page (range_misses c.in-Kill.space count no_page) (state old) (state c.kill.new.core) c.kill.result c.kill.ensures.cause) seen);
+    }
+
+pub returns-in-ForceOut-clause-accounts : goal.returns-in-ForceOut-clause-accounts
+returns-in-ForceOut-clause-accounts g c = λ o k n.
+    let old = c.args.self.now.core in
+    let count = old.intervals in
+    record {
+      keeps_to = (moving_ahead (state old) (state c.force_out.new.core) c.force_out.result (accepted old.filer) c.force_out.ensures.moves o c.args.self.now.volume.root k n);
+      reasons = (reaching_reasons (λ v. BreaksRange v count c.in-ForceOut.space)
+          (state old) (state c.force_out.new.core) c.force_out.result (accepted old.filer) c.force_out.ensures.moves c.force_out.ensures.cause o k);
+      sees = (λ seen. let old = c.args.self.now.core in
+          let count = old.intervals in
+          none_or_blameless o old c.force_out.new.core c.force_out.ensures.moves.goes.makes c.force_out.result c.force_out.ensures.sees c.force_out.ensures.right
+          (fails_missing_page (λ v w e. ReachHalts (BreaksRange v count c.in-ForceOut.space) v w e) no_page (range_misses c.in-ForceOut.space count no_page) (state old) (state c.force_out.new.core) c.force_out.result c.force_out.ensures.cause) seen);
+    }
 
 -- ---- Which pages are missing.
 
@@ -742,89 +767,46 @@ returns-in-ForceOut-clause-missing g c = λ ss sees.
 
 -- ---- The space tables are seen.
 
-pub returns-in-MakeSpace-clause-sees : goal.returns-in-MakeSpace-clause-sees
-returns-in-MakeSpace-clause-sees g c = λ o k up seen.
-    let old = c.args.self.now.core in
-    let count = old.intervals in
-    none_or_blameless o old c.make_space.new.core c.make_space.ensures.moves.goes.makes c.make_space.result c.make_space.ensures.sees c.make_space.ensures.right
-    (fails_missing_page (MakeSpaceHalts c.in-MakeSpace.parent c.in-MakeSpace.pages c.in-MakeSpace.first count) no_page (make_space_misses c.in-MakeSpace.parent c.in-MakeSpace.pages c.in-MakeSpace.first count no_page) (state old) (state c.make_space.new.core) c.make_space.result c.make_space.ensures.cause) seen
+-- Labels that are not written.
 
-pub returns-in-RemoveSpace-clause-sees : goal.returns-in-RemoveSpace-clause-sees
-returns-in-RemoveSpace-clause-sees g c = λ o k up seen.
-    let old = c.args.self.now.core in
-    let count = old.intervals in
-    none_or_blameless o old c.remove_space.new.core c.remove_space.ensures.moves.goes.makes c.remove_space.result c.remove_space.ensures.sees c.remove_space.ensures.right
-    (fails_missing_page (RemoveSpaceHalts c.in-RemoveSpace.space count) no_page (remove_space_misses c.in-RemoveSpace.space count no_page) (state old) (state c.remove_space.new.core) c.remove_space.result c.remove_space.ensures.cause) seen
+pub returns-in-MakeSpace-clause-unlabelled : goal.returns-in-MakeSpace-clause-unlabelled
+returns-in-MakeSpace-clause-unlabelled g c = λ keeps. pages_alone c.make_space.ensures.moves.goes.makes
 
-pub returns-in-Place-clause-sees : goal.returns-in-Place-clause-sees
-returns-in-Place-clause-sees g c = λ o k up seen.
-    let old = c.args.self.now.core in
-    let count = old.intervals in
-    none_or_blameless o old c.place.new.core c.place.ensures.moves.goes.makes c.place.result c.place.ensures.sees c.place.ensures.right
-    (fails_missing_page (PlaceHalts c.in-Place.page count) no_page (place_misses c.in-Place.page count no_page) (state old) (state c.place.new.core) c.place.result c.place.ensures.cause) seen
+pub returns-in-RemoveSpace-clause-unlabelled : goal.returns-in-RemoveSpace-clause-unlabelled
+returns-in-RemoveSpace-clause-unlabelled g c = λ keeps. pages_alone c.remove_space.ensures.moves.goes.makes
 
-pub returns-in-Units-clause-sees : goal.returns-in-Units-clause-sees
-returns-in-Units-clause-sees g c = λ o k up seen.
-    let old = c.args.self.now.core in
-    let count = old.intervals in
-    none_or_blameless o old c.set_units.new.core c.set_units.ensures.moves.goes.makes c.set_units.result c.set_units.ensures.sees c.set_units.ensures.right
-    (fails_missing_page (ChangeHalts count) no_page (change_misses count no_page) (state old) (state c.set_units.new.core) c.set_units.result c.set_units.ensures.cause) seen
+pub returns-in-Place-clause-unlabelled : goal.returns-in-Place-clause-unlabelled
+returns-in-Place-clause-unlabelled g c = λ keeps. pages_alone c.place.ensures.moves.goes.makes
 
-pub returns-in-Map-clause-sees : goal.returns-in-Map-clause-sees
-returns-in-Map-clause-sees g c = λ o k up seen.
-    let old = c.args.self.now.core in
-    let count = old.intervals in
-    let reached = c.map.ensures.found seen.0 k.1.0.memory k.0 seen.1.0 k.1.0.stands k.1.0.map k.1.0.kept in
-    map_or_blameless o old c.map.new.core c.map.ensures.moves.goes.makes c.in-Map.space c.in-Map.id c.in-Map.page c.map.result c.map.ensures.sees seen
-    (ok_wider c.map.result (λ reply. reply ≡ answer.Done → ReachesOver seen.0 c.in-Map.space c.in-Map.id c.in-Map.page k.0) (λ reply. reply ≡ answer.Done → (last : ℕ) → IsLastFrom seen.0 c.in-Map.space c.in-Map.page last → WasBelow o (g.D.Disk.state old.filer.swapper.disk) c.in-Map.id last)
-    (λ reply reaches is. reached_below k.1.0 seen.0 c.in-Map.space c.in-Map.id c.in-Map.page (reaches is)) reached)
-    c.map.ensures.right (fails_missing_page (MapFileHalts c.in-Map.space c.in-Map.id count) no_page (map_file_misses c.in-Map.space c.in-Map.id count no_page) (state old) (state c.map.new.core) c.map.result c.map.ensures.cause)
+pub returns-in-Units-clause-unlabelled : goal.returns-in-Units-clause-unlabelled
+returns-in-Units-clause-unlabelled g c = λ keeps. pages_alone c.set_units.ensures.moves.goes.makes
 
-pub returns-in-Unmap-clause-sees : goal.returns-in-Unmap-clause-sees
-returns-in-Unmap-clause-sees g c = λ o k up seen. c.unmap.ensures.sees o k seen
+pub returns-in-Map-clause-unlabelled : goal.returns-in-Map-clause-unlabelled
+returns-in-Map-clause-unlabelled g c = λ keeps. pages_alone c.map.ensures.moves.goes.makes
 
-pub returns-in-Protect-clause-sees : goal.returns-in-Protect-clause-sees
-returns-in-Protect-clause-sees g c = λ o k up seen.
-    let old = c.args.self.now.core in
-    let count = old.intervals in
-    none_or_blameless o old c.protect.new.core c.protect.ensures.moves.goes.makes c.protect.result c.protect.ensures.sees c.protect.ensures.right
-    (fails_missing_page (ProtectHalts c.in-Protect.space c.in-Protect.writable count) no_page (protect_misses c.in-Protect.space c.in-Protect.writable count no_page) (state old) (state c.protect.new.core) c.protect.result c.protect.ensures.cause) seen
+pub returns-in-Protect-clause-unlabelled : goal.returns-in-Protect-clause-unlabelled
+returns-in-Protect-clause-unlabelled g c = λ keeps. pages_alone c.protect.ensures.moves.goes.makes
 
-pub returns-in-Load-clause-sees : goal.returns-in-Load-clause-sees
-returns-in-Load-clause-sees g c = λ o k up seen.
-    let old = c.args.self.now.core in
-    still_or_blameless o old c.load.new.core c.load.ensures.moves.goes.makes c.load.result c.load.ensures.sees c.load.ensures.right
-    (shown_units seen.0 c.in-Load.address c.in-Load.count) (c.load.ensures.missing seen.0 seen.1.0) (units_on (WasBelow o (g.D.Disk.state old.filer.swapper.disk)) (have_lower o (g.D.Disk.state old.filer.swapper.disk)) seen.0 seen.1.1 c.in-Load.address c.in-Load.count) seen
+pub returns-in-Load-clause-unlabelled : goal.returns-in-Load-clause-unlabelled
+returns-in-Load-clause-unlabelled g c = λ keeps. pages_alone c.load.ensures.moves.goes.makes
 
-pub returns-in-Store-clause-sees : goal.returns-in-Store-clause-sees
-returns-in-Store-clause-sees g c = λ o k up seen.
-    let old = c.args.self.now.core in
-    still_or_blameless o old c.store.new.core c.store.ensures.moves.goes.makes c.store.result c.store.ensures.sees c.store.ensures.right
-    (shown_units seen.0 c.in-Store.address (length c.as_slice.result.now)) (c.store.ensures.missing seen.0 seen.1.0) (units_on (WasBelow o (g.D.Disk.state old.filer.swapper.disk)) (have_lower o (g.D.Disk.state old.filer.swapper.disk)) seen.0 seen.1.1 c.in-Store.address (length c.as_slice.result.now)) seen
+pub returns-in-Store-clause-unlabelled : goal.returns-in-Store-clause-unlabelled
+returns-in-Store-clause-unlabelled g c = λ keeps. pages_alone c.store.ensures.moves.goes.makes
 
-pub returns-in-Activate-clause-sees : goal.returns-in-Activate-clause-sees
-returns-in-Activate-clause-sees g c = λ o k up seen.
-    let old = c.args.self.now.core in
-    still_or_blameless o old c.activate.new.core c.activate.ensures.moves.goes.makes c.activate.result c.activate.ensures.sees c.activate.ensures.right
-    (space_units seen.0 c.in-Activate.space) (c.activate.ensures.missing seen.0 seen.1.0) (space_on (WasBelow o (g.D.Disk.state old.filer.swapper.disk)) (have_lower o (g.D.Disk.state old.filer.swapper.disk)) seen.0 seen.1.1 c.in-Activate.space) seen
+pub returns-in-Activate-clause-unlabelled : goal.returns-in-Activate-clause-unlabelled
+returns-in-Activate-clause-unlabelled g c = λ keeps. pages_alone c.activate.ensures.moves.goes.makes
 
-pub returns-in-Deactivate-clause-sees : goal.returns-in-Deactivate-clause-sees
-returns-in-Deactivate-clause-sees g c = λ o k up seen.
-    let old = c.args.self.now.core in
-    let count = old.intervals in
-    none_or_blameless o old c.deactivate.new.core c.deactivate.ensures.moves.goes.makes c.deactivate.result c.deactivate.ensures.sees c.deactivate.ensures.right
-    (fails_missing_page (λ v w e. ReachHalts (BreaksRange v count c.in-Deactivate.space) v w e) no_page (range_misses c.in-Deactivate.space count no_page) (state old) (state c.deactivate.new.core) c.deactivate.result c.deactivate.ensures.cause) seen
+pub returns-in-Deactivate-clause-unlabelled : goal.returns-in-Deactivate-clause-unlabelled
+returns-in-Deactivate-clause-unlabelled g c = λ keeps. pages_alone c.deactivate.ensures.moves.goes.makes
 
-pub returns-in-Kill-clause-sees : goal.returns-in-Kill-clause-sees
-returns-in-Kill-clause-sees g c = λ o k up seen.
-    let old = c.args.self.now.core in
-    let count = old.intervals in
-    none_or_blameless o old c.kill.new.core c.kill.ensures.moves.goes.makes c.kill.result c.kill.ensures.sees c.kill.ensures.right
-    (fails_missing_page (λ v w e. ReachHalts (BreaksRange v count c.in-Kill.space) v w e) no_page (range_misses c.in-Kill.space count no_page) (state old) (state c.kill.new.core) c.kill.result c.kill.ensures.cause) seen
+pub returns-in-Kill-clause-unlabelled : goal.returns-in-Kill-clause-unlabelled
+returns-in-Kill-clause-unlabelled g c = λ keeps. pages_alone c.kill.ensures.moves.goes.makes
 
-pub returns-in-ForceOut-clause-sees : goal.returns-in-ForceOut-clause-sees
-returns-in-ForceOut-clause-sees g c = λ o k up seen.
-    let old = c.args.self.now.core in
-    let count = old.intervals in
-    none_or_blameless o old c.force_out.new.core c.force_out.ensures.moves.goes.makes c.force_out.result c.force_out.ensures.sees c.force_out.ensures.right
-    (fails_missing_page (λ v w e. ReachHalts (BreaksRange v count c.in-ForceOut.space) v w e) no_page (range_misses c.in-ForceOut.space count no_page) (state old) (state c.force_out.new.core) c.force_out.result c.force_out.ensures.cause) seen
+pub returns-in-ForceOut-clause-unlabelled : goal.returns-in-ForceOut-clause-unlabelled
+returns-in-ForceOut-clause-unlabelled g c = λ keeps. pages_alone c.force_out.ensures.moves.goes.makes
+
+pub returns-in-MapAnonymous-clause-unlabelled : goal.returns-in-MapAnonymous-clause-unlabelled
+returns-in-MapAnonymous-clause-unlabelled g c = λ keeps. absurd (true≢false (sym keeps ∙ ap keeps_labels c.in-MapAnonymous.is))
+
+pub returns-in-Unmap-clause-unlabelled : goal.returns-in-Unmap-clause-unlabelled
+returns-in-Unmap-clause-unlabelled g c = λ keeps. absurd (true≢false (sym keeps ∙ ap keeps_labels c.in-Unmap.is))

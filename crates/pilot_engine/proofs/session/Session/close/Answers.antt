@@ -23,6 +23,7 @@ use Rattle.pilot_engine.proofs.CauseLemmas.{made_then}
 use Rattle.labelled_disk.specs.declared.layout.Layout.{Layout}
 use Rattle.file_manager.specs.Reasons.{ShowsReason}
 use Rattle.pilot_engine.proofs.session.Session.close.Goals as goal
+use Rattle.filer_kernel.specs.View.{accepted, disk_of}
 
 pub returns-in-Err-empty-clause-sound : goal.returns-in-Err-empty-clause-sound
 returns-in-Err-empty-clause-sound g c = λ m r. c.in-Err-empty.ensures.sound root_alone (forgotten m) (c.in-Ok.ensures.alone m r)
@@ -81,7 +82,7 @@ returns-in-Err-write_clean-clause-stops g c = λ m r.
     let e = c.in-Ok-empty.ensures.emptied root_alone n s in
     let maps = throughout_then (IsOpenStop n) first (stops_forcing n _ _ _ _ _ e c.sync_maps.ensures.swaps (ends (IsOpenStop n) first)) in
     let ready = made_ready n _ _ _ _ _ e c.sync_maps.ensures.swaps c.in-Ok-sync_maps.ensures.clean in
-    let now = subst (λ (v : Volume). IsReady n v.root (g.D.Disk.state c.sync_maps.new.self.core.filer.swapper.disk)) (sym c.sync_maps.ensures.volume) ready in
+    let now = subst (λ (v : Volume). IsReady n v.root (state c.sync_maps.new.self.core).disk) (sym c.sync_maps.ensures.volume) ready in
     let all = throughout_then (IsStop n) (throughout_less (IsOpenStop n) (IsStop n) (open_is_stop n) maps) (c.write_clean.ensures.stops n now (ends (IsOpenStop n) maps)) in
     stops_closed m r.session.stands.is.by.machine (c.evict_all.ensures.stops m r) all
 
@@ -93,7 +94,7 @@ returns-in-Ok-sync-clause-stops g c = λ m r.
     let e = c.in-Ok-empty.ensures.emptied root_alone n s in
     let maps = throughout_then (IsOpenStop n) first (stops_forcing n _ _ _ _ _ e c.sync_maps.ensures.swaps (ends (IsOpenStop n) first)) in
     let ready = made_ready n _ _ _ _ _ e c.sync_maps.ensures.swaps c.in-Ok-sync_maps.ensures.clean in
-    let now = subst (λ (v : Volume). IsReady n v.root (g.D.Disk.state c.sync_maps.new.self.core.filer.swapper.disk)) (sym c.sync_maps.ensures.volume) ready in
+    let now = subst (λ (v : Volume). IsReady n v.root (state c.sync_maps.new.self.core).disk) (sym c.sync_maps.ensures.volume) ready in
     let all = throughout_then (IsStop n) (throughout_less (IsOpenStop n) (IsStop n) (open_is_stop n) maps) (c.write_clean.ensures.stops n now (ends (IsOpenStop n) maps)) in
     throughout_still (IsStop m) (stops_closed m r.session.stands.is.by.machine (c.evict_all.ensures.stops m r) all) c.sync.ensures.same
 
@@ -105,7 +106,7 @@ returns-in-Err-sync-clause-stops g c = λ m r.
     let e = c.in-Ok-empty.ensures.emptied root_alone n s in
     let maps = throughout_then (IsOpenStop n) first (stops_forcing n _ _ _ _ _ e c.sync_maps.ensures.swaps (ends (IsOpenStop n) first)) in
     let ready = made_ready n _ _ _ _ _ e c.sync_maps.ensures.swaps c.in-Ok-sync_maps.ensures.clean in
-    let now = subst (λ (v : Volume). IsReady n v.root (g.D.Disk.state c.sync_maps.new.self.core.filer.swapper.disk)) (sym c.sync_maps.ensures.volume) ready in
+    let now = subst (λ (v : Volume). IsReady n v.root (state c.sync_maps.new.self.core).disk) (sym c.sync_maps.ensures.volume) ready in
     let all = throughout_then (IsStop n) (throughout_less (IsOpenStop n) (IsStop n) (open_is_stop n) maps) (c.write_clean.ensures.stops n now (ends (IsOpenStop n) maps)) in
     throughout_still (IsStop m) (stops_closed m r.session.stands.is.by.machine (c.evict_all.ensures.stops m r) all) c.sync.ensures.same
 
@@ -123,70 +124,70 @@ returns-in-Err-sync-clause-counted g c = λ is. rose_after _ _ _ (shut_then (wro
 
 pub returns-in-Err-clause-cost : goal.returns-in-Err-clause-cost
 returns-in-Err-clause-cost g c = λ m r.
-    let layout = c.args.self.now.core.filer.swapper.layout in
-    on_layout layout (g.D.Disk.state c.args.self.now.core.filer.swapper.disk) (g.D.Disk.state c.evict_all.new.self.core.filer.swapper.disk) c.requires.size
-    (closed_bounded layout c.args.self.now.core.filer.swapper.accepted c.evict_all.new.self.core.filer.swapper.layout c.evict_all.ensures.layout
-    (g.D.Disk.state c.args.self.now.core.filer.swapper.disk).transfers (g.D.Disk.state c.evict_all.new.self.core.filer.swapper.disk).transfers (g.D.Disk.state c.evict_all.new.self.core.filer.swapper.disk).transfers (g.D.Disk.state c.evict_all.new.self.core.filer.swapper.disk).transfers
+    let layout = (state c.args.self.now.core).layout in
+    on_layout layout (state c.args.self.now.core).disk (state c.evict_all.new.self.core).disk c.requires.size
+    (closed_bounded layout (accepted c.args.self.now.core.filer) (state c.evict_all.new.self.core).layout c.evict_all.ensures.layout
+    (state c.args.self.now.core).disk.transfers (state c.evict_all.new.self.core).disk.transfers (state c.evict_all.new.self.core).disk.transfers (state c.evict_all.new.self.core).disk.transfers
     c.evict_all.ensures.cost (omega arith) (omega (arith)))
 
 pub returns-in-Err-empty-clause-cost : goal.returns-in-Err-empty-clause-cost
 returns-in-Err-empty-clause-cost g c = λ m r.
-    let layout = c.args.self.now.core.filer.swapper.layout in
-    on_layout layout (g.D.Disk.state c.args.self.now.core.filer.swapper.disk) (g.D.Disk.state c.empty.new.self.core.filer.swapper.disk) c.requires.size
-    (closed_bounded layout c.args.self.now.core.filer.swapper.accepted c.evict_all.new.self.core.filer.swapper.layout c.evict_all.ensures.layout
-    (g.D.Disk.state c.args.self.now.core.filer.swapper.disk).transfers (g.D.Disk.state c.evict_all.new.self.core.filer.swapper.disk).transfers (g.D.Disk.state c.empty.new.self.core.filer.swapper.disk).transfers (g.D.Disk.state c.empty.new.self.core.filer.swapper.disk).transfers
+    let layout = (state c.args.self.now.core).layout in
+    on_layout layout (state c.args.self.now.core).disk (state c.empty.new.self.core).disk c.requires.size
+    (closed_bounded layout (accepted c.args.self.now.core.filer) (state c.evict_all.new.self.core).layout c.evict_all.ensures.layout
+    (state c.args.self.now.core).disk.transfers (state c.evict_all.new.self.core).disk.transfers (state c.empty.new.self.core).disk.transfers (state c.empty.new.self.core).disk.transfers
     c.evict_all.ensures.cost (c.empty.ensures.cost root_alone (forgotten m) (c.in-Ok.ensures.alone m r)) (omega (arith)))
 
 pub returns-in-Err-sync_maps-clause-cost : goal.returns-in-Err-sync_maps-clause-cost
 returns-in-Err-sync_maps-clause-cost g c = λ m r.
-    let layout = c.args.self.now.core.filer.swapper.layout in
+    let layout = (state c.args.self.now.core).layout in
     let maps = c.sync_maps.ensures.cost in
-    on_layout layout (g.D.Disk.state c.args.self.now.core.filer.swapper.disk) (g.D.Disk.state c.sync_maps.new.self.core.filer.swapper.disk) c.requires.size
-    (closed_bounded layout c.args.self.now.core.filer.swapper.accepted c.evict_all.new.self.core.filer.swapper.layout c.evict_all.ensures.layout
-    (g.D.Disk.state c.args.self.now.core.filer.swapper.disk).transfers (g.D.Disk.state c.evict_all.new.self.core.filer.swapper.disk).transfers (g.D.Disk.state c.empty.new.self.core.filer.swapper.disk).transfers (g.D.Disk.state c.sync_maps.new.self.core.filer.swapper.disk).transfers
+    on_layout layout (state c.args.self.now.core).disk (state c.sync_maps.new.self.core).disk c.requires.size
+    (closed_bounded layout (accepted c.args.self.now.core.filer) (state c.evict_all.new.self.core).layout c.evict_all.ensures.layout
+    (state c.args.self.now.core).disk.transfers (state c.evict_all.new.self.core).disk.transfers (state c.empty.new.self.core).disk.transfers (state c.sync_maps.new.self.core).disk.transfers
     c.evict_all.ensures.cost (c.empty.ensures.cost root_alone (forgotten m) (c.in-Ok.ensures.alone m r)) (omega (arith, maps)))
 
 pub returns-in-Err-write_clean-clause-cost : goal.returns-in-Err-write_clean-clause-cost
 returns-in-Err-write_clean-clause-cost g c = λ m r.
-    let layout = c.args.self.now.core.filer.swapper.layout in
+    let layout = (state c.args.self.now.core).layout in
     let maps = c.sync_maps.ensures.cost in
     let written = c.write_clean.ensures.cost in
-    on_layout layout (g.D.Disk.state c.args.self.now.core.filer.swapper.disk) (g.D.Disk.state c.write_clean.new.self.core.filer.swapper.disk) c.requires.size
-    (closed_bounded layout c.args.self.now.core.filer.swapper.accepted c.evict_all.new.self.core.filer.swapper.layout c.evict_all.ensures.layout
-    (g.D.Disk.state c.args.self.now.core.filer.swapper.disk).transfers (g.D.Disk.state c.evict_all.new.self.core.filer.swapper.disk).transfers (g.D.Disk.state c.empty.new.self.core.filer.swapper.disk).transfers (g.D.Disk.state c.write_clean.new.self.core.filer.swapper.disk).transfers
+    on_layout layout (state c.args.self.now.core).disk (state c.write_clean.new.self.core).disk c.requires.size
+    (closed_bounded layout (accepted c.args.self.now.core.filer) (state c.evict_all.new.self.core).layout c.evict_all.ensures.layout
+    (state c.args.self.now.core).disk.transfers (state c.evict_all.new.self.core).disk.transfers (state c.empty.new.self.core).disk.transfers (state c.write_clean.new.self.core).disk.transfers
     c.evict_all.ensures.cost (c.empty.ensures.cost root_alone (forgotten m) (c.in-Ok.ensures.alone m r)) (omega (arith, maps, written)))
 
 pub returns-in-Ok-sync-clause-cost : goal.returns-in-Ok-sync-clause-cost
 returns-in-Ok-sync-clause-cost g c = λ m r.
-    let layout = c.args.self.now.core.filer.swapper.layout in
+    let layout = (state c.args.self.now.core).layout in
     let maps = c.sync_maps.ensures.cost in
     let written = c.write_clean.ensures.cost in
     let settled = c.sync.ensures.cost in
-    on_layout layout (g.D.Disk.state c.args.self.now.core.filer.swapper.disk) (g.D.Disk.state c.sync.new.core.filer.swapper.disk) c.requires.size
-    (closed_bounded layout c.args.self.now.core.filer.swapper.accepted c.evict_all.new.self.core.filer.swapper.layout c.evict_all.ensures.layout
-    (g.D.Disk.state c.args.self.now.core.filer.swapper.disk).transfers (g.D.Disk.state c.evict_all.new.self.core.filer.swapper.disk).transfers (g.D.Disk.state c.empty.new.self.core.filer.swapper.disk).transfers (g.D.Disk.state c.sync.new.core.filer.swapper.disk).transfers
+    on_layout layout (state c.args.self.now.core).disk (state c.sync.new.core).disk c.requires.size
+    (closed_bounded layout (accepted c.args.self.now.core.filer) (state c.evict_all.new.self.core).layout c.evict_all.ensures.layout
+    (state c.args.self.now.core).disk.transfers (state c.evict_all.new.self.core).disk.transfers (state c.empty.new.self.core).disk.transfers (state c.sync.new.core).disk.transfers
     c.evict_all.ensures.cost (c.empty.ensures.cost root_alone (forgotten m) (c.in-Ok.ensures.alone m r)) (omega (arith, maps, written, settled)))
 
 pub returns-in-Err-sync-clause-cost : goal.returns-in-Err-sync-clause-cost
 returns-in-Err-sync-clause-cost g c = λ m r.
-    let layout = c.args.self.now.core.filer.swapper.layout in
+    let layout = (state c.args.self.now.core).layout in
     let maps = c.sync_maps.ensures.cost in
     let written = c.write_clean.ensures.cost in
     let settled = c.sync.ensures.cost in
-    on_layout layout (g.D.Disk.state c.args.self.now.core.filer.swapper.disk) (g.D.Disk.state c.sync.new.core.filer.swapper.disk) c.requires.size
-    (closed_bounded layout c.args.self.now.core.filer.swapper.accepted c.evict_all.new.self.core.filer.swapper.layout c.evict_all.ensures.layout
-    (g.D.Disk.state c.args.self.now.core.filer.swapper.disk).transfers (g.D.Disk.state c.evict_all.new.self.core.filer.swapper.disk).transfers (g.D.Disk.state c.empty.new.self.core.filer.swapper.disk).transfers (g.D.Disk.state c.sync.new.core.filer.swapper.disk).transfers
+    on_layout layout (state c.args.self.now.core).disk (state c.sync.new.core).disk c.requires.size
+    (closed_bounded layout (accepted c.args.self.now.core.filer) (state c.evict_all.new.self.core).layout c.evict_all.ensures.layout
+    (state c.args.self.now.core).disk.transfers (state c.evict_all.new.self.core).disk.transfers (state c.empty.new.self.core).disk.transfers (state c.sync.new.core).disk.transfers
     c.evict_all.ensures.cost (c.empty.ensures.cost root_alone (forgotten m) (c.in-Ok.ensures.alone m r)) (omega (arith, maps, written, settled)))
 
 -- where no root was written
 pub returns-in-Err-clause-left_open : goal.returns-in-Err-clause-left_open
-returns-in-Err-clause-left_open g c = λ unset. leaves_open (g.D.Disk.state c.evict_all.new.self.core.filer.swapper.disk) (unset_then unset c.evict_all.ensures.wrote) c.in-Err.halt
+returns-in-Err-clause-left_open g c = λ unset. leaves_open (state c.evict_all.new.self.core).disk (unset_then unset c.evict_all.ensures.wrote) c.in-Err.halt
 
 pub returns-in-Err-empty-clause-left_open : goal.returns-in-Err-empty-clause-left_open
-returns-in-Err-empty-clause-left_open g c = λ unset. leaves_open (g.D.Disk.state c.empty.new.self.core.filer.swapper.disk) (unset_then unset (wrote_then c.evict_all.ensures.wrote c.empty.ensures.wrote)) c.in-Err-empty.halt
+returns-in-Err-empty-clause-left_open g c = λ unset. leaves_open (state c.empty.new.self.core).disk (unset_then unset (wrote_then c.evict_all.ensures.wrote c.empty.ensures.wrote)) c.in-Err-empty.halt
 
 pub returns-in-Err-sync_maps-clause-left_open : goal.returns-in-Err-sync_maps-clause-left_open
-returns-in-Err-sync_maps-clause-left_open g c = λ unset. leaves_open (g.D.Disk.state c.sync_maps.new.self.core.filer.swapper.disk) (unset_then unset (wrote_then (wrote_then c.evict_all.ensures.wrote c.empty.ensures.wrote) (wrote_swapping c.sync_maps.ensures.swaps))) c.in-Err-sync_maps.halt
+returns-in-Err-sync_maps-clause-left_open g c = λ unset. leaves_open (state c.sync_maps.new.self.core).disk (unset_then unset (wrote_then (wrote_then c.evict_all.ensures.wrote c.empty.ensures.wrote) (wrote_swapping c.sync_maps.ensures.swaps))) c.in-Err-sync_maps.halt
 
 pub returns-in-Err-write_clean-clause-left_open : goal.returns-in-Err-write_clean-clause-left_open
 returns-in-Err-write_clean-clause-left_open g c = λ unset. rw c.in-Err-write_clean.ensures.fault tt
@@ -236,12 +237,12 @@ returns-in-Err-sync-clause-cause g c =
 
 pub returns-in-Err-empty-clause-reasons : goal.returns-in-Err-empty-clause-reasons
 returns-in-Err-empty-clause-reasons g c = λ o keeps.
-    subst (λ (l : Layout). ShowsReason o l (g.D.Disk.state c.empty.new.self.core.filer.swapper.disk) c.in-Err-empty.halt) c.evict_all.ensures.layout (c.in-Err-empty.ensures.reasons o (c.in-Ok.ensures.keeps_to o keeps))
+    subst (λ (l : Layout). ShowsReason o l (state c.empty.new.self.core).disk c.in-Err-empty.halt) c.evict_all.ensures.layout (c.in-Err-empty.ensures.reasons o ((c.in-Ok.ensures.accounts o keeps).keeps_to))
 
 pub returns-in-Err-sync_maps-clause-reasons : goal.returns-in-Err-sync_maps-clause-reasons
 returns-in-Err-sync_maps-clause-reasons g c = λ o keeps.
-    subst (λ (l : Layout). ShowsReason o l (g.D.Disk.state c.sync_maps.new.self.core.filer.swapper.disk) c.in-Err-sync_maps.halt) (c.empty.ensures.layout ∙ c.evict_all.ensures.layout)
-    (c.in-Err-sync_maps.ensures.reasons o (c.in-Ok-empty.ensures.keeps_to o (c.in-Ok.ensures.keeps_to o keeps)))
+    subst (λ (l : Layout). ShowsReason o l (state c.sync_maps.new.self.core).disk c.in-Err-sync_maps.halt) (c.empty.ensures.layout ∙ c.evict_all.ensures.layout)
+    (c.in-Err-sync_maps.ensures.reasons o (c.in-Ok-empty.ensures.keeps_to o ((c.in-Ok.ensures.accounts o keeps).keeps_to)))
 
 pub returns-in-Err-write_clean-clause-reasons : goal.returns-in-Err-write_clean-clause-reasons
 returns-in-Err-write_clean-clause-reasons g c = λ o keeps. rw c.in-Err-write_clean.ensures.fault tt
@@ -252,7 +253,7 @@ returns-in-Err-sync-clause-reasons g c = λ o keeps. rw c.in-Err-sync.ensures.fa
 -- ---- No page of the space tables is reported as broken, and none of a file as missing that was nowhere at home.
 
 pub returns-in-Err-empty-clause-sees : goal.returns-in-Err-empty-clause-sees
-returns-in-Err-empty-clause-sees g c = λ o keeps seen. c.in-Err-empty.ensures.sees o (c.in-Ok.ensures.keeps_to o keeps) (c.in-Ok.ensures.sees o keeps seen)
+returns-in-Err-empty-clause-sees g c = λ o keeps seen. c.in-Err-empty.ensures.sees o ((c.in-Ok.ensures.accounts o keeps).keeps_to) ((c.in-Ok.ensures.accounts o keeps).sees seen)
 
 pub returns-in-Err-sync_maps-clause-sees : goal.returns-in-Err-sync_maps-clause-sees
 returns-in-Err-sync_maps-clause-sees g c = λ o keeps seen. c.in-Err-sync_maps.ensures.right o
@@ -280,9 +281,9 @@ returns-in-Err-write_clean-clause-syncs g c = λ m r.
     let n = forgotten m in
     let e = c.in-Ok-empty.ensures.emptied root_alone n (c.in-Ok.ensures.alone m r) in
     let ready = made_ready n _ _ _ _ _ e c.sync_maps.ensures.swaps c.in-Ok-sync_maps.ensures.clean in
-    let now = subst (λ (v : Volume). IsReady n v.root (g.D.Disk.state c.sync_maps.new.self.core.filer.swapper.disk)) (sym c.sync_maps.ensures.volume) ready in
-    let disk = c.sync_maps.new.self.core.filer.swapper.disk in
-    let later = g.D.Disk.state c.write_clean.new.self.core.filer.swapper.disk in
+    let now = subst (λ (v : Volume). IsReady n v.root (state c.sync_maps.new.self.core).disk) (sym c.sync_maps.ensures.volume) ready in
+    let disk = (disk_of c.sync_maps.new.self.core.filer) in
+    let later = (state c.write_clean.new.self.core).disk in
     sets_shut (wrote_then (wrote_then c.evict_all.ensures.wrote c.empty.ensures.wrote) (wrote_swapping c.sync_maps.ensures.swaps)) (g.met.D.Disk.sync_counts disk) c.in-Ok-sync_maps.ensures.synced
     c.write_clean.ensures.wrote.makes.went c.sync_maps.new.self.volume.root (reveals_itself later) (c.write_clean.ensures.sets n now)
 
@@ -291,8 +292,8 @@ returns-in-Ok-sync-clause-syncs g c = λ m r.
     let n = forgotten m in
     let e = c.in-Ok-empty.ensures.emptied root_alone n (c.in-Ok.ensures.alone m r) in
     let ready = made_ready n _ _ _ _ _ e c.sync_maps.ensures.swaps c.in-Ok-sync_maps.ensures.clean in
-    let now = subst (λ (v : Volume). IsReady n v.root (g.D.Disk.state c.sync_maps.new.self.core.filer.swapper.disk)) (sym c.sync_maps.ensures.volume) ready in
-    let disk = c.sync_maps.new.self.core.filer.swapper.disk in
+    let now = subst (λ (v : Volume). IsReady n v.root (state c.sync_maps.new.self.core).disk) (sym c.sync_maps.ensures.volume) ready in
+    let disk = (disk_of c.sync_maps.new.self.core.filer) in
     sets_shut (wrote_then (wrote_then c.evict_all.ensures.wrote c.empty.ensures.wrote) (wrote_swapping c.sync_maps.ensures.swaps)) (g.met.D.Disk.sync_counts disk) c.in-Ok-sync_maps.ensures.synced
     (went_then c.write_clean.ensures.wrote.makes.went (reached_makes c.sync.ensures.reaches).went) c.sync_maps.new.self.volume.root c.sync.ensures.same (c.write_clean.ensures.sets n now)
 
@@ -301,7 +302,15 @@ returns-in-Err-sync-clause-syncs g c = λ m r.
     let n = forgotten m in
     let e = c.in-Ok-empty.ensures.emptied root_alone n (c.in-Ok.ensures.alone m r) in
     let ready = made_ready n _ _ _ _ _ e c.sync_maps.ensures.swaps c.in-Ok-sync_maps.ensures.clean in
-    let now = subst (λ (v : Volume). IsReady n v.root (g.D.Disk.state c.sync_maps.new.self.core.filer.swapper.disk)) (sym c.sync_maps.ensures.volume) ready in
-    let disk = c.sync_maps.new.self.core.filer.swapper.disk in
+    let now = subst (λ (v : Volume). IsReady n v.root (state c.sync_maps.new.self.core).disk) (sym c.sync_maps.ensures.volume) ready in
+    let disk = (disk_of c.sync_maps.new.self.core.filer) in
     sets_shut (wrote_then (wrote_then c.evict_all.ensures.wrote c.empty.ensures.wrote) (wrote_swapping c.sync_maps.ensures.swaps)) (g.met.D.Disk.sync_counts disk) c.in-Ok-sync_maps.ensures.synced
     (went_then c.write_clean.ensures.wrote.makes.went (reached_makes c.sync.ensures.reaches).went) c.sync_maps.new.self.volume.root c.sync.ensures.same (c.write_clean.ensures.sets n now)
+
+-- ---- What its first part tells.
+
+pub returns-in-Err-clause-reasons : goal.returns-in-Err-clause-reasons
+returns-in-Err-clause-reasons g c = λ o k. (c.in-Err.ensures.accounts o k).reasons
+
+pub returns-in-Err-clause-sees : goal.returns-in-Err-clause-sees
+returns-in-Err-clause-sees g c = λ o k seen. (c.in-Err.ensures.accounts o k).sees seen

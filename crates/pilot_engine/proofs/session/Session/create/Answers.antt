@@ -20,7 +20,7 @@ use Rattle.file_manager.specs.Creating.{next_id}
 use Rattle.file_manager.specs.Reasons.{WasBelow, giving, telling}
 use Rattle.file_manager.specs.declared.volume.Volume.{Volume}
 use Rattle.fault_core.specs.Core.{state}
-use Rattle.fault_core.specs.View.{view_of}
+use Rattle.filer_kernel.specs.View.{accepted, disk_of, view_of}
 use Rattle.pilot_engine.proofs.HomeLemmas.{file_pages}
 use Rattle.pilot_engine.proofs.HomeSteps.{new_file, same_given}
 use Rattle.file_manager.specs.Grounds.{IsNewPage}
@@ -31,33 +31,33 @@ use Rattle.pilot_engine.proofs.session.Session.create.Goals as goal
 
 pub returns-then-pages-free-clause-carried : goal.returns-then-pages-free-clause-carried
 returns-then-pages-free-clause-carried g c = λ spaces_of m s.
-    let left = room_is spaces_of _ _ _ _ _ m s c.args.self.now.core.filer.swapper.accepted c.requires.opened.same_layout in
+    let left = room_is spaces_of _ _ _ _ _ m s (accepted c.args.self.now.core.filer) c.requires.opened.same_layout in
     let over = c.if-pages-free.true in
     create_refused spaces_of _ _ _ _ _ m s (call.Create c.args.pages c.args.kind) why.Full (create_full m c.args.pages c.args.kind (omega (arith, over, left, s.same_used)))
 
 pub returns-then-pages-free-clause-wrote : goal.returns-then-pages-free-clause-wrote
-returns-then-pages-free-clause-wrote g c = record { labels = []; makes = (goes_itself Same volume_page (g.D.Disk.state c.args.self.now.core.filer.swapper.disk) c.args.self.now.core.filer.swapper.pool (λ x. refl)).makes; opens = tt }
+returns-then-pages-free-clause-wrote g c = record { labels = []; makes = (goes_itself Same volume_page (state c.args.self.now.core).disk (state c.args.self.now.core).slots (λ x. refl)).makes; opens = tt }
 
 pub returns-then-self-clause-carried : goal.returns-then-self-clause-carried
 returns-then-self-clause-carried g c = λ spaces_of m s.
-    let left = room_is spaces_of _ _ _ _ _ m s c.args.self.now.core.filer.swapper.accepted c.requires.opened.same_layout in
+    let left = room_is spaces_of _ _ _ _ _ m s (accepted c.args.self.now.core.filer) c.requires.opened.same_layout in
     let under = c.if-pages-free.false in
     create_refused spaces_of _ _ _ _ _ m s (call.Create c.args.pages c.args.kind) why.Ids (create_ids m c.args.pages c.args.kind (omega (arith, under, left, s.same_used)) (sym s.same_counter ∙ c.if-self.true))
 
 pub returns-then-self-clause-wrote : goal.returns-then-self-clause-wrote
-returns-then-self-clause-wrote g c = record { labels = []; makes = (goes_itself Same volume_page (g.D.Disk.state c.args.self.now.core.filer.swapper.disk) c.args.self.now.core.filer.swapper.pool (λ x. refl)).makes; opens = tt }
+returns-then-self-clause-wrote g c = record { labels = []; makes = (goes_itself Same volume_page (state c.args.self.now.core).disk (state c.args.self.now.core).slots (λ x. refl)).makes; opens = tt }
 
 pub returns-in-Ok-clause-carried : goal.returns-in-Ok-clause-carried
 returns-in-Ok-clause-carried g c = λ spaces_of m s.
-    let is = c.args.self.now.core.filer.swapper.accepted in
+    let is = (accepted c.args.self.now.core.filer) in
     let left = room_is spaces_of _ _ _ _ _ m s is c.requires.opened.same_layout in
-    let same_room : c.args.self.now.volume.layout.capacity ≡ c.args.self.now.core.filer.swapper.layout.capacity = ap (λ l. l.capacity) c.requires.opened.same_layout in
+    let same_room : c.args.self.now.volume.layout.capacity ≡ (state c.args.self.now.core).layout.capacity = ap (λ l. l.capacity) c.requires.opened.same_layout in
     let under = c.if-pages-free.false in
     let other : c.args.self.now.volume.root.counter < 4294967295 = search rules in
     let made = c.in-Ok.ensures.created s.stands.memory (shapes_of m.files) m.spaces (may_create spaces_of _ _ _ _ _ m s is c.args.pages (omega (arith, under, same_room))) in
     let free = create_there m c.args.pages c.args.kind (omega (arith, under, left, s.same_used)) (omega (arith, other, s.same_counter)) in
     let small = c.ranges.kind.fits in
-    subst (λ (id : ℕ). Carries spaces_of m (call.Create c.args.pages c.args.kind) (reply.File id) (g.D.Disk.state c.create.new.filer.swapper.disk) c.create.new.filer.swapper.pool c.create.new.filer.swapper.layout c.create.new.filer.runs c.create.new.volume)
+    subst (λ (id : ℕ). Carries spaces_of m (call.Create c.args.pages c.args.kind) (reply.File id) (view_of c.create.new.filer).disk (view_of c.create.new.filer).slots (view_of c.create.new.filer).layout c.create.new.filer.runs c.create.new.volume)
     (sym c.in-Ok.ensures.next)
     (carries_at spaces_of m (call.Create c.args.pages c.args.kind) _ _ _ _ _ _ _
     (create_done spaces_of _ _ _ _ _ m s is c.args.pages c.args.kind small _ _ _ _ free c.in-Ok.ensures.new_volume made) c.create.ensures.layout)
@@ -67,8 +67,8 @@ returns-in-Ok-clause-wrote g c = wrote_file c.args.self.now.volume.root c.args.k
 
 pub returns-in-Err-clause-sound : goal.returns-in-Err-clause-sound
 returns-in-Err-clause-sound g c = λ spaces_of m s.
-    let is = c.args.self.now.core.filer.swapper.accepted in
-    let same_room : c.args.self.now.volume.layout.capacity ≡ c.args.self.now.core.filer.swapper.layout.capacity = ap (λ l. l.capacity) c.requires.opened.same_layout in
+    let is = (accepted c.args.self.now.core.filer) in
+    let same_room : c.args.self.now.volume.layout.capacity ≡ (state c.args.self.now.core).layout.capacity = ap (λ l. l.capacity) c.requires.opened.same_layout in
     let under = c.if-pages-free.false in
     c.in-Err.ensures.sound s.stands.memory (shapes_of m.files) m.spaces (may_create spaces_of _ _ _ _ _ m s is c.args.pages (omega (arith, under, same_room)))
 
@@ -77,51 +77,51 @@ returns-in-Err-clause-wrote g c = wrote_some c.args.self.now.volume.root c.args.
 
 pub returns-then-pages-free-clause-passes : goal.returns-then-pages-free-clause-passes
 returns-then-pages-free-clause-passes g c = λ spaces_of m s.
-    no_step spaces_of _ _ _ _ m (call.Create c.args.pages c.args.kind) s.stands (goes_itself Same volume_page (g.D.Disk.state c.args.self.now.core.filer.swapper.disk) c.args.self.now.core.filer.swapper.pool (λ x. refl)).makes (g.met.D.Disk.in_form c.args.self.now.core.filer.swapper.disk)
+    no_step spaces_of _ _ _ _ m (call.Create c.args.pages c.args.kind) s.stands (goes_itself Same volume_page (state c.args.self.now.core).disk (state c.args.self.now.core).slots (λ x. refl)).makes (g.met.D.Disk.in_form (disk_of c.args.self.now.core.filer))
 
 pub returns-then-self-clause-passes : goal.returns-then-self-clause-passes
 returns-then-self-clause-passes g c = λ spaces_of m s.
-    no_step spaces_of _ _ _ _ m (call.Create c.args.pages c.args.kind) s.stands (goes_itself Same volume_page (g.D.Disk.state c.args.self.now.core.filer.swapper.disk) c.args.self.now.core.filer.swapper.pool (λ x. refl)).makes (g.met.D.Disk.in_form c.args.self.now.core.filer.swapper.disk)
+    no_step spaces_of _ _ _ _ m (call.Create c.args.pages c.args.kind) s.stands (goes_itself Same volume_page (state c.args.self.now.core).disk (state c.args.self.now.core).slots (λ x. refl)).makes (g.met.D.Disk.in_form (disk_of c.args.self.now.core.filer))
 
 pub returns-in-Ok-clause-passes : goal.returns-in-Ok-clause-passes
 returns-in-Ok-clause-passes g c = λ spaces_of m s.
-    let is = c.args.self.now.core.filer.swapper.accepted in
-    let same_room : c.args.self.now.volume.layout.capacity ≡ c.args.self.now.core.filer.swapper.layout.capacity = ap (λ l. l.capacity) c.requires.opened.same_layout in
+    let is = (accepted c.args.self.now.core.filer) in
+    let same_room : c.args.self.now.volume.layout.capacity ≡ (state c.args.self.now.core).layout.capacity = ap (λ l. l.capacity) c.requires.opened.same_layout in
     let under = c.if-pages-free.false in
     let other : c.args.self.now.volume.root.counter < 4294967295 = search rules in
     let small : c.args.pages < 4294967295 = search rules in
     let made = c.in-Ok.ensures.created s.stands.memory (shapes_of m.files) m.spaces (may_create spaces_of _ _ _ _ _ m s is c.args.pages (omega (arith, under, same_room))) in
     let left = room_is spaces_of _ _ _ _ _ m s is c.requires.opened.same_layout in
     let free = create_there m c.args.pages c.args.kind (omega (arith, under, left, s.same_used)) (omega (arith, other, s.same_counter)) in
-    create_passed spaces_of _ _ _ _ _ m s (g.met.D.Disk.in_form c.args.self.now.core.filer.swapper.disk) c.requires.opened.valid other c.args.kind c.args.pages _ _ _ small free made
+    create_passed spaces_of _ _ _ _ _ m s (g.met.D.Disk.in_form (disk_of c.args.self.now.core.filer)) c.requires.opened.valid other c.args.kind c.args.pages _ _ _ small free made
 
 pub returns-in-Err-clause-passes : goal.returns-in-Err-clause-passes
 returns-in-Err-clause-passes g c = λ spaces_of m s.
-    let is = c.args.self.now.core.filer.swapper.accepted in
-    let same_room : c.args.self.now.volume.layout.capacity ≡ c.args.self.now.core.filer.swapper.layout.capacity = ap (λ l. l.capacity) c.requires.opened.same_layout in
+    let is = (accepted c.args.self.now.core.filer) in
+    let same_room : c.args.self.now.volume.layout.capacity ≡ (state c.args.self.now.core).layout.capacity = ap (λ l. l.capacity) c.requires.opened.same_layout in
     let under = c.if-pages-free.false in
     let other : c.args.self.now.volume.root.counter < 4294967295 = search rules in
     let small : c.args.pages < 4294967295 = search rules in
     let some = c.in-Err.ensures.broken s.stands.memory (shapes_of m.files) m.spaces (may_create spaces_of _ _ _ _ _ m s is c.args.pages (omega (arith, under, same_room))) in
     let left = room_is spaces_of _ _ _ _ _ m s is c.requires.opened.same_layout in
     let free = create_there m c.args.pages c.args.kind (omega (arith, under, left, s.same_used)) (omega (arith, other, s.same_counter)) in
-    create_broken spaces_of _ _ _ _ _ m s (g.met.D.Disk.in_form c.args.self.now.core.filer.swapper.disk) c.requires.opened.valid other c.args.kind c.args.pages _ _ small free some
+    create_broken spaces_of _ _ _ _ _ m s (g.met.D.Disk.in_form (disk_of c.args.self.now.core.filer)) c.requires.opened.valid other c.args.kind c.args.pages _ _ small free some
 
 pub returns-in-Ok-clause-bounded : goal.returns-in-Ok-clause-bounded
 returns-in-Ok-clause-bounded g c =
-    let layout = c.args.self.now.core.filer.swapper.layout in
+    let layout = (state c.args.self.now.core).layout in
     let same_room : c.args.self.now.volume.layout.capacity ≡ layout.capacity = ap (λ l. l.capacity) c.requires.opened.same_layout in
     let under = c.if-pages-free.false in
-    inside_layout layout (g.D.Disk.state c.args.self.now.core.filer.swapper.disk) (g.D.Disk.state c.create.new.filer.swapper.disk) c.requires.size
-    (create_bounded layout c.args.self.now.core.filer.swapper.accepted _ _ c.args.pages (omega (arith, under, same_room)) c.create.ensures.cost)
+    inside_layout layout (state c.args.self.now.core).disk (view_of c.create.new.filer).disk c.requires.size
+    (create_bounded layout (accepted c.args.self.now.core.filer) _ _ c.args.pages (omega (arith, under, same_room)) c.create.ensures.cost)
 
 pub returns-in-Err-clause-bounded : goal.returns-in-Err-clause-bounded
 returns-in-Err-clause-bounded g c =
-    let layout = c.args.self.now.core.filer.swapper.layout in
+    let layout = (state c.args.self.now.core).layout in
     let same_room : c.args.self.now.volume.layout.capacity ≡ layout.capacity = ap (λ l. l.capacity) c.requires.opened.same_layout in
     let under = c.if-pages-free.false in
-    inside_layout layout (g.D.Disk.state c.args.self.now.core.filer.swapper.disk) (g.D.Disk.state c.create.new.filer.swapper.disk) c.requires.size
-    (create_bounded layout c.args.self.now.core.filer.swapper.accepted _ _ c.args.pages (omega (arith, under, same_room)) c.create.ensures.cost)
+    inside_layout layout (state c.args.self.now.core).disk (view_of c.create.new.filer).disk c.requires.size
+    (create_bounded layout (accepted c.args.self.now.core.filer) _ _ c.args.pages (omega (arith, under, same_room)) c.create.ensures.cost)
 
 -- ---- The file that the reply names.
 
@@ -146,7 +146,7 @@ returns-in-Ok-clause-home g c =
     let small : c.args.pages < 2 ^ 32 = search rules in
     λ o k id is page below.
     let same : id ≡ next_id c.args.self.now.volume.root = sym (one_named c.in-Ok.id id is) ∙ c.in-Ok.ensures.next in
-    subst (λ (n : ℕ). WasBelow o (g.D.Disk.state c.create.new.filer.swapper.disk) n page) (sym same) (new_file o c.args.self.now.volume.root c.args.kind c.args.pages k.1.0.since c.in-Ok.ensures.makes small page below)
+    subst (λ (n : ℕ). WasBelow o (view_of c.create.new.filer).disk n page) (sym same) (new_file o c.args.self.now.volume.root c.args.kind c.args.pages k.1.0.since c.in-Ok.ensures.makes small page below)
 
 -- ---- The initial state.
 
@@ -173,26 +173,30 @@ returns-then-self-clause-sees g c = λ o k up ss sees. sees
 pub returns-in-Ok-clause-sees : goal.returns-in-Ok-clause-sees
 returns-in-Ok-clause-sees g c = λ o k up.
     let old = c.args.self.now.core in
-    same_given o (giving o (next_id c.create.new.volume.root)) (state old) (view_of c.create.new.filer) old.filer.swapper.accepted k
+    same_given o (giving o (next_id c.create.new.volume.root)) (state old) (view_of c.create.new.filer) (accepted old.filer) k
     (λ b h. c.in-Ok.ensures.keeps_to (telling o b) k.0 h (record { monotone = up.monotone; next = up.next }))
 
 pub returns-in-Err-clause-sees : goal.returns-in-Err-clause-sees
 returns-in-Err-clause-sees g c = λ o k up seen.
     let old = c.args.self.now.core in
-    let disk = g.D.Disk.state c.create.new.filer.swapper.disk in
-    seen_blameless o (state old) old.filer.swapper.accepted k old.filer.swapper.layout disk c.in-Err.halt (λ b h. c.in-Err.ensures.reasons (telling o b) k.0 h (record { monotone = up.monotone; next = up.next }))
+    let disk = (view_of c.create.new.filer).disk in
+    seen_blameless o (state old) (accepted old.filer) k (state old).layout disk c.in-Err.halt (λ b h. c.in-Err.ensures.reasons (telling o b) k.0 h (record { monotone = up.monotone; next = up.next }))
     (new_misses (file_pages o disk) (next_id c.args.self.now.volume.root) (IsNewPage c.args.pages) (state old) (view_of c.create.new.filer) c.in-Err.halt c.in-Err.ensures.cause) seen
 
 -- ---- The next identifier.
 
-pub returns-in-Ok-clause-monotone : goal.returns-in-Ok-clause-monotone
-returns-in-Ok-clause-monotone g c = counted_next c.args.self.now.volume.root c.create.new.volume.root (ap (λ (v : Volume). v.root) c.in-Ok.ensures.new_volume)
+pub returns-in-Ok-clause-stays : goal.returns-in-Ok-clause-stays
+returns-in-Ok-clause-stays g c = record {
+  open_still = (search rules);
+  monotone = (counted_next c.args.self.now.volume.root c.create.new.volume.root (ap (λ (v : Volume). v.root) c.in-Ok.ensures.new_volume));
+  serial = (ap (λ (v : Volume). v.root.serial) c.in-Ok.ensures.new_volume);
+  layout = (search rules);
+}
 
-pub returns-in-Err-clause-monotone : goal.returns-in-Err-clause-monotone
-returns-in-Err-clause-monotone g c = same_next c.args.self.now.volume.root c.create.new.volume.root (ap (λ (v : Volume). v.root) c.in-Err.ensures.same_volume)
-
-pub returns-in-Ok-clause-serial : goal.returns-in-Ok-clause-serial
-returns-in-Ok-clause-serial g c = ap (λ (v : Volume). v.root.serial) c.in-Ok.ensures.new_volume
-
-pub returns-in-Err-clause-serial : goal.returns-in-Err-clause-serial
-returns-in-Err-clause-serial g c = ap (λ (v : Volume). v.root.serial) c.in-Err.ensures.same_volume
+pub returns-in-Err-clause-stays : goal.returns-in-Err-clause-stays
+returns-in-Err-clause-stays g c = record {
+  open_still = (search rules);
+  monotone = (same_next c.args.self.now.volume.root c.create.new.volume.root (ap (λ (v : Volume). v.root) c.in-Err.ensures.same_volume));
+  serial = (ap (λ (v : Volume). v.root.serial) c.in-Err.ensures.same_volume);
+  layout = (search rules);
+}

@@ -21,41 +21,40 @@ use Rattle.pilot_engine.proofs.ReasonSteps.{reasons_since}
 use Rattle.file_manager.specs.declared.volume.Volume.{Volume}
 use Rattle.pilot_engine.proofs.SeesLemmas.{then_next}
 use Rattle.pilot_engine.proofs.session.Session.delete.Goals as goal
+use Rattle.filer_kernel.specs.View.{disk_of}
 
-pub returns-in-Ok-Hidden-clause-carried : goal.returns-in-Ok-Hidden-clause-carried
-returns-in-Ok-Hidden-clause-carried g c = λ m r.
-    refused_running _ _ m (call.Delete c.args.id) why.File (c.sight.ensures.runs m r) (delete_gone m c.args.id (no_file_hidden m c.args.id (subst (λ (x : Sight). IsSight m c.args.id x) c.in-Ok-Hidden.field-0-is (c.in-Ok-Hidden.ensures.answer m r))))
-
-pub returns-in-Ok-Hidden-clause-passes : goal.returns-in-Ok-Hidden-clause-passes
-returns-in-Ok-Hidden-clause-passes g c = λ m r. asked_passes c.args.self.now.core c.args.self.now.volume m (call.Delete c.args.id) r (g.met.D.Disk.in_form c.args.self.now.core.filer.swapper.disk) c.sight.ensures.makes
+pub returns-in-Ok-Hidden-clause-answers : goal.returns-in-Ok-Hidden-clause-answers
+returns-in-Ok-Hidden-clause-answers g c = λ m r. record {
+  carried = (refused_running _ _ m (call.Delete c.args.id) why.File (c.sight.ensures.runs m r) (delete_gone m c.args.id (no_file_hidden m c.args.id (subst (λ (x : Sight). IsSight m c.args.id x) c.in-Ok-Hidden.field-0-is (c.in-Ok-Hidden.ensures.answer m r)))));
+  sound = tt;
+  passes = (asked_passes c.args.self.now.core c.args.self.now.volume m (call.Delete c.args.id) r (g.met.D.Disk.in_form (disk_of c.args.self.now.core.filer)) c.sight.ensures.makes);
+  cost = (asked_inside (state c.args.self.now.core).disk (state c.sight.new.self.core).disk 14532 (omega arith) c.sight.ensures.cost);
+}
 
 pub returns-in-Ok-Hidden-clause-wrote : goal.returns-in-Ok-Hidden-clause-wrote
 returns-in-Ok-Hidden-clause-wrote g c = wrote_by c.sight.ensures.makes tt
 
-pub returns-in-Ok-Hidden-clause-cost : goal.returns-in-Ok-Hidden-clause-cost
-returns-in-Ok-Hidden-clause-cost g c = λ m r. asked_inside (g.D.Disk.state c.args.self.now.core.filer.swapper.disk) (g.D.Disk.state c.sight.new.self.core.filer.swapper.disk) 14532 (omega arith) c.sight.ensures.cost
-
-pub returns-in-Some-clause-carried : goal.returns-in-Some-clause-carried
-returns-in-Some-clause-carried g c = λ m r.
-    refused_running _ _ m (call.Delete c.args.id) _ (c.sight.ensures.runs m r) (delete_seen m r.session.stands.is.by.machine c.args.id _ (subst (λ (o : Option ℕ). IsSeenBy m c.args.id o) c.in-Some.is (subst (λ (x : Sight). IsSight m c.args.id x) c.in-Ok-By.field-0-is (c.in-Ok-By.ensures.answer m r))))
-
-pub returns-in-Some-clause-passes : goal.returns-in-Some-clause-passes
-returns-in-Some-clause-passes g c = λ m r. asked_passes c.args.self.now.core c.args.self.now.volume m (call.Delete c.args.id) r (g.met.D.Disk.in_form c.args.self.now.core.filer.swapper.disk) c.sight.ensures.makes
+pub returns-in-Some-clause-answers : goal.returns-in-Some-clause-answers
+returns-in-Some-clause-answers g c = λ m r. record {
+  carried = (refused_running _ _ m (call.Delete c.args.id) _ (c.sight.ensures.runs m r) (delete_seen m r.session.stands.is.by.machine c.args.id _ (subst (λ (o : Option ℕ). IsSeenBy m c.args.id o) c.in-Some.is (subst (λ (x : Sight). IsSight m c.args.id x) c.in-Ok-By.field-0-is (c.in-Ok-By.ensures.answer m r)))));
+  sound = tt;
+  passes = (asked_passes c.args.self.now.core c.args.self.now.volume m (call.Delete c.args.id) r (g.met.D.Disk.in_form (disk_of c.args.self.now.core.filer)) c.sight.ensures.makes);
+  cost = (asked_inside (state c.args.self.now.core).disk (state c.sight.new.self.core).disk 14532 (omega arith) c.sight.ensures.cost);
+}
 
 pub returns-in-Some-clause-wrote : goal.returns-in-Some-clause-wrote
 returns-in-Some-clause-wrote g c = wrote_by c.sight.ensures.makes tt
 
-pub returns-in-Some-clause-cost : goal.returns-in-Some-clause-cost
-returns-in-Some-clause-cost g c = λ m r. asked_inside (g.D.Disk.state c.args.self.now.core.filer.swapper.disk) (g.D.Disk.state c.sight.new.self.core.filer.swapper.disk) 14532 (omega arith) c.sight.ensures.cost
-
-pub returns-in-Err-clause-passes : goal.returns-in-Err-clause-passes
-returns-in-Err-clause-passes g c = λ m r. asked_passes c.args.self.now.core c.args.self.now.volume m (call.Delete c.args.id) r (g.met.D.Disk.in_form c.args.self.now.core.filer.swapper.disk) c.sight.ensures.makes
+pub returns-in-Err-clause-answers : goal.returns-in-Err-clause-answers
+returns-in-Err-clause-answers g c = λ m r. record {
+  carried = tt;
+  sound = (c.in-Err.ensures.sound m r);
+  passes = (asked_passes c.args.self.now.core c.args.self.now.volume m (call.Delete c.args.id) r (g.met.D.Disk.in_form (disk_of c.args.self.now.core.filer)) c.sight.ensures.makes);
+  cost = (asked_inside (state c.args.self.now.core).disk (state c.sight.new.self.core).disk 14532 (omega arith) c.sight.ensures.cost);
+}
 
 pub returns-in-Err-clause-wrote : goal.returns-in-Err-clause-wrote
 returns-in-Err-clause-wrote g c = wrote_by c.sight.ensures.makes tt
-
-pub returns-in-Err-clause-cost : goal.returns-in-Err-clause-cost
-returns-in-Err-clause-cost g c = λ m r. asked_inside (g.D.Disk.state c.args.self.now.core.filer.swapper.disk) (g.D.Disk.state c.sight.new.self.core.filer.swapper.disk) 14532 (omega arith) c.sight.ensures.cost
 
 pub delete_unseen-requires-clause-size : goal.delete_unseen-requires-clause-size
 delete_unseen-requires-clause-size g c = c.sight.ensures.makes.went.sectors ∙ c.requires.size ∙ ap (λ (l : Layout). l.sectors) (sym c.sight.ensures.layout)
@@ -63,18 +62,16 @@ delete_unseen-requires-clause-size g c = c.sight.ensures.makes.went.sectors ∙ 
 pub delete_unseen-requires-clause-opened : goal.delete_unseen-requires-clause-opened
 delete_unseen-requires-clause-opened g c = still_open _ _ _ _ c.requires.opened c.sight.ensures.layout c.sight.ensures.volume
 
-pub returns-clause-carried : goal.returns-clause-carried
-returns-clause-carried g c = λ m r.
-    carried_out c.sight.new.self.core c.delete_unseen.new.self.core c.sight.new.self.volume c.delete_unseen.new.self.volume m (call.Delete c.args.id) c.delete_unseen.ensures.kept c.delete_unseen.ensures.intervals refl (c.sight.ensures.runs m r) c.delete_unseen.result
-    (λ spaces_of s. c.delete_unseen.ensures.carried spaces_of m s ((subst (λ (x : Sight). IsSight m c.args.id x) c.in-Ok-By.field-0-is (c.in-Ok-By.ensures.answer m r)).mapped ∙ ap (option_map why.FileMapped) c.in-None.is))
-
-pub returns-clause-sound : goal.returns-clause-sound
-returns-clause-sound g c = λ m r. let now = c.sight.ensures.runs m r in c.delete_unseen.ensures.sound _ m now.session ((subst (λ (x : Sight). IsSight m c.args.id x) c.in-Ok-By.field-0-is (c.in-Ok-By.ensures.answer m r)).mapped ∙ ap (option_map why.FileMapped) c.in-None.is)
-
-pub returns-clause-passes : goal.returns-clause-passes
-returns-clause-passes g c = λ m r.
+pub returns-clause-answers : goal.returns-clause-answers
+returns-clause-answers g c = λ m r.
     let now = c.sight.ensures.runs m r in
-    asked_then m (call.Delete c.args.id) (asked_passes c.args.self.now.core c.args.self.now.volume m call.Volume r (g.met.D.Disk.in_form c.args.self.now.core.filer.swapper.disk) c.sight.ensures.makes) (c.delete_unseen.ensures.passes _ m now.session ((subst (λ (x : Sight). IsSight m c.args.id x) c.in-Ok-By.field-0-is (c.in-Ok-By.ensures.answer m r)).mapped ∙ ap (option_map why.FileMapped) c.in-None.is))
+    record {
+      carried = (carried_out c.sight.new.self.core c.delete_unseen.new.self.core c.sight.new.self.volume c.delete_unseen.new.self.volume m (call.Delete c.args.id) c.delete_unseen.ensures.kept c.delete_unseen.ensures.intervals refl (c.sight.ensures.runs m r) c.delete_unseen.result
+          (λ spaces_of s. c.delete_unseen.ensures.carried spaces_of m s ((subst (λ (x : Sight). IsSight m c.args.id x) c.in-Ok-By.field-0-is (c.in-Ok-By.ensures.answer m r)).mapped ∙ ap (option_map why.FileMapped) c.in-None.is)));
+      sound = (c.delete_unseen.ensures.sound _ m now.session ((subst (λ (x : Sight). IsSight m c.args.id x) c.in-Ok-By.field-0-is (c.in-Ok-By.ensures.answer m r)).mapped ∙ ap (option_map why.FileMapped) c.in-None.is));
+      passes = (asked_then m (call.Delete c.args.id) (asked_passes c.args.self.now.core c.args.self.now.volume m call.Volume r (g.met.D.Disk.in_form (disk_of c.args.self.now.core.filer)) c.sight.ensures.makes) (c.delete_unseen.ensures.passes _ m now.session ((subst (λ (x : Sight). IsSight m c.args.id x) c.in-Ok-By.field-0-is (c.in-Ok-By.ensures.answer m r)).mapped ∙ ap (option_map why.FileMapped) c.in-None.is)));
+      cost = (spent_besides (state c.args.self.now.core).disk (state c.sight.new.self.core).disk (state c.delete_unseen.new.self.core).disk c.sight.ensures.makes.went.sectors (let few = c.sight.ensures.cost in omega (arith, few)) (c.delete_unseen.ensures.bounded _ m now.session));
+    }
 
 pub returns-clause-wrote : goal.returns-clause-wrote
 returns-clause-wrote g c = wrote_then (wrote_by c.sight.ensures.makes tt) c.delete_unseen.ensures.wrote
@@ -82,13 +79,13 @@ returns-clause-wrote g c = wrote_then (wrote_by c.sight.ensures.makes tt) c.dele
 pub returns-clause-counted : goal.returns-clause-counted
 returns-clause-counted g c = λ is. rose_after _ _ _ c.sight.ensures.makes.went.faults (c.delete_unseen.ensures.counted is)
 
-pub returns-clause-layout : goal.returns-clause-layout
-returns-clause-layout g c = c.delete_unseen.ensures.layout ∙ c.sight.ensures.layout
-
-pub returns-clause-cost : goal.returns-clause-cost
-returns-clause-cost g c = λ m r.
-    let now = c.sight.ensures.runs m r in
-    spent_besides (g.D.Disk.state c.args.self.now.core.filer.swapper.disk) (g.D.Disk.state c.sight.new.self.core.filer.swapper.disk) (g.D.Disk.state c.delete_unseen.new.self.core.filer.swapper.disk) c.sight.ensures.makes.went.sectors (let few = c.sight.ensures.cost in omega (arith, few)) (c.delete_unseen.ensures.bounded _ m now.session)
+pub returns-clause-stays : goal.returns-clause-stays
+returns-clause-stays g c = record {
+  open_still = c.delete_unseen.ensures.stays.open_still;
+  monotone = (then_next c.args.self.now.volume.root c.sight.new.self.volume.root c.delete_unseen.new.self.volume.root (ap (λ (v : Volume). v.root) c.sight.ensures.volume) c.delete_unseen.ensures.stays.monotone);
+  serial = (c.delete_unseen.ensures.stays.serial ∙ ap (λ (v : Volume). v.root.serial) c.sight.ensures.volume);
+  layout = (c.delete_unseen.ensures.stays.layout ∙ c.sight.ensures.layout);
+}
 
 pub returns-in-Ok-Hidden-clause-own : goal.returns-in-Ok-Hidden-clause-own
 returns-in-Ok-Hidden-clause-own g c = relabels_own (quiet_own c.args.id c.sight.ensures.makes)
@@ -112,24 +109,35 @@ returns-clause-cause g c = named_halt (state c.args.self.now.core) (state c.sigh
 
 -- ---- The initial state.
 
-pub returns-clause-keeps_to : goal.returns-clause-keeps_to
-returns-clause-keeps_to g c = λ o k. c.delete_unseen.ensures.keeps_to o (c.in-Ok-By.ensures.keeps_to o k)
-
-pub returns-clause-reasons : goal.returns-clause-reasons
-returns-clause-reasons g c = λ o k.
-    reasons_since c.delete_unseen.result o (g.D.Disk.state c.delete_unseen.new.self.core.filer.swapper.disk) c.sight.ensures.layout
-    (c.delete_unseen.ensures.reasons o (c.in-Ok-By.ensures.keeps_to o k))
+pub returns-clause-accounts : goal.returns-clause-accounts
+returns-clause-accounts g c = λ o k. record {
+  keeps_to = ((c.delete_unseen.ensures.accounts o ((c.in-Ok-By.ensures.accounts o k).keeps_to)).keeps_to);
+  reasons = (reasons_since c.delete_unseen.result o (state c.delete_unseen.new.self.core).disk c.sight.ensures.layout
+      ((c.delete_unseen.ensures.accounts o ((c.in-Ok-By.ensures.accounts o k).keeps_to)).reasons));
+  sees = (λ seen. (c.delete_unseen.ensures.accounts o ((c.in-Ok-By.ensures.accounts o k).keeps_to)).sees ((c.in-Ok-By.ensures.accounts o k).sees seen));
+}
 
 -- ---- What is seen of the space tables.
 
-pub returns-clause-sees : goal.returns-clause-sees
-returns-clause-sees g c = λ o k seen.
-    c.delete_unseen.ensures.sees o (c.in-Ok-By.ensures.keeps_to o k) (c.in-Ok-By.ensures.sees o k seen)
-
 -- ---- The next identifier.
 
-pub returns-clause-monotone : goal.returns-clause-monotone
-returns-clause-monotone g c = then_next c.args.self.now.volume.root c.sight.new.self.volume.root c.delete_unseen.new.self.volume.root (ap (λ (v : Volume). v.root) c.sight.ensures.volume) c.delete_unseen.ensures.monotone
+pub returns-in-Ok-Hidden-clause-accounts : goal.returns-in-Ok-Hidden-clause-accounts
+returns-in-Ok-Hidden-clause-accounts g c = λ o k. record {
+  keeps_to = (c.in-Ok-Hidden.ensures.accounts o k).keeps_to;
+  reasons = tt;
+  sees = λ seen. (c.in-Ok-Hidden.ensures.accounts o k).sees seen;
+}
 
-pub returns-clause-serial : goal.returns-clause-serial
-returns-clause-serial g c = c.delete_unseen.ensures.serial ∙ ap (λ (v : Volume). v.root.serial) c.sight.ensures.volume
+pub returns-in-Some-clause-accounts : goal.returns-in-Some-clause-accounts
+returns-in-Some-clause-accounts g c = λ o k. record {
+  keeps_to = (c.in-Ok-By.ensures.accounts o k).keeps_to;
+  reasons = tt;
+  sees = λ seen. (c.in-Ok-By.ensures.accounts o k).sees seen;
+}
+
+pub returns-in-Err-clause-accounts : goal.returns-in-Err-clause-accounts
+returns-in-Err-clause-accounts g c = λ o k. record {
+  keeps_to = tt;
+  reasons = (c.in-Err.ensures.accounts o k).reasons;
+  sees = λ seen. (c.in-Err.ensures.accounts o k).sees seen;
+}

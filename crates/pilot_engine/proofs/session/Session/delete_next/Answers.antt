@@ -14,7 +14,7 @@ use Rattle.fault_core.specs.Core.{state}
 use Rattle.space_calls.proofs.HaltLemmas.{look_reaches}
 use Rattle.labelled_disk.specs.declared.layout.Layout.{Layout}
 use Rattle.file_manager.specs.Reasons.{ShowsReason, telling}
-use Rattle.fault_core.specs.View.{view_of}
+use Rattle.filer_kernel.specs.View.{accepted, disk_of, view_of}
 use Rattle.pilot_engine.proofs.EndNeverBlames.{end_blameless, search_no_table}
 use Rattle.pilot_engine.proofs.HomeLemmas.{file_later, file_pages}
 use Rattle.pilot_engine.proofs.LackLemmas.{search_misses}
@@ -51,24 +51,24 @@ pub returns-in-Err-delete_unless_permanent-clause-wrote : goal.returns-in-Err-de
 returns-in-Err-delete_unless_permanent-clause-wrote g c = wrote_then (wrote_by c.next.ensures.makes tt) c.delete_unless_permanent.ensures.wrote
 
 pub returns-in-Ok-None-clause-stops : goal.returns-in-Ok-None-clause-stops
-returns-in-Ok-None-clause-stops g c = λ spaces_of m s. stops_quiet spaces_of _ _ _ _ m s.session.stands (g.met.D.Disk.in_form c.args.self.now.core.filer.swapper.disk) c.next.ensures.makes
+returns-in-Ok-None-clause-stops g c = λ spaces_of m s. stops_quiet spaces_of _ _ _ _ m s.session.stands (g.met.D.Disk.in_form (disk_of c.args.self.now.core.filer)) c.next.ensures.makes
 
 pub returns-in-Err-clause-stops : goal.returns-in-Err-clause-stops
-returns-in-Err-clause-stops g c = λ spaces_of m s. stops_quiet spaces_of _ _ _ _ m s.session.stands (g.met.D.Disk.in_form c.args.self.now.core.filer.swapper.disk) c.next.ensures.makes
+returns-in-Err-clause-stops g c = λ spaces_of m s. stops_quiet spaces_of _ _ _ _ m s.session.stands (g.met.D.Disk.in_form (disk_of c.args.self.now.core.filer)) c.next.ensures.makes
 
 pub returns-in-Ok-clause-stops : goal.returns-in-Ok-clause-stops
 returns-in-Ok-clause-stops g c = λ spaces_of m s.
     let books = session_books spaces_of _ _ _ _ _ m s.session in
     let f = c.next.ensures in
     let now = asked_alone spaces_of _ _ _ _ _ _ _ _ m s f.makes f.brings (f.same s.session.stands.memory (shapes_of m.files) m.spaces books) _ f.layout in
-    throughout_then (IsOpenStop m) (stops_quiet spaces_of _ _ _ _ m s.session.stands (g.met.D.Disk.in_form c.args.self.now.core.filer.swapper.disk) c.next.ensures.makes) (c.delete_unless_permanent.ensures.stops spaces_of m now)
+    throughout_then (IsOpenStop m) (stops_quiet spaces_of _ _ _ _ m s.session.stands (g.met.D.Disk.in_form (disk_of c.args.self.now.core.filer)) c.next.ensures.makes) (c.delete_unless_permanent.ensures.stops spaces_of m now)
 
 pub returns-in-Err-delete_unless_permanent-clause-stops : goal.returns-in-Err-delete_unless_permanent-clause-stops
 returns-in-Err-delete_unless_permanent-clause-stops g c = λ spaces_of m s.
     let books = session_books spaces_of _ _ _ _ _ m s.session in
     let f = c.next.ensures in
     let now = asked_alone spaces_of _ _ _ _ _ _ _ _ m s f.makes f.brings (f.same s.session.stands.memory (shapes_of m.files) m.spaces books) _ f.layout in
-    throughout_then (IsOpenStop m) (stops_quiet spaces_of _ _ _ _ m s.session.stands (g.met.D.Disk.in_form c.args.self.now.core.filer.swapper.disk) c.next.ensures.makes) (c.delete_unless_permanent.ensures.stops spaces_of m now)
+    throughout_then (IsOpenStop m) (stops_quiet spaces_of _ _ _ _ m s.session.stands (g.met.D.Disk.in_form (disk_of c.args.self.now.core.filer)) c.next.ensures.makes) (c.delete_unless_permanent.ensures.stops spaces_of m now)
 
 pub returns-in-Err-delete_unless_permanent-clause-counted : goal.returns-in-Err-delete_unless_permanent-clause-counted
 returns-in-Err-delete_unless_permanent-clause-counted g c = counted_then _ _ _ c.next.ensures.makes.went.faults c.in-Err-delete_unless_permanent.ensures.counted
@@ -81,7 +81,7 @@ returns-in-Ok-clause-paid g c = λ spaces_of m s.
     let revealed = subst (IsNextFile (shapes_of m.files) c.args.cursor) c.in-Ok-Some.field-0-is (c.in-Ok-Some.ensures.revealed s.session.stands.memory (shapes_of m.files) m.spaces books) in
     let there = next_there m c.args.cursor c.in-Ok-Some.id revealed in
     let step = room_step m.files c.args.cursor c.in-Ok-Some.id there.0 revealed.0 there.1 in
-    let all = visited (g.D.Disk.state c.args.self.now.core.filer.swapper.disk).transfers (g.D.Disk.state c.next.new.filer.swapper.disk).transfers (g.D.Disk.state c.delete_unless_permanent.new.self.core.filer.swapper.disk).transfers (room_above c.args.cursor m.files) (room_above c.in-Ok-Some.id m.files) there.0 step f.cost
+    let all = visited (state c.args.self.now.core).disk.transfers (view_of c.next.new.filer).disk.transfers (state c.delete_unless_permanent.new.self.core).disk.transfers (room_above c.args.cursor m.files) (room_above c.in-Ok-Some.id m.files) there.0 step f.cost
     (c.delete_unless_permanent.ensures.cost spaces_of m there.0 now there.1)
     in
     all
@@ -94,7 +94,7 @@ returns-in-Ok-clause-cost g c = λ spaces_of m s.
     let revealed = subst (IsNextFile (shapes_of m.files) c.args.cursor) c.in-Ok-Some.field-0-is (c.in-Ok-Some.ensures.revealed s.session.stands.memory (shapes_of m.files) m.spaces books) in
     let there = next_there m c.args.cursor c.in-Ok-Some.id revealed in
     let step = room_step m.files c.args.cursor c.in-Ok-Some.id there.0 revealed.0 there.1 in
-    let all = visited (g.D.Disk.state c.args.self.now.core.filer.swapper.disk).transfers (g.D.Disk.state c.next.new.filer.swapper.disk).transfers (g.D.Disk.state c.delete_unless_permanent.new.self.core.filer.swapper.disk).transfers (room_above c.args.cursor m.files) (room_above c.in-Ok-Some.id m.files) there.0 step f.cost
+    let all = visited (state c.args.self.now.core).disk.transfers (view_of c.next.new.filer).disk.transfers (state c.delete_unless_permanent.new.self.core).disk.transfers (room_above c.args.cursor m.files) (room_above c.in-Ok-Some.id m.files) there.0 step f.cost
     (c.delete_unless_permanent.ensures.cost spaces_of m there.0 now there.1)
     in
     omega (arith, all)
@@ -107,7 +107,7 @@ returns-in-Err-delete_unless_permanent-clause-cost g c = λ spaces_of m s.
     let revealed = subst (IsNextFile (shapes_of m.files) c.args.cursor) c.in-Ok-Some.field-0-is (c.in-Ok-Some.ensures.revealed s.session.stands.memory (shapes_of m.files) m.spaces books) in
     let there = next_there m c.args.cursor c.in-Ok-Some.id revealed in
     let step = room_step m.files c.args.cursor c.in-Ok-Some.id there.0 revealed.0 there.1 in
-    let all = visited (g.D.Disk.state c.args.self.now.core.filer.swapper.disk).transfers (g.D.Disk.state c.next.new.filer.swapper.disk).transfers (g.D.Disk.state c.delete_unless_permanent.new.self.core.filer.swapper.disk).transfers (room_above c.args.cursor m.files) (room_above c.in-Ok-Some.id m.files) there.0 step f.cost
+    let all = visited (state c.args.self.now.core).disk.transfers (view_of c.next.new.filer).disk.transfers (state c.delete_unless_permanent.new.self.core).disk.transfers (room_above c.args.cursor m.files) (room_above c.in-Ok-Some.id m.files) there.0 step f.cost
     (c.delete_unless_permanent.ensures.cost spaces_of m there.0 now there.1)
     in
     omega (arith, all)
@@ -131,43 +131,42 @@ returns-in-Err-delete_unless_permanent-clause-cause g c = inr (state (record c.a
 
 -- ---- What began stays a reason.
 
-pub returns-in-Ok-None-clause-keeps_to : goal.returns-in-Ok-None-clause-keeps_to
-returns-in-Ok-None-clause-keeps_to g c = λ o keeps. (keeps.0, (c.in-Ok-None.ensures.keeps_to o keeps.0 keeps.1.0, keeps.1.1))
+pub returns-in-Ok-None-clause-accounts : goal.returns-in-Ok-None-clause-accounts
+returns-in-Ok-None-clause-accounts g c = λ o k. record {
+  keeps_to = ((k.0, (c.in-Ok-None.ensures.keeps_to o k.0 k.1.0, k.1.1)));
+  reasons = tt;
+  sees = (λ seen. let old = c.args.self.now.core in
+      seen_still o (state old) (accepted old.filer) k (view_of c.next.new.filer) (λ b. c.in-Ok-None.ensures.keeps_to (telling o b) k.0) (file_later o c.next.ensures.makes) seen);
+}
 
-pub returns-in-Err-clause-reasons : goal.returns-in-Err-clause-reasons
-returns-in-Err-clause-reasons g c = λ o keeps. c.in-Err.ensures.reasons o keeps.0 keeps.1.0
+pub returns-in-Err-clause-accounts : goal.returns-in-Err-clause-accounts
+returns-in-Err-clause-accounts g c = λ o k. record {
+  keeps_to = tt;
+  reasons = (c.in-Err.ensures.reasons o k.0 k.1.0);
+  sees = (λ seen. let old = c.args.self.now.core in
+      let disk = (view_of c.next.new.filer).disk in
+      end_blameless o disk c.in-Err.halt (seen_blameless o (state old) (accepted old.filer) k (state old).layout disk c.in-Err.halt (λ b. c.in-Err.ensures.reasons (telling o b) k.0)
+      (search_misses (file_pages o disk) (state old).layout (state old).disk (state old).slots disk c.in-Err.halt c.in-Err.ensures.cause) (seen.0, seen.1.0))
+      (search_no_table (state old).layout (state old).disk (state old).slots disk c.in-Err.halt c.in-Err.ensures.cause));
+}
 
-pub returns-in-Ok-clause-keeps_to : goal.returns-in-Ok-clause-keeps_to
-returns-in-Ok-clause-keeps_to g c = λ o keeps. c.in-Ok.ensures.keeps_to o (keeps.0, (c.in-Ok-Some.ensures.keeps_to o keeps.0 keeps.1.0, keeps.1.1))
+pub returns-in-Ok-clause-accounts : goal.returns-in-Ok-clause-accounts
+returns-in-Ok-clause-accounts g c = λ o k. record {
+  keeps_to = ((c.in-Ok.ensures.accounts o (k.0, (c.in-Ok-Some.ensures.keeps_to o k.0 k.1.0, k.1.1))).keeps_to);
+  reasons = tt;
+  sees = (λ seen. let old = c.args.self.now.core in
+      (c.in-Ok.ensures.accounts o (k.0, (c.in-Ok-Some.ensures.keeps_to o k.0 k.1.0, k.1.1))).sees
+      (seen_still o (state old) (accepted old.filer) k (view_of c.next.new.filer) (λ b. c.in-Ok-Some.ensures.keeps_to (telling o b) k.0) (file_later o c.next.ensures.makes) seen));
+}
 
-pub returns-in-Err-delete_unless_permanent-clause-reasons : goal.returns-in-Err-delete_unless_permanent-clause-reasons
-returns-in-Err-delete_unless_permanent-clause-reasons g c = λ o keeps.
-    subst (λ (l : Layout). ShowsReason o l (g.D.Disk.state c.delete_unless_permanent.new.self.core.filer.swapper.disk) c.in-Err-delete_unless_permanent.halt) c.next.ensures.layout
-    (c.in-Err-delete_unless_permanent.ensures.reasons o (keeps.0, (c.in-Ok-Some.ensures.keeps_to o keeps.0 keeps.1.0, keeps.1.1)))
+pub returns-in-Err-delete_unless_permanent-clause-accounts : goal.returns-in-Err-delete_unless_permanent-clause-accounts
+returns-in-Err-delete_unless_permanent-clause-accounts g c = λ o k. record {
+  keeps_to = tt;
+  reasons = (subst (λ (l : Layout). ShowsReason o l (state c.delete_unless_permanent.new.self.core).disk c.in-Err-delete_unless_permanent.halt) c.next.ensures.layout
+      ((c.in-Err-delete_unless_permanent.ensures.accounts o (k.0, (c.in-Ok-Some.ensures.keeps_to o k.0 k.1.0, k.1.1))).reasons));
+  sees = (λ seen. let old = c.args.self.now.core in
+      (c.in-Err-delete_unless_permanent.ensures.accounts o (k.0, (c.in-Ok-Some.ensures.keeps_to o k.0 k.1.0, k.1.1))).sees
+      (seen_still o (state old) (accepted old.filer) k (view_of c.next.new.filer) (λ b. c.in-Ok-Some.ensures.keeps_to (telling o b) k.0) (file_later o c.next.ensures.makes) seen));
+}
 
 -- ---- What is seen of the space tables, and which page is reported as missing.
-
-pub returns-in-Ok-None-clause-sees : goal.returns-in-Ok-None-clause-sees
-returns-in-Ok-None-clause-sees g c = λ o keeps seen.
-    let old = c.args.self.now.core in
-    seen_still o (state old) old.filer.swapper.accepted keeps (view_of c.next.new.filer) (λ b. c.in-Ok-None.ensures.keeps_to (telling o b) keeps.0) (file_later o c.next.ensures.makes) seen
-
-pub returns-in-Err-clause-sees : goal.returns-in-Err-clause-sees
-returns-in-Err-clause-sees g c = λ o keeps seen.
-    let old = c.args.self.now.core in
-    let disk = g.D.Disk.state c.next.new.filer.swapper.disk in
-    end_blameless o disk c.in-Err.halt (seen_blameless o (state old) old.filer.swapper.accepted keeps old.filer.swapper.layout disk c.in-Err.halt (λ b. c.in-Err.ensures.reasons (telling o b) keeps.0)
-    (search_misses (file_pages o disk) old.filer.swapper.layout (g.D.Disk.state old.filer.swapper.disk) old.filer.swapper.pool disk c.in-Err.halt c.in-Err.ensures.cause) (seen.0, seen.1.0))
-    (search_no_table old.filer.swapper.layout (g.D.Disk.state old.filer.swapper.disk) old.filer.swapper.pool disk c.in-Err.halt c.in-Err.ensures.cause)
-
-pub returns-in-Ok-clause-sees : goal.returns-in-Ok-clause-sees
-returns-in-Ok-clause-sees g c = λ o keeps seen.
-    let old = c.args.self.now.core in
-    c.in-Ok.ensures.sees o (keeps.0, (c.in-Ok-Some.ensures.keeps_to o keeps.0 keeps.1.0, keeps.1.1))
-    (seen_still o (state old) old.filer.swapper.accepted keeps (view_of c.next.new.filer) (λ b. c.in-Ok-Some.ensures.keeps_to (telling o b) keeps.0) (file_later o c.next.ensures.makes) seen)
-
-pub returns-in-Err-delete_unless_permanent-clause-sees : goal.returns-in-Err-delete_unless_permanent-clause-sees
-returns-in-Err-delete_unless_permanent-clause-sees g c = λ o keeps seen.
-    let old = c.args.self.now.core in
-    c.in-Err-delete_unless_permanent.ensures.sees o (keeps.0, (c.in-Ok-Some.ensures.keeps_to o keeps.0 keeps.1.0, keeps.1.1))
-    (seen_still o (state old) old.filer.swapper.accepted keeps (view_of c.next.new.filer) (λ b. c.in-Ok-Some.ensures.keeps_to (telling o b) keeps.0) (file_later o c.next.ensures.makes) seen)

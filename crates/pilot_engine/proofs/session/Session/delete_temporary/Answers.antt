@@ -7,9 +7,10 @@ use Rattle.fault_core.specs.Core.{state}
 use Rattle.labelled_disk.specs.declared.layout.Layout.{Layout}
 use Rattle.file_manager.specs.Reasons.{ShowsReason}
 use Rattle.pilot_engine.proofs.session.Session.delete_temporary.Goals as goal
+use Rattle.filer_kernel.specs.View.{disk_of}
 
 pub files-init : goal.files-init
-files-init g c = (cleared_none _ _ _ _ _ c.requires.size c.requires.opened (g.met.D.Disk.in_form c.args.self.now.core.filer.swapper.disk), λ o keeps seen. seen)
+files-init g c = (cleared_none _ _ _ _ _ c.requires.size c.requires.opened (g.met.D.Disk.in_form (disk_of c.args.self.now.core.filer)), λ o keeps seen. seen)
 
 pub delete_next-requires-clause-size : goal.delete_next-requires-clause-size
 delete_next-requires-clause-size g c = c.files.invariant.0.size
@@ -28,8 +29,8 @@ files-smaller g c =
 
 pub files-preserved : goal.files-preserved
 files-preserved g c = (
-  cleared_more _ _ _ _ _ _ _ _ _ _ _ c.files.invariant.0 _ _ _ _ _ _ _ c.in-Ok-Some.field-0-is c.in-Ok-Some.ensures.shed c.delete_next.ensures.stops c.in-Ok-Some.ensures.above c.delete_next.ensures.wrote c.in-Ok-Some.ensures.keeps_to c.delete_next.ensures.open_still c.delete_next.ensures.layout c.in-Ok-Some.ensures.paid,
-  λ o keeps seen. c.in-Ok-Some.ensures.sees o (c.files.invariant.0.keeps o keeps) (c.files.invariant.1 o keeps seen),
+  cleared_more _ _ _ _ _ _ _ _ _ _ _ c.files.invariant.0 _ _ _ _ _ _ _ c.in-Ok-Some.field-0-is c.in-Ok-Some.ensures.shed c.delete_next.ensures.stops c.in-Ok-Some.ensures.above c.delete_next.ensures.wrote (λ o k. (c.in-Ok-Some.ensures.accounts o k).keeps_to) c.delete_next.ensures.open_still c.delete_next.ensures.layout c.in-Ok-Some.ensures.paid,
+  λ o keeps seen. (c.in-Ok-Some.ensures.accounts o (c.files.invariant.0.keeps o keeps)).sees (c.files.invariant.1 o keeps seen),
 )
 
 pub returns-in-Ok-None-clause-shed : goal.returns-in-Ok-None-clause-shed
@@ -51,19 +52,19 @@ pub returns-in-Err-clause-layout : goal.returns-in-Err-clause-layout
 returns-in-Err-clause-layout g c = c.delete_next.ensures.layout ∙ c.files.invariant.0.same_layout
 
 pub returns-in-Ok-None-clause-stops : goal.returns-in-Ok-None-clause-stops
-returns-in-Ok-None-clause-stops g c = cleared_stops _ _ _ _ _ _ _ _ _ _ _ c.files.invariant.0 _ c.delete_next.new.self.core.filer.swapper.pool c.delete_next.new.self.core.filer.swapper.layout c.delete_next.new.self.core.filer.runs c.delete_next.new.self.volume c.delete_next.ensures.stops
+returns-in-Ok-None-clause-stops g c = cleared_stops _ _ _ _ _ _ _ _ _ _ _ c.files.invariant.0 _ (state c.delete_next.new.self.core).slots (state c.delete_next.new.self.core).layout c.delete_next.new.self.core.filer.runs c.delete_next.new.self.volume c.delete_next.ensures.stops
 
 pub returns-in-Err-clause-stops : goal.returns-in-Err-clause-stops
-returns-in-Err-clause-stops g c = cleared_stops _ _ _ _ _ _ _ _ _ _ _ c.files.invariant.0 _ c.delete_next.new.self.core.filer.swapper.pool c.delete_next.new.self.core.filer.swapper.layout c.delete_next.new.self.core.filer.runs c.delete_next.new.self.volume c.delete_next.ensures.stops
+returns-in-Err-clause-stops g c = cleared_stops _ _ _ _ _ _ _ _ _ _ _ c.files.invariant.0 _ (state c.delete_next.new.self.core).slots (state c.delete_next.new.self.core).layout c.delete_next.new.self.core.filer.runs c.delete_next.new.self.volume c.delete_next.ensures.stops
 
 pub returns-in-Err-clause-counted : goal.returns-in-Err-clause-counted
 returns-in-Err-clause-counted g c = counted_then _ _ _ c.files.invariant.0.wrote.makes.went.faults c.in-Err.ensures.counted
 
 pub returns-in-Ok-None-clause-cost : goal.returns-in-Ok-None-clause-cost
-returns-in-Ok-None-clause-cost g c = cleared_paid _ _ _ _ _ _ _ _ _ _ _ c.files.invariant.0 (g.D.Disk.state c.delete_next.new.self.core.filer.swapper.disk).transfers c.delete_next.ensures.cost
+returns-in-Ok-None-clause-cost g c = cleared_paid _ _ _ _ _ _ _ _ _ _ _ c.files.invariant.0 (state c.delete_next.new.self.core).disk.transfers c.delete_next.ensures.cost
 
 pub returns-in-Err-clause-cost : goal.returns-in-Err-clause-cost
-returns-in-Err-clause-cost g c = cleared_paid _ _ _ _ _ _ _ _ _ _ _ c.files.invariant.0 (g.D.Disk.state c.delete_next.new.self.core.filer.swapper.disk).transfers c.delete_next.ensures.cost
+returns-in-Err-clause-cost g c = cleared_paid _ _ _ _ _ _ _ _ _ _ _ c.files.invariant.0 (state c.delete_next.new.self.core).disk.transfers c.delete_next.ensures.cost
 
 -- ---- Why it failed.
 
@@ -72,17 +73,18 @@ returns-in-Err-clause-cause g c = (state c.files.self.core, (c.files.invariant.0
 
 -- ---- What began stays a reason.
 
-pub returns-in-Ok-None-clause-keeps_to : goal.returns-in-Ok-None-clause-keeps_to
-returns-in-Ok-None-clause-keeps_to g c = λ o keeps. c.in-Ok-None.ensures.keeps_to o (c.files.invariant.0.keeps o keeps)
+pub returns-in-Ok-None-clause-accounts : goal.returns-in-Ok-None-clause-accounts
+returns-in-Ok-None-clause-accounts g c = λ o k. record {
+  keeps_to = ((c.in-Ok-None.ensures.accounts o (c.files.invariant.0.keeps o k)).keeps_to);
+  reasons = tt;
+  sees = (λ seen. (c.in-Ok-None.ensures.accounts o (c.files.invariant.0.keeps o k)).sees (c.files.invariant.1 o k seen));
+}
 
-pub returns-in-Err-clause-reasons : goal.returns-in-Err-clause-reasons
-returns-in-Err-clause-reasons g c = λ o keeps.
-    subst (λ (l : Layout). ShowsReason o l (g.D.Disk.state c.delete_next.new.self.core.filer.swapper.disk) c.in-Err.halt) c.files.invariant.0.same_layout (c.in-Err.ensures.reasons o (c.files.invariant.0.keeps o keeps))
+pub returns-in-Err-clause-accounts : goal.returns-in-Err-clause-accounts
+returns-in-Err-clause-accounts g c = λ o k. record {
+  keeps_to = tt;
+  reasons = (subst (λ (l : Layout). ShowsReason o l (state c.delete_next.new.self.core).disk c.in-Err.halt) c.files.invariant.0.same_layout ((c.in-Err.ensures.accounts o (c.files.invariant.0.keeps o k)).reasons));
+  sees = (λ seen. (c.in-Err.ensures.accounts o (c.files.invariant.0.keeps o k)).sees (c.files.invariant.1 o k seen));
+}
 
 -- ---- The space tables are seen.
-
-pub returns-in-Ok-None-clause-sees : goal.returns-in-Ok-None-clause-sees
-returns-in-Ok-None-clause-sees g c = λ o keeps seen. c.in-Ok-None.ensures.sees o (c.files.invariant.0.keeps o keeps) (c.files.invariant.1 o keeps seen)
-
-pub returns-in-Err-clause-sees : goal.returns-in-Err-clause-sees
-returns-in-Err-clause-sees g c = λ o keeps seen. c.in-Err.ensures.sees o (c.files.invariant.0.keeps o keeps) (c.files.invariant.1 o keeps seen)

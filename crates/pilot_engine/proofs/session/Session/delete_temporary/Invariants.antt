@@ -3,12 +3,13 @@ use Rattle.file_manager.specs.Reasons.{KeepsOn, InitialState}
 use Rattle.pilot_engine.specs.Reasons.{SeesHome}
 use Rattle.pilot_engine.proofs.ClearedUpTo.{ClearedUpTo}
 use Rattle.pilot_engine.proofs.session.Session.delete_temporary.Given as goal
+use Rattle.fault_core.specs.Core.{state}
 
 -- the temporary files up to this one are gone, and the space tables are seen where they were
 abbrev pub invariant-files : goal.invariant-files
 invariant-files g l =
-    ClearedUpTo l.cursor (g.D.Disk.state l.fn.self.core.filer.swapper.disk) l.fn.self.core.filer.swapper.pool l.fn.self.core.filer.swapper.layout l.fn.self.core.filer.runs l.fn.self.volume
-    (g.D.Disk.state l.self.core.filer.swapper.disk) l.self.core.filer.swapper.pool l.self.core.filer.swapper.layout l.self.core.filer.runs l.self.volume
+    ClearedUpTo l.cursor (state l.fn.self.core).disk (state l.fn.self.core).slots (state l.fn.self.core).layout l.fn.self.core.filer.runs l.fn.self.volume
+    (state l.self.core).disk (state l.self.core).slots (state l.self.core).layout l.self.core.filer.runs l.self.volume
     × ((o : InitialState) → KeepsOn o l.fn.self.core.filer → SeesHome o l.fn.self.core → SeesHome o l.self.core)
 
 abbrev pub decreases-files : goal.decreases-files

@@ -14,7 +14,7 @@ use Rattle.fault_core.specs.Core.{state}
 use Rattle.space_calls.proofs.HaltLemmas.{look_reaches}
 use Rattle.labelled_disk.specs.declared.layout.Layout.{Layout}
 use Rattle.file_manager.specs.Reasons.{ShowsReason, telling}
-use Rattle.fault_core.specs.View.{view_of}
+use Rattle.filer_kernel.specs.View.{accepted, disk_of, view_of}
 use Rattle.pilot_engine.proofs.EndNeverBlames.{end_blameless, look_no_table, remove_no_table}
 use Rattle.pilot_engine.proofs.HomeLemmas.{file_after, file_later, file_pages, found_file, misses_file}
 use Rattle.pilot_engine.proofs.LackLemmas.{look_misses, remove_misses_own}
@@ -64,13 +64,13 @@ pub returns-in-Err-delete-clause-wrote : goal.returns-in-Err-delete-clause-wrote
 returns-in-Err-delete-clause-wrote g c = wrote_then (wrote_by c.attributes_of.ensures.makes tt) (wrote_by c.in-Err-delete.ensures.stopped.makes (freeing_open c.in-Err-delete.ensures.stopped.sectors))
 
 pub returns-in-Ok-None-clause-stops : goal.returns-in-Ok-None-clause-stops
-returns-in-Ok-None-clause-stops g c = λ spaces_of m s. stops_quiet spaces_of _ _ _ _ m s.session.stands (g.met.D.Disk.in_form c.args.self.now.core.filer.swapper.disk) c.attributes_of.ensures.makes
+returns-in-Ok-None-clause-stops g c = λ spaces_of m s. stops_quiet spaces_of _ _ _ _ m s.session.stands (g.met.D.Disk.in_form (disk_of c.args.self.now.core.filer)) c.attributes_of.ensures.makes
 
 pub returns-in-Err-clause-stops : goal.returns-in-Err-clause-stops
-returns-in-Err-clause-stops g c = λ spaces_of m s. stops_quiet spaces_of _ _ _ _ m s.session.stands (g.met.D.Disk.in_form c.args.self.now.core.filer.swapper.disk) c.attributes_of.ensures.makes
+returns-in-Err-clause-stops g c = λ spaces_of m s. stops_quiet spaces_of _ _ _ _ m s.session.stands (g.met.D.Disk.in_form (disk_of c.args.self.now.core.filer)) c.attributes_of.ensures.makes
 
 pub returns-then-found-clause-stops : goal.returns-then-found-clause-stops
-returns-then-found-clause-stops g c = λ spaces_of m s. stops_quiet spaces_of _ _ _ _ m s.session.stands (g.met.D.Disk.in_form c.args.self.now.core.filer.swapper.disk) c.attributes_of.ensures.makes
+returns-then-found-clause-stops g c = λ spaces_of m s. stops_quiet spaces_of _ _ _ _ m s.session.stands (g.met.D.Disk.in_form (disk_of c.args.self.now.core.filer)) c.attributes_of.ensures.makes
 
 pub returns-in-Ok-clause-stops : goal.returns-in-Ok-clause-stops
 returns-in-Ok-clause-stops g c = λ spaces_of m s.
@@ -81,7 +81,7 @@ returns-in-Ok-clause-stops g c = λ spaces_of m s.
     let now = books_now spaces_of _ _ _ _ _ _ _ _ _ m s f.makes f.brings (f.same x (shapes_of m.files) m.spaces books) f.layout c.args.id _ revealed in
     let hidden = none_shown m.spaces s.alone c.args.id in
     let d = c.in-Ok.ensures.deleted x (shapes_of m.files) m.spaces _ now revealed hidden in
-    stops_deleted spaces_of _ _ _ _ m s.session.stands (g.met.D.Disk.in_form c.args.self.now.core.filer.swapper.disk) _ _ c.args.id _ s.alone revealed c.if-found.false f.makes (inr (record { leader = d.leader; sectors = d.sectors; makes = d.leads.goes.makes; stops = d.stops }))
+    stops_deleted spaces_of _ _ _ _ m s.session.stands (g.met.D.Disk.in_form (disk_of c.args.self.now.core.filer)) _ _ c.args.id _ s.alone revealed c.if-found.false f.makes (inr (record { leader = d.leader; sectors = d.sectors; makes = d.leads.goes.makes; stops = d.stops }))
 
 pub returns-in-Err-delete-clause-stops : goal.returns-in-Err-delete-clause-stops
 returns-in-Err-delete-clause-stops g c = λ spaces_of m s.
@@ -91,19 +91,19 @@ returns-in-Err-delete-clause-stops g c = λ spaces_of m s.
     let revealed = subst (IsAttributesOf (shapes_of m.files c.args.id)) c.in-Ok-Some.field-0-is (c.in-Ok-Some.ensures.revealed x (shapes_of m.files) m.spaces books) in
     let now = books_now spaces_of _ _ _ _ _ _ _ _ _ m s f.makes f.brings (f.same x (shapes_of m.files) m.spaces books) f.layout c.args.id _ revealed in
     let hidden = none_shown m.spaces s.alone c.args.id in
-    stops_deleted spaces_of _ _ _ _ m s.session.stands (g.met.D.Disk.in_form c.args.self.now.core.filer.swapper.disk) _ _ c.args.id _ s.alone revealed c.if-found.false f.makes (c.in-Err-delete.ensures.first x (shapes_of m.files) m.spaces _ now revealed hidden)
+    stops_deleted spaces_of _ _ _ _ m s.session.stands (g.met.D.Disk.in_form (disk_of c.args.self.now.core.filer)) _ _ c.args.id _ s.alone revealed c.if-found.false f.makes (c.in-Err-delete.ensures.first x (shapes_of m.files) m.spaces _ now revealed hidden)
 
 pub returns-in-Err-delete-clause-counted : goal.returns-in-Err-delete-clause-counted
 returns-in-Err-delete-clause-counted g c = counted_then _ _ _ c.attributes_of.ensures.makes.went.faults c.in-Err-delete.ensures.counted
 
 pub returns-in-Ok-None-clause-cost : goal.returns-in-Ok-None-clause-cost
-returns-in-Ok-None-clause-cost g c = λ spaces_of m f s found. looked_cost (g.D.Disk.state c.args.self.now.core.filer.swapper.disk).transfers (g.D.Disk.state c.attributes_of.new.filer.swapper.disk).transfers f c.attributes_of.ensures.cost
+returns-in-Ok-None-clause-cost g c = λ spaces_of m f s found. looked_cost (state c.args.self.now.core).disk.transfers (view_of c.attributes_of.new.filer).disk.transfers f c.attributes_of.ensures.cost
 
 pub returns-in-Err-clause-cost : goal.returns-in-Err-clause-cost
-returns-in-Err-clause-cost g c = λ spaces_of m f s found. looked_cost (g.D.Disk.state c.args.self.now.core.filer.swapper.disk).transfers (g.D.Disk.state c.attributes_of.new.filer.swapper.disk).transfers f c.attributes_of.ensures.cost
+returns-in-Err-clause-cost g c = λ spaces_of m f s found. looked_cost (state c.args.self.now.core).disk.transfers (view_of c.attributes_of.new.filer).disk.transfers f c.attributes_of.ensures.cost
 
 pub returns-then-found-clause-cost : goal.returns-then-found-clause-cost
-returns-then-found-clause-cost g c = λ spaces_of m f s found. looked_cost (g.D.Disk.state c.args.self.now.core.filer.swapper.disk).transfers (g.D.Disk.state c.attributes_of.new.filer.swapper.disk).transfers f c.attributes_of.ensures.cost
+returns-then-found-clause-cost g c = λ spaces_of m f s found. looked_cost (state c.args.self.now.core).disk.transfers (view_of c.attributes_of.new.filer).disk.transfers f c.attributes_of.ensures.cost
 
 pub returns-in-Ok-clause-cost : goal.returns-in-Ok-clause-cost
 returns-in-Ok-clause-cost g c = λ spaces_of m f s found.
@@ -113,7 +113,7 @@ returns-in-Ok-clause-cost g c = λ spaces_of m f s found.
     let revealed = subst (IsAttributesOf (shapes_of m.files c.args.id)) c.in-Ok-Some.field-0-is (c.in-Ok-Some.ensures.revealed x (shapes_of m.files) m.spaces books) in
     let now = books_now spaces_of _ _ _ _ _ _ _ _ _ m s look.makes look.brings (look.same x (shapes_of m.files) m.spaces books) look.layout c.args.id _ revealed in
     let hidden = none_shown m.spaces s.alone c.args.id in
-    deleted_cost c.args.self.now.core.filer.swapper.layout c.attributes_of.new.filer.swapper.layout c.args.self.now.core.filer.swapper.accepted look.layout (g.D.Disk.state c.args.self.now.core.filer.swapper.disk).transfers (g.D.Disk.state c.attributes_of.new.filer.swapper.disk).transfers (g.D.Disk.state c.delete.new.filer.swapper.disk).transfers
+    deleted_cost (state c.args.self.now.core).layout (view_of c.attributes_of.new.filer).layout (accepted c.args.self.now.core.filer) look.layout (state c.args.self.now.core).disk.transfers (view_of c.attributes_of.new.filer).disk.transfers (view_of c.delete.new.filer).disk.transfers
     c.in-Ok-Some.found.pages f (pages_revealed m c.args.id f c.in-Ok-Some.found found revealed) look.cost (c.delete.ensures.cost_sized x (shapes_of m.files) m.spaces _ now revealed hidden)
 
 pub returns-in-Err-delete-clause-cost : goal.returns-in-Err-delete-clause-cost
@@ -124,7 +124,7 @@ returns-in-Err-delete-clause-cost g c = λ spaces_of m f s found.
     let revealed = subst (IsAttributesOf (shapes_of m.files c.args.id)) c.in-Ok-Some.field-0-is (c.in-Ok-Some.ensures.revealed x (shapes_of m.files) m.spaces books) in
     let now = books_now spaces_of _ _ _ _ _ _ _ _ _ m s look.makes look.brings (look.same x (shapes_of m.files) m.spaces books) look.layout c.args.id _ revealed in
     let hidden = none_shown m.spaces s.alone c.args.id in
-    deleted_cost c.args.self.now.core.filer.swapper.layout c.attributes_of.new.filer.swapper.layout c.args.self.now.core.filer.swapper.accepted look.layout (g.D.Disk.state c.args.self.now.core.filer.swapper.disk).transfers (g.D.Disk.state c.attributes_of.new.filer.swapper.disk).transfers (g.D.Disk.state c.delete.new.filer.swapper.disk).transfers
+    deleted_cost (state c.args.self.now.core).layout (view_of c.attributes_of.new.filer).layout (accepted c.args.self.now.core.filer) look.layout (state c.args.self.now.core).disk.transfers (view_of c.attributes_of.new.filer).disk.transfers (view_of c.delete.new.filer).disk.transfers
     c.in-Ok-Some.found.pages f (pages_revealed m c.args.id f c.in-Ok-Some.found found revealed) look.cost (c.delete.ensures.cost_sized x (shapes_of m.files) m.spaces _ now revealed hidden)
 
 -- ---- Why it failed.
@@ -137,55 +137,54 @@ returns-in-Err-delete-clause-cause g c = inr (state (record c.args.self.now.core
 
 -- ---- What began stays a reason.
 
-pub returns-in-Ok-None-clause-keeps_to : goal.returns-in-Ok-None-clause-keeps_to
-returns-in-Ok-None-clause-keeps_to g c = λ o keeps. (keeps.0, (c.in-Ok-None.ensures.keeps_to o keeps.0 keeps.1.0, keeps.1.1))
+pub returns-in-Ok-None-clause-accounts : goal.returns-in-Ok-None-clause-accounts
+returns-in-Ok-None-clause-accounts g c = λ o k. record {
+  keeps_to = ((k.0, (c.in-Ok-None.ensures.keeps_to o k.0 k.1.0, k.1.1)));
+  reasons = tt;
+  sees = (λ seen. let old = c.args.self.now.core in
+      seen_still o (state old) (accepted old.filer) k (view_of c.attributes_of.new.filer) (λ b. c.in-Ok-None.ensures.keeps_to (telling o b) k.0) (file_later o c.attributes_of.ensures.makes) seen);
+}
 
-pub returns-then-found-clause-keeps_to : goal.returns-then-found-clause-keeps_to
-returns-then-found-clause-keeps_to g c = λ o keeps. (keeps.0, (c.in-Ok-Some.ensures.keeps_to o keeps.0 keeps.1.0, keeps.1.1))
+pub returns-then-found-clause-accounts : goal.returns-then-found-clause-accounts
+returns-then-found-clause-accounts g c = λ o k. record {
+  keeps_to = ((k.0, (c.in-Ok-Some.ensures.keeps_to o k.0 k.1.0, k.1.1)));
+  reasons = tt;
+  sees = (λ seen. let old = c.args.self.now.core in
+      seen_still o (state old) (accepted old.filer) k (view_of c.attributes_of.new.filer) (λ b. c.in-Ok-Some.ensures.keeps_to (telling o b) k.0) (file_later o c.attributes_of.ensures.makes) seen);
+}
 
-pub returns-in-Err-clause-reasons : goal.returns-in-Err-clause-reasons
-returns-in-Err-clause-reasons g c = λ o keeps. c.in-Err.ensures.reasons o keeps.0 keeps.1.0
+pub returns-in-Err-clause-accounts : goal.returns-in-Err-clause-accounts
+returns-in-Err-clause-accounts g c = λ o k. record {
+  keeps_to = tt;
+  reasons = (c.in-Err.ensures.reasons o k.0 k.1.0);
+  sees = (λ seen. let old = c.args.self.now.core in
+      let disk = (view_of c.attributes_of.new.filer).disk in
+      end_blameless o disk c.in-Err.halt (seen_blameless o (state old) (accepted old.filer) k (state old).layout disk c.in-Err.halt (λ b. c.in-Err.ensures.reasons (telling o b) k.0)
+      (look_misses (file_pages o disk) c.args.id (state old) (view_of c.attributes_of.new.filer) c.in-Err.halt c.in-Err.ensures.cause) (seen.0, seen.1.0))
+      (look_no_table c.args.id (state old) (view_of c.attributes_of.new.filer) c.in-Err.halt c.in-Err.ensures.cause));
+}
 
-pub returns-in-Ok-clause-keeps_to : goal.returns-in-Ok-clause-keeps_to
-returns-in-Ok-clause-keeps_to g c = λ o keeps. let from = c.in-Ok.ensures.keeps_to o keeps.0 (c.in-Ok-Some.ensures.keeps_to o keeps.0 keeps.1.0) in (from.0, (from.1, (from.2 keeps.1.1.0, keeps.1.1.1)))
+pub returns-in-Ok-clause-accounts : goal.returns-in-Ok-clause-accounts
+returns-in-Ok-clause-accounts g c = λ o k. record {
+  keeps_to = (let from = c.in-Ok.ensures.keeps_to o k.0 (c.in-Ok-Some.ensures.keeps_to o k.0 k.1.0) in (from.0, (from.1, (from.2 k.1.1.0, k.1.1.1))));
+  reasons = tt;
+  sees = (λ seen. let old = c.args.self.now.core in
+      seen_from o (state old) (accepted old.filer) k (view_of c.delete.new.filer) (λ b h. c.in-Ok.ensures.keeps_to (telling o b) k.0 (c.in-Ok-Some.ensures.keeps_to (telling o b) k.0 h))
+      (file_after o (returns-in-Ok-clause-wrote g c)) seen);
+}
 
-pub returns-in-Err-delete-clause-reasons : goal.returns-in-Err-delete-clause-reasons
-returns-in-Err-delete-clause-reasons g c = λ o keeps.
-    subst (λ (l : Layout). ShowsReason o l (g.D.Disk.state c.delete.new.filer.swapper.disk) c.in-Err-delete.halt) c.attributes_of.ensures.layout
-    (c.in-Err-delete.ensures.reasons o keeps.0 (c.in-Ok-Some.ensures.keeps_to o keeps.0 keeps.1.0))
+pub returns-in-Err-delete-clause-accounts : goal.returns-in-Err-delete-clause-accounts
+returns-in-Err-delete-clause-accounts g c = λ o k. record {
+  keeps_to = tt;
+  reasons = (subst (λ (l : Layout). ShowsReason o l (view_of c.delete.new.filer).disk c.in-Err-delete.halt) c.attributes_of.ensures.layout
+      (c.in-Err-delete.ensures.reasons o k.0 (c.in-Ok-Some.ensures.keeps_to o k.0 k.1.0)));
+  sees = (λ seen. let old = c.args.self.now.core in
+      let disk = (view_of c.delete.new.filer).disk in
+      let was = found_file k.1.0 c.args.id _ _ c.in-Ok-Some.field-0-is c.in-Ok-Some.ensures.leader in
+      end_blameless o disk c.in-Err-delete.halt (seen_blameless o (state old) (accepted old.filer) k (view_of c.attributes_of.new.filer).layout disk c.in-Err-delete.halt (λ b h. c.in-Err-delete.ensures.reasons (telling o b) k.0 (c.in-Ok-Some.ensures.keeps_to (telling o b) k.0 h))
+      (misses_file (c.in-Ok-Some.ensures.keeps_to o k.0 k.1.0) disk (file_later o c.in-Err-delete.ensures.stopped.makes) c.args.id (file_after o (returns-in-Err-delete-clause-wrote g c) c.args.id leader_page was) c.in-Err-delete.halt
+      (remove_misses_own c.args.id (view_of c.attributes_of.new.filer) (view_of c.delete.new.filer) c.in-Err-delete.halt c.in-Err-delete.ensures.cause)) (seen.0, seen.1.0))
+      (remove_no_table c.args.id c.requires.client (view_of c.attributes_of.new.filer) (view_of c.delete.new.filer) c.in-Err-delete.halt c.in-Err-delete.ensures.cause));
+}
 
 -- ---- What is seen of the space tables, and which page is reported as missing.
-
-pub returns-in-Ok-None-clause-sees : goal.returns-in-Ok-None-clause-sees
-returns-in-Ok-None-clause-sees g c = λ o keeps seen.
-    let old = c.args.self.now.core in
-    seen_still o (state old) old.filer.swapper.accepted keeps (view_of c.attributes_of.new.filer) (λ b. c.in-Ok-None.ensures.keeps_to (telling o b) keeps.0) (file_later o c.attributes_of.ensures.makes) seen
-
-pub returns-in-Err-clause-sees : goal.returns-in-Err-clause-sees
-returns-in-Err-clause-sees g c = λ o keeps seen.
-    let old = c.args.self.now.core in
-    let disk = g.D.Disk.state c.attributes_of.new.filer.swapper.disk in
-    end_blameless o disk c.in-Err.halt (seen_blameless o (state old) old.filer.swapper.accepted keeps old.filer.swapper.layout disk c.in-Err.halt (λ b. c.in-Err.ensures.reasons (telling o b) keeps.0)
-    (look_misses (file_pages o disk) c.args.id (state old) (view_of c.attributes_of.new.filer) c.in-Err.halt c.in-Err.ensures.cause) (seen.0, seen.1.0))
-    (look_no_table c.args.id (state old) (view_of c.attributes_of.new.filer) c.in-Err.halt c.in-Err.ensures.cause)
-
-pub returns-then-found-clause-sees : goal.returns-then-found-clause-sees
-returns-then-found-clause-sees g c = λ o keeps seen.
-    let old = c.args.self.now.core in
-    seen_still o (state old) old.filer.swapper.accepted keeps (view_of c.attributes_of.new.filer) (λ b. c.in-Ok-Some.ensures.keeps_to (telling o b) keeps.0) (file_later o c.attributes_of.ensures.makes) seen
-
-pub returns-in-Ok-clause-sees : goal.returns-in-Ok-clause-sees
-returns-in-Ok-clause-sees g c = λ o keeps seen.
-    let old = c.args.self.now.core in
-    seen_from o (state old) old.filer.swapper.accepted keeps (view_of c.delete.new.filer) (λ b h. c.in-Ok.ensures.keeps_to (telling o b) keeps.0 (c.in-Ok-Some.ensures.keeps_to (telling o b) keeps.0 h))
-    (file_after o (returns-in-Ok-clause-wrote g c)) seen
-
-pub returns-in-Err-delete-clause-sees : goal.returns-in-Err-delete-clause-sees
-returns-in-Err-delete-clause-sees g c = λ o keeps seen.
-    let old = c.args.self.now.core in
-    let disk = g.D.Disk.state c.delete.new.filer.swapper.disk in
-    let was = found_file keeps.1.0 c.args.id _ _ c.in-Ok-Some.field-0-is c.in-Ok-Some.ensures.leader in
-    end_blameless o disk c.in-Err-delete.halt (seen_blameless o (state old) old.filer.swapper.accepted keeps c.attributes_of.new.filer.swapper.layout disk c.in-Err-delete.halt (λ b h. c.in-Err-delete.ensures.reasons (telling o b) keeps.0 (c.in-Ok-Some.ensures.keeps_to (telling o b) keeps.0 h))
-    (misses_file (c.in-Ok-Some.ensures.keeps_to o keeps.0 keeps.1.0) disk (file_later o c.in-Err-delete.ensures.stopped.makes) c.args.id (file_after o (returns-in-Err-delete-clause-wrote g c) c.args.id leader_page was) c.in-Err-delete.halt
-    (remove_misses_own c.args.id (view_of c.attributes_of.new.filer) (view_of c.delete.new.filer) c.in-Err-delete.halt c.in-Err-delete.ensures.cause)) (seen.0, seen.1.0))
-    (remove_no_table c.args.id c.requires.client (view_of c.attributes_of.new.filer) (view_of c.delete.new.filer) c.in-Err-delete.halt c.in-Err-delete.ensures.cause)

@@ -1,4 +1,4 @@
-use Rattle.std.proofs.Common.{Option, ap, subst, arith, inl, inr}
+use Rattle.std.proofs.Common.{ap, arith, inl, inr, Option, rules, subst}
 use Rattle.labelled_disk.specs.Label.{leader_page}
 use Rattle.flat_machine.specs.declared.call.Call.TheVariants as call
 use Rattle.file_manager.specs.declared.attributes.Attributes.{Attributes}
@@ -17,7 +17,7 @@ use Rattle.fault_core.specs.Core.{state}
 use Rattle.space_calls.proofs.HaltLemmas.{look_reaches}
 use Rattle.pilot_engine.proofs.ReasonSteps.{shows_since}
 use Rattle.file_manager.specs.Reasons.{telling}
-use Rattle.fault_core.specs.View.{view_of}
+use Rattle.filer_kernel.specs.View.{accepted, disk_of, view_of}
 use Rattle.pilot_engine.proofs.HomeLemmas.{file_after, file_later, file_pages, found_file, misses_file}
 use Rattle.pilot_engine.proofs.LackLemmas.{look_misses, remove_misses_own}
 use Rattle.pilot_engine.proofs.SeesLemmas.{same_next, seen_from, seen_blameless, seen_still}
@@ -31,13 +31,13 @@ returns-in-Ok-None-clause-carried g c = λ spaces_of m s unseen.
     c.args.id revealed (call.Delete c.args.id) (λ none. delete_gone m c.args.id (no_file_missing m c.args.id none))
 
 pub returns-in-Ok-None-clause-passes : goal.returns-in-Ok-None-clause-passes
-returns-in-Ok-None-clause-passes g c = λ spaces_of m s unseen. no_step spaces_of _ _ _ _ m (call.Delete c.args.id) s.stands c.attributes_of.ensures.makes (g.met.D.Disk.in_form c.args.self.now.core.filer.swapper.disk)
+returns-in-Ok-None-clause-passes g c = λ spaces_of m s unseen. no_step spaces_of _ _ _ _ m (call.Delete c.args.id) s.stands c.attributes_of.ensures.makes (g.met.D.Disk.in_form (disk_of c.args.self.now.core.filer))
 
 pub returns-in-Err-clause-sound : goal.returns-in-Err-clause-sound
 returns-in-Err-clause-sound g c = λ spaces_of m s unseen. c.in-Err.ensures.revealed s.stands.memory (shapes_of m.files) m.spaces (session_books spaces_of _ _ _ _ _ m s)
 
 pub returns-in-Err-clause-passes : goal.returns-in-Err-clause-passes
-returns-in-Err-clause-passes g c = λ spaces_of m s unseen. no_step spaces_of _ _ _ _ m (call.Delete c.args.id) s.stands c.attributes_of.ensures.makes (g.met.D.Disk.in_form c.args.self.now.core.filer.swapper.disk)
+returns-in-Err-clause-passes g c = λ spaces_of m s unseen. no_step spaces_of _ _ _ _ m (call.Delete c.args.id) s.stands c.attributes_of.ensures.makes (g.met.D.Disk.in_form (disk_of c.args.self.now.core.filer))
 
 pub returns-in-Ok-clause-carried : goal.returns-in-Ok-clause-carried
 returns-in-Ok-clause-carried g c = λ spaces_of m s unseen.
@@ -59,7 +59,7 @@ returns-in-Ok-clause-passes g c = λ spaces_of m s unseen.
     let at = books_at _ _ _ _ _ _ _ _ mid c.attributes_of.ensures.layout in
     let deleted = c.in-Ok.ensures.deleted s.stands.memory (shapes_of m.files) m.spaces _ at revealed (unseen_pages m c.args.id unseen) in
     delete_passed spaces_of _ _ _ _ _ _ _ _ _ m s c.attributes_of.ensures.makes c.attributes_of.ensures.brings mid c.attributes_of.ensures.layout _ _ _ c.args.self.now.volume c.args.id _ revealed (let f = file_revealed m c.args.id _ revealed in delete_free m c.args.id f.0 f.1 (unseen_named m c.args.id unseen) unseen)
-    (g.met.D.Disk.in_form c.args.self.now.core.filer.swapper.disk) deleted
+    (g.met.D.Disk.in_form (disk_of c.args.self.now.core.filer)) deleted
 
 pub returns-in-Ok-clause-wrote : goal.returns-in-Ok-clause-wrote
 returns-in-Ok-clause-wrote g c = freed_wrote c.attributes_of.ensures.makes c.in-Ok.ensures.makes
@@ -78,38 +78,38 @@ returns-in-Err-delete-clause-passes g c = λ spaces_of m s unseen.
     let mid = c.attributes_of.ensures.same s.stands.memory (shapes_of m.files) m.spaces books in
     let first = c.in-Err-delete.ensures.first s.stands.memory (shapes_of m.files) m.spaces _ (books_at _ _ _ _ _ _ _ _ mid c.attributes_of.ensures.layout) revealed (unseen_pages m c.args.id unseen) in
     delete_broken spaces_of _ _ _ _ _ _ _ _ _ m s c.attributes_of.ensures.makes c.attributes_of.ensures.brings mid c.attributes_of.ensures.layout _ _ c.args.self.now.core.filer.runs c.args.self.now.volume c.args.id _ revealed (let f = file_revealed m c.args.id _ revealed in delete_free m c.args.id f.0 f.1 (unseen_named m c.args.id unseen) unseen)
-    (g.met.D.Disk.in_form c.args.self.now.core.filer.swapper.disk) first
+    (g.met.D.Disk.in_form (disk_of c.args.self.now.core.filer)) first
 
 pub returns-in-Err-delete-clause-wrote : goal.returns-in-Err-delete-clause-wrote
 returns-in-Err-delete-clause-wrote g c = some_freed_wrote c.attributes_of.ensures.makes c.in-Err-delete.ensures.stopped
 
 pub returns-in-Ok-None-clause-bounded : goal.returns-in-Ok-None-clause-bounded
-returns-in-Ok-None-clause-bounded g c = λ spaces_of m s. inside_layout c.args.self.now.core.filer.swapper.layout (g.D.Disk.state c.args.self.now.core.filer.swapper.disk) (g.D.Disk.state c.attributes_of.new.filer.swapper.disk) c.requires.size (inside _ _ _ 29 (omega arith) c.attributes_of.ensures.cost)
+returns-in-Ok-None-clause-bounded g c = λ spaces_of m s. inside_layout (state c.args.self.now.core).layout (state c.args.self.now.core).disk (view_of c.attributes_of.new.filer).disk c.requires.size (inside _ _ _ 29 (omega arith) c.attributes_of.ensures.cost)
 
 pub returns-in-Err-clause-bounded : goal.returns-in-Err-clause-bounded
-returns-in-Err-clause-bounded g c = λ spaces_of m s. inside_layout c.args.self.now.core.filer.swapper.layout (g.D.Disk.state c.args.self.now.core.filer.swapper.disk) (g.D.Disk.state c.attributes_of.new.filer.swapper.disk) c.requires.size (inside _ _ _ 29 (omega arith) c.attributes_of.ensures.cost)
+returns-in-Err-clause-bounded g c = λ spaces_of m s. inside_layout (state c.args.self.now.core).layout (state c.args.self.now.core).disk (view_of c.attributes_of.new.filer).disk c.requires.size (inside _ _ _ 29 (omega arith) c.attributes_of.ensures.cost)
 
 pub returns-in-Ok-clause-bounded : goal.returns-in-Ok-clause-bounded
 returns-in-Ok-clause-bounded g c = λ spaces_of m s.
-    let layout = c.args.self.now.core.filer.swapper.layout in
+    let layout = (state c.args.self.now.core).layout in
     let books = session_books spaces_of _ _ _ _ _ m s in
     let revealed = subst (λ (o : Option Attributes). IsAttributesOf (shapes_of m.files c.args.id) o) c.in-Ok-Some.field-0-is (c.in-Ok-Some.ensures.revealed s.stands.memory (shapes_of m.files) m.spaces books) in
     let mid = c.attributes_of.ensures.same s.stands.memory (shapes_of m.files) m.spaces books in
     let at = books_at _ _ _ _ _ _ _ _ mid c.attributes_of.ensures.layout in
     let paid = c.delete.ensures.cost_revealed s.stands.memory (shapes_of m.files) m.spaces _ at revealed in
-    delete_revealed spaces_of (g.D.Disk.state c.args.self.now.core.filer.swapper.disk) _ layout _ _ m s c.requires.opened c.args.self.now.core.filer.swapper.accepted c.attributes_of.new.filer.swapper.layout c.attributes_of.ensures.layout
-    (g.D.Disk.state c.attributes_of.new.filer.swapper.disk) (g.D.Disk.state c.delete.new.filer.swapper.disk) c.args.id _ revealed c.requires.size c.attributes_of.ensures.cost paid
+    delete_revealed spaces_of (state c.args.self.now.core).disk _ layout _ _ m s c.requires.opened (accepted c.args.self.now.core.filer) (view_of c.attributes_of.new.filer).layout c.attributes_of.ensures.layout
+    (view_of c.attributes_of.new.filer).disk (view_of c.delete.new.filer).disk c.args.id _ revealed c.requires.size c.attributes_of.ensures.cost paid
 
 pub returns-in-Err-delete-clause-bounded : goal.returns-in-Err-delete-clause-bounded
 returns-in-Err-delete-clause-bounded g c = λ spaces_of m s.
-    let layout = c.args.self.now.core.filer.swapper.layout in
+    let layout = (state c.args.self.now.core).layout in
     let books = session_books spaces_of _ _ _ _ _ m s in
     let revealed = subst (λ (o : Option Attributes). IsAttributesOf (shapes_of m.files c.args.id) o) c.in-Ok-Some.field-0-is (c.in-Ok-Some.ensures.revealed s.stands.memory (shapes_of m.files) m.spaces books) in
     let mid = c.attributes_of.ensures.same s.stands.memory (shapes_of m.files) m.spaces books in
     let at = books_at _ _ _ _ _ _ _ _ mid c.attributes_of.ensures.layout in
     let paid = c.delete.ensures.cost_revealed s.stands.memory (shapes_of m.files) m.spaces _ at revealed in
-    delete_revealed spaces_of (g.D.Disk.state c.args.self.now.core.filer.swapper.disk) _ layout _ _ m s c.requires.opened c.args.self.now.core.filer.swapper.accepted c.attributes_of.new.filer.swapper.layout c.attributes_of.ensures.layout
-    (g.D.Disk.state c.attributes_of.new.filer.swapper.disk) (g.D.Disk.state c.delete.new.filer.swapper.disk) c.args.id _ revealed c.requires.size c.attributes_of.ensures.cost paid
+    delete_revealed spaces_of (state c.args.self.now.core).disk _ layout _ _ m s c.requires.opened (accepted c.args.self.now.core.filer) (view_of c.attributes_of.new.filer).layout c.attributes_of.ensures.layout
+    (view_of c.attributes_of.new.filer).disk (view_of c.delete.new.filer).disk c.args.id _ revealed c.requires.size c.attributes_of.ensures.cost paid
 
 pub returns-in-Ok-None-clause-own : goal.returns-in-Ok-None-clause-own
 returns-in-Ok-None-clause-own g c = relabels_own (quiet_own c.args.id c.attributes_of.ensures.makes)
@@ -133,59 +133,62 @@ returns-in-Err-delete-clause-cause g c = inr (state (record c.args.self.now.core
 
 -- ---- The initial state.
 
-pub returns-in-Ok-None-clause-keeps_to : goal.returns-in-Ok-None-clause-keeps_to
-returns-in-Ok-None-clause-keeps_to g c = λ o k. (k.0, (c.in-Ok-None.ensures.keeps_to o k.0 k.1.0, k.1.1))
+pub returns-in-Ok-None-clause-accounts : goal.returns-in-Ok-None-clause-accounts
+returns-in-Ok-None-clause-accounts g c = λ o k. record {
+  keeps_to = ((k.0, (c.in-Ok-None.ensures.keeps_to o k.0 k.1.0, k.1.1)));
+  reasons = tt;
+  sees = (λ seen. let old = c.args.self.now.core in
+      seen_still o (state old) (accepted old.filer) k (view_of c.attributes_of.new.filer) (λ b. c.in-Ok-None.ensures.keeps_to (telling o b) k.0) (file_later o c.attributes_of.ensures.makes) seen);
+}
 
-pub returns-in-Ok-clause-keeps_to : goal.returns-in-Ok-clause-keeps_to
-returns-in-Ok-clause-keeps_to g c = λ o k. let from = c.in-Ok.ensures.keeps_to o k.0 (c.in-Ok-Some.ensures.keeps_to o k.0 k.1.0) in (from.0, (from.1, (from.2 k.1.1.0, k.1.1.1)))
+pub returns-in-Ok-clause-accounts : goal.returns-in-Ok-clause-accounts
+returns-in-Ok-clause-accounts g c = λ o k. record {
+  keeps_to = (let from = c.in-Ok.ensures.keeps_to o k.0 (c.in-Ok-Some.ensures.keeps_to o k.0 k.1.0) in (from.0, (from.1, (from.2 k.1.1.0, k.1.1.1))));
+  reasons = tt;
+  sees = (λ seen. let old = c.args.self.now.core in
+      seen_from o (state old) (accepted old.filer) k (view_of c.delete.new.filer) (λ b h. c.in-Ok.ensures.keeps_to (telling o b) k.0 (c.in-Ok-Some.ensures.keeps_to (telling o b) k.0 h))
+      (file_after o (returns-in-Ok-clause-wrote g c)) seen);
+}
 
-pub returns-in-Err-clause-reasons : goal.returns-in-Err-clause-reasons
-returns-in-Err-clause-reasons g c = λ o k. c.in-Err.ensures.reasons o k.0 k.1.0
+pub returns-in-Err-clause-accounts : goal.returns-in-Err-clause-accounts
+returns-in-Err-clause-accounts g c = λ o k. record {
+  keeps_to = tt;
+  reasons = (c.in-Err.ensures.reasons o k.0 k.1.0);
+  sees = (λ seen. let old = c.args.self.now.core in
+      let disk = (view_of c.attributes_of.new.filer).disk in
+      seen_blameless o (state old) (accepted old.filer) k (state old).layout disk c.in-Err.halt (λ b. c.in-Err.ensures.reasons (telling o b) k.0)
+      (look_misses (file_pages o disk) c.args.id (state old) (view_of c.attributes_of.new.filer) c.in-Err.halt c.in-Err.ensures.cause) (seen.0, seen.1.0));
+}
 
-pub returns-in-Err-delete-clause-reasons : goal.returns-in-Err-delete-clause-reasons
-returns-in-Err-delete-clause-reasons g c = λ o k.
-    shows_since o (g.D.Disk.state c.delete.new.filer.swapper.disk) c.in-Err-delete.halt c.attributes_of.ensures.layout
-    (c.in-Err-delete.ensures.reasons o k.0 (c.in-Ok-Some.ensures.keeps_to o k.0 k.1.0))
+pub returns-in-Err-delete-clause-accounts : goal.returns-in-Err-delete-clause-accounts
+returns-in-Err-delete-clause-accounts g c = λ o k. record {
+  keeps_to = tt;
+  reasons = (shows_since o (view_of c.delete.new.filer).disk c.in-Err-delete.halt c.attributes_of.ensures.layout
+      (c.in-Err-delete.ensures.reasons o k.0 (c.in-Ok-Some.ensures.keeps_to o k.0 k.1.0)));
+  sees = (λ seen. let old = c.args.self.now.core in
+      let disk = (view_of c.delete.new.filer).disk in
+      let was = found_file k.1.0 c.args.id _ _ c.in-Ok-Some.field-0-is c.in-Ok-Some.ensures.leader in
+      seen_blameless o (state old) (accepted old.filer) k (view_of c.attributes_of.new.filer).layout disk c.in-Err-delete.halt (λ b h. c.in-Err-delete.ensures.reasons (telling o b) k.0 (c.in-Ok-Some.ensures.keeps_to (telling o b) k.0 h))
+      (misses_file (c.in-Ok-Some.ensures.keeps_to o k.0 k.1.0) disk (file_later o c.in-Err-delete.ensures.stopped.makes) c.args.id (file_after o (returns-in-Err-delete-clause-wrote g c) c.args.id leader_page was) c.in-Err-delete.halt
+      (remove_misses_own c.args.id (view_of c.attributes_of.new.filer) (view_of c.delete.new.filer) c.in-Err-delete.halt c.in-Err-delete.ensures.cause)) (seen.0, seen.1.0));
+}
 
 -- ---- What is seen of the space tables, and which page is reported as missing.
 
-pub returns-in-Ok-None-clause-sees : goal.returns-in-Ok-None-clause-sees
-returns-in-Ok-None-clause-sees g c = λ o k seen.
-    let old = c.args.self.now.core in
-    seen_still o (state old) old.filer.swapper.accepted k (view_of c.attributes_of.new.filer) (λ b. c.in-Ok-None.ensures.keeps_to (telling o b) k.0) (file_later o c.attributes_of.ensures.makes) seen
-
-pub returns-in-Err-clause-sees : goal.returns-in-Err-clause-sees
-returns-in-Err-clause-sees g c = λ o k seen.
-    let old = c.args.self.now.core in
-    let disk = g.D.Disk.state c.attributes_of.new.filer.swapper.disk in
-    seen_blameless o (state old) old.filer.swapper.accepted k old.filer.swapper.layout disk c.in-Err.halt (λ b. c.in-Err.ensures.reasons (telling o b) k.0)
-    (look_misses (file_pages o disk) c.args.id (state old) (view_of c.attributes_of.new.filer) c.in-Err.halt c.in-Err.ensures.cause) (seen.0, seen.1.0)
-
-pub returns-in-Ok-clause-sees : goal.returns-in-Ok-clause-sees
-returns-in-Ok-clause-sees g c = λ o k seen.
-    let old = c.args.self.now.core in
-    seen_from o (state old) old.filer.swapper.accepted k (view_of c.delete.new.filer) (λ b h. c.in-Ok.ensures.keeps_to (telling o b) k.0 (c.in-Ok-Some.ensures.keeps_to (telling o b) k.0 h))
-    (file_after o (returns-in-Ok-clause-wrote g c)) seen
-
-pub returns-in-Err-delete-clause-sees : goal.returns-in-Err-delete-clause-sees
-returns-in-Err-delete-clause-sees g c = λ o k seen.
-    let old = c.args.self.now.core in
-    let disk = g.D.Disk.state c.delete.new.filer.swapper.disk in
-    let was = found_file k.1.0 c.args.id _ _ c.in-Ok-Some.field-0-is c.in-Ok-Some.ensures.leader in
-    seen_blameless o (state old) old.filer.swapper.accepted k c.attributes_of.new.filer.swapper.layout disk c.in-Err-delete.halt (λ b h. c.in-Err-delete.ensures.reasons (telling o b) k.0 (c.in-Ok-Some.ensures.keeps_to (telling o b) k.0 h))
-    (misses_file (c.in-Ok-Some.ensures.keeps_to o k.0 k.1.0) disk (file_later o c.in-Err-delete.ensures.stopped.makes) c.args.id (file_after o (returns-in-Err-delete-clause-wrote g c) c.args.id leader_page was) c.in-Err-delete.halt
-    (remove_misses_own c.args.id (view_of c.attributes_of.new.filer) (view_of c.delete.new.filer) c.in-Err-delete.halt c.in-Err-delete.ensures.cause)) (seen.0, seen.1.0)
-
 -- ---- The next identifier.
 
-pub returns-in-Ok-clause-monotone : goal.returns-in-Ok-clause-monotone
-returns-in-Ok-clause-monotone g c = same_next c.args.self.now.volume.root c.delete.new.volume.root (ap (λ (v : Volume). v.root) c.delete.ensures.rest_of_volume)
+pub returns-in-Ok-clause-stays : goal.returns-in-Ok-clause-stays
+returns-in-Ok-clause-stays g c = record {
+  open_still = (search rules);
+  monotone = (same_next c.args.self.now.volume.root c.delete.new.volume.root (ap (λ (v : Volume). v.root) c.delete.ensures.rest_of_volume));
+  serial = (ap (λ (v : Volume). v.root.serial) c.delete.ensures.rest_of_volume);
+  layout = (search rules);
+}
 
-pub returns-in-Err-delete-clause-monotone : goal.returns-in-Err-delete-clause-monotone
-returns-in-Err-delete-clause-monotone g c = same_next c.args.self.now.volume.root c.delete.new.volume.root (ap (λ (v : Volume). v.root) c.delete.ensures.rest_of_volume)
-
-pub returns-in-Ok-clause-serial : goal.returns-in-Ok-clause-serial
-returns-in-Ok-clause-serial g c = ap (λ (v : Volume). v.root.serial) c.delete.ensures.rest_of_volume
-
-pub returns-in-Err-delete-clause-serial : goal.returns-in-Err-delete-clause-serial
-returns-in-Err-delete-clause-serial g c = ap (λ (v : Volume). v.root.serial) c.delete.ensures.rest_of_volume
+pub returns-in-Err-delete-clause-stays : goal.returns-in-Err-delete-clause-stays
+returns-in-Err-delete-clause-stays g c = record {
+  open_still = (search rules);
+  monotone = (same_next c.args.self.now.volume.root c.delete.new.volume.root (ap (λ (v : Volume). v.root) c.delete.ensures.rest_of_volume));
+  serial = (ap (λ (v : Volume). v.root.serial) c.delete.ensures.rest_of_volume);
+  layout = (search rules);
+}

@@ -11,7 +11,7 @@ use Rattle.pilot_engine.proofs.StopLemmas.{stop_less, throughout_less, throughou
 use Rattle.pilot_engine.proofs.TableStops.{stops_freeing}
 use Rattle.file_manager.proofs.Faults.{counted_then}
 use Rattle.fault_core.specs.Core.{state}
-use Rattle.fault_core.specs.View.{kept_by}
+use Rattle.filer_kernel.specs.View.{accepted, disk_of, kept_by, view_of}
 use Rattle.file_manager.specs.Grounds.{AreTables}
 use Rattle.labelled_disk.specs.declared.layout.Layout.{Layout}
 use Rattle.file_manager.specs.Reasons.{ShowsReason}
@@ -44,7 +44,7 @@ returns-in-Ok-free_tables-clause-stops g c = λ spaces_of m s.
     let books = session_books spaces_of _ _ _ _ _ h.left h.stands.session in
     let e = c.in-Ok-free_tables.ensures.freed h.stands.session.stands.memory (shapes_of h.left.files) h.left.spaces books in
     throughout_then (IsOpenStop m) (c.delete_temporary.ensures.stops spaces_of m s) (throughout_less (IsOpenStop h.left) (IsOpenStop m) (stop_less m h.left h.sheds)
-    (stops_freeing spaces_of _ _ _ _ h.left h.stands.session.stands (g.met.D.Disk.in_form c.delete_temporary.new.self.core.filer.swapper.disk) e.sectors e.were e.leads.goes.makes))
+    (stops_freeing spaces_of _ _ _ _ h.left h.stands.session.stands (g.met.D.Disk.in_form (disk_of c.delete_temporary.new.self.core.filer)) e.sectors e.were e.leads.goes.makes))
 
 pub returns-in-Err-free_tables-clause-stops : goal.returns-in-Err-free_tables-clause-stops
 returns-in-Err-free_tables-clause-stops g c = λ spaces_of m s.
@@ -52,7 +52,7 @@ returns-in-Err-free_tables-clause-stops g c = λ spaces_of m s.
     let books = session_books spaces_of _ _ _ _ _ h.left h.stands.session in
     let e = c.in-Err-free_tables.ensures.first h.stands.session.stands.memory (shapes_of h.left.files) h.left.spaces books in
     throughout_then (IsOpenStop m) (c.delete_temporary.ensures.stops spaces_of m s) (throughout_less (IsOpenStop h.left) (IsOpenStop m) (stop_less m h.left h.sheds)
-    (stops_freeing spaces_of _ _ _ _ h.left h.stands.session.stands (g.met.D.Disk.in_form c.delete_temporary.new.self.core.filer.swapper.disk) e.sectors e.were e.makes))
+    (stops_freeing spaces_of _ _ _ _ h.left h.stands.session.stands (g.met.D.Disk.in_form (disk_of c.delete_temporary.new.self.core.filer)) e.sectors e.were e.makes))
 
 pub returns-in-Err-free_tables-clause-counted : goal.returns-in-Err-free_tables-clause-counted
 returns-in-Err-free_tables-clause-counted g c = counted_then _ _ _ c.delete_temporary.ensures.wrote.makes.went.faults c.in-Err-free_tables.ensures.counted
@@ -61,20 +61,20 @@ pub returns-in-Err-clause-cost : goal.returns-in-Err-clause-cost
 returns-in-Err-clause-cost g c = λ spaces_of m s.
     let room = c.requires.opened.room in
     let same = s.session.same_used in
-    files_cost c.args.self.now.core.filer.swapper.layout c.args.self.now.core.filer.swapper.accepted (g.D.Disk.state c.args.self.now.core.filer.swapper.disk).transfers (g.D.Disk.state c.delete_temporary.new.self.core.filer.swapper.disk).transfers (used m) (omega (arith, room, same)) (c.delete_temporary.ensures.cost spaces_of m s)
+    files_cost (state c.args.self.now.core).layout (accepted c.args.self.now.core.filer) (state c.args.self.now.core).disk.transfers (state c.delete_temporary.new.self.core).disk.transfers (used m) (omega (arith, room, same)) (c.delete_temporary.ensures.cost spaces_of m s)
 
 pub returns-in-Ok-free_tables-clause-cost : goal.returns-in-Ok-free_tables-clause-cost
 returns-in-Ok-free_tables-clause-cost g c = λ spaces_of m s.
     let room = c.requires.opened.room in
     let same = s.session.same_used in
-    emptied_cost c.args.self.now.core.filer.swapper.layout c.args.self.now.core.filer.swapper.accepted c.delete_temporary.new.self.core.filer.swapper.layout c.delete_temporary.ensures.layout (g.D.Disk.state c.args.self.now.core.filer.swapper.disk).transfers (g.D.Disk.state c.delete_temporary.new.self.core.filer.swapper.disk).transfers (g.D.Disk.state c.free_tables.new.filer.swapper.disk).transfers (used m)
+    emptied_cost (state c.args.self.now.core).layout (accepted c.args.self.now.core.filer) (state c.delete_temporary.new.self.core).layout c.delete_temporary.ensures.layout (state c.args.self.now.core).disk.transfers (state c.delete_temporary.new.self.core).disk.transfers (view_of c.free_tables.new.filer).disk.transfers (used m)
     (omega (arith, room, same)) (c.delete_temporary.ensures.cost spaces_of m s) c.free_tables.ensures.cost
 
 pub returns-in-Err-free_tables-clause-cost : goal.returns-in-Err-free_tables-clause-cost
 returns-in-Err-free_tables-clause-cost g c = λ spaces_of m s.
     let room = c.requires.opened.room in
     let same = s.session.same_used in
-    emptied_cost c.args.self.now.core.filer.swapper.layout c.args.self.now.core.filer.swapper.accepted c.delete_temporary.new.self.core.filer.swapper.layout c.delete_temporary.ensures.layout (g.D.Disk.state c.args.self.now.core.filer.swapper.disk).transfers (g.D.Disk.state c.delete_temporary.new.self.core.filer.swapper.disk).transfers (g.D.Disk.state c.free_tables.new.filer.swapper.disk).transfers (used m)
+    emptied_cost (state c.args.self.now.core).layout (accepted c.args.self.now.core.filer) (state c.delete_temporary.new.self.core).layout c.delete_temporary.ensures.layout (state c.args.self.now.core).disk.transfers (state c.delete_temporary.new.self.core).disk.transfers (view_of c.free_tables.new.filer).disk.transfers (used m)
     (omega (arith, room, same)) (c.delete_temporary.ensures.cost spaces_of m s) c.free_tables.ensures.cost
 
 -- ---- Why it failed.
@@ -90,23 +90,31 @@ returns-in-Err-free_tables-clause-cause g c = (state c.delete_temporary.new.self
 -- ---- What began stays a reason.
 
 pub returns-in-Ok-free_tables-clause-keeps_to : goal.returns-in-Ok-free_tables-clause-keeps_to
-returns-in-Ok-free_tables-clause-keeps_to g c = λ o keeps. let mid = c.in-Ok.ensures.keeps_to o keeps in c.in-Ok-free_tables.ensures.keeps_to o mid.0 mid.1.0 mid.1.1.1
+returns-in-Ok-free_tables-clause-keeps_to g c = λ o keeps. let mid = (c.in-Ok.ensures.accounts o keeps).keeps_to in c.in-Ok-free_tables.ensures.keeps_to o mid.0 mid.1.0 mid.1.1.1
 
 pub returns-in-Err-free_tables-clause-reasons : goal.returns-in-Err-free_tables-clause-reasons
 returns-in-Err-free_tables-clause-reasons g c = λ o keeps.
-    let mid = c.in-Ok.ensures.keeps_to o keeps in
-    subst (λ (l : Layout). ShowsReason o l (g.D.Disk.state c.free_tables.new.filer.swapper.disk) c.in-Err-free_tables.halt) c.delete_temporary.ensures.layout (c.in-Err-free_tables.ensures.reasons o mid.0 mid.1.0 mid.1.1.1 mid.1.1.0)
+    let mid = (c.in-Ok.ensures.accounts o keeps).keeps_to in
+    subst (λ (l : Layout). ShowsReason o l (view_of c.free_tables.new.filer).disk c.in-Err-free_tables.halt) c.delete_temporary.ensures.layout (c.in-Err-free_tables.ensures.reasons o mid.0 mid.1.0 mid.1.1.1 mid.1.1.0)
 
 -- ---- No page of the space tables is revealed, as broken or as missing, and no other is missing.
 
 pub returns-in-Err-free_tables-clause-sees : goal.returns-in-Err-free_tables-clause-sees
 returns-in-Err-free_tables-clause-sees g c = λ o keeps seen.
     let v = state c.delete_temporary.new.self.core in
-    let disk = g.D.Disk.state c.free_tables.new.filer.swapper.disk in
+    let disk = (view_of c.free_tables.new.filer).disk in
     let halt = c.in-Err-free_tables.halt in
     let cause = c.in-Err-free_tables.ensures.cause in
-    let mid = c.in-Ok.ensures.keeps_to o keeps in
+    let mid = (c.in-Ok.ensures.accounts o keeps).keeps_to in
     end_blameless o disk halt (
       cut_form (AreTables v.slots) v.layout (kept_by v) 3 0 (λ page. page < 96) v.disk v.slots disk halt cause,
       tables_lack (λ page. page < 96) (file_pages o disk) halt (cut_misses (AreTables v.slots) v.layout (kept_by v) 3 0 (λ page. page < 96) v.disk v.slots disk halt cause),
     ) (none_no_table halt (c.in-Err-free_tables.ensures.right o mid.0 mid.1.0 mid.1.1.1 mid.1.1.0))
+
+-- ---- What its first part tells.
+
+pub returns-in-Err-clause-reasons : goal.returns-in-Err-clause-reasons
+returns-in-Err-clause-reasons g c = λ o k. (c.in-Err.ensures.accounts o k).reasons
+
+pub returns-in-Err-clause-sees : goal.returns-in-Err-clause-sees
+returns-in-Err-clause-sees g c = λ o k seen. (c.in-Err.ensures.accounts o k).sees seen

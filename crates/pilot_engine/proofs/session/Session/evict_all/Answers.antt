@@ -1,4 +1,10 @@
 use Rattle.pilot_engine.proofs.EndCosts.{few_gone}
+use Rattle.std.proofs.Common.{subst, sym}
+use Rattle.filer_kernel.specs.declared.filer.Filer.{Filer}
+use Rattle.file_manager.specs.Reasons.{KeepsOn, ShowsReason}
+use Rattle.fault_core.specs.Core.{state}
+use Rattle.filer_kernel.specs.View.{view_of}
+use Rattle.pilot_engine.specs.Reasons.{SeesHome}
 use Rattle.pilot_engine.proofs.session.Session.evict_all.Goals as goal
 
 pub returns-in-Ok-clause-alone : goal.returns-in-Ok-clause-alone
@@ -32,16 +38,22 @@ returns-in-Err-clause-cause g c = rw c.look_at_frames.ensures.same at c.in-Err.e
 
 -- ---- What began stays a reason.
 
-pub returns-in-Ok-clause-keeps_to : goal.returns-in-Ok-clause-keeps_to
-returns-in-Ok-clause-keeps_to g c = rw c.look_at_frames.ensures.same at c.in-Ok.ensures.keeps_to
+pub returns-in-Ok-clause-accounts : goal.returns-in-Ok-clause-accounts
+returns-in-Ok-clause-accounts g c = λ o k.
+    let there = c.in-Ok.ensures.accounts o (subst (KeepsOn o) (sym c.look_at_frames.ensures.same) k) in
+    record {
+      keeps_to = there.keeps_to;
+      reasons = tt;
+      sees = λ seen. there.sees (subst (λ (f : Filer g.row.D.Denot g.row.A.Denot g.D.Disk). SeesHome o (record c.args.self.now.core { filer = f })) (sym c.look_at_frames.ensures.same) seen);
+    }
 
-pub returns-in-Err-clause-reasons : goal.returns-in-Err-clause-reasons
-returns-in-Err-clause-reasons g c = rw c.look_at_frames.ensures.same at c.in-Err.ensures.reasons
+pub returns-in-Err-clause-accounts : goal.returns-in-Err-clause-accounts
+returns-in-Err-clause-accounts g c = λ o k.
+    let there = c.in-Err.ensures.accounts o (subst (KeepsOn o) (sym c.look_at_frames.ensures.same) k) in
+    record {
+      keeps_to = tt;
+      reasons = subst (λ (f : Filer g.row.D.Denot g.row.A.Denot g.D.Disk). ShowsReason o (view_of f).layout (state c.evict_root.new.self.core).disk c.in-Err.halt) c.look_at_frames.ensures.same there.reasons;
+      sees = λ seen. there.sees (subst (λ (f : Filer g.row.D.Denot g.row.A.Denot g.D.Disk). SeesHome o (record c.args.self.now.core { filer = f })) (sym c.look_at_frames.ensures.same) seen);
+    }
 
 -- ---- The space tables are seen.
-
-pub returns-in-Ok-clause-sees : goal.returns-in-Ok-clause-sees
-returns-in-Ok-clause-sees g c = rw c.look_at_frames.ensures.same at c.in-Ok.ensures.sees
-
-pub returns-in-Err-clause-sees : goal.returns-in-Err-clause-sees
-returns-in-Err-clause-sees g c = rw c.look_at_frames.ensures.same at c.in-Err.ensures.sees

@@ -17,12 +17,13 @@ use Rattle.fault_core.specs.Kill.{BreaksWithin}
 use Rattle.fault_core.specs.ReachLaws.{reach_misses}
 use Rattle.pilot_engine.proofs.HomeLemmas.{file_pages, files_later}
 use Rattle.pilot_engine.proofs.session.Session.evict_root.Goals as goal
+use Rattle.filer_kernel.specs.View.{accepted, disk_of, swapper_of}
 
 pub returns-in-Ok-clause-alone : goal.returns-in-Ok-clause-alone
 returns-in-Ok-clause-alone g c = λ m r.
     let old = c.args.self.now.core in
     let new = c.evict.new.self in
-    let whole : IsWhole (state old) = record { layout = old.filer.swapper.accepted; size = c.requires.size } in
+    let whole : IsWhole (state old) = record { layout = (accepted old.filer); size = c.requires.size } in
     let revealed = revealed_there running_laws (state old) (state new) (kept old) (kept new) old.intervals new.intervals c.args.self.now.volume m whole r in
     let x = r.session.stands.memory in
     let named = r.session.stands.is.named in
@@ -32,16 +33,16 @@ returns-in-Ok-clause-alone g c = λ m r.
 pub returns-in-Err-clause-sound : goal.returns-in-Err-clause-sound
 returns-in-Err-clause-sound g c = λ m r.
     let old = c.args.self.now.core in
-    let whole : IsWhole (state old) = record { layout = old.filer.swapper.accepted; size = c.requires.size } in
+    let whole : IsWhole (state old) = record { layout = (accepted old.filer); size = c.requires.size } in
     c.in-Err.ensures.sound r.session.stands.memory r.session.stands.is.named m.spaces (running_laws.known (state old) (kept old) old.intervals c.args.self.now.volume m whole r)
 
 pub returns-in-Ok-clause-stops : goal.returns-in-Ok-clause-stops
 returns-in-Ok-clause-stops g c = λ m r.
-    stops_quiet (exactly r.pages m.spaces) _ _ _ _ m r.session.stands (g.met.D.Disk.in_form c.args.self.now.core.filer.swapper.disk) (own_makes c.evict.ensures.reaches.goes.makes)
+    stops_quiet (exactly r.pages m.spaces) _ _ _ _ m r.session.stands (g.met.D.Disk.in_form (disk_of c.args.self.now.core.filer)) (own_makes c.evict.ensures.reaches.goes.makes)
 
 pub returns-in-Err-clause-stops : goal.returns-in-Err-clause-stops
 returns-in-Err-clause-stops g c = λ m r.
-    stops_quiet (exactly r.pages m.spaces) _ _ _ _ m r.session.stands (g.met.D.Disk.in_form c.args.self.now.core.filer.swapper.disk) (own_makes c.evict.ensures.reaches.goes.makes)
+    stops_quiet (exactly r.pages m.spaces) _ _ _ _ m r.session.stands (g.met.D.Disk.in_form (disk_of c.args.self.now.core.filer)) (own_makes c.evict.ensures.reaches.goes.makes)
 
 pub returns-in-Ok-clause-wrote : goal.returns-in-Ok-clause-wrote
 returns-in-Ok-clause-wrote g c = wrote_by (own_makes c.evict.ensures.reaches.goes.makes) tt
@@ -57,35 +58,34 @@ returns-in-Err-clause-open_still g c = subst (λ (l : Layout). IsOpen l c.args.s
 
 pub returns-in-Ok-clause-cost : goal.returns-in-Ok-clause-cost
 returns-in-Ok-clause-cost g c =
-    gone_cost c.args.self.now.core.intervals (length c.args.self.now.core.filer.swapper.pool) (g.D.Disk.state c.args.self.now.core.filer.swapper.disk).transfers (g.D.Disk.state c.evict.new.self.filer.swapper.disk).transfers c.args.self.now.core.few c.evict.ensures.cost
+    gone_cost c.args.self.now.core.intervals (length (state c.args.self.now.core).slots) (state c.args.self.now.core).disk.transfers (state c.evict.new.self).disk.transfers c.args.self.now.core.few c.evict.ensures.cost
 
 pub returns-in-Err-clause-cost : goal.returns-in-Err-clause-cost
 returns-in-Err-clause-cost g c =
-    gone_cost c.args.self.now.core.intervals (length c.args.self.now.core.filer.swapper.pool) (g.D.Disk.state c.args.self.now.core.filer.swapper.disk).transfers (g.D.Disk.state c.evict.new.self.filer.swapper.disk).transfers c.args.self.now.core.few c.evict.ensures.cost
+    gone_cost c.args.self.now.core.intervals (length (state c.args.self.now.core).slots) (state c.args.self.now.core).disk.transfers (state c.evict.new.self).disk.transfers c.args.self.now.core.few c.evict.ensures.cost
 
 pub returns-in-Err-clause-evidence_seen : goal.returns-in-Err-clause-evidence_seen
-returns-in-Err-clause-evidence_seen g c = shows_evidence _ (state c.args.self.now.core) (state c.evict.new.self) (fits c.args.self.now.core.filer.swapper c.requires.size) c.evict.ensures.reaches.goes.makes c.in-Err.halt c.in-Err.ensures.cause
+returns-in-Err-clause-evidence_seen g c = shows_evidence _ (state c.args.self.now.core) (state c.evict.new.self) (fits (swapper_of c.args.self.now.core.filer) c.requires.size) c.evict.ensures.reaches.goes.makes c.in-Err.halt c.in-Err.ensures.cause
 
 -- ---- What began stays a reason.
 
-pub returns-in-Ok-clause-keeps_to : goal.returns-in-Ok-clause-keeps_to
-returns-in-Ok-clause-keeps_to g c = λ o keeps.
-    let v = state c.args.self.now.core in
-    let w = state c.evict.new.self in
-    (keeps.0, keeps_moved o v w keeps.0 c.args.self.now.core.filer.swapper.accepted keeps.1 (moves_of_reaches v w c.evict.ensures.reaches))
+pub returns-in-Ok-clause-accounts : goal.returns-in-Ok-clause-accounts
+returns-in-Ok-clause-accounts g c = λ o k. record {
+  keeps_to = (let v = state c.args.self.now.core in
+      let w = state c.evict.new.self in
+      (k.0, keeps_moved o v w k.0 (accepted c.args.self.now.core.filer) k.1 (moves_of_reaches v w c.evict.ensures.reaches)));
+  reasons = tt;
+  sees = (λ seen. (seen.0, (c.evict.ensures.sees seen.0 seen.1.0, files_later o c.evict.ensures.reaches.goes.makes seen.0 seen.1.1)));
+}
 
-pub returns-in-Err-clause-reasons : goal.returns-in-Err-clause-reasons
-returns-in-Err-clause-reasons g c = λ o keeps.
-    reach_reasons o (state c.args.self.now.core) (state c.evict.new.self) keeps.0 _ c.args.self.now.core.filer.swapper.accepted keeps.1 c.evict.ensures.reaches.goes.makes c.in-Err.halt c.in-Err.ensures.cause
+pub returns-in-Err-clause-accounts : goal.returns-in-Err-clause-accounts
+returns-in-Err-clause-accounts g c = λ o k. record {
+  keeps_to = tt;
+  reasons = (reach_reasons o (state c.args.self.now.core) (state c.evict.new.self) k.0 _ (accepted c.args.self.now.core.filer) k.1 c.evict.ensures.reaches.goes.makes c.in-Err.halt c.in-Err.ensures.cause);
+  sees = (λ seen. let old = c.args.self.now.core in
+      let v = state old in
+      let new = c.evict.new.self in
+      (c.in-Err.ensures.right seen.0 seen.1.0, reach_misses (BreaksWithin v old.intervals 0 root_pages) v (state new) (file_pages o (state new).disk) c.in-Err.halt c.in-Err.ensures.cause));
+}
 
 -- ---- What is seen of the space tables, and which page is reported as missing.
-
-pub returns-in-Ok-clause-sees : goal.returns-in-Ok-clause-sees
-returns-in-Ok-clause-sees g c = λ o keeps seen. (seen.0, (c.evict.ensures.sees seen.0 seen.1.0, files_later o c.evict.ensures.reaches.goes.makes seen.0 seen.1.1))
-
-pub returns-in-Err-clause-sees : goal.returns-in-Err-clause-sees
-returns-in-Err-clause-sees g c = λ o keeps seen.
-    let old = c.args.self.now.core in
-    let v = state old in
-    let new = c.evict.new.self in
-    (c.in-Err.ensures.right seen.0 seen.1.0, reach_misses (BreaksWithin v old.intervals 0 root_pages) v (state new) (file_pages o (g.D.Disk.state new.filer.swapper.disk)) c.in-Err.halt c.in-Err.ensures.cause)

@@ -30,89 +30,86 @@ use Rattle.pilot_engine.proofs.HomeLemmas.{file_pages, home_still}
 use Rattle.pilot_engine.proofs.LackLemmas.{sight_misses}
 use Rattle.pilot_engine.proofs.SeesLemmas.{then_next}
 use Rattle.pilot_engine.proofs.session.Session.make_immutable.Goals as goal
+use Rattle.filer_kernel.specs.View.{accepted, disk_of}
 
-pub returns-in-Ok-Hidden-clause-carried : goal.returns-in-Ok-Hidden-clause-carried
-returns-in-Ok-Hidden-clause-carried g c = λ m r.
-    refused_running _ _ m (call.MakeImmutable c.args.id) why.File (c.sight.ensures.runs m r) (immutable_gone m c.args.id (no_file_hidden m c.args.id (subst (λ (x : Sight). IsSight m c.args.id x) c.in-Ok-Hidden.field-0-is (c.in-Ok-Hidden.ensures.answer m r))))
-
-pub returns-in-Ok-Hidden-clause-passes : goal.returns-in-Ok-Hidden-clause-passes
-returns-in-Ok-Hidden-clause-passes g c = λ m r. asked_passes c.args.self.now.core c.args.self.now.volume m (call.MakeImmutable c.args.id) r (g.met.D.Disk.in_form c.args.self.now.core.filer.swapper.disk) c.sight.ensures.makes
+pub returns-in-Ok-Hidden-clause-answers : goal.returns-in-Ok-Hidden-clause-answers
+returns-in-Ok-Hidden-clause-answers g c = λ m r. record {
+  carried = (refused_running _ _ m (call.MakeImmutable c.args.id) why.File (c.sight.ensures.runs m r) (immutable_gone m c.args.id (no_file_hidden m c.args.id (subst (λ (x : Sight). IsSight m c.args.id x) c.in-Ok-Hidden.field-0-is (c.in-Ok-Hidden.ensures.answer m r)))));
+  sound = tt;
+  passes = (asked_passes c.args.self.now.core c.args.self.now.volume m (call.MakeImmutable c.args.id) r (g.met.D.Disk.in_form (disk_of c.args.self.now.core.filer)) c.sight.ensures.makes);
+  cost = (asked_inside (state c.args.self.now.core).disk (state c.sight.new.self.core).disk 14532 (omega arith) c.sight.ensures.cost);
+}
 
 pub returns-in-Ok-Hidden-clause-wrote : goal.returns-in-Ok-Hidden-clause-wrote
 returns-in-Ok-Hidden-clause-wrote g c = wrote_by c.sight.ensures.makes tt
 
-pub returns-in-Ok-Hidden-clause-cost : goal.returns-in-Ok-Hidden-clause-cost
-returns-in-Ok-Hidden-clause-cost g c = λ m r. asked_inside (g.D.Disk.state c.args.self.now.core.filer.swapper.disk) (g.D.Disk.state c.sight.new.self.core.filer.swapper.disk) 14532 (omega arith) c.sight.ensures.cost
-
-pub returns-in-Err-clause-passes : goal.returns-in-Err-clause-passes
-returns-in-Err-clause-passes g c = λ m r. asked_passes c.args.self.now.core c.args.self.now.volume m (call.MakeImmutable c.args.id) r (g.met.D.Disk.in_form c.args.self.now.core.filer.swapper.disk) c.sight.ensures.makes
+pub returns-in-Err-clause-answers : goal.returns-in-Err-clause-answers
+returns-in-Err-clause-answers g c = λ m r. record {
+  carried = tt;
+  sound = (c.in-Err.ensures.sound m r);
+  passes = (asked_passes c.args.self.now.core c.args.self.now.volume m (call.MakeImmutable c.args.id) r (g.met.D.Disk.in_form (disk_of c.args.self.now.core.filer)) c.sight.ensures.makes);
+  cost = (asked_inside (state c.args.self.now.core).disk (state c.sight.new.self.core).disk 14532 (omega arith) c.sight.ensures.cost);
+}
 
 pub returns-in-Err-clause-wrote : goal.returns-in-Err-clause-wrote
 returns-in-Err-clause-wrote g c = wrote_by c.sight.ensures.makes tt
 
-pub returns-in-Err-clause-cost : goal.returns-in-Err-clause-cost
-returns-in-Err-clause-cost g c = λ m r. asked_inside (g.D.Disk.state c.args.self.now.core.filer.swapper.disk) (g.D.Disk.state c.sight.new.self.core.filer.swapper.disk) 14532 (omega arith) c.sight.ensures.cost
-
-pub returns-in-Ok-Some-clause-carried : goal.returns-in-Ok-Some-clause-carried
-returns-in-Ok-Some-clause-carried g c = λ m r.
-    let now = c.sight.ensures.runs m r in
-    let first = subst (λ (o : Option (ℕ × Shown)). IsFirstWith (shows c.args.id true) m.spaces o) c.in-Ok-Some.field-0-is (c.in-Ok-Some.ensures.answer c.sight.new.self.volume m now) in
-    refused_running _ _ m (call.MakeImmutable c.args.id) _ (c.window_on.ensures.runs c.sight.new.self.volume m now) (immutable_seen m now.session.stands.is.by.machine c.args.id _ _ (subst (λ (x : Sight). IsSight m c.args.id x) c.in-Ok-By.field-0-is (c.in-Ok-By.ensures.answer m r)).named first)
-
-pub returns-in-Ok-Some-clause-passes : goal.returns-in-Ok-Some-clause-passes
-returns-in-Ok-Some-clause-passes g c = λ m r. asked_passes c.args.self.now.core c.args.self.now.volume m (call.MakeImmutable c.args.id) r (g.met.D.Disk.in_form c.args.self.now.core.filer.swapper.disk) (makes_then c.sight.ensures.makes c.window_on.ensures.makes)
+pub returns-in-Ok-Some-clause-answers : goal.returns-in-Ok-Some-clause-answers
+returns-in-Ok-Some-clause-answers g c = λ m r. record {
+  carried = (let now = c.sight.ensures.runs m r in
+      let first = subst (λ (o : Option (ℕ × Shown)). IsFirstWith (shows c.args.id true) m.spaces o) c.in-Ok-Some.field-0-is (c.in-Ok-Some.ensures.answer c.sight.new.self.volume m now) in
+      refused_running _ _ m (call.MakeImmutable c.args.id) _ (c.window_on.ensures.looks.runs c.sight.new.self.volume m now) (immutable_seen m now.session.stands.is.by.machine c.args.id _ _ (subst (λ (x : Sight). IsSight m c.args.id x) c.in-Ok-By.field-0-is (c.in-Ok-By.ensures.answer m r)).named first));
+  sound = tt;
+  passes = (asked_passes c.args.self.now.core c.args.self.now.volume m (call.MakeImmutable c.args.id) r (g.met.D.Disk.in_form (disk_of c.args.self.now.core.filer)) (makes_then c.sight.ensures.makes c.window_on.ensures.looks.makes));
+  cost = (asked_inside (state c.args.self.now.core).disk (state c.window_on.new.core).disk 29064 (omega arith) (let first = c.sight.ensures.cost in let later = c.window_on.ensures.cost in omega (arith, first, later)));
+}
 
 pub returns-in-Ok-Some-clause-wrote : goal.returns-in-Ok-Some-clause-wrote
-returns-in-Ok-Some-clause-wrote g c = wrote_by (makes_then c.sight.ensures.makes c.window_on.ensures.makes) tt
+returns-in-Ok-Some-clause-wrote g c = wrote_by (makes_then c.sight.ensures.makes c.window_on.ensures.looks.makes) tt
 
-pub returns-in-Ok-Some-clause-cost : goal.returns-in-Ok-Some-clause-cost
-returns-in-Ok-Some-clause-cost g c = λ m r. asked_inside (g.D.Disk.state c.args.self.now.core.filer.swapper.disk) (g.D.Disk.state c.window_on.new.core.filer.swapper.disk) 29064 (omega arith) (let first = c.sight.ensures.cost in let later = c.window_on.ensures.cost in omega (arith, first, later))
-
-pub returns-in-Err-window_on-clause-sound : goal.returns-in-Err-window_on-clause-sound
-returns-in-Err-window_on-clause-sound g c = λ m r. c.in-Err-window_on.ensures.sound c.sight.new.self.volume m (c.sight.ensures.runs m r)
-
-pub returns-in-Err-window_on-clause-passes : goal.returns-in-Err-window_on-clause-passes
-returns-in-Err-window_on-clause-passes g c = λ m r. asked_passes c.args.self.now.core c.args.self.now.volume m (call.MakeImmutable c.args.id) r (g.met.D.Disk.in_form c.args.self.now.core.filer.swapper.disk) (makes_then c.sight.ensures.makes c.window_on.ensures.makes)
+pub returns-in-Err-window_on-clause-answers : goal.returns-in-Err-window_on-clause-answers
+returns-in-Err-window_on-clause-answers g c = λ m r. record {
+  carried = tt;
+  sound = (c.in-Err-window_on.ensures.sound c.sight.new.self.volume m (c.sight.ensures.runs m r));
+  passes = (asked_passes c.args.self.now.core c.args.self.now.volume m (call.MakeImmutable c.args.id) r (g.met.D.Disk.in_form (disk_of c.args.self.now.core.filer)) (makes_then c.sight.ensures.makes c.window_on.ensures.looks.makes));
+  cost = (asked_inside (state c.args.self.now.core).disk (state c.window_on.new.core).disk 29064 (omega arith) (let first = c.sight.ensures.cost in let later = c.window_on.ensures.cost in omega (arith, first, later)));
+}
 
 pub returns-in-Err-window_on-clause-wrote : goal.returns-in-Err-window_on-clause-wrote
-returns-in-Err-window_on-clause-wrote g c = wrote_by (makes_then c.sight.ensures.makes c.window_on.ensures.makes) tt
-
-pub returns-in-Err-window_on-clause-cost : goal.returns-in-Err-window_on-clause-cost
-returns-in-Err-window_on-clause-cost g c = λ m r. asked_inside (g.D.Disk.state c.args.self.now.core.filer.swapper.disk) (g.D.Disk.state c.window_on.new.core.filer.swapper.disk) 29064 (omega arith) (let first = c.sight.ensures.cost in let later = c.window_on.ensures.cost in omega (arith, first, later))
+returns-in-Err-window_on-clause-wrote g c = wrote_by (makes_then c.sight.ensures.makes c.window_on.ensures.looks.makes) tt
 
 pub mark_immutable-requires-clause-size : goal.mark_immutable-requires-clause-size
-mark_immutable-requires-clause-size g c = (makes_then c.sight.ensures.makes c.window_on.ensures.makes).went.sectors ∙ c.requires.size ∙ ap (λ (l : Layout). l.sectors) (sym (c.window_on.ensures.layout ∙ c.sight.ensures.layout))
+mark_immutable-requires-clause-size g c = (makes_then c.sight.ensures.makes c.window_on.ensures.looks.makes).went.sectors ∙ c.requires.size ∙ ap (λ (l : Layout). l.sectors) (sym (c.window_on.ensures.looks.layout ∙ c.sight.ensures.layout))
 
 pub mark_immutable-requires-clause-opened : goal.mark_immutable-requires-clause-opened
-mark_immutable-requires-clause-opened g c = still_open _ _ _ _ c.requires.opened (c.window_on.ensures.layout ∙ c.sight.ensures.layout) c.sight.ensures.volume
+mark_immutable-requires-clause-opened g c = still_open _ _ _ _ c.requires.opened (c.window_on.ensures.looks.layout ∙ c.sight.ensures.layout) c.sight.ensures.volume
 
-pub returns-clause-carried : goal.returns-clause-carried
-returns-clause-carried g c = λ m r.
-    let now = c.sight.ensures.runs m r in
-    carried_out c.window_on.new.core c.mark_immutable.new.self.core c.sight.new.self.volume c.mark_immutable.new.self.volume m (call.MakeImmutable c.args.id) c.mark_immutable.ensures.kept c.mark_immutable.ensures.intervals refl (c.window_on.ensures.runs c.sight.new.self.volume m now) c.mark_immutable.result
-    (λ spaces_of s. c.mark_immutable.ensures.carried spaces_of m s (subst (λ (x : Sight). IsSight m c.args.id x) c.in-Ok-By.field-0-is (c.in-Ok-By.ensures.answer m r)).named (written_by_none m c.args.id (subst (λ (o : Option (ℕ × Shown)). IsFirstWith (shows c.args.id true) m.spaces o) c.in-Ok-None.field-0-is (c.in-Ok-None.ensures.answer c.sight.new.self.volume m now))))
-
-pub returns-clause-sound : goal.returns-clause-sound
-returns-clause-sound g c = λ m r. let now = c.window_on.ensures.runs c.sight.new.self.volume m (c.sight.ensures.runs m r) in c.mark_immutable.ensures.sound _ m now.session
-
-pub returns-clause-passes : goal.returns-clause-passes
-returns-clause-passes g c = λ m r.
-    let now = c.sight.ensures.runs m r in
-    let last = c.window_on.ensures.runs c.sight.new.self.volume m now in
-    asked_then m (call.MakeImmutable c.args.id) (asked_passes c.args.self.now.core c.args.self.now.volume m call.Volume r (g.met.D.Disk.in_form c.args.self.now.core.filer.swapper.disk) (makes_then c.sight.ensures.makes c.window_on.ensures.makes))
-    (c.mark_immutable.ensures.passes _ m last.session (subst (λ (x : Sight). IsSight m c.args.id x) c.in-Ok-By.field-0-is (c.in-Ok-By.ensures.answer m r)).named (written_by_none m c.args.id (subst (λ (o : Option (ℕ × Shown)). IsFirstWith (shows c.args.id true) m.spaces o) c.in-Ok-None.field-0-is (c.in-Ok-None.ensures.answer c.sight.new.self.volume m now))))
+pub returns-clause-answers : goal.returns-clause-answers
+returns-clause-answers g c = λ m r. record {
+  carried = (let now = c.sight.ensures.runs m r in
+      carried_out c.window_on.new.core c.mark_immutable.new.self.core c.sight.new.self.volume c.mark_immutable.new.self.volume m (call.MakeImmutable c.args.id) c.mark_immutable.ensures.kept c.mark_immutable.ensures.intervals refl (c.window_on.ensures.looks.runs c.sight.new.self.volume m now) c.mark_immutable.result
+      (λ spaces_of s. c.mark_immutable.ensures.carried spaces_of m s (subst (λ (x : Sight). IsSight m c.args.id x) c.in-Ok-By.field-0-is (c.in-Ok-By.ensures.answer m r)).named (written_by_none m c.args.id (subst (λ (o : Option (ℕ × Shown)). IsFirstWith (shows c.args.id true) m.spaces o) c.in-Ok-None.field-0-is (c.in-Ok-None.ensures.answer c.sight.new.self.volume m now)))));
+  sound = (let now = c.window_on.ensures.looks.runs c.sight.new.self.volume m (c.sight.ensures.runs m r) in c.mark_immutable.ensures.sound _ m now.session);
+  passes = (let now = c.sight.ensures.runs m r in
+      let last = c.window_on.ensures.looks.runs c.sight.new.self.volume m now in
+      asked_then m (call.MakeImmutable c.args.id) (asked_passes c.args.self.now.core c.args.self.now.volume m call.Volume r (g.met.D.Disk.in_form (disk_of c.args.self.now.core.filer)) (makes_then c.sight.ensures.makes c.window_on.ensures.looks.makes))
+      (c.mark_immutable.ensures.passes _ m last.session (subst (λ (x : Sight). IsSight m c.args.id x) c.in-Ok-By.field-0-is (c.in-Ok-By.ensures.answer m r)).named (written_by_none m c.args.id (subst (λ (o : Option (ℕ × Shown)). IsFirstWith (shows c.args.id true) m.spaces o) c.in-Ok-None.field-0-is (c.in-Ok-None.ensures.answer c.sight.new.self.volume m now)))));
+  cost = (asked_inside (state c.args.self.now.core).disk (state c.mark_immutable.new.self.core).disk 29109 (omega arith) (let first = c.sight.ensures.cost in let later = c.window_on.ensures.cost in let last = c.mark_immutable.ensures.cost in omega (arith, first, later, last)));
+}
 
 pub returns-clause-wrote : goal.returns-clause-wrote
-returns-clause-wrote g c = wrote_then (wrote_by (makes_then c.sight.ensures.makes c.window_on.ensures.makes) tt) c.mark_immutable.ensures.wrote
+returns-clause-wrote g c = wrote_then (wrote_by (makes_then c.sight.ensures.makes c.window_on.ensures.looks.makes) tt) c.mark_immutable.ensures.wrote
 
 pub returns-clause-counted : goal.returns-clause-counted
-returns-clause-counted g c = λ is. rose_after _ _ _ (makes_then c.sight.ensures.makes c.window_on.ensures.makes).went.faults (c.mark_immutable.ensures.counted is)
+returns-clause-counted g c = λ is. rose_after _ _ _ (makes_then c.sight.ensures.makes c.window_on.ensures.looks.makes).went.faults (c.mark_immutable.ensures.counted is)
 
-pub returns-clause-layout : goal.returns-clause-layout
-returns-clause-layout g c = c.mark_immutable.ensures.layout ∙ c.window_on.ensures.layout ∙ c.sight.ensures.layout
-
-pub returns-clause-cost : goal.returns-clause-cost
-returns-clause-cost g c = λ m r. asked_inside (g.D.Disk.state c.args.self.now.core.filer.swapper.disk) (g.D.Disk.state c.mark_immutable.new.self.core.filer.swapper.disk) 29109 (omega arith) (let first = c.sight.ensures.cost in let later = c.window_on.ensures.cost in let last = c.mark_immutable.ensures.cost in omega (arith, first, later, last))
+pub returns-clause-stays : goal.returns-clause-stays
+returns-clause-stays g c = record {
+  open_still = c.mark_immutable.ensures.stays.open_still;
+  monotone = (then_next c.args.self.now.volume.root c.sight.new.self.volume.root c.mark_immutable.new.self.volume.root (ap (λ (v : Volume). v.root) c.sight.ensures.volume) c.mark_immutable.ensures.stays.monotone);
+  serial = (c.mark_immutable.ensures.stays.serial ∙ ap (λ (v : Volume). v.root.serial) c.sight.ensures.volume);
+  layout = (c.mark_immutable.ensures.stays.layout ∙ c.window_on.ensures.looks.layout ∙ c.sight.ensures.layout);
+}
 
 pub returns-in-Ok-Hidden-clause-own : goal.returns-in-Ok-Hidden-clause-own
 returns-in-Ok-Hidden-clause-own g c = relabels_own (quiet_own c.args.id c.sight.ensures.makes)
@@ -121,13 +118,13 @@ pub returns-in-Err-clause-own : goal.returns-in-Err-clause-own
 returns-in-Err-clause-own g c = relabels_own (quiet_own c.args.id c.sight.ensures.makes)
 
 pub returns-in-Ok-Some-clause-own : goal.returns-in-Ok-Some-clause-own
-returns-in-Ok-Some-clause-own g c = own_after (quiet_own c.args.id c.sight.ensures.makes) (quiet_own c.args.id c.window_on.ensures.makes)
+returns-in-Ok-Some-clause-own g c = own_after (quiet_own c.args.id c.sight.ensures.makes) (quiet_own c.args.id c.window_on.ensures.looks.makes)
 
 pub returns-in-Err-window_on-clause-own : goal.returns-in-Err-window_on-clause-own
-returns-in-Err-window_on-clause-own g c = own_after (quiet_own c.args.id c.sight.ensures.makes) (quiet_own c.args.id c.window_on.ensures.makes)
+returns-in-Err-window_on-clause-own g c = own_after (quiet_own c.args.id c.sight.ensures.makes) (quiet_own c.args.id c.window_on.ensures.looks.makes)
 
 pub returns-clause-own : goal.returns-clause-own
-returns-clause-own g c = own_after (quiet_own c.args.id c.sight.ensures.makes) (own_then (quiet_own c.args.id c.window_on.ensures.makes) (wrote_own c.mark_immutable.ensures.wrote.makes c.mark_immutable.ensures.own))
+returns-clause-own g c = own_after (quiet_own c.args.id c.sight.ensures.makes) (own_then (quiet_own c.args.id c.window_on.ensures.looks.makes) (wrote_own c.mark_immutable.ensures.wrote.makes c.mark_immutable.ensures.own))
 
 -- ---- Why it failed.
 
@@ -138,7 +135,7 @@ pub returns-in-Err-window_on-clause-cause : goal.returns-in-Err-window_on-clause
 returns-in-Err-window_on-clause-cause g c =
     let old = c.args.self.now.core in
     let u = c.sight.new.self.core in
-    inl (later_sight (state old) (state u) old.filer.swapper.accepted c.sight.ensures.reaches old.intervals u.intervals c.sight.ensures.intervals (state c.window_on.new.core) c.in-Err-window_on.halt c.in-Err-window_on.ensures.cause)
+    inl (later_sight (state old) (state u) (accepted old.filer) c.sight.ensures.reaches old.intervals u.intervals c.sight.ensures.intervals (state c.window_on.new.core) c.in-Err-window_on.halt c.in-Err-window_on.ensures.cause)
 
 pub returns-clause-cause : goal.returns-clause-cause
 returns-clause-cause g c =
@@ -146,57 +143,59 @@ returns-clause-cause g c =
     let u = state c.sight.new.self.core in
     let x = state c.window_on.new.core in
     named_halt v x (state c.mark_immutable.new.self.core) c.args.id c.args.self.now.core.intervals (MarkHalts c.args.id) c.mark_immutable.result
-    (reaches_then v u c.args.self.now.core.filer.swapper.accepted c.sight.ensures.reaches x c.window_on.ensures.reaches) c.mark_immutable.ensures.cause
+    (reaches_then v u (accepted c.args.self.now.core.filer) c.sight.ensures.reaches x c.window_on.ensures.looks.reaches) c.mark_immutable.ensures.cause
 
 -- ---- The initial state.
 
-pub returns-in-Ok-Some-clause-keeps_to : goal.returns-in-Ok-Some-clause-keeps_to
-returns-in-Ok-Some-clause-keeps_to g c = λ o k.
-    let u = c.sight.new.self.core in
-    reached_on o (state u) (state c.window_on.new.core) u.filer.swapper.accepted c.window_on.ensures.reaches (c.in-Ok-By.ensures.keeps_to o k)
+pub returns-in-Ok-Some-clause-accounts : goal.returns-in-Ok-Some-clause-accounts
+returns-in-Ok-Some-clause-accounts g c = λ o k. record {
+  keeps_to = (let u = c.sight.new.self.core in
+      reached_on o (state u) (state c.window_on.new.core) (accepted u.filer) c.window_on.ensures.looks.reaches ((c.in-Ok-By.ensures.accounts o k).keeps_to));
+  reasons = tt;
+  sees = (λ seen. home_still o c.sight.new.self.core c.window_on.new.core c.window_on.ensures.looks.makes c.window_on.ensures.looks.still ((c.in-Ok-By.ensures.accounts o k).sees seen));
+}
 
-pub returns-clause-keeps_to : goal.returns-clause-keeps_to
-returns-clause-keeps_to g c = λ o k.
+pub returns-clause-accounts : goal.returns-clause-accounts
+returns-clause-accounts g c = λ o k.
     let u = c.sight.new.self.core in
-    c.mark_immutable.ensures.keeps_to o (reached_on o (state u) (state c.window_on.new.core) u.filer.swapper.accepted c.window_on.ensures.reaches (c.in-Ok-By.ensures.keeps_to o k))
+    record {
+      keeps_to = ((c.mark_immutable.ensures.accounts o (reached_on o (state u) (state c.window_on.new.core) (accepted u.filer) c.window_on.ensures.looks.reaches ((c.in-Ok-By.ensures.accounts o k).keeps_to))).keeps_to);
+      reasons = (reasons_since c.mark_immutable.result o (state c.mark_immutable.new.self.core).disk (c.window_on.ensures.looks.layout ∙ c.sight.ensures.layout)
+          ((c.mark_immutable.ensures.accounts o (reached_on o (state u) (state c.window_on.new.core) (accepted u.filer) c.window_on.ensures.looks.reaches ((c.in-Ok-By.ensures.accounts o k).keeps_to))).reasons));
+      sees = (λ seen. let u = c.sight.new.self.core in
+          (c.mark_immutable.ensures.accounts o (reached_on o (state u) (state c.window_on.new.core) (accepted u.filer) c.window_on.ensures.looks.reaches ((c.in-Ok-By.ensures.accounts o k).keeps_to))).sees
+          (home_still o u c.window_on.new.core c.window_on.ensures.looks.makes c.window_on.ensures.looks.still ((c.in-Ok-By.ensures.accounts o k).sees seen)));
+    }
 
-pub returns-in-Err-window_on-clause-reasons : goal.returns-in-Err-window_on-clause-reasons
-returns-in-Err-window_on-clause-reasons g c = λ o k.
-    let u = c.sight.new.self.core in
-    shows_since o (g.D.Disk.state c.window_on.new.core.filer.swapper.disk) c.in-Err-window_on.halt c.sight.ensures.layout
-    (shows_after (SightHalts u.intervals) (sight_reasons u.intervals) o (state u) (state c.window_on.new.core) u.filer.swapper.accepted c.window_on.ensures.reaches.goes.makes
-    (c.in-Ok-By.ensures.keeps_to o k) c.in-Err-window_on.halt c.in-Err-window_on.ensures.cause)
-
-pub returns-clause-reasons : goal.returns-clause-reasons
-returns-clause-reasons g c = λ o k.
-    let u = c.sight.new.self.core in
-    reasons_since c.mark_immutable.result o (g.D.Disk.state c.mark_immutable.new.self.core.filer.swapper.disk) (c.window_on.ensures.layout ∙ c.sight.ensures.layout)
-    (c.mark_immutable.ensures.reasons o (reached_on o (state u) (state c.window_on.new.core) u.filer.swapper.accepted c.window_on.ensures.reaches (c.in-Ok-By.ensures.keeps_to o k)))
+pub returns-in-Err-window_on-clause-accounts : goal.returns-in-Err-window_on-clause-accounts
+returns-in-Err-window_on-clause-accounts g c = λ o k. record {
+  keeps_to = tt;
+  reasons = (let u = c.sight.new.self.core in
+      shows_since o (state c.window_on.new.core).disk c.in-Err-window_on.halt c.sight.ensures.layout
+      (shows_after (SightHalts u.intervals) (sight_reasons u.intervals) o (state u) (state c.window_on.new.core) (accepted u.filer) c.window_on.ensures.looks.reaches.goes.makes
+      ((c.in-Ok-By.ensures.accounts o k).keeps_to) c.in-Err-window_on.halt c.in-Err-window_on.ensures.cause));
+  sees = (λ seen. let u = c.sight.new.self.core in
+      let new = c.window_on.new.core in
+      let there = (c.in-Ok-By.ensures.accounts o k).sees seen in (
+        never_blames_form c.in-Err-window_on.halt (c.in-Err-window_on.ensures.right (there.0, there.1.0)),
+        sight_misses (file_pages o (state new).disk) u.intervals (state u) (state new) c.in-Err-window_on.halt c.in-Err-window_on.ensures.cause,
+      ));
+}
 
 -- ---- What is seen of the space tables, and which page is reported as missing.
 
-pub returns-in-Ok-Some-clause-sees : goal.returns-in-Ok-Some-clause-sees
-returns-in-Ok-Some-clause-sees g c = λ o k seen. home_still o c.sight.new.self.core c.window_on.new.core c.window_on.ensures.makes c.window_on.ensures.still (c.in-Ok-By.ensures.sees o k seen)
-
-pub returns-in-Err-window_on-clause-sees : goal.returns-in-Err-window_on-clause-sees
-returns-in-Err-window_on-clause-sees g c = λ o k seen.
-    let u = c.sight.new.self.core in
-    let new = c.window_on.new.core in
-    let there = c.in-Ok-By.ensures.sees o k seen in (
-      never_blames_form c.in-Err-window_on.halt (c.in-Err-window_on.ensures.right (there.0, there.1.0)),
-      sight_misses (file_pages o (g.D.Disk.state new.filer.swapper.disk)) u.intervals (state u) (state new) c.in-Err-window_on.halt c.in-Err-window_on.ensures.cause,
-    )
-
-pub returns-clause-sees : goal.returns-clause-sees
-returns-clause-sees g c = λ o k seen.
-    let u = c.sight.new.self.core in
-    c.mark_immutable.ensures.sees o (reached_on o (state u) (state c.window_on.new.core) u.filer.swapper.accepted c.window_on.ensures.reaches (c.in-Ok-By.ensures.keeps_to o k))
-    (home_still o u c.window_on.new.core c.window_on.ensures.makes c.window_on.ensures.still (c.in-Ok-By.ensures.sees o k seen))
-
 -- ---- The next identifier.
 
-pub returns-clause-monotone : goal.returns-clause-monotone
-returns-clause-monotone g c = then_next c.args.self.now.volume.root c.sight.new.self.volume.root c.mark_immutable.new.self.volume.root (ap (λ (v : Volume). v.root) c.sight.ensures.volume) c.mark_immutable.ensures.monotone
+pub returns-in-Ok-Hidden-clause-accounts : goal.returns-in-Ok-Hidden-clause-accounts
+returns-in-Ok-Hidden-clause-accounts g c = λ o k. record {
+  keeps_to = (c.in-Ok-Hidden.ensures.accounts o k).keeps_to;
+  reasons = tt;
+  sees = λ seen. (c.in-Ok-Hidden.ensures.accounts o k).sees seen;
+}
 
-pub returns-clause-serial : goal.returns-clause-serial
-returns-clause-serial g c = c.mark_immutable.ensures.serial ∙ ap (λ (v : Volume). v.root.serial) c.sight.ensures.volume
+pub returns-in-Err-clause-accounts : goal.returns-in-Err-clause-accounts
+returns-in-Err-clause-accounts g c = λ o k. record {
+  keeps_to = tt;
+  reasons = (c.in-Err.ensures.accounts o k).reasons;
+  sees = λ seen. (c.in-Err.ensures.accounts o k).sees seen;
+}

@@ -18,28 +18,29 @@ use Rattle.pilot_engine.proofs.ReasonSteps.{reasons_since}
 use Rattle.file_manager.specs.declared.volume.Volume.{Volume}
 use Rattle.pilot_engine.proofs.SeesLemmas.{then_next}
 use Rattle.pilot_engine.proofs.session.Session.make_permanent.Goals as goal
+use Rattle.filer_kernel.specs.View.{disk_of}
 
-pub returns-in-Ok-Hidden-clause-carried : goal.returns-in-Ok-Hidden-clause-carried
-returns-in-Ok-Hidden-clause-carried g c = λ m r.
-    refused_running _ _ m (call.MakePermanent c.args.id) why.File (c.sight.ensures.runs m r) (permanent_gone m c.args.id (no_file_hidden m c.args.id (subst (λ (x : Sight). IsSight m c.args.id x) c.in-Ok-Hidden.field-0-is (c.in-Ok-Hidden.ensures.answer m r))))
-
-pub returns-in-Ok-Hidden-clause-passes : goal.returns-in-Ok-Hidden-clause-passes
-returns-in-Ok-Hidden-clause-passes g c = λ m r. asked_passes c.args.self.now.core c.args.self.now.volume m (call.MakePermanent c.args.id) r (g.met.D.Disk.in_form c.args.self.now.core.filer.swapper.disk) c.sight.ensures.makes
+pub returns-in-Ok-Hidden-clause-answers : goal.returns-in-Ok-Hidden-clause-answers
+returns-in-Ok-Hidden-clause-answers g c = λ m r. record {
+  carried = (refused_running _ _ m (call.MakePermanent c.args.id) why.File (c.sight.ensures.runs m r) (permanent_gone m c.args.id (no_file_hidden m c.args.id (subst (λ (x : Sight). IsSight m c.args.id x) c.in-Ok-Hidden.field-0-is (c.in-Ok-Hidden.ensures.answer m r)))));
+  sound = tt;
+  passes = (asked_passes c.args.self.now.core c.args.self.now.volume m (call.MakePermanent c.args.id) r (g.met.D.Disk.in_form (disk_of c.args.self.now.core.filer)) c.sight.ensures.makes);
+  cost = (asked_inside (state c.args.self.now.core).disk (state c.sight.new.self.core).disk 14532 (omega arith) c.sight.ensures.cost);
+}
 
 pub returns-in-Ok-Hidden-clause-wrote : goal.returns-in-Ok-Hidden-clause-wrote
 returns-in-Ok-Hidden-clause-wrote g c = wrote_by c.sight.ensures.makes tt
 
-pub returns-in-Ok-Hidden-clause-cost : goal.returns-in-Ok-Hidden-clause-cost
-returns-in-Ok-Hidden-clause-cost g c = λ m r. asked_inside (g.D.Disk.state c.args.self.now.core.filer.swapper.disk) (g.D.Disk.state c.sight.new.self.core.filer.swapper.disk) 14532 (omega arith) c.sight.ensures.cost
-
-pub returns-in-Err-clause-passes : goal.returns-in-Err-clause-passes
-returns-in-Err-clause-passes g c = λ m r. asked_passes c.args.self.now.core c.args.self.now.volume m (call.MakePermanent c.args.id) r (g.met.D.Disk.in_form c.args.self.now.core.filer.swapper.disk) c.sight.ensures.makes
+pub returns-in-Err-clause-answers : goal.returns-in-Err-clause-answers
+returns-in-Err-clause-answers g c = λ m r. record {
+  carried = tt;
+  sound = (c.in-Err.ensures.sound m r);
+  passes = (asked_passes c.args.self.now.core c.args.self.now.volume m (call.MakePermanent c.args.id) r (g.met.D.Disk.in_form (disk_of c.args.self.now.core.filer)) c.sight.ensures.makes);
+  cost = (asked_inside (state c.args.self.now.core).disk (state c.sight.new.self.core).disk 14532 (omega arith) c.sight.ensures.cost);
+}
 
 pub returns-in-Err-clause-wrote : goal.returns-in-Err-clause-wrote
 returns-in-Err-clause-wrote g c = wrote_by c.sight.ensures.makes tt
-
-pub returns-in-Err-clause-cost : goal.returns-in-Err-clause-cost
-returns-in-Err-clause-cost g c = λ m r. asked_inside (g.D.Disk.state c.args.self.now.core.filer.swapper.disk) (g.D.Disk.state c.sight.new.self.core.filer.swapper.disk) 14532 (omega arith) c.sight.ensures.cost
 
 pub mark_permanent-requires-clause-size : goal.mark_permanent-requires-clause-size
 mark_permanent-requires-clause-size g c = c.sight.ensures.makes.went.sectors ∙ c.requires.size ∙ ap (λ (l : Layout). l.sectors) (sym c.sight.ensures.layout)
@@ -47,18 +48,16 @@ mark_permanent-requires-clause-size g c = c.sight.ensures.makes.went.sectors ∙
 pub mark_permanent-requires-clause-opened : goal.mark_permanent-requires-clause-opened
 mark_permanent-requires-clause-opened g c = still_open _ _ _ _ c.requires.opened c.sight.ensures.layout c.sight.ensures.volume
 
-pub returns-in-Ok-By-clause-carried : goal.returns-in-Ok-By-clause-carried
-returns-in-Ok-By-clause-carried g c = λ m r.
-    carried_out c.sight.new.self.core c.mark_permanent.new.self.core c.sight.new.self.volume c.mark_permanent.new.self.volume m (call.MakePermanent c.args.id) c.mark_permanent.ensures.kept c.mark_permanent.ensures.intervals refl (c.sight.ensures.runs m r) c.mark_permanent.result
-    (λ spaces_of s. c.mark_permanent.ensures.carried spaces_of m s (subst (λ (x : Sight). IsSight m c.args.id x) c.in-Ok-By.field-0-is (c.in-Ok-By.ensures.answer m r)).named)
-
-pub returns-in-Ok-By-clause-sound : goal.returns-in-Ok-By-clause-sound
-returns-in-Ok-By-clause-sound g c = λ m r. let now = c.sight.ensures.runs m r in c.mark_permanent.ensures.sound _ m now.session
-
-pub returns-in-Ok-By-clause-passes : goal.returns-in-Ok-By-clause-passes
-returns-in-Ok-By-clause-passes g c = λ m r.
+pub returns-in-Ok-By-clause-answers : goal.returns-in-Ok-By-clause-answers
+returns-in-Ok-By-clause-answers g c = λ m r.
     let now = c.sight.ensures.runs m r in
-    asked_then m (call.MakePermanent c.args.id) (asked_passes c.args.self.now.core c.args.self.now.volume m call.Volume r (g.met.D.Disk.in_form c.args.self.now.core.filer.swapper.disk) c.sight.ensures.makes) (c.mark_permanent.ensures.passes _ m now.session (subst (λ (x : Sight). IsSight m c.args.id x) c.in-Ok-By.field-0-is (c.in-Ok-By.ensures.answer m r)).named)
+    record {
+      carried = (carried_out c.sight.new.self.core c.mark_permanent.new.self.core c.sight.new.self.volume c.mark_permanent.new.self.volume m (call.MakePermanent c.args.id) c.mark_permanent.ensures.kept c.mark_permanent.ensures.intervals refl (c.sight.ensures.runs m r) c.mark_permanent.result
+          (λ spaces_of s. c.mark_permanent.ensures.carried spaces_of m s (subst (λ (x : Sight). IsSight m c.args.id x) c.in-Ok-By.field-0-is (c.in-Ok-By.ensures.answer m r)).named));
+      sound = (c.mark_permanent.ensures.sound _ m now.session);
+      passes = (asked_then m (call.MakePermanent c.args.id) (asked_passes c.args.self.now.core c.args.self.now.volume m call.Volume r (g.met.D.Disk.in_form (disk_of c.args.self.now.core.filer)) c.sight.ensures.makes) (c.mark_permanent.ensures.passes _ m now.session (subst (λ (x : Sight). IsSight m c.args.id x) c.in-Ok-By.field-0-is (c.in-Ok-By.ensures.answer m r)).named));
+      cost = (asked_inside (state c.args.self.now.core).disk (state c.mark_permanent.new.self.core).disk 14577 (omega arith) (let first = c.sight.ensures.cost in let later = c.mark_permanent.ensures.cost in omega (arith, first, later)));
+    }
 
 pub returns-in-Ok-By-clause-wrote : goal.returns-in-Ok-By-clause-wrote
 returns-in-Ok-By-clause-wrote g c = wrote_then (wrote_by c.sight.ensures.makes tt) c.mark_permanent.ensures.wrote
@@ -66,11 +65,13 @@ returns-in-Ok-By-clause-wrote g c = wrote_then (wrote_by c.sight.ensures.makes t
 pub returns-in-Ok-By-clause-counted : goal.returns-in-Ok-By-clause-counted
 returns-in-Ok-By-clause-counted g c = λ is. rose_after _ _ _ c.sight.ensures.makes.went.faults (c.mark_permanent.ensures.counted is)
 
-pub returns-in-Ok-By-clause-layout : goal.returns-in-Ok-By-clause-layout
-returns-in-Ok-By-clause-layout g c = c.mark_permanent.ensures.layout ∙ c.sight.ensures.layout
-
-pub returns-in-Ok-By-clause-cost : goal.returns-in-Ok-By-clause-cost
-returns-in-Ok-By-clause-cost g c = λ m r. asked_inside (g.D.Disk.state c.args.self.now.core.filer.swapper.disk) (g.D.Disk.state c.mark_permanent.new.self.core.filer.swapper.disk) 14577 (omega arith) (let first = c.sight.ensures.cost in let later = c.mark_permanent.ensures.cost in omega (arith, first, later))
+pub returns-in-Ok-By-clause-stays : goal.returns-in-Ok-By-clause-stays
+returns-in-Ok-By-clause-stays g c = record {
+  open_still = c.mark_permanent.ensures.stays.open_still;
+  monotone = (then_next c.args.self.now.volume.root c.sight.new.self.volume.root c.mark_permanent.new.self.volume.root (ap (λ (v : Volume). v.root) c.sight.ensures.volume) c.mark_permanent.ensures.stays.monotone);
+  serial = (c.mark_permanent.ensures.stays.serial ∙ ap (λ (v : Volume). v.root.serial) c.sight.ensures.volume);
+  layout = (c.mark_permanent.ensures.stays.layout ∙ c.sight.ensures.layout);
+}
 
 pub returns-in-Ok-Hidden-clause-own : goal.returns-in-Ok-Hidden-clause-own
 returns-in-Ok-Hidden-clause-own g c = relabels_own (quiet_own c.args.id c.sight.ensures.makes)
@@ -91,24 +92,28 @@ returns-in-Ok-By-clause-cause g c = named_halt (state c.args.self.now.core) (sta
 
 -- ---- The initial state.
 
-pub returns-in-Ok-By-clause-keeps_to : goal.returns-in-Ok-By-clause-keeps_to
-returns-in-Ok-By-clause-keeps_to g c = λ o k. c.mark_permanent.ensures.keeps_to o (c.in-Ok-By.ensures.keeps_to o k)
-
-pub returns-in-Ok-By-clause-reasons : goal.returns-in-Ok-By-clause-reasons
-returns-in-Ok-By-clause-reasons g c = λ o k.
-    reasons_since c.mark_permanent.result o (g.D.Disk.state c.mark_permanent.new.self.core.filer.swapper.disk) c.sight.ensures.layout
-    (c.mark_permanent.ensures.reasons o (c.in-Ok-By.ensures.keeps_to o k))
+pub returns-in-Ok-By-clause-accounts : goal.returns-in-Ok-By-clause-accounts
+returns-in-Ok-By-clause-accounts g c = λ o k. record {
+  keeps_to = ((c.mark_permanent.ensures.accounts o ((c.in-Ok-By.ensures.accounts o k).keeps_to)).keeps_to);
+  reasons = (reasons_since c.mark_permanent.result o (state c.mark_permanent.new.self.core).disk c.sight.ensures.layout
+      ((c.mark_permanent.ensures.accounts o ((c.in-Ok-By.ensures.accounts o k).keeps_to)).reasons));
+  sees = (λ seen. (c.mark_permanent.ensures.accounts o ((c.in-Ok-By.ensures.accounts o k).keeps_to)).sees ((c.in-Ok-By.ensures.accounts o k).sees seen));
+}
 
 -- ---- What is seen of the space tables.
 
-pub returns-in-Ok-By-clause-sees : goal.returns-in-Ok-By-clause-sees
-returns-in-Ok-By-clause-sees g c = λ o k seen.
-    c.mark_permanent.ensures.sees o (c.in-Ok-By.ensures.keeps_to o k) (c.in-Ok-By.ensures.sees o k seen)
-
 -- ---- The next identifier.
 
-pub returns-in-Ok-By-clause-monotone : goal.returns-in-Ok-By-clause-monotone
-returns-in-Ok-By-clause-monotone g c = then_next c.args.self.now.volume.root c.sight.new.self.volume.root c.mark_permanent.new.self.volume.root (ap (λ (v : Volume). v.root) c.sight.ensures.volume) c.mark_permanent.ensures.monotone
+pub returns-in-Ok-Hidden-clause-accounts : goal.returns-in-Ok-Hidden-clause-accounts
+returns-in-Ok-Hidden-clause-accounts g c = λ o k. record {
+  keeps_to = (c.in-Ok-Hidden.ensures.accounts o k).keeps_to;
+  reasons = tt;
+  sees = λ seen. (c.in-Ok-Hidden.ensures.accounts o k).sees seen;
+}
 
-pub returns-in-Ok-By-clause-serial : goal.returns-in-Ok-By-clause-serial
-returns-in-Ok-By-clause-serial g c = c.mark_permanent.ensures.serial ∙ ap (λ (v : Volume). v.root.serial) c.sight.ensures.volume
+pub returns-in-Err-clause-accounts : goal.returns-in-Err-clause-accounts
+returns-in-Err-clause-accounts g c = λ o k. record {
+  keeps_to = tt;
+  reasons = (c.in-Err.ensures.accounts o k).reasons;
+  sees = λ seen. (c.in-Err.ensures.accounts o k).sees seen;
+}

@@ -39,42 +39,45 @@ use Rattle.pilot_engine.proofs.HomeSteps.{last_within, on_or_blameless}
 use Rattle.pilot_engine.proofs.LackLemmas.{fails_missing_page}
 use Rattle.pilot_engine.proofs.SpaceMisses.{change_misses, path_misses}
 use Rattle.pilot_engine.proofs.session.Session.map_anonymous.Goals as goal
+use Rattle.filer_kernel.specs.View.{accepted, disk_of, swapper_of, view_of}
 
-pub returns-in-Ok-Err-clause-passes : goal.returns-in-Ok-Err-clause-passes
-returns-in-Ok-Err-clause-passes g c = λ m r. asked_passes c.args.self.now.core c.args.self.now.volume m (call.MapAnonymous c.args.space) r (g.met.D.Disk.in_form c.args.self.now.core.filer.swapper.disk) (reached_makes c.can_map.ensures.asked.reaches)
+pub returns-in-Ok-Err-clause-answers : goal.returns-in-Ok-Err-clause-answers
+returns-in-Ok-Err-clause-answers g c = λ m r. record {
+  carried = (refused_running _ _ m (call.MapAnonymous c.args.space) _ (asked_runs c.args.self.now.core (accepted c.args.self.now.core.filer) c.requires.size c.can_map.new.core c.args.self.now.volume m c.can_map.ensures.asked r) (map_refused m c.args.space _ (λ at. (s : Space) × (space_at m.spaces c.args.space ≡ Some s) × (at ≡ (s.first, s.pages))) (subst (λ (x : Result (ℕ × ℕ) Refusal). Reveals (first_of (map_row m.spaces c.args.space)) (λ at. (s : Space) × (space_at m.spaces c.args.space ≡ Some s) × (at ≡ (s.first, s.pages))) x) c.in-Ok-Err.field-0-is (c.in-Ok-Err.ensures.answer _ _ m.spaces (knows c.args.self.now.core (accepted c.args.self.now.core.filer) c.requires.size c.args.self.now.volume m r)))));
+  sound = tt;
+  passes = (asked_passes c.args.self.now.core c.args.self.now.volume m (call.MapAnonymous c.args.space) r (g.met.D.Disk.in_form (disk_of c.args.self.now.core.filer)) (reached_makes c.can_map.ensures.asked.reaches));
+  cost = (asked_inside (state c.args.self.now.core).disk (state c.can_map.new.core).disk 14364 (omega arith) c.can_map.ensures.cost);
+}
 
 pub returns-in-Ok-Err-clause-wrote : goal.returns-in-Ok-Err-clause-wrote
 returns-in-Ok-Err-clause-wrote g c = wrote_by (reached_makes c.can_map.ensures.asked.reaches) tt
 
-pub returns-in-Ok-Err-clause-cost : goal.returns-in-Ok-Err-clause-cost
-returns-in-Ok-Err-clause-cost g c = λ m r. asked_inside (g.D.Disk.state c.args.self.now.core.filer.swapper.disk) (g.D.Disk.state c.can_map.new.core.filer.swapper.disk) 14364 (omega arith) c.can_map.ensures.cost
+pub returns-in-Ok-Err-clause-stays : goal.returns-in-Ok-Err-clause-stays
+returns-in-Ok-Err-clause-stays g c = record {
+  open_still = (still_open _ _ _ _ c.requires.opened c.can_map.ensures.asked.reaches.layout refl);
+  monotone = (search rules);
+  serial = (search rules);
+  layout = c.can_map.ensures.asked.reaches.layout;
+}
 
-pub returns-in-Ok-Err-clause-open_still : goal.returns-in-Ok-Err-clause-open_still
-returns-in-Ok-Err-clause-open_still g c = still_open _ _ _ _ c.requires.opened c.can_map.ensures.asked.reaches.layout refl
-
-pub returns-in-Ok-Err-clause-layout : goal.returns-in-Ok-Err-clause-layout
-returns-in-Ok-Err-clause-layout g c = c.can_map.ensures.asked.reaches.layout
-
-pub returns-in-Ok-Err-clause-carried : goal.returns-in-Ok-Err-clause-carried
-returns-in-Ok-Err-clause-carried g c = λ m r. refused_running _ _ m (call.MapAnonymous c.args.space) _ (asked_runs c.args.self.now.core c.args.self.now.core.filer.swapper.accepted c.requires.size c.can_map.new.core c.args.self.now.volume m c.can_map.ensures.asked r) (map_refused m c.args.space _ (λ at. (s : Space) × (space_at m.spaces c.args.space ≡ Some s) × (at ≡ (s.first, s.pages))) (subst (λ (x : Result (ℕ × ℕ) Refusal). Reveals (first_of (map_row m.spaces c.args.space)) (λ at. (s : Space) × (space_at m.spaces c.args.space ≡ Some s) × (at ≡ (s.first, s.pages))) x) c.in-Ok-Err.field-0-is (c.in-Ok-Err.ensures.answer _ _ m.spaces (knows c.args.self.now.core c.args.self.now.core.filer.swapper.accepted c.requires.size c.args.self.now.volume m r))))
-
-pub returns-in-Err-clause-passes : goal.returns-in-Err-clause-passes
-returns-in-Err-clause-passes g c = λ m r. asked_passes c.args.self.now.core c.args.self.now.volume m (call.MapAnonymous c.args.space) r (g.met.D.Disk.in_form c.args.self.now.core.filer.swapper.disk) (reached_makes c.can_map.ensures.asked.reaches)
+pub returns-in-Err-clause-answers : goal.returns-in-Err-clause-answers
+returns-in-Err-clause-answers g c = λ m r. record {
+  carried = tt;
+  sound = (c.in-Err.ensures.sound _ _ m.spaces (knows c.args.self.now.core (accepted c.args.self.now.core.filer) c.requires.size c.args.self.now.volume m r));
+  passes = (asked_passes c.args.self.now.core c.args.self.now.volume m (call.MapAnonymous c.args.space) r (g.met.D.Disk.in_form (disk_of c.args.self.now.core.filer)) (reached_makes c.can_map.ensures.asked.reaches));
+  cost = (asked_inside (state c.args.self.now.core).disk (state c.can_map.new.core).disk 14364 (omega arith) c.can_map.ensures.cost);
+}
 
 pub returns-in-Err-clause-wrote : goal.returns-in-Err-clause-wrote
 returns-in-Err-clause-wrote g c = wrote_by (reached_makes c.can_map.ensures.asked.reaches) tt
 
-pub returns-in-Err-clause-cost : goal.returns-in-Err-clause-cost
-returns-in-Err-clause-cost g c = λ m r. asked_inside (g.D.Disk.state c.args.self.now.core.filer.swapper.disk) (g.D.Disk.state c.can_map.new.core.filer.swapper.disk) 14364 (omega arith) c.can_map.ensures.cost
-
-pub returns-in-Err-clause-open_still : goal.returns-in-Err-clause-open_still
-returns-in-Err-clause-open_still g c = still_open _ _ _ _ c.requires.opened c.can_map.ensures.asked.reaches.layout refl
-
-pub returns-in-Err-clause-layout : goal.returns-in-Err-clause-layout
-returns-in-Err-clause-layout g c = c.can_map.ensures.asked.reaches.layout
-
-pub returns-in-Err-clause-sound : goal.returns-in-Err-clause-sound
-returns-in-Err-clause-sound g c = λ m r. c.in-Err.ensures.sound _ _ m.spaces (knows c.args.self.now.core c.args.self.now.core.filer.swapper.accepted c.requires.size c.args.self.now.volume m r)
+pub returns-in-Err-clause-stays : goal.returns-in-Err-clause-stays
+returns-in-Err-clause-stays g c = record {
+  open_still = (still_open _ _ _ _ c.requires.opened c.can_map.ensures.asked.reaches.layout refl);
+  monotone = (search rules);
+  serial = (search rules);
+  layout = c.can_map.ensures.asked.reaches.layout;
+}
 
 pub create-requires-clause-size : goal.create-requires-clause-size
 create-requires-clause-size g c = (reached_makes c.can_map.ensures.asked.reaches).went.sectors ∙ c.requires.size ∙ ap (λ (l : Layout). l.sectors) (sym c.can_map.ensures.asked.reaches.layout)
@@ -82,70 +85,71 @@ create-requires-clause-size g c = (reached_makes c.can_map.ensures.asked.reaches
 pub create-requires-clause-opened : goal.create-requires-clause-opened
 create-requires-clause-opened g c = still_open _ _ _ _ c.requires.opened c.can_map.ensures.asked.reaches.layout refl
 
-pub returns-in-Err-create-clause-passes : goal.returns-in-Err-create-clause-passes
-returns-in-Err-create-clause-passes g c = λ m r.
-    let can = can_be_mapped m c.args.space c.in-Ok-Ok.run' (subst (λ (x : Result (ℕ × ℕ) Refusal). Reveals (first_of (map_row m.spaces c.args.space)) (λ at. (s : Space) × (space_at m.spaces c.args.space ≡ Some s) × (at ≡ (s.first, s.pages))) x) c.in-Ok-Ok.field-0-is (c.in-Ok-Ok.ensures.answer _ _ m.spaces (knows c.args.self.now.core c.args.self.now.core.filer.swapper.accepted c.requires.size c.args.self.now.volume m r))) in
-    quiet_then m m (call.MapAnonymous c.args.space) (call.Create c.in-Ok-Ok.run'.1 0) (asked_passes c.args.self.now.core c.args.self.now.volume m call.Volume r (g.met.D.Disk.in_form c.args.self.now.core.filer.swapper.disk) (reached_makes c.can_map.ensures.asked.reaches)) (c.create.ensures.passes _ m (asked_runs c.args.self.now.core c.args.self.now.core.filer.swapper.accepted c.requires.size c.can_map.new.core c.args.self.now.volume m c.can_map.ensures.asked r).session) (omega arith) (created_alike m r.session.stands.is.by.machine c.args.space c.in-Ok-Ok.run' can) (created_numbers m r.session.stands.is.by.machine c.args.space c.in-Ok-Ok.run' can)
+pub returns-in-Err-create-clause-answers : goal.returns-in-Err-create-clause-answers
+returns-in-Err-create-clause-answers g c = λ m r. record {
+  carried = tt;
+  sound = (c.in-Err-create.ensures.sound _ m (asked_runs c.args.self.now.core (accepted c.args.self.now.core.filer) c.requires.size c.can_map.new.core c.args.self.now.volume m c.can_map.ensures.asked r).session);
+  passes = (let can = can_be_mapped m c.args.space c.in-Ok-Ok.run' (subst (λ (x : Result (ℕ × ℕ) Refusal). Reveals (first_of (map_row m.spaces c.args.space)) (λ at. (s : Space) × (space_at m.spaces c.args.space ≡ Some s) × (at ≡ (s.first, s.pages))) x) c.in-Ok-Ok.field-0-is (c.in-Ok-Ok.ensures.answer _ _ m.spaces (knows c.args.self.now.core (accepted c.args.self.now.core.filer) c.requires.size c.args.self.now.volume m r))) in
+      quiet_then m m (call.MapAnonymous c.args.space) (call.Create c.in-Ok-Ok.run'.1 0) (asked_passes c.args.self.now.core c.args.self.now.volume m call.Volume r (g.met.D.Disk.in_form (disk_of c.args.self.now.core.filer)) (reached_makes c.can_map.ensures.asked.reaches)) (c.create.ensures.passes _ m (asked_runs c.args.self.now.core (accepted c.args.self.now.core.filer) c.requires.size c.can_map.new.core c.args.self.now.volume m c.can_map.ensures.asked r).session) (omega arith) (created_alike m r.session.stands.is.by.machine c.args.space c.in-Ok-Ok.run' can) (created_numbers m r.session.stands.is.by.machine c.args.space c.in-Ok-Ok.run' can));
+  cost = (spent_around (state c.args.self.now.core).disk (state c.can_map.new.core).disk (state c.create.new.self.core).disk (state c.create.new.self.core).disk (reached_makes c.can_map.ensures.asked.reaches).went.sectors (let few = c.can_map.ensures.cost in omega (arith, few)) c.create.ensures.bounded (omega arith));
+}
 
 pub returns-in-Err-create-clause-wrote : goal.returns-in-Err-create-clause-wrote
 returns-in-Err-create-clause-wrote g c = wrote_then (wrote_by (reached_makes c.can_map.ensures.asked.reaches) tt) c.create.ensures.wrote
 
-pub returns-in-Err-create-clause-layout : goal.returns-in-Err-create-clause-layout
-returns-in-Err-create-clause-layout g c = c.create.ensures.layout ∙ c.can_map.ensures.asked.reaches.layout
-
-pub returns-in-Err-create-clause-cost : goal.returns-in-Err-create-clause-cost
-returns-in-Err-create-clause-cost g c = λ m r. spent_around (g.D.Disk.state c.args.self.now.core.filer.swapper.disk) (g.D.Disk.state c.can_map.new.core.filer.swapper.disk) (g.D.Disk.state c.create.new.self.core.filer.swapper.disk) (g.D.Disk.state c.create.new.self.core.filer.swapper.disk) (reached_makes c.can_map.ensures.asked.reaches).went.sectors (let few = c.can_map.ensures.cost in omega (arith, few)) c.create.ensures.bounded (omega arith)
-
-pub returns-in-Err-create-clause-sound : goal.returns-in-Err-create-clause-sound
-returns-in-Err-create-clause-sound g c = λ m r. c.in-Err-create.ensures.sound _ m (asked_runs c.args.self.now.core c.args.self.now.core.filer.swapper.accepted c.requires.size c.can_map.new.core c.args.self.now.volume m c.can_map.ensures.asked r).session
+pub returns-in-Err-create-clause-stays : goal.returns-in-Err-create-clause-stays
+returns-in-Err-create-clause-stays g c = record {
+  open_still = (search rules);
+  monotone = (search rules);
+  serial = (search rules);
+  layout = (c.create.ensures.stays.layout ∙ c.can_map.ensures.asked.reaches.layout);
+}
 
 pub returns-in-Err-create-clause-counted : goal.returns-in-Err-create-clause-counted
 returns-in-Err-create-clause-counted g c = λ is. rose_after _ _ _ (reached_makes c.can_map.ensures.asked.reaches).went.faults (c.in-Err-create.ensures.counted is)
 
-pub returns-in_default-clause-passes : goal.returns-in_default-clause-passes
-returns-in_default-clause-passes g c = λ m r.
-    let can = can_be_mapped m c.args.space c.in-Ok-Ok.run' (subst (λ (x : Result (ℕ × ℕ) Refusal). Reveals (first_of (map_row m.spaces c.args.space)) (λ at. (s : Space) × (space_at m.spaces c.args.space ≡ Some s) × (at ≡ (s.first, s.pages))) x) c.in-Ok-Ok.field-0-is (c.in-Ok-Ok.ensures.answer _ _ m.spaces (knows c.args.self.now.core c.args.self.now.core.filer.swapper.accepted c.requires.size c.args.self.now.volume m r))) in
-    quiet_then m m (call.MapAnonymous c.args.space) (call.Create c.in-Ok-Ok.run'.1 0) (asked_passes c.args.self.now.core c.args.self.now.volume m call.Volume r (g.met.D.Disk.in_form c.args.self.now.core.filer.swapper.disk) (reached_makes c.can_map.ensures.asked.reaches)) (c.create.ensures.passes _ m (asked_runs c.args.self.now.core c.args.self.now.core.filer.swapper.accepted c.requires.size c.can_map.new.core c.args.self.now.volume m c.can_map.ensures.asked r).session) (omega arith) (created_alike m r.session.stands.is.by.machine c.args.space c.in-Ok-Ok.run' can) (created_numbers m r.session.stands.is.by.machine c.args.space c.in-Ok-Ok.run' can)
+pub returns-in_default-clause-answers : goal.returns-in_default-clause-answers
+returns-in_default-clause-answers g c = λ m r.
+    let can = can_be_mapped m c.args.space c.in-Ok-Ok.run' (subst (λ (x : Result (ℕ × ℕ) Refusal). Reveals (first_of (map_row m.spaces c.args.space)) (λ at. (s : Space) × (space_at m.spaces c.args.space ≡ Some s) × (at ≡ (s.first, s.pages))) x) c.in-Ok-Ok.field-0-is (c.in-Ok-Ok.ensures.answer _ _ m.spaces (knows c.args.self.now.core (accepted c.args.self.now.core.filer) c.requires.size c.args.self.now.volume m r))) in
+    record {
+      carried = (not_created m r.session.stands.is.by.machine c.args.space c.in-Ok-Ok.run' can c.create.new.self.core c.create.new.self.volume _ (carried_out c.can_map.new.core c.create.new.self.core c.args.self.now.volume c.create.new.self.volume m (call.Create c.in-Ok-Ok.run'.1 0) c.create.ensures.kept c.create.ensures.intervals refl (asked_runs c.args.self.now.core (accepted c.args.self.now.core.filer) c.requires.size c.can_map.new.core c.args.self.now.volume m c.can_map.ensures.asked r) (Ok c.in-Ok.made) (λ spaces_of s. c.in-Ok.ensures.carried spaces_of m s)) c.in_default.not-File);
+      sound = tt;
+      passes = (quiet_then m m (call.MapAnonymous c.args.space) (call.Create c.in-Ok-Ok.run'.1 0) (asked_passes c.args.self.now.core c.args.self.now.volume m call.Volume r (g.met.D.Disk.in_form (disk_of c.args.self.now.core.filer)) (reached_makes c.can_map.ensures.asked.reaches)) (c.create.ensures.passes _ m (asked_runs c.args.self.now.core (accepted c.args.self.now.core.filer) c.requires.size c.can_map.new.core c.args.self.now.volume m c.can_map.ensures.asked r).session) (omega arith) (created_alike m r.session.stands.is.by.machine c.args.space c.in-Ok-Ok.run' can) (created_numbers m r.session.stands.is.by.machine c.args.space c.in-Ok-Ok.run' can));
+      cost = (spent_around (state c.args.self.now.core).disk (state c.can_map.new.core).disk (state c.create.new.self.core).disk (state c.create.new.self.core).disk (reached_makes c.can_map.ensures.asked.reaches).went.sectors (let few = c.can_map.ensures.cost in omega (arith, few)) c.create.ensures.bounded (omega arith));
+    }
 
 pub returns-in_default-clause-wrote : goal.returns-in_default-clause-wrote
 returns-in_default-clause-wrote g c = wrote_then (wrote_by (reached_makes c.can_map.ensures.asked.reaches) tt) c.create.ensures.wrote
 
-pub returns-in_default-clause-layout : goal.returns-in_default-clause-layout
-returns-in_default-clause-layout g c = c.create.ensures.layout ∙ c.can_map.ensures.asked.reaches.layout
-
-pub returns-in_default-clause-cost : goal.returns-in_default-clause-cost
-returns-in_default-clause-cost g c = λ m r. spent_around (g.D.Disk.state c.args.self.now.core.filer.swapper.disk) (g.D.Disk.state c.can_map.new.core.filer.swapper.disk) (g.D.Disk.state c.create.new.self.core.filer.swapper.disk) (g.D.Disk.state c.create.new.self.core.filer.swapper.disk) (reached_makes c.can_map.ensures.asked.reaches).went.sectors (let few = c.can_map.ensures.cost in omega (arith, few)) c.create.ensures.bounded (omega arith)
-
-pub returns-in_default-clause-carried : goal.returns-in_default-clause-carried
-returns-in_default-clause-carried g c = λ m r.
-    let can = can_be_mapped m c.args.space c.in-Ok-Ok.run' (subst (λ (x : Result (ℕ × ℕ) Refusal). Reveals (first_of (map_row m.spaces c.args.space)) (λ at. (s : Space) × (space_at m.spaces c.args.space ≡ Some s) × (at ≡ (s.first, s.pages))) x) c.in-Ok-Ok.field-0-is (c.in-Ok-Ok.ensures.answer _ _ m.spaces (knows c.args.self.now.core c.args.self.now.core.filer.swapper.accepted c.requires.size c.args.self.now.volume m r))) in
-    not_created m r.session.stands.is.by.machine c.args.space c.in-Ok-Ok.run' can c.create.new.self.core c.create.new.self.volume _ (carried_out c.can_map.new.core c.create.new.self.core c.args.self.now.volume c.create.new.self.volume m (call.Create c.in-Ok-Ok.run'.1 0) c.create.ensures.kept c.create.ensures.intervals refl (asked_runs c.args.self.now.core c.args.self.now.core.filer.swapper.accepted c.requires.size c.can_map.new.core c.args.self.now.volume m c.can_map.ensures.asked r) (Ok c.in-Ok.made) (λ spaces_of s. c.in-Ok.ensures.carried spaces_of m s)) c.in_default.not-File
+pub returns-in_default-clause-stays : goal.returns-in_default-clause-stays
+returns-in_default-clause-stays g c = record {
+  open_still = (search rules);
+  monotone = (search rules);
+  serial = (search rules);
+  layout = (c.create.ensures.stays.layout ∙ c.can_map.ensures.asked.reaches.layout);
+}
 
 pub give_window-requires : goal.give_window-requires
-give_window-requires g c = record { size = c.create.ensures.wrote.makes.went.sectors ∙ (reached_makes c.can_map.ensures.asked.reaches).went.sectors ∙ c.requires.size ∙ ap (λ (l : Layout). l.sectors) (sym (c.create.ensures.layout ∙ c.can_map.ensures.asked.reaches.layout)) }
+give_window-requires g c = record { size = c.create.ensures.wrote.makes.went.sectors ∙ (reached_makes c.can_map.ensures.asked.reaches).went.sectors ∙ c.requires.size ∙ ap (λ (l : Layout). l.sectors) (sym (c.create.ensures.stays.layout ∙ c.can_map.ensures.asked.reaches.layout)) }
 
-pub returns-clause-carried : goal.returns-clause-carried
-returns-clause-carried g c = λ m r.
-    let can = can_be_mapped m c.args.space c.in-Ok-Ok.run' (subst (λ (x : Result (ℕ × ℕ) Refusal). Reveals (first_of (map_row m.spaces c.args.space)) (λ at. (s : Space) × (space_at m.spaces c.args.space ≡ Some s) × (at ≡ (s.first, s.pages))) x) c.in-Ok-Ok.field-0-is (c.in-Ok-Ok.ensures.answer _ _ m.spaces (knows c.args.self.now.core c.args.self.now.core.filer.swapper.accepted c.requires.size c.args.self.now.volume m r))) in
-    let made = created m r.session.stands.is.by.machine c.args.space c.in-Ok-Ok.run' can c.create.new.self.core c.create.new.self.volume c.in-File.id (subst (λ (a : Reply). Carried m (call.Create c.in-Ok-Ok.run'.1 0) c.create.new.self.core c.create.new.self.volume a) c.in-File.is (carried_out c.can_map.new.core c.create.new.self.core c.args.self.now.volume c.create.new.self.volume m (call.Create c.in-Ok-Ok.run'.1 0) c.create.ensures.kept c.create.ensures.intervals refl (asked_runs c.args.self.now.core c.args.self.now.core.filer.swapper.accepted c.requires.size c.can_map.new.core c.args.self.now.volume m c.can_map.ensures.asked r) (Ok c.in-Ok.made) (λ spaces_of s. c.in-Ok.ensures.carried spaces_of m s))) in
-    let few : can.s.pages ≤ 2 ^ 32 = few_pages c.in-Ok-Ok.run'.1 can.s.pages can.pages (search rules) in
-    window_carried m r.session.stands.is.by.machine c.args.space c.in-Ok-Ok.run' can made.free c.in-File.id made.same_id c.give_window.new.core c.create.new.self.volume c.give_window.result (c.give_window.ensures.given c.create.new.self.volume _ can.s made.runs (may_have m r.session.stands.is.by.machine c.args.space c.in-Ok-Ok.run' can made.free) (own_space m r.session.stands.is.by.machine c.args.space c.in-Ok-Ok.run' can made.free) (unmapped_yet m r.session.stands.is.by.machine c.args.space c.in-Ok-Ok.run' can made.free) (window_fits m r.session.stands.is.by.machine c.args.space c.in-Ok-Ok.run' can made.free c.in-File.id made.same_id few) (mapped_machine m r.session.stands.is.by.machine c.args.space c.in-Ok-Ok.run' can made.free c.in-File.id made.same_id))
-
-pub returns-clause-sound : goal.returns-clause-sound
-returns-clause-sound g c = λ m r.
-    let can = can_be_mapped m c.args.space c.in-Ok-Ok.run' (subst (λ (x : Result (ℕ × ℕ) Refusal). Reveals (first_of (map_row m.spaces c.args.space)) (λ at. (s : Space) × (space_at m.spaces c.args.space ≡ Some s) × (at ≡ (s.first, s.pages))) x) c.in-Ok-Ok.field-0-is (c.in-Ok-Ok.ensures.answer _ _ m.spaces (knows c.args.self.now.core c.args.self.now.core.filer.swapper.accepted c.requires.size c.args.self.now.volume m r))) in
-    let made = created m r.session.stands.is.by.machine c.args.space c.in-Ok-Ok.run' can c.create.new.self.core c.create.new.self.volume c.in-File.id (subst (λ (a : Reply). Carried m (call.Create c.in-Ok-Ok.run'.1 0) c.create.new.self.core c.create.new.self.volume a) c.in-File.is (carried_out c.can_map.new.core c.create.new.self.core c.args.self.now.volume c.create.new.self.volume m (call.Create c.in-Ok-Ok.run'.1 0) c.create.ensures.kept c.create.ensures.intervals refl (asked_runs c.args.self.now.core c.args.self.now.core.filer.swapper.accepted c.requires.size c.can_map.new.core c.args.self.now.volume m c.can_map.ensures.asked r) (Ok c.in-Ok.made) (λ spaces_of s. c.in-Ok.ensures.carried spaces_of m s))) in
-    let few : can.s.pages ≤ 2 ^ 32 = few_pages c.in-Ok-Ok.run'.1 can.s.pages can.pages (search rules) in
-    c.give_window.ensures.sound c.create.new.self.volume _ can.s made.runs (may_have m r.session.stands.is.by.machine c.args.space c.in-Ok-Ok.run' can made.free) (own_space m r.session.stands.is.by.machine c.args.space c.in-Ok-Ok.run' can made.free) (unmapped_yet m r.session.stands.is.by.machine c.args.space c.in-Ok-Ok.run' can made.free) (window_fits m r.session.stands.is.by.machine c.args.space c.in-Ok-Ok.run' can made.free c.in-File.id made.same_id few)
-
-pub returns-clause-passes : goal.returns-clause-passes
-returns-clause-passes g c = λ m r.
-    let can = can_be_mapped m c.args.space c.in-Ok-Ok.run' (subst (λ (x : Result (ℕ × ℕ) Refusal). Reveals (first_of (map_row m.spaces c.args.space)) (λ at. (s : Space) × (space_at m.spaces c.args.space ≡ Some s) × (at ≡ (s.first, s.pages))) x) c.in-Ok-Ok.field-0-is (c.in-Ok-Ok.ensures.answer _ _ m.spaces (knows c.args.self.now.core c.args.self.now.core.filer.swapper.accepted c.requires.size c.args.self.now.volume m r))) in
-    let made = created m r.session.stands.is.by.machine c.args.space c.in-Ok-Ok.run' can c.create.new.self.core c.create.new.self.volume c.in-File.id (subst (λ (a : Reply). Carried m (call.Create c.in-Ok-Ok.run'.1 0) c.create.new.self.core c.create.new.self.volume a) c.in-File.is (carried_out c.can_map.new.core c.create.new.self.core c.args.self.now.volume c.create.new.self.volume m (call.Create c.in-Ok-Ok.run'.1 0) c.create.ensures.kept c.create.ensures.intervals refl (asked_runs c.args.self.now.core c.args.self.now.core.filer.swapper.accepted c.requires.size c.can_map.new.core c.args.self.now.volume m c.can_map.ensures.asked r) (Ok c.in-Ok.made) (λ spaces_of s. c.in-Ok.ensures.carried spaces_of m s))) in
-    asked_then m (call.MapAnonymous c.args.space) (asked_passes c.args.self.now.core c.args.self.now.volume m call.Volume r (g.met.D.Disk.in_form c.args.self.now.core.filer.swapper.disk) (reached_makes c.can_map.ensures.asked.reaches))
-    (then_quiet m _ (call.Create c.in-Ok-Ok.run'.1 0) (call.MapAnonymous c.args.space) (c.create.ensures.passes _ m (asked_runs c.args.self.now.core c.args.self.now.core.filer.swapper.accepted c.requires.size c.can_map.new.core c.args.self.now.volume m c.can_map.ensures.asked r).session)
-    (asked_passes c.create.new.self.core c.create.new.self.volume _ call.Volume made.runs (g.met.D.Disk.in_form c.create.new.self.core.filer.swapper.disk) c.give_window.ensures.makes) refl refl (created_alike m r.session.stands.is.by.machine c.args.space c.in-Ok-Ok.run' can) (mapped_alike m r.session.stands.is.by.machine c.args.space c.in-Ok-Ok.run' can made.free)
-    (created_numbers m r.session.stands.is.by.machine c.args.space c.in-Ok-Ok.run' can) (mapped_numbers m r.session.stands.is.by.machine c.args.space c.in-Ok-Ok.run' can made.free))
+pub returns-clause-answers : goal.returns-clause-answers
+returns-clause-answers g c = λ m r. record {
+  carried = (let can = can_be_mapped m c.args.space c.in-Ok-Ok.run' (subst (λ (x : Result (ℕ × ℕ) Refusal). Reveals (first_of (map_row m.spaces c.args.space)) (λ at. (s : Space) × (space_at m.spaces c.args.space ≡ Some s) × (at ≡ (s.first, s.pages))) x) c.in-Ok-Ok.field-0-is (c.in-Ok-Ok.ensures.answer _ _ m.spaces (knows c.args.self.now.core (accepted c.args.self.now.core.filer) c.requires.size c.args.self.now.volume m r))) in
+      let made = created m r.session.stands.is.by.machine c.args.space c.in-Ok-Ok.run' can c.create.new.self.core c.create.new.self.volume c.in-File.id (subst (λ (a : Reply). Carried m (call.Create c.in-Ok-Ok.run'.1 0) c.create.new.self.core c.create.new.self.volume a) c.in-File.is (carried_out c.can_map.new.core c.create.new.self.core c.args.self.now.volume c.create.new.self.volume m (call.Create c.in-Ok-Ok.run'.1 0) c.create.ensures.kept c.create.ensures.intervals refl (asked_runs c.args.self.now.core (accepted c.args.self.now.core.filer) c.requires.size c.can_map.new.core c.args.self.now.volume m c.can_map.ensures.asked r) (Ok c.in-Ok.made) (λ spaces_of s. c.in-Ok.ensures.carried spaces_of m s))) in
+      let few : can.s.pages ≤ 2 ^ 32 = few_pages c.in-Ok-Ok.run'.1 can.s.pages can.pages (search rules) in
+      window_carried m r.session.stands.is.by.machine c.args.space c.in-Ok-Ok.run' can made.free c.in-File.id made.same_id c.give_window.new.core c.create.new.self.volume c.give_window.result (c.give_window.ensures.given c.create.new.self.volume _ can.s made.runs (may_have m r.session.stands.is.by.machine c.args.space c.in-Ok-Ok.run' can made.free) (own_space m r.session.stands.is.by.machine c.args.space c.in-Ok-Ok.run' can made.free) (unmapped_yet m r.session.stands.is.by.machine c.args.space c.in-Ok-Ok.run' can made.free) (window_fits m r.session.stands.is.by.machine c.args.space c.in-Ok-Ok.run' can made.free c.in-File.id made.same_id few) (mapped_machine m r.session.stands.is.by.machine c.args.space c.in-Ok-Ok.run' can made.free c.in-File.id made.same_id)));
+  sound = (let can = can_be_mapped m c.args.space c.in-Ok-Ok.run' (subst (λ (x : Result (ℕ × ℕ) Refusal). Reveals (first_of (map_row m.spaces c.args.space)) (λ at. (s : Space) × (space_at m.spaces c.args.space ≡ Some s) × (at ≡ (s.first, s.pages))) x) c.in-Ok-Ok.field-0-is (c.in-Ok-Ok.ensures.answer _ _ m.spaces (knows c.args.self.now.core (accepted c.args.self.now.core.filer) c.requires.size c.args.self.now.volume m r))) in
+      let made = created m r.session.stands.is.by.machine c.args.space c.in-Ok-Ok.run' can c.create.new.self.core c.create.new.self.volume c.in-File.id (subst (λ (a : Reply). Carried m (call.Create c.in-Ok-Ok.run'.1 0) c.create.new.self.core c.create.new.self.volume a) c.in-File.is (carried_out c.can_map.new.core c.create.new.self.core c.args.self.now.volume c.create.new.self.volume m (call.Create c.in-Ok-Ok.run'.1 0) c.create.ensures.kept c.create.ensures.intervals refl (asked_runs c.args.self.now.core (accepted c.args.self.now.core.filer) c.requires.size c.can_map.new.core c.args.self.now.volume m c.can_map.ensures.asked r) (Ok c.in-Ok.made) (λ spaces_of s. c.in-Ok.ensures.carried spaces_of m s))) in
+      let few : can.s.pages ≤ 2 ^ 32 = few_pages c.in-Ok-Ok.run'.1 can.s.pages can.pages (search rules) in
+      c.give_window.ensures.sound c.create.new.self.volume _ can.s made.runs (may_have m r.session.stands.is.by.machine c.args.space c.in-Ok-Ok.run' can made.free) (own_space m r.session.stands.is.by.machine c.args.space c.in-Ok-Ok.run' can made.free) (unmapped_yet m r.session.stands.is.by.machine c.args.space c.in-Ok-Ok.run' can made.free) (window_fits m r.session.stands.is.by.machine c.args.space c.in-Ok-Ok.run' can made.free c.in-File.id made.same_id few));
+  passes = (let can = can_be_mapped m c.args.space c.in-Ok-Ok.run' (subst (λ (x : Result (ℕ × ℕ) Refusal). Reveals (first_of (map_row m.spaces c.args.space)) (λ at. (s : Space) × (space_at m.spaces c.args.space ≡ Some s) × (at ≡ (s.first, s.pages))) x) c.in-Ok-Ok.field-0-is (c.in-Ok-Ok.ensures.answer _ _ m.spaces (knows c.args.self.now.core (accepted c.args.self.now.core.filer) c.requires.size c.args.self.now.volume m r))) in
+      let made = created m r.session.stands.is.by.machine c.args.space c.in-Ok-Ok.run' can c.create.new.self.core c.create.new.self.volume c.in-File.id (subst (λ (a : Reply). Carried m (call.Create c.in-Ok-Ok.run'.1 0) c.create.new.self.core c.create.new.self.volume a) c.in-File.is (carried_out c.can_map.new.core c.create.new.self.core c.args.self.now.volume c.create.new.self.volume m (call.Create c.in-Ok-Ok.run'.1 0) c.create.ensures.kept c.create.ensures.intervals refl (asked_runs c.args.self.now.core (accepted c.args.self.now.core.filer) c.requires.size c.can_map.new.core c.args.self.now.volume m c.can_map.ensures.asked r) (Ok c.in-Ok.made) (λ spaces_of s. c.in-Ok.ensures.carried spaces_of m s))) in
+      asked_then m (call.MapAnonymous c.args.space) (asked_passes c.args.self.now.core c.args.self.now.volume m call.Volume r (g.met.D.Disk.in_form (disk_of c.args.self.now.core.filer)) (reached_makes c.can_map.ensures.asked.reaches))
+      (then_quiet m _ (call.Create c.in-Ok-Ok.run'.1 0) (call.MapAnonymous c.args.space) (c.create.ensures.passes _ m (asked_runs c.args.self.now.core (accepted c.args.self.now.core.filer) c.requires.size c.can_map.new.core c.args.self.now.volume m c.can_map.ensures.asked r).session)
+      (asked_passes c.create.new.self.core c.create.new.self.volume _ call.Volume made.runs (g.met.D.Disk.in_form (disk_of c.create.new.self.core.filer)) c.give_window.ensures.makes) refl refl (created_alike m r.session.stands.is.by.machine c.args.space c.in-Ok-Ok.run' can) (mapped_alike m r.session.stands.is.by.machine c.args.space c.in-Ok-Ok.run' can made.free)
+      (created_numbers m r.session.stands.is.by.machine c.args.space c.in-Ok-Ok.run' can) (mapped_numbers m r.session.stands.is.by.machine c.args.space c.in-Ok-Ok.run' can made.free)));
+  cost = (spent_around (state c.args.self.now.core).disk (state c.can_map.new.core).disk (state c.create.new.self.core).disk (state c.give_window.new.core).disk (reached_makes c.can_map.ensures.asked.reaches).went.sectors (let few = c.can_map.ensures.cost in omega (arith, few)) c.create.ensures.bounded (let few = c.give_window.ensures.cost in omega (arith, few)));
+}
 
 pub returns-clause-wrote : goal.returns-clause-wrote
 returns-clause-wrote g c = wrote_then (wrote_by (reached_makes c.can_map.ensures.asked.reaches) tt) (wrote_then c.create.ensures.wrote (wrote_by c.give_window.ensures.makes tt))
@@ -153,17 +157,16 @@ returns-clause-wrote g c = wrote_then (wrote_by (reached_makes c.can_map.ensures
 pub returns-clause-counted : goal.returns-clause-counted
 returns-clause-counted g c = λ is. rose_after _ _ _ (reached_makes c.can_map.ensures.asked.reaches).went.faults (rose_after _ _ _ c.create.ensures.wrote.makes.went.faults (c.give_window.ensures.counted is))
 
-pub returns-clause-open_still : goal.returns-clause-open_still
-returns-clause-open_still g c = still_open _ _ _ _ c.create.ensures.open_still c.give_window.ensures.layout refl
-
-pub returns-clause-layout : goal.returns-clause-layout
-returns-clause-layout g c = c.give_window.ensures.layout ∙ c.create.ensures.layout ∙ c.can_map.ensures.asked.reaches.layout
-
-pub returns-clause-cost : goal.returns-clause-cost
-returns-clause-cost g c = λ m r. spent_around (g.D.Disk.state c.args.self.now.core.filer.swapper.disk) (g.D.Disk.state c.can_map.new.core.filer.swapper.disk) (g.D.Disk.state c.create.new.self.core.filer.swapper.disk) (g.D.Disk.state c.give_window.new.core.filer.swapper.disk) (reached_makes c.can_map.ensures.asked.reaches).went.sectors (let few = c.can_map.ensures.cost in omega (arith, few)) c.create.ensures.bounded (let few = c.give_window.ensures.cost in omega (arith, few))
+pub returns-clause-stays : goal.returns-clause-stays
+returns-clause-stays g c = record {
+  open_still = (still_open _ _ _ _ c.create.ensures.stays.open_still c.give_window.ensures.layout refl);
+  monotone = (search rules);
+  serial = (search rules);
+  layout = (c.give_window.ensures.layout ∙ c.create.ensures.stays.layout ∙ c.can_map.ensures.asked.reaches.layout);
+}
 
 pub returns-in-Err-clause-evidence_seen : goal.returns-in-Err-clause-evidence_seen
-returns-in-Err-clause-evidence_seen g c = shows_evidence _ (state c.args.self.now.core) (state c.can_map.new.core) (fits c.args.self.now.core.filer.swapper c.requires.size) c.can_map.ensures.asked.reaches.goes.makes c.in-Err.halt c.in-Err.ensures.cause
+returns-in-Err-clause-evidence_seen g c = shows_evidence _ (state c.args.self.now.core) (state c.can_map.new.core) (fits (swapper_of c.args.self.now.core.filer) c.requires.size) c.can_map.ensures.asked.reaches.goes.makes c.in-Err.halt c.in-Err.ensures.cause
 
 -- ---- Why it failed.
 
@@ -171,7 +174,7 @@ pub returns-in-Err-clause-cause : goal.returns-in-Err-clause-cause
 returns-in-Err-clause-cause g c = inl c.in-Err.ensures.cause
 
 pub returns-in-Err-create-clause-cause : goal.returns-in-Err-create-clause-cause
-returns-in-Err-create-clause-cause g c = inr (state c.can_map.new.core, c.can_map.ensures.asked.reaches, inl (create_wider c.can_map.new.core.filer.swapper.layout (next_id c.args.self.now.volume.root) (IsNewPage c.in-Ok-Ok.run'.1) every_page (λ p own. tt) (state c.can_map.new.core).disk (state c.create.new.self.core).disk (state c.can_map.new.core).slots (state c.create.new.self.core).slots c.in-Err-create.halt c.in-Err-create.ensures.cause))
+returns-in-Err-create-clause-cause g c = inr (state c.can_map.new.core, c.can_map.ensures.asked.reaches, inl (create_wider (state c.can_map.new.core).layout (next_id c.args.self.now.volume.root) (IsNewPage c.in-Ok-Ok.run'.1) every_page (λ p own. tt) (state c.can_map.new.core).disk (state c.create.new.self.core).disk (state c.can_map.new.core).slots (state c.create.new.self.core).slots c.in-Err-create.halt c.in-Err-create.ensures.cause))
 
 pub returns-clause-cause : goal.returns-clause-cause
 returns-clause-cause g c =
@@ -181,92 +184,85 @@ returns-clause-cause g c =
     let w = state c.give_window.new.core in
     let asked = c.can_map.ensures.asked in
     err_wider c.give_window.result (ChangeHalts x.intervals (state x) w) (MapNewHalts (next_id c.args.self.now.volume.root) old.intervals (state old) w)
-    (λ e halts. inr (state u, asked.reaches, inr (state x, (c.create.ensures.wrote, c.create.ensures.layout), counted_change (state x) w old.intervals x.intervals (c.create.ensures.intervals ∙ asked.intervals) e halts))) c.give_window.ensures.cause
+    (λ e halts. inr (state u, asked.reaches, inr (state x, (c.create.ensures.wrote, c.create.ensures.stays.layout), counted_change (state x) w old.intervals x.intervals (c.create.ensures.intervals ∙ asked.intervals) e halts))) c.give_window.ensures.cause
 
 -- ---- The initial state.
 
-pub returns-in-Ok-Err-clause-keeps_to : goal.returns-in-Ok-Err-clause-keeps_to
-returns-in-Ok-Err-clause-keeps_to g c = λ o k up.
-    let old = c.args.self.now.core in
-    given_on o (state c.can_map.new.core) (next_id c.args.self.now.volume.root) up.next (reached_on o (state old) (state c.can_map.new.core) old.filer.swapper.accepted c.can_map.ensures.asked.reaches k)
+pub returns-in-Ok-Err-clause-accounts : goal.returns-in-Ok-Err-clause-accounts
+returns-in-Ok-Err-clause-accounts g c = λ o k n. record {
+  keeps_to = (let old = c.args.self.now.core in
+      given_on o (state c.can_map.new.core) (next_id c.args.self.now.volume.root) n.next (reached_on o (state old) (state c.can_map.new.core) (accepted old.filer) c.can_map.ensures.asked.reaches k));
+  reasons = tt;
+  sees = (λ seen. home_still o c.args.self.now.core c.can_map.new.core (reached_makes c.can_map.ensures.asked.reaches) c.can_map.ensures.sees seen);
+}
 
-pub returns-in_default-clause-keeps_to : goal.returns-in_default-clause-keeps_to
-returns-in_default-clause-keeps_to g c = λ o k up.
-    let old = c.args.self.now.core in
-    c.in-Ok.ensures.keeps_to o (reached_on o (state old) (state c.can_map.new.core) old.filer.swapper.accepted c.can_map.ensures.asked.reaches k) up
+pub returns-in_default-clause-accounts : goal.returns-in_default-clause-accounts
+returns-in_default-clause-accounts g c = λ o k n. record {
+  keeps_to = (let old = c.args.self.now.core in
+      c.in-Ok.ensures.keeps_to o (reached_on o (state old) (state c.can_map.new.core) (accepted old.filer) c.can_map.ensures.asked.reaches k) n);
+  reasons = tt;
+  sees = (λ seen. let old = c.args.self.now.core in
+      let u = c.can_map.new.core in
+      let makes = reached_makes c.can_map.ensures.asked.reaches in
+      let keeps = reached_on o (state old) (state u) (accepted old.filer) c.can_map.ensures.asked.reaches k in
+      home_still o u c.create.new.self.core c.create.ensures.wrote.makes (c.in-Ok.ensures.sees o keeps n) (home_still o old u makes c.can_map.ensures.sees seen));
+}
 
-pub returns-clause-keeps_to : goal.returns-clause-keeps_to
-returns-clause-keeps_to g c = λ o k up.
-    moving_keeps (state c.create.new.self.core) (state c.give_window.new.core) c.give_window.result c.create.new.self.core.filer.swapper.accepted c.give_window.ensures.moves (giving o (next_id c.create.new.self.volume.root))
-    (c.in-Ok.ensures.keeps_to o (reached_on o (state c.args.self.now.core) (state c.can_map.new.core) c.args.self.now.core.filer.swapper.accepted c.can_map.ensures.asked.reaches k) up)
-
-pub returns-in-Err-clause-reasons : goal.returns-in-Err-clause-reasons
-returns-in-Err-clause-reasons g c = λ o k up.
-    let old = c.args.self.now.core in
-    shows_after PathHalts path_reasons o (state old) (state c.can_map.new.core) old.filer.swapper.accepted c.can_map.ensures.asked.reaches.goes.makes k c.in-Err.halt c.in-Err.ensures.cause
-
-pub returns-in-Err-create-clause-reasons : goal.returns-in-Err-create-clause-reasons
-returns-in-Err-create-clause-reasons g c = λ o k up.
-    shows_since o (g.D.Disk.state c.create.new.self.core.filer.swapper.disk) c.in-Err-create.halt c.can_map.ensures.asked.reaches.layout
-    (c.in-Err-create.ensures.reasons o (reached_on o (state c.args.self.now.core) (state c.can_map.new.core) c.args.self.now.core.filer.swapper.accepted c.can_map.ensures.asked.reaches k) up)
-
-pub returns-clause-reasons : goal.returns-clause-reasons
-returns-clause-reasons g c = λ o k up.
-    let old = c.args.self.now.core in
-    let count = c.create.new.self.core.intervals in
-    let next = next_id c.create.new.self.volume.root in
-    let disk = g.D.Disk.state c.give_window.new.core.filer.swapper.disk in
-    reasons_since c.give_window.result o disk (c.create.ensures.layout ∙ c.can_map.ensures.asked.reaches.layout)
-    (given_reasons c.give_window.result o next c.create.new.self.core.filer.swapper.layout disk
-    (moving_reasons (ChangeHalts count) (change_reasons count)
-    (state c.create.new.self.core) (state c.give_window.new.core) c.give_window.result c.create.new.self.core.filer.swapper.accepted c.give_window.ensures.moves c.give_window.ensures.cause (giving o next)
-    (c.in-Ok.ensures.keeps_to o (reached_on o (state old) (state c.can_map.new.core) old.filer.swapper.accepted c.can_map.ensures.asked.reaches k) up)))
-
--- ---- The space tables are seen.
-
-pub returns-in-Ok-Err-clause-sees : goal.returns-in-Ok-Err-clause-sees
-returns-in-Ok-Err-clause-sees g c = λ o k up seen. home_still o c.args.self.now.core c.can_map.new.core (reached_makes c.can_map.ensures.asked.reaches) c.can_map.ensures.sees seen
-
-pub returns-in_default-clause-sees : goal.returns-in_default-clause-sees
-returns-in_default-clause-sees g c = λ o k up seen.
-    let old = c.args.self.now.core in
-    let u = c.can_map.new.core in
-    let makes = reached_makes c.can_map.ensures.asked.reaches in
-    let keeps = reached_on o (state old) (state u) old.filer.swapper.accepted c.can_map.ensures.asked.reaches k in
-    home_still o u c.create.new.self.core c.create.ensures.wrote.makes (c.in-Ok.ensures.sees o keeps up) (home_still o old u makes c.can_map.ensures.sees seen)
-
-pub returns-clause-sees : goal.returns-clause-sees
-returns-clause-sees g c =
+pub returns-clause-accounts : goal.returns-clause-accounts
+returns-clause-accounts g c =
     let few : c.in-Ok-Ok.run'.1 < 2 ^ 32 = search rules in
     let small : c.in-File.id < 2 ^ 64 = search rules in
     let serial = c.requires.opened.valid.serial in
     let same_id : c.in-File.id ≡ next_id c.args.self.now.volume.root = c.in-Ok.ensures.next c.in-File.id c.in-File.is in
-    λ o k up seen.
-    let old = c.args.self.now.core in
-    let u = c.can_map.new.core in
-    let x = c.create.new.self.core in
-    let files = WasBelow o (g.D.Disk.state x.filer.swapper.disk) in
-    let sees = seen.1.0 in
-    let can = map_revealed seen.0 c.args.space c.in-Ok-Ok.field-0 c.in-Ok-Ok.run' c.in-Ok-Ok.field-0-is (c.in-Ok-Ok.ensures.seen seen.0 sees) in
-    let s : Space = can.1.0 in
-    let long : c.in-Ok-Ok.run'.1 ≡ s.pages = ap (λ (run : ℕ × ℕ). run.1) can.1.2 in
-    let keeps = reached_on o (state old) (state u) old.filer.swapper.accepted c.can_map.ensures.asked.reaches k in
-    let made = c.in-Ok.ensures.sees o keeps up seen.0 (c.can_map.ensures.sees seen.0 sees) in
-    let on = files_later o c.create.ensures.wrote.makes seen.0 (files_later o (reached_makes c.can_map.ensures.asked.reaches) seen.0 seen.1.1) in
-    let given = c.give_window.ensures.sees seen.0 s made (free_may seen.0 c.args.space (are_seen sees) s can.1.1 can.0) (handle_so seen.0 c.args.space (are_seen sees) s can.1.1)
-    (record { above_reserved = omega (arith, serial, same_id); small = small; pages_fit = omega (arith, few, long) }) in
-    on_or_blameless o x c.give_window.new.core c.give_window.ensures.makes c.give_window.result
-    (given_for_files c.give_window.new.core c.args.space c.in-File.id 0 c.give_window.result seen.0 given files on
-    (λ last at. c.in-Ok.ensures.home o keeps c.in-File.id c.in-File.is last (last_within seen.0 (are_seen sees) c.args.space s can.1.1 c.in-Ok-Ok.run'.1 long last at)))
-    (c.give_window.ensures.right (seen.0, made)) no_page
-    (fails_missing_page (ChangeHalts x.intervals) no_page (change_misses x.intervals no_page) (state x) (state c.give_window.new.core) c.give_window.result c.give_window.ensures.cause) (λ id page none. absurd none)
+    λ o k n. record {
+      keeps_to = (moving_keeps (state c.create.new.self.core) (state c.give_window.new.core) c.give_window.result (accepted c.create.new.self.core.filer) c.give_window.ensures.moves (giving o (next_id c.create.new.self.volume.root))
+          (c.in-Ok.ensures.keeps_to o (reached_on o (state c.args.self.now.core) (state c.can_map.new.core) (accepted c.args.self.now.core.filer) c.can_map.ensures.asked.reaches k) n));
+      reasons = (let old = c.args.self.now.core in
+          let count = c.create.new.self.core.intervals in
+          let next = next_id c.create.new.self.volume.root in
+          let disk = (state c.give_window.new.core).disk in
+          reasons_since c.give_window.result o disk (c.create.ensures.stays.layout ∙ c.can_map.ensures.asked.reaches.layout)
+          (given_reasons c.give_window.result o next (state c.create.new.self.core).layout disk
+          (moving_reasons (ChangeHalts count) (change_reasons count)
+          (state c.create.new.self.core) (state c.give_window.new.core) c.give_window.result (accepted c.create.new.self.core.filer) c.give_window.ensures.moves c.give_window.ensures.cause (giving o next)
+          (c.in-Ok.ensures.keeps_to o (reached_on o (state old) (state c.can_map.new.core) (accepted old.filer) c.can_map.ensures.asked.reaches k) n))));
+      sees = (λ seen.
+          let old = c.args.self.now.core in
+          let u = c.can_map.new.core in
+          let x = c.create.new.self.core in
+          let files = WasBelow o (view_of x.filer).disk in
+          let sees = seen.1.0 in
+          let can = map_revealed seen.0 c.args.space c.in-Ok-Ok.field-0 c.in-Ok-Ok.run' c.in-Ok-Ok.field-0-is (c.in-Ok-Ok.ensures.seen seen.0 sees) in
+          let s : Space = can.1.0 in
+          let long : c.in-Ok-Ok.run'.1 ≡ s.pages = ap (λ (run : ℕ × ℕ). run.1) can.1.2 in
+          let keeps = reached_on o (state old) (state u) (accepted old.filer) c.can_map.ensures.asked.reaches k in
+          let made = c.in-Ok.ensures.sees o keeps n seen.0 (c.can_map.ensures.sees seen.0 sees) in
+          let on = files_later o c.create.ensures.wrote.makes seen.0 (files_later o (reached_makes c.can_map.ensures.asked.reaches) seen.0 seen.1.1) in
+          let given = c.give_window.ensures.sees seen.0 s made (free_may seen.0 c.args.space (are_seen sees) s can.1.1 can.0) (handle_so seen.0 c.args.space (are_seen sees) s can.1.1)
+          (record { above_reserved = omega (arith, serial, same_id); small = small; pages_fit = omega (arith, few, long) }) in
+          on_or_blameless o x c.give_window.new.core c.give_window.ensures.makes c.give_window.result
+          (given_for_files c.give_window.new.core c.args.space c.in-File.id 0 c.give_window.result seen.0 given files on
+          (λ last at. c.in-Ok.ensures.home o keeps c.in-File.id c.in-File.is last (last_within seen.0 (are_seen sees) c.args.space s can.1.1 c.in-Ok-Ok.run'.1 long last at)))
+          (c.give_window.ensures.right (seen.0, made)) no_page
+          (fails_missing_page (ChangeHalts x.intervals) no_page (change_misses x.intervals no_page) (state x) (state c.give_window.new.core) c.give_window.result c.give_window.ensures.cause) (λ id page none. absurd none));
+    }
 
-pub returns-in-Err-clause-sees : goal.returns-in-Err-clause-sees
-returns-in-Err-clause-sees g c = λ o k up seen.
-    let u = c.can_map.new.core in
-    none_blameless o (g.D.Disk.state u.filer.swapper.disk) c.in-Err.halt (never_blames_form c.in-Err.halt (c.in-Err.ensures.right seen.0 seen.1.0)) (λ pages. path_misses pages (state c.args.self.now.core) (state u) c.in-Err.halt c.in-Err.ensures.cause)
+pub returns-in-Err-clause-accounts : goal.returns-in-Err-clause-accounts
+returns-in-Err-clause-accounts g c = λ o k n. record {
+  keeps_to = tt;
+  reasons = (let old = c.args.self.now.core in
+      shows_after PathHalts path_reasons o (state old) (state c.can_map.new.core) (accepted old.filer) c.can_map.ensures.asked.reaches.goes.makes k c.in-Err.halt c.in-Err.ensures.cause);
+  sees = (λ seen. let u = c.can_map.new.core in
+      none_blameless o (view_of u.filer).disk c.in-Err.halt (never_blames_form c.in-Err.halt (c.in-Err.ensures.right seen.0 seen.1.0)) (λ pages. path_misses pages (state c.args.self.now.core) (state u) c.in-Err.halt c.in-Err.ensures.cause));
+}
 
-pub returns-in-Err-create-clause-sees : goal.returns-in-Err-create-clause-sees
-returns-in-Err-create-clause-sees g c = λ o k up seen.
-    let old = c.args.self.now.core in
-    c.in-Err-create.ensures.sees o (reached_on o (state old) (state c.can_map.new.core) old.filer.swapper.accepted c.can_map.ensures.asked.reaches k) up (seen.0, c.can_map.ensures.sees seen.0 seen.1.0)
+pub returns-in-Err-create-clause-accounts : goal.returns-in-Err-create-clause-accounts
+returns-in-Err-create-clause-accounts g c = λ o k n. record {
+  keeps_to = tt;
+  reasons = (shows_since o (state c.create.new.self.core).disk c.in-Err-create.halt c.can_map.ensures.asked.reaches.layout
+      (c.in-Err-create.ensures.reasons o (reached_on o (state c.args.self.now.core) (state c.can_map.new.core) (accepted c.args.self.now.core.filer) c.can_map.ensures.asked.reaches k) n));
+  sees = (λ seen. let old = c.args.self.now.core in
+      c.in-Err-create.ensures.sees o (reached_on o (state old) (state c.can_map.new.core) (accepted old.filer) c.can_map.ensures.asked.reaches k) n (seen.0, c.can_map.ensures.sees seen.0 seen.1.0));
+}
+
+-- ---- The space tables are seen.

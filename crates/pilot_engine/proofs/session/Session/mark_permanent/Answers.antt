@@ -17,7 +17,7 @@ use Rattle.fault_core.specs.Core.{state}
 use Rattle.space_calls.proofs.HaltLemmas.{look_reaches}
 use Rattle.pilot_engine.proofs.ReasonSteps.{shows_since}
 use Rattle.file_manager.specs.Reasons.{telling}
-use Rattle.fault_core.specs.View.{view_of}
+use Rattle.filer_kernel.specs.View.{accepted, disk_of, view_of}
 use Rattle.pilot_engine.proofs.HomeLemmas.{file_after, file_later, file_pages, found_file, misses_file}
 use Rattle.pilot_engine.proofs.LackLemmas.{look_misses, mark_misses_own}
 use Rattle.pilot_engine.proofs.SeesLemmas.{seen_blameless, seen_still}
@@ -31,13 +31,13 @@ returns-in-Ok-None-clause-carried g c = λ spaces_of m s named.
     c.args.id revealed (call.MakePermanent c.args.id) (λ none. permanent_gone m c.args.id (no_file_missing m c.args.id none))
 
 pub returns-in-Ok-None-clause-passes : goal.returns-in-Ok-None-clause-passes
-returns-in-Ok-None-clause-passes g c = λ spaces_of m s named. no_step spaces_of _ _ _ _ m (call.MakePermanent c.args.id) s.stands c.attributes_of.ensures.makes (g.met.D.Disk.in_form c.args.self.now.core.filer.swapper.disk)
+returns-in-Ok-None-clause-passes g c = λ spaces_of m s named. no_step spaces_of _ _ _ _ m (call.MakePermanent c.args.id) s.stands c.attributes_of.ensures.makes (g.met.D.Disk.in_form (disk_of c.args.self.now.core.filer))
 
 pub returns-in-Err-clause-sound : goal.returns-in-Err-clause-sound
 returns-in-Err-clause-sound g c = λ spaces_of m s. c.in-Err.ensures.revealed s.stands.memory (shapes_of m.files) m.spaces (session_books spaces_of _ _ _ _ _ m s)
 
 pub returns-in-Err-clause-passes : goal.returns-in-Err-clause-passes
-returns-in-Err-clause-passes g c = λ spaces_of m s named. no_step spaces_of _ _ _ _ m (call.MakePermanent c.args.id) s.stands c.attributes_of.ensures.makes (g.met.D.Disk.in_form c.args.self.now.core.filer.swapper.disk)
+returns-in-Err-clause-passes g c = λ spaces_of m s named. no_step spaces_of _ _ _ _ m (call.MakePermanent c.args.id) s.stands c.attributes_of.ensures.makes (g.met.D.Disk.in_form (disk_of c.args.self.now.core.filer))
 
 pub returns-in-Ok-clause-carried : goal.returns-in-Ok-clause-carried
 returns-in-Ok-clause-carried g c = λ spaces_of m s named.
@@ -55,7 +55,7 @@ returns-in-Ok-clause-passes g c = λ spaces_of m s named.
     let mid = c.attributes_of.ensures.same s.stands.memory (shapes_of m.files) m.spaces books in
     let marked = c.in-Ok.ensures.revealed s.stands.memory (shapes_of m.files) m.spaces _ (books_at _ _ _ _ _ _ _ _ mid c.attributes_of.ensures.layout) revealed (leader_hidden spaces_of _ _ m s.stands c.args.id) in
     permanent_passed spaces_of _ _ _ _ _ _ _ _ c.args.self.now.volume m s c.attributes_of.ensures.makes c.attributes_of.ensures.brings mid c.attributes_of.ensures.layout _ _ _ c.args.self.now.volume refl c.args.id _ revealed (let f = file_revealed m c.args.id _ revealed in permanent_free m c.args.id f.0 f.1 named)
-    (g.met.D.Disk.in_form c.args.self.now.core.filer.swapper.disk) marked
+    (g.met.D.Disk.in_form (disk_of c.args.self.now.core.filer)) marked
 
 pub returns-in-Ok-clause-wrote : goal.returns-in-Ok-clause-wrote
 returns-in-Ok-clause-wrote g c = mark_wrote Permanent c.attributes_of.ensures.makes c.make_permanent.ensures.makes
@@ -77,7 +77,7 @@ returns-in-Err-make_permanent-clause-passes g c = λ spaces_of m s named.
     let mid = c.attributes_of.ensures.same s.stands.memory (shapes_of m.files) m.spaces books in
     let broken = c.in-Err-make_permanent.ensures.broken s.stands.memory (shapes_of m.files) m.spaces _ (books_at _ _ _ _ _ _ _ _ mid c.attributes_of.ensures.layout) revealed in
     permanent_broken spaces_of _ _ _ _ _ _ _ _ c.args.self.now.volume m s c.attributes_of.ensures.makes c.attributes_of.ensures.brings mid c.attributes_of.ensures.layout _ _ c.args.self.now.core.filer.runs c.args.self.now.volume refl c.args.id _ revealed (let f = file_revealed m c.args.id _ revealed in permanent_free m c.args.id f.0 f.1 named)
-    (g.met.D.Disk.in_form c.args.self.now.core.filer.swapper.disk) broken
+    (g.met.D.Disk.in_form (disk_of c.args.self.now.core.filer)) broken
 
 pub returns-in-Ok-None-clause-own : goal.returns-in-Ok-None-clause-own
 returns-in-Ok-None-clause-own g c = relabels_own (quiet_own c.args.id c.attributes_of.ensures.makes)
@@ -101,47 +101,46 @@ returns-in-Err-make_permanent-clause-cause g c = inr (state (record c.args.self.
 
 -- ---- The initial state.
 
-pub returns-in-Ok-None-clause-keeps_to : goal.returns-in-Ok-None-clause-keeps_to
-returns-in-Ok-None-clause-keeps_to g c = λ o k. (k.0, (c.in-Ok-None.ensures.keeps_to o k.0 k.1.0, k.1.1))
+pub returns-in-Ok-None-clause-accounts : goal.returns-in-Ok-None-clause-accounts
+returns-in-Ok-None-clause-accounts g c = λ o k. record {
+  keeps_to = ((k.0, (c.in-Ok-None.ensures.keeps_to o k.0 k.1.0, k.1.1)));
+  reasons = tt;
+  sees = (λ seen. let old = c.args.self.now.core in
+      seen_still o (state old) (accepted old.filer) k (view_of c.attributes_of.new.filer) (λ b. c.in-Ok-None.ensures.keeps_to (telling o b) k.0) (file_later o c.attributes_of.ensures.makes) seen);
+}
 
-pub returns-in-Ok-clause-keeps_to : goal.returns-in-Ok-clause-keeps_to
-returns-in-Ok-clause-keeps_to g c = λ o k. (k.0, (c.in-Ok.ensures.keeps_to o k.0 (c.in-Ok-Some.ensures.keeps_to o k.0 k.1.0), k.1.1))
+pub returns-in-Ok-clause-accounts : goal.returns-in-Ok-clause-accounts
+returns-in-Ok-clause-accounts g c = λ o k. record {
+  keeps_to = ((k.0, (c.in-Ok.ensures.keeps_to o k.0 (c.in-Ok-Some.ensures.keeps_to o k.0 k.1.0), k.1.1)));
+  reasons = tt;
+  sees = (λ seen. let old = c.args.self.now.core in
+      seen_still o (state old) (accepted old.filer) k (view_of c.make_permanent.new.filer) (λ b h. c.in-Ok.ensures.keeps_to (telling o b) k.0 (c.in-Ok-Some.ensures.keeps_to (telling o b) k.0 h))
+      (file_after o (returns-in-Ok-clause-wrote g c)) seen);
+}
 
-pub returns-in-Err-clause-reasons : goal.returns-in-Err-clause-reasons
-returns-in-Err-clause-reasons g c = λ o k. c.in-Err.ensures.reasons o k.0 k.1.0
+pub returns-in-Err-clause-accounts : goal.returns-in-Err-clause-accounts
+returns-in-Err-clause-accounts g c = λ o k. record {
+  keeps_to = tt;
+  reasons = (c.in-Err.ensures.reasons o k.0 k.1.0);
+  sees = (λ seen. let old = c.args.self.now.core in
+      let disk = (view_of c.attributes_of.new.filer).disk in
+      seen_blameless o (state old) (accepted old.filer) k (state old).layout disk c.in-Err.halt (λ b. c.in-Err.ensures.reasons (telling o b) k.0)
+      (look_misses (file_pages o disk) c.args.id (state old) (view_of c.attributes_of.new.filer) c.in-Err.halt c.in-Err.ensures.cause) (seen.0, seen.1.0));
+}
 
-pub returns-in-Err-make_permanent-clause-reasons : goal.returns-in-Err-make_permanent-clause-reasons
-returns-in-Err-make_permanent-clause-reasons g c = λ o k.
-    shows_since o (g.D.Disk.state c.make_permanent.new.filer.swapper.disk) c.in-Err-make_permanent.halt c.attributes_of.ensures.layout
-    (c.in-Err-make_permanent.ensures.reasons o k.0 (c.in-Ok-Some.ensures.keeps_to o k.0 k.1.0))
+pub returns-in-Err-make_permanent-clause-accounts : goal.returns-in-Err-make_permanent-clause-accounts
+returns-in-Err-make_permanent-clause-accounts g c = λ o k. record {
+  keeps_to = tt;
+  reasons = (shows_since o (view_of c.make_permanent.new.filer).disk c.in-Err-make_permanent.halt c.attributes_of.ensures.layout
+      (c.in-Err-make_permanent.ensures.reasons o k.0 (c.in-Ok-Some.ensures.keeps_to o k.0 k.1.0)));
+  sees = (λ seen. let old = c.args.self.now.core in
+      let disk = (view_of c.make_permanent.new.filer).disk in
+      let was = found_file k.1.0 c.args.id _ _ c.in-Ok-Some.field-0-is c.in-Ok-Some.ensures.leader in
+      seen_blameless o (state old) (accepted old.filer) k (view_of c.attributes_of.new.filer).layout disk c.in-Err-make_permanent.halt (λ b h. c.in-Err-make_permanent.ensures.reasons (telling o b) k.0 (c.in-Ok-Some.ensures.keeps_to (telling o b) k.0 h))
+      (misses_file (c.in-Ok-Some.ensures.keeps_to o k.0 k.1.0) disk
+      (file_after o (mark_wrote Permanent (makes_nothing volume_page (view_of c.attributes_of.new.filer).disk (view_of c.attributes_of.new.filer).slots) c.make_permanent.ensures.makes)) c.args.id
+      (file_after o (returns-in-Err-make_permanent-clause-wrote g c) c.args.id leader_page was) c.in-Err-make_permanent.halt
+      (mark_misses_own c.args.id (view_of c.attributes_of.new.filer) (view_of c.make_permanent.new.filer) c.in-Err-make_permanent.halt c.in-Err-make_permanent.ensures.cause)) (seen.0, seen.1.0));
+}
 
 -- ---- What is seen of the space tables, and which page is reported as missing.
-
-pub returns-in-Ok-None-clause-sees : goal.returns-in-Ok-None-clause-sees
-returns-in-Ok-None-clause-sees g c = λ o k seen.
-    let old = c.args.self.now.core in
-    seen_still o (state old) old.filer.swapper.accepted k (view_of c.attributes_of.new.filer) (λ b. c.in-Ok-None.ensures.keeps_to (telling o b) k.0) (file_later o c.attributes_of.ensures.makes) seen
-
-pub returns-in-Err-clause-sees : goal.returns-in-Err-clause-sees
-returns-in-Err-clause-sees g c = λ o k seen.
-    let old = c.args.self.now.core in
-    let disk = g.D.Disk.state c.attributes_of.new.filer.swapper.disk in
-    seen_blameless o (state old) old.filer.swapper.accepted k old.filer.swapper.layout disk c.in-Err.halt (λ b. c.in-Err.ensures.reasons (telling o b) k.0)
-    (look_misses (file_pages o disk) c.args.id (state old) (view_of c.attributes_of.new.filer) c.in-Err.halt c.in-Err.ensures.cause) (seen.0, seen.1.0)
-
-pub returns-in-Ok-clause-sees : goal.returns-in-Ok-clause-sees
-returns-in-Ok-clause-sees g c = λ o k seen.
-    let old = c.args.self.now.core in
-    seen_still o (state old) old.filer.swapper.accepted k (view_of c.make_permanent.new.filer) (λ b h. c.in-Ok.ensures.keeps_to (telling o b) k.0 (c.in-Ok-Some.ensures.keeps_to (telling o b) k.0 h))
-    (file_after o (returns-in-Ok-clause-wrote g c)) seen
-
-pub returns-in-Err-make_permanent-clause-sees : goal.returns-in-Err-make_permanent-clause-sees
-returns-in-Err-make_permanent-clause-sees g c = λ o k seen.
-    let old = c.args.self.now.core in
-    let disk = g.D.Disk.state c.make_permanent.new.filer.swapper.disk in
-    let was = found_file k.1.0 c.args.id _ _ c.in-Ok-Some.field-0-is c.in-Ok-Some.ensures.leader in
-    seen_blameless o (state old) old.filer.swapper.accepted k c.attributes_of.new.filer.swapper.layout disk c.in-Err-make_permanent.halt (λ b h. c.in-Err-make_permanent.ensures.reasons (telling o b) k.0 (c.in-Ok-Some.ensures.keeps_to (telling o b) k.0 h))
-    (misses_file (c.in-Ok-Some.ensures.keeps_to o k.0 k.1.0) disk
-    (file_after o (mark_wrote Permanent (makes_nothing volume_page (g.D.Disk.state c.attributes_of.new.filer.swapper.disk) c.attributes_of.new.filer.swapper.pool) c.make_permanent.ensures.makes)) c.args.id
-    (file_after o (returns-in-Err-make_permanent-clause-wrote g c) c.args.id leader_page was) c.in-Err-make_permanent.halt
-    (mark_misses_own c.args.id (view_of c.attributes_of.new.filer) (view_of c.make_permanent.new.filer) c.in-Err-make_permanent.halt c.in-Err-make_permanent.ensures.cause)) (seen.0, seen.1.0)

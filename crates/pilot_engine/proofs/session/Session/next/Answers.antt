@@ -16,6 +16,8 @@ use Rattle.pilot_engine.proofs.ReasonSteps.{reached_on, shows_since}
 use Rattle.file_manager.specs.declared.volume.Volume.{Volume}
 use Rattle.pilot_engine.proofs.SeesLemmas.{same_next}
 use Rattle.pilot_engine.proofs.session.Session.next.Goals as goal
+use Rattle.filer_kernel.specs.View.{accepted, disk_of}
+use Rattle.pilot_engine.proofs.LabelLemmas.{pages_alone}
 
 pub files-init : goal.files-init
 files-init g c = (up_to_none c.args.id _ _ _ _ _ _ c.requires.size, reaches_itself (state c.args.self.now.core), refl, λ o k seen. seen)
@@ -29,76 +31,79 @@ files-smaller g c =
 pub files-preserved : goal.files-preserved
 files-preserved g c = (
   up_to_more _ _ _ _ _ _ _ _ _ _ _ _ _ _ c.files.invariant.0 (λ m r. r.session.stands.is.by.machine) _ _ c.in-Ok-Some.field-0-is c.in-Ok-Some.ensures.turned _ _ _ _ _ _ c.if-passed.false c.next_passed.ensures.runs c.next_passed.ensures.makes c.next_passed.ensures.layout c.next_passed.ensures.volume c.next_passed.ensures.running c.next_passed.ensures.cost,
-  reaches_then (state c.args.self.now.core) (state c.files.self.core) c.args.self.now.core.filer.swapper.accepted c.files.invariant.1 (state c.next_passed.new.self.core) c.next_passed.ensures.reaches,
+  reaches_then (state c.args.self.now.core) (state c.files.self.core) (accepted c.args.self.now.core.filer) c.files.invariant.1 (state c.next_passed.new.self.core) c.next_passed.ensures.reaches,
   c.next_passed.ensures.intervals ∙ c.files.invariant.2,
-  λ o k seen. c.in-Ok-Some.ensures.sees o (reached_on o (state c.args.self.now.core) (state c.files.self.core) c.args.self.now.core.filer.swapper.accepted c.files.invariant.1 k) (c.files.invariant.3 o k seen),
+  λ o k seen. (c.in-Ok-Some.ensures.accounts o (reached_on o (state c.args.self.now.core) (state c.files.self.core) (accepted c.args.self.now.core.filer) c.files.invariant.1 k)).sees (c.files.invariant.3 o k seen),
 )
 
-pub returns-then-passed-clause-carried : goal.returns-then-passed-clause-carried
-returns-then-passed-clause-carried g c = λ m r. replied_running _ _ m (call.Next c.args.id) _ (c.next_passed.ensures.runs m (c.files.invariant.0.runs m r)) refl (next_replied m c.args.id _ (up_to_found _ _ _ _ _ _ _ _ _ _ _ _ _ _ c.files.invariant.0 (λ m r. r.session.stands.is.by.machine) _ _ c.in-Ok-Some.field-0-is c.in-Ok-Some.ensures.turned c.if-passed.true m r)) refl
-
-pub returns-then-passed-clause-passes : goal.returns-then-passed-clause-passes
-returns-then-passed-clause-passes g c = λ m r. asked_passes c.args.self.now.core c.args.self.now.volume m (call.Next c.args.id) r (g.met.D.Disk.in_form c.args.self.now.core.filer.swapper.disk) (makes_then c.files.invariant.0.makes c.next_passed.ensures.makes)
+pub returns-then-passed-clause-answers : goal.returns-then-passed-clause-answers
+returns-then-passed-clause-answers g c = λ m r. record {
+  carried = (replied_running _ _ m (call.Next c.args.id) _ (c.next_passed.ensures.runs m (c.files.invariant.0.runs m r)) refl (next_replied m c.args.id _ (up_to_found _ _ _ _ _ _ _ _ _ _ _ _ _ _ c.files.invariant.0 (λ m r. r.session.stands.is.by.machine) _ _ c.in-Ok-Some.field-0-is c.in-Ok-Some.ensures.turned c.if-passed.true m r)) refl);
+  sound = tt;
+  passes = (asked_passes c.args.self.now.core c.args.self.now.volume m (call.Next c.args.id) r (g.met.D.Disk.in_form (disk_of c.args.self.now.core.filer)) (makes_then c.files.invariant.0.makes c.next_passed.ensures.makes));
+  cost = (turns_bounded (state c.args.self.now.core).disk (state c.next_passed.new.self.core).disk (state c.args.self.now.core).layout (accepted c.args.self.now.core.filer) c.requires.size m (let fits = c.requires.opened.room in let same = r.session.same_used in omega (arith, fits, same)) (up_to_paid _ _ _ _ _ _ _ _ _ _ _ _ _ _ c.files.invariant.0 (λ m r. r.session.stands.is.by.machine) _ c.next_passed.ensures.cost m r));
+}
 
 pub returns-then-passed-clause-wrote : goal.returns-then-passed-clause-wrote
 returns-then-passed-clause-wrote g c = wrote_by (makes_then c.files.invariant.0.makes c.next_passed.ensures.makes) tt
 
-pub returns-then-passed-clause-open_still : goal.returns-then-passed-clause-open_still
-returns-then-passed-clause-open_still g c = still_open _ _ _ _ c.requires.opened (c.next_passed.ensures.layout ∙ c.files.invariant.0.same_layout) (c.next_passed.ensures.volume ∙ c.files.invariant.0.same_volume)
-
-pub returns-then-passed-clause-layout : goal.returns-then-passed-clause-layout
-returns-then-passed-clause-layout g c = c.next_passed.ensures.layout ∙ c.files.invariant.0.same_layout
+pub returns-then-passed-clause-stays : goal.returns-then-passed-clause-stays
+returns-then-passed-clause-stays g c = record {
+  open_still = (still_open _ _ _ _ c.requires.opened (c.next_passed.ensures.layout ∙ c.files.invariant.0.same_layout) (c.next_passed.ensures.volume ∙ c.files.invariant.0.same_volume));
+  monotone = (same_next c.args.self.now.volume.root c.next_passed.new.self.volume.root (ap (λ (v : Volume). v.root) (c.next_passed.ensures.volume ∙ c.files.invariant.0.same_volume)));
+  serial = (ap (λ (v : Volume). v.root.serial) (c.next_passed.ensures.volume ∙ c.files.invariant.0.same_volume));
+  layout = (c.next_passed.ensures.layout ∙ c.files.invariant.0.same_layout);
+}
 
 pub returns-then-passed-clause-running : goal.returns-then-passed-clause-running
 returns-then-passed-clause-running g c = c.next_passed.ensures.running ∙ c.files.invariant.0.same_running
 
-pub returns-then-passed-clause-cost : goal.returns-then-passed-clause-cost
-returns-then-passed-clause-cost g c = λ m r. turns_bounded (g.D.Disk.state c.args.self.now.core.filer.swapper.disk) (g.D.Disk.state c.next_passed.new.self.core.filer.swapper.disk) c.args.self.now.core.filer.swapper.layout c.args.self.now.core.filer.swapper.accepted c.requires.size m (let fits = c.requires.opened.room in let same = r.session.same_used in omega (arith, fits, same)) (up_to_paid _ _ _ _ _ _ _ _ _ _ _ _ _ _ c.files.invariant.0 (λ m r. r.session.stands.is.by.machine) _ c.next_passed.ensures.cost m r)
-
-pub returns-in-Ok-None-clause-carried : goal.returns-in-Ok-None-clause-carried
-returns-in-Ok-None-clause-carried g c = λ m r. replied_running _ _ m (call.Next c.args.id) _ (c.next_passed.ensures.runs m (c.files.invariant.0.runs m r)) refl (nothing_replied m c.args.id (up_to_end _ _ _ _ _ _ _ _ _ _ _ _ _ _ c.files.invariant.0 (λ m r. r.session.stands.is.by.machine) _ c.in-Ok-None.field-0-is c.in-Ok-None.ensures.turned m r)) refl
-
-pub returns-in-Ok-None-clause-passes : goal.returns-in-Ok-None-clause-passes
-returns-in-Ok-None-clause-passes g c = λ m r. asked_passes c.args.self.now.core c.args.self.now.volume m (call.Next c.args.id) r (g.met.D.Disk.in_form c.args.self.now.core.filer.swapper.disk) (makes_then c.files.invariant.0.makes c.next_passed.ensures.makes)
+pub returns-in-Ok-None-clause-answers : goal.returns-in-Ok-None-clause-answers
+returns-in-Ok-None-clause-answers g c = λ m r. record {
+  carried = (replied_running _ _ m (call.Next c.args.id) _ (c.next_passed.ensures.runs m (c.files.invariant.0.runs m r)) refl (nothing_replied m c.args.id (up_to_end _ _ _ _ _ _ _ _ _ _ _ _ _ _ c.files.invariant.0 (λ m r. r.session.stands.is.by.machine) _ c.in-Ok-None.field-0-is c.in-Ok-None.ensures.turned m r)) refl);
+  sound = tt;
+  passes = (asked_passes c.args.self.now.core c.args.self.now.volume m (call.Next c.args.id) r (g.met.D.Disk.in_form (disk_of c.args.self.now.core.filer)) (makes_then c.files.invariant.0.makes c.next_passed.ensures.makes));
+  cost = (turns_bounded (state c.args.self.now.core).disk (state c.next_passed.new.self.core).disk (state c.args.self.now.core).layout (accepted c.args.self.now.core.filer) c.requires.size m (let fits = c.requires.opened.room in let same = r.session.same_used in omega (arith, fits, same)) (up_to_paid _ _ _ _ _ _ _ _ _ _ _ _ _ _ c.files.invariant.0 (λ m r. r.session.stands.is.by.machine) _ c.next_passed.ensures.cost m r));
+}
 
 pub returns-in-Ok-None-clause-wrote : goal.returns-in-Ok-None-clause-wrote
 returns-in-Ok-None-clause-wrote g c = wrote_by (makes_then c.files.invariant.0.makes c.next_passed.ensures.makes) tt
 
-pub returns-in-Ok-None-clause-open_still : goal.returns-in-Ok-None-clause-open_still
-returns-in-Ok-None-clause-open_still g c = still_open _ _ _ _ c.requires.opened (c.next_passed.ensures.layout ∙ c.files.invariant.0.same_layout) (c.next_passed.ensures.volume ∙ c.files.invariant.0.same_volume)
-
-pub returns-in-Ok-None-clause-layout : goal.returns-in-Ok-None-clause-layout
-returns-in-Ok-None-clause-layout g c = c.next_passed.ensures.layout ∙ c.files.invariant.0.same_layout
+pub returns-in-Ok-None-clause-stays : goal.returns-in-Ok-None-clause-stays
+returns-in-Ok-None-clause-stays g c = record {
+  open_still = (still_open _ _ _ _ c.requires.opened (c.next_passed.ensures.layout ∙ c.files.invariant.0.same_layout) (c.next_passed.ensures.volume ∙ c.files.invariant.0.same_volume));
+  monotone = (same_next c.args.self.now.volume.root c.next_passed.new.self.volume.root (ap (λ (v : Volume). v.root) (c.next_passed.ensures.volume ∙ c.files.invariant.0.same_volume)));
+  serial = (ap (λ (v : Volume). v.root.serial) (c.next_passed.ensures.volume ∙ c.files.invariant.0.same_volume));
+  layout = (c.next_passed.ensures.layout ∙ c.files.invariant.0.same_layout);
+}
 
 pub returns-in-Ok-None-clause-running : goal.returns-in-Ok-None-clause-running
 returns-in-Ok-None-clause-running g c = c.next_passed.ensures.running ∙ c.files.invariant.0.same_running
 
-pub returns-in-Ok-None-clause-cost : goal.returns-in-Ok-None-clause-cost
-returns-in-Ok-None-clause-cost g c = λ m r. turns_bounded (g.D.Disk.state c.args.self.now.core.filer.swapper.disk) (g.D.Disk.state c.next_passed.new.self.core.filer.swapper.disk) c.args.self.now.core.filer.swapper.layout c.args.self.now.core.filer.swapper.accepted c.requires.size m (let fits = c.requires.opened.room in let same = r.session.same_used in omega (arith, fits, same)) (up_to_paid _ _ _ _ _ _ _ _ _ _ _ _ _ _ c.files.invariant.0 (λ m r. r.session.stands.is.by.machine) _ c.next_passed.ensures.cost m r)
-
-pub returns-in-Err-clause-sound : goal.returns-in-Err-clause-sound
-returns-in-Err-clause-sound g c = λ m r. c.in-Err.ensures.sound m (c.files.invariant.0.runs m r)
+pub returns-in-Err-clause-answers : goal.returns-in-Err-clause-answers
+returns-in-Err-clause-answers g c = λ m r. record {
+  carried = tt;
+  sound = (c.in-Err.ensures.sound m (c.files.invariant.0.runs m r));
+  passes = (asked_passes c.args.self.now.core c.args.self.now.volume m (call.Next c.args.id) r (g.met.D.Disk.in_form (disk_of c.args.self.now.core.filer)) (makes_then c.files.invariant.0.makes c.next_passed.ensures.makes));
+  cost = (turns_bounded (state c.args.self.now.core).disk (state c.next_passed.new.self.core).disk (state c.args.self.now.core).layout (accepted c.args.self.now.core.filer) c.requires.size m (let fits = c.requires.opened.room in let same = r.session.same_used in omega (arith, fits, same)) (up_to_paid _ _ _ _ _ _ _ _ _ _ _ _ _ _ c.files.invariant.0 (λ m r. r.session.stands.is.by.machine) _ c.next_passed.ensures.cost m r));
+}
 
 pub returns-in-Err-clause-counted : goal.returns-in-Err-clause-counted
 returns-in-Err-clause-counted g c = counted_then _ _ _ c.files.invariant.0.makes.went.faults c.in-Err.ensures.counted
 
-pub returns-in-Err-clause-passes : goal.returns-in-Err-clause-passes
-returns-in-Err-clause-passes g c = λ m r. asked_passes c.args.self.now.core c.args.self.now.volume m (call.Next c.args.id) r (g.met.D.Disk.in_form c.args.self.now.core.filer.swapper.disk) (makes_then c.files.invariant.0.makes c.next_passed.ensures.makes)
-
 pub returns-in-Err-clause-wrote : goal.returns-in-Err-clause-wrote
 returns-in-Err-clause-wrote g c = wrote_by (makes_then c.files.invariant.0.makes c.next_passed.ensures.makes) tt
 
-pub returns-in-Err-clause-open_still : goal.returns-in-Err-clause-open_still
-returns-in-Err-clause-open_still g c = still_open _ _ _ _ c.requires.opened (c.next_passed.ensures.layout ∙ c.files.invariant.0.same_layout) (c.next_passed.ensures.volume ∙ c.files.invariant.0.same_volume)
-
-pub returns-in-Err-clause-layout : goal.returns-in-Err-clause-layout
-returns-in-Err-clause-layout g c = c.next_passed.ensures.layout ∙ c.files.invariant.0.same_layout
+pub returns-in-Err-clause-stays : goal.returns-in-Err-clause-stays
+returns-in-Err-clause-stays g c = record {
+  open_still = (still_open _ _ _ _ c.requires.opened (c.next_passed.ensures.layout ∙ c.files.invariant.0.same_layout) (c.next_passed.ensures.volume ∙ c.files.invariant.0.same_volume));
+  monotone = (same_next c.args.self.now.volume.root c.next_passed.new.self.volume.root (ap (λ (v : Volume). v.root) (c.next_passed.ensures.volume ∙ c.files.invariant.0.same_volume)));
+  serial = (ap (λ (v : Volume). v.root.serial) (c.next_passed.ensures.volume ∙ c.files.invariant.0.same_volume));
+  layout = (c.next_passed.ensures.layout ∙ c.files.invariant.0.same_layout);
+}
 
 pub returns-in-Err-clause-running : goal.returns-in-Err-clause-running
 returns-in-Err-clause-running g c = c.next_passed.ensures.running ∙ c.files.invariant.0.same_running
-
-pub returns-in-Err-clause-cost : goal.returns-in-Err-clause-cost
-returns-in-Err-clause-cost g c = λ m r. turns_bounded (g.D.Disk.state c.args.self.now.core.filer.swapper.disk) (g.D.Disk.state c.next_passed.new.self.core.filer.swapper.disk) c.args.self.now.core.filer.swapper.layout c.args.self.now.core.filer.swapper.accepted c.requires.size m (let fits = c.requires.opened.room in let same = r.session.same_used in omega (arith, fits, same)) (up_to_paid _ _ _ _ _ _ _ _ _ _ _ _ _ _ c.files.invariant.0 (λ m r. r.session.stands.is.by.machine) _ c.next_passed.ensures.cost m r)
 
 -- ---- Why it failed.
 
@@ -109,51 +114,41 @@ returns-in-Err-clause-cause g c =
 
 -- ---- The initial state.
 
-pub returns-then-passed-clause-keeps_to : goal.returns-then-passed-clause-keeps_to
-returns-then-passed-clause-keeps_to g c = λ o k.
-    let old = c.args.self.now.core in
-    c.in-Ok-Some.ensures.keeps_to o (reached_on o (state old) (state c.files.self.core) old.filer.swapper.accepted c.files.invariant.1 k)
+pub returns-then-passed-clause-accounts : goal.returns-then-passed-clause-accounts
+returns-then-passed-clause-accounts g c = λ o k. record {
+  keeps_to = (let old = c.args.self.now.core in
+      (c.in-Ok-Some.ensures.accounts o (reached_on o (state old) (state c.files.self.core) (accepted old.filer) c.files.invariant.1 k)).keeps_to);
+  reasons = tt;
+  sees = (λ seen. (c.in-Ok-Some.ensures.accounts o (reached_on o (state c.args.self.now.core) (state c.files.self.core) (accepted c.args.self.now.core.filer) c.files.invariant.1 k)).sees (c.files.invariant.3 o k seen));
+}
 
-pub returns-in-Ok-None-clause-keeps_to : goal.returns-in-Ok-None-clause-keeps_to
-returns-in-Ok-None-clause-keeps_to g c = λ o k.
-    let old = c.args.self.now.core in
-    c.in-Ok-None.ensures.keeps_to o (reached_on o (state old) (state c.files.self.core) old.filer.swapper.accepted c.files.invariant.1 k)
+pub returns-in-Ok-None-clause-accounts : goal.returns-in-Ok-None-clause-accounts
+returns-in-Ok-None-clause-accounts g c = λ o k. record {
+  keeps_to = (let old = c.args.self.now.core in
+      (c.in-Ok-None.ensures.accounts o (reached_on o (state old) (state c.files.self.core) (accepted old.filer) c.files.invariant.1 k)).keeps_to);
+  reasons = tt;
+  sees = (λ seen. (c.in-Ok-None.ensures.accounts o (reached_on o (state c.args.self.now.core) (state c.files.self.core) (accepted c.args.self.now.core.filer) c.files.invariant.1 k)).sees (c.files.invariant.3 o k seen));
+}
 
-pub returns-in-Err-clause-reasons : goal.returns-in-Err-clause-reasons
-returns-in-Err-clause-reasons g c = λ o k.
-    shows_since o (g.D.Disk.state c.next_passed.new.self.core.filer.swapper.disk) c.in-Err.halt c.files.invariant.0.same_layout
-    (c.in-Err.ensures.reasons o (reached_on o (state c.args.self.now.core) (state c.files.self.core) c.args.self.now.core.filer.swapper.accepted c.files.invariant.1 k))
+pub returns-in-Err-clause-accounts : goal.returns-in-Err-clause-accounts
+returns-in-Err-clause-accounts g c = λ o k. record {
+  keeps_to = tt;
+  reasons = (shows_since o (state c.next_passed.new.self.core).disk c.in-Err.halt c.files.invariant.0.same_layout
+      ((c.in-Err.ensures.accounts o (reached_on o (state c.args.self.now.core) (state c.files.self.core) (accepted c.args.self.now.core.filer) c.files.invariant.1 k)).reasons));
+  sees = (λ seen. (c.in-Err.ensures.accounts o (reached_on o (state c.args.self.now.core) (state c.files.self.core) (accepted c.args.self.now.core.filer) c.files.invariant.1 k)).sees (c.files.invariant.3 o k seen));
+}
 
 -- ---- What is seen of the space tables.
 
-pub returns-then-passed-clause-sees : goal.returns-then-passed-clause-sees
-returns-then-passed-clause-sees g c = λ o k seen.
-    c.in-Ok-Some.ensures.sees o (reached_on o (state c.args.self.now.core) (state c.files.self.core) c.args.self.now.core.filer.swapper.accepted c.files.invariant.1 k) (c.files.invariant.3 o k seen)
-
-pub returns-in-Ok-None-clause-sees : goal.returns-in-Ok-None-clause-sees
-returns-in-Ok-None-clause-sees g c = λ o k seen.
-    c.in-Ok-None.ensures.sees o (reached_on o (state c.args.self.now.core) (state c.files.self.core) c.args.self.now.core.filer.swapper.accepted c.files.invariant.1 k) (c.files.invariant.3 o k seen)
-
-pub returns-in-Err-clause-sees : goal.returns-in-Err-clause-sees
-returns-in-Err-clause-sees g c = λ o k seen.
-    c.in-Err.ensures.sees o (reached_on o (state c.args.self.now.core) (state c.files.self.core) c.args.self.now.core.filer.swapper.accepted c.files.invariant.1 k) (c.files.invariant.3 o k seen)
-
 -- ---- The next identifier.
 
-pub returns-then-passed-clause-monotone : goal.returns-then-passed-clause-monotone
-returns-then-passed-clause-monotone g c = same_next c.args.self.now.volume.root c.next_passed.new.self.volume.root (ap (λ (v : Volume). v.root) (c.next_passed.ensures.volume ∙ c.files.invariant.0.same_volume))
+-- ---- No label is written.
 
-pub returns-in-Ok-None-clause-monotone : goal.returns-in-Ok-None-clause-monotone
-returns-in-Ok-None-clause-monotone g c = same_next c.args.self.now.volume.root c.next_passed.new.self.volume.root (ap (λ (v : Volume). v.root) (c.next_passed.ensures.volume ∙ c.files.invariant.0.same_volume))
+pub returns-then-passed-clause-unlabelled : goal.returns-then-passed-clause-unlabelled
+returns-then-passed-clause-unlabelled g c = pages_alone (makes_then c.files.invariant.0.makes c.next_passed.ensures.makes)
 
-pub returns-in-Err-clause-monotone : goal.returns-in-Err-clause-monotone
-returns-in-Err-clause-monotone g c = same_next c.args.self.now.volume.root c.next_passed.new.self.volume.root (ap (λ (v : Volume). v.root) (c.next_passed.ensures.volume ∙ c.files.invariant.0.same_volume))
+pub returns-in-Ok-None-clause-unlabelled : goal.returns-in-Ok-None-clause-unlabelled
+returns-in-Ok-None-clause-unlabelled g c = pages_alone (makes_then c.files.invariant.0.makes c.next_passed.ensures.makes)
 
-pub returns-then-passed-clause-serial : goal.returns-then-passed-clause-serial
-returns-then-passed-clause-serial g c = ap (λ (v : Volume). v.root.serial) (c.next_passed.ensures.volume ∙ c.files.invariant.0.same_volume)
-
-pub returns-in-Ok-None-clause-serial : goal.returns-in-Ok-None-clause-serial
-returns-in-Ok-None-clause-serial g c = ap (λ (v : Volume). v.root.serial) (c.next_passed.ensures.volume ∙ c.files.invariant.0.same_volume)
-
-pub returns-in-Err-clause-serial : goal.returns-in-Err-clause-serial
-returns-in-Err-clause-serial g c = ap (λ (v : Volume). v.root.serial) (c.next_passed.ensures.volume ∙ c.files.invariant.0.same_volume)
+pub returns-in-Err-clause-unlabelled : goal.returns-in-Err-clause-unlabelled
+returns-in-Err-clause-unlabelled g c = pages_alone (makes_then c.files.invariant.0.makes c.next_passed.ensures.makes)

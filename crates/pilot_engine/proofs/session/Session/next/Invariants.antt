@@ -10,8 +10,8 @@ use Rattle.pilot_engine.proofs.session.Session.next.Given as goal
 -- the files up to this one have no name, pages were found, and the space tables are seen
 abbrev pub invariant-files : goal.invariant-files
 invariant-files g l =
-    NextUpTo l.fn.id l.cursor (λ m. Runs l.fn.self.core l.fn.self.volume m) (λ m. Runs l.self.core l.self.volume m) (g.D.Disk.state l.fn.self.core.filer.swapper.disk) l.fn.self.core.filer.swapper.pool l.fn.self.core.filer.swapper.layout l.fn.self.volume l.fn.self.running
-    (g.D.Disk.state l.self.core.filer.swapper.disk) l.self.core.filer.swapper.pool l.self.core.filer.swapper.layout l.self.volume l.self.running
+    NextUpTo l.fn.id l.cursor (λ m. Runs l.fn.self.core l.fn.self.volume m) (λ m. Runs l.self.core l.self.volume m) (state l.fn.self.core).disk (state l.fn.self.core).slots (state l.fn.self.core).layout l.fn.self.volume l.fn.self.running
+    (state l.self.core).disk (state l.self.core).slots (state l.self.core).layout l.self.volume l.self.running
     × Reaches (state l.fn.self.core) (state l.self.core) × (l.self.core.intervals ≡ l.fn.self.core.intervals)
     × ((o : InitialState) → KeepsOn o l.fn.self.core.filer → SeesHome o l.fn.self.core → SeesHome o l.self.core)
 

@@ -13,7 +13,7 @@ use Rattle.fault_core.proofs.ReachLemmas.{reaches_then}
 use Rattle.space_calls.proofs.HaltLemmas.{look_reaches}
 use Rattle.pilot_engine.proofs.ReasonSteps.{shows_since}
 use Rattle.file_manager.specs.Reasons.{telling}
-use Rattle.fault_core.specs.View.{view_of}
+use Rattle.filer_kernel.specs.View.{accepted, view_of}
 use Rattle.pilot_engine.proofs.HomeLemmas.{file_later, file_pages}
 use Rattle.pilot_engine.proofs.LackLemmas.{search_misses}
 use Rattle.pilot_engine.proofs.SeesLemmas.{seen_blameless, seen_still}
@@ -109,67 +109,66 @@ pub returns-in-Ok-Hidden-clause-reaches : goal.returns-in-Ok-Hidden-clause-reach
 returns-in-Ok-Hidden-clause-reaches g c =
     let v = state c.args.self.now.core in
     let u = state (record c.args.self.now.core { filer = c.next.new.filer }) in
-    reaches_then v u c.args.self.now.core.filer.swapper.accepted (look_reaches v u c.next.ensures.looks c.next.ensures.layout) (state c.sight.new.self.core) c.sight.ensures.reaches
+    reaches_then v u (accepted c.args.self.now.core.filer) (look_reaches v u c.next.ensures.looks c.next.ensures.layout) (state c.sight.new.self.core) c.sight.ensures.reaches
 
 pub returns-in-Ok-By-clause-reaches : goal.returns-in-Ok-By-clause-reaches
 returns-in-Ok-By-clause-reaches g c =
     let v = state c.args.self.now.core in
     let u = state (record c.args.self.now.core { filer = c.next.new.filer }) in
-    reaches_then v u c.args.self.now.core.filer.swapper.accepted (look_reaches v u c.next.ensures.looks c.next.ensures.layout) (state c.sight.new.self.core) c.sight.ensures.reaches
+    reaches_then v u (accepted c.args.self.now.core.filer) (look_reaches v u c.next.ensures.looks c.next.ensures.layout) (state c.sight.new.self.core) c.sight.ensures.reaches
 
 pub returns-in-Err-sight-clause-reaches : goal.returns-in-Err-sight-clause-reaches
 returns-in-Err-sight-clause-reaches g c =
     let v = state c.args.self.now.core in
     let u = state (record c.args.self.now.core { filer = c.next.new.filer }) in
-    reaches_then v u c.args.self.now.core.filer.swapper.accepted (look_reaches v u c.next.ensures.looks c.next.ensures.layout) (state c.sight.new.self.core) c.sight.ensures.reaches
+    reaches_then v u (accepted c.args.self.now.core.filer) (look_reaches v u c.next.ensures.looks c.next.ensures.layout) (state c.sight.new.self.core) c.sight.ensures.reaches
 
 -- ---- The initial state.
 
-pub returns-in-Ok-None-clause-keeps_to : goal.returns-in-Ok-None-clause-keeps_to
-returns-in-Ok-None-clause-keeps_to g c = λ o k. (k.0, (c.in-Ok-None.ensures.keeps_to o k.0 k.1.0, k.1.1))
+pub returns-in-Ok-None-clause-accounts : goal.returns-in-Ok-None-clause-accounts
+returns-in-Ok-None-clause-accounts g c = λ o k. record {
+  keeps_to = ((k.0, (c.in-Ok-None.ensures.keeps_to o k.0 k.1.0, k.1.1)));
+  reasons = tt;
+  sees = (λ seen. let old = c.args.self.now.core in
+      seen_still o (state old) (accepted old.filer) k (view_of c.next.new.filer) (λ b. c.in-Ok-None.ensures.keeps_to (telling o b) k.0) (file_later o c.next.ensures.makes) seen);
+}
 
-pub returns-in-Ok-Hidden-clause-keeps_to : goal.returns-in-Ok-Hidden-clause-keeps_to
-returns-in-Ok-Hidden-clause-keeps_to g c = λ o k. c.in-Ok-Hidden.ensures.keeps_to o (k.0, (c.in-Ok-Some.ensures.keeps_to o k.0 k.1.0, k.1.1))
+pub returns-in-Ok-Hidden-clause-accounts : goal.returns-in-Ok-Hidden-clause-accounts
+returns-in-Ok-Hidden-clause-accounts g c = λ o k. record {
+  keeps_to = ((c.in-Ok-Hidden.ensures.accounts o (k.0, (c.in-Ok-Some.ensures.keeps_to o k.0 k.1.0, k.1.1))).keeps_to);
+  reasons = tt;
+  sees = (λ seen. let old = c.args.self.now.core in
+      (c.in-Ok-Hidden.ensures.accounts o (k.0, (c.in-Ok-Some.ensures.keeps_to o k.0 k.1.0, k.1.1))).sees
+      (seen_still o (state old) (accepted old.filer) k (view_of c.next.new.filer) (λ b. c.in-Ok-Some.ensures.keeps_to (telling o b) k.0) (file_later o c.next.ensures.makes) seen));
+}
 
-pub returns-in-Ok-By-clause-keeps_to : goal.returns-in-Ok-By-clause-keeps_to
-returns-in-Ok-By-clause-keeps_to g c = λ o k. c.in-Ok-By.ensures.keeps_to o (k.0, (c.in-Ok-Some.ensures.keeps_to o k.0 k.1.0, k.1.1))
+pub returns-in-Ok-By-clause-accounts : goal.returns-in-Ok-By-clause-accounts
+returns-in-Ok-By-clause-accounts g c = λ o k. record {
+  keeps_to = ((c.in-Ok-By.ensures.accounts o (k.0, (c.in-Ok-Some.ensures.keeps_to o k.0 k.1.0, k.1.1))).keeps_to);
+  reasons = tt;
+  sees = (λ seen. let old = c.args.self.now.core in
+      (c.in-Ok-By.ensures.accounts o (k.0, (c.in-Ok-Some.ensures.keeps_to o k.0 k.1.0, k.1.1))).sees
+      (seen_still o (state old) (accepted old.filer) k (view_of c.next.new.filer) (λ b. c.in-Ok-Some.ensures.keeps_to (telling o b) k.0) (file_later o c.next.ensures.makes) seen));
+}
 
-pub returns-in-Err-clause-reasons : goal.returns-in-Err-clause-reasons
-returns-in-Err-clause-reasons g c = λ o k. c.in-Err.ensures.reasons o k.0 k.1.0
+pub returns-in-Err-clause-accounts : goal.returns-in-Err-clause-accounts
+returns-in-Err-clause-accounts g c = λ o k. record {
+  keeps_to = tt;
+  reasons = (c.in-Err.ensures.reasons o k.0 k.1.0);
+  sees = (λ seen. let old = c.args.self.now.core in
+      let disk = (view_of c.next.new.filer).disk in
+      seen_blameless o (state old) (accepted old.filer) k (state old).layout disk c.in-Err.halt (λ b. c.in-Err.ensures.reasons (telling o b) k.0)
+      (search_misses (file_pages o disk) (state old).layout (state old).disk (state old).slots disk c.in-Err.halt c.in-Err.ensures.cause) (seen.0, seen.1.0));
+}
 
-pub returns-in-Err-sight-clause-reasons : goal.returns-in-Err-sight-clause-reasons
-returns-in-Err-sight-clause-reasons g c = λ o k.
-    shows_since o (g.D.Disk.state c.sight.new.self.core.filer.swapper.disk) c.in-Err-sight.halt c.next.ensures.layout
-    (c.in-Err-sight.ensures.reasons o (k.0, (c.in-Ok-Some.ensures.keeps_to o k.0 k.1.0, k.1.1)))
+pub returns-in-Err-sight-clause-accounts : goal.returns-in-Err-sight-clause-accounts
+returns-in-Err-sight-clause-accounts g c = λ o k. record {
+  keeps_to = tt;
+  reasons = (shows_since o (state c.sight.new.self.core).disk c.in-Err-sight.halt c.next.ensures.layout
+      ((c.in-Err-sight.ensures.accounts o (k.0, (c.in-Ok-Some.ensures.keeps_to o k.0 k.1.0, k.1.1))).reasons));
+  sees = (λ seen. let old = c.args.self.now.core in
+      (c.in-Err-sight.ensures.accounts o (k.0, (c.in-Ok-Some.ensures.keeps_to o k.0 k.1.0, k.1.1))).sees
+      (seen_still o (state old) (accepted old.filer) k (view_of c.next.new.filer) (λ b. c.in-Ok-Some.ensures.keeps_to (telling o b) k.0) (file_later o c.next.ensures.makes) seen));
+}
 
 -- ---- What is seen of the space tables, and which page is reported as missing.
-
-pub returns-in-Ok-None-clause-sees : goal.returns-in-Ok-None-clause-sees
-returns-in-Ok-None-clause-sees g c = λ o k seen.
-    let old = c.args.self.now.core in
-    seen_still o (state old) old.filer.swapper.accepted k (view_of c.next.new.filer) (λ b. c.in-Ok-None.ensures.keeps_to (telling o b) k.0) (file_later o c.next.ensures.makes) seen
-
-pub returns-in-Err-clause-sees : goal.returns-in-Err-clause-sees
-returns-in-Err-clause-sees g c = λ o k seen.
-    let old = c.args.self.now.core in
-    let disk = g.D.Disk.state c.next.new.filer.swapper.disk in
-    seen_blameless o (state old) old.filer.swapper.accepted k old.filer.swapper.layout disk c.in-Err.halt (λ b. c.in-Err.ensures.reasons (telling o b) k.0)
-    (search_misses (file_pages o disk) old.filer.swapper.layout (g.D.Disk.state old.filer.swapper.disk) old.filer.swapper.pool disk c.in-Err.halt c.in-Err.ensures.cause) (seen.0, seen.1.0)
-
-pub returns-in-Ok-Hidden-clause-sees : goal.returns-in-Ok-Hidden-clause-sees
-returns-in-Ok-Hidden-clause-sees g c = λ o k seen.
-    let old = c.args.self.now.core in
-    c.in-Ok-Hidden.ensures.sees o (k.0, (c.in-Ok-Some.ensures.keeps_to o k.0 k.1.0, k.1.1))
-    (seen_still o (state old) old.filer.swapper.accepted k (view_of c.next.new.filer) (λ b. c.in-Ok-Some.ensures.keeps_to (telling o b) k.0) (file_later o c.next.ensures.makes) seen)
-
-pub returns-in-Ok-By-clause-sees : goal.returns-in-Ok-By-clause-sees
-returns-in-Ok-By-clause-sees g c = λ o k seen.
-    let old = c.args.self.now.core in
-    c.in-Ok-By.ensures.sees o (k.0, (c.in-Ok-Some.ensures.keeps_to o k.0 k.1.0, k.1.1))
-    (seen_still o (state old) old.filer.swapper.accepted k (view_of c.next.new.filer) (λ b. c.in-Ok-Some.ensures.keeps_to (telling o b) k.0) (file_later o c.next.ensures.makes) seen)
-
-pub returns-in-Err-sight-clause-sees : goal.returns-in-Err-sight-clause-sees
-returns-in-Err-sight-clause-sees g c = λ o k seen.
-    let old = c.args.self.now.core in
-    c.in-Err-sight.ensures.sees o (k.0, (c.in-Ok-Some.ensures.keeps_to o k.0 k.1.0, k.1.1))
-    (seen_still o (state old) old.filer.swapper.accepted k (view_of c.next.new.filer) (λ b. c.in-Ok-Some.ensures.keeps_to (telling o b) k.0) (file_later o c.next.ensures.makes) seen)

@@ -7,7 +7,7 @@ use Rattle.pilot_engine.specs.Opening.{SyncsFirst, in_use}
 use Rattle.pilot_engine.proofs.StartFaults.{early_cause, early_left, early_outside, early_reason, early_so, early_never_blames}
 use Rattle.pilot_engine.proofs.StartRuns.{runs_over, sees_over}
 use Rattle.pilot_engine.proofs.StartWrites.{read_wrote, read_keeps, start_wrote, start_keeps}
-use Rattle.fault_core.specs.View.{view_of}
+use Rattle.filer_kernel.specs.View.{accepted, view_of}
 use Rattle.labelled_disk.specs.declared.layout.Layout.{Layout}
 use Rattle.labelled_disk.specs.Layout.{layout_of}
 use Rattle.file_manager.specs.Creating.{IsMonotone}
@@ -31,7 +31,7 @@ returns-in-Ok-begin-clause-stands g c = λ d revealed sound.
 
 pub returns-in-Ok-begin-clause-crash_states : goal.returns-in-Ok-begin-clause-crash_states
 returns-in-Ok-begin-clause-crash_states g c = λ d revealed right. rw c.over.ensures.filer (
-    start_keeps c.in-Ok.ensures.reads.only c.in-Ok.opened.2 c.in-Ok.ensures.bare c.in-Ok-begin.ensures.starts d revealed right c.in-Ok.opened.0.swapper.layout.sectors
+    start_keeps c.in-Ok.ensures.reads.only c.in-Ok.opened.2 c.in-Ok.ensures.bare c.in-Ok-begin.ensures.starts d revealed right (view_of c.in-Ok.opened.0).layout.sectors
     (g.met.D.Disk.whole c.args.disk d revealed ∙ sym c.in-Ok.ensures.reads.only.sectors ∙ c.in-Ok.ensures.size) c.in-Ok.ensures.valid c.in-Ok-begin.ensures.serial c.in-Ok-begin.ensures.counter (c.in-Ok.ensures.read d revealed))
 
 pub returns-in-Ok-begin-clause-wrote : goal.returns-in-Ok-begin-clause-wrote
@@ -39,7 +39,7 @@ returns-in-Ok-begin-clause-wrote g c = rw c.over.ensures.filer (start_wrote c.in
 
 pub returns-in-Ok-begin-clause-synced : goal.returns-in-Ok-begin-clause-synced
 returns-in-Ok-begin-clause-synced g c =
-    let synced : SyncsFirst (g.D.Disk.state c.args.disk) (g.D.Disk.state c.begin.new.filer.swapper.disk) = λ writes is. c.in-Ok-begin.ensures.synced writes (c.in-Ok.ensures.reads.only.writes ∙ is) in
+    let synced : SyncsFirst (g.D.Disk.state c.args.disk) (view_of c.begin.new.filer).disk = λ writes is. c.in-Ok-begin.ensures.synced writes (c.in-Ok.ensures.reads.only.writes ∙ is) in
     rw c.over.ensures.filer synced
 
 pub returns-in-Err-begin-clause-refused : goal.returns-in-Err-begin-clause-refused
@@ -50,7 +50,7 @@ returns-in-Err-begin-clause-sound g c = λ d revealed sound. c.in-Err-begin.ensu
 
 pub returns-in-Err-begin-clause-crash_states : goal.returns-in-Err-begin-clause-crash_states
 returns-in-Err-begin-clause-crash_states g c = λ d revealed right. rw c.into_disk.ensures (
-    start_keeps c.in-Ok.ensures.reads.only c.in-Ok.opened.2 c.in-Ok.ensures.bare c.in-Err-begin.ensures.starts d revealed right c.in-Ok.opened.0.swapper.layout.sectors
+    start_keeps c.in-Ok.ensures.reads.only c.in-Ok.opened.2 c.in-Ok.ensures.bare c.in-Err-begin.ensures.starts d revealed right (view_of c.in-Ok.opened.0).layout.sectors
     (g.met.D.Disk.whole c.args.disk d revealed ∙ sym c.in-Ok.ensures.reads.only.sectors ∙ c.in-Ok.ensures.size) c.in-Ok.ensures.valid c.in-Err-begin.ensures.serial c.in-Err-begin.ensures.counter (c.in-Ok.ensures.read d revealed))
 
 pub returns-in-Err-begin-clause-wrote : goal.returns-in-Err-begin-clause-wrote
@@ -86,9 +86,9 @@ returns-in-Err-begin-clause-cause g c =
       revealed = c.in-Ok.ensures.read;
       before = view_of c.in-Ok.opened.0;
       read = c.in-Ok.ensures.reads;
-      laid = (c.in-Ok.opened.0.swapper.accepted, sym c.in-Ok.ensures.size ∙ c.in-Ok.ensures.reads.only.sectors);
+      laid = ((accepted c.in-Ok.opened.0), sym c.in-Ok.ensures.size ∙ c.in-Ok.ensures.reads.only.sectors);
       bare = c.in-Ok.ensures.bare;
-      no_runs = c.in-Ok.ensures.no_runs c.in-Ok.opened.0.swapper.layout.sectors;
+      no_runs = c.in-Ok.ensures.no_runs (view_of c.in-Ok.opened.0).layout.sectors;
       after = view_of c.begin.new.filer;
       left = refl;
       halts = c.in-Err-begin.ensures.cause;
@@ -105,13 +105,13 @@ returns-in-Err-clause-reasons g c = λ d named ws begun. (some_root, early_reaso
 
 pub returns-in-Err-begin-clause-reasons : goal.returns-in-Err-begin-clause-reasons
 returns-in-Err-begin-clause-reasons g c = λ d named ws begun.
-    let layout = c.in-Ok.opened.0.swapper.layout in
+    let layout = (view_of c.in-Ok.opened.0).layout in
     let long = g.met.D.Disk.whole c.args.disk d begun.contents ∙ sym c.in-Ok.ensures.reads.only.sectors ∙ c.in-Ok.ensures.size in
-    let same : layout ≡ layout_of (length d) = c.in-Ok.opened.0.swapper.accepted.1 ∙ ap layout_of (sym long) in
+    let same : layout ≡ layout_of (length d) = (accepted c.in-Ok.opened.0).1 ∙ ap layout_of (sym long) in
     let root = in_use c.in-Ok.opened.2 in
     rw c.into_disk.ensures (
       root,
-      subst (λ (l : Layout). ShowsReason (initial_state d named (ws ++ (root_write root ∷ []))) l (g.D.Disk.state c.begin.new.filer.swapper.disk) c.in-Err-begin.halt) same
+      subst (λ (l : Layout). ShowsReason (initial_state d named (ws ++ (root_write root ∷ []))) l (view_of c.begin.new.filer).disk c.in-Err-begin.halt) same
           (c.in-Err-begin.ensures.reasons d named ws (begun_read c.in-Ok.ensures.reads.only begun)),
     )
 
@@ -137,18 +137,18 @@ returns-in-Ok-begin-clause-monotone g c = λ d revealed. subst (λ (r : Root). I
 
 pub returns-in-Ok-begin-clause-bounded : goal.returns-in-Ok-begin-clause-bounded
 returns-in-Ok-begin-clause-bounded g c =
-    let layout = c.in-Ok.opened.0.swapper.layout in
+    let layout = (view_of c.in-Ok.opened.0).layout in
     let old = g.D.Disk.state c.args.disk in
-    let read = g.D.Disk.state c.in-Ok.opened.0.swapper.disk in
-    let new = g.D.Disk.state c.begin.new.filer.swapper.disk in
+    let read = (view_of c.in-Ok.opened.0).disk in
+    let new = (view_of c.begin.new.filer).disk in
     rw c.over.ensures.filer (on_layout layout old new (sym c.in-Ok.ensures.reads.only.sectors ∙ c.in-Ok.ensures.size)
-    (start_bounded layout c.in-Ok.opened.0.swapper.accepted old.transfers read.transfers new.transfers c.in-Ok.ensures.reads.moved c.begin.ensures.cost))
+    (start_bounded layout (accepted c.in-Ok.opened.0) old.transfers read.transfers new.transfers c.in-Ok.ensures.reads.moved c.begin.ensures.cost))
 
 pub returns-in-Err-begin-clause-bounded : goal.returns-in-Err-begin-clause-bounded
 returns-in-Err-begin-clause-bounded g c =
-    let layout = c.in-Ok.opened.0.swapper.layout in
+    let layout = (view_of c.in-Ok.opened.0).layout in
     let old = g.D.Disk.state c.args.disk in
-    let read = g.D.Disk.state c.in-Ok.opened.0.swapper.disk in
-    let new = g.D.Disk.state c.begin.new.filer.swapper.disk in
+    let read = (view_of c.in-Ok.opened.0).disk in
+    let new = (view_of c.begin.new.filer).disk in
     rw c.into_disk.ensures (on_layout layout old new (sym c.in-Ok.ensures.reads.only.sectors ∙ c.in-Ok.ensures.size)
-    (start_bounded layout c.in-Ok.opened.0.swapper.accepted old.transfers read.transfers new.transfers c.in-Ok.ensures.reads.moved c.begin.ensures.cost))
+    (start_bounded layout (accepted c.in-Ok.opened.0) old.transfers read.transfers new.transfers c.in-Ok.ensures.reads.moved c.begin.ensures.cost))

@@ -1,4 +1,4 @@
-use Rattle.std.proofs.Common.{Option, refl, sym, ◌∙◌, subst, arith, inl, inr, ap}
+use Rattle.std.proofs.Common.{ap, arith, inl, inr, Option, refl, rules, subst, sym, ◌∙◌}
 use Rattle.labelled_disk.specs.Label.{leader_page}
 use Rattle.flat_machine.specs.declared.call.Call.TheVariants as call
 use Rattle.flat_machine.specs.declared.call.Refusal.TheVariants as why
@@ -22,7 +22,7 @@ use Rattle.fault_core.specs.Core.{state}
 use Rattle.space_calls.proofs.HaltLemmas.{look_reaches}
 use Rattle.pilot_engine.proofs.ReasonSteps.{shows_since}
 use Rattle.file_manager.specs.Reasons.{telling}
-use Rattle.fault_core.specs.View.{view_of}
+use Rattle.filer_kernel.specs.View.{accepted, disk_of, view_of}
 use Rattle.pilot_engine.proofs.HomeLemmas.{file_after, file_later, file_pages, found_file, misses_file}
 use Rattle.pilot_engine.proofs.LackLemmas.{look_misses, size_misses_own}
 use Rattle.pilot_engine.proofs.SeesLemmas.{same_next, seen_from, seen_blameless, seen_still}
@@ -34,7 +34,7 @@ returns-then-not-may_be_file-clause-carried g c = λ spaces_of m s by.
     create_refused spaces_of _ _ _ _ _ m s (call.SetSize c.args.id c.args.pages) why.File (size_gone m c.args.id (no_file_missing m c.args.id (never_file spaces_of _ _ _ _ _ m s c.args.id other)) c.args.pages)
 
 pub returns-then-not-may_be_file-clause-passes : goal.returns-then-not-may_be_file-clause-passes
-returns-then-not-may_be_file-clause-passes g c = λ spaces_of m s by. no_step spaces_of _ _ _ _ m (call.SetSize c.args.id c.args.pages) s.stands (makes_nothing volume_page _ _) (g.met.D.Disk.in_form c.args.self.now.core.filer.swapper.disk)
+returns-then-not-may_be_file-clause-passes g c = λ spaces_of m s by. no_step spaces_of _ _ _ _ m (call.SetSize c.args.id c.args.pages) s.stands (makes_nothing volume_page _ _) (g.met.D.Disk.in_form (disk_of c.args.self.now.core.filer))
 
 pub returns-then-not-may_be_file-clause-wrote : goal.returns-then-not-may_be_file-clause-wrote
 returns-then-not-may_be_file-clause-wrote g c = wrote_nothing _ _
@@ -47,13 +47,13 @@ returns-in-Ok-None-clause-carried g c = λ spaces_of m s by.
     c.args.id revealed (call.SetSize c.args.id c.args.pages) (λ none. size_gone m c.args.id (no_file_missing m c.args.id none) c.args.pages)
 
 pub returns-in-Ok-None-clause-passes : goal.returns-in-Ok-None-clause-passes
-returns-in-Ok-None-clause-passes g c = λ spaces_of m s by. no_step spaces_of _ _ _ _ m (call.SetSize c.args.id c.args.pages) s.stands c.attributes_of.ensures.makes (g.met.D.Disk.in_form c.args.self.now.core.filer.swapper.disk)
+returns-in-Ok-None-clause-passes g c = λ spaces_of m s by. no_step spaces_of _ _ _ _ m (call.SetSize c.args.id c.args.pages) s.stands c.attributes_of.ensures.makes (g.met.D.Disk.in_form (disk_of c.args.self.now.core.filer))
 
 pub returns-in-Err-clause-sound : goal.returns-in-Err-clause-sound
 returns-in-Err-clause-sound g c = λ spaces_of m s by. c.in-Err.ensures.revealed s.stands.memory (shapes_of m.files) m.spaces (session_books spaces_of _ _ _ _ _ m s)
 
 pub returns-in-Err-clause-passes : goal.returns-in-Err-clause-passes
-returns-in-Err-clause-passes g c = λ spaces_of m s by. no_step spaces_of _ _ _ _ m (call.SetSize c.args.id c.args.pages) s.stands c.attributes_of.ensures.makes (g.met.D.Disk.in_form c.args.self.now.core.filer.swapper.disk)
+returns-in-Err-clause-passes g c = λ spaces_of m s by. no_step spaces_of _ _ _ _ m (call.SetSize c.args.id c.args.pages) s.stands c.attributes_of.ensures.makes (g.met.D.Disk.in_form (disk_of c.args.self.now.core.filer))
 
 pub returns-then-found-clause-carried : goal.returns-then-found-clause-carried
 returns-then-found-clause-carried g c = λ spaces_of m s by.
@@ -63,17 +63,17 @@ returns-then-found-clause-carried g c = λ spaces_of m s by.
     immutable_refused spaces_of _ _ _ _ _ m s _ _ _ _ c.attributes_of.ensures.makes c.attributes_of.ensures.brings mid c.attributes_of.ensures.layout c.args.id c.args.pages c.args.seen by c.in-Ok-Some.found revealed c.if-found.true
 
 pub returns-then-found-clause-passes : goal.returns-then-found-clause-passes
-returns-then-found-clause-passes g c = λ spaces_of m s by. no_step spaces_of _ _ _ _ m (call.SetSize c.args.id c.args.pages) s.stands c.attributes_of.ensures.makes (g.met.D.Disk.in_form c.args.self.now.core.filer.swapper.disk)
+returns-then-found-clause-passes g c = λ spaces_of m s by. no_step spaces_of _ _ _ _ m (call.SetSize c.args.id c.args.pages) s.stands c.attributes_of.ensures.makes (g.met.D.Disk.in_form (disk_of c.args.self.now.core.filer))
 
 pub returns-then-not-has_room-clause-carried : goal.returns-then-not-has_room-clause-carried
 returns-then-not-has_room-clause-carried g c = λ spaces_of m s by.
     let books = session_books spaces_of _ _ _ _ _ m s in
     let revealed = subst (λ (o : Option Attributes). IsAttributesOf (shapes_of m.files c.args.id) o) c.in-Ok-Some.field-0-is (c.in-Ok-Some.ensures.revealed s.stands.memory (shapes_of m.files) m.spaces books) in
     let mid = c.attributes_of.ensures.same s.stands.memory (shapes_of m.files) m.spaces books in
-    full_refused spaces_of _ _ _ _ _ m s _ _ _ _ c.attributes_of.ensures.makes c.attributes_of.ensures.brings mid c.attributes_of.ensures.layout c.args.id c.args.pages c.args.seen by c.in-Ok-Some.found revealed c.if-found.false c.args.self.now.core.filer.swapper.accepted c.requires.opened.same_layout (λ fewer. sym (c.held.ensures.cut fewer) ∙ c.in-None.is) c.has_room.result c.has_room.ensures c.if-not-has_room.true
+    full_refused spaces_of _ _ _ _ _ m s _ _ _ _ c.attributes_of.ensures.makes c.attributes_of.ensures.brings mid c.attributes_of.ensures.layout c.args.id c.args.pages c.args.seen by c.in-Ok-Some.found revealed c.if-found.false (accepted c.args.self.now.core.filer) c.requires.opened.same_layout (λ fewer. sym (c.held.ensures.cut fewer) ∙ c.in-None.is) c.has_room.result c.has_room.ensures c.if-not-has_room.true
 
 pub returns-then-not-has_room-clause-passes : goal.returns-then-not-has_room-clause-passes
-returns-then-not-has_room-clause-passes g c = λ spaces_of m s by. no_step spaces_of _ _ _ _ m (call.SetSize c.args.id c.args.pages) s.stands c.attributes_of.ensures.makes (g.met.D.Disk.in_form c.args.self.now.core.filer.swapper.disk)
+returns-then-not-has_room-clause-passes g c = λ spaces_of m s by. no_step spaces_of _ _ _ _ m (call.SetSize c.args.id c.args.pages) s.stands c.attributes_of.ensures.makes (g.met.D.Disk.in_form (disk_of c.args.self.now.core.filer))
 
 pub returns-in-Ok-clause-carried : goal.returns-in-Ok-clause-carried
 returns-in-Ok-clause-carried g c = λ spaces_of m s by.
@@ -81,14 +81,14 @@ returns-in-Ok-clause-carried g c = λ spaces_of m s by.
     let revealed = subst (λ (o : Option Attributes). IsAttributesOf (shapes_of m.files c.args.id) o) c.in-Ok-Some.field-0-is (c.in-Ok-Some.ensures.revealed s.stands.memory (shapes_of m.files) m.spaces books) in
     let mid = c.attributes_of.ensures.same s.stands.memory (shapes_of m.files) m.spaces books in
     carries_at spaces_of m (call.SetSize c.args.id c.args.pages) _ _ _ _ _ _ _
-    (size_done spaces_of _ _ _ _ _ m s _ _ _ _ c.attributes_of.ensures.makes c.attributes_of.ensures.brings mid c.attributes_of.ensures.layout c.args.id c.args.pages c.args.seen by c.in-Ok-Some.found revealed c.if-found.false c.args.self.now.core.filer.swapper.accepted c.requires.opened.same_layout (λ fewer. sym (c.held.ensures.cut fewer) ∙ c.in-None.is) c.has_room.result c.has_room.ensures c.if-not-has_room.false _ _ _ _ c.set_size.ensures.same_numbers.0 c.in-Ok.ensures.grown c.in-Ok.ensures.used_grown c.in-Ok.ensures.shrunk c.in-Ok.ensures.used_shrunk) c.set_size.ensures.layout
+    (size_done spaces_of _ _ _ _ _ m s _ _ _ _ c.attributes_of.ensures.makes c.attributes_of.ensures.brings mid c.attributes_of.ensures.layout c.args.id c.args.pages c.args.seen by c.in-Ok-Some.found revealed c.if-found.false (accepted c.args.self.now.core.filer) c.requires.opened.same_layout (λ fewer. sym (c.held.ensures.cut fewer) ∙ c.in-None.is) c.has_room.result c.has_room.ensures c.if-not-has_room.false _ _ _ _ c.set_size.ensures.same_numbers.0 c.in-Ok.ensures.grown c.in-Ok.ensures.used_grown c.in-Ok.ensures.shrunk c.in-Ok.ensures.used_shrunk) c.set_size.ensures.layout
 
 pub returns-in-Ok-clause-passes : goal.returns-in-Ok-clause-passes
 returns-in-Ok-clause-passes g c = λ spaces_of m s by.
     let books = session_books spaces_of _ _ _ _ _ m s in
     let revealed = subst (λ (o : Option Attributes). IsAttributesOf (shapes_of m.files c.args.id) o) c.in-Ok-Some.field-0-is (c.in-Ok-Some.ensures.revealed s.stands.memory (shapes_of m.files) m.spaces books) in
     let mid = c.attributes_of.ensures.same s.stands.memory (shapes_of m.files) m.spaces books in
-    size_passed spaces_of _ _ _ _ _ m s _ _ _ _ c.attributes_of.ensures.makes c.attributes_of.ensures.brings mid c.attributes_of.ensures.layout c.args.id c.args.pages c.args.seen by c.in-Ok-Some.found revealed c.if-found.false c.args.self.now.core.filer.swapper.accepted c.requires.opened.same_layout (λ fewer. sym (c.held.ensures.cut fewer) ∙ c.in-None.is) c.has_room.result c.has_room.ensures c.if-not-has_room.false _ _ c.set_size.new.filer.runs (g.met.D.Disk.in_form c.args.self.now.core.filer.swapper.disk) c.in-Ok.ensures.grown c.in-Ok.ensures.shrunk
+    size_passed spaces_of _ _ _ _ _ m s _ _ _ _ c.attributes_of.ensures.makes c.attributes_of.ensures.brings mid c.attributes_of.ensures.layout c.args.id c.args.pages c.args.seen by c.in-Ok-Some.found revealed c.if-found.false (accepted c.args.self.now.core.filer) c.requires.opened.same_layout (λ fewer. sym (c.held.ensures.cut fewer) ∙ c.in-None.is) c.has_room.result c.has_room.ensures c.if-not-has_room.false _ _ c.set_size.new.filer.runs (g.met.D.Disk.in_form (disk_of c.args.self.now.core.filer)) c.in-Ok.ensures.grown c.in-Ok.ensures.shrunk
 
 pub returns-in-Ok-clause-wrote : goal.returns-in-Ok-clause-wrote
 returns-in-Ok-clause-wrote g c = resized_wrote c.args.id c.args.pages c.attributes_of.ensures.makes c.in-Ok.ensures.makes
@@ -98,56 +98,56 @@ returns-in-Err-set_size-clause-sound g c = λ spaces_of m s by.
     let books = session_books spaces_of _ _ _ _ _ m s in
     let revealed = subst (λ (o : Option Attributes). IsAttributesOf (shapes_of m.files c.args.id) o) c.in-Ok-Some.field-0-is (c.in-Ok-Some.ensures.revealed s.stands.memory (shapes_of m.files) m.spaces books) in
     let mid = c.attributes_of.ensures.same s.stands.memory (shapes_of m.files) m.spaces books in
-    size_sound spaces_of _ _ _ _ _ m s _ _ _ _ c.attributes_of.ensures.makes c.attributes_of.ensures.brings mid c.attributes_of.ensures.layout c.args.id c.args.pages c.args.seen by c.in-Ok-Some.found revealed c.if-found.false c.args.self.now.core.filer.swapper.accepted c.requires.opened.same_layout (λ fewer. sym (c.held.ensures.cut fewer) ∙ c.in-None.is) c.has_room.result c.has_room.ensures c.if-not-has_room.false _ c.in-Err-set_size.ensures.sound_grown c.in-Err-set_size.ensures.sound_shrunk
+    size_sound spaces_of _ _ _ _ _ m s _ _ _ _ c.attributes_of.ensures.makes c.attributes_of.ensures.brings mid c.attributes_of.ensures.layout c.args.id c.args.pages c.args.seen by c.in-Ok-Some.found revealed c.if-found.false (accepted c.args.self.now.core.filer) c.requires.opened.same_layout (λ fewer. sym (c.held.ensures.cut fewer) ∙ c.in-None.is) c.has_room.result c.has_room.ensures c.if-not-has_room.false _ c.in-Err-set_size.ensures.sound_grown c.in-Err-set_size.ensures.sound_shrunk
 
 pub returns-in-Err-set_size-clause-passes : goal.returns-in-Err-set_size-clause-passes
 returns-in-Err-set_size-clause-passes g c = λ spaces_of m s by.
     let books = session_books spaces_of _ _ _ _ _ m s in
     let revealed = subst (λ (o : Option Attributes). IsAttributesOf (shapes_of m.files c.args.id) o) c.in-Ok-Some.field-0-is (c.in-Ok-Some.ensures.revealed s.stands.memory (shapes_of m.files) m.spaces books) in
     let mid = c.attributes_of.ensures.same s.stands.memory (shapes_of m.files) m.spaces books in
-    size_broken spaces_of _ _ _ _ _ m s _ _ _ _ c.attributes_of.ensures.makes c.attributes_of.ensures.brings mid c.attributes_of.ensures.layout c.args.id c.args.pages c.args.seen by c.in-Ok-Some.found revealed c.if-found.false c.args.self.now.core.filer.swapper.accepted c.requires.opened.same_layout (λ fewer. sym (c.held.ensures.cut fewer) ∙ c.in-None.is) c.has_room.result c.has_room.ensures c.if-not-has_room.false _ _ c.args.self.now.core.filer.runs (g.met.D.Disk.in_form c.args.self.now.core.filer.swapper.disk) c.in-Err-set_size.ensures.broken_grown c.in-Err-set_size.ensures.broken_shrunk
+    size_broken spaces_of _ _ _ _ _ m s _ _ _ _ c.attributes_of.ensures.makes c.attributes_of.ensures.brings mid c.attributes_of.ensures.layout c.args.id c.args.pages c.args.seen by c.in-Ok-Some.found revealed c.if-found.false (accepted c.args.self.now.core.filer) c.requires.opened.same_layout (λ fewer. sym (c.held.ensures.cut fewer) ∙ c.in-None.is) c.has_room.result c.has_room.ensures c.if-not-has_room.false _ _ c.args.self.now.core.filer.runs (g.met.D.Disk.in_form (disk_of c.args.self.now.core.filer)) c.in-Err-set_size.ensures.broken_grown c.in-Err-set_size.ensures.broken_shrunk
 
 pub returns-in-Err-set_size-clause-wrote : goal.returns-in-Err-set_size-clause-wrote
 returns-in-Err-set_size-clause-wrote g c = some_resized_wrote c.args.id c.args.pages c.attributes_of.ensures.makes c.in-Err-set_size.ensures.stopped
 
 pub returns-then-not-may_be_file-clause-bounded : goal.returns-then-not-may_be_file-clause-bounded
-returns-then-not-may_be_file-clause-bounded g c = λ spaces_of m s. inside_layout c.args.self.now.core.filer.swapper.layout (g.D.Disk.state c.args.self.now.core.filer.swapper.disk) (g.D.Disk.state c.args.self.now.core.filer.swapper.disk) c.requires.size (inside _ _ _ 0 (omega arith) (omega arith))
+returns-then-not-may_be_file-clause-bounded g c = λ spaces_of m s. inside_layout (state c.args.self.now.core).layout (state c.args.self.now.core).disk (state c.args.self.now.core).disk c.requires.size (inside _ _ _ 0 (omega arith) (omega arith))
 
 pub returns-in-Ok-None-clause-bounded : goal.returns-in-Ok-None-clause-bounded
-returns-in-Ok-None-clause-bounded g c = λ spaces_of m s. inside_layout c.args.self.now.core.filer.swapper.layout (g.D.Disk.state c.args.self.now.core.filer.swapper.disk) (g.D.Disk.state c.attributes_of.new.filer.swapper.disk) c.requires.size (inside _ _ _ 29 (omega arith) c.attributes_of.ensures.cost)
+returns-in-Ok-None-clause-bounded g c = λ spaces_of m s. inside_layout (state c.args.self.now.core).layout (state c.args.self.now.core).disk (view_of c.attributes_of.new.filer).disk c.requires.size (inside _ _ _ 29 (omega arith) c.attributes_of.ensures.cost)
 
 pub returns-in-Err-clause-bounded : goal.returns-in-Err-clause-bounded
-returns-in-Err-clause-bounded g c = λ spaces_of m s. inside_layout c.args.self.now.core.filer.swapper.layout (g.D.Disk.state c.args.self.now.core.filer.swapper.disk) (g.D.Disk.state c.attributes_of.new.filer.swapper.disk) c.requires.size (inside _ _ _ 29 (omega arith) c.attributes_of.ensures.cost)
+returns-in-Err-clause-bounded g c = λ spaces_of m s. inside_layout (state c.args.self.now.core).layout (state c.args.self.now.core).disk (view_of c.attributes_of.new.filer).disk c.requires.size (inside _ _ _ 29 (omega arith) c.attributes_of.ensures.cost)
 
 pub returns-then-found-clause-bounded : goal.returns-then-found-clause-bounded
-returns-then-found-clause-bounded g c = λ spaces_of m s. inside_layout c.args.self.now.core.filer.swapper.layout (g.D.Disk.state c.args.self.now.core.filer.swapper.disk) (g.D.Disk.state c.attributes_of.new.filer.swapper.disk) c.requires.size (inside _ _ _ 29 (omega arith) c.attributes_of.ensures.cost)
+returns-then-found-clause-bounded g c = λ spaces_of m s. inside_layout (state c.args.self.now.core).layout (state c.args.self.now.core).disk (view_of c.attributes_of.new.filer).disk c.requires.size (inside _ _ _ 29 (omega arith) c.attributes_of.ensures.cost)
 
 pub returns-then-not-has_room-clause-bounded : goal.returns-then-not-has_room-clause-bounded
-returns-then-not-has_room-clause-bounded g c = λ spaces_of m s. inside_layout c.args.self.now.core.filer.swapper.layout (g.D.Disk.state c.args.self.now.core.filer.swapper.disk) (g.D.Disk.state c.attributes_of.new.filer.swapper.disk) c.requires.size (inside _ _ _ 29 (omega arith) c.attributes_of.ensures.cost)
+returns-then-not-has_room-clause-bounded g c = λ spaces_of m s. inside_layout (state c.args.self.now.core).layout (state c.args.self.now.core).disk (view_of c.attributes_of.new.filer).disk c.requires.size (inside _ _ _ 29 (omega arith) c.attributes_of.ensures.cost)
 
 pub returns-in-Ok-clause-bounded : goal.returns-in-Ok-clause-bounded
 returns-in-Ok-clause-bounded g c = λ spaces_of m s.
-    let layout = c.args.self.now.core.filer.swapper.layout in
+    let layout = (state c.args.self.now.core).layout in
     let books = session_books spaces_of _ _ _ _ _ m s in
     let revealed = subst (λ (o : Option Attributes). IsAttributesOf (shapes_of m.files c.args.id) o) c.in-Ok-Some.field-0-is (c.in-Ok-Some.ensures.revealed s.stands.memory (shapes_of m.files) m.spaces books) in
     let mid = c.attributes_of.ensures.same s.stands.memory (shapes_of m.files) m.spaces books in
     let at = books_at _ _ _ _ _ _ _ _ mid c.attributes_of.ensures.layout in
     let paid = c.set_size.ensures.cost_revealed s.stands.memory (shapes_of m.files) m.spaces _ at revealed in
     let within = within_room layout c.args.self.now.volume c.requires.opened.same_layout c.in-Ok-Some.found.pages c.args.pages c.has_room.result c.has_room.ensures c.if-not-has_room.false in
-    resize_revealed spaces_of (g.D.Disk.state c.args.self.now.core.filer.swapper.disk) _ layout _ _ m s c.requires.opened c.args.self.now.core.filer.swapper.accepted c.attributes_of.new.filer.swapper.layout c.attributes_of.ensures.layout
-    (g.D.Disk.state c.attributes_of.new.filer.swapper.disk) (g.D.Disk.state c.set_size.new.filer.swapper.disk) c.args.id _ revealed c.args.pages within c.requires.size c.attributes_of.ensures.cost paid
+    resize_revealed spaces_of (state c.args.self.now.core).disk _ layout _ _ m s c.requires.opened (accepted c.args.self.now.core.filer) (view_of c.attributes_of.new.filer).layout c.attributes_of.ensures.layout
+    (view_of c.attributes_of.new.filer).disk (view_of c.set_size.new.filer).disk c.args.id _ revealed c.args.pages within c.requires.size c.attributes_of.ensures.cost paid
 
 pub returns-in-Err-set_size-clause-bounded : goal.returns-in-Err-set_size-clause-bounded
 returns-in-Err-set_size-clause-bounded g c = λ spaces_of m s.
-    let layout = c.args.self.now.core.filer.swapper.layout in
+    let layout = (state c.args.self.now.core).layout in
     let books = session_books spaces_of _ _ _ _ _ m s in
     let revealed = subst (λ (o : Option Attributes). IsAttributesOf (shapes_of m.files c.args.id) o) c.in-Ok-Some.field-0-is (c.in-Ok-Some.ensures.revealed s.stands.memory (shapes_of m.files) m.spaces books) in
     let mid = c.attributes_of.ensures.same s.stands.memory (shapes_of m.files) m.spaces books in
     let at = books_at _ _ _ _ _ _ _ _ mid c.attributes_of.ensures.layout in
     let paid = c.set_size.ensures.cost_revealed s.stands.memory (shapes_of m.files) m.spaces _ at revealed in
     let within = within_room layout c.args.self.now.volume c.requires.opened.same_layout c.in-Ok-Some.found.pages c.args.pages c.has_room.result c.has_room.ensures c.if-not-has_room.false in
-    resize_revealed spaces_of (g.D.Disk.state c.args.self.now.core.filer.swapper.disk) _ layout _ _ m s c.requires.opened c.args.self.now.core.filer.swapper.accepted c.attributes_of.new.filer.swapper.layout c.attributes_of.ensures.layout
-    (g.D.Disk.state c.attributes_of.new.filer.swapper.disk) (g.D.Disk.state c.set_size.new.filer.swapper.disk) c.args.id _ revealed c.args.pages within c.requires.size c.attributes_of.ensures.cost paid
+    resize_revealed spaces_of (state c.args.self.now.core).disk _ layout _ _ m s c.requires.opened (accepted c.args.self.now.core.filer) (view_of c.attributes_of.new.filer).layout c.attributes_of.ensures.layout
+    (view_of c.attributes_of.new.filer).disk (view_of c.set_size.new.filer).disk c.args.id _ revealed c.args.pages within c.requires.size c.attributes_of.ensures.cost paid
 
 pub returns-in-Some-clause-carried : goal.returns-in-Some-clause-carried
 returns-in-Some-clause-carried g c = λ spaces_of m s by.
@@ -158,10 +158,10 @@ returns-in-Some-clause-carried g c = λ spaces_of m s by.
     cut_refused spaces_of _ _ _ _ _ m s _ _ _ _ c.attributes_of.ensures.makes c.attributes_of.ensures.brings mid c.attributes_of.ensures.layout c.args.id c.args.pages c.args.seen by c.in-Ok-Some.found revealed c.if-found.false cut.0 _ cut.1
 
 pub returns-in-Some-clause-passes : goal.returns-in-Some-clause-passes
-returns-in-Some-clause-passes g c = λ spaces_of m s by. no_step spaces_of _ _ _ _ m (call.SetSize c.args.id c.args.pages) s.stands c.attributes_of.ensures.makes (g.met.D.Disk.in_form c.args.self.now.core.filer.swapper.disk)
+returns-in-Some-clause-passes g c = λ spaces_of m s by. no_step spaces_of _ _ _ _ m (call.SetSize c.args.id c.args.pages) s.stands c.attributes_of.ensures.makes (g.met.D.Disk.in_form (disk_of c.args.self.now.core.filer))
 
 pub returns-in-Some-clause-bounded : goal.returns-in-Some-clause-bounded
-returns-in-Some-clause-bounded g c = λ spaces_of m s. inside_layout c.args.self.now.core.filer.swapper.layout (g.D.Disk.state c.args.self.now.core.filer.swapper.disk) (g.D.Disk.state c.attributes_of.new.filer.swapper.disk) c.requires.size (inside _ _ _ 29 (omega arith) c.attributes_of.ensures.cost)
+returns-in-Some-clause-bounded g c = λ spaces_of m s. inside_layout (state c.args.self.now.core).layout (state c.args.self.now.core).disk (view_of c.attributes_of.new.filer).disk c.requires.size (inside _ _ _ 29 (omega arith) c.attributes_of.ensures.cost)
 
 pub returns-then-not-may_be_file-clause-own : goal.returns-then-not-may_be_file-clause-own
 returns-then-not-may_be_file-clause-own g c = relabels_own (same_own c.args.id (record { contents = refl; writes = refl }))
@@ -197,85 +197,88 @@ returns-in-Err-set_size-clause-cause g c = inr (state (record c.args.self.now.co
 
 -- ---- The initial state.
 
-pub returns-in-Ok-None-clause-keeps_to : goal.returns-in-Ok-None-clause-keeps_to
-returns-in-Ok-None-clause-keeps_to g c = λ o k. (k.0, (c.in-Ok-None.ensures.keeps_to o k.0 k.1.0, k.1.1))
+pub returns-in-Ok-None-clause-accounts : goal.returns-in-Ok-None-clause-accounts
+returns-in-Ok-None-clause-accounts g c = λ o k. record {
+  keeps_to = ((k.0, (c.in-Ok-None.ensures.keeps_to o k.0 k.1.0, k.1.1)));
+  reasons = tt;
+  sees = (λ seen. let old = c.args.self.now.core in
+      seen_still o (state old) (accepted old.filer) k (view_of c.attributes_of.new.filer) (λ b. c.in-Ok-None.ensures.keeps_to (telling o b) k.0) (file_later o c.attributes_of.ensures.makes) seen);
+}
 
-pub returns-then-found-clause-keeps_to : goal.returns-then-found-clause-keeps_to
-returns-then-found-clause-keeps_to g c = λ o k. (k.0, (c.in-Ok-Some.ensures.keeps_to o k.0 k.1.0, k.1.1))
+pub returns-then-found-clause-accounts : goal.returns-then-found-clause-accounts
+returns-then-found-clause-accounts g c = λ o k. record {
+  keeps_to = ((k.0, (c.in-Ok-Some.ensures.keeps_to o k.0 k.1.0, k.1.1)));
+  reasons = tt;
+  sees = (λ seen. let old = c.args.self.now.core in
+      seen_still o (state old) (accepted old.filer) k (view_of c.attributes_of.new.filer) (λ b. c.in-Ok-Some.ensures.keeps_to (telling o b) k.0) (file_later o c.attributes_of.ensures.makes) seen);
+}
 
-pub returns-in-Some-clause-keeps_to : goal.returns-in-Some-clause-keeps_to
-returns-in-Some-clause-keeps_to g c = λ o k. (k.0, (c.in-Ok-Some.ensures.keeps_to o k.0 k.1.0, k.1.1))
+pub returns-in-Some-clause-accounts : goal.returns-in-Some-clause-accounts
+returns-in-Some-clause-accounts g c = λ o k. record {
+  keeps_to = ((k.0, (c.in-Ok-Some.ensures.keeps_to o k.0 k.1.0, k.1.1)));
+  reasons = tt;
+  sees = (λ seen. let old = c.args.self.now.core in
+      seen_still o (state old) (accepted old.filer) k (view_of c.attributes_of.new.filer) (λ b. c.in-Ok-Some.ensures.keeps_to (telling o b) k.0) (file_later o c.attributes_of.ensures.makes) seen);
+}
 
-pub returns-then-not-has_room-clause-keeps_to : goal.returns-then-not-has_room-clause-keeps_to
-returns-then-not-has_room-clause-keeps_to g c = λ o k. (k.0, (c.in-Ok-Some.ensures.keeps_to o k.0 k.1.0, k.1.1))
+pub returns-then-not-has_room-clause-accounts : goal.returns-then-not-has_room-clause-accounts
+returns-then-not-has_room-clause-accounts g c = λ o k. record {
+  keeps_to = ((k.0, (c.in-Ok-Some.ensures.keeps_to o k.0 k.1.0, k.1.1)));
+  reasons = tt;
+  sees = (λ seen. let old = c.args.self.now.core in
+      seen_still o (state old) (accepted old.filer) k (view_of c.attributes_of.new.filer) (λ b. c.in-Ok-Some.ensures.keeps_to (telling o b) k.0) (file_later o c.attributes_of.ensures.makes) seen);
+}
 
-pub returns-in-Ok-clause-keeps_to : goal.returns-in-Ok-clause-keeps_to
-returns-in-Ok-clause-keeps_to g c = λ o k. let from = c.in-Ok.ensures.keeps_to o k.0 (c.in-Ok-Some.ensures.keeps_to o k.0 k.1.0) in (from.0, (from.1, (from.2 k.1.1.0, k.1.1.1)))
+pub returns-in-Ok-clause-accounts : goal.returns-in-Ok-clause-accounts
+returns-in-Ok-clause-accounts g c = λ o k. record {
+  keeps_to = (let from = c.in-Ok.ensures.keeps_to o k.0 (c.in-Ok-Some.ensures.keeps_to o k.0 k.1.0) in (from.0, (from.1, (from.2 k.1.1.0, k.1.1.1))));
+  reasons = tt;
+  sees = (λ seen. let old = c.args.self.now.core in
+      seen_from o (state old) (accepted old.filer) k (view_of c.set_size.new.filer) (λ b h. c.in-Ok.ensures.keeps_to (telling o b) k.0 (c.in-Ok-Some.ensures.keeps_to (telling o b) k.0 h))
+      (file_after o (returns-in-Ok-clause-wrote g c)) seen);
+}
 
-pub returns-in-Err-clause-reasons : goal.returns-in-Err-clause-reasons
-returns-in-Err-clause-reasons g c = λ o k. c.in-Err.ensures.reasons o k.0 k.1.0
+pub returns-in-Err-clause-accounts : goal.returns-in-Err-clause-accounts
+returns-in-Err-clause-accounts g c = λ o k. record {
+  keeps_to = tt;
+  reasons = (c.in-Err.ensures.reasons o k.0 k.1.0);
+  sees = (λ seen. let old = c.args.self.now.core in
+      let disk = (view_of c.attributes_of.new.filer).disk in
+      seen_blameless o (state old) (accepted old.filer) k (state old).layout disk c.in-Err.halt (λ b. c.in-Err.ensures.reasons (telling o b) k.0)
+      (look_misses (file_pages o disk) c.args.id (state old) (view_of c.attributes_of.new.filer) c.in-Err.halt c.in-Err.ensures.cause) (seen.0, seen.1.0));
+}
 
-pub returns-in-Err-set_size-clause-reasons : goal.returns-in-Err-set_size-clause-reasons
-returns-in-Err-set_size-clause-reasons g c = λ o k.
-    shows_since o (g.D.Disk.state c.set_size.new.filer.swapper.disk) c.in-Err-set_size.halt c.attributes_of.ensures.layout
-    (c.in-Err-set_size.ensures.reasons o k.0 (c.in-Ok-Some.ensures.keeps_to o k.0 k.1.0))
+pub returns-in-Err-set_size-clause-accounts : goal.returns-in-Err-set_size-clause-accounts
+returns-in-Err-set_size-clause-accounts g c = λ o k. record {
+  keeps_to = tt;
+  reasons = (shows_since o (view_of c.set_size.new.filer).disk c.in-Err-set_size.halt c.attributes_of.ensures.layout
+      (c.in-Err-set_size.ensures.reasons o k.0 (c.in-Ok-Some.ensures.keeps_to o k.0 k.1.0)));
+  sees = (λ seen. let old = c.args.self.now.core in
+      let disk = (view_of c.set_size.new.filer).disk in
+      let was = found_file k.1.0 c.args.id _ _ c.in-Ok-Some.field-0-is c.in-Ok-Some.ensures.leader in
+      seen_blameless o (state old) (accepted old.filer) k (view_of c.attributes_of.new.filer).layout disk c.in-Err-set_size.halt (λ b h. c.in-Err-set_size.ensures.reasons (telling o b) k.0 (c.in-Ok-Some.ensures.keeps_to (telling o b) k.0 h))
+      (misses_file (c.in-Ok-Some.ensures.keeps_to o k.0 k.1.0) disk
+      (file_after o (some_resized_wrote c.args.id c.args.pages (makes_nothing volume_page (view_of c.attributes_of.new.filer).disk (view_of c.attributes_of.new.filer).slots) c.in-Err-set_size.ensures.stopped)) c.args.id
+      (file_after o (returns-in-Err-set_size-clause-wrote g c) c.args.id leader_page was) c.in-Err-set_size.halt
+      (size_misses_own c.args.id c.args.pages (view_of c.attributes_of.new.filer) (view_of c.set_size.new.filer) c.in-Err-set_size.halt c.in-Err-set_size.ensures.cause)) (seen.0, seen.1.0));
+}
 
 -- ---- What is seen of the space tables, and which page is reported as missing.
 
-pub returns-in-Ok-None-clause-sees : goal.returns-in-Ok-None-clause-sees
-returns-in-Ok-None-clause-sees g c = λ o k seen.
-    let old = c.args.self.now.core in
-    seen_still o (state old) old.filer.swapper.accepted k (view_of c.attributes_of.new.filer) (λ b. c.in-Ok-None.ensures.keeps_to (telling o b) k.0) (file_later o c.attributes_of.ensures.makes) seen
-
-pub returns-in-Err-clause-sees : goal.returns-in-Err-clause-sees
-returns-in-Err-clause-sees g c = λ o k seen.
-    let old = c.args.self.now.core in
-    let disk = g.D.Disk.state c.attributes_of.new.filer.swapper.disk in
-    seen_blameless o (state old) old.filer.swapper.accepted k old.filer.swapper.layout disk c.in-Err.halt (λ b. c.in-Err.ensures.reasons (telling o b) k.0)
-    (look_misses (file_pages o disk) c.args.id (state old) (view_of c.attributes_of.new.filer) c.in-Err.halt c.in-Err.ensures.cause) (seen.0, seen.1.0)
-
-pub returns-then-found-clause-sees : goal.returns-then-found-clause-sees
-returns-then-found-clause-sees g c = λ o k seen.
-    let old = c.args.self.now.core in
-    seen_still o (state old) old.filer.swapper.accepted k (view_of c.attributes_of.new.filer) (λ b. c.in-Ok-Some.ensures.keeps_to (telling o b) k.0) (file_later o c.attributes_of.ensures.makes) seen
-
-pub returns-in-Some-clause-sees : goal.returns-in-Some-clause-sees
-returns-in-Some-clause-sees g c = λ o k seen.
-    let old = c.args.self.now.core in
-    seen_still o (state old) old.filer.swapper.accepted k (view_of c.attributes_of.new.filer) (λ b. c.in-Ok-Some.ensures.keeps_to (telling o b) k.0) (file_later o c.attributes_of.ensures.makes) seen
-
-pub returns-then-not-has_room-clause-sees : goal.returns-then-not-has_room-clause-sees
-returns-then-not-has_room-clause-sees g c = λ o k seen.
-    let old = c.args.self.now.core in
-    seen_still o (state old) old.filer.swapper.accepted k (view_of c.attributes_of.new.filer) (λ b. c.in-Ok-Some.ensures.keeps_to (telling o b) k.0) (file_later o c.attributes_of.ensures.makes) seen
-
-pub returns-in-Ok-clause-sees : goal.returns-in-Ok-clause-sees
-returns-in-Ok-clause-sees g c = λ o k seen.
-    let old = c.args.self.now.core in
-    seen_from o (state old) old.filer.swapper.accepted k (view_of c.set_size.new.filer) (λ b h. c.in-Ok.ensures.keeps_to (telling o b) k.0 (c.in-Ok-Some.ensures.keeps_to (telling o b) k.0 h))
-    (file_after o (returns-in-Ok-clause-wrote g c)) seen
-
-pub returns-in-Err-set_size-clause-sees : goal.returns-in-Err-set_size-clause-sees
-returns-in-Err-set_size-clause-sees g c = λ o k seen.
-    let old = c.args.self.now.core in
-    let disk = g.D.Disk.state c.set_size.new.filer.swapper.disk in
-    let was = found_file k.1.0 c.args.id _ _ c.in-Ok-Some.field-0-is c.in-Ok-Some.ensures.leader in
-    seen_blameless o (state old) old.filer.swapper.accepted k c.attributes_of.new.filer.swapper.layout disk c.in-Err-set_size.halt (λ b h. c.in-Err-set_size.ensures.reasons (telling o b) k.0 (c.in-Ok-Some.ensures.keeps_to (telling o b) k.0 h))
-    (misses_file (c.in-Ok-Some.ensures.keeps_to o k.0 k.1.0) disk
-    (file_after o (some_resized_wrote c.args.id c.args.pages (makes_nothing volume_page (g.D.Disk.state c.attributes_of.new.filer.swapper.disk) c.attributes_of.new.filer.swapper.pool) c.in-Err-set_size.ensures.stopped)) c.args.id
-    (file_after o (returns-in-Err-set_size-clause-wrote g c) c.args.id leader_page was) c.in-Err-set_size.halt
-    (size_misses_own c.args.id c.args.pages (view_of c.attributes_of.new.filer) (view_of c.set_size.new.filer) c.in-Err-set_size.halt c.in-Err-set_size.ensures.cause)) (seen.0, seen.1.0)
-
 -- ---- The next identifier.
 
-pub returns-in-Ok-clause-monotone : goal.returns-in-Ok-clause-monotone
-returns-in-Ok-clause-monotone g c = same_next c.args.self.now.volume.root c.set_size.new.volume.root c.set_size.ensures.same_numbers.0
+pub returns-in-Ok-clause-stays : goal.returns-in-Ok-clause-stays
+returns-in-Ok-clause-stays g c = record {
+  open_still = (search rules);
+  monotone = (same_next c.args.self.now.volume.root c.set_size.new.volume.root c.set_size.ensures.same_numbers.0);
+  serial = (ap (λ (r : Root). r.serial) c.set_size.ensures.same_numbers.0);
+  layout = (search rules);
+}
 
-pub returns-in-Err-set_size-clause-monotone : goal.returns-in-Err-set_size-clause-monotone
-returns-in-Err-set_size-clause-monotone g c = same_next c.args.self.now.volume.root c.set_size.new.volume.root c.set_size.ensures.same_numbers.0
-
-pub returns-in-Ok-clause-serial : goal.returns-in-Ok-clause-serial
-returns-in-Ok-clause-serial g c = ap (λ (r : Root). r.serial) c.set_size.ensures.same_numbers.0
-
-pub returns-in-Err-set_size-clause-serial : goal.returns-in-Err-set_size-clause-serial
-returns-in-Err-set_size-clause-serial g c = ap (λ (r : Root). r.serial) c.set_size.ensures.same_numbers.0
+pub returns-in-Err-set_size-clause-stays : goal.returns-in-Err-set_size-clause-stays
+returns-in-Err-set_size-clause-stays g c = record {
+  open_still = (search rules);
+  monotone = (same_next c.args.self.now.volume.root c.set_size.new.volume.root c.set_size.ensures.same_numbers.0);
+  serial = (ap (λ (r : Root). r.serial) c.set_size.ensures.same_numbers.0);
+  layout = (search rules);
+}

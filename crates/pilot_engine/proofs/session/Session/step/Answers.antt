@@ -1,16 +1,12 @@
 use Rattle.pilot_engine.proofs.session.Session.step.Goals as goal
 
-pub returns-then-is_err-clause-carried : goal.returns-then-is_err-clause-carried
-returns-then-is_err-clause-carried g c = λ m r. c.answer-answer.ensures.carried m r
-
-pub returns-then-is_err-clause-passes : goal.returns-then-is_err-clause-passes
-returns-then-is_err-clause-passes g c = λ m r. c.answer-answer.ensures.passes m r
-
-pub returns-then-is_err-clause-cost : goal.returns-then-is_err-clause-cost
-returns-then-is_err-clause-cost g c = λ m r. c.answer-answer.ensures.cost m r
-
-pub returns-then-is_err-clause-sound : goal.returns-then-is_err-clause-sound
-returns-then-is_err-clause-sound g c = λ m r. c.answer-answer.ensures.sound m r
+pub returns-then-is_err-clause-answers : goal.returns-then-is_err-clause-answers
+returns-then-is_err-clause-answers g c = λ m r. record {
+  carried = ((c.answer-answer.ensures.answers m r).carried);
+  sound = ((c.answer-answer.ensures.answers m r).sound);
+  passes = ((c.answer-answer.ensures.answers m r).passes);
+  cost = ((c.answer-answer.ensures.answers m r).cost);
+}
 
 pub returns-then-is_err-clause-forced : goal.returns-then-is_err-clause-forced
 returns-then-is_err-clause-forced g c = λ m revealed free r. c.answer-answer.ensures.forced m revealed free r
@@ -18,17 +14,13 @@ returns-then-is_err-clause-forced g c = λ m revealed free r. c.answer-answer.en
 pub returns-then-is_err-clause-advised : goal.returns-then-is_err-clause-advised
 returns-then-is_err-clause-advised g c = λ m free r. c.answer-answer.ensures.advised m free r
 
-pub returns-else-is_err-clause-carried : goal.returns-else-is_err-clause-carried
-returns-else-is_err-clause-carried g c = λ m r. c.answer-answer.ensures.carried m r
-
-pub returns-else-is_err-clause-passes : goal.returns-else-is_err-clause-passes
-returns-else-is_err-clause-passes g c = λ m r. c.answer-answer.ensures.passes m r
-
-pub returns-else-is_err-clause-cost : goal.returns-else-is_err-clause-cost
-returns-else-is_err-clause-cost g c = λ m r. c.answer-answer.ensures.cost m r
-
-pub returns-else-is_err-clause-sound : goal.returns-else-is_err-clause-sound
-returns-else-is_err-clause-sound g c = λ m r. c.answer-answer.ensures.sound m r
+pub returns-else-is_err-clause-answers : goal.returns-else-is_err-clause-answers
+returns-else-is_err-clause-answers g c = λ m r. record {
+  carried = ((c.answer-answer.ensures.answers m r).carried);
+  sound = ((c.answer-answer.ensures.answers m r).sound);
+  passes = ((c.answer-answer.ensures.answers m r).passes);
+  cost = ((c.answer-answer.ensures.answers m r).cost);
+}
 
 pub returns-else-is_err-clause-forced : goal.returns-else-is_err-clause-forced
 returns-else-is_err-clause-forced g c = λ m revealed free r. c.answer-answer.ensures.forced m revealed free r
@@ -53,3 +45,17 @@ returns-then-is_err-clause-missing g c = λ ss sees. c.answer-answer.ensures.mis
 
 pub returns-else-is_err-clause-missing : goal.returns-else-is_err-clause-missing
 returns-else-is_err-clause-missing g c = λ ss sees. c.answer-answer.ensures.missing ss sees
+
+pub returns-then-is_err-clause-accounts : goal.returns-then-is_err-clause-accounts
+returns-then-is_err-clause-accounts g c = λ o k n. record {
+  keeps_to = (c.answer-answer.ensures.accounts o k n).keeps_to;
+  reasons = (c.answer-answer.ensures.accounts o k n).reasons;
+  sees = λ seen. (c.answer-answer.ensures.accounts o k n).sees seen;
+}
+
+pub returns-else-is_err-clause-accounts : goal.returns-else-is_err-clause-accounts
+returns-else-is_err-clause-accounts g c = λ o k n. record {
+  keeps_to = (c.answer-answer.ensures.accounts o k n).keeps_to;
+  reasons = (c.answer-answer.ensures.accounts o k n).reasons;
+  sees = λ seen. (c.answer-answer.ensures.accounts o k n).sees seen;
+}

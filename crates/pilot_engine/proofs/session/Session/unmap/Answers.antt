@@ -1,4 +1,4 @@
-use Rattle.std.proofs.Common.{◌≡◌, Result, Ok, true, ◌^◌, refl, sym, ap, subst, ◌∙◌, arith, inl, inr}
+use Rattle.std.proofs.Common.{ap, arith, inl, inr, Ok, refl, Result, rules, subst, sym, true, ◌^◌, ◌∙◌, ◌≡◌}
 use Rattle.labelled_disk.specs.declared.layout.Layout.{Layout}
 use Rattle.flat_machine.specs.declared.call.Call.TheVariants as call
 use Rattle.flat_machine.specs.declared.call.Refusal.{Refusal}
@@ -29,55 +29,66 @@ use Rattle.pilot_engine.proofs.HomeLemmas.{home_on, home_still, none_blameless}
 use Rattle.pilot_engine.proofs.HomeSteps.{fault_blameless}
 use Rattle.pilot_engine.proofs.SpaceMisses.{fault_misses, take_window_misses, unmap_misses}
 use Rattle.pilot_engine.proofs.session.Session.unmap.Goals as goal
+use Rattle.filer_kernel.specs.View.{accepted, disk_of, view_of}
 
-pub returns-in-Ok-Err-clause-passes : goal.returns-in-Ok-Err-clause-passes
-returns-in-Ok-Err-clause-passes g c = λ m r. asked_passes c.args.self.now.core c.args.self.now.volume m (call.Unmap c.args.space) r (g.met.D.Disk.in_form c.args.self.now.core.filer.swapper.disk) c.take_window.ensures.makes
+pub returns-in-Ok-Err-clause-answers : goal.returns-in-Ok-Err-clause-answers
+returns-in-Ok-Err-clause-answers g c = λ m r. record {
+  carried = (refused_running _ _ m (call.Unmap c.args.space) _ (subst (λ (x : Result Shown Refusal). IsRefused (Runs c.take_window.new.core c.args.self.now.volume m) x) c.in-Ok-Err.field-0-is (c.in-Ok-Err.ensures.refused c.args.self.now.volume m r))
+      (not_taken m c.args.space _ (λ n. Runs c.take_window.new.core c.args.self.now.volume n) (subst (λ (x : Result Shown Refusal). Reveals (first_of (window_row m.spaces c.args.space)) (IsTaken m c.args.space (λ n. Runs c.take_window.new.core c.args.self.now.volume n)) x) c.in-Ok-Err.field-0-is (c.in-Ok-Err.ensures.taken c.args.self.now.volume m r))));
+  sound = tt;
+  passes = (asked_passes c.args.self.now.core c.args.self.now.volume m (call.Unmap c.args.space) r (g.met.D.Disk.in_form (disk_of c.args.self.now.core.filer)) c.take_window.ensures.makes);
+  cost = (asked_inside (state c.args.self.now.core).disk (state c.take_window.new.core).disk (2 ^ 23) (omega arith) c.take_window.ensures.cost);
+}
 
 pub returns-in-Ok-Err-clause-wrote : goal.returns-in-Ok-Err-clause-wrote
 returns-in-Ok-Err-clause-wrote g c = wrote_by c.take_window.ensures.makes tt
 
-pub returns-in-Ok-Err-clause-cost : goal.returns-in-Ok-Err-clause-cost
-returns-in-Ok-Err-clause-cost g c = λ m r. asked_inside (g.D.Disk.state c.args.self.now.core.filer.swapper.disk) (g.D.Disk.state c.take_window.new.core.filer.swapper.disk) (2 ^ 23) (omega arith) c.take_window.ensures.cost
+pub returns-in-Ok-Err-clause-stays : goal.returns-in-Ok-Err-clause-stays
+returns-in-Ok-Err-clause-stays g c = record {
+  open_still = (still_open _ _ _ _ c.requires.opened c.take_window.ensures.layout refl);
+  monotone = (search rules);
+  serial = (search rules);
+  layout = (search rules);
+}
 
-pub returns-in-Ok-Err-clause-open_still : goal.returns-in-Ok-Err-clause-open_still
-returns-in-Ok-Err-clause-open_still g c = still_open _ _ _ _ c.requires.opened c.take_window.ensures.layout refl
-
-pub returns-in-Ok-Err-clause-carried : goal.returns-in-Ok-Err-clause-carried
-returns-in-Ok-Err-clause-carried g c = λ m r.
-    refused_running _ _ m (call.Unmap c.args.space) _ (subst (λ (x : Result Shown Refusal). IsRefused (Runs c.take_window.new.core c.args.self.now.volume m) x) c.in-Ok-Err.field-0-is (c.in-Ok-Err.ensures.refused c.args.self.now.volume m r))
-    (not_taken m c.args.space _ (λ n. Runs c.take_window.new.core c.args.self.now.volume n) (subst (λ (x : Result Shown Refusal). Reveals (first_of (window_row m.spaces c.args.space)) (IsTaken m c.args.space (λ n. Runs c.take_window.new.core c.args.self.now.volume n)) x) c.in-Ok-Err.field-0-is (c.in-Ok-Err.ensures.taken c.args.self.now.volume m r)))
-
-pub returns-in-Err-clause-passes : goal.returns-in-Err-clause-passes
-returns-in-Err-clause-passes g c = λ m r. asked_passes c.args.self.now.core c.args.self.now.volume m (call.Unmap c.args.space) r (g.met.D.Disk.in_form c.args.self.now.core.filer.swapper.disk) c.take_window.ensures.makes
+pub returns-in-Err-clause-answers : goal.returns-in-Err-clause-answers
+returns-in-Err-clause-answers g c = λ m r. record {
+  carried = tt;
+  sound = (c.in-Err.ensures.sound c.args.self.now.volume m r);
+  passes = (asked_passes c.args.self.now.core c.args.self.now.volume m (call.Unmap c.args.space) r (g.met.D.Disk.in_form (disk_of c.args.self.now.core.filer)) c.take_window.ensures.makes);
+  cost = (asked_inside (state c.args.self.now.core).disk (state c.take_window.new.core).disk (2 ^ 23) (omega arith) c.take_window.ensures.cost);
+}
 
 pub returns-in-Err-clause-wrote : goal.returns-in-Err-clause-wrote
 returns-in-Err-clause-wrote g c = wrote_by c.take_window.ensures.makes tt
 
-pub returns-in-Err-clause-cost : goal.returns-in-Err-clause-cost
-returns-in-Err-clause-cost g c = λ m r. asked_inside (g.D.Disk.state c.args.self.now.core.filer.swapper.disk) (g.D.Disk.state c.take_window.new.core.filer.swapper.disk) (2 ^ 23) (omega arith) c.take_window.ensures.cost
+pub returns-in-Err-clause-stays : goal.returns-in-Err-clause-stays
+returns-in-Err-clause-stays g c = record {
+  open_still = (still_open _ _ _ _ c.requires.opened c.take_window.ensures.layout refl);
+  monotone = (search rules);
+  serial = (search rules);
+  layout = (search rules);
+}
 
-pub returns-in-Err-clause-open_still : goal.returns-in-Err-clause-open_still
-returns-in-Err-clause-open_still g c = still_open _ _ _ _ c.requires.opened c.take_window.ensures.layout refl
-
-pub returns-in-Err-clause-sound : goal.returns-in-Err-clause-sound
-returns-in-Err-clause-sound g c = λ m r. c.in-Err.ensures.sound c.args.self.now.volume m r
-
-pub returns-then-not-shown-clause-passes : goal.returns-then-not-shown-clause-passes
-returns-then-not-shown-clause-passes g c = λ m r. asked_passes c.args.self.now.core c.args.self.now.volume m (call.Unmap c.args.space) r (g.met.D.Disk.in_form c.args.self.now.core.filer.swapper.disk) c.take_window.ensures.makes
+pub returns-then-not-shown-clause-answers : goal.returns-then-not-shown-clause-answers
+returns-then-not-shown-clause-answers g c = λ m r. record {
+  carried = (let t = took m c.args.space c.in-Ok-Ok.shown (λ n. Runs c.take_window.new.core c.args.self.now.volume n) (subst (λ (x : Result Shown Refusal). Reveals (first_of (window_row m.spaces c.args.space)) (IsTaken m c.args.space (λ n. Runs c.take_window.new.core c.args.self.now.volume n)) x) c.in-Ok-Ok.field-0-is (c.in-Ok-Ok.ensures.taken c.args.self.now.volume m r)) in
+      plain_carried m r.session.stands.is.by.machine c.args.space t.s t.here c.in-Ok-Ok.shown t.window t.free c.take_window.new.core c.args.self.now.volume (unset _ c.if-not-shown.true) t.left);
+  sound = tt;
+  passes = (asked_passes c.args.self.now.core c.args.self.now.volume m (call.Unmap c.args.space) r (g.met.D.Disk.in_form (disk_of c.args.self.now.core.filer)) c.take_window.ensures.makes);
+  cost = (asked_inside (state c.args.self.now.core).disk (state c.take_window.new.core).disk (2 ^ 23) (omega arith) c.take_window.ensures.cost);
+}
 
 pub returns-then-not-shown-clause-wrote : goal.returns-then-not-shown-clause-wrote
 returns-then-not-shown-clause-wrote g c = wrote_by c.take_window.ensures.makes tt
 
-pub returns-then-not-shown-clause-cost : goal.returns-then-not-shown-clause-cost
-returns-then-not-shown-clause-cost g c = λ m r. asked_inside (g.D.Disk.state c.args.self.now.core.filer.swapper.disk) (g.D.Disk.state c.take_window.new.core.filer.swapper.disk) (2 ^ 23) (omega arith) c.take_window.ensures.cost
-
-pub returns-then-not-shown-clause-open_still : goal.returns-then-not-shown-clause-open_still
-returns-then-not-shown-clause-open_still g c = still_open _ _ _ _ c.requires.opened c.take_window.ensures.layout refl
-
-pub returns-then-not-shown-clause-carried : goal.returns-then-not-shown-clause-carried
-returns-then-not-shown-clause-carried g c = λ m r.
-    let t = took m c.args.space c.in-Ok-Ok.shown (λ n. Runs c.take_window.new.core c.args.self.now.volume n) (subst (λ (x : Result Shown Refusal). Reveals (first_of (window_row m.spaces c.args.space)) (IsTaken m c.args.space (λ n. Runs c.take_window.new.core c.args.self.now.volume n)) x) c.in-Ok-Ok.field-0-is (c.in-Ok-Ok.ensures.taken c.args.self.now.volume m r)) in
-    plain_carried m r.session.stands.is.by.machine c.args.space t.s t.here c.in-Ok-Ok.shown t.window t.free c.take_window.new.core c.args.self.now.volume (unset _ c.if-not-shown.true) t.left
+pub returns-then-not-shown-clause-stays : goal.returns-then-not-shown-clause-stays
+returns-then-not-shown-clause-stays g c = record {
+  open_still = (still_open _ _ _ _ c.requires.opened c.take_window.ensures.layout refl);
+  monotone = (search rules);
+  serial = (search rules);
+  layout = (search rules);
+}
 
 pub delete_unseen-requires-clause-size : goal.delete_unseen-requires-clause-size
 delete_unseen-requires-clause-size g c = c.take_window.ensures.makes.went.sectors ∙ c.requires.size ∙ ap (λ (l : Layout). l.sectors) (sym c.take_window.ensures.layout)
@@ -85,14 +96,16 @@ delete_unseen-requires-clause-size g c = c.take_window.ensures.makes.went.sector
 pub delete_unseen-requires-clause-opened : goal.delete_unseen-requires-clause-opened
 delete_unseen-requires-clause-opened g c = still_open _ _ _ _ c.requires.opened c.take_window.ensures.layout refl
 
-pub returns-in-Err-delete_unseen-clause-sound : goal.returns-in-Err-delete_unseen-clause-sound
-returns-in-Err-delete_unseen-clause-sound g c = λ m r. let t = took m c.args.space c.in-Ok-Ok.shown (λ n. Runs c.take_window.new.core c.args.self.now.volume n) (subst (λ (x : Result Shown Refusal). Reveals (first_of (window_row m.spaces c.args.space)) (IsTaken m c.args.space (λ n. Runs c.take_window.new.core c.args.self.now.volume n)) x) c.in-Ok-Ok.field-0-is (c.in-Ok-Ok.ensures.taken c.args.self.now.volume m r)) in c.in-Err-delete_unseen.ensures.sound _ _ t.left.session (left_unseen m r.session.stands.is.by.machine c.args.space t.s t.here c.in-Ok-Ok.shown t.window t.free (is_set _ c.if-not-shown.false))
-
-pub returns-in-Err-delete_unseen-clause-passes : goal.returns-in-Err-delete_unseen-clause-passes
-returns-in-Err-delete_unseen-clause-passes g c = λ m r.
+pub returns-in-Err-delete_unseen-clause-answers : goal.returns-in-Err-delete_unseen-clause-answers
+returns-in-Err-delete_unseen-clause-answers g c = λ m r.
     let t = took m c.args.space c.in-Ok-Ok.shown (λ n. Runs c.take_window.new.core c.args.self.now.volume n) (subst (λ (x : Result Shown Refusal). Reveals (first_of (window_row m.spaces c.args.space)) (IsTaken m c.args.space (λ n. Runs c.take_window.new.core c.args.self.now.volume n)) x) c.in-Ok-Ok.field-0-is (c.in-Ok-Ok.ensures.taken c.args.self.now.volume m r)) in
-    quiet_then m _ (call.Unmap c.args.space) (call.Delete c.in-Ok-Ok.shown.id) (asked_passes c.args.self.now.core c.args.self.now.volume m call.Volume r (g.met.D.Disk.in_form c.args.self.now.core.filer.swapper.disk) c.take_window.ensures.makes)
-    (c.delete_unseen.ensures.passes _ _ t.left.session (left_unseen m r.session.stands.is.by.machine c.args.space t.s t.here c.in-Ok-Ok.shown t.window t.free (is_set _ c.if-not-shown.false))) (omega arith) (hidden_alike m r.session.stands.is.by.machine c.args.space t.s t.here c.in-Ok-Ok.shown t.window t.free (is_set _ c.if-not-shown.false)) (hidden_numbers m r.session.stands.is.by.machine c.args.space t.s t.here c.in-Ok-Ok.shown t.window t.free (is_set _ c.if-not-shown.false))
+    record {
+      carried = tt;
+      sound = (c.in-Err-delete_unseen.ensures.sound _ _ t.left.session (left_unseen m r.session.stands.is.by.machine c.args.space t.s t.here c.in-Ok-Ok.shown t.window t.free (is_set _ c.if-not-shown.false)));
+      passes = (quiet_then m _ (call.Unmap c.args.space) (call.Delete c.in-Ok-Ok.shown.id) (asked_passes c.args.self.now.core c.args.self.now.volume m call.Volume r (g.met.D.Disk.in_form (disk_of c.args.self.now.core.filer)) c.take_window.ensures.makes)
+          (c.delete_unseen.ensures.passes _ _ t.left.session (left_unseen m r.session.stands.is.by.machine c.args.space t.s t.here c.in-Ok-Ok.shown t.window t.free (is_set _ c.if-not-shown.false))) (omega arith) (hidden_alike m r.session.stands.is.by.machine c.args.space t.s t.here c.in-Ok-Ok.shown t.window t.free (is_set _ c.if-not-shown.false)) (hidden_numbers m r.session.stands.is.by.machine c.args.space t.s t.here c.in-Ok-Ok.shown t.window t.free (is_set _ c.if-not-shown.false)));
+      cost = (spent_besides (state c.args.self.now.core).disk (state c.take_window.new.core).disk (state c.delete_unseen.new.self.core).disk c.take_window.ensures.makes.went.sectors (let few = c.take_window.ensures.cost in omega (arith, few)) (c.delete_unseen.ensures.bounded _ _ t.left.session));
+    }
 
 pub returns-in-Err-delete_unseen-clause-wrote : goal.returns-in-Err-delete_unseen-clause-wrote
 returns-in-Err-delete_unseen-clause-wrote g c = wrote_then (wrote_by c.take_window.ensures.makes tt) c.delete_unseen.ensures.wrote
@@ -100,73 +113,67 @@ returns-in-Err-delete_unseen-clause-wrote g c = wrote_then (wrote_by c.take_wind
 pub returns-in-Err-delete_unseen-clause-counted : goal.returns-in-Err-delete_unseen-clause-counted
 returns-in-Err-delete_unseen-clause-counted g c = λ is. rose_after _ _ _ c.take_window.ensures.makes.went.faults (c.in-Err-delete_unseen.ensures.counted is)
 
-pub returns-in-Err-delete_unseen-clause-layout : goal.returns-in-Err-delete_unseen-clause-layout
-returns-in-Err-delete_unseen-clause-layout g c = c.delete_unseen.ensures.layout ∙ c.take_window.ensures.layout
+pub returns-in-Err-delete_unseen-clause-stays : goal.returns-in-Err-delete_unseen-clause-stays
+returns-in-Err-delete_unseen-clause-stays g c = record {
+  open_still = (search rules);
+  monotone = (search rules);
+  serial = (search rules);
+  layout = (c.delete_unseen.ensures.stays.layout ∙ c.take_window.ensures.layout);
+}
 
-pub returns-in-Err-delete_unseen-clause-cost : goal.returns-in-Err-delete_unseen-clause-cost
-returns-in-Err-delete_unseen-clause-cost g c = λ m r.
+pub returns-in-Ok-sync-clause-answers : goal.returns-in-Ok-sync-clause-answers
+returns-in-Ok-sync-clause-answers g c = λ m r.
     let t = took m c.args.space c.in-Ok-Ok.shown (λ n. Runs c.take_window.new.core c.args.self.now.volume n) (subst (λ (x : Result Shown Refusal). Reveals (first_of (window_row m.spaces c.args.space)) (IsTaken m c.args.space (λ n. Runs c.take_window.new.core c.args.self.now.volume n)) x) c.in-Ok-Ok.field-0-is (c.in-Ok-Ok.ensures.taken c.args.self.now.volume m r)) in
-    spent_besides (g.D.Disk.state c.args.self.now.core.filer.swapper.disk) (g.D.Disk.state c.take_window.new.core.filer.swapper.disk) (g.D.Disk.state c.delete_unseen.new.self.core.filer.swapper.disk) c.take_window.ensures.makes.went.sectors (let few = c.take_window.ensures.cost in omega (arith, few)) (c.delete_unseen.ensures.bounded _ _ t.left.session)
-
-pub returns-in-Ok-sync-clause-passes : goal.returns-in-Ok-sync-clause-passes
-returns-in-Ok-sync-clause-passes g c = λ m r.
-    let t = took m c.args.space c.in-Ok-Ok.shown (λ n. Runs c.take_window.new.core c.args.self.now.volume n) (subst (λ (x : Result Shown Refusal). Reveals (first_of (window_row m.spaces c.args.space)) (IsTaken m c.args.space (λ n. Runs c.take_window.new.core c.args.self.now.volume n)) x) c.in-Ok-Ok.field-0-is (c.in-Ok-Ok.ensures.taken c.args.self.now.volume m r)) in
-    passes_still m (call.Unmap c.args.space)
-    (quiet_then m _ (call.Unmap c.args.space) (call.Delete c.in-Ok-Ok.shown.id) (asked_passes c.args.self.now.core c.args.self.now.volume m call.Volume r (g.met.D.Disk.in_form c.args.self.now.core.filer.swapper.disk) c.take_window.ensures.makes)
-    (c.delete_unseen.ensures.passes _ _ t.left.session (left_unseen m r.session.stands.is.by.machine c.args.space t.s t.here c.in-Ok-Ok.shown t.window t.free (is_set _ c.if-not-shown.false))) (omega arith) (hidden_alike m r.session.stands.is.by.machine c.args.space t.s t.here c.in-Ok-Ok.shown t.window t.free (is_set _ c.if-not-shown.false)) (hidden_numbers m r.session.stands.is.by.machine c.args.space t.s t.here c.in-Ok-Ok.shown t.window t.free (is_set _ c.if-not-shown.false)))
-    c.sync.ensures.same
+    let carried = hidden_carried m r.session.stands.is.by.machine c.args.space t.s t.here c.in-Ok-Ok.shown t.window t.free (is_set _ c.if-not-shown.false) c.delete_unseen.new.self.core c.delete_unseen.new.self.volume (Ok c.in-Ok.done) (carried_out c.take_window.new.core c.delete_unseen.new.self.core c.args.self.now.volume c.delete_unseen.new.self.volume _ (call.Delete c.in-Ok-Ok.shown.id) c.delete_unseen.ensures.kept c.delete_unseen.ensures.intervals refl t.left (Ok c.in-Ok.done) (λ spaces_of s. c.in-Ok.ensures.carried spaces_of _ s (left_unseen m r.session.stands.is.by.machine c.args.space t.s t.here c.in-Ok-Ok.shown t.window t.free (is_set _ c.if-not-shown.false)))) in
+    record {
+      carried = (waited_carried c.delete_unseen.new.self.core c.sync.new.core (accepted c.delete_unseen.new.self.core.filer) (c.delete_unseen.ensures.wrote.makes.went.sectors ∙ c.take_window.ensures.makes.went.sectors ∙ c.requires.size ∙ ap (λ (l : Layout). l.sectors) (sym (c.delete_unseen.ensures.stays.layout ∙ c.take_window.ensures.layout))) c.delete_unseen.new.self.volume m (call.Unmap c.args.space) c.in-Ok.done carried c.sync.ensures.reaches c.sync.ensures.frames c.sync.ensures.intervals c.sync.ensures.known);
+      sound = tt;
+      passes = (passes_still m (call.Unmap c.args.space)
+          (quiet_then m _ (call.Unmap c.args.space) (call.Delete c.in-Ok-Ok.shown.id) (asked_passes c.args.self.now.core c.args.self.now.volume m call.Volume r (g.met.D.Disk.in_form (disk_of c.args.self.now.core.filer)) c.take_window.ensures.makes)
+          (c.delete_unseen.ensures.passes _ _ t.left.session (left_unseen m r.session.stands.is.by.machine c.args.space t.s t.here c.in-Ok-Ok.shown t.window t.free (is_set _ c.if-not-shown.false))) (omega arith) (hidden_alike m r.session.stands.is.by.machine c.args.space t.s t.here c.in-Ok-Ok.shown t.window t.free (is_set _ c.if-not-shown.false)) (hidden_numbers m r.session.stands.is.by.machine c.args.space t.s t.here c.in-Ok-Ok.shown t.window t.free (is_set _ c.if-not-shown.false)))
+          c.sync.ensures.same);
+      cost = (spent_around (state c.args.self.now.core).disk (state c.take_window.new.core).disk (state c.delete_unseen.new.self.core).disk (state c.sync.new.core).disk c.take_window.ensures.makes.went.sectors (let few = c.take_window.ensures.cost in omega (arith, few))
+          (c.delete_unseen.ensures.bounded _ _ t.left.session) (let few = c.sync.ensures.cost in omega (arith, few)));
+    }
 
 pub returns-in-Ok-sync-clause-wrote : goal.returns-in-Ok-sync-clause-wrote
 returns-in-Ok-sync-clause-wrote g c = wrote_then (wrote_then (wrote_by c.take_window.ensures.makes tt) c.delete_unseen.ensures.wrote) (wrote_by (reached_makes c.sync.ensures.reaches) tt)
 
-pub returns-in-Ok-sync-clause-open_still : goal.returns-in-Ok-sync-clause-open_still
-returns-in-Ok-sync-clause-open_still g c = still_open _ _ _ _ c.delete_unseen.ensures.open_still c.sync.ensures.layout refl
+pub returns-in-Ok-sync-clause-stays : goal.returns-in-Ok-sync-clause-stays
+returns-in-Ok-sync-clause-stays g c = record {
+  open_still = (still_open _ _ _ _ c.delete_unseen.ensures.stays.open_still c.sync.ensures.layout refl);
+  monotone = (search rules);
+  serial = (search rules);
+  layout = (c.sync.ensures.layout ∙ c.delete_unseen.ensures.stays.layout ∙ c.take_window.ensures.layout);
+}
 
-pub returns-in-Ok-sync-clause-layout : goal.returns-in-Ok-sync-clause-layout
-returns-in-Ok-sync-clause-layout g c = c.sync.ensures.layout ∙ c.delete_unseen.ensures.layout ∙ c.take_window.ensures.layout
-
-pub returns-in-Ok-sync-clause-cost : goal.returns-in-Ok-sync-clause-cost
-returns-in-Ok-sync-clause-cost g c = λ m r.
+pub returns-in-Err-sync-clause-answers : goal.returns-in-Err-sync-clause-answers
+returns-in-Err-sync-clause-answers g c = λ m r.
     let t = took m c.args.space c.in-Ok-Ok.shown (λ n. Runs c.take_window.new.core c.args.self.now.volume n) (subst (λ (x : Result Shown Refusal). Reveals (first_of (window_row m.spaces c.args.space)) (IsTaken m c.args.space (λ n. Runs c.take_window.new.core c.args.self.now.volume n)) x) c.in-Ok-Ok.field-0-is (c.in-Ok-Ok.ensures.taken c.args.self.now.volume m r)) in
-    spent_around (g.D.Disk.state c.args.self.now.core.filer.swapper.disk) (g.D.Disk.state c.take_window.new.core.filer.swapper.disk) (g.D.Disk.state c.delete_unseen.new.self.core.filer.swapper.disk) (g.D.Disk.state c.sync.new.core.filer.swapper.disk) c.take_window.ensures.makes.went.sectors (let few = c.take_window.ensures.cost in omega (arith, few))
-    (c.delete_unseen.ensures.bounded _ _ t.left.session) (let few = c.sync.ensures.cost in omega (arith, few))
-
-pub returns-in-Err-sync-clause-passes : goal.returns-in-Err-sync-clause-passes
-returns-in-Err-sync-clause-passes g c = λ m r.
-    let t = took m c.args.space c.in-Ok-Ok.shown (λ n. Runs c.take_window.new.core c.args.self.now.volume n) (subst (λ (x : Result Shown Refusal). Reveals (first_of (window_row m.spaces c.args.space)) (IsTaken m c.args.space (λ n. Runs c.take_window.new.core c.args.self.now.volume n)) x) c.in-Ok-Ok.field-0-is (c.in-Ok-Ok.ensures.taken c.args.self.now.volume m r)) in
-    passes_still m (call.Unmap c.args.space)
-    (quiet_then m _ (call.Unmap c.args.space) (call.Delete c.in-Ok-Ok.shown.id) (asked_passes c.args.self.now.core c.args.self.now.volume m call.Volume r (g.met.D.Disk.in_form c.args.self.now.core.filer.swapper.disk) c.take_window.ensures.makes)
-    (c.delete_unseen.ensures.passes _ _ t.left.session (left_unseen m r.session.stands.is.by.machine c.args.space t.s t.here c.in-Ok-Ok.shown t.window t.free (is_set _ c.if-not-shown.false))) (omega arith) (hidden_alike m r.session.stands.is.by.machine c.args.space t.s t.here c.in-Ok-Ok.shown t.window t.free (is_set _ c.if-not-shown.false)) (hidden_numbers m r.session.stands.is.by.machine c.args.space t.s t.here c.in-Ok-Ok.shown t.window t.free (is_set _ c.if-not-shown.false)))
-    c.sync.ensures.same
+    record {
+      carried = tt;
+      sound = c.in-Err-sync.ensures.fault;
+      passes = (passes_still m (call.Unmap c.args.space)
+          (quiet_then m _ (call.Unmap c.args.space) (call.Delete c.in-Ok-Ok.shown.id) (asked_passes c.args.self.now.core c.args.self.now.volume m call.Volume r (g.met.D.Disk.in_form (disk_of c.args.self.now.core.filer)) c.take_window.ensures.makes)
+          (c.delete_unseen.ensures.passes _ _ t.left.session (left_unseen m r.session.stands.is.by.machine c.args.space t.s t.here c.in-Ok-Ok.shown t.window t.free (is_set _ c.if-not-shown.false))) (omega arith) (hidden_alike m r.session.stands.is.by.machine c.args.space t.s t.here c.in-Ok-Ok.shown t.window t.free (is_set _ c.if-not-shown.false)) (hidden_numbers m r.session.stands.is.by.machine c.args.space t.s t.here c.in-Ok-Ok.shown t.window t.free (is_set _ c.if-not-shown.false)))
+          c.sync.ensures.same);
+      cost = (spent_around (state c.args.self.now.core).disk (state c.take_window.new.core).disk (state c.delete_unseen.new.self.core).disk (state c.sync.new.core).disk c.take_window.ensures.makes.went.sectors (let few = c.take_window.ensures.cost in omega (arith, few))
+          (c.delete_unseen.ensures.bounded _ _ t.left.session) (let few = c.sync.ensures.cost in omega (arith, few)));
+    }
 
 pub returns-in-Err-sync-clause-wrote : goal.returns-in-Err-sync-clause-wrote
 returns-in-Err-sync-clause-wrote g c = wrote_then (wrote_then (wrote_by c.take_window.ensures.makes tt) c.delete_unseen.ensures.wrote) (wrote_by (reached_makes c.sync.ensures.reaches) tt)
 
-pub returns-in-Err-sync-clause-open_still : goal.returns-in-Err-sync-clause-open_still
-returns-in-Err-sync-clause-open_still g c = still_open _ _ _ _ c.delete_unseen.ensures.open_still c.sync.ensures.layout refl
-
-pub returns-in-Err-sync-clause-layout : goal.returns-in-Err-sync-clause-layout
-returns-in-Err-sync-clause-layout g c = c.sync.ensures.layout ∙ c.delete_unseen.ensures.layout ∙ c.take_window.ensures.layout
-
-pub returns-in-Err-sync-clause-cost : goal.returns-in-Err-sync-clause-cost
-returns-in-Err-sync-clause-cost g c = λ m r.
-    let t = took m c.args.space c.in-Ok-Ok.shown (λ n. Runs c.take_window.new.core c.args.self.now.volume n) (subst (λ (x : Result Shown Refusal). Reveals (first_of (window_row m.spaces c.args.space)) (IsTaken m c.args.space (λ n. Runs c.take_window.new.core c.args.self.now.volume n)) x) c.in-Ok-Ok.field-0-is (c.in-Ok-Ok.ensures.taken c.args.self.now.volume m r)) in
-    spent_around (g.D.Disk.state c.args.self.now.core.filer.swapper.disk) (g.D.Disk.state c.take_window.new.core.filer.swapper.disk) (g.D.Disk.state c.delete_unseen.new.self.core.filer.swapper.disk) (g.D.Disk.state c.sync.new.core.filer.swapper.disk) c.take_window.ensures.makes.went.sectors (let few = c.take_window.ensures.cost in omega (arith, few))
-    (c.delete_unseen.ensures.bounded _ _ t.left.session) (let few = c.sync.ensures.cost in omega (arith, few))
-
-pub returns-in-Ok-sync-clause-carried : goal.returns-in-Ok-sync-clause-carried
-returns-in-Ok-sync-clause-carried g c = λ m r.
-    let t = took m c.args.space c.in-Ok-Ok.shown (λ n. Runs c.take_window.new.core c.args.self.now.volume n) (subst (λ (x : Result Shown Refusal). Reveals (first_of (window_row m.spaces c.args.space)) (IsTaken m c.args.space (λ n. Runs c.take_window.new.core c.args.self.now.volume n)) x) c.in-Ok-Ok.field-0-is (c.in-Ok-Ok.ensures.taken c.args.self.now.volume m r)) in
-    let carried = hidden_carried m r.session.stands.is.by.machine c.args.space t.s t.here c.in-Ok-Ok.shown t.window t.free (is_set _ c.if-not-shown.false) c.delete_unseen.new.self.core c.delete_unseen.new.self.volume (Ok c.in-Ok.done)
-    (carried_out c.take_window.new.core c.delete_unseen.new.self.core c.args.self.now.volume c.delete_unseen.new.self.volume _ (call.Delete c.in-Ok-Ok.shown.id) c.delete_unseen.ensures.kept c.delete_unseen.ensures.intervals refl t.left (Ok c.in-Ok.done) (λ spaces_of s. c.in-Ok.ensures.carried spaces_of _ s (left_unseen m r.session.stands.is.by.machine c.args.space t.s t.here c.in-Ok-Ok.shown t.window t.free (is_set _ c.if-not-shown.false))))
-    in
-    waited_carried c.delete_unseen.new.self.core c.sync.new.core c.delete_unseen.new.self.core.filer.swapper.accepted (c.delete_unseen.ensures.wrote.makes.went.sectors ∙ c.take_window.ensures.makes.went.sectors ∙ c.requires.size ∙ ap (λ (l : Layout). l.sectors) (sym (c.delete_unseen.ensures.layout ∙ c.take_window.ensures.layout))) c.delete_unseen.new.self.volume m (call.Unmap c.args.space) c.in-Ok.done carried c.sync.ensures.reaches c.sync.ensures.frames c.sync.ensures.intervals c.sync.ensures.known
+pub returns-in-Err-sync-clause-stays : goal.returns-in-Err-sync-clause-stays
+returns-in-Err-sync-clause-stays g c = record {
+  open_still = (still_open _ _ _ _ c.delete_unseen.ensures.stays.open_still c.sync.ensures.layout refl);
+  monotone = (search rules);
+  serial = (search rules);
+  layout = (c.sync.ensures.layout ∙ c.delete_unseen.ensures.stays.layout ∙ c.take_window.ensures.layout);
+}
 
 pub returns-in-Ok-sync-clause-synced : goal.returns-in-Ok-sync-clause-synced
 returns-in-Ok-sync-clause-synced g c = λ is. c.in-Ok-sync.ensures.synced
-
-pub returns-in-Err-sync-clause-sound : goal.returns-in-Err-sync-clause-sound
-returns-in-Err-sync-clause-sound g c = λ m r. c.in-Err-sync.ensures.fault
 
 pub returns-in-Err-sync-clause-counted : goal.returns-in-Err-sync-clause-counted
 returns-in-Err-sync-clause-counted g c = λ is. rose_after _ _ _ c.take_window.ensures.makes.went.faults (rose_after _ _ _ c.delete_unseen.ensures.wrote.makes.went.faults c.in-Err-sync.ensures.counted)
@@ -175,7 +182,7 @@ pub returns-in-Ok-Err-clause-synced : goal.returns-in-Ok-Err-clause-synced
 returns-in-Ok-Err-clause-synced g c = λ is. absurd (refused_undone _ is)
 
 pub returns-then-not-shown-clause-synced : goal.returns-then-not-shown-clause-synced
-returns-then-not-shown-clause-synced g c = λ is. subst (λ (x : Result Shown Refusal). IsGivenUp ((g.D.Disk.state c.take_window.new.core.filer.swapper.disk).synced ≡ true) x) c.in-Ok-Ok.field-0-is c.in-Ok-Ok.ensures.synced
+returns-then-not-shown-clause-synced g c = λ is. subst (λ (x : Result Shown Refusal). IsGivenUp ((state c.take_window.new.core).disk.synced ≡ true) x) c.in-Ok-Ok.field-0-is c.in-Ok-Ok.ensures.synced
 
 -- ---- Why it failed.
 
@@ -201,37 +208,70 @@ returns-in-Err-sync-clause-cause g c =
 
 -- ---- The initial state.
 
-pub returns-in-Ok-Err-clause-keeps_to : goal.returns-in-Ok-Err-clause-keeps_to
-returns-in-Ok-Err-clause-keeps_to g c = λ o k.
-    let old = c.args.self.now.core in
-    reshaped_on o (state old) (state c.take_window.new.core) old.filer.swapper.accepted c.take_window.ensures.reshapes k
+pub returns-in-Ok-Err-clause-accounts : goal.returns-in-Ok-Err-clause-accounts
+returns-in-Ok-Err-clause-accounts g c = λ o k. record {
+  keeps_to = (let old = c.args.self.now.core in
+      reshaped_on o (state old) (state c.take_window.new.core) (accepted old.filer) c.take_window.ensures.reshapes k);
+  reasons = tt;
+  sees = (λ seen. let old = c.args.self.now.core in
+      let u = c.take_window.new.core in
+      home_on o old u c.take_window.ensures.makes (still_on old u c.in-Ok-Err.ensures.sees (WasBelow o (state old).disk) seen));
+}
 
-pub returns-then-not-shown-clause-keeps_to : goal.returns-then-not-shown-clause-keeps_to
-returns-then-not-shown-clause-keeps_to g c = λ o k.
-    let old = c.args.self.now.core in
-    reshaped_on o (state old) (state c.take_window.new.core) old.filer.swapper.accepted c.take_window.ensures.reshapes k
+pub returns-then-not-shown-clause-accounts : goal.returns-then-not-shown-clause-accounts
+returns-then-not-shown-clause-accounts g c = λ o k. record {
+  keeps_to = (let old = c.args.self.now.core in
+      reshaped_on o (state old) (state c.take_window.new.core) (accepted old.filer) c.take_window.ensures.reshapes k);
+  reasons = tt;
+  sees = (λ seen. let old = c.args.self.now.core in
+      let u = c.take_window.new.core in
+      home_on o old u c.take_window.ensures.makes (still_on old u c.in-Ok-Ok.ensures.sees (WasBelow o (state old).disk) seen));
+}
 
-pub returns-in-Ok-sync-clause-keeps_to : goal.returns-in-Ok-sync-clause-keeps_to
-returns-in-Ok-sync-clause-keeps_to g c = λ o k.
-    let old = c.args.self.now.core in
-    reached_on o (state c.delete_unseen.new.self.core) (state c.sync.new.core) c.delete_unseen.new.self.core.filer.swapper.accepted c.sync.ensures.reaches
-    (c.in-Ok.ensures.keeps_to o (reshaped_on o (state old) (state c.take_window.new.core) old.filer.swapper.accepted c.take_window.ensures.reshapes k))
+pub returns-in-Ok-sync-clause-accounts : goal.returns-in-Ok-sync-clause-accounts
+returns-in-Ok-sync-clause-accounts g c = λ o k. record {
+  keeps_to = (let old = c.args.self.now.core in
+      reached_on o (state c.delete_unseen.new.self.core) (state c.sync.new.core) (accepted c.delete_unseen.new.self.core.filer) c.sync.ensures.reaches
+      ((c.in-Ok.ensures.accounts o (reshaped_on o (state old) (state c.take_window.new.core) (accepted old.filer) c.take_window.ensures.reshapes k)).keeps_to));
+  reasons = tt;
+  sees = (λ seen. let old = c.args.self.now.core in
+      let u = c.take_window.new.core in
+      let taken = home_on o old u c.take_window.ensures.makes (still_on old u c.in-Ok-Ok.ensures.sees (WasBelow o (state old).disk) seen) in
+      home_still o c.delete_unseen.new.self.core c.sync.new.core (reached_makes c.sync.ensures.reaches) c.sync.ensures.still
+      ((c.in-Ok.ensures.accounts o (reshaped_on o (state old) (state u) (accepted old.filer) c.take_window.ensures.reshapes k)).sees taken));
+}
 
-pub returns-in-Err-clause-reasons : goal.returns-in-Err-clause-reasons
-returns-in-Err-clause-reasons g c = λ o k.
-    let old = c.args.self.now.core in
-    let count = old.intervals in
-    shows_after (TakeWindowHalts c.args.space count) (take_window_reasons c.args.space count)
-    o (state old) (state c.take_window.new.core) old.filer.swapper.accepted c.take_window.ensures.makes k c.in-Err.halt c.in-Err.ensures.cause
+pub returns-in-Err-clause-accounts : goal.returns-in-Err-clause-accounts
+returns-in-Err-clause-accounts g c = λ o k. record {
+  keeps_to = tt;
+  reasons = (let old = c.args.self.now.core in
+      let count = old.intervals in
+      shows_after (TakeWindowHalts c.args.space count) (take_window_reasons c.args.space count)
+      o (state old) (state c.take_window.new.core) (accepted old.filer) c.take_window.ensures.makes k c.in-Err.halt c.in-Err.ensures.cause);
+  sees = (λ seen. let old = c.args.self.now.core in
+      let u = c.take_window.new.core in
+      none_blameless o (view_of u.filer).disk c.in-Err.halt (never_blames_form c.in-Err.halt (c.in-Err.ensures.right (seen.0, seen.1.0)))
+      (λ pages. take_window_misses c.args.space old.intervals pages (state old) (state u) c.in-Err.halt c.in-Err.ensures.cause));
+}
 
-pub returns-in-Err-delete_unseen-clause-reasons : goal.returns-in-Err-delete_unseen-clause-reasons
-returns-in-Err-delete_unseen-clause-reasons g c = λ o k.
-    let old = c.args.self.now.core in
-    shows_since o (g.D.Disk.state c.delete_unseen.new.self.core.filer.swapper.disk) c.in-Err-delete_unseen.halt c.take_window.ensures.layout
-    (c.in-Err-delete_unseen.ensures.reasons o (reshaped_on o (state old) (state c.take_window.new.core) old.filer.swapper.accepted c.take_window.ensures.reshapes k))
+pub returns-in-Err-delete_unseen-clause-accounts : goal.returns-in-Err-delete_unseen-clause-accounts
+returns-in-Err-delete_unseen-clause-accounts g c = λ o k. record {
+  keeps_to = tt;
+  reasons = (let old = c.args.self.now.core in
+      shows_since o (state c.delete_unseen.new.self.core).disk c.in-Err-delete_unseen.halt c.take_window.ensures.layout
+      ((c.in-Err-delete_unseen.ensures.accounts o (reshaped_on o (state old) (state c.take_window.new.core) (accepted old.filer) c.take_window.ensures.reshapes k)).reasons));
+  sees = (λ seen. let old = c.args.self.now.core in
+      let u = c.take_window.new.core in
+      let taken = home_on o old u c.take_window.ensures.makes (still_on old u c.in-Ok-Ok.ensures.sees (WasBelow o (state old).disk) seen) in
+      (c.in-Err-delete_unseen.ensures.accounts o (reshaped_on o (state old) (state u) (accepted old.filer) c.take_window.ensures.reshapes k)).sees taken);
+}
 
-pub returns-in-Err-sync-clause-reasons : goal.returns-in-Err-sync-clause-reasons
-returns-in-Err-sync-clause-reasons g c = λ o k. fault_shows o c.args.self.now.core.filer.swapper.layout (g.D.Disk.state c.sync.new.core.filer.swapper.disk) c.in-Err-sync.halt c.in-Err-sync.ensures.fault
+pub returns-in-Err-sync-clause-accounts : goal.returns-in-Err-sync-clause-accounts
+returns-in-Err-sync-clause-accounts g c = λ o k. record {
+  keeps_to = tt;
+  reasons = (fault_shows o (state c.args.self.now.core).layout (state c.sync.new.core).disk c.in-Err-sync.halt c.in-Err-sync.ensures.fault);
+  sees = (λ seen. fault_blameless o (state c.sync.new.core).disk c.in-Err-sync.halt c.in-Err-sync.ensures.fault);
+}
 
 -- ---- Which pages are missing.
 
@@ -249,40 +289,3 @@ pub returns-in-Err-sync-clause-missing : goal.returns-in-Err-sync-clause-missing
 returns-in-Err-sync-clause-missing g c = λ ss sees. fault_misses (missing_page (call.Unmap c.args.space) ss) c.in-Err-sync.halt c.in-Err-sync.ensures.fault
 
 -- ---- The space tables are seen.
-
-pub returns-in-Ok-Err-clause-sees : goal.returns-in-Ok-Err-clause-sees
-returns-in-Ok-Err-clause-sees g c = λ o k seen.
-    let old = c.args.self.now.core in
-    let u = c.take_window.new.core in
-    home_on o old u c.take_window.ensures.makes (still_on old u c.in-Ok-Err.ensures.sees (WasBelow o (g.D.Disk.state old.filer.swapper.disk)) seen)
-
-pub returns-then-not-shown-clause-sees : goal.returns-then-not-shown-clause-sees
-returns-then-not-shown-clause-sees g c = λ o k seen.
-    let old = c.args.self.now.core in
-    let u = c.take_window.new.core in
-    home_on o old u c.take_window.ensures.makes (still_on old u c.in-Ok-Ok.ensures.sees (WasBelow o (g.D.Disk.state old.filer.swapper.disk)) seen)
-
-pub returns-in-Ok-sync-clause-sees : goal.returns-in-Ok-sync-clause-sees
-returns-in-Ok-sync-clause-sees g c = λ o k seen.
-    let old = c.args.self.now.core in
-    let u = c.take_window.new.core in
-    let taken = home_on o old u c.take_window.ensures.makes (still_on old u c.in-Ok-Ok.ensures.sees (WasBelow o (g.D.Disk.state old.filer.swapper.disk)) seen) in
-    home_still o c.delete_unseen.new.self.core c.sync.new.core (reached_makes c.sync.ensures.reaches) c.sync.ensures.still
-    (c.in-Ok.ensures.sees o (reshaped_on o (state old) (state u) old.filer.swapper.accepted c.take_window.ensures.reshapes k) taken)
-
-pub returns-in-Err-clause-sees : goal.returns-in-Err-clause-sees
-returns-in-Err-clause-sees g c = λ o k seen.
-    let old = c.args.self.now.core in
-    let u = c.take_window.new.core in
-    none_blameless o (g.D.Disk.state u.filer.swapper.disk) c.in-Err.halt (never_blames_form c.in-Err.halt (c.in-Err.ensures.right (seen.0, seen.1.0)))
-    (λ pages. take_window_misses c.args.space old.intervals pages (state old) (state u) c.in-Err.halt c.in-Err.ensures.cause)
-
-pub returns-in-Err-delete_unseen-clause-sees : goal.returns-in-Err-delete_unseen-clause-sees
-returns-in-Err-delete_unseen-clause-sees g c = λ o k seen.
-    let old = c.args.self.now.core in
-    let u = c.take_window.new.core in
-    let taken = home_on o old u c.take_window.ensures.makes (still_on old u c.in-Ok-Ok.ensures.sees (WasBelow o (g.D.Disk.state old.filer.swapper.disk)) seen) in
-    c.in-Err-delete_unseen.ensures.sees o (reshaped_on o (state old) (state u) old.filer.swapper.accepted c.take_window.ensures.reshapes k) taken
-
-pub returns-in-Err-sync-clause-sees : goal.returns-in-Err-sync-clause-sees
-returns-in-Err-sync-clause-sees g c = λ o k seen. fault_blameless o (g.D.Disk.state c.sync.new.core.filer.swapper.disk) c.in-Err-sync.halt c.in-Err-sync.ensures.fault

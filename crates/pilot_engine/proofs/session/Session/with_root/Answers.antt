@@ -6,6 +6,7 @@ use Rattle.swapper_kernel.specs.GoesLaws.{went_itself}
 use Rattle.pilot_engine.proofs.RestLemmas.{rest_bounded, rest_none}
 use Rattle.pilot_engine.proofs.StartRuns.{runs_over}
 use Rattle.pilot_engine.proofs.session.Session.with_root.Goals as goal
+use Rattle.filer_kernel.specs.View.{accepted, view_of}
 
 pub returns-in-Ok-begin-clause-stands : goal.returns-in-Ok-begin-clause-stands
 returns-in-Ok-begin-clause-stands g c = λ d revealed sound.
@@ -48,12 +49,12 @@ returns-in-Err-clause-bounded g c = rest_none (g.D.Disk.state c.args.disk) (g.D.
 pub returns-in-Ok-begin-clause-bounded : goal.returns-in-Ok-begin-clause-bounded
 returns-in-Ok-begin-clause-bounded g c =
     rw (c.over.ensures.filer, sym c.in-Ok.ensures.over)
-    (rest_bounded c.in-Ok.opened.0.swapper.layout c.in-Ok.opened.0.swapper.accepted (g.D.Disk.state c.in-Ok.opened.0.swapper.disk) (g.D.Disk.state c.begin.new.filer.swapper.disk) c.in-Ok.ensures.size c.begin.ensures.cost)
+    (rest_bounded (view_of c.in-Ok.opened.0).layout (accepted c.in-Ok.opened.0) (view_of c.in-Ok.opened.0).disk (view_of c.begin.new.filer).disk c.in-Ok.ensures.size c.begin.ensures.cost)
 
 pub returns-in-Err-begin-clause-bounded : goal.returns-in-Err-begin-clause-bounded
 returns-in-Err-begin-clause-bounded g c =
     rw (c.into_disk.ensures, sym c.in-Ok.ensures.over)
-    (rest_bounded c.in-Ok.opened.0.swapper.layout c.in-Ok.opened.0.swapper.accepted (g.D.Disk.state c.in-Ok.opened.0.swapper.disk) (g.D.Disk.state c.begin.new.filer.swapper.disk) c.in-Ok.ensures.size c.begin.ensures.cost)
+    (rest_bounded (view_of c.in-Ok.opened.0).layout (accepted c.in-Ok.opened.0) (view_of c.in-Ok.opened.0).disk (view_of c.begin.new.filer).disk c.in-Ok.ensures.size c.begin.ensures.cost)
 
 pub returns-in-Err-clause-went : goal.returns-in-Err-clause-went
 returns-in-Err-clause-went g c = rw c.in-Err.ensures.back (went_itself (g.D.Disk.state c.args.disk))

@@ -5,7 +5,7 @@ use Rattle.pilot_engine.proofs.EndLemmas.{map_clean}
 use Rattle.filer_kernel.specs.EvidenceLaws.{fits, so_of_halts}
 use Rattle.swapper_kernel.specs.Homes.{no_home}
 use Rattle.fault_core.specs.Core.{state}
-use Rattle.fault_core.specs.View.{View}
+use Rattle.filer_kernel.specs.View.{accepted, swapper_of, View}
 use Rattle.swapper_kernel.specs.Homes.{no_home}
 use Rattle.file_manager.specs.ReasonLaws.{label_reasons}
 use Rattle.pilot_engine.proofs.InitialStateLemmas.{keeps_written, written_reaches}
@@ -26,16 +26,16 @@ returns-in-Err-clause-sound g c = λ x stands. (rw (c.swapper_over-swapper.ensur
 
 pub returns-in-Ok-clause-cost : goal.returns-in-Ok-clause-cost
 returns-in-Ok-clause-cost g c =
-    few_written c.id.result 0 c.pages.result c.frames-slots.result c.frames.result.now c.args.self.now.core.filer.swapper.pool (g.D.Disk.state c.args.self.now.core.filer.swapper.disk).transfers (g.D.Disk.state c.flush.new.swapper.disk).transfers
+    few_written c.id.result 0 c.pages.result c.frames-slots.result c.frames.result.now (state c.args.self.now.core).slots (state c.args.self.now.core).disk.transfers (g.D.Disk.state c.flush.new.swapper.disk).transfers
     (rw c.swapper_over-swapper.ensures.value at c.frames.ensures) c.frames-slots.ensures.count c.frames-slots.ensures.most (rw c.swapper_over-swapper.ensures.value at c.flush.ensures.cost)
 
 pub returns-in-Err-clause-cost : goal.returns-in-Err-clause-cost
 returns-in-Err-clause-cost g c =
-    few_written c.id.result 0 c.pages.result c.frames-slots.result c.frames.result.now c.args.self.now.core.filer.swapper.pool (g.D.Disk.state c.args.self.now.core.filer.swapper.disk).transfers (g.D.Disk.state c.flush.new.swapper.disk).transfers
+    few_written c.id.result 0 c.pages.result c.frames-slots.result c.frames.result.now (state c.args.self.now.core).slots (state c.args.self.now.core).disk.transfers (g.D.Disk.state c.flush.new.swapper.disk).transfers
     (rw c.swapper_over-swapper.ensures.value at c.frames.ensures) c.frames-slots.ensures.count c.frames-slots.ensures.most (rw c.swapper_over-swapper.ensures.value at c.flush.ensures.cost)
 
 pub returns-in-Err-clause-evidence_seen : goal.returns-in-Err-clause-evidence_seen
-returns-in-Err-clause-evidence_seen g c = so_of_halts (fits c.args.self.now.core.filer.swapper c.requires.size) (rw c.swapper_over-swapper.ensures.value at c.flush.ensures.swaps).makes c.in-Err.halt no_home (λ home none. absurd none) (rw c.swapper_over-swapper.ensures.value at c.in-Err.ensures.cause)
+returns-in-Err-clause-evidence_seen g c = so_of_halts (fits (swapper_of c.args.self.now.core.filer) c.requires.size) (rw c.swapper_over-swapper.ensures.value at c.flush.ensures.swaps).makes c.in-Err.halt no_home (λ home none. absurd none) (rw c.swapper_over-swapper.ensures.value at c.in-Err.ensures.cause)
 
 -- ---- Why it failed.
 
@@ -51,7 +51,7 @@ returns-in-Ok-clause-keeps_to g c = λ o keeps.
     let swaps = (rw c.swapper_over-swapper.ensures.value at c.flush.ensures.swaps) in
     let run = (rw c.swapper_over-swapper.ensures.value at c.flush.ensures.run) in
     let layout = (rw c.swapper_over-swapper.ensures.value at c.flush.ensures.layout) in
-    (keeps.0, (keeps_written o v w keeps.0 c.args.self.now.core.filer.swapper.accepted keeps.1.1 keeps.1.0 (written_reaches v w c.args.self.now.core.filer.swapper.accepted swaps run.frames layout refl), keeps.1.1))
+    (keeps.0, (keeps_written o v w keeps.0 (accepted c.args.self.now.core.filer) keeps.1.1 keeps.1.0 (written_reaches v w (accepted c.args.self.now.core.filer) swaps run.frames layout refl), keeps.1.1))
 
 pub returns-in-Err-clause-reasons : goal.returns-in-Err-clause-reasons
 returns-in-Err-clause-reasons g c = λ o keeps.

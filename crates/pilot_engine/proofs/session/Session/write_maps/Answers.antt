@@ -24,7 +24,7 @@ returns-in-Err-write_map-clause-swaps g c = swaps_then c.write_map.ensures.swaps
 pub returns-in-Err-clause-cause : goal.returns-in-Err-clause-cause
 returns-in-Err-clause-cause g c =
     let old = c.args.self.now.core in
-    (state old, (wrote_nothing (g.D.Disk.state old.filer.swapper.disk) old.filer.swapper.pool, refl), c.in-Err.ensures.cause)
+    (state old, (wrote_nothing (state old).disk (state old).slots, refl), c.in-Err.ensures.cause)
 
 pub returns-in-Err-write_map-clause-cause : goal.returns-in-Err-write_map-clause-cause
 returns-in-Err-write_map-clause-cause g c = (state c.write_map.new.self.core, (wrote_swapping c.write_map.ensures.swaps, c.write_map.ensures.layout), c.in-Err-write_map.ensures.cause)
@@ -36,4 +36,4 @@ returns-in-Ok-write_map-clause-keeps_to g c = λ o keeps. c.in-Ok-write_map.ensu
 
 pub returns-in-Err-write_map-clause-reasons : goal.returns-in-Err-write_map-clause-reasons
 returns-in-Err-write_map-clause-reasons g c = λ o keeps.
-    subst (λ (l : Layout). ShowsReason o l (g.D.Disk.state c.write_map-2.new.self.core.filer.swapper.disk) c.in-Err-write_map.halt) c.write_map.ensures.layout (c.in-Err-write_map.ensures.reasons o (c.in-Ok.ensures.keeps_to o keeps))
+    subst (λ (l : Layout). ShowsReason o l (state c.write_map-2.new.self.core).disk c.in-Err-write_map.halt) c.write_map.ensures.layout (c.in-Err-write_map.ensures.reasons o (c.in-Ok.ensures.keeps_to o keeps))

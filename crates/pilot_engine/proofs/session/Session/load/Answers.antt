@@ -1,0 +1,69 @@
+use Rattle.std.proofs.Common.{arith, length, refl}
+use Rattle.filer_kernel.specs.EvidenceLaws.{fits}
+use Rattle.filer_kernel.proofs.Outcomes.{ok_wider}
+use Rattle.flat_machine.specs.declared.call.Call.TheVariants as call
+use Rattle.file_manager.specs.Reasons.{WasBelow}
+use Rattle.fault_core.specs.Access.{BreaksFor}
+use Rattle.fault_core.specs.Core.{kept, state}
+use Rattle.fault_core.specs.Lack.{shown_units}
+use Rattle.running_words.specs.MovingLaws.{moves_of_reaches}
+use Rattle.running_words.proofs.RunningLemmas.{running_laws}
+use Rattle.space_calls.specs.FilesLaws.{shown_here, units_on}
+use Rattle.space_calls.specs.Sees.{StillOn}
+use Rattle.space_calls.proofs.CameLemmas.{Came, still_reveals, whole_of, wrote_so}
+use Rattle.space_calls.proofs.RunLemmas.{reached_makes}
+use Rattle.pilot_engine.proofs.HomeLemmas.{have_lower}
+use Rattle.pilot_engine.proofs.HomeSteps.{still_or_blameless}
+use Rattle.pilot_engine.proofs.LabelLemmas.{pages_alone}
+use Rattle.pilot_engine.proofs.LiftLemmas.{still_open}
+use Rattle.pilot_engine.proofs.ReasonSteps.{moving_keeps, touching_reasons}
+use Rattle.pilot_engine.proofs.ReferLemmas.{fails_of, load_answered, ok_always, ok_is_ok}
+use Rattle.pilot_engine.proofs.session.Session.load.Goals as goal
+use Rattle.filer_kernel.specs.View.{accepted, disk_of, swapper_of}
+
+pub returns : goal.returns
+returns g c =
+    let old = c.args.self.now.core in
+    let new = c.load-answer.new.self in
+    let result = c.load-answer.result in
+    let did = c.load-answer.ensures in
+    let address = c.args.address in
+    let n = length c.args.into.now in
+    let whole = whole_of old c.requires.taken.size in
+    let moves = moves_of_reaches (state old) (state new) did.reaches in
+    let makes = reached_makes did.reaches in
+    let came : Came (state old) (state new) (kept old) (kept new) old.intervals new.intervals =
+    record { reaches = did.reaches; brings = did.came; known = did.same; same_count = did.intervals } in
+    record {
+      machine = λ m r. record {
+        carried = ok_wider result _ _ (λ a p. record { allowed = p.0; runs = p.1 })
+            (load_answered whole r address n c.load-answer.new.into result did.width came did.access did.bytes);
+        sound = did.sound r.session.stands.memory r.session.stands.is.named m.spaces (running_laws.known (state old) (kept old) old.intervals c.args.self.now.volume m whole r);
+        passes = still_reveals running_laws whole r (state new) (λ d revealed. g.met.D.Disk.in_form (disk_of old.filer) d revealed) (call.Load address n) makes;
+        idle = λ ready.
+            let two = did.idle ready.0 ready.1 (running_laws.apart (state old) (kept old) old.intervals c.args.self.now.volume m r) in
+            (two.0, rw two.1 refl);
+      };
+      since = λ o k. record {
+        keeps_to = moving_keeps (state old) (state new) result (accepted old.filer) moves o k;
+        reasons = touching_reasons (λ v. BreaksFor v old.intervals address n) (state old) (state new) result (accepted old.filer) moves did.cause o k;
+        sees = λ seen.
+            still_or_blameless o old new moves.goes.makes result (ok_always result (StillOn old new) (λ ss s. (ss, (did.sees ss s, shown_here ss)))) (λ s. did.right s.0 s.1)
+            (shown_units seen.0 address n) (did.missing seen.0 seen.1.0)
+            (units_on (WasBelow o (state old).disk) (have_lower o (state old).disk) seen.0 seen.1.1 address n) seen;
+      };
+      refers = record {
+        fails = fails_of result (BreaksFor (state old) old.intervals address n) (state old) (state new) (fits (swapper_of old.filer) c.requires.taken.size) did.reaches.goes.makes did.cause;
+        missing = did.missing;
+        wrote = wrote_so makes;
+        unlabelled = pages_alone moves.goes.makes;
+        ready = ok_wider result _ _ (λ a there done ss. there done) did.ready;
+        few = did.cost;
+        stays = record { open_still = still_open _ _ _ _ c.requires.taken.opened did.reaches.layout refl; monotone = omega arith; serial = refl; layout = did.reaches.layout };
+        same_volume = refl;
+        goes_on = (ok_is_ok result _ c.is_ok-self.ensures.value).0;
+        halted = (ok_is_ok result _ c.is_ok-self.ensures.value).1;
+      };
+      width = did.width;
+      unmoved = did.refused;
+    }

@@ -1,0 +1,66 @@
+use Rattle.std.proofs.Common.{arith, length, refl}
+use Rattle.filer_kernel.specs.EvidenceLaws.{fits}
+use Rattle.filer_kernel.proofs.Outcomes.{ok_wider}
+use Rattle.flat_machine.specs.Bytes.{AreBytes}
+use Rattle.file_manager.specs.Reasons.{WasBelow}
+use Rattle.fault_core.specs.Access.{BreaksFor}
+use Rattle.fault_core.specs.Core.{kept, state}
+use Rattle.fault_core.specs.Lack.{shown_units}
+use Rattle.fault_core.specs.Moves.{client_page}
+use Rattle.running_words.specs.MovingLaws.{moves_of_touches}
+use Rattle.running_words.proofs.RunningLemmas.{running_laws}
+use Rattle.space_calls.specs.FilesLaws.{shown_here, units_on}
+use Rattle.space_calls.specs.Sees.{StillOn}
+use Rattle.space_calls.proofs.CameLemmas.{store_makes, whole_of, wrote_so}
+use Rattle.space_calls.proofs.StoreLemmas.{are_bytes}
+use Rattle.pilot_engine.proofs.HomeLemmas.{have_lower}
+use Rattle.pilot_engine.proofs.HomeSteps.{still_or_blameless}
+use Rattle.pilot_engine.proofs.LabelLemmas.{pages_alone}
+use Rattle.pilot_engine.proofs.LiftLemmas.{still_open}
+use Rattle.pilot_engine.proofs.ReasonSteps.{moving_keeps, touching_reasons}
+use Rattle.pilot_engine.proofs.ReferLemmas.{fails_of, ok_always, ok_is_ok, store_answered, store_passed}
+use Rattle.pilot_engine.proofs.session.Session.store.Goals as goal
+use Rattle.filer_kernel.specs.View.{accepted, disk_of, swapper_of}
+
+pub returns : goal.returns
+returns g c =
+    let old = c.args.self.now.core in
+    let new = c.store-answer.new.self in
+    let result = c.store-answer.result in
+    let did = c.store-answer.ensures in
+    let address = c.args.address in
+    let bytes = c.args.bytes.now in
+    let whole = whole_of old c.requires.taken.size in
+    let moves = moves_of_touches (state old) (state new) client_page did.touches in
+    let typed : AreBytes bytes = are_bytes bytes (λ k. let fits = c.type_inv.bytes k in omega (arith, fits)) in
+    record {
+      machine = λ m r. record {
+        carried = ok_wider result _ _ (λ a p. record { allowed = p.0; runs = p.1 })
+            (store_answered whole r address bytes result typed did.intervals did.touches.layout did.access did.stored did.refused did.came did.known);
+        sound = did.sound r.session.stands.memory r.session.stands.is.named m.spaces (running_laws.known (state old) (kept old) old.intervals c.args.self.now.volume m whole r);
+        passes = store_passed whole r (λ d revealed. g.met.D.Disk.in_form (disk_of old.filer) d revealed) address bytes result typed c.requires.count.1 did.stored did.halted did.tested;
+        idle = λ ready.
+            let two = did.idle ready.0 ready.1 (running_laws.apart (state old) (kept old) old.intervals c.args.self.now.volume m r) in
+            (two.0, two.1);
+      };
+      since = λ o k. record {
+        keeps_to = moving_keeps (state old) (state new) result (accepted old.filer) moves o k;
+        reasons = touching_reasons (λ v. BreaksFor v old.intervals address (length bytes)) (state old) (state new) result (accepted old.filer) moves did.cause o k;
+        sees = λ seen.
+            still_or_blameless o old new moves.goes.makes result (ok_always result (StillOn old new) (λ ss s. (ss, (did.sees ss s, shown_here ss)))) (λ s. did.right s.0 s.1)
+            (shown_units seen.0 address (length bytes)) (did.missing seen.0 seen.1.0)
+            (units_on (WasBelow o (state old).disk) (have_lower o (state old).disk) seen.0 seen.1.1 address (length bytes)) seen;
+      };
+      refers = record {
+        fails = fails_of result (BreaksFor (state old) old.intervals address (length bytes)) (state old) (state new) (fits (swapper_of old.filer) c.requires.taken.size) did.touches.goes.makes did.cause;
+        missing = did.missing;
+        wrote = wrote_so (store_makes did.touches);
+        unlabelled = pages_alone moves.goes.makes;
+        ready = ok_wider result _ _ (λ a there done ss. there done) did.ready;
+        few = did.cost;
+        stays = record { open_still = still_open _ _ _ _ c.requires.taken.opened did.touches.layout refl; monotone = omega arith; serial = refl; layout = did.touches.layout };
+        same_volume = refl;
+        goes_on = (ok_is_ok result _ c.is_ok-self.ensures.value).0;
+        halted = (ok_is_ok result _ c.is_ok-self.ensures.value).1;
+      };
+    }

@@ -1,0 +1,49 @@
+//! Bytes that are loaded and stored in place, up to a page at once.
+ghost use Rattle.std.specs.Prelude.{◌≡◌, ◌≢◌, length, IfOk};
+ghost use Rattle.flat_machine.specs.declared.call.Call.TheVariants as call;
+ghost use Rattle.flat_machine.specs.declared.call.Reply.TheVariants as reply;
+ghost use Rattle.flat_machine.specs.Machine.{Machine};
+ghost use Rattle.file_manager.specs.Reasons.{InitialState, KeepsOn};
+ghost use Rattle.fault_core.specs.declared.reference.Access.TheVariants as access;
+ghost use Rattle.running_words.specs.Running.{Runs};
+ghost use Rattle.pilot_engine.specs.Calls.{Accounts};
+ghost use Rattle.pilot_engine.specs.Referring.{IsAtOnce, Refers, RefersIn, TakesCalls};
+
+use crate::Session;
+use fault_core::Access;
+use labelled_disk::{Disk, Halt};
+use std::alloc::Allocator;
+
+impl<D: Disk, A: Allocator> Session<D, A> {
+    /// Loads 1 to 512 bytes from an address on. All pages of the reference are tested before the first byte is moved:
+    /// one that is refused moves none. One that halts stops the session.
+    pub fn load(&mut self, address: u32, into: &mut [u8]) -> Result<Access, Halt>
+        requires count { IsAtOnce (length into.old) }
+        requires taken { TakesCalls self.old }
+        ensures machine { (m : Machine) → Runs self.old.core self.old.volume m
+            → RefersIn m (call.Load address (length into.old)) (reply.Bytes into.new) self.old result self.new }
+        ensures since { (o : InitialState) → KeepsOn o self.old.core.filer → Accounts o o self.old self.new result }
+        ensures refers { Refers (call.Load address (length into.old)) self.old result self.new }
+        ensures width { length into.new ≡ length into.old }
+        ensures unmoved { IfOk result (λ a. a ≢ access.Done → into.new ≡ into.old) }
+    {
+        let answer = self.core.load(address, into);
+        self.running = answer.is_ok();
+        answer
+    }
+
+    /// Stores 1 to 512 bytes from an address on. All pages of the reference are tested before the first byte is moved:
+    /// one that is refused changes nothing. One that halts stops the session.
+    pub fn store(&mut self, address: u32, bytes: &[u8]) -> Result<Access, Halt>
+        requires count { IsAtOnce (length bytes.now) }
+        requires taken { TakesCalls self.old }
+        ensures machine { (m : Machine) → Runs self.old.core self.old.volume m
+            → RefersIn m (call.Store address bytes.now) reply.Done self.old result self.new }
+        ensures since { (o : InitialState) → KeepsOn o self.old.core.filer → Accounts o o self.old self.new result }
+        ensures refers { Refers (call.Store address bytes.now) self.old result self.new }
+    {
+        let answer = self.core.store(address, bytes);
+        self.running = answer.is_ok();
+        answer
+    }
+}

@@ -1,0 +1,34 @@
+-- What every call on spaces does to a core, whatever the call.
+use Rattle.std.specs.Prelude.{◌≡◌, [], IfOk, IfErr, Result}
+use Rattle.labelled_disk.specs.declared.disk.Disk.{Ghosts}
+use Rattle.labelled_disk.specs.declared.evidence.Halt.{Halt}
+use Rattle.labelled_disk.specs.declared.evidence.Halt.TheVariants as halt
+use Rattle.flat_machine.specs.declared.call.Call.{Call}
+use Rattle.flat_machine.specs.declared.call.Reply.{Reply}
+use Rattle.flat_machine.specs.Machine.{Machine}
+use Rattle.session_words.specs.Volume.{volume_page}
+use Rattle.filer_kernel.specs.View.{MakesOnly}
+use Rattle.fault_core.specs.declared.core_over.Core.{Core}
+use Rattle.fault_core.specs.Core.{state}
+use Rattle.fault_core.specs.Reach.{Reaches}
+use Rattle.file_manager.specs.declared.volume.Volume.{Volume}
+use Rattle.running_words.specs.Running.{Carried, Runs}
+use Rattle.running_words.specs.Stages.{Passes}
+use Rattle.space_calls.specs.Sees.{StillSees}
+
+module _ {D A : Type 0} {G : Ghosts D} where
+  -- The core stood for the machine: the reply is allowed, and the core stands for the machine after the call; the one halt is a
+  -- fault of the disk; and each crash state between is one of the call.
+  pub record Answers (m : Machine) (call : Call) (old new : Core D A G) (volume : Volume) (result : Result Reply Halt) : Type 0 where
+    pub carried : IfOk result (Carried m call new volume)
+    pub sound : IfErr result (λ e. e ≡ halt.Disk)
+    pub passes : Passes m call (state old).disk (state new).disk
+
+  -- The call only looked: the core stands for what it stood for and sees what it saw, pages came and went, and nothing else.
+  pub record Looks (old new : Core D A G) : Type 0 where
+    pub runs : (volume : Volume) (m : Machine) → Runs old volume m → Runs new volume m
+    pub still : StillSees old new
+    pub reaches : Reaches (state old) (state new)
+    pub makes : MakesOnly volume_page [] (state old) (state new)
+    pub layout : (state new).layout ≡ (state old).layout
+    pub intervals : new.intervals ≡ old.intervals
