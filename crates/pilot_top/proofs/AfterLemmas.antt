@@ -1,5 +1,6 @@
 -- What holds of the state through a reference holds of the state.
 use Rattle.std.proofs.Common.{◌≡◌, inl, inr, ℕ, ◌≤◌, List, [], ◌∷◌, ◌++◌, length, Option, sym, ap, subst, drop}
+use Rattle.labelled_disk.specs.declared.disk.DiskWrite.{DiskWrite}
 use Rattle.labelled_disk.specs.declared.evidence.Evidence.{Evidence}
 use Rattle.labelled_disk.specs.declared.evidence.Evidence.TheVariants.{Mismatch, Malformed, Missing}
 use Rattle.labelled_disk.specs.declared.layout.Layout.{Layout}
@@ -9,23 +10,39 @@ use Rattle.labelled_disk.specs.State.{DiskState, lent_state}
 use Rattle.labelled_disk.specs.Sectors.{Sector}
 use Rattle.flat_machine.specs.After.{TraceLine}
 use Rattle.flat_machine.specs.Machine.{Machine}
+use Rattle.flat_machine.specs.Start.{start}
 use Rattle.trace_io.specs.Reading.{reading}
 use Rattle.volume_root.specs.RootPage.{root_write}
 use Rattle.pilot_engine.specs.Closing.{HasShut}
 use Rattle.filer_kernel.specs.Evidence.{IsEvident}
 use Rattle.file_manager.specs.Reasons.{HasReason, InitialState, initial_state}
-use Rattle.pilot_top.specs.Headline.{IsLeftOpen, Run, RevealsDamage}
+use Rattle.pilot_top.specs.Headline.{IsLeftOpen, LeadsTo, Run, RevealsDamage}
 use Rattle.pilot_top.specs.Cuts.{HonestCuts}
 use Rattle.pilot_top.specs.CrashStates.{Lawfully, CrashStates}
 use Rattle.pilot_top.specs.InitialState.{FromInitialState}
+use Rattle.pilot_top.specs.Parts.{InParts, Stops}
 use Rattle.pilot_top.specs.Replied.{AreToFirst, Replied}
 use Rattle.pilot_top.specs.Trial.{HasNoFile, TriesLawfully}
 use Rattle.pilot_top.specs.declared.status.Status.{Status}
 use Rattle.pilot_top.specs.declared.status.Status.TheVariants as status
+use Rattle.pilot_top.proofs.RunLemmas.{answering_less}
 
 -- no fault rose through a reference
 pub none_rose_after : {D : Type 0} (state : D → DiskState) (before : ℕ) (x y : D) → (Rose before (state x).faults → ⊥) → x ≡ y → Rose before (state y).faults → ⊥
 none_rose_after state before x y none same = subst (λ z. Rose before (state z).faults → ⊥) same none
+
+-- another word for the writes
+pub Stops-less : (s : Status) (b t : List ℕ) (left took : Option (List ℕ)) (failed : Type 0) (wrote then : ℕ → Type 0) → ((k : ℕ) → wrote k → then k) → Stops s b left t took failed wrote → Stops s b left t took failed then
+Stops-less status.Done b t left took failed wrote then less is = less _ is
+Stops-less status.DiskFault b t left took failed wrote then less is = (is.0, is.1, less _ is.2)
+Stops-less status.Damaged b t left took failed wrote then less is = (is.0, is.1, is.2, less _ is.3)
+Stops-less status.Long b t left took failed wrote then less is = (is.0, less _ is.1)
+Stops-less status.StreamFault b t left took failed wrote then less (inl is) = inl (is.0, less _ is.1)
+Stops-less status.StreamFault b t left took failed wrote then less (inr is) = inr (is.0, less _ is.1)
+Stops-less status.NotOpened b t left took failed wrote then less is = less _ is
+Stops-less status.NoMemory b t left took failed wrote then less is = less _ is
+Stops-less status.Usage b t left took failed wrote then less is = less _ is
+Stops-less status.Unfit b t left took failed wrote then less is = less _ is
 
 -- a reason asks only which writes were made
 reason_lent : (o : InitialState) (l : Layout) (n : ℕ) (disk : DiskState) (e : Evidence) → HasReason o l (lent_state n disk) e → HasReason o l disk e
@@ -90,17 +107,6 @@ module _ {D : Type 0} (state : D → DiskState) (x y : D) (same : x ≡ y) where
   pub spent_after : (most : ℕ) → (state y).transfers ≤ most → (state x).transfers ≤ most
   spent_after most few = rw same few
 
-  pub run_after : (s : Status) (d : List Sector) (b t : List ℕ) (left took : Option (List ℕ)) (failed : Type 0) (n : ℕ) → Run s d b left t took failed (lent_state n (state y)) → Run s d b left t took failed (state x)
-  run_after status.Done d b t left took failed n is = rw same is
-  run_after status.DiskFault d b t left took failed n is = rw same is
-  run_after status.Long d b t left took failed n is = rw same is
-  run_after status.StreamFault d b t left took failed n is = rw same is
-  run_after status.NotOpened d b t left took failed n is = is
-  run_after status.NoMemory d b t left took failed n is = is
-  run_after status.Usage d b t left took failed n is = absurd is
-  run_after status.Damaged d b t left took failed n is = absurd is
-  run_after status.Unfit d b t left took failed n is = absurd is
-
   -- a cut is said of what a disk reveals, whatever names it has
   pub cuts_after : (first : DiskState) (d : List Sector) → HonestCuts d first (state y) → HonestCuts d first (state x)
   cuts_after first d honest = subst (λ (z : D). HonestCuts d first (state z)) (sym same) honest
@@ -139,6 +145,37 @@ module _ {D : Type 0} (state : D → DiskState) (x y : D) (same : x ≡ y) where
       each = on.each;
     })
 
+    -- where the writes of a run lead
+    leads_after : (a : Machine) (lines : List TraceLine) (k i : ℕ) → LeadsTo a lines (lent_state m first) (lent_state n (state y)) k i → LeadsTo a lines first (state x) k i
+    leads_after a lines k i leads = rw same (
+      leads.0,
+      record {
+        writes = leads.1.writes;
+        appended = record { contents = leads.1.appended.contents; revealed = leads.1.appended.revealed };
+        line = leads.1.line;
+        step = leads.1.step;
+        rise = leads.1.rise;
+        first = leads.1.first;
+        last = leads.1.last;
+        each = leads.1.each;
+      },
+    )
+
+    pub run_after : (s : Status) (d : List Sector) (b t : List ℕ) (left took : Option (List ℕ)) (failed : Type 0) → Run s d b left t took failed (lent_state m first) (lent_state n (state y)) → Run s d b left t took failed first (state x)
+    run_after status.Done d b t left took failed is =
+        answering_less status.Done (start d) b left t took failed (LeadsTo (start d) (reading b) (lent_state m first) (lent_state n (state y))) (LeadsTo (start d) (reading b) first (state x)) (leads_after (start d) (reading b)) is
+    run_after status.DiskFault d b t left took failed is =
+        answering_less status.DiskFault (start d) b left t took failed (LeadsTo (start d) (reading b) (lent_state m first) (lent_state n (state y))) (LeadsTo (start d) (reading b) first (state x)) (leads_after (start d) (reading b)) is
+    run_after status.Long d b t left took failed is =
+        answering_less status.Long (start d) b left t took failed (LeadsTo (start d) (reading b) (lent_state m first) (lent_state n (state y))) (LeadsTo (start d) (reading b) first (state x)) (leads_after (start d) (reading b)) is
+    run_after status.StreamFault d b t left took failed is =
+        answering_less status.StreamFault (start d) b left t took failed (LeadsTo (start d) (reading b) (lent_state m first) (lent_state n (state y))) (LeadsTo (start d) (reading b) first (state x)) (leads_after (start d) (reading b)) is
+    run_after status.NotOpened d b t left took failed is = is
+    run_after status.NoMemory d b t left took failed is = is
+    run_after status.Usage d b t left took failed is = absurd is
+    run_after status.Damaged d b t left took failed is = absurd is
+    run_after status.Unfit d b t left took failed is = absurd is
+
     pub lawfully_after : Lawfully (lent_state m first) (lent_state n (state y)) → Lawfully first (state x)
     lawfully_after on = rw same (record {
       writes = on.writes;
@@ -146,6 +183,18 @@ module _ {D : Type 0} (state : D → DiskState) (x y : D) (same : x ≡ y) where
       permitted = on.permitted;
       open_flag = on.open_flag;
     })
+
+    -- where a run stopped
+    pub stops_after : (s : Status) (b t : List ℕ) (left took : Option (List ℕ)) (failed : Type 0) (may : ℕ → List Sector → DiskWrite → Type 0)
+        → Stops s b left t took failed (λ k. InParts may k (lent_state m first) (lent_state n (state y))) → Stops s b left t took failed (λ k. InParts may k first (state x))
+    stops_after s b t left took failed may stops = Stops-less s b t left took failed (λ k. InParts may k (lent_state m first) (lent_state n (state y))) (λ k. InParts may k first (state x)) (λ k on. rw same (record {
+      writes = on.writes;
+      appended = record { contents = on.appended.contents; revealed = on.appended.revealed };
+      part = on.part;
+      rise = on.rise;
+      by_last = on.by_last;
+      each = on.each;
+    })) stops
 
     -- what a trial wrote
     pub tries_after : TriesLawfully (lent_state m first) (lent_state n (state y)) → TriesLawfully first (state x)

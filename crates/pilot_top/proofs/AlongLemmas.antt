@@ -2,13 +2,15 @@
 use Rattle.std.proofs.Common.{◌≡◌, ◌⊎◌, inl, inr, ℕ, zero, suc, ◌+◌, ◌-◌, ◌<◌, ◌≤◌, List, [], ◌++◌, length, Option, Some, None, refl, sym, ◌∙◌, ap, subst, arith}
 use Rattle.std.specs.Prelude.{option_map}
 use Rattle.std.proofs.lemmas.Bool.{cases_lt}
+use Rattle.std.proofs.lemmas.List.{take_all}
 use Rattle.std.proofs.lemmas.Option.{same_Some, none-some}
 use Rattle.labelled_disk.specs.Calls.{RevealsSame}
+use Rattle.labelled_disk.specs.declared.disk.DiskWrite.{DiskWrite}
 use Rattle.labelled_disk.specs.CrashState.{crash_state}
 use Rattle.labelled_disk.specs.Sectors.{Sector}
 use Rattle.labelled_disk.specs.State.{DiskState}
 use Rattle.labelled_disk.specs.WriteRuns.{after_writes}
-use Rattle.labelled_disk.proofs.WriteRunLemmas.{appended_then, appended_none, crash_state-earlier, crash_state-end, crash_state-later}
+use Rattle.labelled_disk.proofs.WriteRunLemmas.{appended_no_more, appended_then, appended_none, crash_state-earlier, crash_state-end, crash_state-later}
 use Rattle.pilot_engine.specs.Closing.{Throughout}
 use Rattle.pilot_top.specs.CrashStates.{Along, IsBy}
 
@@ -160,3 +162,54 @@ along_last P j i k h {a} on e revealed = from a.contents refl
     from (Some d) is =
         let last : after_writes on.writes d ≡ e = same_Some (after_writes on.writes d) e (sym (on.appended.contents ∙ ap (option_map (after_writes on.writes)) is) ∙ revealed) in
         subst (P (on.line (length on.writes)) (on.step (length on.writes))) (crash_state-end d on.writes ∙ last) (on.each d (length on.writes) is)
+
+-- The places of crash states past the last write are that of the last one.
+module _ (P : ℕ → ℕ → List Sector → Type 0) (j i k h : ℕ) {a b : DiskState} (on : Along P j i k h a b) where
+  abbrev last_write : ℕ
+  last_write = length on.writes
+
+  abbrev up_to : (n : ℕ) → (last_write < n) ⊎ (n ≤ last_write) → ℕ
+  up_to n (inl past) = last_write
+  up_to n (inr few) = n
+
+  up_to_rises : (n m : ℕ) → n ≤ m → (s : (last_write < n) ⊎ (n ≤ last_write)) (t : (last_write < m) ⊎ (m ≤ last_write)) → up_to n s ≤ up_to m t
+  up_to_rises n m le (inl past) (inl more) = omega arith
+  up_to_rises n m le (inl past) (inr few) = absurd (omega (arith, le, past, few))
+  up_to_rises n m le (inr few) (inl past) = few
+  up_to_rises n m le (inr few) (inr less) = le
+
+  up_to_last : (n : ℕ) (s : (last_write < n) ⊎ (n ≤ last_write)) → up_to n s ≤ last_write
+  up_to_last n (inl past) = omega arith
+  up_to_last n (inr few) = few
+
+  up_to_state : (d : List Sector) (n : ℕ) (s : (last_write < n) ⊎ (n ≤ last_write)) → crash_state d on.writes (up_to n s) ≡ crash_state d on.writes n
+  up_to_state d n (inl past) =
+      ap (λ (l : List DiskWrite). after_writes l d) (take_all last_write on.writes (omega arith) ∙ sym (take_all n on.writes (omega (arith, past))))
+  up_to_state d n (inr few) = refl
+
+  pub along_to_last : Along P j i (on.line last_write) (on.step last_write) a b
+  along_to_last = record {
+    writes = on.writes;
+    appended = on.appended;
+    line = λ n. on.line (up_to n (cases_lt last_write n));
+    step = λ n. on.step (up_to n (cases_lt last_write n));
+    rise = λ n m le. on.rise (up_to n (cases_lt last_write n)) (up_to m (cases_lt last_write m)) (up_to_rises n m le (cases_lt last_write n) (cases_lt last_write m));
+    first = λ n. on.first (up_to n (cases_lt last_write n));
+    last = λ n. on.rise (up_to n (cases_lt last_write n)) last_write (up_to_last n (cases_lt last_write n));
+    each = λ d n revealed.
+        subst (P (on.line (up_to n (cases_lt last_write n))) (on.step (up_to n (cases_lt last_write n)))) (up_to_state d n (cases_lt last_write n))
+        (on.each d (up_to n (cases_lt last_write n)) revealed);
+  }
+
+-- on a disk that reveals the same
+pub along_same : (P : ℕ → ℕ → List Sector → Type 0) (j i k h : ℕ) {a b c : DiskState} → RevealsSame b c → Along P j i k h a b → Along P j i k h a c
+along_same P j i k h same on = record {
+  writes = on.writes;
+  appended = appended_no_more on.writes on.appended same;
+  line = on.line;
+  step = on.step;
+  rise = on.rise;
+  first = on.first;
+  last = on.last;
+  each = on.each;
+}

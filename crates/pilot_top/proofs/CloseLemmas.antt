@@ -13,7 +13,7 @@ use Rattle.filer_kernel.specs.Evidence.{IsEvident, ShowsEvidence}
 use Rattle.pilot_engine.specs.Closing.{IsStop, Throughout}
 use Rattle.pilot_engine.specs.Opening.{IsUnset, LeavesOpen}
 use Rattle.swap_units.specs.declared.interval.Interval.{Interval}
-use Rattle.fault_core.specs.View.{View}
+use Rattle.filer_kernel.specs.View.{View}
 use Rattle.running_words.specs.Running.{IsRunning}
 use Rattle.pilot_top.specs.Last.{last_line, Puts}
 use Rattle.pilot_top.specs.Stopping.{status_of, cause_of}

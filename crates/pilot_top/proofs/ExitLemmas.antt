@@ -7,7 +7,6 @@ use Rattle.labelled_disk.specs.declared.evidence.Halt.{Halt}
 use Rattle.labelled_disk.specs.declared.evidence.Halt.TheVariants as halt
 use Rattle.flat_machine.specs.declared.call.Reply.{Reply}
 use Rattle.flat_machine.specs.After.{TraceLine, after}
-use Rattle.flat_machine.specs.IsMachine.{IsMachine}
 use Rattle.flat_machine.specs.Machine.{Machine}
 use Rattle.trace_io.specs.Course.{HasRead}
 use Rattle.trace_io.specs.Lines.{TakesLine}
@@ -18,7 +17,7 @@ use Rattle.session_words.specs.StandsFor.{RevealsSettled}
 use Rattle.running_words.specs.Bound.{CostsOther}
 use Rattle.pilot_engine.specs.Closing.{HasShut, IsStop, Throughout}
 use Rattle.pilot_top.specs.Ending.{closes, halts}
-use Rattle.pilot_top.specs.Headline.{HasFilesAt}
+use Rattle.pilot_top.specs.Headline.{LeadsTo}
 use Rattle.pilot_top.specs.CrashStates.{CrashStates}
 use Rattle.pilot_top.specs.Stopping.{status_of}
 use Rattle.pilot_top.specs.Turn.{Answers, EndsTrace}
@@ -30,11 +29,11 @@ use Rattle.pilot_top.proofs.ClosedTwice.{shut_again}
 use Rattle.pilot_top.proofs.CostLemmas.{Spends}
 use Rattle.pilot_top.proofs.EndLemmas.{End-halts, End-closes}
 use Rattle.pilot_top.proofs.PrefixLemmas.{End-after, ended_by}
-use Rattle.pilot_top.proofs.PlaceLemmas.{files_end, line_files}
+use Rattle.pilot_top.proofs.PlaceLemmas.{files_end, line_leads}
 use Rattle.pilot_top.proofs.RestLemmas.{not_closed}
 use Rattle.pilot_top.proofs.StagedLemmas.{after_then}
 use Rattle.pilot_top.proofs.TopLemmas.{last_of, none-push}
-use Rattle.pilot_top.proofs.TurnedLemmas.{Made, Turned, ended_crash_states, more_costs, more_crash_states, of_reading, spends_reading, end_spends_reading, files_of_reading, files_of_begun}
+use Rattle.pilot_top.proofs.TurnedLemmas.{Made, Turned, ended_crash_states, more_costs, more_crash_states, of_reading, spends_reading, end_spends_reading, leads_of_begun, leads_of_reading}
 
 -- no session that stopped is done, or was stopped by a stream
 pub halt_not_done : (why : Halt) (s : Status) → s ≡ status_of why → s ≢ status.Done
@@ -79,8 +78,8 @@ module _ (m : Machine) {x : List ℕ} {b t u : Option (List ℕ)} {p : Progress}
   pub still_spends : Spends (reading x) old mid
   still_spends = spends_reading m turned.going.read old mid (turned.cost m is)
 
-  pub still_files : ((n : Machine) → now n → (e : List Sector) → mid.contents ≡ Some e → RevealsSettled e n) → HasFilesAt m (reading x) mid (length lines) 0
-  still_files reveals = files_of_reading m turned.going.read mid (files_end m lines mid (reveals (last_of m lines) (turned.going.stands m is)))
+  pub still_leads : ((n : Machine) → now n → (e : List Sector) → mid.contents ≡ Some e → RevealsSettled e n) → LeadsTo m (reading x) old mid (length lines) 0
+  still_leads reveals = leads_of_reading m turned.going.read (files_end m lines mid (reveals (last_of m lines) (turned.going.stands m is))) (turned.along m is)
 
   -- one line more was read
   module _ {c : Option (List ℕ)} {q : Progress} {line : TraceLine} (none : p.stopped ≡ None) (takes : TakesLine line b c p q) (goes : is_last line ≡ false) where
@@ -94,20 +93,19 @@ module _ (m : Machine) {x : List ℕ} {b t u : Option (List ℕ)} {p : Progress}
     line_spends {new = new} same made = spends_reading m read_more old new (more_costs turned same made m is)
 
     -- it has no reply
-    pub halt_files : {new : DiskState} → Made now line mid new → ((n : Machine) → now n → IsMachine n) → (i : ℕ) × HasFilesAt m (reading x) new (length lines) i
-    halt_files {new = new} made machine =
-        let n = last_of m lines in
-        let stands = turned.going.stands m is in
-        let some = line_files n line (machine n stands) (made n stands).0 in
-        (some.0, files_of_begun m lines line read_more new some.0 some.1)
+    pub halt_leads : {new : DiskState} → Made now line mid new → (i : ℕ) × LeadsTo m (reading x) old new (length lines) i
+    halt_leads {new = new} made =
+        let some = line_leads (last_of m lines) line (made (last_of m lines) (turned.going.stands m is)).0 in
+        (some.0, leads_of_begun m lines line read_more (turned.along m is) some.0 some.1)
 
     -- it has this reply
-    pub reply_files : {then : Machine → Type 0} {r : Reply} (new : DiskState) → Answers now then line r → ((n : Machine) → then n → (e : List Sector) → new.contents ≡ Some e → RevealsSettled e n)
-        → HasFilesAt m (reading x) new (length (lines ++ line ∷ [])) 0
-    reply_files {then = then} new answers reveals =
-        files_of_reading m read_more new
+    pub reply_leads : {then : Machine → Type 0} {r : Reply} (new : DiskState) → Made now line mid new → Answers now then line r → ((n : Machine) → then n → (e : List Sector) → new.contents ≡ Some e → RevealsSettled e n)
+        → LeadsTo m (reading x) old new (length (lines ++ line ∷ [])) 0
+    reply_leads {then = then} new made answers reveals =
+        leads_of_reading m read_more
         (files_end m (lines ++ line ∷ []) new
         (reveals (last_of m (lines ++ line ∷ [])) (subst then (sym (after_then m lines (line ∷ []))) (answers.next (last_of m lines) (turned.going.stands m is) goes))))
+        (more_crash_states turned made m is)
 
     -- and it doesn't end the trace
     pub line_not_close : c ≡ Some (rest_of x) → closes (reading x) ≡ true → ⊥
@@ -117,8 +115,8 @@ module _ (m : Machine) {x : List ℕ} {b t u : Option (List ℕ)} {p : Progress}
 
   -- the session is ended
   module _ (new : DiskState) where
-    pub stopped_files : ((e : List Sector) → new.contents ≡ Some e → RevealsSettled e (last_of m lines)) → HasFilesAt m (reading x) new (length lines) 0
-    stopped_files revealed = files_of_reading m turned.going.read new (files_end m lines new revealed)
+    pub stopped_leads : ((e : List Sector) → new.contents ≡ Some e → RevealsSettled e (last_of m lines)) → Throughout (IsStop (last_of m lines)) mid new → LeadsTo m (reading x) old new (length lines) 0
+    stopped_leads revealed stops = leads_of_reading m turned.going.read (files_end m lines new revealed) (ended_crash_states turned m is stops)
 
     pub end_crash_states : Throughout (IsStop (last_of m lines)) mid new → CrashStates m (reading x) old new
     end_crash_states stops = of_reading m turned.going.read (ended_crash_states turned m is stops)

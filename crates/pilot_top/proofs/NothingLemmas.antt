@@ -9,8 +9,11 @@ use Rattle.labelled_disk.specs.Sectors.{Sector}
 use Rattle.labelled_disk.specs.State.{DiskState}
 use Rattle.labelled_disk.proofs.WriteRunLemmas.{appended_none}
 use Rattle.flat_machine.specs.Start.{start}
+use Rattle.volume_root.specs.Format.{IsNoneOrNew}
 use Rattle.trace_io.specs.Reading.{reading}
 use Rattle.scavenger.proofs.BetweenLemmas.{crash_states_of_none}
+use Rattle.scavenger.proofs.TopLemmas.{none_cut}
+use Rattle.scavenger.specs.Restored.{Survives}
 use Rattle.volume_convert.specs.Leaves.{IsOldOrConverted, StaysConvertible}
 use Rattle.pilot_top.specs.Converting.{ConvertedBy}
 use Rattle.pilot_top.specs.Making.{Formatted}
@@ -20,6 +23,8 @@ use Rattle.pilot_top.specs.Trying.{Tried}
 use Rattle.pilot_top.specs.World.{World}
 use Rattle.pilot_top.specs.declared.status.Status.TheVariants as status
 use Rattle.pilot_top.proofs.CutLemmas.{nothing_honest}
+use Rattle.pilot_top.specs.Parts.{PartMay}
+use Rattle.pilot_top.proofs.PartLemmas.{parts_none}
 use Rattle.pilot_top.proofs.PermittedRuns.{lawfully_none}
 use Rattle.pilot_top.proofs.StagedLemmas.{from_nothing, crash_states_before}
 
@@ -43,6 +48,7 @@ module _ (w : World) where
     crash_states = λ d b revealed sound source. crash_states_before (start d) [] (reading b) (from_nothing d sound revealed);
     some_crash_states = λ d revealed sound. ([], from_nothing d sound revealed);
     cuts = λ d revealed sound. nothing_honest d w.disk sound;
+    stops = λ b t source sink. parts_none (PartMay (reading b)) 0 (record { contents = refl; writes = refl });
     stays_open = λ b source early. absurd early;
     untaken = λ b source failed some. absurd (cc failed);
     left_open = λ is. absurd (elim is [ inl long ↦ cc long | inr damaged ↦ cc damaged ]);
@@ -63,6 +69,7 @@ module _ (w : World) where
     line = λ done. absurd (cc done);
     part_of_line = λ failed. absurd (cc failed);
     part = λ failed. absurd (cc failed);
+    cuts = none_cut (λ d e. IsNoneOrNew w.disk.sectors serial counter e) w.disk w.disk (only_reads_itself w.disk);
     complete = λ count disk_held sink_held. inr refl;
     only_count = λ is. absurd (cc is);
   }
@@ -79,6 +86,7 @@ module _ (w : World) where
     part = λ failed g revealed. absurd (cc failed);
     part_line = λ failed. absurd (cc failed);
     crash_states = λ g first writes revealed earlier later k. crash_states_of_none g w.disk w.disk first writes earlier later k (record { contents = refl; writes = refl });
+    cuts = none_cut Survives w.disk w.disk (only_reads_itself w.disk);
     no_volume = λ g revealed is. absurd (cc is);
     no_volume_refused = λ g why revealed refused. inr (inr refl);
     no_volume_unwritten = λ g why revealed refused. only_reads_itself w.disk;

@@ -25,7 +25,7 @@ use Rattle.pilot_engine.proofs.UnsetLemmas.{begun_flag}
 use Rattle.pilot_top.specs.CrashStates.{Lawfully, Openly, ShutsLast}
 
 -- an element of two lists in a row
-get_append : {X : Type 0} (xs ys : List X) (k : ℕ) (x : X) → slice_get (xs ++ ys) k ≡ Some x
+pub get_append : {X : Type 0} (xs ys : List X) (k : ℕ) (x : X) → slice_get (xs ++ ys) k ≡ Some x
     → ((k < length xs) × (slice_get xs k ≡ Some x)) ⊎ ((j : ℕ) × (k ≡ length xs + j) × (slice_get ys j ≡ Some x))
 get_append [] ys k x is = inr (k, let z : k ≡ 0 + k = omega arith in z, is)
 get_append (y ∷ xs) ys zero x is = inl (omega arith, is)

@@ -20,7 +20,7 @@ use Rattle.pilot_engine.specs.declared.fault.StartFault.{StartFault}
 use Rattle.pilot_engine.specs.declared.fault.StartFault.TheVariants as start_fault
 use Rattle.pilot_engine.specs.Closing.{HasShut}
 use Rattle.pilot_engine.specs.Opening.{IsDiskFault, IsOutside}
-use Rattle.pilot_top.specs.Headline.{Answering, HasFilesAt, HasWritten, RevealsDamage}
+use Rattle.pilot_top.specs.Headline.{Answering, HasFilesAt, LeadsTo, HasWritten, RevealsDamage}
 use Rattle.pilot_top.specs.Last.{last_line, Puts}
 use Rattle.pilot_top.specs.Queued.{HasSettledAt, RepliedQueued, RepliesChange, RevealsSeen, RunQueued, WroteChange}
 use Rattle.pilot_top.specs.Replied.{Replied}
@@ -36,21 +36,21 @@ use Rattle.pilot_top.proofs.SuitLemmas.{none_first}
 -- Over the queue.
 
 -- what a run answers has the settled files where nothing waited
-pub settled_of : (s : Status) (d : List Sector) (b t : List ℕ) (left took : Option (List ℕ)) (failed : Type 0) (disk : DiskState)
-    → Answering s (start d) b left t took failed (HasFilesAt (start d) (reading b) disk) → RunQueued s d b left t took failed disk
-settled_of status.Done d b t left took failed disk is = is
-settled_of status.Long d b t left took failed disk is = is
-settled_of status.DiskFault d b t left took failed disk is = (is.0, is.1, is.2, is.3, is.4, is.5, tt)
-settled_of status.StreamFault d b t left took failed disk is = elim is [
+pub settled_of : (s : Status) (d : List Sector) (b t : List ℕ) (left took : Option (List ℕ)) (failed : Type 0) (before disk : DiskState)
+    → Answering s (start d) b left t took failed (LeadsTo (start d) (reading b) before disk) → RunQueued s d b left t took failed disk
+settled_of status.Done d b t left took failed before disk is = (is.0, is.1, is.2, is.3, is.4.0)
+settled_of status.Long d b t left took failed before disk is = (is.0, is.1, is.2, is.3, is.4, is.5.0)
+settled_of status.DiskFault d b t left took failed before disk is = (is.0, is.1, is.2, is.3, is.4, is.5, tt)
+settled_of status.StreamFault d b t left took failed before disk is = elim is [
   | inl a ↦ inl (a.0, a.1, a.2, a.3, tt)
   | inr (inl a) ↦ inr (inl (a.0, a.1, a.2, tt))
   | inr (inr a) ↦ inr (inr (a.0, a.1, a.2, tt))
 ]
-settled_of status.NotOpened d b t left took failed disk is = absurd is
-settled_of status.NoMemory d b t left took failed disk is = absurd is
-settled_of status.Usage d b t left took failed disk is = is
-settled_of status.Damaged d b t left took failed disk is = is
-settled_of status.Unfit d b t left took failed disk is = is
+settled_of status.NotOpened d b t left took failed before disk is = absurd is
+settled_of status.NoMemory d b t left took failed before disk is = absurd is
+settled_of status.Usage d b t left took failed before disk is = is
+settled_of status.Damaged d b t left took failed before disk is = is
+settled_of status.Unfit d b t left took failed before disk is = is
 
 -- No session started, on a disk before which pages may wait.
 

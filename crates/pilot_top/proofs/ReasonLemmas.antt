@@ -31,6 +31,7 @@ use Rattle.pilot_top.specs.InitialState.{FromEachInitialState, FromInitialState}
 use Rattle.pilot_top.specs.Replied.{Replied}
 use Rattle.pilot_top.specs.declared.status.Status.{Status}
 use Rattle.pilot_top.specs.declared.status.Status.TheVariants as status
+use Rattle.fault_core.specs.Core.{state}
 
 -- ---- From one session to a later one.
 
@@ -61,19 +62,19 @@ module _ {D A : Type 0} {G : Ghosts D} where
   }
 
   -- in the same layout, a reason in each initial state to which the later one keeps is one in each to which the first one kept
-  module _ (first now : Session D A G) (same : now.core.filer.swapper.layout ≡ first.core.filer.swapper.layout) (on : GoesOn first now) (disk : DiskState) (e : Evidence) where
+  module _ (first now : Session D A G) (same : (state now.core).layout ≡ (state first.core).layout) (on : GoesOn first now) (disk : DiskState) (e : Evidence) where
     pub reason_before : FromEachInitialState now disk e → FromEachInitialState first disk e
     reason_before from o kept not_older =
         let next = next_id now.volume.root in
         let there = from (giving o next) (on.keeps o kept not_older) (not_older_then o first.volume.root now.volume.root not_older on.monotone) in
-        (subst (λ (l : Layout). HasReason o l disk e) same (giving_shows o next now.core.filer.swapper.layout disk (halt.Damaged e) there.0), λ seen. there.1 (on.sees o kept not_older seen))
+        (subst (λ (l : Layout). HasReason o l disk e) same (giving_shows o next (state now.core).layout disk (halt.Damaged e) there.0), λ seen. there.1 (on.sees o kept not_older seen))
 
     -- what a halt shows has its reason, and is none that is ruled out
-    pub reason_halted : (h : Halt) → ((o : InitialState) → KeepsOn o now.core.filer → IsNotOlder o now.volume.root → ShowsReason o now.core.filer.swapper.layout disk h × (SeesHome o now.core → IsBlameless o disk h))
+    pub reason_halted : (h : Halt) → ((o : InitialState) → KeepsOn o now.core.filer → IsNotOlder o now.volume.root → ShowsReason o (state now.core).layout disk h × (SeesHome o now.core → IsBlameless o disk h))
         → h ≡ halt.Damaged e → FromEachInitialState first disk e
     reason_halted h shows is = reason_before (λ o kept not_older.
         let shown = shows o kept not_older in
-        (subst (λ (why : Halt). ShowsReason o now.core.filer.swapper.layout disk why) is shown.0, λ seen. subst (λ (why : Halt). IsBlameless o disk why) is (shown.1 seen)))
+        (subst (λ (why : Halt). ShowsReason o (state now.core).layout disk why) is shown.0, λ seen. subst (λ (why : Halt). IsBlameless o disk why) is (shown.1 seen)))
 
   -- what is revealed of a disk is revealed of the same one
   pub damage_same : (session : Session D A G) {t : List ℕ} {took : Option (List ℕ)} {failed : Type 0} (x y : D) → x ≡ y
@@ -82,17 +83,17 @@ module _ {D A : Type 0} {G : Ghosts D} where
 
   -- where no window shows a page of a file, whatever windows show was there
   home_seen : (o : InitialState) (core : Core D A G) → SeesFiles no_page core → SeesHome o core
-  home_seen o core (ss, (sees, on)) = (ss, (sees, on_wider no_page (WasBelow o (G.state core.filer.swapper.disk)) (λ id page none. absurd none) ss on))
+  home_seen o core (ss, (sees, on)) = (ss, (sees, on_wider no_page (WasBelow o (state core).disk) (λ id page none. absurd none) ss on))
 
   -- a session that started keeps to what stood when it did, and sees the space tables
-  pub reason_started : (session : Session D A G) (before after : DiskState) (e : Evidence) → IsLayout session.core.filer.swapper.layout → session.core.filer.swapper.layout.sectors ≡ before.sectors
+  pub reason_started : (session : Session D A G) (before after : DiskState) (e : Evidence) → IsLayout (state session.core).layout → (state session.core).layout.sectors ≡ before.sectors
       → ((d : List Sector) → before.contents ≡ Some d → length d ≡ before.sectors)
       → ((d : List Sector) (named : Triples) (ws : List DiskWrite) → IsBegun d named ws before → FromStart d named ws (λ o. KeepsOn o session.core.filer))
       → ((d : List Sector) (named : Triples) (ws : List DiskWrite) → IsBegun d named ws before → SeesFiles no_page session.core)
       → ((d : List Sector) → before.contents ≡ Some d → IsMonotone (root_in (root_page d)) session.volume.root)
       → FromEachInitialState session after e → FromInitialState before after e
   reason_started session before after e accepted size whole keeps sees monotone from d named ws begun =
-      let same : session.core.filer.swapper.layout ≡ layout_of (length d) = accepted.1 ∙ ap layout_of (size ∙ sym (whole d begun.contents)) in
+      let same : (state session.core).layout ≡ layout_of (length d) = accepted.1 ∙ ap layout_of (size ∙ sym (whole d begun.contents)) in
       let kept = keeps d named ws begun in
       let o = initial_state d named (ws ++ (root_write kept.0 ∷ [])) in
       let on = monotone d begun.contents in

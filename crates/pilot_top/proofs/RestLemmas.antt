@@ -7,6 +7,7 @@ use Rattle.std.proofs.lemmas.List.Splits.{join_with_byte-slice_split}
 use Rattle.std.proofs.lemmas.Option.{same_Some}
 use Rattle.flat_machine.specs.After.{TraceLine}
 use Rattle.trace_io.specs.Course.{AreLines, HasRead, GoesOn}
+use Rattle.trace_io.specs.Items.{left_after}
 use Rattle.trace_io.specs.Progress.{Progress}
 use Rattle.trace_io.specs.Reading.{is_last, parts_of, reading, rest_of}
 use Rattle.trace_io.specs.declared.progress.Stop.{Stop}
@@ -37,7 +38,7 @@ shorter k (p ∷ q ∷ ps) some = omega (arith, fewer k (q ∷ ps), one_more p q
 -- A source with all of its bytes.
 
 rest_is : (s : List ℕ) → rest_of s ≡ join_with_byte 10 (drop (length (reading s)) (parts_of s))
-unfolding rest_of
+unfolding left_after
 rest_is s = refl
 
 -- where all of a source is left after its lines, it has none

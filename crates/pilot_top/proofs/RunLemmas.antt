@@ -1,5 +1,5 @@
 -- A run whose session started, or did not.
-use Rattle.std.proofs.Common.{◌≡◌, ◌≢◌, ◌⊎◌, inl, inr, ℕ, zero, suc, ◌<◌, true, List, [], ◌∷◌, length, Option, Some, refl, sym, ap, ◌∙◌, subst, arith, append-nil}
+use Rattle.std.proofs.Common.{◌≡◌, ◌≢◌, ◌⊎◌, inl, inr, ℕ, zero, suc, ◌+◌, ◌<◌, true, List, [], ◌∷◌, length, Option, Some, refl, sym, ap, ◌∙◌, subst, arith, append-nil}
 use Rattle.std.specs.List.{list_any}
 use Rattle.labelled_disk.specs.declared.evidence.Evidence.{Evidence}
 use Rattle.labelled_disk.specs.declared.evidence.Halt.TheVariants as halt
@@ -8,53 +8,81 @@ use Rattle.labelled_disk.specs.declared.layout.RootFault.TheVariants as fault
 use Rattle.labelled_disk.specs.Sectors.{Sector}
 use Rattle.labelled_disk.specs.State.{DiskState}
 use Rattle.flat_machine.specs.After.{TraceLine}
+use Rattle.flat_machine.specs.Machine.{Machine}
 use Rattle.flat_machine.specs.Start.{start}
 use Rattle.trace_io.specs.Reading.{is_last, reading}
 use Rattle.volume_root.specs.Flag.{IsRefused}
 use Rattle.pilot_engine.specs.declared.fault.StartFault.{StartFault}
 use Rattle.pilot_engine.specs.declared.fault.StartFault.TheVariants as start_fault
 use Rattle.pilot_engine.specs.Opening.{IsDiskFault, IsEarly, IsOutside, IsRightRefusal, IsSoAtStart, LeavesOpenAtStart}
-use Rattle.pilot_top.specs.Headline.{Answering, EndsEarly, HasFilesAt, HasWritten, IsLeftOpen, Run, RevealsDamage}
+use Rattle.pilot_top.specs.Headline.{Answering, EndsEarly, HasWritten, IsLeftOpen, LeadsTo, Run, RevealsDamage}
 use Rattle.pilot_top.specs.Last.{last_line, Puts}
-use Rattle.pilot_top.specs.CrashStates.{IsBy, CrashStates}
+use Rattle.pilot_top.specs.CrashStates.{CrashStates}
 use Rattle.pilot_top.specs.Replied.{Replied}
 use Rattle.pilot_top.specs.Stopping.{StopsAs}
 use Rattle.pilot_top.specs.declared.last.Cause.TheVariants as cause
 use Rattle.pilot_top.specs.declared.status.Status.{Status}
 use Rattle.pilot_top.specs.declared.status.Status.TheVariants as status
-use Rattle.pilot_top.proofs.PlaceLemmas.{files_before, some_files}
+use Rattle.pilot_top.proofs.AlongLemmas.{by_itself}
+use Rattle.pilot_top.proofs.PlaceLemmas.{leads_after, leads_before, none_leads}
 use Rattle.pilot_top.proofs.PutLemmas.{damage_alone, put_alone}
 use Rattle.pilot_top.proofs.SuitLemmas.{none_first}
 
 -- what a run answers that was opened
-pub run_of : (s : Status) (d : List Sector) (b t : List ℕ) (left took : Option (List ℕ)) (failed : Type 0) (disk : DiskState) → s ≢ status.NotOpened → s ≢ status.NoMemory
-    → Answering s (start d) b left t took failed (HasFilesAt (start d) (reading b) disk) → Run s d b left t took failed disk
-run_of status.NotOpened d b t left took failed disk opened memory is = is
-run_of status.NoMemory d b t left took failed disk opened memory is = absurd (memory refl)
-run_of status.Done d b t left took failed disk opened memory is = is
-run_of status.DiskFault d b t left took failed disk opened memory is = is
-run_of status.Long d b t left took failed disk opened memory is = is
-run_of status.StreamFault d b t left took failed disk opened memory is = is
-run_of status.Usage d b t left took failed disk opened memory is = is
-run_of status.Damaged d b t left took failed disk opened memory is = is
-run_of status.Unfit d b t left took failed disk opened memory is = is
+run_of : (s : Status) (d : List Sector) (b t : List ℕ) (left took : Option (List ℕ)) (failed : Type 0) (before disk : DiskState) → s ≢ status.NotOpened → s ≢ status.NoMemory
+    → Answering s (start d) b left t took failed (LeadsTo (start d) (reading b) before disk) → Run s d b left t took failed before disk
+run_of status.NotOpened d b t left took failed before disk opened memory is = is
+run_of status.NoMemory d b t left took failed before disk opened memory is = absurd (memory refl)
+run_of status.Done d b t left took failed before disk opened memory is = is
+run_of status.DiskFault d b t left took failed before disk opened memory is = is
+run_of status.Long d b t left took failed before disk opened memory is = is
+run_of status.StreamFault d b t left took failed before disk opened memory is = is
+run_of status.Usage d b t left took failed before disk opened memory is = is
+run_of status.Damaged d b t left took failed before disk opened memory is = is
+run_of status.Unfit d b t left took failed before disk opened memory is = is
+
+-- another word for the place
+pub answering_less : (s : Status) (m : Machine) (b : List ℕ) (left : Option (List ℕ)) (t : List ℕ) (took : Option (List ℕ)) (failed : Type 0) (has then : ℕ → ℕ → Type 0) → ((k i : ℕ) → has k i → then k i)
+    → Answering s m b left t took failed has → Answering s m b left t took failed then
+answering_less status.Done m b left t took failed has then less is = (is.0, is.1, is.2, is.3, less _ _ is.4)
+answering_less status.DiskFault m b left t took failed has then less is = (is.0, is.1, is.2, is.3, is.4, is.5, less _ _ is.6)
+answering_less status.Long m b left t took failed has then less is = (is.0, is.1, is.2, is.3, is.4, less _ _ is.5)
+answering_less status.StreamFault m b left t took failed has then less (inl is) = inl (is.0, is.1, is.2, is.3, less _ _ is.4)
+answering_less status.StreamFault m b left t took failed has then less (inr (inl is)) = inr (inl (is.0, is.1, is.2, less _ _ is.3))
+answering_less status.StreamFault m b left t took failed has then less (inr (inr is)) = inr (inr (is.0, is.1, is.2, less _ _ is.3))
+answering_less status.NotOpened m b left t took failed has then less is = absurd is
+answering_less status.NoMemory m b left t took failed has then less is = absurd is
+answering_less status.Usage m b left t took failed has then less is = absurd is
+answering_less status.Damaged m b left t took failed has then less is = absurd is
+answering_less status.Unfit m b left t took failed has then less is = absurd is
+
+-- a start, and then a session
+started_leads : (d : List Sector) (lines : List TraceLine) {a b c : DiskState} (k i : ℕ) → CrashStates (start d) [] a b → LeadsTo (start d) lines b c k i → LeadsTo (start d) lines a c k i
+started_leads d lines {a = a} {c = c} k i from leads =
+    subst (λ (n : ℕ). LeadsTo (start d) lines a c n i) (let z : 0 + k ≡ k = omega arith in z) (leads_after (start d) [] lines k i from leads)
+
+pub run_started : (s : Status) (d : List Sector) (b t : List ℕ) (left took : Option (List ℕ)) (failed : Type 0) (before mid disk : DiskState) → s ≢ status.NotOpened → s ≢ status.NoMemory
+    → CrashStates (start d) [] before mid → Answering s (start d) b left t took failed (LeadsTo (start d) (reading b) mid disk) → Run s d b left t took failed before disk
+run_started s d b t left took failed before mid disk opened memory from is =
+    run_of s d b t left took failed before disk opened memory
+    (answering_less s (start d) b left t took failed (LeadsTo (start d) (reading b) mid disk) (LeadsTo (start d) (reading b) before disk) (λ k i leads. started_leads d (reading b) k i from leads) is)
 
 -- Why no session started, and the status.
 
-abbrev IsRefusal : StartFault → Status → (List ℕ → Type 0) → Type 0
+abbrev pub IsRefusal : StartFault → Status → (List ℕ → Type 0) → Type 0
 IsRefusal f s puts = (why : RootFault) × (f ≡ start_fault.Root why) × (why ≢ fault.Disk) × (s ≡ status.NotOpened) × puts (last_line (cause.Root why))
 
-abbrev IsDiskStop : StartFault → Status → (List ℕ → Type 0) → Type 0
+abbrev pub IsDiskStop : StartFault → Status → (List ℕ → Type 0) → Type 0
 IsDiskStop f s puts = IsDiskFault f × (s ≡ status.DiskFault) × puts (last_line cause.DiskFault)
 
-abbrev IsNoMemory : {K : Type 0} → StartFault → Status → K → K → Type 0
+abbrev pub IsNoMemory : {K : Type 0} → StartFault → Status → K → K → Type 0
 IsNoMemory f s old new = (f ≡ start_fault.NoMemory) × (s ≡ status.NoMemory) × (new ≡ old)
 
-abbrev IsDamage : StartFault → Status → (List ℕ → Type 0) → Type 0
+abbrev pub IsDamage : StartFault → Status → (List ℕ → Type 0) → Type 0
 IsDamage f s puts = (e : Evidence) × (f ≡ start_fault.Halt (halt.Damaged e)) × (s ≡ status.Damaged) × puts (last_line (cause.Damaged e))
 
 -- one of the four
-how : {K : Type 0} (f : StartFault) (s : Status) (old new : K) (puts : List ℕ → Type 0) → StopsAs f s old new puts → IsRefusal f s puts ⊎ IsDiskStop f s puts ⊎ IsNoMemory f s old new ⊎ IsDamage f s puts
+pub how : {K : Type 0} (f : StartFault) (s : Status) (old new : K) (puts : List ℕ → Type 0) → StopsAs f s old new puts → IsRefusal f s puts ⊎ IsDiskStop f s puts ⊎ IsNoMemory f s old new ⊎ IsDamage f s puts
 how (start_fault.Root fault.Disk) s old new puts is = inr (inl (refl, is.0, is.1))
 how (start_fault.Root (fault.NotVolume what)) s old new puts is = inl (fault.NotVolume what, refl, λ e. absurd (cc e), is.0, is.1)
 how (start_fault.Root fault.Unclean) s old new puts is = inl (fault.Unclean, refl, λ e. absurd (cc e), is.0, is.1)
@@ -69,19 +97,17 @@ some_line [] some = absurd (cc some)
 some_line (line ∷ lines) some = omega arith
 
 -- nothing was answered, and the disk failed
-no_reply : (d : List Sector) (b t : List ℕ) (took : Option (List ℕ)) (failed : Type 0) (disk : DiskState) (k i : ℕ) → IsBy k i 0 0 → HasFilesAt (start d) [] disk k i → HasWritten failed t took (last_line cause.DiskFault)
-    → Answering status.DiskFault (start d) b (Some b) t took failed (HasFilesAt (start d) (reading b) disk)
-no_reply d b t took failed disk zero i by has wrote = (
+no_reply : (d : List Sector) (b t : List ℕ) (took : Option (List ℕ)) (failed : Type 0) (before disk : DiskState) → LeadsTo (start d) [] before disk 0 0 → HasWritten failed t took (last_line cause.DiskFault)
+    → Answering status.DiskFault (start d) b (Some b) t took failed (LeadsTo (start d) (reading b) before disk)
+no_reply d b t took failed before disk leads wrote = (
   0,
   [],
   record { replies = []; one_a_line = refl; allowed = tt; text_is = refl },
   some_line (reading b),
   subst (λ (u : List ℕ). HasWritten failed u took (last_line cause.DiskFault)) (sym (append-nil t)) wrote,
-  i,
-  files_before (start d) [] (reading b) disk 0 i by has,
+  0,
+  leads_before (start d) [] (reading b) 0 0 (by_itself 0 0) leads,
 )
-no_reply d b t took failed disk (suc k) i (inl beyond) has wrote = absurd (omega (arith, beyond))
-no_reply d b t took failed disk (suc k) i (inr same) has wrote = absurd (let e = same.0 in omega (arith, e))
 
 -- the root is read before the first write
 pub is_early : (f : StartFault) (why : RootFault) → (f ≡ start_fault.Root why) ⊎ (f ≡ start_fault.Root fault.Disk) → IsEarly f
@@ -134,16 +160,15 @@ module _ {K : Type 0} (f : StartFault) (s : Status) (old new : K) (took : K → 
   ]
 
   pub run_refused : (d : List Sector) (b t : List ℕ) (left : Option (List ℕ)) (before after : DiskState) → CrashStates (start d) [] before after → IsOutside f → left ≡ Some b → took old ≡ Some t
-      → Run s d b left t (took new) failed after
+      → Run s d b left t (took new) failed before after
   run_refused d b t left before after crash_states outside source sink = elim (how f s old new (Puts failed (took old) (took new)) stops) [
     | inl refusal ↦ absurd (refusal.2 (subst IsOutside refusal.1 outside))
     | inr (inl disk) ↦
-        let has = some_files (start d) [] crash_states in
-        subst (λ (x : Status). Run x d b left t (took new) failed after) (sym disk.1)
-        (subst (λ (l : Option (List ℕ)). Run status.DiskFault d b l t (took new) failed after) (sym source)
-        (no_reply d b t (took new) failed after has.0 has.1 has.2 has.3 (put_alone failed t (took old) (took new) (last_line cause.DiskFault) sink disk.2)))
+        subst (λ (x : Status). Run x d b left t (took new) failed before after) (sym disk.1)
+        (subst (λ (l : Option (List ℕ)). Run status.DiskFault d b l t (took new) failed before after) (sym source)
+        (no_reply d b t (took new) failed before after (none_leads (start d) crash_states) (put_alone failed t (took old) (took new) (last_line cause.DiskFault) sink disk.2)))
     | inr (inr (inl memory)) ↦
-        subst (λ (x : Status). Run x d b left t (took new) failed after) (sym memory.1) (source, ap took memory.2 ∙ sink)
+        subst (λ (x : Status). Run x d b left t (took new) failed before after) (sym memory.1) (source, ap took memory.2 ∙ sink)
     | inr (inr (inr damage)) ↦ absurd (let e : halt.Damaged damage.0 ≡ halt.Disk = subst IsOutside damage.1 outside in cc e)
   ]
 

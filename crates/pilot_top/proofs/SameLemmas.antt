@@ -12,8 +12,9 @@ use Rattle.swapper_kernel.specs.Goes.{Went}
 use Rattle.swapper_kernel.specs.GoesLaws.{went_then}
 use Rattle.pilot_engine.specs.Closing.{IsStop, Throughout, WroteOn}
 use Rattle.pilot_engine.specs.Opening.{IsUnset}
-use Rattle.pilot_top.specs.CrashStates.{CrashStates, ShutsLast}
-use Rattle.pilot_top.specs.Headline.{HasFilesAt}
+use Rattle.pilot_top.specs.CrashStates.{CrashStates, IsCrashState, ShutsLast}
+use Rattle.pilot_top.specs.Headline.{LeadsTo}
+use Rattle.pilot_top.proofs.AlongLemmas.{along_same}
 
 module _ {mid new : DiskState} (same : RevealsSame mid new) where
   pub appended_same : {old : DiskState} (writes : List DiskWrite) → Appended writes old mid → Appended writes old new
@@ -22,8 +23,8 @@ module _ {mid new : DiskState} (same : RevealsSame mid new) where
   pub unset_same : IsUnset mid → IsUnset new
   unset_same unset d revealed = unset d (sym same.contents ∙ revealed)
 
-  pub files_same : (m : Machine) (lines : List TraceLine) (k i : ℕ) → HasFilesAt m lines mid k i → HasFilesAt m lines new k i
-  files_same m lines k i has = (has.0, λ e revealed. has.1 e (sym same.contents ∙ revealed))
+  pub leads_same : {old : DiskState} (m : Machine) (lines : List TraceLine) (k i : ℕ) → LeadsTo m lines old mid k i → LeadsTo m lines old new k i
+  leads_same m lines k i leads = ((leads.0.0, λ e revealed. leads.0.1 e (sym same.contents ∙ revealed)), along_same (IsCrashState m lines) 0 0 k i same leads.1)
 
   pub crash_states_same : {old : DiskState} {m : Machine} {lines : List TraceLine} → CrashStates m lines old mid → CrashStates m lines old new
   crash_states_same on = record {

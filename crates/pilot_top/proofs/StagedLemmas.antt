@@ -21,10 +21,10 @@ use Rattle.session_words.proofs.LooseLemmas.{stands_is_settled}
 use Rattle.session_words.proofs.SettledLemmas.{settled_is_revealed}
 use Rattle.pilot_engine.specs.Closing.{IsStop, Throughout}
 use Rattle.pilot_engine.specs.Opening.{KeepsFiles}
-use Rattle.fault_core.specs.View.{View}
+use Rattle.filer_kernel.specs.View.{View}
 use Rattle.running_words.specs.Running.{IsRunning, exactly}
 use Rattle.running_words.specs.Stages.{Passes}
-use Rattle.pilot_top.specs.CrashStates.{Along, IsBy, IsCrashState, CrashStates, staged, step_of, steps_of}
+use Rattle.pilot_top.specs.CrashStates.{Along, IsBy, IsCrashState, CrashStates, LineCrashStates, staged, step_of, steps_of}
 use Rattle.pilot_top.proofs.NumberLemmas.{after_serial, counter_before, counter_after}
 use Rattle.pilot_top.proofs.AlongLemmas.{by_equal, by_most, along_less, along_none, along_shifted, along_then, along_throughout, along_wider}
 
@@ -90,12 +90,12 @@ after_then m (line ∷ lines) more = after_then (next_line m line) lines more
 
 -- Crash states of lines in a row.
 
-longer : (xs ys : List TraceLine) → length (xs ++ ys) ≡ length xs + length ys
+pub longer : (xs ys : List TraceLine) → length (xs ++ ys) ≡ length xs + length ys
 longer [] ys = let z : length ys ≡ 0 + length ys = omega arith in z
 longer (x ∷ xs) ys = ap suc (longer xs ys) ∙ (let z : suc (length xs + length ys) ≡ suc (length xs) + length ys = omega arith in z)
 
 -- the same crash state of more lines
-crash_state_before : (m : Machine) (lines more : List TraceLine) (j i : ℕ) (d : List Sector) → IsBy j i (length lines) 0 → IsCrashState m lines j i d → IsCrashState m (lines ++ more) j i d
+pub crash_state_before : (m : Machine) (lines more : List TraceLine) (j i : ℕ) (d : List Sector) → IsBy j i (length lines) 0 → IsCrashState m lines j i d → IsCrashState m (lines ++ more) j i d
 crash_state_before m lines more j i d by at = record {
   within = steps_before m lines more j i by at.within;
   revealed = subst (RevealsSettled d) (sym (staged_before m lines more j i by)) at.revealed;
@@ -104,7 +104,7 @@ crash_state_before m lines more j i d by at = record {
   honest = at.honest;
 }
 
-crash_state_after : (m : Machine) (lines more : List TraceLine) (j i : ℕ) (d : List Sector) → IsCrashState (after m lines (length lines)) more j i d → IsCrashState m (lines ++ more) (length lines + j) i d
+pub crash_state_after : (m : Machine) (lines more : List TraceLine) (j i : ℕ) (d : List Sector) → IsCrashState (after m lines (length lines)) more j i d → IsCrashState m (lines ++ more) (length lines + j) i d
 crash_state_after m lines more j i d at = record {
   within = subst (λ (n : ℕ). i ≤ n) (sym (steps_after m lines more j)) at.within;
   revealed = subst (RevealsSettled d) (sym (staged_after m lines more j i)) at.revealed;
@@ -114,7 +114,7 @@ crash_state_after m lines more j i d at = record {
 }
 
 -- before more lines
-from_prefix : (m : Machine) (lines more : List TraceLine) {a b : DiskState} → CrashStates m lines a b → Along (IsCrashState m (lines ++ more)) 0 0 (length lines) 0 a b
+pub from_prefix : (m : Machine) (lines more : List TraceLine) {a b : DiskState} → CrashStates m lines a b → Along (IsCrashState m (lines ++ more)) 0 0 (length lines) 0 a b
 from_prefix m lines more on = along_less (IsCrashState m lines) (IsCrashState m (lines ++ more)) 0 0 (length lines) 0 (λ l g d after_first before_last at. crash_state_before m lines more l g d before_last at) on
 
 pub crash_states_before : (m : Machine) (lines more : List TraceLine) {a b : DiskState} → CrashStates m lines a b → CrashStates m (lines ++ more) a b
@@ -162,25 +162,6 @@ from_nothing d {a} sound revealed = along_none (IsCrashState (start d) []) 0 0 (
   honest = λ set. sound;
 }))
 
--- a call is carried out, or stops among its steps
-pub from_step : (m : Machine) (call : Call) {a b : DiskState} → Passes m call a b → CrashStates m (Some call ∷ []) a b
-from_step m call passes = record {
-  writes = passes.writes;
-  appended = passes.appended;
-  line = λ n. 0;
-  step = passes.steps;
-  rise = λ n k le. inr (refl, passes.rise n k le);
-  first = λ n. inr (refl, omega arith);
-  last = λ n. inl (omega arith);
-  each = λ d n revealed. record {
-    within = passes.within n;
-    revealed = passes.reveals d n revealed;
-    same_serial = (passes.numbers d n revealed).same_serial;
-    counter = (passes.numbers d n revealed).counter;
-    honest = λ set. absurd (let unset = passes.open_flag d n revealed in omega (arith, set, unset));
-  };
-}
-
 -- a session stands: its disk reveals the settled files
 pub stands_revealed : (m : Machine) {v : View} {kept : List Interval} {count : ℕ} {volume : Volume} → IsRunning v kept count volume m → AreInForm v.disk → (d : List Sector) → v.disk.contents ≡ Some d → IsCrashState m [] 0 0 d
 stands_revealed m {v = v} is form d revealed =
@@ -200,3 +181,31 @@ from_rest m lines is form = crash_states_before m [] lines (along_none (IsCrashS
 -- a session is ended
 pub from_end : (m : Machine) {a b : DiskState} → Throughout (IsStop m) a b → CrashStates m [] a b
 from_end m all = along_throughout (IsCrashState m []) 0 0 (record { writes = all.writes; appended = all.appended; each = λ d k revealed. let at = all.each d k revealed in record { within = omega arith; revealed = at.revealed; same_serial = at.same_serial; counter = inl at.same_counter; honest = at.honest } })
+
+-- One line.
+
+-- a call is carried out, or stops among its steps
+pub line_step : (m : Machine) (call : Call) {a b : DiskState} → Passes m call a b → LineCrashStates m (Some call) a b
+line_step m call passes = record {
+  writes = passes.writes;
+  appended = passes.appended;
+  line = λ n. 0;
+  step = passes.steps;
+  rise = λ n k le. inr (refl, passes.rise n k le);
+  first = λ n. inr (refl, omega arith);
+  last = λ n. inr (refl, passes.within n);
+  each = λ d n revealed. record {
+    within = passes.within n;
+    revealed = passes.reveals d n revealed;
+    same_serial = (passes.numbers d n revealed).same_serial;
+    counter = (passes.numbers d n revealed).counter;
+    honest = λ set. absurd (let unset = passes.open_flag d n revealed in omega (arith, set, unset));
+  };
+}
+
+-- a bad line
+pub line_rest : (m : Machine) {v : View} {kept : List Interval} {count : ℕ} {volume : Volume} → IsRunning v kept count volume m → AreInForm v.disk → LineCrashStates m None v.disk v.disk
+line_rest m is form = from_prefix m [] (None ∷ []) (along_none (IsCrashState m []) 0 0 (record { contents = refl; writes = refl }) (λ d revealed. stands_revealed m is form d revealed))
+
+pub line_whole : (m : Machine) (line : TraceLine) {a b : DiskState} → LineCrashStates m line a b → CrashStates m (line ∷ []) a b
+line_whole m line on = along_wider (IsCrashState m (line ∷ [])) 0 0 0 0 0 (steps_of m (Some line)) 1 0 (by_equal 0 0 0 refl) (inl (omega arith)) on

@@ -1,5 +1,5 @@
 -- A run, turn by turn, with what it wrote to the disk.
-use Rattle.std.proofs.Common.{◌≡◌, inl, ℕ, ◌+◌, false, List, [], ◌∷◌, ◌++◌, length, Option, Some, None, sym, subst, arith, append-nil, length-append}
+use Rattle.std.proofs.Common.{◌≡◌, inl, ℕ, suc, ◌+◌, ◌≤◌, false, List, [], ◌∷◌, ◌++◌, length, Option, Some, None, refl, sym, subst, arith, append-nil, length-append}
 use Rattle.std.specs.Io.KnownBytes.{Appends}
 use Rattle.labelled_disk.specs.State.{DiskState}
 use Rattle.flat_machine.specs.declared.call.Reply.{Reply}
@@ -10,22 +10,26 @@ use Rattle.trace_io.specs.Course.{HasRead}
 use Rattle.trace_io.specs.Lines.{TakesLine}
 use Rattle.trace_io.specs.Progress.{Progress}
 use Rattle.trace_io.specs.Reading.{is_last, reading}
+use Rattle.trace_io.proofs.CourseLemmas.{HasRead-line}
 use Rattle.running_words.specs.Bound.{CostsOther}
 use Rattle.pilot_engine.specs.Closing.{IsStop, Throughout}
-use Rattle.pilot_top.specs.Headline.{CostsLine, CostsLines, HasFilesAt}
-use Rattle.pilot_top.specs.CrashStates.{CrashStates, Openly}
+use Rattle.pilot_top.specs.Headline.{CostsLine, CostsLines, HasFilesAt, LeadsTo}
+use Rattle.pilot_top.specs.CrashStates.{CrashStates, LineCrashStates, Openly}
+use Rattle.pilot_top.specs.Parts.{InParts, LineWrote, PartMay}
 use Rattle.pilot_top.specs.Turn.{Answers}
 use Rattle.pilot_top.proofs.AlongLemmas.{by_itself}
 use Rattle.pilot_top.proofs.CostLemmas.{Spends, end_spends, prefix_spends, more_cost, none_cost}
+use Rattle.pilot_top.proofs.LineParts.{parts_line, parts_of_trace}
+use Rattle.pilot_top.proofs.PartLemmas.{parts_none}
 use Rattle.pilot_top.proofs.PrefixLemmas.{read_prefix}
 use Rattle.pilot_top.proofs.PermittedRuns.{openly_then}
-use Rattle.pilot_top.proofs.PlaceLemmas.{files_before, files_after}
-use Rattle.pilot_top.proofs.StagedLemmas.{from_end, crash_states_before, crash_states_then}
+use Rattle.pilot_top.proofs.PlaceLemmas.{leads_after, leads_before}
+use Rattle.pilot_top.proofs.StagedLemmas.{from_end, crash_states_before, crash_states_then, from_prefix, line_whole}
 use Rattle.pilot_top.proofs.TopLemmas.{Going, Going-start, Going-reply, last_of, reply_lines}
 
 -- what one line has written, and what it cost
 abbrev pub Made : (Machine → Type 0) → TraceLine → DiskState → DiskState → Type 0
-Made now line mid new = (m : Machine) → now m → CrashStates m (line ∷ []) mid new × CostsLine line mid new
+Made now line mid new = (m : Machine) → now m → LineCrashStates m line mid new × CostsLine line mid new
 
 -- So many lines are answered, and these are the crash states of what was written in them, and what they cost.
 pub record Turned (a c t u : Option (List ℕ)) (p : Progress) (first now : Machine → Type 0) (old new : DiskState) : Type 0 where
@@ -33,6 +37,7 @@ pub record Turned (a c t u : Option (List ℕ)) (p : Progress) (first now : Mach
   pub along : (m : Machine) → first m → CrashStates m going.lines old new
   pub cost : (m : Machine) → first m → CostsLines going.lines old new
   pub permitted : Openly old new
+  pub parts : InParts (PartMay going.lines) (length going.lines) old new
 
 pub Turned-start : (a t : Option (List ℕ)) (p : Progress) (first : Machine → Type 0) (disk : DiskState) → p.taken ≡ 0 → p.stopped ≡ None → ((m : Machine) → first m → CrashStates m [] disk disk) → Openly disk disk
     → Turned a a t t p first first disk disk
@@ -41,12 +46,13 @@ Turned-start a t p first disk none stopped along permitted = record {
   along = along;
   cost = λ m is. none_cost disk;
   permitted = permitted;
+  parts = parts_none (PartMay []) 0 (record { contents = refl; writes = refl });
 }
 
 module _ {a b t u : Option (List ℕ)} {p : Progress} {first now : Machine → Type 0} {old mid : DiskState} (turned : Turned a b t u p first now old mid) where
   -- what one line more has written
   pub more_crash_states : {new : DiskState} {line : TraceLine} → Made now line mid new → (m : Machine) → first m → CrashStates m (turned.going.lines ++ line ∷ []) old new
-  more_crash_states {line = line} made m is = crash_states_then m turned.going.lines (line ∷ []) (turned.along m is) (made (last_of m turned.going.lines) (turned.going.stands m is)).0
+  more_crash_states {line = line} made m is = crash_states_then m turned.going.lines (line ∷ []) (turned.along m is) (line_whole (last_of m turned.going.lines) line (made (last_of m turned.going.lines) (turned.going.stands m is)).0)
 
   -- what the session's end has
   pub ended_crash_states : (m : Machine) → first m → {new : DiskState} → Throughout (IsStop (last_of m turned.going.lines)) mid new → CrashStates m turned.going.lines old new
@@ -59,14 +65,16 @@ module _ {a b t u : Option (List ℕ)} {p : Progress} {first now : Machine → T
 
   -- a line was answered, and others follow
   pub Turned-reply : {c v : Option (List ℕ)} {q : Progress} {then : Machine → Type 0} {new : DiskState} {line : TraceLine} {r : Reply} → mid.sectors ≡ old.sectors → p.stopped ≡ None → TakesLine line b c p q → Answers now then line r
-      → is_last line ≡ false → Made now line mid new → Openly mid new → Appends u v (text r) → Turned a c t v q first then old new
-  Turned-reply {c = c} {v = v} {q = q} {then = then} {new = new} {line = line} {r = r} same none takes answers goes made permitted wrote = record {
+      → is_last line ≡ false → Made now line mid new → LineWrote line mid new → Openly mid new → Appends u v (text r) → Turned a c t v q first then old new
+  Turned-reply {c = c} {v = v} {q = q} {then = then} {new = new} {line = line} {r = r} same none takes answers goes made written permitted wrote = record {
     going = Going-reply a b t u p first now turned.going c v q then line r none takes answers goes wrote;
     along = subst (λ (lines : List TraceLine). (m : Machine) → first m → CrashStates m lines old new) (sym (reply_lines a b t u p first now turned.going c v q then line r none takes answers goes wrote))
         (more_crash_states made);
     cost = subst (λ (lines : List TraceLine). (m : Machine) → first m → CostsLines lines old new) (sym (reply_lines a b t u p first now turned.going c v q then line r none takes answers goes wrote))
         (more_costs same made);
     permitted = openly_then turned.permitted permitted;
+    parts = subst (λ (lines : List TraceLine). InParts (PartMay lines) (length lines) old new) (sym (reply_lines a b t u p first now turned.going c v q then line r none takes answers goes wrote))
+        (parts_line turned.going.lines line turned.parts written);
   }
 
   -- where the source reveals its bytes, and the sink
@@ -95,17 +103,34 @@ module _ (m : Machine) {x : List ℕ} {c : Option (List ℕ)} {q : Progress} {li
   pub end_spends_reading : (old mid new : DiskState) → mid.sectors ≡ old.sectors → CostsLines lines old mid → CostsOther mid new → Spends (reading x) old new
   end_spends_reading old mid new same cost last = let prefix = read_prefix x c q lines read in end_spends lines prefix.0 (reading x) old mid new prefix.1 same cost last
 
-  pub files_of_reading : (disk : DiskState) → HasFilesAt m lines disk (length lines) 0 → HasFilesAt m (reading x) disk (length lines) 0
-  files_of_reading disk has =
+  -- all lines that were read are answered
+  pub leads_of_reading : {old new : DiskState} → HasFilesAt m lines new (length lines) 0 → CrashStates m lines old new → LeadsTo m (reading x) old new (length lines) 0
+  leads_of_reading {old = old} {new = new} has on =
       let prefix = read_prefix x c q lines read in
-      subst (λ (all : List TraceLine). HasFilesAt m all disk (length lines) 0) (sym prefix.1) (files_before m lines prefix.0 disk (length lines) 0 (by_itself (length lines) 0) has)
+      subst (λ (all : List TraceLine). LeadsTo m all old new (length lines) 0) (sym prefix.1) (leads_before m lines prefix.0 (length lines) 0 (by_itself (length lines) 0) (has, on))
 
 -- a line was begun after these
-pub files_of_begun : (m : Machine) {x : List ℕ} {c : Option (List ℕ)} {q : Progress} (lines : List TraceLine) (line : TraceLine) → HasRead (Some x) c q (lines ++ line ∷ []) → (disk : DiskState) (i : ℕ)
-    → HasFilesAt (last_of m lines) (line ∷ []) disk 0 i → HasFilesAt m (reading x) disk (length lines) i
-files_of_begun m {x = x} {c = c} {q = q} lines line read disk i has =
+pub leads_of_begun : (m : Machine) {x : List ℕ} {c : Option (List ℕ)} {q : Progress} (lines : List TraceLine) (line : TraceLine) → HasRead (Some x) c q (lines ++ line ∷ []) → {old mid new : DiskState} → CrashStates m lines old mid → (i : ℕ)
+    → LeadsTo (last_of m lines) (line ∷ []) mid new 0 i → LeadsTo m (reading x) old new (length lines) i
+leads_of_begun m {x = x} {c = c} {q = q} lines line read {old = old} {new = new} on i leads =
     let prefix = read_prefix x c q (lines ++ line ∷ []) read in
-    let here : HasFilesAt m (lines ++ line ∷ []) disk (length lines + 0) i = files_after m lines (line ∷ []) disk 0 i has in
-    let there : HasFilesAt m (lines ++ line ∷ []) disk (length lines) i = subst (λ (k : ℕ). HasFilesAt m (lines ++ line ∷ []) disk k i) (omega arith) here in
-    subst (λ (all : List TraceLine). HasFilesAt m all disk (length lines) i) (sym prefix.1)
-    (files_before m (lines ++ line ∷ []) prefix.0 disk (length lines) i (inl (omega (arith, length-append lines (line ∷ [])))) there)
+    let here : LeadsTo m (lines ++ line ∷ []) old new (length lines + 0) i = leads_after m lines (line ∷ []) 0 i on leads in
+    let there : LeadsTo m (lines ++ line ∷ []) old new (length lines) i = subst (λ (k : ℕ). LeadsTo m (lines ++ line ∷ []) old new k i) (omega arith) here in
+    subst (λ (all : List TraceLine). LeadsTo m all old new (length lines) i) (sym prefix.1)
+    (leads_before m (lines ++ line ∷ []) prefix.0 (length lines) i (inl (omega (arith, length-append lines (line ∷ [])))) there)
+
+-- The parts of the whole trace.
+
+module _ {x : List ℕ} {b t u : Option (List ℕ)} {p : Progress} {first now : Machine → Type 0} {old mid : DiskState} (turned : Turned (Some x) b t u p first now old mid) where
+  -- nothing was written since the last reply
+  pub still_parts : (last : ℕ) → length turned.going.lines ≤ last → InParts (PartMay (reading x)) last old mid
+  still_parts last le = let prefix = read_prefix x b p turned.going.lines turned.going.read in parts_of_trace turned.going.lines prefix.0 (reading x) last prefix.1 le turned.parts
+
+  -- one line more was read
+  pub line_parts : {c : Option (List ℕ)} {q : Progress} {line : TraceLine} {new : DiskState} → p.stopped ≡ None → TakesLine line b c p q → is_last line ≡ false → LineWrote line mid new
+      → InParts (PartMay (reading x)) (suc (length turned.going.lines)) old new
+  line_parts {c = c} {q = q} {line = line} {new = new} none takes goes wrote =
+      let lines = turned.going.lines in
+      let read = HasRead-line (Some x) b c p q lines line turned.going.read none takes goes in
+      let prefix = read_prefix x c q (lines ++ line ∷ []) read in
+      parts_of_trace (lines ++ line ∷ []) prefix.0 (reading x) (suc (length lines)) prefix.1 (let e = length-append lines (line ∷ []) in omega (arith, e)) (parts_line lines line turned.parts wrote)

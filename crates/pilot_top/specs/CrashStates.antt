@@ -1,5 +1,5 @@
 -- What stands on the disk in each crash state of a run.
-use Rattle.std.specs.Prelude.{◌≡◌, ◌⊎◌, ℕ, suc, ◌<◌, ◌≤◌, List, length, Some, Option, slice_get}
+use Rattle.std.specs.Prelude.{◌≡◌, ◌⊎◌, ℕ, suc, ◌<◌, ◌≤◌, List, [], ◌∷◌, length, Some, Option, slice_get}
 use Rattle.labelled_disk.specs.declared.disk.DiskWrite.{DiskWrite}
 use Rattle.labelled_disk.specs.CrashState.{crash_state}
 use Rattle.labelled_disk.specs.Root.{counter_of, root_page, serial_of, short_at}
@@ -57,6 +57,10 @@ pub record IsCrashState (m : Machine) (lines : List TraceLine) (j i : ℕ) (d : 
 -- the writes of a run of these lines, from the machine m
 abbrev pub CrashStates : Machine → List TraceLine → DiskState → DiskState → Type 0
 CrashStates m lines old new = Along (IsCrashState m lines) 0 0 (length lines) 0 old new
+
+-- the writes of one line, none at a place after its steps
+abbrev pub LineCrashStates : Machine → TraceLine → DiskState → DiskState → Type 0
+LineCrashStates m line old new = Along (IsCrashState m (line ∷ [])) 0 0 0 (steps_of m (Some line)) old new
 
 -- over any contents: each write was permitted where it is made, and none sets the clean flag
 pub record Openly (old new : DiskState) : Type 0 where

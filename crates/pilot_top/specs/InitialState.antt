@@ -11,6 +11,7 @@ use Rattle.file_map.specs.FileMap.{Triples}
 use Rattle.file_manager.specs.Reasons.{HasReason, IsNotOlder, KeepsOn, InitialState}
 use Rattle.pilot_engine.specs.declared.session.Session.{Session}
 use Rattle.pilot_engine.specs.Reasons.{FromStart, IsBegun, IsBlameless, SeesHome}
+use Rattle.fault_core.specs.Core.{state}
 
 -- Where the disk revealed at the start its sectors and the writes that were made, and its file map was in form, a label that is revealed has
 -- its reason in the layout, in what both maps said then, or in what the run gave and gave up, after its first write, which is a
@@ -28,4 +29,4 @@ module _ {D A : Type 0} {G : Ghosts D} where
   abbrev pub FromEachInitialState : Session D A G → DiskState → Evidence → Type 0
   FromEachInitialState session after evidence =
       (o : InitialState) → KeepsOn o session.core.filer → IsNotOlder o session.volume.root
-      → HasReason o session.core.filer.swapper.layout after evidence × (SeesHome o session.core → IsBlameless o after (Damaged evidence))
+      → HasReason o (state session.core).layout after evidence × (SeesHome o session.core → IsBlameless o after (Damaged evidence))

@@ -1,11 +1,12 @@
 -- What the making of a volume writes.
 use Rattle.std.specs.Prelude.{◌≡◌, ◌⊎◌, ℕ, ◌++◌, List, Some, true, codes}
 use Rattle.std.specs.Fmt.{decimal}
+use Rattle.cut_words.specs.Between.{EachCutFromFirstSync}
 use Rattle.labelled_disk.specs.Layout.{IsCount, capacity}
 use Rattle.labelled_disk.specs.Sectors.{Sector}
 use Rattle.labelled_disk.specs.State.{DiskState}
 use Rattle.labelled_disk.specs.WriteRuns.{Appended}
-use Rattle.volume_root.specs.Format.{PartMade, format_writes}
+use Rattle.volume_root.specs.Format.{IsNoneOrNew, PartMade, format_writes}
 use Rattle.volume_root.specs.FormatLaws.{IsEmptyVolume}
 use Rattle.pilot_top.specs.World.{World, DiskFailed, SinkFailed, Writes, WritesPrefix, WritesLast}
 use Rattle.pilot_top.specs.declared.last.Cause.TheVariants as cause
@@ -28,6 +29,8 @@ pub record Formatted (serial counter : ℕ) (s : Status) (before after : World) 
   pub line : s ≡ status.Done → Writes before after (made_line before.disk.sectors)
   pub part_of_line : s ≡ status.StreamFault → WritesPrefix before after (made_line before.disk.sectors)
   pub part : s ≡ status.DiskFault → PartMade (format_writes before.disk.sectors serial counter) before.disk after.disk × WritesLast before after cause.DiskFault
+  -- Where the power goes, once its first write is on the medium: no root that is accepted, or the new volume.
+  pub cuts : EachCutFromFirstSync (λ d e. IsNoneOrNew before.disk.sectors serial counter e) before.disk after.disk
   -- It does all its work where nothing failed, and refuses a count of sectors alone.
   pub complete : IsCount before.disk.sectors → ¬ DiskFailed before after → ¬ SinkFailed before after → (s ≡ status.Done) ⊎ (s ≡ status.NoMemory)
   pub only_count : s ≡ status.NotOpened → ¬ IsCount before.disk.sectors

@@ -1,5 +1,6 @@
 -- What `scavenge` does, by its status.
 use Rattle.std.specs.Prelude.{◌≡◌, ◌⊎◌, ◌++◌, ℕ, List, Some, true}
+use Rattle.cut_words.specs.Between.{EachCutFromFirstSync}
 use Rattle.labelled_disk.specs.declared.disk.DiskWrite.{DiskWrite}
 use Rattle.labelled_disk.specs.declared.layout.RootFault.{RootFault}
 use Rattle.labelled_disk.specs.Calls.{RevealsSame}
@@ -9,7 +10,7 @@ use Rattle.labelled_disk.specs.Sectors.{Sector}
 use Rattle.labelled_disk.specs.WriteRuns.{Appended}
 use Rattle.volume_root.specs.Format.{PartMade}
 use Rattle.scavenger.specs.Orders.{Orders, AreFor, scavenge_writes}
-use Rattle.scavenger.specs.Restored.{IsBetween, IsRestored}
+use Rattle.scavenger.specs.Restored.{IsBetween, IsRestored, Survives}
 use Rattle.pilot_top.specs.Reporting.{IsReport, restored_text}
 use Rattle.pilot_top.specs.Scavenging.{IsNoVolume}
 use Rattle.pilot_top.specs.World.{World, Holds, DiskFailed, SinkFailed, StaysUnwritten, Writes, WritesPrefix, WritesLast}
@@ -34,6 +35,8 @@ pub record Scavenged (s : Status) (before after : World) : Type 0 where
   pub part_line : s ≡ status.DiskFault → WritesLast before after cause.DiskFault
   pub crash_states : (g : List Sector) (first writes : List DiskWrite) → Holds before g → before.disk.writes ≡ Some first → after.disk.writes ≡ Some (first ++ writes)
       → (k : ℕ) → IsBetween g (crash_state g writes k)
+  -- Where the power goes, once its first write is on the medium: the same files, and where the clean flag is 1, a restored volume.
+  pub cuts : EachCutFromFirstSync Survives before.disk after.disk
   -- A disk that has no volume; and one that has is restored, where nothing failed.
   pub no_volume : (g : List Sector) → Holds before g → s ≡ status.NotOpened → (why : RootFault) × IsNoVolume g why × WritesLast before after (cause.Root why)
   pub no_volume_refused : (g : List Sector) (why : RootFault) → Holds before g → IsNoVolume g why → s ≡ status.NotOpened ⊎ s ≡ status.DiskFault ⊎ s ≡ status.NoMemory

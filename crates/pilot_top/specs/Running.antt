@@ -13,6 +13,7 @@ use Rattle.pilot_top.specs.Headline.{EndsEarly, IsLeftOpen, Run, RevealsDamage, 
 use Rattle.pilot_top.specs.Cuts.{HonestCuts}
 use Rattle.pilot_top.specs.CrashStates.{Lawfully, CrashStates}
 use Rattle.pilot_top.specs.InitialState.{FromInitialState}
+use Rattle.pilot_top.specs.Parts.{InParts, PartMay, Stops}
 use Rattle.pilot_top.specs.Replied.{Replied}
 use Rattle.pilot_top.specs.World.{World, Holds, Gives, Took, DiskFailed, SourceFailed, SinkFailed, StaysUnwritten, WritesLast}
 use Rattle.pilot_top.specs.declared.last.Cause.TheVariants as cause
@@ -22,7 +23,7 @@ use Rattle.pilot_top.specs.declared.status.Status.TheVariants as status
 -- A `run` ended with this status, and left disk, source and sink so.
 pub record Ran (s : Status) (before after : World) : Type 0 where
   -- On a sound volume: the replies, what the source has left, and the files of the disk.
-  pub answers : (d : List Sector) (b t : List ℕ) → Holds before d → Sound d → Gives before b → Took before t → Run s d b after.left t after.took (SinkFailed before after) after.disk
+  pub answers : (d : List Sector) (b t : List ℕ) → Holds before d → Sound d → Gives before b → Took before t → Run s d b after.left t after.took (SinkFailed before after) before.disk after.disk
   -- Whatever the disk holds, replies to the lines that were read, and the last line where it stopped.
   pub replied : (b t : List ℕ) → Gives before b → Took before t → Replied s b after.left t after.took (SinkFailed before after) after.disk (FromInitialState before.disk after.disk)
   -- Where its end was not a `halt`, the volume is closed, sound, and on the medium; so it is where only the reply to `close`
@@ -37,6 +38,9 @@ pub record Ran (s : Status) (before after : World) : Type 0 where
   -- Where the power goes: in each cut of its writes since the disk was synced the root is valid, and a volume that says that it
   -- was closed is sound.
   pub cuts : (d : List Sector) → Holds before d → Sound d → HonestCuts d before.disk after.disk
+  -- In which part of the run its last write is, whatever the disk holds: where the run stopped, in none after the line that has no
+  -- reply, or after the lines that were read.
+  pub stops : (b t : List ℕ) → Gives before b → Took before t → Stops s b after.left t after.took (SinkFailed before after) (λ k. InParts (PartMay (reading b)) k before.disk after.disk)
   -- Where it ended before its session did, the volume is left open; so where lines are left after the one that was answered
   -- last, and where the trace is too long or the volume damaged, whatever the source reveals.
   pub stays_open : (b : List ℕ) → Gives before b → EndsEarly s (reading b) → IsLeftOpen after.disk

@@ -15,6 +15,8 @@ ghost use Rattle.pilot_top.specs.Ending.{end_text};
 ghost use Rattle.pilot_top.specs.Last.{last_line, Puts};
 ghost use Rattle.pilot_top.specs.InitialState.{FromEachInitialState};
 ghost use Rattle.pilot_top.specs.RunDisk.{HasSeen};
+ghost use Rattle.filer_kernel.specs.View.{FitsLayout};
+ghost use Rattle.fault_core.specs.Core.{state};
 
 use crate::Status;
 use crate::ending::{bring, close_run};
@@ -33,33 +35,33 @@ pub(crate) fn close<D: Disk, A: Allocator, K: Sink>(
     session: Session<D, A>,
     sink: &mut K,
 ) -> (Option<Status>, D)
-    requires size { (D.state session.core.filer.swapper.disk).sectors ≡ session.core.filer.swapper.layout.sectors }
-    requires opened { IsOpen session.core.filer.swapper.layout session.volume }
+    requires size { FitsLayout (state session.core) }
+    requires opened { IsOpen (state session.core).layout session.volume }
     requires running { session.running ≡ true }
     ensures closed { (m : Machine) → Runs session.core session.volume m
         → result.0 ≡ None → HasShut m (D.state result.1) }
     ensures stops { (m : Machine) → Runs session.core session.volume m
-        → Throughout (IsStop m) (D.state session.core.filer.swapper.disk) (D.state result.1) }
+        → Throughout (IsStop m) (state session.core).disk (D.state result.1) }
     ensures sound { (m : Machine) → Runs session.core session.volume m
         → result.0 ≢ Some Status.Damaged }
     ensures cost { (m : Machine) → Runs session.core session.volume m
-        → CostsOther (D.state session.core.filer.swapper.disk) (D.state result.1) }
+        → CostsOther (state session.core).disk (D.state result.1) }
     ensures quiet { result.0 ≡ None → sink.new ≡ sink.old }
     ensures disk_line { result.0 ≡ Some Status.DiskFault
         → Puts (Rose (K.faults sink.old) (K.faults sink.new)) (K.took sink.old) (K.took sink.new)
         (last_line Cause.DiskFault) }
     ensures disk_cause { result.0 ≡ Some Status.DiskFault
-        → Rose (D.state session.core.filer.swapper.disk).faults (D.state result.1).faults }
+        → Rose (state session.core).disk.faults (D.state result.1).faults }
     ensures damage_line { result.0 ≡ Some Status.Damaged → (e : Evidence) × Puts (Rose (K.faults sink.old) (K.faults sink.new)) (K.took sink.old) (K.took sink.new)
         (last_line (Cause.Damaged e)) }
     ensures evidence_seen { result.0 ≡ Some Status.Damaged → (e : Evidence) × IsEvident (D.state result.1) e × FromEachInitialState session (D.state result.1) e × Puts (Rose (K.faults sink.old) (K.faults sink.new)) (K.took sink.old) (K.took sink.new)
         (last_line (Cause.Damaged e)) }
-    ensures left_open { IsUnset (D.state session.core.filer.swapper.disk) → result.0 ≡ Some Status.Damaged → IsUnset (D.state result.1) }
+    ensures left_open { IsUnset (state session.core).disk → result.0 ≡ Some Status.Damaged → IsUnset (D.state result.1) }
     ensures ends { (result.0 ≡ None) ⊎ (result.0 ≡ Some Status.DiskFault)
         ⊎ (result.0 ≡ Some Status.Damaged) }
-    ensures wrote { WroteOn session.core.filer.swapper.pool (D.state session.core.filer.swapper.disk) (D.state result.1) }
+    ensures wrote { WroteOn (state session.core).slots (state session.core).disk (D.state result.1) }
     ensures syncs { (m : Machine) → Runs session.core session.volume m
-        → ShutsBySync (D.state session.core.filer.swapper.disk) (D.state result.1) }
+        → ShutsBySync (state session.core).disk (D.state result.1) }
     ensures later { K.faults sink.old ≤ K.faults sink.new }
 {
     let (closed, disk) = session.finish();
@@ -75,36 +77,36 @@ pub(crate) fn end_trace<D: RunDisk, A: Allocator, K: Sink>(
     end: End,
     sink: &mut K,
 ) -> (Status, D)
-    requires size { (D.state session.core.filer.swapper.disk).sectors ≡ session.core.filer.swapper.layout.sectors }
-    requires opened { IsOpen session.core.filer.swapper.layout session.volume }
+    requires size { FitsLayout (state session.core) }
+    requires opened { IsOpen (state session.core).layout session.volume }
     requires running { session.running ≡ true }
     ensures closed { (m : Machine) → Runs session.core session.volume m
         → end ≢ End.Halt → (result.0 ≡ Status.Done) ⊎ (result.0 ≡ Status.StreamFault) → HasShut m (D.state result.1) }
     ensures stops { (m : Machine) → Runs session.core session.volume m
-        → Throughout (IsStop m) (D.state session.core.filer.swapper.disk) (D.state result.1) }
+        → Throughout (IsStop m) (state session.core).disk (D.state result.1) }
     ensures sound { (m : Machine) → Runs session.core session.volume m
         → result.0 ≢ Status.Damaged }
-    ensures halted { end ≡ End.Halt → RevealsSame (D.state session.core.filer.swapper.disk) (D.state result.1) }
+    ensures halted { end ≡ End.Halt → RevealsSame (state session.core).disk (D.state result.1) }
     ensures rests { result.0 ≡ Status.Done → D.rests result.1 }
     ensures cost { (m : Machine) → Runs session.core session.volume m
-        → CostsOther (D.state session.core.filer.swapper.disk) (D.state result.1) }
+        → CostsOther (state session.core).disk (D.state result.1) }
     ensures done { result.0 ≡ Status.Done → Appends (K.took sink.old) (K.took sink.new) (end_text end) }
     ensures part { result.0 ≡ Status.StreamFault → (prefix : List ℕ) × IsPrefixOf prefix (end_text end)
         × Appends (K.took sink.old) (K.took sink.new) prefix }
     ensures stream_cause { result.0 ≡ Status.StreamFault
         → Rose (K.faults sink.old) (K.faults sink.new) × (end ≢ End.Trace) }
     ensures disk_fault { result.0 ≡ Status.DiskFault → (D.shown result.1 ≡ None)
-        × Rose (D.state session.core.filer.swapper.disk).faults (D.state result.1).faults
+        × Rose (state session.core).disk.faults (D.state result.1).faults
         × Puts (Rose (K.faults sink.old) (K.faults sink.new)) (K.took sink.old) (K.took sink.new) (last_line Cause.DiskFault) }
     ensures damage { result.0 ≡ Status.Damaged → (e : Evidence)
         × HasSeen (D.shown result.1) (D.state result.1) (FromEachInitialState session (D.state result.1)) e
         × Puts (Rose (K.faults sink.old) (K.faults sink.new)) (K.took sink.old) (K.took sink.new) (last_line (Cause.Damaged e)) }
-    ensures left_open { IsUnset (D.state session.core.filer.swapper.disk) → result.0 ≡ Status.Damaged → IsUnset (D.state result.1) }
+    ensures left_open { IsUnset (state session.core).disk → result.0 ≡ Status.Damaged → IsUnset (D.state result.1) }
     ensures ends { (result.0 ≡ Status.Done) ⊎ (result.0 ≡ Status.StreamFault)
         ⊎ (result.0 ≡ Status.DiskFault) ⊎ (result.0 ≡ Status.Damaged) }
-    ensures wrote { WroteOn session.core.filer.swapper.pool (D.state session.core.filer.swapper.disk) (D.state result.1) }
+    ensures wrote { WroteOn (state session.core).slots (state session.core).disk (D.state result.1) }
     ensures syncs { (m : Machine) → Runs session.core session.volume m
-        → ShutsBySync (D.state session.core.filer.swapper.disk) (D.state result.1) }
+        → ShutsBySync (state session.core).disk (D.state result.1) }
     ensures later { K.faults sink.old ≤ K.faults sink.new }
 {
     if end == End::Halt {

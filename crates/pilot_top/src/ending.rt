@@ -13,6 +13,8 @@ ghost use Rattle.pilot_top.specs.InitialState.{FromEachInitialState};
 ghost use Rattle.pilot_top.specs.Last.{last_line, Puts};
 ghost use Rattle.pilot_top.specs.RunDisk.{HasSeen, halt_on};
 ghost use Rattle.pilot_top.specs.Stopping.{cause_of, status_of};
+ghost use Rattle.filer_kernel.specs.View.{FitsLayout};
+ghost use Rattle.fault_core.specs.Core.{state};
 
 use crate::Status;
 use crate::last::{Cause, put_last};
@@ -85,31 +87,31 @@ pub(crate) fn close_run<D: RunDisk, A: Allocator, K: Sink>(
     session: Session<D, A>,
     sink: &mut K,
 ) -> (Option<Status>, D)
-    requires size { (D.state session.core.filer.swapper.disk).sectors ≡ session.core.filer.swapper.layout.sectors }
-    requires opened { IsOpen session.core.filer.swapper.layout session.volume }
+    requires size { FitsLayout (state session.core) }
+    requires opened { IsOpen (state session.core).layout session.volume }
     requires running { session.running ≡ true }
     ensures closed { (m : Machine) → Runs session.core session.volume m
         → result.0 ≡ None → HasShut m (D.state result.1) }
     ensures rests { result.0 ≡ None → D.rests result.1 }
     ensures stops { (m : Machine) → Runs session.core session.volume m
-        → Throughout (IsStop m) (D.state session.core.filer.swapper.disk) (D.state result.1) }
+        → Throughout (IsStop m) (state session.core).disk (D.state result.1) }
     ensures sound { (m : Machine) → Runs session.core session.volume m
         → result.0 ≢ Some Status.Damaged }
     ensures cost { (m : Machine) → Runs session.core session.volume m
-        → CostsOther (D.state session.core.filer.swapper.disk) (D.state result.1) }
+        → CostsOther (state session.core).disk (D.state result.1) }
     ensures quiet { result.0 ≡ None → sink.new ≡ sink.old }
     ensures disk_fault { result.0 ≡ Some Status.DiskFault → (D.shown result.1 ≡ None)
-        × Rose (D.state session.core.filer.swapper.disk).faults (D.state result.1).faults
+        × Rose (state session.core).disk.faults (D.state result.1).faults
         × Puts (Rose (K.faults sink.old) (K.faults sink.new)) (K.took sink.old) (K.took sink.new) (last_line Cause.DiskFault) }
     ensures damage { result.0 ≡ Some Status.Damaged → (e : Evidence)
         × HasSeen (D.shown result.1) (D.state result.1) (FromEachInitialState session (D.state result.1)) e
         × Puts (Rose (K.faults sink.old) (K.faults sink.new)) (K.took sink.old) (K.took sink.new) (last_line (Cause.Damaged e)) }
-    ensures left_open { IsUnset (D.state session.core.filer.swapper.disk) → result.0 ≡ Some Status.Damaged → IsUnset (D.state result.1) }
+    ensures left_open { IsUnset (state session.core).disk → result.0 ≡ Some Status.Damaged → IsUnset (D.state result.1) }
     ensures ends { (result.0 ≡ None) ⊎ (result.0 ≡ Some Status.DiskFault)
         ⊎ (result.0 ≡ Some Status.Damaged) }
-    ensures wrote { WroteOn session.core.filer.swapper.pool (D.state session.core.filer.swapper.disk) (D.state result.1) }
+    ensures wrote { WroteOn (state session.core).slots (state session.core).disk (D.state result.1) }
     ensures syncs { (m : Machine) → Runs session.core session.volume m
-        → ShutsBySync (D.state session.core.filer.swapper.disk) (D.state result.1) }
+        → ShutsBySync (state session.core).disk (D.state result.1) }
     ensures later { K.faults sink.old ≤ K.faults sink.new }
 {
     let (closed, disk) = session.finish();

@@ -1,10 +1,11 @@
 //! New volumes.
 ghost use Rattle.std.specs.Prelude.{◌≡◌, ◌↔◌, ◌⊎◌, ℕ, ◌≤◌, ◌++◌, List, codes, decimal};
+ghost use Rattle.cut_words.specs.Between.{EachCutFromFirstSync};
 ghost use Rattle.labelled_disk.specs.Calls.{OnlyReads, Rose};
 ghost use Rattle.labelled_disk.specs.Layout.{IsCount};
 ghost use Rattle.std.specs.Io.KnownBytes.{Appends};
 ghost use Rattle.trace_io.specs.Stream.{IsPrefixOf};
-ghost use Rattle.volume_root.specs.Format.{format_writes, PartMade};
+ghost use Rattle.volume_root.specs.Format.{format_writes, IsNoneOrNew, PartMade};
 ghost use Rattle.pilot_top.specs.Last.{last_line, Puts};
 ghost use Rattle.pilot_top.specs.Making.{made_line, IsMade};
 
@@ -47,6 +48,10 @@ pub(crate) fn make_volume<D: Disk, K: Sink>(
         × Appends (K.took sink.old) (K.took sink.new) prefix }
     ensures stream_cause { result ≡ Status.StreamFault
         → Rose (K.faults sink.old) (K.faults sink.new) }
+
+    // What stands where the power went, whatever it answers.
+    ensures cuts { EachCutFromFirstSync (λ d e. IsNoneOrNew (D.state disk.old).sectors serial counter e)
+        (D.state disk.old) (D.state disk.new) }
 
     // A count of sectors that no volume has.
     ensures not_opened { result ≡ Status.NotOpened ↔ ¬ IsCount (D.state disk.old).sectors }

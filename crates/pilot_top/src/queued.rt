@@ -153,6 +153,9 @@ pub(crate) fn run_queued<A: Allocator + Clone, D: Disk, S: Source, K: Sink>(
         → result.0 ≡ Status.Long → ¬ IsShort (2 ^ 32) b }
     ensures no_other { result.0 ≢ Status.Usage × result.0 ≢ Status.Unfit }
     ensures lent { (D.state result.1).lent ≡ (D.state disk).lent }
+    // The root is judged before memory is taken.
+    ensures refused { (d : List Sector) (why : RootFault) → (D.state disk).contents ≡ Some d
+        → IsRefused d why → result.0 ≡ Status.NotOpened ⊎ result.0 ≡ Status.DiskFault }
     ensures refused_kept { (d : List Sector) (why : RootFault) → (D.state disk).contents ≡ Some d
         → IsRefused d why → source.new ≡ source.old }
 {

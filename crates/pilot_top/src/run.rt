@@ -16,13 +16,16 @@ ghost use Rattle.pilot_engine.specs.Closing.{HasShut, ShutsBySync};
 ghost use Rattle.running_words.specs.Session.{IsOpen};
 ghost use Rattle.running_words.specs.Running.{Runs};
 ghost use Rattle.pilot_top.specs.Ending.{halts, closes};
-ghost use Rattle.pilot_top.specs.Headline.{Answering, EndsEarly, HasFilesAt, IsLeftOpen, Run, RevealsDamage, at_end, line_bound, run_bound};
+ghost use Rattle.pilot_top.specs.Headline.{Answering, EndsEarly, IsLeftOpen, LeadsTo, Run, RevealsDamage, at_end, line_bound, run_bound};
 ghost use Rattle.pilot_top.specs.Last.{last_line, Puts};
 ghost use Rattle.pilot_top.specs.Cuts.{HonestCuts};
 ghost use Rattle.pilot_top.specs.CrashStates.{Lawfully, CrashStates, ShutsLast};
 ghost use Rattle.pilot_top.specs.InitialState.{FromEachInitialState, FromInitialState};
+ghost use Rattle.pilot_top.specs.Parts.{InParts, PartMay, Stops};
 ghost use Rattle.pilot_top.specs.Queued.{RepliesChange, WroteChange};
 ghost use Rattle.pilot_top.specs.Replied.{Replied};
+ghost use Rattle.filer_kernel.specs.View.{FitsLayout};
+ghost use Rattle.fault_core.specs.Core.{state};
 
 use crate::Status;
 use crate::closing::end_trace;
@@ -45,14 +48,14 @@ pub(crate) fn answer_lines<D: RunDisk, A: Allocator, S: Source, K: Sink>(
     source: &mut S,
     sink: &mut K,
 ) -> (Status, D)
-    requires size { (D.state session.core.filer.swapper.disk).sectors ≡ session.core.filer.swapper.layout.sectors }
-    requires opened { IsOpen session.core.filer.swapper.layout session.volume }
+    requires size { FitsLayout (state session.core) }
+    requires opened { IsOpen (state session.core).layout session.volume }
     requires running { session.running ≡ true }
     ensures answering { (m : Machine) (b t : List ℕ) → Runs session.core session.volume m
         → S.left source.old ≡ Some b → K.took sink.old ≡ Some t
         → Answering result.0 m b (S.left source.new) t (K.took sink.new)
-        (Rose (K.faults sink.old) (K.faults sink.new)) (HasFilesAt m (reading b) (D.state result.1)) }
-    ensures replied { (b t : List ℕ) → IsLeftOpen (D.state session.core.filer.swapper.disk)
+        (Rose (K.faults sink.old) (K.faults sink.new)) (LeadsTo m (reading b) (state session.core).disk (D.state result.1)) }
+    ensures replied { (b t : List ℕ) → IsLeftOpen (state session.core).disk
         → S.left source.old ≡ Some b → K.took sink.old ≡ Some t → (result.0 ≡ Status.Damaged → D.shown result.1 ≡ None)
         → Replied result.0 b (S.left source.new) t (K.took sink.new)
         (Rose (K.faults sink.old) (K.faults sink.new)) (D.state result.1) (FromEachInitialState session (D.state result.1)) }
@@ -60,7 +63,7 @@ pub(crate) fn answer_lines<D: RunDisk, A: Allocator, S: Source, K: Sink>(
         → result.0 ≡ Status.Damaged → D.shown result.1 ≡ Some e
         → RepliesChange b t (K.took sink.new) (Rose (K.faults sink.old) (K.faults sink.new)) e }
     ensures crash_states { (m : Machine) (b : List ℕ) → Runs session.core session.volume m
-        → S.left source.old ≡ Some b → CrashStates m (reading b) (D.state session.core.filer.swapper.disk) (D.state result.1) }
+        → S.left source.old ≡ Some b → CrashStates m (reading b) (state session.core).disk (D.state result.1) }
     ensures closed { (m : Machine) (b : List ℕ) → Runs session.core session.volume m
         → S.left source.old ≡ Some b → result.0 ≡ Status.Done → halts (reading b) ≡ false
         → HasShut (after m (reading b) (length (reading b))) (D.state result.1) }
@@ -69,20 +72,20 @@ pub(crate) fn answer_lines<D: RunDisk, A: Allocator, S: Source, K: Sink>(
         → S.left source.new ≡ Some (rest_of b) → closes (reading b) ≡ true
         → HasShut (after m (reading b) (length (reading b))) (D.state result.1) }
     ensures some_crash_states { (m : Machine) → Runs session.core session.volume m
-        → (lines : List TraceLine) × CrashStates m lines (D.state session.core.filer.swapper.disk) (D.state result.1) }
-    ensures stays_open { (b : List ℕ) → IsLeftOpen (D.state session.core.filer.swapper.disk)
+        → (lines : List TraceLine) × CrashStates m lines (state session.core).disk (D.state result.1) }
+    ensures stays_open { (b : List ℕ) → IsLeftOpen (state session.core).disk
         → S.left source.old ≡ Some b → EndsEarly result.0 (reading b) → IsLeftOpen (D.state result.1) }
-    ensures untaken { (b : List ℕ) → IsLeftOpen (D.state session.core.filer.swapper.disk)
+    ensures untaken { (b : List ℕ) → IsLeftOpen (state session.core).disk
         → S.left source.old ≡ Some b → result.0 ≡ Status.StreamFault → S.left source.new ≢ Some (rest_of b)
         → IsLeftOpen (D.state result.1) }
-    ensures left_open { IsLeftOpen (D.state session.core.filer.swapper.disk)
+    ensures left_open { IsLeftOpen (state session.core).disk
         → (result.0 ≡ Status.Long) ⊎ (result.0 ≡ Status.Damaged) → IsLeftOpen (D.state result.1) }
     ensures transfers { (m : Machine) (b : List ℕ) → Runs session.core session.volume m
         → S.left source.old ≡ Some b
-        → (D.state result.1).transfers ≤ (D.state session.core.filer.swapper.disk).transfers + (other_bound (D.state session.core.filer.swapper.disk).sectors + sum_by (line_bound (D.state session.core.filer.swapper.disk).sectors) (reading b)) }
+        → (D.state result.1).transfers ≤ (state session.core).disk.transfers + (other_bound (state session.core).disk.sectors + sum_by (line_bound (state session.core).disk.sectors) (reading b)) }
     ensures sound { (m : Machine) → Runs session.core session.volume m
         → result.0 ≢ Status.Damaged }
-    ensures damage { (t : List ℕ) → IsLeftOpen (D.state session.core.filer.swapper.disk)
+    ensures damage { (t : List ℕ) → IsLeftOpen (state session.core).disk
         → K.took sink.old ≡ Some t → result.0 ≡ Status.Damaged → D.shown result.1 ≡ None
         → (revealed : RevealsDamage t (K.took sink.new) (Rose (K.faults sink.old) (K.faults sink.new)) (D.state result.1))
         × FromEachInitialState session (D.state result.1) revealed.evidence }
@@ -90,12 +93,15 @@ pub(crate) fn answer_lines<D: RunDisk, A: Allocator, S: Source, K: Sink>(
         → result.0 ≡ Status.Damaged → D.shown result.1 ≡ Some e
         → WroteChange t (K.took sink.new) (Rose (K.faults sink.old) (K.faults sink.new)) e }
     ensures rests { (result.0 ≡ Status.Done) ⊎ (result.0 ≡ Status.Long) → D.rests result.1 }
-    ensures permitted { ShutsLast (D.state session.core.filer.swapper.disk) (D.state result.1) }
+    ensures permitted { ShutsLast (state session.core).disk (D.state result.1) }
     ensures syncs { (m : Machine) → Runs session.core session.volume m
-        → ShutsBySync (D.state session.core.filer.swapper.disk) (D.state result.1) }
-    ensures same_disk { Went (D.state session.core.filer.swapper.disk) (D.state result.1) }
+        → ShutsBySync (state session.core).disk (D.state result.1) }
+    ensures stops { (b t : List ℕ) → S.left source.old ≡ Some b → K.took sink.old ≡ Some t
+        → Stops result.0 b (S.left source.new) t (K.took sink.new) (Rose (K.faults sink.old) (K.faults sink.new))
+        (λ k. InParts (PartMay (reading b)) k (state session.core).disk (D.state result.1)) }
+    ensures same_disk { Went (state session.core).disk (D.state result.1) }
     ensures disk_cause { result.0 ≡ Status.DiskFault → (D.shown result.1 ≡ None)
-        × Rose (D.state session.core.filer.swapper.disk).faults (D.state result.1).faults }
+        × Rose (state session.core).disk.faults (D.state result.1).faults }
     ensures stream_cause { result.0 ≡ Status.StreamFault
         → Rose (S.faults source.old) (S.faults source.new)
         ⊎ Rose (K.faults sink.old) (K.faults sink.new) }
@@ -143,7 +149,7 @@ pub(crate) fn run<A: Allocator, D: RunDisk, S: Source, K: Sink>(
         → (D.state disk).contents ≡ Some d → Sound d → S.left source.old ≡ Some b
         → K.took sink.old ≡ Some t
         → Run result.0 d b (S.left source.new) t (K.took sink.new)
-        (Rose (K.faults sink.old) (K.faults sink.new)) (D.state result.1) }
+        (Rose (K.faults sink.old) (K.faults sink.new)) (D.state disk) (D.state result.1) }
     ensures replied { (b t : List ℕ) → S.left source.old ≡ Some b → K.took sink.old ≡ Some t
         → Replied result.0 b (S.left source.new) t (K.took sink.new)
         (Rose (K.faults sink.old) (K.faults sink.new)) (D.state result.1) (FromInitialState (D.state disk) (D.state result.1)) }
@@ -177,6 +183,9 @@ pub(crate) fn run<A: Allocator, D: RunDisk, S: Source, K: Sink>(
     ensures permitted { Lawfully (D.state disk) (D.state result.1) }
     ensures cuts { (d : List Sector) → (D.state disk).contents ≡ Some d → Sound d
         → HonestCuts d (D.state disk) (D.state result.1) }
+    ensures stops { (b t : List ℕ) → S.left source.old ≡ Some b → K.took sink.old ≡ Some t
+        → Stops result.0 b (S.left source.new) t (K.took sink.new) (Rose (K.faults sink.old) (K.faults sink.new))
+        (λ k. InParts (PartMay (reading b)) k (D.state disk) (D.state result.1)) }
     ensures same_disk { Went (D.state disk) (D.state result.1) }
 
     // The volume can't be opened.

@@ -1,6 +1,7 @@
 //! A volume is restored, and what was found is revealed.
 ghost use Rattle.std.specs.Prelude.{◌≡◌, ◌≢◌, ◌⊎◌, ◌++◌, ℕ, List, [], Some, Err, true, false, length, slice_get, IfOk, OnOk};
 ghost use Rattle.std.specs.Io.KnownBytes.{Appends};
+ghost use Rattle.cut_words.specs.Between.{EachCutFromFirstSync};
 ghost use Rattle.labelled_disk.specs.Calls.{OnlyReads, Rose, RevealsSame};
 ghost use Rattle.labelled_disk.specs.Layout.{IsCount};
 ghost use Rattle.labelled_disk.specs.CrashState.{crash_state};
@@ -12,7 +13,7 @@ ghost use Rattle.volume_root.specs.RootPage.{judged};
 ghost use Rattle.scavenger.specs.Opening.{Accords};
 ghost use Rattle.scavenger.specs.Orders.{Orders, AreFor, scavenge_writes};
 ghost use Rattle.scavenger.specs.Reported.{lost_in, Reports};
-ghost use Rattle.scavenger.specs.Restored.{IsBetween, IsRestored};
+ghost use Rattle.scavenger.specs.Restored.{IsBetween, IsRestored, Survives};
 ghost use Rattle.pilot_top.specs.Last.{last_line, Puts};
 ghost use Rattle.pilot_top.specs.Reporting.{IsReport, restored_text};
 ghost use Rattle.pilot_top.specs.Scavenging.{IsNoVolume};
@@ -83,6 +84,7 @@ fn restored<A: Allocator + Clone, D: Disk>(
         → (D.state disk.old).contents ≡ Some g → (D.state disk.old).writes ≡ Some before
         → (D.state disk.new).writes ≡ Some (before ++ writes)
         → (k : ℕ) → IsBetween g (crash_state g writes k) }
+    ensures cuts { EachCutFromFirstSync Survives (D.state disk.old) (D.state disk.new) }
 
     // The disk has no volume that can be restored.
     ensures count { ¬ IsCount (D.state disk.old).sectors
@@ -150,6 +152,7 @@ pub(crate) fn restore_volume<A: Allocator + Clone, D: Disk, K: Sink>(
         → (D.state disk.old).contents ≡ Some g → (D.state disk.old).writes ≡ Some before
         → (D.state disk.new).writes ≡ Some (before ++ writes)
         → (k : ℕ) → IsBetween g (crash_state g writes k) }
+    ensures cuts { EachCutFromFirstSync Survives (D.state disk.old) (D.state disk.new) }
 
     // The disk has no volume that can be restored.
     ensures count { ¬ IsCount (D.state disk.old).sectors → result ≡ Status.NotOpened

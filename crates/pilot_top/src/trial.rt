@@ -21,6 +21,8 @@ ghost use Rattle.pilot_top.specs.Counting.{AreOf};
 ghost use Rattle.pilot_top.specs.Last.{last_line, Puts};
 ghost use Rattle.pilot_top.specs.CrashStates.{Openly, ShutsLast};
 ghost use Rattle.pilot_top.specs.Trial.{HasAnswered, HasNoFile, IsTrial, IsTrialOf, TriesLawfully, after_calls, drawn_calls, first_calls, trial_line};
+ghost use Rattle.filer_kernel.specs.View.{FitsLayout};
+ghost use Rattle.fault_core.specs.Core.{state};
 
 use crate::Status;
 use crate::closing::close;
@@ -63,18 +65,18 @@ fn first_call(index: u32) -> Call
 // Makes the files, the spaces and the windows.
 #[tactic(auto, using(crate::proofs::PermittedRuns::openly_itself))]
 fn prepare<D: Disk, A: Allocator>(session: &mut Session<D, A>) -> Result<(), Halt>
-    requires size { (D.state session.old.core.filer.swapper.disk).sectors ≡ session.old.core.filer.swapper.layout.sectors }
-    requires opened { IsOpen session.old.core.filer.swapper.layout session.old.volume }
+    requires size { FitsLayout (state session.old.core) }
+    requires opened { IsOpen (state session.old.core).layout session.old.volume }
     requires running { session.old.running ≡ true }
     ensures answered { (m : Machine) → Runs session.old.core session.old.volume m
         → OnOk result ((replies : List Reply) × HasAnswered m first_calls replies (Runs session.new.core session.new.volume)) }
     ensures sound { (m : Machine) → Runs session.old.core session.old.volume m → IfErr result (λ e. e ≡ halt.Disk) }
-    ensures counted { result ≡ Err halt.Disk → Rose (D.state session.old.core.filer.swapper.disk).faults (D.state session.new.core.filer.swapper.disk).faults }
-    ensures evidence_seen { IfErr result (ShowsEvidence (D.state session.new.core.filer.swapper.disk)) }
-    ensures permitted { Openly (D.state session.old.core.filer.swapper.disk) (D.state session.new.core.filer.swapper.disk) }
-    ensures went { Went (D.state session.old.core.filer.swapper.disk) (D.state session.new.core.filer.swapper.disk) }
-    ensures layout { session.new.core.filer.swapper.layout ≡ session.old.core.filer.swapper.layout }
-    ensures open_still { IsOpen session.new.core.filer.swapper.layout session.new.volume }
+    ensures counted { result ≡ Err halt.Disk → Rose (state session.old.core).disk.faults (state session.new.core).disk.faults }
+    ensures evidence_seen { IfErr result (ShowsEvidence (state session.new.core).disk) }
+    ensures permitted { Openly (state session.old.core).disk (state session.new.core).disk }
+    ensures went { Went (state session.old.core).disk (state session.new.core).disk }
+    ensures layout { (state session.new.core).layout ≡ (state session.old.core).layout }
+    ensures open_still { IsOpen (state session.new.core).layout session.new.volume }
     ensures goes_on { OnOk result (session.new.running ≡ true) }
 {
     for index in 0..12 {
@@ -93,19 +95,19 @@ fn count_calls<D: Disk, A: Allocator>(
     seed: u32,
     calls: u32,
 ) -> Result<Counts, Halt>
-    requires size { (D.state session.old.core.filer.swapper.disk).sectors ≡ session.old.core.filer.swapper.layout.sectors }
-    requires opened { IsOpen session.old.core.filer.swapper.layout session.old.volume }
+    requires size { FitsLayout (state session.old.core) }
+    requires opened { IsOpen (state session.old.core).layout session.old.volume }
     requires running { session.old.running ≡ true }
     ensures answered { IfOk result (λ counts. (replies : List Reply) × AreOf counts replies × (length replies ≡ calls)
         × ((m : Machine) → Runs session.old.core session.old.volume m
         → HasAnswered m (drawn_calls seed calls) replies (Runs session.new.core session.new.volume))) }
     ensures sound { (m : Machine) → Runs session.old.core session.old.volume m → IfErr result (λ e. e ≡ halt.Disk) }
-    ensures counted { result ≡ Err halt.Disk → Rose (D.state session.old.core.filer.swapper.disk).faults (D.state session.new.core.filer.swapper.disk).faults }
-    ensures evidence_seen { IfErr result (ShowsEvidence (D.state session.new.core.filer.swapper.disk)) }
-    ensures permitted { Openly (D.state session.old.core.filer.swapper.disk) (D.state session.new.core.filer.swapper.disk) }
-    ensures went { Went (D.state session.old.core.filer.swapper.disk) (D.state session.new.core.filer.swapper.disk) }
-    ensures layout { session.new.core.filer.swapper.layout ≡ session.old.core.filer.swapper.layout }
-    ensures open_still { IsOpen session.new.core.filer.swapper.layout session.new.volume }
+    ensures counted { result ≡ Err halt.Disk → Rose (state session.old.core).disk.faults (state session.new.core).disk.faults }
+    ensures evidence_seen { IfErr result (ShowsEvidence (state session.new.core).disk) }
+    ensures permitted { Openly (state session.old.core).disk (state session.new.core).disk }
+    ensures went { Went (state session.old.core).disk (state session.new.core).disk }
+    ensures layout { (state session.new.core).layout ≡ (state session.old.core).layout }
+    ensures open_still { IsOpen (state session.new.core).layout session.new.volume }
     ensures goes_on { OnOk result (session.new.running ≡ true) }
 {
     let mut maker = TraceMaker::new(seed);
@@ -125,19 +127,19 @@ fn try_calls<D: Disk, A: Allocator>(
     seed: u32,
     calls: u32,
 ) -> Result<Counts, Halt>
-    requires size { (D.state session.old.core.filer.swapper.disk).sectors ≡ session.old.core.filer.swapper.layout.sectors }
-    requires opened { IsOpen session.old.core.filer.swapper.layout session.old.volume }
+    requires size { FitsLayout (state session.old.core) }
+    requires opened { IsOpen (state session.old.core).layout session.old.volume }
     requires running { session.old.running ≡ true }
     ensures answered { IfOk result (λ counts. (replies : List Reply) × AreOf counts replies × (length replies ≡ calls)
         × ((m : Machine) → Runs session.old.core session.old.volume m → IsTrialOf m seed calls replies
         × Runs session.new.core session.new.volume (after_calls m (first_calls ++ drawn_calls seed calls)))) }
     ensures sound { (m : Machine) → Runs session.old.core session.old.volume m → IfErr result (λ e. e ≡ halt.Disk) }
-    ensures counted { result ≡ Err halt.Disk → Rose (D.state session.old.core.filer.swapper.disk).faults (D.state session.new.core.filer.swapper.disk).faults }
-    ensures evidence_seen { IfErr result (ShowsEvidence (D.state session.new.core.filer.swapper.disk)) }
-    ensures permitted { Openly (D.state session.old.core.filer.swapper.disk) (D.state session.new.core.filer.swapper.disk) }
-    ensures went { Went (D.state session.old.core.filer.swapper.disk) (D.state session.new.core.filer.swapper.disk) }
-    ensures layout { session.new.core.filer.swapper.layout ≡ session.old.core.filer.swapper.layout }
-    ensures open_still { IsOpen session.new.core.filer.swapper.layout session.new.volume }
+    ensures counted { result ≡ Err halt.Disk → Rose (state session.old.core).disk.faults (state session.new.core).disk.faults }
+    ensures evidence_seen { IfErr result (ShowsEvidence (state session.new.core).disk) }
+    ensures permitted { Openly (state session.old.core).disk (state session.new.core).disk }
+    ensures went { Went (state session.old.core).disk (state session.new.core).disk }
+    ensures layout { (state session.new.core).layout ≡ (state session.old.core).layout }
+    ensures open_still { IsOpen (state session.new.core).layout session.new.volume }
     ensures goes_on { OnOk result (session.new.running ≡ true) }
 {
     match prepare(session) {
@@ -157,8 +159,8 @@ fn try_session<D: Disk, A: Allocator, K: Sink>(
     calls: u32,
     sink: &mut K,
 ) -> (Status, D)
-    requires size { (D.state session.core.filer.swapper.disk).sectors ≡ session.core.filer.swapper.layout.sectors }
-    requires opened { IsOpen session.core.filer.swapper.layout session.volume }
+    requires size { FitsLayout (state session.core) }
+    requires opened { IsOpen (state session.core).layout session.volume }
     requires running { session.running ≡ true }
     ensures ends { (result.0 ≡ Status.Done) ⊎ (result.0 ≡ Status.StreamFault)
         ⊎ (result.0 ≡ Status.DiskFault) ⊎ (result.0 ≡ Status.Damaged) }
@@ -174,7 +176,7 @@ fn try_session<D: Disk, A: Allocator, K: Sink>(
         → HasShut (after_calls m (first_calls ++ drawn_calls seed calls)) (D.state result.1) }
     ensures sound { (m : Machine) → Runs session.core session.volume m → result.0 ≢ Status.Damaged }
     ensures disk_cause { result.0 ≡ Status.DiskFault
-        → Rose (D.state session.core.filer.swapper.disk).faults (D.state result.1).faults }
+        → Rose (state session.core).disk.faults (D.state result.1).faults }
     ensures disk_line { result.0 ≡ Status.DiskFault
         → Puts (Rose (K.faults sink.old) (K.faults sink.new)) (K.took sink.old) (K.took sink.new)
         (last_line Cause.DiskFault) }
@@ -183,8 +185,8 @@ fn try_session<D: Disk, A: Allocator, K: Sink>(
     ensures damage_line { result.0 ≡ Status.Damaged → (e : Evidence) × IsEvident (D.state result.1) e
         × Puts (Rose (K.faults sink.old) (K.faults sink.new)) (K.took sink.old) (K.took sink.new)
         (last_line (Cause.Damaged e)) }
-    ensures permitted { ShutsLast (D.state session.core.filer.swapper.disk) (D.state result.1) }
-    ensures went { Went (D.state session.core.filer.swapper.disk) (D.state result.1) }
+    ensures permitted { ShutsLast (state session.core).disk (D.state result.1) }
+    ensures went { Went (state session.core).disk (D.state result.1) }
 {
     let mut session = session;
     let counts = match try_calls(&mut session, seed, calls) {

@@ -10,9 +10,12 @@ ghost use Rattle.running_words.specs.Session.{IsOpen, WroteIn};
 ghost use Rattle.running_words.specs.Stages.{client_or_own};
 ghost use Rattle.running_words.specs.Running.{Runs};
 ghost use Rattle.pilot_top.specs.Headline.{CostsLine};
-ghost use Rattle.pilot_top.specs.CrashStates.{CrashStates};
+ghost use Rattle.pilot_top.specs.CrashStates.{LineCrashStates};
+ghost use Rattle.pilot_top.specs.Parts.{LineWrote};
 ghost use Rattle.pilot_top.specs.Turn.{EndsAt, IsGoing, IsIdle, Turns};
 ghost use Rattle.pilot_engine.specs.Reasons.{IsBlameless, SeesHome};
+ghost use Rattle.filer_kernel.specs.View.{FitsLayout};
+ghost use Rattle.fault_core.specs.Core.{state};
 
 use flat_machine::{Call, Refusal, Reply};
 use labelled_disk::{Disk, Halt};
@@ -61,34 +64,35 @@ pub(crate) fn take_turn<D: Disk, A: Allocator, S: Source>(
     source: &mut S,
 ) -> Turn
     requires stopped { (lines.old.stopped ≡ None) ⊎ (lines.old.stopped ≡ Some Stop.End) }
-    requires size { (D.state session.old.core.filer.swapper.disk).sectors ≡ session.old.core.filer.swapper.layout.sectors }
-    requires opened { IsOpen session.old.core.filer.swapper.layout session.old.volume }
+    requires size { FitsLayout (state session.old.core) }
+    requires opened { IsOpen (state session.old.core).layout session.old.volume }
     requires running { session.old.running ≡ true }
     ensures turns { Turns result (S.left source.old) (S.left source.new) lines.old lines.new
         (Runs session.old.core session.old.volume)
         (Runs session.new.core session.new.volume)
-        (λ m line. CrashStates m (line ∷ []) (D.state session.old.core.filer.swapper.disk) (D.state session.new.core.filer.swapper.disk)
-        × CostsLine line (D.state session.old.core.filer.swapper.disk) (D.state session.new.core.filer.swapper.disk)) }
+        (λ m line. LineCrashStates m line (state session.old.core).disk (state session.new.core).disk
+        × CostsLine line (state session.old.core).disk (state session.new.core).disk)
+        (λ line. LineWrote line (state session.old.core).disk (state session.new.core).disk) }
     ensures bound { lines.new.taken ≤ lines.new.limit }
     ensures idle { IsIdle result → session.new ≡ session.old }
     ensures going { IsGoing result → session.new.running ≡ true }
     ensures sound { (m : Machine) (why : Halt) → Runs session.old.core session.old.volume m
         → result ≡ Turn.Halts why → why ≡ halt.Disk }
-    ensures counted { result ≡ Turn.Halts halt.Disk → Rose (D.state session.old.core.filer.swapper.disk).faults (D.state session.new.core.filer.swapper.disk).faults }
+    ensures counted { result ≡ Turn.Halts halt.Disk → Rose (state session.old.core).disk.faults (state session.new.core).disk.faults }
     ensures keeps_to { (o : InitialState) → KeepsOn o session.old.core.filer → IsNotOlder o session.old.volume.root
         → IsGoing result → KeepsOn (giving o (next_id session.new.volume.root)) session.new.core.filer }
     ensures reasons { (o : InitialState) → KeepsOn o session.old.core.filer → IsNotOlder o session.old.volume.root
         → (why : Halt) → result ≡ Turn.Halts why
-        → ShowsReason o session.old.core.filer.swapper.layout (D.state session.new.core.filer.swapper.disk) why }
+        → ShowsReason o (state session.old.core).layout (state session.new.core).disk why }
     ensures sees { (o : InitialState) → KeepsOn o session.old.core.filer → IsNotOlder o session.old.volume.root
         → SeesHome o session.old.core → IsGoing result → SeesHome o session.new.core }
     ensures right { (o : InitialState) → KeepsOn o session.old.core.filer → IsNotOlder o session.old.volume.root
-        → SeesHome o session.old.core → (why : Halt) → result ≡ Turn.Halts why → IsBlameless o (D.state session.new.core.filer.swapper.disk) why }
+        → SeesHome o session.old.core → (why : Halt) → result ≡ Turn.Halts why → IsBlameless o (state session.new.core).disk why }
     ensures monotone { IsMonotone session.old.volume.root session.new.volume.root }
-    ensures evidence_seen { (why : Halt) → result ≡ Turn.Halts why → ShowsEvidence (D.state session.new.core.filer.swapper.disk) why }
-    ensures wrote { WroteIn client_or_own (D.state session.old.core.filer.swapper.disk) session.old.core.filer.swapper.pool (D.state session.new.core.filer.swapper.disk) session.new.core.filer.swapper.pool }
-    ensures open_still { IsOpen session.new.core.filer.swapper.layout session.new.volume }
-    ensures layout { session.new.core.filer.swapper.layout ≡ session.old.core.filer.swapper.layout }
+    ensures evidence_seen { (why : Halt) → result ≡ Turn.Halts why → ShowsEvidence (state session.new.core).disk why }
+    ensures wrote { WroteIn client_or_own (state session.old.core).disk (state session.old.core).slots (state session.new.core).disk (state session.new.core).slots }
+    ensures open_still { IsOpen (state session.new.core).layout session.new.volume }
+    ensures layout { (state session.new.core).layout ≡ (state session.old.core).layout }
     ensures source_later { S.faults source.old ≤ S.faults source.new }
     ensures source_cause { result ≡ Turn.ReadFault → Rose (S.faults source.old) (S.faults source.new) }
 {

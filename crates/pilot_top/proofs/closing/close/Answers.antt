@@ -10,6 +10,7 @@ use Rattle.pilot_top.specs.InitialState.{FromEachInitialState}
 use Rattle.pilot_top.proofs.CloseLemmas.{not_damaged, damage_reasoned, damage_revealed, left_damaged}
 use Rattle.pilot_top.proofs.ReasonLemmas.{goes_nowhere, reason_halted}
 use Rattle.pilot_top.proofs.closing.close.Goals as goal
+use Rattle.filer_kernel.specs.View.{view_of}
 
 pub returns-in-Ok-clause-closed : goal.returns-in-Ok-clause-closed
 returns-in-Ok-clause-closed g c m is none = subst (λ r. OnOk r (HasShut m (g.D.Disk.state c.finish-closed.result.1))) c.in-Ok.is (c.finish-closed.ensures.closed m is)
@@ -31,7 +32,7 @@ returns-in-Err-clause-evidence_seen g c damaged =
     let disk = g.D.Disk.state c.finish-closed.result.1 in
     damage_reasoned c.in-Err.halt c.stop.result _ _ _ disk (FromEachInitialState session disk) (subst (λ r. IfErr r (ShowsEvidence disk)) c.in-Err.is c.finish-closed.ensures.evidence_seen)
     (λ e. reason_halted session session refl (goes_nowhere session) disk e c.in-Err.halt (λ o keeps not_older. (
-      subst (λ r. IfErr r (ShowsReason o filer.swapper.layout disk)) c.in-Err.is (c.finish-closed.ensures.reasons o keeps),
+      subst (λ r. IfErr r (ShowsReason o (view_of filer).layout disk)) c.in-Err.is (c.finish-closed.ensures.reasons o keeps),
       λ seen. blameless_at_end o disk c.in-Err.halt (subst (λ r. IfErr r (NeverBlamesEnd o disk)) c.in-Err.is (c.finish-closed.ensures.sees o keeps seen)),
     )))
     c.stop.ensures.status damaged c.stop.ensures.line

@@ -15,6 +15,8 @@ use Rattle.pilot_top.proofs.SameLemmas.{stops_same, unset_same, wrote_same}
 use Rattle.pilot_top.proofs.ShownLemmas.{none_shown, not_shown, revealed_then}
 use Rattle.pilot_top.proofs.closing.end_trace.Given as given
 use Rattle.pilot_top.proofs.closing.end_trace.Goals as goal
+use Rattle.filer_kernel.specs.View.{disk_of}
+use Rattle.fault_core.specs.Core.{state}
 
 -- the session's disk, where what waited was brought to the medium
 same_there : (g : given.Over) (x y z : g.row.D.Denot) → y ≡ x → RevealsSame (g.D.Disk.state y) (g.D.Disk.state z) → RevealsSame (g.D.Disk.state x) (g.D.Disk.state z)
@@ -30,12 +32,12 @@ returns-in-Some-clause-closed g c m is other done = absurd (other (same_true the
 
 pub returns-in-Some-clause-stops : goal.returns-in-Some-clause-stops
 returns-in-Some-clause-stops g c m is =
-    let disk = c.args.session.core.filer.swapper.disk in
+    let disk = (disk_of c.args.session.core.filer) in
     stops_same (same_there g disk c.into_disk-disk.result c.bring.new.disk c.into_disk-disk.ensures c.bring.ensures.same) (rest_stops m is (g.met.D.Disk.in_form disk))
 
 pub returns-in-Some-clause-sound : goal.returns-in-Some-clause-sound
 returns-in-Some-clause-sound g c m is damaged =
-    let disk = c.args.session.core.filer.swapper.disk in
+    let disk = (disk_of c.args.session.core.filer) in
     let there = same_there g disk c.into_disk-disk.result c.bring.new.disk c.into_disk-disk.ensures c.bring.ensures.same in
     let at = is.session.stands.stands in
     let revealed = revealed_then [] (g.D.Disk.state disk) (g.D.Disk.state c.bring.new.disk) (appended_none there) at.sectors at.revealed in
@@ -44,13 +46,13 @@ returns-in-Some-clause-sound g c m is damaged =
 
 pub returns-in-Some-clause-wrote : goal.returns-in-Some-clause-wrote
 returns-in-Some-clause-wrote g c =
-    let disk = c.args.session.core.filer.swapper.disk in
+    let disk = (disk_of c.args.session.core.filer) in
     wrote_same (same_there g disk c.into_disk-disk.result c.bring.new.disk c.into_disk-disk.ensures c.bring.ensures.same)
-    (went_there g disk c.into_disk-disk.result c.bring.new.disk c.into_disk-disk.ensures c.bring.ensures.went) (wrote_on (wrote_nothing (g.D.Disk.state disk) c.args.session.core.filer.swapper.pool))
+    (went_there g disk c.into_disk-disk.result c.bring.new.disk c.into_disk-disk.ensures c.bring.ensures.went) (wrote_on (wrote_nothing (g.D.Disk.state disk) (state c.args.session.core).slots))
 
 pub returns-in-Some-clause-left_open : goal.returns-in-Some-clause-left_open
 returns-in-Some-clause-left_open g c unset damaged =
-    unset_same (same_there g c.args.session.core.filer.swapper.disk c.into_disk-disk.result c.bring.new.disk c.into_disk-disk.ensures c.bring.ensures.same) unset
+    unset_same (same_there g (disk_of c.args.session.core.filer) c.into_disk-disk.result c.bring.new.disk c.into_disk-disk.ensures c.bring.ensures.same) unset
 
 -- the line `halt` is answered
 
@@ -59,36 +61,36 @@ returns-in-Ok-clause-closed g c m is other done = absurd (other (same_true the_t
 
 pub returns-in-Ok-clause-stops : goal.returns-in-Ok-clause-stops
 returns-in-Ok-clause-stops g c m is =
-    let disk = c.args.session.core.filer.swapper.disk in
+    let disk = (disk_of c.args.session.core.filer) in
     stops_same (same_there g disk c.into_disk-disk.result c.bring.new.disk c.into_disk-disk.ensures c.bring.ensures.same) (rest_stops m is (g.met.D.Disk.in_form disk))
 
 pub returns-in-Ok-clause-wrote : goal.returns-in-Ok-clause-wrote
 returns-in-Ok-clause-wrote g c =
-    let disk = c.args.session.core.filer.swapper.disk in
+    let disk = (disk_of c.args.session.core.filer) in
     wrote_same (same_there g disk c.into_disk-disk.result c.bring.new.disk c.into_disk-disk.ensures c.bring.ensures.same)
-    (went_there g disk c.into_disk-disk.result c.bring.new.disk c.into_disk-disk.ensures c.bring.ensures.went) (wrote_on (wrote_nothing (g.D.Disk.state disk) c.args.session.core.filer.swapper.pool))
+    (went_there g disk c.into_disk-disk.result c.bring.new.disk c.into_disk-disk.ensures c.bring.ensures.went) (wrote_on (wrote_nothing (g.D.Disk.state disk) (state c.args.session.core).slots))
 
 pub returns-in-Ok-clause-cost : goal.returns-in-Ok-clause-cost
 returns-in-Ok-clause-cost g c m is =
-    spent_same (g.D.Disk.state c.args.session.core.filer.swapper.disk) (g.D.Disk.state c.bring.new.disk) (c.bring.ensures.transfers ∙ ap (λ (d : g.row.D.Denot). (g.D.Disk.state d).transfers) c.into_disk-disk.ensures)
+    spent_same (state c.args.session.core).disk (g.D.Disk.state c.bring.new.disk) (c.bring.ensures.transfers ∙ ap (λ (d : g.row.D.Denot). (g.D.Disk.state d).transfers) c.into_disk-disk.ensures)
 
 pub returns-in-Err-clause-closed : goal.returns-in-Err-clause-closed
 returns-in-Err-clause-closed g c m is other done = absurd (other (same_true the_type (search rules) _ _ (sym c.if-eq.ensures)))
 
 pub returns-in-Err-clause-stops : goal.returns-in-Err-clause-stops
 returns-in-Err-clause-stops g c m is =
-    let disk = c.args.session.core.filer.swapper.disk in
+    let disk = (disk_of c.args.session.core.filer) in
     stops_same (same_there g disk c.into_disk-disk.result c.bring.new.disk c.into_disk-disk.ensures c.bring.ensures.same) (rest_stops m is (g.met.D.Disk.in_form disk))
 
 pub returns-in-Err-clause-wrote : goal.returns-in-Err-clause-wrote
 returns-in-Err-clause-wrote g c =
-    let disk = c.args.session.core.filer.swapper.disk in
+    let disk = (disk_of c.args.session.core.filer) in
     wrote_same (same_there g disk c.into_disk-disk.result c.bring.new.disk c.into_disk-disk.ensures c.bring.ensures.same)
-    (went_there g disk c.into_disk-disk.result c.bring.new.disk c.into_disk-disk.ensures c.bring.ensures.went) (wrote_on (wrote_nothing (g.D.Disk.state disk) c.args.session.core.filer.swapper.pool))
+    (went_there g disk c.into_disk-disk.result c.bring.new.disk c.into_disk-disk.ensures c.bring.ensures.went) (wrote_on (wrote_nothing (g.D.Disk.state disk) (state c.args.session.core).slots))
 
 pub returns-in-Err-clause-cost : goal.returns-in-Err-clause-cost
 returns-in-Err-clause-cost g c m is =
-    spent_same (g.D.Disk.state c.args.session.core.filer.swapper.disk) (g.D.Disk.state c.bring.new.disk) (c.bring.ensures.transfers ∙ ap (λ (d : g.row.D.Denot). (g.D.Disk.state d).transfers) c.into_disk-disk.ensures)
+    spent_same (state c.args.session.core).disk (g.D.Disk.state c.bring.new.disk) (c.bring.ensures.transfers ∙ ap (λ (d : g.row.D.Denot). (g.D.Disk.state d).transfers) c.into_disk-disk.ensures)
 
 -- the session was ended, or halted
 
@@ -109,15 +111,15 @@ returns-clause-closed g c m is other done = let none : ◌≡◌ {A = Option Sta
 
 pub returns-in-Some-clause-syncs : goal.returns-in-Some-clause-syncs
 returns-in-Some-clause-syncs g c m is =
-    let disk = c.args.session.core.filer.swapper.disk in
+    let disk = (disk_of c.args.session.core.filer) in
     none_shuts (same_there g disk c.into_disk-disk.result c.bring.new.disk c.into_disk-disk.ensures c.bring.ensures.same)
 
 pub returns-in-Ok-clause-syncs : goal.returns-in-Ok-clause-syncs
 returns-in-Ok-clause-syncs g c m is =
-    let disk = c.args.session.core.filer.swapper.disk in
+    let disk = (disk_of c.args.session.core.filer) in
     none_shuts (same_there g disk c.into_disk-disk.result c.bring.new.disk c.into_disk-disk.ensures c.bring.ensures.same)
 
 pub returns-in-Err-clause-syncs : goal.returns-in-Err-clause-syncs
 returns-in-Err-clause-syncs g c m is =
-    let disk = c.args.session.core.filer.swapper.disk in
+    let disk = (disk_of c.args.session.core.filer) in
     none_shuts (same_there g disk c.into_disk-disk.result c.bring.new.disk c.into_disk-disk.ensures c.bring.ensures.same)

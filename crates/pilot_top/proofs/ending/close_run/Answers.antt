@@ -14,6 +14,8 @@ use Rattle.pilot_top.specs.declared.status.Status.{Status}
 use Rattle.pilot_top.proofs.ReasonLemmas.{goes_nowhere, reason_halted}
 use Rattle.pilot_top.proofs.ShownLemmas.{none_shown, on_damage, on_disk, on_ends, on_sound, on_unset, revealed_then, some_of}
 use Rattle.pilot_top.proofs.ending.close_run.Goals as goal
+use Rattle.fault_core.specs.Core.{state}
+use Rattle.filer_kernel.specs.View.{view_of}
 
 pub returns-in-Ok-clause-closed : goal.returns-in-Ok-clause-closed
 returns-in-Ok-clause-closed g c m is none = subst (λ r. OnOk r (HasShut m (g.D.Disk.state c.finish-closed.result.1))) c.in-Ok.is (c.finish-closed.ensures.closed m is)
@@ -41,7 +43,7 @@ returns-in-Err-clause-sound g c m is damaged =
     let disk = c.finish-closed.result.1 in
     let stops = c.finish-closed.ensures.stops m is in
     let stands = is.session.stands.stands in
-    let revealed = revealed_then stops.writes (g.D.Disk.state c.args.session.core.filer.swapper.disk) (g.D.Disk.state disk) stops.appended stands.sectors stands.revealed in
+    let revealed = revealed_then stops.writes (state c.args.session.core).disk (g.D.Disk.state disk) stops.appended stands.sectors stands.revealed in
     on_sound (g.D.RunDisk.shown disk) c.in-Err.halt c.stop_on-status.result c.stop_on-status.ensures.status
     (none_shown (g.D.RunDisk.shown disk) (g.D.Disk.state disk) (g.met.D.RunDisk.unrevealed disk) revealed.0 revealed.1)
     (subst (λ r. IfErr r (λ e. e ≡ halt.Disk)) c.in-Err.is (c.finish-closed.ensures.sound m is)) (some_of damaged)
@@ -59,7 +61,7 @@ returns-in-Err-clause-damage g c damaged =
     on_damage (g.D.RunDisk.shown c.finish-closed.result.1) c.in-Err.halt c.stop_on-status.result c.stop_on-status.ensures.status _ _ _ disk (FromEachInitialState session disk)
     (subst (λ r. IfErr r (ShowsEvidence disk)) c.in-Err.is c.finish-closed.ensures.evidence_seen)
     (λ e. reason_halted session session refl (goes_nowhere session) disk e c.in-Err.halt (λ o keeps not_older. (
-      subst (λ r. IfErr r (ShowsReason o filer.swapper.layout disk)) c.in-Err.is (c.finish-closed.ensures.reasons o keeps),
+      subst (λ r. IfErr r (ShowsReason o (view_of filer).layout disk)) c.in-Err.is (c.finish-closed.ensures.reasons o keeps),
       λ seen. blameless_at_end o disk c.in-Err.halt (subst (λ r. IfErr r (NeverBlamesEnd o disk)) c.in-Err.is (c.finish-closed.ensures.sees o keeps seen)),
     )))
     (some_of damaged) c.stop_on-status.ensures.line

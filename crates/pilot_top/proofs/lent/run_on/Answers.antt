@@ -6,7 +6,8 @@ use Rattle.trace_io.specs.Reading.{reading}
 use Rattle.command_words.specs.declared.words.Command.TheVariants as command
 use Rattle.pilot_top.specs.Headline.{at_end, run_bound}
 use Rattle.pilot_top.specs.InitialState.{FromInitialState}
-use Rattle.pilot_top.proofs.AfterLemmas.{none_rose_after, rose_after, shut_after, open_after, spent_after, run_after, reads_after, crash_states_after, cuts_after, lawfully_after, damage_after, replied_after, from_after}
+use Rattle.pilot_top.specs.Parts.{PartMay}
+use Rattle.pilot_top.proofs.AfterLemmas.{none_rose_after, rose_after, shut_after, open_after, spent_after, run_after, reads_after, crash_states_after, cuts_after, lawfully_after, stops_after, damage_after, replied_after, from_after}
 use Rattle.pilot_top.proofs.ReasonLemmas.{replied_reasoned}
 use Rattle.pilot_top.proofs.StatusLemmas.{is_done, with_memory}
 use Rattle.pilot_top.proofs.lent.run_on.Given as given
@@ -24,7 +25,7 @@ reason g c m = from_after g.D.Disk.state _ c.run-status.result.1.now (after g c)
 pub returns : goal.returns
 returns g c = record {
   ran = let e = c.run-status.ensures in record {
-    answers = λ d b t revealed sound source sink. run_after g.D.Disk.state _ c.run-status.result.1.now (after g c) c.run-status.result.0 d b t _ _ _ _ (e.run d b t revealed sound source sink);
+    answers = λ d b t revealed sound source sink. run_after g.D.Disk.state _ c.run-status.result.1.now (after g c) (g.D.Disk.state c.args.disk.now) _ c.run-status.result.1.ghost_name c.run-status.result.0 d b t _ _ _ (e.run d b t revealed sound source sink);
     replied = λ b t source sink.
         replied_after g.D.Disk.state _ c.run-status.result.1.now (after g c) c.run-status.result.0 b t _ _ _ c.run-status.result.1.ghost_name (FromInitialState (g.D.Disk.state c.args.disk.now) (g.D.Disk.state c.disk-1.given.0))
         (replied_reasoned c.run-status.result.0 b t _ _ _ _ _ (FromInitialState (g.D.Disk.state c.args.disk.now) (g.D.Disk.state c.disk-1.given.0)) (reason g c _) (e.replied b t source sink));
@@ -33,6 +34,8 @@ returns g c = record {
     crash_states = λ d b revealed sound source. crash_states_after g.D.Disk.state _ c.run-status.result.1.now (after g c) (g.D.Disk.state c.args.disk.now) _ _ (start d) (reading b) (e.crash_states d b revealed sound source);
     some_crash_states = λ d revealed sound. let some = e.some_crash_states d revealed sound in (some.0, crash_states_after g.D.Disk.state _ c.run-status.result.1.now (after g c) (g.D.Disk.state c.args.disk.now) _ _ (start d) some.0 some.1);
     cuts = λ d revealed sound. cuts_after g.D.Disk.state _ c.run-status.result.1.now (after g c) (g.D.Disk.state c.args.disk.now) d (e.cuts d revealed sound);
+    stops = λ b t source sink.
+        stops_after g.D.Disk.state _ c.run-status.result.1.now (after g c) (g.D.Disk.state c.args.disk.now) _ c.run-status.result.1.ghost_name c.run-status.result.0 b t _ _ _ (PartMay (reading b)) (e.stops b t source sink);
     stays_open = λ b source early. open_after g.D.Disk.state _ c.run-status.result.1.now (after g c) (e.stays_open b source early);
     untaken = λ b source failed some. open_after g.D.Disk.state _ c.run-status.result.1.now (after g c) (e.untaken b source failed some);
     left_open = λ is. open_after g.D.Disk.state _ c.run-status.result.1.now (after g c) (e.left_open is);

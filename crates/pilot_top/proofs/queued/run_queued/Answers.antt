@@ -20,7 +20,7 @@ use Rattle.pilot_top.specs.declared.status.Status.TheVariants as status
 use Rattle.pilot_top.proofs.CostLemmas.{few_calls, queued_spends}
 use Rattle.pilot_top.proofs.QueuedLemmas.{answers_beneath, shut_beneath, unchanged_of}
 use Rattle.pilot_top.proofs.QueuedRuns.{all_replied, all_seen, queued_nothing, queued_unread, root_ends, root_fault, root_opened}
-use Rattle.pilot_top.proofs.RunLemmas.{not_done, refused_line}
+use Rattle.pilot_top.proofs.RunLemmas.{not_done, refused_ends, refused_line}
 use Rattle.pilot_top.proofs.StatusLemmas.{is_done}
 use Rattle.pilot_top.proofs.queued.run_queued.Goals as goal
 
@@ -52,6 +52,8 @@ returns-in-Err g c =
       long = λ b source is. absurd (ends.0 is);
       no_other = (ends.2, ends.3);
       lent = r.only_reads.lent;
+      refused = λ d w revealed refused. refused_ends (start_fault.Root why) s _ _ g.K.Sink.took _ stops w
+          (refused_so d before.sectors (whole d revealed) c.read_root.result r.count (λ count. r.judged count d revealed) why c.in-Err.is w refused);
       refused_kept = λ d w revealed refused. refl;
     }
 
@@ -70,6 +72,7 @@ returns-in_default g c =
       long = λ b source is. absurd (cc is);
       no_other = (λ is. cc is, λ is. cc is);
       lent = r.only_reads.lent;
+      refused = λ d why revealed refused. absurd (root_opened d (g.D.Disk.state c.args.disk).sectors (g.met.D.Disk.whole c.args.disk d revealed) c.read_root.result c.in-Ok.root c.in-Ok.is c.in-Ok.ensures.valid.accepted (λ count. r.judged count d revealed) why refused);
       refused_kept = λ d why revealed refused. refl;
     }
 
@@ -88,6 +91,7 @@ returns-in-Err-over g c =
       long = λ b source is. absurd (cc is);
       no_other = (λ is. cc is, λ is. cc is);
       lent = rw same r.only_reads.lent;
+      refused = λ d why revealed refused. absurd (root_opened d (g.D.Disk.state c.args.disk).sectors (g.met.D.Disk.whole c.args.disk d revealed) c.read_root.result c.in-Ok.root c.in-Ok.is c.in-Ok.ensures.valid.accepted (λ count. r.judged count d revealed) why refused);
       refused_kept = λ d why revealed refused. refl;
     }
 
@@ -160,5 +164,6 @@ returns g c =
       long = e.long;
       no_other = (e.no_other.1, e.no_other.2);
       lent = of.lent ∙ r.only_reads.lent;
+      refused = λ d why revealed refused. absurd (opened d revealed why refused);
       refused_kept = λ d why revealed refused. absurd (opened d revealed why refused);
     }

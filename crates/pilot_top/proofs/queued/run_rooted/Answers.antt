@@ -10,6 +10,7 @@ use Rattle.pilot_top.proofs.ReasonLemmas.{replied_reasoned}
 use Rattle.pilot_top.proofs.RunLemmas.{damage_first, replied_refused}
 use Rattle.pilot_top.proofs.ShownLemmas.{none_shown}
 use Rattle.pilot_top.proofs.queued.run_rooted.Goals as goal
+use Rattle.fault_core.specs.Core.{state}
 
 pub returns-in-Ok : goal.returns-in-Ok
 returns-in-Ok g c =
@@ -17,12 +18,12 @@ returns-in-Ok g c =
     let from = c.in-Ok.ensures in
     let disk = g.D.Disk.state c.answer_lines.result.1 in
     record {
-      answers = λ d b t revealed sound source sink. settled_of c.answer_lines.result.0 d b t _ _ _ disk (e.answering (start d) b t (from.stands d revealed sound) source sink);
+      answers = λ d b t revealed sound source sink. settled_of c.answer_lines.result.0 d b t _ _ _ _ disk (e.answering (start d) b t (from.stands d revealed sound) source sink);
       closed = λ d b revealed sound source done going. e.closed (start d) b (from.stands d revealed sound) source done going;
       closed_unheard = λ d b revealed sound source failed held rest closes. e.closed_unheard (start d) b (from.stands d revealed sound) source failed held rest closes;
       rests = e.rests;
       transfers = λ d b revealed sound source.
-          rest_spends (reading b) (g.D.Disk.state c.args.disk) (g.D.Disk.state c.in-Ok.session.core.filer.swapper.disk) disk from.went.sectors from.bounded (e.transfers (start d) b (from.stands d revealed sound) source);
+          rest_spends (reading b) (g.D.Disk.state c.args.disk) (state c.in-Ok.session.core).disk disk from.went.sectors from.bounded (e.transfers (start d) b (from.stands d revealed sound) source);
       replied = λ b t source sink plain.
           replied_reasoned c.answer_lines.result.0 b t _ _ _ disk (FromEachInitialState c.in-Ok.session disk) (λ x. Unit {0}) (λ x reason. tt) (e.replied b t from.left_open source sink plain);
       changed = e.changed;

@@ -1,4 +1,4 @@
-use Rattle.std.proofs.Common.{◌≡◌, length, inl, inr, ◌∙◌, refl, sym, ap, subst, arith, Some, None, Option, List, []}
+use Rattle.std.proofs.Common.{◌≡◌, ◌≤◌, ℕ, suc, length, inl, inr, ◌∙◌, refl, sym, ap, subst, arith, Some, None, Option, List, []}
 use Rattle.labelled_disk.specs.declared.evidence.Evidence.{Evidence}
 use Rattle.labelled_disk.specs.declared.evidence.Halt.{Halt}
 use Rattle.labelled_disk.specs.declared.evidence.Halt.TheVariants as halt
@@ -19,9 +19,10 @@ use Rattle.pilot_engine.specs.Opening.{IsUnset}
 use Rattle.pilot_engine.proofs.UnsetLemmas.{unset_then}
 use Rattle.running_words.specs.Running.{Runs}
 use Rattle.pilot_top.specs.CrashStates.{CrashStates}
-use Rattle.pilot_top.specs.Headline.{HasFilesAt}
+use Rattle.pilot_top.specs.Headline.{LeadsTo}
 use Rattle.pilot_top.specs.Last.{last_line, Puts}
 use Rattle.pilot_top.specs.InitialState.{FromEachInitialState}
+use Rattle.pilot_top.specs.Parts.{InParts, PartMay}
 use Rattle.pilot_top.specs.RunDisk.{halt_on}
 use Rattle.pilot_top.specs.Stopping.{status_of, cause_of}
 use Rattle.pilot_top.specs.declared.last.Cause.{Cause}
@@ -29,43 +30,47 @@ use Rattle.pilot_top.specs.declared.last.Cause.TheVariants as cause
 use Rattle.pilot_top.specs.declared.status.Status.TheVariants as status
 use Rattle.pilot_top.specs.declared.turn.Turn.TheVariants.{Halts}
 use Rattle.pilot_top.proofs.EndLemmas.{End-answering, End-prefix, End-rest, End-short}
-use Rattle.pilot_top.proofs.ExitLemmas.{halt_not_damaged, halt_evidence, three_ways, stopped_files, takes_more, still_crash_states, still_spends, line_spends, end_spent, still_files, line_crash_states, halt_files, reply_files, line_not_close, end_closed, end_unheard, end_crash_states}
+use Rattle.pilot_top.proofs.ExitLemmas.{halt_not_damaged, halt_evidence, three_ways, stopped_leads, takes_more, still_crash_states, still_spends, line_spends, end_spent, still_leads, line_crash_states, halt_leads, reply_leads, line_not_close, end_closed, end_unheard, end_crash_states}
 use Rattle.pilot_top.proofs.PrefixLemmas.{End-has}
 use Rattle.pilot_top.proofs.PermittedRuns.{called_openly, ended_last, openly_last, openly_none, openly_then}
 use Rattle.pilot_top.proofs.ShutLemmas.{openly_shuts, shuts_after}
 use Rattle.pilot_top.proofs.OpenLemmas.{early_halt}
+use Rattle.pilot_top.proofs.PartLemmas.{parts_still}
 use Rattle.pilot_top.proofs.PlaceLemmas.{stop_revealed}
 use Rattle.pilot_top.proofs.ReasonLemmas.{damage_same, goes_nowhere, goes_then, reason_before, reason_halted}
 use Rattle.pilot_top.proofs.RepliedLemmas.{Replied-changed, Replied-end, Replied-halted, Replied-long, Replied-read_fault, Replied-write_fault}
 use Rattle.pilot_top.proofs.StagedLemmas.{from_rest, stands_revealed}
 use Rattle.pilot_top.proofs.StatusLemmas.{halt_disk, halt_ends, trace_ends}
+use Rattle.pilot_top.proofs.StopParts.{Stops-end, Stops-halted, Stops-long, Stops-read_fault, Stops-write_fault, end_parts}
 use Rattle.pilot_top.proofs.TopLemmas.{change_revealed, last_of, Run-disk, Run-long, Run-read_fault, Run-write_fault, not_short, rose_later, Puts-later, damage_revealed, revealed_prefix, Going-sink, Going-revealed}
-use Rattle.pilot_top.proofs.TurnedLemmas.{more_crash_states, ended_crash_states, Turned-start, Turned-reply, Turned-source, Turned-revealed, Turned-same}
-use Rattle.pilot_top.proofs.SameLemmas.{crash_states_same, files_same, shuts_same, unset_same}
+use Rattle.pilot_top.proofs.TurnedLemmas.{line_parts, more_crash_states, ended_crash_states, still_parts, Turned-start, Turned-reply, Turned-source, Turned-revealed, Turned-same}
+use Rattle.pilot_top.proofs.SameLemmas.{crash_states_same, leads_same, shuts_same, unset_same}
 use Rattle.pilot_top.proofs.ShownLemmas.{long_ends, none_shown, not_shown, on_disk, on_plain, one_shown, revealed_then, seen_plain, seen_shown}
 use Rattle.pilot_top.proofs.run.answer_lines.Given as given
 use Rattle.pilot_top.proofs.run.answer_lines.Goals as goal
+use Rattle.filer_kernel.specs.View.{disk_of}
+use Rattle.fault_core.specs.Core.{state}
 
 -- A session of the function, its disk, and what it stands for.
 
 abbrev Sessions : given.Over → Type 0
 Sessions g = Session g.row.D.Denot g.row.A.Denot g.D.Disk
 
-abbrev disk_of : (g : given.Over) → Sessions g → DiskState
-disk_of g s = g.D.Disk.state s.core.filer.swapper.disk
+abbrev session_disk : (g : given.Over) → Sessions g → DiskState
+session_disk g s = (state s.core).disk
 
 abbrev stands_of : (g : given.Over) → Sessions g → Machine → Type 0
 stands_of g s m = Runs s.core s.volume m
 
-reveals : (g : given.Over) (s : Sessions g) (m : Machine) → stands_of g s m → (e : List Sector) → (disk_of g s).contents ≡ Some e → RevealsSettled e m
+reveals : (g : given.Over) (s : Sessions g) (m : Machine) → stands_of g s m → (e : List Sector) → (session_disk g s).contents ≡ Some e → RevealsSettled e m
 reveals g s m stands e revealed =
-    (stands_revealed m stands (λ d is. g.met.D.Disk.in_form s.core.filer.swapper.disk d is) e revealed).revealed
+    (stands_revealed m stands (λ d is. g.met.D.Disk.in_form (disk_of s.core.filer) d is) e revealed).revealed
 
 -- a disk that reveals what it holds shows no label that had changed
-plain_by : (g : given.Over) (s : Sessions g) (m : Machine) → stands_of g s m → (disk : g.row.D.Denot) (writes : List DiskWrite) → Appended writes (disk_of g s) (g.D.Disk.state disk) → g.D.RunDisk.shown disk ≡ None
+plain_by : (g : given.Over) (s : Sessions g) (m : Machine) → stands_of g s m → (disk : g.row.D.Denot) (writes : List DiskWrite) → Appended writes (session_disk g s) (g.D.Disk.state disk) → g.D.RunDisk.shown disk ≡ None
 plain_by g s m stands disk writes appended =
     let at = stands.session.stands.stands in
-    let revealed = revealed_then writes (disk_of g s) (g.D.Disk.state disk) appended at.sectors at.revealed in
+    let revealed = revealed_then writes (session_disk g s) (g.D.Disk.state disk) appended at.sectors at.revealed in
     none_shown (g.D.RunDisk.shown disk) (g.D.Disk.state disk) (g.met.D.RunDisk.unrevealed disk) revealed.0 revealed.1
 
 -- the last line was put
@@ -78,9 +83,9 @@ turns-init g c =
     let stopped = ap (λ p. p.stopped) made in
     record {
       turned = Turned-start _ _ c.with_limit-lines.result _ _ (ap (λ p. p.taken) made) stopped
-          (λ m is. from_rest m [] is (λ d revealed. g.met.D.Disk.in_form c.args.session.core.filer.swapper.disk d revealed))
+          (λ m is. from_rest m [] is (λ d revealed. g.met.D.Disk.in_form (disk_of c.args.session.core.filer) d revealed))
           (openly_none (record { contents = refl; writes = refl }));
-      same_disk = went_itself (g.D.Disk.state c.args.session.core.filer.swapper.disk);
+      same_disk = went_itself (state c.args.session.core).disk;
       goes_on = inl stopped;
       limit = ap (λ p. p.limit) made;
       bound = rw made (omega arith);
@@ -109,7 +114,7 @@ turns-preserved g c =
     let turn = c.in-Replies.ensures.turns in
     let went = c.take_turn.ensures.wrote.makes.went in
     record {
-      turned = Turned-reply i.turned i.same_disk.sectors turn.0 turn.2 turn.3 turn.4 turn.5
+      turned = Turned-reply i.turned i.same_disk.sectors turn.0 turn.2 turn.3 turn.4 turn.5 turn.6
           (called_openly c.take_turn.ensures.wrote) c.in-Ok.ensures.ok;
       same_disk = went_then i.same_disk went;
       goes_on = elim turn.2.ends [ inl fed ↦ inl fed.1 | inr ended ↦ inr ended.3 ];
@@ -141,8 +146,8 @@ returns-in_default g c =
     record {
       answering = λ m b t stands source sink.
           let turned = Turned-revealed i.turned source sink in
-          let has = reply_files m turned stands turn.0 turn.2 turn.4 (disk_of g c.take_turn.new.session) turn.3 (reveals g c.take_turn.new.session) in
-          Run-write_fault m b t _ _ c.turns.lines _ _ turned.going stands _ (HasFilesAt m (reading b) (g.D.Disk.state c.into_disk.result)) _ _ c.take_turn.new.lines _ turn.1 c.in-Replies.reply turn.0 turn.2 turn.3
+          let has = reply_leads m turned stands turn.0 turn.2 turn.4 (session_disk g c.take_turn.new.session) turn.5 turn.3 (reveals g c.take_turn.new.session) in
+          Run-write_fault m b t _ _ c.turns.lines _ _ turned.going stands _ (LeadsTo m (reading b) (session_disk g c.args.session) (g.D.Disk.state c.into_disk.result)) _ _ c.take_turn.new.lines _ turn.1 c.in-Replies.reply turn.0 turn.2 turn.3
           rose put.0 put.1 put.2 (rw c.into_disk.ensures has);
       replied = λ b t left source sink plain.
           Replied-write_fault b t (Going-revealed _ _ _ _ _ _ _ b t i.turned.going source sink) _ (g.D.Disk.state c.into_disk.result) (FromEachInitialState c.args.session (g.D.Disk.state c.into_disk.result)) (g.S.Source.left c.take_turn.new.source) _ c.take_turn.new.lines turn.1 c.in-Replies.reply turn.0 turn.2 turn.3.suits
@@ -162,6 +167,11 @@ returns-in_default g c =
       rests = λ is. elim is [ inl done ↦ absurd (cc done) | inr long ↦ absurd (cc long) ];
       permitted = rw c.into_disk.ensures permitted;
       syncs = λ m stands. rw c.into_disk.ensures (openly_shuts (openly_then i.turned.permitted (called_openly c.take_turn.ensures.wrote)));
+      stops = λ b t source sink.
+          let turned = Turned-revealed i.turned source sink in
+          rw c.into_disk.ensures
+          (Stops-write_fault b t turned.going (Unit {0}) (λ k. InParts (PartMay (reading b)) k (session_disk g c.args.session) (session_disk g c.take_turn.new.session)) (g.S.Source.left c.take_turn.new.source) None c.take_turn.new.lines turn.1 turn.0 turn.2
+          (line_parts turned turn.0 turn.2 turn.4 turn.6));
       same_disk = rw c.into_disk.ensures went;
       disk_cause = λ is. absurd (cc is);
       stream_cause = λ is. inr rose;
@@ -182,12 +192,12 @@ returns-in-ReadFault g c =
     let went = went_then i.same_disk c.take_turn.ensures.wrote.makes.went in
     record {
       answering = λ m b t stands source sink.
-          let turned = Turned-same {S = Sessions g} (disk_of g) (stands_of g) same (Turned-revealed i.turned source sink) in
-          Run-read_fault m b t _ _ c.turns.lines _ _ turned.going stands _ (HasFilesAt m (reading b) (g.D.Disk.state c.into_disk-in-ReadFault.result)) _ c.take_turn.new.lines turn.0 turn.1
-          (rw c.into_disk-in-ReadFault.ensures (still_files m turned stands (reveals g c.take_turn.new.session)));
+          let turned = Turned-same {S = Sessions g} (session_disk g) (stands_of g) same (Turned-revealed i.turned source sink) in
+          Run-read_fault m b t _ _ c.turns.lines _ _ turned.going stands _ (LeadsTo m (reading b) (session_disk g c.args.session) (g.D.Disk.state c.into_disk-in-ReadFault.result)) _ c.take_turn.new.lines turn.0 turn.1
+          (rw c.into_disk-in-ReadFault.ensures (still_leads m turned stands (reveals g c.take_turn.new.session)));
       replied = λ b t left source sink plain.
           Replied-read_fault b t (Going-revealed _ _ _ _ _ _ _ b t i.turned.going source sink) _ (g.D.Disk.state c.into_disk-in-ReadFault.result) (FromEachInitialState c.args.session (g.D.Disk.state c.into_disk-in-ReadFault.result)) (g.S.Source.left c.take_turn.new.source) c.take_turn.new.lines turn.0 turn.1;
-      crash_states = λ m b stands source. rw c.into_disk-in-ReadFault.ensures (still_crash_states m (Turned-same {S = Sessions g} (disk_of g) (stands_of g) same (Turned-source i.turned source)) stands);
+      crash_states = λ m b stands source. rw c.into_disk-in-ReadFault.ensures (still_crash_states m (Turned-same {S = Sessions g} (session_disk g) (stands_of g) same (Turned-source i.turned source)) stands);
       closed = λ m b stands source done going. absurd (cc done);
       closed_unheard = λ m b stands source is heard left closed. absurd (heard rose);
       some_crash_states = λ m stands. rw (c.into_disk-in-ReadFault.ensures, same) (_, i.turned.along m stands);
@@ -202,6 +212,11 @@ returns-in-ReadFault g c =
       rests = λ is. elim is [ inl done ↦ absurd (cc done) | inr long ↦ absurd (cc long) ];
       permitted = rw c.into_disk-in-ReadFault.ensures permitted;
       syncs = λ m stands. rw c.into_disk-in-ReadFault.ensures (openly_shuts (openly_then i.turned.permitted (called_openly c.take_turn.ensures.wrote)));
+      stops = λ b t source sink.
+          let turned = Turned-same {S = Sessions g} (session_disk g) (stands_of g) same (Turned-revealed i.turned source sink) in
+          rw c.into_disk-in-ReadFault.ensures
+          (Stops-read_fault b t turned.going (Unit {0}) (λ k. InParts (PartMay (reading b)) k (session_disk g c.args.session) (session_disk g c.take_turn.new.session)) (g.S.Source.left c.take_turn.new.source) None c.take_turn.new.lines turn.0 turn.1
+          (still_parts turned (length turned.going.lines) (omega arith)));
       same_disk = rw c.into_disk-in-ReadFault.ensures went;
       disk_cause = λ is. absurd (cc is);
       stream_cause = λ is. inl rose;
@@ -218,28 +233,28 @@ returns-in-Long g c =
     let turn = c.in-Long.ensures.turns in
     let e = c.end_long.ensures in
     let same : c.take_turn.new.session ≡ c.turns.session = c.in-Long.ensures.idle tt in
-    let mid = disk_of g c.take_turn.new.session in
+    let mid = session_disk g c.take_turn.new.session in
     let disk = g.D.Disk.state c.end_long.result.1 in
     let there : RevealsSame mid disk = subst (λ (d : g.row.D.Denot). RevealsSame (g.D.Disk.state d) disk) c.into_disk-in-Long.ensures e.same in
     let later : Went mid disk = subst (λ (d : g.row.D.Denot). Went (g.D.Disk.state d) disk) c.into_disk-in-Long.ensures e.went in
     let spent : disk.transfers ≡ mid.transfers = e.transfers ∙ ap (λ (d : g.row.D.Denot). (g.D.Disk.state d).transfers) c.into_disk-in-Long.ensures in
     let before = went_then i.same_disk c.take_turn.ensures.wrote.makes.went in
-    let open_then : IsUnset (disk_of g c.args.session) → IsUnset disk = λ left. unset_same there (unset_then (i.left_open left) c.take_turn.ensures.wrote) in
+    let open_then : IsUnset (session_disk g c.args.session) → IsUnset disk = λ left. unset_same there (unset_then (i.left_open left) c.take_turn.ensures.wrote) in
     let other = long_ends c.end_long.result.0 e.ends in
     let permitted = openly_last (openly_then i.turned.permitted (called_openly c.take_turn.ensures.wrote)) in
     let plain : (m : Machine) → stands_of g c.args.session m → g.D.RunDisk.shown c.end_long.result.1 ≡ None = λ m stands. plain_by g c.take_turn.new.session (last_of m i.turned.going.lines) (subst (λ (s : Sessions g). stands_of g s (last_of m i.turned.going.lines)) (sym same) (i.turned.going.stands m stands)) c.end_long.result.1 [] (appended_none there) in
     record {
       answering = λ m b t stands source sink.
-          let turned = Turned-same {S = Sessions g} (disk_of g) (stands_of g) same (Turned-revealed i.turned source sink) in
-          let has = files_same there m (reading b) (length turned.going.lines) 0 (still_files m turned stands (reveals g c.take_turn.new.session)) in
+          let turned = Turned-same {S = Sessions g} (session_disk g) (stands_of g) same (Turned-revealed i.turned source sink) in
+          let has = leads_same there m (reading b) (length turned.going.lines) 0 (still_leads m turned stands (reveals g c.take_turn.new.session)) in
           elim e.ends [
             | inl long ↦
                 rw long
-                (Run-long m b t _ _ c.turns.lines _ _ turned.going stands _ (HasFilesAt m (reading b) disk) _ _ c.take_turn.new.lines turn.0 turn.1 (turn.2 ∙ turn.1.limit ∙ i.limit)
+                (Run-long m b t _ _ c.turns.lines _ _ turned.going stands _ (LeadsTo m (reading b) (session_disk g c.args.session) disk) _ _ c.take_turn.new.lines turn.0 turn.1 (turn.2 ∙ turn.1.limit ∙ i.limit)
                 (Puts-later _ _ _ _ _ (rose_later _ _ _ i.sink) (e.line long)) has)
             | inr (inl failed) ↦
                 rw failed
-                (Run-disk m b t _ _ c.turns.lines _ _ turned.going stands _ (HasFilesAt m (reading b) disk) (g.S.Source.left c.take_turn.new.source) _ turn.0
+                (Run-disk m b t _ _ c.turns.lines _ _ turned.going stands _ (LeadsTo m (reading b) (session_disk g c.args.session) disk) (g.S.Source.left c.take_turn.new.source) _ turn.0
                 (Puts-later _ _ _ _ _ (rose_later _ _ _ i.sink) (e.disk_fault failed).2) 0 has)
             | inr (inr damaged) ↦ not_shown (plain m stands) (e.changed damaged).1
           ];
@@ -267,20 +282,34 @@ returns-in-Long g c =
           change_revealed _ _ _ _ t c.turns.lines _ _ _ f (Going-sink _ _ _ _ _ _ _ t i.turned.going sink)
           (Puts-later _ _ _ _ _ (rose_later _ _ _ i.sink) (subst (λ (x : Evidence). PutsLast g c.turns.sink c.end_long.new.sink (cause.Damaged x)) (one_shown line.1 shown) line.2));
       rests = λ is. elim is [ inl done ↦ absurd (other.0 done) | inr long ↦ e.rests long ];
-      crash_states = λ m b stands source. crash_states_same there (still_crash_states m (Turned-same {S = Sessions g} (disk_of g) (stands_of g) same (Turned-source i.turned source)) stands);
+      crash_states = λ m b stands source. crash_states_same there (still_crash_states m (Turned-same {S = Sessions g} (session_disk g) (stands_of g) same (Turned-source i.turned source)) stands);
       closed = λ m b stands source done going. absurd (other.0 done);
       closed_unheard = λ m b stands source is heard left closed. absurd (other.1 is);
       some_crash_states = λ m stands.
-          let along : CrashStates m i.turned.going.lines (disk_of g c.args.session) mid = rw same (i.turned.along m stands) in
+          let along : CrashStates m i.turned.going.lines (session_disk g c.args.session) mid = rw same (i.turned.along m stands) in
           (i.turned.going.lines, crash_states_same there along);
       stays_open = λ b left source early. open_then left;
       untaken = λ b left source is some. open_then left;
       left_open = λ left is. open_then left;
-      transfers = λ m b stands source. let most = still_spends m (Turned-same {S = Sessions g} (disk_of g) (stands_of g) same (Turned-source i.turned source)) stands in omega (arith, most, spent);
+      transfers = λ m b stands source. let most = still_spends m (Turned-same {S = Sessions g} (session_disk g) (stands_of g) same (Turned-source i.turned source)) stands in omega (arith, most, spent);
       sound = λ m stands is. not_shown (plain m stands) (e.changed is).1;
       damage = λ t left sink is plain. not_shown plain (e.changed is).1;
       permitted = shuts_same there permitted;
       syncs = λ m stands. openly_shuts (openly_then (openly_then i.turned.permitted (called_openly c.take_turn.ensures.wrote)) (openly_none there));
+      stops = λ b t source sink.
+          let turned = Turned-same {S = Sessions g} (session_disk g) (stands_of g) same (Turned-revealed i.turned source sink) in
+          let wrote = λ (k : ℕ). InParts (PartMay (reading b)) k (session_disk g c.args.session) disk in
+          let at : (k : ℕ) → length turned.going.lines ≤ k → wrote k = λ k le. parts_still (PartMay (reading b)) k (still_parts turned k le) there in
+          elim e.ends [
+            | inl long ↦ rw long (Stops-long b t turned.going (Unit {0}) wrote (g.S.Source.left c.take_turn.new.source) None c.take_turn.new.lines turn.0 turn.1 (at (length turned.going.lines) (omega arith)))
+            | inr (inl failed) ↦
+                Stops-halted b t turned.going _ wrote c.end_long.result.0 halt.Disk (g.S.Source.left c.take_turn.new.source) _ failed
+                (Puts-later _ _ _ _ _ (rose_later _ _ _ i.sink) (e.disk_fault failed).2) (at (suc (length turned.going.lines)) (omega arith))
+            | inr (inr damaged) ↦
+                let line = e.changed damaged in
+                Stops-halted b t turned.going _ wrote c.end_long.result.0 (halt.Damaged line.0) (g.S.Source.left c.take_turn.new.source) _ damaged
+                (Puts-later _ _ _ _ _ (rose_later _ _ _ i.sink) line.2) (at (suc (length turned.going.lines)) (omega arith))
+          ];
       same_disk = went_then before later;
       disk_cause = λ is.
           let failed = e.disk_fault is in
@@ -304,7 +333,7 @@ returns-in-Halts g c =
     let other = halt_ends (halt_on shown c.in-Halts.halt) s stopped in
     let permitted = openly_last (openly_then i.turned.permitted (called_openly c.take_turn.ensures.wrote)) in
     let went = went_then i.same_disk c.take_turn.ensures.wrote.makes.went in
-    let disk = disk_of g c.take_turn.new.session in
+    let disk = session_disk g c.take_turn.new.session in
     let line = c.stop_on-status.ensures.line in
     let plain_status : shown ≡ None → s ≡ status_of c.in-Halts.halt = λ none. stopped ∙ ap (λ (o : Option Evidence). status_of (halt_on o c.in-Halts.halt)) none in
     let plain_line : shown ≡ None → PutsLast g c.turns.sink c.stop_on-status.new.sink (cause_of c.in-Halts.halt) = λ none.
@@ -322,9 +351,9 @@ returns-in-Halts g c =
           let why : c.in-Halts.halt ≡ halt.Disk = c.in-Halts.ensures.sound _ c.in-Halts.halt (turned.going.stands m stands) refl in
           let is : s ≡ status.DiskFault = plain_status none ∙ ap status_of why in
           let line : PutsLast g c.turns.sink c.stop_on-status.new.sink cause.DiskFault = subst (λ (h : Halt). PutsLast g c.turns.sink c.stop_on-status.new.sink (cause_of h)) why (plain_line none) in
-          let has = halt_files m turned stands turn.0 turn.2 turn.3 turn.4 (λ n stands. stands.session.stands.is.by.machine) in
+          let has = halt_leads m turned stands turn.0 turn.2 turn.3 turn.4 in
           rw is
-          (Run-disk m b t _ _ c.turns.lines _ _ turned.going stands _ (HasFilesAt m (reading b) (g.D.Disk.state c.into_disk-disk.result)) (g.S.Source.left c.take_turn.new.source) _ turn.0
+          (Run-disk m b t _ _ c.turns.lines _ _ turned.going stands _ (LeadsTo m (reading b) (session_disk g c.args.session) (g.D.Disk.state c.into_disk-disk.result)) (g.S.Source.left c.take_turn.new.source) _ turn.0
           (Puts-later _ _ _ _ _ (rose_later _ _ _ i.sink) line) has.0 (rw c.into_disk-disk.ensures has.1));
       replied = λ b t left source sink plain.
           let none = on_plain shown c.in-Halts.halt s stopped plain in
@@ -355,9 +384,14 @@ returns-in-Halts g c =
           let evidence_seen : IsEvident disk why.0 = subst (λ (h : Halt). ShowsEvidence disk h) why.1 (c.in-Halts.ensures.evidence_seen c.in-Halts.halt refl) in
           let line = Puts-later _ _ _ _ _ (rose_later _ _ _ i.sink) (subst (λ (h : Halt). PutsLast g c.turns.sink c.stop_on-status.new.sink (cause_of h)) why.1 (plain_line none)) in
           let revealed = damage_revealed _ _ _ _ t c.turns.lines _ _ _ why.0 disk evidence_seen (unset_then (i.left_open left) c.take_turn.ensures.wrote) (Going-sink _ _ _ _ _ _ _ t i.turned.going sink) line in
-          damage_same c.args.session c.into_disk-disk.result c.take_turn.new.session.core.filer.swapper.disk c.into_disk-disk.ensures (revealed, reason why.0 why.1);
+          damage_same c.args.session c.into_disk-disk.result (disk_of c.take_turn.new.session.core.filer) c.into_disk-disk.ensures (revealed, reason why.0 why.1);
       permitted = rw c.into_disk-disk.ensures permitted;
       syncs = λ m stands. rw c.into_disk-disk.ensures (openly_shuts (openly_then i.turned.permitted (called_openly c.take_turn.ensures.wrote)));
+      stops = λ b t source sink.
+          let turned = Turned-revealed i.turned source sink in
+          rw c.into_disk-disk.ensures
+          (Stops-halted b t turned.going _ (λ k. InParts (PartMay (reading b)) k (session_disk g c.args.session) disk) s (halt_on shown c.in-Halts.halt) (g.S.Source.left c.take_turn.new.source) _ stopped
+          (Puts-later _ _ _ _ _ (rose_later _ _ _ i.sink) line) (line_parts turned turn.0 turn.2 turn.3 turn.5));
       same_disk = rw c.into_disk-disk.ensures went;
       disk_cause = λ is.
           let failed = on_disk shown c.in-Halts.halt s stopped _ _ _ is line in
@@ -376,7 +410,7 @@ returns-in-Ends g c =
     let e = c.end_trace.ensures in
     let ended = c.in-Ends.ensures.turns in
     let same : c.take_turn.new.session ≡ c.turns.session = c.in-Ends.ensures.idle tt in
-    let stands_still = Turned-same {S = Sessions g} (disk_of g) (stands_of g) same i.turned in
+    let stands_still = Turned-same {S = Sessions g} (session_disk g) (stands_of g) same i.turned in
     let disk = g.D.Disk.state c.end_trace.result.1 in
     let went = went_then i.same_disk c.take_turn.ensures.wrote.makes.went in
     let other = trace_ends c.end_trace.result.0 e.ends in
@@ -392,12 +426,12 @@ returns-in-Ends g c =
           let turned = Turned-revealed stands_still source sink in
           let there = turned.going.stands m stands in
           let revealed = stop_revealed _ (e.stops _ there) in
-          End-answering m b t _ _ c.turns.lines _ _ turned.going stands _ (HasFilesAt m (reading b) disk) c.end_trace.result.0 c.in-Ends.end _ _ c.take_turn.new.lines ended
+          End-answering m b t _ _ c.turns.lines _ _ turned.going stands _ (LeadsTo m (reading b) (session_disk g c.args.session) disk) c.end_trace.result.0 c.in-Ends.end _ _ c.take_turn.new.lines ended
           (three_ways c.end_trace.result.0 e.ends (e.sound _ there)) e.done e.part
           (λ is. (rose_later _ _ _ i.sink (e.stream_cause is).0, (e.stream_cause is).1))
           (λ is. Puts-later _ _ _ _ _ (rose_later _ _ _ i.sink) (e.disk_fault is).2)
-          (λ well. End-has m b _ _ _ c.turns.lines _ _ turned.going disk revealed c.in-Ends.end _ c.take_turn.new.lines ended (λ other. e.closed _ there other well))
-          (stopped_files m turned stands disk revealed);
+          (λ well. (End-has m b _ _ _ c.turns.lines _ _ turned.going disk revealed c.in-Ends.end _ c.take_turn.new.lines ended (λ other. e.closed _ there other well), end_crash_states m turned stands disk (e.stops _ there)))
+          (stopped_leads m turned stands disk revealed (e.stops _ there));
       replied = λ b t left source sink plain.
           Replied-end b t (Going-revealed _ _ _ _ _ _ _ b t i.turned.going source sink) _ disk (FromEachInitialState c.args.session disk) c.end_trace.result.0 c.in-Ends.end (g.S.Source.left c.take_turn.new.source) _ c.take_turn.new.lines ended e.ends e.done e.part
           (λ is. (rose_later _ _ _ i.sink (e.stream_cause is).0, (e.stream_cause is).1))
@@ -445,6 +479,13 @@ returns-in-Ends g c =
           (revealed, reason line.0 seen.1);
       permitted = ended_last (openly_then i.turned.permitted (called_openly c.take_turn.ensures.wrote)) e.wrote;
       syncs = λ m stands. shuts_after (openly_then i.turned.permitted (called_openly c.take_turn.ensures.wrote)) (e.syncs _ (stands_still.going.stands m stands));
+      stops = λ b t source sink.
+          let turned = Turned-revealed stands_still source sink in
+          Stops-end b t turned.going _ (λ k. InParts (PartMay (reading b)) k (session_disk g c.args.session) disk) (g.S.Source.left c.take_turn.new.source) _ c.take_turn.new.lines c.end_trace.result.0 c.in-Ends.end ended e.ends
+          (λ is. (e.stream_cause is).1)
+          (λ is. Puts-later _ _ _ _ _ (rose_later _ _ _ i.sink) (e.disk_fault is).2)
+          (λ is. let line = e.damage is in (line.0, Puts-later _ _ _ _ _ (rose_later _ _ _ i.sink) line.2))
+          (end_parts b turned.going c.in-Ends.end (g.S.Source.left c.take_turn.new.source) c.take_turn.new.lines ended e.halted turned.parts e.wrote);
       same_disk = went_then went e.wrote.went;
       disk_cause = λ is. let failed = e.disk_fault is in (failed.0, rose_later _ _ _ went.faults failed.1);
       stream_cause = λ is. inr (rose_later _ _ _ i.sink (e.stream_cause is).0);

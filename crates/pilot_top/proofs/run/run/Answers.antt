@@ -6,19 +6,25 @@ use Rattle.trace_io.specs.Reading.{reading}
 use Rattle.pilot_top.specs.Headline.{EndsEarly}
 use Rattle.pilot_top.specs.InitialState.{FromEachInitialState, FromInitialState}
 use Rattle.pilot_top.specs.declared.status.Status.{Status}
+use Rattle.pilot_top.specs.Parts.{InParts, PartMay}
+use Rattle.pilot_top.proofs.AfterLemmas.{Stops-less}
 use Rattle.pilot_top.proofs.CostLemmas.{run_spends, start_spends}
 use Rattle.pilot_top.proofs.CutLemmas.{ran_honest, started_honest}
+use Rattle.pilot_top.proofs.LineParts.{parts_refused, parts_started}
+use Rattle.pilot_top.proofs.StopParts.{Stops-refused}
 use Rattle.pilot_top.proofs.PermittedRuns.{ran_lawfully, started_lawfully}
 use Rattle.pilot_top.proofs.ReasonLemmas.{reason_refused, reason_started, replied_reasoned}
-use Rattle.pilot_top.proofs.RunLemmas.{memory_early, refused_early, run_of, not_sound, not_done, left_early, run_refused, damage_first, replied_refused, refused_why, refused_line, refused_ends, is_early}
+use Rattle.pilot_top.proofs.RunLemmas.{memory_early, refused_early, run_started, not_sound, not_done, left_early, run_refused, damage_first, replied_refused, refused_why, refused_line, refused_ends, is_early}
 use Rattle.pilot_top.proofs.StagedLemmas.{from_start, crash_states_before, crash_states_then}
 use Rattle.pilot_top.proofs.run.run.Given as given
 use Rattle.pilot_top.proofs.run.run.Goals as goal
+use Rattle.filer_kernel.specs.View.{accepted}
+use Rattle.fault_core.specs.Core.{state}
 
 pub returns-in-Ok-clause-run : goal.returns-in-Ok-clause-run
 returns-in-Ok-clause-run g c d b t revealed sound source sink =
-    run_of c.answer_lines.result.0 d b t _ _ _ _ c.answer_lines.ensures.opened.1 c.answer_lines.ensures.no_other.0
-    (c.answer_lines.ensures.answering (start d) b t (c.in-Ok.ensures.stands d revealed sound) source sink)
+    run_started c.answer_lines.result.0 d b t _ _ _ (g.D.Disk.state c.args.disk) (state c.in-Ok.session.core).disk (g.D.Disk.state c.answer_lines.result.1) c.answer_lines.ensures.opened.1 c.answer_lines.ensures.no_other.0
+    (from_start d sound revealed (c.in-Ok.ensures.crash_states d revealed sound.labels)) (c.answer_lines.ensures.answering (start d) b t (c.in-Ok.ensures.stands d revealed sound) source sink)
 
 pub returns-in-Ok-clause-crash_states : goal.returns-in-Ok-clause-crash_states
 returns-in-Ok-clause-crash_states g c d b revealed sound source =
@@ -31,7 +37,7 @@ returns-in-Ok-clause-some_crash_states g c d revealed sound =
 
 pub returns-in-Ok-clause-transfers : goal.returns-in-Ok-clause-transfers
 returns-in-Ok-clause-transfers g c d b revealed sound source =
-    run_spends (reading b) (g.D.Disk.state c.args.disk) (g.D.Disk.state c.in-Ok.session.core.filer.swapper.disk) (g.D.Disk.state c.answer_lines.result.1) c.in-Ok.ensures.wrote.went.sectors c.in-Ok.ensures.bounded (c.answer_lines.ensures.transfers (start d) b (c.in-Ok.ensures.stands d revealed sound) source)
+    run_spends (reading b) (g.D.Disk.state c.args.disk) (state c.in-Ok.session.core).disk (g.D.Disk.state c.answer_lines.result.1) c.in-Ok.ensures.wrote.went.sectors c.in-Ok.ensures.bounded (c.answer_lines.ensures.transfers (start d) b (c.in-Ok.ensures.stands d revealed sound) source)
 
 pub returns-in-Ok-clause-closed : goal.returns-in-Ok-clause-closed
 returns-in-Ok-clause-closed g c d b revealed sound source done going = c.answer_lines.ensures.closed (start d) b (c.in-Ok.ensures.stands d revealed sound) source done going
@@ -53,7 +59,7 @@ returns-in-Ok-clause-left_open g c is = c.answer_lines.ensures.left_open c.in-Ok
 started : (g : given.Over) (c : goal.After-answer_lines g) (e : Evidence) → FromEachInitialState c.in-Ok.session (g.D.Disk.state c.answer_lines.result.1) e → FromInitialState (g.D.Disk.state c.args.disk) (g.D.Disk.state c.answer_lines.result.1) e
 started g c e =
     let session = c.in-Ok.session in
-    reason_started session (g.D.Disk.state c.args.disk) (g.D.Disk.state c.answer_lines.result.1) e session.core.filer.swapper.accepted (sym c.in-Ok.ensures.size ∙ c.in-Ok.ensures.wrote.went.sectors) (g.met.D.Disk.whole c.args.disk)
+    reason_started session (g.D.Disk.state c.args.disk) (g.D.Disk.state c.answer_lines.result.1) e (accepted session.core.filer) (sym c.in-Ok.ensures.size ∙ c.in-Ok.ensures.wrote.went.sectors) (g.met.D.Disk.whole c.args.disk)
     c.in-Ok.ensures.keeps_to c.in-Ok.ensures.sees c.in-Ok.ensures.monotone
 
 pub returns-in-Ok-clause-damage : goal.returns-in-Ok-clause-damage
@@ -158,6 +164,19 @@ pub returns-in-Err-clause-cuts : goal.returns-in-Err-clause-cuts
 returns-in-Err-clause-cuts g c d revealed sound =
     let states = returns-in-Err-clause-some_crash_states g c d revealed sound in
     started_honest d revealed c.in-Err.ensures.wrote (c.in-Err.ensures.crash_states d revealed sound.labels) states.0 states.1 (returns-in-Err-clause-permitted g c)
+
+-- ---- Where it stopped.
+
+pub returns-in-Ok-clause-stops : goal.returns-in-Ok-clause-stops
+returns-in-Ok-clause-stops g c b t source sink =
+    let disk = g.D.Disk.state c.answer_lines.result.1 in
+    Stops-less c.answer_lines.result.0 b t _ _ _ (λ k. InParts (PartMay (reading b)) k (state c.in-Ok.session.core).disk disk) (λ k. InParts (PartMay (reading b)) k (g.D.Disk.state c.args.disk) disk)
+    (λ k on. parts_started (reading b) k c.in-Ok.ensures.wrote on) (c.answer_lines.ensures.stops b t source sink)
+
+pub returns-in-Err-clause-stops : goal.returns-in-Err-clause-stops
+returns-in-Err-clause-stops g c b t source sink =
+    Stops-refused c.in-Err.fault c.refuse.result _ _ g.K.Sink.took _ c.refuse.ensures.stops b t _ (λ k. InParts (PartMay (reading b)) k (g.D.Disk.state c.args.disk) (g.D.Disk.state c.in-Err.disk)) sink
+    (λ k. parts_refused (reading b) k c.in-Err.ensures.wrote)
 
 -- ---- Nothing was written.
 

@@ -1,3 +1,4 @@
+use Rattle.std.specs.Io.KnownBytes.{Appends}
 use Rattle.std.proofs.Common.{List, ℕ, Err, refl, ap, ◌∙◌, subst}
 use Rattle.labelled_disk.specs.declared.layout.RootFault.{RootFault}
 use Rattle.labelled_disk.specs.Calls.{Rose}
@@ -21,6 +22,11 @@ pub returns-in-Ok-clause-part_of_text : goal.returns-in-Ok-clause-part_of_text
 returns-in-Ok-clause-part_of_text g c is d revealed =
     subst (λ (t : List ℕ). AppendsPrefix (g.K.Sink.took c.args.sink.now) (g.K.Sink.took c.put_report.new.sink) t) (text_is d c.in-Ok.report (c.in-Ok.ensures.reports d revealed))
     c.in-Err-put_report.ensures.err
+
+pub returns-in-Ok-put_report-clause-text : goal.returns-in-Ok-put_report-clause-text
+returns-in-Ok-put_report-clause-text g c is d revealed =
+    subst (λ (t : List ℕ). Appends (g.K.Sink.took c.args.sink.now) (g.K.Sink.took c.put_report.new.sink) t) (text_is d c.in-Ok.report (c.in-Ok.ensures.reports d revealed))
+    c.in-Ok-put_report.ensures.ok
 
 pub returns-in-Ok-put_report-clause-some_text : goal.returns-in-Ok-put_report-clause-some_text
 returns-in-Ok-put_report-clause-some_text g c done = (report_text c.in-Ok.report, of_report c.in-Ok.report, c.in-Ok-put_report.ensures.ok)

@@ -2,6 +2,8 @@ use Rattle.std.proofs.Common.{rules, ◌≡◌, inl, inr, Err, ◌∙◌}
 use Rattle.scavenger.specs.declared.fault.ScavengeFault.TheVariants as why
 use Rattle.scavenger.specs.Orders.{scavenge_writes}
 use Rattle.scavenger.proofs.BetweenLemmas.{crash_states_of_none, reads_same}
+use Rattle.scavenger.specs.Restored.{Survives}
+use Rattle.scavenger.proofs.TopLemmas.{cuts_after, none_cut}
 use Rattle.pilot_top.proofs.ScavengingLemmas.{no_volume, refuses, no_other, made_after, part_after, carried}
 use Rattle.pilot_top.proofs.scavenging.restored.Goals as goal
 
@@ -71,3 +73,20 @@ returns-clause-refused g c d f revealed none =
 pub returns-clause-refused_unwritten : goal.returns-clause-refused_unwritten
 returns-clause-refused_unwritten g c d f revealed none =
     absurd (no_other (g.D.Disk.state c.args.disk.now).sectors d (g.met.D.Disk.whole c.args.disk.now d revealed) c.look_at_root.result c.look_at_root.ensures.count (λ n. c.look_at_root.ensures.judged n d revealed) _ f none c.in_ok-look_at_root.was)
+
+-- what stands where the power went
+pub returns-in_err-look_at_root-clause-cuts : goal.returns-in_err-look_at_root-clause-cuts
+returns-in_err-look_at_root-clause-cuts g c =
+    none_cut Survives (g.D.Disk.state c.args.disk.now) (g.D.Disk.state c.look_at_root.new.disk) c.look_at_root.ensures.only_reads
+
+pub returns-in_err-report-clause-cuts : goal.returns-in_err-report-clause-cuts
+returns-in_err-report-clause-cuts g c =
+    none_cut Survives (g.D.Disk.state c.args.disk.now) (g.D.Disk.state c.look_at_root.new.disk) c.look_at_root.ensures.only_reads
+
+pub returns-in_err-scavenge-clause-cuts : goal.returns-in_err-scavenge-clause-cuts
+returns-in_err-scavenge-clause-cuts g c =
+    cuts_after Survives (g.D.Disk.state c.args.disk.now) (g.D.Disk.state c.look_at_root.new.disk) (g.D.Disk.state c.scavenge.new.disk) c.look_at_root.ensures.only_reads c.scavenge.ensures.cuts
+
+pub returns-clause-cuts : goal.returns-clause-cuts
+returns-clause-cuts g c =
+    cuts_after Survives (g.D.Disk.state c.args.disk.now) (g.D.Disk.state c.look_at_root.new.disk) (g.D.Disk.state c.scavenge.new.disk) c.look_at_root.ensures.only_reads c.scavenge.ensures.cuts

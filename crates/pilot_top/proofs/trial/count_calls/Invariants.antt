@@ -10,6 +10,7 @@ use Rattle.pilot_top.specs.Counting.{AreOf}
 use Rattle.pilot_top.specs.CrashStates.{Openly}
 use Rattle.pilot_top.specs.Trial.{HasAnswered, drawn_calls}
 use Rattle.pilot_top.proofs.trial.count_calls.Given as goal
+use Rattle.fault_core.specs.Core.{state}
 
 abbrev pub invariant-loop : goal.invariant-loop
 invariant-loop g l = record {
@@ -18,10 +19,10 @@ invariant-loop g l = record {
   drawn : IsAt l.maker l.seed l.counter;
   errors : l.counts.errors ≤ l.counter;
   loaded : l.counts.loaded ≤ 64 * l.counter;
-  permitted : Openly (g.D.Disk.state l.fn.session.core.filer.swapper.disk) (g.D.Disk.state l.session.core.filer.swapper.disk);
-  went : Went (g.D.Disk.state l.fn.session.core.filer.swapper.disk) (g.D.Disk.state l.session.core.filer.swapper.disk);
-  layout : l.session.core.filer.swapper.layout ≡ l.fn.session.core.filer.swapper.layout;
-  size : (g.D.Disk.state l.session.core.filer.swapper.disk).sectors ≡ l.session.core.filer.swapper.layout.sectors;
-  opened : IsOpen l.session.core.filer.swapper.layout l.session.volume;
+  permitted : Openly (state l.fn.session.core).disk (state l.session.core).disk;
+  went : Went (state l.fn.session.core).disk (state l.session.core).disk;
+  layout : (state l.session.core).layout ≡ (state l.fn.session.core).layout;
+  size : (state l.session.core).disk.sectors ≡ (state l.session.core).layout.sectors;
+  opened : IsOpen (state l.session.core).layout l.session.volume;
   running : l.session.running ≡ true;
 }

@@ -7,7 +7,7 @@ use Rattle.pilot_top.proofs.TrialLemmas.{first_more, one_answered}
 use Rattle.pilot_top.proofs.trial.prepare.Goals as goal
 
 pub returns-in-Err-clause-sound : goal.returns-in-Err-clause-sound
-returns-in-Err-clause-sound g c = λ m stands. c.in-Err.ensures.sound (after_calls m (take c.loop-index.index first_calls)) (c.loop-index.invariant.answered m stands).1.stands
+returns-in-Err-clause-sound g c = λ m stands. (c.in-Err.ensures.answers (after_calls m (take c.loop-index.index first_calls)) (c.loop-index.invariant.answered m stands).1.stands).sound
 
 pub returns-in-Err-clause-permitted : goal.returns-in-Err-clause-permitted
 returns-in-Err-clause-permitted g c = openly_then c.loop-index.invariant.permitted (called_openly c.step.ensures.wrote)
@@ -21,13 +21,13 @@ loop-index-preserved g c =
           let evidence_seen = i.answered m stands in (
             evidence_seen.0 ++ c.in-Ok.field-0 ∷ [],
             one_answered m (take c.loop-index.index first_calls) (take (c.loop-index.index + 1) first_calls) evidence_seen.0 (Runs c.loop-index.session.core c.loop-index.session.volume) (Runs c.step.new.self.core c.step.new.self.volume) c.first_call.result
-                c.in-Ok.field-0 (first_more c.loop-index.index c.first_call.result c.first_call.ensures.here) evidence_seen.1 (λ n is. let done = c.in-Ok.ensures.carried n is in (done.allowed, done.runs)),
+                c.in-Ok.field-0 (first_more c.loop-index.index c.first_call.result c.first_call.ensures.here) evidence_seen.1 (λ n is. let done = (c.in-Ok.ensures.answers n is).carried in (done.allowed, done.runs)),
           );
       permitted = openly_then i.permitted (called_openly c.step.ensures.wrote);
       went = went_then i.went went;
-      layout = c.step.ensures.layout ∙ i.layout;
-      size = went.sectors ∙ i.size ∙ ap (λ l. l.sectors) (sym c.step.ensures.layout);
-      opened = c.step.ensures.open_still;
+      layout = c.step.ensures.stays.layout ∙ i.layout;
+      size = went.sectors ∙ i.size ∙ ap (λ l. l.sectors) (sym c.step.ensures.stays.layout);
+      opened = c.step.ensures.stays.open_still;
       running = c.in-Ok.ensures.goes_on;
     }
 

@@ -7,6 +7,7 @@ use Rattle.pilot_top.proofs.ExitLemmas.{halt_not_damaged, halt_not_done, halt_no
 use Rattle.pilot_top.proofs.PermittedRuns.{ended_last, openly_last}
 use Rattle.pilot_top.proofs.TrialEnds.{line_revealed, prefix_revealed}
 use Rattle.pilot_top.proofs.trial.try_session.Goals as goal
+use Rattle.fault_core.specs.Core.{state}
 
 -- a call stopped the session
 pub returns-in-Err-clause-line : goal.returns-in-Err-clause-line
@@ -26,7 +27,7 @@ returns-in-Err-clause-sound g c = λ m stands damaged. absurd (halt_not_damaged 
 
 pub returns-in-Err-clause-damage_line : goal.returns-in-Err-clause-damage_line
 returns-in-Err-clause-damage_line g c = λ damaged.
-    rw c.into_disk.ensures (damage_revealed c.in-Err.halt c.stop.result _ _ _ (g.D.Disk.state c.try_calls.new.session.core.filer.swapper.disk) c.in-Err.ensures.evidence_seen c.stop.ensures.status (ap (λ (s : Status). Some s) damaged) c.stop.ensures.line)
+    rw c.into_disk.ensures (damage_revealed c.in-Err.halt c.stop.result _ _ _ (state c.try_calls.new.session.core).disk c.in-Err.ensures.evidence_seen c.stop.ensures.status (ap (λ (s : Status). Some s) damaged) c.stop.ensures.line)
 
 pub returns-in-Err-clause-permitted : goal.returns-in-Err-clause-permitted
 returns-in-Err-clause-permitted g c = rw c.into_disk.ensures (openly_last c.try_calls.ensures.permitted)

@@ -9,9 +9,13 @@ use Rattle.trace_io.specs.Reading.{is_last}
 use Rattle.running_words.specs.Running.{Runs}
 use Rattle.pilot_engine.specs.Reasons.{IsBlameless}
 use Rattle.pilot_top.proofs.CostLemmas.{bad_costs, call_costs}
-use Rattle.pilot_top.proofs.StagedLemmas.{from_rest, from_step}
+use Rattle.pilot_top.proofs.LineParts.{line_wrote}
+use Rattle.pilot_top.proofs.PartLemmas.{written_none}
+use Rattle.pilot_top.proofs.StagedLemmas.{line_rest, line_step}
 use Rattle.pilot_top.proofs.TurnLemmas.{goes_on, call_not_end, bad_not_end, same_halt, answers_call, call_wrote, nothing_wrote, answers_bad}
 use Rattle.pilot_top.proofs.turn.take_turn.Goals as goal
+use Rattle.filer_kernel.specs.View.{disk_of}
+use Rattle.fault_core.specs.Core.{state}
 
 pub step-requires-clause-in_form : goal.step-requires-clause-in_form
 step-requires-clause-in_form g c =
@@ -51,12 +55,13 @@ returns-in-Ok-clause-turns g c =
       c.in-Call.ensures.next begun,
       answers_call (Runs c.args.session.now.core c.args.session.now.volume)
           (Runs c.step.new.self.core c.step.new.self.volume) c.in-Call.call c.in-Ok.reply more
-          (λ m is. let done = c.in-Ok.ensures.carried m is in (done.allowed, done.runs)),
+          (λ m is. let done = (c.in-Ok.ensures.answers m is).carried in (done.allowed, done.runs)),
       more,
       λ m is. (
-        from_step m c.in-Call.call (c.step.ensures.passes m is),
-        call_costs c.in-Call.call (g.D.Disk.state c.args.session.now.core.filer.swapper.disk) (g.D.Disk.state c.step.new.self.core.filer.swapper.disk) c.step.ensures.reference (c.step.ensures.cost m is),
+        line_step m c.in-Call.call ((c.step.ensures.answers m is).passes),
+        call_costs c.in-Call.call (state c.args.session.now.core).disk (state c.step.new.self.core).disk c.step.ensures.reference ((c.step.ensures.answers m is).cost),
       ),
+      line_wrote c.in-Call.call more c.step.ensures.wrote c.step.ensures.unlabelled c.step.ensures.own,
     )
 
 pub returns-in-Err-clause-turns : goal.returns-in-Err-clause-turns
@@ -68,13 +73,14 @@ returns-in-Err-clause-turns g c =
       c.in-Call.ensures.next begun,
       more,
       λ m is. (
-        from_step m c.in-Call.call (c.step.ensures.passes m is),
-        call_costs c.in-Call.call (g.D.Disk.state c.args.session.now.core.filer.swapper.disk) (g.D.Disk.state c.step.new.self.core.filer.swapper.disk) c.step.ensures.reference (c.step.ensures.cost m is),
+        line_step m c.in-Call.call ((c.step.ensures.answers m is).passes),
+        call_costs c.in-Call.call (state c.args.session.now.core).disk (state c.step.new.self.core).disk c.step.ensures.reference ((c.step.ensures.answers m is).cost),
       ),
+      line_wrote c.in-Call.call more c.step.ensures.wrote c.step.ensures.unlabelled c.step.ensures.own,
     )
 
 pub returns-in-Err-clause-sound : goal.returns-in-Err-clause-sound
-returns-in-Err-clause-sound g c m halt is same = sym (same_halt c.in-Err.halt halt same) ∙ c.in-Err.ensures.sound m is
+returns-in-Err-clause-sound g c m halt is same = sym (same_halt c.in-Err.halt halt same) ∙ (c.in-Err.ensures.answers m is).sound
 
 pub returns-in-Bad-clause-turns : goal.returns-in-Bad-clause-turns
 returns-in-Bad-clause-turns g c =
@@ -85,18 +91,19 @@ returns-in-Bad-clause-turns g c =
       answers_bad _,
       refl,
       λ m is. (
-        from_rest m (None ∷ []) is (g.met.D.Disk.in_form c.args.session.now.core.filer.swapper.disk),
-        bad_costs (g.D.Disk.state c.args.session.now.core.filer.swapper.disk),
+        line_rest m is (g.met.D.Disk.in_form (disk_of c.args.session.now.core.filer)),
+        bad_costs (state c.args.session.now.core).disk,
       ),
+      written_none _ (record { contents = refl; writes = refl }),
     )
 
 pub returns-in-Err-clause-evidence_seen : goal.returns-in-Err-clause-evidence_seen
-returns-in-Err-clause-evidence_seen g c halt same = subst (λ (h : Halt). ShowsEvidence (g.D.Disk.state c.step.new.self.core.filer.swapper.disk) h) (same_halt c.in-Err.halt halt same) c.in-Err.ensures.evidence_seen
+returns-in-Err-clause-evidence_seen g c halt same = subst (λ (h : Halt). ShowsEvidence (state c.step.new.self.core).disk h) (same_halt c.in-Err.halt halt same) c.in-Err.ensures.fails.evidence_seen
 
 -- The initial states to which the session keeps, and what it sees of the space tables, and of files.
 
 pub returns-in-Ok-clause-keeps_to : goal.returns-in-Ok-clause-keeps_to
-returns-in-Ok-clause-keeps_to g c o keeps not_older going = c.in-Ok.ensures.keeps_to o keeps not_older
+returns-in-Ok-clause-keeps_to g c o keeps not_older going = (c.in-Ok.ensures.accounts o keeps not_older).keeps_to
 
 pub returns-in-Some-clause-keeps_to : goal.returns-in-Some-clause-keeps_to
 returns-in-Some-clause-keeps_to g c o keeps not_older going = on_giving o c.args.session.now.core.filer (next_id c.args.session.now.volume.root) keeps not_older.next
@@ -115,10 +122,10 @@ returns-in-Long-clause-keeps_to g c o keeps not_older going = on_giving o c.args
 
 pub returns-in-Err-clause-reasons : goal.returns-in-Err-clause-reasons
 returns-in-Err-clause-reasons g c o keeps not_older halt same =
-    subst (λ (h : Halt). ShowsReason o c.args.session.now.core.filer.swapper.layout (g.D.Disk.state c.step.new.self.core.filer.swapper.disk) h) (same_halt c.in-Err.halt halt same) (c.in-Err.ensures.reasons o keeps not_older)
+    subst (λ (h : Halt). ShowsReason o (state c.args.session.now.core).layout (state c.step.new.self.core).disk h) (same_halt c.in-Err.halt halt same) ((c.in-Err.ensures.accounts o keeps not_older).reasons)
 
 pub returns-in-Ok-clause-sees : goal.returns-in-Ok-clause-sees
-returns-in-Ok-clause-sees g c o keeps not_older seen going = c.in-Ok.ensures.sees o keeps not_older seen
+returns-in-Ok-clause-sees g c o keeps not_older seen going = (c.in-Ok.ensures.accounts o keeps not_older).sees seen
 
 pub returns-in-Some-clause-sees : goal.returns-in-Some-clause-sees
 returns-in-Some-clause-sees g c o keeps not_older seen going = seen
@@ -137,13 +144,13 @@ returns-in-Long-clause-sees g c o keeps not_older seen going = seen
 
 pub returns-in-Err-clause-right : goal.returns-in-Err-clause-right
 returns-in-Err-clause-right g c o keeps not_older seen halt same =
-    subst (λ (h : Halt). IsBlameless o (g.D.Disk.state c.step.new.self.core.filer.swapper.disk) h) (same_halt c.in-Err.halt halt same) (c.in-Err.ensures.sees o keeps not_older seen)
+    subst (λ (h : Halt). IsBlameless o (state c.step.new.self.core).disk h) (same_halt c.in-Err.halt halt same) ((c.in-Err.ensures.accounts o keeps not_older).sees seen)
 
 pub returns-in-Ok-clause-monotone : goal.returns-in-Ok-clause-monotone
-returns-in-Ok-clause-monotone g c = (c.step.ensures.monotone, c.step.ensures.serial)
+returns-in-Ok-clause-monotone g c = (c.step.ensures.stays.monotone, c.step.ensures.stays.serial)
 
 pub returns-in-Err-clause-monotone : goal.returns-in-Err-clause-monotone
-returns-in-Err-clause-monotone g c = (c.step.ensures.monotone, c.step.ensures.serial)
+returns-in-Err-clause-monotone g c = (c.step.ensures.stays.monotone, c.step.ensures.stays.serial)
 
 pub returns-in-Some-clause-monotone : goal.returns-in-Some-clause-monotone
 returns-in-Some-clause-monotone g c = (omega arith, refl)
