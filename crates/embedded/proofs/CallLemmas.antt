@@ -21,6 +21,7 @@ use Rattle.embedded.specs.Answers.{answer_to}
 use Rattle.embedded.specs.Called.{Called, HasStopped}
 use Rattle.embedded.specs.Engine.{IsClosed, IsIn, OfBoth, StandsFor, disk_of, is_running}
 use Rattle.embedded.specs.Stepped.{Stepped}
+use Rattle.fault_core.specs.Core.{state}
 
 -- where each reply has it, so has each answer that is a reply
 on_answer : {P : Type 0} → P → (r : Reply) → OnOk (answer_to r) P
@@ -70,10 +71,10 @@ module _ {D A : Type 0} {G : Ghosts D} where
 
   -- the session stopped, and the engine let it go
   pub stopped_called : (call : Call) (a b : Live D A G) (why : Option Halt) (h : Halt) (e : Engine D A G) → a.session.running ≡ true
-      → Stepped call a.session (Err h) b.session → IsClosed e → disk_of e ≡ Some (G.state b.session.core.filer.swapper.disk) → e.halt ≡ Some h
+      → Stepped call a.session (Err h) b.session → IsClosed e → disk_of e ≡ Some (state b.session.core).disk → e.halt ≡ Some h
       → Called call (record { held = held.Session a; halt = why }) (Err (code.Halted h)) e
   stopped_called call a b why h e running s closed disk kept =
-      let before = G.state a.session.core.filer.swapper.disk in
+      let before = (state a.session.core).disk in
       record {
         answers = λ m stands. inr (ap (λ (x : Halt). Err (code.Halted x)) (s.sound m stands.1));
         passes = λ m stands. subst (λ (o : Option DiskState). OfBoth (Passes m call) (Some before) o) (sym disk) (s.passes m stands.1);
@@ -85,7 +86,7 @@ module _ {D A : Type 0} {G : Ghosts D} where
               closed = closed;
               kept = kept ∙ ap Some same;
               evident = subst (λ (o : Option DiskState). IfSome o (λ d. ShowsEvidence d other)) (sym disk)
-                  (subst (λ (x : Halt). ShowsEvidence (G.state b.session.core.filer.swapper.disk) x) same s.evidence_seen);
+                  (subst (λ (x : Halt). ShowsEvidence (state b.session.core).disk x) same s.evidence_seen);
             };
         cause = λ is.
             let same : h ≡ halt.Disk = cc is in
@@ -104,7 +105,7 @@ module _ {D A : Type 0} {G : Ghosts D} where
       (replied_called call a b old.halt r running s)))
 
   pub stopped_called_at : (call : Call) (old e : Engine D A G) (a b : Live D A G) (h : Halt) → old.held ≡ held.Session a → a.session.running ≡ true
-      → Stepped call a.session (Err h) b.session → IsClosed e → disk_of e ≡ Some (G.state b.session.core.filer.swapper.disk) → e.halt ≡ Some h
+      → Stepped call a.session (Err h) b.session → IsClosed e → disk_of e ≡ Some (state b.session.core).disk → e.halt ≡ Some h
       → Called call old (Err (code.Halted h)) e
   stopped_called_at call old e a b h had running s closed disk kept =
       subst (λ (k : Held D A G). Called call (record old { held = k }) (Err (code.Halted h)) e) (sym had)

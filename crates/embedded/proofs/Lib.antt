@@ -1,3 +1,4 @@
 mod CallLemmas
 mod OpenLemmas
 mod ReferenceLemmas
+mod PieceLemmas

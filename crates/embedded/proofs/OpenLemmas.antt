@@ -19,6 +19,7 @@ use Rattle.embedded.specs.declared.held.Held.TheVariants as held
 use Rattle.embedded.specs.declared.live.Live.{Live}
 use Rattle.embedded.specs.Engine.{IsIn, OfBoth, disk_in}
 use Rattle.embedded.specs.Opened.{code_of}
+use Rattle.fault_core.specs.Core.{state}
 
 -- a code that is a halt comes from a start that halted
 pub start_halted : (w : StartFault) (why : Halt) → code_of w ≡ code.Halted why → w ≡ Halted why
@@ -45,10 +46,10 @@ module _ {D A : Type 0} {G : Ghosts D} where
 
   -- from the disk to that of the session
   pub between_of : (P : DiskState → DiskState → Type 0) (h : Held D A G) (disk : D) (live : Live D A G) (s : Session D A G) → h ≡ held.Disk disk → live.session ≡ s
-      → P (G.state disk) (G.state s.core.filer.swapper.disk) → OfBoth P (disk_in h) (disk_in (held.Session live))
+      → P (G.state disk) (state s.core).disk → OfBoth P (disk_in h) (disk_in (held.Session live))
   between_of P h disk live s is same p =
       subst (λ (x : Held D A G). OfBoth P (disk_in x) (disk_in (held.Session live))) (sym is)
-      (subst (λ (x : Session D A G). P (G.state disk) (G.state x.core.filer.swapper.disk)) (sym same) p)
+      (subst (λ (x : Session D A G). P (G.state disk) (state x.core).disk) (sym same) p)
 
   -- An end: of a session that was taken out of the engine.
 
@@ -59,7 +60,7 @@ module _ {D A : Type 0} {G : Ghosts D} where
 
   -- from its disk to the one that it left
   pub ended_between : (P : DiskState → DiskState → Type 0) (h : Held D A G) (live : Live D A G) (s : Session D A G) (left : DiskState) → h ≡ held.Session live → s ≡ live.session
-      → P (G.state s.core.filer.swapper.disk) left → OfBoth P (disk_in h) (Some left)
+      → P (state s.core).disk left → OfBoth P (disk_in h) (Some left)
   ended_between P h live s left is same p =
       subst (λ (x : Held D A G). OfBoth P (disk_in x) (Some left)) (sym is)
-      (subst (λ (x : Session D A G). P (G.state x.core.filer.swapper.disk) left) same p)
+      (subst (λ (x : Session D A G). P (state x.core).disk left) same p)

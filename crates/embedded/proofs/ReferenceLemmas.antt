@@ -24,7 +24,7 @@ use Rattle.embedded.specs.declared.engine.Engine.{Engine}
 use Rattle.embedded.specs.Answers.{answer_to}
 use Rattle.embedded.specs.Called.{Called, Follows}
 use Rattle.embedded.specs.Engine.{StandsFor}
-use Rattle.embedded.specs.References.{AreAt, IsAt, Lead, Stored, StoredPiece}
+use Rattle.embedded.specs.References.{AreAt, IsAt, IsPiece, IsRefused, Lead, StopsAfter, StopsLoad, Stored, StoredPiece}
 
 -- Replies and answers.
 
@@ -49,6 +49,12 @@ refused_next : {e : Code} (o : Option Refusal) (m n : Machine) (r : Reply) → M
     → (if is_none o then n else m) ≡ m
 refused_next None m n r p is = absurd (cc (is ∙ ap answer_to p))
 refused_next (Some word) m n r p is = refl
+
+-- what is answered by a code, where each reply to an unrefused call is none, was refused with the code's word
+refused_why : {e : Code} (o : Option Refusal) (P : Type 0) (r : Reply) → MatchOption o P (λ word. r ≡ reply.Refused word) → (P → (x : Reply) × (answer_to r ≡ Ok x)) → Err e ≡ answer_to r
+    → (word : Refusal) × (o ≡ Some word) × (e ≡ code.Refused word)
+refused_why None P r p plain is = absurd (cc (is ∙ (plain p).1))
+refused_why (Some word) P r p plain is = (word, refl, cc (is ∙ ap answer_to p))
 
 -- Loads.
 
@@ -135,6 +141,10 @@ module _ {D A : Type 0} {G : Ghosts D} where
   pub stored_none : (m : Machine) (address : ℕ) (bytes : List ℕ) (e : Engine D A G) → StandsFor e m → Stored m address 0 bytes e
   stored_none m address bytes e stands = record { pieces = []; whole = refl; after = m; lead = refl; stands = stands }
 
+  -- the same bytes were stored where the engine still stands for the machine after them
+  pub stored_still : (m : Machine) (address done : ℕ) (bytes : List ℕ) (old new : Engine D A G) (s : Stored m address done bytes old) → StandsFor new s.after → Stored m address done bytes new
+  stored_still m address done bytes old new s still = record { pieces = s.pieces; whole = s.whole; after = s.after; lead = s.lead; stands = still }
+
   -- and a piece after the first bytes
   pub stored_then : (m : Machine) (address done n : ℕ) (bytes : List ℕ) (old new : Engine D A G) (s : Stored m address done bytes old) → done ≤ length bytes
       → StoredPiece s.after (address + done) (slice_range bytes done (done + n)) new → Stored m address (done + n) bytes new
@@ -181,3 +191,40 @@ module _ {D A : Type 0} {G : Ghosts D} where
     | inl f ↦ inl (store_refused m address bytes e new f)
     | inr is ↦ inr (cc is)
   ]
+
+  -- Why a call that is answered by a code is not carried out.
+
+  pub load_why : (m : Machine) (address count : ℕ) (old new : Engine D A G) (e : Code) → Called (call.Load address count) old (Err e) new → StandsFor old m
+      → (e ≡ code.Halted halt.Disk) ⊎ IsRefused m (call.Load address count) e
+  load_why m address count old new e c stands = elim (c.answers m stands) [
+    | inl f ↦ inr (refused_why (refusal m (call.Load address count)) (Answers m (call.Load address count) f.reply) f.reply f.allowed (λ p. (reply.Bytes p.0, ap answer_to p.1)) f.answered)
+    | inr is ↦ inl (cc is)
+  ]
+
+  pub store_why : (m : Machine) (address : ℕ) (bytes : List ℕ) (old new : Engine D A G) (e : Code) → Called (call.Store address bytes) old (Err e) new → StandsFor old m
+      → (e ≡ code.Halted halt.Disk) ⊎ IsRefused m (call.Store address bytes) e
+  store_why m address bytes old new e c stands = elim (c.answers m stands) [
+    | inl f ↦ inr (refused_why (refusal m (call.Store address bytes)) (Answers m (call.Store address bytes) f.reply) f.reply f.allowed (λ p. (reply.Done, ap answer_to p)) f.answered)
+    | inr is ↦ inl (cc is)
+  ]
+
+  -- so a load stops at a piece, and a store after the first bytes
+
+  pub load_stops : (m : Machine) (at rest k n : ℕ) (old new : Engine D A G) (e : Code) → k ≡ n → IsPiece at rest n → Called (call.Load at k) old (Err e) new → StandsFor old m → StopsLoad m at rest e
+  load_stops m at rest k n old new e same piece c stands = elim (load_why m at k old new e c stands) [
+    | inl is ↦ inl is
+    | inr refused ↦ inr (k, subst (λ (i : ℕ). IsPiece at rest i) (sym same) piece, refused)
+  ]
+
+  pub store_stops : (m : Machine) (address done n : ℕ) (bytes : List ℕ) (old new : Engine D A G) (e : Code) (s : Stored m address done bytes old) → IsPiece (address + done) (length bytes - done) n
+      → Called (call.Store (address + done) (slice_range bytes done (done + n))) old (Err e) new → StopsAfter m address done bytes e
+  store_stops m address done n bytes old new e s piece c = record {
+    pieces = s.pieces;
+    whole = s.whole;
+    after = s.after;
+    lead = s.lead;
+    stops = elim (store_why s.after (address + done) (slice_range bytes done (done + n)) old new e c s.stands) [
+      | inl is ↦ inl is
+      | inr refused ↦ inr (n, piece, refused)
+    ];
+  }

@@ -7,6 +7,8 @@ use Rattle.flat_machine.specs.declared.call.Reply.{Reply}
 use Rattle.flat_machine.specs.declared.call.Reply.TheVariants as reply
 use Rattle.flat_machine.specs.declared.call.Refusal.{Refusal}
 use Rattle.flat_machine.specs.declared.call.Refusal.TheVariants as why
+use Rattle.fault_core.specs.declared.reference.Access.{Access}
+use Rattle.fault_core.specs.declared.reference.Access.TheVariants as access
 use Rattle.embedded.specs.declared.code.Code.{Code}
 use Rattle.embedded.specs.declared.code.Code.TheVariants as code
 
@@ -15,6 +17,17 @@ abbrev pub answer_to : Reply → Result Reply Code
 answer_to (reply.Refused word) = Err (code.Refused word)
 answer_to reply.Nothing = Err code.NoFile
 answer_to other = Ok other
+
+-- what a client gets for what a load or a store came to
+abbrev pub answer_of : Access → Result (Unit {0}) Code
+answer_of access.Done = Ok tt
+answer_of (access.NoMap page) = Err (code.Refused (why.NoMap page))
+answer_of (access.ReadOnly page) = Err (code.Refused (why.ReadOnly page))
+
+-- an answer without a reply, as one with this reply where the call was carried out
+abbrev pub replied : Reply → Result (Unit {0}) Code → Result Reply Code
+replied plain (Ok done) = Ok plain
+replied plain (Err e) = Err e
 
 -- the place of a refusal among all, from 1 on
 abbrev pub refusal_number : Refusal → ℕ

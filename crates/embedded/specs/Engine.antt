@@ -7,6 +7,7 @@ use Rattle.running_words.specs.Running.{Runs}
 use Rattle.embedded.specs.declared.held.Held.{Held}
 use Rattle.embedded.specs.declared.held.Held.TheVariants as held
 use Rattle.embedded.specs.declared.engine.Engine.{Engine}
+use Rattle.fault_core.specs.Core.{state}
 
 abbrev pub OfBoth : (DiskState → DiskState → Type 0) → Option DiskState → Option DiskState → Type 0
 OfBoth P (Some old) (Some new) = P old new
@@ -16,7 +17,7 @@ module _ {D A : Type 0} {G : Ghosts D} where
   abbrev pub disk_in : Held D A G → Option DiskState
   disk_in held.Nothing = None
   disk_in (held.Disk disk) = Some (G.state disk)
-  disk_in (held.Session live) = Some (G.state live.session.core.filer.swapper.disk)
+  disk_in (held.Session live) = Some (state live.session.core).disk
 
   -- the state of its disk, if it has not let go of it
   abbrev pub disk_of : Engine D A G → Option DiskState

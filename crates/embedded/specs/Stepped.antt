@@ -13,6 +13,7 @@ use Rattle.running_words.specs.Running.{Carried, Runs}
 use Rattle.running_words.specs.Stages.{Passes}
 use Rattle.pilot_engine.specs.declared.session.Session.{Session}
 use Rattle.pilot_engine.specs.Stepping.{waits}
+use Rattle.fault_core.specs.Core.{state}
 
 module _ {D A : Type 0} {G : Ghosts D} where
   -- the reply and the session after it, of a session that stood for a machine; and what is so of every session
@@ -21,10 +22,10 @@ module _ {D A : Type 0} {G : Ghosts D} where
     pub carried : (m : Machine) → Runs old.core old.volume m → IfOk result (Carried m call new.core new.volume)
     pub sound : (m : Machine) → Runs old.core old.volume m → IfErr result (λ e. e ≡ halt.Disk)
     pub passes : (m : Machine) → Runs old.core old.volume m
-        → Passes m call (G.state old.core.filer.swapper.disk) (G.state new.core.filer.swapper.disk)
+        → Passes m call (state old.core).disk (state new.core).disk
     pub forced : (m : Machine) → waits call ≡ true → refusal m call ≡ None → Runs old.core old.volume m
-        → OnOk result ((G.state new.core.filer.swapper.disk).synced ≡ true)
+        → OnOk result ((state new.core).disk.synced ≡ true)
     pub counted : result ≡ Err halt.Disk
-        → Rose (G.state old.core.filer.swapper.disk).faults (G.state new.core.filer.swapper.disk).faults
-    pub evidence_seen : IfErr result (ShowsEvidence (G.state new.core.filer.swapper.disk))
+        → Rose (state old.core).disk.faults (state new.core).disk.faults
+    pub evidence_seen : IfErr result (ShowsEvidence (state new.core).disk)
     pub goes_on : OnOk result (new.running ≡ true)

@@ -25,7 +25,7 @@ fn answer_to(reply: Reply) -> Result<Reply, Code>
 
 impl<D: Disk + Drop, A: Allocator> Engine<D, A> {
     // Lets go of the session, which this stopped.
-    fn stop(&mut self, halt: Halt) -> Code
+    pub(crate) fn stop(&mut self, halt: Halt) -> Code
         ensures code { result ≡ Code.Halted halt }
         ensures closed { IsClosed self.new }
         ensures disk { disk_of self.new ≡ disk_of self.old }

@@ -12,6 +12,8 @@ mod image;
 mod live;
 mod making;
 mod opening;
+mod reference;
+mod referring;
 mod stepping;
 
 pub use code::Code;

@@ -2,6 +2,8 @@
 ghost use Rattle.std.specs.Prelude.{◌≡◌};
 ghost use Rattle.running_words.specs.Session.{IsOpen};
 ghost use Rattle.embedded.specs.Once.{is_open_once};
+ghost use Rattle.filer_kernel.specs.View.{FitsLayout};
+ghost use Rattle.fault_core.specs.Core.{state};
 
 use labelled_disk::Disk;
 use pilot_engine::Session;
@@ -11,14 +13,14 @@ use std::alloc::Allocator;
 #[derive(Drop)]
 pub(crate) struct Live<D: Disk, A: Allocator> {
     pub(crate) session: Session<D, A>,
-    ghost size: { (D.state session.core.filer.swapper.disk).sectors ≡ session.core.filer.swapper.layout.sectors },
-    ghost opened: { IsOpen session.core.filer.swapper.layout session.volume } by { is_open_once session.core.filer.swapper.layout session.volume },
+    ghost size: { FitsLayout (state session.core) },
+    ghost opened: { IsOpen (state session.core).layout session.volume } by { is_open_once (state session.core).layout session.volume },
 }
 
 impl<D: Disk, A: Allocator> Live<D, A> {
     pub(crate) fn of(session: Session<D, A>) -> Live<D, A>
-        requires size { (D.state session.core.filer.swapper.disk).sectors ≡ session.core.filer.swapper.layout.sectors }
-        requires opened { IsOpen session.core.filer.swapper.layout session.volume }
+        requires size { FitsLayout (state session.core) }
+        requires opened { IsOpen (state session.core).layout session.volume }
         ensures { result.session ≡ session }
     {
         Live { session }

@@ -16,7 +16,7 @@ pub extern "C" fn pilot_make(pilot: &mut Pilot, serial: u32, counter: u32) -> i3
 /// Restores the volume of the file, and says what was found.
 #[unsafe(no_mangle)]
 pub extern "C" fn pilot_restore(alloc: Global, pilot: &mut Pilot, report: &mut Report) -> i32 {
-    match pilot.engine().engine.scavenge(alloc) {
+    match pilot.engine().scavenge(alloc) {
         Ok(found) => {
             *report = Report {
                 files: found.files,

@@ -13,7 +13,7 @@ use std::alloc::Global;
 pub extern "C" fn pilot_start(alloc: Global, pilot: &mut Pilot, frames: u32) -> i32
     ensures { ¬ IsFrames frames → (result ≡ pos 29) × (pilot.new.value ≡ pilot.old.value) }
 {
-    number(&pilot.engine().engine.open(alloc, frames))
+    number(&pilot.engine().open(alloc, frames))
 }
 
 /// Whether there is a session.

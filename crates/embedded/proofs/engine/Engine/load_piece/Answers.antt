@@ -1,25 +1,25 @@
-use Rattle.std.proofs.Common.{◌≡◌, ◌∙◌, ap, Err, inl, inr}
-use Rattle.embedded.specs.declared.code.Code.{Code}
-use Rattle.embedded.specs.declared.code.Code.TheVariants as code
-use Rattle.embedded.proofs.ReferenceLemmas.{load_err, load_ok}
+use Rattle.std.proofs.Common.{length, refl, sym}
+use Rattle.flat_machine.specs.declared.call.Call.TheVariants as call
+use Rattle.flat_machine.specs.declared.call.Reply.TheVariants as reply
+use Rattle.fault_core.specs.ReferenceLaws.{reply_to}
+use Rattle.embedded.proofs.CallLemmas.{replied_called_at, stopped_called_at}
+use Rattle.embedded.proofs.PieceLemmas.{halted_step, replied_step, same_answer}
 use Rattle.embedded.proofs.engine.Engine.load_piece.Goals as goal
 
-pub returns-in-Ok-clause-loaded : goal.returns-in-Ok-clause-loaded
-returns-in-Ok-clause-loaded g c = λ m stands.
-    let l = load_ok m _ _ _ _ _ c.in-Ok.ensures stands in
-    rw (c.bytes_of.ensures.bytes l.0 l.1 l.2) l.3
+pub returns-in-Ok-clause-called : goal.returns-in-Ok-clause-called
+returns-in-Ok-clause-called g c =
+    let one = call.Load c.args.address (length c.args.into.now) in
+    let plain = reply.Bytes c.load.new.into in
+    replied_called_at one c.args.self.now _ c.in-Session.live c.load.new.self _ (reply_to plain c.in-Ok.access)
+    c.in-Session.is refl (same_answer plain c.in-Ok.access c.answer_of.result refl c.answer_of.ensures) (sym c.if-not-running.ensures)
+    (replied_step one plain c.in-Session.live.session c.load.new.self.session refl c.in-Ok.access c.in-Ok.ensures.machine c.in-Ok.ensures.refers)
 
-pub returns-in-Ok-clause-still : goal.returns-in-Ok-clause-still
-returns-in-Ok-clause-still g c = λ m stands. inl (load_ok m _ _ _ _ _ c.in-Ok.ensures stands).4
-
-pub returns-in-Err-clause-still : goal.returns-in-Err-clause-still
-returns-in-Err-clause-still g c = λ m stands. elim (load_err m _ _ _ _ _ c.in-Err.ensures stands) [
-  | inl still ↦ inl still
-  | inr is ↦ inr (ap (λ (e : Code). Err e) is)
-]
-
--- a halt is the piece's
-pub returns-in-Err-clause-stopped : goal.returns-in-Err-clause-stopped
-returns-in-Err-clause-stopped g c = λ why is.
-    let same : c.in-Err.code ≡ code.Halted why = cc is in
-    c.call.ensures.stopped why (c.in-Err.is ∙ ap (λ (e : Code). Err e) same)
+pub returns-in-Err-clause-called : goal.returns-in-Err-clause-called
+returns-in-Err-clause-called g c =
+    let one = call.Load c.args.address (length c.args.into.now) in
+    let plain = reply.Bytes c.load.new.into in
+    rw c.stop.ensures.code
+    (stopped_called_at one c.args.self.now c.stop.new.self c.in-Session.live c.load.new.self c.in-Err.halt
+    c.in-Session.is (sym c.if-not-running.ensures)
+    (halted_step one plain c.in-Session.live.session c.load.new.self.session refl c.in-Err.halt c.in-Err.ensures.machine c.in-Err.ensures.refers)
+    c.stop.ensures.closed c.stop.ensures.disk c.stop.ensures.kept)

@@ -8,3 +8,7 @@ pub returns-in-Err-clause-stopped : goal.returns-in-Err-clause-stopped
 returns-in-Err-clause-stopped g c = λ why is.
     let same : c.in-Err.code ≡ code.Halted why = cc is in
     c.store_next.ensures.stopped why (c.in-Err.is ∙ ap (λ (e : Code). Err e) same)
+
+-- and so is why it stops
+pub returns-in-Err-clause-stops : goal.returns-in-Err-clause-stops
+returns-in-Err-clause-stops g c = λ m stands low. c.in-Err.ensures.stops m (c.pieces.invariant.stored m stands) low

@@ -1,21 +1,41 @@
-use Rattle.std.proofs.Common.{◌≡◌, ◌∙◌, ◌+◌, ℕ, ap, arith, subst, Err}
+use Rattle.std.proofs.Common.{◌≡◌, ◌+◌, ◌-◌, ℕ, ap, arith, length, subst, Err, inl, inr}
 use Rattle.std.specs.Prelude.{slice_range}
+use Rattle.flat_machine.specs.declared.call.Call.TheVariants as call
 use Rattle.embedded.specs.declared.code.Code.{Code}
 use Rattle.embedded.specs.declared.code.Code.TheVariants as code
-use Rattle.embedded.specs.References.{StoredPiece}
-use Rattle.embedded.proofs.ReferenceLemmas.{stored_then}
+use Rattle.embedded.specs.Called.{Called}
+use Rattle.embedded.specs.References.{IsPiece, StoredPiece}
+use Rattle.embedded.proofs.ReferenceLemmas.{store_err, store_ok, store_stops, stored_still, stored_then}
 use Rattle.embedded.proofs.engine.Engine.store_next.Goals as goal
 
 pub returns-in-Ok-clause-stored : goal.returns-in-Ok-clause-stored
 returns-in-Ok-clause-stored g c = λ m s.
     let bytes = c.args.bytes.now in
     let done = c.args.done in
-    let n = c.from-count.result in
+    let n = c.in_piece-count.result in
     stored_then m c.args.address done n bytes c.args.self.now c.store_piece.new.self s (omega (arith, c.requires))
-    (subst (λ (a : ℕ). StoredPiece s.after a (slice_range bytes done (done + n)) c.store_piece.new.self) c.in-Some.ensures (c.in-Ok.ensures.stored s.after s.stands))
+    (subst (λ (a : ℕ). StoredPiece s.after a (slice_range bytes done (done + n)) c.store_piece.new.self) c.in-Some.ensures
+    (store_ok s.after _ _ _ _ _ c.in-Ok.ensures s.stands))
+
+pub returns-in-Err-clause-still : goal.returns-in-Err-clause-still
+returns-in-Err-clause-still g c = λ m s. elim (store_err s.after _ _ _ _ _ c.in-Err.ensures s.stands) [
+  | inl still ↦ inl (stored_still m _ _ _ _ _ s still)
+  | inr is ↦ inr is
+]
 
 -- a halt is the piece's
 pub returns-in-Err-clause-stopped : goal.returns-in-Err-clause-stopped
 returns-in-Err-clause-stopped g c = λ why is.
     let same : c.in-Err.code ≡ code.Halted why = cc is in
-    c.store_piece.ensures.stopped why (c.in-Err.is ∙ ap (λ (e : Code). Err e) same)
+    c.in-Err.ensures.stopped why (ap (λ (e : Code). Err e) same)
+
+-- the machine refuses the piece, or the disk failed
+pub returns-in-Err-clause-stops : goal.returns-in-Err-clause-stops
+returns-in-Err-clause-stops g c = λ m s low.
+    let bytes = c.args.bytes.now in
+    let done = c.args.done in
+    let n = c.in_piece-count.result in
+    let why = c.in-Err.code in
+    store_stops m c.args.address done n bytes c.args.self.now c.store_piece.new.self why s
+    (subst (λ (a : ℕ). IsPiece a (length bytes - done) n) c.in-Some.ensures c.in_piece-count.ensures.piece)
+    (subst (λ (a : ℕ). Called (call.Store a (slice_range bytes done (done + n))) c.args.self.now (Err why) c.store_piece.new.self) c.in-Some.ensures c.in-Err.ensures)

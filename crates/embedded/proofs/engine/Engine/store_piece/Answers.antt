@@ -1,17 +1,23 @@
-use Rattle.std.proofs.Common.{◌≡◌, ◌∙◌, ap, sym, Err}
-use Rattle.embedded.specs.declared.code.Code.{Code}
-use Rattle.embedded.specs.declared.code.Code.TheVariants as code
-use Rattle.embedded.proofs.ReferenceLemmas.{store_err, store_ok}
+use Rattle.std.proofs.Common.{refl, sym}
+use Rattle.flat_machine.specs.declared.call.Call.TheVariants as call
+use Rattle.flat_machine.specs.declared.call.Reply.TheVariants as reply
+use Rattle.fault_core.specs.ReferenceLaws.{reply_to}
+use Rattle.embedded.proofs.CallLemmas.{replied_called_at, stopped_called_at}
+use Rattle.embedded.proofs.PieceLemmas.{halted_step, replied_step, same_answer}
 use Rattle.embedded.proofs.engine.Engine.store_piece.Goals as goal
 
-pub returns-in-Ok-clause-stored : goal.returns-in-Ok-clause-stored
-returns-in-Ok-clause-stored g c = λ m stands. rw (sym c.of-bytes.ensures) (store_ok m _ _ _ _ _ c.in-Ok.ensures stands)
+pub returns-in-Ok : goal.returns-in-Ok
+returns-in-Ok g c =
+    let one = call.Store c.args.address c.args.bytes.now in
+    replied_called_at one c.args.self.now _ c.in-Session.live c.store.new.self _ (reply_to reply.Done c.in-Ok.access)
+    c.in-Session.is refl (same_answer reply.Done c.in-Ok.access c.answer_of.result refl c.answer_of.ensures) (sym c.if-not-running.ensures)
+    (replied_step one reply.Done c.in-Session.live.session c.store.new.self.session refl c.in-Ok.access c.in-Ok.ensures.machine c.in-Ok.ensures.refers)
 
-pub returns-in-Err-clause-still : goal.returns-in-Err-clause-still
-returns-in-Err-clause-still g c = λ m stands. store_err m _ _ _ _ _ c.in-Err.ensures stands
-
--- a halt is the piece's
-pub returns-in-Err-clause-stopped : goal.returns-in-Err-clause-stopped
-returns-in-Err-clause-stopped g c = λ why is.
-    let same : c.in-Err.code ≡ code.Halted why = cc is in
-    c.call.ensures.stopped why (c.in-Err.is ∙ ap (λ (e : Code). Err e) same)
+pub returns-in-Err : goal.returns-in-Err
+returns-in-Err g c =
+    let one = call.Store c.args.address c.args.bytes.now in
+    rw c.stop.ensures.code
+    (stopped_called_at one c.args.self.now c.stop.new.self c.in-Session.live c.store.new.self c.in-Err.halt
+    c.in-Session.is (sym c.if-not-running.ensures)
+    (halted_step one reply.Done c.in-Session.live.session c.store.new.self.session refl c.in-Err.halt c.in-Err.ensures.machine c.in-Err.ensures.refers)
+    c.stop.ensures.closed c.stop.ensures.disk c.stop.ensures.kept)

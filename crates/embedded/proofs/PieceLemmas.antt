@@ -1,0 +1,70 @@
+-- From a load or a store that answers without a reply to a call that replies.
+use Rattle.std.proofs.Common.{◌≡◌, ◌∙◌, ℕ, List, false, true, sym, ap, subst, refl, Result, Ok, Err}
+use Rattle.std.proofs.lemmas.Bool.{true≢false}
+use Rattle.labelled_disk.specs.declared.disk.Disk.{Ghosts}
+use Rattle.labelled_disk.specs.declared.evidence.Halt.{Halt}
+use Rattle.flat_machine.specs.declared.call.Call.{Call}
+use Rattle.flat_machine.specs.declared.call.Call.TheVariants as call
+use Rattle.flat_machine.specs.declared.call.Reply.{Reply}
+use Rattle.flat_machine.specs.declared.call.Reply.TheVariants as reply
+use Rattle.flat_machine.specs.Machine.{Machine}
+use Rattle.fault_core.specs.declared.reference.Access.{Access}
+use Rattle.fault_core.specs.declared.reference.Access.TheVariants as access
+use Rattle.fault_core.specs.ReferenceLaws.{reply_to}
+use Rattle.running_words.specs.Running.{Runs}
+use Rattle.pilot_engine.specs.declared.session.Session.{Session}
+use Rattle.pilot_engine.specs.Referring.{Refers, RefersIn}
+use Rattle.pilot_engine.specs.Stepping.{waits}
+use Rattle.embedded.specs.declared.code.Code.{Code}
+use Rattle.embedded.specs.declared.engine.Engine.{Engine}
+use Rattle.embedded.specs.Answers.{answer_of, answer_to, replied}
+use Rattle.embedded.specs.Called.{Called}
+use Rattle.embedded.specs.Engine.{StandsFor}
+use Rattle.embedded.specs.References.{AreAt}
+use Rattle.embedded.specs.Stepped.{Stepped}
+use Rattle.embedded.proofs.ReferenceLemmas.{load_ok}
+
+-- what a reference came to is answered as its reply is
+pub same_answer : (plain : Reply) (a : Access) (r : Result (Unit {0}) Code) → answer_to plain ≡ Ok plain → r ≡ answer_of a → replied plain r ≡ answer_to (reply_to plain a)
+same_answer plain a r itself is = ap (replied plain) is ∙ by a
+  where
+    by : (a : Access) → replied plain (answer_of a) ≡ answer_to (reply_to plain a)
+    by access.Done = sym itself
+    by (access.NoMap page) = refl
+    by (access.ReadOnly page) = refl
+
+module _ {D A : Type 0} {G : Ghosts D} (call : Call) (plain : Reply) (old new : Session D A G) (moves_on : waits call ≡ false) where
+  -- a session that did not halt replied
+  pub replied_step : (a : Access) → ((m : Machine) → Runs old.core old.volume m → RefersIn m call plain old (Ok a) new) → Refers call old (Ok a) new
+      → Stepped call old (Ok (reply_to plain a)) new
+  replied_step a machine refers = record {
+    carried = λ m r. (machine m r).carried;
+    sound = λ m r. tt;
+    passes = λ m r. (machine m r).passes;
+    forced = λ m waiting free r. absurd (true≢false (sym waiting ∙ moves_on));
+    counted = λ is. absurd (cc is);
+    evidence_seen = tt;
+    goes_on = refers.goes_on;
+  }
+
+  -- one that did is as after a call that halted
+  pub halted_step : (e : Halt) → ((m : Machine) → Runs old.core old.volume m → RefersIn m call plain old (Err e) new) → Refers call old (Err e) new
+      → Stepped call old (Err e) new
+  halted_step e machine refers = record {
+    carried = λ m r. tt;
+    sound = λ m r. (machine m r).sound;
+    passes = λ m r. (machine m r).passes;
+    forced = λ m waiting free r. tt;
+    counted = λ is. refers.fails.counted (cc is);
+    evidence_seen = refers.fails.evidence_seen;
+    goes_on = tt;
+  }
+
+module _ {D A : Type 0} {G : Ghosts D} where
+  -- the bytes of a load that was carried out are the machine's, and the engine stands for it still
+  pub loaded_at : (m : Machine) (address n : ℕ) (bytes : List ℕ) (old new : Engine D A G) → Called (call.Load address n) old (Ok (reply.Bytes bytes)) new → StandsFor old m
+      → AreAt m address n bytes × StandsFor new m
+  loaded_at m address n bytes old new called stands =
+      let l = load_ok m address n old new (reply.Bytes bytes) called stands in
+      let same : bytes ≡ l.0 = cc l.1 in
+      (subst (λ (bs : List ℕ). AreAt m address n bs) (sym same) l.3, l.4)

@@ -1,0 +1,62 @@
+//! One load or store of up to a page, answered by why it was not carried out.
+ghost use Rattle.std.specs.Prelude.{◌≡◌, length};
+ghost use Rattle.flat_machine.specs.declared.call.Call.TheVariants as call;
+ghost use Rattle.flat_machine.specs.declared.call.Reply.TheVariants as reply;
+ghost use Rattle.pilot_engine.specs.Referring.{IsAtOnce};
+ghost use Rattle.embedded.specs.Answers.{answer_of, replied};
+ghost use Rattle.embedded.specs.Called.{Called};
+
+use crate::held::Held;
+use crate::{Code, Engine};
+use flat_machine::Refusal;
+use labelled_disk::Disk;
+use pilot_engine::Access;
+use std::alloc::Allocator;
+
+// What the client gets for what a reference came to.
+fn answer_of(access: Access) -> Result<(), Code>
+    ensures { result ≡ answer_of access }
+{
+    match access {
+        Access::Done => Ok(()),
+        Access::NoMap(page) => Err(Code::Refused(Refusal::NoMap(page))),
+        Access::ReadOnly(page) => Err(Code::Refused(Refusal::ReadOnly(page))),
+    }
+}
+
+impl<D: Disk + Drop, A: Allocator> Engine<D, A> {
+    // Loads 1 to 512 bytes.
+    pub(crate) fn load_piece(&mut self, address: u32, into: &mut [u8]) -> Result<(), Code>
+        requires { IsAtOnce (length into.old) }
+        ensures called { Called (call.Load address (length into.old)) self.old (replied (reply.Bytes into.new) result) self.new }
+        ensures width { length into.new ≡ length into.old }
+    {
+        let Held::Session(live) = &mut self.held else {
+            return Err(Code::Closed);
+        };
+        if !live.running() {
+            return Err(Code::Closed);
+        }
+        match live.load(address, into) {
+            Ok(access) => answer_of(access),
+            Err(halt) => Err(self.stop(halt)),
+        }
+    }
+
+    // Stores 1 to 512 bytes.
+    pub(crate) fn store_piece(&mut self, address: u32, bytes: &[u8]) -> Result<(), Code>
+        requires { IsAtOnce (length bytes.now) }
+        ensures { Called (call.Store address bytes.now) self.old (replied reply.Done result) self.new }
+    {
+        let Held::Session(live) = &mut self.held else {
+            return Err(Code::Closed);
+        };
+        if !live.running() {
+            return Err(Code::Closed);
+        }
+        match live.store(address, bytes) {
+            Ok(access) => answer_of(access),
+            Err(halt) => Err(self.stop(halt)),
+        }
+    }
+}

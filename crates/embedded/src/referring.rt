@@ -1,0 +1,37 @@
+//! One load or store in a session that has what it requires.
+ghost use Rattle.std.specs.Prelude.{◌≡◌, length, true};
+ghost use Rattle.flat_machine.specs.declared.call.Call.TheVariants as call;
+ghost use Rattle.flat_machine.specs.declared.call.Reply.TheVariants as reply;
+ghost use Rattle.flat_machine.specs.Machine.{Machine};
+ghost use Rattle.running_words.specs.Running.{Runs};
+ghost use Rattle.pilot_engine.specs.Referring.{IsAtOnce, Refers, RefersIn};
+
+use crate::live::Live;
+use labelled_disk::{Disk, Halt};
+use pilot_engine::Access;
+use std::alloc::Allocator;
+
+impl<D: Disk, A: Allocator> Live<D, A> {
+    /// Loads 1 to 512 bytes from an address on.
+    pub(crate) fn load(&mut self, address: u32, into: &mut [u8]) -> Result<Access, Halt>
+        requires count { IsAtOnce (length into.old) }
+        requires running { self.old.session.running ≡ true }
+        ensures machine { (m : Machine) → Runs self.old.session.core self.old.session.volume m
+            → RefersIn m (call.Load address (length into.old)) (reply.Bytes into.new) self.old.session result self.new.session }
+        ensures refers { Refers (call.Load address (length into.old)) self.old.session result self.new.session }
+        ensures width { length into.new ≡ length into.old }
+    {
+        self.session.load(address, into)
+    }
+
+    /// Stores 1 to 512 bytes from an address on.
+    pub(crate) fn store(&mut self, address: u32, bytes: &[u8]) -> Result<Access, Halt>
+        requires count { IsAtOnce (length bytes.now) }
+        requires running { self.old.session.running ≡ true }
+        ensures machine { (m : Machine) → Runs self.old.session.core self.old.session.volume m
+            → RefersIn m (call.Store address bytes.now) reply.Done self.old.session result self.new.session }
+        ensures refers { Refers (call.Store address bytes.now) self.old.session result self.new.session }
+    {
+        self.session.store(address, bytes)
+    }
+}

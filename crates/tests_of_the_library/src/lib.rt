@@ -1,0 +1,11 @@
+//! Tests of an engine, over disks in memory.
+#![tactic(auto)]
+
+#[cfg(test)]
+mod bytes;
+#[cfg(test)]
+mod engines;
+#[cfg(test)]
+mod failing;
+#[cfg(test)]
+mod rows;
