@@ -1,0 +1,19 @@
+use Rattle.std.proofs.Common.{◌≡◌, ◌≤◌, ◌<◌, ◌-◌, ◌*◌, ◌^◌, length}
+use Rattle.std.specs.Io.KnownBytes.{IsAtEnd}
+use Rattle.documents.specs.Course.{Led, is_quiet}
+use Rattle.documents.proofs.putting.append_all.Given as goal
+
+-- the bytes fit the pages, and where fewer were taken than there is room for, the source has ended
+abbrev pub invariant-windows : goal.invariant-windows
+invariant-windows g l = record {
+  within : l.count ≤ l.room;
+  room : l.room ≤ length l.buffer;
+  width : length l.buffer ≡ length l.fn.buffer;
+  bytes : l.bytes ≤ 512 * l.pages;
+  led : Led is_quiet l.fn.engine l.engine;
+  ended : l.count < l.room → IsAtEnd (g.S.Source.left l.source);
+  later : g.S.Source.faults l.fn.source ≤ g.S.Source.faults l.source;
+}
+
+abbrev pub decreases-windows : goal.decreases-windows
+decreases-windows g l = 2 ^ 32 - l.pages

@@ -1,0 +1,19 @@
+use Rattle.std.proofs.Common.{refl}
+use Rattle.documents.proofs.CourseLemmas.{led_called, led_then}
+use Rattle.documents.specs.Course.{is_look}
+use Rattle.documents.proofs.StoppedLemmas.{stopped_code}
+use Rattle.documents.proofs.window.hide.Goals as goal
+
+pub returns-in-Ok-remove_space-clause-led : goal.returns-in-Ok-remove_space-clause-led
+returns-in-Ok-remove_space-clause-led g c =
+    led_then is_look c.args.engine.now c.unmap.new.self c.remove_space.new.self
+    (led_called is_look _ c.args.engine.now c.unmap.new.self _ _ refl c.unmap.ensures c.in-Ok.is)
+    (led_called is_look _ c.unmap.new.self c.remove_space.new.self _ _ refl c.remove_space.ensures c.in-Ok-remove_space.is)
+
+pub returns-in-Err-clause-stopped : goal.returns-in-Err-clause-stopped
+returns-in-Err-clause-stopped g c = λ why is.
+    stopped_code why _ c.in-Err.code c.unmap.new.self c.unmap.ensures.stopped c.in-Err.is (cc is)
+
+pub returns-in-Err-remove_space-clause-stopped : goal.returns-in-Err-remove_space-clause-stopped
+returns-in-Err-remove_space-clause-stopped g c = λ why is.
+    stopped_code why _ c.in-Err-remove_space.code c.remove_space.new.self c.remove_space.ensures.stopped c.in-Err-remove_space.is (cc is)

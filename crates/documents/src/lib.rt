@@ -1,0 +1,19 @@
+//! Documents: files of a volume whose first page says how many bytes they have, and what they are called.
+#![tactic(auto)]
+
+mod fault;
+mod getting;
+mod listing;
+mod progress;
+mod putting;
+mod replacing;
+mod streams;
+mod window;
+
+pub use document_head::{Head, KIND, NAME_MOST, Name};
+pub use fault::Fault;
+pub use getting::{get, get_pages};
+pub use listing::{Listed, describe, next_listed};
+pub use progress::{Progress, Silent};
+pub use putting::put;
+pub use replacing::{remove, replace};

@@ -1,0 +1,93 @@
+//! What the files of a volume are, one after the other.
+ghost use Rattle.std.specs.Prelude.{◌≡◌, Err, IfOk, IfSome, OnOk, OnSome};
+ghost use Rattle.document_head.specs.Head.{pages_of};
+ghost use Rattle.embedded.specs.Called.{HasStopped};
+ghost use Rattle.embedded.specs.Engine.{IsClosed};
+ghost use Rattle.documents.specs.Course.{Led, is_look};
+
+use crate::window::load_pages;
+use crate::{Head, KIND};
+use embedded::{Code, Engine};
+use flat_machine::Reply;
+use labelled_disk::{Disk, FileId, Halt};
+use std::alloc::Allocator;
+
+/// A file of the volume, and its head where it is a document.
+#[derive(Debug, Drop)]
+pub struct Listed {
+    pub id: FileId,
+    pub pages: u32,
+    pub kind: u16,
+    pub head: Option<Head>,
+}
+
+// The head of a file of so many pages, if its first page is one.
+fn head_in<D: Disk + Drop, A: Allocator>(
+    engine: &mut Engine<D, A>,
+    id: FileId,
+    pages: u32,
+) -> Result<Option<Head>, Code>
+    ensures pages { IfOk result (λ found. IfSome found (λ head. pages ≡ pages_of head.bytes)) }
+    ensures led { OnOk result (Led is_look engine.old engine.new) }
+    ensures stopped { (why : Halt) → result ≡ Err (Code.Halted why) → HasStopped why engine.new }
+{
+    let mut page = [0; 512];
+    match load_pages(engine, id, 0, &mut page) {
+        Ok(()) => Ok(Head::of_file(&page, pages)),
+        Err(code) => Err(code),
+    }
+}
+
+/// What the file with this identifier is.
+pub fn describe<D: Disk + Drop, A: Allocator>(
+    engine: &mut Engine<D, A>,
+    id: FileId,
+) -> Result<Listed, Code>
+    ensures pages { IfOk result (λ file. IfSome file.head (λ head. file.pages ≡ pages_of head.bytes)) }
+    ensures led { OnOk result (Led is_look engine.old engine.new) }
+    ensures closed { IsClosed engine.old → (result ≡ Err Code.Closed) × (engine.new ≡ engine.old) }
+    ensures stopped { (why : Halt) → result ≡ Err (Code.Halted why) → HasStopped why engine.new }
+{
+    let (pages, kind) = match engine.attributes(id) {
+        Ok(Reply::Attributes { pages, kind, .. }) => (pages, kind),
+        Ok(_) => return Err(Code::Argument),
+        Err(code) => return Err(code),
+    };
+    let mut file = Listed {
+        id,
+        pages,
+        kind,
+        head: None,
+    };
+    if kind != KIND || pages == 0 {
+        return Ok(file);
+    }
+    match head_in(engine, id, pages) {
+        Ok(head) => {
+            file.head = head;
+            Ok(file)
+        }
+        Err(code) => Err(code),
+    }
+}
+
+/// What the file with the least identifier above this one is, if there is one.
+pub fn next_listed<D: Disk + Drop, A: Allocator>(
+    engine: &mut Engine<D, A>,
+    cursor: FileId,
+) -> Result<Option<Listed>, Code>
+    ensures led { IfOk result (λ found. OnSome found (Led is_look engine.old engine.new)) }
+    ensures closed { IsClosed engine.old → (result ≡ Err Code.Closed) × (engine.new ≡ engine.old) }
+    ensures stopped { (why : Halt) → result ≡ Err (Code.Halted why) → HasStopped why engine.new }
+{
+    let id = match engine.next(cursor) {
+        Ok(Reply::File(id)) => id,
+        Ok(_) => return Err(Code::Argument),
+        Err(Code::NoFile) => return Ok(None),
+        Err(code) => return Err(code),
+    };
+    match describe(engine, id) {
+        Ok(file) => Ok(Some(file)),
+        Err(code) => Err(code),
+    }
+}

@@ -1,0 +1,196 @@
+//! A document is put: its bytes, then its head, and last the mark that lets it outlast the session.
+ghost use Rattle.std.specs.Prelude.{◌≡◌, ◌⊎◌, ◌≤◌, ◌<◌, ◌+◌, ◌*◌, ◌^◌, length, Ok, Err, IfOk, IfErr, OnOk};
+ghost use Rattle.std.specs.Io.KnownBytes.{IsAtEnd};
+ghost use Rattle.trace_io.specs.Stream.{Rose};
+ghost use Rattle.embedded.specs.Called.{HasStopped};
+ghost use Rattle.embedded.specs.Engine.{IsClosed};
+ghost use Rattle.documents.specs.Course.{Led, is_quiet};
+ghost use Rattle.documents.specs.Ends.{EndsWith, IsUndone, Marked};
+
+use crate::streams::fill;
+use crate::window::store_pages;
+use crate::{Fault, Head, KIND, Name, Progress};
+use embedded::{Code, Engine};
+use flat_machine::{Call, Refusal, Reply};
+use labelled_disk::{Disk, FileId, Halt};
+use std::alloc::Allocator;
+use trace_io::Source;
+
+// No volume has so many pages.
+const FULL: Code = Code::Refused(Refusal::Full);
+
+// The file that was made.
+fn file_of(made: Result<Reply, Code>) -> Result<FileId, Code>
+    ensures ok { IfOk result (λ id. made ≡ Ok (Reply.File id)) }
+    ensures code { (code : Code) → made ≡ Err code → result ≡ Err code }
+    ensures halted { (why : Halt) → result ≡ Err (Code.Halted why) → made ≡ Err (Code.Halted why) }
+{
+    match made {
+        Ok(Reply::File(id)) => Ok(id),
+        Ok(_) => Err(Code::Argument),
+        Err(code) => Err(code),
+    }
+}
+
+// Makes a temporary file for a document.
+fn new_file<D: Disk + Drop, A: Allocator>(engine: &mut Engine<D, A>) -> Result<FileId, Code>
+    ensures led { OnOk result (Led is_quiet engine.old engine.new) }
+    ensures created { EndsWith (Call.Create 1 17475) engine.new }
+    ensures closed { IsClosed engine.old → (result ≡ Err Code.Closed) × (engine.new ≡ engine.old) }
+    ensures stopped { (why : Halt) → result ≡ Err (Code.Halted why) → HasStopped why engine.new }
+{
+    let made = engine.create(1, KIND);
+    file_of(made)
+}
+
+// Appends bytes to a file of so many pages, and answers how many pages it has then.
+fn append<D: Disk + Drop, A: Allocator>(
+    engine: &mut Engine<D, A>,
+    id: FileId,
+    pages: u32,
+    bytes: &[u8],
+) -> Result<u32, Code>
+    ensures room { IfOk result (λ all. 512 * pages + length bytes.now ≤ 512 * all) }
+    ensures led { OnOk result (Led is_quiet engine.old engine.new) }
+    ensures stopped { (why : Halt) → result ≡ Err (Code.Halted why) → HasStopped why engine.new }
+{
+    let Ok(more) = u32::try_from(bytes.len().div_ceil(512)) else {
+        return Err(FULL);
+    };
+    let Some(all) = pages.checked_add(more) else {
+        return Err(FULL);
+    };
+    match engine.set_size(id, all) {
+        Ok(_) => {}
+        Err(code) => return Err(code),
+    }
+    match store_pages(engine, id, pages, bytes) {
+        Ok(()) => Ok(all),
+        Err(code) => Err(code),
+    }
+}
+
+// Appends what the source has left to a file of one page, a buffer at a time, and answers how many bytes these were.
+fn append_all<D: Disk + Drop, A: Allocator, S: Source, P: Progress>(
+    engine: &mut Engine<D, A>,
+    buffer: &mut [u8],
+    id: FileId,
+    source: &mut S,
+    progress: &mut P,
+) -> Result<u64, Fault>
+    ensures led { OnOk result (Led is_quiet engine.old engine.new) }
+    ensures ended { OnOk result (IsAtEnd (S.left source.new)) }
+    ensures input { result ≡ Err Fault.Input → Rose (S.faults source.old) (S.faults source.new) }
+    ensures stopped { (why : Halt) → result ≡ Err (Fault.Call (Code.Halted why)) → HasStopped why engine.new }
+{
+    let room = buffer.len() - buffer.len() % 512;
+    if room == 0 {
+        return Err(Fault::Buffer);
+    }
+    let mut pages = 1u32;
+    let mut bytes = 0;
+    let Ok(mut count) = fill(source, &mut buffer[..room]) else {
+        return Err(Fault::Input);
+    };
+    'windows: while count > 0 {
+        match append(engine, id, pages, &buffer[..count]) {
+            Ok(all) => pages = all,
+            Err(code) => return Err(Fault::Call(code)),
+        }
+        bytes += count as u64;
+        progress.moved(bytes);
+        if count < room {
+            return Ok(bytes);
+        }
+        match fill(source, &mut buffer[..room]) {
+            Ok(next) => count = next,
+            Err(_) => return Err(Fault::Input),
+        }
+    }
+    Ok(bytes)
+}
+
+// Writes the head of a document whose bytes are there, and marks it as permanent.
+fn seal<D: Disk + Drop, A: Allocator>(
+    engine: &mut Engine<D, A>,
+    id: FileId,
+    head: &Head,
+) -> Result<(), Code>
+    ensures marked { OnOk result (Marked id engine.old engine.new) }
+    ensures stopped { (why : Halt) → result ≡ Err (Code.Halted why) → HasStopped why engine.new }
+{
+    match store_pages(engine, id, 0, &head.to_page()) {
+        Ok(()) => {}
+        Err(code) => return Err(code),
+    }
+    match engine.make_permanent(id) {
+        Ok(_) => Ok(()),
+        Err(code) => Err(code),
+    }
+}
+
+// Fills a file of one page with what the source has left, and makes a document of it.
+fn fill_file<D: Disk + Drop, A: Allocator, S: Source, P: Progress>(
+    engine: &mut Engine<D, A>,
+    buffer: &mut [u8],
+    id: FileId,
+    source: &mut S,
+    name: Name,
+    progress: &mut P,
+) -> Result<(), Fault>
+    ensures marked { OnOk result (Marked id engine.old engine.new) }
+    ensures ended { OnOk result (IsAtEnd (S.left source.new)) }
+    ensures input { result ≡ Err Fault.Input → Rose (S.faults source.old) (S.faults source.new) }
+    ensures stopped { (why : Halt) → result ≡ Err (Fault.Call (Code.Halted why)) → HasStopped why engine.new }
+{
+    let bytes = match append_all(engine, buffer, id, source, progress) {
+        Ok(bytes) => bytes,
+        Err(fault) => return Err(fault),
+    };
+    match seal(engine, id, &Head { bytes, name }) {
+        Ok(()) => Ok(()),
+        Err(code) => Err(Fault::Call(code)),
+    }
+}
+
+// What is answered where a document was not made, and its file was deleted: a halt, where that stopped.
+pub(crate) fn fault_after(fault: Fault, deleted: Result<Reply, Code>) -> Fault
+    ensures { (result ≡ fault)
+        ⊎ ((why : Halt) × (deleted ≡ Err (Code.Halted why)) × (result ≡ Fault.Call (Code.Halted why))) }
+{
+    match deleted {
+        Err(Code::Halted(halt)) => Fault::Call(Code::Halted(halt)),
+        _ => fault,
+    }
+}
+
+/// Puts what the source has left into a new document. Until its last call the file is a temporary one: a volume that
+/// is stopped before then has no trace of it once it is restored.
+pub fn put<D: Disk + Drop, A: Allocator, S: Source, P: Progress>(
+    engine: &mut Engine<D, A>,
+    buffer: &mut [u8],
+    source: &mut S,
+    name: &str,
+    progress: &mut P,
+) -> Result<FileId, Fault>
+    ensures marked { IfOk result (λ id. Marked id engine.old engine.new) }
+    ensures undone { IfErr result (λ e. (engine.new ≡ engine.old) ⊎ IsUndone engine.new) }
+    ensures named { 255 < length name.now → (result ≡ Err Fault.LongName) × (engine.new ≡ engine.old) }
+    ensures closed { IsClosed engine.old → length name.now ≤ 255
+        → (result ≡ Err (Fault.Call Code.Closed)) × (engine.new ≡ engine.old) × (source.new ≡ source.old) }
+    ensures ended { OnOk result (IsAtEnd (S.left source.new)) }
+    ensures input { result ≡ Err Fault.Input → Rose (S.faults source.old) (S.faults source.new) }
+    ensures stopped { (why : Halt) → result ≡ Err (Fault.Call (Code.Halted why)) → HasStopped why engine.new }
+{
+    let Ok(name) = Name::from(name) else {
+        return Err(Fault::LongName);
+    };
+    let id = match new_file(engine) {
+        Ok(id) => id,
+        Err(code) => return Err(Fault::Call(code)),
+    };
+    match fill_file(engine, buffer, id, source, name, progress) {
+        Ok(()) => Ok(id),
+        Err(fault) => Err(fault_after(fault, engine.delete(id))),
+    }
+}

@@ -1,0 +1,75 @@
+//! Documents are removed, and others put in their place.
+ghost use Rattle.std.specs.Prelude.{◌≡◌, Err, IfOk, OnOk};
+ghost use Rattle.embedded.specs.Called.{HasStopped};
+ghost use Rattle.embedded.specs.Engine.{IsClosed};
+ghost use Rattle.documents.specs.Course.{Led, is_look};
+ghost use Rattle.documents.specs.Ends.{Deleted, Replaced};
+
+use crate::putting::fault_after;
+use crate::{Fault, Progress, describe, put};
+use embedded::{Code, Engine};
+use labelled_disk::{Disk, FileId, Halt};
+use std::alloc::Allocator;
+use trace_io::Source;
+
+// Refuses what is no document.
+fn is_document<D: Disk + Drop, A: Allocator>(
+    engine: &mut Engine<D, A>,
+    id: FileId,
+) -> Result<(), Fault>
+    ensures led { OnOk result (Led is_look engine.old engine.new) }
+    ensures closed { IsClosed engine.old → (result ≡ Err (Fault.Call Code.Closed)) × (engine.new ≡ engine.old) }
+    ensures stopped { (why : Halt) → result ≡ Err (Fault.Call (Code.Halted why)) → HasStopped why engine.new }
+{
+    match describe(engine, id) {
+        Ok(file) if file.head.is_some() => Ok(()),
+        Ok(_) => Err(Fault::NoDocument),
+        Err(code) => Err(Fault::Call(code)),
+    }
+}
+
+/// Removes a document. A file that is none stays.
+pub fn remove<D: Disk + Drop, A: Allocator>(
+    engine: &mut Engine<D, A>,
+    id: FileId,
+) -> Result<(), Fault>
+    ensures deleted { OnOk result (Deleted id engine.old engine.new) }
+    ensures closed { IsClosed engine.old → (result ≡ Err (Fault.Call Code.Closed)) × (engine.new ≡ engine.old) }
+    ensures stopped { (why : Halt) → result ≡ Err (Fault.Call (Code.Halted why)) → HasStopped why engine.new }
+{
+    match is_document(engine, id) {
+        Ok(()) => {}
+        Err(fault) => return Err(fault),
+    }
+    match engine.delete(id) {
+        Ok(_) => Ok(()),
+        Err(code) => Err(Fault::Call(code)),
+    }
+}
+
+/// Puts what the source has left into a new document, and then removes the one that it replaces.
+pub fn replace<D: Disk + Drop, A: Allocator, S: Source, P: Progress>(
+    engine: &mut Engine<D, A>,
+    buffer: &mut [u8],
+    source: &mut S,
+    name: &str,
+    progress: &mut P,
+    old: FileId,
+) -> Result<FileId, Fault>
+    ensures replaced { IfOk result (λ id. Replaced old id engine.old engine.new) }
+    ensures closed { IsClosed engine.old → (result ≡ Err (Fault.Call Code.Closed)) × (engine.new ≡ engine.old) }
+    ensures stopped { (why : Halt) → result ≡ Err (Fault.Call (Code.Halted why)) → HasStopped why engine.new }
+{
+    match is_document(engine, old) {
+        Ok(()) => {}
+        Err(fault) => return Err(fault),
+    }
+    let id = match put(engine, buffer, source, name, progress) {
+        Ok(id) => id,
+        Err(fault) => return Err(fault),
+    };
+    match engine.delete(old) {
+        Ok(_) => Ok(id),
+        Err(code) => Err(fault_after(Fault::Call(code), engine.delete(id))),
+    }
+}

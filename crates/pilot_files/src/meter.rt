@@ -1,0 +1,74 @@
+//! How far a document has come, for whoever sits at the terminal.
+
+use documents::Progress;
+use std::io::IsTerminal;
+use std::time::{Duration, Instant};
+
+/// Nothing is written before so many milliseconds.
+const PATIENCE: u64 = 500;
+
+/// Nothing is written again before so many milliseconds.
+const PAUSE: u64 = 100;
+
+/// Writes to standard error how many bytes were moved, where that is a terminal and it takes long.
+#[derive(Drop)]
+pub(crate) struct Meter<'a> {
+    rt: &'a HostRuntime,
+    what: &'a str,
+    /// When the next line is due; none is, where nobody is to learn of it.
+    start: Option<Instant>,
+    told: Duration,
+    shown: bool,
+}
+
+impl<'a> Meter<'a> {
+    pub(crate) fn new(rt: &'a HostRuntime, what: &'a str, quiet: bool) -> Meter<'a> {
+        let start = if quiet || !rt.stderr().is_terminal() {
+            None
+        } else {
+            Instant::now(rt).ok()
+        };
+        Meter {
+            rt,
+            what,
+            start,
+            told: Duration::ZERO,
+            shown: false,
+        }
+    }
+
+    /// Wipes the line, if one was written.
+    pub(crate) fn finish(&mut self) {
+        if self.shown {
+            let _ = eprint!(self.rt; "\r\x1b[K");
+            self.shown = false;
+        }
+    }
+
+    // Whether it is time for a line.
+    fn is_due(&mut self) -> bool {
+        let Some(start) = self.start else {
+            return false;
+        };
+        let Ok(passed) = start.elapsed(self.rt) else {
+            return false;
+        };
+        let rested = passed.saturating_sub(self.told);
+        let due = passed >= Duration::from_millis(PATIENCE)
+            && rested >= Duration::from_millis(PAUSE);
+        if due {
+            self.told = passed;
+        }
+        due
+    }
+}
+
+impl Progress for Meter<'_> {
+    fn moved(&mut self, bytes: u64) {
+        if self.is_due() {
+            self.shown = true;
+            let what = self.what;
+            let _ = eprint!(self.rt; "\r\x1b[K{what:?}: {bytes} bytes");
+        }
+    }
+}

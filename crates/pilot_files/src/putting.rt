@@ -1,0 +1,85 @@
+//! Documents are put into the volume.
+
+use crate::host::{last_part, old_file};
+use crate::meter::Meter;
+use crate::status::Status;
+use crate::volume::{Volume, fault_line};
+use documents::{Fault, put, replace};
+use labelled_disk::FileId;
+use trace_io::{ReaderSource, Source};
+
+/// What a document is put with: the name that was given, and which document it replaces.
+#[derive(Clone, Copy)]
+pub(crate) struct Placing<'a> {
+    pub(crate) name: Option<&'a str>,
+    pub(crate) instead: Option<FileId>,
+    pub(crate) quiet: bool,
+}
+
+/// Puts what a source has into the volume, and waits until it is on the medium.
+fn placed<S: Source>(
+    volume: &mut Volume,
+    buffer: &mut [u8],
+    source: &mut S,
+    name: &str,
+    meter: &mut Meter<'_>,
+    instead: Option<FileId>,
+) -> Result<FileId, Fault> {
+    let id = match instead {
+        Some(old) => replace(volume, buffer, source, name, meter, old),
+        None => put(volume, buffer, source, name, meter),
+    };
+    match (id, volume.force(0)) {
+        (Ok(_), Err(code)) => Err(Fault::Call(code)),
+        (id, _) => id,
+    }
+}
+
+/// Puts a document, and writes its identifier.
+fn put_source<S: Source>(
+    rt: &HostRuntime,
+    volume: &mut Volume,
+    buffer: &mut [u8],
+    source: &mut S,
+    path: &str,
+    placing: Placing<'_>,
+) -> Status {
+    let name = placing.name.unwrap_or(last_part(path));
+    let mut meter = Meter::new(rt, path, placing.quiet);
+    let answer = placed(volume, buffer, source, name, &mut meter, placing.instead);
+    meter.finish();
+    match answer {
+        Ok(id) => match println!(rt; "{id:016x}") {
+            Ok(()) => Status::Done,
+            Err(why) => {
+                let _ = eprintln!(rt; "pilot_files: standard output: {why}");
+                Status::StreamFault
+            }
+        },
+        Err(fault) => fault_line(rt, volume, path, fault),
+    }
+}
+
+/// Puts the file of a path, or standard input for `-`.
+pub(crate) fn put_path(
+    rt: &HostRuntime,
+    volume: &mut Volume,
+    buffer: &mut [u8],
+    path: &str,
+    placing: Placing<'_>,
+) -> Status {
+    if path == "-" {
+        let mut source = ReaderSource::over(rt.reader());
+        return put_source(rt, volume, buffer, &mut source, path, placing);
+    }
+    match old_file(rt, path) {
+        Ok(file) => {
+            let mut source = ReaderSource::over(file);
+            put_source(rt, volume, buffer, &mut source, path, placing)
+        }
+        Err(why) => {
+            let _ = eprintln!(rt; "pilot_files: {path:?}: {why}");
+            Status::StreamFault
+        }
+    }
+}

@@ -1,0 +1,101 @@
+//! The volume in an image file, with a session on it.
+
+use crate::status::Status;
+use crate::words::Options;
+use documents::Fault;
+use embedded::{Code, Engine};
+use flat_machine::{Refusal, Reply};
+use image_disk::{ImageDisk, open_image};
+use labelled_disk::RootFault;
+use std::alloc::Global;
+use std::fs::File;
+
+pub(crate) type Volume = Engine<ImageDisk<File>, Global>;
+
+/// Why there is no session on the volume.
+fn not_opened(rt: &HostRuntime, path: &str, code: Code) -> Status {
+    let _ = match code {
+        Code::Root(RootFault::Unclean) => eprintln!(rt;
+            "pilot_files: {path:?}: the volume was not closed; --restore restores it"
+        ),
+        _ => eprintln!(rt; "pilot_files: {path:?}: {code}"),
+    };
+    Status::of_code(code)
+}
+
+/// Restores a volume that was not closed, and says what was lost.
+fn restore(rt: &HostRuntime, volume: &mut Volume, path: &str) -> Result<(), Code> {
+    let report = volume.scavenge(rt.alloc())?;
+    let (freed, lost) = (report.freed, report.lost().len());
+    let _ = eprintln!(rt;
+        "pilot_files: {path:?}: restored: {freed} sectors were freed, {lost} were lost"
+    );
+    Ok(())
+}
+
+/// Starts a session, after a restoration where one is asked for and needed.
+fn start(rt: &HostRuntime, volume: &mut Volume, path: &str, options: Options) -> Result<(), Code> {
+    match volume.open(rt.alloc(), options.frames) {
+        Err(Code::Root(RootFault::Unclean)) if options.restore => {
+            restore(rt, volume, path)?;
+            volume.open(rt.alloc(), options.frames)
+        }
+        opened => opened,
+    }
+}
+
+/// The volume in the file of this path, with a session on it.
+pub(crate) fn opened(rt: &HostRuntime, path: &str, options: Options) -> Result<Volume, Status> {
+    let mut volume = match open_image(rt, path) {
+        Ok(disk) => Engine::over(disk),
+        Err(why) => {
+            let _ = eprintln!(rt; "pilot_files: {path:?}: {why}");
+            return Err(Status::NotOpened);
+        }
+    };
+    match start(rt, &mut volume, path, options) {
+        Ok(()) => Ok(volume),
+        Err(code) => Err(not_opened(rt, path, code)),
+    }
+}
+
+/// Closes the volume after what was done in it, unless that stopped the session.
+pub(crate) fn closed(rt: &HostRuntime, volume: &mut Volume, path: &str, status: Status) -> Status {
+    if !volume.is_open() {
+        return status;
+    }
+    match volume.close() {
+        Ok(()) => status,
+        Err(code) => not_opened(rt, path, code),
+    }
+}
+
+/// How many pages a volume has free, where it says so.
+fn free_pages(volume: &mut Volume) -> Option<u32> {
+    match volume.volume() {
+        Ok(Reply::Volume { free, .. }) => Some(free),
+        _ => None,
+    }
+}
+
+/// A line on standard error: what was asked, and why it was not done.
+pub(crate) fn fault_line(
+    rt: &HostRuntime,
+    volume: &mut Volume,
+    what: &str,
+    fault: Fault,
+) -> Status {
+    let _ = match fault {
+        Fault::Call(Code::Refused(Refusal::Full)) => match free_pages(volume) {
+            Some(free) => eprintln!(rt;
+                "pilot_files: {what:?}: the volume is full: {free} pages are free"
+            ),
+            None => eprintln!(rt; "pilot_files: {what:?}: the volume is full"),
+        },
+        Fault::Call(Code::Refused(Refusal::File)) => {
+            eprintln!(rt; "pilot_files: {what:?}: there is no such document")
+        }
+        _ => eprintln!(rt; "pilot_files: {what:?}: {fault}"),
+    };
+    Status::of_fault(fault)
+}
