@@ -1,4 +1,4 @@
-# Read by the scripts `pilot` and `look`, which set `root` (the repository's folder), `name` (their own name),
+# Read by the scripts `pilot`, `look` and `documents`, which set `root` (the repository's folder), `name` (their own name),
 # `crate` (the program's crate) and `takes` (how long the first time takes): proves and builds the program where its sources have changed, keeps it, and runs it.
 # Then `run_kept "$@"` takes the program's words.
 

@@ -1,7 +1,0 @@
-use Rattle.std.proofs.Common.{◌∙◌, drop, arith}
-use Rattle.std.proofs.lemmas.List.{length-drop, take_all}
-use Rattle.image_disk.proofs.disk.parted.Goals as goal
-
-pub returns-clause-page : goal.returns-clause-page
-returns-clause-page c = let bytes = c.args.bytes.now in
-    c.copy_from_slice-2.ensures.after ∙ take_all 512 (drop 16 bytes) (omega (arith, length-drop 16 bytes, c.told-bytes))
