@@ -1,4 +1,5 @@
 //! How the program ends.
+ghost use Rattle.std.specs.Prelude.{◌≡◌, ◌≢◌, ◌↔◌};
 
 use documents::Fault;
 use embedded::Code;
@@ -21,7 +22,9 @@ pub(crate) enum Status {
 
 impl Status {
     /// The exit status.
-    pub(crate) fn exit(self) -> u8 {
+    pub(crate) fn exit(self) -> u8
+        ensures { result ≡ 0 ↔ self ≡ Status.Done }
+    {
         match self {
             Status::Done => 0,
             Status::Refused => 1,
@@ -35,7 +38,9 @@ impl Status {
     }
 
     /// What a call that was not carried out ends the program with.
-    pub(crate) fn of_code(code: Code) -> Status {
+    pub(crate) fn of_code(code: Code) -> Status
+        ensures { result ≢ Status.Done }
+    {
         match code {
             Code::Halted(Halt::Disk) | Code::Root(RootFault::Disk) => Status::DiskFault,
             Code::Halted(Halt::Damaged(_)) => Status::Damaged,
@@ -46,7 +51,9 @@ impl Status {
     }
 
     /// What a document that was not put or got ends the program with.
-    pub(crate) fn of_fault(fault: Fault) -> Status {
+    pub(crate) fn of_fault(fault: Fault) -> Status
+        ensures { result ≢ Status.Done }
+    {
         match fault {
             Fault::Call(code) => Status::of_code(code),
             Fault::NoDocument | Fault::LongName => Status::Refused,
