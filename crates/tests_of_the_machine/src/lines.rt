@@ -1,6 +1,6 @@
 //! Rows of a line and what it says.
 
-use crate::events;
+use crate::{events, pairs};
 use anyhow::{Context, Result};
 use std::alloc::Global;
 use trace_io::{Line, Lines, MemorySink, MemorySource, write_call};
@@ -10,6 +10,7 @@ use trace_io::{Line, Lines, MemorySink, MemorySource, write_call};
 pub(crate) enum Grammar {
     Calls,
     Events,
+    Pairs,
 }
 
 /// The bytes of a line, which may be revealed by hexadecimal digits after `=`.
@@ -50,6 +51,7 @@ fn read(alloc: Global, grammar: Grammar, trace: &[u8]) -> Result<(String, String
     match grammar {
         Grammar::Calls => read_calls(alloc, trace),
         Grammar::Events => events::read(alloc, trace),
+        Grammar::Pairs => pairs::read(alloc, trace),
     }
 }
 

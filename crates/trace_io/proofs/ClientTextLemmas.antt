@@ -17,16 +17,16 @@ use Rattle.trace_io.specs.declared.client.ClientLine.TheVariants as line
 use Rattle.trace_io.proofs.CallTextLemmas.{Misses-append}
 
 -- a text without a line feed
-is_line : (xs : List ℕ) → Misses 10 xs → IsOneLine (xs ++ 10 ∷ [])
+pub is_line : (xs : List ℕ) → Misses 10 xs → IsOneLine (xs ++ 10 ∷ [])
 is_line xs misses = record { line = xs; ends = refl; misses = λ k d l. rw (get_or_default xs k d 0 l) (misses k l) }
 
-words_miss : (xs : List ℕ) → list_all (nat_lt 31) xs ≡ true → Misses 10 xs
+pub words_miss : (xs : List ℕ) → list_all (nat_lt 31) xs ≡ true → Misses 10 xs
 words_miss xs all k l = let above : nat_lt 31 (get_or xs k 0) ≡ true = AllPass-from_list_all (nat_lt 31) xs all k 0 l in grind arith
 
 decimal_digits : (n : ℕ) → n < 2 ^ 64 → (i : ℕ) → i < length (decimal n) → IsInRange 48 57 (get_or (decimal n) i 0)
 decimal_digits n small = digits_decimal (numerals_by_value _ tells_by_index) n small
 
-decimal_misses : (n : ℕ) → n < 2 ^ 64 → Misses 10 (decimal n)
+pub decimal_misses : (n : ℕ) → n < 2 ^ 64 → Misses 10 (decimal n)
 decimal_misses n small k l = let digit = decimal_digits n small k l in grind arith
 
 -- a client, and words after it

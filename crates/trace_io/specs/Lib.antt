@@ -20,3 +20,7 @@ pub mod EventGrammar
 pub mod EventReading
 pub mod Events
 pub mod ClientText
+pub mod PairGrammar
+pub mod PairReading
+pub mod PairLines
+pub mod PairText

@@ -1,4 +1,4 @@
-//! What a client writes as calls is read as those calls, and how a text of events is read.
+//! What a client writes as calls is read as those calls, and how texts of other lines are read.
 ghost use Rattle.std.specs.Prelude.{◌≡◌, ◌≤◌, List, length, map, Some};
 ghost use Rattle.std.specs.List.{AllByRecursion};
 ghost use Rattle.flat_machine.specs.declared.call.Call.{Call};
@@ -6,6 +6,7 @@ ghost use Rattle.trace_io.specs.Stream.{Misses};
 ghost use Rattle.trace_io.specs.Grammar.{call_of};
 ghost use Rattle.trace_io.specs.Reading.{reading, through_last};
 ghost use Rattle.trace_io.specs.EventReading.{EventsGoOn, EventsEnd};
+ghost use Rattle.trace_io.specs.PairReading.{PairLinesGoOn, PairLinesEnd};
 ghost use Rattle.trace_io.specs.CallText.{call_text, trace_text, IsWritable};
 
 /// The text of a call says that call, has no line feed, and is short enough to be read. The lines
@@ -24,4 +25,10 @@ pub fn calls_are_read_back()
 pub fn events_are_read_by_lines()
     ensures line { EventsGoOn }
     ensures last { EventsEnd }
+{}
+
+/// A text for a pair of volumes is read line by line, in the same way.
+pub fn pair_lines_are_read_by_lines()
+    ensures line { PairLinesGoOn }
+    ensures last { PairLinesEnd }
 {}

@@ -1,0 +1,4 @@
+pub mod PairLemmas
+pub mod ReplyLemmas
+pub mod TranscriptLemmas
+pub mod ExactLemmas

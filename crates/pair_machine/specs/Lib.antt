@@ -1,0 +1,4 @@
+pub mod Pair
+pub mod Transcripts
+pub mod Exact
+pub mod Laws
