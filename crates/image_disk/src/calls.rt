@@ -3,7 +3,7 @@ ghost use Rattle.std.specs.Prelude.{◌≡◌, ◌<◌, false};
 ghost use Rattle.labelled_disk.specs.Calls.{Reads, Writes, WritesData, Syncs};
 ghost use Rattle.labelled_disk.specs.Memory.{CountsFault};
 
-use crate::bytes::{joined, label_at, parted};
+use crate::bytes::{joined, label_at};
 use crate::{ImageDisk, Trouble};
 use labelled_disk::{Disk, DiskError, DiskWrite, Label, Page, Wanted};
 use std::fs::OpenFile;
@@ -38,9 +38,8 @@ impl<F: FileExt + OpenFile> Disk for ImageDisk<F> {
         if let Err(trouble) = self.write_out() {
             return Err(self.fault(trouble));
         }
-        match self.get_sector(sector) {
-            Ok(bytes) => {
-                let label = parted(&bytes, page);
+        match self.get_sector(sector, page) {
+            Ok(label) => {
                 self.labels.keep(sector, label);
                 Ok(label)
             }

@@ -2,7 +2,7 @@
 ghost use Rattle.std.specs.Prelude.{◌≡◌, ◌<◌, true};
 ghost use Rattle.labelled_disk.specs.Label.{names};
 
-use crate::bytes::{label_at, label_in, page_at};
+use crate::bytes::{label_at, label_in, page_at, parted};
 use crate::neighbours::{MOST, read_labels, read_neighbours};
 use crate::{ImageDisk, Trouble};
 use labelled_disk::{Label, Page, Wanted};
@@ -21,25 +21,25 @@ impl<F: FileExt + OpenFile> ImageDisk<F> {
         }
     }
 
-    // The bytes of a sector, which are remembered or read. Where the sector before it was read lately,
-    // those after it are read as well.
-    pub(crate) fn get_sector(&mut self, sector: u32) -> io::Result<[u8; 528]>
+    // The label of a sector, which is remembered or read; its page is put in `page`. Where the sector
+    // before it was read lately, those after it are read as well.
+    pub(crate) fn get_sector(&mut self, sector: u32, page: &mut Page) -> io::Result<Label>
         requires { sector < (image_state self.old).sectors }
         ensures same { image_state self.new ≡ image_state self.old }
     {
         if let Some(bytes) = self.last.get(sector) {
-            return Ok(bytes);
+            return Ok(parted(bytes, page));
         }
         if sector > 0 && self.last.has(sector - 1) {
             self.get_neighbours(sector);
             if let Some(bytes) = self.last.get(sector) {
-                return Ok(bytes);
+                return Ok(parted(bytes, page));
             }
         }
         let mut bytes = [0; 528];
         self.get(label_at(sector), &mut bytes)?;
         self.last.keep(sector, bytes);
-        Ok(bytes)
+        Ok(parted(&bytes, page))
     }
 
     // Reads up to 32 sectors from this one on, and remembers them.
@@ -78,8 +78,8 @@ impl<F: FileExt + OpenFile> ImageDisk<F> {
     // The label of a sector where it, or the whole sector, is remembered.
     fn known_label(&self, sector: u32) -> Option<Label> {
         match self.labels.get(sector) {
-            Some(label) => Some(label),
-            None => self.last.get(sector).map(|bytes| label_in(&bytes)),
+            Some(label) => Some(*label),
+            None => self.last.get(sector).map(label_in),
         }
     }
 

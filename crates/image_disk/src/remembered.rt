@@ -18,14 +18,14 @@ impl<T: Copy> Place<T> {
         }
     }
 
-    fn get(&self, sector: u32) -> Option<T> {
-        if let Some((kept, value)) = self.last
-            && kept == sector
+    fn get(&self, sector: u32) -> Option<&T> {
+        if let Some((kept, value)) = &self.last
+            && *kept == sector
         {
             return Some(value);
         }
-        match self.before {
-            Some((kept, value)) if kept == sector => Some(value),
+        match &self.before {
+            Some((kept, value)) if *kept == sector => Some(value),
             _ => None,
         }
     }
@@ -60,7 +60,7 @@ impl<T: Copy> Remembered<T> {
     }
 
     /// The value of a sector, where it is kept.
-    pub(crate) fn get(&self, sector: u32) -> Option<T> {
+    pub(crate) fn get(&self, sector: u32) -> Option<&T> {
         let places = self.places.as_ref()?;
         let place = (sector as usize).checked_rem(places.len())?;
         places.get(place)?.get(sector)
@@ -94,7 +94,7 @@ impl<T: Copy> Remembered<T> {
 impl Remembered<[u8; 528]> {
     /// Puts a label in the place of that of a sector that is kept.
     pub(crate) fn put_label(&mut self, sector: u32, label: &[u8; 16]) {
-        if let Some(mut bytes) = self.get(sector) {
+        if let Some(mut bytes) = self.get(sector).copied() {
             bytes[..16].copy_from_slice(label);
             self.keep(sector, bytes);
         }
@@ -102,7 +102,7 @@ impl Remembered<[u8; 528]> {
 
     /// Puts a page in the place of that of a sector that is kept.
     pub(crate) fn put_page(&mut self, sector: u32, page: &Page) {
-        if let Some(mut bytes) = self.get(sector) {
+        if let Some(mut bytes) = self.get(sector).copied() {
             bytes[16..].copy_from_slice(page);
             self.keep(sector, bytes);
         }

@@ -118,14 +118,12 @@ at_next : (head x : ℕ) (b : Bool) → nat_lt x head ≡ b → head + 1 < 2 ^ 3
 at_next head x true is short other = omega (arith, short)
 at_next head x false is short other = let more : head ≤ x = grind (arith, is) in grind (arith, more, other)
 
-pub next_first : (head place n : ℕ) (ss : List ℕ) → head + 1 < 2 ^ 32 → place < length ss → get_or ss place 0 ≡ head + 1 → length ss ≤ n → Misses head (take n ss)
-    → IsFirstAt head place ss
-next_first head place n ss short inside next all misses = record {
+pub next_first : (head place : ℕ) (ss : List ℕ) → head + 1 < 2 ^ 32 → place < length ss → get_or ss place 0 ≡ head + 1 → Misses head ss → IsFirstAt head place ss
+next_first head place ss short inside next misses = record {
   below = inside;
   least = λ k below.
-      let other : get_or ss k 0 ≢ head = subst (Misses head) (take_all n ss all) misses k below in
       subst (λ (s : ℕ). sweep_key head s ≤ sweep_key head (get_or ss k 0)) (sym next)
-      (rw key_next (at_next head (get_or ss k 0) (nat_lt (get_or ss k 0) head) refl short other));
+      (rw key_next (at_next head (get_or ss k 0) (nat_lt (get_or ss k 0) head) refl short (misses k below)));
 }
   where
     key_next : sweep_key head (head + 1) ≡ head + 1

@@ -36,7 +36,9 @@ impl<D: Disk, A: Allocator> QueueOver<D, A> {
             Ok(()) => {
                 let _ = self.entries.swap_remove(place);
                 let _ = self.sectors.swap_remove(place);
+                self.guess = place + 1;
                 self.head = entry.sector;
+                self.head_free = true;
                 Ok(())
             }
             Err(DiskError::Failed) => Err(DiskError::Failed),

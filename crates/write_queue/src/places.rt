@@ -1,5 +1,5 @@
 //! Where a page stands among those that wait.
-ghost use Rattle.std.specs.Prelude.{◌≡◌, ◌<◌, ◌≤◌, ◌+◌, ◌==◌, length, slice_get, slice_index, take, Some, None, IfSome};
+ghost use Rattle.std.specs.Prelude.{◌≡◌, ◌<◌, ◌≤◌, ◌+◌, ◌==◌, true, length, slice_get, slice_index, take, Some, None, IfSome};
 ghost use Rattle.std.specs.List.{list_any};
 ghost use Rattle.write_queue.specs.declared.entry.Entry.{Entry};
 ghost use Rattle.write_queue.specs.Entries.{waiting_at};
@@ -80,28 +80,41 @@ fn index_of(sectors: &[u32], sector: u32) -> usize
     blocks + length_before(sector, &sectors[blocks..])
 }
 
-// The index of the sector after the head, where it stands there and the head does not.
-fn next_after(head: u32, sectors: &[u32]) -> Option<usize>
+// The index of the sector after the head, where it stands there. The guess is looked at first.
+fn next_after(head: u32, guess: usize, sectors: &[u32]) -> Option<usize>
+    requires { Misses head sectors.now }
     ensures { IfSome result (λ place. IsFirstAt head place sectors.now) }
 {
     let next = head.checked_add(1)?;
+    if guess < sectors.len() && sectors[guess] == next {
+        return Some(guess);
+    }
     let place = index_of(sectors, next);
-    if place < sectors.len() && index_of(sectors, head) == sectors.len() {
+    if place < sectors.len() {
         return Some(place);
     }
     None
 }
 
-// The index of the first sector of the sweep. Most often that is the one after the head.
+// The index of the first sector of the sweep.
 fn first_ahead(head: u32, sectors: &[u32]) -> usize
     requires { 0 < length sectors.now }
     ensures { IsFirstAt head result sectors.now }
 {
-    if let Some(place) = next_after(head, sectors) {
-        return place;
-    }
     let first = first_of_sweep(head, sectors);
     index_of(sectors, first)
+}
+
+// The same. Where no page waits for the head it is most often the sector after it, near the guess.
+fn first_near(head: u32, is_free: bool, guess: usize, sectors: &[u32]) -> usize
+    requires some { 0 < length sectors.now }
+    requires free { is_free ≡ true → Misses head sectors.now }
+    ensures { IsFirstAt head result sectors.now }
+{
+    if is_free && let Some(place) = next_after(head, guess, sectors) {
+        return place;
+    }
+    first_ahead(head, sectors)
 }
 
 impl<D: Disk, A: Allocator> QueueOver<D, A> {
@@ -110,7 +123,7 @@ impl<D: Disk, A: Allocator> QueueOver<D, A> {
         requires { 0 < length self.now.entries.items }
         ensures { HasFirst self.now.head self.now.entries.items result }
     {
-        first_ahead(self.head, &self.sectors)
+        first_near(self.head, self.head_free, self.guess, &self.sectors)
     }
 
     // The index of the page that waits for the sector.
@@ -119,6 +132,9 @@ impl<D: Disk, A: Allocator> QueueOver<D, A> {
             × (e.sector ≡ sector)) }
         ensures nowhere { result ≡ None → waiting_at self.now.entries.items sector ≡ None }
     {
+        if !self.filter.admits(sector) {
+            return None;
+        }
         let place = index_of(&self.sectors, sector);
         if place < self.sectors.len() {
             return Some(place);

@@ -3,9 +3,11 @@ ghost use Rattle.std.specs.Prelude.{◌≡◌, ◌<◌, ◌≤◌, ◌^◌, leng
 ghost use Rattle.std.specs.Option.{ForSome};
 ghost use Rattle.labelled_disk.specs.Label.{names};
 ghost use Rattle.write_queue.specs.Entries.{AreWaiting};
+ghost use Rattle.write_queue.specs.Filtering.{AdmitsWaiting, IsFreeHead};
 ghost use Rattle.write_queue.specs.View.{Covers};
 
 use crate::Entry;
+use crate::filter::Filter;
 use labelled_disk::{Disk, Label, NoMemory, Wanted};
 use std::alloc::{AllocError, Allocator};
 
@@ -20,9 +22,14 @@ pub struct QueueOver<D: Disk, A: Allocator> {
     pub(crate) entries: Vec<Entry, A>,
     // Of the entries, so that a search looks at numbers that stand together.
     pub(crate) sectors: Vec<u32, A>,
+    // Of these sectors.
+    pub(crate) filter: Filter,
     pub(crate) room: u32,
-    // The sector that was written out last.
+    // The sector that was written out last, and whether no page waits for it.
     pub(crate) head: u32,
+    pub(crate) head_free: bool,
+    // Where the page after the last one may stand.
+    pub(crate) guess: usize,
     pub(crate) transfers: u64,
     // The transfers beneath when the queue was made.
     pub(crate) begun: u64,
@@ -33,6 +40,8 @@ pub struct QueueOver<D: Disk, A: Allocator> {
     pub(crate) changed: Option<(u32, Wanted, Label)>,
     ghost waiting: { AreWaiting (D.state under) entries.items },
     ghost listed: { sectors.items ≡ map (λ e. e.sector) entries.items },
+    ghost filtered: { AdmitsWaiting filter entries.items },
+    ghost freed: { IsFreeHead head_free head entries.items },
     ghost fits: { length entries.items ≤ room },
     ghost room_kept: { (room ≤ vec_capacity entries) × (room ≤ vec_capacity sectors) },
     ghost rooms: { (1 ≤ room) × (room ≤ 256) },
@@ -81,8 +90,11 @@ impl<D: Disk, A: Allocator + Clone> QueueOver<D, A> {
                     under: disk,
                     entries,
                     sectors,
+                    filter: Filter::empty(),
                     room,
                     head: 0,
+                    head_free: true,
+                    guess: 0,
                     transfers: 0,
                     begun,
                     no_sync: 0,
@@ -131,8 +143,11 @@ impl<D: Disk, A: Allocator> QueueOver<D, A> {
             under,
             entries: _,
             sectors: _,
+            filter: _,
             room: _,
             head: _,
+            head_free: _,
+            guess: _,
             transfers: _,
             begun: _,
             no_sync: _,

@@ -1,5 +1,5 @@
 //! Pages are let wait.
-ghost use Rattle.std.specs.Prelude.{◌≡◌, ◌<◌, ◌≤◌, ◌+◌, ◌++◌, ◌∷◌, [], length, slice_get, Some, None, OnOk};
+ghost use Rattle.std.specs.Prelude.{◌≡◌, ◌≢◌, true, ◌<◌, ◌≤◌, ◌+◌, ◌++◌, ◌∷◌, [], length, slice_get, Some, None, OnOk};
 ghost use Rattle.labelled_disk.specs.Calls.{WritesData, FailsWith};
 ghost use Rattle.write_queue.specs.declared.entry.Entry.{Entry};
 ghost use Rattle.write_queue.specs.Beneath.{TakesIn};
@@ -10,6 +10,13 @@ ghost use Rattle.write_queue.specs.View.{Covers};
 use crate::{Entry, QueueOver};
 use labelled_disk::{Disk, DiskError, PAGE_BYTES, Page, Wanted};
 use std::alloc::Allocator;
+
+// Whether the head is free still when a page waits for this sector.
+fn stays_free(is_free: bool, head: u32, sector: u32) -> bool
+    ensures { result ≡ true → (is_free ≡ true) × (head ≢ sector) }
+{
+    is_free && head != sector
+}
 
 impl<D: Disk, A: Allocator> QueueOver<D, A> {
     ghost use Rattle.write_queue.specs.Queue.{state_of, view_of, SameBut};
@@ -109,6 +116,9 @@ impl<D: Disk, A: Allocator> QueueOver<D, A> {
         ensures changed { self.new.changed ≡ self.old.changed }
         ensures same { SameBut self.old self.new }
     {
+        self.head_free = stays_free(self.head_free, self.head, entry.sector);
+        self.filter.renew(&self.sectors);
+        self.filter.add(entry.sector);
         let _ = self.sectors.push(entry.sector);
         let _ = self.entries.push(entry);
     }

@@ -16,6 +16,8 @@ invariant_of-self-2 g c =
     record {
       waiting = are_kept old new left.entries.items c.sync.ensures.sectors (labels_same old new c.sync.ensures.same) left.waiting;
       listed = left.listed;
+      filtered = left.filtered;
+      freed = left.freed;
       fits = left.fits;
       room_kept = left.room_kept;
       rooms = left.rooms;

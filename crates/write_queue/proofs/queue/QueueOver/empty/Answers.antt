@@ -1,7 +1,7 @@
-use Rattle.std.proofs.Common.{rules, ◌≡◌, ◌∙◌, arith, Err}
+use Rattle.std.proofs.Common.{rules, ◌≡◌, ◌∙◌, arith, refl, Err}
 use Rattle.write_queue.specs.Queue.{view_of}
 use Rattle.write_queue.proofs.BeneathLemmas.{meets_later}
-use Rattle.write_queue.proofs.WaitLemmas.{part_swept, so_far_more}
+use Rattle.write_queue.proofs.WaitLemmas.{none_so_far, part_swept, so_far_more}
 use Rattle.write_queue.proofs.queue.QueueOver.empty.Goals as goal
 
 pub returns-in_err-write_first-clause-swept : goal.returns-in_err-write_first-clause-swept
@@ -36,4 +36,14 @@ loop-preserved g c =
         no_sync = c.write_first.ensures.same.no_sync ∙ before.3.no_sync;
       },
       (c.in_ok-write_first.ensures.met.0.0 ∙ before.4.0, c.in_ok-write_first.ensures.met.0.1 ∙ before.4.1),
+    )
+
+pub loop-init : goal.loop-init
+loop-init g c =
+    let old = c.args.self.now in (
+      none_so_far old.head old.entries.items (g.D.Disk.state old.under) old.own,
+      omega (arith, c.len-end.ensures),
+      c.requires.credit,
+      record { room = refl; transfers = refl; begun = refl; no_sync = refl },
+      (refl, refl),
     )

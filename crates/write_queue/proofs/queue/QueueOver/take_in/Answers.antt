@@ -28,6 +28,8 @@ invariant_of-self g c =
     record {
       waiting = are_kept old new self.entries.items c.read.ensures.moves.sectors (labels_same old new c.read.ensures.same) self.waiting;
       listed = self.listed;
+      filtered = self.filtered;
+      freed = self.freed;
       fits = self.fits;
       room_kept = self.room_kept;
       rooms = self.rooms;

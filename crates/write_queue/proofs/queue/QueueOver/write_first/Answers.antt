@@ -6,6 +6,7 @@ use Rattle.write_queue.specs.Entries.{laid, IsOnce}
 use Rattle.write_queue.specs.Inside.{HasFirst}
 use Rattle.write_queue.specs.Sweeps.{IsFirst}
 use Rattle.write_queue.proofs.PrefixLemmas.{is_first}
+use Rattle.write_queue.proofs.FilterLemmas.{free_fewer, free_out}
 use Rattle.write_queue.proofs.ListLemmas.{less-fewer, stands_waiting}
 use Rattle.write_queue.proofs.PlaceLemmas.{sectors-removed}
 use Rattle.write_queue.proofs.WaitLemmas.{revealed_out, revealed_still, differs_then, made_or_not, labels_after, revealed_after, never_wrong, are_kept, are_fewer}
@@ -29,9 +30,13 @@ invariant_of-self g c =
     let es = self.entries.items in
     let e = c.index.result.now in
     let kept = are_kept old new es c.write_data.ensures.moves.sectors (labels_after old new e.sector e.wanted e.page c.write_data.result c.write_data.ensures) self.waiting in
+    let at = there es c.first_place-place.result e c.first_place-place.ensures.below c.index.ensures in
+    let less = less-fewer es c.first_place-place.result c.first_place-place.ensures.below c.swap_remove.result self.waiting.once e at in
     record {
       waiting = rw c.swap_remove.ensures.items (are_fewer new es c.first_place-place.result c.first_place-place.ensures.below c.swap_remove.result kept);
       listed = rw c.swap_remove.ensures.items (c.swap_remove-self.ensures.items ∙ sectors-removed es self.sectors.items c.first_place-place.result c.swap_remove.result c.swap_remove-self.result self.listed c.first_place-place.ensures.below);
+      filtered = rw c.swap_remove.ensures.items (λ k out. free_fewer es _ e less k (self.filtered k out));
+      freed = rw c.swap_remove.ensures.items (λ _. free_out es _ e less);
       fits = search rules;
       room_kept = search rules;
       rooms = self.rooms;
@@ -52,6 +57,8 @@ invariant_of-self-in-Err-Failed g c =
     record {
       waiting = are_kept old new es c.write_data.ensures.moves.sectors (labels_after old new e.sector e.wanted e.page c.write_data.result c.write_data.ensures) self.waiting;
       listed = self.listed;
+      filtered = self.filtered;
+      freed = self.freed;
       fits = self.fits;
       room_kept = self.room_kept;
       rooms = self.rooms;
@@ -73,6 +80,8 @@ invariant_of-self-in-Err-Wrong g c =
     record {
       waiting = are_kept old new es c.write_data.ensures.moves.sectors (labels_after old new e.sector e.wanted e.page c.write_data.result c.write_data.ensures) self.waiting;
       listed = self.listed;
+      filtered = self.filtered;
+      freed = self.freed;
       fits = self.fits;
       room_kept = self.room_kept;
       rooms = self.rooms;
