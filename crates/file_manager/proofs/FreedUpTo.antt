@@ -1,5 +1,5 @@
 -- The pages of a file up to one, freed in a loop over runs.
-use Rattle.std.proofs.Common.{◌≡◌, inl, inr, ℕ, zero, suc, ◌+◌, ◌-◌, ◌*◌, ◌<◌, ◌≤◌, List, [], refl, sym, ◌∙◌, ap, subst, arith}
+use Rattle.std.proofs.Common.{false, ◌≡◌, inl, inr, ℕ, zero, suc, ◌+◌, ◌-◌, ◌*◌, ◌<◌, ◌≤◌, List, [], refl, sym, ◌∙◌, ap, subst, arith}
 use Rattle.std.proofs.lemmas.Bool.Decides.{leb_tells}
 use Rattle.labelled_disk.specs.declared.evidence.Halt.{Halt}
 use Rattle.labelled_disk.specs.declared.layout.Layout.{Layout}
@@ -11,6 +11,8 @@ use Rattle.flat_machine.specs.declared.space.Space.{Space}
 use Rattle.swapper_kernel.specs.GoesLaws.{makes_nothing}
 use Rattle.label_calls.specs.Own.{RelabelsOwn}
 use Rattle.label_calls.specs.OwnLaws.{WroteOwn, own_then, quiet_own}
+use Rattle.label_calls.specs.Synced.{SyncsAround}
+use Rattle.label_calls.specs.SyncedLaws.{WroteSynced, quiet_synced, synced_then, wrote_synced}
 use Rattle.filer_kernel.specs.declared.cached.CachedRuns.{CachedRuns}
 use Rattle.filer_kernel.specs.Cached.{runs_of}
 use Rattle.session_words.specs.Volume.{volume_page}
@@ -32,6 +34,7 @@ pub record IsFreedTo (id from end page : ℕ) (d0 : DiskState) (s0 : Slots) (lay
   pub keeps : KeepsMap (IsUnframed s0 id) layout id d0 s0 (runs_of layout.sectors kept) d s (runs_of layout.sectors runs)
   pub revealed : (named : Triples) (spaces : List Space) (m : List Sector) → MayFree d0 s0 layout kept named spaces id from end m → Freed layout named spaces id from (page - from) end d0 s0 d s runs
   pub own : WroteOwn id d0 d
+  pub synced : WroteSynced false d0 d
   pub keeps_to : (o : InitialState) (named : Triples) → KeepsTo o layout (runs_of layout.sectors kept) d0 s0 named → LeavesTables o id → KeepsTo o later (runs_of later.sectors runs) d s named
   pub evict : (o : InitialState) (named : Triples) → KeepsTo o layout (runs_of layout.sectors kept) d0 s0 named → LeavesTables o id → AreReleased o d named id (λ p. (from ≤ p) × (p < page))
 
@@ -63,6 +66,7 @@ to_none id from end d0 s0 layout kept order size =
       keeps = keeps_none (IsUnframed s0 id) layout id d0 s0 (runs_of layout.sectors kept) (λ none. none);
       revealed = λ named spaces m may. subst (λ (n : ℕ). Freed layout named spaces id from n end d0 s0 d0 s0 kept) z (freed_none m may);
       own = quiet_own id (makes_nothing volume_page d0 s0);
+      synced = quiet_synced false (makes_nothing volume_page d0 s0);
       keeps_to = λ o named h never_blames. h;
       evict = λ o named h never_blames p sector own is. let above = own.0 in let below = own.1 in absurd (omega (arith, above, below));
     }
@@ -72,10 +76,10 @@ pub to_then : {id from end page pages : ℕ} {d0 d e : DiskState} {s0 s t : Slot
     → page < end → (1 ≤ pages) × (pages ≤ end - page) → last ≡ later → e.transfers ≤ d.transfers + (14 + 2 * pages + 4 * later.vam) → MakesFree pages d s e t
     → KeepsMap (IsUnframed s id) later id d s (runs_of later.sectors runs) e t (runs_of later.sectors more)
     → ((named : Triples) (spaces : List Space) (m : List Sector) → MayFree d s later runs named spaces id page (page + (end - page)) m → Freed later named spaces id page pages (page + (end - page)) d s e t more)
-    → RelabelsOwn id d e → ((o : InitialState) (named : Triples) → KeepsTo o later (runs_of later.sectors runs) d s named → LeavesTables o id → KeepsTo o last (runs_of last.sectors more) e t named)
+    → RelabelsOwn id d e → SyncsAround false d e → ((o : InitialState) (named : Triples) → KeepsTo o later (runs_of later.sectors runs) d s named → LeavesTables o id → KeepsTo o last (runs_of last.sectors more) e t named)
     → ((o : InitialState) (named : Triples) → KeepsTo o later (runs_of later.sectors runs) d s named → LeavesTables o id → AreReleased o e named id (λ p. (page ≤ p) × (p < page + pages)))
     → IsFreedTo id from end (page + pages) d0 s0 layout kept e t last more
-to_then {id = id} {from = from} {end = end} {page = page} {pages = pages} {d0 = d0} {d = d} {e = e} {s0 = s0} {s = s} {t = t} {layout = layout} {later = later} {last = last} {kept = kept} {runs = runs} {more = more} h under some same cost makes keeps revealed own keeps_to evict =
+to_then {id = id} {from = from} {end = end} {page = page} {pages = pages} {d0 = d0} {d = d} {e = e} {s0 = s0} {s = s} {t = t} {layout = layout} {later = later} {last = last} {kept = kept} {runs = runs} {more = more} h under some same cost makes keeps revealed own around keeps_to evict =
     let few = some.1 in
     let whole : page + (end - page) ≡ end = omega (arith, under) in
     let above = h.above in
@@ -99,6 +103,7 @@ to_then {id = id} {from = from} {end = end} {page = page} {pages = pages} {d0 = 
           subst (λ (n : ℕ). Freed layout named spaces id from n end d0 s0 e t more) z
           (freed_then first (subst (λ (n : ℕ). Freed layout named spaces id n pages end d s e t more) (sym y) next_there));
       own = own_then h.own (freed_own makes own);
+      synced = synced_then h.synced (wrote_synced makes.makes around);
       keeps_to = λ o named k never_blames. keeps_to o named (h.keeps_to o named k never_blames) never_blames;
       evict = λ o named k never_blames p sector own is.
           let now = h.keeps_to o named k never_blames in

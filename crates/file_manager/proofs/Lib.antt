@@ -67,3 +67,4 @@ pub mod TabledRun
 pub mod TabledUpTo
 pub mod KeptUpTo
 pub mod RootKeeps
+pub mod SyncSteps

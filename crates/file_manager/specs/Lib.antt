@@ -27,3 +27,4 @@ pub mod ShownLaws
 pub mod TabledLaws
 pub mod RetoldLaws
 pub mod RevealedLaws
+pub mod Synced

@@ -13,7 +13,7 @@ ghost use Rattle.session_words.specs.Volume.{volume_page};
 ghost use Rattle.filer_kernel.specs.Cached.{runs_of};
 ghost use Rattle.filer_kernel.specs.Evidence.{ShowsEvidence};
 ghost use Rattle.filer_kernel.specs.Triples.{AreOf, MapIs};
-ghost use Rattle.file_manager.specs.Attributes.{IsAttributesOf};
+ghost use Rattle.file_manager.specs.Attributes.{HasLeader, IsAttributesOf};
 ghost use Rattle.file_manager.specs.Book.{Books, BringsOwn};
 ghost use Rattle.file_manager.specs.Causes.{NamesNone};
 ghost use Rattle.file_manager.specs.Finding.{FileHalts};
@@ -51,6 +51,7 @@ pub fn attributes_of<D: Disk, A: Allocator>(
     ensures leader { (m : List Sector) (named : Triples) → HasMemory (view_of filer.old) m → MapIs (view_of filer.old).layout named m → AreOf named (kept_by (view_of filer.old))
         → IfOk result (λ found. IfSome found (λ _. (sector : ℕ) × (named id leader_page sector ≡ true))) }
     ensures size { (m : List Sector) (named : Triples) → HasMemory (view_of filer.old) m → MapIs (view_of filer.old).layout named m → IfOk result (λ found. IfSome found (λ a. IsSize named id a.pages)) }
+    ensures marked { IfOk result (λ found. IfSome found (λ a. HasLeader (view_of filer.new).disk id a.permanent)) }
     ensures none { result ≡ Ok None → (id < 16) ⊎ NamesNone (view_of filer.old).layout (view_of filer.old).disk (view_of filer.old).slots id leader_page }
     ensures cause { IfErr result (FileHalts (view_of filer.old).layout (kept_by (view_of filer.old)) id (view_of filer.old).disk (view_of filer.old).slots (view_of filer.new).disk) }
     ensures keeps_to { (o : InitialState) (named : Triples) → Keeps o filer.old named → OnOk result (Keeps o filer.new named) }
@@ -69,7 +70,7 @@ pub fn attributes_of<D: Disk, A: Allocator>(
         return Ok(None);
     }
     frames_of(filer);
-    match find_file(filer, id) {
+    match find_file(filer, id, false) {
         Ok(Some(file)) => {
             let marks = file.leader.marks();
             Ok(Some(Attributes {

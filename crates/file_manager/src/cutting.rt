@@ -1,10 +1,11 @@
 //! Files that get fewer pages: pages are freed, and the file map has them no more.
-ghost use Rattle.std.specs.Prelude.{◌≡◌, ℕ, ◌+◌, ◌-◌, ◌*◌, ◌≤◌, ◌<◌, ◌==◌, true, not, List, [], filter, IfErr, OnErr, OnOk};
+ghost use Rattle.std.specs.Prelude.{◌≡◌, ◌⊎◌, ℕ, ◌+◌, ◌-◌, ◌*◌, ◌≤◌, ◌<◌, ◌==◌, true, not, List, [], filter, IfErr, OnErr, OnOk};
 ghost use Rattle.labelled_disk.specs.Calls.{Rose};
-ghost use Rattle.labelled_disk.specs.Label.{leader_page};
+ghost use Rattle.labelled_disk.specs.Label.{leader_page, is_permanent};
 ghost use Rattle.labelled_disk.specs.Sectors.{Sector, AreSectors};
 ghost use Rattle.labelled_disk.specs.declared.evidence.Halt.TheVariants as halt;
-ghost use Rattle.file_map.specs.FileMap.{Triples, most_records};
+ghost use Rattle.file_map.specs.FileMap.{Triples, without_from, most_records};
+ghost use Rattle.file_map.specs.Cause.{IsToCut};
 ghost use Rattle.file_map.specs.Laws.{AreOnce};
 ghost use Rattle.flat_machine.specs.declared.space.Space.{Space};
 ghost use Rattle.label_calls.specs.Own.{RelabelsOwn};
@@ -15,6 +16,7 @@ ghost use Rattle.swapper_kernel.specs.Stands.{Stands, labels_of};
 ghost use Rattle.swapper_kernel.specs.Window.{Beside};
 ghost use Rattle.filer_kernel.specs.Becomes.{Becomes};
 ghost use Rattle.filer_kernel.specs.Cached.{runs_of};
+ghost use Rattle.filer_kernel.specs.Causes.{MapShows, MapHalts, CutHalts, IsFaultOrMismatch};
 ghost use Rattle.filer_kernel.specs.Triples.{MapIs};
 ghost use Rattle.file_manager.specs.Grounds.{ShrinkHalts, IsUnframed};
 ghost use Rattle.filer_kernel.specs.Evidence.{ShowsEvidence};
@@ -22,16 +24,52 @@ ghost use Rattle.session_words.specs.Parts.{Shape, Shapes, IsTriple};
 ghost use Rattle.file_manager.specs.Freeing.{MakesFree, MakesSomeFree};
 ghost use Rattle.file_manager.specs.Shrinking.{MayShrink, ShrunkBy, ShrunkSome, IsLeaderAlone, cut_triples};
 ghost use Rattle.file_manager.specs.Reasons.{AreReleased, Keeps, KeepsFrom, InitialState, ShowsReason};
+ghost use Rattle.file_manager.specs.Synced.{SyncsQuietly, LabelsAreSynced};
 ghost use Rattle.file_manager.specs.Taking.{NamesNoneOf};
 ghost use Rattle.filer_kernel.specs.View.{FitsLayout, HasMemory, kept_by, view_of};
 
 use crate::Volume;
+use crate::finding::FoundFile;
 use crate::growth::frames_of;
 use crate::shrinking::free_down;
+use crate::syncing::sync_disk;
 use file_map::Run;
 use filer_kernel::Filer;
 use labelled_disk::{Disk, FileId, Halt, LEADER};
 use std::alloc::Allocator;
+
+// Takes the pages of a file from one on out of the file map, its leader among them. Then all that was written is on the medium,
+// if it is to be.
+fn cut_synced<D: Disk, A: Allocator>(
+    filer: &mut Filer<D, A>,
+    id: FileId,
+    from: u32,
+    syncs: bool,
+) -> Result<(), Halt>
+    requires size { FitsLayout (view_of filer.old) }
+    ensures cut { (m : List Sector) (named : Triples) → HasMemory (view_of filer.old) m → MapIs (view_of filer.old).layout named m
+        → OnOk result (Becomes FileMapPages (view_of filer.old).layout m (MapIs (view_of filer.old).layout (without_from named id from)) (view_of filer.new).disk (view_of filer.new).slots) }
+    ensures runs { (n : ℕ) → runs_of n (view_of filer.new).runs ≡ filter (λ r. not (r.id == id)) (runs_of n (view_of filer.old).runs) }
+    ensures sound { (m : List Sector) (named : Triples) → HasMemory (view_of filer.old) m → MapIs (view_of filer.old).layout named m → AreNamed m (IsMapHome FileMapPages (view_of filer.old).layout) → IfErr result (λ e. e ≡ halt.Disk) }
+    ensures right { (m : List Sector) (named : Triples) → HasMemory (view_of filer.old) m → MapIs (view_of filer.old).layout named m → IfErr result IsFaultOrMismatch }
+    ensures begun { IfErr result (λ why. MapHalts (view_of filer.old).layout (view_of filer.old).disk (view_of filer.old).slots (view_of filer.new).disk why ⊎ IsToCut id from (MapShows (view_of filer.old).layout (view_of filer.old).disk (view_of filer.old).slots)) }
+    ensures cause { IfErr result (CutHalts (view_of filer.old).layout (view_of filer.old).disk (view_of filer.old).slots (view_of filer.new).disk (view_of filer.new).slots) }
+    ensures beside { Beside FileMapPages (view_of filer.old).disk (view_of filer.old).slots (view_of filer.old).layout (view_of filer.new).disk (view_of filer.new).slots (view_of filer.new).layout }
+    ensures cost { (view_of filer.new).disk.transfers ≤ (view_of filer.old).disk.transfers + 2 * (1 + 51 * most_records (view_of filer.old).layout.sectors) }
+    ensures synced { syncs ≡ true → OnOk result (SyncsQuietly (view_of filer.old).disk (view_of filer.new).disk) }
+{
+    match filer.cut(id, from) {
+        Ok(()) => (),
+        Err(halt) => return Err(halt),
+    }
+    if !syncs {
+        return Ok(());
+    }
+    match sync_disk(filer) {
+        Ok(()) => Ok(()),
+        Err(halt) => Err(halt),
+    }
+}
 
 // Takes the pages of a file from one on out of the file map, and puts its leader, which stands in this sector, in again.
 fn cut_to<D: Disk, A: Allocator>(
@@ -39,6 +77,7 @@ fn cut_to<D: Disk, A: Allocator>(
     id: FileId,
     from: u32,
     leader: u32,
+    syncs: bool,
 ) -> Result<(), Halt>
     requires size { FitsLayout (view_of filer.old) }
     requires of_file { 16 ≤ id }
@@ -57,8 +96,9 @@ fn cut_to<D: Disk, A: Allocator>(
     ensures counted { IfErr result (λ e. e ≡ halt.Disk → Rose (view_of filer.old).disk.faults (view_of filer.new).disk.faults) }
     ensures beside { Beside FileMapPages (view_of filer.old).disk (view_of filer.old).slots (view_of filer.old).layout (view_of filer.new).disk (view_of filer.new).slots (view_of filer.new).layout }
     ensures cost { (view_of filer.new).disk.transfers ≤ (view_of filer.old).disk.transfers + (100 + 102 * most_records (view_of filer.old).layout.sectors) }
+    ensures synced { syncs ≡ true → OnOk result (SyncsQuietly (view_of filer.old).disk (view_of filer.new).disk) }
 {
-    match filer.cut(id, from) {
+    match cut_synced(filer, id, from, syncs) {
         Ok(()) => (),
         Err(halt) => return Err(halt),
     }
@@ -81,44 +121,45 @@ pub(crate) fn shrink<D: Disk, A: Allocator>(
     filer: &mut Filer<D, A>,
     volume: &mut Volume,
     id: FileId,
-    leader: u32,
+    file: FoundFile,
     pages: u32,
-    size: u32,
 ) -> Result<(), Halt>
     requires sectors { FitsLayout (view_of filer.old) }
     requires of_file { 16 ≤ id }
-    requires data { (view_of filer.old).layout.first ≤ leader }
-    requires inside { leader < (view_of filer.old).layout.sectors }
-    requires order { pages ≤ size }
+    requires data { (view_of filer.old).layout.first ≤ file.sector }
+    requires inside { file.sector < (view_of filer.old).layout.sectors }
+    requires order { pages ≤ file.pages }
     ensures shrunk { (x : List Sector) (shapes : Shapes) (spaces : List Space) (f : Shape) → MayShrink (view_of filer.old).disk (view_of filer.old).slots (view_of filer.old).layout (view_of filer.old).runs shapes spaces id f pages x
-        → f.size ≡ size → IsTriple (labels_of x) id leader_page leader
-        → OnOk result (ShrunkBy id pages size x (view_of filer.old).disk (view_of filer.old).slots (view_of filer.old).layout (view_of filer.new).disk (view_of filer.new).slots (view_of filer.new).runs) }
+        → f.size ≡ file.pages → IsTriple (labels_of x) id leader_page file.sector
+        → OnOk result (ShrunkBy id pages file.pages x (view_of filer.old).disk (view_of filer.old).slots (view_of filer.old).layout (view_of filer.new).disk (view_of filer.new).slots (view_of filer.new).runs) }
     ensures sound { (x : List Sector) (shapes : Shapes) (spaces : List Space) (f : Shape) → MayShrink (view_of filer.old).disk (view_of filer.old).slots (view_of filer.old).layout (view_of filer.old).runs shapes spaces id f pages x
-        → f.size ≡ size → IsTriple (labels_of x) id leader_page leader → IfErr result (λ e. e ≡ halt.Disk) }
-    ensures cause { IfErr result (ShrinkHalts (IsUnframed (view_of filer.old).slots id) (view_of filer.old).layout (kept_by (view_of filer.old)) id pages (λ p. (pages ≤ p) × (p < size)) (view_of filer.old).disk (view_of filer.old).slots (view_of filer.new).disk (view_of filer.new).slots) }
-    ensures keeps_to { (o : InitialState) (named : Triples) → Keeps o filer.old named → named id leader_page leader ≡ true → NamesNoneOf id (λ p. (size ≤ p) × (p < 4294967295)) named → OnOk result (KeepsFrom o named filer.new) }
-    ensures reasons { (o : InitialState) (named : Triples) → Keeps o filer.old named → named id leader_page leader ≡ true → IfErr result (ShowsReason o (view_of filer.old).layout (view_of filer.new).disk) }
+        → f.size ≡ file.pages → IsTriple (labels_of x) id leader_page file.sector → IfErr result (λ e. e ≡ halt.Disk) }
+    ensures cause { IfErr result (ShrinkHalts (IsUnframed (view_of filer.old).slots id) (view_of filer.old).layout (kept_by (view_of filer.old)) id pages (λ p. (pages ≤ p) × (p < file.pages)) (view_of filer.old).disk (view_of filer.old).slots (view_of filer.new).disk (view_of filer.new).slots) }
+    ensures keeps_to { (o : InitialState) (named : Triples) → Keeps o filer.old named → named id leader_page file.sector ≡ true → NamesNoneOf id (λ p. (file.pages ≤ p) × (p < 4294967295)) named → OnOk result (KeepsFrom o named filer.new) }
+    ensures reasons { (o : InitialState) (named : Triples) → Keeps o filer.old named → named id leader_page file.sector ≡ true → IfErr result (ShowsReason o (view_of filer.old).layout (view_of filer.new).disk) }
     ensures evidence_seen { IfErr result (ShowsEvidence (view_of filer.new).disk) }
     ensures counted { IfErr result (λ e. e ≡ halt.Disk → Rose (view_of filer.old).disk.faults (view_of filer.new).disk.faults) }
     ensures broken { (x : List Sector) (shapes : Shapes) (spaces : List Space) (f : Shape) → MayShrink (view_of filer.old).disk (view_of filer.old).slots (view_of filer.old).layout (view_of filer.old).runs shapes spaces id f pages x
-        → f.size ≡ size → IsTriple (labels_of x) id leader_page leader
-        → OnErr result (ShrunkSome id pages size x (view_of filer.old).disk (view_of filer.old).slots (view_of filer.new).disk (view_of filer.new).slots) }
-    ensures makes { OnOk result (MakesFree (size - pages) (view_of filer.old).disk (view_of filer.old).slots (view_of filer.new).disk (view_of filer.new).slots) }
+        → f.size ≡ file.pages → IsTriple (labels_of x) id leader_page file.sector
+        → OnErr result (ShrunkSome id pages file.pages x (view_of filer.old).disk (view_of filer.old).slots (view_of filer.new).disk (view_of filer.new).slots) }
+    ensures makes { OnOk result (MakesFree (file.pages - pages) (view_of filer.old).disk (view_of filer.old).slots (view_of filer.new).disk (view_of filer.new).slots) }
     ensures stopped { OnErr result (MakesSomeFree (view_of filer.old).disk (view_of filer.old).slots (view_of filer.new).disk (view_of filer.new).slots) }
-    ensures used { OnOk result (volume.new ≡ record volume.old { used = volume.old.used - (size - pages) }) }
+    ensures used { OnOk result (volume.new ≡ record volume.old { used = volume.old.used - (file.pages - pages) }) }
     ensures same_volume { OnErr result (volume.new ≡ volume.old) }
     ensures layout { (view_of filer.new).layout ≡ (view_of filer.old).layout }
-    ensures cost { (view_of filer.new).disk.transfers ≤ (view_of filer.old).disk.transfers + ((size - pages) * (16 + 4 * (view_of filer.old).layout.vam) + (100 + 102 * most_records (view_of filer.old).layout.sectors)) }
+    ensures cost { (view_of filer.new).disk.transfers ≤ (view_of filer.old).disk.transfers + ((file.pages - pages) * (16 + 4 * (view_of filer.old).layout.vam) + (100 + 102 * most_records (view_of filer.old).layout.sectors)) }
     ensures own { RelabelsOwn id (view_of filer.old).disk (view_of filer.new).disk }
+    ensures synced { is_permanent file.leader ≡ true → OnOk result (LabelsAreSynced (view_of filer.old).disk (view_of filer.new).disk) }
 {
-    match free_down(filer, id, pages, size) {
+    match free_down(filer, id, pages, file.pages) {
         Ok(()) => (),
         Err(halt) => return Err(halt),
     }
-    match cut_to(filer, id, pages, leader) {
+    let syncs = file.leader.marks().permanent;
+    match cut_to(filer, id, pages, file.sector, syncs) {
         Ok(()) => (),
         Err(halt) => return Err(halt),
     }
-    volume.used = volume.used.saturating_sub(size - pages);
+    volume.used = volume.used.saturating_sub(file.pages - pages);
     Ok(())
 }

@@ -6,6 +6,7 @@ ghost use Rattle.labelled_disk.specs.Sectors.{Sector};
 ghost use Rattle.file_map.specs.FileMap.{Triples, most_records};
 ghost use Rattle.flat_machine.specs.declared.space.Space.{Space};
 ghost use Rattle.label_calls.specs.Own.{RelabelsOwn};
+ghost use Rattle.label_calls.specs.Synced.{SyncsLeaders};
 ghost use Rattle.session_words.specs.FrameLaws.{is_shown};
 ghost use Rattle.session_words.specs.Parts.{Shape, Shapes};
 ghost use Rattle.file_manager.specs.Grounds.{DeleteHalts};
@@ -63,6 +64,7 @@ pub fn delete<D: Disk, A: Allocator>(
         → ((page : ℕ) → is_shown spaces id page ≡ false)
         → (view_of filer.new).disk.transfers ≤ (view_of filer.old).disk.transfers + (14 + (1 + f.size) * (16 + 4 * (view_of filer.old).layout.vam) + 2 * (1 + 51 * (f.size + 2))) }
     ensures own { RelabelsOwn id (view_of filer.old).disk (view_of filer.new).disk }
+    ensures around { SyncsLeaders result (view_of filer.old).disk (view_of filer.new).disk }
 {
     let pages = match filer.size(id) {
         Ok(pages) => pages,

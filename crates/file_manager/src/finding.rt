@@ -1,7 +1,7 @@
 //! The leader of a file, with its label, and how many pages the file has.
 ghost use Rattle.std.specs.Prelude.{◌≡◌, ℕ, ◌+◌, ◌≤◌, ◌<◌, true, List, [], Ok, None, IfOk, IfErr, OnOk, IfSome, MatchResult};
 ghost use Rattle.labelled_disk.specs.Calls.{RevealsSame};
-ghost use Rattle.labelled_disk.specs.Label.{leader_page, names};
+ghost use Rattle.labelled_disk.specs.Label.{leader_page, is_permanent, names};
 ghost use Rattle.labelled_disk.specs.Sectors.{Sector};
 ghost use Rattle.labelled_disk.specs.State.{HasLabel};
 ghost use Rattle.labelled_disk.specs.declared.evidence.Halt.TheVariants as halt;
@@ -26,9 +26,11 @@ ghost use Rattle.file_manager.specs.Finding.{IsFoundFile, FileHalts};
 ghost use Rattle.file_manager.specs.Book.{Books, BringsOwn};
 ghost use Rattle.file_manager.specs.Causes.{NamesNone};
 ghost use Rattle.file_manager.specs.Reasons.{Keeps, InitialState, ShowsReason};
+ghost use Rattle.file_manager.specs.Synced.{SyncsQuietly};
 ghost use Rattle.filer_kernel.specs.View.{FitsLayout, HasMemory, kept_by, MakesOnly, view_of};
 
 use crate::leader::leader_of;
+use crate::syncing::sync_disk;
 use filer_kernel::Filer;
 use label_calls::read_label;
 use labelled_disk::{Disk, Evidence, FileId, Halt, LEADER, Label, Wanted};
@@ -44,7 +46,7 @@ pub(crate) struct FoundFile {
 }
 
 // The label of the leader of a file, which stands in this sector.
-fn leader_label<D: Disk, A: Allocator>(
+fn read_leader<D: Disk, A: Allocator>(
     filer: &mut Filer<D, A>,
     id: FileId,
     sector: u32,
@@ -80,10 +82,51 @@ fn leader_label<D: Disk, A: Allocator>(
     Ok(found)
 }
 
-// A file, or none where the file map has no leader of it.
+// The same. Where the file is permanent, all that was written is on the medium, if it is to be.
+fn leader_label<D: Disk, A: Allocator>(
+    filer: &mut Filer<D, A>,
+    id: FileId,
+    sector: u32,
+    syncs: bool,
+) -> Result<Label, Halt>
+    requires inside { sector < (view_of filer.old).disk.sectors }
+    ensures found { IfOk result (HasLabel (view_of filer.old).disk sector) }
+    ensures named { IfOk result (λ label. names label (record { id = id; page = leader_page }) ≡ true) }
+    ensures sound { (m : List Sector) → HasMemory (view_of filer.old) m → HasOne (ones_of (record { id = id; page = leader_page })) m sector → IfErr result (λ e. e ≡ halt.Disk) }
+    ensures cause { IfErr result (HasCause (IsNotOf sector (record { id = id; page = leader_page }) (view_of filer.old).disk) (view_of filer.old).disk (view_of filer.new).disk) }
+    ensures keeps_to { (o : InitialState) (named : Triples) → Keeps o filer.old named → OnOk result (Keeps o filer.new named) }
+    ensures reasons { (o : InitialState) (named : Triples) → Keeps o filer.old named → named id leader_page sector ≡ true → IfErr result (ShowsReason o (view_of filer.old).layout (view_of filer.new).disk) }
+    ensures evidence_seen { MayBeIn (view_of filer.old).disk.sectors sector (record { id = id; page = leader_page }) → IfErr result (ShowsEvidence (view_of filer.new).disk) }
+    ensures same { RevealsSame (view_of filer.old).disk (view_of filer.new).disk }
+    ensures makes { MakesOnly no_page [] (view_of filer.old) (view_of filer.new) }
+    ensures frames { (view_of filer.new).slots ≡ (view_of filer.old).slots }
+    ensures layout { (view_of filer.new).layout ≡ (view_of filer.old).layout }
+    ensures runs { (view_of filer.new).runs ≡ (view_of filer.old).runs }
+    ensures cost { (view_of filer.new).disk.transfers ≤ (view_of filer.old).disk.transfers + 1 }
+    ensures synced { syncs ≡ true → IfOk result (λ label. is_permanent label ≡ true → SyncsQuietly (view_of filer.old).disk (view_of filer.new).disk) }
+{
+    let found = match read_leader(filer, id, sector) {
+        Ok(found) => found,
+        Err(halt) => return Err(halt),
+    };
+    if !syncs {
+        return Ok(found);
+    }
+    if !found.marks().permanent {
+        return Ok(found);
+    }
+    match sync_disk(filer) {
+        Ok(()) => Ok(found),
+        Err(halt) => Err(halt),
+    }
+}
+
+// A file, or none where the file map has no leader of it. Where the file is permanent, all that was written before is on the
+// medium, if it is to be.
 pub(crate) fn find_file<D: Disk, A: Allocator>(
     filer: &mut Filer<D, A>,
     id: FileId,
+    syncs: bool,
 ) -> Result<Option<FoundFile>, Halt>
     requires size { FitsLayout (view_of filer.old) }
     requires client { 16 ≤ id }
@@ -92,6 +135,7 @@ pub(crate) fn find_file<D: Disk, A: Allocator>(
     ensures same { (x : List Sector) (shapes : Shapes) (spaces : List Space) → Books (view_of filer.old).disk (view_of filer.old).slots (view_of filer.old).layout (view_of filer.old).runs shapes spaces x
         → Books (view_of filer.new).disk (view_of filer.new).slots (view_of filer.old).layout (view_of filer.new).runs shapes spaces x }
     ensures place { IfOk result (λ found. IfSome found (λ file. ((view_of filer.old).layout.first ≤ file.sector) × (file.sector < (view_of filer.old).layout.sectors))) }
+    ensures label { IfOk result (λ found. IfSome found (λ file. HasLabel (view_of filer.new).disk file.sector file.leader × (names file.leader (record { id = id; page = leader_page }) ≡ true))) }
     ensures size { (m : List Sector) (named : Triples) → HasMemory (view_of filer.old) m → MapIs (view_of filer.old).layout named m → IfOk result (λ found. IfSome found (λ file. IsSize named id file.pages)) }
     ensures names { (m : List Sector) (named : Triples) → HasMemory (view_of filer.old) m → MapIs (view_of filer.old).layout named m → AreOf named (kept_by (view_of filer.old))
         → IfOk result (λ found. IfSome found (λ file. named id leader_page file.sector ≡ true)) }
@@ -112,13 +156,14 @@ pub(crate) fn find_file<D: Disk, A: Allocator>(
     ensures evidence_seen { IfErr result (ShowsEvidence (view_of filer.new).disk) }
     ensures layout { (view_of filer.new).layout ≡ (view_of filer.old).layout }
     ensures cost { (view_of filer.new).disk.transfers ≤ (view_of filer.old).disk.transfers + 29 }
+    ensures synced { syncs ≡ true → IfOk result (λ found. IfSome found (λ file. is_permanent file.leader ≡ true → SyncsQuietly (view_of filer.old).disk (view_of filer.new).disk)) }
 {
     let sector = match leader_of(filer, id) {
         Ok(Some(sector)) => sector,
         Ok(None) => return Ok(None),
         Err(halt) => return Err(halt),
     };
-    let leader = match leader_label(filer, id, sector) {
+    let leader = match leader_label(filer, id, sector, syncs) {
         Ok(leader) => leader,
         Err(halt) => return Err(halt),
     };

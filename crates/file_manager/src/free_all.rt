@@ -10,6 +10,7 @@ ghost use Rattle.filer_kernel.specs.Cached.{runs_of};
 ghost use Rattle.labelled_disk.specs.Label.{leader_page};
 ghost use Rattle.filer_kernel.specs.Evidence.{ShowsEvidence};
 ghost use Rattle.label_calls.specs.Own.{RelabelsOwn};
+ghost use Rattle.label_calls.specs.Synced.{SyncsLeaders};
 ghost use Rattle.file_manager.specs.Freeing.{MayFreeAll, FreedAll, FreedFirst, MakesFree, MakesSomeFree};
 ghost use Rattle.file_manager.specs.Reasons.{AreReleased, Keeps, InitialState, ShowsReason};
 ghost use Rattle.filer_kernel.specs.View.{FitsLayout, kept_by, view_of};
@@ -45,6 +46,7 @@ pub(crate) fn free_all<D: Disk, A: Allocator>(
     ensures layout { (view_of filer.new).layout ≡ (view_of filer.old).layout }
     ensures cost { (view_of filer.new).disk.transfers ≤ (view_of filer.old).disk.transfers + (1 + pages) * (16 + 4 * (view_of filer.old).layout.vam) }
     ensures own { RelabelsOwn id (view_of filer.old).disk (view_of filer.new).disk }
+    ensures around { SyncsLeaders result (view_of filer.old).disk (view_of filer.new).disk }
 {
     match free_run(filer, id, LEADER, 1) {
         Ok(_) => (),

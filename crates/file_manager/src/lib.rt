@@ -22,6 +22,7 @@ mod order;
 mod release;
 mod resizing;
 mod shrinking;
+mod syncing;
 mod tables;
 mod volume;
 

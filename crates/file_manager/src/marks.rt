@@ -10,6 +10,7 @@ ghost use Rattle.session_words.specs.FrameLaws.{is_shown};
 ghost use Rattle.session_words.specs.Parts.{Shape, Shapes};
 ghost use Rattle.label_calls.specs.Labels.{with_mark};
 ghost use Rattle.label_calls.specs.Own.{RelabelsOwn};
+ghost use Rattle.label_calls.specs.Synced.{SyncsLeaders};
 ghost use Rattle.label_laws.specs.Marks.{permanent_label, immutable_label};
 ghost use Rattle.label_calls.specs.declared.page.Mark.TheVariants.{Permanent, Immutable};
 ghost use Rattle.file_manager.specs.Answer.{IsMarked, WritesMark};
@@ -49,6 +50,7 @@ fn mark<D: Disk, A: Allocator>(filer: &mut Filer<D, A>, id: FileId, mark: Mark) 
     ensures layout { (view_of filer.new).layout ≡ (view_of filer.old).layout }
     ensures cost { (view_of filer.new).disk.transfers ≤ (view_of filer.old).disk.transfers + 16 }
     ensures own { RelabelsOwn id (view_of filer.old).disk (view_of filer.new).disk }
+    ensures around { SyncsLeaders result (view_of filer.old).disk (view_of filer.new).disk }
 {
     let sector = match leader_of(filer, id) {
         Ok(Some(sector)) => sector,
@@ -89,6 +91,7 @@ pub fn make_permanent<D: Disk, A: Allocator>(
     ensures layout { (view_of filer.new).layout ≡ (view_of filer.old).layout }
     ensures cost { (view_of filer.new).disk.transfers ≤ (view_of filer.old).disk.transfers + 16 }
     ensures own { RelabelsOwn id (view_of filer.old).disk (view_of filer.new).disk }
+    ensures around { SyncsLeaders result (view_of filer.old).disk (view_of filer.new).disk }
 {
     match mark(filer, id, Mark::Permanent) {
         Ok(()) => Ok(()),
@@ -120,6 +123,7 @@ pub fn make_immutable<D: Disk, A: Allocator>(
     ensures layout { (view_of filer.new).layout ≡ (view_of filer.old).layout }
     ensures cost { (view_of filer.new).disk.transfers ≤ (view_of filer.old).disk.transfers + 16 }
     ensures own { RelabelsOwn id (view_of filer.old).disk (view_of filer.new).disk }
+    ensures around { SyncsLeaders result (view_of filer.old).disk (view_of filer.new).disk }
 {
     match mark(filer, id, Mark::Immutable) {
         Ok(()) => Ok(()),

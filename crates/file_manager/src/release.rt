@@ -15,6 +15,7 @@ ghost use Rattle.swapper_kernel.specs.Window.{Beside};
 ghost use Rattle.label_calls.specs.Labels.{ones_of};
 ghost use Rattle.label_calls.specs.Runs.{AreUncovered, HaveOnes, RelabelsRun, MadeSome, IsOneNotOf};
 ghost use Rattle.label_calls.specs.Own.{RelabelsOwn};
+ghost use Rattle.label_calls.specs.Synced.{SyncsLeaders};
 ghost use Rattle.filer_kernel.specs.Cached.{runs_of};
 ghost use Rattle.filer_kernel.specs.Triples.{MapIs, AreOf};
 ghost use Rattle.file_manager.specs.Grounds.{FreeHalts, IsUnframed, KeepsMap};
@@ -94,6 +95,7 @@ fn free_labels<D: Disk, A: Allocator>(filer: &mut Filer<D, A>, run: Run) -> Resu
     ensures runs { (view_of filer.new).runs ≡ (view_of filer.old).runs }
     ensures cost { (view_of filer.new).disk.transfers ≤ (view_of filer.old).disk.transfers + 2 * run.pages }
     ensures own { RelabelsOwn run.id (view_of filer.old).disk (view_of filer.new).disk }
+    ensures around { SyncsLeaders result (view_of filer.old).disk (view_of filer.new).disk }
 {
     let swapper = filer.swapper_over();
     match free_pages_up(swapper, run.sector, run.pages, run.id, run.first) {
@@ -134,6 +136,7 @@ pub(crate) fn free_run<D: Disk, A: Allocator>(
     ensures spent { IfOk result (λ pages. (view_of filer.new).disk.transfers ≤ (view_of filer.old).disk.transfers + (14 + 2 * pages + 4 * (view_of filer.old).layout.vam)) }
     ensures cost { (view_of filer.new).disk.transfers ≤ (view_of filer.old).disk.transfers + (14 + 2 * most + 4 * (view_of filer.old).layout.vam) }
     ensures own { RelabelsOwn id (view_of filer.old).disk (view_of filer.new).disk }
+    ensures around { SyncsLeaders result (view_of filer.old).disk (view_of filer.new).disk }
 {
     let run = match part_of(filer, id, page, most) {
         Ok(run) => run,
@@ -180,6 +183,7 @@ pub(crate) fn free_up<D: Disk, A: Allocator>(
     ensures layout { (view_of filer.new).layout ≡ (view_of filer.old).layout }
     ensures cost { (view_of filer.new).disk.transfers ≤ (view_of filer.old).disk.transfers + (end - from) * (16 + 4 * (view_of filer.old).layout.vam) }
     ensures own { RelabelsOwn id (view_of filer.old).disk (view_of filer.new).disk }
+    ensures around { SyncsLeaders result (view_of filer.old).disk (view_of filer.new).disk }
 {
     let mut page = from;
     while page < end {

@@ -18,6 +18,7 @@ ghost use Rattle.file_manager.specs.Resizing.{Resizes, ResizesSome};
 ghost use Rattle.file_manager.specs.Shrinking.{MayShrink, ShrunkBy, ShrunkSome};
 ghost use Rattle.file_manager.specs.Roots.{RootStays};
 ghost use Rattle.file_manager.specs.Reasons.{Keeps, KeepsFrom, InitialState, ShowsReason};
+ghost use Rattle.file_manager.specs.Synced.{LabelsAfterSync, LabelsAreSynced};
 ghost use Rattle.filer_kernel.specs.View.{FitsLayout, kept_by, view_of};
 
 use crate::Volume;
@@ -70,8 +71,12 @@ pub fn set_size<D: Disk, A: Allocator>(
     ensures cost_revealed { (x : List Sector) (shapes : Shapes) (spaces : List Space) (f : Shape) → Books (view_of filer.old).disk (view_of filer.old).slots (view_of filer.old).layout (view_of filer.old).runs shapes spaces x → shapes id ≡ Some f
         → (view_of filer.new).disk.transfers ≤ (view_of filer.old).disk.transfers + (129 + ((pages - f.size) + (f.size - pages)) * (8 * (view_of filer.old).layout.vam + 100) + 102 * most_records (view_of filer.old).layout.sectors) }
     ensures own { RelabelsOwn id (view_of filer.old).disk (view_of filer.new).disk }
+    ensures after_sync { (x : List Sector) (shapes : Shapes) (spaces : List Space) (f : Shape) → Books (view_of filer.old).disk (view_of filer.old).slots (view_of filer.old).layout (view_of filer.old).runs shapes spaces x → shapes id ≡ Some f
+        → f.permanent ≡ true → LabelsAfterSync (view_of filer.old).disk (view_of filer.new).disk }
+    ensures shrunk_synced { (x : List Sector) (shapes : Shapes) (spaces : List Space) (f : Shape) → Books (view_of filer.old).disk (view_of filer.old).slots (view_of filer.old).layout (view_of filer.old).runs shapes spaces x → shapes id ≡ Some f
+        → f.permanent ≡ true → pages < f.size → OnOk result (LabelsAreSynced (view_of filer.old).disk (view_of filer.new).disk) }
 {
-    let file = match find_file(filer, id) {
+    let file = match find_file(filer, id, true) {
         Ok(Some(file)) => file,
         Ok(None) => {
             return Err(Halt::Damaged(Evidence::Missing { id, page: LEADER }));
@@ -84,7 +89,7 @@ pub fn set_size<D: Disk, A: Allocator>(
             Err(halt) => Err(halt),
         }
     } else {
-        match shrink(filer, volume, id, file.sector, pages, file.pages) {
+        match shrink(filer, volume, id, file, pages) {
             Ok(()) => Ok(()),
             Err(halt) => Err(halt),
         }

@@ -1,3 +1,4 @@
 pub mod OwnLemmas
 pub mod RelabelLemmas
 pub mod RunLemmas
+pub mod SyncedCalls

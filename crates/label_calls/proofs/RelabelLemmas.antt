@@ -1,5 +1,5 @@
 -- A label that was read, and one that was written over it.
-use Rattle.std.proofs.Common.{◌≡◌, ◌⊎◌, inl, inr, ℕ, ◌≤◌, ◌<◌, ◌^◌, ◌+◌, true, List, [], ◌∷◌, length, Option, Some, None, refl, sym, ◌∙◌, ap, subst, arith}
+use Rattle.std.proofs.Common.{◌≡◌, ◌⊎◌, inl, inr, ℕ, ◌≤◌, ◌<◌, ◌^◌, ◌+◌, true, List, [], ◌∷◌, ◌++◌, length, Option, Some, None, refl, sym, ◌∙◌, ap, subst, arith}
 use Rattle.std.specs.Prelude.{slice_get, option_map, All}
 use Rattle.std.proofs.lemmas.Bool.Decides.{nat_tests}
 use Rattle.std.proofs.lemmas.List.Elements.{All-replicate}
@@ -20,14 +20,13 @@ use Rattle.labelled_disk.specs.Calls.{RevealsSame, RevealsWrite, Moves}
 use Rattle.labelled_disk.specs.WriteLaws.{HasData}
 use Rattle.labelled_disk.proofs.WriteRunLemmas.{appended_one, appended_then, appended_none}
 use Rattle.frame_pool.specs.Frames.{Slots}
-use Rattle.swapper_kernel.specs.Goes.{Makes, Same, Swaps, no_page}
-use Rattle.swapper_kernel.specs.GoesLaws.{goes_then, makes_then}
+use Rattle.swapper_kernel.specs.Goes.{Change, Goes, Makes, Same, Swaps, Went, no_page}
+use Rattle.swapper_kernel.specs.GoesLaws.{goes_then, makes_then, wrote_none}
 use Rattle.swapper_kernel.specs.Homes.{IsLayout}
 use Rattle.swapper_kernel.specs.DiffersLaws.{other_sector}
 use Rattle.swapper_kernel.specs.Stands.{Stands}
 use Rattle.swapper_kernel.specs.StepLaws.{IsLabelled}
 use Rattle.swapper_kernel.proofs.BesideLemmas.{label_written, beside_frames}
-use Rattle.swapper_kernel.proofs.StepLemmas.{step_laws}
 use Rattle.label_calls.specs.declared.page.Mark.{Mark}
 use Rattle.label_calls.specs.declared.page.Mark.TheVariants.{Permanent, Immutable}
 use Rattle.label_calls.specs.Labels.{Labels, free_ones, ones_of, with_mark, IsFresh, HasOne, Relabels, MayHaveWritten}
@@ -45,15 +44,54 @@ in_memory labels disk slots sector found m there stands one =
     let same : on_disk.0 ≡ is.0 = same_Some on_disk.0 is.0 (sym on_disk.1 ∙ is.1) in
     subst labels (sym on_disk.2 ∙ ap (λ (s : Sector). s.0) same ∙ is.2) one.2
 
-module _ (old mid : DiskState) (slots : Slots) (sector : ℕ) (found : Label) (there : HasLabel old sector found) (same : RevealsSame old mid) (read : Moves old mid) where
+-- a call that wrote nothing
+pub same_swaps : {old mid : DiskState} (slots : Slots) → RevealsSame old mid → Went old mid → Swaps old slots mid slots
+same_swaps slots same went = record {
+  makes = record { went = went; dirty = λ id page is. inl is; wrote = wrote_none no_page slots same; count = refl };
+  memory = λ m stands. (m, record { sectors = stands.sectors; revealed = same.contents ∙ stands.revealed; merged = stands.merged }, refl);
+}
+
+-- the disk right after a write, before it was synced
+abbrev made_by : DiskState → DiskState → DiskState
+made_by mid new = record {
+  sectors = mid.sectors;
+  contents = new.contents;
+  writes = new.writes;
+  syncs = mid.syncs;
+  transfers = mid.transfers;
+  faults = mid.faults;
+  synced = mid.synced;
+  lent = mid.lent;
+}
+
+moves_by : (mid new : DiskState) → Moves mid (made_by mid new)
+moves_by mid new = record { sectors = refl; lent = refl; syncs = refl; transfers = record { later = omega arith; by_one = omega arith }; faults = omega arith }
+
+then_synced : (mid new : DiskState) (slots : Slots) → Went mid new → Swaps (made_by mid new) slots new slots
+then_synced mid new slots went = same_swaps slots (record { contents = refl; writes = refl })
+    (record { sectors = went.sectors; lent = went.lent; syncs = went.syncs; faults = went.faults; transfers = went.transfers })
+
+append_none : (run : List DiskWrite) → run ++ [] ≡ run
+append_none [] = refl
+append_none (w ∷ run) = ap (λ (l : List DiskWrite). w ∷ l) (append_none run)
+
+-- a call that wrote nothing after another
+then_quiet : {run : List DiskWrite} {a b c : DiskState} {s t u : Slots} → Makes no_page run a s b t → Makes no_page [] b t c u → Makes no_page run a s c u
+then_quiet {run = run} {a = a} {c = c} {s = s} {u = u} first next = subst (λ (l : List DiskWrite). Makes no_page l a s c u) (append_none run) (makes_then first next)
+
+goes_quiet : {P : Change} {run : List DiskWrite} {a b c : DiskState} {s t u : Slots} → Goes P no_page run a s b t → Swaps b t c u → Goes P no_page run a s c u
+goes_quiet {P = P} {run = run} {a = a} {c = c} {s = s} {u = u} first next =
+    subst (λ (l : List DiskWrite). Goes P no_page l a s c u) (append_none run) (goes_then P Same P (λ m n o made stays. subst (P m) (sym stays) made) first next)
+
+module _ (old mid : DiskState) (slots : Slots) (sector : ℕ) (found : Label) (there : HasLabel old sector found) (same : RevealsSame old mid) (read : Went old mid) where
   pub was_read : Swaps old slots mid slots
-  was_read = step_laws.read old mid slots same read
+  was_read = same_swaps slots same read
 
   -- where the label was one of these, the disk has such a one
   pub had_one : (labels : Labels) → labels found → (d : List Sector) → old.contents ≡ Some d → HasOne labels d sector
   had_one labels is d revealed = let s = label_there (slice_get d sector) found (there d revealed) in (s.0, s.1, subst labels (sym s.2) is)
 
-  module _ (new : DiskState) (w : DiskWrite) (is : IsLabelled w sector) (form : IsWriteInForm w) (moves : Moves mid new)
+  module _ (new : DiskState) (w : DiskWrite) (is : IsLabelled w sector) (form : IsWriteInForm w) (moves : Went mid new)
       (permitted : (d : List Sector) → old.contents ≡ Some d → (s : Sector) → slice_get d sector ≡ Some s → s.0 ≡ found → Permitted d w) where
     law : (d : List Sector) → mid.contents ≡ Some d → Permitted d w
     law d revealed =
@@ -62,7 +100,8 @@ module _ (old mid : DiskState) (slots : Slots) (sector : ℕ) (found : Label) (t
         permitted d before s.0 s.1 s.2
 
     makes : RevealsWrite w mid new → Makes no_page (w ∷ []) old slots new slots
-    makes made = makes_then was_read.makes (label_written mid new slots w sector is form made moves law)
+    makes made = makes_then was_read.makes
+        (then_quiet (label_written mid (made_by mid new) slots w sector is form (record { contents = made.contents; writes = made.writes }) (moves_by mid new) law) (then_synced mid new slots moves).makes)
 
     pub relabels : (labels : Labels) → labels found → RevealsWrite w mid new → Relabels labels sector w old slots new
     relabels labels one made = record {
@@ -70,11 +109,12 @@ module _ (old mid : DiskState) (slots : Slots) (sector : ℕ) (found : Label) (t
       appended = appended_then [] (w ∷ []) (appended_none same) (appended_one w made);
       makes = makes made;
       goes = λ free. goes_then Same (λ m n. n ≡ written w m) (λ m n. n ≡ written w m) (λ m n o stays now. now ∙ ap (written w) stays) was_read
-          (beside_frames mid new slots w sector is form made moves (λ d revealed. (law d revealed, let s = label_there (slice_get d sector) found (there d (sym same.contents ∙ revealed)) in (s.0, s.1))) free);
+          (goes_quiet (beside_frames mid (made_by mid new) slots w sector is form (record { contents = made.contents; writes = made.writes }) (moves_by mid new) (λ d revealed. (law d revealed, let s = label_there (slice_get d sector) found (there d (sym same.contents ∙ revealed)) in (s.0, s.1))) free)
+          (then_synced mid new slots moves));
     }
 
     pub may_have : RevealsSame mid new ⊎ RevealsWrite w mid new → MayHaveWritten w old slots new
-    may_have (inl nothing) = inl (makes_then was_read.makes (step_laws.read mid new slots nothing moves).makes)
+    may_have (inl nothing) = inl (makes_then was_read.makes (same_swaps slots nothing moves).makes)
     may_have (inr made) = inr (makes made)
 
 -- a sector after the layout's first data sector is one of the disk's
@@ -134,7 +174,7 @@ pub record WriteLaws (labels : Labels) (sector : ℕ) (w : DiskWrite) (old : Dis
   pub stopped : RevealsSame mid new ⊎ RevealsWrite w mid new → MayHaveWritten w old slots new
 
 module _ (layout : Layout) (old mid new : DiskState) (slots : Slots) (sector : ℕ) (found : Label) (is : IsLayout layout) (long : (d : List Sector) → old.contents ≡ Some d → length d ≡ layout.sectors)
-    (after : layout.first ≤ sector) (there : HasLabel old sector found) (same : RevealsSame old mid) (read : Moves old mid) (moves : Moves mid new) where
+    (after : layout.first ≤ sector) (there : HasLabel old sector found) (same : RevealsSame old mid) (read : Went old mid) (moves : Went mid new) where
   pub fresh_laws : (label : Label) → IsFresh label → IsSector (label, zero_bytes) → is_free found ≡ true → WriteLaws free_ones sector (write.Whole sector label zero_bytes) old slots mid new
   fresh_laws label fresh form free =
       let law = λ (d : List Sector) (revealed : old.contents ≡ Some d) (s : Sector) (here : slice_get d sector ≡ Some s) (at : s.0 ≡ found).

@@ -2,3 +2,5 @@ pub mod Labels
 pub mod Own
 pub mod OwnLaws
 pub mod Runs
+pub mod Synced
+pub mod SyncedLaws

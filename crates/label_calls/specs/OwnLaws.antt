@@ -14,7 +14,7 @@ use Rattle.labelled_disk.specs.Runs.{growth, creation}
 use Rattle.labelled_disk.specs.Sectors.{Sector}
 use Rattle.labelled_disk.specs.State.{DiskState, HasLabel}
 use Rattle.labelled_disk.specs.WriteRuns.{Appended, after_writes}
-use Rattle.labelled_disk.proofs.WriteRunLemmas.{appended_none, appended_one, appended_then, crash_state-earlier, after_writes-append, crash_state-later}
+use Rattle.labelled_disk.proofs.WriteRunLemmas.{appended_none, appended_one, appended_then, crash_state-earlier, crash_state-later}
 use Rattle.frame_pool.specs.Frames.{Slots}
 use Rattle.swapper_kernel.specs.Goes.{Pages, Makes, is_page_write}
 use Rattle.label_calls.specs.Labels.{MayHaveWritten}
@@ -31,7 +31,7 @@ pub record WroteOwn (id : ℕ) (old new : DiskState) : Type 0 where
   pub appended : Appended writes old new
   pub over : (d : List Sector) (before : List DiskWrite) → old.contents ≡ Some d → old.writes ≡ Some before → AreOverOwn id d writes
 
-revealed_after : {a b : DiskState} (writes : List DiskWrite) (before : List DiskWrite) → Appended writes a b → a.writes ≡ Some before → b.writes ≡ Some (before ++ writes)
+pub revealed_after : {a b : DiskState} (writes : List DiskWrite) (before : List DiskWrite) → Appended writes a b → a.writes ≡ Some before → b.writes ≡ Some (before ++ writes)
 revealed_after writes before appended was = appended.revealed ∙ ap (option_map (λ (earlier : List DiskWrite). earlier ++ writes)) was
 
 pub relabels_own : {id : ℕ} {a b : DiskState} → WroteOwn id a b → RelabelsOwn id a b
@@ -52,7 +52,7 @@ pub wrote_own : {id : ℕ} {pages : Pages} {run : List DiskWrite} {a b : DiskSta
 wrote_own makes relabels = appended_own makes.wrote.writes makes.wrote.appended relabels
 
 -- a place in two lists in a row
-place_in : {X : Type 0} (xs ys : List X) (k : ℕ) (x : X) → slice_get (xs ++ ys) k ≡ Some x
+pub place_in : {X : Type 0} (xs ys : List X) (k : ℕ) (x : X) → slice_get (xs ++ ys) k ≡ Some x
     → ((k < length xs) × (slice_get xs k ≡ Some x)) ⊎ ((j : ℕ) × (k ≡ length xs + j) × (slice_get ys j ≡ Some x))
 place_in [] ys k x is = inr (k, let z : k ≡ 0 + k = omega arith in z, is)
 place_in (y ∷ xs) ys zero x is = inl (omega arith, is)
@@ -90,7 +90,7 @@ AreWhole (write.Whole sector label bytes ∷ run) = AreWhole run
 AreWhole (write.LabelOnly sector label ∷ run) = ⊥
 AreWhole (write.Page sector wanted bytes ∷ run) = AreWhole run
 
-none_alone : (run : List DiskWrite) → AreWhole run → (k sector : ℕ) (label : Label) → slice_get run k ≡ Some (write.LabelOnly sector label) → ⊥
+pub none_alone : (run : List DiskWrite) → AreWhole run → (k sector : ℕ) (label : Label) → slice_get run k ≡ Some (write.LabelOnly sector label) → ⊥
 none_alone [] whole k sector label at = none-some (write.LabelOnly sector label) at
 none_alone (write.Whole i l bytes ∷ run) whole zero sector label at = true≢false (ap is_label_write (sym (same_Some (write.Whole i l bytes) (write.LabelOnly sector label) at)))
 none_alone (write.Whole i l bytes ∷ run) whole (suc k) sector label at = none_alone run whole k sector label at
@@ -99,7 +99,7 @@ none_alone (write.Page i w bytes ∷ run) whole zero sector label at = true≢fa
 none_alone (write.Page i w bytes ∷ run) whole (suc k) sector label at = none_alone run whole k sector label at
 
 -- where the writes of labels are such, so are all writes
-whole_among : (writes : List DiskWrite) → AreWhole (filter (λ w. not (is_page_write w)) writes) → AreWhole writes
+pub whole_among : (writes : List DiskWrite) → AreWhole (filter (λ w. not (is_page_write w)) writes) → AreWhole writes
 whole_among [] whole = tt
 whole_among (write.Whole i l bytes ∷ writes) whole = whole_among writes whole
 whole_among (write.LabelOnly i l ∷ writes) whole = absurd whole

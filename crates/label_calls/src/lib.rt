@@ -4,5 +4,5 @@
 mod page;
 mod run;
 
-pub use page::{Mark, free_page, make_page, mark_leader, read_label};
+pub use page::{Mark, free_page, make_page, mark_leader, read_label, sync};
 pub use run::{free_pages_down, free_pages_up, make_pages};

@@ -8,6 +8,7 @@ ghost use Rattle.swapper_kernel.specs.Halts.{HasCause};
 ghost use Rattle.swapper_kernel.specs.Stands.{Stands};
 ghost use Rattle.label_calls.specs.Labels.{free_ones, ones_of};
 ghost use Rattle.label_calls.specs.Own.{RelabelsOwn};
+ghost use Rattle.label_calls.specs.Synced.{SyncsLeaders};
 ghost use Rattle.label_calls.specs.Runs.{AreOfFile, AreUncovered, HaveOnes, RelabelsRun, MadeSome, NamedSome, IsOneTaken, IsOneNotOf};
 
 use crate::page::{free_page, make_page};
@@ -75,6 +76,7 @@ pub fn free_pages_up<D: Disk, A: Allocator>(
     ensures layout { swapper.new.layout ≡ swapper.old.layout }
     ensures cost { (D.state swapper.new.disk).transfers ≤ (D.state swapper.old.disk).transfers + 2 * pages }
     ensures own { RelabelsOwn id (D.state swapper.old.disk) (D.state swapper.new.disk) }
+    ensures around { SyncsLeaders result (D.state swapper.old.disk) (D.state swapper.new.disk) }
 {
     for k in 0..pages {
         let wanted = Wanted { id, page: page + k };
@@ -110,6 +112,7 @@ pub fn free_pages_down<D: Disk, A: Allocator>(
     ensures layout { swapper.new.layout ≡ swapper.old.layout }
     ensures cost { (D.state swapper.new.disk).transfers ≤ (D.state swapper.old.disk).transfers + 2 * pages }
     ensures own { RelabelsOwn id (D.state swapper.old.disk) (D.state swapper.new.disk) }
+    ensures around { SyncsLeaders result (D.state swapper.old.disk) (D.state swapper.new.disk) }
 {
     for k in 0..pages {
         let after = pages - (k + 1);

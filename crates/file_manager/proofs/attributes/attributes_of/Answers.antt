@@ -1,6 +1,11 @@
-use Rattle.std.proofs.Common.{◌≡◌, inr, true, Option, subst, rules}
+use Rattle.std.proofs.Common.{◌≡◌, ◌<◌, ◌≤◌, ℕ, inr, true, Option, ap, arith, subst, sym, rules}
 use Rattle.std.specs.Prelude.{IfSome}
-use Rattle.labelled_disk.specs.Label.{leader_page}
+use Rattle.labelled_disk.specs.Label.{leader_page, names}
+use Rattle.labelled_disk.specs.State.{HasLabel}
+use Rattle.labelled_disk.specs.declared.label.Wanted.{Wanted}
+use Rattle.labelled_disk.specs.declared.layout.Layout.{Layout}
+use Rattle.swapper_kernel.specs.DiffersLaws.{names_id, names_page}
+use Rattle.swapper_kernel.specs.Homes.{IsLayout}
 use Rattle.file_map.specs.FileMap.{IsSize}
 use Rattle.swapper_kernel.specs.Stands.{labels_of}
 use Rattle.filer_kernel.specs.Cached.{runs_of}
@@ -9,7 +14,7 @@ use Rattle.file_manager.specs.Finding.{IsFoundFile}
 use Rattle.file_manager.proofs.CountedLemmas.{rose_of, of_answer}
 use Rattle.file_manager.proofs.LookLemmas.{looks_nothing, looks_searched}
 use Rattle.file_manager.proofs.attributes.attributes_of.Goals as goal
-use Rattle.filer_kernel.specs.View.{view_of}
+use Rattle.filer_kernel.specs.View.{accepted, view_of}
 
 pub returns-in-Ok-Some-clause-revealed : goal.returns-in-Ok-Some-clause-revealed
 returns-in-Ok-Some-clause-revealed g c = rw (← c.frames_of.ensures.same, c.marks-marks.ensures.permanent, c.marks-marks.ensures.immutable) (λ x shapes spaces books. (subst (IsFoundFile (labels_of x) shapes c.args.id) c.in-Ok-Some.field-0-is (c.in-Ok-Some.ensures.revealed x shapes spaces books)).1)
@@ -81,3 +86,26 @@ returns-in-Ok-None-clause-keeps_to g c = rw (← c.frames_of.ensures.same) c.in-
 
 pub returns-in-Err-clause-reasons : goal.returns-in-Err-clause-reasons
 returns-in-Err-clause-reasons g c = rw (← c.frames_of.ensures.same) c.in-Err.ensures.reasons
+
+-- ---- The label of the leader, whatever the maps say.
+
+first_after_root : (layout : Layout) → IsLayout layout → (sector : ℕ) → layout.first ≤ sector → 0 < sector
+first_after_root layout accepted sector above = let first = ap (λ (l : Layout). l.first) accepted.1 in omega (arith, first, above)
+
+pub returns-in-Ok-Some-clause-marked : goal.returns-in-Ok-Some-clause-marked
+returns-in-Ok-Some-clause-marked g c =
+    let f = c.frames_of.new.filer in
+    let file = c.in-Ok-Some.file in
+    let disk = (view_of c.find_file.new.filer).disk in
+    let wanted : Wanted = record { id = c.args.id; page = leader_page } in
+    let label = subst (λ (o : Option FoundFile). IfSome o (λ x. HasLabel disk x.sector x.leader × (names x.leader wanted ≡ true))) c.in-Ok-Some.field-0-is c.in-Ok-Some.ensures.label in
+    let place = subst (λ (o : Option FoundFile). IfSome o (λ x. ((view_of f).layout.first ≤ x.sector) × (x.sector < (view_of f).layout.sectors))) c.in-Ok-Some.field-0-is c.in-Ok-Some.ensures.place in
+    record {
+      sector = file.sector;
+      after_root = first_after_root (view_of f).layout (accepted f) file.sector place.0;
+      label = file.leader;
+      there = label.0;
+      own = names_id file.leader wanted label.1;
+      leads = names_page file.leader wanted label.1;
+      marked = sym c.marks-marks.ensures.permanent;
+    }

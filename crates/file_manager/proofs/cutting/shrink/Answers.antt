@@ -10,6 +10,7 @@ use Rattle.std.proofs.lemmas.Bool.{cases_lt, true≢false}
 use Rattle.file_manager.proofs.OwnSteps.{map_own, freed_own, own_after}
 use Rattle.labelled_disk.specs.declared.layout.Layout.{Layout}
 use Rattle.file_manager.specs.Reasons.{ShowsReason}
+use Rattle.file_manager.proofs.SyncSteps.{labels_before}
 use Rattle.file_manager.proofs.cutting.shrink.Goals as goal
 use Rattle.filer_kernel.specs.View.{accepted, view_of}
 
@@ -34,8 +35,8 @@ returns-in-Err-cut_to-clause-sound g c = λ x shapes spaces f may size t.
     let free = may_free layout is c.args.filer.now.runs shapes spaces x _ _ c.args.id f c.args.pages c.requires.of_file may in
     let h = (rw (← size) at c.in-Ok.ensures.freed) may.books.booked.named spaces x free in
     (rw c.in-Ok.ensures.layout at c.in-Err-cut_to.ensures.sound) h.memory may.books.booked.named h.rest.stands h.rest.map (h.rest.map_labels FileMap)
-    (named_apart layout is c.args.filer.now.runs shapes spaces x _ _ c.args.id f c.args.pages c.requires.of_file may c.args.leader t)
-    (leader_is_alone layout is c.args.filer.now.runs shapes spaces x _ _ c.args.id f c.args.pages c.requires.of_file may c.args.leader t)
+    (named_apart layout is c.args.filer.now.runs shapes spaces x _ _ c.args.id f c.args.pages c.requires.of_file may c.args.file.sector t)
+    (leader_is_alone layout is c.args.filer.now.runs shapes spaces x _ _ c.args.id f c.args.pages c.requires.of_file may c.args.file.sector t)
 
 pub returns-in-Err-cut_to-clause-broken : goal.returns-in-Err-cut_to-clause-broken
 returns-in-Err-cut_to-clause-broken g c = λ x shapes spaces f may size t.
@@ -58,7 +59,7 @@ returns-clause-shrunk g c = λ x shapes spaces f may size t.
     let free = may_free layout is c.args.filer.now.runs shapes spaces x _ _ c.args.id f c.args.pages c.requires.of_file may in
     let h = (rw (← size) at c.in-Ok.ensures.freed) may.books.booked.named spaces x free in
     let cut = (rw c.in-Ok.ensures.layout at c.in-Ok-cut_to.ensures.cut) h.memory may.books.booked.named h.rest.stands h.rest.map in
-    rw (← size) (shrunk_by layout is c.args.filer.now.runs shapes spaces x _ _ c.args.id f c.args.pages c.requires.of_file may c.args.leader t _ _ _ h _ _ _ _
+    rw (← size) (shrunk_by layout is c.args.filer.now.runs shapes spaces x _ _ c.args.id f c.args.pages c.requires.of_file may c.args.file.sector t _ _ _ h _ _ _ _
     (rw c.in-Ok.ensures.layout at c.in-Ok-cut_to.ensures.beside) cut c.in-Ok-cut_to.ensures.in_form (c.in-Ok-cut_to.ensures.runs layout.sectors))
 
 pub returns-clause-makes : goal.returns-clause-makes
@@ -70,11 +71,11 @@ returns-in-Err-clause-cause g c =
     let old = (view_of c.args.filer.now).disk in
     let pool = (view_of c.args.filer.now).slots in
     let kept = runs_of layout.sectors c.args.filer.now.runs in
-    shrink_of_free (IsUnframed pool c.args.id) layout kept c.args.id c.args.pages (λ p. (c.args.pages ≤ p) × (p < c.args.size)) old (view_of c.free_down.new.filer).disk pool (view_of c.free_down.new.filer).slots c.in-Err.halt c.in-Err.ensures.cause
+    shrink_of_free (IsUnframed pool c.args.id) layout kept c.args.id c.args.pages (λ p. (c.args.pages ≤ p) × (p < c.args.file.pages)) old (view_of c.free_down.new.filer).disk pool (view_of c.free_down.new.filer).slots c.in-Err.halt c.in-Err.ensures.cause
 
 pub returns-in-Err-cut_to-clause-cause : goal.returns-in-Err-cut_to-clause-cause
 returns-in-Err-cut_to-clause-cause g c =
-    shrink_halts_after c.in-Ok.ensures.keeps c.requires.sectors c.args.pages (λ p. ⊥) (λ p. (c.args.pages ≤ p) × (p < c.args.size)) (λ p none. absurd none) (view_of c.cut_to.new.filer).disk (view_of c.cut_to.new.filer).slots c.in-Err-cut_to.halt
+    shrink_halts_after c.in-Ok.ensures.keeps c.requires.sectors c.args.pages (λ p. ⊥) (λ p. (c.args.pages ≤ p) × (p < c.args.file.pages)) (λ p none. absurd none) (view_of c.cut_to.new.filer).disk (view_of c.cut_to.new.filer).slots c.in-Err-cut_to.halt
     (rw c.in-Ok.ensures.layout at c.in-Err-cut_to.ensures.cause)
 
 pub returns-in-Err-clause-own : goal.returns-in-Err-clause-own
@@ -99,7 +100,10 @@ pub returns-clause-keeps_to : goal.returns-clause-keeps_to
 returns-clause-keeps_to g c = λ o named k led none.
     c.in-Ok-cut_to.ensures.keeps_to o named (c.in-Ok.ensures.keeps_to o named k) led (λ page sector own is.
     let from = own.0 in
-    elim (cases_lt page c.args.size) [
+    elim (cases_lt page c.args.file.pages) [
       | inl below ↦ c.in-Ok.ensures.evict o named k page sector (from, below) is
       | inr above ↦ absurd (true≢false (sym is ∙ none page sector (above, own.1)))
     ])
+
+pub returns-clause-synced : goal.returns-clause-synced
+returns-clause-synced g c = λ permanent. labels_before c.in-Ok.ensures.makes.makes (c.in-Ok-cut_to.ensures.synced (c.marks-syncs.ensures.permanent ∙ permanent))

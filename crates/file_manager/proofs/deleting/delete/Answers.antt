@@ -1,4 +1,4 @@
-use Rattle.std.proofs.Common.{◌≡◌, ◌+◌, ◌*◌, inl, ◌∙◌, arith, ◌⊎◌, ◌<◌, inr, ap, subst, rules}
+use Rattle.std.proofs.Common.{◌≡◌, ◌+◌, ◌*◌, inl, ◌∙◌, arith, ◌⊎◌, ◌<◌, inr, ap, subst, rules, false, true}
 use Rattle.swapper_kernel.specs.declared.manager.Manager.TheVariants.{FileMap}
 use Rattle.file_map.specs.FileMap.{most_records}
 use Rattle.swapper_kernel.specs.FormLaws.{memory_in_form}
@@ -24,6 +24,7 @@ use Rattle.file_manager.proofs.KeepCut.{keeps_cut, all_pages, tables_left}
 use Rattle.file_manager.proofs.ReasonCauses.{cut_reasons}
 use Rattle.file_manager.specs.ReasonLaws.{map_reasons}
 use Rattle.file_manager.specs.Reasons.{ShowsReason}
+use Rattle.label_calls.specs.SyncedLaws.{around_after, quiet_synced, synced_then, syncs_around, wrote_synced}
 use Rattle.file_manager.proofs.deleting.delete.Goals as goal
 use Rattle.filer_kernel.specs.View.{accepted, disk_of, swapper_of, view_of}
 
@@ -316,3 +317,17 @@ returns-clause-keeps_to g c = λ o named k.
           (λ page sector may from is. c.in-Ok-free_all.ensures.evict o named asked page sector (all_pages sized k.map page sector is) is) c.in-Ok-cut.ensures.cut),
       tables_left named c.args.id 0 c.requires.client,
     )
+
+-- ---- What is on the medium.
+
+pub returns-in-Err-clause-around : goal.returns-in-Err-clause-around
+returns-in-Err-clause-around g c = syncs_around (quiet_synced true c.size.ensures.beside.goes.makes)
+
+pub returns-in-Err-free_all-clause-around : goal.returns-in-Err-free_all-clause-around
+returns-in-Err-free_all-clause-around g c = around_after (quiet_synced false c.size.ensures.beside.goes.makes) (wrote_synced c.in-Err-free_all.ensures.stopped.makes c.in-Err-free_all.ensures.around)
+
+pub returns-in-Err-cut-clause-around : goal.returns-in-Err-cut-clause-around
+returns-in-Err-cut-clause-around g c = around_after (quiet_synced false c.size.ensures.beside.goes.makes) (synced_then (wrote_synced c.in-Ok-free_all.ensures.makes.makes c.in-Ok-free_all.ensures.around) (quiet_synced true c.in-Err-cut.ensures.beside.goes.makes))
+
+pub returns-clause-around : goal.returns-clause-around
+returns-clause-around g c = rw c.frames_of-volume.ensures.same (around_after (quiet_synced false c.size.ensures.beside.goes.makes) (synced_then (wrote_synced c.in-Ok-free_all.ensures.makes.makes c.in-Ok-free_all.ensures.around) (quiet_synced false c.in-Ok-cut.ensures.beside.goes.makes)))

@@ -17,7 +17,8 @@ use Rattle.file_manager.proofs.FreedRun.{map_makes, map_brings}
 use Rattle.file_manager.proofs.MarkLemmas.{leader_one}
 use Rattle.file_manager.proofs.FindingLemmas.{shape_by_leader, leader_halts, no_leader_before, map_halts_before, books_read, read_makes, read_map_brings, read_bytes, read_brings}
 use Rattle.file_manager.proofs.SoLemmas.{file_may}
-use Rattle.filer_kernel.specs.EvidenceLaws.{fits, so_of_map}
+use Rattle.filer_kernel.specs.EvidenceLaws.{fits, label_after, so_of_map}
+use Rattle.labelled_disk.specs.State.{HasLabel}
 use Rattle.file_manager.proofs.MadeRun.{made_read, made_look, reads_then}
 use Rattle.swapper_kernel.specs.WindowLaws.{beside_then, looked_then}
 use Rattle.file_manager.proofs.LookLemmas.{beside_read, looked_read}
@@ -25,6 +26,7 @@ use Rattle.file_manager.proofs.Keeping.{keeps_read, keeps_look, keeps_then}
 use Rattle.file_manager.proofs.KeepSteps.{keeps_asked}
 use Rattle.file_manager.specs.ReasonLaws.{map_reasons}
 use Rattle.file_manager.specs.Reasons.{ShowsReason}
+use Rattle.file_manager.proofs.SyncSteps.{quiet_first, quiet_last}
 use Rattle.file_manager.proofs.finding.find_file.Goals as goal
 use Rattle.filer_kernel.specs.View.{accepted, swapper_of, view_of}
 
@@ -291,3 +293,13 @@ returns-in-Ok-size-clause-keeps_to g c = λ o named k.
 pub returns-in-Ok-size-clause-names : goal.returns-in-Ok-size-clause-names
 returns-in-Ok-size-clause-names g c = λ m named stands map are.
     subst (λ (o : Option ℕ). IfSome o (λ sector. named c.args.id leader_page sector ≡ true)) c.in-Ok-Some.field-0-is (c.in-Ok-Some.ensures.names m named stands map are)
+
+pub returns-in-Ok-size-clause-synced : goal.returns-in-Ok-size-clause-synced
+returns-in-Ok-size-clause-synced g c = λ syncs permanent. quiet_last (quiet_first c.leader_of.ensures.makes (c.in-Ok.ensures.synced syncs permanent)) (map_makes c.size.ensures.beside)
+
+-- ---- The label that was read.
+
+pub returns-in-Ok-size-clause-label : goal.returns-in-Ok-size-clause-label
+returns-in-Ok-size-clause-label g c =
+    let read : HasLabel (view_of c.leader_label.new.filer).disk c.in-Ok-Some.sector c.in-Ok.leader = λ d revealed. c.in-Ok.ensures.found d (sym c.leader_label.ensures.same.contents ∙ revealed) in
+    (label_after (map_makes c.size.ensures.beside).wrote c.in-Ok-Some.sector c.in-Ok.leader read, c.in-Ok.ensures.named)

@@ -1,51 +1,42 @@
-use Rattle.std.proofs.Common.{◌≡◌, inl, inr, ℕ, true, false, sym, ◌∙◌, subst, rules}
-use Rattle.std.proofs.lemmas.Bool.{true≢false}
-use Rattle.labelled_disk.specs.Label.{names, leader_page}
-use Rattle.label_calls.specs.Labels.{ones_of}
-use Rattle.label_calls.proofs.RelabelLemmas.{in_memory}
-use Rattle.filer_kernel.specs.Evidence.{MayBeIn}
-use Rattle.filer_kernel.specs.EvidenceLaws.{label_after}
-use Rattle.file_manager.proofs.SoLemmas.{fault_shows}
-use Rattle.swapper_kernel.specs.Homes.{home_at}
-use Rattle.file_manager.specs.LaterLaws.{at_home_later}
-use Rattle.file_manager.proofs.KeepSteps.{keeps_at, keeps_revealed}
+use Rattle.swapper_kernel.specs.GoesLaws.{makes_then}
+use Rattle.label_calls.specs.Labels.{IsNotOf}
+use Rattle.labelled_disk.specs.Label.{leader_page}
+use Rattle.label_calls.proofs.SyncedCalls.{same_between}
 use Rattle.file_manager.proofs.ReasonCauses.{fault_reason}
+use Rattle.file_manager.proofs.SoLemmas.{fault_shows}
+use Rattle.file_manager.proofs.SyncSteps.{fault_cause, quiet_first}
 use Rattle.file_manager.proofs.finding.leader_label.Goals as goal
-use Rattle.filer_kernel.specs.View.{accepted, view_of}
+use Rattle.filer_kernel.specs.View.{view_of}
 
-pub returns-then-not-names-clause-sound : goal.returns-then-not-names-clause-sound
-returns-then-not-names-clause-sound g c = λ m stands one.
-    let named : names c.in-Ok.found (record { id = c.args.id; page = leader_page }) ≡ true =
-    in_memory (ones_of (record { id = c.args.id; page = leader_page })) _ _ _ c.in-Ok.found m (rw c.swapper_over-swapper.ensures.value at c.in-Ok.ensures.found) stands one in
-    let other : names c.in-Ok.found (record { id = c.args.id; page = leader_page }) ≡ false = search rules in
-    absurd (true≢false (sym named ∙ other))
+pub returns-in-Ok-sync_disk-clause-keeps_to : goal.returns-in-Ok-sync_disk-clause-keeps_to
+returns-in-Ok-sync_disk-clause-keeps_to g c = λ o named k. c.sync_disk.ensures.keeps_to o named (c.in-Ok.ensures.keeps_to o named k)
 
-pub returns-in-Err-clause-evidence_seen : goal.returns-in-Err-clause-evidence_seen
-returns-in-Err-clause-evidence_seen g c = λ may. fault_shows (g.D.Disk.state c.read_label.new.swapper.disk) c.in-Err.halt ((rw c.swapper_over-swapper.ensures.value at c.in-Err.ensures.cause).0)
+pub returns-in-Ok-sync_disk-clause-same : goal.returns-in-Ok-sync_disk-clause-same
+returns-in-Ok-sync_disk-clause-same g c = same_between c.read_leader.ensures.same c.sync_disk.ensures.same
 
-pub returns-then-not-names-clause-evidence_seen : goal.returns-then-not-names-clause-evidence_seen
-returns-then-not-names-clause-evidence_seen g c = λ may.
-    let found = rw c.swapper_over-swapper.ensures.value at c.in-Ok.ensures.found in
-    let makes = rw c.swapper_over-swapper.ensures.value at c.read_label.ensures.makes in
-    let other : names c.in-Ok.found (record { id = c.args.id; page = leader_page }) ≡ false = search rules in
-    (label_after makes.wrote c.args.sector c.in-Ok.found found, inr other, subst (λ (n : ℕ). MayBeIn n c.args.sector (record { id = c.args.id; page = leader_page })) (sym makes.went.sectors) may)
+pub returns-in-Err-sync_disk-clause-same : goal.returns-in-Err-sync_disk-clause-same
+returns-in-Err-sync_disk-clause-same g c = same_between c.read_leader.ensures.same c.sync_disk.ensures.same
 
--- ---- What it keeps to, and the reasons of its halts.
+pub returns-in-Ok-sync_disk-clause-makes : goal.returns-in-Ok-sync_disk-clause-makes
+returns-in-Ok-sync_disk-clause-makes g c = makes_then c.read_leader.ensures.makes c.sync_disk.ensures.makes
 
-pub returns-clause-keeps_to : goal.returns-clause-keeps_to
-returns-clause-keeps_to g c = λ o named k.
-    let same = rw c.swapper_over-swapper.ensures.value at c.read_label.ensures.same in
-    let makes = rw c.swapper_over-swapper.ensures.value at c.read_label.ensures.makes in
-    let frames = rw c.swapper_over-swapper.ensures.value at c.read_label.ensures.frames in
-    let lay = rw c.swapper_over-swapper.ensures.value at c.read_label.ensures.layout in
-    keeps_at c.args.filer.now.runs lay (keeps_revealed (accepted c.args.filer.now) k same makes frames)
+pub returns-in-Err-sync_disk-clause-makes : goal.returns-in-Err-sync_disk-clause-makes
+returns-in-Err-sync_disk-clause-makes g c = makes_then c.read_leader.ensures.makes c.sync_disk.ensures.makes
 
-pub returns-in-Err-clause-reasons : goal.returns-in-Err-clause-reasons
-returns-in-Err-clause-reasons g c = λ o named k led.
-    fault_reason o (view_of c.args.filer.now).layout (g.D.Disk.state c.read_label.new.swapper.disk) c.in-Err.halt ((rw c.swapper_over-swapper.ensures.value at c.in-Err.ensures.cause).0)
+pub returns-in-Err-sync_disk-clause-sound : goal.returns-in-Err-sync_disk-clause-sound
+returns-in-Err-sync_disk-clause-sound g c = λ m has one. c.in-Err-sync_disk.ensures.cause.0
 
-pub returns-then-not-names-clause-reasons : goal.returns-then-not-names-clause-reasons
-returns-then-not-names-clause-reasons g c = λ o named k led.
-    let makes = rw c.swapper_over-swapper.ensures.value at c.read_label.ensures.makes in
-    let home = home_at c.args.sector (record { id = c.args.id; page = leader_page }) in
-    inr (inl (at_home_later o makes home (k.homes home led)))
+pub returns-in-Err-sync_disk-clause-cause : goal.returns-in-Err-sync_disk-clause-cause
+returns-in-Err-sync_disk-clause-cause g c =
+    let old = (view_of c.args.filer.now).disk in
+    fault_cause (IsNotOf c.args.sector (record { id = c.args.id; page = leader_page }) old) old (view_of c.read_leader.new.filer).disk (view_of c.sync_disk.new.filer).disk c.in-Err-sync_disk.halt c.read_leader.ensures.makes.went.faults c.in-Err-sync_disk.ensures.cause
+
+pub returns-in-Err-sync_disk-clause-reasons : goal.returns-in-Err-sync_disk-clause-reasons
+returns-in-Err-sync_disk-clause-reasons g c = λ o named k led.
+    fault_reason o (view_of c.args.filer.now).layout (view_of c.sync_disk.new.filer).disk c.in-Err-sync_disk.halt c.in-Err-sync_disk.ensures.cause.0
+
+pub returns-in-Err-sync_disk-clause-evidence_seen : goal.returns-in-Err-sync_disk-clause-evidence_seen
+returns-in-Err-sync_disk-clause-evidence_seen g c = λ may. fault_shows (view_of c.sync_disk.new.filer).disk c.in-Err-sync_disk.halt c.in-Err-sync_disk.ensures.cause.0
+
+pub returns-in-Ok-sync_disk-clause-synced : goal.returns-in-Ok-sync_disk-clause-synced
+returns-in-Ok-sync_disk-clause-synced g c = λ syncs permanent. quiet_first c.read_leader.ensures.makes c.in-Ok-sync_disk.ensures.synced

@@ -11,6 +11,7 @@ use Rattle.file_manager.specs.Grounds.{IsUnframed}
 use Rattle.file_manager.proofs.OwnSteps.{freed_own, some_own, own_after}
 use Rattle.file_manager.specs.LaterLaws.{released_later}
 use Rattle.file_manager.proofs.FreedReasons.{frees_give_not}
+use Rattle.label_calls.specs.SyncedLaws.{around_after, wrote_synced}
 use Rattle.file_manager.proofs.free_all.free_all.Goals as goal
 use Rattle.filer_kernel.specs.View.{accepted, view_of}
 
@@ -103,3 +104,14 @@ returns-in-Ok-free_up-clause-evict g c = λ o named h page sector own is.
           released_later o made.makes _ (frees_give_not made.sectors _) (led page sector (let n = some.0 in (omega (arith, leads), omega (arith, leads, n))) is)
       | inr below ↦ c.in-Ok-free_up.ensures.evict o named now (client_leaves o c.args.id c.requires.of_file) page sector (omega arith, below) is
     ]
+
+-- ---- What is on the medium.
+
+pub returns-in-Err-clause-around : goal.returns-in-Err-clause-around
+returns-in-Err-clause-around g c = c.in-Err.ensures.around
+
+pub returns-in-Err-free_up-clause-around : goal.returns-in-Err-free_up-clause-around
+returns-in-Err-free_up-clause-around g c = around_after (wrote_synced c.in-Ok.ensures.makes.makes c.in-Ok.ensures.around) (wrote_synced c.in-Err-free_up.ensures.stopped.makes c.in-Err-free_up.ensures.around)
+
+pub returns-in-Ok-free_up-clause-around : goal.returns-in-Ok-free_up-clause-around
+returns-in-Ok-free_up-clause-around g c = around_after (wrote_synced c.in-Ok.ensures.makes.makes c.in-Ok.ensures.around) (wrote_synced c.in-Ok-free_up.ensures.makes.makes c.in-Ok-free_up.ensures.around)

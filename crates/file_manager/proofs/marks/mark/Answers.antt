@@ -1,4 +1,4 @@
-use Rattle.std.proofs.Common.{rules, inl, inr, ◌≡◌, true, ℕ, ◌≤◌, ◌<◌, Option, Some, refl, sym, ◌∙◌, ap, subst}
+use Rattle.std.proofs.Common.{rules, inl, inr, ◌≡◌, true, ℕ, ◌≤◌, ◌<◌, Option, Some, refl, sym, ◌∙◌, ap, subst, false}
 use Rattle.std.specs.Prelude.{option_map, IfSome}
 use Rattle.std.proofs.lemmas.Option.{none-some}
 use Rattle.labelled_disk.specs.declared.label.Label.{Label}
@@ -24,6 +24,8 @@ use Rattle.file_manager.specs.ReasonLaws.{missing_reason}
 use Rattle.file_manager.proofs.KeepSteps.{keeps_at}
 use Rattle.file_manager.proofs.KeepCut.{keeps_marked}
 use Rattle.file_manager.proofs.ReasonCauses.{mark_reasons}
+use Rattle.file_manager.proofs.SyncSteps.{leader_synced}
+use Rattle.label_calls.specs.SyncedLaws.{around_after, quiet_synced, syncs_around, wrote_synced}
 use Rattle.file_manager.proofs.marks.mark.Goals as goal
 use Rattle.filer_kernel.specs.View.{accepted, view_of}
 
@@ -157,3 +159,19 @@ returns-clause-keeps_to g c = λ o named k.
     let frames = rw c.swapper_over-swapper.ensures.value at c.mark_leader.ensures.frames in
     let lay = rw c.swapper_over-swapper.ensures.value at c.mark_leader.ensures.layout in
     keeps_at f.runs lay (keeps_marked (accepted f) (c.in-Ok-Some.ensures.keeps_to o named k) (record { id = c.args.id; page = leader_page }) c.in-Ok-Some.sector c.args.mark above c.requires.client marked frames)
+
+-- ---- What is on the medium.
+
+pub returns-in-Ok-None-clause-around : goal.returns-in-Ok-None-clause-around
+returns-in-Ok-None-clause-around g c = syncs_around (quiet_synced true c.leader_of.ensures.makes)
+
+pub returns-in-Err-clause-around : goal.returns-in-Err-clause-around
+returns-in-Err-clause-around g c = syncs_around (quiet_synced true c.leader_of.ensures.makes)
+
+pub returns-in-Err-mark_leader-clause-around : goal.returns-in-Err-mark_leader-clause-around
+returns-in-Err-mark_leader-clause-around g c = around_after (quiet_synced false c.leader_of.ensures.makes) (leader_synced c.args.mark (rw c.swapper_over-swapper.ensures.value at c.in-Err-mark_leader.ensures.stopped) (rw c.swapper_over-swapper.ensures.value at c.in-Err-mark_leader.ensures.around))
+
+pub returns-clause-around : goal.returns-clause-around
+returns-clause-around g c =
+    let made = rw c.swapper_over-swapper.ensures.value at c.in-Ok.ensures.marked in
+    around_after (quiet_synced false c.leader_of.ensures.makes) (wrote_synced made.1.makes (rw c.swapper_over-swapper.ensures.value at c.in-Ok.ensures.around))

@@ -27,3 +27,11 @@ returns-in-Ok-clause-own g c = rw (c.swapper_over-swapper.ensures.value) at c.fr
 
 pub returns-in-Err-clause-own : goal.returns-in-Err-clause-own
 returns-in-Err-clause-own g c = rw (c.swapper_over-swapper.ensures.value) at c.free_pages_up.ensures.own
+
+-- ---- What is on the medium.
+
+pub returns-in-Ok-clause-around : goal.returns-in-Ok-clause-around
+returns-in-Ok-clause-around g c = rw (c.swapper_over-swapper.ensures.value) at c.in-Ok.ensures.around
+
+pub returns-in-Err-clause-around : goal.returns-in-Err-clause-around
+returns-in-Err-clause-around g c = rw (c.swapper_over-swapper.ensures.value) at c.in-Err.ensures.around

@@ -1,4 +1,4 @@
-use Rattle.std.proofs.Common.{◌≡◌, ◌<◌, ◌≤◌, ◌+◌, sym, ◌∙◌, ap, subst, arith, rules}
+use Rattle.std.proofs.Common.{◌≡◌, ◌<◌, ◌≤◌, ◌+◌, sym, ◌∙◌, ap, subst, arith, rules, false, true}
 use Rattle.labelled_disk.specs.declared.layout.Layout.{Layout}
 use Rattle.swapper_kernel.specs.declared.manager.Manager.TheVariants.{AllocationMap, FileMap}
 use Rattle.swapper_kernel.specs.Maps.{IsMapHome}
@@ -21,6 +21,7 @@ use Rattle.file_manager.specs.KeepLaws.{keeps_as}
 use Rattle.file_manager.proofs.FreedReasons.{labels_reason, released_of_run, marks_reason, marks_keep, marks_released}
 use Rattle.file_manager.proofs.LackLemmas.{labels_lack_none, marks_lack_none}
 use Rattle.file_manager.proofs.release.free_run.Given as given
+use Rattle.label_calls.specs.SyncedLaws.{around_after, quiet_synced, synced_then, syncs_around, wrote_synced}
 use Rattle.file_manager.proofs.release.free_run.Goals as goal
 use Rattle.file_manager.proofs.release.free_run.Goals.{After-discard_run}
 use Rattle.filer_kernel.specs.View.{accepted, swapper_of, view_of}
@@ -259,3 +260,23 @@ pub returns-in-Err-give-clause-right : goal.returns-in-Err-give-clause-right
 returns-in-Err-give-clause-right g c = λ o named sector h is.
     let old = c.free_labels.new.filer.swapper in
     marks_lack_none (IsMapHome AllocationMap old.layout) (g.D.Disk.state old.disk) old.pool (view_of c.give.new.self).disk c.in-Err-give.halt c.in-Err-give.ensures.cause
+
+-- ---- What is on the medium.
+
+pub returns-in-Err-clause-around : goal.returns-in-Err-clause-around
+returns-in-Err-clause-around g c = syncs_around (quiet_synced true c.part_of.ensures.beside.goes.makes)
+
+pub returns-in-Err-free_labels-clause-around : goal.returns-in-Err-free_labels-clause-around
+returns-in-Err-free_labels-clause-around g c =
+    let f = after g (goal.at.returns-in-Err-free_labels-clause-around g c).After-discard_run in
+    around_after (quiet_synced false f.makes) (wrote_synced c.in-Err-free_labels.ensures.stopped.makes c.in-Err-free_labels.ensures.around)
+
+pub returns-in-Err-give-clause-around : goal.returns-in-Err-give-clause-around
+returns-in-Err-give-clause-around g c =
+    let f = after g (goal.at.returns-in-Err-give-clause-around g c).After-discard_run in
+    around_after (quiet_synced false f.makes) (synced_then (wrote_synced c.in-Ok-free_labels.ensures.freed.makes c.in-Ok-free_labels.ensures.around) (quiet_synced true c.in-Err-give.ensures.kept.goes.makes))
+
+pub returns-clause-around : goal.returns-clause-around
+returns-clause-around g c =
+    let f = after g (goal.at.returns-clause-around g c).After-discard_run in
+    around_after (quiet_synced false f.makes) (synced_then (wrote_synced c.in-Ok-free_labels.ensures.freed.makes c.in-Ok-free_labels.ensures.around) (quiet_synced false c.in-Ok-give.ensures.kept.goes.makes))

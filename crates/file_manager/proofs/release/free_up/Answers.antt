@@ -7,6 +7,7 @@ use Rattle.label_calls.specs.OwnLaws.{relabels_own}
 use Rattle.file_manager.proofs.OwnSteps.{some_own, own_after}
 use Rattle.labelled_disk.specs.declared.layout.Layout.{Layout}
 use Rattle.file_manager.specs.Reasons.{ShowsReason}
+use Rattle.label_calls.specs.SyncedLaws.{around_after, syncs_around, wrote_synced}
 use Rattle.file_manager.proofs.release.free_up.Goals as goal
 use Rattle.filer_kernel.specs.View.{view_of}
 
@@ -16,7 +17,7 @@ loop-page-init g c = to_none _ _ _ _ _ _ _ c.requires.order c.requires.size
 pub loop-page-preserved : goal.loop-page-preserved
 loop-page-preserved g c =
     let below : c.loop-page.page < c.args.end = search rules in
-    to_then c.loop-page.invariant below c.in-Ok.ensures.some c.in-Ok.ensures.layout c.in-Ok.ensures.spent c.in-Ok.ensures.makes c.in-Ok.ensures.keeps c.in-Ok.ensures.freed c.in-Ok.ensures.own c.in-Ok.ensures.keeps_to c.in-Ok.ensures.evict
+    to_then c.loop-page.invariant below c.in-Ok.ensures.some c.in-Ok.ensures.layout c.in-Ok.ensures.spent c.in-Ok.ensures.makes c.in-Ok.ensures.keeps c.in-Ok.ensures.freed c.in-Ok.ensures.own c.in-Ok.ensures.around c.in-Ok.ensures.keeps_to c.in-Ok.ensures.evict
 
 pub returns-in-Err-clause-sound : goal.returns-in-Err-clause-sound
 returns-in-Err-clause-sound g c = λ named spaces m may.
@@ -95,3 +96,11 @@ returns-in-Err-clause-right g c = λ o named h never_blames there.
     let below : c.loop-page.page < c.args.end = search rules in
     let at = there c.loop-page.page below in
     c.in-Err.ensures.right o named at.0 (c.loop-page.invariant.keeps_to o named h never_blames) at.1
+
+-- ---- What is on the medium.
+
+pub returns-in-Err-clause-around : goal.returns-in-Err-clause-around
+returns-in-Err-clause-around g c = around_after c.loop-page.invariant.synced (wrote_synced c.in-Err.ensures.stopped.makes c.in-Err.ensures.around)
+
+pub returns-clause-around : goal.returns-clause-around
+returns-clause-around g c = syncs_around c.loop-page.invariant.synced

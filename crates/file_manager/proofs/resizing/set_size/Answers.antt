@@ -27,6 +27,9 @@ use Rattle.file_manager.specs.KeepLaws.{named_takes}
 use Rattle.file_manager.specs.Reasons.{ShowsReason}
 use Rattle.file_manager.specs.ReasonLaws.{missing_reason}
 use Rattle.file_manager.proofs.KeepCut.{none_above}
+use Rattle.file_manager.proofs.SyncSteps.{labels_after, quiet_after, quiet_before}
+use Rattle.file_manager.specs.Synced.{SyncsQuietly}
+use Rattle.labelled_disk.specs.Label.{is_permanent}
 use Rattle.file_manager.proofs.resizing.set_size.Goals as goal
 use Rattle.filer_kernel.specs.View.{view_of}
 
@@ -414,3 +417,52 @@ pub returns-in-Err-shrink-clause-reasons : goal.returns-in-Err-shrink-clause-rea
 returns-in-Err-shrink-clause-reasons g c = λ o named k.
     let led = subst (λ (o : Option FoundFile). IfSome o (λ file. named c.args.id leader_page file.sector ≡ true)) c.in-Ok-Some.field-0-is (c.in-Ok-Some.ensures.names k.memory named k.stands k.map k.kept) in
     subst (λ (l : Layout). ShowsReason o l (view_of c.shrink.new.filer).disk c.in-Err-shrink.halt) c.find_file.ensures.layout (c.in-Err-shrink.ensures.reasons o named (c.in-Ok-Some.ensures.keeps_to o named k) led)
+
+-- ---- What is on the medium.
+
+pub returns-in-Err-clause-after_sync : goal.returns-in-Err-clause-after_sync
+returns-in-Err-clause-after_sync g c = λ x shapes spaces f books found permanent. quiet_after c.find_file.ensures.makes
+
+pub returns-in-Ok-None-clause-after_sync : goal.returns-in-Ok-None-clause-after_sync
+returns-in-Ok-None-clause-after_sync g c = λ x shapes spaces f books found permanent. quiet_after c.find_file.ensures.makes
+
+pub returns-in-Ok-clause-after_sync : goal.returns-in-Ok-clause-after_sync
+returns-in-Ok-clause-after_sync g c = λ x shapes spaces f books found permanent.
+    let revealed = subst (IsFoundFile (labels_of x) shapes c.args.id) c.in-Ok-Some.field-0-is (c.in-Ok-Some.ensures.revealed x shapes spaces books) in
+    let kept = ap (λ (w : Shape). w.permanent) (shape_is shapes c.args.id f c.in-Ok-Some.file.leader c.in-Ok-Some.file.pages found revealed.1) in
+    let synced = subst (λ (o : Option FoundFile). IfSome o (λ file. is_permanent file.leader ≡ true → SyncsQuietly (view_of c.args.filer.now).disk (view_of c.find_file.new.filer).disk)) c.in-Ok-Some.field-0-is (c.in-Ok-Some.ensures.synced refl) (sym kept ∙ permanent) in
+    labels_after synced c.in-Ok.ensures.makes.makes
+
+pub returns-in-Err-grow-clause-after_sync : goal.returns-in-Err-grow-clause-after_sync
+returns-in-Err-grow-clause-after_sync g c = λ x shapes spaces f books found permanent.
+    let revealed = subst (IsFoundFile (labels_of x) shapes c.args.id) c.in-Ok-Some.field-0-is (c.in-Ok-Some.ensures.revealed x shapes spaces books) in
+    let kept = ap (λ (w : Shape). w.permanent) (shape_is shapes c.args.id f c.in-Ok-Some.file.leader c.in-Ok-Some.file.pages found revealed.1) in
+    let synced = subst (λ (o : Option FoundFile). IfSome o (λ file. is_permanent file.leader ≡ true → SyncsQuietly (view_of c.args.filer.now).disk (view_of c.find_file.new.filer).disk)) c.in-Ok-Some.field-0-is (c.in-Ok-Some.ensures.synced refl) (sym kept ∙ permanent) in
+    labels_after synced c.in-Err-grow.ensures.stopped.makes
+
+pub returns-in-Ok-shrink-clause-after_sync : goal.returns-in-Ok-shrink-clause-after_sync
+returns-in-Ok-shrink-clause-after_sync g c = λ x shapes spaces f books found permanent.
+    let revealed = subst (IsFoundFile (labels_of x) shapes c.args.id) c.in-Ok-Some.field-0-is (c.in-Ok-Some.ensures.revealed x shapes spaces books) in
+    let kept = ap (λ (w : Shape). w.permanent) (shape_is shapes c.args.id f c.in-Ok-Some.file.leader c.in-Ok-Some.file.pages found revealed.1) in
+    let synced = subst (λ (o : Option FoundFile). IfSome o (λ file. is_permanent file.leader ≡ true → SyncsQuietly (view_of c.args.filer.now).disk (view_of c.find_file.new.filer).disk)) c.in-Ok-Some.field-0-is (c.in-Ok-Some.ensures.synced refl) (sym kept ∙ permanent) in
+    labels_after synced c.in-Ok-shrink.ensures.makes.makes
+
+pub returns-in-Err-shrink-clause-after_sync : goal.returns-in-Err-shrink-clause-after_sync
+returns-in-Err-shrink-clause-after_sync g c = λ x shapes spaces f books found permanent.
+    let revealed = subst (IsFoundFile (labels_of x) shapes c.args.id) c.in-Ok-Some.field-0-is (c.in-Ok-Some.ensures.revealed x shapes spaces books) in
+    let kept = ap (λ (w : Shape). w.permanent) (shape_is shapes c.args.id f c.in-Ok-Some.file.leader c.in-Ok-Some.file.pages found revealed.1) in
+    let synced = subst (λ (o : Option FoundFile). IfSome o (λ file. is_permanent file.leader ≡ true → SyncsQuietly (view_of c.args.filer.now).disk (view_of c.find_file.new.filer).disk)) c.in-Ok-Some.field-0-is (c.in-Ok-Some.ensures.synced refl) (sym kept ∙ permanent) in
+    labels_after synced c.in-Err-shrink.ensures.stopped.makes
+
+pub returns-in-Ok-shrink-clause-shrunk_synced : goal.returns-in-Ok-shrink-clause-shrunk_synced
+returns-in-Ok-shrink-clause-shrunk_synced g c = λ x shapes spaces f books found permanent less.
+    let revealed = subst (IsFoundFile (labels_of x) shapes c.args.id) c.in-Ok-Some.field-0-is (c.in-Ok-Some.ensures.revealed x shapes spaces books) in
+    let kept = ap (λ (w : Shape). w.permanent) (shape_is shapes c.args.id f c.in-Ok-Some.file.leader c.in-Ok-Some.file.pages found revealed.1) in
+    quiet_before c.find_file.ensures.makes c.in-Ok-shrink.ensures.makes.makes (c.in-Ok-shrink.ensures.synced (sym kept ∙ permanent))
+
+pub returns-in-Ok-clause-shrunk_synced : goal.returns-in-Ok-clause-shrunk_synced
+returns-in-Ok-clause-shrunk_synced g c = λ x shapes spaces f books found permanent less.
+    let revealed = subst (IsFoundFile (labels_of x) shapes c.args.id) c.in-Ok-Some.field-0-is (c.in-Ok-Some.ensures.revealed x shapes spaces books) in
+    let size = ap (λ (w : Shape). w.size) (shape_is shapes c.args.id f c.in-Ok-Some.file.leader c.in-Ok-Some.file.pages found revealed.1) in
+    let few : c.in-Ok-Some.file.pages ≤ c.args.pages = search rules in
+    absurd (omega (arith, few, less, size))

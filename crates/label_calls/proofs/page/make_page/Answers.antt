@@ -4,6 +4,7 @@ use Rattle.labelled_disk.specs.Calls.{RevealsSame, Moves}
 use Rattle.labelled_disk.specs.Runs.{zero_bytes}
 use Rattle.labelled_disk.specs.Sectors.{IsSector}
 use Rattle.labelled_disk.specs.State.{HasLabel}
+use Rattle.swapper_kernel.proofs.StepLemmas.{went_by}
 use Rattle.swapper_kernel.specs.Homes.{IsLayout}
 use Rattle.label_calls.specs.Labels.{free_ones}
 use Rattle.label_calls.proofs.RelabelLemmas.{in_memory, had_one, fresh_laws, fresh_in_form}
@@ -31,7 +32,7 @@ returns-in-Err-write_fresh-clause-stopped g c =
     let layout : IsLayout c.args.swapper.now.layout = search rules in
     let free : is_free c.in-Ok.found ≡ true = search rules in
     let form : IsSector (c.args.label, zero_bytes) = fresh_in_form c.args.label (search rules) (search rules) (search rules) (search rules) (search rules) in
-    (fresh_laws c.args.swapper.now.layout old mid new c.args.swapper.now.pool c.args.sector c.in-Ok.found layout (λ d revealed. g.met.D.Disk.whole c.args.swapper.now.disk d revealed ∙ c.requires.size) c.requires.data there same read moves c.args.label c.requires.form form free).stopped c.in-Err-write_fresh.ensures.stopped
+    (fresh_laws c.args.swapper.now.layout old mid new c.args.swapper.now.pool c.args.sector c.in-Ok.found layout (λ d revealed. g.met.D.Disk.whole c.args.swapper.now.disk d revealed ∙ c.requires.size) c.requires.data there same (went_by read) (went_by moves) c.args.label c.requires.form form free).stopped c.in-Err-write_fresh.ensures.stopped
 
 pub returns-clause-made : goal.returns-clause-made
 returns-clause-made g c =
@@ -45,7 +46,7 @@ returns-clause-made g c =
     let layout : IsLayout c.args.swapper.now.layout = search rules in
     let free : is_free c.in-Ok.found ≡ true = search rules in
     let form : IsSector (c.args.label, zero_bytes) = fresh_in_form c.args.label (search rules) (search rules) (search rules) (search rules) (search rules) in
-    (fresh_laws c.args.swapper.now.layout old mid new c.args.swapper.now.pool c.args.sector c.in-Ok.found layout (λ d revealed. g.met.D.Disk.whole c.args.swapper.now.disk d revealed ∙ c.requires.size) c.requires.data there same read moves c.args.label c.requires.form form free).made c.in-Ok-write_fresh.ensures.writes
+    (fresh_laws c.args.swapper.now.layout old mid new c.args.swapper.now.pool c.args.sector c.in-Ok.found layout (λ d revealed. g.met.D.Disk.whole c.args.swapper.now.disk d revealed ∙ c.requires.size) c.requires.data there same (went_by read) (went_by moves) c.args.label c.requires.form form free).made c.in-Ok-write_fresh.ensures.writes
 
 pub returns-in-Err-write_fresh-clause-was : goal.returns-in-Err-write_fresh-clause-was
 returns-in-Err-write_fresh-clause-was g c =
@@ -55,7 +56,7 @@ returns-in-Err-write_fresh-clause-was g c =
     let same : RevealsSame old mid = search rules in
     let read : Moves old mid = search rules in
     let free : is_free c.in-Ok.found ≡ true = search rules in
-    inr (had_one old mid c.args.swapper.now.pool c.args.sector c.in-Ok.found there same read free_ones free)
+    inr (had_one old mid c.args.swapper.now.pool c.args.sector c.in-Ok.found there same (went_by read) free_ones free)
 
 pub returns-in-Err-clause-own : goal.returns-in-Err-clause-own
 returns-in-Err-clause-own g c = λ other. relabels_own (same_own other c.read_label.ensures.same)

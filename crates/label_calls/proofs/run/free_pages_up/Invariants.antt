@@ -1,12 +1,13 @@
-use Rattle.std.proofs.Common.{◌+◌}
+use Rattle.std.proofs.Common.{false, ◌+◌}
 use Rattle.labelled_disk.specs.declared.disk.DiskWrite.TheVariants as write
 use Rattle.labelled_disk.specs.Sectors.{free_label}
 use Rattle.label_calls.specs.Labels.{ones_of}
 use Rattle.label_calls.specs.Runs.{AreUncovered}
+use Rattle.label_calls.specs.Synced.{SyncsAround}
 use Rattle.label_calls.proofs.RunLemmas.{IsSoFar}
 use Rattle.label_calls.proofs.run.free_pages_up.Given as goal
 
 abbrev pub invariant-loop-k : goal.invariant-loop-k
 invariant-loop-k g l =
     IsSoFar (λ k. l.fn.sector + k) (λ k. write.LabelOnly (l.fn.sector + k) free_label) (λ k. ones_of (record { id = l.fn.id; page = l.fn.page + k })) (AreUncovered l.fn.swapper.pool l.fn.sector l.fn.pages)
-    (g.D.Disk.state l.fn.swapper.disk) l.fn.swapper.pool l.fn.swapper.layout (g.D.Disk.state l.swapper.disk) l.swapper.pool l.swapper.layout l.k
+    (g.D.Disk.state l.fn.swapper.disk) l.fn.swapper.pool l.fn.swapper.layout (g.D.Disk.state l.swapper.disk) l.swapper.pool l.swapper.layout l.k × SyncsAround false (g.D.Disk.state l.fn.swapper.disk) (g.D.Disk.state l.swapper.disk)

@@ -1,0 +1,33 @@
+//! What was written is on the medium.
+ghost use Rattle.std.specs.Prelude.{◌≡◌, ◌≤◌, List, [], IfErr, OnOk};
+ghost use Rattle.labelled_disk.specs.declared.evidence.Halt.TheVariants as halt;
+ghost use Rattle.labelled_disk.specs.Calls.{Rose, RevealsSame};
+ghost use Rattle.swapper_kernel.specs.Goes.{no_page};
+ghost use Rattle.file_map.specs.FileMap.{Triples};
+ghost use Rattle.file_manager.specs.Reasons.{Keeps, InitialState};
+ghost use Rattle.file_manager.specs.Synced.{SyncsQuietly};
+ghost use Rattle.filer_kernel.specs.View.{MakesOnly, view_of};
+
+use filer_kernel::Filer;
+use label_calls::sync;
+use labelled_disk::{Disk, Halt};
+use std::alloc::Allocator;
+
+// Waits until all that was written is on the medium.
+pub(crate) fn sync_disk<D: Disk, A: Allocator>(filer: &mut Filer<D, A>) -> Result<(), Halt>
+    ensures synced { OnOk result (SyncsQuietly (view_of filer.old).disk (view_of filer.new).disk) }
+    ensures same { RevealsSame (view_of filer.old).disk (view_of filer.new).disk }
+    ensures makes { MakesOnly no_page [] (view_of filer.old) (view_of filer.new) }
+    ensures cause { IfErr result (λ e. (e ≡ halt.Disk) × Rose (view_of filer.old).disk.faults (view_of filer.new).disk.faults) }
+    ensures keeps_to { (o : InitialState) (named : Triples) → Keeps o filer.old named → Keeps o filer.new named }
+    ensures frames { (view_of filer.new).slots ≡ (view_of filer.old).slots }
+    ensures layout { (view_of filer.new).layout ≡ (view_of filer.old).layout }
+    ensures runs { (view_of filer.new).runs ≡ (view_of filer.old).runs }
+    ensures cost { (view_of filer.new).disk.transfers ≤ (view_of filer.old).disk.transfers }
+{
+    let swapper = filer.swapper_over();
+    match sync(swapper) {
+        Ok(()) => Ok(()),
+        Err(halt) => Err(halt),
+    }
+}
