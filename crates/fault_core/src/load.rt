@@ -1,5 +1,5 @@
 //! Bytes are loaded from the pages that windows show.
-ghost use Rattle.std.specs.Prelude.{◌≡◌, ◌≢◌, ◌≤◌, ◌+◌, ◌/◌, ℕ, false, List, length, Ok, IfOk, IfErr, IsOk, OnOk};
+ghost use Rattle.std.specs.Prelude.{◌≡◌, ◌≢◌, ◌≤◌, ◌+◌, ◌/◌, ◌%◌, ℕ, false, List, length, Ok, IfOk, IfErr, IsOk, OnOk, OnErr};
 ghost use Rattle.labelled_disk.specs.declared.evidence.Halt.TheVariants as halt;
 ghost use Rattle.labelled_disk.specs.Sectors.{Sector};
 ghost use Rattle.file_map.specs.FileMap.{Triples};
@@ -40,6 +40,7 @@ fn load_in<D: Disk, A: Allocator>(
     requires inside { from + length into.old ≤ 512 }
     ensures bytes { (m : List Sector) (named : Triples) (b : List ℕ) → Known (view_of filer.old) m named b → AreShownStored named m x.now → OnOk result (HasBytes x.now.id (file_page x.now page) from into.new m) }
     ensures width { length into.new ≡ length into.old }
+    ensures intact { OnErr result (into.new ≡ into.old) }
     ensures whole { OnOk result (IsWhole (view_of filer.new).slots x.now page) }
     ensures cause { IfErr result (TouchHalts no_break (view_of filer.old) (view_of filer.new)) }
     ensures misses { IfErr result (MissesPage (unit_pages x.now page)) }
@@ -73,6 +74,7 @@ fn load_shown<D: Disk, A: Allocator>(
     requires one { address / 512 ≡ last_page address (length into.old) → last.now ≡ first.now }
     ensures bytes { (m : List Sector) (named : Triples) (b : List ℕ) (ss : List Space) → Known (view_of filer.old) m named b → AreSeen ss named m first.now → AreSeen ss named m last.now → OnOk result (Loads ss address into.new m) }
     ensures width { length into.new ≡ length into.old }
+    ensures intact { address % 512 + length into.old ≤ 512 → OnErr result (into.new ≡ into.old) }
     ensures whole { OnOk result (IsWhole (view_of filer.new).slots last.now (last_page address (length into.old))) }
     ensures cause { IfErr result (TouchHalts no_break (view_of filer.old) (view_of filer.new)) }
     ensures misses { IfErr result (MissesPage (both_units first.now last.now address (length into.old))) }
@@ -99,7 +101,7 @@ impl<D: Disk, A: Allocator> Core<D, A> {
     ghost use Rattle.fault_core.specs.Core.{kept, state, Knows};
 
     /// Loads 1 to 512 bytes from an address on. All pages of the reference are tested before the first byte is moved. After
-    /// `Done` the last page is ready.
+    /// `Done` the last page is ready. One that halts, and is on one page, moves no byte.
     pub fn load(&mut self, address: u32, into: &mut [u8]) -> Result<Access, Halt>
         requires size { FitsLayout (state self.old) }
         requires some { 1 ≤ length into.old }
@@ -108,6 +110,7 @@ impl<D: Disk, A: Allocator> Core<D, A> {
         ensures bytes { (m : List Sector) (named : Triples) (ss : List Space) → Knows self.old m named ss → IfOk result (λ a. a ≡ access.Done → Loads ss address into.new m) }
         ensures width { length into.new ≡ length into.old }
         ensures refused { IfOk result (λ a. a ≢ access.Done → into.new ≡ into.old) }
+        ensures intact { address % 512 + length into.old ≤ 512 → OnErr result (into.new ≡ into.old) }
         ensures ready { IfOk result (λ a. a ≡ access.Done → IsReady (kept self.new) (state self.new).slots (last_page address (length into.old))) }
         ensures cause { IfErr result (TouchHalts (BreaksFor (state self.old) self.old.intervals address (length into.old)) (state self.old) (state self.new)) }
         ensures missing { (ss : List Space) → Sees (state self.old) (kept self.old) self.old.intervals ss → IfErr result (MissesPage (shown_units ss address (length into.old))) }

@@ -1,11 +1,11 @@
 -- A window is taken away, and an anonymous one's file goes with it.
 use Rattle.std.proofs.Common.{◌≡◌, inl, inr, ℕ, zero, suc, Bool, true, false, ◌&&◌, not, List, Option, Some, None, Result, Ok, Err, refl, sym, ◌∙◌, ap, subst, eqb}
-use Rattle.std.specs.Prelude.{find, IfOk, OnOk, MatchOption, option_map, ◌==◌, if◌then◌else◌}
+use Rattle.std.specs.Prelude.{find, IfOk, IfSome, IsFalse, OnOk, MatchOption, option_map, ◌==◌, if◌then◌else◌}
 use Rattle.std.specs.Option.{option_map_or}
 use Rattle.std.proofs.lemmas.Bool.{and_parts, eq-eqb, eqb-true, true≢false}
 use Rattle.labelled_disk.specs.declared.disk.Disk.{Ghosts}
 use Rattle.labelled_disk.specs.declared.evidence.Halt.{Halt}
-use Rattle.labelled_disk.specs.File.{size}
+use Rattle.labelled_disk.specs.File.{file_at, size}
 use Rattle.flat_machine.specs.declared.call.Call.{Call}
 use Rattle.flat_machine.specs.declared.call.Call.TheVariants as call
 use Rattle.flat_machine.specs.declared.call.Refusal.{Refusal}
@@ -144,6 +144,10 @@ module _ (m : Machine) (h : IsMachine m) (space : ℕ) (s : Space) (here : space
 
         each : (t : Space) → In t left.spaces → has_window (λ w. w.file == shown.id && true) t ≡ false
         each t i = let u = in_map (λ x. if x.handle == space then record x { window = None } else x) m.spaces t i in none t u.0 (eqb u.0.handle space) u.2 refl u.1 (has_window (λ w. w.file == shown.id && true) t) refl
+
+    -- and it is temporary
+    pub left_temporary : IfSome (file_at left.files shown.id) (λ f. IsFalse f.permanent)
+    left_temporary = (window_at m.files m.spaces h.whole_windows s (window_of shown) there window).anonymous_temporary anonymous
 
     -- so it may be deleted
     pub left_free : refusal left (call.Delete shown.id) ≡ None

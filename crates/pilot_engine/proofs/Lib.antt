@@ -54,3 +54,6 @@ pub mod HomeSteps
 pub mod EndNeverBlames
 pub mod RestLemmas
 pub mod ReferLemmas
+pub mod SparingLemmas
+pub mod SparedCalls
+pub mod SparedFiles

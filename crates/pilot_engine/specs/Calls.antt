@@ -1,5 +1,5 @@
 -- What every call of a client does to a session, whatever the call.
-use Rattle.std.specs.Prelude.{◌≡◌, ◌≤◌, ℕ, IfOk, IfErr, OnOk, MatchResult, Result}
+use Rattle.std.specs.Prelude.{◌≡◌, ◌≢◌, ◌≤◌, ℕ, Some, IfOk, IfErr, OnOk, MatchResult, Result}
 use Rattle.labelled_disk.specs.declared.disk.Disk.{Ghosts}
 use Rattle.labelled_disk.specs.declared.evidence.Halt.{Halt}
 use Rattle.labelled_disk.specs.declared.evidence.Halt.TheVariants as halt
@@ -14,6 +14,8 @@ use Rattle.running_words.specs.Running.{Carried}
 use Rattle.running_words.specs.Session.{IsOpen}
 use Rattle.running_words.specs.Stages.{Passes}
 use Rattle.pilot_engine.specs.declared.session.Session.{Session}
+use Rattle.pilot_engine.specs.Sparing.{Spares}
+use Rattle.pilot_engine.specs.Stepping.{relabels}
 use Rattle.pilot_engine.specs.Reasons.{IsBlameless, NeverBlamesEnd, SeesHome}
 
 module _ {D A : Type 0} {G : Ghosts D} where
@@ -44,3 +46,8 @@ module _ {D A : Type 0} {G : Ghosts D} where
     pub keeps_to : OnOk result (KeepsOn later new.core.filer)
     pub reasons : IfErr result (ShowsReason o (state old.core).layout (state new.core).disk)
     pub sees : SeesHome o old.core → MatchResult result (λ _. SeesHome o new.core) (NeverBlamesEnd o (state new.core).disk)
+
+  -- A file whose leaders are all permanent has the labels that it had, unless the call frees pages of it or marks it, or gives a new file
+  -- its identifier.
+  abbrev pub SparesOthers : Call → Session D A G → Session D A G → Type 0
+  SparesOthers call old new = (id : ℕ) → 16 ≤ id → relabels call ≢ Some id → next_id old.volume.root ≢ id → Spares id (state old.core).disk (state new.core).disk

@@ -15,3 +15,4 @@ pub mod EndLaws
 pub mod Rest
 pub mod Referring
 pub mod Calls
+pub mod Sparing

@@ -52,6 +52,13 @@ relabels (call.MakePermanent id) = Some id
 relabels (call.MakeImmutable id) = Some id
 relabels other = None
 
+-- calls that mark a file's leader, or free it
+abbrev pub writes_leader : Call → Bool
+writes_leader (call.Delete id) = true
+writes_leader (call.MakePermanent id) = true
+writes_leader (call.MakeImmutable id) = true
+writes_leader other = false
+
 -- a load or a store whose first page and last page are ready
 abbrev pub IsResident : Call → List Interval → Slots → Type 0
 IsResident (call.Load address count) kept slots = IsReady kept slots (address / 512) × IsReady kept slots (last_page address count)

@@ -11,6 +11,7 @@ ghost use Rattle.running_words.specs.Running.{Carried, Runs};
 ghost use Rattle.running_words.specs.Session.{IsOpen, Wrote};
 ghost use Rattle.running_words.specs.Stages.{Passes};
 ghost use Rattle.fault_core.specs.Core.{kept, state};
+ghost use Rattle.pilot_engine.specs.Sparing.{SparesAll, SparesBut};
 ghost use Rattle.pilot_engine.specs.Halting.{MapNewHalts, UnmapHalts};
 ghost use Rattle.file_manager.specs.Creating.{next_id};
 ghost use Rattle.file_manager.specs.Reasons.{KeepsOn, InitialState, ShowsReason, IsNotOlder, giving};
@@ -42,6 +43,7 @@ impl<D: Disk, A: Allocator> Session<D, A> {
         ensures accounts { (o : InitialState) → KeepsOn o self.old.core.filer → Accounts o o self.old self.new result }
         ensures evidence_seen { IfErr result (ShowsEvidence (state self.new.core).disk) }
         ensures wrote { Wrote (state self.old.core).disk (state self.old.core).slots (state self.new.core).disk (state self.new.core).slots }
+        ensures spares { SparesAll (state self.old.core).disk (state self.new.core).disk }
         ensures stays { Stays self.old self.new }
         ensures running { self.new.running ≡ self.old.running }
     {
@@ -53,7 +55,7 @@ impl<D: Disk, A: Allocator> Session<D, A> {
         if !shown.anonymous {
             return Ok(Reply::Done);
         }
-        let done = match self.delete_unseen(shown.id) {
+        let done = match self.delete_unseen(shown.id, true) {
             Ok(done) => done,
             Err(halt) => return Err(halt),
         };
@@ -73,6 +75,7 @@ impl<D: Disk, A: Allocator> Session<D, A> {
         ensures accounts { (o : InitialState) → KeepsOn o self.old.core.filer → IsNotOlder o self.old.volume.root → Accounts o (giving o (next_id self.new.volume.root)) self.old self.new result }
         ensures evidence_seen { IfErr result (ShowsEvidence (state self.new.core).disk) }
         ensures wrote { Wrote (state self.old.core).disk (state self.old.core).slots (state self.new.core).disk (state self.new.core).slots }
+        ensures spares { SparesBut (next_id self.old.volume.root) (state self.old.core).disk (state self.new.core).disk }
         ensures stays { Stays self.old self.new }
         ensures running { self.new.running ≡ self.old.running }
     {

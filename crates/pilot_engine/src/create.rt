@@ -9,6 +9,7 @@ ghost use Rattle.file_map.specs.FileMap.{most_records};
 ghost use Rattle.flat_machine.specs.Machine.{Machine};
 ghost use Rattle.session_words.specs.Parts.{TablesMeaning};
 ghost use Rattle.fault_core.specs.Core.{kept, state};
+ghost use Rattle.pilot_engine.specs.Sparing.{SparesBut};
 ghost use Rattle.running_words.specs.Session.{IsOpen, IsSession, Carries, Wrote};
 ghost use Rattle.running_words.specs.Stages.{Passes};
 ghost use Rattle.pilot_engine.specs.Seen.{CostsInside};
@@ -46,6 +47,7 @@ impl<D: Disk, A: Allocator> Session<D, A> {
         ensures home { (o : InitialState) → KeepsOn o self.old.core.filer → IfOk result (λ answer. (id : ℕ) → answer ≡ reply.File id → (page : ℕ) → page < pages → WasBelow o (state self.new.core).disk id page) }
         ensures evidence_seen { IfErr result (ShowsEvidence (state self.new.core).disk) }
         ensures wrote { Wrote (state self.old.core).disk (state self.old.core).slots (state self.new.core).disk (state self.new.core).slots }
+        ensures spares { SparesBut (next_id self.old.volume.root) (state self.old.core).disk (state self.new.core).disk }
         ensures stays { Stays self.old self.new }
         ensures running { self.new.running ≡ self.old.running }
         ensures kept { kept self.new.core ≡ kept self.old.core }

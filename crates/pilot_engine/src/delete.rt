@@ -1,12 +1,15 @@
 //! Files that are deleted.
-ghost use Rattle.std.specs.Prelude.{◌≡◌, ◌+◌, ◌*◌, ◌^◌, ◌≤◌, true, IfOk, IfErr, OnOk, Err, None, MatchResult};
+ghost use Rattle.std.specs.Prelude.{◌≡◌, ◌+◌, ◌*◌, ◌^◌, ◌≤◌, true, ◌&&◌, IfOk, IfErr, IfSome, IsFalse, OnOk, Err, None, MatchResult};
 ghost use Rattle.labelled_disk.specs.Calls.{Rose};
+ghost use Rattle.labelled_disk.specs.File.{file_at};
 ghost use Rattle.labelled_disk.specs.declared.evidence.Halt.TheVariants as halt;
 ghost use Rattle.filer_kernel.specs.Evidence.{ShowsEvidence};
 ghost use Rattle.flat_machine.specs.declared.call.Call.TheVariants as call;
 ghost use Rattle.file_map.specs.FileMap.{most_records};
 ghost use Rattle.flat_machine.specs.Machine.{Machine};
 ghost use Rattle.label_calls.specs.Own.{RelabelsOwn};
+ghost use Rattle.pilot_engine.specs.Sparing.{SparesAll, SparesBut};
+ghost use Rattle.label_calls.specs.Synced.{SyncsLeaders};
 ghost use Rattle.session_words.specs.Parts.{TablesMeaning};
 ghost use Rattle.running_words.specs.Bound.{CostsOther};
 ghost use Rattle.running_words.specs.Session.{IsOpen, IsSession, Carries, Wrote};
@@ -30,19 +33,29 @@ use flat_machine::{Refusal, Reply};
 use labelled_disk::{Disk, FileId, Halt};
 use std::alloc::Allocator;
 
+// Whether a file stays, though its window was taken away: no anonymous file is permanent.
+fn is_kept(anonymous: bool, permanent: bool) -> bool
+    ensures { result ≡ (anonymous && permanent) }
+{
+    anonymous && permanent
+}
+
 impl<D: Disk, A: Allocator> Session<D, A> {
-    // Removes a file that no window shows.
-    pub(crate) fn delete_unseen(&mut self, id: FileId) -> Result<Reply, Halt>
+    // Removes a file that no window shows: an anonymous one unless it is permanent.
+    pub(crate) fn delete_unseen(&mut self, id: FileId, anonymous: bool) -> Result<Reply, Halt>
         requires size { FitsLayout (state self.old.core) }
         requires opened { IsOpen (state self.old.core).layout self.old.volume }
         ensures carried { (spaces_of : TablesMeaning) (m : Machine) → IsSession spaces_of (state self.old.core).disk (state self.old.core).slots (state self.old.core).layout (state self.old.core).runs self.old.volume m
             → file_mapped m id (λ w. true) ≡ None
+            → (anonymous ≡ true → IfSome (file_at m.files id) (λ f. IsFalse f.permanent))
             → IfOk result (λ reply. Carries spaces_of m (call.Delete id) reply (state self.new.core).disk (state self.new.core).slots (state self.new.core).layout (state self.new.core).runs self.new.volume) }
         ensures sound { (spaces_of : TablesMeaning) (m : Machine) → IsSession spaces_of (state self.old.core).disk (state self.old.core).slots (state self.old.core).layout (state self.old.core).runs self.old.volume m
             → file_mapped m id (λ w. true) ≡ None
+            → (anonymous ≡ true → IfSome (file_at m.files id) (λ f. IsFalse f.permanent))
             → IfErr result (λ e. e ≡ halt.Disk) }
         ensures passes { (spaces_of : TablesMeaning) (m : Machine) → IsSession spaces_of (state self.old.core).disk (state self.old.core).slots (state self.old.core).layout (state self.old.core).runs self.old.volume m
             → file_mapped m id (λ w. true) ≡ None
+            → (anonymous ≡ true → IfSome (file_at m.files id) (λ f. IsFalse f.permanent))
             → Passes m (call.Delete id) (state self.old.core).disk (state self.new.core).disk }
         ensures counted { result ≡ Err halt.Disk → Rose (state self.old.core).disk.faults (state self.new.core).disk.faults }
         ensures cause { IfErr result (OnFileHalts id (RemoveHalts id) (state self.old.core) (state self.new.core)) }
@@ -57,11 +70,17 @@ impl<D: Disk, A: Allocator> Session<D, A> {
         ensures bounded { (spaces_of : TablesMeaning) (m : Machine) → IsSession spaces_of (state self.old.core).disk (state self.old.core).slots (state self.old.core).layout (state self.old.core).runs self.old.volume m
             → CostsInside (state self.old.core).disk (state self.new.core).disk }
         ensures own { RelabelsOwn id (state self.old.core).disk (state self.new.core).disk }
+        ensures spares { SparesBut id (state self.old.core).disk (state self.new.core).disk }
+        ensures lasting { anonymous ≡ true → SparesAll (state self.old.core).disk (state self.new.core).disk }
+        ensures around { SyncsLeaders result (state self.old.core).disk (state self.new.core).disk }
     {
-        match attributes_of(&mut self.core.filer, id) {
-            Ok(Some(_)) => (),
+        let found = match attributes_of(&mut self.core.filer, id) {
+            Ok(Some(found)) => found,
             Ok(None) => return Ok(Reply::Refused(Refusal::File)),
             Err(halt) => return Err(halt),
+        };
+        if is_kept(anonymous, found.permanent) {
+            return Ok(Reply::Refused(Refusal::File));
         }
         match file_manager::delete(&mut self.core.filer, &mut self.volume, id) {
             Ok(()) => Ok(Reply::Done),
@@ -82,6 +101,8 @@ impl<D: Disk, A: Allocator> Session<D, A> {
         ensures stays { Stays self.old self.new }
         ensures running { self.new.running ≡ self.old.running }
         ensures own { RelabelsOwn id (state self.old.core).disk (state self.new.core).disk }
+        ensures spares { SparesBut id (state self.old.core).disk (state self.new.core).disk }
+        ensures around { SyncsLeaders result (state self.old.core).disk (state self.new.core).disk }
     {
         let seen = match self.sight(id) {
             Ok(Sight::Hidden) => return Ok(Reply::Refused(Refusal::File)),
@@ -92,6 +113,6 @@ impl<D: Disk, A: Allocator> Session<D, A> {
             Some(handle) => return Ok(Reply::Refused(Refusal::FileMapped(handle))),
             None => (),
         }
-        self.delete_unseen(id)
+        self.delete_unseen(id, false)
     }
 }

@@ -16,6 +16,7 @@ ghost use Rattle.running_words.specs.Session.{IsOpen, IsAlone, Wrote};
 ghost use Rattle.pilot_engine.specs.Closing.{AreWritten, HasShut, IsEmptied, IsOpenStop, IsReady, IsStop, RevealsShut, MayClose, ShutsBySync, Throughout, WroteAny, WroteOn, closed_root};
 ghost use Rattle.pilot_engine.specs.Opening.{IsUnset, LeavesOpen, root_alone};
 ghost use Rattle.fault_core.specs.Core.{state};
+ghost use Rattle.pilot_engine.specs.Sparing.{SparesAll};
 ghost use Rattle.fault_core.specs.Kill.{BreaksWithin};
 ghost use Rattle.fault_core.specs.Reach.{ReachHalts};
 ghost use Rattle.space_calls.specs.Halts.{After};
@@ -72,6 +73,7 @@ impl<D: Disk, A: Allocator> Session<D, A> {
         ensures accounts { (o : InitialState) → KeepsOn o self.old.core.filer → AccountsEnd o o self.old self.new result }
         ensures evidence_seen { IfErr result (ShowsEvidence (state self.new.core).disk) }
         ensures wrote { Wrote (state self.old.core).disk (state self.old.core).slots (state self.new.core).disk (state self.new.core).slots }
+        ensures spares { SparesAll (state self.old.core).disk (state self.new.core).disk }
         ensures layout { (state self.new.core).layout ≡ (state self.old.core).layout }
         ensures open_still { IsOpen (state self.new.core).layout self.new.volume }
         ensures volume { self.new.volume ≡ self.old.volume }
@@ -96,6 +98,7 @@ impl<D: Disk, A: Allocator> Session<D, A> {
         ensures accounts { (o : InitialState) → KeepsOn o self.old.core.filer → AccountsEnd o o self.old self.new result }
         ensures evidence_seen { IfErr result (ShowsEvidence (state self.new.core).disk) }
         ensures wrote { Wrote (state self.old.core).disk (state self.old.core).slots (state self.new.core).disk (state self.new.core).slots }
+        ensures spares { SparesAll (state self.old.core).disk (state self.new.core).disk }
         ensures layout { (state self.new.core).layout ≡ (state self.old.core).layout }
         ensures open_still { IsOpen (state self.new.core).layout self.new.volume }
         ensures volume { self.new.volume ≡ self.old.volume }
@@ -125,6 +128,7 @@ impl<D: Disk, A: Allocator> Session<D, A> {
         ensures sees { (o : InitialState) → KeepsOn o self.old.core.filer → SeesHome o self.old.core → IfErr result (NeverBlamesEnd o (state self.new.core).disk) }
         ensures evidence_seen { IfErr result (ShowsEvidence (state self.new.core).disk) }
         ensures wrote { Wrote (state self.old.core).disk (state self.old.core).slots (state self.new.core).disk (state self.new.core).slots }
+        ensures spares { SparesAll (state self.old.core).disk (state self.new.core).disk }
         ensures open_still { IsOpen (state self.new.core).layout self.new.volume }
         ensures layout { (state self.new.core).layout ≡ (state self.old.core).layout }
         ensures cost { (spaces_of : TablesMeaning) (m : Machine) → IsAlone spaces_of (state self.old.core).disk (state self.old.core).slots (state self.old.core).layout (state self.old.core).runs self.old.volume m
@@ -227,6 +231,7 @@ impl<D: Disk, A: Allocator> Session<D, A> {
         ensures stops { (m : Machine) → IsReady m self.old.volume.root (state self.old.core).disk → ((d : List Sector) → (state self.old.core).disk.contents ≡ Some d → IsOpenStop m d)
             → Throughout (IsStop m) (state self.old.core).disk (state self.new.core).disk }
         ensures wrote { WroteAny (state self.old.core).disk (state self.old.core).slots (state self.new.core).disk (state self.new.core).slots }
+        ensures spares { SparesAll (state self.old.core).disk (state self.new.core).disk }
         ensures sets { (m : Machine) → IsReady m self.old.volume.root (state self.old.core).disk
             → MayClose self.old.volume.root (state self.old.core).disk (state self.new.core).disk }
         ensures cost { (state self.new.core).disk.transfers ≤ (state self.old.core).disk.transfers + 1 }
@@ -257,6 +262,7 @@ impl<D: Disk, A: Allocator> Session<D, A> {
         ensures evidence_seen { IfErr result (ShowsEvidence (state self.new.core).disk) }
         ensures left_open { IsUnset (state self.old.core).disk → IfErr result (LeavesOpen (state self.new.core).disk) }
         ensures wrote { WroteAny (state self.old.core).disk (state self.old.core).slots (state self.new.core).disk (state self.new.core).slots }
+        ensures spares { SparesAll (state self.old.core).disk (state self.new.core).disk }
         ensures syncs { (m : Machine) → Runs self.old.core self.old.volume m
             → ShutsBySync (state self.old.core).disk (state self.new.core).disk }
         ensures cost { (m : Machine) → Runs self.old.core self.old.volume m
@@ -317,6 +323,7 @@ impl<D: Disk, A: Allocator> Session<D, A> {
         ensures evidence_seen { IfErr result.0 (ShowsEvidence (D.state result.1)) }
         ensures left_open { IsUnset (state self.core).disk → IfErr result.0 (LeavesOpen (D.state result.1)) }
         ensures wrote { WroteOn (state self.core).slots (state self.core).disk (D.state result.1) }
+        ensures spares { SparesAll (state self.core).disk (D.state result.1) }
         ensures syncs { (m : Machine) → Runs self.core self.volume m
             → ShutsBySync (state self.core).disk (D.state result.1) }
         ensures cost { (m : Machine) → Runs self.core self.volume m

@@ -6,6 +6,8 @@ ghost use Rattle.filer_kernel.specs.Evidence.{ShowsEvidence};
 ghost use Rattle.flat_machine.specs.declared.call.Call.TheVariants as call;
 ghost use Rattle.flat_machine.specs.Machine.{Machine, is_anonymous};
 ghost use Rattle.label_calls.specs.Own.{RelabelsOwn};
+ghost use Rattle.pilot_engine.specs.Sparing.{SparesBut};
+ghost use Rattle.label_calls.specs.Synced.{SyncsLeaders};
 ghost use Rattle.session_words.specs.Parts.{TablesMeaning};
 ghost use Rattle.running_words.specs.Session.{IsOpen, IsSession, Carries, Wrote};
 ghost use Rattle.running_words.specs.Stages.{Passes};
@@ -53,6 +55,8 @@ impl<D: Disk, A: Allocator> Session<D, A> {
         ensures intervals { self.new.core.intervals ≡ self.old.core.intervals }
         ensures cost { (state self.new.core).disk.transfers ≤ (state self.old.core).disk.transfers + 45 }
         ensures own { RelabelsOwn id (state self.old.core).disk (state self.new.core).disk }
+        ensures spares { SparesBut id (state self.old.core).disk (state self.new.core).disk }
+        ensures around { SyncsLeaders result (state self.old.core).disk (state self.new.core).disk }
     {
         match attributes_of(&mut self.core.filer, id) {
             Ok(Some(_)) => (),
@@ -88,6 +92,8 @@ impl<D: Disk, A: Allocator> Session<D, A> {
         ensures intervals { self.new.core.intervals ≡ self.old.core.intervals }
         ensures cost { (state self.new.core).disk.transfers ≤ (state self.old.core).disk.transfers + 45 }
         ensures own { RelabelsOwn id (state self.old.core).disk (state self.new.core).disk }
+        ensures spares { SparesBut id (state self.old.core).disk (state self.new.core).disk }
+        ensures around { SyncsLeaders result (state self.old.core).disk (state self.new.core).disk }
     {
         match attributes_of(&mut self.core.filer, id) {
             Ok(Some(_)) => (),
@@ -113,6 +119,8 @@ impl<D: Disk, A: Allocator> Session<D, A> {
         ensures stays { Stays self.old self.new }
         ensures running { self.new.running ≡ self.old.running }
         ensures own { RelabelsOwn id (state self.old.core).disk (state self.new.core).disk }
+        ensures spares { SparesBut id (state self.old.core).disk (state self.new.core).disk }
+        ensures around { SyncsLeaders result (state self.old.core).disk (state self.new.core).disk }
     {
         match self.sight(id) {
             Ok(Sight::Hidden) => Ok(Reply::Refused(Refusal::File)),
@@ -134,6 +142,8 @@ impl<D: Disk, A: Allocator> Session<D, A> {
         ensures stays { Stays self.old self.new }
         ensures running { self.new.running ≡ self.old.running }
         ensures own { RelabelsOwn id (state self.old.core).disk (state self.new.core).disk }
+        ensures spares { SparesBut id (state self.old.core).disk (state self.new.core).disk }
+        ensures around { SyncsLeaders result (state self.old.core).disk (state self.new.core).disk }
     {
         match self.sight(id) {
             Ok(Sight::Hidden) => return Ok(Reply::Refused(Refusal::File)),

@@ -1,5 +1,5 @@
 //! Bytes that are loaded and stored in place, up to a page at once.
-ghost use Rattle.std.specs.Prelude.{◌≡◌, ◌≢◌, length, IfOk};
+ghost use Rattle.std.specs.Prelude.{◌≡◌, ◌≢◌, ◌+◌, ◌%◌, ◌≤◌, length, IfOk, OnErr};
 ghost use Rattle.flat_machine.specs.declared.call.Call.TheVariants as call;
 ghost use Rattle.flat_machine.specs.declared.call.Reply.TheVariants as reply;
 ghost use Rattle.flat_machine.specs.Machine.{Machine};
@@ -16,7 +16,7 @@ use std::alloc::Allocator;
 
 impl<D: Disk, A: Allocator> Session<D, A> {
     /// Loads 1 to 512 bytes from an address on. All pages of the reference are tested before the first byte is moved:
-    /// one that is refused moves none. One that halts stops the session.
+    /// one that is refused moves none. One that halts stops the session, and moves none where it is on one page.
     pub fn load(&mut self, address: u32, into: &mut [u8]) -> Result<Access, Halt>
         requires count { IsAtOnce (length into.old) }
         requires taken { TakesCalls self.old }
@@ -26,6 +26,7 @@ impl<D: Disk, A: Allocator> Session<D, A> {
         ensures refers { Refers (call.Load address (length into.old)) self.old result self.new }
         ensures width { length into.new ≡ length into.old }
         ensures unmoved { IfOk result (λ a. a ≢ access.Done → into.new ≡ into.old) }
+        ensures intact { address % 512 + length into.old ≤ 512 → OnErr result (into.new ≡ into.old) }
     {
         let answer = self.core.load(address, into);
         self.running = answer.is_ok();

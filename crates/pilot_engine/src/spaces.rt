@@ -21,7 +21,7 @@ ghost use Rattle.pilot_engine.specs.Reasons.{SeesHome, IsBlameless};
 ghost use Rattle.fault_core.specs.Lack.{MissesPage, Sees};
 ghost use Rattle.flat_machine.specs.declared.space.Space.{Space};
 ghost use Rattle.filer_kernel.specs.View.{FitsLayout};
-ghost use Rattle.pilot_engine.specs.Calls.{Accounts, Answers, Stays};
+ghost use Rattle.pilot_engine.specs.Calls.{Accounts, Answers, SparesOthers, Stays};
 ghost use Rattle.filer_kernel.specs.Fails.{Fails};
 
 use crate::Session;
@@ -52,6 +52,7 @@ impl<D: Disk, A: Allocator> Session<D, A> {
         ensures stays { Stays self.old self.new }
         ensures running { self.new.running ≡ self.old.running }
         ensures reference { is_reference call.now ≡ true → (state self.new.core).disk.transfers ≤ (state self.old.core).disk.transfers + 1680 }
+        ensures spares { SparesOthers call.now self.old self.new }
         ensures unlabelled { keeps_labels call.now ≡ true → WritesPagesAlone (state self.old.core).disk (state self.new.core).disk }
         ensures idle { (m : Machine) → Runs self.old.core self.old.volume m → IsResident call.now (kept self.old.core) (state self.old.core).slots
             → IsOk result × ((state self.new.core).disk ≡ (state self.old.core).disk) }

@@ -12,7 +12,7 @@ ghost use Rattle.filer_kernel.specs.Evidence.{ShowsEvidence};
 ghost use Rattle.filer_kernel.specs.View.{FitsLayout, MakesOnly, TablesAre, view_of};
 ghost use Rattle.filer_kernel.specs.Cached.{runs_of};
 ghost use Rattle.flat_machine.specs.Start.{start};
-ghost use Rattle.swapper_kernel.specs.Goes.{Goes, Makes, no_page};
+ghost use Rattle.swapper_kernel.specs.Goes.{Goes, IsDirty, Makes, no_page};
 ghost use Rattle.label_calls.specs.Labels.{MayHaveWritten};
 ghost use Rattle.labelled_disk.specs.CrashState.{written};
 ghost use Rattle.session_words.specs.Volume.{volume_page};
@@ -226,6 +226,7 @@ impl<D: Disk, A: Allocator> Session<D, A> {
         ensures opened { IfOk result (λ s. IsOpen (state s.core).layout s.volume) }
         ensures running { IfOk result (λ s. s.running ≡ true) }
         ensures frames { IfOk result (λ s. length (state s.core).slots ≡ frames) }
+        ensures clean { IfOk result (λ s. (id page : ℕ) → IsDirty (state s.core).slots id page → volume_page id page) }
 
         // No session starts.
         ensures count { ¬ IsCount (D.state disk).sectors → MatchResult result (λ s. ⊥) (λ e. e.0 ≡ start_fault.Root (fault.BadCount (D.state disk).sectors)) }

@@ -20,6 +20,7 @@ use Rattle.pilot_top.specs.Headline.{IsLeftOpen, LeadsTo, Run, RevealsDamage}
 use Rattle.pilot_top.specs.Cuts.{HonestCuts}
 use Rattle.pilot_top.specs.CrashStates.{Lawfully, CrashStates}
 use Rattle.pilot_top.specs.InitialState.{FromInitialState}
+use Rattle.pilot_top.specs.Sparing.{Spared}
 use Rattle.pilot_top.specs.Parts.{InParts, Stops}
 use Rattle.pilot_top.specs.Replied.{AreToFirst, Replied}
 use Rattle.pilot_top.specs.Trial.{HasNoFile, TriesLawfully}
@@ -182,6 +183,15 @@ module _ {D : Type 0} (state : D → DiskState) (x y : D) (same : x ≡ y) where
       appended = record { contents = on.appended.contents; revealed = on.appended.revealed };
       permitted = on.permitted;
       open_flag = on.open_flag;
+    })
+
+    -- a file that was spared
+    pub spared_after : (id : ℕ) (lines : List TraceLine) (d : List Sector) → Spared id lines d (lent_state m first) (lent_state n (state y)) → Spared id lines d first (state x)
+    spared_after id lines d on = rw same (record {
+      writes = on.writes;
+      appended = record { contents = on.appended.contents; revealed = on.appended.revealed };
+      labels = on.labels;
+      sectors = on.sectors;
     })
 
     -- where a run stopped

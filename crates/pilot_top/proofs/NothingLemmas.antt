@@ -19,6 +19,9 @@ use Rattle.pilot_top.specs.Converting.{ConvertedBy}
 use Rattle.pilot_top.specs.Making.{Formatted}
 use Rattle.pilot_top.specs.Restoring.{Scavenged}
 use Rattle.pilot_top.specs.Running.{Ran}
+use Rattle.pilot_top.specs.Sparing.{HasSameSectors, Spared}
+use Rattle.pilot_engine.specs.Sparing.{HasSameLabels}
+use Rattle.flat_machine.specs.After.{TraceLine}
 use Rattle.pilot_top.specs.Trying.{Tried}
 use Rattle.pilot_top.specs.World.{World}
 use Rattle.pilot_top.specs.declared.status.Status.TheVariants as status
@@ -38,6 +41,22 @@ never_written disk d before writes revealed earlier later k =
     let none : [] ≡ writes = append_cancel_left before [] writes (append-nil before ∙ same_Some before (before ++ writes) (sym earlier ∙ later)) in
     subst (λ (ws : List DiskWrite). IsOldOrConverted d (crash_state d ws k)) none (old_still d k)
 
+same_labels_still : (id : ℕ) (d : List Sector) (k : ℕ) → HasSameLabels id d (crash_state d [] k)
+same_labels_still id d zero = λ i above. refl
+same_labels_still id d (suc k) = λ i above. refl
+
+same_sectors_still : (id : ℕ) (d : List Sector) (k : ℕ) → HasSameSectors id d (crash_state d [] k)
+same_sectors_still id d zero = λ i above. refl
+same_sectors_still id d (suc k) = λ i above. refl
+
+none_spared : (id : ℕ) (lines : List TraceLine) (d : List Sector) (disk : DiskState) → Spared id lines d disk disk
+none_spared id lines d disk = record {
+  writes = [];
+  appended = appended_none (record { contents = refl; writes = refl });
+  labels = same_labels_still id d;
+  sectors = λ none. same_sectors_still id d;
+}
+
 module _ (w : World) where
   pub ran_nothing : Ran status.NoMemory w w
   ran_nothing = record {
@@ -49,6 +68,7 @@ module _ (w : World) where
     some_crash_states = λ d revealed sound. ([], from_nothing d sound revealed);
     cuts = λ d revealed sound. nothing_honest d w.disk sound;
     stops = λ b t source sink. parts_none (PartMay (reading b)) 0 (record { contents = refl; writes = refl });
+    spares = λ d earlier b id revealed made source file untouched. none_spared id (reading b) d w.disk;
     stays_open = λ b source early. absurd early;
     untaken = λ b source failed some. absurd (cc failed);
     left_open = λ is. absurd (elim is [ inl long ↦ cc long | inr damaged ↦ cc damaged ]);

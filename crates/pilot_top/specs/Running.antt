@@ -1,5 +1,7 @@
 -- What `run` does, by its status.
-use Rattle.std.specs.Prelude.{◌≡◌, ◌≢◌, ◌⊎◌, ◌+◌, ◌^◌, ◌≤◌, true, false, ℕ, List}
+use Rattle.std.specs.Prelude.{◌≡◌, ◌≢◌, ◌⊎◌, ◌+◌, ◌^◌, ◌≤◌, true, false, ℕ, List, Some}
+use Rattle.std.specs.List.{list_any}
+use Rattle.labelled_disk.specs.declared.disk.DiskWrite.{DiskWrite}
 use Rattle.labelled_disk.specs.Sectors.{Sector}
 use Rattle.labelled_disk.specs.declared.layout.RootFault.{RootFault}
 use Rattle.flat_machine.specs.After.{TraceLine}
@@ -15,6 +17,7 @@ use Rattle.pilot_top.specs.CrashStates.{Lawfully, CrashStates}
 use Rattle.pilot_top.specs.InitialState.{FromInitialState}
 use Rattle.pilot_top.specs.Parts.{InParts, PartMay, Stops}
 use Rattle.pilot_top.specs.Replied.{Replied}
+use Rattle.pilot_top.specs.Sparing.{IsPermanentFile, Spared, names_file}
 use Rattle.pilot_top.specs.World.{World, Holds, Gives, Took, DiskFailed, SourceFailed, SinkFailed, StaysUnwritten, WritesLast}
 use Rattle.pilot_top.specs.declared.last.Cause.TheVariants as cause
 use Rattle.pilot_top.specs.declared.status.Status.{Status}
@@ -41,6 +44,10 @@ pub record Ran (s : Status) (before after : World) : Type 0 where
   -- In which part of the run its last write is, whatever the disk holds: where the run stopped, in none after the line that has no
   -- reply, or after the lines that were read.
   pub stops : (b t : List ℕ) → Gives before b → Took before t → Stops s b after.left t after.took (SinkFailed before after) (λ k. InParts (PartMay (reading b)) k before.disk after.disk)
+  -- Whatever the maps of the volume say: a permanent file that no line deletes, gives another size or marks has in each crash state the labels
+  -- that it had, and where no line stores bytes, its bytes.
+  pub spares : (d : List Sector) (earlier : List DiskWrite) (b : List ℕ) (id : ℕ) → Holds before d → before.disk.writes ≡ Some earlier → Gives before b
+      → IsPermanentFile id d → list_any (names_file id) (reading b) ≡ false → Spared id (reading b) d before.disk after.disk
   -- Where it ended before its session did, the volume is left open; so where lines are left after the one that was answered
   -- last, and where the trace is too long or the volume damaged, whatever the source reveals.
   pub stays_open : (b : List ℕ) → Gives before b → EndsEarly s (reading b) → IsLeftOpen after.disk

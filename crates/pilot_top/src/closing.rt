@@ -8,6 +8,7 @@ ghost use Rattle.flat_machine.specs.Machine.{Machine};
 ghost use Rattle.trace_io.specs.Stream.{IsPrefixOf};
 ghost use Rattle.running_words.specs.Bound.{CostsOther};
 ghost use Rattle.pilot_engine.specs.Closing.{HasShut, IsStop, ShutsBySync, Throughout, WroteOn};
+ghost use Rattle.pilot_engine.specs.Sparing.{SparesAll};
 ghost use Rattle.pilot_engine.specs.Opening.{IsUnset};
 ghost use Rattle.running_words.specs.Session.{IsOpen};
 ghost use Rattle.running_words.specs.Running.{Runs};
@@ -105,6 +106,7 @@ pub(crate) fn end_trace<D: RunDisk, A: Allocator, K: Sink>(
     ensures ends { (result.0 ≡ Status.Done) ⊎ (result.0 ≡ Status.StreamFault)
         ⊎ (result.0 ≡ Status.DiskFault) ⊎ (result.0 ≡ Status.Damaged) }
     ensures wrote { WroteOn (state session.core).slots (state session.core).disk (D.state result.1) }
+    ensures spares { SparesAll (state session.core).disk (D.state result.1) }
     ensures syncs { (m : Machine) → Runs session.core session.volume m
         → ShutsBySync (state session.core).disk (D.state result.1) }
     ensures later { K.faults sink.old ≤ K.faults sink.new }

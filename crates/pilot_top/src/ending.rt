@@ -8,6 +8,7 @@ ghost use Rattle.running_words.specs.Bound.{CostsOther};
 ghost use Rattle.running_words.specs.Running.{Runs};
 ghost use Rattle.running_words.specs.Session.{IsOpen};
 ghost use Rattle.pilot_engine.specs.Closing.{HasShut, IsStop, ShutsBySync, Throughout, WroteOn};
+ghost use Rattle.pilot_engine.specs.Sparing.{SparesAll};
 ghost use Rattle.pilot_engine.specs.Opening.{IsUnset};
 ghost use Rattle.pilot_top.specs.InitialState.{FromEachInitialState};
 ghost use Rattle.pilot_top.specs.Last.{last_line, Puts};
@@ -110,6 +111,7 @@ pub(crate) fn close_run<D: RunDisk, A: Allocator, K: Sink>(
     ensures ends { (result.0 ≡ None) ⊎ (result.0 ≡ Some Status.DiskFault)
         ⊎ (result.0 ≡ Some Status.Damaged) }
     ensures wrote { WroteOn (state session.core).slots (state session.core).disk (D.state result.1) }
+    ensures spares { SparesAll (state session.core).disk (D.state result.1) }
     ensures syncs { (m : Machine) → Runs session.core session.volume m
         → ShutsBySync (state session.core).disk (D.state result.1) }
     ensures later { K.faults sink.old ≤ K.faults sink.new }

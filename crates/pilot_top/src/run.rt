@@ -24,6 +24,9 @@ ghost use Rattle.pilot_top.specs.InitialState.{FromEachInitialState, FromInitial
 ghost use Rattle.pilot_top.specs.Parts.{InParts, PartMay, Stops};
 ghost use Rattle.pilot_top.specs.Queued.{RepliesChange, WroteChange};
 ghost use Rattle.pilot_top.specs.Replied.{Replied};
+ghost use Rattle.pilot_top.specs.Sparing.{IsPermanentFile, RunSpares, Spared, names_file};
+ghost use Rattle.labelled_disk.specs.declared.disk.DiskWrite.{DiskWrite};
+ghost use Rattle.std.specs.List.{list_any};
 ghost use Rattle.filer_kernel.specs.View.{FitsLayout};
 ghost use Rattle.fault_core.specs.Core.{state};
 
@@ -99,6 +102,8 @@ pub(crate) fn answer_lines<D: RunDisk, A: Allocator, S: Source, K: Sink>(
     ensures stops { (b t : List ℕ) → S.left source.old ≡ Some b → K.took sink.old ≡ Some t
         → Stops result.0 b (S.left source.new) t (K.took sink.new) (Rose (K.faults sink.old) (K.faults sink.new))
         (λ k. InParts (PartMay (reading b)) k (state session.core).disk (D.state result.1)) }
+    ensures spares { (b : List ℕ) → S.left source.old ≡ Some b
+        → RunSpares session.volume.root (reading b) (state session.core).disk (state session.core).slots (D.state result.1) }
     ensures same_disk { Went (state session.core).disk (D.state result.1) }
     ensures disk_cause { result.0 ≡ Status.DiskFault → (D.shown result.1 ≡ None)
         × Rose (state session.core).disk.faults (D.state result.1).faults }
@@ -186,6 +191,10 @@ pub(crate) fn run<A: Allocator, D: RunDisk, S: Source, K: Sink>(
     ensures stops { (b t : List ℕ) → S.left source.old ≡ Some b → K.took sink.old ≡ Some t
         → Stops result.0 b (S.left source.new) t (K.took sink.new) (Rose (K.faults sink.old) (K.faults sink.new))
         (λ k. InParts (PartMay (reading b)) k (D.state disk) (D.state result.1)) }
+    ensures spares { (d : List Sector) (earlier : List DiskWrite) (b : List ℕ) (id : ℕ)
+        → (D.state disk).contents ≡ Some d → (D.state disk).writes ≡ Some earlier → S.left source.old ≡ Some b
+        → IsPermanentFile id d → list_any (names_file id) (reading b) ≡ false
+        → Spared id (reading b) d (D.state disk) (D.state result.1) }
     ensures same_disk { Went (D.state disk) (D.state result.1) }
 
     // The volume can't be opened.

@@ -22,6 +22,9 @@ returns-then-into-room-clause-bytes g c = λ m named b ss known seen also.
     on_ok_wider c.load_in.result _ _ (λ has. one_loaded ss named m c.args.address into has.inside (loads_first ss named m c.args.address c.args.first.now into seen c.requires.first.holds has))
     (c.load_in.ensures.bytes m named b known seen.stored)
 
+pub returns-then-into-room-clause-intact : goal.returns-then-into-room-clause-intact
+returns-then-into-room-clause-intact g c = λ one. c.load_in.ensures.intact
+
 pub returns-then-into-room-clause-whole : goal.returns-then-into-room-clause-whole
 returns-then-into-room-clause-whole g c =
     let fits = c.if-into-room.true in
@@ -39,6 +42,12 @@ returns-then-into-room-clause-came g c = came_first c.args.first.now c.args.last
 
 pub returns-in-Err-clause-sound : goal.returns-in-Err-clause-sound
 returns-in-Err-clause-sound g c = λ m named b known first last. c.in-Err.ensures.sound m named b known first
+
+-- the reference is on two pages
+pub returns-in-Err-clause-intact : goal.returns-in-Err-clause-intact
+returns-in-Err-clause-intact g c = λ one.
+    let past = c.if-into-room.false in
+    absurd (omega (arith, past, one))
 
 pub returns-in-Err-clause-came : goal.returns-in-Err-clause-came
 returns-in-Err-clause-came g c = came_first c.args.first.now c.args.last.now _ _ c.load_in-2.ensures.came
@@ -58,6 +67,11 @@ returns-clause-bytes g c = λ m named b ss known seen also.
     let first = loads_first ss named m c.args.address c.args.first.now low seen c.requires.first.holds (c.in-Ok.ensures.bytes m named b known seen.stored) in
     on_ok_wider c.load_in-3.result _ _ (λ has. two_loaded ss named m c.args.address low high prefix back first (loads_next ss named m c.args.address c.args.last.now high also holds has))
     (c.load_in-3.ensures.bytes m named b after also.stored)
+
+pub returns-clause-intact : goal.returns-clause-intact
+returns-clause-intact g c = λ one.
+    let past = c.if-into-room.false in
+    absurd (omega (arith, past, one))
 
 pub returns-clause-whole : goal.returns-clause-whole
 returns-clause-whole g c =

@@ -6,6 +6,7 @@ use Rattle.labelled_disk.proofs.WriteRunLemmas.{appended_none}
 use Rattle.swapper_kernel.specs.Goes.{Went}
 use Rattle.pilot_top.proofs.ShutLemmas.{none_shuts}
 use Rattle.pilot_engine.proofs.ShutLemmas.{wrote_on}
+use Rattle.pilot_engine.proofs.SparingLemmas.{spares_same}
 use Rattle.pilot_engine.proofs.WroteLemmas.{wrote_nothing}
 use Rattle.pilot_top.specs.contracts.turn.End.{the_type}
 use Rattle.pilot_top.specs.declared.status.Status.{Status}
@@ -123,3 +124,20 @@ pub returns-in-Err-clause-syncs : goal.returns-in-Err-clause-syncs
 returns-in-Err-clause-syncs g c m is =
     let disk = (disk_of c.args.session.core.filer) in
     none_shuts (same_there g disk c.into_disk-disk.result c.bring.new.disk c.into_disk-disk.ensures c.bring.ensures.same)
+
+-- ---- Which files are spared.
+
+pub returns-in-Some-clause-spares : goal.returns-in-Some-clause-spares
+returns-in-Some-clause-spares g c = λ id client.
+    let disk = (disk_of c.args.session.core.filer) in
+    spares_same id (same_there g disk c.into_disk-disk.result c.bring.new.disk c.into_disk-disk.ensures c.bring.ensures.same)
+
+pub returns-in-Ok-clause-spares : goal.returns-in-Ok-clause-spares
+returns-in-Ok-clause-spares g c = λ id client.
+    let disk = (disk_of c.args.session.core.filer) in
+    spares_same id (same_there g disk c.into_disk-disk.result c.bring.new.disk c.into_disk-disk.ensures c.bring.ensures.same)
+
+pub returns-in-Err-clause-spares : goal.returns-in-Err-clause-spares
+returns-in-Err-clause-spares g c = λ id client.
+    let disk = (disk_of c.args.session.core.filer) in
+    spares_same id (same_there g disk c.into_disk-disk.result c.bring.new.disk c.into_disk-disk.ensures c.bring.ensures.same)

@@ -7,7 +7,7 @@ use Rattle.command_words.specs.declared.words.Command.TheVariants as command
 use Rattle.pilot_top.specs.Headline.{at_end, run_bound}
 use Rattle.pilot_top.specs.InitialState.{FromInitialState}
 use Rattle.pilot_top.specs.Parts.{PartMay}
-use Rattle.pilot_top.proofs.AfterLemmas.{none_rose_after, rose_after, shut_after, open_after, spent_after, run_after, reads_after, crash_states_after, cuts_after, lawfully_after, stops_after, damage_after, replied_after, from_after}
+use Rattle.pilot_top.proofs.AfterLemmas.{none_rose_after, rose_after, shut_after, open_after, spent_after, run_after, reads_after, crash_states_after, cuts_after, lawfully_after, spared_after, stops_after, damage_after, replied_after, from_after}
 use Rattle.pilot_top.proofs.ReasonLemmas.{replied_reasoned}
 use Rattle.pilot_top.proofs.StatusLemmas.{is_done, with_memory}
 use Rattle.pilot_top.proofs.lent.run_on.Given as given
@@ -36,6 +36,7 @@ returns g c = record {
     cuts = λ d revealed sound. cuts_after g.D.Disk.state _ c.run-status.result.1.now (after g c) (g.D.Disk.state c.args.disk.now) d (e.cuts d revealed sound);
     stops = λ b t source sink.
         stops_after g.D.Disk.state _ c.run-status.result.1.now (after g c) (g.D.Disk.state c.args.disk.now) _ c.run-status.result.1.ghost_name c.run-status.result.0 b t _ _ _ (PartMay (reading b)) (e.stops b t source sink);
+    spares = λ d earlier b id revealed made source file untouched. spared_after g.D.Disk.state _ c.run-status.result.1.now (after g c) (g.D.Disk.state c.args.disk.now) _ c.run-status.result.1.ghost_name id (reading b) d (e.spares d earlier b id revealed made source file untouched);
     stays_open = λ b source early. open_after g.D.Disk.state _ c.run-status.result.1.now (after g c) (e.stays_open b source early);
     untaken = λ b source failed some. open_after g.D.Disk.state _ c.run-status.result.1.now (after g c) (e.untaken b source failed some);
     left_open = λ is. open_after g.D.Disk.state _ c.run-status.result.1.now (after g c) (e.left_open is);

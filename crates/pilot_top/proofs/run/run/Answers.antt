@@ -15,6 +15,7 @@ use Rattle.pilot_top.proofs.StopParts.{Stops-refused}
 use Rattle.pilot_top.proofs.PermittedRuns.{ran_lawfully, started_lawfully}
 use Rattle.pilot_top.proofs.ReasonLemmas.{reason_refused, reason_started, replied_reasoned}
 use Rattle.pilot_top.proofs.RunLemmas.{memory_early, refused_early, run_started, not_sound, not_done, left_early, run_refused, damage_first, replied_refused, refused_why, refused_line, refused_ends, is_early}
+use Rattle.pilot_top.proofs.SpareLemmas.{run_spared, start_spared}
 use Rattle.pilot_top.proofs.StagedLemmas.{from_start, crash_states_before, crash_states_then}
 use Rattle.pilot_top.proofs.run.run.Given as given
 use Rattle.pilot_top.proofs.run.run.Goals as goal
@@ -187,3 +188,14 @@ pub returns-in-Err-clause-memory : goal.returns-in-Err-clause-memory
 returns-in-Err-clause-memory g c is =
     let early = memory_early c.in-Err.fault c.refuse.result _ _ g.K.Sink.took _ c.refuse.ensures.stops is in
     (c.in-Err.ensures.unwritten early.0, refl, early.1)
+
+-- ---- Which files are spared.
+
+pub returns-in-Ok-clause-spares : goal.returns-in-Ok-clause-spares
+returns-in-Ok-clause-spares g c d earlier b id revealed made source file untouched =
+    let session = c.in-Ok.session in
+    run_spared id (reading b) d earlier session.volume.root (state session.core).slots c.in-Ok.ensures.wrote c.in-Ok.ensures.clean c.answer_lines.ensures.same_disk (c.answer_lines.ensures.spares b source)
+    (c.in-Ok.ensures.monotone d revealed) file untouched revealed made
+
+pub returns-in-Err-clause-spares : goal.returns-in-Err-clause-spares
+returns-in-Err-clause-spares g c d earlier b id revealed made source file untouched = start_spared id (reading b) d earlier c.in-Err.ensures.wrote file revealed made

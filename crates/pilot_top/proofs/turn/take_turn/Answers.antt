@@ -11,6 +11,7 @@ use Rattle.pilot_engine.specs.Reasons.{IsBlameless}
 use Rattle.pilot_top.proofs.CostLemmas.{bad_costs, call_costs}
 use Rattle.pilot_top.proofs.LineParts.{line_wrote}
 use Rattle.pilot_top.proofs.PartLemmas.{written_none}
+use Rattle.pilot_top.proofs.SpareLemmas.{bad_done, call_done}
 use Rattle.pilot_top.proofs.StagedLemmas.{line_rest, line_step}
 use Rattle.pilot_top.proofs.TurnLemmas.{goes_on, call_not_end, bad_not_end, same_halt, answers_call, call_wrote, nothing_wrote, answers_bad}
 use Rattle.pilot_top.proofs.turn.take_turn.Goals as goal
@@ -61,7 +62,7 @@ returns-in-Ok-clause-turns g c =
         line_step m c.in-Call.call ((c.step.ensures.answers m is).passes),
         call_costs c.in-Call.call (state c.args.session.now.core).disk (state c.step.new.self.core).disk c.step.ensures.reference ((c.step.ensures.answers m is).cost),
       ),
-      line_wrote c.in-Call.call more c.step.ensures.wrote c.step.ensures.unlabelled c.step.ensures.own,
+      call_done c.args.session.now.volume.root c.in-Call.call (line_wrote c.in-Call.call more c.step.ensures.wrote c.step.ensures.unlabelled c.step.ensures.own) c.step.ensures.wrote c.step.ensures.spares,
     )
 
 pub returns-in-Err-clause-turns : goal.returns-in-Err-clause-turns
@@ -76,7 +77,7 @@ returns-in-Err-clause-turns g c =
         line_step m c.in-Call.call ((c.step.ensures.answers m is).passes),
         call_costs c.in-Call.call (state c.args.session.now.core).disk (state c.step.new.self.core).disk c.step.ensures.reference ((c.step.ensures.answers m is).cost),
       ),
-      line_wrote c.in-Call.call more c.step.ensures.wrote c.step.ensures.unlabelled c.step.ensures.own,
+      call_done c.args.session.now.volume.root c.in-Call.call (line_wrote c.in-Call.call more c.step.ensures.wrote c.step.ensures.unlabelled c.step.ensures.own) c.step.ensures.wrote c.step.ensures.spares,
     )
 
 pub returns-in-Err-clause-sound : goal.returns-in-Err-clause-sound
@@ -94,7 +95,7 @@ returns-in-Bad-clause-turns g c =
         line_rest m is (g.met.D.Disk.in_form (disk_of c.args.session.now.core.filer)),
         bad_costs (state c.args.session.now.core).disk,
       ),
-      written_none _ (record { contents = refl; writes = refl }),
+      bad_done c.args.session.now.volume.root (state c.args.session.now.core).disk (state c.args.session.now.core).slots (written_none _ (record { contents = refl; writes = refl })),
     )
 
 pub returns-in-Err-clause-evidence_seen : goal.returns-in-Err-clause-evidence_seen

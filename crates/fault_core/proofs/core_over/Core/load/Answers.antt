@@ -101,6 +101,9 @@ returns-in-Err-load_shown-clause-cause g c =
     finds_before v (state c.refer.new.self) (accepted c.args.self.now.filer) c.refer.ensures.reaches MayBeMissing no_break (BreaksFor v c.args.self.now.intervals c.args.address (length c.args.into.now)) (λ page none. absurd none)
     x x (omega arith) c.in-Err-load_shown.halt c.in-Err-load_shown.ensures.cause
 
+pub returns-in-Err-load_shown-clause-intact : goal.returns-in-Err-load_shown-clause-intact
+returns-in-Err-load_shown-clause-intact g c = λ one. c.in-Err-load_shown.ensures.intact one
+
 pub returns-in-Err-load_shown-clause-sound : goal.returns-in-Err-load_shown-clause-sound
 returns-in-Err-load_shown-clause-sound g c = λ m named ss knows.
     let x = c.in-Ok-Shown.first in

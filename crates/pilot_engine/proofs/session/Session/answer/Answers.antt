@@ -1,8 +1,8 @@
-use Rattle.std.proofs.Common.{refl, sym, ap, ◌∙◌, arith, subst}
+use Rattle.std.proofs.Common.{ℕ, Some, refl, sym, ap, ◌∙◌, arith, subst}
 use Rattle.std.proofs.lemmas.Bool.{true≢false}
 use Rattle.flat_machine.specs.References.{is_reference}
 use Rattle.pilot_engine.specs.Labels.{keeps_labels}
-use Rattle.pilot_engine.specs.Stepping.{relabels, waits, IsResident}
+use Rattle.pilot_engine.specs.Stepping.{relabels, waits, IsResident, writes_leader}
 use Rattle.fault_core.specs.Core.{kept, state}
 use Rattle.swapper_kernel.specs.Goes.{no_page}
 use Rattle.file_manager.specs.Creating.{next_id}
@@ -14,11 +14,12 @@ use Rattle.pilot_engine.proofs.LiftLemmas.{carried_out}
 use Rattle.pilot_engine.proofs.StepLemmas.{nothing_revealed, on_spaces}
 use Rattle.flat_machine.specs.declared.call.Call.{Call}
 use Rattle.flat_machine.specs.declared.call.Call.TheVariants as call
-use Rattle.pilot_engine.proofs.OwnLemmas.{own_of, own_none, none_relabelled}
+use Rattle.pilot_engine.proofs.OwnLemmas.{own_of, own_none, none_relabelled, around_other, no_leader}
 use Rattle.pilot_engine.proofs.HomeSteps.{same_or_blameless}
 use Rattle.pilot_engine.proofs.LackLemmas.{fails_missing_page, mark_misses, named_misses, new_misses, on_named_misses, pages_of, remove_misses, size_misses}
 use Rattle.pilot_engine.proofs.ReasonSteps.{not_older_on}
 use Rattle.pilot_engine.proofs.SpaceMisses.{next_misses}
+use Rattle.pilot_engine.proofs.SparedCalls.{spares_alone}
 use Rattle.pilot_engine.proofs.session.Session.answer.Goals as goal
 use Rattle.filer_kernel.specs.FailsLaws.{if_fails}
 
@@ -365,3 +366,61 @@ returns-in-Next-clause-unlabelled g c = λ keeps. c.next.ensures.unlabelled
 
 pub returns-in-Volume-clause-unlabelled : goal.returns-in-Volume-clause-unlabelled
 returns-in-Volume-clause-unlabelled g c = λ keeps. c.volume.ensures.unlabelled
+
+-- ---- Which files are spared.
+
+pub returns-in-Attributes-clause-spares : goal.returns-in-Attributes-clause-spares
+returns-in-Attributes-clause-spares g c = λ id client other new. spares_alone c.attributes.ensures.wrote.makes c.attributes.ensures.unlabelled id client
+
+pub returns-in-Next-clause-spares : goal.returns-in-Next-clause-spares
+returns-in-Next-clause-spares g c = λ id client other new. spares_alone c.next.ensures.wrote.makes c.next.ensures.unlabelled id client
+
+pub returns-in-Volume-clause-spares : goal.returns-in-Volume-clause-spares
+returns-in-Volume-clause-spares g c = λ id client other new. spares_alone c.volume.ensures.wrote.makes c.volume.ensures.unlabelled id client
+
+pub returns-in-Delete-clause-spares : goal.returns-in-Delete-clause-spares
+returns-in-Delete-clause-spares g c = λ id client other new. c.delete.ensures.spares id client (λ is. other (ap relabels c.in-Delete.is ∙ ap (λ (n : ℕ). Some n) is))
+
+pub returns-in-SetSize-clause-spares : goal.returns-in-SetSize-clause-spares
+returns-in-SetSize-clause-spares g c = λ id client other new. c.set_size.ensures.spares id client (λ is. other (ap relabels c.in-SetSize.is ∙ ap (λ (n : ℕ). Some n) is))
+
+pub returns-in-MakePermanent-clause-spares : goal.returns-in-MakePermanent-clause-spares
+returns-in-MakePermanent-clause-spares g c = λ id client other new. c.make_permanent.ensures.spares id client (λ is. other (ap relabels c.in-MakePermanent.is ∙ ap (λ (n : ℕ). Some n) is))
+
+pub returns-in-MakeImmutable-clause-spares : goal.returns-in-MakeImmutable-clause-spares
+returns-in-MakeImmutable-clause-spares g c = λ id client other new. c.make_immutable.ensures.spares id client (λ is. other (ap relabels c.in-MakeImmutable.is ∙ ap (λ (n : ℕ). Some n) is))
+
+pub returns-in-Create-clause-spares : goal.returns-in-Create-clause-spares
+returns-in-Create-clause-spares g c = λ id client other new. c.create.ensures.spares id client new
+
+pub returns-in_default-clause-spares : goal.returns-in_default-clause-spares
+returns-in_default-clause-spares g c = c.answer_on_spaces.ensures.spares
+
+-- ---- The syncs around leaders.
+
+pub returns-in-Delete-clause-around : goal.returns-in-Delete-clause-around
+returns-in-Delete-clause-around g c = λ is. c.delete.ensures.around
+
+pub returns-in-MakePermanent-clause-around : goal.returns-in-MakePermanent-clause-around
+returns-in-MakePermanent-clause-around g c = λ is. c.make_permanent.ensures.around
+
+pub returns-in-MakeImmutable-clause-around : goal.returns-in-MakeImmutable-clause-around
+returns-in-MakeImmutable-clause-around g c = λ is. c.make_immutable.ensures.around
+
+pub returns-in-SetSize-clause-around : goal.returns-in-SetSize-clause-around
+returns-in-SetSize-clause-around g c = around_other c.args.call.now (ap writes_leader c.in-SetSize.is)
+
+pub returns-in-Create-clause-around : goal.returns-in-Create-clause-around
+returns-in-Create-clause-around g c = around_other c.args.call.now (ap writes_leader c.in-Create.is)
+
+pub returns-in-Attributes-clause-around : goal.returns-in-Attributes-clause-around
+returns-in-Attributes-clause-around g c = around_other c.args.call.now (ap writes_leader c.in-Attributes.is)
+
+pub returns-in-Next-clause-around : goal.returns-in-Next-clause-around
+returns-in-Next-clause-around g c = around_other c.args.call.now (ap writes_leader c.in-Next.is)
+
+pub returns-in-Volume-clause-around : goal.returns-in-Volume-clause-around
+returns-in-Volume-clause-around g c = around_other c.args.call.now (ap writes_leader c.in-Volume.is)
+
+pub returns-in_default-clause-around : goal.returns-in_default-clause-around
+returns-in_default-clause-around g c = around_other c.args.call.now (no_leader c.args.call.now (on_spaces c.args.call.now c.requires.more c.in_default.not-Create c.in_default.not-Delete c.in_default.not-Attributes c.in_default.not-SetSize c.in_default.not-MakePermanent c.in_default.not-MakeImmutable c.in_default.not-Next c.in_default.not-Volume))

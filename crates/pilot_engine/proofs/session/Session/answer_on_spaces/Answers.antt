@@ -39,6 +39,7 @@ use Rattle.pilot_engine.proofs.HomeSteps.{map_or_blameless, none_or_blameless, s
 use Rattle.pilot_engine.proofs.LackLemmas.{fails_missing_page}
 use Rattle.pilot_engine.proofs.ReasonSteps.{not_older_on, moving_ahead, moving_reasons, reaching_reasons, touching_reasons}
 use Rattle.pilot_engine.proofs.SpaceMisses.{change_misses, make_space_misses, map_file_misses, map_new_misses, place_misses, protect_misses, range_misses, remove_space_misses}
+use Rattle.pilot_engine.proofs.SparedCalls.{spares_quiet}
 use Rattle.pilot_engine.proofs.session.Session.answer_on_spaces.Goals as goal
 use Rattle.filer_kernel.specs.View.{accepted}
 use Rattle.filer_kernel.specs.FailsLaws.{if_fails}
@@ -810,3 +811,47 @@ returns-in-MapAnonymous-clause-unlabelled g c = λ keeps. absurd (true≢false (
 
 pub returns-in-Unmap-clause-unlabelled : goal.returns-in-Unmap-clause-unlabelled
 returns-in-Unmap-clause-unlabelled g c = λ keeps. absurd (true≢false (sym keeps ∙ ap keeps_labels c.in-Unmap.is))
+
+-- ---- Which files are spared.
+
+pub returns-in-MakeSpace-clause-spares : goal.returns-in-MakeSpace-clause-spares
+returns-in-MakeSpace-clause-spares g c = λ id client other new. spares_quiet c.make_space.ensures.moves.goes.makes id client
+
+pub returns-in-RemoveSpace-clause-spares : goal.returns-in-RemoveSpace-clause-spares
+returns-in-RemoveSpace-clause-spares g c = λ id client other new. spares_quiet c.remove_space.ensures.moves.goes.makes id client
+
+pub returns-in-Place-clause-spares : goal.returns-in-Place-clause-spares
+returns-in-Place-clause-spares g c = λ id client other new. spares_quiet c.place.ensures.moves.goes.makes id client
+
+pub returns-in-Units-clause-spares : goal.returns-in-Units-clause-spares
+returns-in-Units-clause-spares g c = λ id client other new. spares_quiet c.set_units.ensures.moves.goes.makes id client
+
+pub returns-in-Map-clause-spares : goal.returns-in-Map-clause-spares
+returns-in-Map-clause-spares g c = λ id client other new. spares_quiet c.map.ensures.moves.goes.makes id client
+
+pub returns-in-Protect-clause-spares : goal.returns-in-Protect-clause-spares
+returns-in-Protect-clause-spares g c = λ id client other new. spares_quiet c.protect.ensures.moves.goes.makes id client
+
+pub returns-in-Load-clause-spares : goal.returns-in-Load-clause-spares
+returns-in-Load-clause-spares g c = λ id client other new. spares_quiet c.load.ensures.moves.goes.makes id client
+
+pub returns-in-Store-clause-spares : goal.returns-in-Store-clause-spares
+returns-in-Store-clause-spares g c = λ id client other new. spares_quiet c.store.ensures.moves.goes.makes id client
+
+pub returns-in-Activate-clause-spares : goal.returns-in-Activate-clause-spares
+returns-in-Activate-clause-spares g c = λ id client other new. spares_quiet c.activate.ensures.moves.goes.makes id client
+
+pub returns-in-Deactivate-clause-spares : goal.returns-in-Deactivate-clause-spares
+returns-in-Deactivate-clause-spares g c = λ id client other new. spares_quiet c.deactivate.ensures.moves.goes.makes id client
+
+pub returns-in-Kill-clause-spares : goal.returns-in-Kill-clause-spares
+returns-in-Kill-clause-spares g c = λ id client other new. spares_quiet c.kill.ensures.moves.goes.makes id client
+
+pub returns-in-ForceOut-clause-spares : goal.returns-in-ForceOut-clause-spares
+returns-in-ForceOut-clause-spares g c = λ id client other new. spares_quiet c.force_out.ensures.moves.goes.makes id client
+
+pub returns-in-MapAnonymous-clause-spares : goal.returns-in-MapAnonymous-clause-spares
+returns-in-MapAnonymous-clause-spares g c = λ id client other new. c.map_anonymous.ensures.spares id client new
+
+pub returns-in-Unmap-clause-spares : goal.returns-in-Unmap-clause-spares
+returns-in-Unmap-clause-spares g c = λ id client other new. c.unmap.ensures.spares id client

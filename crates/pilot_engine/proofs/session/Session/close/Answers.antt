@@ -22,6 +22,7 @@ use Rattle.space_calls.proofs.RangeLemmas.{fault_halt}
 use Rattle.pilot_engine.proofs.CauseLemmas.{made_then}
 use Rattle.labelled_disk.specs.declared.layout.Layout.{Layout}
 use Rattle.file_manager.specs.Reasons.{ShowsReason}
+use Rattle.pilot_engine.proofs.SparedCalls.{all_then, spares_quiet}
 use Rattle.pilot_engine.proofs.session.Session.close.Goals as goal
 use Rattle.filer_kernel.specs.View.{accepted, disk_of}
 
@@ -314,3 +315,23 @@ returns-in-Err-clause-reasons g c = λ o k. (c.in-Err.ensures.accounts o k).reas
 
 pub returns-in-Err-clause-sees : goal.returns-in-Err-clause-sees
 returns-in-Err-clause-sees g c = λ o k seen. (c.in-Err.ensures.accounts o k).sees seen
+
+-- ---- Which files are spared.
+
+pub returns-in-Err-clause-spares : goal.returns-in-Err-clause-spares
+returns-in-Err-clause-spares g c = c.evict_all.ensures.spares
+
+pub returns-in-Err-empty-clause-spares : goal.returns-in-Err-empty-clause-spares
+returns-in-Err-empty-clause-spares g c = all_then c.evict_all.ensures.spares c.empty.ensures.spares
+
+pub returns-in-Err-sync_maps-clause-spares : goal.returns-in-Err-sync_maps-clause-spares
+returns-in-Err-sync_maps-clause-spares g c = all_then (all_then c.evict_all.ensures.spares c.empty.ensures.spares) (spares_quiet c.sync_maps.ensures.swaps.makes)
+
+pub returns-in-Err-write_clean-clause-spares : goal.returns-in-Err-write_clean-clause-spares
+returns-in-Err-write_clean-clause-spares g c = all_then (all_then (all_then c.evict_all.ensures.spares c.empty.ensures.spares) (spares_quiet c.sync_maps.ensures.swaps.makes)) c.write_clean.ensures.spares
+
+pub returns-in-Ok-sync-clause-spares : goal.returns-in-Ok-sync-clause-spares
+returns-in-Ok-sync-clause-spares g c = all_then (all_then (all_then (all_then c.evict_all.ensures.spares c.empty.ensures.spares) (spares_quiet c.sync_maps.ensures.swaps.makes)) c.write_clean.ensures.spares) (spares_quiet (reached_makes c.sync.ensures.reaches))
+
+pub returns-in-Err-sync-clause-spares : goal.returns-in-Err-sync-clause-spares
+returns-in-Err-sync-clause-spares g c = all_then (all_then (all_then (all_then c.evict_all.ensures.spares c.empty.ensures.spares) (spares_quiet c.sync_maps.ensures.swaps.makes)) c.write_clean.ensures.spares) (spares_quiet (reached_makes c.sync.ensures.reaches))

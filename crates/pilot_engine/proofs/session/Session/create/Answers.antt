@@ -27,6 +27,8 @@ use Rattle.file_manager.specs.Grounds.{IsNewPage}
 use Rattle.pilot_engine.proofs.LackLemmas.{new_misses}
 use Rattle.pilot_engine.proofs.ReasonSteps.{given_on}
 use Rattle.pilot_engine.proofs.SeesLemmas.{counted_next, same_next, seen_blameless}
+use Rattle.pilot_engine.proofs.SparedCalls.{all_but, spares_itself}
+use Rattle.pilot_engine.proofs.SparedFiles.{spares_made, spares_making}
 use Rattle.pilot_engine.proofs.session.Session.create.Goals as goal
 
 pub returns-then-pages-free-clause-carried : goal.returns-then-pages-free-clause-carried
@@ -200,3 +202,17 @@ returns-in-Err-clause-stays g c = record {
   serial = (ap (λ (v : Volume). v.root.serial) c.in-Err.ensures.same_volume);
   layout = (search rules);
 }
+
+-- ---- Which files are spared.
+
+pub returns-then-pages-free-clause-spares : goal.returns-then-pages-free-clause-spares
+returns-then-pages-free-clause-spares g c = all_but (spares_itself (state c.args.self.now.core).disk)
+
+pub returns-then-self-clause-spares : goal.returns-then-self-clause-spares
+returns-then-self-clause-spares g c = all_but (spares_itself (state c.args.self.now.core).disk)
+
+pub returns-in-Ok-clause-spares : goal.returns-in-Ok-clause-spares
+returns-in-Ok-clause-spares g c = spares_made c.args.self.now.volume.root c.args.kind c.args.pages c.in-Ok.ensures.makes
+
+pub returns-in-Err-clause-spares : goal.returns-in-Err-clause-spares
+returns-in-Err-clause-spares g c = spares_making c.args.self.now.volume.root c.args.kind c.args.pages c.in-Err.ensures.stopped

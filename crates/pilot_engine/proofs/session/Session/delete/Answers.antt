@@ -1,4 +1,5 @@
-use Rattle.std.proofs.Common.{refl, sym, ap, subst, ◌∙◌, arith, inl}
+use Rattle.std.proofs.Common.{refl, sym, ap, subst, ◌∙◌, arith, inl, false, true}
+use Rattle.std.proofs.lemmas.Bool.{true≢false}
 use Rattle.labelled_disk.specs.declared.layout.Layout.{Layout}
 use Rattle.flat_machine.specs.declared.call.Call.TheVariants as call
 use Rattle.flat_machine.specs.declared.call.Refusal.TheVariants as why
@@ -20,6 +21,9 @@ use Rattle.pilot_engine.specs.Halting.{RemoveHalts}
 use Rattle.pilot_engine.proofs.ReasonSteps.{reasons_since}
 use Rattle.file_manager.specs.declared.volume.Volume.{Volume}
 use Rattle.pilot_engine.proofs.SeesLemmas.{then_next}
+use Rattle.pilot_engine.proofs.SparedCalls.{all_but, but_then, spares_quiet}
+use Rattle.label_calls.specs.SyncedLaws.{quiet_synced, syncs_around}
+use Rattle.pilot_engine.proofs.OwnLemmas.{around_of}
 use Rattle.pilot_engine.proofs.session.Session.delete.Goals as goal
 use Rattle.filer_kernel.specs.View.{disk_of}
 
@@ -67,9 +71,9 @@ returns-clause-answers g c = λ m r.
     let now = c.sight.ensures.runs m r in
     record {
       carried = (carried_out c.sight.new.self.core c.delete_unseen.new.self.core c.sight.new.self.volume c.delete_unseen.new.self.volume m (call.Delete c.args.id) c.delete_unseen.ensures.kept c.delete_unseen.ensures.intervals refl (c.sight.ensures.runs m r) c.delete_unseen.result
-          (λ spaces_of s. c.delete_unseen.ensures.carried spaces_of m s ((subst (λ (x : Sight). IsSight m c.args.id x) c.in-Ok-By.field-0-is (c.in-Ok-By.ensures.answer m r)).mapped ∙ ap (option_map why.FileMapped) c.in-None.is)));
-      sound = (c.delete_unseen.ensures.sound _ m now.session ((subst (λ (x : Sight). IsSight m c.args.id x) c.in-Ok-By.field-0-is (c.in-Ok-By.ensures.answer m r)).mapped ∙ ap (option_map why.FileMapped) c.in-None.is));
-      passes = (asked_then m (call.Delete c.args.id) (asked_passes c.args.self.now.core c.args.self.now.volume m call.Volume r (g.met.D.Disk.in_form (disk_of c.args.self.now.core.filer)) c.sight.ensures.makes) (c.delete_unseen.ensures.passes _ m now.session ((subst (λ (x : Sight). IsSight m c.args.id x) c.in-Ok-By.field-0-is (c.in-Ok-By.ensures.answer m r)).mapped ∙ ap (option_map why.FileMapped) c.in-None.is)));
+          (λ spaces_of s. c.delete_unseen.ensures.carried spaces_of m s ((subst (λ (x : Sight). IsSight m c.args.id x) c.in-Ok-By.field-0-is (c.in-Ok-By.ensures.answer m r)).mapped ∙ ap (option_map why.FileMapped) c.in-None.is) (λ set. absurd (true≢false (sym set)))));
+      sound = (c.delete_unseen.ensures.sound _ m now.session ((subst (λ (x : Sight). IsSight m c.args.id x) c.in-Ok-By.field-0-is (c.in-Ok-By.ensures.answer m r)).mapped ∙ ap (option_map why.FileMapped) c.in-None.is) (λ set. absurd (true≢false (sym set))));
+      passes = (asked_then m (call.Delete c.args.id) (asked_passes c.args.self.now.core c.args.self.now.volume m call.Volume r (g.met.D.Disk.in_form (disk_of c.args.self.now.core.filer)) c.sight.ensures.makes) (c.delete_unseen.ensures.passes _ m now.session ((subst (λ (x : Sight). IsSight m c.args.id x) c.in-Ok-By.field-0-is (c.in-Ok-By.ensures.answer m r)).mapped ∙ ap (option_map why.FileMapped) c.in-None.is) (λ set. absurd (true≢false (sym set)))));
       cost = (spent_besides (state c.args.self.now.core).disk (state c.sight.new.self.core).disk (state c.delete_unseen.new.self.core).disk c.sight.ensures.makes.went.sectors (let few = c.sight.ensures.cost in omega (arith, few)) (c.delete_unseen.ensures.bounded _ m now.session));
     }
 
@@ -141,3 +145,31 @@ returns-in-Err-clause-accounts g c = λ o k. record {
   reasons = (c.in-Err.ensures.accounts o k).reasons;
   sees = λ seen. (c.in-Err.ensures.accounts o k).sees seen;
 }
+
+-- ---- Which files are spared.
+
+pub returns-in-Ok-Hidden-clause-spares : goal.returns-in-Ok-Hidden-clause-spares
+returns-in-Ok-Hidden-clause-spares g c = all_but (spares_quiet c.sight.ensures.makes)
+
+pub returns-in-Err-clause-spares : goal.returns-in-Err-clause-spares
+returns-in-Err-clause-spares g c = all_but (spares_quiet c.sight.ensures.makes)
+
+pub returns-in-Some-clause-spares : goal.returns-in-Some-clause-spares
+returns-in-Some-clause-spares g c = all_but (spares_quiet c.sight.ensures.makes)
+
+pub returns-clause-spares : goal.returns-clause-spares
+returns-clause-spares g c = but_then (all_but (spares_quiet c.sight.ensures.makes)) c.delete_unseen.ensures.spares
+
+-- ---- The syncs around leaders.
+
+pub returns-in-Ok-Hidden-clause-around : goal.returns-in-Ok-Hidden-clause-around
+returns-in-Ok-Hidden-clause-around g c = syncs_around (quiet_synced false c.sight.ensures.makes)
+
+pub returns-in-Err-clause-around : goal.returns-in-Err-clause-around
+returns-in-Err-clause-around g c = syncs_around (quiet_synced true c.sight.ensures.makes)
+
+pub returns-in-Some-clause-around : goal.returns-in-Some-clause-around
+returns-in-Some-clause-around g c = syncs_around (quiet_synced false c.sight.ensures.makes)
+
+pub returns-clause-around : goal.returns-clause-around
+returns-clause-around g c = around_of c.delete_unseen.result (quiet_synced false c.sight.ensures.makes) c.delete_unseen.ensures.wrote.makes c.delete_unseen.ensures.around

@@ -19,6 +19,7 @@ use Rattle.pilot_engine.proofs.EndNeverBlames.{end_blameless, search_no_table}
 use Rattle.pilot_engine.proofs.HomeLemmas.{file_later, file_pages}
 use Rattle.pilot_engine.proofs.LackLemmas.{search_misses}
 use Rattle.pilot_engine.proofs.SeesLemmas.{seen_blameless, seen_still}
+use Rattle.pilot_engine.proofs.SparedCalls.{all_then, spares_quiet}
 use Rattle.pilot_engine.proofs.session.Session.delete_next.Goals as goal
 
 pub returns-in-Ok-None-clause-shed : goal.returns-in-Ok-None-clause-shed
@@ -170,3 +171,17 @@ returns-in-Err-delete_unless_permanent-clause-accounts g c = λ o k. record {
 }
 
 -- ---- What is seen of the space tables, and which page is reported as missing.
+
+-- ---- Which files are spared.
+
+pub returns-in-Ok-None-clause-spares : goal.returns-in-Ok-None-clause-spares
+returns-in-Ok-None-clause-spares g c = spares_quiet c.next.ensures.makes
+
+pub returns-in-Err-clause-spares : goal.returns-in-Err-clause-spares
+returns-in-Err-clause-spares g c = spares_quiet c.next.ensures.makes
+
+pub returns-in-Ok-clause-spares : goal.returns-in-Ok-clause-spares
+returns-in-Ok-clause-spares g c = all_then (spares_quiet c.next.ensures.makes) c.delete_unless_permanent.ensures.spares
+
+pub returns-in-Err-delete_unless_permanent-clause-spares : goal.returns-in-Err-delete_unless_permanent-clause-spares
+returns-in-Err-delete_unless_permanent-clause-spares g c = all_then (spares_quiet c.next.ensures.makes) c.delete_unless_permanent.ensures.spares

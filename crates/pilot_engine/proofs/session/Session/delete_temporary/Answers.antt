@@ -6,11 +6,12 @@ use Rattle.file_manager.proofs.Faults.{counted_then}
 use Rattle.fault_core.specs.Core.{state}
 use Rattle.labelled_disk.specs.declared.layout.Layout.{Layout}
 use Rattle.file_manager.specs.Reasons.{ShowsReason}
+use Rattle.pilot_engine.proofs.SparedCalls.{all_then, spares_itself}
 use Rattle.pilot_engine.proofs.session.Session.delete_temporary.Goals as goal
 use Rattle.filer_kernel.specs.View.{disk_of}
 
 pub files-init : goal.files-init
-files-init g c = (cleared_none _ _ _ _ _ c.requires.size c.requires.opened (g.met.D.Disk.in_form (disk_of c.args.self.now.core.filer)), λ o keeps seen. seen)
+files-init g c = (cleared_none _ _ _ _ _ c.requires.size c.requires.opened (g.met.D.Disk.in_form (disk_of c.args.self.now.core.filer)), λ o keeps seen. seen, spares_itself (state c.args.self.now.core).disk)
 
 pub delete_next-requires-clause-size : goal.delete_next-requires-clause-size
 delete_next-requires-clause-size g c = c.files.invariant.0.size
@@ -31,6 +32,7 @@ pub files-preserved : goal.files-preserved
 files-preserved g c = (
   cleared_more _ _ _ _ _ _ _ _ _ _ _ c.files.invariant.0 _ _ _ _ _ _ _ c.in-Ok-Some.field-0-is c.in-Ok-Some.ensures.shed c.delete_next.ensures.stops c.in-Ok-Some.ensures.above c.delete_next.ensures.wrote (λ o k. (c.in-Ok-Some.ensures.accounts o k).keeps_to) c.delete_next.ensures.open_still c.delete_next.ensures.layout c.in-Ok-Some.ensures.paid,
   λ o keeps seen. (c.in-Ok-Some.ensures.accounts o (c.files.invariant.0.keeps o keeps)).sees (c.files.invariant.1 o keeps seen),
+  all_then c.files.invariant.2 c.delete_next.ensures.spares,
 )
 
 pub returns-in-Ok-None-clause-shed : goal.returns-in-Ok-None-clause-shed
@@ -88,3 +90,11 @@ returns-in-Err-clause-accounts g c = λ o k. record {
 }
 
 -- ---- The space tables are seen.
+
+-- ---- Which files are spared.
+
+pub returns-in-Ok-None-clause-spares : goal.returns-in-Ok-None-clause-spares
+returns-in-Ok-None-clause-spares g c = all_then c.files.invariant.2 c.delete_next.ensures.spares
+
+pub returns-in-Err-clause-spares : goal.returns-in-Err-clause-spares
+returns-in-Err-clause-spares g c = all_then c.files.invariant.2 c.delete_next.ensures.spares

@@ -1,4 +1,6 @@
-use Rattle.std.proofs.Common.{inr, subst, inl}
+use Rattle.std.proofs.Common.{inr, Option, subst, inl}
+use Rattle.std.specs.Prelude.{IfSome}
+use Rattle.file_manager.specs.declared.attributes.Attributes.{Attributes}
 use Rattle.labelled_disk.specs.Label.{leader_page}
 use Rattle.session_words.specs.Parts.{shapes_of}
 use Rattle.file_manager.specs.Attributes.{IsAttributesOf}
@@ -19,6 +21,9 @@ use Rattle.pilot_engine.proofs.EndNeverBlames.{end_blameless, look_no_table, rem
 use Rattle.pilot_engine.proofs.HomeLemmas.{file_after, file_later, file_pages, found_file, misses_file}
 use Rattle.pilot_engine.proofs.LackLemmas.{look_misses, remove_misses_own}
 use Rattle.pilot_engine.proofs.SeesLemmas.{seen_from, seen_blameless, seen_still}
+use Rattle.pilot_engine.proofs.SparedCalls.{all_then, spares_quiet}
+use Rattle.pilot_engine.proofs.SparedFiles.{found_temporary, spares_going, spares_gone}
+use Rattle.file_manager.specs.Attributes.{HasLeader}
 use Rattle.pilot_engine.proofs.session.Session.delete_unless_permanent.Goals as goal
 
 pub returns-in-Ok-None-clause-shed : goal.returns-in-Ok-None-clause-shed
@@ -188,3 +193,22 @@ returns-in-Err-delete-clause-accounts g c = λ o k. record {
 }
 
 -- ---- What is seen of the space tables, and which page is reported as missing.
+
+-- ---- Which files are spared.
+
+pub returns-in-Ok-None-clause-spares : goal.returns-in-Ok-None-clause-spares
+returns-in-Ok-None-clause-spares g c = spares_quiet c.attributes_of.ensures.makes
+
+pub returns-in-Err-clause-spares : goal.returns-in-Err-clause-spares
+returns-in-Err-clause-spares g c = spares_quiet c.attributes_of.ensures.makes
+
+pub returns-then-found-clause-spares : goal.returns-then-found-clause-spares
+returns-then-found-clause-spares g c = spares_quiet c.attributes_of.ensures.makes
+
+pub returns-in-Ok-clause-spares : goal.returns-in-Ok-clause-spares
+returns-in-Ok-clause-spares g c =
+    all_then (spares_quiet c.attributes_of.ensures.makes) (spares_gone c.args.id (found_temporary (view_of c.attributes_of.new.filer).disk c.args.id c.in-Ok-Some.found.permanent (subst (λ (o : Option Attributes). IfSome o (λ a. HasLeader (view_of c.attributes_of.new.filer).disk c.args.id a.permanent)) c.in-Ok-Some.field-0-is c.in-Ok-Some.ensures.marked) c.if-found.false) c.in-Ok.ensures.makes.1 c.in-Ok.ensures.own)
+
+pub returns-in-Err-delete-clause-spares : goal.returns-in-Err-delete-clause-spares
+returns-in-Err-delete-clause-spares g c =
+    all_then (spares_quiet c.attributes_of.ensures.makes) (spares_going c.args.id (found_temporary (view_of c.attributes_of.new.filer).disk c.args.id c.in-Ok-Some.found.permanent (subst (λ (o : Option Attributes). IfSome o (λ a. HasLeader (view_of c.attributes_of.new.filer).disk c.args.id a.permanent)) c.in-Ok-Some.field-0-is c.in-Ok-Some.ensures.marked) c.if-found.false) c.in-Err-delete.ensures.stopped c.in-Err-delete.ensures.own)

@@ -1,4 +1,5 @@
-use Rattle.std.proofs.Common.{ap, arith, inl, inr, Option, rules, subst}
+use Rattle.std.proofs.Common.{ap, arith, inl, inr, Option, rules, subst, sym, ◌∙◌, false, true}
+use Rattle.std.specs.Prelude.{IfSome}
 use Rattle.labelled_disk.specs.Label.{leader_page}
 use Rattle.flat_machine.specs.declared.call.Call.TheVariants as call
 use Rattle.file_manager.specs.declared.attributes.Attributes.{Attributes}
@@ -21,26 +22,30 @@ use Rattle.filer_kernel.specs.View.{accepted, disk_of, view_of}
 use Rattle.pilot_engine.proofs.HomeLemmas.{file_after, file_later, file_pages, found_file, misses_file}
 use Rattle.pilot_engine.proofs.LackLemmas.{look_misses, remove_misses_own}
 use Rattle.pilot_engine.proofs.SeesLemmas.{same_next, seen_from, seen_blameless, seen_still}
+use Rattle.pilot_engine.proofs.SparedCalls.{all_but, all_then, but_then, spares_quiet}
+use Rattle.pilot_engine.proofs.SparedFiles.{found_temporary, kept_hidden, not_kept, spares_freed, spares_going, spares_gone, spares_some}
+use Rattle.file_manager.specs.Attributes.{HasLeader}
+use Rattle.label_calls.specs.SyncedLaws.{around_after, quiet_synced, syncs_around, wrote_synced}
 use Rattle.pilot_engine.proofs.session.Session.delete_unseen.Goals as goal
 
 pub returns-in-Ok-None-clause-carried : goal.returns-in-Ok-None-clause-carried
-returns-in-Ok-None-clause-carried g c = λ spaces_of m s unseen.
+returns-in-Ok-None-clause-carried g c = λ spaces_of m s unseen temporary.
     let books = session_books spaces_of _ _ _ _ _ m s in
     let revealed = subst (λ (o : Option Attributes). IsAttributesOf (shapes_of m.files c.args.id) o) c.in-Ok-None.field-0-is (c.in-Ok-None.ensures.revealed s.stands.memory (shapes_of m.files) m.spaces books) in
     missing_after spaces_of _ _ _ _ _ _ _ _ _ m s c.attributes_of.ensures.makes c.attributes_of.ensures.brings (c.attributes_of.ensures.same s.stands.memory (shapes_of m.files) m.spaces books) c.attributes_of.ensures.layout
     c.args.id revealed (call.Delete c.args.id) (λ none. delete_gone m c.args.id (no_file_missing m c.args.id none))
 
 pub returns-in-Ok-None-clause-passes : goal.returns-in-Ok-None-clause-passes
-returns-in-Ok-None-clause-passes g c = λ spaces_of m s unseen. no_step spaces_of _ _ _ _ m (call.Delete c.args.id) s.stands c.attributes_of.ensures.makes (g.met.D.Disk.in_form (disk_of c.args.self.now.core.filer))
+returns-in-Ok-None-clause-passes g c = λ spaces_of m s unseen temporary. no_step spaces_of _ _ _ _ m (call.Delete c.args.id) s.stands c.attributes_of.ensures.makes (g.met.D.Disk.in_form (disk_of c.args.self.now.core.filer))
 
 pub returns-in-Err-clause-sound : goal.returns-in-Err-clause-sound
-returns-in-Err-clause-sound g c = λ spaces_of m s unseen. c.in-Err.ensures.revealed s.stands.memory (shapes_of m.files) m.spaces (session_books spaces_of _ _ _ _ _ m s)
+returns-in-Err-clause-sound g c = λ spaces_of m s unseen temporary. c.in-Err.ensures.revealed s.stands.memory (shapes_of m.files) m.spaces (session_books spaces_of _ _ _ _ _ m s)
 
 pub returns-in-Err-clause-passes : goal.returns-in-Err-clause-passes
-returns-in-Err-clause-passes g c = λ spaces_of m s unseen. no_step spaces_of _ _ _ _ m (call.Delete c.args.id) s.stands c.attributes_of.ensures.makes (g.met.D.Disk.in_form (disk_of c.args.self.now.core.filer))
+returns-in-Err-clause-passes g c = λ spaces_of m s unseen temporary. no_step spaces_of _ _ _ _ m (call.Delete c.args.id) s.stands c.attributes_of.ensures.makes (g.met.D.Disk.in_form (disk_of c.args.self.now.core.filer))
 
 pub returns-in-Ok-clause-carried : goal.returns-in-Ok-clause-carried
-returns-in-Ok-clause-carried g c = λ spaces_of m s unseen.
+returns-in-Ok-clause-carried g c = λ spaces_of m s unseen temporary.
     let books = session_books spaces_of _ _ _ _ _ m s in
     let revealed = subst (λ (o : Option Attributes). IsAttributesOf (shapes_of m.files c.args.id) o) c.in-Ok-Some.field-0-is (c.in-Ok-Some.ensures.revealed s.stands.memory (shapes_of m.files) m.spaces books) in
     let mid = c.attributes_of.ensures.same s.stands.memory (shapes_of m.files) m.spaces books in
@@ -52,7 +57,7 @@ returns-in-Ok-clause-carried g c = λ spaces_of m s unseen.
     (ap (λ (v : Volume). v.root.serial) c.delete.ensures.rest_of_volume) (ap (λ (v : Volume). v.root.counter) c.delete.ensures.rest_of_volume) less deleted) c.delete.ensures.layout
 
 pub returns-in-Ok-clause-passes : goal.returns-in-Ok-clause-passes
-returns-in-Ok-clause-passes g c = λ spaces_of m s unseen.
+returns-in-Ok-clause-passes g c = λ spaces_of m s unseen temporary.
     let books = session_books spaces_of _ _ _ _ _ m s in
     let revealed = subst (λ (o : Option Attributes). IsAttributesOf (shapes_of m.files c.args.id) o) c.in-Ok-Some.field-0-is (c.in-Ok-Some.ensures.revealed s.stands.memory (shapes_of m.files) m.spaces books) in
     let mid = c.attributes_of.ensures.same s.stands.memory (shapes_of m.files) m.spaces books in
@@ -65,14 +70,14 @@ pub returns-in-Ok-clause-wrote : goal.returns-in-Ok-clause-wrote
 returns-in-Ok-clause-wrote g c = freed_wrote c.attributes_of.ensures.makes c.in-Ok.ensures.makes
 
 pub returns-in-Err-delete-clause-sound : goal.returns-in-Err-delete-clause-sound
-returns-in-Err-delete-clause-sound g c = λ spaces_of m s unseen.
+returns-in-Err-delete-clause-sound g c = λ spaces_of m s unseen temporary.
     let books = session_books spaces_of _ _ _ _ _ m s in
     let revealed = subst (λ (o : Option Attributes). IsAttributesOf (shapes_of m.files c.args.id) o) c.in-Ok-Some.field-0-is (c.in-Ok-Some.ensures.revealed s.stands.memory (shapes_of m.files) m.spaces books) in
     let mid = c.attributes_of.ensures.same s.stands.memory (shapes_of m.files) m.spaces books in
     c.in-Err-delete.ensures.sound s.stands.memory (shapes_of m.files) m.spaces _ (books_at _ _ _ _ _ _ _ _ mid c.attributes_of.ensures.layout) revealed (unseen_pages m c.args.id unseen)
 
 pub returns-in-Err-delete-clause-passes : goal.returns-in-Err-delete-clause-passes
-returns-in-Err-delete-clause-passes g c = λ spaces_of m s unseen.
+returns-in-Err-delete-clause-passes g c = λ spaces_of m s unseen temporary.
     let books = session_books spaces_of _ _ _ _ _ m s in
     let revealed = subst (λ (o : Option Attributes). IsAttributesOf (shapes_of m.files c.args.id) o) c.in-Ok-Some.field-0-is (c.in-Ok-Some.ensures.revealed s.stands.memory (shapes_of m.files) m.spaces books) in
     let mid = c.attributes_of.ensures.same s.stands.memory (shapes_of m.files) m.spaces books in
@@ -192,3 +197,77 @@ returns-in-Err-delete-clause-stays g c = record {
   serial = (ap (λ (v : Volume). v.root.serial) c.delete.ensures.rest_of_volume);
   layout = (search rules);
 }
+
+-- ---- Which files are spared.
+
+pub returns-in-Ok-None-clause-spares : goal.returns-in-Ok-None-clause-spares
+returns-in-Ok-None-clause-spares g c = all_but (spares_quiet c.attributes_of.ensures.makes)
+
+pub returns-in-Err-clause-spares : goal.returns-in-Err-clause-spares
+returns-in-Err-clause-spares g c = all_but (spares_quiet c.attributes_of.ensures.makes)
+
+pub returns-then-is_kept-clause-spares : goal.returns-then-is_kept-clause-spares
+returns-then-is_kept-clause-spares g c = all_but (spares_quiet c.attributes_of.ensures.makes)
+
+pub returns-in-Ok-clause-spares : goal.returns-in-Ok-clause-spares
+returns-in-Ok-clause-spares g c = but_then (all_but (spares_quiet c.attributes_of.ensures.makes)) (spares_freed c.args.id c.in-Ok.ensures.makes.1 c.in-Ok.ensures.own)
+
+pub returns-in-Err-delete-clause-spares : goal.returns-in-Err-delete-clause-spares
+returns-in-Err-delete-clause-spares g c = but_then (all_but (spares_quiet c.attributes_of.ensures.makes)) (spares_some c.args.id c.in-Err-delete.ensures.stopped c.in-Err-delete.ensures.own)
+
+pub returns-in-Ok-None-clause-lasting : goal.returns-in-Ok-None-clause-lasting
+returns-in-Ok-None-clause-lasting g c = λ is. spares_quiet c.attributes_of.ensures.makes
+
+pub returns-in-Err-clause-lasting : goal.returns-in-Err-clause-lasting
+returns-in-Err-clause-lasting g c = λ is. spares_quiet c.attributes_of.ensures.makes
+
+pub returns-then-is_kept-clause-lasting : goal.returns-then-is_kept-clause-lasting
+returns-then-is_kept-clause-lasting g c = λ is. spares_quiet c.attributes_of.ensures.makes
+
+pub returns-in-Ok-clause-lasting : goal.returns-in-Ok-clause-lasting
+returns-in-Ok-clause-lasting g c = λ is.
+    all_then (spares_quiet c.attributes_of.ensures.makes) (spares_gone c.args.id (found_temporary (view_of c.attributes_of.new.filer).disk c.args.id c.in-Ok-Some.found.permanent (subst (λ (o : Option Attributes). IfSome o (λ a. HasLeader (view_of c.attributes_of.new.filer).disk c.args.id a.permanent)) c.in-Ok-Some.field-0-is c.in-Ok-Some.ensures.marked) (not_kept c.args.anonymous c.in-Ok-Some.found.permanent is (sym c.is_kept.ensures ∙ c.if-is_kept.false))) c.in-Ok.ensures.makes.1 c.in-Ok.ensures.own)
+
+pub returns-in-Err-delete-clause-lasting : goal.returns-in-Err-delete-clause-lasting
+returns-in-Err-delete-clause-lasting g c = λ is.
+    all_then (spares_quiet c.attributes_of.ensures.makes) (spares_going c.args.id (found_temporary (view_of c.attributes_of.new.filer).disk c.args.id c.in-Ok-Some.found.permanent (subst (λ (o : Option Attributes). IfSome o (λ a. HasLeader (view_of c.attributes_of.new.filer).disk c.args.id a.permanent)) c.in-Ok-Some.field-0-is c.in-Ok-Some.ensures.marked) (not_kept c.args.anonymous c.in-Ok-Some.found.permanent is (sym c.is_kept.ensures ∙ c.if-is_kept.false))) c.in-Err-delete.ensures.stopped c.in-Err-delete.ensures.own)
+
+pub returns-then-is_kept-clause-carried : goal.returns-then-is_kept-clause-carried
+returns-then-is_kept-clause-carried g c = λ spaces_of m s unseen temporary.
+    let books = session_books spaces_of _ _ _ _ _ m s in
+    let revealed = subst (λ (o : Option Attributes). IsAttributesOf (shapes_of m.files c.args.id) o) c.in-Ok-Some.field-0-is (c.in-Ok-Some.ensures.revealed s.stands.memory (shapes_of m.files) m.spaces books) in
+    absurd (kept_hidden m c.args.id c.in-Ok-Some.found c.args.anonymous revealed temporary (sym c.is_kept.ensures ∙ c.if-is_kept.true))
+
+pub returns-then-is_kept-clause-passes : goal.returns-then-is_kept-clause-passes
+returns-then-is_kept-clause-passes g c = λ spaces_of m s unseen temporary. no_step spaces_of _ _ _ _ m (call.Delete c.args.id) s.stands c.attributes_of.ensures.makes (g.met.D.Disk.in_form (disk_of c.args.self.now.core.filer))
+
+pub returns-then-is_kept-clause-bounded : goal.returns-then-is_kept-clause-bounded
+returns-then-is_kept-clause-bounded g c = λ spaces_of m s. inside_layout (state c.args.self.now.core).layout (state c.args.self.now.core).disk (view_of c.attributes_of.new.filer).disk c.requires.size (inside _ _ _ 29 (omega arith) c.attributes_of.ensures.cost)
+
+pub returns-then-is_kept-clause-own : goal.returns-then-is_kept-clause-own
+returns-then-is_kept-clause-own g c = relabels_own (quiet_own c.args.id c.attributes_of.ensures.makes)
+
+pub returns-then-is_kept-clause-accounts : goal.returns-then-is_kept-clause-accounts
+returns-then-is_kept-clause-accounts g c = λ o k. record {
+  keeps_to = ((k.0, (c.in-Ok-Some.ensures.keeps_to o k.0 k.1.0, k.1.1)));
+  reasons = tt;
+  sees = (λ seen. let old = c.args.self.now.core in
+      seen_still o (state old) (accepted old.filer) k (view_of c.attributes_of.new.filer) (λ b. c.in-Ok-Some.ensures.keeps_to (telling o b) k.0) (file_later o c.attributes_of.ensures.makes) seen);
+}
+
+-- ---- The syncs around leaders.
+
+pub returns-in-Ok-None-clause-around : goal.returns-in-Ok-None-clause-around
+returns-in-Ok-None-clause-around g c = syncs_around (quiet_synced false c.attributes_of.ensures.makes)
+
+pub returns-in-Err-clause-around : goal.returns-in-Err-clause-around
+returns-in-Err-clause-around g c = syncs_around (quiet_synced true c.attributes_of.ensures.makes)
+
+pub returns-then-is_kept-clause-around : goal.returns-then-is_kept-clause-around
+returns-then-is_kept-clause-around g c = syncs_around (quiet_synced false c.attributes_of.ensures.makes)
+
+pub returns-in-Ok-clause-around : goal.returns-in-Ok-clause-around
+returns-in-Ok-clause-around g c = around_after (quiet_synced false c.attributes_of.ensures.makes) (wrote_synced c.in-Ok.ensures.makes.1.makes c.in-Ok.ensures.around)
+
+pub returns-in-Err-delete-clause-around : goal.returns-in-Err-delete-clause-around
+returns-in-Err-delete-clause-around g c = around_after (quiet_synced false c.attributes_of.ensures.makes) (wrote_synced c.in-Err-delete.ensures.stopped.makes c.in-Err-delete.ensures.around)

@@ -19,6 +19,8 @@ use Rattle.pilot_engine.proofs.EndNeverBlames.{end_blameless, none_no_table}
 use Rattle.pilot_engine.proofs.FormLemmas.{cut_form}
 use Rattle.pilot_engine.proofs.HomeLemmas.{file_pages}
 use Rattle.pilot_engine.proofs.LackLemmas.{cut_misses, tables_lack}
+use Rattle.pilot_engine.proofs.SparedCalls.{all_then, spares_all}
+use Rattle.pilot_engine.proofs.SparedFiles.{spares_freed, spares_some}
 use Rattle.pilot_engine.proofs.session.Session.empty.Goals as goal
 
 pub returns-in-Ok-free_tables-clause-emptied : goal.returns-in-Ok-free_tables-clause-emptied
@@ -118,3 +120,14 @@ returns-in-Err-clause-reasons g c = λ o k. (c.in-Err.ensures.accounts o k).reas
 
 pub returns-in-Err-clause-sees : goal.returns-in-Err-clause-sees
 returns-in-Err-clause-sees g c = λ o k seen. (c.in-Err.ensures.accounts o k).sees seen
+
+-- ---- Which files are spared.
+
+pub returns-in-Err-clause-spares : goal.returns-in-Err-clause-spares
+returns-in-Err-clause-spares g c = c.delete_temporary.ensures.spares
+
+pub returns-in-Ok-free_tables-clause-spares : goal.returns-in-Ok-free_tables-clause-spares
+returns-in-Ok-free_tables-clause-spares g c = all_then c.delete_temporary.ensures.spares (spares_all 3 (omega arith) (spares_freed 3 c.in-Ok-free_tables.ensures.makes c.in-Ok-free_tables.ensures.own))
+
+pub returns-in-Err-free_tables-clause-spares : goal.returns-in-Err-free_tables-clause-spares
+returns-in-Err-free_tables-clause-spares g c = all_then c.delete_temporary.ensures.spares (spares_all 3 (omega arith) (spares_some 3 c.in-Err-free_tables.ensures.stopped c.in-Err-free_tables.ensures.own))

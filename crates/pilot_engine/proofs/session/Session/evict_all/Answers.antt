@@ -57,3 +57,11 @@ returns-in-Err-clause-accounts g c = λ o k.
     }
 
 -- ---- The space tables are seen.
+
+-- ---- Which files are spared.
+
+pub returns-in-Ok-clause-spares : goal.returns-in-Ok-clause-spares
+returns-in-Ok-clause-spares g c = rw c.look_at_frames.ensures.same at c.evict_root.ensures.spares
+
+pub returns-in-Err-clause-spares : goal.returns-in-Err-clause-spares
+returns-in-Err-clause-spares g c = rw c.look_at_frames.ensures.same at c.evict_root.ensures.spares

@@ -16,6 +16,7 @@ use Rattle.flat_machine.specs.Space.{root_pages}
 use Rattle.fault_core.specs.Kill.{BreaksWithin}
 use Rattle.fault_core.specs.ReachLaws.{reach_misses}
 use Rattle.pilot_engine.proofs.HomeLemmas.{file_pages, files_later}
+use Rattle.pilot_engine.proofs.SparedCalls.{spares_quiet}
 use Rattle.pilot_engine.proofs.session.Session.evict_root.Goals as goal
 use Rattle.filer_kernel.specs.View.{accepted, disk_of, swapper_of}
 
@@ -89,3 +90,11 @@ returns-in-Err-clause-accounts g c = λ o k. record {
 }
 
 -- ---- What is seen of the space tables, and which page is reported as missing.
+
+-- ---- Which files are spared.
+
+pub returns-in-Ok-clause-spares : goal.returns-in-Ok-clause-spares
+returns-in-Ok-clause-spares g c = spares_quiet (own_makes c.evict.ensures.reaches.goes.makes)
+
+pub returns-in-Err-clause-spares : goal.returns-in-Err-clause-spares
+returns-in-Err-clause-spares g c = spares_quiet (own_makes c.evict.ensures.reaches.goes.makes)

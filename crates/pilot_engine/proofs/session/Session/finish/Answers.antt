@@ -27,3 +27,8 @@ returns-clause-sees g c = λ o keeps seen. rw c.into_disk.ensures (c.close-close
 
 pub returns-clause-syncs : goal.returns-clause-syncs
 returns-clause-syncs g c = λ m r. rw c.into_disk.ensures (c.close-closed.ensures.syncs m r)
+
+-- ---- Which files are spared.
+
+pub returns-clause-spares : goal.returns-clause-spares
+returns-clause-spares g c = rw c.into_disk.ensures c.close-closed.ensures.spares

@@ -66,4 +66,5 @@ returns g c =
       };
       width = did.width;
       unmoved = did.refused;
+      intact = did.intact;
     }

@@ -1,4 +1,4 @@
-use Rattle.std.proofs.Common.{refl, sym, ap, subst, ◌∙◌, arith, inl}
+use Rattle.std.proofs.Common.{refl, sym, ap, subst, ◌∙◌, arith, inl, false, true}
 use Rattle.labelled_disk.specs.declared.layout.Layout.{Layout}
 use Rattle.flat_machine.specs.declared.call.Call.TheVariants as call
 use Rattle.flat_machine.specs.declared.call.Refusal.TheVariants as why
@@ -29,6 +29,9 @@ use Rattle.running_words.specs.BlamelessLaws.{never_blames_form}
 use Rattle.pilot_engine.proofs.HomeLemmas.{file_pages, home_still}
 use Rattle.pilot_engine.proofs.LackLemmas.{sight_misses}
 use Rattle.pilot_engine.proofs.SeesLemmas.{then_next}
+use Rattle.pilot_engine.proofs.SparedCalls.{all_but, but_then, spares_quiet}
+use Rattle.label_calls.specs.SyncedLaws.{around_after, quiet_synced, synced_then, syncs_around}
+use Rattle.pilot_engine.proofs.OwnLemmas.{around_of}
 use Rattle.pilot_engine.proofs.session.Session.make_immutable.Goals as goal
 use Rattle.filer_kernel.specs.View.{accepted, disk_of}
 
@@ -199,3 +202,37 @@ returns-in-Err-clause-accounts g c = λ o k. record {
   reasons = (c.in-Err.ensures.accounts o k).reasons;
   sees = λ seen. (c.in-Err.ensures.accounts o k).sees seen;
 }
+
+-- ---- Which files are spared.
+
+pub returns-in-Ok-Hidden-clause-spares : goal.returns-in-Ok-Hidden-clause-spares
+returns-in-Ok-Hidden-clause-spares g c = all_but (spares_quiet c.sight.ensures.makes)
+
+pub returns-in-Err-clause-spares : goal.returns-in-Err-clause-spares
+returns-in-Err-clause-spares g c = all_but (spares_quiet c.sight.ensures.makes)
+
+pub returns-in-Ok-Some-clause-spares : goal.returns-in-Ok-Some-clause-spares
+returns-in-Ok-Some-clause-spares g c = but_then (all_but (spares_quiet c.sight.ensures.makes)) (all_but (spares_quiet c.window_on.ensures.looks.makes))
+
+pub returns-in-Err-window_on-clause-spares : goal.returns-in-Err-window_on-clause-spares
+returns-in-Err-window_on-clause-spares g c = but_then (all_but (spares_quiet c.sight.ensures.makes)) (all_but (spares_quiet c.window_on.ensures.looks.makes))
+
+pub returns-clause-spares : goal.returns-clause-spares
+returns-clause-spares g c = but_then (all_but (spares_quiet c.sight.ensures.makes)) (but_then (all_but (spares_quiet c.window_on.ensures.looks.makes)) c.mark_immutable.ensures.spares)
+
+-- ---- The syncs around leaders.
+
+pub returns-in-Ok-Hidden-clause-around : goal.returns-in-Ok-Hidden-clause-around
+returns-in-Ok-Hidden-clause-around g c = syncs_around (quiet_synced false c.sight.ensures.makes)
+
+pub returns-in-Err-clause-around : goal.returns-in-Err-clause-around
+returns-in-Err-clause-around g c = syncs_around (quiet_synced true c.sight.ensures.makes)
+
+pub returns-in-Ok-Some-clause-around : goal.returns-in-Ok-Some-clause-around
+returns-in-Ok-Some-clause-around g c = around_after (quiet_synced false c.sight.ensures.makes) (quiet_synced false c.window_on.ensures.looks.makes)
+
+pub returns-in-Err-window_on-clause-around : goal.returns-in-Err-window_on-clause-around
+returns-in-Err-window_on-clause-around g c = around_after (quiet_synced false c.sight.ensures.makes) (quiet_synced true c.window_on.ensures.looks.makes)
+
+pub returns-clause-around : goal.returns-clause-around
+returns-clause-around g c = around_of c.mark_immutable.result (synced_then (quiet_synced false c.sight.ensures.makes) (quiet_synced false c.window_on.ensures.looks.makes)) c.mark_immutable.ensures.wrote.makes c.mark_immutable.ensures.around

@@ -1,4 +1,4 @@
-use Rattle.std.proofs.Common.{refl, sym, ap, subst, ◌∙◌, arith, inl}
+use Rattle.std.proofs.Common.{refl, sym, ap, subst, ◌∙◌, arith, inl, false, true}
 use Rattle.labelled_disk.specs.declared.layout.Layout.{Layout}
 use Rattle.flat_machine.specs.declared.call.Call.TheVariants as call
 use Rattle.flat_machine.specs.declared.call.Refusal.TheVariants as why
@@ -17,6 +17,9 @@ use Rattle.pilot_engine.specs.Halting.{MarkHalts}
 use Rattle.pilot_engine.proofs.ReasonSteps.{reasons_since}
 use Rattle.file_manager.specs.declared.volume.Volume.{Volume}
 use Rattle.pilot_engine.proofs.SeesLemmas.{then_next}
+use Rattle.pilot_engine.proofs.SparedCalls.{all_but, but_then, spares_quiet}
+use Rattle.label_calls.specs.SyncedLaws.{quiet_synced, syncs_around}
+use Rattle.pilot_engine.proofs.OwnLemmas.{around_of}
 use Rattle.pilot_engine.proofs.session.Session.make_permanent.Goals as goal
 use Rattle.filer_kernel.specs.View.{disk_of}
 
@@ -117,3 +120,25 @@ returns-in-Err-clause-accounts g c = λ o k. record {
   reasons = (c.in-Err.ensures.accounts o k).reasons;
   sees = λ seen. (c.in-Err.ensures.accounts o k).sees seen;
 }
+
+-- ---- Which files are spared.
+
+pub returns-in-Ok-Hidden-clause-spares : goal.returns-in-Ok-Hidden-clause-spares
+returns-in-Ok-Hidden-clause-spares g c = all_but (spares_quiet c.sight.ensures.makes)
+
+pub returns-in-Err-clause-spares : goal.returns-in-Err-clause-spares
+returns-in-Err-clause-spares g c = all_but (spares_quiet c.sight.ensures.makes)
+
+pub returns-in-Ok-By-clause-spares : goal.returns-in-Ok-By-clause-spares
+returns-in-Ok-By-clause-spares g c = but_then (all_but (spares_quiet c.sight.ensures.makes)) c.mark_permanent.ensures.spares
+
+-- ---- The syncs around leaders.
+
+pub returns-in-Ok-Hidden-clause-around : goal.returns-in-Ok-Hidden-clause-around
+returns-in-Ok-Hidden-clause-around g c = syncs_around (quiet_synced false c.sight.ensures.makes)
+
+pub returns-in-Err-clause-around : goal.returns-in-Err-clause-around
+returns-in-Err-clause-around g c = syncs_around (quiet_synced true c.sight.ensures.makes)
+
+pub returns-in-Ok-By-clause-around : goal.returns-in-Ok-By-clause-around
+returns-in-Ok-By-clause-around g c = around_of c.mark_permanent.result (quiet_synced false c.sight.ensures.makes) c.mark_permanent.ensures.wrote.makes c.mark_permanent.ensures.around

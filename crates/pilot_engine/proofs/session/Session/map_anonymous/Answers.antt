@@ -38,6 +38,7 @@ use Rattle.pilot_engine.proofs.HomeLemmas.{files_later, home_still, none_blamele
 use Rattle.pilot_engine.proofs.HomeSteps.{last_within, on_or_blameless}
 use Rattle.pilot_engine.proofs.LackLemmas.{fails_missing_page}
 use Rattle.pilot_engine.proofs.SpaceMisses.{change_misses, path_misses}
+use Rattle.pilot_engine.proofs.SparedCalls.{all_but, but_then, spares_quiet}
 use Rattle.pilot_engine.proofs.session.Session.map_anonymous.Goals as goal
 use Rattle.filer_kernel.specs.View.{accepted, disk_of, swapper_of, view_of}
 
@@ -266,3 +267,20 @@ returns-in-Err-create-clause-accounts g c = λ o k n. record {
 }
 
 -- ---- The space tables are seen.
+
+-- ---- Which files are spared.
+
+pub returns-in-Ok-Err-clause-spares : goal.returns-in-Ok-Err-clause-spares
+returns-in-Ok-Err-clause-spares g c = all_but (spares_quiet (reached_makes c.can_map.ensures.asked.reaches))
+
+pub returns-in-Err-clause-spares : goal.returns-in-Err-clause-spares
+returns-in-Err-clause-spares g c = all_but (spares_quiet (reached_makes c.can_map.ensures.asked.reaches))
+
+pub returns-in-Err-create-clause-spares : goal.returns-in-Err-create-clause-spares
+returns-in-Err-create-clause-spares g c = but_then (all_but (spares_quiet (reached_makes c.can_map.ensures.asked.reaches))) c.create.ensures.spares
+
+pub returns-in_default-clause-spares : goal.returns-in_default-clause-spares
+returns-in_default-clause-spares g c = but_then (all_but (spares_quiet (reached_makes c.can_map.ensures.asked.reaches))) c.create.ensures.spares
+
+pub returns-clause-spares : goal.returns-clause-spares
+returns-clause-spares g c = but_then (all_but (spares_quiet (reached_makes c.can_map.ensures.asked.reaches))) (but_then c.create.ensures.spares (all_but (spares_quiet c.give_window.ensures.makes)))

@@ -1,4 +1,4 @@
-use Rattle.std.proofs.Common.{Option, refl, subst, inl, inr}
+use Rattle.std.proofs.Common.{Option, refl, subst, inl, inr, false, true}
 use Rattle.labelled_disk.specs.Label.{leader_page}
 use Rattle.session_words.specs.Volume.{volume_page}
 use Rattle.swapper_kernel.specs.GoesLaws.{makes_nothing}
@@ -21,6 +21,10 @@ use Rattle.filer_kernel.specs.View.{accepted, disk_of, view_of}
 use Rattle.pilot_engine.proofs.HomeLemmas.{file_after, file_later, file_pages, found_file, misses_file}
 use Rattle.pilot_engine.proofs.LackLemmas.{look_misses, mark_misses_own}
 use Rattle.pilot_engine.proofs.SeesLemmas.{seen_blameless, seen_still}
+use Rattle.pilot_engine.proofs.SparedCalls.{all_but, but_then, spares_quiet}
+use Rattle.pilot_engine.proofs.SparedFiles.{spares_marked}
+use Rattle.label_calls.specs.SyncedLaws.{around_after, quiet_synced, syncs_around}
+use Rattle.pilot_engine.proofs.OwnLemmas.{marked_synced}
 use Rattle.pilot_engine.proofs.session.Session.mark_permanent.Goals as goal
 
 pub returns-in-Ok-None-clause-carried : goal.returns-in-Ok-None-clause-carried
@@ -144,3 +148,31 @@ returns-in-Err-make_permanent-clause-accounts g c = λ o k. record {
 }
 
 -- ---- What is seen of the space tables, and which page is reported as missing.
+
+-- ---- Which files are spared.
+
+pub returns-in-Ok-None-clause-spares : goal.returns-in-Ok-None-clause-spares
+returns-in-Ok-None-clause-spares g c = all_but (spares_quiet c.attributes_of.ensures.makes)
+
+pub returns-in-Err-clause-spares : goal.returns-in-Err-clause-spares
+returns-in-Err-clause-spares g c = all_but (spares_quiet c.attributes_of.ensures.makes)
+
+pub returns-in-Ok-clause-spares : goal.returns-in-Ok-clause-spares
+returns-in-Ok-clause-spares g c = but_then (all_but (spares_quiet c.attributes_of.ensures.makes)) (spares_marked c.args.id Permanent c.make_permanent.ensures.makes c.make_permanent.ensures.own)
+
+pub returns-in-Err-make_permanent-clause-spares : goal.returns-in-Err-make_permanent-clause-spares
+returns-in-Err-make_permanent-clause-spares g c = but_then (all_but (spares_quiet c.attributes_of.ensures.makes)) (spares_marked c.args.id Permanent c.make_permanent.ensures.makes c.make_permanent.ensures.own)
+
+-- ---- The syncs around leaders.
+
+pub returns-in-Ok-None-clause-around : goal.returns-in-Ok-None-clause-around
+returns-in-Ok-None-clause-around g c = syncs_around (quiet_synced false c.attributes_of.ensures.makes)
+
+pub returns-in-Err-clause-around : goal.returns-in-Err-clause-around
+returns-in-Err-clause-around g c = syncs_around (quiet_synced true c.attributes_of.ensures.makes)
+
+pub returns-in-Ok-clause-around : goal.returns-in-Ok-clause-around
+returns-in-Ok-clause-around g c = around_after (quiet_synced false c.attributes_of.ensures.makes) (marked_synced Permanent c.make_permanent.ensures.makes c.in-Ok.ensures.around)
+
+pub returns-in-Err-make_permanent-clause-around : goal.returns-in-Err-make_permanent-clause-around
+returns-in-Err-make_permanent-clause-around g c = around_after (quiet_synced false c.attributes_of.ensures.makes) (marked_synced Permanent c.make_permanent.ensures.makes c.in-Err-make_permanent.ensures.around)

@@ -14,6 +14,7 @@ use Rattle.file_manager.specs.Creating.{IsMonotone}
 use Rattle.file_manager.specs.Reasons.{ShowsReason, initial_state}
 use Rattle.pilot_engine.proofs.BoundLemmas.{on_layout, start_bounded}
 use Rattle.pilot_engine.proofs.InitialStateLemmas.{begun_read}
+use Rattle.pilot_engine.proofs.SparedCalls.{clean_start}
 use Rattle.pilot_engine.proofs.session.Session.over.Goals as goal
 
 pub returns-in-Err-clause-sound : goal.returns-in-Err-clause-sound
@@ -152,3 +153,8 @@ returns-in-Err-begin-clause-bounded g c =
     let new = (view_of c.begin.new.filer).disk in
     rw c.into_disk.ensures (on_layout layout old new (sym c.in-Ok.ensures.reads.only.sectors ∙ c.in-Ok.ensures.size)
     (start_bounded layout (accepted c.in-Ok.opened.0) old.transfers read.transfers new.transfers c.in-Ok.ensures.reads.moved c.begin.ensures.cost))
+
+-- ---- No page of a client's is dirty.
+
+pub returns-in-Ok-begin-clause-clean : goal.returns-in-Ok-begin-clause-clean
+returns-in-Ok-begin-clause-clean g c = rw c.over.ensures.filer (clean_start c.in-Ok.ensures.bare c.in-Ok-begin.ensures.starts.makes)

@@ -26,6 +26,8 @@ use Rattle.filer_kernel.specs.View.{accepted, disk_of, view_of}
 use Rattle.pilot_engine.proofs.HomeLemmas.{file_after, file_later, file_pages, found_file, misses_file}
 use Rattle.pilot_engine.proofs.LackLemmas.{look_misses, size_misses_own}
 use Rattle.pilot_engine.proofs.SeesLemmas.{same_next, seen_from, seen_blameless, seen_still}
+use Rattle.pilot_engine.proofs.SparedCalls.{all_but, but_then, spares_itself, spares_quiet}
+use Rattle.pilot_engine.proofs.SparedFiles.{spares_resized, spares_resizing}
 use Rattle.pilot_engine.proofs.session.Session.resize.Goals as goal
 
 pub returns-then-not-may_be_file-clause-carried : goal.returns-then-not-may_be_file-clause-carried
@@ -282,3 +284,29 @@ returns-in-Err-set_size-clause-stays g c = record {
   serial = (ap (λ (r : Root). r.serial) c.set_size.ensures.same_numbers.0);
   layout = (search rules);
 }
+
+-- ---- Which files are spared.
+
+pub returns-then-not-may_be_file-clause-spares : goal.returns-then-not-may_be_file-clause-spares
+returns-then-not-may_be_file-clause-spares g c = all_but (spares_itself (state c.args.self.now.core).disk)
+
+pub returns-in-Ok-None-clause-spares : goal.returns-in-Ok-None-clause-spares
+returns-in-Ok-None-clause-spares g c = all_but (spares_quiet c.attributes_of.ensures.makes)
+
+pub returns-in-Err-clause-spares : goal.returns-in-Err-clause-spares
+returns-in-Err-clause-spares g c = all_but (spares_quiet c.attributes_of.ensures.makes)
+
+pub returns-then-found-clause-spares : goal.returns-then-found-clause-spares
+returns-then-found-clause-spares g c = all_but (spares_quiet c.attributes_of.ensures.makes)
+
+pub returns-in-Some-clause-spares : goal.returns-in-Some-clause-spares
+returns-in-Some-clause-spares g c = all_but (spares_quiet c.attributes_of.ensures.makes)
+
+pub returns-then-not-has_room-clause-spares : goal.returns-then-not-has_room-clause-spares
+returns-then-not-has_room-clause-spares g c = all_but (spares_quiet c.attributes_of.ensures.makes)
+
+pub returns-in-Ok-clause-spares : goal.returns-in-Ok-clause-spares
+returns-in-Ok-clause-spares g c = but_then (all_but (spares_quiet c.attributes_of.ensures.makes)) (spares_resized c.args.id c.args.pages c.in-Ok.ensures.makes c.in-Ok.ensures.own)
+
+pub returns-in-Err-set_size-clause-spares : goal.returns-in-Err-set_size-clause-spares
+returns-in-Err-set_size-clause-spares g c = but_then (all_but (spares_quiet c.attributes_of.ensures.makes)) (spares_resizing c.args.id c.args.pages c.in-Err-set_size.ensures.stopped c.in-Err-set_size.ensures.own)

@@ -17,6 +17,7 @@ use Rattle.pilot_engine.specs.Halting.{SizeHalts}
 use Rattle.pilot_engine.proofs.ReasonSteps.{reasons_since}
 use Rattle.file_manager.specs.declared.volume.Volume.{Volume}
 use Rattle.pilot_engine.proofs.SeesLemmas.{then_next}
+use Rattle.pilot_engine.proofs.SparedCalls.{all_but, but_then, spares_quiet}
 use Rattle.pilot_engine.proofs.session.Session.set_size.Goals as goal
 use Rattle.filer_kernel.specs.View.{disk_of}
 
@@ -117,3 +118,14 @@ returns-in-Err-clause-accounts g c = λ o k. record {
   reasons = (c.in-Err.ensures.accounts o k).reasons;
   sees = λ seen. (c.in-Err.ensures.accounts o k).sees seen;
 }
+
+-- ---- Which files are spared.
+
+pub returns-in-Ok-Hidden-clause-spares : goal.returns-in-Ok-Hidden-clause-spares
+returns-in-Ok-Hidden-clause-spares g c = all_but (spares_quiet c.sight.ensures.makes)
+
+pub returns-in-Err-clause-spares : goal.returns-in-Err-clause-spares
+returns-in-Err-clause-spares g c = all_but (spares_quiet c.sight.ensures.makes)
+
+pub returns-in-Ok-By-clause-spares : goal.returns-in-Ok-By-clause-spares
+returns-in-Ok-By-clause-spares g c = but_then (all_but (spares_quiet c.sight.ensures.makes)) c.resize.ensures.spares

@@ -1,3 +1,4 @@
+use Rattle.std.proofs.Common.{}
 use Rattle.pilot_engine.proofs.session.Session.step.Goals as goal
 
 pub returns-then-is_err-clause-answers : goal.returns-then-is_err-clause-answers
@@ -59,3 +60,19 @@ returns-else-is_err-clause-accounts g c = λ o k n. record {
   reasons = (c.answer-answer.ensures.accounts o k n).reasons;
   sees = λ seen. (c.answer-answer.ensures.accounts o k n).sees seen;
 }
+
+-- ---- Which files are spared.
+
+pub returns-then-is_err-clause-spares : goal.returns-then-is_err-clause-spares
+returns-then-is_err-clause-spares g c = c.answer-answer.ensures.spares
+
+pub returns-else-is_err-clause-spares : goal.returns-else-is_err-clause-spares
+returns-else-is_err-clause-spares g c = c.answer-answer.ensures.spares
+
+-- ---- The syncs around leaders.
+
+pub returns-then-is_err-clause-around : goal.returns-then-is_err-clause-around
+returns-then-is_err-clause-around g c = c.answer-answer.ensures.around
+
+pub returns-else-is_err-clause-around : goal.returns-else-is_err-clause-around
+returns-else-is_err-clause-around g c = c.answer-answer.ensures.around

@@ -10,7 +10,7 @@ use Rattle.table_calls.specs.Answers.{TablesSay, Reveals}
 use Rattle.space_calls.specs.Unmapping.{IsGivenUp, IsRefused, IsTaken, ShowsIn}
 use Rattle.space_calls.proofs.RunLemmas.{reached_makes}
 use Rattle.running_words.specs.Running.{Runs}
-use Rattle.pilot_engine.proofs.AnonymousLemmas.{hidden_alike, hidden_carried, hidden_numbers, is_set, left_unseen, not_taken, passes_still, plain_carried, refused_undone, took, unset, waited_carried}
+use Rattle.pilot_engine.proofs.AnonymousLemmas.{hidden_alike, hidden_carried, hidden_numbers, is_set, left_temporary, left_unseen, not_taken, passes_still, plain_carried, refused_undone, took, unset, waited_carried}
 use Rattle.pilot_engine.proofs.BoundLemmas.{asked_inside, spent_around, spent_besides}
 use Rattle.pilot_engine.proofs.LiftLemmas.{asked_passes, carried_out, refused_running, still_open}
 use Rattle.pilot_engine.proofs.PassThen.{quiet_then}
@@ -28,6 +28,7 @@ use Rattle.pilot_engine.specs.Stepping.{missing_page}
 use Rattle.pilot_engine.proofs.HomeLemmas.{home_on, home_still, none_blameless}
 use Rattle.pilot_engine.proofs.HomeSteps.{fault_blameless}
 use Rattle.pilot_engine.proofs.SpaceMisses.{fault_misses, take_window_misses, unmap_misses}
+use Rattle.pilot_engine.proofs.SparedCalls.{all_then, spares_quiet}
 use Rattle.pilot_engine.proofs.session.Session.unmap.Goals as goal
 use Rattle.filer_kernel.specs.View.{accepted, disk_of, view_of}
 
@@ -101,9 +102,9 @@ returns-in-Err-delete_unseen-clause-answers g c = λ m r.
     let t = took m c.args.space c.in-Ok-Ok.shown (λ n. Runs c.take_window.new.core c.args.self.now.volume n) (subst (λ (x : Result Shown Refusal). Reveals (first_of (window_row m.spaces c.args.space)) (IsTaken m c.args.space (λ n. Runs c.take_window.new.core c.args.self.now.volume n)) x) c.in-Ok-Ok.field-0-is (c.in-Ok-Ok.ensures.taken c.args.self.now.volume m r)) in
     record {
       carried = tt;
-      sound = (c.in-Err-delete_unseen.ensures.sound _ _ t.left.session (left_unseen m r.session.stands.is.by.machine c.args.space t.s t.here c.in-Ok-Ok.shown t.window t.free (is_set _ c.if-not-shown.false)));
+      sound = (c.in-Err-delete_unseen.ensures.sound _ _ t.left.session (left_unseen m r.session.stands.is.by.machine c.args.space t.s t.here c.in-Ok-Ok.shown t.window t.free (is_set _ c.if-not-shown.false)) (λ set. left_temporary m r.session.stands.is.by.machine c.args.space t.s t.here c.in-Ok-Ok.shown t.window t.free (is_set _ c.if-not-shown.false)));
       passes = (quiet_then m _ (call.Unmap c.args.space) (call.Delete c.in-Ok-Ok.shown.id) (asked_passes c.args.self.now.core c.args.self.now.volume m call.Volume r (g.met.D.Disk.in_form (disk_of c.args.self.now.core.filer)) c.take_window.ensures.makes)
-          (c.delete_unseen.ensures.passes _ _ t.left.session (left_unseen m r.session.stands.is.by.machine c.args.space t.s t.here c.in-Ok-Ok.shown t.window t.free (is_set _ c.if-not-shown.false))) (omega arith) (hidden_alike m r.session.stands.is.by.machine c.args.space t.s t.here c.in-Ok-Ok.shown t.window t.free (is_set _ c.if-not-shown.false)) (hidden_numbers m r.session.stands.is.by.machine c.args.space t.s t.here c.in-Ok-Ok.shown t.window t.free (is_set _ c.if-not-shown.false)));
+          (c.delete_unseen.ensures.passes _ _ t.left.session (left_unseen m r.session.stands.is.by.machine c.args.space t.s t.here c.in-Ok-Ok.shown t.window t.free (is_set _ c.if-not-shown.false)) (λ set. left_temporary m r.session.stands.is.by.machine c.args.space t.s t.here c.in-Ok-Ok.shown t.window t.free (is_set _ c.if-not-shown.false))) (omega arith) (hidden_alike m r.session.stands.is.by.machine c.args.space t.s t.here c.in-Ok-Ok.shown t.window t.free (is_set _ c.if-not-shown.false)) (hidden_numbers m r.session.stands.is.by.machine c.args.space t.s t.here c.in-Ok-Ok.shown t.window t.free (is_set _ c.if-not-shown.false)));
       cost = (spent_besides (state c.args.self.now.core).disk (state c.take_window.new.core).disk (state c.delete_unseen.new.self.core).disk c.take_window.ensures.makes.went.sectors (let few = c.take_window.ensures.cost in omega (arith, few)) (c.delete_unseen.ensures.bounded _ _ t.left.session));
     }
 
@@ -124,13 +125,13 @@ returns-in-Err-delete_unseen-clause-stays g c = record {
 pub returns-in-Ok-sync-clause-answers : goal.returns-in-Ok-sync-clause-answers
 returns-in-Ok-sync-clause-answers g c = λ m r.
     let t = took m c.args.space c.in-Ok-Ok.shown (λ n. Runs c.take_window.new.core c.args.self.now.volume n) (subst (λ (x : Result Shown Refusal). Reveals (first_of (window_row m.spaces c.args.space)) (IsTaken m c.args.space (λ n. Runs c.take_window.new.core c.args.self.now.volume n)) x) c.in-Ok-Ok.field-0-is (c.in-Ok-Ok.ensures.taken c.args.self.now.volume m r)) in
-    let carried = hidden_carried m r.session.stands.is.by.machine c.args.space t.s t.here c.in-Ok-Ok.shown t.window t.free (is_set _ c.if-not-shown.false) c.delete_unseen.new.self.core c.delete_unseen.new.self.volume (Ok c.in-Ok.done) (carried_out c.take_window.new.core c.delete_unseen.new.self.core c.args.self.now.volume c.delete_unseen.new.self.volume _ (call.Delete c.in-Ok-Ok.shown.id) c.delete_unseen.ensures.kept c.delete_unseen.ensures.intervals refl t.left (Ok c.in-Ok.done) (λ spaces_of s. c.in-Ok.ensures.carried spaces_of _ s (left_unseen m r.session.stands.is.by.machine c.args.space t.s t.here c.in-Ok-Ok.shown t.window t.free (is_set _ c.if-not-shown.false)))) in
+    let carried = hidden_carried m r.session.stands.is.by.machine c.args.space t.s t.here c.in-Ok-Ok.shown t.window t.free (is_set _ c.if-not-shown.false) c.delete_unseen.new.self.core c.delete_unseen.new.self.volume (Ok c.in-Ok.done) (carried_out c.take_window.new.core c.delete_unseen.new.self.core c.args.self.now.volume c.delete_unseen.new.self.volume _ (call.Delete c.in-Ok-Ok.shown.id) c.delete_unseen.ensures.kept c.delete_unseen.ensures.intervals refl t.left (Ok c.in-Ok.done) (λ spaces_of s. c.in-Ok.ensures.carried spaces_of _ s (left_unseen m r.session.stands.is.by.machine c.args.space t.s t.here c.in-Ok-Ok.shown t.window t.free (is_set _ c.if-not-shown.false)) (λ set. left_temporary m r.session.stands.is.by.machine c.args.space t.s t.here c.in-Ok-Ok.shown t.window t.free (is_set _ c.if-not-shown.false)))) in
     record {
       carried = (waited_carried c.delete_unseen.new.self.core c.sync.new.core (accepted c.delete_unseen.new.self.core.filer) (c.delete_unseen.ensures.wrote.makes.went.sectors ∙ c.take_window.ensures.makes.went.sectors ∙ c.requires.size ∙ ap (λ (l : Layout). l.sectors) (sym (c.delete_unseen.ensures.stays.layout ∙ c.take_window.ensures.layout))) c.delete_unseen.new.self.volume m (call.Unmap c.args.space) c.in-Ok.done carried c.sync.ensures.reaches c.sync.ensures.frames c.sync.ensures.intervals c.sync.ensures.known);
       sound = tt;
       passes = (passes_still m (call.Unmap c.args.space)
           (quiet_then m _ (call.Unmap c.args.space) (call.Delete c.in-Ok-Ok.shown.id) (asked_passes c.args.self.now.core c.args.self.now.volume m call.Volume r (g.met.D.Disk.in_form (disk_of c.args.self.now.core.filer)) c.take_window.ensures.makes)
-          (c.delete_unseen.ensures.passes _ _ t.left.session (left_unseen m r.session.stands.is.by.machine c.args.space t.s t.here c.in-Ok-Ok.shown t.window t.free (is_set _ c.if-not-shown.false))) (omega arith) (hidden_alike m r.session.stands.is.by.machine c.args.space t.s t.here c.in-Ok-Ok.shown t.window t.free (is_set _ c.if-not-shown.false)) (hidden_numbers m r.session.stands.is.by.machine c.args.space t.s t.here c.in-Ok-Ok.shown t.window t.free (is_set _ c.if-not-shown.false)))
+          (c.delete_unseen.ensures.passes _ _ t.left.session (left_unseen m r.session.stands.is.by.machine c.args.space t.s t.here c.in-Ok-Ok.shown t.window t.free (is_set _ c.if-not-shown.false)) (λ set. left_temporary m r.session.stands.is.by.machine c.args.space t.s t.here c.in-Ok-Ok.shown t.window t.free (is_set _ c.if-not-shown.false))) (omega arith) (hidden_alike m r.session.stands.is.by.machine c.args.space t.s t.here c.in-Ok-Ok.shown t.window t.free (is_set _ c.if-not-shown.false)) (hidden_numbers m r.session.stands.is.by.machine c.args.space t.s t.here c.in-Ok-Ok.shown t.window t.free (is_set _ c.if-not-shown.false)))
           c.sync.ensures.same);
       cost = (spent_around (state c.args.self.now.core).disk (state c.take_window.new.core).disk (state c.delete_unseen.new.self.core).disk (state c.sync.new.core).disk c.take_window.ensures.makes.went.sectors (let few = c.take_window.ensures.cost in omega (arith, few))
           (c.delete_unseen.ensures.bounded _ _ t.left.session) (let few = c.sync.ensures.cost in omega (arith, few)));
@@ -155,7 +156,7 @@ returns-in-Err-sync-clause-answers g c = λ m r.
       sound = c.in-Err-sync.ensures.fault;
       passes = (passes_still m (call.Unmap c.args.space)
           (quiet_then m _ (call.Unmap c.args.space) (call.Delete c.in-Ok-Ok.shown.id) (asked_passes c.args.self.now.core c.args.self.now.volume m call.Volume r (g.met.D.Disk.in_form (disk_of c.args.self.now.core.filer)) c.take_window.ensures.makes)
-          (c.delete_unseen.ensures.passes _ _ t.left.session (left_unseen m r.session.stands.is.by.machine c.args.space t.s t.here c.in-Ok-Ok.shown t.window t.free (is_set _ c.if-not-shown.false))) (omega arith) (hidden_alike m r.session.stands.is.by.machine c.args.space t.s t.here c.in-Ok-Ok.shown t.window t.free (is_set _ c.if-not-shown.false)) (hidden_numbers m r.session.stands.is.by.machine c.args.space t.s t.here c.in-Ok-Ok.shown t.window t.free (is_set _ c.if-not-shown.false)))
+          (c.delete_unseen.ensures.passes _ _ t.left.session (left_unseen m r.session.stands.is.by.machine c.args.space t.s t.here c.in-Ok-Ok.shown t.window t.free (is_set _ c.if-not-shown.false)) (λ set. left_temporary m r.session.stands.is.by.machine c.args.space t.s t.here c.in-Ok-Ok.shown t.window t.free (is_set _ c.if-not-shown.false))) (omega arith) (hidden_alike m r.session.stands.is.by.machine c.args.space t.s t.here c.in-Ok-Ok.shown t.window t.free (is_set _ c.if-not-shown.false)) (hidden_numbers m r.session.stands.is.by.machine c.args.space t.s t.here c.in-Ok-Ok.shown t.window t.free (is_set _ c.if-not-shown.false)))
           c.sync.ensures.same);
       cost = (spent_around (state c.args.self.now.core).disk (state c.take_window.new.core).disk (state c.delete_unseen.new.self.core).disk (state c.sync.new.core).disk c.take_window.ensures.makes.went.sectors (let few = c.take_window.ensures.cost in omega (arith, few))
           (c.delete_unseen.ensures.bounded _ _ t.left.session) (let few = c.sync.ensures.cost in omega (arith, few)));
@@ -289,3 +290,23 @@ pub returns-in-Err-sync-clause-missing : goal.returns-in-Err-sync-clause-missing
 returns-in-Err-sync-clause-missing g c = λ ss sees. fault_misses (missing_page (call.Unmap c.args.space) ss) c.in-Err-sync.halt c.in-Err-sync.ensures.fault
 
 -- ---- The space tables are seen.
+
+-- ---- Which files are spared.
+
+pub returns-in-Ok-Err-clause-spares : goal.returns-in-Ok-Err-clause-spares
+returns-in-Ok-Err-clause-spares g c = spares_quiet c.take_window.ensures.makes
+
+pub returns-in-Err-clause-spares : goal.returns-in-Err-clause-spares
+returns-in-Err-clause-spares g c = spares_quiet c.take_window.ensures.makes
+
+pub returns-then-not-shown-clause-spares : goal.returns-then-not-shown-clause-spares
+returns-then-not-shown-clause-spares g c = spares_quiet c.take_window.ensures.makes
+
+pub returns-in-Err-delete_unseen-clause-spares : goal.returns-in-Err-delete_unseen-clause-spares
+returns-in-Err-delete_unseen-clause-spares g c = all_then (spares_quiet c.take_window.ensures.makes) (c.delete_unseen.ensures.lasting refl)
+
+pub returns-in-Ok-sync-clause-spares : goal.returns-in-Ok-sync-clause-spares
+returns-in-Ok-sync-clause-spares g c = all_then (all_then (spares_quiet c.take_window.ensures.makes) (c.delete_unseen.ensures.lasting refl)) (spares_quiet (reached_makes c.sync.ensures.reaches))
+
+pub returns-in-Err-sync-clause-spares : goal.returns-in-Err-sync-clause-spares
+returns-in-Err-sync-clause-spares g c = all_then (all_then (spares_quiet c.take_window.ensures.makes) (c.delete_unseen.ensures.lasting refl)) (spares_quiet (reached_makes c.sync.ensures.reaches))

@@ -6,6 +6,7 @@ use Rattle.pilot_engine.proofs.EndLemmas.{closed_valid, reveals_shut, valid_at}
 use Rattle.pilot_engine.proofs.ShutBySyncLemmas.{sets_flag}
 use Rattle.pilot_engine.proofs.ShutLemmas.{any_root}
 use Rattle.pilot_engine.proofs.TableStops.{stops_root}
+use Rattle.pilot_engine.proofs.SparedCalls.{spares_root}
 use Rattle.pilot_engine.proofs.session.Session.write_clean.Goals as goal
 use Rattle.filer_kernel.specs.View.{disk_of, view_of}
 use Rattle.fault_core.specs.Core.{state}
@@ -83,3 +84,19 @@ returns-in-Err-clause-sets g c =
     λ m ready.
     let long = g.met.D.Disk.whole (disk_of c.args.self.now.core.filer) ready.sectors ready.revealed ∙ c.requires.size in
     sets_flag m r old new ready (valid_at _ _ r long c.requires.opened.valid) either
+
+-- ---- Which files are spared.
+
+pub returns-in-Ok-clause-spares : goal.returns-in-Ok-clause-spares
+returns-in-Ok-clause-spares g c =
+    let old = (view_of c.args.self.now.core.filer).disk in
+    let new = g.D.Disk.state c.write_root.new.disk in
+    let wrote : RevealsWrite (root_write c.closed-root.result) old new = search rules in
+    spares_root _ _ (inr wrote)
+
+pub returns-in-Err-clause-spares : goal.returns-in-Err-clause-spares
+returns-in-Err-clause-spares g c =
+    let old = (view_of c.args.self.now.core.filer).disk in
+    let new = g.D.Disk.state c.write_root.new.disk in
+    let wrote : RevealsSame old new ⊎ RevealsWrite (root_write c.closed-root.result) old new = search rules in
+    spares_root _ _ wrote

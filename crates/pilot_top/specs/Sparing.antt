@@ -1,0 +1,67 @@
+-- Files that no line of a trace touches, whatever the maps of the volume say.
+use Rattle.std.specs.Prelude.{◌≡◌, ◌≢◌, ◌==◌, ◌<◌, ◌≤◌, ℕ, Bool, true, false, if◌then◌else◌, List, Option, Some, None, slice_get}
+use Rattle.std.specs.List.{list_any}
+use Rattle.std.specs.Option.{option_map_or}
+use Rattle.labelled_disk.specs.declared.disk.DiskWrite.{DiskWrite}
+use Rattle.labelled_disk.specs.CrashState.{crash_state}
+use Rattle.labelled_disk.specs.Root.{root_page}
+use Rattle.labelled_disk.specs.Sectors.{Sector}
+use Rattle.labelled_disk.specs.State.{DiskState}
+use Rattle.labelled_disk.specs.WriteRuns.{Appended}
+use Rattle.frame_pool.specs.Frames.{Slots}
+use Rattle.flat_machine.specs.declared.call.Call.TheVariants.{Store}
+use Rattle.flat_machine.specs.After.{TraceLine}
+use Rattle.swapper_kernel.specs.Goes.{Makes, Wrote}
+use Rattle.session_words.specs.Volume.{volume_page}
+use Rattle.volume_root.specs.declared.root.Root.{Root}
+use Rattle.volume_root.specs.RootPage.{root_in}
+use Rattle.file_manager.specs.Creating.{next_id}
+use Rattle.pilot_engine.specs.Sparing.{HasSameLabels, IsLasting, Spares}
+use Rattle.pilot_engine.specs.Stepping.{relabels}
+use Rattle.pilot_top.specs.Parts.{LineWrote}
+
+-- the line deletes this file, gives it another size, or marks it
+abbrev pub names_file : ℕ → TraceLine → Bool
+names_file id None = false
+names_file id (Some c) = option_map_or (λ n. n == id) (relabels c) false
+
+-- the line stores bytes
+abbrev pub stores : TraceLine → Bool
+stores None = false
+stores (Some (Store address bytes)) = true
+stores (Some other) = false
+
+-- a client's file: the volume gave its identifier out, and no leader of it is a temporary one's
+pub record IsPermanentFile (id : ℕ) (d : List Sector) : Type 0 where
+  pub client : 16 ≤ id
+  pub given : id < next_id (root_in (root_page d))
+  pub lasting : IsLasting id d
+
+-- the sector, where its label names this file
+abbrev pub sector_for : ℕ → Option Sector → Option Sector
+sector_for id None = None
+sector_for id (Some s) = if s.0.id == id then Some s else None
+
+-- each sector after the root has the label and the bytes of the file that it had, or none as before
+abbrev pub HasSameSectors : ℕ → List Sector → List Sector → Type 0
+HasSameSectors id d e = (i : ℕ) → 0 < i → sector_for id (slice_get e i) ≡ sector_for id (slice_get d i)
+
+-- Writes were made, and in each crash state of them the file has the labels that it had on these sectors: none is lost, and no other sector
+-- has one. Where no line of the trace stores bytes, it has its bytes too.
+pub record Spared (id : ℕ) (lines : List TraceLine) (d : List Sector) (old new : DiskState) : Type 0 where
+  pub writes : List DiskWrite
+  pub appended : Appended writes old new
+  pub labels : (k : ℕ) → HasSameLabels id d (crash_state d writes k)
+  pub sectors : list_any stores lines ≡ false → (k : ℕ) → HasSameSectors id d (crash_state d writes k)
+
+-- What a line wrote, in a session whose volume has this root: it spares the files that it does not name, unless it gives a new file their
+-- identifier; and one that stores nothing makes no page of a client's dirty.
+pub record LineDone (root : Root) (line : TraceLine) (old : DiskState) (before : Slots) (new : DiskState) (after : Slots) : Type 0 where
+  pub wrote : LineWrote line old new
+  pub spares : (id : ℕ) → 16 ≤ id → next_id root ≢ id → names_file id line ≡ false → Spares id old new
+  pub quiet : stores line ≡ false → (run : List DiskWrite) × Makes volume_page run old before new after
+
+-- so it is of all lines of a trace, from a session's start to its end
+pub record RunSpares (root : Root) (lines : List TraceLine) (old : DiskState) (before : Slots) (new : DiskState) : Type 0 where
+  pub spares : (id : ℕ) → 16 ≤ id → id < next_id root → list_any (names_file id) lines ≡ false → Spares id old new
+  pub quiet : list_any stores lines ≡ false → (run : List DiskWrite) × Wrote volume_page run old before new
