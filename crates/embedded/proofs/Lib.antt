@@ -2,3 +2,5 @@ mod CallLemmas
 mod OpenLemmas
 mod ReferenceLemmas
 mod PieceLemmas
+mod FaultLemmas
+mod PutLemmas

@@ -3,9 +3,9 @@ use Rattle.std.proofs.Common.{◌≡◌, ◌≢◌, ◌⊎◌, ◌∙◌, ℕ, z
 use Rattle.std.specs.Prelude.{slice_get, slice_range, take, drop}
 use Rattle.std.proofs.Math.Seq.{take-add}
 use Rattle.std.proofs.lemmas.Bool.{cases_lt}
-use Rattle.std.proofs.lemmas.List.{append-nil, length-take-le}
+use Rattle.std.proofs.lemmas.List.{append-nil, length-drop, length-take-le}
 use Rattle.std.proofs.lemmas.List.Folds.{concat-append}
-use Rattle.std.specs.List.{AllZip, concat}
+use Rattle.std.specs.List.{AllByRecursion, AllZip, concat}
 use Rattle.labelled_disk.specs.declared.disk.Disk.{Ghosts}
 use Rattle.labelled_disk.specs.declared.evidence.Halt.TheVariants as halt
 use Rattle.flat_machine.specs.declared.call.Call.{Call}
@@ -109,6 +109,18 @@ lead_then m address (bytes ∷ rest) n piece lead free =
           (lead_then (next m (call.Store address bytes)) (address + length bytes) rest n piece lead.1 (subst (λ (a : ℕ). refusal n (call.Store a piece) ≡ None) at free)),
     )
 
+-- no piece is empty, nor one more after them
+some_then : (pieces : List (List ℕ)) (piece : List ℕ) → AllByRecursion (λ p. 1 ≤ length p) pieces → 1 ≤ length piece
+    → AllByRecursion (λ p. 1 ≤ length p) (pieces ++ piece ∷ [])
+some_then [] piece h l = (l, tt)
+some_then (p ∷ ps) piece h l = (h.0, some_then ps piece h.1 l)
+
+piece_long : (done n : ℕ) (bytes : List ℕ) → done ≤ length bytes → n ≤ length bytes - done → length (slice_range bytes done (done + n)) ≡ n
+piece_long done n bytes within fits =
+    let count : (done + n) - done ≡ n = omega arith in
+    ap (λ (k : ℕ). length (take k (drop done bytes))) count
+    ∙ length-take-le n (drop done bytes) (omega (arith, length-drop done bytes, within, fits))
+
 module _ {D A : Type 0} {G : Ghosts D} where
   -- a load that is answered by a reply
   pub load_replied : (m : Machine) (address count : ℕ) (x : Reply) (new : Engine D A G) → Follows m (call.Load address count) (Ok x) new
@@ -139,22 +151,24 @@ module _ {D A : Type 0} {G : Ghosts D} where
 
   -- nothing was stored yet
   pub stored_none : (m : Machine) (address : ℕ) (bytes : List ℕ) (e : Engine D A G) → StandsFor e m → Stored m address 0 bytes e
-  stored_none m address bytes e stands = record { pieces = []; whole = refl; after = m; lead = refl; stands = stands }
+  stored_none m address bytes e stands = record { pieces = []; some = tt; whole = refl; after = m; lead = refl; stands = stands }
 
   -- the same bytes were stored where the engine still stands for the machine after them
   pub stored_still : (m : Machine) (address done : ℕ) (bytes : List ℕ) (old new : Engine D A G) (s : Stored m address done bytes old) → StandsFor new s.after → Stored m address done bytes new
-  stored_still m address done bytes old new s still = record { pieces = s.pieces; whole = s.whole; after = s.after; lead = s.lead; stands = still }
+  stored_still m address done bytes old new s still = record { pieces = s.pieces; some = s.some; whole = s.whole; after = s.after; lead = s.lead; stands = still }
 
   -- and a piece after the first bytes
   pub stored_then : (m : Machine) (address done n : ℕ) (bytes : List ℕ) (old new : Engine D A G) (s : Stored m address done bytes old) → done ≤ length bytes
-      → StoredPiece s.after (address + done) (slice_range bytes done (done + n)) new → Stored m address (done + n) bytes new
-  stored_then m address done n bytes old new s within p =
+      → IsPiece (address + done) (length bytes - done) n → StoredPiece s.after (address + done) (slice_range bytes done (done + n)) new
+      → Stored m address (done + n) bytes new
+  stored_then m address done n bytes old new s within is p =
       let piece = slice_range bytes done (done + n) in
       let long : length (concat s.pieces) ≡ done = ap (λ (l : List ℕ). length l) s.whole ∙ length-take-le done bytes within in
       let at : address + done ≡ address + length (concat s.pieces) = omega (arith, long) in
       let count : (done + n) - done ≡ n = omega arith in
       record {
         pieces = s.pieces ++ piece ∷ [];
+        some = some_then s.pieces piece s.some (omega (arith, piece_long done n bytes within is.within, is.some));
         whole = concat-append s.pieces (piece ∷ []) ∙ ap (λ (l : List ℕ). l ++ (piece ++ [])) s.whole ∙ ap (λ (l : List ℕ). take done bytes ++ l) (append-nil piece)
             ∙ ap (λ (k : ℕ). take done bytes ++ take k (drop done bytes)) count ∙ sym (take-add done n bytes);
         after = next s.after (call.Store (address + length (concat s.pieces)) piece);

@@ -1,5 +1,5 @@
 -- What an engine holds, and the machine that its session stands for.
-use Rattle.std.specs.Prelude.{◌≡◌, Bool, true, false, Option, Some, None, IfSome}
+use Rattle.std.specs.Prelude.{◌≡◌, ◌≤◌, Bool, true, false, Option, Some, None, IfSome}
 use Rattle.labelled_disk.specs.declared.disk.Disk.{Ghosts}
 use Rattle.labelled_disk.specs.State.{DiskState}
 use Rattle.flat_machine.specs.Machine.{Machine}
@@ -12,6 +12,13 @@ use Rattle.fault_core.specs.Core.{state}
 abbrev pub OfBoth : (DiskState → DiskState → Type 0) → Option DiskState → Option DiskState → Type 0
 OfBoth P (Some old) (Some new) = P old new
 OfBoth P old new = ⊥
+
+-- as many faults were counted on a disk later, or more; one that was let go of stays so
+abbrev pub AreNoFewer : Option DiskState → Option DiskState → Type 0
+AreNoFewer (Some old) (Some new) = old.faults ≤ new.faults
+AreNoFewer (Some old) None = ⊥
+AreNoFewer None (Some new) = ⊥
+AreNoFewer None None = Unit {0}
 
 module _ {D A : Type 0} {G : Ghosts D} where
   abbrev pub disk_in : Held D A G → Option DiskState
@@ -50,3 +57,7 @@ module _ {D A : Type 0} {G : Ghosts D} where
   -- it has a disk before and after, and so it is of their states
   abbrev pub Between : (DiskState → DiskState → Type 0) → Engine D A G → Engine D A G → Type 0
   Between P old new = OfBoth P (disk_of old) (disk_of new)
+
+  -- no fault that was counted on its disk before is lost
+  abbrev pub LosesNoFault : Engine D A G → Engine D A G → Type 0
+  LosesNoFault old new = AreNoFewer (disk_of old) (disk_of new)

@@ -1,7 +1,7 @@
 -- Bytes that are loaded and stored in a row, from an address on.
 use Rattle.std.specs.Prelude.{◌≡◌, ◌⊎◌, ◌+◌, ◌-◌, ◌%◌, ◌<◌, ◌≤◌, ℕ, List, [], ◌∷◌, length, take, slice_get, slice_range}
 use Rattle.std.specs.Prelude.{Some, None, MatchOption}
-use Rattle.std.specs.List.{concat}
+use Rattle.std.specs.List.{AllByRecursion, concat}
 use Rattle.labelled_disk.specs.declared.disk.Disk.{Ghosts}
 use Rattle.labelled_disk.specs.declared.evidence.Halt.TheVariants as halt
 use Rattle.flat_machine.specs.declared.call.Call.{Call}
@@ -65,9 +65,11 @@ module _ {D A : Type 0} {G : Ghosts D} where
   abbrev pub StoredPiece : Machine → ℕ → List ℕ → Engine D A G → Type 0
   StoredPiece m address bytes e = (refusal m (Store address bytes) ≡ None) × StandsFor e (next m (Store address bytes))
 
-  -- The first bytes, so many, were stored, by stores in a row, and the session stands for the machine after them.
+  -- The first bytes, so many, were stored, by stores in a row of some bytes each, and the session stands for the machine
+  -- after them.
   pub record Stored (m : Machine) (address done : ℕ) (bytes : List ℕ) (e : Engine D A G) : Type 0 where
     pub pieces : List (List ℕ)
+    pub some : AllByRecursion (λ piece. 1 ≤ length piece) pieces
     pub whole : concat pieces ≡ take done bytes
     pub after : Machine
     pub lead : Lead m address pieces after

@@ -1,10 +1,11 @@
 //! Bytes of any length, loaded and stored page by page.
 ghost use Rattle.std.specs.Prelude.{◌≡◌, ◌⊎◌, ℕ, ◌+◌, ◌-◌, ◌≤◌, ◌<◌, ◌^◌, length, slice_get, Ok, Err, None, Some, IfOk, IfErr, OnOk, OnErr, MatchOption};
+ghost use Rattle.labelled_disk.specs.Calls.{Rose};
 ghost use Rattle.labelled_disk.specs.declared.evidence.Halt.TheVariants as halt;
 ghost use Rattle.flat_machine.specs.Machine.{Machine};
 ghost use Rattle.pilot_engine.specs.Referring.{IsAtOnce};
 ghost use Rattle.embedded.specs.Called.{HasStopped};
-ghost use Rattle.embedded.specs.Engine.{IsClosed, StandsFor};
+ghost use Rattle.embedded.specs.Engine.{Between, IsClosed, LosesNoFault, StandsFor};
 ghost use Rattle.embedded.specs.References.{AreAt, IsPiece, StopsAfter, StopsLoad, Stored};
 
 use crate::{Code, Engine};
@@ -37,15 +38,6 @@ fn address_after(address: u32, done: usize) -> Option<u32>
     }
 }
 
-// Puts bytes in place, after so many others.
-fn put(bytes: &[u8], into: &mut [u8], done: usize)
-    requires { done + length bytes.now ≤ length into.old }
-    ensures put { (k : ℕ) → k < length bytes.now → slice_get into.new (done + k) ≡ slice_get bytes.now k }
-    ensures rest { (k : ℕ) → (k < done) ⊎ (done + length bytes.now ≤ k) → slice_get into.new k ≡ slice_get into.old k }
-{
-    into[done..done + bytes.len()].copy_from_slice(bytes);
-}
-
 impl<D: Disk + Drop, A: Allocator> Engine<D, A> {
     // Loads the piece after the first bytes, and says how long it is.
     fn load_next(&mut self, address: u32, into: &mut [u8], done: usize) -> Result<usize, Code>
@@ -62,18 +54,16 @@ impl<D: Disk + Drop, A: Allocator> Engine<D, A> {
         ensures closed { IsClosed self.old → address + done < 2 ^ 32
             → (result ≡ Err Code.Closed) × (self.new ≡ self.old) }
         ensures stopped { (why : Halt) → result ≡ Err (Code.Halted why) → HasStopped why self.new }
+        ensures cause { result ≡ Err (Code.Halted halt.Disk)
+            → Between (λ before after. Rose before.faults after.faults) self.old self.new }
+        ensures faults { OnOk result (LosesNoFault self.old self.new) }
     {
         let Some(at) = address_after(address, done) else {
             return Err(PAST_END);
         };
         let count = in_piece(at, into.len() - done);
-        let mut page = [0; PIECE as usize];
-        let piece = &mut page[..count];
-        match self.load_piece(at, piece) {
-            Ok(()) => {
-                put(piece, into, done);
-                Ok(count)
-            }
+        match self.load_piece(at, &mut into[done..done + count]) {
+            Ok(()) => Ok(count),
             Err(code) => Err(code),
         }
     }
@@ -91,6 +81,9 @@ impl<D: Disk + Drop, A: Allocator> Engine<D, A> {
         ensures closed { IsClosed self.old → address + done < 2 ^ 32
             → (result ≡ Err Code.Closed) × (self.new ≡ self.old) }
         ensures stopped { (why : Halt) → result ≡ Err (Code.Halted why) → HasStopped why self.new }
+        ensures cause { result ≡ Err (Code.Halted halt.Disk)
+            → Between (λ before after. Rose before.faults after.faults) self.old self.new }
+        ensures faults { OnOk result (LosesNoFault self.old self.new) }
     {
         let Some(at) = address_after(address, done) else {
             return Err(PAST_END);
@@ -116,6 +109,8 @@ impl<D: Disk + Drop, A: Allocator> Engine<D, A> {
         ensures closed { IsClosed self.old → 1 ≤ length into.old
             → (result.0 ≡ 0) × (result.1 ≡ Err Code.Closed) × (self.new ≡ self.old) }
         ensures stopped { (why : Halt) → result.1 ≡ Err (Code.Halted why) → HasStopped why self.new }
+        ensures cause { result.1 ≡ Err (Code.Halted halt.Disk)
+            → Between (λ before after. Rose before.faults after.faults) self.old self.new }
     {
         let mut done = 0;
         'pieces: while done < into.len() {
@@ -139,6 +134,8 @@ impl<D: Disk + Drop, A: Allocator> Engine<D, A> {
         ensures closed { IsClosed self.old → 1 ≤ length bytes.now
             → (result.0 ≡ 0) × (result.1 ≡ Err Code.Closed) × (self.new ≡ self.old) }
         ensures stopped { (why : Halt) → result.1 ≡ Err (Code.Halted why) → HasStopped why self.new }
+        ensures cause { result.1 ≡ Err (Code.Halted halt.Disk)
+            → Between (λ before after. Rose before.faults after.faults) self.old self.new }
     {
         let mut done = 0;
         'pieces: while done < bytes.len() {

@@ -1,10 +1,11 @@
 //! One load or store of up to a page, answered by why it was not carried out.
-ghost use Rattle.std.specs.Prelude.{◌≡◌, length};
+ghost use Rattle.std.specs.Prelude.{◌≡◌, ◌+◌, ◌%◌, ◌≤◌, length, OnErr, OnOk};
 ghost use Rattle.flat_machine.specs.declared.call.Call.TheVariants as call;
 ghost use Rattle.flat_machine.specs.declared.call.Reply.TheVariants as reply;
 ghost use Rattle.pilot_engine.specs.Referring.{IsAtOnce};
 ghost use Rattle.embedded.specs.Answers.{answer_of, replied};
 ghost use Rattle.embedded.specs.Called.{Called};
+ghost use Rattle.embedded.specs.Engine.{LosesNoFault};
 
 use crate::held::Held;
 use crate::{Code, Engine};
@@ -25,11 +26,13 @@ fn answer_of(access: Access) -> Result<(), Code>
 }
 
 impl<D: Disk + Drop, A: Allocator> Engine<D, A> {
-    // Loads 1 to 512 bytes.
+    // Loads 1 to 512 bytes. Where they are on one page, and are not loaded, none is moved.
     pub(crate) fn load_piece(&mut self, address: u32, into: &mut [u8]) -> Result<(), Code>
         requires { IsAtOnce (length into.old) }
         ensures called { Called (call.Load address (length into.old)) self.old (replied (reply.Bytes into.new) result) self.new }
         ensures width { length into.new ≡ length into.old }
+        ensures intact { address % 512 + length into.old ≤ 512 → OnErr result (into.new ≡ into.old) }
+        ensures faults { OnOk result (LosesNoFault self.old self.new) }
     {
         let Held::Session(live) = &mut self.held else {
             return Err(Code::Closed);
@@ -46,7 +49,8 @@ impl<D: Disk + Drop, A: Allocator> Engine<D, A> {
     // Stores 1 to 512 bytes.
     pub(crate) fn store_piece(&mut self, address: u32, bytes: &[u8]) -> Result<(), Code>
         requires { IsAtOnce (length bytes.now) }
-        ensures { Called (call.Store address bytes.now) self.old (replied reply.Done result) self.new }
+        ensures called { Called (call.Store address bytes.now) self.old (replied reply.Done result) self.new }
+        ensures faults { OnOk result (LosesNoFault self.old self.new) }
     {
         let Held::Session(live) = &mut self.held else {
             return Err(Code::Closed);

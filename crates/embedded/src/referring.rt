@@ -1,8 +1,9 @@
 //! One load or store in a session that has what it requires.
-ghost use Rattle.std.specs.Prelude.{◌≡◌, length, true};
+ghost use Rattle.std.specs.Prelude.{◌≡◌, ◌≢◌, ◌+◌, ◌%◌, ◌≤◌, length, true, IfOk, OnErr};
 ghost use Rattle.flat_machine.specs.declared.call.Call.TheVariants as call;
 ghost use Rattle.flat_machine.specs.declared.call.Reply.TheVariants as reply;
 ghost use Rattle.flat_machine.specs.Machine.{Machine};
+ghost use Rattle.fault_core.specs.declared.reference.Access.TheVariants as access;
 ghost use Rattle.running_words.specs.Running.{Runs};
 ghost use Rattle.pilot_engine.specs.Referring.{IsAtOnce, Refers, RefersIn};
 
@@ -20,6 +21,8 @@ impl<D: Disk, A: Allocator> Live<D, A> {
             → RefersIn m (call.Load address (length into.old)) (reply.Bytes into.new) self.old.session result self.new.session }
         ensures refers { Refers (call.Load address (length into.old)) self.old.session result self.new.session }
         ensures width { length into.new ≡ length into.old }
+        ensures unmoved { IfOk result (λ a. a ≢ access.Done → into.new ≡ into.old) }
+        ensures intact { address % 512 + length into.old ≤ 512 → OnErr result (into.new ≡ into.old) }
     {
         self.session.load(address, into)
     }

@@ -1,7 +1,9 @@
 use Rattle.std.proofs.Common.{◌≡◌, ◌∙◌, ◌+◌, ◌-◌, ℕ, ap, subst, Err}
+use Rattle.labelled_disk.specs.declared.evidence.Halt.TheVariants as halt
 use Rattle.embedded.specs.declared.code.Code.{Code}
 use Rattle.embedded.specs.declared.code.Code.TheVariants as code
 use Rattle.embedded.specs.References.{StopsLoad}
+use Rattle.embedded.proofs.FaultLemmas.{rose_since}
 use Rattle.embedded.proofs.engine.Engine.load.Goals as goal
 
 -- a halt is the piece's
@@ -15,3 +17,10 @@ pub returns-in-Err-clause-stops : goal.returns-in-Err-clause-stops
 returns-in-Err-clause-stops g c = λ m stands low.
     subst (λ (k : ℕ). StopsLoad m (c.args.address + c.pieces.done) (k - c.pieces.done) c.in-Err.code) c.pieces.invariant.long
     (c.in-Err.ensures.stops m (c.pieces.invariant.loaded m stands).0 low)
+
+-- the disk is blamed where the piece's call blames it, and no fault was lost before
+pub returns-in-Err-clause-cause : goal.returns-in-Err-clause-cause
+returns-in-Err-clause-cause g c = λ is.
+    let same : c.in-Err.code ≡ code.Halted halt.Disk = cc is in
+    rose_since c.args.self.now c.pieces.self c.load_next.new.self c.pieces.invariant.faults
+    (c.load_next.ensures.cause (c.in-Err.is ∙ ap (λ (e : Code). Err e) same))

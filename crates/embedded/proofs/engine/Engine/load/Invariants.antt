@@ -1,7 +1,7 @@
 use Rattle.std.proofs.Common.{◌≡◌, ◌≤◌, ◌-◌, ℕ, length}
 use Rattle.std.specs.Prelude.{slice_get}
 use Rattle.flat_machine.specs.Machine.{Machine}
-use Rattle.embedded.specs.Engine.{IsClosed, StandsFor}
+use Rattle.embedded.specs.Engine.{IsClosed, LosesNoFault, StandsFor}
 use Rattle.embedded.specs.References.{AreAt}
 use Rattle.embedded.proofs.engine.Engine.load.Given as goal
 
@@ -12,6 +12,7 @@ invariant-pieces g l = record {
   long : length l.into ≡ length l.fn.into;
   loaded : (m : Machine) → StandsFor l.fn.self m → StandsFor l.self m × AreAt m l.address l.done l.into;
   rest : (k : ℕ) → l.done ≤ k → slice_get l.into k ≡ slice_get l.fn.into k;
+  faults : LosesNoFault l.fn.self l.self;
   closed : IsClosed l.fn.self → (l.done ≡ 0) × (l.self ≡ l.fn.self);
 }
 

@@ -1,9 +1,12 @@
-use Rattle.std.proofs.Common.{◌≡◌, ◌∙◌, ◌⊎◌, ◌+◌, ◌-◌, ◌<◌, ◌≤◌, ℕ, List, length, ap, arith, subst, sym, inl, inr, Err, rules}
+use Rattle.std.proofs.Common.{◌≡◌, ◌∙◌, ◌+◌, ◌-◌, ◌%◌, ◌≤◌, ℕ, List, length, ap, arith, subst, sym, inl, inr, Err, rules}
+use Rattle.labelled_disk.specs.declared.evidence.Halt.TheVariants as halt
 use Rattle.embedded.specs.declared.code.Code.{Code}
 use Rattle.embedded.specs.declared.code.Code.TheVariants as code
 use Rattle.embedded.specs.References.{AreAt, StopsLoad}
+use Rattle.embedded.proofs.PutLemmas.{put_here, put_other}
 use Rattle.embedded.proofs.PieceLemmas.{loaded_at}
 use Rattle.embedded.proofs.ReferenceLemmas.{load_err, load_stops, placed}
+use borrow.Rule.Slice.PartMut.{mid_of, put_mid, put_same}
 use Rattle.embedded.proofs.engine.Engine.load_next.Goals as goal
 
 pub returns-in-Ok-clause-loaded : goal.returns-in-Ok-clause-loaded
@@ -11,17 +14,30 @@ returns-in-Ok-clause-loaded g c = λ m stands had.
     let address = c.args.address in
     let done = c.args.done in
     let n = c.in_piece-count.result in
+    let into = c.args.into.now in
     let bytes = c.load_piece.new.into in
+    let part = (done + n) - done in
+    let fits : done + n ≤ length into = search rules in
     let long : length bytes ≡ n = search rules in
     let piece : AreAt m (address + done) n bytes =
     subst (λ (a : ℕ). AreAt m a n bytes) c.in-Some.ensures
     (subst (λ (k : ℕ). AreAt m c.in-Some.at k bytes) (sym c.load_piece.ensures.width ∙ long) (loaded_at m _ _ _ _ _ c.in-Ok.ensures.called stands).0) in
-    placed m address done n c.args.into.now c.put.new.into bytes had piece
-    (λ k far. c.put.ensures.rest k (subst (λ (i : ℕ). (k < done) ⊎ (done + i ≤ k)) (sym long) far))
-    (λ k within. c.put.ensures.put k (omega (arith, long, within)))
+    placed m address done n into (put_mid done part into bytes) bytes had piece
+    (put_other done n part into bytes fits long (omega arith))
+    (put_here done n part into bytes fits long (omega arith))
 
 pub returns-in-Ok-clause-still : goal.returns-in-Ok-clause-still
 returns-in-Ok-clause-still g c = λ m stands. inl (loaded_at m _ _ _ _ _ c.in-Ok.ensures.called stands).1
+
+-- the piece is on one page, so none of it was moved
+pub returns-in-Err-clause-other : goal.returns-in-Err-clause-other
+returns-in-Err-clause-other g c =
+    let done = c.args.done in
+    let n = c.in_piece-count.result in
+    let into = c.args.into.now in
+    let part = (done + n) - done in
+    let on_page : c.in-Some.at % 512 + length (mid_of done part into) ≤ 512 = search rules in
+    ap (λ (ys : List ℕ). put_mid done part into ys) (c.in-Err.ensures.intact on_page) ∙ put_same done part into
 
 pub returns-in-Err-clause-still : goal.returns-in-Err-clause-still
 returns-in-Err-clause-still g c = λ m stands. elim (load_err m _ _ _ _ _ c.in-Err.ensures.called stands) [
@@ -44,3 +60,9 @@ returns-in-Err-clause-stops g c = λ m stands low.
     let long : length bytes ≡ n = search rules in
     subst (λ (a : ℕ). StopsLoad m a rest c.in-Err.code) c.in-Some.ensures
     (load_stops m c.in-Some.at rest _ n _ _ _ (sym c.load_piece.ensures.width ∙ long) c.in_piece-count.ensures.piece c.in-Err.ensures.called stands)
+
+-- and the disk is blamed where the piece's call blames it
+pub returns-in-Err-clause-cause : goal.returns-in-Err-clause-cause
+returns-in-Err-clause-cause g c = λ is.
+    let same : c.in-Err.code ≡ code.Halted halt.Disk = cc is in
+    c.in-Err.ensures.called.cause (ap (λ (e : Code). Err e) same)

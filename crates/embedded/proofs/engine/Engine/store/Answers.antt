@@ -1,6 +1,8 @@
 use Rattle.std.proofs.Common.{◌≡◌, ◌∙◌, ap, Err}
+use Rattle.labelled_disk.specs.declared.evidence.Halt.TheVariants as halt
 use Rattle.embedded.specs.declared.code.Code.{Code}
 use Rattle.embedded.specs.declared.code.Code.TheVariants as code
+use Rattle.embedded.proofs.FaultLemmas.{rose_since}
 use Rattle.embedded.proofs.engine.Engine.store.Goals as goal
 
 -- a halt is the piece's
@@ -12,3 +14,10 @@ returns-in-Err-clause-stopped g c = λ why is.
 -- and so is why it stops
 pub returns-in-Err-clause-stops : goal.returns-in-Err-clause-stops
 returns-in-Err-clause-stops g c = λ m stands low. c.in-Err.ensures.stops m (c.pieces.invariant.stored m stands) low
+
+-- the disk is blamed where the piece's call blames it, and no fault was lost before
+pub returns-in-Err-clause-cause : goal.returns-in-Err-clause-cause
+returns-in-Err-clause-cause g c = λ is.
+    let same : c.in-Err.code ≡ code.Halted halt.Disk = cc is in
+    rose_since c.args.self.now c.pieces.self c.store_next.new.self c.pieces.invariant.faults
+    (c.store_next.ensures.cause (c.in-Err.is ∙ ap (λ (e : Code). Err e) same))

@@ -1,6 +1,6 @@
 use Rattle.std.proofs.Common.{◌≡◌, ◌≤◌, ◌-◌, length}
 use Rattle.flat_machine.specs.Machine.{Machine}
-use Rattle.embedded.specs.Engine.{IsClosed, StandsFor}
+use Rattle.embedded.specs.Engine.{IsClosed, LosesNoFault, StandsFor}
 use Rattle.embedded.specs.References.{Stored}
 use Rattle.embedded.proofs.engine.Engine.store.Given as goal
 
@@ -9,6 +9,7 @@ abbrev pub invariant-pieces : goal.invariant-pieces
 invariant-pieces g l = record {
   within : l.done ≤ length l.bytes;
   stored : (m : Machine) → StandsFor l.fn.self m → Stored m l.address l.done l.bytes l.self;
+  faults : LosesNoFault l.fn.self l.self;
   closed : IsClosed l.fn.self → (l.done ≡ 0) × (l.self ≡ l.fn.self);
 }
 

@@ -1,5 +1,6 @@
 use Rattle.std.proofs.Common.{◌≡◌, ◌+◌, ◌-◌, ℕ, ap, arith, length, subst, Err, inl, inr}
 use Rattle.std.specs.Prelude.{slice_range}
+use Rattle.labelled_disk.specs.declared.evidence.Halt.TheVariants as halt
 use Rattle.flat_machine.specs.declared.call.Call.TheVariants as call
 use Rattle.embedded.specs.declared.code.Code.{Code}
 use Rattle.embedded.specs.declared.code.Code.TheVariants as code
@@ -14,11 +15,12 @@ returns-in-Ok-clause-stored g c = λ m s.
     let done = c.args.done in
     let n = c.in_piece-count.result in
     stored_then m c.args.address done n bytes c.args.self.now c.store_piece.new.self s (omega (arith, c.requires))
+    (subst (λ (a : ℕ). IsPiece a (length bytes - done) n) c.in-Some.ensures c.in_piece-count.ensures.piece)
     (subst (λ (a : ℕ). StoredPiece s.after a (slice_range bytes done (done + n)) c.store_piece.new.self) c.in-Some.ensures
-    (store_ok s.after _ _ _ _ _ c.in-Ok.ensures s.stands))
+    (store_ok s.after _ _ _ _ _ c.in-Ok.ensures.called s.stands))
 
 pub returns-in-Err-clause-still : goal.returns-in-Err-clause-still
-returns-in-Err-clause-still g c = λ m s. elim (store_err s.after _ _ _ _ _ c.in-Err.ensures s.stands) [
+returns-in-Err-clause-still g c = λ m s. elim (store_err s.after _ _ _ _ _ c.in-Err.ensures.called s.stands) [
   | inl still ↦ inl (stored_still m _ _ _ _ _ s still)
   | inr is ↦ inr is
 ]
@@ -27,7 +29,7 @@ returns-in-Err-clause-still g c = λ m s. elim (store_err s.after _ _ _ _ _ c.in
 pub returns-in-Err-clause-stopped : goal.returns-in-Err-clause-stopped
 returns-in-Err-clause-stopped g c = λ why is.
     let same : c.in-Err.code ≡ code.Halted why = cc is in
-    c.in-Err.ensures.stopped why (ap (λ (e : Code). Err e) same)
+    c.in-Err.ensures.called.stopped why (ap (λ (e : Code). Err e) same)
 
 -- the machine refuses the piece, or the disk failed
 pub returns-in-Err-clause-stops : goal.returns-in-Err-clause-stops
@@ -38,4 +40,10 @@ returns-in-Err-clause-stops g c = λ m s low.
     let why = c.in-Err.code in
     store_stops m c.args.address done n bytes c.args.self.now c.store_piece.new.self why s
     (subst (λ (a : ℕ). IsPiece a (length bytes - done) n) c.in-Some.ensures c.in_piece-count.ensures.piece)
-    (subst (λ (a : ℕ). Called (call.Store a (slice_range bytes done (done + n))) c.args.self.now (Err why) c.store_piece.new.self) c.in-Some.ensures c.in-Err.ensures)
+    (subst (λ (a : ℕ). Called (call.Store a (slice_range bytes done (done + n))) c.args.self.now (Err why) c.store_piece.new.self) c.in-Some.ensures c.in-Err.ensures.called)
+
+-- and the disk is blamed where the piece's call blames it
+pub returns-in-Err-clause-cause : goal.returns-in-Err-clause-cause
+returns-in-Err-clause-cause g c = λ is.
+    let same : c.in-Err.code ≡ code.Halted halt.Disk = cc is in
+    c.in-Err.ensures.called.cause (ap (λ (e : Code). Err e) same)
