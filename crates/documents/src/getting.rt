@@ -1,10 +1,13 @@
 //! A document is got: its head is read, and then its bytes go to a sink.
-ghost use Rattle.std.specs.Prelude.{◌≡◌, ◌≢◌, ◌≤◌, ◌<◌, ◌+◌, ◌*◌, ◌^◌, length, Err, IfOk, IfErr, OnOk};
+ghost use Rattle.std.specs.Prelude.{◌≡◌, ◌≢◌, ◌⊎◌, ◌≤◌, ◌<◌, ◌+◌, ◌*◌, ◌^◌, length, Err, Some, IfOk, IfErr, OnOk, MatchResult};
 ghost use Rattle.trace_io.specs.Stream.{HasCause, Rose};
 ghost use Rattle.embedded.specs.Called.{HasStopped};
-ghost use Rattle.embedded.specs.Engine.{IsClosed};
+ghost use Rattle.flat_machine.specs.File.{File, file_at};
+ghost use Rattle.flat_machine.specs.Machine.{Machine};
+ghost use Rattle.embedded.specs.Engine.{IsClosed, StandsFor};
 ghost use Rattle.documents.specs.Course.{Led, is_look};
 ghost use Rattle.documents.specs.Ends.{TookSoMany};
+ghost use Rattle.documents.specs.Stands.{HasGot, HasGotPages, HasSent, StillFor, is_failure};
 
 use crate::window::load_pages;
 use crate::{Fault, Head, Listed, Progress, describe};
@@ -33,6 +36,9 @@ fn copy_piece<D: Disk + Drop, A: Allocator, S: Sink>(
     ensures later { S.faults sink.old ≤ S.faults sink.new }
     ensures width { length piece.new ≡ length piece.old }
     ensures other { result ≢ Err Fault.NoDocument }
+    ensures sent { (m : Machine) (f : File) → StandsFor engine.old m → file_at m.files id ≡ Some f → MatchResult result
+        (λ done. HasSent m f (512 * page) (length piece.old) (S.took sink.old) (S.took sink.new) engine.new)
+        (λ e. (e ≡ Fault.Call is_failure) ⊎ StillFor m engine.new) }
     ensures led { OnOk result (Led is_look engine.old engine.new) }
     ensures output { result ≡ Err Fault.Output → Rose (S.faults sink.old) (S.faults sink.new) }
     ensures stopped { (why : Halt) → result ≡ Err (Fault.Call (Code.Halted why)) → HasStopped why engine.new }
@@ -58,6 +64,10 @@ fn copy<D: Disk + Drop, A: Allocator, S: Sink, P: Progress>(
     requires { 512 * part.page + part.bytes < 2 ^ 41 }
     ensures taken { OnOk result (TookSoMany part.bytes (S.took sink.old) (S.took sink.new)) }
     ensures other { result ≢ Err Fault.NoDocument }
+    ensures sent { (m : Machine) (f : File) → StandsFor engine.old m → file_at m.files part.id ≡ Some f
+        → MatchResult result
+        (λ done. HasSent m f (512 * part.page) part.bytes (S.took sink.old) (S.took sink.new) engine.new)
+        (λ e. (e ≡ Fault.Call is_failure) ⊎ StillFor m engine.new) }
     ensures led { OnOk result (Led is_look engine.old engine.new) }
     ensures output { result ≡ Err Fault.Output → Rose (S.faults sink.old) (S.faults sink.new) }
     ensures stopped { (why : Halt) → result ≡ Err (Fault.Call (Code.Halted why)) → HasStopped why engine.new }
@@ -93,6 +103,9 @@ pub fn get<D: Disk + Drop, A: Allocator, S: Sink, P: Progress>(
     sink: &mut S,
     progress: &mut P,
 ) -> Result<Head, Fault>
+    ensures got { (m : Machine) → StandsFor engine.old m → MatchResult result
+        (λ head. HasGot m id head (S.took sink.old) (S.took sink.new) engine.new)
+        (λ e. (e ≡ Fault.Call is_failure) ⊎ StillFor m engine.new) }
     ensures taken { IfOk result (λ head. TookSoMany head.bytes (S.took sink.old) (S.took sink.new)) }
     ensures nothing { result ≡ Err Fault.NoDocument → sink.new ≡ sink.old }
     ensures closed { IsClosed engine.old
@@ -130,6 +143,9 @@ pub fn get_pages<D: Disk + Drop, A: Allocator, S: Sink, P: Progress>(
     sink: &mut S,
     progress: &mut P,
 ) -> Result<u32, Fault>
+    ensures got { (m : Machine) → StandsFor engine.old m → MatchResult result
+        (λ pages. HasGotPages m id pages (S.took sink.old) (S.took sink.new) engine.new)
+        (λ e. (e ≡ Fault.Call is_failure) ⊎ StillFor m engine.new) }
     ensures taken { IfOk result (λ pages. TookSoMany (512 * pages) (S.took sink.old) (S.took sink.new)) }
     ensures closed { IsClosed engine.old
         → (result ≡ Err (Fault.Call Code.Closed)) × (engine.new ≡ engine.old) × (sink.new ≡ sink.old) }

@@ -1,9 +1,11 @@
 //! What the files of a volume are, one after the other.
-ghost use Rattle.std.specs.Prelude.{◌≡◌, Err, IfOk, IfSome, OnOk, OnSome};
-ghost use Rattle.document_head.specs.Head.{pages_of};
+ghost use Rattle.std.specs.Prelude.{◌≡◌, ◌⊎◌, Err, IfOk, IfSome, OnOk, OnSome, MatchResult};
+ghost use Rattle.document_head.specs.Head.{head_page, pages_of};
+ghost use Rattle.flat_machine.specs.Machine.{Machine};
 ghost use Rattle.embedded.specs.Called.{HasStopped};
-ghost use Rattle.embedded.specs.Engine.{IsClosed};
+ghost use Rattle.embedded.specs.Engine.{IsClosed, StandsFor};
 ghost use Rattle.documents.specs.Course.{Led, is_look};
+ghost use Rattle.documents.specs.Stands.{HasRead, IsListed, StillFor, is_failure};
 
 use crate::window::load_pages;
 use crate::{Head, KIND};
@@ -28,6 +30,10 @@ fn head_in<D: Disk + Drop, A: Allocator>(
     pages: u32,
 ) -> Result<Option<Head>, Code>
     ensures pages { IfOk result (λ found. IfSome found (λ head. pages ≡ pages_of head.bytes)) }
+    ensures read { (m : Machine) → StandsFor engine.old m → MatchResult result
+        (λ found. IfSome found (λ head. HasRead m id 0 (head_page head.bytes head.name.bytes) engine.new)
+        × StillFor m engine.new)
+        (λ e. (e ≡ is_failure) ⊎ StillFor m engine.new) }
     ensures led { OnOk result (Led is_look engine.old engine.new) }
     ensures stopped { (why : Halt) → result ≡ Err (Code.Halted why) → HasStopped why engine.new }
 {
@@ -44,6 +50,9 @@ pub fn describe<D: Disk + Drop, A: Allocator>(
     id: FileId,
 ) -> Result<Listed, Code>
     ensures pages { IfOk result (λ file. IfSome file.head (λ head. file.pages ≡ pages_of head.bytes)) }
+    ensures listed { (m : Machine) → StandsFor engine.old m → MatchResult result
+        (λ file. IsListed m id file.pages file.kind file.head engine.new)
+        (λ e. (e ≡ is_failure) ⊎ StillFor m engine.new) }
     ensures led { OnOk result (Led is_look engine.old engine.new) }
     ensures closed { IsClosed engine.old → (result ≡ Err Code.Closed) × (engine.new ≡ engine.old) }
     ensures stopped { (why : Halt) → result ≡ Err (Code.Halted why) → HasStopped why engine.new }

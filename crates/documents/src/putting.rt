@@ -1,10 +1,17 @@
 //! A document is put: its bytes, then its head, and last the mark that lets it outlast the session.
-ghost use Rattle.std.specs.Prelude.{◌≡◌, ◌⊎◌, ◌≤◌, ◌<◌, ◌+◌, ◌*◌, ◌^◌, length, Ok, Err, IfOk, IfErr, OnOk};
+ghost use Rattle.std.specs.Prelude.{◌≡◌, ◌⊎◌, ◌≤◌, ◌<◌, ◌+◌, ◌*◌, ◌^◌, ℕ, length, Ok, Err, IfOk, IfErr, OnOk, MatchResult};
+ghost use Rattle.std.specs.Int.{div_ceil};
 ghost use Rattle.std.specs.Io.KnownBytes.{IsAtEnd};
 ghost use Rattle.trace_io.specs.Stream.{Rose};
 ghost use Rattle.embedded.specs.Called.{HasStopped};
-ghost use Rattle.embedded.specs.Engine.{IsClosed};
+ghost use Rattle.document_head.specs.Head.{head_page};
+ghost use Rattle.flat_machine.specs.File.{File, size};
+ghost use Rattle.flat_machine.specs.Machine.{Machine};
+ghost use Rattle.flat_machine.specs.Next.{new_id};
+ghost use Rattle.embedded.specs.Engine.{IsClosed, StandsFor};
 ghost use Rattle.documents.specs.Course.{Led, is_quiet};
+ghost use Rattle.documents.specs.Pieces.{adding, appended, marked, written};
+ghost use Rattle.documents.specs.Stands.{HasFilled, HasOther, IsAsBefore, IsFresh, IsPut, blank, is_failure};
 ghost use Rattle.documents.specs.Ends.{EndsWith, IsUndone, Marked};
 
 use crate::streams::fill;
@@ -22,6 +29,7 @@ const FULL: Code = Code::Refused(Refusal::Full);
 // The file that was made.
 fn file_of(made: Result<Reply, Code>) -> Result<FileId, Code>
     ensures ok { IfOk result (λ id. made ≡ Ok (Reply.File id)) }
+    ensures file { (id : ℕ) → made ≡ Ok (Reply.File id) → result ≡ Ok id }
     ensures code { (code : Code) → made ≡ Err code → result ≡ Err code }
     ensures halted { (why : Halt) → result ≡ Err (Code.Halted why) → made ≡ Err (Code.Halted why) }
 {
@@ -36,6 +44,9 @@ fn file_of(made: Result<Reply, Code>) -> Result<FileId, Code>
 fn new_file<D: Disk + Drop, A: Allocator>(engine: &mut Engine<D, A>) -> Result<FileId, Code>
     ensures led { OnOk result (Led is_quiet engine.old engine.new) }
     ensures created { EndsWith (Call.Create 1 17475) engine.new }
+    ensures made { (m : Machine) → StandsFor engine.old m → MatchResult result
+        (λ id. (id ≡ new_id m) × StandsFor engine.new (adding (blank m) m))
+        (λ e. (e ≡ is_failure) ⊎ StandsFor engine.new m) }
     ensures closed { IsClosed engine.old → (result ≡ Err Code.Closed) × (engine.new ≡ engine.old) }
     ensures stopped { (why : Halt) → result ≡ Err (Code.Halted why) → HasStopped why engine.new }
 {
@@ -51,6 +62,11 @@ fn append<D: Disk + Drop, A: Allocator>(
     bytes: &[u8],
 ) -> Result<u32, Code>
     ensures room { IfOk result (λ all. 512 * pages + length bytes.now ≤ 512 * all) }
+    ensures count { IfOk result (λ all. all ≡ pages + div_ceil (length bytes.now) 512) }
+    ensures grown { (m : Machine) (f : File) → IsFresh m id → f.id ≡ id → size f ≡ pages
+        → StandsFor engine.old (adding f m)
+        → MatchResult result (λ all. StandsFor engine.new (adding (appended all pages bytes.now f) m))
+        (λ e. (e ≡ is_failure) ⊎ HasOther m id engine.new) }
     ensures led { OnOk result (Led is_quiet engine.old engine.new) }
     ensures stopped { (why : Halt) → result ≡ Err (Code.Halted why) → HasStopped why engine.new }
 {
@@ -80,6 +96,9 @@ fn append_all<D: Disk + Drop, A: Allocator, S: Source, P: Progress>(
 ) -> Result<u64, Fault>
     ensures led { OnOk result (Led is_quiet engine.old engine.new) }
     ensures ended { OnOk result (IsAtEnd (S.left source.new)) }
+    ensures filled { (m : Machine) → IsFresh m id → id ≡ new_id m → StandsFor engine.old (adding (blank m) m)
+        → MatchResult result (λ count. HasFilled m count (S.left source.old) (S.left source.new) engine.new)
+        (λ e. (e ≡ Fault.Call is_failure) ⊎ HasOther m id engine.new) }
     ensures input { result ≡ Err Fault.Input → Rose (S.faults source.old) (S.faults source.new) }
     ensures stopped { (why : Halt) → result ≡ Err (Fault.Call (Code.Halted why)) → HasStopped why engine.new }
 {
@@ -117,6 +136,11 @@ fn seal<D: Disk + Drop, A: Allocator>(
     head: &Head,
 ) -> Result<(), Code>
     ensures marked { OnOk result (Marked id engine.old engine.new) }
+    ensures sealed { (m : Machine) (f : File) → IsFresh m id → f.id ≡ id → StandsFor engine.old (adding f m)
+        → MatchResult result
+        (λ done. StandsFor engine.new (adding (marked (written 0 (head_page head.now.bytes head.now.name.bytes) f)) m))
+        (λ e. (e ≡ is_failure) ⊎ HasOther m id engine.new) }
+    ensures wide { length (head_page head.now.bytes head.now.name.bytes) ≡ 512 }
     ensures stopped { (why : Halt) → result ≡ Err (Code.Halted why) → HasStopped why engine.new }
 {
     match store_pages(engine, id, 0, &head.to_page()) {
@@ -140,6 +164,9 @@ fn fill_file<D: Disk + Drop, A: Allocator, S: Source, P: Progress>(
 ) -> Result<(), Fault>
     ensures marked { OnOk result (Marked id engine.old engine.new) }
     ensures ended { OnOk result (IsAtEnd (S.left source.new)) }
+    ensures document { (m : Machine) → IsFresh m id → id ≡ new_id m → StandsFor engine.old (adding (blank m) m)
+        → MatchResult result (λ done. IsPut m id name.bytes (S.left source.old) engine.new)
+        (λ e. (e ≡ Fault.Call is_failure) ⊎ HasOther m id engine.new) }
     ensures input { result ≡ Err Fault.Input → Rose (S.faults source.old) (S.faults source.new) }
     ensures stopped { (why : Halt) → result ≡ Err (Fault.Call (Code.Halted why)) → HasStopped why engine.new }
 {
@@ -155,8 +182,9 @@ fn fill_file<D: Disk + Drop, A: Allocator, S: Source, P: Progress>(
 
 // What is answered where a document was not made, and its file was deleted: a halt, where that stopped.
 pub(crate) fn fault_after(fault: Fault, deleted: Result<Reply, Code>) -> Fault
-    ensures { (result ≡ fault)
+    ensures which { (result ≡ fault)
         ⊎ ((why : Halt) × (deleted ≡ Err (Code.Halted why)) × (result ≡ Fault.Call (Code.Halted why))) }
+    ensures halted { (why : Halt) → deleted ≡ Err (Code.Halted why) → result ≡ Fault.Call (Code.Halted why) }
 {
     match deleted {
         Err(Code::Halted(halt)) => Fault::Call(Code::Halted(halt)),
@@ -178,6 +206,10 @@ pub fn put<D: Disk + Drop, A: Allocator, S: Source, P: Progress>(
     ensures named { 255 < length name.now → (result ≡ Err Fault.LongName) × (engine.new ≡ engine.old) }
     ensures closed { IsClosed engine.old → length name.now ≤ 255
         → (result ≡ Err (Fault.Call Code.Closed)) × (engine.new ≡ engine.old) × (source.new ≡ source.old) }
+    ensures document { (m : Machine) → StandsFor engine.old m
+        → IfOk result (λ id. IsPut m id name.now (S.left source.old) engine.new) }
+    ensures kept { (m : Machine) → StandsFor engine.old m
+        → IfErr result (λ e. (e ≡ Fault.Call is_failure) ⊎ IsAsBefore m engine.new) }
     ensures ended { OnOk result (IsAtEnd (S.left source.new)) }
     ensures input { result ≡ Err Fault.Input → Rose (S.faults source.old) (S.faults source.new) }
     ensures stopped { (why : Halt) → result ≡ Err (Fault.Call (Code.Halted why)) → HasStopped why engine.new }

@@ -1,9 +1,11 @@
 //! Documents are removed, and others put in their place.
-ghost use Rattle.std.specs.Prelude.{◌≡◌, Err, IfOk, OnOk};
+ghost use Rattle.std.specs.Prelude.{◌≡◌, ◌⊎◌, Err, IfOk, IfErr, OnOk, MatchResult};
+ghost use Rattle.flat_machine.specs.Machine.{Machine};
 ghost use Rattle.embedded.specs.Called.{HasStopped};
-ghost use Rattle.embedded.specs.Engine.{IsClosed};
+ghost use Rattle.embedded.specs.Engine.{IsClosed, StandsFor};
 ghost use Rattle.documents.specs.Course.{Led, is_look};
 ghost use Rattle.documents.specs.Ends.{Deleted, Replaced};
+ghost use Rattle.documents.specs.Stands.{HasRemoved, IsMostlyAsBefore, IsReplaced, StillFor, is_failure};
 
 use crate::putting::fault_after;
 use crate::{Fault, Progress, describe, put};
@@ -18,6 +20,8 @@ fn is_document<D: Disk + Drop, A: Allocator>(
     id: FileId,
 ) -> Result<(), Fault>
     ensures led { OnOk result (Led is_look engine.old engine.new) }
+    ensures still { (m : Machine) → StandsFor engine.old m → MatchResult result
+        (λ done. StillFor m engine.new) (λ e. (e ≡ Fault.Call is_failure) ⊎ StillFor m engine.new) }
     ensures closed { IsClosed engine.old → (result ≡ Err (Fault.Call Code.Closed)) × (engine.new ≡ engine.old) }
     ensures stopped { (why : Halt) → result ≡ Err (Fault.Call (Code.Halted why)) → HasStopped why engine.new }
 {
@@ -33,6 +37,8 @@ pub fn remove<D: Disk + Drop, A: Allocator>(
     engine: &mut Engine<D, A>,
     id: FileId,
 ) -> Result<(), Fault>
+    ensures removed { (m : Machine) → StandsFor engine.old m → MatchResult result
+        (λ done. HasRemoved m id engine.new) (λ e. (e ≡ Fault.Call is_failure) ⊎ StillFor m engine.new) }
     ensures deleted { OnOk result (Deleted id engine.old engine.new) }
     ensures closed { IsClosed engine.old → (result ≡ Err (Fault.Call Code.Closed)) × (engine.new ≡ engine.old) }
     ensures stopped { (why : Halt) → result ≡ Err (Fault.Call (Code.Halted why)) → HasStopped why engine.new }
@@ -56,6 +62,10 @@ pub fn replace<D: Disk + Drop, A: Allocator, S: Source, P: Progress>(
     progress: &mut P,
     old: FileId,
 ) -> Result<FileId, Fault>
+    ensures document { (m : Machine) → StandsFor engine.old m
+        → IfOk result (λ id. IsReplaced m old id name.now (S.left source.old) engine.new) }
+    ensures kept { (m : Machine) → StandsFor engine.old m
+        → IfErr result (λ e. (e ≡ Fault.Call is_failure) ⊎ IsMostlyAsBefore m engine.new) }
     ensures replaced { IfOk result (λ id. Replaced old id engine.old engine.new) }
     ensures closed { IsClosed engine.old → (result ≡ Err (Fault.Call Code.Closed)) × (engine.new ≡ engine.old) }
     ensures stopped { (why : Halt) → result ≡ Err (Fault.Call (Code.Halted why)) → HasStopped why engine.new }

@@ -1,6 +1,6 @@
 //! Bytes from a source, as many as there is room for.
-ghost use Rattle.std.specs.Prelude.{◌≡◌, ◌≤◌, ◌<◌, length, IfOk, Ok};
-ghost use Rattle.std.specs.Io.KnownBytes.{IsAtEnd};
+ghost use Rattle.std.specs.Prelude.{◌≡◌, ◌≤◌, ◌<◌, length, take, IfOk, Ok};
+ghost use Rattle.std.specs.Io.KnownBytes.{Consumes, IsAtEnd};
 ghost use Rattle.trace_io.specs.Stream.{HasCause};
 
 use trace_io::{Source, SourceFault};
@@ -9,9 +9,10 @@ use trace_io::{Source, SourceFault};
 const STOP: u8 = 255;
 
 // Takes a byte, and those at hand after it. None is taken at the end.
-fn take<S: Source>(source: &mut S, room: &mut [u8]) -> Result<usize, SourceFault>
+fn take_some<S: Source>(source: &mut S, room: &mut [u8]) -> Result<usize, SourceFault>
     requires { 1 ≤ length room.old }
     ensures within { IfOk result (λ n. n ≤ length room.old) }
+    ensures bytes { IfOk result (λ n. Consumes (S.left source.old) (S.left source.new) (take n room.new)) }
     ensures end { result ≡ Ok 0 → IsAtEnd (S.left source.new) }
     ensures width { length room.new ≡ length room.old }
     ensures cause { HasCause (S.faults source.old) (S.faults source.new) result }
@@ -28,13 +29,14 @@ fn take<S: Source>(source: &mut S, room: &mut [u8]) -> Result<usize, SourceFault
 /// Takes bytes until the room is full or the source has ended, and says how many.
 pub(crate) fn fill<S: Source>(source: &mut S, room: &mut [u8]) -> Result<usize, SourceFault>
     ensures within { IfOk result (λ n. n ≤ length room.old) }
+    ensures bytes { IfOk result (λ n. Consumes (S.left source.old) (S.left source.new) (take n room.new)) }
     ensures end { IfOk result (λ n. n < length room.old → IsAtEnd (S.left source.new)) }
     ensures width { length room.new ≡ length room.old }
     ensures cause { HasCause (S.faults source.old) (S.faults source.new) result }
 {
     let mut done = 0;
     'turns: while done < room.len() {
-        match take(source, &mut room[done..]) {
+        match take_some(source, &mut room[done..]) {
             Ok(0) => return Ok(done),
             Ok(count) => done += count,
             Err(fault) => return Err(fault),

@@ -1,7 +1,13 @@
 //! A run of pages of a file, shown in a space for as long as its bytes are loaded or stored.
-ghost use Rattle.std.specs.Prelude.{◌≡◌, ◌⊎◌, ◌≤◌, ◌*◌, false, length, Ok, Err, IsOk, OnOk};
+ghost use Rattle.std.specs.Prelude.{◌≡◌, ◌⊎◌, ◌≤◌, ◌<◌, ◌*◌, ◌^◌, ◌-◌, ℕ, false, length, Ok, Err, IsOk, OnOk, IfOk, IfErr, MatchResult};
+ghost use Rattle.std.specs.Int.{div_ceil};
+ghost use Rattle.flat_machine.specs.Machine.{Machine};
 ghost use Rattle.embedded.specs.Called.{HasStopped};
+ghost use Rattle.embedded.specs.Engine.{IsClosed, StandsFor};
 ghost use Rattle.documents.specs.Course.{Led, is_look, is_quiet};
+ghost use Rattle.documents.specs.Pieces.{after_store};
+ghost use Rattle.documents.specs.Stands.{HasRead, StillFor, StoredPart, is_failure};
+ghost use Rattle.documents.specs.Windows.{IsHidden, IsShown, showing};
 
 use embedded::{Code, Engine};
 use flat_machine::Reply;
@@ -25,12 +31,27 @@ struct Window {
 
 // What is answered where a call was not carried out, and what it had begun was taken back: a halt, where that stopped.
 fn answer_of<T: Drop>(code: Code, undone: Result<T, Code>) -> Code
-    ensures { (result ≡ code)
+    ensures which { (result ≡ code)
         ⊎ ((why : Halt) × (undone ≡ Err (Code.Halted why)) × (result ≡ Code.Halted why)) }
+    ensures halted { (why : Halt) → undone ≡ Err (Code.Halted why) → result ≡ Code.Halted why }
 {
     match undone {
         Err(Code::Halted(halt)) => Code::Halted(halt),
         _ => code,
+    }
+}
+
+// The handle and the first page of a space that was made.
+fn space_of(made: Result<Reply, Code>) -> Result<(u32, u32), Code>
+    ensures ok { IfOk result (λ place. made ≡ Ok (Reply.Space place.0 place.1)) }
+    ensures space { (handle first : ℕ) → made ≡ Ok (Reply.Space handle first) → result ≡ Ok (handle, first) }
+    ensures code { (code : Code) → made ≡ Err code → result ≡ Err code }
+    ensures halted { (why : Halt) → result ≡ Err (Code.Halted why) → made ≡ Err (Code.Halted why) }
+{
+    match made {
+        Ok(Reply::Space { handle, first }) => Ok((handle, first)),
+        Ok(_) => Err(Code::Argument),
+        Err(code) => Err(code),
     }
 }
 
@@ -42,11 +63,16 @@ fn show<D: Disk + Drop, A: Allocator>(
 ) -> Result<Window, Code>
     ensures led { OnOk result (Led is_quiet engine.old engine.new) }
     ensures look { OnOk result (writable ≡ false → Led is_look engine.old engine.new) }
+    ensures shown { (m : Machine) → StandsFor engine.old m
+        → IfOk result (λ w. IsShown m run.id run.page run.pages writable w.space w.address
+        × StandsFor engine.new (showing m run.id run.page run.pages writable)) }
+    ensures kept { (m : Machine) → StandsFor engine.old m
+        → IfErr result (λ e. (e ≡ is_failure) ⊎ StandsFor engine.new m) }
     ensures stopped { (why : Halt) → result ≡ Err (Code.Halted why) → HasStopped why engine.new }
 {
-    let (space, first) = match engine.make_space(0, run.pages, None) {
-        Ok(Reply::Space { handle, first }) => (handle, first),
-        Ok(_) => return Err(Code::Argument),
+    let made = engine.make_space(0, run.pages, None);
+    let (space, first) = match space_of(made) {
+        Ok(place) => place,
         Err(code) => return Err(code),
     };
     match engine.map(space, run.id, run.page, writable) {
@@ -63,6 +89,9 @@ fn hide<D: Disk + Drop, A: Allocator>(engine: &mut Engine<D, A>, window: Window)
     ensures led { OnOk result (Led is_look engine.old engine.new) }
     ensures stopped { (why : Halt) → result ≡ Err (Code.Halted why) → HasStopped why engine.new }
     ensures same { (why : Halt) → HasStopped why engine.old → HasStopped why engine.new }
+    ensures closed { IsClosed engine.old → result ≡ Err Code.Closed }
+    ensures hidden { (m last : Machine) → StandsFor engine.old m → IsHidden m window.space last
+        → MatchResult result (λ done. StandsFor engine.new last) (λ e. e ≡ is_failure) }
 {
     match engine.unmap(window.space) {
         Ok(_) => {}
@@ -82,6 +111,9 @@ fn end<D: Disk + Drop, A: Allocator>(
 ) -> Result<(), Code>
     requires halted { (why : Halt) → moved ≡ Err (Code.Halted why) → HasStopped why engine.old }
     ensures ended { OnOk result (IsOk moved × Led is_look engine.old engine.new) }
+    ensures hidden { (m last : Machine) → StandsFor engine.old m → IsHidden m window.space last
+        → MatchResult result (λ done. StandsFor engine.new last) (λ e. (e ≡ is_failure) ⊎ StandsFor engine.new last) }
+    ensures failed { moved ≡ Err is_failure → result ≡ Err is_failure }
     ensures stopped { (why : Halt) → result ≡ Err (Code.Halted why) → HasStopped why engine.new }
 {
     let hidden = hide(engine, window);
@@ -92,7 +124,9 @@ fn end<D: Disk + Drop, A: Allocator>(
 }
 
 // As many pages as so many bytes fill. More than can be mapped are refused.
-fn pages_for(bytes: usize) -> u32 {
+fn pages_for(bytes: usize) -> u32
+    ensures { result < 2 ^ 32 - 1 → result ≡ div_ceil bytes 512 }
+{
     u32::try_from(bytes.div_ceil(512)).unwrap_or(u32::MAX)
 }
 
@@ -105,6 +139,9 @@ pub(crate) fn load_pages<D: Disk + Drop, A: Allocator>(
 ) -> Result<(), Code>
     ensures led { OnOk result (Led is_look engine.old engine.new) }
     ensures width { length into.new ≡ length into.old }
+    ensures read { (m : Machine) → StandsFor engine.old m
+        → MatchResult result (λ done. HasRead m id page into.new engine.new)
+        (λ e. (e ≡ is_failure) ⊎ StillFor m engine.new) }
     ensures stopped { (why : Halt) → result ≡ Err (Code.Halted why) → HasStopped why engine.new }
 {
     let pages = pages_for(into.len());
@@ -124,6 +161,10 @@ pub(crate) fn store_pages<D: Disk + Drop, A: Allocator>(
     bytes: &[u8],
 ) -> Result<(), Code>
     ensures led { OnOk result (Led is_quiet engine.old engine.new) }
+    ensures stored { (m : Machine) → StandsFor engine.old m
+        → MatchResult result
+        (λ done. StandsFor engine.new (after_store id page (div_ceil (length bytes.now) 512) bytes.now m))
+        (λ e. StoredPart m id page bytes.now e engine.new) }
     ensures stopped { (why : Halt) → result ≡ Err (Code.Halted why) → HasStopped why engine.new }
 {
     let pages = pages_for(bytes.len());

@@ -25,7 +25,7 @@ replace   puts a file into a new document, writes its identifier, and removes
           the document that had the other one
 --restore restores a volume that was not closed, before all else
 --frames  how many pages are kept in memory, 24 to 4096, by default 1024
---quiet   no line that tells how far a document has come
+--quiet   no line that says how far a document has come
 exit      0 done, 1 refused by the volume, 2 usage, 3 disk fault, 4 stream
           fault, 5 volume refused, 7 no memory, 8 volume damaged
 manual    docs/MANUAL.md in the repository

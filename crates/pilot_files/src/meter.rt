@@ -17,7 +17,7 @@ pub(crate) struct Meter<'a> {
     what: &'a str,
     /// When the next line is due; none is, where nobody is to learn of it.
     start: Option<Instant>,
-    told: Duration,
+    last: Duration,
     shown: bool,
 }
 
@@ -32,7 +32,7 @@ impl<'a> Meter<'a> {
             rt,
             what,
             start,
-            told: Duration::ZERO,
+            last: Duration::ZERO,
             shown: false,
         }
     }
@@ -53,11 +53,11 @@ impl<'a> Meter<'a> {
         let Ok(passed) = start.elapsed(self.rt) else {
             return false;
         };
-        let rested = passed.saturating_sub(self.told);
+        let rested = passed.saturating_sub(self.last);
         let due = passed >= Duration::from_millis(PATIENCE)
             && rested >= Duration::from_millis(PAUSE);
         if due {
-            self.told = passed;
+            self.last = passed;
         }
         due
     }

@@ -30,7 +30,7 @@ fn state(alloc: Global, volume: &mut Volume) -> Result<String> {
 }
 
 /// What was answered, and the state after it.
-fn told(alloc: Global, answer: Result<(), Fault>, volume: &mut Volume) -> Result<String> {
+fn outcome(alloc: Global, answer: Result<(), Fault>, volume: &mut Volume) -> Result<String> {
     let state = state(alloc, volume)?;
     Ok(match answer {
         Ok(()) => format!(in alloc; "done{state}")?,
@@ -45,7 +45,7 @@ fn putting(alloc: Global, words: &str) -> Result<String> {
     let bytes = drawn(alloc, length as usize)?;
     let mut source = MemorySource::new(alloc, bytes.as_slice(), &[u64::from(call)])?;
     let answer = put(&mut volume, &mut [0; 1024], &mut source, "a", &mut Silent).map(|_| ());
-    told(alloc, answer, &mut volume)
+    outcome(alloc, answer, &mut volume)
 }
 
 /// Gets a document of so many bytes into a sink whose call of this number fails.
@@ -58,8 +58,8 @@ fn getting(alloc: Global, words: &str) -> Result<String> {
     let mut sink = MemorySink::new(alloc, 10_000, &[u64::from(call)])?;
     let answer = get(&mut volume, &mut [0; 1024], id, &mut sink, &mut Silent).map(|_| ());
     let taken = sink.taken().len();
-    let told = told(alloc, answer, &mut volume)?;
-    Ok(format!(in alloc; "{taken} bytes: {told}")?)
+    let said = outcome(alloc, answer, &mut volume)?;
+    Ok(format!(in alloc; "{taken} bytes: {said}")?)
 }
 
 /// Puts an empty document with a name of so many letters.
@@ -99,8 +99,8 @@ fn foreign(alloc: Global, words: &str) -> Result<String> {
     let whole = get_pages(&mut volume, &mut [0; 512], id, &mut sink, &mut Silent)?;
     let removed = remove(&mut volume, id);
     let taken = sink.taken().len();
-    let got = told(alloc, got, &mut volume)?;
-    let removed = told(alloc, removed, &mut volume)?;
+    let got = outcome(alloc, got, &mut volume)?;
+    let removed = outcome(alloc, removed, &mut volume)?;
     Ok(format!(in alloc; "{got}; {whole} pages, {taken} bytes; {removed}")?)
 }
 
@@ -109,7 +109,7 @@ fn absent(alloc: Global, words: &str) -> Result<String> {
     let [id]: [u32; 1] = numbers_of(words)?;
     let mut volume = opened(alloc, 256)?;
     let answer = remove(&mut volume, u64::from(id));
-    told(alloc, answer, &mut volume)
+    outcome(alloc, answer, &mut volume)
 }
 
 /// Replaces a document of so many bytes by one of so many.
@@ -129,7 +129,7 @@ fn replacing(alloc: Global, words: &str) -> Result<String> {
         &mut Silent,
         id,
     );
-    told(alloc, answer.map(|_| ()), &mut volume)
+    outcome(alloc, answer.map(|_| ()), &mut volume)
 }
 
 /// What a row of these answers.

@@ -1,6 +1,9 @@
 use Rattle.documents.proofs.CourseLemmas.{led_then}
 use Rattle.documents.specs.Course.{is_look}
 use Rattle.documents.proofs.StoppedLemmas.{stopped_code, stopped_fault}
+use Rattle.std.proofs.Common.{◌≡◌, ◌∙◌, ◌⊎◌, inl, inr, ◌*◌, ap, arith}
+use Rattle.embedded.specs.declared.code.Code.{Code}
+use Rattle.documents.specs.declared.fault.Fault.TheVariants as fault
 use Rattle.documents.proofs.getting.get_pages.Goals as goal
 
 pub returns-in-Ok-copy-clause-led : goal.returns-in-Ok-copy-clause-led
@@ -15,3 +18,26 @@ returns-in-Err-clause-stopped g c = λ why is.
 pub returns-in-Err-copy-clause-stopped : goal.returns-in-Err-copy-clause-stopped
 returns-in-Err-copy-clause-stopped g c = λ why is.
     stopped_fault why _ c.in-Err-copy.fault c.copy.new.engine c.copy.ensures.stopped c.in-Err-copy.is (cc is)
+
+pub returns-in-Ok-copy-clause-got : goal.returns-in-Ok-copy-clause-got
+returns-in-Ok-copy-clause-got g c = λ m stands.
+    let listed = c.in-Ok.ensures.listed m stands in
+    let sent = c.in-Ok-copy.ensures.sent (record m { unforced = listed.still.0 }) listed.file listed.still.1 listed.there in
+    let many : c.from.result * 512 ≡ 512 * c.in-Ok.file.pages = omega (arith, c.from.ensures) in
+    record {
+      file = listed.file;
+      there = listed.there;
+      long = listed.same_size;
+      sent = record { bytes = sent.bytes; long = sent.long ∙ many; reads = sent.reads; sent = sent.sent; still = sent.still };
+    }
+
+pub returns-in-Err-clause-got : goal.returns-in-Err-clause-got
+returns-in-Err-clause-got g c = λ m stands. elim (c.in-Err.ensures.listed m stands) [
+  | inl bad ↦ inl (ap (λ (x : Code). fault.Call x) bad)
+  | inr st ↦ inr st
+]
+
+pub returns-in-Err-copy-clause-got : goal.returns-in-Err-copy-clause-got
+returns-in-Err-copy-clause-got g c = λ m stands.
+    let listed = c.in-Ok.ensures.listed m stands in
+    c.in-Err-copy.ensures.sent (record m { unforced = listed.still.0 }) listed.file listed.still.1 listed.there

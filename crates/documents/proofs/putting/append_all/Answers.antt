@@ -1,4 +1,9 @@
-use Rattle.std.proofs.Common.{rules}
+use Rattle.std.proofs.Common.{◌≡◌, ◌⊎◌, ◌+◌, inl, inr, ap, refl, arith, length, take, rules}
+use Rattle.std.proofs.lemmas.List.{length-take-le}
+use Rattle.embedded.specs.declared.code.Code.{Code}
+use Rattle.documents.specs.declared.fault.Fault.TheVariants as fault
+use Rattle.documents.specs.Pieces.{appended}
+use Rattle.documents.proofs.FillLemmas.{as_many, filled_last, filled_now, full_then, named_so_far, so_far_first, so_far_then, taken_in}
 use Rattle.documents.proofs.CourseLemmas.{led_then}
 use Rattle.documents.specs.Course.{is_quiet}
 use Rattle.documents.proofs.StoppedLemmas.{stopped_code}
@@ -15,6 +20,21 @@ windows-preserved g c = record {
   room = search rules;
   width = search rules;
   bytes = search rules;
+  full = full_then c.windows.bytes c.windows.count c.windows.pages c.in-Ok-append.all (length c.args.buffer.now) c.windows.invariant.full
+      (as_many c.windows.count c.in-Ok-append.all c.windows.pages (take c.windows.count c.windows.buffer)
+      (length-take-le c.windows.count c.windows.buffer (search rules)) c.in-Ok-append.ensures.count)
+      c.windows.invariant.within c.if-count-room.false;
+  filled = λ m is_fresh new stands.
+      let s = c.windows.invariant.filled m is_fresh new stands in
+      let width = length-take-le c.windows.count c.windows.buffer (omega (arith, c.windows.invariant.within, c.windows.invariant.room)) in
+      let named = named_so_far m c.args.id _ _ _ _ _ _ _ s new in
+      so_far_then m c.windows.bytes c.windows.pages c.windows.count c.in-Ok-append.all (c.windows.bytes + c.windows.count) c.windows.buffer
+      (take c.windows.count c.windows.buffer) _ _ c.windows.engine c.append.new.engine s c.windows.invariant.full
+      (as_many c.windows.count c.in-Ok-append.all c.windows.pages (take c.windows.count c.windows.buffer) width c.in-Ok-append.ensures.count)
+      c.in-Ok-append.ensures.room refl width refl (c.in-Ok-append.ensures.grown m s.file is_fresh named s.wide s.stands)
+      c.in-Ok-fill.next _ _
+      (taken_in (g.S.Source.left c.windows.source) (g.S.Source.left c.fill-in-windows.new.source) c.in-Ok-fill.next c.fill-in-windows.new.room _
+      (omega (arith, c.in-Ok-fill.ensures.within, c.fill-in-windows.ensures.width)) c.in-Ok-fill.ensures.bytes);
   led = led_then is_quiet c.args.engine.now c.windows.engine c.append.new.engine
       c.windows.invariant.led c.in-Ok-append.ensures.led;
   ended = search rules;
@@ -24,3 +44,53 @@ windows-preserved g c = record {
 pub returns-in-Err-clause-stopped : goal.returns-in-Err-clause-stopped
 returns-in-Err-clause-stopped g c = λ why is.
     stopped_code why _ c.in-Err.code c.append.new.engine c.append.ensures.stopped c.in-Err.is (cc is)
+
+pub windows-init : goal.windows-init
+windows-init g c = record {
+  within = search rules;
+  room = search rules;
+  width = search rules;
+  bytes = search rules;
+  full = refl;
+  filled = λ m is_fresh new stands.
+      so_far_first m c.in-Ok.count _ _ _ c.args.engine.now stands
+      (taken_in (g.S.Source.left c.args.source.now) (g.S.Source.left c.fill.new.source) c.in-Ok.count c.fill.new.room _
+      (omega (arith, c.in-Ok.ensures.within, c.fill.ensures.width)) c.in-Ok.ensures.bytes);
+  led = search rules;
+  ended = search rules;
+  later = search rules;
+}
+
+pub returns-then-count-room-clause-filled : goal.returns-then-count-room-clause-filled
+returns-then-count-room-clause-filled g c = λ m is_fresh new stands.
+    let s = c.windows.invariant.filled m is_fresh new stands in
+    let width = length-take-le c.windows.count c.windows.buffer (omega (arith, c.windows.invariant.within, c.windows.invariant.room)) in
+    let named = named_so_far m c.args.id _ _ _ _ _ _ _ s new in
+    filled_now m c.windows.bytes c.windows.pages c.windows.count c.in-Ok-append.all (c.windows.bytes + c.windows.count) c.windows.buffer
+    (take c.windows.count c.windows.buffer) _ _ c.windows.engine c.append.new.engine s c.windows.invariant.full
+    (as_many c.windows.count c.in-Ok-append.all c.windows.pages (take c.windows.count c.windows.buffer) width c.in-Ok-append.ensures.count)
+    c.in-Ok-append.ensures.room refl width refl (c.in-Ok-append.ensures.grown m s.file is_fresh named s.wide s.stands)
+
+pub returns-in-Err-clause-filled : goal.returns-in-Err-clause-filled
+returns-in-Err-clause-filled g c = λ m is_fresh new stands.
+    let s = c.windows.invariant.filled m is_fresh new stands in
+    let named = named_so_far m c.args.id _ _ _ _ _ _ _ s new in
+    elim (c.in-Err.ensures.grown m s.file is_fresh named s.wide s.stands) [
+      | inl bad ↦ inl (ap (λ (x : Code). fault.Call x) bad)
+      | inr other ↦ inr other
+    ]
+
+pub returns-clause-filled : goal.returns-clause-filled
+returns-clause-filled g c = λ m is_fresh new stands.
+    filled_last m c.windows.bytes c.windows.pages c.windows.count c.windows.buffer _ _ c.windows.engine (c.windows.invariant.filled m is_fresh new stands)
+    c.windows.invariant.full (omega (arith, c.windows-test.false))
+
+pub returns-in-Err-fill-clause-filled : goal.returns-in-Err-fill-clause-filled
+returns-in-Err-fill-clause-filled g c = λ m is_fresh new stands.
+    let s = c.windows.invariant.filled m is_fresh new stands in
+    let named = named_so_far m c.args.id _ _ _ _ _ _ _ s new in
+    inr (
+      appended c.in-Ok-append.all c.windows.pages (take c.windows.count c.windows.buffer) s.file,
+      named,
+      c.in-Ok-append.ensures.grown m s.file is_fresh named s.wide s.stands,
+    )

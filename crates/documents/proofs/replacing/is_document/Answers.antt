@@ -1,6 +1,15 @@
 use Rattle.documents.proofs.StoppedLemmas.{stopped_code}
+use Rattle.std.proofs.Common.{◌≡◌, ◌⊎◌, inl, inr, ap}
+use Rattle.embedded.specs.declared.code.Code.{Code}
+use Rattle.documents.specs.declared.fault.Fault.TheVariants as fault
 use Rattle.documents.proofs.replacing.is_document.Goals as goal
 
 pub returns-in-Err-clause-stopped : goal.returns-in-Err-clause-stopped
 returns-in-Err-clause-stopped g c = λ why is.
     stopped_code why _ c.in-Err.code c.describe.new.engine c.describe.ensures.stopped c.in-Err.is (cc is)
+
+pub returns-in-Err-clause-still : goal.returns-in-Err-clause-still
+returns-in-Err-clause-still g c = λ m stands. elim (c.in-Err.ensures.listed m stands) [
+  | inl bad ↦ inl (ap (λ (x : Code). fault.Call x) bad)
+  | inr st ↦ inr st
+]

@@ -2,6 +2,7 @@ use Rattle.std.proofs.Common.{refl}
 use Rattle.documents.proofs.CourseLemmas.{led_called, led_then}
 use Rattle.documents.specs.Course.{is_look}
 use Rattle.documents.proofs.StoppedLemmas.{stopped_code}
+use Rattle.documents.proofs.ShowLemmas.{hidden_by, remove_fails, unmap_fails}
 use Rattle.documents.proofs.window.hide.Goals as goal
 
 pub returns-in-Ok-remove_space-clause-led : goal.returns-in-Ok-remove_space-clause-led
@@ -17,3 +18,17 @@ returns-in-Err-clause-stopped g c = λ why is.
 pub returns-in-Err-remove_space-clause-stopped : goal.returns-in-Err-remove_space-clause-stopped
 returns-in-Err-remove_space-clause-stopped g c = λ why is.
     stopped_code why _ c.in-Err-remove_space.code c.remove_space.new.self c.remove_space.ensures.stopped c.in-Err-remove_space.is (cc is)
+
+pub returns-in-Ok-remove_space-clause-hidden : goal.returns-in-Ok-remove_space-clause-hidden
+returns-in-Ok-remove_space-clause-hidden g c = λ m last stands h.
+    hidden_by m last c.args.window.space c.args.engine.now c.unmap.new.self c.remove_space.new.self _ _ _ _
+    c.unmap.ensures c.in-Ok.is c.remove_space.ensures c.in-Ok-remove_space.is stands h
+
+pub returns-in-Err-clause-hidden : goal.returns-in-Err-clause-hidden
+returns-in-Err-clause-hidden g c = λ m last stands h.
+    unmap_fails m last c.args.window.space c.args.engine.now c.unmap.new.self _ c.in-Err.code c.unmap.ensures c.in-Err.is stands h
+
+pub returns-in-Err-remove_space-clause-hidden : goal.returns-in-Err-remove_space-clause-hidden
+returns-in-Err-remove_space-clause-hidden g c = λ m last stands h.
+    remove_fails m last c.args.window.space c.args.engine.now c.unmap.new.self c.remove_space.new.self _ _ _ c.in-Err-remove_space.code
+    c.unmap.ensures c.in-Ok.is c.remove_space.ensures c.in-Err-remove_space.is stands h

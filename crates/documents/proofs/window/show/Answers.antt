@@ -3,27 +3,52 @@ use Rattle.documents.proofs.CourseLemmas.{led_called, led_then}
 use Rattle.documents.specs.Course.{is_look, is_quiet}
 use Rattle.documents.proofs.StoppedLemmas.{stopped_back, stopped_code}
 use Rattle.documents.proofs.CourseLemmas.{stays_stopped}
+use Rattle.labelled_disk.specs.declared.evidence.Halt.TheVariants as halt
+use Rattle.flat_machine.specs.declared.call.Call.TheVariants as call
+use Rattle.documents.proofs.MoveLemmas.{kept_back}
+use Rattle.documents.proofs.ShowLemmas.{none_made, none_mapped, shown_by}
 use Rattle.documents.proofs.window.show.Goals as goal
 
 pub returns-in-Ok-map-clause-led : goal.returns-in-Ok-map-clause-led
 returns-in-Ok-map-clause-led g c =
-    led_then is_quiet c.args.engine.now c.make_space.new.self c.map.new.self
-    (led_called is_quiet _ c.args.engine.now c.make_space.new.self _ _ refl c.make_space.ensures c.in-Ok-Space.is)
-    (led_called is_quiet _ c.make_space.new.self c.map.new.self _ _ refl c.map.ensures c.in-Ok-map.is)
+    led_then is_quiet c.args.engine.now c.make_space-made.new.self c.map.new.self
+    (led_called is_quiet _ c.args.engine.now c.make_space-made.new.self _ _ refl c.make_space-made.ensures c.in-Ok.ensures.ok)
+    (led_called is_quiet _ c.make_space-made.new.self c.map.new.self _ _ refl c.map.ensures c.in-Ok-map.is)
 
 pub returns-in-Ok-map-clause-look : goal.returns-in-Ok-map-clause-look
 returns-in-Ok-map-clause-look g c = λ shut.
-    led_then is_look c.args.engine.now c.make_space.new.self c.map.new.self
-    (led_called is_look _ c.args.engine.now c.make_space.new.self _ _ refl c.make_space.ensures c.in-Ok-Space.is)
-    (led_called is_look _ c.make_space.new.self c.map.new.self _ _ (ap not shut) c.map.ensures c.in-Ok-map.is)
+    led_then is_look c.args.engine.now c.make_space-made.new.self c.map.new.self
+    (led_called is_look _ c.args.engine.now c.make_space-made.new.self _ _ refl c.make_space-made.ensures c.in-Ok.ensures.ok)
+    (led_called is_look _ c.make_space-made.new.self c.map.new.self _ _ (ap not shut) c.map.ensures c.in-Ok-map.is)
 
 pub returns-in-Err-clause-stopped : goal.returns-in-Err-clause-stopped
 returns-in-Err-clause-stopped g c = λ why is.
-    stopped_code why _ c.in-Err.code c.make_space.new.self c.make_space.ensures.stopped c.in-Err.is (cc is)
+    stopped_code why c.space_of.result c.in-Err.code c.make_space-made.new.self
+    (λ w halted. c.make_space-made.ensures.stopped w (c.space_of.ensures.halted w halted)) c.in-Err.is (cc is)
 
 pub returns-in-Err-map-clause-stopped : goal.returns-in-Err-map-clause-stopped
 returns-in-Err-map-clause-stopped g c = λ why is.
     stopped_back why c.in-Err-map.code c.answer_of.result c.remove_space.result c.map.new.self c.remove_space.new.self
     (stopped_code why _ c.in-Err-map.code c.map.new.self c.map.ensures.stopped c.in-Err-map.is)
     (λ stopped. stays_stopped why _ c.map.new.self c.remove_space.new.self _ stopped c.remove_space.ensures)
-    c.remove_space.ensures.stopped c.answer_of.ensures (cc is)
+    c.remove_space.ensures.stopped c.answer_of.ensures.which (cc is)
+
+pub returns-in-Ok-map-clause-shown : goal.returns-in-Ok-map-clause-shown
+returns-in-Ok-map-clause-shown g c = λ m stands.
+    shown_by m c.args.run.id c.args.run.page c.args.run.pages c.args.writable c.args.engine.now c.make_space-made.new.self c.map.new.self
+    _ _ c.in-Ok.place.0 c.in-Ok.place.1 _ _
+    c.make_space-made.ensures c.in-Ok.ensures.ok c.map.ensures c.in-Ok-map.is refl stands
+
+pub returns-in-Err-clause-kept : goal.returns-in-Err-clause-kept
+returns-in-Err-clause-kept g c = λ m stands.
+    none_made m c.args.run.pages c.args.engine.now c.make_space-made.new.self c.make_space-made.result c.space_of.result c.in-Err.code
+    c.make_space-made.ensures c.space_of.ensures.space c.space_of.ensures.code c.in-Err.is stands
+
+pub returns-in-Err-map-clause-kept : goal.returns-in-Err-map-clause-kept
+returns-in-Err-map-clause-kept g c = λ m stands.
+    kept_back (call.RemoveSpace c.in-Ok.place.0) c.map.new.self c.remove_space.new.self c.answer_of.result c.in-Err-map.code c.remove_space.result
+    c.remove_space.ensures (λ bad. stopped_code halt.Disk _ c.in-Err-map.code c.map.new.self c.map.ensures.stopped c.in-Err-map.is bad)
+    c.answer_of.ensures.which (c.answer_of.ensures.halted halt.Disk)
+    (none_mapped m c.args.run.id c.args.run.page c.args.run.pages c.args.writable c.args.engine.now c.make_space-made.new.self c.map.new.self c.remove_space.new.self
+    _ _ c.remove_space.result c.in-Ok.place.0 c.in-Ok.place.1 c.in-Err-map.code
+    c.make_space-made.ensures c.in-Ok.ensures.ok c.map.ensures c.in-Err-map.is c.remove_space.ensures stands)

@@ -1,0 +1,12 @@
+//! What the clauses of a put and of a get give together, shown on functions that do nothing.
+ghost use Rattle.documents.specs.Laws.{WhatIsPutIsGot, WhatIsPutStays};
+
+/// What is got of a file is what was put into it, whichever machine has the file by then.
+pub fn what_is_put_is_got()
+    ensures { WhatIsPutIsGot }
+{}
+
+/// What was put outlasts a stop of the volume, and its end.
+pub fn what_is_put_stays()
+    ensures { WhatIsPutStays }
+{}
