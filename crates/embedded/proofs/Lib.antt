@@ -4,3 +4,4 @@ mod ReferenceLemmas
 mod PieceLemmas
 mod FaultLemmas
 mod PutLemmas
+mod StopLemmas

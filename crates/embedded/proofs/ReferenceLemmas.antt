@@ -40,7 +40,7 @@ unrefused None P r p is = (refl, p)
 unrefused (Some word) P r p is = absurd (cc (is ∙ ap answer_to p))
 
 -- a call that leaves the machine as it is leaves it so whether or not it is refused
-unchanged : (o : Option Refusal) (m : Machine) → (if is_none o then m else m) ≡ m
+pub unchanged : (o : Option Refusal) (m : Machine) → (if is_none o then m else m) ≡ m
 unchanged None m = refl
 unchanged (Some word) m = refl
 
@@ -110,12 +110,12 @@ lead_then m address (bytes ∷ rest) n piece lead free =
     )
 
 -- no piece is empty, nor one more after them
-some_then : (pieces : List (List ℕ)) (piece : List ℕ) → AllByRecursion (λ p. 1 ≤ length p) pieces → 1 ≤ length piece
+pub some_then : (pieces : List (List ℕ)) (piece : List ℕ) → AllByRecursion (λ p. 1 ≤ length p) pieces → 1 ≤ length piece
     → AllByRecursion (λ p. 1 ≤ length p) (pieces ++ piece ∷ [])
 some_then [] piece h l = (l, tt)
 some_then (p ∷ ps) piece h l = (h.0, some_then ps piece h.1 l)
 
-piece_long : (done n : ℕ) (bytes : List ℕ) → done ≤ length bytes → n ≤ length bytes - done → length (slice_range bytes done (done + n)) ≡ n
+pub piece_long : (done n : ℕ) (bytes : List ℕ) → done ≤ length bytes → n ≤ length bytes - done → length (slice_range bytes done (done + n)) ≡ n
 piece_long done n bytes within fits =
     let count : (done + n) - done ≡ n = omega arith in
     ap (λ (k : ℕ). length (take k (drop done bytes))) count

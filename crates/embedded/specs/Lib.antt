@@ -5,3 +5,4 @@ pub mod Called
 pub mod Stepped
 pub mod Opened
 pub mod References
+pub mod Stops

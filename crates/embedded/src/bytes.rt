@@ -3,10 +3,12 @@ ghost use Rattle.std.specs.Prelude.{◌≡◌, ◌⊎◌, ℕ, ◌+◌, ◌-◌,
 ghost use Rattle.labelled_disk.specs.Calls.{Rose};
 ghost use Rattle.labelled_disk.specs.declared.evidence.Halt.TheVariants as halt;
 ghost use Rattle.flat_machine.specs.Machine.{Machine};
+ghost use Rattle.session_words.specs.StandsFor.{RevealsSettled};
 ghost use Rattle.pilot_engine.specs.Referring.{IsAtOnce};
 ghost use Rattle.embedded.specs.Called.{HasStopped};
 ghost use Rattle.embedded.specs.Engine.{Between, IsClosed, LosesNoFault, StandsFor};
 ghost use Rattle.embedded.specs.References.{AreAt, IsPiece, StopsAfter, StopsLoad, Stored};
+ghost use Rattle.embedded.specs.Stops.{Leaves, RevealsPart};
 
 use crate::{Code, Engine};
 use flat_machine::Refusal;
@@ -56,6 +58,7 @@ impl<D: Disk + Drop, A: Allocator> Engine<D, A> {
         ensures stopped { (why : Halt) → result ≡ Err (Code.Halted why) → HasStopped why self.new }
         ensures cause { result ≡ Err (Code.Halted halt.Disk)
             → Between (λ before after. Rose before.faults after.faults) self.old self.new }
+        ensures leaves { (m : Machine) → StandsFor self.old m → Leaves (λ d. RevealsSettled d m) self.old self.new }
         ensures faults { OnOk result (LosesNoFault self.old self.new) }
     {
         let Some(at) = address_after(address, done) else {
@@ -83,6 +86,8 @@ impl<D: Disk + Drop, A: Allocator> Engine<D, A> {
         ensures stopped { (why : Halt) → result ≡ Err (Code.Halted why) → HasStopped why self.new }
         ensures cause { result ≡ Err (Code.Halted halt.Disk)
             → Between (λ before after. Rose before.faults after.faults) self.old self.new }
+        ensures leaves { (m : Machine) → Stored m address done bytes.now self.old
+            → Leaves (RevealsPart m address bytes.now) self.old self.new }
         ensures faults { OnOk result (LosesNoFault self.old self.new) }
     {
         let Some(at) = address_after(address, done) else {
@@ -111,6 +116,7 @@ impl<D: Disk + Drop, A: Allocator> Engine<D, A> {
         ensures stopped { (why : Halt) → result.1 ≡ Err (Code.Halted why) → HasStopped why self.new }
         ensures cause { result.1 ≡ Err (Code.Halted halt.Disk)
             → Between (λ before after. Rose before.faults after.faults) self.old self.new }
+        ensures leaves { (m : Machine) → StandsFor self.old m → Leaves (λ d. RevealsSettled d m) self.old self.new }
     {
         let mut done = 0;
         'pieces: while done < into.len() {
@@ -136,6 +142,8 @@ impl<D: Disk + Drop, A: Allocator> Engine<D, A> {
         ensures stopped { (why : Halt) → result.1 ≡ Err (Code.Halted why) → HasStopped why self.new }
         ensures cause { result.1 ≡ Err (Code.Halted halt.Disk)
             → Between (λ before after. Rose before.faults after.faults) self.old self.new }
+        ensures leaves { (m : Machine) → StandsFor self.old m
+            → Leaves (RevealsPart m address bytes.now) self.old self.new }
     {
         let mut done = 0;
         'pieces: while done < bytes.len() {

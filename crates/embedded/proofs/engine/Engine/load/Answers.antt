@@ -1,9 +1,11 @@
-use Rattle.std.proofs.Common.{◌≡◌, ◌∙◌, ◌+◌, ◌-◌, ℕ, ap, subst, Err}
+use Rattle.std.proofs.Common.{◌≡◌, ◌∙◌, ◌+◌, ◌-◌, ℕ, ap, subst, Err, rules}
 use Rattle.labelled_disk.specs.declared.evidence.Halt.TheVariants as halt
 use Rattle.embedded.specs.declared.code.Code.{Code}
 use Rattle.embedded.specs.declared.code.Code.TheVariants as code
 use Rattle.embedded.specs.References.{StopsLoad}
+use Rattle.session_words.specs.StandsFor.{RevealsSettled}
 use Rattle.embedded.proofs.FaultLemmas.{rose_since}
+use Rattle.embedded.proofs.StopLemmas.{leaves_then}
 use Rattle.embedded.proofs.engine.Engine.load.Goals as goal
 
 -- a halt is the piece's
@@ -24,3 +26,21 @@ returns-in-Err-clause-cause g c = λ is.
     let same : c.in-Err.code ≡ code.Halted halt.Disk = cc is in
     rose_since c.args.self.now c.pieces.self c.load_next.new.self c.pieces.invariant.faults
     (c.load_next.ensures.cause (c.in-Err.is ∙ ap (λ (e : Code). Err e) same))
+
+pub pieces-preserved : goal.pieces-preserved
+pieces-preserved g c = record {
+  within = search rules;
+  long = search rules;
+  loaded = search rules;
+  rest = search rules;
+  faults = search rules;
+  leaves = λ m stands.
+      leaves_then (λ d. RevealsSettled d m) c.args.self.now c.pieces.self c.load_next.new.self (c.pieces.invariant.leaves m stands)
+      (c.load_next.ensures.leaves m (c.pieces.invariant.loaded m stands).0);
+  closed = search rules;
+}
+
+pub returns-in-Err-clause-leaves : goal.returns-in-Err-clause-leaves
+returns-in-Err-clause-leaves g c = λ m stands.
+    leaves_then (λ d. RevealsSettled d m) c.args.self.now c.pieces.self c.load_next.new.self (c.pieces.invariant.leaves m stands)
+    (c.load_next.ensures.leaves m (c.pieces.invariant.loaded m stands).0)

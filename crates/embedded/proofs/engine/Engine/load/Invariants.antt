@@ -3,6 +3,8 @@ use Rattle.std.specs.Prelude.{slice_get}
 use Rattle.flat_machine.specs.Machine.{Machine}
 use Rattle.embedded.specs.Engine.{IsClosed, LosesNoFault, StandsFor}
 use Rattle.embedded.specs.References.{AreAt}
+use Rattle.session_words.specs.StandsFor.{RevealsSettled}
+use Rattle.embedded.specs.Stops.{Leaves}
 use Rattle.embedded.proofs.engine.Engine.load.Given as goal
 
 -- so many bytes were loaded, and none where there is no session
@@ -13,6 +15,7 @@ invariant-pieces g l = record {
   loaded : (m : Machine) → StandsFor l.fn.self m → StandsFor l.self m × AreAt m l.address l.done l.into;
   rest : (k : ℕ) → l.done ≤ k → slice_get l.into k ≡ slice_get l.fn.into k;
   faults : LosesNoFault l.fn.self l.self;
+  leaves : (m : Machine) → StandsFor l.fn.self m → Leaves (λ d. RevealsSettled d m) l.fn.self l.self;
   closed : IsClosed l.fn.self → (l.done ≡ 0) × (l.self ≡ l.fn.self);
 }
 

@@ -1,4 +1,4 @@
-use Rattle.std.proofs.Common.{◌≡◌, ◌∙◌, ◌+◌, ◌-◌, ◌%◌, ◌≤◌, ℕ, List, length, ap, arith, subst, sym, inl, inr, Err, rules}
+use Rattle.std.proofs.Common.{◌≡◌, ◌∙◌, ◌+◌, ◌-◌, ◌%◌, ◌≤◌, ℕ, List, length, ap, arith, refl, subst, sym, inl, inr, Err, rules}
 use Rattle.labelled_disk.specs.declared.evidence.Halt.TheVariants as halt
 use Rattle.embedded.specs.declared.code.Code.{Code}
 use Rattle.embedded.specs.declared.code.Code.TheVariants as code
@@ -6,6 +6,7 @@ use Rattle.embedded.specs.References.{AreAt, StopsLoad}
 use Rattle.embedded.proofs.PutLemmas.{put_here, put_other}
 use Rattle.embedded.proofs.PieceLemmas.{loaded_at}
 use Rattle.embedded.proofs.ReferenceLemmas.{load_err, load_stops, placed}
+use Rattle.embedded.proofs.StopLemmas.{load_leaves}
 use borrow.Rule.Slice.PartMut.{mid_of, put_mid, put_same}
 use Rattle.embedded.proofs.engine.Engine.load_next.Goals as goal
 
@@ -66,3 +67,13 @@ pub returns-in-Err-clause-cause : goal.returns-in-Err-clause-cause
 returns-in-Err-clause-cause g c = λ is.
     let same : c.in-Err.code ≡ code.Halted halt.Disk = cc is in
     c.in-Err.ensures.called.cause (ap (λ (e : Code). Err e) same)
+
+pub returns-in_default-clause-leaves : goal.returns-in_default-clause-leaves
+returns-in_default-clause-leaves g c = λ m stands. inl refl
+
+-- what was there is there in each crash state of the piece
+pub returns-in-Ok-clause-leaves : goal.returns-in-Ok-clause-leaves
+returns-in-Ok-clause-leaves g c = λ m stands. load_leaves m _ _ c.args.self.now c.load_piece.new.self _ c.in-Ok.ensures.called stands
+
+pub returns-in-Err-clause-leaves : goal.returns-in-Err-clause-leaves
+returns-in-Err-clause-leaves g c = λ m stands. load_leaves m _ _ c.args.self.now c.load_piece.new.self _ c.in-Err.ensures.called stands

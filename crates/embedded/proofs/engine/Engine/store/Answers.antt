@@ -1,8 +1,10 @@
-use Rattle.std.proofs.Common.{◌≡◌, ◌∙◌, ap, Err}
+use Rattle.std.proofs.Common.{◌≡◌, ◌∙◌, ap, Err, rules}
 use Rattle.labelled_disk.specs.declared.evidence.Halt.TheVariants as halt
 use Rattle.embedded.specs.declared.code.Code.{Code}
 use Rattle.embedded.specs.declared.code.Code.TheVariants as code
+use Rattle.embedded.specs.Stops.{RevealsPart}
 use Rattle.embedded.proofs.FaultLemmas.{rose_since}
+use Rattle.embedded.proofs.StopLemmas.{leaves_then}
 use Rattle.embedded.proofs.engine.Engine.store.Goals as goal
 
 -- a halt is the piece's
@@ -21,3 +23,19 @@ returns-in-Err-clause-cause g c = λ is.
     let same : c.in-Err.code ≡ code.Halted halt.Disk = cc is in
     rose_since c.args.self.now c.pieces.self c.store_next.new.self c.pieces.invariant.faults
     (c.store_next.ensures.cause (c.in-Err.is ∙ ap (λ (e : Code). Err e) same))
+
+pub pieces-preserved : goal.pieces-preserved
+pieces-preserved g c = record {
+  within = search rules;
+  stored = search rules;
+  faults = search rules;
+  leaves = λ m stands.
+      leaves_then (RevealsPart m c.args.address c.args.bytes.now) c.args.self.now c.pieces.self c.store_next.new.self (c.pieces.invariant.leaves m stands)
+      (c.store_next.ensures.leaves m (c.pieces.invariant.stored m stands));
+  closed = search rules;
+}
+
+pub returns-in-Err-clause-leaves : goal.returns-in-Err-clause-leaves
+returns-in-Err-clause-leaves g c = λ m stands.
+    leaves_then (RevealsPart m c.args.address c.args.bytes.now) c.args.self.now c.pieces.self c.store_next.new.self (c.pieces.invariant.leaves m stands)
+    (c.store_next.ensures.leaves m (c.pieces.invariant.stored m stands))

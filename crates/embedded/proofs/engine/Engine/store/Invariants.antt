@@ -2,6 +2,7 @@ use Rattle.std.proofs.Common.{◌≡◌, ◌≤◌, ◌-◌, length}
 use Rattle.flat_machine.specs.Machine.{Machine}
 use Rattle.embedded.specs.Engine.{IsClosed, LosesNoFault, StandsFor}
 use Rattle.embedded.specs.References.{Stored}
+use Rattle.embedded.specs.Stops.{Leaves, RevealsPart}
 use Rattle.embedded.proofs.engine.Engine.store.Given as goal
 
 -- so many bytes were stored, and none where there is no session
@@ -10,6 +11,7 @@ invariant-pieces g l = record {
   within : l.done ≤ length l.bytes;
   stored : (m : Machine) → StandsFor l.fn.self m → Stored m l.address l.done l.bytes l.self;
   faults : LosesNoFault l.fn.self l.self;
+  leaves : (m : Machine) → StandsFor l.fn.self m → Leaves (RevealsPart m l.address l.bytes) l.fn.self l.self;
   closed : IsClosed l.fn.self → (l.done ≡ 0) × (l.self ≡ l.fn.self);
 }
 

@@ -1,12 +1,14 @@
-use Rattle.std.proofs.Common.{◌≡◌, ◌+◌, ◌-◌, ℕ, ap, arith, length, subst, Err, inl, inr}
+use Rattle.std.proofs.Common.{◌≡◌, ◌+◌, ◌-◌, ℕ, ap, arith, length, refl, subst, Err, Ok, inl, inr}
 use Rattle.std.specs.Prelude.{slice_range}
 use Rattle.labelled_disk.specs.declared.evidence.Halt.TheVariants as halt
 use Rattle.flat_machine.specs.declared.call.Call.TheVariants as call
+use Rattle.flat_machine.specs.declared.call.Reply.TheVariants as reply
 use Rattle.embedded.specs.declared.code.Code.{Code}
 use Rattle.embedded.specs.declared.code.Code.TheVariants as code
 use Rattle.embedded.specs.Called.{Called}
 use Rattle.embedded.specs.References.{IsPiece, StoredPiece}
 use Rattle.embedded.proofs.ReferenceLemmas.{store_err, store_ok, store_stops, stored_still, stored_then}
+use Rattle.embedded.proofs.StopLemmas.{store_leaves}
 use Rattle.embedded.proofs.engine.Engine.store_next.Goals as goal
 
 pub returns-in-Ok-clause-stored : goal.returns-in-Ok-clause-stored
@@ -47,3 +49,25 @@ pub returns-in-Err-clause-cause : goal.returns-in-Err-clause-cause
 returns-in-Err-clause-cause g c = λ is.
     let same : c.in-Err.code ≡ code.Halted halt.Disk = cc is in
     c.in-Err.ensures.called.cause (ap (λ (e : Code). Err e) same)
+
+pub returns-in_default-clause-leaves : goal.returns-in_default-clause-leaves
+returns-in_default-clause-leaves g c = λ m s. inl refl
+
+-- in each crash state of the piece the first bytes are there, or the piece is too
+pub returns-in-Ok-clause-leaves : goal.returns-in-Ok-clause-leaves
+returns-in-Ok-clause-leaves g c = λ m s.
+    let bytes = c.args.bytes.now in
+    let done = c.args.done in
+    let n = c.in_piece-count.result in
+    store_leaves m c.args.address done n bytes c.args.self.now c.store_piece.new.self (Ok reply.Done) (omega (arith, c.requires)) s
+    (subst (λ (a : ℕ). IsPiece a (length bytes - done) n) c.in-Some.ensures c.in_piece-count.ensures.piece)
+    (subst (λ (a : ℕ). Called (call.Store a (slice_range bytes done (done + n))) c.args.self.now (Ok reply.Done) c.store_piece.new.self) c.in-Some.ensures c.in-Ok.ensures.called)
+
+pub returns-in-Err-clause-leaves : goal.returns-in-Err-clause-leaves
+returns-in-Err-clause-leaves g c = λ m s.
+    let bytes = c.args.bytes.now in
+    let done = c.args.done in
+    let n = c.in_piece-count.result in
+    store_leaves m c.args.address done n bytes c.args.self.now c.store_piece.new.self (Err c.in-Err.code) (omega (arith, c.requires)) s
+    (subst (λ (a : ℕ). IsPiece a (length bytes - done) n) c.in-Some.ensures c.in_piece-count.ensures.piece)
+    (subst (λ (a : ℕ). Called (call.Store a (slice_range bytes done (done + n))) c.args.self.now (Err c.in-Err.code) c.store_piece.new.self) c.in-Some.ensures c.in-Err.ensures.called)
