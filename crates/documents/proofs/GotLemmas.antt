@@ -37,7 +37,7 @@ module _ {D A : Type 0} {G : Ghosts D} where
     long = refl;
     reads = λ k b is. absurd (none-some b is);
     sent = Appends-nil old;
-    still = (m.unforced, stands);
+    still = (m.unforced, (λ test none. none), stands);
   }
 
   -- a piece was read, and the sink took it
@@ -63,7 +63,7 @@ module _ {D A : Type 0} {G : Ghosts D} where
         long = omega (arith, length-append x.bytes y.bytes, x.long, y.long, is);
         reads = reads_both f from x.bytes y.bytes x.reads (subst (λ (i : ℕ). Reads f i y.bytes) (let z : next ≡ from + length x.bytes = omega (arith, at, x.long) in z) y.reads);
         sent = Appends-trans a b c x.bytes y.bytes x.sent y.sent;
-        still = y.still;
+        still = (y.still.0, (λ test none. y.still.1 test (x.still.1 test none)), y.still.2);
       }
 
 -- the next piece begins where this one ends, unless it was the last
@@ -86,5 +86,5 @@ module _ {D A : Type 0} {G : Ghosts D} where
         bytes = sent.bytes;
         got = record { kind = said.0; long = sym h.same_size ∙ its_size; head_read = said.1; count = sent.long; body = sent.reads };
         sent = sent.sent;
-        still = sent.still;
+        still = (sent.still.0, (λ test none. sent.still.1 test (h.still.1 test none)), sent.still.2);
       }

@@ -20,3 +20,5 @@ pub mod StaysLemmas
 pub mod CourseLemmas
 pub mod TakenLemmas
 pub mod StoppedLemmas
+pub mod BesideLemmas
+pub mod NextLemmas

@@ -1,9 +1,10 @@
 -- What an engine learns of a file.
-use Rattle.std.proofs.Common.{◌≡◌, ◌∙◌, ◌⊎◌, inl, inr, ℕ, Bool, refl, sym, ap, subst, List, Option, Some, None, Result, Ok, Err, IfSome}
-use Rattle.std.specs.Prelude.{is_none, if◌then◌else◌}
+use Rattle.std.proofs.Common.{◌≡◌, ◌∙◌, ◌⊎◌, inl, inr, ℕ, Bool, true, refl, sym, ap, subst, List, Option, Some, None, Result, Ok, Err, IfSome}
+use Rattle.std.specs.Prelude.{is_none, is_some, if◌then◌else◌}
 use Rattle.std.specs.Option.{option_map_or}
 use Rattle.labelled_disk.specs.declared.disk.Disk.{Ghosts}
-use Rattle.document_head.specs.Head.{head_page}
+use Rattle.std.proofs.lemmas.Bool.{false≢true}
+use Rattle.document_head.specs.Head.{head_page, pages_of}
 use Rattle.document_head.specs.declared.head.Head.{Head}
 use Rattle.flat_machine.specs.declared.call.Call.TheVariants as call
 use Rattle.flat_machine.specs.declared.call.Refusal.{Refusal}
@@ -21,7 +22,10 @@ use Rattle.embedded.specs.Answers.{answer_to}
 use Rattle.embedded.specs.Called.{Called}
 use Rattle.embedded.specs.Engine.{StandsFor}
 use Rattle.documents.specs.Contents.{Reads}
-use Rattle.documents.specs.Stands.{HasRead, IsListed, StillFor, is_failure}
+use Rattle.documents.specs.declared.fault.Fault.{Fault}
+use Rattle.documents.specs.declared.fault.Fault.TheVariants as fault
+use Rattle.flat_machine.specs.declared.space.FilePage.{FilePage}
+use Rattle.documents.specs.Stands.{AreAmong, HasDocument, HasRead, IsListed, StillFor, is_failure}
 use Rattle.documents.proofs.CallLemmas.{carried, surely}
 
 -- a question leaves the machine as it is
@@ -40,6 +44,12 @@ there m id got free is =
     (at.0, at.1, is_it)
 
 module _ {D A : Type 0} {G : Ghosts D} where
+  -- what stands for a machine but for pages that were forced does so of one before
+  pub still_then : (m : Machine) (us : List FilePage) (e : Fault) (b : Engine D A G) → AreAmong us m.unforced
+      → (e ≡ fault.Call is_failure) ⊎ StillFor (record m { unforced = us }) b → (e ≡ fault.Call is_failure) ⊎ StillFor m b
+  still_then m us e b among (inl bad) = inl bad
+  still_then m us e b among (inr st) = inr (st.0, (λ test none. st.1 test (among test none)), st.2)
+
   pub asked : (m : Machine) (id : ℕ) (a b : Engine D A G) (answer : Result Reply Code) (got : Reply) → Called (call.Attributes id) a answer b → answer ≡ Ok got → StandsFor a m → StandsFor b m
   asked m id a b answer got called is stands =
       subst (λ (n : Machine). StandsFor b n) (unchanged (refusal m (call.Attributes id)) m) (carried (call.Attributes id) a b answer got m called stands is).2
@@ -47,7 +57,7 @@ module _ {D A : Type 0} {G : Ghosts D} where
   pub still_after : (m : Machine) (id : ℕ) (a b : Engine D A G) (answer : Result Reply Code) (e : Code) → Called (call.Attributes id) a answer b → answer ≡ Err e → StandsFor a m
       → (e ≡ is_failure) ⊎ StillFor m b
   still_after m id a b answer e called is stands = elim (surely (call.Attributes id) a b answer m called stands) [
-    | inl st ↦ inr (m.unforced, subst (λ (n : Machine). StandsFor b n) (unchanged (refusal m (call.Attributes id)) m) st)
+    | inl st ↦ inr (m.unforced, (λ test none. none), subst (λ (n : Machine). StandsFor b n) (unchanged (refusal m (call.Attributes id)) m) st)
     | inr bad ↦ inl (cc (is, bad))
   ]
 
@@ -64,7 +74,7 @@ module _ {D A : Type 0} {G : Ghosts D} where
         same_size = cc f.2;
         same_kind = cc f.2;
         head_read = tt;
-        still = (m.unforced, asked m id a b answer (reply.Attributes pages kind permanent immutable) called is stands);
+        still = (m.unforced, (λ test none. none), asked m id a b answer (reply.Attributes pages kind permanent immutable) called is stands);
       }
 
   -- the first page of a file is a head
@@ -98,3 +108,11 @@ module _ {D A : Type 0} {G : Ghosts D} where
       both (Some h) f at k r =
           let same : r.file ≡ f = cc (sym r.there ∙ at) in
           (k, subst (λ (x : File). Reads x 0 (head_page h.bytes h.name.bytes)) same r.reads)
+
+  -- a file whose head was found is a document
+  pub is_one : (m : Machine) (id pages kind : ℕ) (found : Option Head) (e : Engine D A G) → IsListed m id pages kind found e → is_some found ≡ true
+      → IfSome found (λ h. pages ≡ pages_of h.bytes) → HasDocument m id × StillFor m e
+  is_one m id pages kind None e listed some long = absurd (false≢true some)
+  is_one m id pages kind (Some h) e listed some long =
+      let its = listed.head_read in
+      (record { file = listed.file; there = listed.there; kind = its.0; head = h; long = sym listed.same_size ∙ long; head_read = its.1 }, listed.still)

@@ -19,6 +19,7 @@ use Rattle.embedded.specs.References.{AreAt, Stored}
 use Rattle.documents.specs.Pieces.{after_look, after_store, forced}
 use Rattle.documents.specs.Stands.{HasRead, StillFor, StoredPart, is_failure}
 use Rattle.documents.specs.Windows.{IsHidden, IsShown, place, showing}
+use Rattle.documents.proofs.MachineLemmas.{forced_among}
 use Rattle.documents.proofs.ShowLemmas.{look_hides, loaded_is}
 use Rattle.documents.proofs.StoredLemmas.{store_hides}
 use Rattle.documents.proofs.WindowLemmas.{is_made}
@@ -88,7 +89,7 @@ module _ {D A : Type 0} {G : Ghosts D} where
     load_ends (Err e) (inl stands) at whole ends fails ok =
         elim (ends (showing m id page pages writable) (after_look id page pages m) stands (look_hides m id page pages writable space address h shown)) [
           | inl bad ↦ inl bad
-          | inr st ↦ inr (forced id page pages m.unforced, st)
+          | inr st ↦ inr (forced id page pages m.unforced, forced_among id page pages m.unforced, st)
         ]
     load_ends (Ok done) (inl stands) at whole ends fails ok =
         let st = ends (showing m id page pages writable) (after_look id page pages m) stands (look_hides m id page pages writable space address h shown) in

@@ -1,5 +1,5 @@
 -- An engine while a document is put.
-use Rattle.std.proofs.Common.{◌≡◌, ◌∙◌, ◌⊎◌, inl, inr, ℕ, ◌+◌, ◌*◌, ◌<◌, ◌^◌, true, refl, sym, ap, subst, List, length, Option, Result, Ok, Err, IfSome}
+use Rattle.std.proofs.Common.{◌≡◌, ◌∙◌, ◌⊎◌, inl, inr, ℕ, ◌+◌, ◌*◌, ◌<◌, ◌^◌, true, arith, refl, sym, ap, subst, List, length, Option, Result, Ok, Err, IfSome}
 use Rattle.std.specs.Prelude.{take, MatchResult}
 use Rattle.std.specs.Int.{div_ceil}
 use Rattle.std.specs.Io.KnownBytes.{Consumes, IsAtEnd}
@@ -120,6 +120,6 @@ module _ {D A : Type 0} {G : Ghosts D} where
         | inr other ↦ absurd (cc (shut, other.1))
       ])
   undone_by m id error handed deleted a b is_fresh called stopped which halted (inr h) = elim (surely (call.Delete id) a b deleted (adding h.0 m) called h.2) [
-    | inl stands ↦ inr (m.counter + 1, subst (λ (n : Machine). StandsFor b n) (deleted_adding m h.0 id is_fresh h.1) stands)
+    | inl stands ↦ inr (m.counter + 1, omega arith, subst (λ (n : Machine). StandsFor b n) (deleted_adding m h.0 id is_fresh h.1) stands)
     | inr bad ↦ inl (halted bad)
   ]

@@ -28,7 +28,7 @@ use Rattle.documents.specs.Pieces.{after_look, after_store, forced}
 use Rattle.documents.specs.Stands.{HasRead, StillFor, is_failure}
 use Rattle.documents.specs.Windows.{IsHidden, IsShown, place, showing}
 use Rattle.documents.proofs.CallLemmas.{carried, never, refused, surely}
-use Rattle.documents.proofs.MachineLemmas.{machine_of}
+use Rattle.documents.proofs.MachineLemmas.{forced_among, machine_of}
 use Rattle.documents.proofs.RunLemmas.{IsShowing, is_hidden, is_showing, spot_here, with_run}
 use Rattle.documents.proofs.WindowLemmas.{is_made, removed}
 use Rattle.documents.proofs.StoreRows.{comes}
@@ -150,5 +150,5 @@ module _ {D A : Type 0} {G : Ghosts D} where
             ∙ ap (λ (o : Option Spot). option_map_or (cell_of m.files) o any) spot
             ∙ ap (λ (o : Option File). option_map_or (λ f. cell_in f.pages (512 * page + k)) o any) over.there in
             subst (λ (c : Cell). MatchOption c (b < 256) (λ x. b ≡ x)) cell (at k b (omega (arith, low, all)) is);
-        still = (forced id page pages m.unforced, stands);
+        still = (forced id page pages m.unforced, forced_among id page pages m.unforced, stands);
       }

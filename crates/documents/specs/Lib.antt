@@ -5,3 +5,4 @@ pub mod Course
 pub mod Ends
 pub mod Stands
 pub mod Laws
+pub mod Beside

@@ -1,5 +1,5 @@
 -- What an engine stands for after a document was put or got.
-use Rattle.std.specs.Prelude.{◌≡◌, ◌⊎◌, ◌≤◌, ◌<◌, ◌+◌, ◌*◌, ◌^◌, ◌==◌, ℕ, true, false, List, Option, Some, None, IfSome, length, take}
+use Rattle.std.specs.Prelude.{◌≡◌, ◌⊎◌, ◌≤◌, ◌<◌, ◌+◌, ◌*◌, ◌^◌, ◌==◌, ℕ, Bool, true, false, List, Option, Some, None, IfSome, length, take}
 use Rattle.std.specs.List.{AllByRecursion, list_any}
 use Rattle.std.specs.Int.{div_ceil}
 use Rattle.std.specs.Io.KnownBytes.{Appends, Consumes}
@@ -23,6 +23,10 @@ use Rattle.documents.specs.Pieces.{adding, after_store}
 abbrev pub is_failure : Code
 is_failure = code.Halted halt.Disk
 
+-- there is no page among the first that is not among the second
+abbrev pub AreAmong : List FilePage → List FilePage → Type 0
+AreAmong few all = (test : FilePage → Bool) → list_any test all ≡ false → list_any test few ≡ false
+
 -- What was got of a file: its head says so many bytes, and these are as many of its bytes.
 pub record IsGot (f : File) (head : Head) (bytes : List ℕ) : Type 0 where
   pub kind : f.kind ≡ 17475
@@ -31,10 +35,20 @@ pub record IsGot (f : File) (head : Head) (bytes : List ℕ) : Type 0 where
   pub count : length bytes ≡ head.bytes
   pub body : Reads f 512 bytes
 
+-- The machine has a document of this identifier: a file of that type, whose first page is a head, and has the pages for it.
+pub record HasDocument (m : Machine) (id : ℕ) : Type 0 where
+  pub file : File
+  pub there : file_at m.files id ≡ Some file
+  pub kind : file.kind ≡ 17475
+  pub head : Head
+  pub long : size file ≡ pages_of head.bytes
+  pub head_read : Reads file 0 (head_page head.bytes head.name.bytes)
+
 module _ {D A : Type 0} {G : Ghosts D} where
   -- it stands for the machine, but for pages that were forced meanwhile
   abbrev pub StillFor : Machine → Engine D A G → Type 0
-  StillFor m e = (unforced : List FilePage) × StandsFor e (record m { unforced = unforced })
+  StillFor m e = (unforced : List FilePage) × AreAmong unforced m.unforced
+      × StandsFor e (record m { unforced = unforced })
 
   -- bytes of a file were read, from the start of a page on
   pub record HasRead (m : Machine) (id page : ℕ) (bytes : List ℕ) (e : Engine D A G) : Type 0 where
@@ -76,9 +90,10 @@ module _ {D A : Type 0} {G : Ghosts D} where
     pub long : pages ≡ size file
     pub sent : HasSent m file 0 (512 * pages) old new e
 
-  -- it stands for the machine without a file, but for pages that were forced meanwhile
+  -- it stands for the machine without a file, which was a document, but for pages that were forced meanwhile
   abbrev pub HasRemoved : Machine → ℕ → Engine D A G → Type 0
-  HasRemoved m id e = (unforced : List FilePage) × StandsFor e (record m { files = without_file id m.files; unforced = unforced })
+  HasRemoved m id e = HasDocument m id × ((unforced : List FilePage) × AreAmong unforced m.unforced
+      × StandsFor e (record m { files = without_file id m.files; unforced = unforced }))
 
   -- the disk failed, or the first of the bytes were stored, or nothing was
   abbrev pub StoredPart : Machine → ℕ → ℕ → List ℕ → Code → Engine D A G → Type 0
@@ -112,7 +127,7 @@ module _ {D A : Type 0} {G : Ghosts D} where
 
   -- it stands for the machine, but for how many identifiers that gave out
   abbrev pub IsAsBefore : Machine → Engine D A G → Type 0
-  IsAsBefore m e = (counter : ℕ) × StandsFor e (record m { counter = counter })
+  IsAsBefore m e = (counter : ℕ) × (m.counter ≤ counter) × StandsFor e (record m { counter = counter })
 
   -- so many bytes that the source had left were put behind the first page of a new file
   pub record HasFilled (m : Machine) (count : ℕ) (old new : Option (List ℕ)) (e : Engine D A G) : Type 0 where
@@ -136,16 +151,21 @@ module _ {D A : Type 0} {G : Ghosts D} where
     pub document : IsDocument name bytes file
     pub stands : StandsFor e (adding file m)
 
-  -- A document was put and another file removed: it stands for the machine without that, and with the document.
+  -- A document was put and another one removed: it stands for the machine without that, and with the new one.
   pub record IsReplaced (m : Machine) (gone id : ℕ) (name : List ℕ) (left : Option (List ℕ)) (e : Engine D A G) : Type 0 where
+    pub was : HasDocument m gone
     pub bytes : List ℕ
     pub all : IfSome left (λ xs. bytes ≡ xs)
+    pub fits : length bytes < 2 ^ 64
+    pub new : id ≡ new_id m
     pub file : File
     pub named : file.id ≡ id
     pub document : IsDocument name bytes file
     pub unforced : List FilePage
+    pub forced : AreAmong unforced m.unforced
     pub stands : StandsFor e (record m { files = without_file gone (put_file file m.files); counter = m.counter + 1; unforced = unforced })
 
   -- it stands for the machine, but for pages that were forced, and for how many identifiers that gave out
   abbrev pub IsMostlyAsBefore : Machine → Engine D A G → Type 0
-  IsMostlyAsBefore m e = (unforced : List FilePage) × IsAsBefore (record m { unforced = unforced }) e
+  IsMostlyAsBefore m e = (unforced : List FilePage) × AreAmong unforced m.unforced
+      × IsAsBefore (record m { unforced = unforced }) e

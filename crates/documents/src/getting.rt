@@ -1,5 +1,5 @@
 //! A document is got: its head is read, and then its bytes go to a sink.
-ghost use Rattle.std.specs.Prelude.{◌≡◌, ◌≢◌, ◌⊎◌, ◌≤◌, ◌<◌, ◌+◌, ◌*◌, ◌^◌, length, Err, Some, IfOk, IfErr, OnOk, MatchResult};
+ghost use Rattle.std.specs.Prelude.{◌≡◌, ◌≢◌, ◌⊎◌, ◌≤◌, ◌<◌, ◌+◌, ◌*◌, ◌^◌, length, Err, Some, None, IfOk, IfErr, OnOk, MatchResult};
 ghost use Rattle.trace_io.specs.Stream.{HasCause, Rose};
 ghost use Rattle.embedded.specs.Called.{HasStopped};
 ghost use Rattle.flat_machine.specs.File.{File, file_at};
@@ -108,6 +108,7 @@ pub fn get<D: Disk + Drop, A: Allocator, S: Sink, P: Progress>(
         (λ e. (e ≡ Fault.Call is_failure) ⊎ StillFor m engine.new) }
     ensures taken { IfOk result (λ head. TookSoMany head.bytes (S.took sink.old) (S.took sink.new)) }
     ensures nothing { result ≡ Err Fault.NoDocument → sink.new ≡ sink.old }
+    ensures absent { (m : Machine) → StandsFor engine.old m → file_at m.files id ≡ None → sink.new ≡ sink.old }
     ensures closed { IsClosed engine.old
         → (result ≡ Err (Fault.Call Code.Closed)) × (engine.new ≡ engine.old) × (sink.new ≡ sink.old) }
     ensures led { OnOk result (Led is_look engine.old engine.new) }
@@ -147,6 +148,7 @@ pub fn get_pages<D: Disk + Drop, A: Allocator, S: Sink, P: Progress>(
         (λ pages. HasGotPages m id pages (S.took sink.old) (S.took sink.new) engine.new)
         (λ e. (e ≡ Fault.Call is_failure) ⊎ StillFor m engine.new) }
     ensures taken { IfOk result (λ pages. TookSoMany (512 * pages) (S.took sink.old) (S.took sink.new)) }
+    ensures absent { (m : Machine) → StandsFor engine.old m → file_at m.files id ≡ None → sink.new ≡ sink.old }
     ensures closed { IsClosed engine.old
         → (result ≡ Err (Fault.Call Code.Closed)) × (engine.new ≡ engine.old) × (sink.new ≡ sink.old) }
     ensures led { OnOk result (Led is_look engine.old engine.new) }

@@ -1,4 +1,5 @@
 //! What the clauses of a put and of a get give together, shown on functions that do nothing.
+ghost use Rattle.documents.specs.Beside.{SettledBeside};
 ghost use Rattle.documents.specs.Laws.{WhatIsPutIsGot, WhatIsPutStays};
 
 /// What is got of a file is what was put into it, whichever machine has the file by then.
@@ -9,4 +10,10 @@ pub fn what_is_put_is_got()
 /// What was put outlasts a stop of the volume, and its end.
 pub fn what_is_put_stays()
     ensures { WhatIsPutStays }
+{}
+
+/// A document that is being put, a temporary file yet, is none that a stop leaves, and changes nothing else of what it
+/// leaves.
+pub fn what_is_temporary_is_unseen()
+    ensures { SettledBeside }
 {}

@@ -1,6 +1,7 @@
 //! What the files of a volume are, one after the other.
-ghost use Rattle.std.specs.Prelude.{◌≡◌, ◌⊎◌, Err, IfOk, IfSome, OnOk, OnSome, MatchResult};
+ghost use Rattle.std.specs.Prelude.{◌≡◌, ◌⊎◌, Some, None, Err, IfOk, IfSome, OnOk, OnSome, MatchOption, MatchResult};
 ghost use Rattle.document_head.specs.Head.{head_page, pages_of};
+ghost use Rattle.flat_machine.specs.Allows.{next_file};
 ghost use Rattle.flat_machine.specs.Machine.{Machine};
 ghost use Rattle.embedded.specs.Called.{HasStopped};
 ghost use Rattle.embedded.specs.Engine.{IsClosed, StandsFor};
@@ -49,6 +50,7 @@ pub fn describe<D: Disk + Drop, A: Allocator>(
     engine: &mut Engine<D, A>,
     id: FileId,
 ) -> Result<Listed, Code>
+    ensures id { IfOk result (λ file. file.id ≡ id) }
     ensures pages { IfOk result (λ file. IfSome file.head (λ head. file.pages ≡ pages_of head.bytes)) }
     ensures listed { (m : Machine) → StandsFor engine.old m → MatchResult result
         (λ file. IsListed m id file.pages file.kind file.head engine.new)
@@ -85,6 +87,12 @@ pub fn next_listed<D: Disk + Drop, A: Allocator>(
     engine: &mut Engine<D, A>,
     cursor: FileId,
 ) -> Result<Option<Listed>, Code>
+    ensures pages { IfOk result (λ found. IfSome found (λ file.
+        IfSome file.head (λ head. file.pages ≡ pages_of head.bytes))) }
+    ensures listed { (m : Machine) → StandsFor engine.old m → MatchResult result (λ found. MatchOption found
+        ((next_file m cursor ≡ None) × StillFor m engine.new)
+        (λ file. (next_file m cursor ≡ Some file.id) × IsListed m file.id file.pages file.kind file.head engine.new))
+        (λ e. (e ≡ is_failure) ⊎ StillFor m engine.new) }
     ensures led { IfOk result (λ found. OnSome found (Led is_look engine.old engine.new)) }
     ensures closed { IsClosed engine.old → (result ≡ Err Code.Closed) × (engine.new ≡ engine.old) }
     ensures stopped { (why : Halt) → result ≡ Err (Code.Halted why) → HasStopped why engine.new }

@@ -5,7 +5,7 @@ ghost use Rattle.embedded.specs.Called.{HasStopped};
 ghost use Rattle.embedded.specs.Engine.{IsClosed, StandsFor};
 ghost use Rattle.documents.specs.Course.{Led, is_look};
 ghost use Rattle.documents.specs.Ends.{Deleted, Replaced};
-ghost use Rattle.documents.specs.Stands.{HasRemoved, IsMostlyAsBefore, IsReplaced, StillFor, is_failure};
+ghost use Rattle.documents.specs.Stands.{HasDocument, HasRemoved, IsMostlyAsBefore, IsReplaced, StillFor, is_failure};
 
 use crate::putting::fault_after;
 use crate::{Fault, Progress, describe, put};
@@ -21,7 +21,8 @@ fn is_document<D: Disk + Drop, A: Allocator>(
 ) -> Result<(), Fault>
     ensures led { OnOk result (Led is_look engine.old engine.new) }
     ensures still { (m : Machine) → StandsFor engine.old m → MatchResult result
-        (λ done. StillFor m engine.new) (λ e. (e ≡ Fault.Call is_failure) ⊎ StillFor m engine.new) }
+        (λ done. HasDocument m id × StillFor m engine.new)
+        (λ e. (e ≡ Fault.Call is_failure) ⊎ StillFor m engine.new) }
     ensures closed { IsClosed engine.old → (result ≡ Err (Fault.Call Code.Closed)) × (engine.new ≡ engine.old) }
     ensures stopped { (why : Halt) → result ≡ Err (Fault.Call (Code.Halted why)) → HasStopped why engine.new }
 {

@@ -21,8 +21,8 @@ get       writes a document to standard output, or into a new file, which takes
 list      a line for each file: identifier, bytes and name of a document; of
           any other file its identifier, pages and type; --json: as JSON
 remove    removes documents
-replace   puts a file into a new document, writes its identifier, and removes
-          the document that had the other one
+replace   puts a file into a new document, removes the document that had the
+          other identifier, and then writes the new one
 --restore restores a volume that was not closed, before all else
 --frames  how many pages are kept in memory, 24 to 4096, by default 1024
 --quiet   no line that says how far a document has come

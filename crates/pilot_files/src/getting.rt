@@ -3,7 +3,7 @@
 use crate::host::{Beside, NoFile, old_file};
 use crate::meter::Meter;
 use crate::status::Status;
-use crate::volume::{Volume, fault_line};
+use crate::volume::{Volume, document_line};
 use documents::{Fault, get, get_pages};
 use labelled_disk::FileId;
 use std::fs::exists;
@@ -46,10 +46,9 @@ fn not_got(
     trouble: Option<io::Error>,
 ) -> Status {
     let Some(why) = trouble else {
-        let what = format!(in rt.alloc(); "{id:016x}");
-        return fault_line(rt, volume, what.as_deref().unwrap_or("get"), fault);
+        return document_line(rt, volume, id, fault);
     };
-    let _ = eprintln!(rt; "pilot_files: {id:016x}: the output failed: {why}");
+    let _ = eprintln!(rt; "pilot_files: \"{id:016x}\": the output failed: {why}");
     Status::StreamFault
 }
 
@@ -76,7 +75,7 @@ fn no_file(rt: &HostRuntime, path: &str, why: NoFile) -> Status {
 fn is_free(rt: &HostRuntime, path: &str, force: bool) -> Result<(), NoFile> {
     match exists(rt, path) {
         Ok(true) if force => old_file(rt, path).map(|_| ()),
-        Ok(true) => Err(NoFile::System(io::ErrorKind::AlreadyExists.into())),
+        Ok(true) => Err(NoFile::Taken(io::ErrorKind::AlreadyExists.into())),
         _ => Ok(()),
     }
 }
@@ -92,9 +91,12 @@ pub(crate) fn get_to_file(
     if let Err(why) = is_free(rt, path, getting.force) {
         return no_file(rt, path, why);
     }
-    let beside = match Beside::new(rt, path) {
+    let Ok(part) = format!(in rt.alloc(); "{path}.part") else {
+        return no_file(rt, path, NoFile::NoMemory);
+    };
+    let beside = match Beside::new(rt, path, part.as_str()) {
         Ok(beside) => beside,
-        Err(why) => return no_file(rt, path, why),
+        Err(why) => return no_file(rt, part.as_str(), why),
     };
     let mut sink = match beside.writer() {
         Ok(file) => WriterSink::over(file),

@@ -13,6 +13,9 @@ pub(crate) enum NoFile {
     /// Another program has its lock, or it is the image.
     #[error("in use: it is the image, or another program has it")]
     InUse,
+    /// There is a file of that name, and it is to stay.
+    #[error("{0}; --force takes its place")]
+    Taken(io::Error),
     #[error("there is no memory left")]
     NoMemory,
 }
@@ -38,18 +41,21 @@ pub(crate) fn old_file(rt: &HostRuntime, path: &str) -> Result<File, NoFile> {
 #[derive(Drop)]
 pub(crate) struct Beside<'a> {
     path: &'a str,
-    beside: String,
+    beside: &'a str,
     file: File,
 }
 
 impl<'a> Beside<'a> {
-    /// Makes it.
-    pub(crate) fn new(rt: &HostRuntime, path: &'a str) -> Result<Beside<'a>, NoFile> {
-        let beside = format!(in rt.alloc(); "{path}.part").map_err(|_| NoFile::NoMemory)?;
+    /// Makes it, with a path of its own. There must be no file of that path.
+    pub(crate) fn new(
+        rt: &HostRuntime,
+        path: &'a str,
+        beside: &'a str,
+    ) -> Result<Beside<'a>, NoFile> {
         let file = OpenOptions::new()
             .write(true)
             .create_new(true)
-            .open(rt, beside.as_str())
+            .open(rt, beside)
             .map_err(NoFile::System)?;
         Ok(Beside { path, beside, file })
     }
@@ -63,18 +69,18 @@ impl<'a> Beside<'a> {
     /// it is to.
     pub(crate) fn finish(self, rt: &HostRuntime, force: bool) -> Result<(), NoFile> {
         let named = match self.file.sync_all() {
-            Ok(()) if force => rename(rt, self.beside.as_str(), self.path),
-            Ok(()) => hard_link(rt, self.beside.as_str(), self.path),
+            Ok(()) if force => rename(rt, self.beside, self.path),
+            Ok(()) => hard_link(rt, self.beside, self.path),
             Err(why) => Err(why),
         };
         if !force || named.is_err() {
-            let _ = remove_file(rt, self.beside.as_str());
+            let _ = remove_file(rt, self.beside);
         }
         named.map_err(NoFile::System)
     }
 
     /// Removes the file.
     pub(crate) fn drop_file(self, rt: &HostRuntime) {
-        let _ = remove_file(rt, self.beside.as_str());
+        let _ = remove_file(rt, self.beside);
     }
 }

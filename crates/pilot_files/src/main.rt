@@ -51,8 +51,12 @@ fn reveal(rt: &HostRuntime, text: &str) -> Status {
 }
 
 /// Writes on standard error that the words ask for nothing, and how the program is called.
-fn usage(rt: &HostRuntime, why: NoRequest) -> Status {
-    let _ = eprint!(rt; "pilot_files: {why}\n{}", about::HELP);
+fn usage(rt: &HostRuntime, why: NoRequest<'_>, words: &[String]) -> Status {
+    let _ = match (&why, words) {
+        (NoRequest::Usage, [_, ..]) => eprintln!(rt; "pilot_files: {why}: {words:?}"),
+        _ => eprintln!(rt; "pilot_files: {why}"),
+    };
+    let _ = eprint!(rt; "{}", about::HELP);
     match why {
         NoRequest::NoMemory => Status::NoMemory,
         _ => Status::Usage,
@@ -63,7 +67,7 @@ fn usage(rt: &HostRuntime, why: NoRequest) -> Status {
 fn on_image(rt: &HostRuntime, held: io::Result<()>, image: &str, words: &[String]) -> Status {
     let request = match request_of(rt.alloc(), words) {
         Ok(request) => request,
-        Err(why) => return usage(rt, why),
+        Err(why) => return usage(rt, why, words),
     };
     if let Err(why) = held {
         let _ = eprintln!(rt; "pilot_files: {NOTHING:?}: {why}");
@@ -84,14 +88,14 @@ fn asks_for_help(word: &str) -> bool {
 fn run(rt: &HostRuntime, held: io::Result<()>) -> Status {
     let words = match words_of(rt) {
         Ok(words) => words,
-        Err(Status::Usage) => return usage(rt, NoRequest::Usage),
+        Err(Status::Usage) => return usage(rt, NoRequest::NoText, &[]),
         Err(status) => return status,
     };
     match words.as_slice() {
         [word] if asks_for_help(word.as_str()) => reveal(rt, about::HELP),
         [word] if word.as_str() == "--version" => reveal(rt, about::VERSION),
         [image, rest @ ..] => on_image(rt, held, image.as_str(), rest),
-        [] => usage(rt, NoRequest::Usage),
+        [] => usage(rt, NoRequest::Usage, &[]),
     }
 }
 

@@ -3,9 +3,12 @@
 use crate::host::{last_part, old_file};
 use crate::meter::Meter;
 use crate::status::Status;
-use crate::volume::{Volume, fault_line};
+use crate::volume::{Volume, document_line, fault_line};
 use documents::{Fault, put, replace};
+use embedded::Code;
+use flat_machine::Refusal;
 use labelled_disk::FileId;
+use std::io::{self, Read};
 use trace_io::{ReaderSource, Source};
 
 /// What a document is put with: the name that was given, and which document it replaces.
@@ -35,12 +38,41 @@ fn placed<S: Source>(
     }
 }
 
+/// Whether a fault is that there is no document of an identifier.
+fn is_missing(fault: Fault) -> bool {
+    match fault {
+        Fault::NoDocument => true,
+        Fault::Call(Code::Refused(Refusal::File)) => true,
+        _ => false,
+    }
+}
+
+/// A line on standard error that says why a document was not put. It names the one that was to be replaced where that
+/// one is not there, and else the file.
+fn not_put(
+    rt: &HostRuntime,
+    volume: &mut Volume,
+    path: &str,
+    instead: Option<FileId>,
+    fault: Fault,
+    trouble: Option<io::Error>,
+) -> Status {
+    if let Some(why) = trouble {
+        let _ = eprintln!(rt; "pilot_files: {path:?}: {fault}: {why}");
+        return Status::of_fault(fault);
+    }
+    match instead {
+        Some(old) if is_missing(fault) => document_line(rt, volume, old, fault),
+        _ => fault_line(rt, volume, path, fault),
+    }
+}
+
 /// Puts a document, and writes its identifier.
-fn put_source<S: Source>(
+fn put_source<R: Read>(
     rt: &HostRuntime,
     volume: &mut Volume,
     buffer: &mut [u8],
-    source: &mut S,
+    source: &mut ReaderSource<R>,
     path: &str,
     placing: Placing<'_>,
 ) -> Status {
@@ -56,7 +88,10 @@ fn put_source<S: Source>(
                 Status::StreamFault
             }
         },
-        Err(fault) => fault_line(rt, volume, path, fault),
+        Err(fault) => {
+            let trouble = source.trouble();
+            not_put(rt, volume, path, placing.instead, fault, trouble)
+        }
     }
 }
 

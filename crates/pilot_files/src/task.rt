@@ -4,7 +4,7 @@ use crate::getting::{Getting, get_to_file, get_to_output};
 use crate::listing::list;
 use crate::putting::{Placing, put_path};
 use crate::status::Status;
-use crate::volume::{Volume, fault_line};
+use crate::volume::{Volume, document_line};
 use crate::words::{Request, Task};
 use documents::remove;
 use labelled_disk::FileId;
@@ -33,8 +33,7 @@ fn put_all(
 fn remove_all(rt: &HostRuntime, volume: &mut Volume, ids: &[FileId]) -> Status {
     for id in ids {
         if let Err(fault) = remove(volume, *id) {
-            let what = format!(in rt.alloc(); "{id:016x}");
-            return fault_line(rt, volume, what.as_deref().unwrap_or("remove"), fault);
+            return document_line(rt, volume, *id, fault);
         }
     }
     Status::Done

@@ -6,7 +6,7 @@ use documents::Fault;
 use embedded::{Code, Engine};
 use flat_machine::{Refusal, Reply};
 use image_disk::{ImageDisk, open_image};
-use labelled_disk::RootFault;
+use labelled_disk::{FileId, RootFault};
 use std::alloc::Global;
 use std::fs::File;
 
@@ -98,4 +98,15 @@ pub(crate) fn fault_line(
         _ => eprintln!(rt; "pilot_files: {what:?}: {fault}"),
     };
     Status::of_fault(fault)
+}
+
+/// The same of a document: its identifier is what was asked for.
+pub(crate) fn document_line(
+    rt: &HostRuntime,
+    volume: &mut Volume,
+    id: FileId,
+    fault: Fault,
+) -> Status {
+    let what = format!(in rt.alloc(); "{id:016x}");
+    fault_line(rt, volume, what.as_deref().unwrap_or("document"), fault)
 }

@@ -49,22 +49,30 @@ pub(crate) struct Request<'a> {
 
 /// Why words ask for nothing.
 #[derive(Debug, Drop, Error)]
-pub(crate) enum NoRequest {
+pub(crate) enum NoRequest<'a> {
     #[error("these words ask for nothing")]
     Usage,
-    #[error("an identifier has 16 hexadecimal digits")]
-    Identifier,
+    /// A word is not UTF-8.
+    #[error("a word is not UTF-8")]
+    NoText,
+    #[error("{0:?}: no verb: put, get, list, remove or replace")]
+    Verb(&'a str),
+    /// There are several files for one name.
+    #[error("--name takes one file")]
+    OneName,
+    #[error("{0:?}: an identifier is 1 to 16 hexadecimal digits")]
+    Identifier(&'a str),
     #[error("there is no memory left")]
     NoMemory,
 }
 
-impl From<AllocError> for NoRequest {
+impl From<AllocError> for NoRequest<'_> {
     fn from(_: AllocError) -> Self {
         NoRequest::NoMemory
     }
 }
 
-impl From<clap::Error> for NoRequest {
+impl From<clap::Error> for NoRequest<'_> {
     fn from(error: clap::Error) -> Self {
         match error.kind() {
             clap::error::ErrorKind::OutOfMemory => NoRequest::NoMemory,
@@ -107,7 +115,7 @@ fn verb<'a>(alloc: Global, name: &'static str) -> Result<Command<'a>, AllocError
 fn read<'a>(
     verb: Command<'a>,
     words: &'a [String],
-) -> Result<(ArgMatches<'a>, Options), NoRequest> {
+) -> Result<(ArgMatches<'a>, Options), NoRequest<'a>> {
     let matches = verb.try_get_matches_from(words)?;
     let options = Options {
         frames: matches.get_one("frames").unwrap_or(1024),
@@ -118,19 +126,19 @@ fn read<'a>(
 }
 
 /// The words that are no options.
-fn operands_of<'a>(alloc: Global, matches: &ArgMatches<'a>) -> Result<Vec<&'a str>, NoRequest> {
-    Ok(Vec::from_slice(alloc, matches.get_strs("operands").unwrap_or(&[]))?)
+fn operands_of<'a>(alloc: Global, matches: &ArgMatches<'a>) -> Result<Vec<&'a str>, AllocError> {
+    Vec::from_slice(alloc, matches.get_strs("operands").unwrap_or(&[]))
 }
 
 /// The identifier that a word is: 1 to 16 hexadecimal digits.
-fn identifier_of(word: &str) -> Result<FileId, NoRequest> {
+fn identifier_of(word: &str) -> Result<FileId, NoRequest<'_>> {
     if word.len() > 16 || word.starts_with('+') {
-        return Err(NoRequest::Identifier);
+        return Err(NoRequest::Identifier(word));
     }
-    u64::from_str_radix(word, 16).map_err(|_| NoRequest::Identifier)
+    u64::from_str_radix(word, 16).map_err(|_| NoRequest::Identifier(word))
 }
 
-fn put_of<'a>(alloc: Global, words: &'a [String]) -> Result<Request<'a>, NoRequest> {
+fn put_of<'a>(alloc: Global, words: &'a [String]) -> Result<Request<'a>, NoRequest<'a>> {
     let verb = verb(alloc, "put")?
         .arg(name_option(alloc))?
         .arg(operands(alloc))?;
@@ -138,13 +146,13 @@ fn put_of<'a>(alloc: Global, words: &'a [String]) -> Result<Request<'a>, NoReque
     let files = operands_of(alloc, &matches)?;
     let name = matches.get_str("name");
     if name.is_some() && files.len() > 1 {
-        return Err(NoRequest::Usage);
+        return Err(NoRequest::OneName);
     }
     let task = Task::Put { files, name };
     Ok(Request { task, options })
 }
 
-fn get_of<'a>(alloc: Global, words: &'a [String]) -> Result<Request<'a>, NoRequest> {
+fn get_of<'a>(alloc: Global, words: &'a [String]) -> Result<Request<'a>, NoRequest<'a>> {
     let verb = verb(alloc, "get")?
         .arg(flag(alloc, "force"))?
         .arg(flag(alloc, "pages"))?
@@ -165,7 +173,7 @@ fn get_of<'a>(alloc: Global, words: &'a [String]) -> Result<Request<'a>, NoReque
     Ok(Request { task, options })
 }
 
-fn list_of<'a>(alloc: Global, words: &'a [String]) -> Result<Request<'a>, NoRequest> {
+fn list_of<'a>(alloc: Global, words: &'a [String]) -> Result<Request<'a>, NoRequest<'a>> {
     let verb = verb(alloc, "list")?.arg(flag(alloc, "json"))?;
     let (matches, options) = read(verb, words)?;
     let json = matches.get_flag("json");
@@ -173,7 +181,7 @@ fn list_of<'a>(alloc: Global, words: &'a [String]) -> Result<Request<'a>, NoRequ
     Ok(Request { task, options })
 }
 
-fn remove_of<'a>(alloc: Global, words: &'a [String]) -> Result<Request<'a>, NoRequest> {
+fn remove_of<'a>(alloc: Global, words: &'a [String]) -> Result<Request<'a>, NoRequest<'a>> {
     let verb = verb(alloc, "remove")?.arg(operands(alloc))?;
     let (matches, options) = read(verb, words)?;
     let mut ids = Vec::new(alloc);
@@ -184,7 +192,7 @@ fn remove_of<'a>(alloc: Global, words: &'a [String]) -> Result<Request<'a>, NoRe
     Ok(Request { task, options })
 }
 
-fn replace_of<'a>(alloc: Global, words: &'a [String]) -> Result<Request<'a>, NoRequest> {
+fn replace_of<'a>(alloc: Global, words: &'a [String]) -> Result<Request<'a>, NoRequest<'a>> {
     let verb = verb(alloc, "replace")?
         .arg(name_option(alloc))?
         .arg(operands(alloc))?;
@@ -200,7 +208,7 @@ fn replace_of<'a>(alloc: Global, words: &'a [String]) -> Result<Request<'a>, NoR
 }
 
 /// What the words ask for: the first is the verb.
-pub(crate) fn request_of(alloc: Global, words: &[String]) -> Result<Request<'_>, NoRequest> {
+pub(crate) fn request_of(alloc: Global, words: &[String]) -> Result<Request<'_>, NoRequest<'_>> {
     let Some(verb) = words.first() else {
         return Err(NoRequest::Usage);
     };
@@ -210,6 +218,6 @@ pub(crate) fn request_of(alloc: Global, words: &[String]) -> Result<Request<'_>,
         "list" => list_of(alloc, words),
         "remove" => remove_of(alloc, words),
         "replace" => replace_of(alloc, words),
-        _ => Err(NoRequest::Usage),
+        other => Err(NoRequest::Verb(other)),
     }
 }

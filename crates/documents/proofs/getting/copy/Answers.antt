@@ -5,6 +5,7 @@ use Rattle.documents.proofs.TakenLemmas.{split_count, took_then}
 use Rattle.std.proofs.Common.{◌≡◌, ◌<◌, ◌+◌, ◌-◌, ◌*◌, ◌%◌, ◌⊎◌, inl, inr, ℕ, length, refl, subst}
 use Rattle.flat_machine.specs.Machine.{Machine}
 use Rattle.documents.specs.Stands.{HasSent}
+use Rattle.documents.proofs.ListLemmas.{still_then}
 use Rattle.documents.proofs.GotLemmas.{even_then, sent_both, sent_none}
 use Rattle.documents.proofs.getting.copy.Goals as goal
 
@@ -26,7 +27,7 @@ pieces-preserved g c =
       sent = λ m f stands there.
           let sent = c.pieces.invariant.sent m f stands there in
           sent_both m f (512 * c.args.part.page) (512 * c.pieces.page) _ _ _ _ _ _ c.pieces.engine c.copy_piece.new.engine sent
-          (c.in-Ok.ensures.sent (record m { unforced = sent.still.0 }) f sent.still.1 there)
+          (c.in-Ok.ensures.sent (record m { unforced = sent.still.0 }) f sent.still.2 there)
           (c.pieces.invariant.even (search rules))
           (split_count _ _ _ _ c.pieces.invariant.within few (search rules));
       later = omega (arith, c.pieces.invariant.later, c.copy_piece.ensures.later);
@@ -56,7 +57,8 @@ returns-clause-sent g c = λ m f stands there.
 pub returns-in-Err-clause-sent : goal.returns-in-Err-clause-sent
 returns-in-Err-clause-sent g c = λ m f stands there.
     let sent = c.pieces.invariant.sent m f stands there in
-    c.in-Err.ensures.sent (record m { unforced = sent.still.0 }) f sent.still.1 there
+    still_then m sent.still.0 _ c.copy_piece.new.engine sent.still.1
+    (c.in-Err.ensures.sent (record m { unforced = sent.still.0 }) f sent.still.2 there)
 
 pub returns-then-room-eq0-clause-sent : goal.returns-then-room-eq0-clause-sent
-returns-then-room-eq0-clause-sent g c = λ m f stands there. inr (m.unforced, stands)
+returns-then-room-eq0-clause-sent g c = λ m f stands there. inr (m.unforced, (λ test none. none), stands)

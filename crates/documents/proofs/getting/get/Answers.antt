@@ -3,6 +3,7 @@ use Rattle.documents.specs.Course.{is_look}
 use Rattle.documents.proofs.StoppedLemmas.{stopped_code, stopped_fault}
 use Rattle.std.proofs.Common.{◌≡◌, ◌⊎◌, inl, inr, ap, rules}
 use Rattle.documents.proofs.GotLemmas.{got_is}
+use Rattle.documents.proofs.ListLemmas.{still_then}
 use Rattle.embedded.specs.declared.code.Code.{Code}
 use Rattle.documents.specs.declared.fault.Fault.TheVariants as fault
 use Rattle.documents.proofs.getting.get.Goals as goal
@@ -23,7 +24,7 @@ returns-in-Err-copy-clause-stopped g c = λ why is.
 pub returns-in-Ok-copy-clause-got : goal.returns-in-Ok-copy-clause-got
 returns-in-Ok-copy-clause-got g c = λ m stands.
     let listed = c.in-Ok-Some.ensures.listed m stands in
-    let sent = c.in-Ok-copy.ensures.sent (record m { unforced = listed.still.0 }) listed.file listed.still.1 listed.there in
+    let sent = c.in-Ok-copy.ensures.sent (record m { unforced = listed.still.0 }) listed.file listed.still.2 listed.there in
     got_is m c.args.id _ _ _ c.in-Ok-Some.head _ _ c.describe.new.engine c.copy.new.engine listed (search rules) c.in-Ok-Some.ensures.pages sent
 
 pub returns-in-Err-clause-got : goal.returns-in-Err-clause-got
@@ -35,4 +36,13 @@ returns-in-Err-clause-got g c = λ m stands. elim (c.in-Err.ensures.listed m sta
 pub returns-in-Err-copy-clause-got : goal.returns-in-Err-copy-clause-got
 returns-in-Err-copy-clause-got g c = λ m stands.
     let listed = c.in-Ok-Some.ensures.listed m stands in
-    c.in-Err-copy.ensures.sent (record m { unforced = listed.still.0 }) listed.file listed.still.1 listed.there
+    still_then m listed.still.0 _ c.copy.new.engine listed.still.1
+    (c.in-Err-copy.ensures.sent (record m { unforced = listed.still.0 }) listed.file listed.still.2 listed.there)
+
+pub returns-in-Ok-copy-clause-absent : goal.returns-in-Ok-copy-clause-absent
+returns-in-Ok-copy-clause-absent g c = λ m stands none.
+    absurd (cc (none, (c.in-Ok-Some.ensures.listed m stands).there))
+
+pub returns-in-Err-copy-clause-absent : goal.returns-in-Err-copy-clause-absent
+returns-in-Err-copy-clause-absent g c = λ m stands none.
+    absurd (cc (none, (c.in-Ok-Some.ensures.listed m stands).there))

@@ -3,6 +3,7 @@ use Rattle.documents.specs.Course.{is_look}
 use Rattle.documents.proofs.StoppedLemmas.{stopped_code, stopped_fault}
 use Rattle.std.proofs.Common.{◌≡◌, ◌∙◌, ◌⊎◌, inl, inr, ◌*◌, ap, arith}
 use Rattle.embedded.specs.declared.code.Code.{Code}
+use Rattle.documents.proofs.ListLemmas.{still_then}
 use Rattle.documents.specs.declared.fault.Fault.TheVariants as fault
 use Rattle.documents.proofs.getting.get_pages.Goals as goal
 
@@ -22,13 +23,13 @@ returns-in-Err-copy-clause-stopped g c = λ why is.
 pub returns-in-Ok-copy-clause-got : goal.returns-in-Ok-copy-clause-got
 returns-in-Ok-copy-clause-got g c = λ m stands.
     let listed = c.in-Ok.ensures.listed m stands in
-    let sent = c.in-Ok-copy.ensures.sent (record m { unforced = listed.still.0 }) listed.file listed.still.1 listed.there in
+    let sent = c.in-Ok-copy.ensures.sent (record m { unforced = listed.still.0 }) listed.file listed.still.2 listed.there in
     let many : c.from.result * 512 ≡ 512 * c.in-Ok.file.pages = omega (arith, c.from.ensures) in
     record {
       file = listed.file;
       there = listed.there;
       long = listed.same_size;
-      sent = record { bytes = sent.bytes; long = sent.long ∙ many; reads = sent.reads; sent = sent.sent; still = sent.still };
+      sent = record { bytes = sent.bytes; long = sent.long ∙ many; reads = sent.reads; sent = sent.sent; still = (sent.still.0, (λ test none. sent.still.1 test (listed.still.1 test none)), sent.still.2) };
     }
 
 pub returns-in-Err-clause-got : goal.returns-in-Err-clause-got
@@ -40,4 +41,13 @@ returns-in-Err-clause-got g c = λ m stands. elim (c.in-Err.ensures.listed m sta
 pub returns-in-Err-copy-clause-got : goal.returns-in-Err-copy-clause-got
 returns-in-Err-copy-clause-got g c = λ m stands.
     let listed = c.in-Ok.ensures.listed m stands in
-    c.in-Err-copy.ensures.sent (record m { unforced = listed.still.0 }) listed.file listed.still.1 listed.there
+    still_then m listed.still.0 _ c.copy.new.engine listed.still.1
+    (c.in-Err-copy.ensures.sent (record m { unforced = listed.still.0 }) listed.file listed.still.2 listed.there)
+
+pub returns-in-Ok-copy-clause-absent : goal.returns-in-Ok-copy-clause-absent
+returns-in-Ok-copy-clause-absent g c = λ m stands none.
+    absurd (cc (none, (c.in-Ok.ensures.listed m stands).there))
+
+pub returns-in-Err-copy-clause-absent : goal.returns-in-Err-copy-clause-absent
+returns-in-Err-copy-clause-absent g c = λ m stands none.
+    absurd (cc (none, (c.in-Ok.ensures.listed m stands).there))

@@ -42,9 +42,10 @@ returns-in-Err-head_in-clause-listed g c = λ m stands.
 
 pub returns-in-Ok : goal.returns-in-Ok
 returns-in-Ok g c = record {
+  id = tt;
   pages = tt;
   listed = λ m stands.
-      inr (m.unforced, asked m c.args.id c.args.engine.now c.attributes.new.self _ _ c.attributes.ensures c.in-Ok.is stands);
+      inr (m.unforced, (λ test none. none), asked m c.args.id c.args.engine.now c.attributes.new.self _ _ c.attributes.ensures c.in-Ok.is stands);
   led = tt;
   closed = λ shut. absurd (cc (c.in-Ok.is, (c.attributes.ensures.closed shut).0));
   stopped = λ why is. absurd (cc is);

@@ -1,18 +1,21 @@
-use Rattle.std.proofs.Common.{◌≡◌, ap, refl, Err}
+use Rattle.std.proofs.Common.{◌≡◌, ◌∙◌, inr, ap, refl, Err}
 use Rattle.embedded.specs.declared.code.Code.{Code}
 use Rattle.embedded.specs.declared.code.Code.TheVariants as code
 use Rattle.documents.proofs.CourseLemmas.{led_called, led_then}
+use Rattle.documents.proofs.NextLemmas.{listed_next, next_none, next_odd, next_there, next_unknown}
 use Rattle.documents.proofs.StoppedLemmas.{stopped_code}
 use Rattle.documents.specs.Course.{is_look}
 use Rattle.documents.proofs.listing.next_listed.Goals as goal
 
 pub returns-in-Err : goal.returns-in-Err
 returns-in-Err g c = record {
+  pages = tt;
   led = tt;
   closed = λ shut.
       let was = c.next.ensures.closed shut in
       let same : c.in-Err.code ≡ code.Closed = cc (c.in-Err.is, was.0) in
       (ap (λ (x : Code). Err x) same, was.1);
+  listed = λ m stands. next_unknown m c.args.cursor c.args.engine.now c.next.new.self _ c.in-Err.code c.next.ensures c.in-Err.is stands;
   stopped = λ why is.
       stopped_code why _ c.in-Err.code c.next.new.self c.next.ensures.stopped c.in-Err.is (cc is);
 }
@@ -26,3 +29,21 @@ returns-in-Ok-describe-clause-led g c =
 pub returns-in-Err-describe-clause-stopped : goal.returns-in-Err-describe-clause-stopped
 returns-in-Err-describe-clause-stopped g c = λ why is.
     stopped_code why _ c.in-Err-describe.code c.describe.new.engine c.describe.ensures.stopped c.in-Err-describe.is (cc is)
+
+pub returns-in-Ok-describe-clause-listed : goal.returns-in-Ok-describe-clause-listed
+returns-in-Ok-describe-clause-listed g c = λ m stands.
+    let one = next_there m c.args.cursor c.in-Ok-File.id c.args.engine.now c.next.new.self _ _ c.next.ensures c.in-Ok-File.is c.in-Ok-File.field-0-is stands in
+    listed_next m c.args.cursor c.in-Ok-File.id c.in-Ok-describe.file.id _ _ _ c.describe.new.engine one.0 c.in-Ok-describe.ensures.id (c.in-Ok-describe.ensures.listed m one.1)
+
+pub returns-in-Err-describe-clause-listed : goal.returns-in-Err-describe-clause-listed
+returns-in-Err-describe-clause-listed g c = λ m stands.
+    c.in-Err-describe.ensures.listed m (next_there m c.args.cursor c.in-Ok-File.id c.args.engine.now c.next.new.self _ _ c.next.ensures c.in-Ok-File.is c.in-Ok-File.field-0-is stands).1
+
+pub returns-in-Ok-clause-listed : goal.returns-in-Ok-clause-listed
+returns-in-Ok-clause-listed g c = λ m stands.
+    inr (next_odd m c.args.cursor c.args.engine.now c.next.new.self _ _ c.next.ensures c.in-Ok.is stands)
+
+pub returns-in-Err-NoFile-clause-listed : goal.returns-in-Err-NoFile-clause-listed
+returns-in-Err-NoFile-clause-listed g c = λ m stands.
+    next_none m c.args.cursor c.args.engine.now c.next.new.self _ c.next.ensures
+    (c.in-Err-NoFile.is ∙ ap (λ (x : Code). Err x) c.in-Err-NoFile.field-0-is) stands

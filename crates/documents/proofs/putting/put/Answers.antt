@@ -1,4 +1,4 @@
-use Rattle.std.proofs.Common.{inl, inr}
+use Rattle.std.proofs.Common.{arith, inl, inr}
 use Rattle.documents.proofs.CourseLemmas.{marked_after}
 use Rattle.documents.proofs.CourseLemmas.{stays_stopped}
 use Rattle.documents.proofs.StoppedLemmas.{stopped_code, stopped_fault, stopped_undone}
@@ -45,7 +45,7 @@ returns-in-Ok-fill_file-clause-document g c = λ m stands.
 pub returns-in-Err-clause-kept : goal.returns-in-Err-clause-kept
 returns-in-Err-clause-kept g c = λ m stands. elim (c.in-Err.ensures.made m stands) [
   | inl bad ↦ inl (ap (λ (x : Code). fault.Call x) bad)
-  | inr st ↦ inr (m.counter, st)
+  | inr st ↦ inr (m.counter, omega arith, st)
 ]
 
 pub returns-in-Err-fill_file-clause-kept : goal.returns-in-Err-fill_file-clause-kept
@@ -58,4 +58,4 @@ returns-in-Err-fill_file-clause-kept g c = λ m stands.
     (c.in-Err-fill_file.ensures.document m is_fresh made.0 made.1)
 
 pub returns-in_default-clause-kept : goal.returns-in_default-clause-kept
-returns-in_default-clause-kept g c = λ m stands. inr (m.counter, stands)
+returns-in_default-clause-kept g c = λ m stands. inr (m.counter, omega arith, stands)

@@ -1,5 +1,6 @@
 use Rattle.documents.proofs.StoppedLemmas.{stopped_code}
-use Rattle.std.proofs.Common.{◌≡◌, ◌⊎◌, inl, inr, ap}
+use Rattle.std.proofs.Common.{◌≡◌, ◌⊎◌, inl, inr, ap, rules}
+use Rattle.documents.proofs.ListLemmas.{is_one}
 use Rattle.embedded.specs.declared.code.Code.{Code}
 use Rattle.documents.specs.declared.fault.Fault.TheVariants as fault
 use Rattle.documents.proofs.replacing.is_document.Goals as goal
@@ -13,3 +14,7 @@ returns-in-Err-clause-still g c = λ m stands. elim (c.in-Err.ensures.listed m s
   | inl bad ↦ inl (ap (λ (x : Code). fault.Call x) bad)
   | inr st ↦ inr st
 ]
+
+pub returns-in-Ok-clause-still : goal.returns-in-Ok-clause-still
+returns-in-Ok-clause-still g c = λ m stands.
+    is_one m c.args.id _ _ c.in-Ok.file.head c.describe.new.engine (c.in-Ok.ensures.listed m stands) (search rules) c.in-Ok.ensures.pages

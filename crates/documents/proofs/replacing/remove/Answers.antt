@@ -12,7 +12,7 @@ returns-in-Ok-delete-clause-removed g c = λ m stands.
 
 pub returns-in-Err-delete-clause-removed : goal.returns-in-Err-delete-clause-removed
 returns-in-Err-delete-clause-removed g c = λ m stands.
-    removed_err m c.args.id c.is_document.new.engine c.delete.new.self _ c.in-Err-delete.code c.delete.ensures c.in-Err-delete.is (c.in-Ok.ensures.still m stands)
+    removed_err m c.args.id c.is_document.new.engine c.delete.new.self _ c.in-Err-delete.code c.delete.ensures c.in-Err-delete.is (c.in-Ok.ensures.still m stands).1
 
 pub returns-in-Err-clause-removed : goal.returns-in-Err-clause-removed
 returns-in-Err-clause-removed g c = λ m stands. c.in-Err.ensures.still m stands

@@ -37,5 +37,5 @@ returns-clause-read g c = λ m stands.
 pub returns-in-Err-clause-read : goal.returns-in-Err-clause-read
 returns-in-Err-clause-read g c = λ m stands. elim (c.in-Err.ensures.kept m stands) [
   | inl bad ↦ inl bad
-  | inr st ↦ inr (m.unforced, st)
+  | inr st ↦ inr (m.unforced, (λ test none. none), st)
 ]
