@@ -81,7 +81,8 @@ pub(crate) fn read<'a>(parser: Command<'a>, words: &'a [String]) -> Result<ArgMa
     ensures parsed { IfOk result (λ m. IsParsedFrom parser.entry m) }
     ensures faultless { is_simple_and_free (app_of parser.entry) ≡ true
         → IfOk result (λ _. fault_of (app_of parser.entry) (map string_bytes words.entry.now) ≡ []) }
-    ensures refused { result ≡ Err Refused.Usage → takes (app_of parser.entry) (map string_bytes words.entry.now) ≡ false }
+    ensures refused { result ≡ Err Refused.Usage
+        → takes (app_of parser.entry) (map string_bytes words.entry.now) ≡ false }
 {
     match parser.try_get_matches_from(words) {
         Ok(matches) => Ok(matches),
@@ -91,7 +92,8 @@ pub(crate) fn read<'a>(parser: Command<'a>, words: &'a [String]) -> Result<ArgMa
 
 /// The number that was given for a name, or the one that it has otherwise.
 pub(crate) fn number_or(matches: &ArgMatches<'_>, name: &str, otherwise: u32) -> u32
-    requires fits { (text : Text) → one_text (found_of matches.now) name.now ≡ Some text → IsUnsignedIn 0 4294967295 text }
+    requires fits { (text : Text) → one_text (found_of matches.now) name.now ≡ Some text
+        → IsUnsignedIn 0 4294967295 text }
     ensures { result ≡ option_map_or number_of (one_text (found_of matches.now) name.now) otherwise }
 {
     matches.get_one(name).unwrap_or(otherwise)

@@ -29,7 +29,8 @@ impl<D: Disk + Drop, A: Allocator> Engine<D, A> {
     // Loads 1 to 512 bytes. Where they are on one page, and are not loaded, none is moved.
     pub(crate) fn load_piece(&mut self, address: u32, into: &mut [u8]) -> Result<(), Code>
         requires { IsAtOnce (length into.old) }
-        ensures called { Called (call.Load address (length into.old)) self.old (replied (reply.Bytes into.new) result) self.new }
+        ensures called { Called (call.Load address (length into.old)) self.old (replied (reply.Bytes into.new) result)
+            self.new }
         ensures width { length into.new ≡ length into.old }
         ensures intact { address % 512 + length into.old ≤ 512 → OnErr result (into.new ≡ into.old) }
         ensures faults { OnOk result (LosesNoFault self.old self.new) }

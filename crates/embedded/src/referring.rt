@@ -18,7 +18,8 @@ impl<D: Disk, A: Allocator> Live<D, A> {
         requires count { IsAtOnce (length into.old) }
         requires running { self.old.session.running ≡ true }
         ensures machine { (m : Machine) → Runs self.old.session.core self.old.session.volume m
-            → RefersIn m (call.Load address (length into.old)) (reply.Bytes into.new) self.old.session result self.new.session }
+            → RefersIn m (call.Load address (length into.old)) (reply.Bytes into.new) self.old.session result
+            self.new.session }
         ensures refers { Refers (call.Load address (length into.old)) self.old.session result self.new.session }
         ensures width { length into.new ≡ length into.old }
         ensures unmoved { IfOk result (λ a. a ≢ access.Done → into.new ≡ into.old) }

@@ -54,12 +54,18 @@ impl<D: Disk, A: Allocator> Core<D, A> {
         requires before { page < end }
         requires in_root { end ≤ root_pages }
         ensures further { IfOk result (λ r. page < r.0) }
-        ensures shown { (m : List Sector) (named : Triples) (ss : List Space) → Knows self.old m named ss → IfOk result (λ r. r.1 ≢ 0 → IsUnitAt ss page r.0 r.1) }
-        ensures bare { (m : List Sector) (named : Triples) (ss : List Space) → Knows self.old m named ss → IfOk result (λ r. r.1 ≡ 0 → AreBare ss page r.0 × IsNextPart ss page end r.0) }
-        ensures cause { IfErr result (ReachHalts (BreaksTables (state self.old) self.old.intervals page) (state self.old) (state self.new)) }
-        ensures sees { (ss : List Space) → Sees (state self.old) (kept self.old) self.old.intervals ss → Sees (state self.new) (kept self.new) self.new.intervals ss }
-        ensures sound { (m : List Sector) (named : Triples) (ss : List Space) → Knows self.old m named ss → IfErr result (λ e. e ≡ halt.Disk) }
-        ensures same { (m : List Sector) (named : Triples) (ss : List Space) → Knows self.old m named ss → Knows self.new m named ss }
+        ensures shown { (m : List Sector) (named : Triples) (ss : List Space) → Knows self.old m named ss
+            → IfOk result (λ r. r.1 ≢ 0 → IsUnitAt ss page r.0 r.1) }
+        ensures bare { (m : List Sector) (named : Triples) (ss : List Space) → Knows self.old m named ss
+            → IfOk result (λ r. r.1 ≡ 0 → AreBare ss page r.0 × IsNextPart ss page end r.0) }
+        ensures cause { IfErr result
+            (ReachHalts (BreaksTables (state self.old) self.old.intervals page) (state self.old) (state self.new)) }
+        ensures sees { (ss : List Space) → Sees (state self.old) (kept self.old) self.old.intervals ss
+            → Sees (state self.new) (kept self.new) self.new.intervals ss }
+        ensures sound { (m : List Sector) (named : Triples) (ss : List Space) → Knows self.old m named ss
+            → IfErr result (λ e. e ≡ halt.Disk) }
+        ensures same { (m : List Sector) (named : Triples) (ss : List Space) → Knows self.old m named ss
+            → Knows self.new m named ss }
         ensures reaches { Reaches (state self.old) (state self.new) }
         ensures came { BringsOwn (state self.old).slots (state self.new).slots }
         ensures room { KeepsWhileEmpty (state self.old).slots (state self.new).slots }
@@ -86,16 +92,26 @@ impl<D: Disk, A: Allocator> Core<D, A> {
         requires some { 1 ≤ so_far.units + so_far.left }
         requires few { so_far.units + so_far.left ≤ 2048 }
         ensures turn { IfOk result (λ o. IfSome o (IsTurn so_far)) }
-        ensures further { (m : List Sector) (named : Triples) (ss : List Space) → Knows self.old m named ss → IfOk result (λ o. IfSome o (IsFurther ss end so_far)) }
-        ensures whole { (m : List Sector) (named : Triples) (ss : List Space) → Knows self.old m named ss → IfOk result (λ o. IfSome o (λ now. AreWhole ss (state self.new).slots so_far.page now.page)) }
-        ensures too_long { (m : List Sector) (named : Triples) (ss : List Space) → Knows self.old m named ss → IfOk result (λ o. o ≡ None → IsTooLong ss so_far) }
-        ensures cause { IfErr result (TouchHalts (BreaksTables (state self.old) self.old.intervals so_far.page) (state self.old) (state self.new)) }
-        ensures missing { (ss : List Space) → Sees (state self.old) (kept self.old) self.old.intervals ss → IfErr result (MissesPage (shown_unit ss so_far.page)) }
-        ensures sees { (ss : List Space) → Sees (state self.old) (kept self.old) self.old.intervals ss → Sees (state self.new) (kept self.new) self.new.intervals ss }
-        ensures sound { (m : List Sector) (named : Triples) (ss : List Space) → Knows self.old m named ss → IfErr result (λ e. e ≡ halt.Disk) }
-        ensures same { (m : List Sector) (named : Triples) (ss : List Space) → Knows self.old m named ss → Knows self.new m named ss }
+        ensures further { (m : List Sector) (named : Triples) (ss : List Space) → Knows self.old m named ss
+            → IfOk result (λ o. IfSome o (IsFurther ss end so_far)) }
+        ensures whole { (m : List Sector) (named : Triples) (ss : List Space) → Knows self.old m named ss
+            → IfOk result (λ o. IfSome o (λ now. AreWhole ss (state self.new).slots so_far.page now.page)) }
+        ensures too_long { (m : List Sector) (named : Triples) (ss : List Space) → Knows self.old m named ss
+            → IfOk result (λ o. o ≡ None → IsTooLong ss so_far) }
+        ensures cause { IfErr result
+            (TouchHalts (BreaksTables (state self.old) self.old.intervals so_far.page) (state self.old)
+            (state self.new)) }
+        ensures missing { (ss : List Space) → Sees (state self.old) (kept self.old) self.old.intervals ss
+            → IfErr result (MissesPage (shown_unit ss so_far.page)) }
+        ensures sees { (ss : List Space) → Sees (state self.old) (kept self.old) self.old.intervals ss
+            → Sees (state self.new) (kept self.new) self.new.intervals ss }
+        ensures sound { (m : List Sector) (named : Triples) (ss : List Space) → Knows self.old m named ss
+            → IfErr result (λ e. e ≡ halt.Disk) }
+        ensures same { (m : List Sector) (named : Triples) (ss : List Space) → Knows self.old m named ss
+            → Knows self.new m named ss }
         ensures reaches { Reaches (state self.old) (state self.new) }
-        ensures came { (m : List Sector) (named : Triples) (ss : List Space) → Knows self.old m named ss → BringsKnown ss (state self.old).slots (state self.new).slots }
+        ensures came { (m : List Sector) (named : Triples) (ss : List Space) → Knows self.old m named ss
+            → BringsKnown ss (state self.old).slots (state self.new).slots }
         ensures room { KeepsWhileEmpty (state self.old).slots (state self.new).slots }
         ensures intervals { self.new.intervals ≡ self.old.intervals }
         ensures cost { (state self.new).disk.transfers ≤ (state self.old).disk.transfers + 840 }
@@ -129,18 +145,33 @@ impl<D: Disk, A: Allocator> Core<D, A> {
     fn bring_units(&mut self, first: u32, pages: u32) -> Result<(u32, u32), Halt>
         requires size { FitsLayout (state self.old) }
         ensures within { IfOk result (λ r. r.0 ≢ 0 → (first ≤ r.1) × (r.1 < first + pages)) }
-        ensures units { (m : List Sector) (named : Triples) (ss : List Space) → Knows self.old m named ss → IfOk result (λ r. AreUnits ss (first + pages) (start_at first (length (state self.old).slots / 2)) r.0 r.1) }
-        ensures shown { (m : List Sector) (named : Triples) (ss : List Space) → Knows self.old m named ss → IfOk result (λ r. r.0 ≢ 0 → IsShownAt ss r.1) }
-        ensures all { (m : List Sector) (named : Triples) (ss : List Space) → Knows self.old m named ss → IfOk result (λ r. (slot : ℕ) → IsEmpty (state self.new).slots slot → r.0 ≢ 0 → AreWhole ss (state self.new).slots first (r.1 + 1)) }
-        ensures cause { IfErr result (TouchHalts (BreaksWithin (state self.old) self.old.intervals first (first + pages)) (state self.old) (state self.new)) }
-        ensures missing { (ss : List Space) → Sees (state self.old) (kept self.old) self.old.intervals ss → IfErr result (MissesPage (range_units ss first (first + pages))) }
-        ensures sees { (ss : List Space) → Sees (state self.old) (kept self.old) self.old.intervals ss → Sees (state self.new) (kept self.new) self.new.intervals ss }
-        ensures sound { (m : List Sector) (named : Triples) (ss : List Space) → Knows self.old m named ss → IfErr result (λ e. e ≡ halt.Disk) }
-        ensures same { (m : List Sector) (named : Triples) (ss : List Space) → Knows self.old m named ss → Knows self.new m named ss }
+        ensures units { (m : List Sector) (named : Triples) (ss : List Space) → Knows self.old m named ss
+            → IfOk result
+            (λ r. AreUnits ss (first + pages) (start_at first (length (state self.old).slots / 2)) r.0 r.1) }
+        ensures shown { (m : List Sector) (named : Triples) (ss : List Space) → Knows self.old m named ss
+            → IfOk result (λ r. r.0 ≢ 0 → IsShownAt ss r.1) }
+        ensures all { (m : List Sector) (named : Triples) (ss : List Space) → Knows self.old m named ss
+            → IfOk result
+            (λ r.
+            (slot : ℕ) → IsEmpty (state self.new).slots slot → r.0 ≢ 0
+            → AreWhole ss (state self.new).slots first (r.1 + 1)) }
+        ensures cause { IfErr result
+            (TouchHalts (BreaksWithin (state self.old) self.old.intervals first (first + pages)) (state self.old)
+            (state self.new)) }
+        ensures missing { (ss : List Space) → Sees (state self.old) (kept self.old) self.old.intervals ss
+            → IfErr result (MissesPage (range_units ss first (first + pages))) }
+        ensures sees { (ss : List Space) → Sees (state self.old) (kept self.old) self.old.intervals ss
+            → Sees (state self.new) (kept self.new) self.new.intervals ss }
+        ensures sound { (m : List Sector) (named : Triples) (ss : List Space) → Knows self.old m named ss
+            → IfErr result (λ e. e ≡ halt.Disk) }
+        ensures same { (m : List Sector) (named : Triples) (ss : List Space) → Knows self.old m named ss
+            → Knows self.new m named ss }
         ensures reaches { Reaches (state self.old) (state self.new) }
-        ensures came { (m : List Sector) (named : Triples) (ss : List Space) → Knows self.old m named ss → BringsKnown ss (state self.old).slots (state self.new).slots }
+        ensures came { (m : List Sector) (named : Triples) (ss : List Space) → Knows self.old m named ss
+            → BringsKnown ss (state self.old).slots (state self.new).slots }
         ensures intervals { self.new.intervals ≡ self.old.intervals }
-        ensures cost { (state self.new).disk.transfers ≤ (state self.old).disk.transfers + (self.old.intervals + length (state self.old).slots / 2 + 1) * 840 }
+        ensures cost { (state self.new).disk.transfers ≤ (state self.old).disk.transfers
+            + (self.old.intervals + length (state self.old).slots / 2 + 1) * 840 }
         ensures at_most { (state self.new).disk.transfers ≤ (state self.old).disk.transfers + 2580480 }
     {
         let end = end_of(first, pages);
@@ -170,18 +201,31 @@ impl<D: Disk, A: Allocator> Core<D, A> {
     /// While a slot of the frames is empty, so is each of them.
     pub fn activate(&mut self, first: u32, pages: u32) -> Result<u32, Halt>
         requires size { FitsLayout (state self.old) }
-        ensures whole { (m : List Sector) (named : Triples) (ss : List Space) → Knows self.old m named ss → OnOk result (IsActive ss (kept self.new) (state self.new).slots first (first + pages)) }
-        ensures units { (m : List Sector) (named : Triples) (ss : List Space) → Knows self.old m named ss → IfOk result (AreBrought ss (kept self.new) (state self.new).slots first (first + pages) (length (state self.old).slots / 2)) }
-        ensures cause { IfErr result (TouchHalts (BreaksWithin (state self.old) self.old.intervals first (first + pages)) (state self.old) (state self.new)) }
-        ensures missing { (ss : List Space) → Sees (state self.old) (kept self.old) self.old.intervals ss → IfErr result (MissesPage (range_units ss first (first + pages))) }
-        ensures sees { (ss : List Space) → Sees (state self.old) (kept self.old) self.old.intervals ss → Sees (state self.new) (kept self.new) self.new.intervals ss }
-        ensures right { (ss : List Space) → Sees (state self.old) (kept self.old) self.old.intervals ss → IfErr result NeverBlamesTables }
-        ensures sound { (m : List Sector) (named : Triples) (ss : List Space) → Knows self.old m named ss → IfErr result (λ e. e ≡ halt.Disk) }
-        ensures same { (m : List Sector) (named : Triples) (ss : List Space) → Knows self.old m named ss → Knows self.new m named ss }
+        ensures whole { (m : List Sector) (named : Triples) (ss : List Space) → Knows self.old m named ss
+            → OnOk result (IsActive ss (kept self.new) (state self.new).slots first (first + pages)) }
+        ensures units { (m : List Sector) (named : Triples) (ss : List Space) → Knows self.old m named ss
+            → IfOk result
+            (AreBrought ss (kept self.new) (state self.new).slots first (first + pages)
+            (length (state self.old).slots / 2)) }
+        ensures cause { IfErr result
+            (TouchHalts (BreaksWithin (state self.old) self.old.intervals first (first + pages)) (state self.old)
+            (state self.new)) }
+        ensures missing { (ss : List Space) → Sees (state self.old) (kept self.old) self.old.intervals ss
+            → IfErr result (MissesPage (range_units ss first (first + pages))) }
+        ensures sees { (ss : List Space) → Sees (state self.old) (kept self.old) self.old.intervals ss
+            → Sees (state self.new) (kept self.new) self.new.intervals ss }
+        ensures right { (ss : List Space) → Sees (state self.old) (kept self.old) self.old.intervals ss
+            → IfErr result NeverBlamesTables }
+        ensures sound { (m : List Sector) (named : Triples) (ss : List Space) → Knows self.old m named ss
+            → IfErr result (λ e. e ≡ halt.Disk) }
+        ensures same { (m : List Sector) (named : Triples) (ss : List Space) → Knows self.old m named ss
+            → Knows self.new m named ss }
         ensures reaches { Reaches (state self.old) (state self.new) }
-        ensures came { (m : List Sector) (named : Triples) (ss : List Space) → Knows self.old m named ss → BringsKnown ss (state self.old).slots (state self.new).slots }
+        ensures came { (m : List Sector) (named : Triples) (ss : List Space) → Knows self.old m named ss
+            → BringsKnown ss (state self.old).slots (state self.new).slots }
         ensures intervals { self.new.intervals ≡ self.old.intervals }
-        ensures cost { (state self.new).disk.transfers ≤ (state self.old).disk.transfers + (self.old.intervals + length (state self.old).slots / 2 + 2) * 840 }
+        ensures cost { (state self.new).disk.transfers ≤ (state self.old).disk.transfers
+            + (self.old.intervals + length (state self.old).slots / 2 + 2) * 840 }
         ensures at_most { (state self.new).disk.transfers ≤ (state self.old).disk.transfers + 2581320 }
     {
         let (units, last) = match self.bring_units(first, pages) {

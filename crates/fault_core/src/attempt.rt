@@ -63,9 +63,12 @@ fn look_for<D: Disk, A: Allocator>(
     requires few { count ≤ 512 }
     requires first { Shows first.now (address / 512) }
     requires last { Shows last.now (last_page address count) }
-    ensures first { IfReady (λ i j. HasPage (view_of filer.old).slots i first.now.id (file_page first.now (address / 512))) result }
-    ensures last { IfReady (λ i j. HasPage (view_of filer.old).slots j last.now.id (file_page last.now (last_page address count))) result }
-    ensures absent { IfSettled (IfAbsent (IsUnfound (view_of filer.old).slots first.now last.now address count)) result }
+    ensures first { IfReady
+        (λ i j. HasPage (view_of filer.old).slots i first.now.id (file_page first.now (address / 512))) result }
+    ensures last { IfReady
+        (λ i j. HasPage (view_of filer.old).slots j last.now.id (file_page last.now (last_page address count))) result }
+    ensures absent { IfSettled (IfAbsent (IsUnfound (view_of filer.old).slots first.now last.now address count))
+        result }
     ensures no_access { IfSettled (IfAccess (λ a. ⊥)) result }
     ensures same { filer.new ≡ filer.old }
 {
@@ -96,25 +99,41 @@ impl<D: Disk, A: Allocator> Core<D, A> {
         requires size { FitsLayout (state self.old) }
         requires some { 1 ≤ count }
         requires few { count ≤ 512 }
-        ensures clients { IfOk result (IfReady (λ i j. HasClient (state self.new).slots i × HasClient (state self.new).slots j)) }
-        ensures here { IfOk result (IfReady (λ i j. IsHere (kept self.new) (state self.new).slots (last_page address count))) }
+        ensures clients { IfOk result
+            (IfReady (λ i j. HasClient (state self.new).slots i × HasClient (state self.new).slots j)) }
+        ensures here { IfOk result
+            (IfReady (λ i j. IsHere (kept self.new) (state self.new).slots (last_page address count))) }
         ensures slots { (m : List Sector) (named : Triples) (ss : List Space) → Knows self.old m named ss
-            → IfOk result (IfReady (λ i j. IsSlotOf ss (state self.new).slots (address / 512) i × IsSlotOf ss (state self.new).slots (last_page address count) j)) }
-        ensures granted { (m : List Sector) (named : Triples) (ss : List Space) → Knows self.old m named ss → IfOk result (IfReady (λ i j. access.Done ≡ access_of ss writes address count)) }
-        ensures access { (m : List Sector) (named : Triples) (ss : List Space) → Knows self.old m named ss → IfOk result (IfSettled (IfAccess (λ a. a ≡ access_of ss writes address count))) }
-        ensures absent { (m : List Sector) (named : Triples) (ss : List Space) → Knows self.old m named ss → IfOk result (IfSettled (IfAbsent (IsAbsent ss (state self.new).slots writes address count))) }
+            → IfOk result
+            (IfReady
+            (λ i j.
+            IsSlotOf ss (state self.new).slots (address / 512) i
+            × IsSlotOf ss (state self.new).slots (last_page address count) j)) }
+        ensures granted { (m : List Sector) (named : Triples) (ss : List Space) → Knows self.old m named ss
+            → IfOk result (IfReady (λ i j. access.Done ≡ access_of ss writes address count)) }
+        ensures access { (m : List Sector) (named : Triples) (ss : List Space) → Knows self.old m named ss
+            → IfOk result (IfSettled (IfAccess (λ a. a ≡ access_of ss writes address count))) }
+        ensures absent { (m : List Sector) (named : Triples) (ss : List Space) → Knows self.old m named ss
+            → IfOk result (IfSettled (IfAbsent (IsAbsent ss (state self.new).slots writes address count))) }
         ensures referred { IfOk result (IfSettled (IfAbsent (IsReferred address count))) }
         ensures unmoved { IfOk result (IfSettled (λ t. t ≢ moved)) }
-        ensures cause { IfErr result (ReachHalts (BreaksFor (state self.old) self.old.intervals address count) (state self.old) (state self.new)) }
-        ensures sees { (ss : List Space) → Sees (state self.old) (kept self.old) self.old.intervals ss → Sees (state self.new) (kept self.new) self.new.intervals ss }
-        ensures sound { (m : List Sector) (named : Triples) (ss : List Space) → Knows self.old m named ss → IfErr result (λ e. e ≡ halt.Disk) }
-        ensures same { (m : List Sector) (named : Triples) (ss : List Space) → Knows self.old m named ss → Knows self.new m named ss }
+        ensures cause { IfErr result
+            (ReachHalts (BreaksFor (state self.old) self.old.intervals address count) (state self.old)
+            (state self.new)) }
+        ensures sees { (ss : List Space) → Sees (state self.old) (kept self.old) self.old.intervals ss
+            → Sees (state self.new) (kept self.new) self.new.intervals ss }
+        ensures sound { (m : List Sector) (named : Triples) (ss : List Space) → Knows self.old m named ss
+            → IfErr result (λ e. e ≡ halt.Disk) }
+        ensures same { (m : List Sector) (named : Triples) (ss : List Space) → Knows self.old m named ss
+            → Knows self.new m named ss }
         ensures reaches { Reaches (state self.old) (state self.new) }
         ensures came { BringsOwn (state self.old).slots (state self.new).slots }
         ensures intervals { self.new.intervals ≡ self.old.intervals }
-        ensures present { IsReady (kept self.old) (state self.old).slots (address / 512) → IsReady (kept self.old) (state self.old).slots (last_page address count) → AreApart (kept self.old)
+        ensures present { IsReady (kept self.old) (state self.old).slots (address / 512)
+            → IsReady (kept self.old) (state self.old).slots (last_page address count) → AreApart (kept self.old)
             → IfOk result (IfSettled (IfAbsent (λ page. ⊥))) }
-        ensures idle { IsReady (kept self.old) (state self.old).slots (address / 512) → IsReady (kept self.old) (state self.old).slots (last_page address count) → AreApart (kept self.old)
+        ensures idle { IsReady (kept self.old) (state self.old).slots (address / 512)
+            → IsReady (kept self.old) (state self.old).slots (last_page address count) → AreApart (kept self.old)
             → IsOk result × (self.new.filer ≡ self.old.filer) × (kept self.new ≡ kept self.old) }
         ensures cost { (state self.new).disk.transfers ≤ (state self.old).disk.transfers + 392 }
     {

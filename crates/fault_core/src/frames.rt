@@ -32,7 +32,8 @@ pub(crate) fn copy_out<D: Disk, A: Allocator>(
     requires below { slot < length (view_of filer.old).slots }
     requires filled { IsSome (frame_at (view_of filer.old).slots slot) }
     requires inside { from + length into.old ≤ 512 }
-    ensures bytes { (f : Frame) → Has (view_of filer.old).slots slot f → into.new ≡ part f.bytes from (length into.old) }
+    ensures bytes { (f : Frame) → Has (view_of filer.old).slots slot f
+        → into.new ≡ part f.bytes from (length into.old) }
     ensures width { length into.new ≡ length into.old }
     ensures same { filer.new ≡ filer.old }
 {
@@ -52,8 +53,11 @@ pub(crate) fn copy_pages<D: Disk, A: Allocator>(
     requires few { length into.old ≤ 512 }
     requires first { HasClient (view_of filer.old).slots first }
     requires last { HasClient (view_of filer.old).slots last }
-    ensures bytes { (m : List Sector) (named : Triples) (b : List ℕ) (ss : List Space) → Known (view_of filer.old) m named b → AreStored named m ss
-        → IsSlotOf ss (view_of filer.old).slots (address / 512) first → IsSlotOf ss (view_of filer.old).slots (last_page address (length into.old)) last → Loads ss address into.new m }
+    ensures bytes { (m : List Sector) (named : Triples) (b : List ℕ) (ss : List Space)
+        → Known (view_of filer.old) m named b → AreStored named m ss
+        → IsSlotOf ss (view_of filer.old).slots (address / 512) first
+        → IsSlotOf ss (view_of filer.old).slots (last_page address (length into.old)) last
+        → Loads ss address into.new m }
     ensures width { length into.new ≡ length into.old }
     ensures same { filer.new ≡ filer.old }
 {
@@ -76,10 +80,13 @@ pub(crate) fn change_in<D: Disk, A: Allocator>(
 )
     requires slot { HasClient (view_of filer.old).slots slot }
     requires inside { from + length bytes.now ≤ 512 }
-    ensures stored { (m : List Sector) (named : Triples) (b : List ℕ) (id page : ℕ) → Known (view_of filer.old) m named b → HasPage (view_of filer.old).slots slot id page → is_file_id id ≡ true
+    ensures stored { (m : List Sector) (named : Triples) (b : List ℕ) (id page : ℕ)
+        → Known (view_of filer.old) m named b → HasPage (view_of filer.old).slots slot id page → is_file_id id ≡ true
         → Leaves (StoresAt id page from bytes.now) m named b (view_of filer.new) }
-    ensures dirty { (id page : ℕ) → HasPage (view_of filer.old).slots slot id page → IsDirty (view_of filer.new).slots id page }
-    ensures touches { (id page : ℕ) → HasPage (view_of filer.old).slots slot id page → 16 ≤ id → Touches (this_page id page) (view_of filer.old) (view_of filer.new) }
+    ensures dirty { (id page : ℕ) → HasPage (view_of filer.old).slots slot id page
+        → IsDirty (view_of filer.new).slots id page }
+    ensures touches { (id page : ℕ) → HasPage (view_of filer.old).slots slot id page → 16 ≤ id
+        → Touches (this_page id page) (view_of filer.old) (view_of filer.new) }
     ensures came { BringsOwn (view_of filer.old).slots (view_of filer.new).slots }
     ensures slots { KeepsSlots (view_of filer.old).slots (view_of filer.new).slots }
     ensures disk { (disk_of filer.new) ≡ (disk_of filer.old) }
@@ -99,11 +106,17 @@ pub(crate) fn change_pages<D: Disk, A: Allocator>(
     requires few { length bytes.now ≤ 512 }
     requires first { HasClient (view_of filer.old).slots first }
     requires last { HasClient (view_of filer.old).slots last }
-    ensures stored { (m : List Sector) (named : Triples) (b : List ℕ) (ss : List Space) → Known (view_of filer.old) m named b → AreStored named m ss
-        → IsSlotOf ss (view_of filer.old).slots (address / 512) first → IsSlotOf ss (view_of filer.old).slots (last_page address (length bytes.now)) last → Leaves (Stores ss address bytes.now) m named b (view_of filer.new) }
-    ensures dirty { (ss : List Space) → IsSlotOf ss (view_of filer.old).slots (address / 512) first → IsSlotOf ss (view_of filer.old).slots (last_page address (length bytes.now)) last
+    ensures stored { (m : List Sector) (named : Triples) (b : List ℕ) (ss : List Space)
+        → Known (view_of filer.old) m named b → AreStored named m ss
+        → IsSlotOf ss (view_of filer.old).slots (address / 512) first
+        → IsSlotOf ss (view_of filer.old).slots (last_page address (length bytes.now)) last
+        → Leaves (Stores ss address bytes.now) m named b (view_of filer.new) }
+    ensures dirty { (ss : List Space) → IsSlotOf ss (view_of filer.old).slots (address / 512) first
+        → IsSlotOf ss (view_of filer.old).slots (last_page address (length bytes.now)) last
         → IsShownDirty ss (view_of filer.new).slots (last_page address (length bytes.now)) }
-    ensures touches { (i p j q : ℕ) → HasPage (view_of filer.old).slots first i p → HasPage (view_of filer.old).slots last j q → 16 ≤ i → 16 ≤ j → Touches (either i p j q) (view_of filer.old) (view_of filer.new) }
+    ensures touches { (i p j q : ℕ) → HasPage (view_of filer.old).slots first i p
+        → HasPage (view_of filer.old).slots last j q → 16 ≤ i → 16 ≤ j
+        → Touches (either i p j q) (view_of filer.old) (view_of filer.new) }
     ensures came { BringsOwn (view_of filer.old).slots (view_of filer.new).slots }
     ensures slots { KeepsSlots (view_of filer.old).slots (view_of filer.new).slots }
     ensures disk { (disk_of filer.new) ≡ (disk_of filer.old) }

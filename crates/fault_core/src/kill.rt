@@ -42,7 +42,8 @@ fn may_store(x: &Interval) -> bool
 fn discard_shown<D: Disk, A: Allocator>(filer: &mut Filer<D, A>, x: &Interval, page: u32, next: u32)
     requires shows { ShowsPart x.now page next }
     ensures gone { (p : ℕ) → page ≤ p → p < next → is_absent (view_of filer.new).slots x.now.id (file_page x.now p) }
-    ensures left { (m : List Sector) (named : Triples) (b : List ℕ) → Known (view_of filer.old) m named b → Leaves (Differs (of_part (view_of filer.old).layout.first x.now page next)) m named b (view_of filer.new) }
+    ensures left { (m : List Sector) (named : Triples) (b : List ℕ) → Known (view_of filer.old) m named b
+        → Leaves (Differs (of_part (view_of filer.old).layout.first x.now page next)) m named b (view_of filer.new) }
     ensures touches { Touches no_page (view_of filer.old) (view_of filer.new) }
     ensures came { BringsOwn (view_of filer.old).slots (view_of filer.new).slots }
     ensures disk { (disk_of filer.new) ≡ (disk_of filer.old) }
@@ -65,17 +66,25 @@ impl<D: Disk, A: Allocator> Core<D, A> {
         requires before { page < end }
         requires in_root { end ≤ root_pages }
         ensures next { IfOk result (λ next. (page < next) × (next ≤ end)) }
-        ensures part { (m : List Sector) (named : Triples) (ss : List Space) → Knows self.old m named ss → IfOk result (IsNextPart ss page end) }
-        ensures gone { (m : List Sector) (named : Triples) (ss : List Space) → Knows self.old m named ss → IfOk result (AreWritableSo (is_absent (state self.new).slots) ss page) }
-        ensures cause { IfErr result (ReachHalts (BreaksTables (state self.old) self.old.intervals page) (state self.old) (state self.new)) }
-        ensures sees { (ss : List Space) → Sees (state self.old) (kept self.old) self.old.intervals ss → Sees (state self.new) (kept self.new) self.new.intervals ss }
-        ensures sound { (m : List Sector) (named : Triples) (ss : List Space) → Knows self.old m named ss → IfErr result (λ e. e ≡ halt.Disk) }
-        ensures left { (m : List Sector) (named : Triples) (ss : List Space) (range : Space) → Knows self.old m named ss → range.first ≤ page → end ≤ range.first + range.pages
-            → LeavesCore (Differs (is_killed (state self.old).layout.sectors ss range)) m named ss (state self.new) (kept self.new) self.new.intervals }
+        ensures part { (m : List Sector) (named : Triples) (ss : List Space) → Knows self.old m named ss
+            → IfOk result (IsNextPart ss page end) }
+        ensures gone { (m : List Sector) (named : Triples) (ss : List Space) → Knows self.old m named ss
+            → IfOk result (AreWritableSo (is_absent (state self.new).slots) ss page) }
+        ensures cause { IfErr result
+            (ReachHalts (BreaksTables (state self.old) self.old.intervals page) (state self.old) (state self.new)) }
+        ensures sees { (ss : List Space) → Sees (state self.old) (kept self.old) self.old.intervals ss
+            → Sees (state self.new) (kept self.new) self.new.intervals ss }
+        ensures sound { (m : List Sector) (named : Triples) (ss : List Space) → Knows self.old m named ss
+            → IfErr result (λ e. e ≡ halt.Disk) }
+        ensures left { (m : List Sector) (named : Triples) (ss : List Space) (range : Space) → Knows self.old m named ss
+            → range.first ≤ page → end ≤ range.first + range.pages
+            → LeavesCore (Differs (is_killed (state self.old).layout.sectors ss range)) m named ss (state self.new)
+            (kept self.new) self.new.intervals }
         ensures touches { Touches no_page (state self.old) (state self.new) }
         ensures came { BringsOwn (state self.old).slots (state self.new).slots }
         ensures intervals { self.new.intervals ≡ self.old.intervals }
-        ensures idle { (x : IntervalIs) → find (has_page page) (kept self.old) ≡ Some x → IsOk result × ((state self.new).disk ≡ (state self.old).disk) × (kept self.new ≡ kept self.old) }
+        ensures idle { (x : IntervalIs) → find (has_page page) (kept self.old) ≡ Some x
+            → IsOk result × ((state self.new).disk ≡ (state self.old).disk) × (kept self.new ≡ kept self.old) }
         ensures cost { (state self.new).disk.transfers ≤ (state self.old).disk.transfers + 196 }
     {
         let (x, next) = match self.part_at(page, end) {
@@ -94,19 +103,29 @@ impl<D: Disk, A: Allocator> Core<D, A> {
     /// read or written.
     pub fn kill(&mut self, first: u32, pages: u32) -> Result<(), Halt>
         requires size { FitsLayout (state self.old) }
-        ensures gone { (m : List Sector) (named : Triples) (ss : List Space) → Knows self.old m named ss → OnOk result (AreWritableSo (is_absent (state self.new).slots) ss first (first + pages)) }
-        ensures cause { IfErr result (ReachHalts (BreaksWithin (state self.old) self.old.intervals first (first + pages)) (state self.old) (state self.new)) }
-        ensures sees { (ss : List Space) → Sees (state self.old) (kept self.old) self.old.intervals ss → Sees (state self.new) (kept self.new) self.new.intervals ss }
-        ensures right { (ss : List Space) → Sees (state self.old) (kept self.old) self.old.intervals ss → IfErr result NeverBlamesTables }
-        ensures sound { (m : List Sector) (named : Triples) (ss : List Space) → Knows self.old m named ss → IfErr result (λ e. e ≡ halt.Disk) }
-        ensures killed { (m : List Sector) (named : Triples) (ss : List Space) (range : Space) → Knows self.old m named ss → range.first ≡ first → range.pages ≡ pages
+        ensures gone { (m : List Sector) (named : Triples) (ss : List Space) → Knows self.old m named ss
+            → OnOk result (AreWritableSo (is_absent (state self.new).slots) ss first (first + pages)) }
+        ensures cause { IfErr result
+            (ReachHalts (BreaksWithin (state self.old) self.old.intervals first (first + pages)) (state self.old)
+            (state self.new)) }
+        ensures sees { (ss : List Space) → Sees (state self.old) (kept self.old) self.old.intervals ss
+            → Sees (state self.new) (kept self.new) self.new.intervals ss }
+        ensures right { (ss : List Space) → Sees (state self.old) (kept self.old) self.old.intervals ss
+            → IfErr result NeverBlamesTables }
+        ensures sound { (m : List Sector) (named : Triples) (ss : List Space) → Knows self.old m named ss
+            → IfErr result (λ e. e ≡ halt.Disk) }
+        ensures killed { (m : List Sector) (named : Triples) (ss : List Space) (range : Space)
+            → Knows self.old m named ss → range.first ≡ first → range.pages ≡ pages
             → GoesTo (Kills ss range) volume_page [] (state self.old) (state self.new) }
-        ensures known { (m n : List Sector) (named : Triples) (ss : List Space) → Knows self.old m named ss → HasMemory (state self.new) n → Knows self.new n named ss }
+        ensures known { (m n : List Sector) (named : Triples) (ss : List Space) → Knows self.old m named ss
+            → HasMemory (state self.new) n → Knows self.new n named ss }
         ensures touches { Touches no_page (state self.old) (state self.new) }
         ensures came { BringsOwn (state self.old).slots (state self.new).slots }
         ensures intervals { self.new.intervals ≡ self.old.intervals }
-        ensures idle { AreFound (kept self.old) first (first + pages) → IsOk result × ((state self.new).disk ≡ (state self.old).disk) × (kept self.new ≡ kept self.old) }
-        ensures cost { (state self.new).disk.transfers ≤ (state self.old).disk.transfers + (self.old.intervals + 1) * 196 }
+        ensures idle { AreFound (kept self.old) first (first + pages)
+            → IsOk result × ((state self.new).disk ≡ (state self.old).disk) × (kept self.new ≡ kept self.old) }
+        ensures cost { (state self.new).disk.transfers ≤ (state self.old).disk.transfers + (self.old.intervals + 1)
+            * 196 }
     {
         let end = end_of(first, pages);
         let mut page = first;

@@ -14,8 +14,10 @@ ghost use Rattle.fault_core.specs.Revealed.{Known};
 pub fn reaches_in_turn()
     ensures itself { (v : View) → Reaches v v }
     ensures next { (v w x : View) → IsLayout v.layout → Reaches v w → Reaches w x → Reaches v x }
-    ensures known { (v w : View) (m : List Sector) (named : Triples) (b : List ℕ) → IsLayout v.layout → Reaches v w → Known v m named b → Known w m named b }
-    ensures searches { (v w : View) (m : List Sector) (named : Triples) (b : List ℕ) → IsLayout v.layout → Reaches v w → Known v m named b → Searches v.disk v.slots w.disk w.slots }
+    ensures known { (v w : View) (m : List Sector) (named : Triples) (b : List ℕ) → IsLayout v.layout → Reaches v w
+        → Known v m named b → Known w m named b }
+    ensures searches { (v w : View) (m : List Sector) (named : Triples) (b : List ℕ) → IsLayout v.layout → Reaches v w
+        → Known v m named b → Searches v.disk v.slots w.disk w.slots }
 {}
 
 /// A load and a store are refused by the machine exactly as a core refuses them.

@@ -38,13 +38,15 @@ fn load_in<D: Disk, A: Allocator>(
     requires size { FitsLayout (view_of filer.old) }
     requires shows { Shows x.now page }
     requires inside { from + length into.old ≤ 512 }
-    ensures bytes { (m : List Sector) (named : Triples) (b : List ℕ) → Known (view_of filer.old) m named b → AreShownStored named m x.now → OnOk result (HasBytes x.now.id (file_page x.now page) from into.new m) }
+    ensures bytes { (m : List Sector) (named : Triples) (b : List ℕ) → Known (view_of filer.old) m named b
+        → AreShownStored named m x.now → OnOk result (HasBytes x.now.id (file_page x.now page) from into.new m) }
     ensures width { length into.new ≡ length into.old }
     ensures intact { OnErr result (into.new ≡ into.old) }
     ensures whole { OnOk result (IsWhole (view_of filer.new).slots x.now page) }
     ensures cause { IfErr result (TouchHalts no_break (view_of filer.old) (view_of filer.new)) }
     ensures misses { IfErr result (MissesPage (unit_pages x.now page)) }
-    ensures sound { (m : List Sector) (named : Triples) (b : List ℕ) → Known (view_of filer.old) m named b → AreShownStored named m x.now → IfErr result (λ e. e ≡ halt.Disk) }
+    ensures sound { (m : List Sector) (named : Triples) (b : List ℕ) → Known (view_of filer.old) m named b
+        → AreShownStored named m x.now → IfErr result (λ e. e ≡ halt.Disk) }
     ensures reaches { Reaches (view_of filer.old) (view_of filer.new) }
     ensures came { BringsShown x.now (view_of filer.old).slots (view_of filer.new).slots }
     ensures idle { IsWhole (view_of filer.old).slots x.now page → IsOk result × (filer.new ≡ filer.old) }
@@ -72,16 +74,21 @@ fn load_shown<D: Disk, A: Allocator>(
     requires first { Shows first.now (address / 512) }
     requires last { Shows last.now (last_page address (length into.old)) }
     requires one { address / 512 ≡ last_page address (length into.old) → last.now ≡ first.now }
-    ensures bytes { (m : List Sector) (named : Triples) (b : List ℕ) (ss : List Space) → Known (view_of filer.old) m named b → AreSeen ss named m first.now → AreSeen ss named m last.now → OnOk result (Loads ss address into.new m) }
+    ensures bytes { (m : List Sector) (named : Triples) (b : List ℕ) (ss : List Space)
+        → Known (view_of filer.old) m named b → AreSeen ss named m first.now → AreSeen ss named m last.now
+        → OnOk result (Loads ss address into.new m) }
     ensures width { length into.new ≡ length into.old }
     ensures intact { address % 512 + length into.old ≤ 512 → OnErr result (into.new ≡ into.old) }
     ensures whole { OnOk result (IsWhole (view_of filer.new).slots last.now (last_page address (length into.old))) }
     ensures cause { IfErr result (TouchHalts no_break (view_of filer.old) (view_of filer.new)) }
     ensures misses { IfErr result (MissesPage (both_units first.now last.now address (length into.old))) }
-    ensures sound { (m : List Sector) (named : Triples) (b : List ℕ) → Known (view_of filer.old) m named b → AreShownStored named m first.now → AreShownStored named m last.now → IfErr result (λ e. e ≡ halt.Disk) }
+    ensures sound { (m : List Sector) (named : Triples) (b : List ℕ) → Known (view_of filer.old) m named b
+        → AreShownStored named m first.now → AreShownStored named m last.now → IfErr result (λ e. e ≡ halt.Disk) }
     ensures reaches { Reaches (view_of filer.old) (view_of filer.new) }
     ensures came { BringsBoth first.now last.now (view_of filer.old).slots (view_of filer.new).slots }
-    ensures idle { IsWhole (view_of filer.old).slots first.now (address / 512) → IsWhole (view_of filer.old).slots last.now (last_page address (length into.old)) → IsOk result × (filer.new ≡ filer.old) }
+    ensures idle { IsWhole (view_of filer.old).slots first.now (address / 512)
+        → IsWhole (view_of filer.old).slots last.now (last_page address (length into.old))
+        → IsOk result × (filer.new ≡ filer.old) }
     ensures cost { (view_of filer.new).disk.transfers ≤ (view_of filer.old).disk.transfers + 512 }
 {
     let from = (address % PAGE_BYTES as u32) as usize;
@@ -106,22 +113,36 @@ impl<D: Disk, A: Allocator> Core<D, A> {
         requires size { FitsLayout (state self.old) }
         requires some { 1 ≤ length into.old }
         requires few { length into.old ≤ 512 }
-        ensures access { (m : List Sector) (named : Triples) (ss : List Space) → Knows self.old m named ss → IfOk result (λ a. a ≡ access_of ss false address (length into.old)) }
-        ensures bytes { (m : List Sector) (named : Triples) (ss : List Space) → Knows self.old m named ss → IfOk result (λ a. a ≡ access.Done → Loads ss address into.new m) }
+        ensures access { (m : List Sector) (named : Triples) (ss : List Space) → Knows self.old m named ss
+            → IfOk result (λ a. a ≡ access_of ss false address (length into.old)) }
+        ensures bytes { (m : List Sector) (named : Triples) (ss : List Space) → Knows self.old m named ss
+            → IfOk result (λ a. a ≡ access.Done → Loads ss address into.new m) }
         ensures width { length into.new ≡ length into.old }
         ensures refused { IfOk result (λ a. a ≢ access.Done → into.new ≡ into.old) }
         ensures intact { address % 512 + length into.old ≤ 512 → OnErr result (into.new ≡ into.old) }
-        ensures ready { IfOk result (λ a. a ≡ access.Done → IsReady (kept self.new) (state self.new).slots (last_page address (length into.old))) }
-        ensures cause { IfErr result (TouchHalts (BreaksFor (state self.old) self.old.intervals address (length into.old)) (state self.old) (state self.new)) }
-        ensures missing { (ss : List Space) → Sees (state self.old) (kept self.old) self.old.intervals ss → IfErr result (MissesPage (shown_units ss address (length into.old))) }
-        ensures sees { (ss : List Space) → Sees (state self.old) (kept self.old) self.old.intervals ss → Sees (state self.new) (kept self.new) self.new.intervals ss }
-        ensures right { (ss : List Space) → Sees (state self.old) (kept self.old) self.old.intervals ss → IfErr result NeverBlamesTables }
-        ensures sound { (m : List Sector) (named : Triples) (ss : List Space) → Knows self.old m named ss → IfErr result (λ e. e ≡ halt.Disk) }
-        ensures same { (m : List Sector) (named : Triples) (ss : List Space) → Knows self.old m named ss → Knows self.new m named ss }
+        ensures ready { IfOk result
+            (λ a.
+            a ≡ access.Done → IsReady (kept self.new) (state self.new).slots (last_page address (length into.old))) }
+        ensures cause { IfErr result
+            (TouchHalts (BreaksFor (state self.old) self.old.intervals address (length into.old)) (state self.old)
+            (state self.new)) }
+        ensures missing { (ss : List Space) → Sees (state self.old) (kept self.old) self.old.intervals ss
+            → IfErr result (MissesPage (shown_units ss address (length into.old))) }
+        ensures sees { (ss : List Space) → Sees (state self.old) (kept self.old) self.old.intervals ss
+            → Sees (state self.new) (kept self.new) self.new.intervals ss }
+        ensures right { (ss : List Space) → Sees (state self.old) (kept self.old) self.old.intervals ss
+            → IfErr result NeverBlamesTables }
+        ensures sound { (m : List Sector) (named : Triples) (ss : List Space) → Knows self.old m named ss
+            → IfErr result (λ e. e ≡ halt.Disk) }
+        ensures same { (m : List Sector) (named : Triples) (ss : List Space) → Knows self.old m named ss
+            → Knows self.new m named ss }
         ensures reaches { Reaches (state self.old) (state self.new) }
-        ensures came { (m : List Sector) (named : Triples) (ss : List Space) → Knows self.old m named ss → BringsKnown ss (state self.old).slots (state self.new).slots }
+        ensures came { (m : List Sector) (named : Triples) (ss : List Space) → Knows self.old m named ss
+            → BringsKnown ss (state self.old).slots (state self.new).slots }
         ensures intervals { self.new.intervals ≡ self.old.intervals }
-        ensures idle { IsReady (kept self.old) (state self.old).slots (address / 512) → IsReady (kept self.old) (state self.old).slots (last_page address (length into.old)) → AreApart (kept self.old)
+        ensures idle { IsReady (kept self.old) (state self.old).slots (address / 512)
+            → IsReady (kept self.old) (state self.old).slots (last_page address (length into.old))
+            → AreApart (kept self.old)
             → IsOk result × (self.new.filer ≡ self.old.filer) × (kept self.new ≡ kept self.old) }
         ensures cost { (state self.new).disk.transfers ≤ (state self.old).disk.transfers + 1680 }
     {
@@ -143,25 +164,39 @@ impl<D: Disk, A: Allocator> Core<D, A> {
         requires size { FitsLayout (state self.old) }
         requires some { 1 ≤ length into.old }
         requires few { length into.old ≤ 512 }
-        ensures access { (m : List Sector) (named : Triples) (ss : List Space) → Knows self.old m named ss → IfOk result (IfAccess (λ a. a ≡ access_of ss false address (length into.old))) }
-        ensures absent { (m : List Sector) (named : Triples) (ss : List Space) → Knows self.old m named ss → IfOk result (IfAbsent (IsAbsent ss (state self.new).slots false address (length into.old))) }
-        ensures present { (m : List Sector) (named : Triples) (ss : List Space) → Knows self.old m named ss → IfOk result (λ t. t ≡ moved → ArePresent ss (state self.new).slots address (length into.old)) }
-        ensures bytes { (m : List Sector) (named : Triples) (ss : List Space) → Knows self.old m named ss → IfOk result (λ t. t ≡ moved → Loads ss address into.new m) }
+        ensures access { (m : List Sector) (named : Triples) (ss : List Space) → Knows self.old m named ss
+            → IfOk result (IfAccess (λ a. a ≡ access_of ss false address (length into.old))) }
+        ensures absent { (m : List Sector) (named : Triples) (ss : List Space) → Knows self.old m named ss
+            → IfOk result (IfAbsent (IsAbsent ss (state self.new).slots false address (length into.old))) }
+        ensures present { (m : List Sector) (named : Triples) (ss : List Space) → Knows self.old m named ss
+            → IfOk result (λ t. t ≡ moved → ArePresent ss (state self.new).slots address (length into.old)) }
+        ensures bytes { (m : List Sector) (named : Triples) (ss : List Space) → Knows self.old m named ss
+            → IfOk result (λ t. t ≡ moved → Loads ss address into.new m) }
         ensures width { length into.new ≡ length into.old }
         ensures unmoved { result ≢ Ok moved → into.new ≡ into.old }
         ensures referred { IfOk result (IfAbsent (IsReferred address (length into.old))) }
-        ensures here { IfOk result (λ t. t ≡ moved → IsHere (kept self.new) (state self.new).slots (last_page address (length into.old))) }
-        ensures cause { IfErr result (ReachHalts (BreaksFor (state self.old) self.old.intervals address (length into.old)) (state self.old) (state self.new)) }
-        ensures sees { (ss : List Space) → Sees (state self.old) (kept self.old) self.old.intervals ss → Sees (state self.new) (kept self.new) self.new.intervals ss }
-        ensures right { (ss : List Space) → Sees (state self.old) (kept self.old) self.old.intervals ss → IfErr result NeverBlamesTables }
-        ensures sound { (m : List Sector) (named : Triples) (ss : List Space) → Knows self.old m named ss → IfErr result (λ e. e ≡ halt.Disk) }
-        ensures same { (m : List Sector) (named : Triples) (ss : List Space) → Knows self.old m named ss → Knows self.new m named ss }
+        ensures here { IfOk result
+            (λ t. t ≡ moved → IsHere (kept self.new) (state self.new).slots (last_page address (length into.old))) }
+        ensures cause { IfErr result
+            (ReachHalts (BreaksFor (state self.old) self.old.intervals address (length into.old)) (state self.old)
+            (state self.new)) }
+        ensures sees { (ss : List Space) → Sees (state self.old) (kept self.old) self.old.intervals ss
+            → Sees (state self.new) (kept self.new) self.new.intervals ss }
+        ensures right { (ss : List Space) → Sees (state self.old) (kept self.old) self.old.intervals ss
+            → IfErr result NeverBlamesTables }
+        ensures sound { (m : List Sector) (named : Triples) (ss : List Space) → Knows self.old m named ss
+            → IfErr result (λ e. e ≡ halt.Disk) }
+        ensures same { (m : List Sector) (named : Triples) (ss : List Space) → Knows self.old m named ss
+            → Knows self.new m named ss }
         ensures reaches { Reaches (state self.old) (state self.new) }
         ensures came { BringsOwn (state self.old).slots (state self.new).slots }
         ensures intervals { self.new.intervals ≡ self.old.intervals }
-        ensures ready { IsReady (kept self.old) (state self.old).slots (address / 512) → IsReady (kept self.old) (state self.old).slots (last_page address (length into.old)) → AreApart (kept self.old)
-            → IfOk result (IfAbsent (λ page. ⊥)) }
-        ensures idle { IsReady (kept self.old) (state self.old).slots (address / 512) → IsReady (kept self.old) (state self.old).slots (last_page address (length into.old)) → AreApart (kept self.old)
+        ensures ready { IsReady (kept self.old) (state self.old).slots (address / 512)
+            → IsReady (kept self.old) (state self.old).slots (last_page address (length into.old))
+            → AreApart (kept self.old) → IfOk result (IfAbsent (λ page. ⊥)) }
+        ensures idle { IsReady (kept self.old) (state self.old).slots (address / 512)
+            → IsReady (kept self.old) (state self.old).slots (last_page address (length into.old))
+            → AreApart (kept self.old)
             → IsOk result × (self.new.filer ≡ self.old.filer) × (kept self.new ≡ kept self.old) }
         ensures cost { (state self.new).disk.transfers ≤ (state self.old).disk.transfers + 392 }
     {

@@ -34,16 +34,25 @@ impl<D: Disk, A: Allocator> Core<D, A> {
     /// brought in.
     pub fn resolve(&mut self, page: u32) -> Result<Option<Plan>, Halt>
         requires size { FitsLayout (state self.old) }
-        ensures unit { IfOk result (λ o. IfSome o (λ plan. IsKeptPlan (kept self.new) page plan.first (homes_in plan.homes))) }
-        ensures homes { (m : List Sector) (named : Triples) (ss : List Space) → Knows self.old m named ss → IfOk result (λ o. IfSome o (λ plan. IsPlanAt ss named page plan.first (homes_in plan.homes))) }
-        ensures none { (m : List Sector) (named : Triples) (ss : List Space) → Knows self.old m named ss → IfOk result (λ o. (o ≡ None) ↔ (shown_at ss page ≡ None)) }
-        ensures cause { IfErr result (TouchHalts (BreaksTables (state self.old) self.old.intervals page) (state self.old) (state self.new)) }
+        ensures unit { IfOk result
+            (λ o. IfSome o (λ plan. IsKeptPlan (kept self.new) page plan.first (homes_in plan.homes))) }
+        ensures homes { (m : List Sector) (named : Triples) (ss : List Space) → Knows self.old m named ss
+            → IfOk result (λ o. IfSome o (λ plan. IsPlanAt ss named page plan.first (homes_in plan.homes))) }
+        ensures none { (m : List Sector) (named : Triples) (ss : List Space) → Knows self.old m named ss
+            → IfOk result (λ o. (o ≡ None) ↔ (shown_at ss page ≡ None)) }
+        ensures cause { IfErr result
+            (TouchHalts (BreaksTables (state self.old) self.old.intervals page) (state self.old) (state self.new)) }
         ensures misses { IfErr result (MissesPage (kept_unit (kept self.new) page)) }
-        ensures missing { (ss : List Space) → Sees (state self.old) (kept self.old) self.old.intervals ss → IfErr result (MissesPage (shown_unit ss page)) }
-        ensures sees { (ss : List Space) → Sees (state self.old) (kept self.old) self.old.intervals ss → Sees (state self.new) (kept self.new) self.new.intervals ss }
-        ensures right { (ss : List Space) → Sees (state self.old) (kept self.old) self.old.intervals ss → IfErr result NeverBlamesTables }
-        ensures sound { (m : List Sector) (named : Triples) (ss : List Space) → Knows self.old m named ss → IfErr result (λ e. e ≡ halt.Disk) }
-        ensures same { (m : List Sector) (named : Triples) (ss : List Space) → Knows self.old m named ss → Knows self.new m named ss }
+        ensures missing { (ss : List Space) → Sees (state self.old) (kept self.old) self.old.intervals ss
+            → IfErr result (MissesPage (shown_unit ss page)) }
+        ensures sees { (ss : List Space) → Sees (state self.old) (kept self.old) self.old.intervals ss
+            → Sees (state self.new) (kept self.new) self.new.intervals ss }
+        ensures right { (ss : List Space) → Sees (state self.old) (kept self.old) self.old.intervals ss
+            → IfErr result NeverBlamesTables }
+        ensures sound { (m : List Sector) (named : Triples) (ss : List Space) → Knows self.old m named ss
+            → IfErr result (λ e. e ≡ halt.Disk) }
+        ensures same { (m : List Sector) (named : Triples) (ss : List Space) → Knows self.old m named ss
+            → Knows self.new m named ss }
         ensures reaches { Reaches (state self.old) (state self.new) }
         ensures came { BringsOwn (state self.old).slots (state self.new).slots }
         ensures intervals { self.new.intervals ≡ self.old.intervals }

@@ -38,13 +38,16 @@ fn flush_run<D: Disk, A: Allocator>(
     pages: u32,
 ) -> Result<(), Halt>
     requires size { FitsLayout (view_of filer.old) }
-    ensures rest { OnOk result ((p : ℕ) → first ≤ p → p < first + pages → IsWrittenBack way_is.Flush (view_of filer.new).slots id p) }
+    ensures rest { OnOk result
+        ((p : ℕ) → first ≤ p → p < first + pages → IsWrittenBack way_is.Flush (view_of filer.new).slots id p) }
     ensures cause { IfErr result (ReachHalts no_break (view_of filer.old) (view_of filer.new)) }
-    ensures sound { (m : List Sector) (named : Triples) (b : List ℕ) → Known (view_of filer.old) m named b → IfErr result (λ e. e ≡ halt.Disk) }
+    ensures sound { (m : List Sector) (named : Triples) (b : List ℕ) → Known (view_of filer.old) m named b
+        → IfErr result (λ e. e ≡ halt.Disk) }
     ensures reaches { Reaches (view_of filer.old) (view_of filer.new) }
     ensures came { BringsOwn (view_of filer.old).slots (view_of filer.new).slots }
     ensures frames { Stay (view_of filer.old).slots (view_of filer.new).slots }
-    ensures cost { (view_of filer.new).disk.transfers ≤ (view_of filer.old).disk.transfers + length (view_of filer.old).slots }
+    ensures cost { (view_of filer.new).disk.transfers ≤ (view_of filer.old).disk.transfers + length
+        (view_of filer.old).slots }
 {
     force_calls::flush(filer.swapper_over(), id, first, pages)
 }
@@ -57,13 +60,16 @@ fn evict_run<D: Disk, A: Allocator>(
     pages: u32,
 ) -> Result<(), Halt>
     requires size { FitsLayout (view_of filer.old) }
-    ensures rest { OnOk result ((p : ℕ) → first ≤ p → p < first + pages → IsWrittenBack way_is.Evict (view_of filer.new).slots id p) }
+    ensures rest { OnOk result
+        ((p : ℕ) → first ≤ p → p < first + pages → IsWrittenBack way_is.Evict (view_of filer.new).slots id p) }
     ensures cause { IfErr result (ReachHalts no_break (view_of filer.old) (view_of filer.new)) }
-    ensures sound { (m : List Sector) (named : Triples) (b : List ℕ) → Known (view_of filer.old) m named b → IfErr result (λ e. e ≡ halt.Disk) }
+    ensures sound { (m : List Sector) (named : Triples) (b : List ℕ) → Known (view_of filer.old) m named b
+        → IfErr result (λ e. e ≡ halt.Disk) }
     ensures reaches { Reaches (view_of filer.old) (view_of filer.new) }
     ensures came { BringsOwn (view_of filer.old).slots (view_of filer.new).slots }
     ensures frames { OnlyRun id first pages (view_of filer.old).slots (view_of filer.new).slots }
-    ensures cost { (view_of filer.new).disk.transfers ≤ (view_of filer.old).disk.transfers + length (view_of filer.old).slots }
+    ensures cost { (view_of filer.new).disk.transfers ≤ (view_of filer.old).disk.transfers + length
+        (view_of filer.old).slots }
 {
     force_calls::evict(filer.swapper_over(), id, first, pages)
 }
@@ -77,13 +83,16 @@ fn write_back_run<D: Disk, A: Allocator>(
     pages: u32,
 ) -> Result<(), Halt>
     requires size { FitsLayout (view_of filer.old) }
-    ensures rest { OnOk result ((p : ℕ) → first ≤ p → p < first + pages → IsWrittenBack write_back (view_of filer.new).slots id p) }
+    ensures rest { OnOk result
+        ((p : ℕ) → first ≤ p → p < first + pages → IsWrittenBack write_back (view_of filer.new).slots id p) }
     ensures cause { IfErr result (ReachHalts no_break (view_of filer.old) (view_of filer.new)) }
-    ensures sound { (m : List Sector) (named : Triples) (b : List ℕ) → Known (view_of filer.old) m named b → IfErr result (λ e. e ≡ halt.Disk) }
+    ensures sound { (m : List Sector) (named : Triples) (b : List ℕ) → Known (view_of filer.old) m named b
+        → IfErr result (λ e. e ≡ halt.Disk) }
     ensures reaches { Reaches (view_of filer.old) (view_of filer.new) }
     ensures came { BringsOwn (view_of filer.old).slots (view_of filer.new).slots }
     ensures frames { LeavesFrames write_back id first pages (view_of filer.old).slots (view_of filer.new).slots }
-    ensures cost { (view_of filer.new).disk.transfers ≤ (view_of filer.old).disk.transfers + length (view_of filer.old).slots }
+    ensures cost { (view_of filer.new).disk.transfers ≤ (view_of filer.old).disk.transfers + length
+        (view_of filer.old).slots }
 {
     match write_back {
         WriteBack::Flush => return flush_run(filer, id, first, pages),
@@ -100,19 +109,28 @@ impl<D: Disk, A: Allocator> Core<D, A> {
         requires size { FitsLayout (state self.old) }
         requires below { page < end }
         ensures further { IfOk result (λ next. (page < next) × (next ≤ end)) }
-        ensures rest { (m : List Sector) (named : Triples) (ss : List Space) → Knows self.old m named ss → IfOk result (AreWrittenBack write_back ss (state self.new).slots page) }
-        ensures part { (m : List Sector) (named : Triples) (ss : List Space) → Knows self.old m named ss → IfOk result (IsNextPart ss page end) }
-        ensures cause { IfErr result (ReachHalts (BreaksTables (state self.old) self.old.intervals page) (state self.old) (state self.new)) }
-        ensures sees { (ss : List Space) → Sees (state self.old) (kept self.old) self.old.intervals ss → Sees (state self.new) (kept self.new) self.new.intervals ss }
-        ensures sound { (m : List Sector) (named : Triples) (ss : List Space) → Knows self.old m named ss → IfErr result (λ e. e ≡ halt.Disk) }
-        ensures same { (m : List Sector) (named : Triples) (ss : List Space) → Knows self.old m named ss → Knows self.new m named ss }
+        ensures rest { (m : List Sector) (named : Triples) (ss : List Space) → Knows self.old m named ss
+            → IfOk result (AreWrittenBack write_back ss (state self.new).slots page) }
+        ensures part { (m : List Sector) (named : Triples) (ss : List Space) → Knows self.old m named ss
+            → IfOk result (IsNextPart ss page end) }
+        ensures cause { IfErr result
+            (ReachHalts (BreaksTables (state self.old) self.old.intervals page) (state self.old) (state self.new)) }
+        ensures sees { (ss : List Space) → Sees (state self.old) (kept self.old) self.old.intervals ss
+            → Sees (state self.new) (kept self.new) self.new.intervals ss }
+        ensures sound { (m : List Sector) (named : Triples) (ss : List Space) → Knows self.old m named ss
+            → IfErr result (λ e. e ≡ halt.Disk) }
+        ensures same { (m : List Sector) (named : Triples) (ss : List Space) → Knows self.old m named ss
+            → Knows self.new m named ss }
         ensures reaches { Reaches (state self.old) (state self.new) }
         ensures came { BringsOwn (state self.old).slots (state self.new).slots }
         ensures stay { write_back ≡ way_is.Flush → StayOrYield (state self.old).slots (state self.new).slots }
-        ensures frames { (x : IntervalIs) → find (has_page page) (kept self.old) ≡ Some x → end ≤ x.first + x.pages → LeavesFrames write_back x.id (file_page x page) (end - page) (state self.old).slots (state self.new).slots }
-        ensures all { (x : IntervalIs) → find (has_page page) (kept self.old) ≡ Some x → end ≤ x.first + x.pages → IfOk result (λ next. next ≡ end) }
+        ensures frames { (x : IntervalIs) → find (has_page page) (kept self.old) ≡ Some x → end ≤ x.first + x.pages
+            → LeavesFrames write_back x.id (file_page x page) (end - page) (state self.old).slots (state self.new).slots }
+        ensures all { (x : IntervalIs) → find (has_page page) (kept self.old) ≡ Some x → end ≤ x.first + x.pages
+            → IfOk result (λ next. next ≡ end) }
         ensures intervals { self.new.intervals ≡ self.old.intervals }
-        ensures cost { (state self.new).disk.transfers ≤ (state self.old).disk.transfers + (196 + length (state self.old).slots) }
+        ensures cost { (state self.new).disk.transfers ≤ (state self.old).disk.transfers
+            + (196 + length (state self.old).slots) }
     {
         let x = match self.describe(page) {
             Ok(Some(x)) => x,
@@ -143,18 +161,28 @@ impl<D: Disk, A: Allocator> Core<D, A> {
         pages: u32,
     ) -> Result<(), Halt>
         requires size { FitsLayout (state self.old) }
-        ensures rest { (m : List Sector) (named : Triples) (ss : List Space) → Knows self.old m named ss → OnOk result (AreWrittenBack write_back ss (state self.new).slots first (first + pages)) }
-        ensures cause { IfErr result (ReachHalts (BreaksWithin (state self.old) self.old.intervals first (first + pages)) (state self.old) (state self.new)) }
-        ensures sees { (ss : List Space) → Sees (state self.old) (kept self.old) self.old.intervals ss → Sees (state self.new) (kept self.new) self.new.intervals ss }
-        ensures right { (ss : List Space) → Sees (state self.old) (kept self.old) self.old.intervals ss → IfErr result NeverBlamesTables }
-        ensures sound { (m : List Sector) (named : Triples) (ss : List Space) → Knows self.old m named ss → IfErr result (λ e. e ≡ halt.Disk) }
-        ensures same { (m : List Sector) (named : Triples) (ss : List Space) → Knows self.old m named ss → Knows self.new m named ss }
+        ensures rest { (m : List Sector) (named : Triples) (ss : List Space) → Knows self.old m named ss
+            → OnOk result (AreWrittenBack write_back ss (state self.new).slots first (first + pages)) }
+        ensures cause { IfErr result
+            (ReachHalts (BreaksWithin (state self.old) self.old.intervals first (first + pages)) (state self.old)
+            (state self.new)) }
+        ensures sees { (ss : List Space) → Sees (state self.old) (kept self.old) self.old.intervals ss
+            → Sees (state self.new) (kept self.new) self.new.intervals ss }
+        ensures right { (ss : List Space) → Sees (state self.old) (kept self.old) self.old.intervals ss
+            → IfErr result NeverBlamesTables }
+        ensures sound { (m : List Sector) (named : Triples) (ss : List Space) → Knows self.old m named ss
+            → IfErr result (λ e. e ≡ halt.Disk) }
+        ensures same { (m : List Sector) (named : Triples) (ss : List Space) → Knows self.old m named ss
+            → Knows self.new m named ss }
         ensures reaches { Reaches (state self.old) (state self.new) }
         ensures came { BringsOwn (state self.old).slots (state self.new).slots }
         ensures stay { write_back ≡ way_is.Flush → StayOrYield (state self.old).slots (state self.new).slots }
-        ensures frames { (x : IntervalIs) → find (has_page first) (kept self.old) ≡ Some x → first + pages ≤ x.first + x.pages → LeavesFrames write_back x.id (file_page x first) pages (state self.old).slots (state self.new).slots }
+        ensures frames { (x : IntervalIs) → find (has_page first) (kept self.old) ≡ Some x
+            → first + pages ≤ x.first + x.pages
+            → LeavesFrames write_back x.id (file_page x first) pages (state self.old).slots (state self.new).slots }
         ensures intervals { self.new.intervals ≡ self.old.intervals }
-        ensures cost { (state self.new).disk.transfers ≤ (state self.old).disk.transfers + (self.old.intervals + 1) * (196 + length (state self.old).slots) }
+        ensures cost { (state self.new).disk.transfers ≤ (state self.old).disk.transfers + (self.old.intervals + 1)
+            * (196 + length (state self.old).slots) }
     {
         let end = end_of(first, pages);
         let mut page = first;
@@ -175,18 +203,27 @@ impl<D: Disk, A: Allocator> Core<D, A> {
     /// is asked, and each frame stays.
     pub fn flush(&mut self, first: u32, pages: u32) -> Result<(), Halt>
         requires size { FitsLayout (state self.old) }
-        ensures clean { (m : List Sector) (named : Triples) (ss : List Space) → Knows self.old m named ss → OnOk result (AreWrittenBack way_is.Flush ss (state self.new).slots first (first + pages)) }
-        ensures cause { IfErr result (ReachHalts (BreaksWithin (state self.old) self.old.intervals first (first + pages)) (state self.old) (state self.new)) }
-        ensures sees { (ss : List Space) → Sees (state self.old) (kept self.old) self.old.intervals ss → Sees (state self.new) (kept self.new) self.new.intervals ss }
-        ensures right { (ss : List Space) → Sees (state self.old) (kept self.old) self.old.intervals ss → IfErr result NeverBlamesTables }
-        ensures sound { (m : List Sector) (named : Triples) (ss : List Space) → Knows self.old m named ss → IfErr result (λ e. e ≡ halt.Disk) }
-        ensures same { (m : List Sector) (named : Triples) (ss : List Space) → Knows self.old m named ss → Knows self.new m named ss }
+        ensures clean { (m : List Sector) (named : Triples) (ss : List Space) → Knows self.old m named ss
+            → OnOk result (AreWrittenBack way_is.Flush ss (state self.new).slots first (first + pages)) }
+        ensures cause { IfErr result
+            (ReachHalts (BreaksWithin (state self.old) self.old.intervals first (first + pages)) (state self.old)
+            (state self.new)) }
+        ensures sees { (ss : List Space) → Sees (state self.old) (kept self.old) self.old.intervals ss
+            → Sees (state self.new) (kept self.new) self.new.intervals ss }
+        ensures right { (ss : List Space) → Sees (state self.old) (kept self.old) self.old.intervals ss
+            → IfErr result NeverBlamesTables }
+        ensures sound { (m : List Sector) (named : Triples) (ss : List Space) → Knows self.old m named ss
+            → IfErr result (λ e. e ≡ halt.Disk) }
+        ensures same { (m : List Sector) (named : Triples) (ss : List Space) → Knows self.old m named ss
+            → Knows self.new m named ss }
         ensures reaches { Reaches (state self.old) (state self.new) }
         ensures came { BringsOwn (state self.old).slots (state self.new).slots }
         ensures stay { StayOrYield (state self.old).slots (state self.new).slots }
-        ensures still { (x : IntervalIs) → find (has_page first) (kept self.old) ≡ Some x → first + pages ≤ x.first + x.pages → Stay (state self.old).slots (state self.new).slots }
+        ensures still { (x : IntervalIs) → find (has_page first) (kept self.old) ≡ Some x
+            → first + pages ≤ x.first + x.pages → Stay (state self.old).slots (state self.new).slots }
         ensures intervals { self.new.intervals ≡ self.old.intervals }
-        ensures cost { (state self.new).disk.transfers ≤ (state self.old).disk.transfers + (self.old.intervals + 1) * (196 + length (state self.old).slots) }
+        ensures cost { (state self.new).disk.transfers ≤ (state self.old).disk.transfers + (self.old.intervals + 1)
+            * (196 + length (state self.old).slots) }
     {
         self.write_back_range(WriteBack::Flush, first, pages)
     }
@@ -195,17 +232,27 @@ impl<D: Disk, A: Allocator> Core<D, A> {
     /// Where an interval that is kept has all of it, no other slot changes.
     pub fn evict(&mut self, first: u32, pages: u32) -> Result<(), Halt>
         requires size { FitsLayout (state self.old) }
-        ensures gone { (m : List Sector) (named : Triples) (ss : List Space) → Knows self.old m named ss → OnOk result (AreWrittenBack way_is.Evict ss (state self.new).slots first (first + pages)) }
-        ensures cause { IfErr result (ReachHalts (BreaksWithin (state self.old) self.old.intervals first (first + pages)) (state self.old) (state self.new)) }
-        ensures sees { (ss : List Space) → Sees (state self.old) (kept self.old) self.old.intervals ss → Sees (state self.new) (kept self.new) self.new.intervals ss }
-        ensures right { (ss : List Space) → Sees (state self.old) (kept self.old) self.old.intervals ss → IfErr result NeverBlamesTables }
-        ensures sound { (m : List Sector) (named : Triples) (ss : List Space) → Knows self.old m named ss → IfErr result (λ e. e ≡ halt.Disk) }
-        ensures same { (m : List Sector) (named : Triples) (ss : List Space) → Knows self.old m named ss → Knows self.new m named ss }
+        ensures gone { (m : List Sector) (named : Triples) (ss : List Space) → Knows self.old m named ss
+            → OnOk result (AreWrittenBack way_is.Evict ss (state self.new).slots first (first + pages)) }
+        ensures cause { IfErr result
+            (ReachHalts (BreaksWithin (state self.old) self.old.intervals first (first + pages)) (state self.old)
+            (state self.new)) }
+        ensures sees { (ss : List Space) → Sees (state self.old) (kept self.old) self.old.intervals ss
+            → Sees (state self.new) (kept self.new) self.new.intervals ss }
+        ensures right { (ss : List Space) → Sees (state self.old) (kept self.old) self.old.intervals ss
+            → IfErr result NeverBlamesTables }
+        ensures sound { (m : List Sector) (named : Triples) (ss : List Space) → Knows self.old m named ss
+            → IfErr result (λ e. e ≡ halt.Disk) }
+        ensures same { (m : List Sector) (named : Triples) (ss : List Space) → Knows self.old m named ss
+            → Knows self.new m named ss }
         ensures reaches { Reaches (state self.old) (state self.new) }
         ensures came { BringsOwn (state self.old).slots (state self.new).slots }
-        ensures others { (x : IntervalIs) → find (has_page first) (kept self.old) ≡ Some x → first + pages ≤ x.first + x.pages → OnlyRun x.id (file_page x first) pages (state self.old).slots (state self.new).slots }
+        ensures others { (x : IntervalIs) → find (has_page first) (kept self.old) ≡ Some x
+            → first + pages ≤ x.first + x.pages
+            → OnlyRun x.id (file_page x first) pages (state self.old).slots (state self.new).slots }
         ensures intervals { self.new.intervals ≡ self.old.intervals }
-        ensures cost { (state self.new).disk.transfers ≤ (state self.old).disk.transfers + (self.old.intervals + 1) * (196 + length (state self.old).slots) }
+        ensures cost { (state self.new).disk.transfers ≤ (state self.old).disk.transfers + (self.old.intervals + 1)
+            * (196 + length (state self.old).slots) }
     {
         self.write_back_range(WriteBack::Evict, first, pages)
     }

@@ -58,7 +58,11 @@ fn allowed(first: Interval, last: Interval, address: u32, count: u32, writes: bo
     requires some { 1 ≤ count }
     requires few { count ≤ 512 }
     ensures shown { IfShown (λ x y. (x ≡ first) × (y ≡ last)) result }
-    ensures access { outcome result ≡ refused_by None (if writes then (if is_load_only first then Some (address / 512) else (if is_load_only last then Some (last_page address count) else None)) else None) }
+    ensures access { outcome result ≡ refused_by None
+        (if writes then
+        (if is_load_only first then Some (address / 512) else
+        (if is_load_only last then Some (last_page address count) else None))
+        else None) }
 {
     if !writes {
         return Reference::Shown { first, last };
@@ -83,17 +87,24 @@ impl<D: Disk, A: Allocator> Core<D, A> {
         ensures form { IfOk result (λ o. IfSome o (λ y. Shows y last)) }
         ensures one { first ≡ last → result ≡ Ok (Some x) }
         ensures is_kept { IfOk result (λ o. IfSome o (IsKept (kept self.new))) }
-        ensures cause { IfErr result (ReachHalts (BreaksTables (state self.old) self.old.intervals last) (state self.old) (state self.new)) }
-        ensures sees { (ss : List Space) → Sees (state self.old) (kept self.old) self.old.intervals ss → Sees (state self.new) (kept self.new) self.new.intervals ss }
-        ensures interval { (m : List Sector) (named : Triples) (ss : List Space) → Knows self.old m named ss → IfOk result (λ o. IfSome o (IsIntervalAt ss last)) }
-        ensures none { (m : List Sector) (named : Triples) (ss : List Space) → Knows self.old m named ss → IfOk result (λ o. (o ≡ None) ↔ (shown_at ss last ≡ None)) }
-        ensures sound { (m : List Sector) (named : Triples) (ss : List Space) → Knows self.old m named ss → IfErr result (λ e. e ≡ halt.Disk) }
-        ensures same { (m : List Sector) (named : Triples) (ss : List Space) → Knows self.old m named ss → Knows self.new m named ss }
+        ensures cause { IfErr result
+            (ReachHalts (BreaksTables (state self.old) self.old.intervals last) (state self.old) (state self.new)) }
+        ensures sees { (ss : List Space) → Sees (state self.old) (kept self.old) self.old.intervals ss
+            → Sees (state self.new) (kept self.new) self.new.intervals ss }
+        ensures interval { (m : List Sector) (named : Triples) (ss : List Space) → Knows self.old m named ss
+            → IfOk result (λ o. IfSome o (IsIntervalAt ss last)) }
+        ensures none { (m : List Sector) (named : Triples) (ss : List Space) → Knows self.old m named ss
+            → IfOk result (λ o. (o ≡ None) ↔ (shown_at ss last ≡ None)) }
+        ensures sound { (m : List Sector) (named : Triples) (ss : List Space) → Knows self.old m named ss
+            → IfErr result (λ e. e ≡ halt.Disk) }
+        ensures same { (m : List Sector) (named : Triples) (ss : List Space) → Knows self.old m named ss
+            → Knows self.new m named ss }
         ensures reaches { Reaches (state self.old) (state self.new) }
         ensures came { BringsOwn (state self.old).slots (state self.new).slots }
         ensures intervals { self.new.intervals ≡ self.old.intervals }
         ensures idle { IsReady (kept self.old) (state self.old).slots last → AreApart (kept self.old)
-            → IfOk result (λ o. IfSome o (λ y. IsWhole (state self.old).slots y last) × (o ≢ None)) × IsOk result × (self.new.filer ≡ self.old.filer) × (kept self.new ≡ kept self.old) }
+            → IfOk result (λ o. IfSome o (λ y. IsWhole (state self.old).slots y last) × (o ≢ None)) × IsOk result
+            × (self.new.filer ≡ self.old.filer) × (kept self.new ≡ kept self.old) }
         ensures cost { (state self.new).disk.transfers ≤ (state self.old).disk.transfers + 196 }
     {
         if last == first {
@@ -116,18 +127,33 @@ impl<D: Disk, A: Allocator> Core<D, A> {
         ensures form { IfOk result (IfShown (λ x y. Shows x (address / 512) × Shows y (last_page address count))) }
         ensures one { IfOk result (IfShown (λ x y. address / 512 ≡ last_page address count → y ≡ x)) }
         ensures is_kept { IfOk result (IfShown (λ x y. IsKept (kept self.new) y)) }
-        ensures cause { IfErr result (ReachHalts (BreaksFor (state self.old) self.old.intervals address count) (state self.old) (state self.new)) }
-        ensures sees { (ss : List Space) → Sees (state self.old) (kept self.old) self.old.intervals ss → Sees (state self.new) (kept self.new) self.new.intervals ss }
-        ensures access { (m : List Sector) (named : Triples) (ss : List Space) → Knows self.old m named ss → IfOk result (λ r. outcome r ≡ access_of ss writes address count) }
-        ensures intervals_at { (m : List Sector) (named : Triples) (ss : List Space) → Knows self.old m named ss → IfOk result (IfShown (λ x y. IsIntervalAt ss (address / 512) x × IsIntervalAt ss (last_page address count) y)) }
-        ensures seen { (ss : List Space) → Sees (state self.old) (kept self.old) self.old.intervals ss → IfOk result (IfShown (λ x y. IsIntervalAt ss (address / 512) x × IsIntervalAt ss (last_page address count) y)) }
-        ensures sound { (m : List Sector) (named : Triples) (ss : List Space) → Knows self.old m named ss → IfErr result (λ e. e ≡ halt.Disk) }
-        ensures same { (m : List Sector) (named : Triples) (ss : List Space) → Knows self.old m named ss → Knows self.new m named ss }
+        ensures cause { IfErr result
+            (ReachHalts (BreaksFor (state self.old) self.old.intervals address count) (state self.old)
+            (state self.new)) }
+        ensures sees { (ss : List Space) → Sees (state self.old) (kept self.old) self.old.intervals ss
+            → Sees (state self.new) (kept self.new) self.new.intervals ss }
+        ensures access { (m : List Sector) (named : Triples) (ss : List Space) → Knows self.old m named ss
+            → IfOk result (λ r. outcome r ≡ access_of ss writes address count) }
+        ensures intervals_at { (m : List Sector) (named : Triples) (ss : List Space) → Knows self.old m named ss
+            → IfOk result
+            (IfShown (λ x y. IsIntervalAt ss (address / 512) x × IsIntervalAt ss (last_page address count) y)) }
+        ensures seen { (ss : List Space) → Sees (state self.old) (kept self.old) self.old.intervals ss
+            → IfOk result
+            (IfShown (λ x y. IsIntervalAt ss (address / 512) x × IsIntervalAt ss (last_page address count) y)) }
+        ensures sound { (m : List Sector) (named : Triples) (ss : List Space) → Knows self.old m named ss
+            → IfErr result (λ e. e ≡ halt.Disk) }
+        ensures same { (m : List Sector) (named : Triples) (ss : List Space) → Knows self.old m named ss
+            → Knows self.new m named ss }
         ensures reaches { Reaches (state self.old) (state self.new) }
         ensures came { BringsOwn (state self.old).slots (state self.new).slots }
         ensures intervals { self.new.intervals ≡ self.old.intervals }
-        ensures idle { IsReady (kept self.old) (state self.old).slots (address / 512) → IsReady (kept self.old) (state self.old).slots (last_page address count) → AreApart (kept self.old)
-            → IfOk result (IfShown (λ x y. IsWhole (state self.old).slots x (address / 512) × IsWhole (state self.old).slots y (last_page address count)))
+        ensures idle { IsReady (kept self.old) (state self.old).slots (address / 512)
+            → IsReady (kept self.old) (state self.old).slots (last_page address count) → AreApart (kept self.old)
+            → IfOk result
+            (IfShown
+            (λ x y.
+            IsWhole (state self.old).slots x (address / 512)
+            × IsWhole (state self.old).slots y (last_page address count)))
             × IsOk result × (self.new.filer ≡ self.old.filer) × (kept self.new ≡ kept self.old) }
         ensures cost { (state self.new).disk.transfers ≤ (state self.old).disk.transfers + 392 }
     {

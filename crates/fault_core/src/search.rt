@@ -42,11 +42,18 @@ fn run_of<D: Disk, A: Allocator>(
     requires size { FitsLayout (view_of filer.old) }
     ensures form { IfOk result (λ o. IfSome o (IsRun (view_of filer.old).layout.sectors)) }
     ensures holds { IfOk result (λ o. IfSome o (λ run. holds run id page ≡ true)) }
-    ensures given { IfOk result (λ o. IfSome o (IsGiven (view_of filer.old).layout (view_of filer.old).disk (view_of filer.old).slots (kept_by (view_of filer.old)))) }
-    ensures nowhere { (m : List Sector) (named : Triples) → HasMemory (view_of filer.old) m → MapIs (view_of filer.old).layout named m → result ≡ Ok None → IsNowhere named id page }
+    ensures given { IfOk result
+        (λ o.
+        IfSome o
+        (IsGiven (view_of filer.old).layout (view_of filer.old).disk (view_of filer.old).slots
+        (kept_by (view_of filer.old)))) }
+    ensures nowhere { (m : List Sector) (named : Triples) → HasMemory (view_of filer.old) m
+        → MapIs (view_of filer.old).layout named m → result ≡ Ok None → IsNowhere named id page }
     ensures cause { IfErr result (ReachHalts no_break (view_of filer.old) (view_of filer.new)) }
-    ensures found { (m : List Sector) (named : Triples) (b : List ℕ) → Known (view_of filer.old) m named b → IfOk result (IsFound named id page) }
-    ensures sound { (m : List Sector) (named : Triples) (b : List ℕ) → Known (view_of filer.old) m named b → IfErr result (λ e. e ≡ halt.Disk) }
+    ensures found { (m : List Sector) (named : Triples) (b : List ℕ) → Known (view_of filer.old) m named b
+        → IfOk result (IsFound named id page) }
+    ensures sound { (m : List Sector) (named : Triples) (b : List ℕ) → Known (view_of filer.old) m named b
+        → IfErr result (λ e. e ≡ halt.Disk) }
     ensures reaches { Reaches (view_of filer.old) (view_of filer.new) }
     ensures came { BringsOwn (view_of filer.old).slots (view_of filer.new).slots }
     ensures room { KeepsWhileEmpty (view_of filer.old).slots (view_of filer.new).slots }
@@ -68,8 +75,10 @@ fn home_of<D: Disk, A: Allocator>(
     ensures is { IfOk result (λ home. (home.id ≡ id) × (home.page ≡ page)) }
     ensures cause { IfErr result (TouchHalts no_break (view_of filer.old) (view_of filer.new)) }
     ensures misses { IfErr result (MissesPage (this_page id page)) }
-    ensures named { (m : List Sector) (named : Triples) (b : List ℕ) → Known (view_of filer.old) m named b → IfOk result (λ home. named id page home.sector ≡ true) }
-    ensures sound { (m : List Sector) (named : Triples) (b : List ℕ) (sector : ℕ) → Known (view_of filer.old) m named b → named id page sector ≡ true → IfErr result (λ e. e ≡ halt.Disk) }
+    ensures named { (m : List Sector) (named : Triples) (b : List ℕ) → Known (view_of filer.old) m named b
+        → IfOk result (λ home. named id page home.sector ≡ true) }
+    ensures sound { (m : List Sector) (named : Triples) (b : List ℕ) (sector : ℕ) → Known (view_of filer.old) m named b
+        → named id page sector ≡ true → IfErr result (λ e. e ≡ halt.Disk) }
     ensures reaches { Reaches (view_of filer.old) (view_of filer.new) }
     ensures came { BringsOwn (view_of filer.old).slots (view_of filer.new).slots }
     ensures room { KeepsWhileEmpty (view_of filer.old).slots (view_of filer.new).slots }
@@ -99,11 +108,14 @@ pub(crate) fn homes_of<D: Disk, A: Allocator>(
     requires few { pages ≤ 16 }
     requires fits { first + pages ≤ 2 ^ 32 }
     ensures are { IfOk result (λ homes. AreHomesOf id first pages (homes_in homes)) }
-    ensures found { IfOk result (λ homes. (h : HomeIs) → IsAmong (homes_in homes) h → IsReachedHome (view_of filer.old) h) }
+    ensures found { IfOk result
+        (λ homes. (h : HomeIs) → IsAmong (homes_in homes) h → IsReachedHome (view_of filer.old) h) }
     ensures cause { IfErr result (TouchHalts no_break (view_of filer.old) (view_of filer.new)) }
     ensures misses { IfErr result (MissesPage (run_pages id first pages)) }
-    ensures named { (m : List Sector) (named : Triples) (b : List ℕ) → Known (view_of filer.old) m named b → IfOk result (λ homes. (h : HomeIs) → IsAmong (homes_in homes) h → named h.id h.page h.sector ≡ true) }
-    ensures sound { (m : List Sector) (named : Triples) (b : List ℕ) → Known (view_of filer.old) m named b → HaveSectors named id first pages → IfErr result (λ e. e ≡ halt.Disk) }
+    ensures named { (m : List Sector) (named : Triples) (b : List ℕ) → Known (view_of filer.old) m named b
+        → IfOk result (λ homes. (h : HomeIs) → IsAmong (homes_in homes) h → named h.id h.page h.sector ≡ true) }
+    ensures sound { (m : List Sector) (named : Triples) (b : List ℕ) → Known (view_of filer.old) m named b
+        → HaveSectors named id first pages → IfErr result (λ e. e ≡ halt.Disk) }
     ensures reaches { Reaches (view_of filer.old) (view_of filer.new) }
     ensures came { BringsOwn (view_of filer.old).slots (view_of filer.new).slots }
     ensures room { KeepsWhileEmpty (view_of filer.old).slots (view_of filer.new).slots }

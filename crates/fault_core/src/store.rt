@@ -42,16 +42,22 @@ fn store_in<D: Disk, A: Allocator>(
     requires size { FitsLayout (view_of filer.old) }
     requires shows { Shows x.now page }
     requires inside { from + length bytes.now ≤ 512 }
-    ensures stored { (m : List Sector) (named : Triples) (b : List ℕ) → Known (view_of filer.old) m named b → AreShownStored named m x.now → OnOk result (Leaves (StoresAt x.now.id (file_page x.now page) from bytes.now) m named b (view_of filer.new)) }
-    ensures halted { (m : List Sector) (named : Triples) (b : List ℕ) → Known (view_of filer.old) m named b → OnErr result (Leaves Same m named b (view_of filer.new)) }
+    ensures stored { (m : List Sector) (named : Triples) (b : List ℕ) → Known (view_of filer.old) m named b
+        → AreShownStored named m x.now
+        → OnOk result (Leaves (StoresAt x.now.id (file_page x.now page) from bytes.now) m named b (view_of filer.new)) }
+    ensures halted { (m : List Sector) (named : Triples) (b : List ℕ) → Known (view_of filer.old) m named b
+        → OnErr result (Leaves Same m named b (view_of filer.new)) }
     ensures whole { OnOk result (IsWhole (view_of filer.new).slots x.now page) }
     ensures dirty { OnOk result (IsDirty (view_of filer.new).slots x.now.id (file_page x.now page)) }
     ensures cause { IfErr result (TouchHalts no_break (view_of filer.old) (view_of filer.new)) }
     ensures misses { IfErr result (MissesPage (unit_pages x.now page)) }
-    ensures sound { (m : List Sector) (named : Triples) (b : List ℕ) → Known (view_of filer.old) m named b → AreShownStored named m x.now → IfErr result (λ e. e ≡ halt.Disk) }
+    ensures sound { (m : List Sector) (named : Triples) (b : List ℕ) → Known (view_of filer.old) m named b
+        → AreShownStored named m x.now → IfErr result (λ e. e ≡ halt.Disk) }
     ensures touches { Touches (this_page x.now.id (file_page x.now page)) (view_of filer.old) (view_of filer.new) }
     ensures came { BringsShown x.now (view_of filer.old).slots (view_of filer.new).slots }
-    ensures idle { IsWhole (view_of filer.old).slots x.now page → IsOk result × ((view_of filer.new).disk ≡ (view_of filer.old).disk) × KeepsResident (view_of filer.old).slots (view_of filer.new).slots }
+    ensures idle { IsWhole (view_of filer.old).slots x.now page
+        → IsOk result × ((view_of filer.new).disk ≡ (view_of filer.old).disk)
+        × KeepsResident (view_of filer.old).slots (view_of filer.new).slots }
     ensures cost { (view_of filer.new).disk.transfers ≤ (view_of filer.old).disk.transfers + 256 }
 {
     let slot = match touch(filer, x, page) {
@@ -76,16 +82,25 @@ fn store_shown<D: Disk, A: Allocator>(
     requires first { Shows first.now (address / 512) }
     requires last { Shows last.now (last_page address (length bytes.now)) }
     requires one { address / 512 ≡ last_page address (length bytes.now) → last.now ≡ first.now }
-    ensures stored { (m : List Sector) (named : Triples) (b : List ℕ) (ss : List Space) → Known (view_of filer.old) m named b → AreSeen ss named m first.now → AreSeen ss named m last.now → OnOk result (Leaves (Stores ss address bytes.now) m named b (view_of filer.new)) }
-    ensures halted { (m : List Sector) (named : Triples) (b : List ℕ) (ss : List Space) → Known (view_of filer.old) m named b → AreSeen ss named m first.now → OnErr result (Leaves (StoresSome ss address bytes.now) m named b (view_of filer.new)) }
+    ensures stored { (m : List Sector) (named : Triples) (b : List ℕ) (ss : List Space)
+        → Known (view_of filer.old) m named b → AreSeen ss named m first.now → AreSeen ss named m last.now
+        → OnOk result (Leaves (Stores ss address bytes.now) m named b (view_of filer.new)) }
+    ensures halted { (m : List Sector) (named : Triples) (b : List ℕ) (ss : List Space)
+        → Known (view_of filer.old) m named b → AreSeen ss named m first.now
+        → OnErr result (Leaves (StoresSome ss address bytes.now) m named b (view_of filer.new)) }
     ensures whole { OnOk result (IsWhole (view_of filer.new).slots last.now (last_page address (length bytes.now))) }
-    ensures dirty { OnOk result (IsDirty (view_of filer.new).slots last.now.id (file_page last.now (last_page address (length bytes.now)))) }
+    ensures dirty { OnOk result
+        (IsDirty (view_of filer.new).slots last.now.id (file_page last.now (last_page address (length bytes.now)))) }
     ensures cause { IfErr result (TouchHalts no_break (view_of filer.old) (view_of filer.new)) }
     ensures misses { IfErr result (MissesPage (both_units first.now last.now address (length bytes.now))) }
-    ensures sound { (m : List Sector) (named : Triples) (b : List ℕ) → Known (view_of filer.old) m named b → AreShownStored named m first.now → AreShownStored named m last.now → IfErr result (λ e. e ≡ halt.Disk) }
-    ensures touches { Touches (of_reference first.now last.now address (length bytes.now)) (view_of filer.old) (view_of filer.new) }
+    ensures sound { (m : List Sector) (named : Triples) (b : List ℕ) → Known (view_of filer.old) m named b
+        → AreShownStored named m first.now → AreShownStored named m last.now → IfErr result (λ e. e ≡ halt.Disk) }
+    ensures touches { Touches (of_reference first.now last.now address (length bytes.now)) (view_of filer.old)
+        (view_of filer.new) }
     ensures came { BringsBoth first.now last.now (view_of filer.old).slots (view_of filer.new).slots }
-    ensures idle { IsWhole (view_of filer.old).slots first.now (address / 512) → IsWhole (view_of filer.old).slots last.now (last_page address (length bytes.now)) → IsOk result × ((view_of filer.new).disk ≡ (view_of filer.old).disk) }
+    ensures idle { IsWhole (view_of filer.old).slots first.now (address / 512)
+        → IsWhole (view_of filer.old).slots last.now (last_page address (length bytes.now))
+        → IsOk result × ((view_of filer.new).disk ≡ (view_of filer.old).disk) }
     ensures cost { (view_of filer.new).disk.transfers ≤ (view_of filer.old).disk.transfers + 512 }
 {
     let from = address % PAGE_BYTES as u32;
@@ -110,25 +125,46 @@ impl<D: Disk, A: Allocator> Core<D, A> {
         requires size { FitsLayout (state self.old) }
         requires some { 1 ≤ length bytes.now }
         requires few { length bytes.now ≤ 512 }
-        ensures access { (m : List Sector) (named : Triples) (ss : List Space) → Knows self.old m named ss → IfOk result (λ a. a ≡ access_of ss true address (length bytes.now)) }
+        ensures access { (m : List Sector) (named : Triples) (ss : List Space) → Knows self.old m named ss
+            → IfOk result (λ a. a ≡ access_of ss true address (length bytes.now)) }
         ensures stored { (m : List Sector) (named : Triples) (ss : List Space) → Knows self.old m named ss
-            → IfOk result (λ a. GoesTo (StoresAs a ss address bytes.now) (IsTouchedOrOwn ss address (length bytes.now)) [] (state self.old) (state self.new)) }
+            → IfOk result
+            (λ a.
+            GoesTo (StoresAs a ss address bytes.now) (IsTouchedOrOwn ss address (length bytes.now)) [] (state self.old)
+            (state self.new)) }
         ensures halted { (m : List Sector) (named : Triples) (ss : List Space) → Knows self.old m named ss
-            → OnErr result (GoesTo (StoresSome ss address bytes.now) (IsTouchedOrOwn ss address (length bytes.now)) [] (state self.old) (state self.new)) }
-        ensures known { (m n : List Sector) (named : Triples) (ss : List Space) → Knows self.old m named ss → HasMemory (state self.new) n → Knows self.new n named ss }
-        ensures tested { (m : List Sector) (named : Triples) (ss : List Space) → Knows self.old m named ss → access_of ss true address (length bytes.now) ≢ access.Done → Reaches (state self.old) (state self.new) }
+            → OnErr result
+            (GoesTo (StoresSome ss address bytes.now) (IsTouchedOrOwn ss address (length bytes.now)) [] (state self.old)
+            (state self.new)) }
+        ensures known { (m n : List Sector) (named : Triples) (ss : List Space) → Knows self.old m named ss
+            → HasMemory (state self.new) n → Knows self.new n named ss }
+        ensures tested { (m : List Sector) (named : Triples) (ss : List Space) → Knows self.old m named ss
+            → access_of ss true address (length bytes.now) ≢ access.Done → Reaches (state self.old) (state self.new) }
         ensures refused { IfOk result (λ a. a ≢ access.Done → Reaches (state self.old) (state self.new)) }
-        ensures ready { IfOk result (λ a. a ≡ access.Done → IsReady (kept self.new) (state self.new).slots (last_page address (length bytes.now))) }
-        ensures dirty { (m : List Sector) (named : Triples) (ss : List Space) → Knows self.old m named ss → IfOk result (λ a. a ≡ access.Done → IsShownDirty ss (state self.new).slots (last_page address (length bytes.now))) }
-        ensures cause { IfErr result (TouchHalts (BreaksFor (state self.old) self.old.intervals address (length bytes.now)) (state self.old) (state self.new)) }
-        ensures missing { (ss : List Space) → Sees (state self.old) (kept self.old) self.old.intervals ss → IfErr result (MissesPage (shown_units ss address (length bytes.now))) }
-        ensures sees { (ss : List Space) → Sees (state self.old) (kept self.old) self.old.intervals ss → Sees (state self.new) (kept self.new) self.new.intervals ss }
-        ensures right { (ss : List Space) → Sees (state self.old) (kept self.old) self.old.intervals ss → IfErr result NeverBlamesTables }
-        ensures sound { (m : List Sector) (named : Triples) (ss : List Space) → Knows self.old m named ss → IfErr result (λ e. e ≡ halt.Disk) }
+        ensures ready { IfOk result
+            (λ a.
+            a ≡ access.Done → IsReady (kept self.new) (state self.new).slots (last_page address (length bytes.now))) }
+        ensures dirty { (m : List Sector) (named : Triples) (ss : List Space) → Knows self.old m named ss
+            → IfOk result
+            (λ a. a ≡ access.Done → IsShownDirty ss (state self.new).slots (last_page address (length bytes.now))) }
+        ensures cause { IfErr result
+            (TouchHalts (BreaksFor (state self.old) self.old.intervals address (length bytes.now)) (state self.old)
+            (state self.new)) }
+        ensures missing { (ss : List Space) → Sees (state self.old) (kept self.old) self.old.intervals ss
+            → IfErr result (MissesPage (shown_units ss address (length bytes.now))) }
+        ensures sees { (ss : List Space) → Sees (state self.old) (kept self.old) self.old.intervals ss
+            → Sees (state self.new) (kept self.new) self.new.intervals ss }
+        ensures right { (ss : List Space) → Sees (state self.old) (kept self.old) self.old.intervals ss
+            → IfErr result NeverBlamesTables }
+        ensures sound { (m : List Sector) (named : Triples) (ss : List Space) → Knows self.old m named ss
+            → IfErr result (λ e. e ≡ halt.Disk) }
         ensures touches { Touches client_page (state self.old) (state self.new) }
-        ensures came { (m : List Sector) (named : Triples) (ss : List Space) → Knows self.old m named ss → BringsKnown ss (state self.old).slots (state self.new).slots }
+        ensures came { (m : List Sector) (named : Triples) (ss : List Space) → Knows self.old m named ss
+            → BringsKnown ss (state self.old).slots (state self.new).slots }
         ensures intervals { self.new.intervals ≡ self.old.intervals }
-        ensures idle { IsReady (kept self.old) (state self.old).slots (address / 512) → IsReady (kept self.old) (state self.old).slots (last_page address (length bytes.now)) → AreApart (kept self.old)
+        ensures idle { IsReady (kept self.old) (state self.old).slots (address / 512)
+            → IsReady (kept self.old) (state self.old).slots (last_page address (length bytes.now))
+            → AreApart (kept self.old)
             → IsOk result × ((state self.new).disk ≡ (state self.old).disk) × (kept self.new ≡ kept self.old) }
         ensures cost { (state self.new).disk.transfers ≤ (state self.old).disk.transfers + 1680 }
     {
@@ -150,26 +186,44 @@ impl<D: Disk, A: Allocator> Core<D, A> {
         requires size { FitsLayout (state self.old) }
         requires some { 1 ≤ length bytes.now }
         requires few { length bytes.now ≤ 512 }
-        ensures access { (m : List Sector) (named : Triples) (ss : List Space) → Knows self.old m named ss → IfOk result (IfAccess (λ a. a ≡ access_of ss true address (length bytes.now))) }
-        ensures absent { (m : List Sector) (named : Triples) (ss : List Space) → Knows self.old m named ss → IfOk result (IfAbsent (IsAbsent ss (state self.new).slots true address (length bytes.now))) }
-        ensures present { (m : List Sector) (named : Triples) (ss : List Space) → Knows self.old m named ss → IfOk result (λ t. t ≡ moved → ArePresent ss (state self.new).slots address (length bytes.now)) }
+        ensures access { (m : List Sector) (named : Triples) (ss : List Space) → Knows self.old m named ss
+            → IfOk result (IfAccess (λ a. a ≡ access_of ss true address (length bytes.now))) }
+        ensures absent { (m : List Sector) (named : Triples) (ss : List Space) → Knows self.old m named ss
+            → IfOk result (IfAbsent (IsAbsent ss (state self.new).slots true address (length bytes.now))) }
+        ensures present { (m : List Sector) (named : Triples) (ss : List Space) → Knows self.old m named ss
+            → IfOk result (λ t. t ≡ moved → ArePresent ss (state self.new).slots address (length bytes.now)) }
         ensures stored { (m : List Sector) (named : Triples) (ss : List Space) → Knows self.old m named ss
-            → IfOk result (λ t. GoesTo (StoresTried t ss address bytes.now) (IsTouchedOrOwn ss address (length bytes.now)) [] (state self.old) (state self.new)) }
-        ensures known { (m n : List Sector) (named : Triples) (ss : List Space) → Knows self.old m named ss → HasMemory (state self.new) n → Knows self.new n named ss }
+            → IfOk result
+            (λ t.
+            GoesTo (StoresTried t ss address bytes.now) (IsTouchedOrOwn ss address (length bytes.now)) []
+            (state self.old) (state self.new)) }
+        ensures known { (m n : List Sector) (named : Triples) (ss : List Space) → Knows self.old m named ss
+            → HasMemory (state self.new) n → Knows self.new n named ss }
         ensures unmoved { result ≢ Ok moved → Reaches (state self.old) (state self.new) }
         ensures referred { IfOk result (IfAbsent (IsReferred address (length bytes.now))) }
-        ensures here { IfOk result (λ t. t ≡ moved → IsHere (kept self.new) (state self.new).slots (last_page address (length bytes.now))) }
-        ensures dirty { (m : List Sector) (named : Triples) (ss : List Space) → Knows self.old m named ss → IfOk result (λ t. t ≡ moved → IsShownDirty ss (state self.new).slots (last_page address (length bytes.now))) }
-        ensures cause { IfErr result (ReachHalts (BreaksFor (state self.old) self.old.intervals address (length bytes.now)) (state self.old) (state self.new)) }
-        ensures sees { (ss : List Space) → Sees (state self.old) (kept self.old) self.old.intervals ss → Sees (state self.new) (kept self.new) self.new.intervals ss }
-        ensures right { (ss : List Space) → Sees (state self.old) (kept self.old) self.old.intervals ss → IfErr result NeverBlamesTables }
-        ensures sound { (m : List Sector) (named : Triples) (ss : List Space) → Knows self.old m named ss → IfErr result (λ e. e ≡ halt.Disk) }
+        ensures here { IfOk result
+            (λ t. t ≡ moved → IsHere (kept self.new) (state self.new).slots (last_page address (length bytes.now))) }
+        ensures dirty { (m : List Sector) (named : Triples) (ss : List Space) → Knows self.old m named ss
+            → IfOk result
+            (λ t. t ≡ moved → IsShownDirty ss (state self.new).slots (last_page address (length bytes.now))) }
+        ensures cause { IfErr result
+            (ReachHalts (BreaksFor (state self.old) self.old.intervals address (length bytes.now)) (state self.old)
+            (state self.new)) }
+        ensures sees { (ss : List Space) → Sees (state self.old) (kept self.old) self.old.intervals ss
+            → Sees (state self.new) (kept self.new) self.new.intervals ss }
+        ensures right { (ss : List Space) → Sees (state self.old) (kept self.old) self.old.intervals ss
+            → IfErr result NeverBlamesTables }
+        ensures sound { (m : List Sector) (named : Triples) (ss : List Space) → Knows self.old m named ss
+            → IfErr result (λ e. e ≡ halt.Disk) }
         ensures touches { Touches client_page (state self.old) (state self.new) }
         ensures came { BringsOwn (state self.old).slots (state self.new).slots }
         ensures intervals { self.new.intervals ≡ self.old.intervals }
-        ensures ready { IsReady (kept self.old) (state self.old).slots (address / 512) → IsReady (kept self.old) (state self.old).slots (last_page address (length bytes.now)) → AreApart (kept self.old)
-            → IfOk result (IfAbsent (λ page. ⊥)) }
-        ensures idle { IsReady (kept self.old) (state self.old).slots (address / 512) → IsReady (kept self.old) (state self.old).slots (last_page address (length bytes.now)) → AreApart (kept self.old)
+        ensures ready { IsReady (kept self.old) (state self.old).slots (address / 512)
+            → IsReady (kept self.old) (state self.old).slots (last_page address (length bytes.now))
+            → AreApart (kept self.old) → IfOk result (IfAbsent (λ page. ⊥)) }
+        ensures idle { IsReady (kept self.old) (state self.old).slots (address / 512)
+            → IsReady (kept self.old) (state self.old).slots (last_page address (length bytes.now))
+            → AreApart (kept self.old)
             → IsOk result × ((state self.new).disk ≡ (state self.old).disk) × (kept self.new ≡ kept self.old) }
         ensures cost { (state self.new).disk.transfers ≤ (state self.old).disk.transfers + 392 }
     {

@@ -71,12 +71,17 @@ fn bring<D: Disk, A: Allocator>(filer: &mut Filer<D, A>, homes: &Homes) -> Resul
     requires size { FitsLayout (view_of filer.old) }
     requires row { IsRow (homes_in homes.now) }
     requires homes { AreFileHomes (homes_in homes.now) (view_of filer.old).layout }
-    ensures there { OnOk result (AreThere (view_of filer.new).slots (homes_in homes.now) (length (homes_in homes.now))) }
-    ensures sound { (m : List Sector) → HasMemory (view_of filer.old) m → AreNamed m (IsAmong (homes_in homes.now)) → IfErr result (λ e. e ≡ halt.Disk) }
-    ensures cause { IfErr result (Halts (IsAmong (homes_in homes.now)) (view_of filer.old).disk (view_of filer.old).slots (view_of filer.new).disk) }
+    ensures there { OnOk result
+        (AreThere (view_of filer.new).slots (homes_in homes.now) (length (homes_in homes.now))) }
+    ensures sound { (m : List Sector) → HasMemory (view_of filer.old) m → AreNamed m (IsAmong (homes_in homes.now))
+        → IfErr result (λ e. e ≡ halt.Disk) }
+    ensures cause { IfErr result
+        (Halts (IsAmong (homes_in homes.now)) (view_of filer.old).disk (view_of filer.old).slots
+        (view_of filer.new).disk) }
     ensures swaps { SwapsOnly (view_of filer.old) (view_of filer.new) }
     ensures brings { Brings (IsAmong (homes_in homes.now)) (view_of filer.old).slots (view_of filer.new).slots }
-    ensures steps { Steps (IsAmong (homes_in homes.now)) no_home (view_of filer.old).disk (view_of filer.old).slots (view_of filer.new).disk (view_of filer.new).slots }
+    ensures steps { Steps (IsAmong (homes_in homes.now)) no_home (view_of filer.old).disk (view_of filer.old).slots
+        (view_of filer.new).disk (view_of filer.new).slots }
     ensures layout { (view_of filer.new).layout ≡ (view_of filer.old).layout }
     ensures runs { (view_of filer.new).runs ≡ (view_of filer.old).runs }
     ensures cost { (view_of filer.new).disk.transfers ≤ (view_of filer.old).disk.transfers + 32 }
@@ -99,7 +104,8 @@ pub(crate) fn bring_run<D: Disk, A: Allocator>(
     ensures there { OnOk result (AreResident (view_of filer.new).slots id first pages) }
     ensures cause { IfErr result (TouchHalts no_break (view_of filer.old) (view_of filer.new)) }
     ensures misses { IfErr result (MissesPage (run_pages id first pages)) }
-    ensures sound { (m : List Sector) (named : Triples) (b : List ℕ) → Known (view_of filer.old) m named b → AreRunStored named m id first pages → IfErr result (λ e. e ≡ halt.Disk) }
+    ensures sound { (m : List Sector) (named : Triples) (b : List ℕ) → Known (view_of filer.old) m named b
+        → AreRunStored named m id first pages → IfErr result (λ e. e ≡ halt.Disk) }
     ensures reaches { Reaches (view_of filer.old) (view_of filer.new) }
     ensures came { BringsRun id first pages (view_of filer.old).slots (view_of filer.new).slots }
     ensures room { KeepsWhileEmpty (view_of filer.old).slots (view_of filer.new).slots }

@@ -47,15 +47,31 @@ fn cut_synced<D: Disk, A: Allocator>(
     syncs: bool,
 ) -> Result<(), Halt>
     requires size { FitsLayout (view_of filer.old) }
-    ensures cut { (m : List Sector) (named : Triples) → HasMemory (view_of filer.old) m → MapIs (view_of filer.old).layout named m
-        → OnOk result (Becomes FileMapPages (view_of filer.old).layout m (MapIs (view_of filer.old).layout (without_from named id from)) (view_of filer.new).disk (view_of filer.new).slots) }
-    ensures runs { (n : ℕ) → runs_of n (view_of filer.new).runs ≡ filter (λ r. not (r.id == id)) (runs_of n (view_of filer.old).runs) }
-    ensures sound { (m : List Sector) (named : Triples) → HasMemory (view_of filer.old) m → MapIs (view_of filer.old).layout named m → AreNamed m (IsMapHome FileMapPages (view_of filer.old).layout) → IfErr result (λ e. e ≡ halt.Disk) }
-    ensures right { (m : List Sector) (named : Triples) → HasMemory (view_of filer.old) m → MapIs (view_of filer.old).layout named m → IfErr result IsFaultOrMismatch }
-    ensures begun { IfErr result (λ why. MapHalts (view_of filer.old).layout (view_of filer.old).disk (view_of filer.old).slots (view_of filer.new).disk why ⊎ IsToCut id from (MapShows (view_of filer.old).layout (view_of filer.old).disk (view_of filer.old).slots)) }
-    ensures cause { IfErr result (CutHalts (view_of filer.old).layout (view_of filer.old).disk (view_of filer.old).slots (view_of filer.new).disk (view_of filer.new).slots) }
-    ensures beside { Beside FileMapPages (view_of filer.old).disk (view_of filer.old).slots (view_of filer.old).layout (view_of filer.new).disk (view_of filer.new).slots (view_of filer.new).layout }
-    ensures cost { (view_of filer.new).disk.transfers ≤ (view_of filer.old).disk.transfers + 2 * (1 + 51 * most_records (view_of filer.old).layout.sectors) }
+    ensures cut { (m : List Sector) (named : Triples) → HasMemory (view_of filer.old) m
+        → MapIs (view_of filer.old).layout named m
+        → OnOk result
+        (Becomes FileMapPages (view_of filer.old).layout m
+        (MapIs (view_of filer.old).layout (without_from named id from)) (view_of filer.new).disk
+        (view_of filer.new).slots) }
+    ensures runs { (n : ℕ)
+        → runs_of n (view_of filer.new).runs ≡ filter (λ r. not (r.id == id)) (runs_of n (view_of filer.old).runs) }
+    ensures sound { (m : List Sector) (named : Triples) → HasMemory (view_of filer.old) m
+        → MapIs (view_of filer.old).layout named m → AreNamed m (IsMapHome FileMapPages (view_of filer.old).layout)
+        → IfErr result (λ e. e ≡ halt.Disk) }
+    ensures right { (m : List Sector) (named : Triples) → HasMemory (view_of filer.old) m
+        → MapIs (view_of filer.old).layout named m → IfErr result IsFaultOrMismatch }
+    ensures begun { IfErr result
+        (λ why.
+        MapHalts (view_of filer.old).layout (view_of filer.old).disk (view_of filer.old).slots (view_of filer.new).disk
+        why
+        ⊎ IsToCut id from (MapShows (view_of filer.old).layout (view_of filer.old).disk (view_of filer.old).slots)) }
+    ensures cause { IfErr result
+        (CutHalts (view_of filer.old).layout (view_of filer.old).disk (view_of filer.old).slots (view_of filer.new).disk
+        (view_of filer.new).slots) }
+    ensures beside { Beside FileMapPages (view_of filer.old).disk (view_of filer.old).slots (view_of filer.old).layout
+        (view_of filer.new).disk (view_of filer.new).slots (view_of filer.new).layout }
+    ensures cost { (view_of filer.new).disk.transfers ≤ (view_of filer.old).disk.transfers + 2
+        * (1 + 51 * most_records (view_of filer.old).layout.sectors) }
     ensures synced { syncs ≡ true → OnOk result (SyncsQuietly (view_of filer.old).disk (view_of filer.new).disk) }
 {
     match filer.cut(id, from) {
@@ -83,19 +99,36 @@ fn cut_to<D: Disk, A: Allocator>(
     requires of_file { 16 ≤ id }
     requires data { (view_of filer.old).layout.first ≤ leader }
     requires inside { leader < (view_of filer.old).layout.sectors }
-    ensures cut { (m : List Sector) (named : Triples) → HasMemory (view_of filer.old) m → MapIs (view_of filer.old).layout named m
-        → OnOk result (Becomes FileMapPages (view_of filer.old).layout m (MapIs (view_of filer.old).layout (cut_triples named id from leader)) (view_of filer.new).disk (view_of filer.new).slots) }
+    ensures cut { (m : List Sector) (named : Triples) → HasMemory (view_of filer.old) m
+        → MapIs (view_of filer.old).layout named m
+        → OnOk result
+        (Becomes FileMapPages (view_of filer.old).layout m
+        (MapIs (view_of filer.old).layout (cut_triples named id from leader)) (view_of filer.new).disk
+        (view_of filer.new).slots) }
     ensures in_form { OnOk result ((y : List Sector) → HasMemory (view_of filer.new) y → AreSectors y) }
-    ensures sound { (m : List Sector) (named : Triples) → HasMemory (view_of filer.old) m → MapIs (view_of filer.old).layout named m → AreNamed m (IsMapHome FileMapPages (view_of filer.old).layout)
+    ensures sound { (m : List Sector) (named : Triples) → HasMemory (view_of filer.old) m
+        → MapIs (view_of filer.old).layout named m → AreNamed m (IsMapHome FileMapPages (view_of filer.old).layout)
         → AreOnce named → IsLeaderAlone named id leader → IfErr result (λ e. e ≡ halt.Disk) }
-    ensures runs { (n : ℕ) → runs_of n (view_of filer.new).runs ≡ filter (λ r. not (r.id == id)) (runs_of n (view_of filer.old).runs) }
-    ensures cause { IfErr result (ShrinkHalts (IsUnframed (view_of filer.old).slots id) (view_of filer.old).layout (kept_by (view_of filer.old)) id from (λ p. ⊥) (view_of filer.old).disk (view_of filer.old).slots (view_of filer.new).disk (view_of filer.new).slots) }
-    ensures keeps_to { (o : InitialState) (named : Triples) → Keeps o filer.old named → named id leader_page leader ≡ true → AreReleased o (view_of filer.old).disk named id (λ p. (from ≤ p) × (p < 4294967295)) → OnOk result (KeepsFrom o named filer.new) }
-    ensures reasons { (o : InitialState) (named : Triples) → Keeps o filer.old named → named id leader_page leader ≡ true → IfErr result (ShowsReason o (view_of filer.old).layout (view_of filer.new).disk) }
+    ensures runs { (n : ℕ)
+        → runs_of n (view_of filer.new).runs ≡ filter (λ r. not (r.id == id)) (runs_of n (view_of filer.old).runs) }
+    ensures cause { IfErr result
+        (ShrinkHalts (IsUnframed (view_of filer.old).slots id) (view_of filer.old).layout (kept_by (view_of filer.old))
+        id from (λ p. ⊥) (view_of filer.old).disk (view_of filer.old).slots (view_of filer.new).disk
+        (view_of filer.new).slots) }
+    ensures keeps_to { (o : InitialState) (named : Triples) → Keeps o filer.old named
+        → named id leader_page leader ≡ true
+        → AreReleased o (view_of filer.old).disk named id (λ p. (from ≤ p) × (p < 4294967295))
+        → OnOk result (KeepsFrom o named filer.new) }
+    ensures reasons { (o : InitialState) (named : Triples) → Keeps o filer.old named
+        → named id leader_page leader ≡ true
+        → IfErr result (ShowsReason o (view_of filer.old).layout (view_of filer.new).disk) }
     ensures evidence_seen { IfErr result (ShowsEvidence (view_of filer.new).disk) }
-    ensures counted { IfErr result (λ e. e ≡ halt.Disk → Rose (view_of filer.old).disk.faults (view_of filer.new).disk.faults) }
-    ensures beside { Beside FileMapPages (view_of filer.old).disk (view_of filer.old).slots (view_of filer.old).layout (view_of filer.new).disk (view_of filer.new).slots (view_of filer.new).layout }
-    ensures cost { (view_of filer.new).disk.transfers ≤ (view_of filer.old).disk.transfers + (100 + 102 * most_records (view_of filer.old).layout.sectors) }
+    ensures counted { IfErr result
+        (λ e. e ≡ halt.Disk → Rose (view_of filer.old).disk.faults (view_of filer.new).disk.faults) }
+    ensures beside { Beside FileMapPages (view_of filer.old).disk (view_of filer.old).slots (view_of filer.old).layout
+        (view_of filer.new).disk (view_of filer.new).slots (view_of filer.new).layout }
+    ensures cost { (view_of filer.new).disk.transfers ≤ (view_of filer.old).disk.transfers
+        + (100 + 102 * most_records (view_of filer.old).layout.sectors) }
     ensures synced { syncs ≡ true → OnOk result (SyncsQuietly (view_of filer.old).disk (view_of filer.new).disk) }
 {
     match cut_synced(filer, id, from, syncs) {
@@ -129,27 +162,52 @@ pub(crate) fn shrink<D: Disk, A: Allocator>(
     requires data { (view_of filer.old).layout.first ≤ file.sector }
     requires inside { file.sector < (view_of filer.old).layout.sectors }
     requires order { pages ≤ file.pages }
-    ensures shrunk { (x : List Sector) (shapes : Shapes) (spaces : List Space) (f : Shape) → MayShrink (view_of filer.old).disk (view_of filer.old).slots (view_of filer.old).layout (view_of filer.old).runs shapes spaces id f pages x
+    ensures shrunk { (x : List Sector) (shapes : Shapes) (spaces : List Space) (f : Shape)
+        → MayShrink (view_of filer.old).disk (view_of filer.old).slots (view_of filer.old).layout
+        (view_of filer.old).runs shapes spaces id f pages x
         → f.size ≡ file.pages → IsTriple (labels_of x) id leader_page file.sector
-        → OnOk result (ShrunkBy id pages file.pages x (view_of filer.old).disk (view_of filer.old).slots (view_of filer.old).layout (view_of filer.new).disk (view_of filer.new).slots (view_of filer.new).runs) }
-    ensures sound { (x : List Sector) (shapes : Shapes) (spaces : List Space) (f : Shape) → MayShrink (view_of filer.old).disk (view_of filer.old).slots (view_of filer.old).layout (view_of filer.old).runs shapes spaces id f pages x
+        → OnOk result
+        (ShrunkBy id pages file.pages x (view_of filer.old).disk (view_of filer.old).slots (view_of filer.old).layout
+        (view_of filer.new).disk (view_of filer.new).slots (view_of filer.new).runs) }
+    ensures sound { (x : List Sector) (shapes : Shapes) (spaces : List Space) (f : Shape)
+        → MayShrink (view_of filer.old).disk (view_of filer.old).slots (view_of filer.old).layout
+        (view_of filer.old).runs shapes spaces id f pages x
         → f.size ≡ file.pages → IsTriple (labels_of x) id leader_page file.sector → IfErr result (λ e. e ≡ halt.Disk) }
-    ensures cause { IfErr result (ShrinkHalts (IsUnframed (view_of filer.old).slots id) (view_of filer.old).layout (kept_by (view_of filer.old)) id pages (λ p. (pages ≤ p) × (p < file.pages)) (view_of filer.old).disk (view_of filer.old).slots (view_of filer.new).disk (view_of filer.new).slots) }
-    ensures keeps_to { (o : InitialState) (named : Triples) → Keeps o filer.old named → named id leader_page file.sector ≡ true → NamesNoneOf id (λ p. (file.pages ≤ p) × (p < 4294967295)) named → OnOk result (KeepsFrom o named filer.new) }
-    ensures reasons { (o : InitialState) (named : Triples) → Keeps o filer.old named → named id leader_page file.sector ≡ true → IfErr result (ShowsReason o (view_of filer.old).layout (view_of filer.new).disk) }
+    ensures cause { IfErr result
+        (ShrinkHalts (IsUnframed (view_of filer.old).slots id) (view_of filer.old).layout (kept_by (view_of filer.old))
+        id pages (λ p. (pages ≤ p) × (p < file.pages)) (view_of filer.old).disk (view_of filer.old).slots
+        (view_of filer.new).disk (view_of filer.new).slots) }
+    ensures keeps_to { (o : InitialState) (named : Triples) → Keeps o filer.old named
+        → named id leader_page file.sector ≡ true → NamesNoneOf id (λ p. (file.pages ≤ p) × (p < 4294967295)) named
+        → OnOk result (KeepsFrom o named filer.new) }
+    ensures reasons { (o : InitialState) (named : Triples) → Keeps o filer.old named
+        → named id leader_page file.sector ≡ true
+        → IfErr result (ShowsReason o (view_of filer.old).layout (view_of filer.new).disk) }
     ensures evidence_seen { IfErr result (ShowsEvidence (view_of filer.new).disk) }
-    ensures counted { IfErr result (λ e. e ≡ halt.Disk → Rose (view_of filer.old).disk.faults (view_of filer.new).disk.faults) }
-    ensures broken { (x : List Sector) (shapes : Shapes) (spaces : List Space) (f : Shape) → MayShrink (view_of filer.old).disk (view_of filer.old).slots (view_of filer.old).layout (view_of filer.old).runs shapes spaces id f pages x
+    ensures counted { IfErr result
+        (λ e. e ≡ halt.Disk → Rose (view_of filer.old).disk.faults (view_of filer.new).disk.faults) }
+    ensures broken { (x : List Sector) (shapes : Shapes) (spaces : List Space) (f : Shape)
+        → MayShrink (view_of filer.old).disk (view_of filer.old).slots (view_of filer.old).layout
+        (view_of filer.old).runs shapes spaces id f pages x
         → f.size ≡ file.pages → IsTriple (labels_of x) id leader_page file.sector
-        → OnErr result (ShrunkSome id pages file.pages x (view_of filer.old).disk (view_of filer.old).slots (view_of filer.new).disk (view_of filer.new).slots) }
-    ensures makes { OnOk result (MakesFree (file.pages - pages) (view_of filer.old).disk (view_of filer.old).slots (view_of filer.new).disk (view_of filer.new).slots) }
-    ensures stopped { OnErr result (MakesSomeFree (view_of filer.old).disk (view_of filer.old).slots (view_of filer.new).disk (view_of filer.new).slots) }
+        → OnErr result
+        (ShrunkSome id pages file.pages x (view_of filer.old).disk (view_of filer.old).slots (view_of filer.new).disk
+        (view_of filer.new).slots) }
+    ensures makes { OnOk result
+        (MakesFree (file.pages - pages) (view_of filer.old).disk (view_of filer.old).slots (view_of filer.new).disk
+        (view_of filer.new).slots) }
+    ensures stopped { OnErr result
+        (MakesSomeFree (view_of filer.old).disk (view_of filer.old).slots (view_of filer.new).disk
+        (view_of filer.new).slots) }
     ensures used { OnOk result (volume.new ≡ record volume.old { used = volume.old.used - (file.pages - pages) }) }
     ensures same_volume { OnErr result (volume.new ≡ volume.old) }
     ensures layout { (view_of filer.new).layout ≡ (view_of filer.old).layout }
-    ensures cost { (view_of filer.new).disk.transfers ≤ (view_of filer.old).disk.transfers + ((file.pages - pages) * (16 + 4 * (view_of filer.old).layout.vam) + (100 + 102 * most_records (view_of filer.old).layout.sectors)) }
+    ensures cost { (view_of filer.new).disk.transfers ≤ (view_of filer.old).disk.transfers
+        + ((file.pages - pages) * (16 + 4 * (view_of filer.old).layout.vam)
+        + (100 + 102 * most_records (view_of filer.old).layout.sectors)) }
     ensures own { RelabelsOwn id (view_of filer.old).disk (view_of filer.new).disk }
-    ensures synced { is_permanent file.leader ≡ true → OnOk result (LabelsAreSynced (view_of filer.old).disk (view_of filer.new).disk) }
+    ensures synced { is_permanent file.leader ≡ true
+        → OnOk result (LabelsAreSynced (view_of filer.old).disk (view_of filer.new).disk) }
 {
     match free_down(filer, id, pages, file.pages) {
         Ok(()) => (),

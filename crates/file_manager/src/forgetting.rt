@@ -17,7 +17,8 @@ fn discard_pages<D: Disk, A: Allocator>(
 )
     requires of_file { (id ≡ 3) ⊎ (16 ≤ id) }
     requires fits { first + pages ≤ 2 ^ 32 }
-    ensures forgets { Forgets id first pages swapper.old.layout (D.state swapper.old.disk) swapper.old.pool swapper.new.pool }
+    ensures forgets { Forgets id first pages swapper.old.layout (D.state swapper.old.disk) swapper.old.pool
+        swapper.new.pool }
     ensures disk { swapper.new.disk ≡ swapper.old.disk }
     ensures layout { swapper.new.layout ≡ swapper.old.layout }
 {
@@ -37,7 +38,8 @@ pub(crate) fn discard_run<D: Disk, A: Allocator>(
 )
     requires of_file { (id ≡ 3) ⊎ (16 ≤ id) }
     requires fits { first + pages ≤ 2 ^ 32 }
-    ensures forgets { Forgets id first pages (view_of filer.old).layout (view_of filer.old).disk (view_of filer.old).slots (view_of filer.new).slots }
+    ensures forgets { Forgets id first pages (view_of filer.old).layout (view_of filer.old).disk
+        (view_of filer.old).slots (view_of filer.new).slots }
     ensures disk { (disk_of filer.new) ≡ (disk_of filer.old) }
     ensures layout { (view_of filer.new).layout ≡ (view_of filer.old).layout }
     ensures runs { (view_of filer.new).runs ≡ (view_of filer.old).runs }

@@ -28,23 +28,47 @@ pub(crate) fn free_all<D: Disk, A: Allocator>(
 ) -> Result<(), Halt>
     requires size { FitsLayout (view_of filer.old) }
     requires of_file { 16 ≤ id }
-    ensures freed { (named : Triples) (spaces : List Space) (m : List Sector) → MayFreeAll (view_of filer.old).disk (view_of filer.old).slots (view_of filer.old).layout (view_of filer.old).runs named spaces id pages m
-        → OnOk result (FreedAll (view_of filer.old).layout named spaces id pages (view_of filer.old).disk (view_of filer.old).slots (view_of filer.new).disk (view_of filer.new).slots (view_of filer.new).runs) }
-    ensures sound { (named : Triples) (spaces : List Space) (m : List Sector) → MayFreeAll (view_of filer.old).disk (view_of filer.old).slots (view_of filer.old).layout (view_of filer.old).runs named spaces id pages m
+    ensures freed { (named : Triples) (spaces : List Space) (m : List Sector)
+        → MayFreeAll (view_of filer.old).disk (view_of filer.old).slots (view_of filer.old).layout
+        (view_of filer.old).runs named spaces id pages m
+        → OnOk result
+        (FreedAll (view_of filer.old).layout named spaces id pages (view_of filer.old).disk (view_of filer.old).slots
+        (view_of filer.new).disk (view_of filer.new).slots (view_of filer.new).runs) }
+    ensures sound { (named : Triples) (spaces : List Space) (m : List Sector)
+        → MayFreeAll (view_of filer.old).disk (view_of filer.old).slots (view_of filer.old).layout
+        (view_of filer.old).runs named spaces id pages m
         → IfErr result (λ e. e ≡ halt.Disk) }
-    ensures first { (named : Triples) (spaces : List Space) (m : List Sector) → MayFreeAll (view_of filer.old).disk (view_of filer.old).slots (view_of filer.old).layout (view_of filer.old).runs named spaces id pages m
-        → OnErr result (FreedFirst named id pages (view_of filer.old).disk (view_of filer.old).slots (view_of filer.new).disk (view_of filer.new).slots) }
-    ensures makes { OnOk result (MakesFree (1 + pages) (view_of filer.old).disk (view_of filer.old).slots (view_of filer.new).disk (view_of filer.new).slots) }
-    ensures stopped { OnErr result (MakesSomeFree (view_of filer.old).disk (view_of filer.old).slots (view_of filer.new).disk (view_of filer.new).slots) }
-    ensures cause { IfErr result (FreeHalts (IsUnframed (view_of filer.old).slots id) (view_of filer.old).layout (kept_by (view_of filer.old)) id (λ p. (p ≡ leader_page) ⊎ (p < pages)) (view_of filer.old).disk (view_of filer.old).slots (view_of filer.new).disk) }
-    ensures keeps_to { (o : InitialState) (named : Triples) → Keeps o filer.old named → OnOk result (Keeps o filer.new named) }
-    ensures evict { (o : InitialState) (named : Triples) → Keeps o filer.old named → OnOk result (AreReleased o (view_of filer.new).disk named id (λ p. (p ≡ leader_page) ⊎ (p < pages))) }
-    ensures reasons { (o : InitialState) (named : Triples) → Keeps o filer.old named → IfErr result (ShowsReason o (view_of filer.old).layout (view_of filer.new).disk) }
-    ensures keeps { OnOk result (KeepsMap (IsUnframed (view_of filer.old).slots id) (view_of filer.old).layout id (view_of filer.old).disk (view_of filer.old).slots (kept_by (view_of filer.old)) (view_of filer.new).disk (view_of filer.new).slots (runs_of (view_of filer.old).layout.sectors (view_of filer.new).runs)) }
+    ensures first { (named : Triples) (spaces : List Space) (m : List Sector)
+        → MayFreeAll (view_of filer.old).disk (view_of filer.old).slots (view_of filer.old).layout
+        (view_of filer.old).runs named spaces id pages m
+        → OnErr result
+        (FreedFirst named id pages (view_of filer.old).disk (view_of filer.old).slots (view_of filer.new).disk
+        (view_of filer.new).slots) }
+    ensures makes { OnOk result
+        (MakesFree (1 + pages) (view_of filer.old).disk (view_of filer.old).slots (view_of filer.new).disk
+        (view_of filer.new).slots) }
+    ensures stopped { OnErr result
+        (MakesSomeFree (view_of filer.old).disk (view_of filer.old).slots (view_of filer.new).disk
+        (view_of filer.new).slots) }
+    ensures cause { IfErr result
+        (FreeHalts (IsUnframed (view_of filer.old).slots id) (view_of filer.old).layout (kept_by (view_of filer.old)) id
+        (λ p. (p ≡ leader_page) ⊎ (p < pages)) (view_of filer.old).disk (view_of filer.old).slots
+        (view_of filer.new).disk) }
+    ensures keeps_to { (o : InitialState) (named : Triples) → Keeps o filer.old named
+        → OnOk result (Keeps o filer.new named) }
+    ensures evict { (o : InitialState) (named : Triples) → Keeps o filer.old named
+        → OnOk result (AreReleased o (view_of filer.new).disk named id (λ p. (p ≡ leader_page) ⊎ (p < pages))) }
+    ensures reasons { (o : InitialState) (named : Triples) → Keeps o filer.old named
+        → IfErr result (ShowsReason o (view_of filer.old).layout (view_of filer.new).disk) }
+    ensures keeps { OnOk result
+        (KeepsMap (IsUnframed (view_of filer.old).slots id) (view_of filer.old).layout id (view_of filer.old).disk
+        (view_of filer.old).slots (kept_by (view_of filer.old)) (view_of filer.new).disk (view_of filer.new).slots
+        (runs_of (view_of filer.old).layout.sectors (view_of filer.new).runs)) }
     ensures evidence_seen { IfErr result (ShowsEvidence (view_of filer.new).disk) }
     ensures counted { result ≡ Err halt.Disk → Rose (view_of filer.old).disk.faults (view_of filer.new).disk.faults }
     ensures layout { (view_of filer.new).layout ≡ (view_of filer.old).layout }
-    ensures cost { (view_of filer.new).disk.transfers ≤ (view_of filer.old).disk.transfers + (1 + pages) * (16 + 4 * (view_of filer.old).layout.vam) }
+    ensures cost { (view_of filer.new).disk.transfers ≤ (view_of filer.old).disk.transfers + (1 + pages)
+        * (16 + 4 * (view_of filer.old).layout.vam) }
     ensures own { RelabelsOwn id (view_of filer.old).disk (view_of filer.new).disk }
     ensures around { SyncsLeaders result (view_of filer.old).disk (view_of filer.new).disk }
 {

@@ -14,7 +14,9 @@ ghost use Rattle.file_manager.specs.Freeing.{MayFreeAll};
 
 /// Where the maps are right and no window shows a file, its leader and all its pages may be freed.
 pub fn files_may_be_freed()
-    ensures { (disk : DiskState) (slots : Slots) (layout : Layout) (runs : KeptRuns) (shapes : Shapes) (spaces : List Space) (x : List Sector) (id : ℕ) (f : Shape) → IsLayout layout
-        → (books : Books disk slots layout runs shapes spaces x) → ((page : ℕ) → is_shown spaces id page ≡ false) → shapes id ≡ Some f
+    ensures { (disk : DiskState) (slots : Slots) (layout : Layout) (runs : KeptRuns) (shapes : Shapes)
+        (spaces : List Space) (x : List Sector) (id : ℕ) (f : Shape)
+        → IsLayout layout → (books : Books disk slots layout runs shapes spaces x)
+        → ((page : ℕ) → is_shown spaces id page ≡ false) → shapes id ≡ Some f
         → MayFreeAll disk slots layout runs books.booked.named spaces id f.size x }
 {}

@@ -34,24 +34,47 @@ pub fn grow<D: Disk, A: Allocator>(
     requires of_file { is_file_id id ≡ true }
     requires order { size ≤ pages }
     requires numbers { pages < 4294967295 }
-    ensures grown { (x : List Sector) (shapes : Shapes) (spaces : List Space) (f : Shape) → MayGrow (view_of filer.old).disk (view_of filer.old).slots (view_of filer.old).layout (view_of filer.old).runs shapes spaces id f pages x → f.size ≡ size
-        → OnOk result (GrownBy id kind size (pages - size) (view_of filer.old).disk (view_of filer.old).slots (view_of filer.old).layout (view_of filer.new).disk (view_of filer.new).slots (view_of filer.new).runs) }
-    ensures sound { (x : List Sector) (shapes : Shapes) (spaces : List Space) (f : Shape) → MayGrow (view_of filer.old).disk (view_of filer.old).slots (view_of filer.old).layout (view_of filer.old).runs shapes spaces id f pages x → f.size ≡ size
-        → IfErr result (λ e. e ≡ halt.Disk) }
-    ensures broken { (x : List Sector) (shapes : Shapes) (spaces : List Space) (f : Shape) → MayGrow (view_of filer.old).disk (view_of filer.old).slots (view_of filer.old).layout (view_of filer.old).runs shapes spaces id f pages x → f.size ≡ size
-        → OnErr result (GrewSome id kind size (pages - size) x (view_of filer.old).disk (view_of filer.old).slots (view_of filer.new).disk (view_of filer.new).slots) }
-    ensures makes { OnOk result (MakesAll id kind size (pages - size) (view_of filer.old).disk (view_of filer.old).slots (view_of filer.new).disk (view_of filer.new).slots) }
-    ensures stopped { OnErr result (MakesSome id kind size (pages - size) (view_of filer.old).disk (view_of filer.old).slots (view_of filer.new).disk (view_of filer.new).slots) }
-    ensures cause { IfErr result (RangeHalts (view_of filer.old).layout id size pages (view_of filer.old).disk (view_of filer.old).slots (view_of filer.new).disk (view_of filer.new).slots) }
-    ensures keeps_to { (o : InitialState) (named : Triples) → Keeps o filer.old named → MayTake o id → NamesNoneOf id (λ p. (size ≤ p) × (p < pages)) named → OnOk result (KeepsFrom o named filer.new) }
-    ensures reasons { (o : InitialState) (named : Triples) → Keeps o filer.old named → MayTake o id → NamesNoneOf id (λ p. (size ≤ p) × (p < pages)) named → IfErr result (ShowsReason o (view_of filer.old).layout (view_of filer.new).disk) }
+    ensures grown { (x : List Sector) (shapes : Shapes) (spaces : List Space) (f : Shape)
+        → MayGrow (view_of filer.old).disk (view_of filer.old).slots (view_of filer.old).layout (view_of filer.old).runs
+        shapes spaces id f pages x
+        → f.size ≡ size
+        → OnOk result
+        (GrownBy id kind size (pages - size) (view_of filer.old).disk (view_of filer.old).slots
+        (view_of filer.old).layout (view_of filer.new).disk (view_of filer.new).slots (view_of filer.new).runs) }
+    ensures sound { (x : List Sector) (shapes : Shapes) (spaces : List Space) (f : Shape)
+        → MayGrow (view_of filer.old).disk (view_of filer.old).slots (view_of filer.old).layout (view_of filer.old).runs
+        shapes spaces id f pages x
+        → f.size ≡ size → IfErr result (λ e. e ≡ halt.Disk) }
+    ensures broken { (x : List Sector) (shapes : Shapes) (spaces : List Space) (f : Shape)
+        → MayGrow (view_of filer.old).disk (view_of filer.old).slots (view_of filer.old).layout (view_of filer.old).runs
+        shapes spaces id f pages x
+        → f.size ≡ size
+        → OnErr result
+        (GrewSome id kind size (pages - size) x (view_of filer.old).disk (view_of filer.old).slots
+        (view_of filer.new).disk (view_of filer.new).slots) }
+    ensures makes { OnOk result
+        (MakesAll id kind size (pages - size) (view_of filer.old).disk (view_of filer.old).slots
+        (view_of filer.new).disk (view_of filer.new).slots) }
+    ensures stopped { OnErr result
+        (MakesSome id kind size (pages - size) (view_of filer.old).disk (view_of filer.old).slots
+        (view_of filer.new).disk (view_of filer.new).slots) }
+    ensures cause { IfErr result
+        (RangeHalts (view_of filer.old).layout id size pages (view_of filer.old).disk (view_of filer.old).slots
+        (view_of filer.new).disk (view_of filer.new).slots) }
+    ensures keeps_to { (o : InitialState) (named : Triples) → Keeps o filer.old named → MayTake o id
+        → NamesNoneOf id (λ p. (size ≤ p) × (p < pages)) named → OnOk result (KeepsFrom o named filer.new) }
+    ensures reasons { (o : InitialState) (named : Triples) → Keeps o filer.old named → MayTake o id
+        → NamesNoneOf id (λ p. (size ≤ p) × (p < pages)) named
+        → IfErr result (ShowsReason o (view_of filer.old).layout (view_of filer.new).disk) }
     ensures evidence_seen { IfErr result (ShowsEvidence (view_of filer.new).disk) }
     ensures counted { result ≡ Err halt.Disk → Rose (view_of filer.old).disk.faults (view_of filer.new).disk.faults }
-    ensures used { OnOk result (volume.new ≡ record volume.old { used = min (volume.old.used + (pages - size)) volume.old.layout.capacity }) }
+    ensures used { OnOk result
+        (volume.new ≡ record volume.old { used = min (volume.old.used + (pages - size)) volume.old.layout.capacity }) }
     ensures same_volume { OnErr result (volume.new ≡ volume.old) }
     ensures layout { (view_of filer.new).layout ≡ (view_of filer.old).layout }
     ensures runs { (view_of filer.new).runs ≡ (view_of filer.old).runs }
-    ensures cost { (view_of filer.new).disk.transfers ≤ (view_of filer.old).disk.transfers + (pages - size) * (8 * (view_of filer.old).layout.vam + 100) }
+    ensures cost { (view_of filer.new).disk.transfers ≤ (view_of filer.old).disk.transfers + (pages - size)
+        * (8 * (view_of filer.old).layout.vam + 100) }
 {
     match make_up(filer, id, kind, size, pages) {
         Ok(()) => (),

@@ -8,5 +8,6 @@ ghost use Rattle.file_manager.specs.Book.{IsBooked};
 
 /// Memories of files are lists of sectors in form.
 pub fn booked_is_in_form()
-    ensures { (layout : Layout) (runs : List Run) (shapes : Shapes) (m : List Sector) → IsBooked layout runs shapes m → AreSectors m }
+    ensures { (layout : Layout) (runs : List Run) (shapes : Shapes) (m : List Sector) → IsBooked layout runs shapes m
+        → AreSectors m }
 {}

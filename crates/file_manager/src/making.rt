@@ -30,21 +30,42 @@ pub fn make_file<D: Disk, A: Allocator>(
     requires size { FitsLayout (view_of filer.old) }
     requires of_file { is_file_id id ≡ true }
     requires numbers { pages < 4294967295 }
-    ensures made { (x : List Sector) (shapes : Shapes) (spaces : List Space) → MayCreate (view_of filer.old).disk (view_of filer.old).slots (view_of filer.old).layout (view_of filer.old).runs shapes spaces id pages x
-        → OnOk result (CreatedBy id kind pages (view_of filer.old).disk (view_of filer.old).slots (view_of filer.old).layout (view_of filer.new).disk (view_of filer.new).slots (view_of filer.new).runs) }
-    ensures sound { (x : List Sector) (shapes : Shapes) (spaces : List Space) → MayCreate (view_of filer.old).disk (view_of filer.old).slots (view_of filer.old).layout (view_of filer.old).runs shapes spaces id pages x → IfErr result (λ e. e ≡ halt.Disk) }
-    ensures broken { (x : List Sector) (shapes : Shapes) (spaces : List Space) → MayCreate (view_of filer.old).disk (view_of filer.old).slots (view_of filer.old).layout (view_of filer.old).runs shapes spaces id pages x
-        → OnErr result (CreatedSome [] id kind pages x (view_of filer.old).disk (view_of filer.old).slots (view_of filer.new).disk (view_of filer.new).slots) }
-    ensures makes { OnOk result (CreatesAll id kind pages (view_of filer.old).disk (view_of filer.old).slots (view_of filer.new).disk (view_of filer.new).slots) }
-    ensures stopped { OnErr result (CreatesSome id kind pages (view_of filer.old).disk (view_of filer.old).slots (view_of filer.new).disk (view_of filer.new).slots) }
-    ensures cause { IfErr result (MakeHalts (view_of filer.old).layout id every_page (IsNewPage pages) (view_of filer.old).disk (view_of filer.old).slots (view_of filer.new).disk (view_of filer.new).slots) }
-    ensures keeps_to { (o : InitialState) (named : Triples) → Keeps o filer.old named → MayTake o id → NamesNoneOf id every_page named → OnOk result (KeepsFrom o named filer.new) }
-    ensures reasons { (o : InitialState) (named : Triples) → Keeps o filer.old named → MayTake o id → NamesNoneOf id every_page named → IfErr result (ShowsReason o (view_of filer.old).layout (view_of filer.new).disk) }
+    ensures made { (x : List Sector) (shapes : Shapes) (spaces : List Space)
+        → MayCreate (view_of filer.old).disk (view_of filer.old).slots (view_of filer.old).layout
+        (view_of filer.old).runs shapes spaces id pages x
+        → OnOk result
+        (CreatedBy id kind pages (view_of filer.old).disk (view_of filer.old).slots (view_of filer.old).layout
+        (view_of filer.new).disk (view_of filer.new).slots (view_of filer.new).runs) }
+    ensures sound { (x : List Sector) (shapes : Shapes) (spaces : List Space)
+        → MayCreate (view_of filer.old).disk (view_of filer.old).slots (view_of filer.old).layout
+        (view_of filer.old).runs shapes spaces id pages x
+        → IfErr result (λ e. e ≡ halt.Disk) }
+    ensures broken { (x : List Sector) (shapes : Shapes) (spaces : List Space)
+        → MayCreate (view_of filer.old).disk (view_of filer.old).slots (view_of filer.old).layout
+        (view_of filer.old).runs shapes spaces id pages x
+        → OnErr result
+        (CreatedSome [] id kind pages x (view_of filer.old).disk (view_of filer.old).slots (view_of filer.new).disk
+        (view_of filer.new).slots) }
+    ensures makes { OnOk result
+        (CreatesAll id kind pages (view_of filer.old).disk (view_of filer.old).slots (view_of filer.new).disk
+        (view_of filer.new).slots) }
+    ensures stopped { OnErr result
+        (CreatesSome id kind pages (view_of filer.old).disk (view_of filer.old).slots (view_of filer.new).disk
+        (view_of filer.new).slots) }
+    ensures cause { IfErr result
+        (MakeHalts (view_of filer.old).layout id every_page (IsNewPage pages) (view_of filer.old).disk
+        (view_of filer.old).slots (view_of filer.new).disk (view_of filer.new).slots) }
+    ensures keeps_to { (o : InitialState) (named : Triples) → Keeps o filer.old named → MayTake o id
+        → NamesNoneOf id every_page named → OnOk result (KeepsFrom o named filer.new) }
+    ensures reasons { (o : InitialState) (named : Triples) → Keeps o filer.old named → MayTake o id
+        → NamesNoneOf id every_page named
+        → IfErr result (ShowsReason o (view_of filer.old).layout (view_of filer.new).disk) }
     ensures evidence_seen { IfErr result (ShowsEvidence (view_of filer.new).disk) }
     ensures counted { result ≡ Err halt.Disk → Rose (view_of filer.old).disk.faults (view_of filer.new).disk.faults }
     ensures layout { (view_of filer.new).layout ≡ (view_of filer.old).layout }
     ensures runs { (view_of filer.new).runs ≡ (view_of filer.old).runs }
-    ensures cost { (view_of filer.new).disk.transfers ≤ (view_of filer.old).disk.transfers + (8 * (view_of filer.old).layout.vam + 100 + pages * (8 * (view_of filer.old).layout.vam + 100)) }
+    ensures cost { (view_of filer.new).disk.transfers ≤ (view_of filer.old).disk.transfers
+        + (8 * (view_of filer.old).layout.vam + 100 + pages * (8 * (view_of filer.old).layout.vam + 100)) }
 {
     match make_run(filer, id, kind, LEADER, 1) {
         Ok(_run) => (),

@@ -6,5 +6,6 @@ ghost use Rattle.file_map.specs.InSectors.{MapNames};
 
 /// A memory's file map names one set of triples.
 pub fn map_names_once()
-    ensures { (m : List Sector) (named also : Triples) → length m < 2 ^ 32 → MapNames m named → MapNames m also → (id page sector : ℕ) → also id page sector ≡ named id page sector }
+    ensures { (m : List Sector) (named also : Triples) → length m < 2 ^ 32 → MapNames m named → MapNames m also
+        → (id page sector : ℕ) → also id page sector ≡ named id page sector }
 {}

@@ -33,17 +33,33 @@ use std::alloc::Allocator;
 fn mark<D: Disk, A: Allocator>(filer: &mut Filer<D, A>, id: FileId, mark: Mark) -> Result<(), Halt>
     requires size { FitsLayout (view_of filer.old) }
     requires client { 16 ≤ id }
-    ensures revealed { (x : List Sector) (shapes : Shapes) (spaces : List Space) (f : Shape) → Books (view_of filer.old).disk (view_of filer.old).slots (view_of filer.old).layout (view_of filer.old).runs shapes spaces x
+    ensures revealed { (x : List Sector) (shapes : Shapes) (spaces : List Space) (f : Shape)
+        → Books (view_of filer.old).disk (view_of filer.old).slots (view_of filer.old).layout (view_of filer.old).runs
+        shapes spaces x
         → shapes id ≡ Some f → is_shown spaces id leader_page ≡ false
-        → OnOk result (IsMarked id (with_mark mark) x (view_of filer.old).disk (view_of filer.old).slots (view_of filer.old).layout (view_of filer.new).disk (view_of filer.new).slots (view_of filer.new).runs) }
-    ensures sound { (x : List Sector) (shapes : Shapes) (spaces : List Space) (f : Shape) → Books (view_of filer.old).disk (view_of filer.old).slots (view_of filer.old).layout (view_of filer.old).runs shapes spaces x
+        → OnOk result
+        (IsMarked id (with_mark mark) x (view_of filer.old).disk (view_of filer.old).slots (view_of filer.old).layout
+        (view_of filer.new).disk (view_of filer.new).slots (view_of filer.new).runs) }
+    ensures sound { (x : List Sector) (shapes : Shapes) (spaces : List Space) (f : Shape)
+        → Books (view_of filer.old).disk (view_of filer.old).slots (view_of filer.old).layout (view_of filer.old).runs
+        shapes spaces x
         → shapes id ≡ Some f → IfErr result (λ e. e ≡ halt.Disk) }
-    ensures broken { (x : List Sector) (shapes : Shapes) (spaces : List Space) (f : Shape) → Books (view_of filer.old).disk (view_of filer.old).slots (view_of filer.old).layout (view_of filer.old).runs shapes spaces x
-        → shapes id ≡ Some f → OnErr result (MarksFirst id (with_mark mark) x (view_of filer.old).disk (view_of filer.old).slots (view_of filer.new).disk (view_of filer.new).slots) }
-    ensures makes { WritesMark mark (view_of filer.old).disk (view_of filer.old).slots (view_of filer.new).disk (view_of filer.new).slots }
-    ensures cause { IfErr result (LeaderHalts (view_of filer.old).layout (kept_by (view_of filer.old)) id (view_of filer.old).disk (view_of filer.old).slots (view_of filer.new).disk) }
-    ensures keeps_to { (o : InitialState) (named : Triples) → Keeps o filer.old named → OnOk result (Keeps o filer.new named) }
-    ensures reasons { (o : InitialState) (named : Triples) → Keeps o filer.old named → IfErr result (ShowsReason o (view_of filer.old).layout (view_of filer.new).disk) }
+    ensures broken { (x : List Sector) (shapes : Shapes) (spaces : List Space) (f : Shape)
+        → Books (view_of filer.old).disk (view_of filer.old).slots (view_of filer.old).layout (view_of filer.old).runs
+        shapes spaces x
+        → shapes id ≡ Some f
+        → OnErr result
+        (MarksFirst id (with_mark mark) x (view_of filer.old).disk (view_of filer.old).slots (view_of filer.new).disk
+        (view_of filer.new).slots) }
+    ensures makes { WritesMark mark (view_of filer.old).disk (view_of filer.old).slots (view_of filer.new).disk
+        (view_of filer.new).slots }
+    ensures cause { IfErr result
+        (LeaderHalts (view_of filer.old).layout (kept_by (view_of filer.old)) id (view_of filer.old).disk
+        (view_of filer.old).slots (view_of filer.new).disk) }
+    ensures keeps_to { (o : InitialState) (named : Triples) → Keeps o filer.old named
+        → OnOk result (Keeps o filer.new named) }
+    ensures reasons { (o : InitialState) (named : Triples) → Keeps o filer.old named
+        → IfErr result (ShowsReason o (view_of filer.old).layout (view_of filer.new).disk) }
     ensures evidence_seen { IfErr result (ShowsEvidence (view_of filer.new).disk) }
     ensures counted { result ≡ Err halt.Disk → Rose (view_of filer.old).disk.faults (view_of filer.new).disk.faults }
     ensures root { RootStays (view_of filer.old).disk (view_of filer.new).disk }
@@ -74,17 +90,33 @@ pub fn make_permanent<D: Disk, A: Allocator>(
 ) -> Result<(), Halt>
     requires size { FitsLayout (view_of filer.old) }
     requires client { 16 ≤ id }
-    ensures revealed { (x : List Sector) (shapes : Shapes) (spaces : List Space) (f : Shape) → Books (view_of filer.old).disk (view_of filer.old).slots (view_of filer.old).layout (view_of filer.old).runs shapes spaces x
+    ensures revealed { (x : List Sector) (shapes : Shapes) (spaces : List Space) (f : Shape)
+        → Books (view_of filer.old).disk (view_of filer.old).slots (view_of filer.old).layout (view_of filer.old).runs
+        shapes spaces x
         → shapes id ≡ Some f → is_shown spaces id leader_page ≡ false
-        → OnOk result (IsMarked id permanent_label x (view_of filer.old).disk (view_of filer.old).slots (view_of filer.old).layout (view_of filer.new).disk (view_of filer.new).slots (view_of filer.new).runs) }
-    ensures sound { (x : List Sector) (shapes : Shapes) (spaces : List Space) (f : Shape) → Books (view_of filer.old).disk (view_of filer.old).slots (view_of filer.old).layout (view_of filer.old).runs shapes spaces x
+        → OnOk result
+        (IsMarked id permanent_label x (view_of filer.old).disk (view_of filer.old).slots (view_of filer.old).layout
+        (view_of filer.new).disk (view_of filer.new).slots (view_of filer.new).runs) }
+    ensures sound { (x : List Sector) (shapes : Shapes) (spaces : List Space) (f : Shape)
+        → Books (view_of filer.old).disk (view_of filer.old).slots (view_of filer.old).layout (view_of filer.old).runs
+        shapes spaces x
         → shapes id ≡ Some f → IfErr result (λ e. e ≡ halt.Disk) }
-    ensures broken { (x : List Sector) (shapes : Shapes) (spaces : List Space) (f : Shape) → Books (view_of filer.old).disk (view_of filer.old).slots (view_of filer.old).layout (view_of filer.old).runs shapes spaces x
-        → shapes id ≡ Some f → OnErr result (MarksFirst id permanent_label x (view_of filer.old).disk (view_of filer.old).slots (view_of filer.new).disk (view_of filer.new).slots) }
-    ensures makes { WritesMark Permanent (view_of filer.old).disk (view_of filer.old).slots (view_of filer.new).disk (view_of filer.new).slots }
-    ensures cause { IfErr result (LeaderHalts (view_of filer.old).layout (kept_by (view_of filer.old)) id (view_of filer.old).disk (view_of filer.old).slots (view_of filer.new).disk) }
-    ensures keeps_to { (o : InitialState) (named : Triples) → Keeps o filer.old named → OnOk result (Keeps o filer.new named) }
-    ensures reasons { (o : InitialState) (named : Triples) → Keeps o filer.old named → IfErr result (ShowsReason o (view_of filer.old).layout (view_of filer.new).disk) }
+    ensures broken { (x : List Sector) (shapes : Shapes) (spaces : List Space) (f : Shape)
+        → Books (view_of filer.old).disk (view_of filer.old).slots (view_of filer.old).layout (view_of filer.old).runs
+        shapes spaces x
+        → shapes id ≡ Some f
+        → OnErr result
+        (MarksFirst id permanent_label x (view_of filer.old).disk (view_of filer.old).slots (view_of filer.new).disk
+        (view_of filer.new).slots) }
+    ensures makes { WritesMark Permanent (view_of filer.old).disk (view_of filer.old).slots (view_of filer.new).disk
+        (view_of filer.new).slots }
+    ensures cause { IfErr result
+        (LeaderHalts (view_of filer.old).layout (kept_by (view_of filer.old)) id (view_of filer.old).disk
+        (view_of filer.old).slots (view_of filer.new).disk) }
+    ensures keeps_to { (o : InitialState) (named : Triples) → Keeps o filer.old named
+        → OnOk result (Keeps o filer.new named) }
+    ensures reasons { (o : InitialState) (named : Triples) → Keeps o filer.old named
+        → IfErr result (ShowsReason o (view_of filer.old).layout (view_of filer.new).disk) }
     ensures evidence_seen { IfErr result (ShowsEvidence (view_of filer.new).disk) }
     ensures counted { result ≡ Err halt.Disk → Rose (view_of filer.old).disk.faults (view_of filer.new).disk.faults }
     ensures root { RootStays (view_of filer.old).disk (view_of filer.new).disk }
@@ -106,17 +138,33 @@ pub fn make_immutable<D: Disk, A: Allocator>(
 ) -> Result<(), Halt>
     requires size { FitsLayout (view_of filer.old) }
     requires client { 16 ≤ id }
-    ensures revealed { (x : List Sector) (shapes : Shapes) (spaces : List Space) (f : Shape) → Books (view_of filer.old).disk (view_of filer.old).slots (view_of filer.old).layout (view_of filer.old).runs shapes spaces x
+    ensures revealed { (x : List Sector) (shapes : Shapes) (spaces : List Space) (f : Shape)
+        → Books (view_of filer.old).disk (view_of filer.old).slots (view_of filer.old).layout (view_of filer.old).runs
+        shapes spaces x
         → shapes id ≡ Some f → is_shown spaces id leader_page ≡ false
-        → OnOk result (IsMarked id immutable_label x (view_of filer.old).disk (view_of filer.old).slots (view_of filer.old).layout (view_of filer.new).disk (view_of filer.new).slots (view_of filer.new).runs) }
-    ensures sound { (x : List Sector) (shapes : Shapes) (spaces : List Space) (f : Shape) → Books (view_of filer.old).disk (view_of filer.old).slots (view_of filer.old).layout (view_of filer.old).runs shapes spaces x
+        → OnOk result
+        (IsMarked id immutable_label x (view_of filer.old).disk (view_of filer.old).slots (view_of filer.old).layout
+        (view_of filer.new).disk (view_of filer.new).slots (view_of filer.new).runs) }
+    ensures sound { (x : List Sector) (shapes : Shapes) (spaces : List Space) (f : Shape)
+        → Books (view_of filer.old).disk (view_of filer.old).slots (view_of filer.old).layout (view_of filer.old).runs
+        shapes spaces x
         → shapes id ≡ Some f → IfErr result (λ e. e ≡ halt.Disk) }
-    ensures broken { (x : List Sector) (shapes : Shapes) (spaces : List Space) (f : Shape) → Books (view_of filer.old).disk (view_of filer.old).slots (view_of filer.old).layout (view_of filer.old).runs shapes spaces x
-        → shapes id ≡ Some f → OnErr result (MarksFirst id immutable_label x (view_of filer.old).disk (view_of filer.old).slots (view_of filer.new).disk (view_of filer.new).slots) }
-    ensures makes { WritesMark Immutable (view_of filer.old).disk (view_of filer.old).slots (view_of filer.new).disk (view_of filer.new).slots }
-    ensures cause { IfErr result (LeaderHalts (view_of filer.old).layout (kept_by (view_of filer.old)) id (view_of filer.old).disk (view_of filer.old).slots (view_of filer.new).disk) }
-    ensures keeps_to { (o : InitialState) (named : Triples) → Keeps o filer.old named → OnOk result (Keeps o filer.new named) }
-    ensures reasons { (o : InitialState) (named : Triples) → Keeps o filer.old named → IfErr result (ShowsReason o (view_of filer.old).layout (view_of filer.new).disk) }
+    ensures broken { (x : List Sector) (shapes : Shapes) (spaces : List Space) (f : Shape)
+        → Books (view_of filer.old).disk (view_of filer.old).slots (view_of filer.old).layout (view_of filer.old).runs
+        shapes spaces x
+        → shapes id ≡ Some f
+        → OnErr result
+        (MarksFirst id immutable_label x (view_of filer.old).disk (view_of filer.old).slots (view_of filer.new).disk
+        (view_of filer.new).slots) }
+    ensures makes { WritesMark Immutable (view_of filer.old).disk (view_of filer.old).slots (view_of filer.new).disk
+        (view_of filer.new).slots }
+    ensures cause { IfErr result
+        (LeaderHalts (view_of filer.old).layout (kept_by (view_of filer.old)) id (view_of filer.old).disk
+        (view_of filer.old).slots (view_of filer.new).disk) }
+    ensures keeps_to { (o : InitialState) (named : Triples) → Keeps o filer.old named
+        → OnOk result (Keeps o filer.new named) }
+    ensures reasons { (o : InitialState) (named : Triples) → Keeps o filer.old named
+        → IfErr result (ShowsReason o (view_of filer.old).layout (view_of filer.new).disk) }
     ensures evidence_seen { IfErr result (ShowsEvidence (view_of filer.new).disk) }
     ensures counted { result ≡ Err halt.Disk → Rose (view_of filer.old).disk.faults (view_of filer.new).disk.faults }
     ensures root { RootStays (view_of filer.old).disk (view_of filer.new).disk }

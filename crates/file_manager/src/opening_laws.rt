@@ -11,6 +11,7 @@ ghost use Rattle.file_manager.specs.Book.{IsBookedUpto, AreTrue};
 
 /// A volume that can be opened is, once its flag is cleared, one of its permanent files, with no page of the space tables.
 pub fn opened_volumes_are_booked()
-    ensures { (layout : Layout) (runs : List Run) (d x : List Sector) → CanOpen d → FlagCleared d x → AreSectors x → length x ≡ layout.sectors → AreTrue (labels_of x) runs
+    ensures { (layout : Layout) (runs : List Run) (d x : List Sector) → CanOpen d → FlagCleared d x → AreSectors x
+        → length x ≡ layout.sectors → AreTrue (labels_of x) runs
         → IsBookedUpto 0 layout runs (shapes_of (files_on d)) x }
 {}

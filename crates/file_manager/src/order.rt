@@ -28,17 +28,28 @@ pub fn next<D: Disk, A: Allocator>(
     id: FileId,
 ) -> Result<Option<FileId>, Halt>
     requires size { FitsLayout (view_of filer.old) }
-    ensures revealed { (x : List Sector) (shapes : Shapes) (spaces : List Space) → Books (view_of filer.old).disk (view_of filer.old).slots (view_of filer.old).layout (view_of filer.old).runs shapes spaces x
+    ensures revealed { (x : List Sector) (shapes : Shapes) (spaces : List Space)
+        → Books (view_of filer.old).disk (view_of filer.old).slots (view_of filer.old).layout (view_of filer.old).runs
+        shapes spaces x
         → MatchResult result (IsNextFile shapes id) (λ e. e ≡ halt.Disk) }
     ensures above { IfOk result (λ found. IfSome found (λ next. (id < next) × (16 ≤ next))) }
-    ensures same { (x : List Sector) (shapes : Shapes) (spaces : List Space) → Books (view_of filer.old).disk (view_of filer.old).slots (view_of filer.old).layout (view_of filer.old).runs shapes spaces x
-        → Books (view_of filer.new).disk (view_of filer.new).slots (view_of filer.old).layout (view_of filer.new).runs shapes spaces x }
+    ensures same { (x : List Sector) (shapes : Shapes) (spaces : List Space)
+        → Books (view_of filer.old).disk (view_of filer.old).slots (view_of filer.old).layout (view_of filer.old).runs
+        shapes spaces x
+        → Books (view_of filer.new).disk (view_of filer.new).slots (view_of filer.old).layout (view_of filer.new).runs
+        shapes spaces x }
     ensures makes { MakesOnly volume_page [] (view_of filer.old) (view_of filer.new) }
-    ensures looks { Looks (view_of filer.old).layout (view_of filer.old).disk (view_of filer.old).slots (kept_by (view_of filer.old)) (view_of filer.new).disk (view_of filer.new).slots (runs_of (view_of filer.old).layout.sectors (view_of filer.new).runs) }
+    ensures looks { Looks (view_of filer.old).layout (view_of filer.old).disk (view_of filer.old).slots
+        (kept_by (view_of filer.old)) (view_of filer.new).disk (view_of filer.new).slots
+        (runs_of (view_of filer.old).layout.sectors (view_of filer.new).runs) }
     ensures brings { BringsOwn (view_of filer.old).slots (view_of filer.new).slots }
-    ensures cause { IfErr result (MapHalts (view_of filer.old).layout (view_of filer.old).disk (view_of filer.old).slots (view_of filer.new).disk) }
-    ensures keeps_to { (o : InitialState) (named : Triples) → Keeps o filer.old named → OnOk result (Keeps o filer.new named) }
-    ensures reasons { (o : InitialState) (named : Triples) → Keeps o filer.old named → IfErr result (ShowsReason o (view_of filer.old).layout (view_of filer.new).disk) }
+    ensures cause { IfErr result
+        (MapHalts (view_of filer.old).layout (view_of filer.old).disk (view_of filer.old).slots
+        (view_of filer.new).disk) }
+    ensures keeps_to { (o : InitialState) (named : Triples) → Keeps o filer.old named
+        → OnOk result (Keeps o filer.new named) }
+    ensures reasons { (o : InitialState) (named : Triples) → Keeps o filer.old named
+        → IfErr result (ShowsReason o (view_of filer.old).layout (view_of filer.new).disk) }
     ensures evidence_seen { IfErr result (ShowsEvidence (view_of filer.new).disk) }
     ensures counted { result ≡ Err halt.Disk → Rose (view_of filer.old).disk.faults (view_of filer.new).disk.faults }
     ensures layout { (view_of filer.new).layout ≡ (view_of filer.old).layout }

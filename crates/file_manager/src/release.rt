@@ -42,23 +42,40 @@ fn part_of<D: Disk, A: Allocator>(
 ) -> Result<Run, Halt>
     requires size { FitsLayout (view_of filer.old) }
     requires some { 1 ≤ most }
-    ensures cause { IfErr result (FreeHalts (IsUnframed (view_of filer.old).slots id) (view_of filer.old).layout (kept_by (view_of filer.old)) id (λ p. p ≡ page) (view_of filer.old).disk (view_of filer.old).slots (view_of filer.new).disk) }
-    ensures keeps_to { (o : InitialState) (named : Triples) → Keeps o filer.old named → OnOk result (Keeps o filer.new named) }
-    ensures reasons { (o : InitialState) (named : Triples) → Keeps o filer.old named → MayLack named id page → IfErr result (ShowsReason o (view_of filer.old).layout (view_of filer.new).disk) }
-    ensures right { (o : InitialState) (named : Triples) (sector : ℕ) → Keeps o filer.old named → named id page sector ≡ true → IfErr result MissesNone }
-    ensures homes { IfOk result (λ run. (k : ℕ) → k < run.pages → IsRunHome (view_of filer.old).layout (view_of filer.old).disk (view_of filer.old).slots (kept_by (view_of filer.old)) (home_at (run.sector + k) (record { id = id; page = run.first + k }))) }
-    ensures keeps { (id ≡ 3) ⊎ (16 ≤ id) → KeepsMap (IsUnframed (view_of filer.old).slots id) (view_of filer.old).layout id (view_of filer.old).disk (view_of filer.old).slots (kept_by (view_of filer.old)) (view_of filer.new).disk (view_of filer.new).slots (runs_of (view_of filer.old).layout.sectors (view_of filer.new).runs) }
+    ensures cause { IfErr result
+        (FreeHalts (IsUnframed (view_of filer.old).slots id) (view_of filer.old).layout (kept_by (view_of filer.old)) id
+        (λ p. p ≡ page) (view_of filer.old).disk (view_of filer.old).slots (view_of filer.new).disk) }
+    ensures keeps_to { (o : InitialState) (named : Triples) → Keeps o filer.old named
+        → OnOk result (Keeps o filer.new named) }
+    ensures reasons { (o : InitialState) (named : Triples) → Keeps o filer.old named → MayLack named id page
+        → IfErr result (ShowsReason o (view_of filer.old).layout (view_of filer.new).disk) }
+    ensures right { (o : InitialState) (named : Triples) (sector : ℕ) → Keeps o filer.old named
+        → named id page sector ≡ true → IfErr result MissesNone }
+    ensures homes { IfOk result
+        (λ run.
+        (k : ℕ) → k < run.pages
+        → IsRunHome (view_of filer.old).layout (view_of filer.old).disk (view_of filer.old).slots
+        (kept_by (view_of filer.old)) (home_at (run.sector + k) (record { id = id; page = run.first + k }))) }
+    ensures keeps { (id ≡ 3) ⊎ (16 ≤ id)
+        → KeepsMap (IsUnframed (view_of filer.old).slots id) (view_of filer.old).layout id (view_of filer.old).disk
+        (view_of filer.old).slots (kept_by (view_of filer.old)) (view_of filer.new).disk (view_of filer.new).slots
+        (runs_of (view_of filer.old).layout.sectors (view_of filer.new).runs) }
     ensures evidence_seen { MayBeMissing id page → IfErr result (ShowsEvidence (view_of filer.new).disk) }
     ensures counted { result ≡ Err halt.Disk → Rose (view_of filer.old).disk.faults (view_of filer.new).disk.faults }
     ensures form { IfOk result (IsPartOf (view_of filer.old).layout.sectors id page (page + most)) }
-    ensures named { (m : List Sector) (named : Triples) → HasMemory (view_of filer.old) m → MapIs (view_of filer.old).layout named m → AreOf named (kept_by (view_of filer.old))
+    ensures named { (m : List Sector) (named : Triples) → HasMemory (view_of filer.old) m
+        → MapIs (view_of filer.old).layout named m → AreOf named (kept_by (view_of filer.old))
         → IfOk result (NamesAll named) }
-    ensures kept { (m : List Sector) (named : Triples) → HasMemory (view_of filer.old) m → MapIs (view_of filer.old).layout named m → AreOf named (kept_by (view_of filer.old))
+    ensures kept { (m : List Sector) (named : Triples) → HasMemory (view_of filer.old) m
+        → MapIs (view_of filer.old).layout named m → AreOf named (kept_by (view_of filer.old))
         → AreOf named (runs_of (view_of filer.old).layout.sectors (view_of filer.new).runs) }
-    ensures sound { (m : List Sector) (named : Triples) (sector : ℕ) → HasMemory (view_of filer.old) m → MapIs (view_of filer.old).layout named m → AreNamed m (IsMapHome FileMapPages (view_of filer.old).layout)
+    ensures sound { (m : List Sector) (named : Triples) (sector : ℕ) → HasMemory (view_of filer.old) m
+        → MapIs (view_of filer.old).layout named m → AreNamed m (IsMapHome FileMapPages (view_of filer.old).layout)
         → named id page sector ≡ true → IfErr result (λ e. e ≡ halt.Disk) }
-    ensures same { (m : List Sector) (named : Triples) → HasMemory (view_of filer.old) m → MapIs (view_of filer.old).layout named m → HasMemory (view_of filer.new) m }
-    ensures beside { Beside FileMapPages (view_of filer.old).disk (view_of filer.old).slots (view_of filer.old).layout (view_of filer.new).disk (view_of filer.new).slots (view_of filer.new).layout }
+    ensures same { (m : List Sector) (named : Triples) → HasMemory (view_of filer.old) m
+        → MapIs (view_of filer.old).layout named m → HasMemory (view_of filer.new) m }
+    ensures beside { Beside FileMapPages (view_of filer.old).disk (view_of filer.old).slots (view_of filer.old).layout
+        (view_of filer.new).disk (view_of filer.new).slots (view_of filer.new).layout }
     ensures cost { (view_of filer.new).disk.transfers ≤ (view_of filer.old).disk.transfers + 14 }
 {
     match filer.find(id, page) {
@@ -82,12 +99,23 @@ fn free_labels<D: Disk, A: Allocator>(filer: &mut Filer<D, A>, run: Run) -> Resu
     requires size { FitsLayout (view_of filer.old) }
     requires data { (view_of filer.old).layout.first ≤ run.sector }
     requires form { IsRun (view_of filer.old).layout.sectors run }
-    ensures freed { OnOk result (RelabelsRun run.sector run.pages (freeing (run_sectors run)) (view_of filer.old).disk (view_of filer.old).slots (view_of filer.new).disk) }
-    ensures stopped { OnErr result (MadeSome (freeing (run_sectors run)) (view_of filer.old).disk (view_of filer.old).slots (view_of filer.new).disk) }
-    ensures sound { (m : List Sector) → HasMemory (view_of filer.old) m → AreUncovered (view_of filer.old).slots run.sector run.pages
-        → HaveOnes (λ k. ones_of (record { id = run.id; page = run.first + k })) m run.sector run.pages → IfErr result (λ e. e ≡ halt.Disk) }
-    ensures cause { IfErr result (HasCause (IsOneNotOf run.sector run.pages (λ k. record { id = run.id; page = run.first + k }) (view_of filer.old).disk) (view_of filer.old).disk (view_of filer.new).disk) }
-    ensures were { OnOk result ((d : List Sector) → (view_of filer.old).disk.contents ≡ Some d → HaveOnes (λ k. ones_of (record { id = run.id; page = run.first + k })) d run.sector run.pages) }
+    ensures freed { OnOk result
+        (RelabelsRun run.sector run.pages (freeing (run_sectors run)) (view_of filer.old).disk (view_of filer.old).slots
+        (view_of filer.new).disk) }
+    ensures stopped { OnErr result
+        (MadeSome (freeing (run_sectors run)) (view_of filer.old).disk (view_of filer.old).slots
+        (view_of filer.new).disk) }
+    ensures sound { (m : List Sector) → HasMemory (view_of filer.old) m
+        → AreUncovered (view_of filer.old).slots run.sector run.pages
+        → HaveOnes (λ k. ones_of (record { id = run.id; page = run.first + k })) m run.sector run.pages
+        → IfErr result (λ e. e ≡ halt.Disk) }
+    ensures cause { IfErr result
+        (HasCause
+        (IsOneNotOf run.sector run.pages (λ k. record { id = run.id; page = run.first + k }) (view_of filer.old).disk)
+        (view_of filer.old).disk (view_of filer.new).disk) }
+    ensures were { OnOk result
+        ((d : List Sector) → (view_of filer.old).disk.contents ≡ Some d
+        → HaveOnes (λ k. ones_of (record { id = run.id; page = run.first + k })) d run.sector run.pages) }
     ensures evidence_seen { IfErr result (ShowsEvidence (view_of filer.new).disk) }
     ensures counted { result ≡ Err halt.Disk → Rose (view_of filer.old).disk.faults (view_of filer.new).disk.faults }
     ensures frames { (view_of filer.new).slots ≡ (view_of filer.old).slots }
@@ -115,26 +143,55 @@ pub(crate) fn free_run<D: Disk, A: Allocator>(
     requires size { FitsLayout (view_of filer.old) }
     requires of_file { (id ≡ 3) ⊎ (16 ≤ id) }
     requires some { 1 ≤ most }
-    ensures freed { (named : Triples) (spaces : List Space) (m : List Sector) → MayFree (view_of filer.old).disk (view_of filer.old).slots (view_of filer.old).layout (view_of filer.old).runs named spaces id page (page + most) m
-        → IfOk result (λ pages. Freed (view_of filer.old).layout named spaces id page pages (page + most) (view_of filer.old).disk (view_of filer.old).slots (view_of filer.new).disk (view_of filer.new).slots (view_of filer.new).runs) }
+    ensures freed { (named : Triples) (spaces : List Space) (m : List Sector)
+        → MayFree (view_of filer.old).disk (view_of filer.old).slots (view_of filer.old).layout (view_of filer.old).runs
+        named spaces id page (page + most) m
+        → IfOk result
+        (λ pages.
+        Freed (view_of filer.old).layout named spaces id page pages (page + most) (view_of filer.old).disk
+        (view_of filer.old).slots (view_of filer.new).disk (view_of filer.new).slots (view_of filer.new).runs) }
     ensures some { IfOk result (λ pages. (1 ≤ pages) × (pages ≤ most)) }
-    ensures sound { (named : Triples) (spaces : List Space) (m : List Sector) → MayFree (view_of filer.old).disk (view_of filer.old).slots (view_of filer.old).layout (view_of filer.old).runs named spaces id page (page + most) m
+    ensures sound { (named : Triples) (spaces : List Space) (m : List Sector)
+        → MayFree (view_of filer.old).disk (view_of filer.old).slots (view_of filer.old).layout (view_of filer.old).runs
+        named spaces id page (page + most) m
         → IfErr result (λ e. e ≡ halt.Disk) }
-    ensures first { (named : Triples) (spaces : List Space) (m : List Sector) → MayFree (view_of filer.old).disk (view_of filer.old).slots (view_of filer.old).layout (view_of filer.old).runs named spaces id page (page + most) m
-        → OnErr result (FreedSome named id page (page + most) (view_of filer.old).disk (view_of filer.old).slots (view_of filer.new).disk (view_of filer.new).slots) }
-    ensures makes { IfOk result (λ pages. MakesFree pages (view_of filer.old).disk (view_of filer.old).slots (view_of filer.new).disk (view_of filer.new).slots) }
-    ensures stopped { OnErr result (MakesSomeFree (view_of filer.old).disk (view_of filer.old).slots (view_of filer.new).disk (view_of filer.new).slots) }
-    ensures cause { IfErr result (FreeHalts (IsUnframed (view_of filer.old).slots id) (view_of filer.old).layout (kept_by (view_of filer.old)) id (λ p. p ≡ page) (view_of filer.old).disk (view_of filer.old).slots (view_of filer.new).disk) }
-    ensures keeps_to { (o : InitialState) (named : Triples) → Keeps o filer.old named → LeavesTables o id → OnOk result (Keeps o filer.new named) }
-    ensures evict { (o : InitialState) (named : Triples) → Keeps o filer.old named → LeavesTables o id → IfOk result (λ pages. AreReleased o (view_of filer.new).disk named id (λ p. (page ≤ p) × (p < page + pages))) }
-    ensures reasons { (o : InitialState) (named : Triples) → Keeps o filer.old named → LeavesTables o id → MayLack named id page → IfErr result (ShowsReason o (view_of filer.old).layout (view_of filer.new).disk) }
-    ensures right { (o : InitialState) (named : Triples) (sector : ℕ) → Keeps o filer.old named → named id page sector ≡ true → IfErr result MissesNone }
-    ensures keeps { OnOk result (KeepsMap (IsUnframed (view_of filer.old).slots id) (view_of filer.old).layout id (view_of filer.old).disk (view_of filer.old).slots (kept_by (view_of filer.old)) (view_of filer.new).disk (view_of filer.new).slots (runs_of (view_of filer.old).layout.sectors (view_of filer.new).runs)) }
+    ensures first { (named : Triples) (spaces : List Space) (m : List Sector)
+        → MayFree (view_of filer.old).disk (view_of filer.old).slots (view_of filer.old).layout (view_of filer.old).runs
+        named spaces id page (page + most) m
+        → OnErr result
+        (FreedSome named id page (page + most) (view_of filer.old).disk (view_of filer.old).slots
+        (view_of filer.new).disk (view_of filer.new).slots) }
+    ensures makes { IfOk result
+        (λ pages.
+        MakesFree pages (view_of filer.old).disk (view_of filer.old).slots (view_of filer.new).disk
+        (view_of filer.new).slots) }
+    ensures stopped { OnErr result
+        (MakesSomeFree (view_of filer.old).disk (view_of filer.old).slots (view_of filer.new).disk
+        (view_of filer.new).slots) }
+    ensures cause { IfErr result
+        (FreeHalts (IsUnframed (view_of filer.old).slots id) (view_of filer.old).layout (kept_by (view_of filer.old)) id
+        (λ p. p ≡ page) (view_of filer.old).disk (view_of filer.old).slots (view_of filer.new).disk) }
+    ensures keeps_to { (o : InitialState) (named : Triples) → Keeps o filer.old named → LeavesTables o id
+        → OnOk result (Keeps o filer.new named) }
+    ensures evict { (o : InitialState) (named : Triples) → Keeps o filer.old named → LeavesTables o id
+        → IfOk result (λ pages. AreReleased o (view_of filer.new).disk named id (λ p. (page ≤ p) × (p < page + pages))) }
+    ensures reasons { (o : InitialState) (named : Triples) → Keeps o filer.old named → LeavesTables o id
+        → MayLack named id page → IfErr result (ShowsReason o (view_of filer.old).layout (view_of filer.new).disk) }
+    ensures right { (o : InitialState) (named : Triples) (sector : ℕ) → Keeps o filer.old named
+        → named id page sector ≡ true → IfErr result MissesNone }
+    ensures keeps { OnOk result
+        (KeepsMap (IsUnframed (view_of filer.old).slots id) (view_of filer.old).layout id (view_of filer.old).disk
+        (view_of filer.old).slots (kept_by (view_of filer.old)) (view_of filer.new).disk (view_of filer.new).slots
+        (runs_of (view_of filer.old).layout.sectors (view_of filer.new).runs)) }
     ensures evidence_seen { MayBeMissing id page → IfErr result (ShowsEvidence (view_of filer.new).disk) }
     ensures counted { result ≡ Err halt.Disk → Rose (view_of filer.old).disk.faults (view_of filer.new).disk.faults }
     ensures layout { (view_of filer.new).layout ≡ (view_of filer.old).layout }
-    ensures spent { IfOk result (λ pages. (view_of filer.new).disk.transfers ≤ (view_of filer.old).disk.transfers + (14 + 2 * pages + 4 * (view_of filer.old).layout.vam)) }
-    ensures cost { (view_of filer.new).disk.transfers ≤ (view_of filer.old).disk.transfers + (14 + 2 * most + 4 * (view_of filer.old).layout.vam) }
+    ensures spent { IfOk result
+        (λ pages.
+        (view_of filer.new).disk.transfers ≤ (view_of filer.old).disk.transfers
+        + (14 + 2 * pages + 4 * (view_of filer.old).layout.vam)) }
+    ensures cost { (view_of filer.new).disk.transfers ≤ (view_of filer.old).disk.transfers
+        + (14 + 2 * most + 4 * (view_of filer.old).layout.vam) }
     ensures own { RelabelsOwn id (view_of filer.old).disk (view_of filer.new).disk }
     ensures around { SyncsLeaders result (view_of filer.old).disk (view_of filer.new).disk }
 {
@@ -164,24 +221,50 @@ pub(crate) fn free_up<D: Disk, A: Allocator>(
     requires size { FitsLayout (view_of filer.old) }
     requires of_file { (id ≡ 3) ⊎ (16 ≤ id) }
     requires order { from ≤ end }
-    ensures freed { (named : Triples) (spaces : List Space) (m : List Sector) → MayFree (view_of filer.old).disk (view_of filer.old).slots (view_of filer.old).layout (view_of filer.old).runs named spaces id from end m
-        → OnOk result (Freed (view_of filer.old).layout named spaces id from (end - from) end (view_of filer.old).disk (view_of filer.old).slots (view_of filer.new).disk (view_of filer.new).slots (view_of filer.new).runs) }
-    ensures sound { (named : Triples) (spaces : List Space) (m : List Sector) → MayFree (view_of filer.old).disk (view_of filer.old).slots (view_of filer.old).layout (view_of filer.old).runs named spaces id from end m
+    ensures freed { (named : Triples) (spaces : List Space) (m : List Sector)
+        → MayFree (view_of filer.old).disk (view_of filer.old).slots (view_of filer.old).layout (view_of filer.old).runs
+        named spaces id from end m
+        → OnOk result
+        (Freed (view_of filer.old).layout named spaces id from (end - from) end (view_of filer.old).disk
+        (view_of filer.old).slots (view_of filer.new).disk (view_of filer.new).slots (view_of filer.new).runs) }
+    ensures sound { (named : Triples) (spaces : List Space) (m : List Sector)
+        → MayFree (view_of filer.old).disk (view_of filer.old).slots (view_of filer.old).layout (view_of filer.old).runs
+        named spaces id from end m
         → IfErr result (λ e. e ≡ halt.Disk) }
-    ensures first { (named : Triples) (spaces : List Space) (m : List Sector) → MayFree (view_of filer.old).disk (view_of filer.old).slots (view_of filer.old).layout (view_of filer.old).runs named spaces id from end m
-        → OnErr result (FreedSome named id from end (view_of filer.old).disk (view_of filer.old).slots (view_of filer.new).disk (view_of filer.new).slots) }
-    ensures makes { OnOk result (MakesFree (end - from) (view_of filer.old).disk (view_of filer.old).slots (view_of filer.new).disk (view_of filer.new).slots) }
-    ensures stopped { OnErr result (MakesSomeFree (view_of filer.old).disk (view_of filer.old).slots (view_of filer.new).disk (view_of filer.new).slots) }
-    ensures cause { IfErr result (FreeHalts (IsUnframed (view_of filer.old).slots id) (view_of filer.old).layout (kept_by (view_of filer.old)) id (λ p. (from ≤ p) × (p < end)) (view_of filer.old).disk (view_of filer.old).slots (view_of filer.new).disk) }
-    ensures keeps_to { (o : InitialState) (named : Triples) → Keeps o filer.old named → LeavesTables o id → OnOk result (Keeps o filer.new named) }
-    ensures evict { (o : InitialState) (named : Triples) → Keeps o filer.old named → LeavesTables o id → OnOk result (AreReleased o (view_of filer.new).disk named id (λ p. (from ≤ p) × (p < end))) }
-    ensures reasons { (o : InitialState) (named : Triples) → Keeps o filer.old named → LeavesTables o id → ((page : ℕ) → page < end → MayLack named id page) → IfErr result (ShowsReason o (view_of filer.old).layout (view_of filer.new).disk) }
-    ensures right { (o : InitialState) (named : Triples) → Keeps o filer.old named → LeavesTables o id → ((page : ℕ) → page < end → (sector : ℕ) × (named id page sector ≡ true)) → IfErr result MissesNone }
-    ensures keeps { OnOk result (KeepsMap (IsUnframed (view_of filer.old).slots id) (view_of filer.old).layout id (view_of filer.old).disk (view_of filer.old).slots (kept_by (view_of filer.old)) (view_of filer.new).disk (view_of filer.new).slots (runs_of (view_of filer.old).layout.sectors (view_of filer.new).runs)) }
-    ensures evidence_seen { ((page : ℕ) → page < end → MayBeMissing id page) → IfErr result (ShowsEvidence (view_of filer.new).disk) }
+    ensures first { (named : Triples) (spaces : List Space) (m : List Sector)
+        → MayFree (view_of filer.old).disk (view_of filer.old).slots (view_of filer.old).layout (view_of filer.old).runs
+        named spaces id from end m
+        → OnErr result
+        (FreedSome named id from end (view_of filer.old).disk (view_of filer.old).slots (view_of filer.new).disk
+        (view_of filer.new).slots) }
+    ensures makes { OnOk result
+        (MakesFree (end - from) (view_of filer.old).disk (view_of filer.old).slots (view_of filer.new).disk
+        (view_of filer.new).slots) }
+    ensures stopped { OnErr result
+        (MakesSomeFree (view_of filer.old).disk (view_of filer.old).slots (view_of filer.new).disk
+        (view_of filer.new).slots) }
+    ensures cause { IfErr result
+        (FreeHalts (IsUnframed (view_of filer.old).slots id) (view_of filer.old).layout (kept_by (view_of filer.old)) id
+        (λ p. (from ≤ p) × (p < end)) (view_of filer.old).disk (view_of filer.old).slots (view_of filer.new).disk) }
+    ensures keeps_to { (o : InitialState) (named : Triples) → Keeps o filer.old named → LeavesTables o id
+        → OnOk result (Keeps o filer.new named) }
+    ensures evict { (o : InitialState) (named : Triples) → Keeps o filer.old named → LeavesTables o id
+        → OnOk result (AreReleased o (view_of filer.new).disk named id (λ p. (from ≤ p) × (p < end))) }
+    ensures reasons { (o : InitialState) (named : Triples) → Keeps o filer.old named → LeavesTables o id
+        → ((page : ℕ) → page < end → MayLack named id page)
+        → IfErr result (ShowsReason o (view_of filer.old).layout (view_of filer.new).disk) }
+    ensures right { (o : InitialState) (named : Triples) → Keeps o filer.old named → LeavesTables o id
+        → ((page : ℕ) → page < end → (sector : ℕ) × (named id page sector ≡ true)) → IfErr result MissesNone }
+    ensures keeps { OnOk result
+        (KeepsMap (IsUnframed (view_of filer.old).slots id) (view_of filer.old).layout id (view_of filer.old).disk
+        (view_of filer.old).slots (kept_by (view_of filer.old)) (view_of filer.new).disk (view_of filer.new).slots
+        (runs_of (view_of filer.old).layout.sectors (view_of filer.new).runs)) }
+    ensures evidence_seen { ((page : ℕ) → page < end → MayBeMissing id page)
+        → IfErr result (ShowsEvidence (view_of filer.new).disk) }
     ensures counted { result ≡ Err halt.Disk → Rose (view_of filer.old).disk.faults (view_of filer.new).disk.faults }
     ensures layout { (view_of filer.new).layout ≡ (view_of filer.old).layout }
-    ensures cost { (view_of filer.new).disk.transfers ≤ (view_of filer.old).disk.transfers + (end - from) * (16 + 4 * (view_of filer.old).layout.vam) }
+    ensures cost { (view_of filer.new).disk.transfers ≤ (view_of filer.old).disk.transfers + (end - from)
+        * (16 + 4 * (view_of filer.old).layout.vam) }
     ensures own { RelabelsOwn id (view_of filer.old).disk (view_of filer.new).disk }
     ensures around { SyncsLeaders result (view_of filer.old).disk (view_of filer.new).disk }
 {

@@ -43,21 +43,38 @@ fn last_part<D: Disk, A: Allocator>(
     requires size { FitsLayout (view_of filer.old) }
     requires some { from < end }
     ensures form { IfOk result (IsLastPart (view_of filer.old).layout.sectors id from end) }
-    ensures named { (m : List Sector) (named : Triples) → HasMemory (view_of filer.old) m → MapIs (view_of filer.old).layout named m → AreOf named (kept_by (view_of filer.old))
+    ensures named { (m : List Sector) (named : Triples) → HasMemory (view_of filer.old) m
+        → MapIs (view_of filer.old).layout named m → AreOf named (kept_by (view_of filer.old))
         → IfOk result (NamesAll named) }
-    ensures kept { (m : List Sector) (named : Triples) → HasMemory (view_of filer.old) m → MapIs (view_of filer.old).layout named m → AreOf named (kept_by (view_of filer.old))
+    ensures kept { (m : List Sector) (named : Triples) → HasMemory (view_of filer.old) m
+        → MapIs (view_of filer.old).layout named m → AreOf named (kept_by (view_of filer.old))
         → AreOf named (runs_of (view_of filer.old).layout.sectors (view_of filer.new).runs) }
-    ensures sound { (m : List Sector) (named : Triples) (sector : ℕ) → HasMemory (view_of filer.old) m → MapIs (view_of filer.old).layout named m → AreNamed m (IsMapHome FileMapPages (view_of filer.old).layout)
+    ensures sound { (m : List Sector) (named : Triples) (sector : ℕ) → HasMemory (view_of filer.old) m
+        → MapIs (view_of filer.old).layout named m → AreNamed m (IsMapHome FileMapPages (view_of filer.old).layout)
         → named id (end - 1) sector ≡ true → IfErr result (λ e. e ≡ halt.Disk) }
-    ensures cause { IfErr result (FreeHalts (IsUnframed (view_of filer.old).slots id) (view_of filer.old).layout (kept_by (view_of filer.old)) id (λ p. p ≡ end - 1) (view_of filer.old).disk (view_of filer.old).slots (view_of filer.new).disk) }
-    ensures keeps_to { (o : InitialState) (named : Triples) → Keeps o filer.old named → OnOk result (Keeps o filer.new named) }
-    ensures reasons { (o : InitialState) (named : Triples) → Keeps o filer.old named → MayLack named id (end - 1) → IfErr result (ShowsReason o (view_of filer.old).layout (view_of filer.new).disk) }
-    ensures homes { IfOk result (λ run. (k : ℕ) → k < run.pages → IsRunHome (view_of filer.old).layout (view_of filer.old).disk (view_of filer.old).slots (kept_by (view_of filer.old)) (home_at (run.sector + k) (record { id = id; page = run.first + k }))) }
-    ensures keeps { (id ≡ 3) ⊎ (16 ≤ id) → KeepsMap (IsUnframed (view_of filer.old).slots id) (view_of filer.old).layout id (view_of filer.old).disk (view_of filer.old).slots (kept_by (view_of filer.old)) (view_of filer.new).disk (view_of filer.new).slots (runs_of (view_of filer.old).layout.sectors (view_of filer.new).runs) }
+    ensures cause { IfErr result
+        (FreeHalts (IsUnframed (view_of filer.old).slots id) (view_of filer.old).layout (kept_by (view_of filer.old)) id
+        (λ p. p ≡ end - 1) (view_of filer.old).disk (view_of filer.old).slots (view_of filer.new).disk) }
+    ensures keeps_to { (o : InitialState) (named : Triples) → Keeps o filer.old named
+        → OnOk result (Keeps o filer.new named) }
+    ensures reasons { (o : InitialState) (named : Triples) → Keeps o filer.old named → MayLack named id (end - 1)
+        → IfErr result (ShowsReason o (view_of filer.old).layout (view_of filer.new).disk) }
+    ensures homes { IfOk result
+        (λ run.
+        (k : ℕ) → k < run.pages
+        → IsRunHome (view_of filer.old).layout (view_of filer.old).disk (view_of filer.old).slots
+        (kept_by (view_of filer.old)) (home_at (run.sector + k) (record { id = id; page = run.first + k }))) }
+    ensures keeps { (id ≡ 3) ⊎ (16 ≤ id)
+        → KeepsMap (IsUnframed (view_of filer.old).slots id) (view_of filer.old).layout id (view_of filer.old).disk
+        (view_of filer.old).slots (kept_by (view_of filer.old)) (view_of filer.new).disk (view_of filer.new).slots
+        (runs_of (view_of filer.old).layout.sectors (view_of filer.new).runs) }
     ensures evidence_seen { MayBeMissing id (end - 1) → IfErr result (ShowsEvidence (view_of filer.new).disk) }
-    ensures counted { IfErr result (λ e. e ≡ halt.Disk → Rose (view_of filer.old).disk.faults (view_of filer.new).disk.faults) }
-    ensures same { (m : List Sector) (named : Triples) → HasMemory (view_of filer.old) m → MapIs (view_of filer.old).layout named m → HasMemory (view_of filer.new) m }
-    ensures beside { Beside FileMapPages (view_of filer.old).disk (view_of filer.old).slots (view_of filer.old).layout (view_of filer.new).disk (view_of filer.new).slots (view_of filer.new).layout }
+    ensures counted { IfErr result
+        (λ e. e ≡ halt.Disk → Rose (view_of filer.old).disk.faults (view_of filer.new).disk.faults) }
+    ensures same { (m : List Sector) (named : Triples) → HasMemory (view_of filer.old) m
+        → MapIs (view_of filer.old).layout named m → HasMemory (view_of filer.new) m }
+    ensures beside { Beside FileMapPages (view_of filer.old).disk (view_of filer.old).slots (view_of filer.old).layout
+        (view_of filer.new).disk (view_of filer.new).slots (view_of filer.new).layout }
     ensures cost { (view_of filer.new).disk.transfers ≤ (view_of filer.old).disk.transfers + 14 }
 {
     match filer.find(id, end - 1) {
@@ -80,14 +97,26 @@ fn free_labels_down<D: Disk, A: Allocator>(filer: &mut Filer<D, A>, run: Run) ->
     requires size { FitsLayout (view_of filer.old) }
     requires data { (view_of filer.old).layout.first ≤ run.sector }
     requires form { IsRun (view_of filer.old).layout.sectors run }
-    ensures freed { OnOk result (RelabelsRun run.sector run.pages (freeing (run_down run)) (view_of filer.old).disk (view_of filer.old).slots (view_of filer.new).disk) }
-    ensures stopped { OnErr result (MadeSome (freeing (run_down run)) (view_of filer.old).disk (view_of filer.old).slots (view_of filer.new).disk) }
-    ensures sound { (m : List Sector) → HasMemory (view_of filer.old) m → AreUncovered (view_of filer.old).slots run.sector run.pages
-        → HaveOnes (λ k. ones_of (record { id = run.id; page = run.first + k })) m run.sector run.pages → IfErr result (λ e. e ≡ halt.Disk) }
-    ensures cause { IfErr result (HasCause (IsOneNotOf run.sector run.pages (λ k. record { id = run.id; page = run.first + k }) (view_of filer.old).disk) (view_of filer.old).disk (view_of filer.new).disk) }
-    ensures were { OnOk result ((d : List Sector) → (view_of filer.old).disk.contents ≡ Some d → HaveOnes (λ k. ones_of (record { id = run.id; page = run.first + k })) d run.sector run.pages) }
+    ensures freed { OnOk result
+        (RelabelsRun run.sector run.pages (freeing (run_down run)) (view_of filer.old).disk (view_of filer.old).slots
+        (view_of filer.new).disk) }
+    ensures stopped { OnErr result
+        (MadeSome (freeing (run_down run)) (view_of filer.old).disk (view_of filer.old).slots
+        (view_of filer.new).disk) }
+    ensures sound { (m : List Sector) → HasMemory (view_of filer.old) m
+        → AreUncovered (view_of filer.old).slots run.sector run.pages
+        → HaveOnes (λ k. ones_of (record { id = run.id; page = run.first + k })) m run.sector run.pages
+        → IfErr result (λ e. e ≡ halt.Disk) }
+    ensures cause { IfErr result
+        (HasCause
+        (IsOneNotOf run.sector run.pages (λ k. record { id = run.id; page = run.first + k }) (view_of filer.old).disk)
+        (view_of filer.old).disk (view_of filer.new).disk) }
+    ensures were { OnOk result
+        ((d : List Sector) → (view_of filer.old).disk.contents ≡ Some d
+        → HaveOnes (λ k. ones_of (record { id = run.id; page = run.first + k })) d run.sector run.pages) }
     ensures evidence_seen { IfErr result (ShowsEvidence (view_of filer.new).disk) }
-    ensures counted { IfErr result (λ e. e ≡ halt.Disk → Rose (view_of filer.old).disk.faults (view_of filer.new).disk.faults) }
+    ensures counted { IfErr result
+        (λ e. e ≡ halt.Disk → Rose (view_of filer.old).disk.faults (view_of filer.new).disk.faults) }
     ensures frames { (view_of filer.new).slots ≡ (view_of filer.old).slots }
     ensures layout { (view_of filer.new).layout ≡ (view_of filer.old).layout }
     ensures runs { (view_of filer.new).runs ≡ (view_of filer.old).runs }
@@ -112,25 +141,54 @@ fn free_last<D: Disk, A: Allocator>(
     requires size { FitsLayout (view_of filer.old) }
     requires of_file { 16 ≤ id }
     requires some { from < end }
-    ensures freed { (named : Triples) (spaces : List Space) (m : List Sector) → MayFree (view_of filer.old).disk (view_of filer.old).slots (view_of filer.old).layout (view_of filer.old).runs named spaces id from end m
-        → IfOk result (λ pages. FreedDown (view_of filer.old).layout named spaces id from pages end (view_of filer.old).disk (view_of filer.old).slots (view_of filer.new).disk (view_of filer.new).slots (view_of filer.new).runs) }
+    ensures freed { (named : Triples) (spaces : List Space) (m : List Sector)
+        → MayFree (view_of filer.old).disk (view_of filer.old).slots (view_of filer.old).layout (view_of filer.old).runs
+        named spaces id from end m
+        → IfOk result
+        (λ pages.
+        FreedDown (view_of filer.old).layout named spaces id from pages end (view_of filer.old).disk
+        (view_of filer.old).slots (view_of filer.new).disk (view_of filer.new).slots (view_of filer.new).runs) }
     ensures some { IfOk result (λ pages. (1 ≤ pages) × (pages ≤ end - from)) }
-    ensures sound { (named : Triples) (spaces : List Space) (m : List Sector) → MayFree (view_of filer.old).disk (view_of filer.old).slots (view_of filer.old).layout (view_of filer.old).runs named spaces id from end m
+    ensures sound { (named : Triples) (spaces : List Space) (m : List Sector)
+        → MayFree (view_of filer.old).disk (view_of filer.old).slots (view_of filer.old).layout (view_of filer.old).runs
+        named spaces id from end m
         → IfErr result (λ e. e ≡ halt.Disk) }
-    ensures cause { IfErr result (FreeHalts (IsUnframed (view_of filer.old).slots id) (view_of filer.old).layout (kept_by (view_of filer.old)) id (λ p. p ≡ end - 1) (view_of filer.old).disk (view_of filer.old).slots (view_of filer.new).disk) }
-    ensures keeps_to { (o : InitialState) (named : Triples) → Keeps o filer.old named → OnOk result (Keeps o filer.new named) }
-    ensures evict { (o : InitialState) (named : Triples) → Keeps o filer.old named → IfOk result (λ pages. AreReleased o (view_of filer.new).disk named id (λ p. (end - pages ≤ p) × (p < end))) }
-    ensures reasons { (o : InitialState) (named : Triples) → Keeps o filer.old named → IfErr result (ShowsReason o (view_of filer.old).layout (view_of filer.new).disk) }
-    ensures keeps { OnOk result (KeepsMap (IsUnframed (view_of filer.old).slots id) (view_of filer.old).layout id (view_of filer.old).disk (view_of filer.old).slots (kept_by (view_of filer.old)) (view_of filer.new).disk (view_of filer.new).slots (runs_of (view_of filer.old).layout.sectors (view_of filer.new).runs)) }
+    ensures cause { IfErr result
+        (FreeHalts (IsUnframed (view_of filer.old).slots id) (view_of filer.old).layout (kept_by (view_of filer.old)) id
+        (λ p. p ≡ end - 1) (view_of filer.old).disk (view_of filer.old).slots (view_of filer.new).disk) }
+    ensures keeps_to { (o : InitialState) (named : Triples) → Keeps o filer.old named
+        → OnOk result (Keeps o filer.new named) }
+    ensures evict { (o : InitialState) (named : Triples) → Keeps o filer.old named
+        → IfOk result (λ pages. AreReleased o (view_of filer.new).disk named id (λ p. (end - pages ≤ p) × (p < end))) }
+    ensures reasons { (o : InitialState) (named : Triples) → Keeps o filer.old named
+        → IfErr result (ShowsReason o (view_of filer.old).layout (view_of filer.new).disk) }
+    ensures keeps { OnOk result
+        (KeepsMap (IsUnframed (view_of filer.old).slots id) (view_of filer.old).layout id (view_of filer.old).disk
+        (view_of filer.old).slots (kept_by (view_of filer.old)) (view_of filer.new).disk (view_of filer.new).slots
+        (runs_of (view_of filer.old).layout.sectors (view_of filer.new).runs)) }
     ensures evidence_seen { IfErr result (ShowsEvidence (view_of filer.new).disk) }
-    ensures counted { IfErr result (λ e. e ≡ halt.Disk → Rose (view_of filer.old).disk.faults (view_of filer.new).disk.faults) }
-    ensures broken { (named : Triples) (spaces : List Space) (m : List Sector) → MayFree (view_of filer.old).disk (view_of filer.old).slots (view_of filer.old).layout (view_of filer.old).runs named spaces id from end m
-        → OnErr result (StoppedDown named id (end - from) end (view_of filer.old).disk (view_of filer.old).slots (view_of filer.new).disk (view_of filer.new).slots) }
-    ensures makes { IfOk result (λ pages. MakesFree pages (view_of filer.old).disk (view_of filer.old).slots (view_of filer.new).disk (view_of filer.new).slots) }
-    ensures stopped { OnErr result (MakesSomeFree (view_of filer.old).disk (view_of filer.old).slots (view_of filer.new).disk (view_of filer.new).slots) }
+    ensures counted { IfErr result
+        (λ e. e ≡ halt.Disk → Rose (view_of filer.old).disk.faults (view_of filer.new).disk.faults) }
+    ensures broken { (named : Triples) (spaces : List Space) (m : List Sector)
+        → MayFree (view_of filer.old).disk (view_of filer.old).slots (view_of filer.old).layout (view_of filer.old).runs
+        named spaces id from end m
+        → OnErr result
+        (StoppedDown named id (end - from) end (view_of filer.old).disk (view_of filer.old).slots
+        (view_of filer.new).disk (view_of filer.new).slots) }
+    ensures makes { IfOk result
+        (λ pages.
+        MakesFree pages (view_of filer.old).disk (view_of filer.old).slots (view_of filer.new).disk
+        (view_of filer.new).slots) }
+    ensures stopped { OnErr result
+        (MakesSomeFree (view_of filer.old).disk (view_of filer.old).slots (view_of filer.new).disk
+        (view_of filer.new).slots) }
     ensures layout { (view_of filer.new).layout ≡ (view_of filer.old).layout }
-    ensures spent { IfOk result (λ pages. (view_of filer.new).disk.transfers ≤ (view_of filer.old).disk.transfers + (14 + 2 * pages + 4 * (view_of filer.old).layout.vam)) }
-    ensures cost { (view_of filer.new).disk.transfers ≤ (view_of filer.old).disk.transfers + (14 + 2 * (end - from) + 4 * (view_of filer.old).layout.vam) }
+    ensures spent { IfOk result
+        (λ pages.
+        (view_of filer.new).disk.transfers ≤ (view_of filer.old).disk.transfers
+        + (14 + 2 * pages + 4 * (view_of filer.old).layout.vam)) }
+    ensures cost { (view_of filer.new).disk.transfers ≤ (view_of filer.old).disk.transfers
+        + (14 + 2 * (end - from) + 4 * (view_of filer.old).layout.vam) }
     ensures own { RelabelsOwn id (view_of filer.old).disk (view_of filer.new).disk }
 {
     let run = match last_part(filer, id, from, end) {
@@ -159,23 +217,47 @@ pub(crate) fn free_down<D: Disk, A: Allocator>(
     requires size { FitsLayout (view_of filer.old) }
     requires of_file { 16 ≤ id }
     requires order { from ≤ end }
-    ensures freed { (named : Triples) (spaces : List Space) (m : List Sector) → MayFree (view_of filer.old).disk (view_of filer.old).slots (view_of filer.old).layout (view_of filer.old).runs named spaces id from end m
-        → OnOk result (FreedDown (view_of filer.old).layout named spaces id from (end - from) end (view_of filer.old).disk (view_of filer.old).slots (view_of filer.new).disk (view_of filer.new).slots (view_of filer.new).runs) }
-    ensures sound { (named : Triples) (spaces : List Space) (m : List Sector) → MayFree (view_of filer.old).disk (view_of filer.old).slots (view_of filer.old).layout (view_of filer.old).runs named spaces id from end m
+    ensures freed { (named : Triples) (spaces : List Space) (m : List Sector)
+        → MayFree (view_of filer.old).disk (view_of filer.old).slots (view_of filer.old).layout (view_of filer.old).runs
+        named spaces id from end m
+        → OnOk result
+        (FreedDown (view_of filer.old).layout named spaces id from (end - from) end (view_of filer.old).disk
+        (view_of filer.old).slots (view_of filer.new).disk (view_of filer.new).slots (view_of filer.new).runs) }
+    ensures sound { (named : Triples) (spaces : List Space) (m : List Sector)
+        → MayFree (view_of filer.old).disk (view_of filer.old).slots (view_of filer.old).layout (view_of filer.old).runs
+        named spaces id from end m
         → IfErr result (λ e. e ≡ halt.Disk) }
-    ensures cause { IfErr result (FreeHalts (IsUnframed (view_of filer.old).slots id) (view_of filer.old).layout (kept_by (view_of filer.old)) id (λ p. (from ≤ p) × (p < end)) (view_of filer.old).disk (view_of filer.old).slots (view_of filer.new).disk) }
-    ensures keeps_to { (o : InitialState) (named : Triples) → Keeps o filer.old named → OnOk result (Keeps o filer.new named) }
-    ensures evict { (o : InitialState) (named : Triples) → Keeps o filer.old named → OnOk result (AreReleased o (view_of filer.new).disk named id (λ p. (from ≤ p) × (p < end))) }
-    ensures reasons { (o : InitialState) (named : Triples) → Keeps o filer.old named → IfErr result (ShowsReason o (view_of filer.old).layout (view_of filer.new).disk) }
-    ensures keeps { OnOk result (KeepsMap (IsUnframed (view_of filer.old).slots id) (view_of filer.old).layout id (view_of filer.old).disk (view_of filer.old).slots (kept_by (view_of filer.old)) (view_of filer.new).disk (view_of filer.new).slots (runs_of (view_of filer.old).layout.sectors (view_of filer.new).runs)) }
+    ensures cause { IfErr result
+        (FreeHalts (IsUnframed (view_of filer.old).slots id) (view_of filer.old).layout (kept_by (view_of filer.old)) id
+        (λ p. (from ≤ p) × (p < end)) (view_of filer.old).disk (view_of filer.old).slots (view_of filer.new).disk) }
+    ensures keeps_to { (o : InitialState) (named : Triples) → Keeps o filer.old named
+        → OnOk result (Keeps o filer.new named) }
+    ensures evict { (o : InitialState) (named : Triples) → Keeps o filer.old named
+        → OnOk result (AreReleased o (view_of filer.new).disk named id (λ p. (from ≤ p) × (p < end))) }
+    ensures reasons { (o : InitialState) (named : Triples) → Keeps o filer.old named
+        → IfErr result (ShowsReason o (view_of filer.old).layout (view_of filer.new).disk) }
+    ensures keeps { OnOk result
+        (KeepsMap (IsUnframed (view_of filer.old).slots id) (view_of filer.old).layout id (view_of filer.old).disk
+        (view_of filer.old).slots (kept_by (view_of filer.old)) (view_of filer.new).disk (view_of filer.new).slots
+        (runs_of (view_of filer.old).layout.sectors (view_of filer.new).runs)) }
     ensures evidence_seen { IfErr result (ShowsEvidence (view_of filer.new).disk) }
-    ensures counted { IfErr result (λ e. e ≡ halt.Disk → Rose (view_of filer.old).disk.faults (view_of filer.new).disk.faults) }
-    ensures broken { (named : Triples) (spaces : List Space) (m : List Sector) → MayFree (view_of filer.old).disk (view_of filer.old).slots (view_of filer.old).layout (view_of filer.old).runs named spaces id from end m
-        → OnErr result (StoppedDown named id (end - from) end (view_of filer.old).disk (view_of filer.old).slots (view_of filer.new).disk (view_of filer.new).slots) }
-    ensures makes { OnOk result (MakesFree (end - from) (view_of filer.old).disk (view_of filer.old).slots (view_of filer.new).disk (view_of filer.new).slots) }
-    ensures stopped { OnErr result (MakesSomeFree (view_of filer.old).disk (view_of filer.old).slots (view_of filer.new).disk (view_of filer.new).slots) }
+    ensures counted { IfErr result
+        (λ e. e ≡ halt.Disk → Rose (view_of filer.old).disk.faults (view_of filer.new).disk.faults) }
+    ensures broken { (named : Triples) (spaces : List Space) (m : List Sector)
+        → MayFree (view_of filer.old).disk (view_of filer.old).slots (view_of filer.old).layout (view_of filer.old).runs
+        named spaces id from end m
+        → OnErr result
+        (StoppedDown named id (end - from) end (view_of filer.old).disk (view_of filer.old).slots
+        (view_of filer.new).disk (view_of filer.new).slots) }
+    ensures makes { OnOk result
+        (MakesFree (end - from) (view_of filer.old).disk (view_of filer.old).slots (view_of filer.new).disk
+        (view_of filer.new).slots) }
+    ensures stopped { OnErr result
+        (MakesSomeFree (view_of filer.old).disk (view_of filer.old).slots (view_of filer.new).disk
+        (view_of filer.new).slots) }
     ensures layout { (view_of filer.new).layout ≡ (view_of filer.old).layout }
-    ensures cost { (view_of filer.new).disk.transfers ≤ (view_of filer.old).disk.transfers + (end - from) * (16 + 4 * (view_of filer.old).layout.vam) }
+    ensures cost { (view_of filer.new).disk.transfers ≤ (view_of filer.old).disk.transfers + (end - from)
+        * (16 + 4 * (view_of filer.old).layout.vam) }
     ensures own { RelabelsOwn id (view_of filer.old).disk (view_of filer.new).disk }
 {
     let mut page = end;

@@ -18,7 +18,8 @@ pub(crate) fn sync_disk<D: Disk, A: Allocator>(filer: &mut Filer<D, A>) -> Resul
     ensures synced { OnOk result (SyncsQuietly (view_of filer.old).disk (view_of filer.new).disk) }
     ensures same { RevealsSame (view_of filer.old).disk (view_of filer.new).disk }
     ensures makes { MakesOnly no_page [] (view_of filer.old) (view_of filer.new) }
-    ensures cause { IfErr result (λ e. (e ≡ halt.Disk) × Rose (view_of filer.old).disk.faults (view_of filer.new).disk.faults) }
+    ensures cause { IfErr result
+        (λ e. (e ≡ halt.Disk) × Rose (view_of filer.old).disk.faults (view_of filer.new).disk.faults) }
     ensures keeps_to { (o : InitialState) (named : Triples) → Keeps o filer.old named → Keeps o filer.new named }
     ensures frames { (view_of filer.new).slots ≡ (view_of filer.old).slots }
     ensures layout { (view_of filer.new).layout ≡ (view_of filer.old).layout }

@@ -33,22 +33,39 @@ use std::alloc::Allocator;
 // Makes these pages in the lowest free data sectors, where the file map names none of them.
 fn make_pages<D: Disk, A: Allocator>(filer: &mut Filer<D, A>) -> Result<(), Halt>
     requires size { FitsLayout (view_of filer.old) }
-    ensures made { (x : List Sector) (shapes : Shapes) (spaces : List Space) → MayBegin (view_of filer.old).disk (view_of filer.old).slots (view_of filer.old).layout (view_of filer.old).runs shapes spaces x
-        → OnOk result (BegunBy (view_of filer.old).disk (view_of filer.old).slots (view_of filer.old).layout (view_of filer.new).disk (view_of filer.new).slots (view_of filer.new).runs) }
-    ensures sound { (x : List Sector) (shapes : Shapes) (spaces : List Space) → MayBegin (view_of filer.old).disk (view_of filer.old).slots (view_of filer.old).layout (view_of filer.old).runs shapes spaces x
+    ensures made { (x : List Sector) (shapes : Shapes) (spaces : List Space)
+        → MayBegin (view_of filer.old).disk (view_of filer.old).slots (view_of filer.old).layout
+        (view_of filer.old).runs shapes spaces x
+        → OnOk result
+        (BegunBy (view_of filer.old).disk (view_of filer.old).slots (view_of filer.old).layout (view_of filer.new).disk
+        (view_of filer.new).slots (view_of filer.new).runs) }
+    ensures sound { (x : List Sector) (shapes : Shapes) (spaces : List Space)
+        → MayBegin (view_of filer.old).disk (view_of filer.old).slots (view_of filer.old).layout
+        (view_of filer.old).runs shapes spaces x
         → IfErr result (λ e. e ≡ halt.Disk) }
-    ensures makes { OnOk result (MakesAll 3 0 0 96 (view_of filer.old).disk (view_of filer.old).slots (view_of filer.new).disk (view_of filer.new).slots) }
-    ensures stopped { OnErr result (MakesSome 3 0 0 96 (view_of filer.old).disk (view_of filer.old).slots (view_of filer.new).disk (view_of filer.new).slots) }
-    ensures cause { IfErr result (MakeHalts (view_of filer.old).layout 3 (λ p. p < 96) (λ p. p < 96) (view_of filer.old).disk (view_of filer.old).slots (view_of filer.new).disk (view_of filer.new).slots) }
-    ensures keeps_to { (o : InitialState) (named : Triples) → Keeps o filer.old named → o.tables ≡ None → NamesNoneOf 3 (λ p. p < 96) named → OnOk result (KeepsOn o filer.new) }
-    ensures reasons { (o : InitialState) (named : Triples) → Keeps o filer.old named → o.tables ≡ None → NamesNoneOf 3 (λ p. p < 96) named → IfErr result (ShowsReason o (view_of filer.old).layout (view_of filer.new).disk) }
-    ensures tables { (o : InitialState) (named : Triples) → Keeps (telling o []) filer.old named → NamesNoneOf 3 (λ p. p < 96) named → OnOk result (KeepsRevealed o filer.new) }
+    ensures makes { OnOk result
+        (MakesAll 3 0 0 96 (view_of filer.old).disk (view_of filer.old).slots (view_of filer.new).disk
+        (view_of filer.new).slots) }
+    ensures stopped { OnErr result
+        (MakesSome 3 0 0 96 (view_of filer.old).disk (view_of filer.old).slots (view_of filer.new).disk
+        (view_of filer.new).slots) }
+    ensures cause { IfErr result
+        (MakeHalts (view_of filer.old).layout 3 (λ p. p < 96) (λ p. p < 96) (view_of filer.old).disk
+        (view_of filer.old).slots (view_of filer.new).disk (view_of filer.new).slots) }
+    ensures keeps_to { (o : InitialState) (named : Triples) → Keeps o filer.old named → o.tables ≡ None
+        → NamesNoneOf 3 (λ p. p < 96) named → OnOk result (KeepsOn o filer.new) }
+    ensures reasons { (o : InitialState) (named : Triples) → Keeps o filer.old named → o.tables ≡ None
+        → NamesNoneOf 3 (λ p. p < 96) named
+        → IfErr result (ShowsReason o (view_of filer.old).layout (view_of filer.new).disk) }
+    ensures tables { (o : InitialState) (named : Triples) → Keeps (telling o []) filer.old named
+        → NamesNoneOf 3 (λ p. p < 96) named → OnOk result (KeepsRevealed o filer.new) }
     ensures evidence_seen { IfErr result (ShowsEvidence (view_of filer.new).disk) }
     ensures counted { result ≡ Err halt.Disk → Rose (view_of filer.old).disk.faults (view_of filer.new).disk.faults }
     ensures root { RootStays (view_of filer.old).disk (view_of filer.new).disk }
     ensures layout { (view_of filer.new).layout ≡ (view_of filer.old).layout }
     ensures runs { (view_of filer.new).runs ≡ (view_of filer.old).runs }
-    ensures cost { (view_of filer.new).disk.transfers ≤ (view_of filer.old).disk.transfers + 96 * (8 * (view_of filer.old).layout.vam + 100) }
+    ensures cost { (view_of filer.new).disk.transfers ≤ (view_of filer.old).disk.transfers + 96
+        * (8 * (view_of filer.old).layout.vam + 100) }
 {
     let mut page = 0;
     while page < TABLE_PAGES {
@@ -64,22 +81,41 @@ fn make_pages<D: Disk, A: Allocator>(filer: &mut Filer<D, A>) -> Result<(), Halt
 /// that might have of file 3 goes first.
 pub fn make_tables<D: Disk, A: Allocator>(filer: &mut Filer<D, A>) -> Result<(), Halt>
     requires size { FitsLayout (view_of filer.old) }
-    ensures made { (x : List Sector) (shapes : Shapes) (spaces : List Space) → MayBegin (view_of filer.old).disk (view_of filer.old).slots (view_of filer.old).layout (view_of filer.old).runs shapes spaces x
-        → OnOk result (BegunBy (view_of filer.old).disk (view_of filer.old).slots (view_of filer.old).layout (view_of filer.new).disk (view_of filer.new).slots (view_of filer.new).runs) }
-    ensures sound { (x : List Sector) (shapes : Shapes) (spaces : List Space) → MayBegin (view_of filer.old).disk (view_of filer.old).slots (view_of filer.old).layout (view_of filer.old).runs shapes spaces x
+    ensures made { (x : List Sector) (shapes : Shapes) (spaces : List Space)
+        → MayBegin (view_of filer.old).disk (view_of filer.old).slots (view_of filer.old).layout
+        (view_of filer.old).runs shapes spaces x
+        → OnOk result
+        (BegunBy (view_of filer.old).disk (view_of filer.old).slots (view_of filer.old).layout (view_of filer.new).disk
+        (view_of filer.new).slots (view_of filer.new).runs) }
+    ensures sound { (x : List Sector) (shapes : Shapes) (spaces : List Space)
+        → MayBegin (view_of filer.old).disk (view_of filer.old).slots (view_of filer.old).layout
+        (view_of filer.old).runs shapes spaces x
         → IfErr result (λ e. e ≡ halt.Disk) }
-    ensures makes { OnOk result (MakesAll 3 0 0 96 (view_of filer.old).disk (view_of filer.old).slots (view_of filer.new).disk (view_of filer.new).slots) }
-    ensures stopped { OnErr result (MakesSome 3 0 0 96 (view_of filer.old).disk (view_of filer.old).slots (view_of filer.new).disk (view_of filer.new).slots) }
-    ensures cause { IfErr result (CreateHalts (view_of filer.old).layout 3 (λ p. p < 96) (view_of filer.old).disk (view_of filer.old).slots (view_of filer.new).disk (view_of filer.new).slots) }
-    ensures keeps_to { (o : InitialState) (named : Triples) → Keeps o filer.old named → IsUnframed (view_of filer.old).slots 3 → o.tables ≡ None → OnOk result (KeepsOn o filer.new) }
-    ensures reasons { (o : InitialState) (named : Triples) → Keeps o filer.old named → IsUnframed (view_of filer.old).slots 3 → o.tables ≡ None → IfErr result (ShowsReason o (view_of filer.old).layout (view_of filer.new).disk) }
-    ensures tables { (o : InitialState) (named : Triples) → Keeps (telling o []) filer.old named → IsUnframed (view_of filer.old).slots 3 → OnOk result (KeepsRevealed o filer.new) }
+    ensures makes { OnOk result
+        (MakesAll 3 0 0 96 (view_of filer.old).disk (view_of filer.old).slots (view_of filer.new).disk
+        (view_of filer.new).slots) }
+    ensures stopped { OnErr result
+        (MakesSome 3 0 0 96 (view_of filer.old).disk (view_of filer.old).slots (view_of filer.new).disk
+        (view_of filer.new).slots) }
+    ensures cause { IfErr result
+        (CreateHalts (view_of filer.old).layout 3 (λ p. p < 96) (view_of filer.old).disk (view_of filer.old).slots
+        (view_of filer.new).disk (view_of filer.new).slots) }
+    ensures keeps_to { (o : InitialState) (named : Triples) → Keeps o filer.old named
+        → IsUnframed (view_of filer.old).slots 3 → o.tables ≡ None → OnOk result (KeepsOn o filer.new) }
+    ensures reasons { (o : InitialState) (named : Triples) → Keeps o filer.old named
+        → IsUnframed (view_of filer.old).slots 3 → o.tables ≡ None
+        → IfErr result (ShowsReason o (view_of filer.old).layout (view_of filer.new).disk) }
+    ensures tables { (o : InitialState) (named : Triples) → Keeps (telling o []) filer.old named
+        → IsUnframed (view_of filer.old).slots 3 → OnOk result (KeepsRevealed o filer.new) }
     ensures evidence_seen { IfErr result (ShowsEvidence (view_of filer.new).disk) }
     ensures counted { result ≡ Err halt.Disk → Rose (view_of filer.old).disk.faults (view_of filer.new).disk.faults }
     ensures root { RootStays (view_of filer.old).disk (view_of filer.new).disk }
     ensures layout { (view_of filer.new).layout ≡ (view_of filer.old).layout }
-    ensures runs { (n : ℕ) → runs_of n (view_of filer.new).runs ≡ filter (λ r. not (r.id == 3)) (runs_of n (view_of filer.old).runs) }
-    ensures cost { (view_of filer.new).disk.transfers ≤ (view_of filer.old).disk.transfers + (2 * (1 + 51 * most_records (view_of filer.old).layout.sectors) + 96 * (8 * (view_of filer.old).layout.vam + 100)) }
+    ensures runs { (n : ℕ)
+        → runs_of n (view_of filer.new).runs ≡ filter (λ r. not (r.id == 3)) (runs_of n (view_of filer.old).runs) }
+    ensures cost { (view_of filer.new).disk.transfers ≤ (view_of filer.old).disk.transfers
+        + (2 * (1 + 51 * most_records (view_of filer.old).layout.sectors) + 96
+        * (8 * (view_of filer.old).layout.vam + 100)) }
 {
     match filer.cut(TABLES, 0) {
         Ok(()) => (),
@@ -112,23 +148,44 @@ fn discard_tables<D: Disk, A: Allocator>(filer: &mut Filer<D, A>)
 /// nothing of them is written.
 pub fn free_tables<D: Disk, A: Allocator>(filer: &mut Filer<D, A>) -> Result<(), Halt>
     requires size { FitsLayout (view_of filer.old) }
-    ensures freed { (x : List Sector) (shapes : Shapes) (spaces : List Space) → Books (view_of filer.old).disk (view_of filer.old).slots (view_of filer.old).layout (view_of filer.old).runs shapes spaces x
-        → OnOk result (EndedBy x (view_of filer.old).disk (view_of filer.old).slots (view_of filer.old).layout (view_of filer.new).disk (view_of filer.new).slots (view_of filer.new).runs) }
-    ensures sound { (x : List Sector) (shapes : Shapes) (spaces : List Space) → Books (view_of filer.old).disk (view_of filer.old).slots (view_of filer.old).layout (view_of filer.old).runs shapes spaces x
+    ensures freed { (x : List Sector) (shapes : Shapes) (spaces : List Space)
+        → Books (view_of filer.old).disk (view_of filer.old).slots (view_of filer.old).layout (view_of filer.old).runs
+        shapes spaces x
+        → OnOk result
+        (EndedBy x (view_of filer.old).disk (view_of filer.old).slots (view_of filer.old).layout
+        (view_of filer.new).disk (view_of filer.new).slots (view_of filer.new).runs) }
+    ensures sound { (x : List Sector) (shapes : Shapes) (spaces : List Space)
+        → Books (view_of filer.old).disk (view_of filer.old).slots (view_of filer.old).layout (view_of filer.old).runs
+        shapes spaces x
         → IfErr result (λ e. e ≡ halt.Disk) }
-    ensures first { (x : List Sector) (shapes : Shapes) (spaces : List Space) → Books (view_of filer.old).disk (view_of filer.old).slots (view_of filer.old).layout (view_of filer.old).runs shapes spaces x
-        → OnErr result (EndedSome x (view_of filer.old).disk (view_of filer.old).slots (view_of filer.new).disk (view_of filer.new).slots) }
-    ensures makes { OnOk result (MakesFree 96 (view_of filer.old).disk (view_of filer.old).slots (view_of filer.new).disk (view_of filer.new).slots) }
-    ensures stopped { OnErr result (MakesSomeFree (view_of filer.old).disk (view_of filer.old).slots (view_of filer.new).disk (view_of filer.new).slots) }
-    ensures cause { IfErr result (CutFileHalts (AreTables (view_of filer.old).slots) (view_of filer.old).layout (kept_by (view_of filer.old)) 3 0 (λ page. page < 96) (view_of filer.old).disk (view_of filer.old).slots (view_of filer.new).disk) }
-    ensures keeps_to { (o : InitialState) (named : Triples) → Keeps o filer.old named → o.tables ≡ None → OnOk result (KeepsBare o filer.new) }
-    ensures reasons { (o : InitialState) (named : Triples) → Keeps o filer.old named → o.tables ≡ None → NamesTables named → IfErr result (ShowsReason o (view_of filer.old).layout (view_of filer.new).disk) }
-    ensures right { (o : InitialState) (named : Triples) → Keeps o filer.old named → o.tables ≡ None → NamesTables named → IfErr result MissesNone }
+    ensures first { (x : List Sector) (shapes : Shapes) (spaces : List Space)
+        → Books (view_of filer.old).disk (view_of filer.old).slots (view_of filer.old).layout (view_of filer.old).runs
+        shapes spaces x
+        → OnErr result
+        (EndedSome x (view_of filer.old).disk (view_of filer.old).slots (view_of filer.new).disk
+        (view_of filer.new).slots) }
+    ensures makes { OnOk result
+        (MakesFree 96 (view_of filer.old).disk (view_of filer.old).slots (view_of filer.new).disk
+        (view_of filer.new).slots) }
+    ensures stopped { OnErr result
+        (MakesSomeFree (view_of filer.old).disk (view_of filer.old).slots (view_of filer.new).disk
+        (view_of filer.new).slots) }
+    ensures cause { IfErr result
+        (CutFileHalts (AreTables (view_of filer.old).slots) (view_of filer.old).layout (kept_by (view_of filer.old)) 3 0
+        (λ page. page < 96) (view_of filer.old).disk (view_of filer.old).slots (view_of filer.new).disk) }
+    ensures keeps_to { (o : InitialState) (named : Triples) → Keeps o filer.old named → o.tables ≡ None
+        → OnOk result (KeepsBare o filer.new) }
+    ensures reasons { (o : InitialState) (named : Triples) → Keeps o filer.old named → o.tables ≡ None
+        → NamesTables named → IfErr result (ShowsReason o (view_of filer.old).layout (view_of filer.new).disk) }
+    ensures right { (o : InitialState) (named : Triples) → Keeps o filer.old named → o.tables ≡ None → NamesTables named
+        → IfErr result MissesNone }
     ensures evidence_seen { IfErr result (ShowsEvidence (view_of filer.new).disk) }
     ensures counted { result ≡ Err halt.Disk → Rose (view_of filer.old).disk.faults (view_of filer.new).disk.faults }
     ensures root { RootStays (view_of filer.old).disk (view_of filer.new).disk }
     ensures layout { (view_of filer.new).layout ≡ (view_of filer.old).layout }
-    ensures cost { (view_of filer.new).disk.transfers ≤ (view_of filer.old).disk.transfers + (96 * (16 + 4 * (view_of filer.old).layout.vam) + 2 * (1 + 51 * most_records (view_of filer.old).layout.sectors)) }
+    ensures cost { (view_of filer.new).disk.transfers ≤ (view_of filer.old).disk.transfers
+        + (96 * (16 + 4 * (view_of filer.old).layout.vam) + 2
+        * (1 + 51 * most_records (view_of filer.old).layout.sectors)) }
     ensures own { RelabelsOwn 3 (view_of filer.old).disk (view_of filer.new).disk }
 {
     discard_tables(filer);

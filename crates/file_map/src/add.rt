@@ -42,10 +42,14 @@ fn extend<T: SortedEntries>(
 ) -> Result<bool, MapError<T::Error>>
     requires few { sectors ≤ 1048576 }
     requires run { IsRun sectors run }
-    ensures joined { (named : Triples) → AreNamed sectors (T.lists entries.old) named → IsNew named run → IfOk result (λ done. done ≡ true → AreNamed sectors (T.lists entries.new) (with_run named run)) }
-    ensures same { (xs : List (List ℕ)) → T.lists entries.old xs → IfOk result (λ done. done ≡ false → T.lists entries.new xs) }
-    ensures same_count { IfOk result (λ done. done ≡ false → (n : ℕ) → T.counts entries.old n → T.counts entries.new n) }
-    ensures same_sights { IfOk result (λ done. done ≡ false → (sight : Sight) → T.shows entries.new sight → T.shows entries.old sight) }
+    ensures joined { (named : Triples) → AreNamed sectors (T.lists entries.old) named → IsNew named run
+        → IfOk result (λ done. done ≡ true → AreNamed sectors (T.lists entries.new) (with_run named run)) }
+    ensures same { (xs : List (List ℕ)) → T.lists entries.old xs
+        → IfOk result (λ done. done ≡ false → T.lists entries.new xs) }
+    ensures same_count { IfOk result
+        (λ done. done ≡ false → (n : ℕ) → T.counts entries.old n → T.counts entries.new n) }
+    ensures same_sights { IfOk result
+        (λ done. done ≡ false → (sight : Sight) → T.shows entries.new sight → T.shows entries.old sight) }
     ensures well { (named : Triples) → AreNamed sectors (T.lists entries.old) named → IfErr result FromMemory }
     ensures kept { T.beside entries.old entries.new }
     ensures cause { IfErr result (IsCause sectors ⊥ (T.shows entries.old) (T.accounted entries.old entries.new)) }
@@ -67,9 +71,13 @@ fn extend<T: SortedEntries>(
 fn put<T: SortedEntries>(entries: &mut T, sectors: u32, run: Run) -> Result<(), MapError<T::Error>>
     requires few { sectors ≤ 1048576 }
     requires run { IsRun sectors run }
-    ensures added { (named : Triples) → AreNamed sectors (T.lists entries.old) named → IsNew named run → (n : ℕ) → T.counts entries.old n → n < most_records sectors → n < T.room entries.old → MatchResult result (λ _. AreNamed sectors (T.lists entries.new) (with_run named run)) FromMemory }
+    ensures added { (named : Triples) → AreNamed sectors (T.lists entries.old) named → IsNew named run → (n : ℕ)
+        → T.counts entries.old n → n < most_records sectors → n < T.room entries.old
+        → MatchResult result (λ _. AreNamed sectors (T.lists entries.new) (with_run named run)) FromMemory }
     ensures kept { T.beside entries.old entries.new }
-    ensures cause { IfErr result (IsAddCause sectors ((n : ℕ) → T.counts entries.old n → T.room entries.old ≤ n) (T.shows entries.old) (T.accounted entries.old entries.new)) }
+    ensures cause { IfErr result
+        (IsAddCause sectors ((n : ℕ) → T.counts entries.old n → T.room entries.old ≤ n) (T.shows entries.old)
+        (T.accounted entries.old entries.new)) }
     ensures cost { T.spent entries.new ≤ T.spent entries.old + T.look_cost + T.replace_cost + T.insert_cost }
 {
     if extend(entries, sectors, run)? {
@@ -88,12 +96,17 @@ pub fn add<T: SortedEntries>(
     requires count { IsCount sectors }
     requires run { IsRun sectors run }
     requires room { most_records sectors ≤ T.room entries.old }
-    ensures added { (named : Triples) → AreNamed sectors (T.lists entries.old) named → IsNew named run → MatchResult result (λ _. AreNamed sectors (T.lists entries.new) (with_run named run)) (IsFullOr (T.counts entries.old (most_records sectors)) (AreNamed sectors (T.lists entries.new) named)) }
+    ensures added { (named : Triples) → AreNamed sectors (T.lists entries.old) named → IsNew named run
+        → MatchResult result (λ _. AreNamed sectors (T.lists entries.new) (with_run named run))
+        (IsFullOr (T.counts entries.old (most_records sectors)) (AreNamed sectors (T.lists entries.new) named)) }
     ensures room { (n : ℕ) → T.counts entries.old n → IfOk result (λ _. n < most_records sectors) }
     ensures full_same { (b : List ℕ) → T.revealed entries.old b → IfErr result (IfFull (T.revealed entries.new b)) }
     ensures kept { T.beside entries.old entries.new }
-    ensures cause { IfErr result (IsAddCause sectors (IsMost sectors (T.counts entries.old)) (T.shows entries.old) (T.accounted entries.old entries.new)) }
-    ensures cost { T.spent entries.new ≤ T.spent entries.old + T.count_cost + T.look_cost + T.replace_cost + T.insert_cost }
+    ensures cause { IfErr result
+        (IsAddCause sectors (IsMost sectors (T.counts entries.old)) (T.shows entries.old)
+        (T.accounted entries.old entries.new)) }
+    ensures cost { T.spent entries.new ≤ T.spent entries.old + T.count_cost + T.look_cost + T.replace_cost
+        + T.insert_cost }
 {
     if count_of(entries, sectors)? == most_of(sectors) {
         return Err(MapError::Full);

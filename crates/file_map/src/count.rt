@@ -24,7 +24,8 @@ pub fn count_of<T: SearchedEntries>(
     requires { IsCount sectors }
     ensures count { (n : ℕ) → T.counts entries.old n → IfOk result (λ count. count ≡ n) }
     ensures few { IfOk result (λ count. count ≤ most_records sectors) }
-    ensures well { (xs : List (List ℕ)) → T.lists entries.old xs → length xs ≤ most_records sectors → IfErr result FromMemory }
+    ensures well { (xs : List (List ℕ)) → T.lists entries.old xs → length xs ≤ most_records sectors
+        → IfErr result FromMemory }
     ensures same { (xs : List (List ℕ)) → T.lists entries.old xs → T.lists entries.new xs }
     ensures same_count { (n : ℕ) → T.counts entries.old n → T.counts entries.new n }
     ensures same_sights { (sight : Sight) → T.shows entries.new sight → T.shows entries.old sight }

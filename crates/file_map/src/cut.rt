@@ -21,7 +21,8 @@ fn cut_last<T: CutEntries>(
     from: u32,
 ) -> Result<bool, MapError<T::Error>>
     requires { sectors ≤ 1048576 }
-    ensures step { (named : Triples) → AreNamed sectors (T.lists entries.old) named → (n : ℕ) → T.counts entries.old n → MatchResult result (IsStep sectors (T.lists entries.new) (T.counts entries.new) named id from n) FromMemory }
+    ensures step { (named : Triples) → AreNamed sectors (T.lists entries.old) named → (n : ℕ) → T.counts entries.old n
+        → MatchResult result (IsStep sectors (T.lists entries.new) (T.counts entries.new) named id from n) FromMemory }
     ensures kept { T.beside entries.old entries.new }
     ensures cause { IfErr result (IsCause sectors ⊥ (T.shows entries.old) (T.accounted entries.old entries.new)) }
     ensures more { IfOk result (λ more. more ≡ true → IsToCut id from (T.shows entries.old)) }
@@ -56,12 +57,23 @@ pub fn cut<T: CutEntries>(
     from: u32,
 ) -> Result<(), MapError<T::Error>>
     requires { IsCount sectors }
-    ensures cut { (named : Triples) → AreNamed sectors (T.lists entries.old) named → MatchResult result (λ _. AreNamed sectors (T.lists entries.new) (without_from named id from)) FromMemory }
+    ensures cut { (named : Triples) → AreNamed sectors (T.lists entries.old) named
+        → MatchResult result (λ _. AreNamed sectors (T.lists entries.new) (without_from named id from)) FromMemory }
     ensures kept { T.beside entries.old entries.new }
-    ensures cause { IfErr result (λ error. (m : T) × T.beside entries.old m × T.beside m entries.new × IsCause sectors ⊥ (T.shows m) (T.accounted entries.old entries.new) error) }
-    ensures begun { IfErr result (λ error. IsCause sectors ⊥ (T.shows entries.old) (T.accounted entries.old entries.new) error ⊎ IsToCut id from (T.shows entries.old)) }
-    ensures cost { T.spent entries.new ≤ T.spent entries.old + T.count_cost + most_records sectors * (T.look_cost + T.replace_cost + T.remove_cost) }
-    ensures cost_sized { (named : Triples) (size : ℕ) → AreNamed sectors (T.lists entries.old) named → IsSize named id size → T.spent entries.new ≤ T.spent entries.old + T.count_cost + (size + 2) * (T.look_cost + T.replace_cost + T.remove_cost) }
+    ensures cause { IfErr result
+        (λ error.
+        (m : T) × T.beside entries.old m × T.beside m entries.new
+        × IsCause sectors ⊥ (T.shows m) (T.accounted entries.old entries.new) error) }
+    ensures begun { IfErr result
+        (λ error.
+        IsCause sectors ⊥ (T.shows entries.old) (T.accounted entries.old entries.new) error
+        ⊎ IsToCut id from (T.shows entries.old)) }
+    ensures cost { T.spent entries.new ≤ T.spent entries.old + T.count_cost + most_records sectors
+        * (T.look_cost + T.replace_cost + T.remove_cost) }
+    ensures cost_sized { (named : Triples) (size : ℕ) → AreNamed sectors (T.lists entries.old) named
+        → IsSize named id size
+        → T.spent entries.new ≤ T.spent entries.old + T.count_cost + (size + 2)
+        * (T.look_cost + T.replace_cost + T.remove_cost) }
 {
     let mut left = count_of(entries, sectors)?;
     'cutting: while left > 0 {

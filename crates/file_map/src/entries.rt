@@ -68,7 +68,8 @@ pub trait SearchedEntries {
         key: &Key,
         into: &mut Record,
     ) -> Result<Option<u32>, TreeError<Self::Error>>
-        ensures answer { (xs : List (List ℕ)) → lists self.old xs → MatchResult result (λ found. IsLastEntry 12 xs key.now into.new (is_some found)) FromMemory }
+        ensures answer { (xs : List (List ℕ)) → lists self.old xs
+            → MatchResult result (λ found. IsLastEntry 12 xs key.now into.new (is_some found)) FromMemory }
         ensures shown { IfOk result (λ found. IfSome found (λ page. shows self.old (Entry page into.new))) }
         ensures same { (xs : List (List ℕ)) → lists self.old xs → lists self.new xs }
         ensures same_count { (n : ℕ) → counts self.old n → counts self.new n }
@@ -85,7 +86,8 @@ pub trait SearchedEntries {
         key: &Key,
         into: &mut Record,
     ) -> Result<Option<u32>, TreeError<Self::Error>>
-        ensures answer { (xs : List (List ℕ)) → lists self.old xs → MatchResult result (IsFirst 12 xs key.now into.new) FromMemory }
+        ensures answer { (xs : List (List ℕ)) → lists self.old xs
+            → MatchResult result (IsFirst 12 xs key.now into.new) FromMemory }
         ensures shown { IfOk result (λ found. IfSome found (λ page. shows self.old (Entry page into.new))) }
         ensures same { (xs : List (List ℕ)) → lists self.old xs → lists self.new xs }
         ensures same_count { (n : ℕ) → counts self.old n → counts self.new n }
@@ -123,16 +125,23 @@ pub trait SortedEntries: SearchedEntries {
 
     /// Puts an entry after those whose key is at most its own.
     fn insert(&mut self, entry: &Record) -> Result<(), TreeError<Self::Error>>
-        ensures answer { (xs : List (List ℕ)) → Self.lists self.old xs → MatchResult result (λ _. IsPut 12 (Self.lists self.new) xs entry.now) (IsFullOr (Self.room self.old) (Self.lists self.new) xs) }
+        ensures answer { (xs : List (List ℕ)) → Self.lists self.old xs
+            → MatchResult result (λ _. IsPut 12 (Self.lists self.new) xs entry.now)
+            (IsFullOr (Self.room self.old) (Self.lists self.new) xs) }
         ensures kept { Self.beside self.old self.new }
-        ensures cause { IfErr result (IsPutCause ((n : ℕ) → Self.counts self.old n → Self.room self.old ≤ n) (Self.shows self.old) (Self.accounted self.old self.new)) }
+        ensures cause { IfErr result
+            (IsPutCause ((n : ℕ) → Self.counts self.old n → Self.room self.old ≤ n) (Self.shows self.old)
+            (Self.accounted self.old self.new)) }
         ensures cost { Self.spent self.new ≤ Self.spent self.old + insert_cost };
 
     /// Writes an entry over the last with its key. False where there is none.
     fn replace_key(&mut self, entry: &Record) -> Result<bool, TreeError<Self::Error>>
-        ensures answer { (xs : List (List ℕ)) → Self.lists self.old xs → MatchResult result (IsReplaced 12 (Self.lists self.new) xs entry.now) FromMemory }
-        ensures same_count { IfOk result (λ done. done ≡ false → (n : ℕ) → Self.counts self.old n → Self.counts self.new n) }
-        ensures same_sights { IfOk result (λ done. done ≡ false → (sight : Sight) → Self.shows self.new sight → Self.shows self.old sight) }
+        ensures answer { (xs : List (List ℕ)) → Self.lists self.old xs
+            → MatchResult result (IsReplaced 12 (Self.lists self.new) xs entry.now) FromMemory }
+        ensures same_count { IfOk result
+            (λ done. done ≡ false → (n : ℕ) → Self.counts self.old n → Self.counts self.new n) }
+        ensures same_sights { IfOk result
+            (λ done. done ≡ false → (sight : Sight) → Self.shows self.new sight → Self.shows self.old sight) }
         ensures kept { Self.beside self.old self.new }
         ensures cause { IfErr result (IsCause ⊥ (Self.shows self.old) (Self.accounted self.old self.new)) }
         ensures cost { Self.spent self.new ≤ Self.spent self.old + replace_cost };
@@ -145,7 +154,8 @@ pub trait CutEntries: SortedEntries {
 
     /// Takes out the last entry with this key. False where there is none.
     fn remove_key(&mut self, key: &Key) -> Result<bool, TreeError<Self::Error>>
-        ensures answer { (xs : List (List ℕ)) → Self.lists self.old xs → MatchResult result (IsTakenOut 12 (Self.lists self.new) xs key.now) FromMemory }
+        ensures answer { (xs : List (List ℕ)) → Self.lists self.old xs
+            → MatchResult result (IsTakenOut 12 (Self.lists self.new) xs key.now) FromMemory }
         ensures kept { Self.beside self.old self.new }
         ensures cause { IfErr result (IsCause ⊥ (Self.shows self.old) (Self.accounted self.old self.new)) }
         ensures cost { Self.spent self.new ≤ Self.spent self.old + remove_cost };

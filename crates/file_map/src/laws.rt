@@ -9,5 +9,6 @@ use flat_mem::FlatMem;
 
 /// A map has at most as many records as data sectors are named, where each is named for one page alone.
 pub fn records_are_few<M: FlatMem>(map: &FileMap<M>)
-    ensures { (named : Triples) → Names map.now named → (n : ℕ) → Counts map.now n → AreFew (map_sectors map.now) named n }
+    ensures { (named : Triples) → Names map.now named → (n : ℕ) → Counts map.now n
+        → AreFew (map_sectors map.now) named n }
 {}

@@ -42,17 +42,21 @@ impl<M: FlatMem> FileMap<M> {
 
     /// The run that has this page, or none where the page has no sector.
     pub fn find(&mut self, id: FileId, page: u32) -> Result<Option<Run>, MapError<M::Error>>
-        ensures found { (named : Triples) → Names self.old named → MatchResult result (IsFound named id page) FromMemory }
+        ensures found { (named : Triples) → Names self.old named
+            → MatchResult result (IsFound named id page) FromMemory }
         ensures form { IfOk result (λ found. IfSome found (λ run. IsRun (map_sectors self.old) run)) }
         ensures holds { IfOk result (λ found. IfSome found (λ run. holds run id page ≡ true)) }
-        ensures read { IfOk result (λ found. IfSome found (λ run. (at : ℕ) × Shows self.old (Entry at (run_bytes run)))) }
+        ensures read { IfOk result
+            (λ found. IfSome found (λ run. (at : ℕ) × Shows self.old (Entry at (run_bytes run)))) }
         ensures same { (named : Triples) → Names self.old named → Names self.new named }
         ensures same_count { (n : ℕ) → Counts self.old n → Counts self.new n }
         ensures same_bytes { (b : List ℕ) → M.reveals (map_memory self.old) b → M.reveals (map_memory self.new) b }
         ensures sectors { map_sectors self.new ≡ map_sectors self.old }
         ensures kept { M.beside (map_memory self.old) (map_memory self.new) }
         ensures looked { M.only_reads (map_memory self.old) (map_memory self.new) }
-        ensures cause { IfErr result (IsCause (map_sectors self.old) ⊥ (Shows self.old) (M.accounted (map_memory self.old) (map_memory self.new))) }
+        ensures cause { IfErr result
+            (IsCause (map_sectors self.old) ⊥ (Shows self.old)
+            (M.accounted (map_memory self.old) (map_memory self.new))) }
         ensures cost { M.spent (map_memory self.new) ≤ M.spent (map_memory self.old) + 7 * M.cost }
     {
         let mut tree = PageTree::<&mut M, 24, 12>::over(&mut self.mem);
@@ -68,7 +72,9 @@ impl<M: FlatMem> FileMap<M> {
         ensures sectors { map_sectors self.new ≡ map_sectors self.old }
         ensures kept { M.beside (map_memory self.old) (map_memory self.new) }
         ensures looked { M.only_reads (map_memory self.old) (map_memory self.new) }
-        ensures cause { IfErr result (IsCause (map_sectors self.old) ⊥ (Shows self.old) (M.accounted (map_memory self.old) (map_memory self.new))) }
+        ensures cause { IfErr result
+            (IsCause (map_sectors self.old) ⊥ (Shows self.old)
+            (M.accounted (map_memory self.old) (map_memory self.new))) }
         ensures cost { M.spent (map_memory self.new) ≤ M.spent (map_memory self.old) + 7 * M.cost }
     {
         let mut tree = PageTree::<&mut M, 24, 12>::over(&mut self.mem);
@@ -85,7 +91,9 @@ impl<M: FlatMem> FileMap<M> {
         ensures sectors { map_sectors self.new ≡ map_sectors self.old }
         ensures kept { M.beside (map_memory self.old) (map_memory self.new) }
         ensures looked { M.only_reads (map_memory self.old) (map_memory self.new) }
-        ensures cause { IfErr result (IsCause (map_sectors self.old) ⊥ (Shows self.old) (M.accounted (map_memory self.old) (map_memory self.new))) }
+        ensures cause { IfErr result
+            (IsCause (map_sectors self.old) ⊥ (Shows self.old)
+            (M.accounted (map_memory self.old) (map_memory self.new))) }
         ensures cost { M.spent (map_memory self.new) ≤ M.spent (map_memory self.old) + 18 * M.cost }
     {
         let mut tree = PageTree::<&mut M, 24, 12>::over(&mut self.mem);
@@ -97,12 +105,17 @@ impl<M: FlatMem> FileMap<M> {
     /// The run is joined to the one before it where they touch in page and in sector.
     pub fn add(&mut self, run: Run) -> Result<(), MapError<M::Error>>
         requires { IsRun (map_sectors self.old) run }
-        ensures added { (named : Triples) → Names self.old named → IsNew named run → MatchResult result (λ _. Names self.new (with_run named run)) (IsFullOr (Counts self.old (most_records (map_sectors self.old))) (Names self.new named)) }
-        ensures full_same { (b : List ℕ) → M.reveals (map_memory self.old) b → IfErr result (IfFull (M.reveals (map_memory self.new) b)) }
+        ensures added { (named : Triples) → Names self.old named → IsNew named run
+            → MatchResult result (λ _. Names self.new (with_run named run))
+            (IsFullOr (Counts self.old (most_records (map_sectors self.old))) (Names self.new named)) }
+        ensures full_same { (b : List ℕ) → M.reveals (map_memory self.old) b
+            → IfErr result (IfFull (M.reveals (map_memory self.new) b)) }
         ensures room { (n : ℕ) → Counts self.old n → IfOk result (λ _. n < most_records (map_sectors self.old)) }
         ensures sectors { map_sectors self.new ≡ map_sectors self.old }
         ensures kept { M.beside (map_memory self.old) (map_memory self.new) }
-        ensures cause { IfErr result (IsAddCause (map_sectors self.old) (IsMost (map_sectors self.old) (Counts self.old)) (Shows self.old) (M.accounted (map_memory self.old) (map_memory self.new))) }
+        ensures cause { IfErr result
+            (IsAddCause (map_sectors self.old) (IsMost (map_sectors self.old) (Counts self.old)) (Shows self.old)
+            (M.accounted (map_memory self.old) (map_memory self.new))) }
         ensures cost { M.spent (map_memory self.new) ≤ M.spent (map_memory self.old) + 49 * M.cost }
     {
         let mut tree = PageTree::<&mut M, 24, 12>::over(&mut self.mem);
@@ -111,14 +124,25 @@ impl<M: FlatMem> FileMap<M> {
 
     /// Takes the pages of the file from one on out of the map, the leader among them.
     pub fn cut(&mut self, id: FileId, from: u32) -> Result<(), MapError<M::Error>>
-        ensures cut { (named : Triples) → Names self.old named → MatchResult result (λ _. Names self.new (without_from named id from)) FromMemory }
+        ensures cut { (named : Triples) → Names self.old named
+            → MatchResult result (λ _. Names self.new (without_from named id from)) FromMemory }
         ensures sectors { map_sectors self.new ≡ map_sectors self.old }
         ensures kept { M.beside (map_memory self.old) (map_memory self.new) }
-        ensures cause { IfErr result (λ error. (m : M) × M.beside (map_memory self.old) m × M.beside m (map_memory self.new) × IsCause (map_sectors self.old) ⊥ (ShownBy (M.reveals m) (M.size m / 512)) (M.accounted (map_memory self.old) (map_memory self.new)) error) }
+        ensures cause { IfErr result
+            (λ error.
+            (m : M) × M.beside (map_memory self.old) m × M.beside m (map_memory self.new)
+            × IsCause (map_sectors self.old) ⊥ (ShownBy (M.reveals m) (M.size m / 512))
+            (M.accounted (map_memory self.old) (map_memory self.new)) error) }
         // it is a cause in the bytes at the start, or a record of the file, whole or in part, was to be taken out of them
-        ensures begun { IfErr result (λ error. IsCause (map_sectors self.old) ⊥ (Shows self.old) (M.accounted (map_memory self.old) (map_memory self.new)) error ⊎ IsToCut id from (Shows self.old)) }
-        ensures cost { M.spent (map_memory self.new) ≤ M.spent (map_memory self.old) + (1 + most_records (map_sectors self.old) * (7 + 8 + 36)) * M.cost }
-        ensures cost_sized { (named : Triples) (size : ℕ) → Names self.old named → IsSize named id size → M.spent (map_memory self.new) ≤ M.spent (map_memory self.old) + (1 + (size + 2) * (7 + 8 + 36)) * M.cost }
+        ensures begun { IfErr result
+            (λ error.
+            IsCause (map_sectors self.old) ⊥ (Shows self.old) (M.accounted (map_memory self.old) (map_memory self.new))
+            error
+            ⊎ IsToCut id from (Shows self.old)) }
+        ensures cost { M.spent (map_memory self.new) ≤ M.spent (map_memory self.old)
+            + (1 + most_records (map_sectors self.old) * (7 + 8 + 36)) * M.cost }
+        ensures cost_sized { (named : Triples) (size : ℕ) → Names self.old named → IsSize named id size
+            → M.spent (map_memory self.new) ≤ M.spent (map_memory self.old) + (1 + (size + 2) * (7 + 8 + 36)) * M.cost }
     {
         let mut tree = PageTree::<&mut M, 24, 12>::over(&mut self.mem);
         cut::cut(&mut tree, self.sectors, id, from)

@@ -19,10 +19,12 @@ pub fn find<T: SearchedEntries>(
     page: u32,
 ) -> Result<Option<Run>, MapError<T::Error>>
     requires { sectors ≤ 1048576 }
-    ensures found { (named : Triples) → AreNamed sectors (T.lists entries.old) named → MatchResult result (IsFound named id page) FromMemory }
+    ensures found { (named : Triples) → AreNamed sectors (T.lists entries.old) named
+        → MatchResult result (IsFound named id page) FromMemory }
     ensures form { IfOk result (λ found. IfSome found (λ run. IsRun sectors run)) }
     ensures holds { IfOk result (λ found. IfSome found (λ run. holds run id page ≡ true)) }
-    ensures read { IfOk result (λ found. IfSome found (λ run. (at : ℕ) × T.shows entries.old (Entry at (run_bytes run)))) }
+    ensures read { IfOk result
+        (λ found. IfSome found (λ run. (at : ℕ) × T.shows entries.old (Entry at (run_bytes run)))) }
     ensures same { (xs : List (List ℕ)) → T.lists entries.old xs → T.lists entries.new xs }
     ensures same_count { (n : ℕ) → T.counts entries.old n → T.counts entries.new n }
     ensures same_sights { (sight : Sight) → T.shows entries.new sight → T.shows entries.old sight }
@@ -49,7 +51,8 @@ pub fn size<T: SearchedEntries>(
     id: FileId,
 ) -> Result<u32, MapError<T::Error>>
     requires { sectors ≤ 1048576 }
-    ensures size { (named : Triples) → AreNamed sectors (T.lists entries.old) named → MatchResult result (IsSize named id) FromMemory }
+    ensures size { (named : Triples) → AreNamed sectors (T.lists entries.old) named
+        → MatchResult result (IsSize named id) FromMemory }
     ensures same { (xs : List (List ℕ)) → T.lists entries.old xs → T.lists entries.new xs }
     ensures same_count { (n : ℕ) → T.counts entries.old n → T.counts entries.new n }
     ensures same_sights { (sight : Sight) → T.shows entries.new sight → T.shows entries.old sight }
@@ -76,7 +79,8 @@ pub fn next_file<T: SearchedEntries>(
     id: FileId,
 ) -> Result<Option<FileId>, MapError<T::Error>>
     requires { sectors ≤ 1048576 }
-    ensures next { (named : Triples) → AreNamed sectors (T.lists entries.old) named → MatchResult result (IsNext named id) FromMemory }
+    ensures next { (named : Triples) → AreNamed sectors (T.lists entries.old) named
+        → MatchResult result (IsNext named id) FromMemory }
     ensures above { IfOk result (λ found. IfSome found (λ next. (id < next) × (16 ≤ next))) }
     ensures same { (xs : List (List ℕ)) → T.lists entries.old xs → T.lists entries.new xs }
     ensures same_count { (n : ℕ) → T.counts entries.old n → T.counts entries.new n }

@@ -19,9 +19,11 @@ pub fn last_run<T: SearchedEntries>(
     page: u32,
 ) -> Result<Option<Run>, MapError<T::Error>>
     requires { sectors ≤ 1048576 }
-    ensures answer { (runs : List Run) → T.lists entries.old (map run_bytes runs) → AreRuns sectors runs → MatchResult result (IsLastRun runs id page) FromMemory }
+    ensures answer { (runs : List Run) → T.lists entries.old (map run_bytes runs) → AreRuns sectors runs
+        → MatchResult result (IsLastRun runs id page) FromMemory }
     ensures form { IfOk result (λ found. IfSome found (λ run. IsRun sectors run)) }
-    ensures shown { IfOk result (λ found. IfSome found (λ run. (at : ℕ) × T.shows entries.old (Entry at (run_bytes run)))) }
+    ensures shown { IfOk result
+        (λ found. IfSome found (λ run. (at : ℕ) × T.shows entries.old (Entry at (run_bytes run)))) }
     ensures same { (xs : List (List ℕ)) → T.lists entries.old xs → T.lists entries.new xs }
     ensures same_count { (n : ℕ) → T.counts entries.old n → T.counts entries.new n }
     ensures same_sights { (sight : Sight) → T.shows entries.new sight → T.shows entries.old sight }
@@ -49,9 +51,11 @@ pub fn first_run_above<T: SearchedEntries>(
     page: u32,
 ) -> Result<Option<Run>, MapError<T::Error>>
     requires { sectors ≤ 1048576 }
-    ensures answer { (runs : List Run) → T.lists entries.old (map run_bytes runs) → AreRuns sectors runs → MatchResult result (IsFirstRun runs id page) FromMemory }
+    ensures answer { (runs : List Run) → T.lists entries.old (map run_bytes runs) → AreRuns sectors runs
+        → MatchResult result (IsFirstRun runs id page) FromMemory }
     ensures form { IfOk result (λ found. IfSome found (λ run. IsRun sectors run)) }
-    ensures shown { IfOk result (λ found. IfSome found (λ run. (at : ℕ) × T.shows entries.old (Entry at (run_bytes run)))) }
+    ensures shown { IfOk result
+        (λ found. IfSome found (λ run. (at : ℕ) × T.shows entries.old (Entry at (run_bytes run)))) }
     ensures same { (xs : List (List ℕ)) → T.lists entries.old xs → T.lists entries.new xs }
     ensures same_count { (n : ℕ) → T.counts entries.old n → T.counts entries.new n }
     ensures same_sights { (sight : Sight) → T.shows entries.new sight → T.shows entries.old sight }

@@ -27,11 +27,22 @@ impl<D: Disk, A: Allocator> RegisterOver<D, A> {
     pub fn find(&mut self, key: &[u8; 4]) -> Result<Option<u32>, Halt>
         requires size { FitsLayout (view_of self.old.filer) }
         requires few { self.old.count ≤ 1024 }
-        ensures found { (b : List ℕ) → TablesReveal (view_of self.old.filer).disk (view_of self.old.filer).slots (view_of self.old.filer).layout (view_of self.old.filer).runs b → IsInKeyOrder 4 (entries_in 32 32 64 self.old.count b) → IfOk result (IsFound 4 (entries_in 32 32 64 self.old.count b) key.now) }
-        ensures same { (b : List ℕ) → TablesReveal (view_of self.old.filer).disk (view_of self.old.filer).slots (view_of self.old.filer).layout (view_of self.old.filer).runs b → TablesReveal (view_of self.new.filer).disk (view_of self.new.filer).slots (view_of self.new.filer).layout (view_of self.new.filer).runs b }
+        ensures found { (b : List ℕ)
+            → TablesReveal (view_of self.old.filer).disk (view_of self.old.filer).slots (view_of self.old.filer).layout
+            (view_of self.old.filer).runs b
+            → IsInKeyOrder 4 (entries_in 32 32 64 self.old.count b)
+            → IfOk result (IsFound 4 (entries_in 32 32 64 self.old.count b) key.now) }
+        ensures same { (b : List ℕ)
+            → TablesReveal (view_of self.old.filer).disk (view_of self.old.filer).slots (view_of self.old.filer).layout
+            (view_of self.old.filer).runs b
+            → TablesReveal (view_of self.new.filer).disk (view_of self.new.filer).slots (view_of self.new.filer).layout
+            (view_of self.new.filer).runs b }
         ensures count { self.new.count ≡ self.old.count }
         ensures kept { TablesBeside (view_of self.old.filer) (view_of self.new.filer) }
-        ensures cause { IfErr result (λ e. IsTableAccounted (view_of self.old.filer).disk (view_of self.old.filer).slots (view_of self.old.filer).layout (view_of self.old.filer).runs (view_of self.new.filer).disk e) }
+        ensures cause { IfErr result
+            (λ e.
+            IsTableAccounted (view_of self.old.filer).disk (view_of self.old.filer).slots
+            (view_of self.old.filer).layout (view_of self.old.filer).runs (view_of self.new.filer).disk e) }
         ensures cost { (view_of self.new.filer).disk.transfers ≤ (view_of self.old.filer).disk.transfers + 7 * 28 }
     {
         let mut table = RecordTable::<Part<TableMemory<D, A>>, 32, 4>::over(
@@ -45,12 +56,21 @@ impl<D: Disk, A: Allocator> RegisterOver<D, A> {
     pub fn add(&mut self, entry: &[u8; 32]) -> Result<(), TableError<Halt>>
         requires size { FitsLayout (view_of self.old.filer) }
         requires few { self.old.count ≤ 1024 }
-        ensures inserted { (b : List ℕ) → TablesReveal (view_of self.old.filer).disk (view_of self.old.filer).slots (view_of self.old.filer).layout (view_of self.old.filer).runs b
-            → OnOk result (IsInsertedIn 32 4 32 64 (TablesReveal (view_of self.new.filer).disk (view_of self.new.filer).slots (view_of self.new.filer).layout (view_of self.new.filer).runs) b self.old.count entry.now) }
+        ensures inserted { (b : List ℕ)
+            → TablesReveal (view_of self.old.filer).disk (view_of self.old.filer).slots (view_of self.old.filer).layout
+            (view_of self.old.filer).runs b
+            → OnOk result
+            (IsInsertedIn 32 4 32 64
+            (TablesReveal (view_of self.new.filer).disk (view_of self.new.filer).slots (view_of self.new.filer).layout
+            (view_of self.new.filer).runs)
+            b self.old.count entry.now) }
         ensures full { (result ≡ Err TableError.Full) ↔ (self.old.count ≡ 1024) }
         ensures count { self.new.count ≡ (if is_ok result then self.old.count + 1 else self.old.count) }
         ensures kept { TablesBeside (view_of self.old.filer) (view_of self.new.filer) }
-        ensures cause { IfErr result (IfMem (IsTableAccounted (view_of self.old.filer).disk (view_of self.old.filer).slots (view_of self.old.filer).layout (view_of self.old.filer).runs (view_of self.new.filer).disk)) }
+        ensures cause { IfErr result
+            (IfMem
+            (IsTableAccounted (view_of self.old.filer).disk (view_of self.old.filer).slots
+            (view_of self.old.filer).layout (view_of self.old.filer).runs (view_of self.new.filer).disk)) }
     {
         let mut table = RecordTable::<Part<TableMemory<D, A>>, 32, 4>::over(
             Part::of(self.filer.table_memory(), 32, 64),

@@ -25,17 +25,37 @@ impl<D: Disk, A: Allocator> Filer<D, A> {
     // The run of the map that has this page.
     fn search(&mut self, id: FileId, page: u32) -> Result<Option<Run>, Halt>
         requires size { (D.state self.old.swapper.disk).sectors ≡ self.old.swapper.layout.sectors }
-        ensures found { (m : List Sector) (named : Triples) → Stands (D.state self.old.swapper.disk) self.old.swapper.pool m → MapIs self.old.swapper.layout named m → IfOk result (IsFound named id page) }
+        ensures found { (m : List Sector) (named : Triples)
+            → Stands (D.state self.old.swapper.disk) self.old.swapper.pool m → MapIs self.old.swapper.layout named m
+            → IfOk result (IsFound named id page) }
         ensures form { IfOk result (λ found. IfSome found (λ run. IsRun self.old.swapper.layout.sectors run)) }
         ensures holds { IfOk result (λ found. IfSome found (λ run. holds run id page ≡ true)) }
-        ensures read { IfOk result (λ found. IfSome found (λ run. (at : ℕ) × MapShows self.old.swapper.layout (D.state self.old.swapper.disk) self.old.swapper.pool (Entry at (run_bytes run)))) }
-        ensures sound { (m : List Sector) (named : Triples) → Stands (D.state self.old.swapper.disk) self.old.swapper.pool m → MapIs self.old.swapper.layout named m → AreNamed m (IsMapHome FileMapPages self.old.swapper.layout) → IfErr result (λ e. e ≡ halt.Disk) }
-        ensures same { (m : List Sector) (named : Triples) → Stands (D.state self.old.swapper.disk) self.old.swapper.pool m → MapIs self.old.swapper.layout named m → Stands (D.state self.new.swapper.disk) self.new.swapper.pool m }
-        ensures same_bytes { (b : List ℕ) → Reveals FileMapPages (D.state self.old.swapper.disk) self.old.swapper.pool self.old.swapper.layout b → Reveals FileMapPages (D.state self.new.swapper.disk) self.new.swapper.pool self.old.swapper.layout b }
-        ensures right { (m : List Sector) (named : Triples) → Stands (D.state self.old.swapper.disk) self.old.swapper.pool m → MapIs self.old.swapper.layout named m → IfErr result IsFaultOrMismatch }
-        ensures cause { IfErr result (MapHalts self.old.swapper.layout (D.state self.old.swapper.disk) self.old.swapper.pool (D.state self.new.swapper.disk)) }
-        ensures beside { Beside FileMapPages (D.state self.old.swapper.disk) self.old.swapper.pool self.old.swapper.layout (D.state self.new.swapper.disk) self.new.swapper.pool self.new.swapper.layout }
-        ensures looked { Looked FileMapPages (D.state self.old.swapper.disk) self.old.swapper.pool self.old.swapper.layout (D.state self.new.swapper.disk) self.new.swapper.pool self.new.swapper.layout }
+        ensures read { IfOk result
+            (λ found.
+            IfSome found
+            (λ run.
+            (at : ℕ)
+            × MapShows self.old.swapper.layout (D.state self.old.swapper.disk) self.old.swapper.pool
+            (Entry at (run_bytes run)))) }
+        ensures sound { (m : List Sector) (named : Triples)
+            → Stands (D.state self.old.swapper.disk) self.old.swapper.pool m → MapIs self.old.swapper.layout named m
+            → AreNamed m (IsMapHome FileMapPages self.old.swapper.layout) → IfErr result (λ e. e ≡ halt.Disk) }
+        ensures same { (m : List Sector) (named : Triples)
+            → Stands (D.state self.old.swapper.disk) self.old.swapper.pool m → MapIs self.old.swapper.layout named m
+            → Stands (D.state self.new.swapper.disk) self.new.swapper.pool m }
+        ensures same_bytes { (b : List ℕ)
+            → Reveals FileMapPages (D.state self.old.swapper.disk) self.old.swapper.pool self.old.swapper.layout b
+            → Reveals FileMapPages (D.state self.new.swapper.disk) self.new.swapper.pool self.old.swapper.layout b }
+        ensures right { (m : List Sector) (named : Triples)
+            → Stands (D.state self.old.swapper.disk) self.old.swapper.pool m → MapIs self.old.swapper.layout named m
+            → IfErr result IsFaultOrMismatch }
+        ensures cause { IfErr result
+            (MapHalts self.old.swapper.layout (D.state self.old.swapper.disk) self.old.swapper.pool
+            (D.state self.new.swapper.disk)) }
+        ensures beside { Beside FileMapPages (D.state self.old.swapper.disk) self.old.swapper.pool
+            self.old.swapper.layout (D.state self.new.swapper.disk) self.new.swapper.pool self.new.swapper.layout }
+        ensures looked { Looked FileMapPages (D.state self.old.swapper.disk) self.old.swapper.pool
+            self.old.swapper.layout (D.state self.new.swapper.disk) self.new.swapper.pool self.new.swapper.layout }
         ensures runs { self.new.runs ≡ self.old.runs }
         ensures cost { (D.state self.new.swapper.disk).transfers ≤ (D.state self.old.swapper.disk).transfers + 14 }
     {
@@ -51,25 +71,52 @@ impl<D: Disk, A: Allocator> Filer<D, A> {
     /// without a transfer.
     pub fn find(&mut self, id: FileId, page: u32) -> Result<Option<Run>, Halt>
         requires size { (D.state self.old.swapper.disk).sectors ≡ self.old.swapper.layout.sectors }
-        ensures found { (m : List Sector) (named : Triples) → Stands (D.state self.old.swapper.disk) self.old.swapper.pool m → MapIs self.old.swapper.layout named m → AreOf named (runs_of self.old.swapper.layout.sectors self.old.runs)
+        ensures found { (m : List Sector) (named : Triples)
+            → Stands (D.state self.old.swapper.disk) self.old.swapper.pool m → MapIs self.old.swapper.layout named m
+            → AreOf named (runs_of self.old.swapper.layout.sectors self.old.runs)
             → IfOk result (IsFound named id page) }
-        ensures nowhere { (m : List Sector) (named : Triples) → Stands (D.state self.old.swapper.disk) self.old.swapper.pool m → MapIs self.old.swapper.layout named m → result ≡ Ok None → IsNowhere named id page }
+        ensures nowhere { (m : List Sector) (named : Triples)
+            → Stands (D.state self.old.swapper.disk) self.old.swapper.pool m → MapIs self.old.swapper.layout named m
+            → result ≡ Ok None → IsNowhere named id page }
         ensures form { IfOk result (λ found. IfSome found (λ run. IsRun self.old.swapper.layout.sectors run)) }
         ensures holds { IfOk result (λ found. IfSome found (λ run. holds run id page ≡ true)) }
-        ensures given { IfOk result (λ found. IfSome found (λ run. IsGiven self.old.swapper.layout (D.state self.old.swapper.disk) self.old.swapper.pool (runs_of self.old.swapper.layout.sectors self.old.runs) run)) }
-        ensures is_kept { IfOk result (λ found. IfSome found (λ run. IsOneOf run (runs_of self.old.swapper.layout.sectors self.new.runs))) }
-        ensures runs_given { (r : Run) → IsOneOf r (runs_of self.old.swapper.layout.sectors self.new.runs) → IsGiven self.old.swapper.layout (D.state self.old.swapper.disk) self.old.swapper.pool (runs_of self.old.swapper.layout.sectors self.old.runs) r }
-        ensures runs_are { (m : List Sector) (named : Triples) → Stands (D.state self.old.swapper.disk) self.old.swapper.pool m → MapIs self.old.swapper.layout named m → AreOf named (runs_of self.old.swapper.layout.sectors self.old.runs)
+        ensures given { IfOk result
+            (λ found.
+            IfSome found
+            (λ run.
+            IsGiven self.old.swapper.layout (D.state self.old.swapper.disk) self.old.swapper.pool
+            (runs_of self.old.swapper.layout.sectors self.old.runs) run)) }
+        ensures is_kept { IfOk result
+            (λ found. IfSome found (λ run. IsOneOf run (runs_of self.old.swapper.layout.sectors self.new.runs))) }
+        ensures runs_given { (r : Run) → IsOneOf r (runs_of self.old.swapper.layout.sectors self.new.runs)
+            → IsGiven self.old.swapper.layout (D.state self.old.swapper.disk) self.old.swapper.pool
+            (runs_of self.old.swapper.layout.sectors self.old.runs) r }
+        ensures runs_are { (m : List Sector) (named : Triples)
+            → Stands (D.state self.old.swapper.disk) self.old.swapper.pool m → MapIs self.old.swapper.layout named m
+            → AreOf named (runs_of self.old.swapper.layout.sectors self.old.runs)
             → AreOf named (runs_of self.old.swapper.layout.sectors self.new.runs) }
-        ensures idle { (r : Run) → find (λ r. holds r id page) (runs_of self.old.swapper.layout.sectors self.old.runs) ≡ Some r
+        ensures idle { (r : Run)
+            → find (λ r. holds r id page) (runs_of self.old.swapper.layout.sectors self.old.runs) ≡ Some r
             → (result ≡ Ok (Some r)) × (self.new.swapper ≡ self.old.swapper) × (self.new.runs ≡ self.old.runs) }
-        ensures sound { (m : List Sector) (named : Triples) → Stands (D.state self.old.swapper.disk) self.old.swapper.pool m → MapIs self.old.swapper.layout named m → AreNamed m (IsMapHome FileMapPages self.old.swapper.layout) → IfErr result (λ e. e ≡ halt.Disk) }
-        ensures same { (m : List Sector) (named : Triples) → Stands (D.state self.old.swapper.disk) self.old.swapper.pool m → MapIs self.old.swapper.layout named m → Stands (D.state self.new.swapper.disk) self.new.swapper.pool m }
-        ensures same_bytes { (b : List ℕ) → Reveals FileMapPages (D.state self.old.swapper.disk) self.old.swapper.pool self.old.swapper.layout b → Reveals FileMapPages (D.state self.new.swapper.disk) self.new.swapper.pool self.old.swapper.layout b }
-        ensures right { (m : List Sector) (named : Triples) → Stands (D.state self.old.swapper.disk) self.old.swapper.pool m → MapIs self.old.swapper.layout named m → IfErr result IsFaultOrMismatch }
-        ensures cause { IfErr result (MapHalts self.old.swapper.layout (D.state self.old.swapper.disk) self.old.swapper.pool (D.state self.new.swapper.disk)) }
-        ensures beside { Beside FileMapPages (D.state self.old.swapper.disk) self.old.swapper.pool self.old.swapper.layout (D.state self.new.swapper.disk) self.new.swapper.pool self.new.swapper.layout }
-        ensures looked { Looked FileMapPages (D.state self.old.swapper.disk) self.old.swapper.pool self.old.swapper.layout (D.state self.new.swapper.disk) self.new.swapper.pool self.new.swapper.layout }
+        ensures sound { (m : List Sector) (named : Triples)
+            → Stands (D.state self.old.swapper.disk) self.old.swapper.pool m → MapIs self.old.swapper.layout named m
+            → AreNamed m (IsMapHome FileMapPages self.old.swapper.layout) → IfErr result (λ e. e ≡ halt.Disk) }
+        ensures same { (m : List Sector) (named : Triples)
+            → Stands (D.state self.old.swapper.disk) self.old.swapper.pool m → MapIs self.old.swapper.layout named m
+            → Stands (D.state self.new.swapper.disk) self.new.swapper.pool m }
+        ensures same_bytes { (b : List ℕ)
+            → Reveals FileMapPages (D.state self.old.swapper.disk) self.old.swapper.pool self.old.swapper.layout b
+            → Reveals FileMapPages (D.state self.new.swapper.disk) self.new.swapper.pool self.old.swapper.layout b }
+        ensures right { (m : List Sector) (named : Triples)
+            → Stands (D.state self.old.swapper.disk) self.old.swapper.pool m → MapIs self.old.swapper.layout named m
+            → IfErr result IsFaultOrMismatch }
+        ensures cause { IfErr result
+            (MapHalts self.old.swapper.layout (D.state self.old.swapper.disk) self.old.swapper.pool
+            (D.state self.new.swapper.disk)) }
+        ensures beside { Beside FileMapPages (D.state self.old.swapper.disk) self.old.swapper.pool
+            self.old.swapper.layout (D.state self.new.swapper.disk) self.new.swapper.pool self.new.swapper.layout }
+        ensures looked { Looked FileMapPages (D.state self.old.swapper.disk) self.old.swapper.pool
+            self.old.swapper.layout (D.state self.new.swapper.disk) self.new.swapper.pool self.new.swapper.layout }
         ensures cost { (D.state self.new.swapper.disk).transfers ≤ (D.state self.old.swapper.disk).transfers + 14 }
     {
         let sectors = self.swapper.layout().sectors;
@@ -86,14 +133,28 @@ impl<D: Disk, A: Allocator> Filer<D, A> {
     /// One more than the highest page of the file, its leader left out, or 0.
     pub fn size(&mut self, id: FileId) -> Result<u32, Halt>
         requires sectors { (D.state self.old.swapper.disk).sectors ≡ self.old.swapper.layout.sectors }
-        ensures size { (m : List Sector) (named : Triples) → Stands (D.state self.old.swapper.disk) self.old.swapper.pool m → MapIs self.old.swapper.layout named m → IfOk result (IsSize named id) }
-        ensures sound { (m : List Sector) (named : Triples) → Stands (D.state self.old.swapper.disk) self.old.swapper.pool m → MapIs self.old.swapper.layout named m → AreNamed m (IsMapHome FileMapPages self.old.swapper.layout) → IfErr result (λ e. e ≡ halt.Disk) }
-        ensures same { (m : List Sector) (named : Triples) → Stands (D.state self.old.swapper.disk) self.old.swapper.pool m → MapIs self.old.swapper.layout named m → Stands (D.state self.new.swapper.disk) self.new.swapper.pool m }
-        ensures same_bytes { (b : List ℕ) → Reveals FileMapPages (D.state self.old.swapper.disk) self.old.swapper.pool self.old.swapper.layout b → Reveals FileMapPages (D.state self.new.swapper.disk) self.new.swapper.pool self.old.swapper.layout b }
-        ensures right { (m : List Sector) (named : Triples) → Stands (D.state self.old.swapper.disk) self.old.swapper.pool m → MapIs self.old.swapper.layout named m → IfErr result IsFaultOrMismatch }
-        ensures cause { IfErr result (MapHalts self.old.swapper.layout (D.state self.old.swapper.disk) self.old.swapper.pool (D.state self.new.swapper.disk)) }
-        ensures beside { Beside FileMapPages (D.state self.old.swapper.disk) self.old.swapper.pool self.old.swapper.layout (D.state self.new.swapper.disk) self.new.swapper.pool self.new.swapper.layout }
-        ensures looked { Looked FileMapPages (D.state self.old.swapper.disk) self.old.swapper.pool self.old.swapper.layout (D.state self.new.swapper.disk) self.new.swapper.pool self.new.swapper.layout }
+        ensures size { (m : List Sector) (named : Triples)
+            → Stands (D.state self.old.swapper.disk) self.old.swapper.pool m → MapIs self.old.swapper.layout named m
+            → IfOk result (IsSize named id) }
+        ensures sound { (m : List Sector) (named : Triples)
+            → Stands (D.state self.old.swapper.disk) self.old.swapper.pool m → MapIs self.old.swapper.layout named m
+            → AreNamed m (IsMapHome FileMapPages self.old.swapper.layout) → IfErr result (λ e. e ≡ halt.Disk) }
+        ensures same { (m : List Sector) (named : Triples)
+            → Stands (D.state self.old.swapper.disk) self.old.swapper.pool m → MapIs self.old.swapper.layout named m
+            → Stands (D.state self.new.swapper.disk) self.new.swapper.pool m }
+        ensures same_bytes { (b : List ℕ)
+            → Reveals FileMapPages (D.state self.old.swapper.disk) self.old.swapper.pool self.old.swapper.layout b
+            → Reveals FileMapPages (D.state self.new.swapper.disk) self.new.swapper.pool self.old.swapper.layout b }
+        ensures right { (m : List Sector) (named : Triples)
+            → Stands (D.state self.old.swapper.disk) self.old.swapper.pool m → MapIs self.old.swapper.layout named m
+            → IfErr result IsFaultOrMismatch }
+        ensures cause { IfErr result
+            (MapHalts self.old.swapper.layout (D.state self.old.swapper.disk) self.old.swapper.pool
+            (D.state self.new.swapper.disk)) }
+        ensures beside { Beside FileMapPages (D.state self.old.swapper.disk) self.old.swapper.pool
+            self.old.swapper.layout (D.state self.new.swapper.disk) self.new.swapper.pool self.new.swapper.layout }
+        ensures looked { Looked FileMapPages (D.state self.old.swapper.disk) self.old.swapper.pool
+            self.old.swapper.layout (D.state self.new.swapper.disk) self.new.swapper.pool self.new.swapper.layout }
         ensures runs { self.new.runs ≡ self.old.runs }
         ensures cost { (D.state self.new.swapper.disk).transfers ≤ (D.state self.old.swapper.disk).transfers + 14 }
     {
@@ -108,15 +169,29 @@ impl<D: Disk, A: Allocator> Filer<D, A> {
     /// The least identifier above this one, and at least 16, of which a page has a sector.
     pub fn next_file(&mut self, id: FileId) -> Result<Option<FileId>, Halt>
         requires size { (D.state self.old.swapper.disk).sectors ≡ self.old.swapper.layout.sectors }
-        ensures next { (m : List Sector) (named : Triples) → Stands (D.state self.old.swapper.disk) self.old.swapper.pool m → MapIs self.old.swapper.layout named m → IfOk result (IsNext named id) }
+        ensures next { (m : List Sector) (named : Triples)
+            → Stands (D.state self.old.swapper.disk) self.old.swapper.pool m → MapIs self.old.swapper.layout named m
+            → IfOk result (IsNext named id) }
         ensures above { IfOk result (λ found. IfSome found (λ next. (id < next) × (16 ≤ next))) }
-        ensures sound { (m : List Sector) (named : Triples) → Stands (D.state self.old.swapper.disk) self.old.swapper.pool m → MapIs self.old.swapper.layout named m → AreNamed m (IsMapHome FileMapPages self.old.swapper.layout) → IfErr result (λ e. e ≡ halt.Disk) }
-        ensures same { (m : List Sector) (named : Triples) → Stands (D.state self.old.swapper.disk) self.old.swapper.pool m → MapIs self.old.swapper.layout named m → Stands (D.state self.new.swapper.disk) self.new.swapper.pool m }
-        ensures same_bytes { (b : List ℕ) → Reveals FileMapPages (D.state self.old.swapper.disk) self.old.swapper.pool self.old.swapper.layout b → Reveals FileMapPages (D.state self.new.swapper.disk) self.new.swapper.pool self.old.swapper.layout b }
-        ensures right { (m : List Sector) (named : Triples) → Stands (D.state self.old.swapper.disk) self.old.swapper.pool m → MapIs self.old.swapper.layout named m → IfErr result IsFaultOrMismatch }
-        ensures cause { IfErr result (MapHalts self.old.swapper.layout (D.state self.old.swapper.disk) self.old.swapper.pool (D.state self.new.swapper.disk)) }
-        ensures beside { Beside FileMapPages (D.state self.old.swapper.disk) self.old.swapper.pool self.old.swapper.layout (D.state self.new.swapper.disk) self.new.swapper.pool self.new.swapper.layout }
-        ensures looked { Looked FileMapPages (D.state self.old.swapper.disk) self.old.swapper.pool self.old.swapper.layout (D.state self.new.swapper.disk) self.new.swapper.pool self.new.swapper.layout }
+        ensures sound { (m : List Sector) (named : Triples)
+            → Stands (D.state self.old.swapper.disk) self.old.swapper.pool m → MapIs self.old.swapper.layout named m
+            → AreNamed m (IsMapHome FileMapPages self.old.swapper.layout) → IfErr result (λ e. e ≡ halt.Disk) }
+        ensures same { (m : List Sector) (named : Triples)
+            → Stands (D.state self.old.swapper.disk) self.old.swapper.pool m → MapIs self.old.swapper.layout named m
+            → Stands (D.state self.new.swapper.disk) self.new.swapper.pool m }
+        ensures same_bytes { (b : List ℕ)
+            → Reveals FileMapPages (D.state self.old.swapper.disk) self.old.swapper.pool self.old.swapper.layout b
+            → Reveals FileMapPages (D.state self.new.swapper.disk) self.new.swapper.pool self.old.swapper.layout b }
+        ensures right { (m : List Sector) (named : Triples)
+            → Stands (D.state self.old.swapper.disk) self.old.swapper.pool m → MapIs self.old.swapper.layout named m
+            → IfErr result IsFaultOrMismatch }
+        ensures cause { IfErr result
+            (MapHalts self.old.swapper.layout (D.state self.old.swapper.disk) self.old.swapper.pool
+            (D.state self.new.swapper.disk)) }
+        ensures beside { Beside FileMapPages (D.state self.old.swapper.disk) self.old.swapper.pool
+            self.old.swapper.layout (D.state self.new.swapper.disk) self.new.swapper.pool self.new.swapper.layout }
+        ensures looked { Looked FileMapPages (D.state self.old.swapper.disk) self.old.swapper.pool
+            self.old.swapper.layout (D.state self.new.swapper.disk) self.new.swapper.pool self.new.swapper.layout }
         ensures runs { self.new.runs ≡ self.old.runs }
         ensures cost { (D.state self.new.swapper.disk).transfers ≤ (D.state self.old.swapper.disk).transfers + 36 }
     {

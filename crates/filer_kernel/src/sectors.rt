@@ -22,15 +22,25 @@ impl<D: Disk, A: Allocator> Filer<D, A> {
     /// How many data sectors are free.
     pub fn free_count(&mut self) -> Result<u32, Halt>
         requires size { (D.state self.old.swapper.disk).sectors ≡ self.old.swapper.layout.sectors }
-        ensures count { (m : List Sector) (marks : Marks) → Stands (D.state self.old.swapper.disk) self.old.swapper.pool m → BitsAre self.old.swapper.layout marks m → IfOk result (λ n. n ≡ free_sectors self.old.swapper.layout marks) }
+        ensures count { (m : List Sector) (marks : Marks)
+            → Stands (D.state self.old.swapper.disk) self.old.swapper.pool m → BitsAre self.old.swapper.layout marks m
+            → IfOk result (λ n. n ≡ free_sectors self.old.swapper.layout marks) }
         ensures form { IfOk result (λ n. n ≤ self.old.swapper.layout.sectors - self.old.swapper.layout.first) }
-        ensures sound { (m : List Sector) → Stands (D.state self.old.swapper.disk) self.old.swapper.pool m → AreNamed m (IsMapHome AllocationMap self.old.swapper.layout) → IfErr result (λ e. e ≡ halt.Disk) }
-        ensures same { (m : List Sector) (marks : Marks) → Stands (D.state self.old.swapper.disk) self.old.swapper.pool m → BitsAre self.old.swapper.layout marks m → Stands (D.state self.new.swapper.disk) self.new.swapper.pool m }
-        ensures cause { IfErr result (Halts (IsMapHome AllocationMap self.old.swapper.layout) (D.state self.old.swapper.disk) self.old.swapper.pool (D.state self.new.swapper.disk)) }
-        ensures kept { Beside AllocationMap (D.state self.old.swapper.disk) self.old.swapper.pool self.old.swapper.layout (D.state self.new.swapper.disk) self.new.swapper.pool self.new.swapper.layout }
-        ensures looked { Looked AllocationMap (D.state self.old.swapper.disk) self.old.swapper.pool self.old.swapper.layout (D.state self.new.swapper.disk) self.new.swapper.pool self.new.swapper.layout }
+        ensures sound { (m : List Sector) → Stands (D.state self.old.swapper.disk) self.old.swapper.pool m
+            → AreNamed m (IsMapHome AllocationMap self.old.swapper.layout) → IfErr result (λ e. e ≡ halt.Disk) }
+        ensures same { (m : List Sector) (marks : Marks)
+            → Stands (D.state self.old.swapper.disk) self.old.swapper.pool m → BitsAre self.old.swapper.layout marks m
+            → Stands (D.state self.new.swapper.disk) self.new.swapper.pool m }
+        ensures cause { IfErr result
+            (Halts (IsMapHome AllocationMap self.old.swapper.layout) (D.state self.old.swapper.disk)
+            self.old.swapper.pool (D.state self.new.swapper.disk)) }
+        ensures kept { Beside AllocationMap (D.state self.old.swapper.disk) self.old.swapper.pool
+            self.old.swapper.layout (D.state self.new.swapper.disk) self.new.swapper.pool self.new.swapper.layout }
+        ensures looked { Looked AllocationMap (D.state self.old.swapper.disk) self.old.swapper.pool
+            self.old.swapper.layout (D.state self.new.swapper.disk) self.new.swapper.pool self.new.swapper.layout }
         ensures runs { self.new.runs ≡ self.old.runs }
-        ensures cost { (D.state self.new.swapper.disk).transfers ≤ (D.state self.old.swapper.disk).transfers + 2 * self.old.swapper.layout.vam }
+        ensures cost { (D.state self.new.swapper.disk).transfers ≤ (D.state self.old.swapper.disk).transfers + 2
+            * self.old.swapper.layout.vam }
     {
         let layout = self.swapper.layout();
         let mut map = AllocMap::<MapMemory<D, A>>::over(
@@ -47,19 +57,35 @@ impl<D: Disk, A: Allocator> Filer<D, A> {
     pub fn take(&mut self, most: u32) -> Result<(u32, u32), AllocError<Halt>>
         requires size { (D.state self.old.swapper.disk).sectors ≡ self.old.swapper.layout.sectors }
         requires some { 1 ≤ most }
-        ensures lowest { (m : List Sector) (marks : Marks) → Stands (D.state self.old.swapper.disk) self.old.swapper.pool m → BitsAre self.old.swapper.layout marks m → IfOk result (IsLowestRun self.old.swapper.layout marks most) }
-        ensures taken { (m : List Sector) (marks : Marks) → Stands (D.state self.old.swapper.disk) self.old.swapper.pool m → BitsAre self.old.swapper.layout marks m
-            → IfOk result (λ run. Becomes AllocationMap self.old.swapper.layout m (BitsAre self.old.swapper.layout (marked true run.0 run.1 marks)) (D.state self.new.swapper.disk) self.new.swapper.pool) }
-        ensures no_room { (m : List Sector) (marks : Marks) → Stands (D.state self.old.swapper.disk) self.old.swapper.pool m → BitsAre self.old.swapper.layout marks m
-            → result ≡ Err AllocError.NoRoom → AreAll true marks self.old.swapper.layout.first self.old.swapper.layout.sectors }
-        ensures sound { (m : List Sector) → Stands (D.state self.old.swapper.disk) self.old.swapper.pool m → AreNamed m (IsMapHome AllocationMap self.old.swapper.layout) → IfErr result (IfMem (λ e. e ≡ halt.Disk)) }
-        ensures same { (m : List Sector) (marks : Marks) → Stands (D.state self.old.swapper.disk) self.old.swapper.pool m → BitsAre self.old.swapper.layout marks m
+        ensures lowest { (m : List Sector) (marks : Marks)
+            → Stands (D.state self.old.swapper.disk) self.old.swapper.pool m → BitsAre self.old.swapper.layout marks m
+            → IfOk result (IsLowestRun self.old.swapper.layout marks most) }
+        ensures taken { (m : List Sector) (marks : Marks)
+            → Stands (D.state self.old.swapper.disk) self.old.swapper.pool m → BitsAre self.old.swapper.layout marks m
+            → IfOk result
+            (λ run.
+            Becomes AllocationMap self.old.swapper.layout m
+            (BitsAre self.old.swapper.layout (marked true run.0 run.1 marks)) (D.state self.new.swapper.disk)
+            self.new.swapper.pool) }
+        ensures no_room { (m : List Sector) (marks : Marks)
+            → Stands (D.state self.old.swapper.disk) self.old.swapper.pool m → BitsAre self.old.swapper.layout marks m
+            → result ≡ Err AllocError.NoRoom
+            → AreAll true marks self.old.swapper.layout.first self.old.swapper.layout.sectors }
+        ensures sound { (m : List Sector) → Stands (D.state self.old.swapper.disk) self.old.swapper.pool m
+            → AreNamed m (IsMapHome AllocationMap self.old.swapper.layout) → IfErr result (IfMem (λ e. e ≡ halt.Disk)) }
+        ensures same { (m : List Sector) (marks : Marks)
+            → Stands (D.state self.old.swapper.disk) self.old.swapper.pool m → BitsAre self.old.swapper.layout marks m
             → result ≡ Err AllocError.NoRoom → Stands (D.state self.new.swapper.disk) self.new.swapper.pool m }
         ensures form { IfOk result (IsDataRun self.old.swapper.layout.first self.old.swapper.layout.sectors most) }
-        ensures cause { IfErr result (IfMem (Halts (IsMapHome AllocationMap self.old.swapper.layout) (D.state self.old.swapper.disk) self.old.swapper.pool (D.state self.new.swapper.disk))) }
-        ensures kept { Beside AllocationMap (D.state self.old.swapper.disk) self.old.swapper.pool self.old.swapper.layout (D.state self.new.swapper.disk) self.new.swapper.pool self.new.swapper.layout }
+        ensures cause { IfErr result
+            (IfMem
+            (Halts (IsMapHome AllocationMap self.old.swapper.layout) (D.state self.old.swapper.disk)
+            self.old.swapper.pool (D.state self.new.swapper.disk))) }
+        ensures kept { Beside AllocationMap (D.state self.old.swapper.disk) self.old.swapper.pool
+            self.old.swapper.layout (D.state self.new.swapper.disk) self.new.swapper.pool self.new.swapper.layout }
         ensures runs { self.new.runs ≡ self.old.runs }
-        ensures cost { (D.state self.new.swapper.disk).transfers ≤ (D.state self.old.swapper.disk).transfers + 8 * self.old.swapper.layout.vam }
+        ensures cost { (D.state self.new.swapper.disk).transfers ≤ (D.state self.old.swapper.disk).transfers + 8
+            * self.old.swapper.layout.vam }
     {
         let layout = self.swapper.layout();
         let mut map = AllocMap::<MapMemory<D, A>>::over(
@@ -75,13 +101,22 @@ impl<D: Disk, A: Allocator> Filer<D, A> {
         requires size { (D.state self.old.swapper.disk).sectors ≡ self.old.swapper.layout.sectors }
         requires data { self.old.swapper.layout.first ≤ sector }
         requires inside { sector + pages ≤ self.old.swapper.layout.sectors }
-        ensures given { (m : List Sector) (marks : Marks) → Stands (D.state self.old.swapper.disk) self.old.swapper.pool m → BitsAre self.old.swapper.layout marks m
-            → OnOk result (Becomes AllocationMap self.old.swapper.layout m (BitsAre self.old.swapper.layout (marked false sector pages marks)) (D.state self.new.swapper.disk) self.new.swapper.pool) }
-        ensures sound { (m : List Sector) → Stands (D.state self.old.swapper.disk) self.old.swapper.pool m → AreNamed m (IsMapHome AllocationMap self.old.swapper.layout) → IfErr result (λ e. e ≡ halt.Disk) }
-        ensures cause { IfErr result (Halts (IsMapHome AllocationMap self.old.swapper.layout) (D.state self.old.swapper.disk) self.old.swapper.pool (D.state self.new.swapper.disk)) }
-        ensures kept { Beside AllocationMap (D.state self.old.swapper.disk) self.old.swapper.pool self.old.swapper.layout (D.state self.new.swapper.disk) self.new.swapper.pool self.new.swapper.layout }
+        ensures given { (m : List Sector) (marks : Marks)
+            → Stands (D.state self.old.swapper.disk) self.old.swapper.pool m → BitsAre self.old.swapper.layout marks m
+            → OnOk result
+            (Becomes AllocationMap self.old.swapper.layout m
+            (BitsAre self.old.swapper.layout (marked false sector pages marks)) (D.state self.new.swapper.disk)
+            self.new.swapper.pool) }
+        ensures sound { (m : List Sector) → Stands (D.state self.old.swapper.disk) self.old.swapper.pool m
+            → AreNamed m (IsMapHome AllocationMap self.old.swapper.layout) → IfErr result (λ e. e ≡ halt.Disk) }
+        ensures cause { IfErr result
+            (Halts (IsMapHome AllocationMap self.old.swapper.layout) (D.state self.old.swapper.disk)
+            self.old.swapper.pool (D.state self.new.swapper.disk)) }
+        ensures kept { Beside AllocationMap (D.state self.old.swapper.disk) self.old.swapper.pool
+            self.old.swapper.layout (D.state self.new.swapper.disk) self.new.swapper.pool self.new.swapper.layout }
         ensures runs { self.new.runs ≡ self.old.runs }
-        ensures cost { (D.state self.new.swapper.disk).transfers ≤ (D.state self.old.swapper.disk).transfers + 4 * self.old.swapper.layout.vam }
+        ensures cost { (D.state self.new.swapper.disk).transfers ≤ (D.state self.old.swapper.disk).transfers + 4
+            * self.old.swapper.layout.vam }
     {
         let layout = self.swapper.layout();
         let mut map = AllocMap::<MapMemory<D, A>>::over(

@@ -23,17 +23,34 @@ impl<D: Disk, A: Allocator> Filer<D, A> {
         requires size { (D.state self.old.swapper.disk).sectors ≡ self.old.swapper.layout.sectors }
         requires page { page < 96 }
         requires pages { ArePages self.old.swapper.pool }
-        ensures found { IfOk result (λ home. IsFoundHome self.old.swapper.layout (D.state self.old.swapper.disk) self.old.swapper.pool (runs_of self.old.swapper.layout.sectors self.old.runs) home) }
+        ensures found { IfOk result
+            (λ home.
+            IsFoundHome self.old.swapper.layout (D.state self.old.swapper.disk) self.old.swapper.pool
+            (runs_of self.old.swapper.layout.sectors self.old.runs) home) }
         ensures page { IfOk result (λ home. home.page ≡ page) }
-        ensures named { (b : List ℕ) → TablesReveal (D.state self.old.swapper.disk) self.old.swapper.pool self.old.swapper.layout self.old.runs b → (m : List Sector) → Stands (D.state self.old.swapper.disk) self.old.swapper.pool m → IfOk result (IsNamed m) }
-        ensures stays { (m : List Sector) → Stands (D.state self.old.swapper.disk) self.old.swapper.pool m → Stands (D.state self.new.swapper.disk) self.new.swapper.pool m }
-        ensures same { (b : List ℕ) → TablesReveal (D.state self.old.swapper.disk) self.old.swapper.pool self.old.swapper.layout self.old.runs b → TablesReveal (D.state self.new.swapper.disk) self.new.swapper.pool self.new.swapper.layout self.new.runs b }
-        ensures error { IfErr result (IsTableAccounted (D.state self.old.swapper.disk) self.old.swapper.pool self.old.swapper.layout self.old.runs (D.state self.new.swapper.disk)) }
+        ensures named { (b : List ℕ)
+            → TablesReveal (D.state self.old.swapper.disk) self.old.swapper.pool self.old.swapper.layout self.old.runs b
+            → (m : List Sector) → Stands (D.state self.old.swapper.disk) self.old.swapper.pool m
+            → IfOk result (IsNamed m) }
+        ensures stays { (m : List Sector) → Stands (D.state self.old.swapper.disk) self.old.swapper.pool m
+            → Stands (D.state self.new.swapper.disk) self.new.swapper.pool m }
+        ensures same { (b : List ℕ)
+            → TablesReveal (D.state self.old.swapper.disk) self.old.swapper.pool self.old.swapper.layout self.old.runs b
+            → TablesReveal (D.state self.new.swapper.disk) self.new.swapper.pool self.new.swapper.layout self.new.runs b }
+        ensures error { IfErr result
+            (IsTableAccounted (D.state self.old.swapper.disk) self.old.swapper.pool self.old.swapper.layout
+            self.old.runs (D.state self.new.swapper.disk)) }
         ensures missing { IfErr result (IfMissing page) }
-        ensures kept { BesideTables (D.state self.old.swapper.disk) self.old.swapper.pool self.old.swapper.layout self.old.runs (D.state self.new.swapper.disk) self.new.swapper.pool self.new.swapper.layout self.new.runs }
-        ensures looked { LookedTables (D.state self.old.swapper.disk) self.old.swapper.pool self.old.swapper.layout self.old.runs (D.state self.new.swapper.disk) self.new.swapper.pool self.new.swapper.layout self.new.runs }
-        ensures same_bytes { (b : List ℕ) → Reveals FileMapPages (D.state self.old.swapper.disk) self.old.swapper.pool self.old.swapper.layout b → Reveals FileMapPages (D.state self.new.swapper.disk) self.new.swapper.pool self.old.swapper.layout b }
-        ensures idle { (r : Run) → find (λ r. holds r 3 page) (runs_of self.old.swapper.layout.sectors self.old.runs) ≡ Some r → self.new.swapper ≡ self.old.swapper }
+        ensures kept { BesideTables (D.state self.old.swapper.disk) self.old.swapper.pool self.old.swapper.layout
+            self.old.runs (D.state self.new.swapper.disk) self.new.swapper.pool self.new.swapper.layout self.new.runs }
+        ensures looked { LookedTables (D.state self.old.swapper.disk) self.old.swapper.pool self.old.swapper.layout
+            self.old.runs (D.state self.new.swapper.disk) self.new.swapper.pool self.new.swapper.layout self.new.runs }
+        ensures same_bytes { (b : List ℕ)
+            → Reveals FileMapPages (D.state self.old.swapper.disk) self.old.swapper.pool self.old.swapper.layout b
+            → Reveals FileMapPages (D.state self.new.swapper.disk) self.new.swapper.pool self.old.swapper.layout b }
+        ensures idle { (r : Run)
+            → find (λ r. holds r 3 page) (runs_of self.old.swapper.layout.sectors self.old.runs) ≡ Some r
+            → self.new.swapper ≡ self.old.swapper }
         ensures cost { (D.state self.new.swapper.disk).transfers ≤ (D.state self.old.swapper.disk).transfers + 14 }
     {
         let Some(run) = self.find(TABLES, page)? else {
@@ -51,20 +68,32 @@ impl<D: Disk, A: Allocator> Filer<D, A> {
     pub fn fetch_table_page(&mut self, page: u32) -> Result<u32, Halt>
         requires size { (D.state self.old.swapper.disk).sectors ≡ self.old.swapper.layout.sectors }
         requires page { page < 96 }
-        ensures there { IfOk result (λ i. (f : Frame) × Has self.new.swapper.pool i f × (f.home.id ≡ 3) × (f.home.page ≡ page)) }
+        ensures there { IfOk result
+            (λ i. (f : Frame) × Has self.new.swapper.pool i f × (f.home.id ≡ 3) × (f.home.page ≡ page)) }
         ensures below { IfOk result (λ i. i < length self.new.swapper.pool) }
-        ensures shown { (b : List ℕ) → TablesReveal (D.state self.old.swapper.disk) self.old.swapper.pool self.old.swapper.layout self.old.runs b
+        ensures shown { (b : List ℕ)
+            → TablesReveal (D.state self.old.swapper.disk) self.old.swapper.pool self.old.swapper.layout self.old.runs b
             → IfOk result (λ i. (f : Frame) × Has self.new.swapper.pool i f × (f.bytes ≡ part b (512 * page) 512)) }
-        ensures same { (b : List ℕ) → TablesReveal (D.state self.old.swapper.disk) self.old.swapper.pool self.old.swapper.layout self.old.runs b → TablesReveal (D.state self.new.swapper.disk) self.new.swapper.pool self.new.swapper.layout self.new.runs b }
-        ensures error { IfErr result (IsTableAccounted (D.state self.old.swapper.disk) self.old.swapper.pool self.old.swapper.layout self.old.runs (D.state self.new.swapper.disk)) }
+        ensures same { (b : List ℕ)
+            → TablesReveal (D.state self.old.swapper.disk) self.old.swapper.pool self.old.swapper.layout self.old.runs b
+            → TablesReveal (D.state self.new.swapper.disk) self.new.swapper.pool self.new.swapper.layout self.new.runs b }
+        ensures error { IfErr result
+            (IsTableAccounted (D.state self.old.swapper.disk) self.old.swapper.pool self.old.swapper.layout
+            self.old.runs (D.state self.new.swapper.disk)) }
         ensures missing { IfErr result (IfMissing page) }
-        ensures kept { BesideTables (D.state self.old.swapper.disk) self.old.swapper.pool self.old.swapper.layout self.old.runs (D.state self.new.swapper.disk) self.new.swapper.pool self.new.swapper.layout self.new.runs }
-        ensures looked { LookedTables (D.state self.old.swapper.disk) self.old.swapper.pool self.old.swapper.layout self.old.runs (D.state self.new.swapper.disk) self.new.swapper.pool self.new.swapper.layout self.new.runs }
-        ensures idle { (i : ℕ) → HasPage self.old.swapper.pool i 3 page → IsOk result × (self.new.swapper ≡ self.old.swapper) × (self.new.runs ≡ self.old.runs) }
-        ensures same_bytes { (b : List ℕ) → Reveals FileMapPages (D.state self.old.swapper.disk) self.old.swapper.pool self.old.swapper.layout b → Reveals FileMapPages (D.state self.new.swapper.disk) self.new.swapper.pool self.old.swapper.layout b }
+        ensures kept { BesideTables (D.state self.old.swapper.disk) self.old.swapper.pool self.old.swapper.layout
+            self.old.runs (D.state self.new.swapper.disk) self.new.swapper.pool self.new.swapper.layout self.new.runs }
+        ensures looked { LookedTables (D.state self.old.swapper.disk) self.old.swapper.pool self.old.swapper.layout
+            self.old.runs (D.state self.new.swapper.disk) self.new.swapper.pool self.new.swapper.layout self.new.runs }
+        ensures idle { (i : ℕ) → HasPage self.old.swapper.pool i 3 page
+            → IsOk result × (self.new.swapper ≡ self.old.swapper) × (self.new.runs ≡ self.old.runs) }
+        ensures same_bytes { (b : List ℕ)
+            → Reveals FileMapPages (D.state self.old.swapper.disk) self.old.swapper.pool self.old.swapper.layout b
+            → Reveals FileMapPages (D.state self.new.swapper.disk) self.new.swapper.pool self.old.swapper.layout b }
         ensures cost { (D.state self.new.swapper.disk).transfers ≤ (D.state self.old.swapper.disk).transfers + 16 }
         // where a run that is kept has the page, no search is made: the page alone moves, and a page that yields to it
-        ensures warm { (r : Run) → find (λ r. holds r 3 page) (runs_of self.old.swapper.layout.sectors self.old.runs) ≡ Some r
+        ensures warm { (r : Run)
+            → find (λ r. holds r 3 page) (runs_of self.old.swapper.layout.sectors self.old.runs) ≡ Some r
             → (D.state self.new.swapper.disk).transfers ≤ (D.state self.old.swapper.disk).transfers + 2 }
     {
         if let Some(slot) = self.swapper.frames().find(TABLES, page) {

@@ -52,7 +52,8 @@ pub trait FlatMem {
     fn write(&mut self, at: u64, bytes: &[u8]) -> Result<(), Self::Error>
         requires inside { at + length bytes.now ≤ size self.old }
         requires in_one_page { InOnePage at (length bytes.now) }
-        ensures written { (b : List ℕ) → reveals self.old b → OnOk result (reveals self.new (overwritten b at bytes.now)) }
+        ensures written { (b : List ℕ) → reveals self.old b
+            → OnOk result (reveals self.new (overwritten b at bytes.now)) }
         ensures unchanged { (b : List ℕ) → reveals self.old b → OnErr result (reveals self.new b) }
         ensures kept { beside self.old self.new }
         ensures cause { IfErr result (λ e. accounted self.old self.new e) }

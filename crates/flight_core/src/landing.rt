@@ -57,7 +57,8 @@ impl<S: Stepped> Flights<S> {
         ensures later { (s : S) (e : Halt)
             → OnOk result (S.accounted self.new.stepped s e → S.accounted self.old.stepped s e) }
         ensures goes_on { OnOk result (S.runs self.new.stepped) }
-        ensures never_blames { NeverBlames client self.old.begun self.old.waiting.items self.new.begun self.new.waiting.items }
+        ensures never_blames { NeverBlames client self.old.begun self.old.waiting.items self.new.begun
+            self.new.waiting.items }
     {
         let Some(pending) = entry_of(others, client) else {
             return Ok(None);

@@ -24,15 +24,20 @@ pub fn flush<D: Disk, A: Allocator>(
     pages: u32,
 ) -> Result<(), Halt>
     requires size { (D.state swapper.old.disk).sectors ≡ swapper.old.layout.sectors }
-    ensures clean { OnOk result ((i : ℕ) (f : Frame) → Has swapper.new.pool i f → IsWithin id first pages f.home → f.dirty ≡ false) }
+    ensures clean { OnOk result
+        ((i : ℕ) (f : Frame) → Has swapper.new.pool i f → IsWithin id first pages f.home → f.dirty ≡ false) }
     ensures stay { Stay swapper.old.pool swapper.new.pool }
     ensures run { OnlyRun id first pages swapper.old.pool swapper.new.pool }
-    ensures sound { (m : List Sector) → Stands (D.state swapper.old.disk) swapper.old.pool m → IfErr result (λ e. e ≡ halt.Disk) }
-    ensures cause { IfErr result (Halts no_home (D.state swapper.old.disk) swapper.old.pool (D.state swapper.new.disk)) }
+    ensures sound { (m : List Sector) → Stands (D.state swapper.old.disk) swapper.old.pool m
+        → IfErr result (λ e. e ≡ halt.Disk) }
+    ensures cause { IfErr result
+        (Halts no_home (D.state swapper.old.disk) swapper.old.pool (D.state swapper.new.disk)) }
     ensures swaps { Swaps (D.state swapper.old.disk) swapper.old.pool (D.state swapper.new.disk) swapper.new.pool }
-    ensures steps { Steps no_home no_home (D.state swapper.old.disk) swapper.old.pool (D.state swapper.new.disk) swapper.new.pool }
+    ensures steps { Steps no_home no_home (D.state swapper.old.disk) swapper.old.pool (D.state swapper.new.disk)
+        swapper.new.pool }
     ensures layout { swapper.new.layout ≡ swapper.old.layout }
-    ensures cost { (D.state swapper.new.disk).transfers ≤ (D.state swapper.old.disk).transfers + dirty_count id first pages swapper.old.pool }
+    ensures cost { (D.state swapper.new.disk).transfers ≤ (D.state swapper.old.disk).transfers + dirty_count id first
+        pages swapper.old.pool }
 {
     let run = Run { id, first, pages };
     let slots = swapper.frames().frames();
@@ -57,14 +62,21 @@ pub fn evict<D: Disk, A: Allocator>(
     requires size { (D.state swapper.old.disk).sectors ≡ swapper.old.layout.sectors }
     ensures gone { OnOk result ((i : ℕ) (f : Frame) → Has swapper.new.pool i f → IsWithin id first pages f.home → ⊥) }
     ensures run { OnlyRun id first pages swapper.old.pool swapper.new.pool }
-    ensures sound { (m : List Sector) → Stands (D.state swapper.old.disk) swapper.old.pool m → IfErr result (λ e. e ≡ halt.Disk) }
-    ensures cause { IfErr result (Halts no_home (D.state swapper.old.disk) swapper.old.pool (D.state swapper.new.disk)) }
+    ensures sound { (m : List Sector) → Stands (D.state swapper.old.disk) swapper.old.pool m
+        → IfErr result (λ e. e ≡ halt.Disk) }
+    ensures cause { IfErr result
+        (Halts no_home (D.state swapper.old.disk) swapper.old.pool (D.state swapper.new.disk)) }
     ensures swaps { Swaps (D.state swapper.old.disk) swapper.old.pool (D.state swapper.new.disk) swapper.new.pool }
-    ensures written { OnOk result (Evicts id first pages (D.state swapper.old.disk) swapper.old.pool (D.state swapper.new.disk) swapper.new.pool) }
+    ensures written { OnOk result
+        (Evicts id first pages (D.state swapper.old.disk) swapper.old.pool (D.state swapper.new.disk)
+        swapper.new.pool) }
     ensures stay { OnErr result (Stay swapper.old.pool swapper.new.pool) }
-    ensures steps { OnErr result (Steps no_home no_home (D.state swapper.old.disk) swapper.old.pool (D.state swapper.new.disk) swapper.new.pool) }
+    ensures steps { OnErr result
+        (Steps no_home no_home (D.state swapper.old.disk) swapper.old.pool (D.state swapper.new.disk)
+        swapper.new.pool) }
     ensures layout { swapper.new.layout ≡ swapper.old.layout }
-    ensures cost { (D.state swapper.new.disk).transfers ≤ (D.state swapper.old.disk).transfers + dirty_count id first pages swapper.old.pool }
+    ensures cost { (D.state swapper.new.disk).transfers ≤ (D.state swapper.old.disk).transfers + dirty_count id first
+        pages swapper.old.pool }
 {
     flush(swapper, id, first, pages)?;
     discard(swapper, id, first, pages);
@@ -81,8 +93,10 @@ pub fn discard<D: Disk, A: Allocator>(
     ensures gone { (i : ℕ) (f : Frame) → Has swapper.new.pool i f → IsWithin id first pages f.home → ⊥ }
     ensures run { OnlyRun id first pages swapper.old.pool swapper.new.pool }
     ensures left { (i : ℕ) (f : Frame) → Has swapper.new.pool i f → Has swapper.old.pool i f }
-    ensures swaps { ((i : ℕ) (f : Frame) → Has swapper.old.pool i f → IsWithin id first pages f.home → f.dirty ≡ false) → Swaps (D.state swapper.old.disk) swapper.old.pool (D.state swapper.new.disk) swapper.new.pool }
-    ensures goes { Goes (Differs (of_run id first pages)) no_page [] (D.state swapper.old.disk) swapper.old.pool (D.state swapper.new.disk) swapper.new.pool }
+    ensures swaps { ((i : ℕ) (f : Frame) → Has swapper.old.pool i f → IsWithin id first pages f.home → f.dirty ≡ false)
+        → Swaps (D.state swapper.old.disk) swapper.old.pool (D.state swapper.new.disk) swapper.new.pool }
+    ensures goes { Goes (Differs (of_run id first pages)) no_page [] (D.state swapper.old.disk) swapper.old.pool
+        (D.state swapper.new.disk) swapper.new.pool }
     ensures disk { swapper.new.disk ≡ swapper.old.disk }
     ensures layout { swapper.new.layout ≡ swapper.old.layout }
 {

@@ -31,7 +31,8 @@ pub(crate) fn find<A: Allocator>(table: &Table<A>, id: FileId, page: u32) -> Opt
     requires some { 0 < length table.now.frames }
     requires few { length table.now.frames < 2 ^ 16 }
     requires indexed { IsIndex (bucket_at table.now.frames) table.now }
-    ensures found { IfSome result (λ slot. (slot < length table.now.frames) × (is_of id page (frame_at table.now.frames slot) ≡ true)) }
+    ensures found { IfSome result
+        (λ slot. (slot < length table.now.frames) × (is_of id page (frame_at table.now.frames slot) ≡ true)) }
     ensures nowhere { result ≡ None → (slot : ℕ) → is_of id page (frame_at table.now.frames slot) ≡ false }
 {
     let mut cursor = table.head(bucket_of(id, page, table.len() as u16));
@@ -86,7 +87,8 @@ pub(crate) fn link<A: Allocator>(table: &mut Table<A>, bucket: u16, slot: u16)
     requires sized { IsSized table.old }
     requires indexed { IsIndex (bucket_at table.old.frames) table.old }
     requires empty { bucket_at table.old.frames slot ≡ None }
-    ensures linked { (at : ℕ → Option ℕ) → Puts (bucket_at table.old.frames) slot (Some bucket) at → IsIndex at table.new }
+    ensures linked { (at : ℕ → Option ℕ) → Puts (bucket_at table.old.frames) slot (Some bucket) at
+        → IsIndex at table.new }
     ensures kept { KeepsButChains table.old table.new }
 {
     match first_above(table, bucket, slot) {

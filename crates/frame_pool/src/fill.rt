@@ -25,7 +25,8 @@ pub(crate) fn fill<A: Allocator>(
     requires nowhere { IsNowhere table.old.frames home.id home.page }
     ensures frames { table.new.frames ≡ slice_set table.old.frames slot (Some (new_frame home bytes.now)) }
     ensures pool { IsPool table.new result }
-    ensures runs { (time : ℕ) → HasRuns table.old.frames table.old.founds time → HasRuns table.new.frames table.new.founds time }
+    ensures runs { (time : ℕ) → HasRuns table.old.frames table.old.founds time
+        → HasRuns table.new.frames table.new.founds time }
 {
     let bucket = bucket_of(home.id, home.page, table.len() as u16);
     link(table, bucket, slot);

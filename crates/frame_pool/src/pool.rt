@@ -107,7 +107,8 @@ impl<A: Allocator> FramePool<A> {
     pub fn held(&self, slot: u32) -> Option<(Home, bool)>
         requires { slot < length self.now }
         ensures value { result ≡ option_map shown (frame_at self.now slot) }
-        ensures filled { IfSome result (λ held. (frame : Frame) × Has self.now slot frame × (frame.home ≡ held.0) × (frame.dirty ≡ held.1)) }
+        ensures filled { IfSome result
+            (λ held. (frame : Frame) × Has self.now slot frame × (frame.home ≡ held.0) × (frame.dirty ≡ held.1)) }
         ensures empty { result ≡ None ↔ IsEmpty self.now slot }
     {
         self.table.held(slot as u16)
@@ -162,7 +163,8 @@ impl<A: Allocator> FramePool<A> {
         requires filled { IsSome (frame_at self.old slot) }
         requires inside { at + length bytes.now ≤ 512 }
         ensures value { self.new ≡ changed_at self.old slot at bytes.now }
-        ensures changed { (frame : Frame) → Has self.old slot frame → self.new ≡ slice_set self.old slot (Some (changed frame at bytes.now)) }
+        ensures changed { (frame : Frame) → Has self.old slot frame
+            → self.new ≡ slice_set self.old slot (Some (changed frame at bytes.now)) }
         ensures distinct { HasDistinct self.old }
     {
         self.table.overwrite(slot as u16, at as usize, bytes);
@@ -174,7 +176,8 @@ impl<A: Allocator> FramePool<A> {
         requires below { slot < length self.old }
         requires filled { IsSome (frame_at self.old slot) }
         ensures value { self.new ≡ cleaned_at self.old slot }
-        ensures clean { (frame : Frame) → Has self.old slot frame → self.new ≡ slice_set self.old slot (Some (clean frame)) }
+        ensures clean { (frame : Frame) → Has self.old slot frame
+            → self.new ≡ slice_set self.old slot (Some (clean frame)) }
     {
         self.table.clean(slot as u16);
     }

@@ -8,7 +8,8 @@ use std::alloc::Allocator;
 /// The first of these slots that has no page of the run and no second chance. Those before it lose theirs.
 fn first_unmarked<A: Allocator>(table: &Table<A>, run: &Run, from: u16, to: u16) -> Option<u16>
     requires { to ≤ length table.now.frames }
-    ensures { IfSome result (λ s. (s < to) × (is_kept run.now.id run.now.first run.now.pages (frame_at table.now.frames s) ≡ false)) }
+    ensures { IfSome result
+        (λ s. (s < to) × (is_kept run.now.id run.now.first run.now.pages (frame_at table.now.frames s) ≡ false)) }
 {
     for slot in from..to {
         if !table.is_kept(slot, run) && !table.take_mark(slot) {
@@ -21,8 +22,10 @@ fn first_unmarked<A: Allocator>(table: &Table<A>, run: &Run, from: u16, to: u16)
 /// The first of these slots that has no page of the run.
 fn first_outside<A: Allocator>(table: &Table<A>, run: &Run, from: u16, to: u16) -> Option<u16>
     requires { to ≤ length table.now.frames }
-    ensures found { IfSome result (λ s. (s < to) × (is_kept run.now.id run.now.first run.now.pages (frame_at table.now.frames s) ≡ false)) }
-    ensures none { result ≡ None → (s : ℕ) → from ≤ s → s < to → is_kept run.now.id run.now.first run.now.pages (frame_at table.now.frames s) ≡ true }
+    ensures found { IfSome result
+        (λ s. (s < to) × (is_kept run.now.id run.now.first run.now.pages (frame_at table.now.frames s) ≡ false)) }
+    ensures none { result ≡ None → (s : ℕ) → from ≤ s → s < to
+        → is_kept run.now.id run.now.first run.now.pages (frame_at table.now.frames s) ≡ true }
 {
     for slot in from..to {
         if !table.is_kept(slot, run) {

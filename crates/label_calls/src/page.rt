@@ -47,8 +47,10 @@ pub fn read_label<D: Disk, A: Allocator>(
     ensures found { IfOk result (HasLabel (D.state swapper.old.disk) sector) }
     ensures same { RevealsSame (D.state swapper.old.disk) (D.state swapper.new.disk) }
     ensures moves { Moves (D.state swapper.old.disk) (D.state swapper.new.disk) }
-    ensures makes { Makes no_page [] (D.state swapper.old.disk) swapper.old.pool (D.state swapper.new.disk) swapper.new.pool }
-    ensures cause { IfErr result (λ e. (e ≡ halt.Disk) × Rose (D.state swapper.old.disk).faults (D.state swapper.new.disk).faults) }
+    ensures makes { Makes no_page [] (D.state swapper.old.disk) swapper.old.pool (D.state swapper.new.disk)
+        swapper.new.pool }
+    ensures cause { IfErr result
+        (λ e. (e ≡ halt.Disk) × Rose (D.state swapper.old.disk).faults (D.state swapper.new.disk).faults) }
     ensures frames { swapper.new.pool ≡ swapper.old.pool }
     ensures layout { swapper.new.layout ≡ swapper.old.layout }
 {
@@ -67,10 +69,14 @@ fn write_label<D: Disk, A: Allocator>(
     label: Label,
 ) -> Result<(), Halt>
     requires { sector < (D.state swapper.old.disk).sectors }
-    ensures writes { OnOk result (RevealsWrite (write.LabelOnly sector label) (D.state swapper.old.disk) (D.state swapper.new.disk)) }
-    ensures stopped { OnErr result (RevealsSame (D.state swapper.old.disk) (D.state swapper.new.disk) ⊎ RevealsWrite (write.LabelOnly sector label) (D.state swapper.old.disk) (D.state swapper.new.disk)) }
+    ensures writes { OnOk result
+        (RevealsWrite (write.LabelOnly sector label) (D.state swapper.old.disk) (D.state swapper.new.disk)) }
+    ensures stopped { OnErr result
+        (RevealsSame (D.state swapper.old.disk) (D.state swapper.new.disk)
+        ⊎ RevealsWrite (write.LabelOnly sector label) (D.state swapper.old.disk) (D.state swapper.new.disk)) }
     ensures moves { Moves (D.state swapper.old.disk) (D.state swapper.new.disk) }
-    ensures cause { IfErr result (λ e. (e ≡ halt.Disk) × Rose (D.state swapper.old.disk).faults (D.state swapper.new.disk).faults) }
+    ensures cause { IfErr result
+        (λ e. (e ≡ halt.Disk) × Rose (D.state swapper.old.disk).faults (D.state swapper.new.disk).faults) }
     ensures frames { swapper.new.pool ≡ swapper.old.pool }
     ensures layout { swapper.new.layout ≡ swapper.old.layout }
 {
@@ -86,8 +92,10 @@ pub fn sync<D: Disk, A: Allocator>(swapper: &mut Swapper<D, A>) -> Result<(), Ha
     ensures synced { OnOk result (SyncedThere (D.state swapper.old.disk) (D.state swapper.new.disk)) }
     ensures same { RevealsSame (D.state swapper.old.disk) (D.state swapper.new.disk) }
     ensures went { Went (D.state swapper.old.disk) (D.state swapper.new.disk) }
-    ensures makes { Makes no_page [] (D.state swapper.old.disk) swapper.old.pool (D.state swapper.new.disk) swapper.new.pool }
-    ensures cause { IfErr result (λ e. (e ≡ halt.Disk) × Rose (D.state swapper.old.disk).faults (D.state swapper.new.disk).faults) }
+    ensures makes { Makes no_page [] (D.state swapper.old.disk) swapper.old.pool (D.state swapper.new.disk)
+        swapper.new.pool }
+    ensures cause { IfErr result
+        (λ e. (e ≡ halt.Disk) × Rose (D.state swapper.old.disk).faults (D.state swapper.new.disk).faults) }
     ensures frames { swapper.new.pool ≡ swapper.old.pool }
     ensures layout { swapper.new.layout ≡ swapper.old.layout }
     ensures cost { (D.state swapper.new.disk).transfers ≤ (D.state swapper.old.disk).transfers }
@@ -114,12 +122,19 @@ fn relabel_alone<D: Disk, A: Allocator>(
     label: Label,
 ) -> Result<(), Halt>
     requires { sector < (D.state swapper.old.disk).sectors }
-    ensures writes { OnOk result (RevealsWrite (write.LabelOnly sector label) (D.state swapper.old.disk) (D.state swapper.new.disk)) }
-    ensures stopped { OnErr result (RevealsSame (D.state swapper.old.disk) (D.state swapper.new.disk) ⊎ RevealsWrite (write.LabelOnly sector label) (D.state swapper.old.disk) (D.state swapper.new.disk)) }
-    ensures around { OnOk result (SyncsAroundOne false found label (D.state swapper.old.disk) (D.state swapper.new.disk)) }
-    ensures stopped_around { OnErr result (RevealsSame (D.state swapper.old.disk) (D.state swapper.new.disk) ⊎ SyncsAroundOne true found label (D.state swapper.old.disk) (D.state swapper.new.disk)) }
+    ensures writes { OnOk result
+        (RevealsWrite (write.LabelOnly sector label) (D.state swapper.old.disk) (D.state swapper.new.disk)) }
+    ensures stopped { OnErr result
+        (RevealsSame (D.state swapper.old.disk) (D.state swapper.new.disk)
+        ⊎ RevealsWrite (write.LabelOnly sector label) (D.state swapper.old.disk) (D.state swapper.new.disk)) }
+    ensures around { OnOk result
+        (SyncsAroundOne false found label (D.state swapper.old.disk) (D.state swapper.new.disk)) }
+    ensures stopped_around { OnErr result
+        (RevealsSame (D.state swapper.old.disk) (D.state swapper.new.disk)
+        ⊎ SyncsAroundOne true found label (D.state swapper.old.disk) (D.state swapper.new.disk)) }
     ensures went { Went (D.state swapper.old.disk) (D.state swapper.new.disk) }
-    ensures cause { IfErr result (λ e. (e ≡ halt.Disk) × Rose (D.state swapper.old.disk).faults (D.state swapper.new.disk).faults) }
+    ensures cause { IfErr result
+        (λ e. (e ≡ halt.Disk) × Rose (D.state swapper.old.disk).faults (D.state swapper.new.disk).faults) }
     ensures frames { swapper.new.pool ≡ swapper.old.pool }
     ensures layout { swapper.new.layout ≡ swapper.old.layout }
     ensures cost { (D.state swapper.new.disk).transfers ≤ (D.state swapper.old.disk).transfers + 1 }
@@ -150,12 +165,19 @@ fn relabel<D: Disk, A: Allocator>(
     label: Label,
 ) -> Result<(), Halt>
     requires { sector < (D.state swapper.old.disk).sectors }
-    ensures writes { OnOk result (RevealsWrite (write.LabelOnly sector label) (D.state swapper.old.disk) (D.state swapper.new.disk)) }
-    ensures stopped { OnErr result (RevealsSame (D.state swapper.old.disk) (D.state swapper.new.disk) ⊎ RevealsWrite (write.LabelOnly sector label) (D.state swapper.old.disk) (D.state swapper.new.disk)) }
-    ensures around { OnOk result (SyncsAroundOne false found label (D.state swapper.old.disk) (D.state swapper.new.disk)) }
-    ensures stopped_around { OnErr result (RevealsSame (D.state swapper.old.disk) (D.state swapper.new.disk) ⊎ SyncsAroundOne true found label (D.state swapper.old.disk) (D.state swapper.new.disk)) }
+    ensures writes { OnOk result
+        (RevealsWrite (write.LabelOnly sector label) (D.state swapper.old.disk) (D.state swapper.new.disk)) }
+    ensures stopped { OnErr result
+        (RevealsSame (D.state swapper.old.disk) (D.state swapper.new.disk)
+        ⊎ RevealsWrite (write.LabelOnly sector label) (D.state swapper.old.disk) (D.state swapper.new.disk)) }
+    ensures around { OnOk result
+        (SyncsAroundOne false found label (D.state swapper.old.disk) (D.state swapper.new.disk)) }
+    ensures stopped_around { OnErr result
+        (RevealsSame (D.state swapper.old.disk) (D.state swapper.new.disk)
+        ⊎ SyncsAroundOne true found label (D.state swapper.old.disk) (D.state swapper.new.disk)) }
     ensures went { Went (D.state swapper.old.disk) (D.state swapper.new.disk) }
-    ensures cause { IfErr result (λ e. (e ≡ halt.Disk) × Rose (D.state swapper.old.disk).faults (D.state swapper.new.disk).faults) }
+    ensures cause { IfErr result
+        (λ e. (e ≡ halt.Disk) × Rose (D.state swapper.old.disk).faults (D.state swapper.new.disk).faults) }
     ensures frames { swapper.new.pool ≡ swapper.old.pool }
     ensures layout { swapper.new.layout ≡ swapper.old.layout }
     ensures cost { (D.state swapper.new.disk).transfers ≤ (D.state swapper.old.disk).transfers + 1 }
@@ -180,10 +202,14 @@ fn write_fresh<D: Disk, A: Allocator>(
     label: Label,
 ) -> Result<(), Halt>
     requires { sector < (D.state swapper.old.disk).sectors }
-    ensures writes { OnOk result (RevealsWrite (write.Whole sector label zero_bytes) (D.state swapper.old.disk) (D.state swapper.new.disk)) }
-    ensures stopped { OnErr result (RevealsSame (D.state swapper.old.disk) (D.state swapper.new.disk) ⊎ RevealsWrite (write.Whole sector label zero_bytes) (D.state swapper.old.disk) (D.state swapper.new.disk)) }
+    ensures writes { OnOk result
+        (RevealsWrite (write.Whole sector label zero_bytes) (D.state swapper.old.disk) (D.state swapper.new.disk)) }
+    ensures stopped { OnErr result
+        (RevealsSame (D.state swapper.old.disk) (D.state swapper.new.disk)
+        ⊎ RevealsWrite (write.Whole sector label zero_bytes) (D.state swapper.old.disk) (D.state swapper.new.disk)) }
     ensures moves { Moves (D.state swapper.old.disk) (D.state swapper.new.disk) }
-    ensures cause { IfErr result (λ e. (e ≡ halt.Disk) × Rose (D.state swapper.old.disk).faults (D.state swapper.new.disk).faults) }
+    ensures cause { IfErr result
+        (λ e. (e ≡ halt.Disk) × Rose (D.state swapper.old.disk).faults (D.state swapper.new.disk).faults) }
     ensures frames { swapper.new.pool ≡ swapper.old.pool }
     ensures layout { swapper.new.layout ≡ swapper.old.layout }
 {
@@ -204,13 +230,21 @@ pub fn make_page<D: Disk, A: Allocator>(
     requires data { swapper.old.layout.first ≤ sector }
     requires inside { sector < swapper.old.layout.sectors }
     requires form { IsFresh label }
-    ensures made { OnOk result (Relabels free_ones sector (write.Whole sector label zero_bytes) (D.state swapper.old.disk) swapper.old.pool (D.state swapper.new.disk)) }
-    ensures stopped { OnErr result (MayHaveWritten (write.Whole sector label zero_bytes) (D.state swapper.old.disk) swapper.old.pool (D.state swapper.new.disk)) }
-    ensures was { OnErr result (Makes no_page [] (D.state swapper.old.disk) swapper.old.pool (D.state swapper.new.disk) swapper.new.pool
+    ensures made { OnOk result
+        (Relabels free_ones sector (write.Whole sector label zero_bytes) (D.state swapper.old.disk) swapper.old.pool
+        (D.state swapper.new.disk)) }
+    ensures stopped { OnErr result
+        (MayHaveWritten (write.Whole sector label zero_bytes) (D.state swapper.old.disk) swapper.old.pool
+        (D.state swapper.new.disk)) }
+    ensures was { OnErr result
+        (Makes no_page [] (D.state swapper.old.disk) swapper.old.pool (D.state swapper.new.disk) swapper.new.pool
         ⊎ ((d : List Sector) → (D.state swapper.old.disk).contents ≡ Some d → HasOne free_ones d sector)) }
-    ensures sound { (m : List Sector) → Stands (D.state swapper.old.disk) swapper.old.pool m → HasOne free_ones m sector → IfErr result (λ e. e ≡ halt.Disk) }
-    ensures cause { IfErr result (HasCause (IsTaken sector (D.state swapper.old.disk)) (D.state swapper.old.disk) (D.state swapper.new.disk)) }
-    ensures evidence_seen { IfErr result (HasCause (IsTaken sector (D.state swapper.new.disk)) (D.state swapper.old.disk) (D.state swapper.new.disk)) }
+    ensures sound { (m : List Sector) → Stands (D.state swapper.old.disk) swapper.old.pool m → HasOne free_ones m sector
+        → IfErr result (λ e. e ≡ halt.Disk) }
+    ensures cause { IfErr result
+        (HasCause (IsTaken sector (D.state swapper.old.disk)) (D.state swapper.old.disk) (D.state swapper.new.disk)) }
+    ensures evidence_seen { IfErr result
+        (HasCause (IsTaken sector (D.state swapper.new.disk)) (D.state swapper.old.disk) (D.state swapper.new.disk)) }
     ensures frames { swapper.new.pool ≡ swapper.old.pool }
     ensures layout { swapper.new.layout ≡ swapper.old.layout }
     ensures cost { (D.state swapper.new.disk).transfers ≤ (D.state swapper.old.disk).transfers + 2 }
@@ -244,13 +278,23 @@ pub fn free_page<D: Disk, A: Allocator>(
     requires data { swapper.old.layout.first ≤ sector }
     requires inside { sector < swapper.old.layout.sectors }
     requires of_file { (wanted.id ≡ 3) ⊎ (16 ≤ wanted.id) }
-    ensures freed { OnOk result (Relabels (ones_of wanted) sector (write.LabelOnly sector free_label) (D.state swapper.old.disk) swapper.old.pool (D.state swapper.new.disk)) }
-    ensures stopped { OnErr result (MayHaveWritten (write.LabelOnly sector free_label) (D.state swapper.old.disk) swapper.old.pool (D.state swapper.new.disk)) }
-    ensures was { OnErr result (Makes no_page [] (D.state swapper.old.disk) swapper.old.pool (D.state swapper.new.disk) swapper.new.pool
+    ensures freed { OnOk result
+        (Relabels (ones_of wanted) sector (write.LabelOnly sector free_label) (D.state swapper.old.disk)
+        swapper.old.pool (D.state swapper.new.disk)) }
+    ensures stopped { OnErr result
+        (MayHaveWritten (write.LabelOnly sector free_label) (D.state swapper.old.disk) swapper.old.pool
+        (D.state swapper.new.disk)) }
+    ensures was { OnErr result
+        (Makes no_page [] (D.state swapper.old.disk) swapper.old.pool (D.state swapper.new.disk) swapper.new.pool
         ⊎ ((d : List Sector) → (D.state swapper.old.disk).contents ≡ Some d → HasOne (ones_of wanted) d sector)) }
-    ensures sound { (m : List Sector) → Stands (D.state swapper.old.disk) swapper.old.pool m → HasOne (ones_of wanted) m sector → IfErr result (λ e. e ≡ halt.Disk) }
-    ensures cause { IfErr result (HasCause (IsNotOf sector wanted (D.state swapper.old.disk)) (D.state swapper.old.disk) (D.state swapper.new.disk)) }
-    ensures evidence_seen { IfErr result (HasCause (IsNotOf sector wanted (D.state swapper.new.disk)) (D.state swapper.old.disk) (D.state swapper.new.disk)) }
+    ensures sound { (m : List Sector) → Stands (D.state swapper.old.disk) swapper.old.pool m
+        → HasOne (ones_of wanted) m sector → IfErr result (λ e. e ≡ halt.Disk) }
+    ensures cause { IfErr result
+        (HasCause (IsNotOf sector wanted (D.state swapper.old.disk)) (D.state swapper.old.disk)
+        (D.state swapper.new.disk)) }
+    ensures evidence_seen { IfErr result
+        (HasCause (IsNotOf sector wanted (D.state swapper.new.disk)) (D.state swapper.old.disk)
+        (D.state swapper.new.disk)) }
     ensures frames { swapper.new.pool ≡ swapper.old.pool }
     ensures layout { swapper.new.layout ≡ swapper.old.layout }
     ensures cost { (D.state swapper.new.disk).transfers ≤ (D.state swapper.old.disk).transfers + 2 }
@@ -286,14 +330,28 @@ pub fn mark_leader<D: Disk, A: Allocator>(
     requires data { swapper.old.layout.first ≤ sector }
     requires inside { sector < swapper.old.layout.sectors }
     requires of_file { 16 ≤ id }
-    ensures marked { OnOk result ((label : Label) × Relabels (λ l. (l ≡ label) × ones_of (record { id = id; page = leader_page }) l) sector (write.LabelOnly sector (with_mark mark label)) (D.state swapper.old.disk) swapper.old.pool (D.state swapper.new.disk)) }
-    ensures stopped { OnErr result (Makes no_page [] (D.state swapper.old.disk) swapper.old.pool (D.state swapper.new.disk) swapper.new.pool
-        ⊎ ((label : Label) × HasLabel (D.state swapper.old.disk) sector label × MayHaveWritten (write.LabelOnly sector (with_mark mark label)) (D.state swapper.old.disk) swapper.old.pool (D.state swapper.new.disk))) }
-    ensures was { OnErr result (Makes no_page [] (D.state swapper.old.disk) swapper.old.pool (D.state swapper.new.disk) swapper.new.pool
-        ⊎ ((d : List Sector) → (D.state swapper.old.disk).contents ≡ Some d → HasOne (ones_of (record { id = id; page = leader_page })) d sector)) }
-    ensures sound { (m : List Sector) → Stands (D.state swapper.old.disk) swapper.old.pool m → HasOne (ones_of (record { id = id; page = leader_page })) m sector → IfErr result (λ e. e ≡ halt.Disk) }
-    ensures cause { IfErr result (HasCause (IsNotOf sector (record { id = id; page = leader_page }) (D.state swapper.old.disk)) (D.state swapper.old.disk) (D.state swapper.new.disk)) }
-    ensures evidence_seen { IfErr result (HasCause (IsNotOf sector (record { id = id; page = leader_page }) (D.state swapper.new.disk)) (D.state swapper.old.disk) (D.state swapper.new.disk)) }
+    ensures marked { OnOk result
+        ((label : Label)
+        × Relabels (λ l. (l ≡ label) × ones_of (record { id = id; page = leader_page }) l) sector
+        (write.LabelOnly sector (with_mark mark label)) (D.state swapper.old.disk) swapper.old.pool
+        (D.state swapper.new.disk)) }
+    ensures stopped { OnErr result
+        (Makes no_page [] (D.state swapper.old.disk) swapper.old.pool (D.state swapper.new.disk) swapper.new.pool
+        ⊎ ((label : Label) × HasLabel (D.state swapper.old.disk) sector label
+        × MayHaveWritten (write.LabelOnly sector (with_mark mark label)) (D.state swapper.old.disk) swapper.old.pool
+        (D.state swapper.new.disk))) }
+    ensures was { OnErr result
+        (Makes no_page [] (D.state swapper.old.disk) swapper.old.pool (D.state swapper.new.disk) swapper.new.pool
+        ⊎ ((d : List Sector) → (D.state swapper.old.disk).contents ≡ Some d
+        → HasOne (ones_of (record { id = id; page = leader_page })) d sector)) }
+    ensures sound { (m : List Sector) → Stands (D.state swapper.old.disk) swapper.old.pool m
+        → HasOne (ones_of (record { id = id; page = leader_page })) m sector → IfErr result (λ e. e ≡ halt.Disk) }
+    ensures cause { IfErr result
+        (HasCause (IsNotOf sector (record { id = id; page = leader_page }) (D.state swapper.old.disk))
+        (D.state swapper.old.disk) (D.state swapper.new.disk)) }
+    ensures evidence_seen { IfErr result
+        (HasCause (IsNotOf sector (record { id = id; page = leader_page }) (D.state swapper.new.disk))
+        (D.state swapper.old.disk) (D.state swapper.new.disk)) }
     ensures frames { swapper.new.pool ≡ swapper.old.pool }
     ensures layout { swapper.new.layout ≡ swapper.old.layout }
     ensures cost { (D.state swapper.new.disk).transfers ≤ (D.state swapper.old.disk).transfers + 2 }

@@ -30,13 +30,26 @@ pub fn make_pages<D: Disk, A: Allocator>(
     requires inside { sector + pages ≤ swapper.old.layout.sectors }
     requires numbers { page + pages ≤ 2 ^ 32 }
     requires of_file { AreOfFile id kind page pages }
-    ensures made { OnOk result (RelabelsRun sector pages (growth id kind page (range_with_len sector pages)) (D.state swapper.old.disk) swapper.old.pool (D.state swapper.new.disk)) }
-    ensures stopped { OnErr result (MadeSome (growth id kind page (range_with_len sector pages)) (D.state swapper.old.disk) swapper.old.pool (D.state swapper.new.disk)) }
-    ensures named { OnErr result (NamedSome (λ k. sector + k) (λ k. free_ones) (growth id kind page (range_with_len sector pages)) (D.state swapper.old.disk) swapper.old.pool (D.state swapper.new.disk)) }
-    ensures were { OnOk result ((d : List Sector) → (D.state swapper.old.disk).contents ≡ Some d → HaveOnes (λ k. free_ones) d sector pages) }
-    ensures sound { (m : List Sector) → Stands (D.state swapper.old.disk) swapper.old.pool m → AreUncovered swapper.old.pool sector pages → HaveOnes (λ k. free_ones) m sector pages → IfErr result (λ e. e ≡ halt.Disk) }
-    ensures cause { IfErr result (HasCause (IsOneTaken sector pages (D.state swapper.old.disk)) (D.state swapper.old.disk) (D.state swapper.new.disk)) }
-    ensures evidence_seen { IfErr result (HasCause (IsOneTaken sector pages (D.state swapper.new.disk)) (D.state swapper.old.disk) (D.state swapper.new.disk)) }
+    ensures made { OnOk result
+        (RelabelsRun sector pages (growth id kind page (range_with_len sector pages)) (D.state swapper.old.disk)
+        swapper.old.pool (D.state swapper.new.disk)) }
+    ensures stopped { OnErr result
+        (MadeSome (growth id kind page (range_with_len sector pages)) (D.state swapper.old.disk) swapper.old.pool
+        (D.state swapper.new.disk)) }
+    ensures named { OnErr result
+        (NamedSome (λ k. sector + k) (λ k. free_ones) (growth id kind page (range_with_len sector pages))
+        (D.state swapper.old.disk) swapper.old.pool (D.state swapper.new.disk)) }
+    ensures were { OnOk result
+        ((d : List Sector) → (D.state swapper.old.disk).contents ≡ Some d → HaveOnes (λ k. free_ones) d sector pages) }
+    ensures sound { (m : List Sector) → Stands (D.state swapper.old.disk) swapper.old.pool m
+        → AreUncovered swapper.old.pool sector pages → HaveOnes (λ k. free_ones) m sector pages
+        → IfErr result (λ e. e ≡ halt.Disk) }
+    ensures cause { IfErr result
+        (HasCause (IsOneTaken sector pages (D.state swapper.old.disk)) (D.state swapper.old.disk)
+        (D.state swapper.new.disk)) }
+    ensures evidence_seen { IfErr result
+        (HasCause (IsOneTaken sector pages (D.state swapper.new.disk)) (D.state swapper.old.disk)
+        (D.state swapper.new.disk)) }
     ensures frames { swapper.new.pool ≡ swapper.old.pool }
     ensures layout { swapper.new.layout ≡ swapper.old.layout }
     ensures cost { (D.state swapper.new.disk).transfers ≤ (D.state swapper.old.disk).transfers + 2 * pages }
@@ -65,13 +78,29 @@ pub fn free_pages_up<D: Disk, A: Allocator>(
     requires inside { sector + pages ≤ swapper.old.layout.sectors }
     requires numbers { page + pages ≤ 2 ^ 32 }
     requires of_file { (id ≡ 3) ⊎ (16 ≤ id) }
-    ensures freed { OnOk result (RelabelsRun sector pages (freeing (range_with_len sector pages)) (D.state swapper.old.disk) swapper.old.pool (D.state swapper.new.disk)) }
-    ensures stopped { OnErr result (MadeSome (freeing (range_with_len sector pages)) (D.state swapper.old.disk) swapper.old.pool (D.state swapper.new.disk)) }
-    ensures were { OnOk result ((d : List Sector) → (D.state swapper.old.disk).contents ≡ Some d → HaveOnes (λ k. ones_of (record { id = id; page = page + k })) d sector pages) }
-    ensures named { OnErr result (NamedSome (λ k. sector + k) (λ k. ones_of (record { id = id; page = page + k })) (freeing (range_with_len sector pages)) (D.state swapper.old.disk) swapper.old.pool (D.state swapper.new.disk)) }
-    ensures sound { (m : List Sector) → Stands (D.state swapper.old.disk) swapper.old.pool m → AreUncovered swapper.old.pool sector pages → HaveOnes (λ k. ones_of (record { id = id; page = page + k })) m sector pages → IfErr result (λ e. e ≡ halt.Disk) }
-    ensures cause { IfErr result (HasCause (IsOneNotOf sector pages (λ k. record { id = id; page = page + k }) (D.state swapper.old.disk)) (D.state swapper.old.disk) (D.state swapper.new.disk)) }
-    ensures evidence_seen { IfErr result (HasCause (IsOneNotOf sector pages (λ k. record { id = id; page = page + k }) (D.state swapper.new.disk)) (D.state swapper.old.disk) (D.state swapper.new.disk)) }
+    ensures freed { OnOk result
+        (RelabelsRun sector pages (freeing (range_with_len sector pages)) (D.state swapper.old.disk) swapper.old.pool
+        (D.state swapper.new.disk)) }
+    ensures stopped { OnErr result
+        (MadeSome (freeing (range_with_len sector pages)) (D.state swapper.old.disk) swapper.old.pool
+        (D.state swapper.new.disk)) }
+    ensures were { OnOk result
+        ((d : List Sector) → (D.state swapper.old.disk).contents ≡ Some d
+        → HaveOnes (λ k. ones_of (record { id = id; page = page + k })) d sector pages) }
+    ensures named { OnErr result
+        (NamedSome (λ k. sector + k) (λ k. ones_of (record { id = id; page = page + k }))
+        (freeing (range_with_len sector pages)) (D.state swapper.old.disk) swapper.old.pool
+        (D.state swapper.new.disk)) }
+    ensures sound { (m : List Sector) → Stands (D.state swapper.old.disk) swapper.old.pool m
+        → AreUncovered swapper.old.pool sector pages
+        → HaveOnes (λ k. ones_of (record { id = id; page = page + k })) m sector pages
+        → IfErr result (λ e. e ≡ halt.Disk) }
+    ensures cause { IfErr result
+        (HasCause (IsOneNotOf sector pages (λ k. record { id = id; page = page + k }) (D.state swapper.old.disk))
+        (D.state swapper.old.disk) (D.state swapper.new.disk)) }
+    ensures evidence_seen { IfErr result
+        (HasCause (IsOneNotOf sector pages (λ k. record { id = id; page = page + k }) (D.state swapper.new.disk))
+        (D.state swapper.old.disk) (D.state swapper.new.disk)) }
     ensures frames { swapper.new.pool ≡ swapper.old.pool }
     ensures layout { swapper.new.layout ≡ swapper.old.layout }
     ensures cost { (D.state swapper.new.disk).transfers ≤ (D.state swapper.old.disk).transfers + 2 * pages }
@@ -101,13 +130,30 @@ pub fn free_pages_down<D: Disk, A: Allocator>(
     requires inside { sector + pages ≤ swapper.old.layout.sectors }
     requires numbers { page + pages ≤ 2 ^ 32 }
     requires of_file { (id ≡ 3) ⊎ (16 ≤ id) }
-    ensures freed { OnOk result (RelabelsRun sector pages (freeing (map (λ k. sector + (pages - (k + 1))) (range_with_len 0 pages))) (D.state swapper.old.disk) swapper.old.pool (D.state swapper.new.disk)) }
-    ensures stopped { OnErr result (MadeSome (freeing (map (λ k. sector + (pages - (k + 1))) (range_with_len 0 pages))) (D.state swapper.old.disk) swapper.old.pool (D.state swapper.new.disk)) }
-    ensures were { OnOk result ((d : List Sector) → (D.state swapper.old.disk).contents ≡ Some d → HaveOnes (λ k. ones_of (record { id = id; page = page + k })) d sector pages) }
-    ensures named { OnErr result (NamedSome (λ k. sector + (pages - (k + 1))) (λ k. ones_of (record { id = id; page = page + (pages - (k + 1)) })) (freeing (map (λ k. sector + (pages - (k + 1))) (range_with_len 0 pages))) (D.state swapper.old.disk) swapper.old.pool (D.state swapper.new.disk)) }
-    ensures sound { (m : List Sector) → Stands (D.state swapper.old.disk) swapper.old.pool m → AreUncovered swapper.old.pool sector pages → HaveOnes (λ k. ones_of (record { id = id; page = page + k })) m sector pages → IfErr result (λ e. e ≡ halt.Disk) }
-    ensures cause { IfErr result (HasCause (IsOneNotOf sector pages (λ k. record { id = id; page = page + k }) (D.state swapper.old.disk)) (D.state swapper.old.disk) (D.state swapper.new.disk)) }
-    ensures evidence_seen { IfErr result (HasCause (IsOneNotOf sector pages (λ k. record { id = id; page = page + k }) (D.state swapper.new.disk)) (D.state swapper.old.disk) (D.state swapper.new.disk)) }
+    ensures freed { OnOk result
+        (RelabelsRun sector pages (freeing (map (λ k. sector + (pages - (k + 1))) (range_with_len 0 pages)))
+        (D.state swapper.old.disk) swapper.old.pool (D.state swapper.new.disk)) }
+    ensures stopped { OnErr result
+        (MadeSome (freeing (map (λ k. sector + (pages - (k + 1))) (range_with_len 0 pages))) (D.state swapper.old.disk)
+        swapper.old.pool (D.state swapper.new.disk)) }
+    ensures were { OnOk result
+        ((d : List Sector) → (D.state swapper.old.disk).contents ≡ Some d
+        → HaveOnes (λ k. ones_of (record { id = id; page = page + k })) d sector pages) }
+    ensures named { OnErr result
+        (NamedSome (λ k. sector + (pages - (k + 1)))
+        (λ k. ones_of (record { id = id; page = page + (pages - (k + 1)) }))
+        (freeing (map (λ k. sector + (pages - (k + 1))) (range_with_len 0 pages))) (D.state swapper.old.disk)
+        swapper.old.pool (D.state swapper.new.disk)) }
+    ensures sound { (m : List Sector) → Stands (D.state swapper.old.disk) swapper.old.pool m
+        → AreUncovered swapper.old.pool sector pages
+        → HaveOnes (λ k. ones_of (record { id = id; page = page + k })) m sector pages
+        → IfErr result (λ e. e ≡ halt.Disk) }
+    ensures cause { IfErr result
+        (HasCause (IsOneNotOf sector pages (λ k. record { id = id; page = page + k }) (D.state swapper.old.disk))
+        (D.state swapper.old.disk) (D.state swapper.new.disk)) }
+    ensures evidence_seen { IfErr result
+        (HasCause (IsOneNotOf sector pages (λ k. record { id = id; page = page + k }) (D.state swapper.new.disk))
+        (D.state swapper.old.disk) (D.state swapper.new.disk)) }
     ensures frames { swapper.new.pool ≡ swapper.old.pool }
     ensures layout { swapper.new.layout ≡ swapper.old.layout }
     ensures cost { (D.state swapper.new.disk).transfers ≤ (D.state swapper.old.disk).transfers + 2 * pages }

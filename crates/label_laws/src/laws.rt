@@ -66,11 +66,13 @@ pub fn labels_by_label_writes()
 /// Writes in a row of a file that does not count.
 pub fn unseen_runs()
     ensures rows { (with_temporary : Bool) (id : ℕ) → UnseenAppended with_temporary id }
-    ensures crash_states { (with_temporary : Bool) (id serial counter : ℕ) → UnseenCrashStates with_temporary id serial counter }
+    ensures crash_states { (with_temporary : Bool) (id serial counter : ℕ)
+        → UnseenCrashStates with_temporary id serial counter }
     ensures orders { (with_temporary : Bool) (id : ℕ) → UnseenOrders with_temporary id }
     ensures creation { (id : ℕ) → UnseenCreation id }
     ensures quiet_rows { (with_temporary : Bool) (id : ℕ) → QuietAppended with_temporary id }
-    ensures quiet { (with_temporary : Bool) (id serial counter : ℕ) → QuietCrashStates with_temporary id serial counter }
+    ensures quiet { (with_temporary : Bool) (id serial counter : ℕ)
+        → QuietCrashStates with_temporary id serial counter }
 {}
 
 /// Sectors that no file needs are freed.

@@ -37,8 +37,20 @@ fn put_low<M: FlatMem, const E: usize, const K: usize>(
     requires levels { 1 ≤ header.old.levels }
     requires few { header.old.levels ≤ 6 }
     requires free { header.old.free < M.size mem.old / 512 }
-    ensures low { (b : List ℕ) → M.reveals mem.old b → (records : List (List ℕ)) (ready : IsReady E K (M.size mem.old / 512) b records header.old.levels header.old.root header.old.free header.old.top) (paths index : List ℕ) → IsReached b header.old.levels ready.nodes key.old page.old paths index at → MatchResult result (IsLow E K (M.size mem.old / 512) (M.reveals mem.new) records entry.now key.old header.old.levels paths index key.new link.new header.old.root header.new.free header.new.top) FromMemory }
-    ensures on { (b : List ℕ) → M.reveals mem.old b → IsUnderWay K b b 0 0 header.old.free header.old.top → Meets K b 1 at → kind_of page.old ≡ 1 → MatchResult result (GoesOn K (M.reveals mem.new) b 1 header.new.free header.new.top) (IfMalformed (StopsInsertion E K (M.size mem.old / 512) b)) }
+    ensures low { (b : List ℕ) → M.reveals mem.old b
+        → (records : List (List ℕ))
+        (ready : IsReady E K (M.size mem.old / 512) b records header.old.levels header.old.root header.old.free
+        header.old.top)
+        (paths index : List ℕ)
+        → IsReached b header.old.levels ready.nodes key.old page.old paths index at
+        → MatchResult result
+        (IsLow E K (M.size mem.old / 512) (M.reveals mem.new) records entry.now key.old header.old.levels paths index
+        key.new link.new header.old.root header.new.free header.new.top)
+        FromMemory }
+    ensures on { (b : List ℕ) → M.reveals mem.old b → IsUnderWay K b b 0 0 header.old.free header.old.top
+        → Meets K b 1 at → kind_of page.old ≡ 1
+        → MatchResult result (GoesOn K (M.reveals mem.new) b 1 header.new.free header.new.top)
+        (IfMalformed (StopsInsertion E K (M.size mem.old / 512) b)) }
     ensures free { IfOk result (λ _. header.new.free < M.size mem.old / 512) }
     ensures count { header.new.count ≡ header.old.count }
     ensures root { header.new.root ≡ header.old.root }
@@ -77,8 +89,16 @@ fn put_first<M: FlatMem, const E: usize, const K: usize>(
     requires some_pages { 9 * 512 ≤ M.size mem.old }
     requires none { header.old.levels ≡ 0 }
     requires free { header.old.free < M.size mem.old / 512 }
-    ensures put { (b : List ℕ) → M.reveals mem.old b → (records : List (List ℕ)) → IsTree E K (M.size mem.old / 512) b records → IsHead (page_at b 0) header.old.count header.old.root header.old.top header.old.free header.old.levels → MatchResult result (λ _. IsPutIn E K (M.size mem.old / 512) (M.reveals mem.new) records entry.now header.new.levels header.new.root header.new.free header.new.top) FromMemory }
-    ensures on { (b : List ℕ) → M.reveals mem.old b → IsUnderWay K b b 0 0 header.old.free header.old.top → IfErr result (IfMalformed (StopsInsertion E K (M.size mem.old / 512) b)) }
+    ensures put { (b : List ℕ) → M.reveals mem.old b → (records : List (List ℕ))
+        → IsTree E K (M.size mem.old / 512) b records
+        → IsHead (page_at b 0) header.old.count header.old.root header.old.top header.old.free header.old.levels
+        → MatchResult result
+        (λ _.
+        IsPutIn E K (M.size mem.old / 512) (M.reveals mem.new) records entry.now header.new.levels header.new.root
+        header.new.free header.new.top)
+        FromMemory }
+    ensures on { (b : List ℕ) → M.reveals mem.old b → IsUnderWay K b b 0 0 header.old.free header.old.top
+        → IfErr result (IfMalformed (StopsInsertion E K (M.size mem.old / 512) b)) }
     ensures count { header.new.count ≡ header.old.count }
     ensures levels { IfOk result (λ _. header.new.levels ≤ 6) }
     ensures kept { M.beside mem.old mem.new }
@@ -111,8 +131,18 @@ fn put_in<M: FlatMem, const E: usize, const K: usize>(
     requires some_pages { 9 * 512 ≤ M.size mem.old }
     requires begins { CanBegin (M.size mem.old / 512) header.old.levels header.old.root }
     requires free { header.old.free < M.size mem.old / 512 }
-    ensures put { (b : List ℕ) → M.reveals mem.old b → (records : List (List ℕ)) → IsTree E K (M.size mem.old / 512) b records → IsHead (page_at b 0) header.old.count header.old.root header.old.top header.old.free header.old.levels → length records < capacity_of E (M.size mem.old / 512) → MatchResult result (λ _. IsPutIn E K (M.size mem.old / 512) (M.reveals mem.new) records entry.now header.new.levels header.new.root header.new.free header.new.top) FromMemory }
-    ensures on { (b : List ℕ) → M.reveals mem.old b → IsHead (page_at b 0) header.old.count header.old.root header.old.top header.old.free header.old.levels → IfErr result (IfMalformed (StopsInsertion E K (M.size mem.old / 512) b)) }
+    ensures put { (b : List ℕ) → M.reveals mem.old b → (records : List (List ℕ))
+        → IsTree E K (M.size mem.old / 512) b records
+        → IsHead (page_at b 0) header.old.count header.old.root header.old.top header.old.free header.old.levels
+        → length records < capacity_of E (M.size mem.old / 512)
+        → MatchResult result
+        (λ _.
+        IsPutIn E K (M.size mem.old / 512) (M.reveals mem.new) records entry.now header.new.levels header.new.root
+        header.new.free header.new.top)
+        FromMemory }
+    ensures on { (b : List ℕ) → M.reveals mem.old b
+        → IsHead (page_at b 0) header.old.count header.old.root header.old.top header.old.free header.old.levels
+        → IfErr result (IfMalformed (StopsInsertion E K (M.size mem.old / 512) b)) }
     ensures count { header.new.count ≡ header.old.count }
     ensures few { IfOk result (λ _. header.new.levels ≤ 6) }
     ensures kept { M.beside mem.old mem.new }
@@ -152,10 +182,15 @@ pub fn insert<M: FlatMem, const E: usize, const K: usize>(
     requires widths { IsWidths E K }
     requires small { M.size mem.old ≤ 2 ^ 27 }
     requires some_pages { 9 * 512 ≤ M.size mem.old }
-    ensures answer { (b : List ℕ) → M.reveals mem.old b → (records : List (List ℕ)) → IsTree E K (M.size mem.old / 512) b records → MatchResult result (λ _. IsPut E K (M.size mem.old / 512) (M.reveals mem.new) records entry.now) (FullOr E (M.size mem.old / 512) (M.reveals mem.new) b records) }
-    ensures full { (b : List ℕ) → M.reveals mem.old b → IfErr result (IfFull (capacity_of E (M.size mem.old / 512) ≤ count_in (page_at b 0))) }
+    ensures answer { (b : List ℕ) → M.reveals mem.old b → (records : List (List ℕ))
+        → IsTree E K (M.size mem.old / 512) b records
+        → MatchResult result (λ _. IsPut E K (M.size mem.old / 512) (M.reveals mem.new) records entry.now)
+        (FullOr E (M.size mem.old / 512) (M.reveals mem.new) b records) }
+    ensures full { (b : List ℕ) → M.reveals mem.old b
+        → IfErr result (IfFull (capacity_of E (M.size mem.old / 512) ≤ count_in (page_at b 0))) }
     ensures full_same { (b : List ℕ) → M.reveals mem.old b → IfErr result (IfFull (M.reveals mem.new b)) }
-    ensures broken { (b : List ℕ) → M.reveals mem.old b → IfErr result (IfMalformed (StopsInsertion E K (M.size mem.old / 512) b)) }
+    ensures broken { (b : List ℕ) → M.reveals mem.old b
+        → IfErr result (IfMalformed (StopsInsertion E K (M.size mem.old / 512) b)) }
     ensures kept { M.beside mem.old mem.new }
     ensures cause { IfErr result (IfMemory (M.accounted mem.old mem.new)) }
     ensures cost { M.spent mem.new ≤ M.spent mem.old + 33 * M.cost }

@@ -31,9 +31,12 @@ pub fn look_after<M: FlatMem, const E: usize, const K: usize>(
     requires widths { IsWidths E K }
     requires small { M.size mem.old ≤ 2 ^ 27 }
     requires some_pages { 9 * 512 ≤ M.size mem.old }
-    ensures answer { (b : List ℕ) → M.reveals mem.old b → (records : List (List ℕ)) → IsTree E K (M.size mem.old / 512) b records → MatchResult result (λ found. IsNextEntry K records key.now into.new (is_some found)) FromMemory }
+    ensures answer { (b : List ℕ) → M.reveals mem.old b → (records : List (List ℕ))
+        → IsTree E K (M.size mem.old / 512) b records
+        → MatchResult result (λ found. IsNextEntry K records key.now into.new (is_some found)) FromMemory }
     ensures home { (b : List ℕ) → M.reveals mem.old b → IfOk result (λ found. IfSome found (StandsIn E K b into.new)) }
-    ensures broken { (b : List ℕ) → M.reveals mem.old b → IfErr result (IfMalformed (Breaks E K (M.size mem.old / 512) b)) }
+    ensures broken { (b : List ℕ) → M.reveals mem.old b
+        → IfErr result (IfMalformed (Breaks E K (M.size mem.old / 512) b)) }
     ensures unchanged { (b : List ℕ) → M.reveals mem.old b → M.reveals mem.new b }
     ensures kept { M.beside mem.old mem.new }
     ensures looked { M.only_reads mem.old mem.new }

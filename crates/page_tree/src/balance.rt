@@ -21,7 +21,9 @@ fn record_left<const E: usize, const K: usize>(
     requires room { count < leaf_room E }
     requires some { 1 ≤ more }
     requires most { more ≤ leaf_room E }
-    ensures halves { (xs ys : List Item) → IsLeaf E K left.old xs → IsLeaf E K right.old ys → count ≡ filled left.old → more ≡ filled right.old → 2 ≤ more → IsEnough E K 1 (length xs + 1) → IsEnough E K 1 (length ys - 1) → IsHalves E K 1 (xs ++ ys) left.new right.new key.new }
+    ensures halves { (xs ys : List Item) → IsLeaf E K left.old xs → IsLeaf E K right.old ys → count ≡ filled left.old
+        → more ≡ filled right.old → 2 ≤ more → IsEnough E K 1 (length xs + 1) → IsEnough E K 1 (length ys - 1)
+        → IsHalves E K 1 (xs ++ ys) left.new right.new key.new }
 {
     let mut entry = [0; E];
     record_of(right, 0, &mut entry);
@@ -42,7 +44,9 @@ fn record_right<const E: usize, const K: usize>(
     requires room { more < leaf_room E }
     requires some { 1 ≤ count }
     requires most { count ≤ leaf_room E }
-    ensures halves { (xs ys : List Item) → IsLeaf E K left.old xs → IsLeaf E K right.old ys → count ≡ filled left.old → more ≡ filled right.old → 2 ≤ count → IsEnough E K 1 (length xs - 1) → IsEnough E K 1 (length ys + 1) → IsHalves E K 1 (xs ++ ys) left.new right.new key.new }
+    ensures halves { (xs ys : List Item) → IsLeaf E K left.old xs → IsLeaf E K right.old ys → count ≡ filled left.old
+        → more ≡ filled right.old → 2 ≤ count → IsEnough E K 1 (length xs - 1) → IsEnough E K 1 (length ys + 1)
+        → IsHalves E K 1 (xs ++ ys) left.new right.new key.new }
 {
     let mut entry = [0; E];
     record_of(left, count - 1, &mut entry);
@@ -61,7 +65,9 @@ pub fn balance_leaves<const E: usize, const K: usize>(
     requires left_most { filled left.old ≤ leaf_room E }
     requires right_most { filled right.old ≤ leaf_room E }
     requires lean { filled left.old + filled right.old < leaf_room E + leaf_room E / 2 }
-    ensures balanced { (xs ys : List Item) → IsLeaf E K left.old xs → IsLeaf E K right.old ys → IsEnough E K 1 (length xs + 1) → IsEnough E K 1 (length ys + 1) → IsBalanced E K 1 (xs ++ ys) left.new right.new key.new result }
+    ensures balanced { (xs ys : List Item) → IsLeaf E K left.old xs → IsLeaf E K right.old ys
+        → IsEnough E K 1 (length xs + 1) → IsEnough E K 1 (length ys + 1)
+        → IsBalanced E K 1 (xs ++ ys) left.new right.new key.new result }
 {
     let count = filled_of(left);
     let more = filled_of(right);
@@ -90,7 +96,10 @@ fn child_left<const K: usize>(
     requires room { count < key_room K }
     requires some { 1 ≤ more }
     requires most { more ≤ key_room K }
-    ensures halves { (e l : ℕ) (xs ys : List Item) → 1 < l → IsInner K left.old xs → IsInner K right.old ys → count ≡ filled left.old → more ≡ filled right.old → 2 ≤ more → (item_at ys 0).key ≡ key.old → IsEnough e K l (length xs + 1) → IsEnough e K l (length ys - 1) → IsHalves e K l (xs ++ ys) left.new right.new key.new }
+    ensures halves { (e l : ℕ) (xs ys : List Item) → 1 < l → IsInner K left.old xs → IsInner K right.old ys
+        → count ≡ filled left.old → more ≡ filled right.old → 2 ≤ more → (item_at ys 0).key ≡ key.old
+        → IsEnough e K l (length xs + 1) → IsEnough e K l (length ys - 1)
+        → IsHalves e K l (xs ++ ys) left.new right.new key.new }
 {
     let mut up = [0; K];
     key_of(right, 0, &mut up);
@@ -113,7 +122,10 @@ fn child_right<const K: usize>(
     requires room { more < key_room K }
     requires some { 1 ≤ count }
     requires most { count ≤ key_room K }
-    ensures halves { (e l : ℕ) (xs ys : List Item) → 1 < l → IsInner K left.old xs → IsInner K right.old ys → count ≡ filled left.old → more ≡ filled right.old → 2 ≤ count → (item_at ys 0).key ≡ key.old → IsEnough e K l (length xs - 1) → IsEnough e K l (length ys + 1) → IsHalves e K l (xs ++ ys) left.new right.new key.new }
+    ensures halves { (e l : ℕ) (xs ys : List Item) → 1 < l → IsInner K left.old xs → IsInner K right.old ys
+        → count ≡ filled left.old → more ≡ filled right.old → 2 ≤ count → (item_at ys 0).key ≡ key.old
+        → IsEnough e K l (length xs - 1) → IsEnough e K l (length ys + 1)
+        → IsHalves e K l (xs ++ ys) left.new right.new key.new }
 {
     let mut up = [0; K];
     key_of(left, count - 1, &mut up);
@@ -130,7 +142,10 @@ pub fn balance_inners<const K: usize>(left: &mut Page, right: &mut Page, key: &m
     requires left_most { filled left.old ≤ key_room K }
     requires right_most { filled right.old ≤ key_room K }
     requires lean { filled left.old + filled right.old < key_room K + key_room K / 2 }
-    ensures balanced { (e l : ℕ) (xs ys : List Item) → 1 < l → IsInner K left.old xs → IsInner K right.old ys → (item_at ys 0).key ≡ key.old → IsEnough e K l (length xs + 1) → IsEnough e K l (length ys + 1) → (filled left.old < key_room K / 2) ⊎ (filled right.old < key_room K / 2) → IsBalanced e K l (xs ++ ys) left.new right.new key.new result }
+    ensures balanced { (e l : ℕ) (xs ys : List Item) → 1 < l → IsInner K left.old xs → IsInner K right.old ys
+        → (item_at ys 0).key ≡ key.old → IsEnough e K l (length xs + 1) → IsEnough e K l (length ys + 1)
+        → (filled left.old < key_room K / 2) ⊎ (filled right.old < key_room K / 2)
+        → IsBalanced e K l (xs ++ ys) left.new right.new key.new result }
 {
     let count = filled_of(left);
     let more = filled_of(right);

@@ -31,11 +31,21 @@ pub fn load_above<M: FlatMem, const K: usize>(
     requires inside { get_or path.now.pages (level + 1) 0 < M.size mem.old / 512 }
     ensures read { (b : List ℕ) → M.reveals mem.old b → IfOk result (λ up. above.new ≡ page_at b up) }
     ensures there { IfOk result (λ up. (up ≡ get_or path.now.pages (level + 1) 0) × (up < M.size mem.old / 512)) }
-    ensures form { IfOk result (λ _. (1 ≤ filled above.new) × (filled above.new ≤ key_room K) × (get_or path.now.index (level + 1) 0 ≤ filled above.new)) }
+    ensures form { IfOk result
+        (λ _.
+        (1 ≤ filled above.new) × (filled above.new ≤ key_room K)
+        × (get_or path.now.index (level + 1) 0 ≤ filled above.new)) }
     ensures more { IfOk result (λ _. level + 1 < levels → 2 ≤ filled above.new) }
-    ensures well { (e : ℕ) (b : List ℕ) → M.reveals mem.old b → (records : List (List ℕ)) (at : ℕ) (page : List ℕ) (root first top : ℕ) → IsPending e K (M.size mem.old / 512) b records levels level path.now.pages path.now.index at page root first top → IfErr result FromMemory }
-    ensures like { (root : ℕ) (b c : List ℕ) → M.reveals mem.old c → IsRebalancing K b c levels level root path.now.pages path.now.index → IfOk result (λ up. IsLike K above.new (page_at b up)) }
-    ensures broken { (e root : ℕ) (b c : List ℕ) → M.reveals mem.old c → IsRebalancing K b c levels level root path.now.pages path.now.index → IfErr result (IfMalformed (Breaks e K (M.size mem.old / 512) b)) }
+    ensures well { (e : ℕ) (b : List ℕ) → M.reveals mem.old b
+        → (records : List (List ℕ)) (at : ℕ) (page : List ℕ) (root first top : ℕ)
+        → IsPending e K (M.size mem.old / 512) b records levels level path.now.pages path.now.index at page root first top
+        → IfErr result FromMemory }
+    ensures like { (root : ℕ) (b c : List ℕ) → M.reveals mem.old c
+        → IsRebalancing K b c levels level root path.now.pages path.now.index
+        → IfOk result (λ up. IsLike K above.new (page_at b up)) }
+    ensures broken { (e root : ℕ) (b c : List ℕ) → M.reveals mem.old c
+        → IsRebalancing K b c levels level root path.now.pages path.now.index
+        → IfErr result (IfMalformed (Breaks e K (M.size mem.old / 512) b)) }
     ensures named { 1 ≤ get_or path.now.pages (level + 1) 0 → IfErr result (IfMalformed (λ page. 1 ≤ page)) }
     ensures unchanged { (b : List ℕ) → M.reveals mem.old b → M.reveals mem.new b }
     ensures kept { M.beside mem.old mem.new }
@@ -77,8 +87,13 @@ fn load_beside<M: FlatMem, const E: usize, const K: usize>(
     ensures after { IfOk result (λ at. 1 ≤ at) }
     ensures leaf { IfOk result (λ _. level ≡ 1 → filled page.new ≤ leaf_room E) }
     ensures inner { IfOk result (λ _. level ≢ 1 → filled page.new ≤ key_room K) }
-    ensures well { (b : List ℕ) → M.reveals mem.old b → (xs : List Item) → 1 ≤ link_at K above.now index → link_at K above.now index < M.size mem.old / 512 → IsPageOf E K level (page_at b (link_at K above.now index)) xs → IfErr result FromMemory }
-    ensures broken { (root levels : ℕ) (paths indexes b c : List ℕ) → M.reveals mem.old c → IsRebalancing K b c levels level root paths indexes → Meets K b (level + 1) up → IsInnerForm K (page_at b up) → IsLike K above.now (page_at b up) → index ≤ filled above.now → IfErr result (IfMalformed (Breaks E K (M.size mem.old / 512) b)) }
+    ensures well { (b : List ℕ) → M.reveals mem.old b → (xs : List Item) → 1 ≤ link_at K above.now index
+        → link_at K above.now index < M.size mem.old / 512
+        → IsPageOf E K level (page_at b (link_at K above.now index)) xs → IfErr result FromMemory }
+    ensures broken { (root levels : ℕ) (paths indexes b c : List ℕ) → M.reveals mem.old c
+        → IsRebalancing K b c levels level root paths indexes → Meets K b (level + 1) up → IsInnerForm K (page_at b up)
+        → IsLike K above.now (page_at b up) → index ≤ filled above.now
+        → IfErr result (IfMalformed (Breaks E K (M.size mem.old / 512) b)) }
     ensures named { 1 ≤ up → IfErr result (IfMalformed (λ page. 1 ≤ page)) }
     ensures unchanged { (b : List ℕ) → M.reveals mem.old b → M.reveals mem.new b }
     ensures kept { M.beside mem.old mem.new }
@@ -129,10 +144,22 @@ pub fn rebalance_beside<M: FlatMem, const E: usize, const K: usize>(
     requires children { 1 ≤ filled above.now }
     requires most { filled above.now ≤ key_room K }
     requires inside { at < M.size mem.old / 512 }
-    ensures redistributed { (b : List ℕ) → M.reveals mem.old b → (records : List (List ℕ)) (paths indexes : List ℕ) → IsPending E K (M.size mem.old / 512) b records header.old.levels level paths indexes at page.old header.old.root header.old.free header.old.top → level < header.old.levels → index ≡ get_or indexes (level + 1) 0 → above.now ≡ page_at b (get_or paths (level + 1) 0)
-        → MatchResult result (NeedsKeyUpdate E K (M.size mem.old / 512) (M.reveals mem.new) b records header.old.levels level paths indexes above.now slot key.new header.old.root header.new.free header.old.top) FromMemory }
-    ensures on { (root beside : ℕ) (paths indexes b c : List ℕ) → M.reveals mem.old c → IsRebalancing K b c header.old.levels level root paths indexes → level < header.old.levels → up ≡ get_or paths (level + 1) 0 → IsLike K above.now (page_at b up) → Meets K b level at → IsBesideOf index beside → AreNotAbove paths level header.old.levels at (link_at K above.now beside)
-        → MatchResult result (λ _. (d : List ℕ) × M.reveals mem.new d × IsRebalancing K b d header.old.levels (level + 1) root paths indexes) (IfMalformed (Breaks E K (M.size mem.old / 512) b)) }
+    ensures redistributed { (b : List ℕ) → M.reveals mem.old b → (records : List (List ℕ)) (paths indexes : List ℕ)
+        → IsPending E K (M.size mem.old / 512) b records header.old.levels level paths indexes at page.old
+        header.old.root header.old.free header.old.top
+        → level < header.old.levels → index ≡ get_or indexes (level + 1) 0
+        → above.now ≡ page_at b (get_or paths (level + 1) 0)
+        → MatchResult result
+        (NeedsKeyUpdate E K (M.size mem.old / 512) (M.reveals mem.new) b records header.old.levels level paths indexes
+        above.now slot key.new header.old.root header.new.free header.old.top)
+        FromMemory }
+    ensures on { (root beside : ℕ) (paths indexes b c : List ℕ) → M.reveals mem.old c
+        → IsRebalancing K b c header.old.levels level root paths indexes → level < header.old.levels
+        → up ≡ get_or paths (level + 1) 0 → IsLike K above.now (page_at b up) → Meets K b level at
+        → IsBesideOf index beside → AreNotAbove paths level header.old.levels at (link_at K above.now beside)
+        → MatchResult result
+        (λ _. (d : List ℕ) × M.reveals mem.new d × IsRebalancing K b d header.old.levels (level + 1) root paths indexes)
+        (IfMalformed (Breaks E K (M.size mem.old / 512) b)) }
     ensures named { 1 ≤ up → IfErr result (IfMalformed (λ page. 1 ≤ page)) }
     ensures count { header.new.count ≡ header.old.count }
     ensures root { header.new.root ≡ header.old.root }

@@ -40,8 +40,12 @@ pub fn first_leaf<M: FlatMem, const E: usize, const K: usize>(
     requires some { 1 ≤ levels }
     requires most { levels ≤ 6 }
     requires inside { root < M.size mem.old / 512 }
-    ensures leaf { (b : List ℕ) → M.reveals mem.old b → (records : List (List ℕ)) (nodes : ℕ → List Node) → IsRooted E K (M.size mem.old / 512) b records levels root nodes → MatchResult result (λ leaf. IsLed b levels nodes page.new path.new.pages path.new.index leaf 0) FromMemory }
-    ensures walked { (b : List ℕ) → M.reveals mem.old b → Meets K b levels root → MatchResult result (λ leaf. IsWalked K b levels root path.new.pages path.new.index leaf []) (IfMalformed (Breaks E K (M.size mem.old / 512) b)) }
+    ensures leaf { (b : List ℕ) → M.reveals mem.old b → (records : List (List ℕ)) (nodes : ℕ → List Node)
+        → IsRooted E K (M.size mem.old / 512) b records levels root nodes
+        → MatchResult result (λ leaf. IsLed b levels nodes page.new path.new.pages path.new.index leaf 0) FromMemory }
+    ensures walked { (b : List ℕ) → M.reveals mem.old b → Meets K b levels root
+        → MatchResult result (λ leaf. IsWalked K b levels root path.new.pages path.new.index leaf [])
+        (IfMalformed (Breaks E K (M.size mem.old / 512) b)) }
     ensures named { 1 ≤ root → IfErr result (IfMalformed (λ page. 1 ≤ page)) }
     ensures path { IfOk result (λ _. (n : ℕ) → 1 < n → n ≤ levels → get_or path.new.pages n 0 < M.size mem.old / 512) }
     ensures inside { IfOk result (λ leaf. leaf < M.size mem.old / 512) }
@@ -71,13 +75,29 @@ pub fn find_place<M: FlatMem, const E: usize, const K: usize>(
     requires small { M.size mem.old ≤ 2 ^ 27 }
     requires some { 1 ≤ header.levels }
     requires begins { CanBegin (M.size mem.old / 512) header.levels header.root }
-    ensures placed { (b : List ℕ) → M.reveals mem.old b → (records : List (List ℕ)) (here : IsSectorState E K (M.size mem.old / 512) b records header.levels header.root header.free header.top) → index < length records → MatchResult result (λ at. IsPlaced b header.levels here.nodes page.new path.new.pages path.new.index index at.page at.index) FromMemory }
-    ensures broken { (b : List ℕ) → M.reveals mem.old b → IsHead (page_at b 0) header.count header.root header.top header.free header.levels → index < header.count → IfErr result (IfMalformed (Breaks E K (M.size mem.old / 512) b)) }
-    ensures indexed { (b : List ℕ) → M.reveals mem.old b → IsHead (page_at b 0) header.count header.root header.top header.free header.levels → IfOk result (λ at. IsIndexed E K b index at.page at.index) }
-    ensures missing { (b : List ℕ) → M.reveals mem.old b → IsHead (page_at b 0) header.count header.root header.top header.free header.levels → IfErr result (IfMalformed (λ page. page ≡ 0 → MissesNth E K (M.size mem.old / 512) b index)) }
+    ensures placed { (b : List ℕ) → M.reveals mem.old b
+        → (records : List (List ℕ))
+        (here : IsSectorState E K (M.size mem.old / 512) b records header.levels header.root header.free header.top)
+        → index < length records
+        → MatchResult result
+        (λ at. IsPlaced b header.levels here.nodes page.new path.new.pages path.new.index index at.page at.index)
+        FromMemory }
+    ensures broken { (b : List ℕ) → M.reveals mem.old b
+        → IsHead (page_at b 0) header.count header.root header.top header.free header.levels → index < header.count
+        → IfErr result (IfMalformed (Breaks E K (M.size mem.old / 512) b)) }
+    ensures indexed { (b : List ℕ) → M.reveals mem.old b
+        → IsHead (page_at b 0) header.count header.root header.top header.free header.levels
+        → IfOk result (λ at. IsIndexed E K b index at.page at.index) }
+    ensures missing { (b : List ℕ) → M.reveals mem.old b
+        → IsHead (page_at b 0) header.count header.root header.top header.free header.levels
+        → IfErr result (IfMalformed (λ page. page ≡ 0 → MissesNth E K (M.size mem.old / 512) b index)) }
     ensures inside { IfOk result (λ at. (at.page < M.size mem.old / 512) × (at.index < filled page.new)) }
-    ensures path { IfOk result (λ _. (n : ℕ) → 1 < n → n ≤ header.levels → get_or path.new.pages n 0 < M.size mem.old / 512) }
-    ensures met { (b : List ℕ) → M.reveals mem.old b → IsHead (page_at b 0) header.count header.root header.top header.free header.levels → IfOk result (λ at. Meets K b 1 at.page × IsMetPath K b header.levels 1 header.root path.new.pages path.new.index) }
+    ensures path { IfOk result
+        (λ _. (n : ℕ) → 1 < n → n ≤ header.levels → get_or path.new.pages n 0 < M.size mem.old / 512) }
+    ensures met { (b : List ℕ) → M.reveals mem.old b
+        → IsHead (page_at b 0) header.count header.root header.top header.free header.levels
+        → IfOk result
+        (λ at. Meets K b 1 at.page × IsMetPath K b header.levels 1 header.root path.new.pages path.new.index) }
     ensures form { IfOk result (λ _. IsLeafForm E page.new) }
     ensures read { (b : List ℕ) → M.reveals mem.old b → IfOk result (λ at. page.new ≡ page_at b at.page) }
     ensures unchanged { (b : List ℕ) → M.reveals mem.old b → M.reveals mem.new b }
@@ -124,12 +144,20 @@ pub fn nth<M: FlatMem, const E: usize, const K: usize>(
     requires widths { IsWidths E K }
     requires small { M.size mem.old ≤ 2 ^ 27 }
     requires some_pages { 9 * 512 ≤ M.size mem.old }
-    ensures answer { (b : List ℕ) → M.reveals mem.old b → (records : List (List ℕ)) → IsTree E K (M.size mem.old / 512) b records → index < length records → MatchResult result (λ _. into.new ≡ entry_at records index) FromMemory }
-    ensures past { (b : List ℕ) → M.reveals mem.old b → (records : List (List ℕ)) → IsTree E K (M.size mem.old / 512) b records → length records ≤ index → MatchResult result (λ _. ⊥) IsPast }
-    ensures past_any { (b : List ℕ) → M.reveals mem.old b → count_in (page_at b 0) ≤ index → MatchResult result (λ _. ⊥) IsPast }
+    ensures answer { (b : List ℕ) → M.reveals mem.old b → (records : List (List ℕ))
+        → IsTree E K (M.size mem.old / 512) b records → index < length records
+        → MatchResult result (λ _. into.new ≡ entry_at records index) FromMemory }
+    ensures past { (b : List ℕ) → M.reveals mem.old b → (records : List (List ℕ))
+        → IsTree E K (M.size mem.old / 512) b records → length records ≤ index → MatchResult result (λ _. ⊥) IsPast }
+    ensures past_any { (b : List ℕ) → M.reveals mem.old b → count_in (page_at b 0) ≤ index
+        → MatchResult result (λ _. ⊥) IsPast }
     ensures stands { (b : List ℕ) → M.reveals mem.old b → IfOk result (λ _. IsNth E K b index into.new) }
-    ensures broken { (b : List ℕ) → M.reveals mem.old b → IfErr result (IfMalformed (λ page. Breaks E K (M.size mem.old / 512) b page ⊎ ((page ≡ 0) × (count_in (page_at b 0) ≤ index)))) }
-    ensures missing { (b : List ℕ) → M.reveals mem.old b → IfErr result (IfMalformed (λ page. page ≡ 0 → MissesNth E K (M.size mem.old / 512) b index)) }
+    ensures broken { (b : List ℕ) → M.reveals mem.old b
+        → IfErr result
+        (IfMalformed
+        (λ page. Breaks E K (M.size mem.old / 512) b page ⊎ ((page ≡ 0) × (count_in (page_at b 0) ≤ index)))) }
+    ensures missing { (b : List ℕ) → M.reveals mem.old b
+        → IfErr result (IfMalformed (λ page. page ≡ 0 → MissesNth E K (M.size mem.old / 512) b index)) }
     ensures unchanged { (b : List ℕ) → M.reveals mem.old b → M.reveals mem.new b }
     ensures kept { M.beside mem.old mem.new }
     ensures looked { M.only_reads mem.old mem.new }

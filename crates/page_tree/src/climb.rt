@@ -29,8 +29,18 @@ pub fn store_halves<M: FlatMem>(
     requires some_pages { 9 * 512 ≤ M.size mem.old }
     requires inside { at < M.size mem.old / 512 }
     requires free { header.old.free < M.size mem.old / 512 }
-    ensures halves { (b : List ℕ) → M.reveals mem.old b → (free : List ℕ) → CanTake b free header.old.free header.old.top (M.size mem.old / 512) → MatchResult result (IsStoredAs (M.reveals mem.new) b free (M.size mem.old / 512) at left.now right.now header.old.top header.new.free header.new.top) FromMemory }
-    ensures on { (e k level t : ℕ) (b c : List ℕ) → M.reveals mem.old c → t ≤ 5 → IsUnderWay k b c level t header.old.free header.old.top → Meets k b (level + 1) at → kind_of left.now ≢ 0 → kind_of right.now ≢ 0 → MatchResult result (λ _. (d : List ℕ) × M.reveals mem.new d × IsUnderWay k b d (level + 1) (t + 1) header.new.free header.new.top) (IfMalformed (StopsInsertion e k (M.size mem.old / 512) b)) }
+    ensures halves { (b : List ℕ) → M.reveals mem.old b → (free : List ℕ)
+        → CanTake b free header.old.free header.old.top (M.size mem.old / 512)
+        → MatchResult result
+        (IsStoredAs (M.reveals mem.new) b free (M.size mem.old / 512) at left.now right.now header.old.top
+        header.new.free header.new.top)
+        FromMemory }
+    ensures on { (e k level t : ℕ) (b c : List ℕ) → M.reveals mem.old c → t ≤ 5
+        → IsUnderWay k b c level t header.old.free header.old.top → Meets k b (level + 1) at → kind_of left.now ≢ 0
+        → kind_of right.now ≢ 0
+        → MatchResult result
+        (λ _. (d : List ℕ) × M.reveals mem.new d × IsUnderWay k b d (level + 1) (t + 1) header.new.free header.new.top)
+        (IfMalformed (StopsInsertion e k (M.size mem.old / 512) b)) }
     ensures free { IfOk result (λ _. header.new.free < M.size mem.old / 512) }
     ensures count { header.new.count ≡ header.old.count }
     ensures root { header.new.root ≡ header.old.root }
@@ -71,9 +81,23 @@ pub fn put_up<M: FlatMem, const K: usize>(
     requires few { header.old.levels ≤ 6 }
     requires inside { get_or path.now.pages (level + 1) 0 < M.size mem.old / 512 }
     requires free { header.old.free < M.size mem.old / 512 }
-    ensures step { (e : ℕ) (b : List ℕ) → M.reveals mem.old b → (records : List (List ℕ)) → IsClimb e K (M.size mem.old / 512) b records header.old.levels level path.now.pages path.now.index key.old link.old header.old.root header.old.free header.old.top → MatchResult result (IsStep e K (M.size mem.old / 512) (M.reveals mem.new) records header.old.levels (level + 1) path.now.pages path.now.index key.new link.new header.old.root header.new.free header.new.top) FromMemory }
-    ensures on { (e root : ℕ) (b c : List ℕ) → M.reveals mem.old c → IsUnderWay K b c level level header.old.free header.old.top → IsMetPath K b header.old.levels 1 root path.now.pages path.now.index → MatchResult result (GoesOn K (M.reveals mem.new) b (level + 1) header.new.free header.new.top) (IfMalformed (StopsInsertion e K (M.size mem.old / 512) b)) }
-    ensures full { (e root : ℕ) (b c : List ℕ) → M.reveals mem.old c → IsUnderWay K b c level level header.old.free header.old.top → IsMetPath K b header.old.levels 1 root path.now.pages path.now.index → IfOk result (λ done. done ≡ false → WasFull e K (M.size mem.old / 512) b (get_or path.now.pages (level + 1) 0)) }
+    ensures step { (e : ℕ) (b : List ℕ) → M.reveals mem.old b → (records : List (List ℕ))
+        → IsClimb e K (M.size mem.old / 512) b records header.old.levels level path.now.pages path.now.index key.old
+        link.old header.old.root header.old.free header.old.top
+        → MatchResult result
+        (IsStep e K (M.size mem.old / 512) (M.reveals mem.new) records header.old.levels (level + 1) path.now.pages
+        path.now.index key.new link.new header.old.root header.new.free header.new.top)
+        FromMemory }
+    ensures on { (e root : ℕ) (b c : List ℕ) → M.reveals mem.old c
+        → IsUnderWay K b c level level header.old.free header.old.top
+        → IsMetPath K b header.old.levels 1 root path.now.pages path.now.index
+        → MatchResult result (GoesOn K (M.reveals mem.new) b (level + 1) header.new.free header.new.top)
+        (IfMalformed (StopsInsertion e K (M.size mem.old / 512) b)) }
+    ensures full { (e root : ℕ) (b c : List ℕ) → M.reveals mem.old c
+        → IsUnderWay K b c level level header.old.free header.old.top
+        → IsMetPath K b header.old.levels 1 root path.now.pages path.now.index
+        → IfOk result
+        (λ done. done ≡ false → WasFull e K (M.size mem.old / 512) b (get_or path.now.pages (level + 1) 0)) }
     ensures free { IfOk result (λ _. header.new.free < M.size mem.old / 512) }
     ensures count { header.new.count ≡ header.old.count }
     ensures root { header.new.root ≡ header.old.root }
@@ -124,8 +148,20 @@ pub fn grow<M: FlatMem, const K: usize>(
     requires some { 1 ≤ header.old.levels }
     requires few { header.old.levels ≤ 6 }
     requires free { header.old.free < M.size mem.old / 512 }
-    ensures grown { (e : ℕ) (b : List ℕ) → M.reveals mem.old b → (records : List (List ℕ)) (level : ℕ) (paths index : List ℕ) → IsWidths e K → length records ≤ capacity_of e (M.size mem.old / 512) → level ≡ header.old.levels → IsClimb e K (M.size mem.old / 512) b records header.old.levels level paths index key.now link header.old.root header.old.free header.old.top → MatchResult result (λ _. RevealsClosed e K (M.size mem.old / 512) (M.reveals mem.new) records header.new.levels header.new.root header.new.free header.new.top) FromMemory }
-    ensures on { (e : ℕ) (b c : List ℕ) → M.reveals mem.old c → IsUnderWay K b c header.old.levels header.old.levels header.old.free header.old.top → (6 ≤ header.old.levels → StopsInsertion e K (M.size mem.old / 512) b header.old.root) → IfErr result (IfMalformed (StopsInsertion e K (M.size mem.old / 512) b)) }
+    ensures grown { (e : ℕ) (b : List ℕ) → M.reveals mem.old b
+        → (records : List (List ℕ)) (level : ℕ) (paths index : List ℕ) → IsWidths e K
+        → length records ≤ capacity_of e (M.size mem.old / 512) → level ≡ header.old.levels
+        → IsClimb e K (M.size mem.old / 512) b records header.old.levels level paths index key.now link header.old.root
+        header.old.free header.old.top
+        → MatchResult result
+        (λ _.
+        RevealsClosed e K (M.size mem.old / 512) (M.reveals mem.new) records header.new.levels header.new.root
+        header.new.free header.new.top)
+        FromMemory }
+    ensures on { (e : ℕ) (b c : List ℕ) → M.reveals mem.old c
+        → IsUnderWay K b c header.old.levels header.old.levels header.old.free header.old.top
+        → (6 ≤ header.old.levels → StopsInsertion e K (M.size mem.old / 512) b header.old.root)
+        → IfErr result (IfMalformed (StopsInsertion e K (M.size mem.old / 512) b)) }
     ensures few_now { IfOk result (λ _. header.new.levels ≤ 6) }
     ensures count { header.new.count ≡ header.old.count }
     ensures kept { M.beside mem.old mem.new }
@@ -166,8 +202,19 @@ pub fn climb<M: FlatMem, const K: usize>(
     requires few { header.old.levels ≤ 6 }
     requires path { (l : ℕ) → 1 < l → l ≤ header.old.levels → get_or path.now.pages l 0 < M.size mem.old / 512 }
     requires free { header.old.free < M.size mem.old / 512 }
-    ensures done { (e : ℕ) (b : List ℕ) → M.reveals mem.old b → (records : List (List ℕ)) → IsWidths e K → length records ≤ capacity_of e (M.size mem.old / 512) → IsClimb e K (M.size mem.old / 512) b records header.old.levels 1 path.now.pages path.now.index key.old link header.old.root header.old.free header.old.top → MatchResult result (λ _. RevealsClosed e K (M.size mem.old / 512) (M.reveals mem.new) records header.new.levels header.new.root header.new.free header.new.top) FromMemory }
-    ensures on { (e : ℕ) (b c : List ℕ) → M.reveals mem.old c → IsUnderWay K b c 1 1 header.old.free header.old.top → Meets K b header.old.levels header.old.root → IsMetPath K b header.old.levels 1 header.old.root path.now.pages path.now.index → IfErr result (IfMalformed (StopsInsertion e K (M.size mem.old / 512) b)) }
+    ensures done { (e : ℕ) (b : List ℕ) → M.reveals mem.old b → (records : List (List ℕ)) → IsWidths e K
+        → length records ≤ capacity_of e (M.size mem.old / 512)
+        → IsClimb e K (M.size mem.old / 512) b records header.old.levels 1 path.now.pages path.now.index key.old link
+        header.old.root header.old.free header.old.top
+        → MatchResult result
+        (λ _.
+        RevealsClosed e K (M.size mem.old / 512) (M.reveals mem.new) records header.new.levels header.new.root
+        header.new.free header.new.top)
+        FromMemory }
+    ensures on { (e : ℕ) (b c : List ℕ) → M.reveals mem.old c → IsUnderWay K b c 1 1 header.old.free header.old.top
+        → Meets K b header.old.levels header.old.root
+        → IsMetPath K b header.old.levels 1 header.old.root path.now.pages path.now.index
+        → IfErr result (IfMalformed (StopsInsertion e K (M.size mem.old / 512) b)) }
     ensures few_now { IfOk result (λ _. header.new.levels ≤ 6) }
     ensures count { header.new.count ≡ header.old.count }
     ensures kept { M.beside mem.old mem.new }

@@ -29,11 +29,21 @@ fn set_in<M: FlatMem, const E: usize, const K: usize>(
     requires small { M.size mem.old ≤ 2 ^ 27 }
     requires some { 1 ≤ header.levels }
     requires begins { CanBegin (M.size mem.old / 512) header.levels header.root }
-    ensures set { (b : List ℕ) → M.reveals mem.old b → (records : List (List ℕ)) → IsTree E K (M.size mem.old / 512) b records → IsHead (page_at b 0) header.count header.root header.top header.free header.levels → index < length records → take K entry.now ≡ key_at K records index
-        → MatchResult result (λ _. IsSetAt E K (M.size mem.old / 512) (M.reveals mem.new) records index entry.now) FromMemory }
-    ensures written { (b : List ℕ) → M.reveals mem.old b → IsHead (page_at b 0) header.count header.root header.top header.free header.levels → IfOk result (λ _. IsNthSet E K (M.reveals mem.new) b index entry.now) }
-    ensures broken { (b : List ℕ) → M.reveals mem.old b → IsHead (page_at b 0) header.count header.root header.top header.free header.levels → index < header.count → IfErr result (IfMalformed (Breaks E K (M.size mem.old / 512) b)) }
-    ensures missing { (b : List ℕ) → M.reveals mem.old b → IsHead (page_at b 0) header.count header.root header.top header.free header.levels → IfErr result (IfMalformed (λ page. page ≡ 0 → MissesNth E K (M.size mem.old / 512) b index)) }
+    ensures set { (b : List ℕ) → M.reveals mem.old b → (records : List (List ℕ))
+        → IsTree E K (M.size mem.old / 512) b records
+        → IsHead (page_at b 0) header.count header.root header.top header.free header.levels → index < length records
+        → take K entry.now ≡ key_at K records index
+        → MatchResult result (λ _. IsSetAt E K (M.size mem.old / 512) (M.reveals mem.new) records index entry.now)
+        FromMemory }
+    ensures written { (b : List ℕ) → M.reveals mem.old b
+        → IsHead (page_at b 0) header.count header.root header.top header.free header.levels
+        → IfOk result (λ _. IsNthSet E K (M.reveals mem.new) b index entry.now) }
+    ensures broken { (b : List ℕ) → M.reveals mem.old b
+        → IsHead (page_at b 0) header.count header.root header.top header.free header.levels → index < header.count
+        → IfErr result (IfMalformed (Breaks E K (M.size mem.old / 512) b)) }
+    ensures missing { (b : List ℕ) → M.reveals mem.old b
+        → IsHead (page_at b 0) header.count header.root header.top header.free header.levels
+        → IfErr result (IfMalformed (λ page. page ≡ 0 → MissesNth E K (M.size mem.old / 512) b index)) }
     ensures kept { M.beside mem.old mem.new }
     ensures cause { IfErr result (IfMemNotFull (M.accounted mem.old mem.new)) }
     ensures cost { M.spent mem.new ≤ M.spent mem.old + (7 + 11 * (M.size mem.old / 512)) * M.cost }
@@ -58,13 +68,24 @@ pub fn replace<M: FlatMem, const E: usize, const K: usize>(
     requires widths { IsWidths E K }
     requires small { M.size mem.old ≤ 2 ^ 27 }
     requires some_pages { 9 * 512 ≤ M.size mem.old }
-    ensures answer { (b : List ℕ) → M.reveals mem.old b → (records : List (List ℕ)) → IsTree E K (M.size mem.old / 512) b records → index < length records → take K entry.now ≡ key_at K records index → MatchResult result (λ _. IsSetAt E K (M.size mem.old / 512) (M.reveals mem.new) records index entry.now) FromMemory }
-    ensures past { (b : List ℕ) → M.reveals mem.old b → (records : List (List ℕ)) → IsTree E K (M.size mem.old / 512) b records → length records ≤ index → MatchResult result (λ _. ⊥) IsPast }
-    ensures past_any { (b : List ℕ) → M.reveals mem.old b → count_in (page_at b 0) ≤ index → MatchResult result (λ _. ⊥) IsPast }
+    ensures answer { (b : List ℕ) → M.reveals mem.old b → (records : List (List ℕ))
+        → IsTree E K (M.size mem.old / 512) b records → index < length records
+        → take K entry.now ≡ key_at K records index
+        → MatchResult result (λ _. IsSetAt E K (M.size mem.old / 512) (M.reveals mem.new) records index entry.now)
+        FromMemory }
+    ensures past { (b : List ℕ) → M.reveals mem.old b → (records : List (List ℕ))
+        → IsTree E K (M.size mem.old / 512) b records → length records ≤ index → MatchResult result (λ _. ⊥) IsPast }
+    ensures past_any { (b : List ℕ) → M.reveals mem.old b → count_in (page_at b 0) ≤ index
+        → MatchResult result (λ _. ⊥) IsPast }
     ensures past_same { (b : List ℕ) → M.reveals mem.old b → count_in (page_at b 0) ≤ index → M.reveals mem.new b }
-    ensures written { (b : List ℕ) → M.reveals mem.old b → IfOk result (λ _. IsNthSet E K (M.reveals mem.new) b index entry.now) }
-    ensures broken { (b : List ℕ) → M.reveals mem.old b → IfErr result (IfMalformed (λ page. Breaks E K (M.size mem.old / 512) b page ⊎ ((page ≡ 0) × (count_in (page_at b 0) ≤ index)))) }
-    ensures missing { (b : List ℕ) → M.reveals mem.old b → IfErr result (IfMalformed (λ page. page ≡ 0 → MissesNth E K (M.size mem.old / 512) b index)) }
+    ensures written { (b : List ℕ) → M.reveals mem.old b
+        → IfOk result (λ _. IsNthSet E K (M.reveals mem.new) b index entry.now) }
+    ensures broken { (b : List ℕ) → M.reveals mem.old b
+        → IfErr result
+        (IfMalformed
+        (λ page. Breaks E K (M.size mem.old / 512) b page ⊎ ((page ≡ 0) × (count_in (page_at b 0) ≤ index)))) }
+    ensures missing { (b : List ℕ) → M.reveals mem.old b
+        → IfErr result (IfMalformed (λ page. page ≡ 0 → MissesNth E K (M.size mem.old / 512) b index)) }
     ensures kept { M.beside mem.old mem.new }
     ensures cause { IfErr result (IfMemNotFull (M.accounted mem.old mem.new)) }
     ensures cost { M.spent mem.new ≤ M.spent mem.old + 12 * (M.size mem.old / 512) * M.cost }

@@ -28,8 +28,12 @@ fn count_to<M: FlatMem, const E: usize, const K: usize>(
     requires small { M.size mem.old ≤ 2 ^ 27 }
     requires some { 1 ≤ header.levels }
     requires begins { CanBegin (M.size mem.old / 512) header.levels header.root }
-    ensures counted { (b : List ℕ) → M.reveals mem.old b → (records : List (List ℕ)) → IsSectorState E K (M.size mem.old / 512) b records header.levels header.root header.free header.top → MatchResult result (IsCounted K records key.now) FromMemory }
-    ensures broken { (b : List ℕ) → M.reveals mem.old b → IsHead (page_at b 0) header.count header.root header.top header.free header.levels → IfErr result (IfMalformed (Breaks E K (M.size mem.old / 512) b)) }
+    ensures counted { (b : List ℕ) → M.reveals mem.old b → (records : List (List ℕ))
+        → IsSectorState E K (M.size mem.old / 512) b records header.levels header.root header.free header.top
+        → MatchResult result (IsCounted K records key.now) FromMemory }
+    ensures broken { (b : List ℕ) → M.reveals mem.old b
+        → IsHead (page_at b 0) header.count header.root header.top header.free header.levels
+        → IfErr result (IfMalformed (Breaks E K (M.size mem.old / 512) b)) }
     ensures unchanged { (b : List ℕ) → M.reveals mem.old b → M.reveals mem.new b }
     ensures kept { M.beside mem.old mem.new }
     ensures looked { M.only_reads mem.old mem.new }
@@ -71,8 +75,10 @@ pub fn find_last_at_most<M: FlatMem, const E: usize, const K: usize>(
     requires widths { IsWidths E K }
     requires small { M.size mem.old ≤ 2 ^ 27 }
     requires some_pages { 9 * 512 ≤ M.size mem.old }
-    ensures answer { (b : List ℕ) → M.reveals mem.old b → (records : List (List ℕ)) → IsTree E K (M.size mem.old / 512) b records → MatchResult result (IsFound K records key.now) FromMemory }
-    ensures broken { (b : List ℕ) → M.reveals mem.old b → IfErr result (IfMalformed (Breaks E K (M.size mem.old / 512) b)) }
+    ensures answer { (b : List ℕ) → M.reveals mem.old b → (records : List (List ℕ))
+        → IsTree E K (M.size mem.old / 512) b records → MatchResult result (IsFound K records key.now) FromMemory }
+    ensures broken { (b : List ℕ) → M.reveals mem.old b
+        → IfErr result (IfMalformed (Breaks E K (M.size mem.old / 512) b)) }
     ensures unchanged { (b : List ℕ) → M.reveals mem.old b → M.reveals mem.new b }
     ensures kept { M.beside mem.old mem.new }
     ensures looked { M.only_reads mem.old mem.new }

@@ -8,5 +8,6 @@ use flat_mem::FlatMem;
 
 /// No page breaks the form of a well-formed tree, and none stops an insertion.
 pub fn listed_is_unbroken<M: FlatMem, const E: usize, const K: usize>(tree: &PageTree<M, E, K>)
-    ensures { (xs : List (List ℕ)) → Lists tree.now xs → (b : List ℕ) → M.reveals (tree_memory tree.now) b → (page : ℕ) → ¬ StopsInsertion E K (M.size (tree_memory tree.now) / 512) b page }
+    ensures { (xs : List (List ℕ)) → Lists tree.now xs → (b : List ℕ) → M.reveals (tree_memory tree.now) b → (page : ℕ)
+        → ¬ StopsInsertion E K (M.size (tree_memory tree.now) / 512) b page }
 {}

@@ -62,13 +62,19 @@ pub fn descend<M: FlatMem, const E: usize, const K: usize>(
     requires some { 1 ≤ levels }
     requires most { levels ≤ 6 }
     requires inside { root < M.size mem.old / 512 }
-    ensures leaf { (b : List ℕ) → M.reveals mem.old b → (records : List (List ℕ)) (nodes : ℕ → List Node) → IsRooted E K (M.size mem.old / 512) b records levels root nodes → MatchResult result (λ at. IsReached b levels nodes key.now page.new path.new.pages path.new.index at) FromMemory }
+    ensures leaf { (b : List ℕ) → M.reveals mem.old b → (records : List (List ℕ)) (nodes : ℕ → List Node)
+        → IsRooted E K (M.size mem.old / 512) b records levels root nodes
+        → MatchResult result (λ at. IsReached b levels nodes key.now page.new path.new.pages path.new.index at)
+        FromMemory }
     ensures inside { IfOk result (λ at. at < M.size mem.old / 512) }
     ensures form { IfOk result (λ _. (1 ≤ filled page.new) × (filled page.new ≤ leaf_room E)) }
-    ensures read { (b : List ℕ) → M.reveals mem.old b → IfOk result (λ at. (page.new ≡ page_at b at) × (kind_of page.new ≡ 1)) }
-    ensures met { (b : List ℕ) → M.reveals mem.old b → Meets K b levels root → IfOk result (λ at. Meets K b 1 at × IsMetPath K b levels 1 root path.new.pages path.new.index) }
+    ensures read { (b : List ℕ) → M.reveals mem.old b
+        → IfOk result (λ at. (page.new ≡ page_at b at) × (kind_of page.new ≡ 1)) }
+    ensures met { (b : List ℕ) → M.reveals mem.old b → Meets K b levels root
+        → IfOk result (λ at. Meets K b 1 at × IsMetPath K b levels 1 root path.new.pages path.new.index) }
     ensures path { IfOk result (λ _. (l : ℕ) → 1 < l → l ≤ levels → get_or path.new.pages l 0 < M.size mem.old / 512) }
-    ensures broken { (b : List ℕ) → M.reveals mem.old b → Meets K b levels root → IfErr result (IfMalformed (Breaks E K (M.size mem.old / 512) b)) }
+    ensures broken { (b : List ℕ) → M.reveals mem.old b → Meets K b levels root
+        → IfErr result (IfMalformed (Breaks E K (M.size mem.old / 512) b)) }
     ensures unchanged { (b : List ℕ) → M.reveals mem.old b → M.reveals mem.new b }
     ensures kept { M.beside mem.old mem.new }
     ensures looked { M.only_reads mem.old mem.new }
@@ -139,8 +145,10 @@ fn is_in_form<const E: usize>(header: &Header, pages: u32) -> bool
     requires most { E ≤ 32 }
     requires some_pages { 9 ≤ pages }
     requires few_pages { pages ≤ 2 ^ 18 }
-    ensures yes { result ≡ true → AreInForm E pages header.now.count header.now.root header.now.top header.now.free header.now.levels }
-    ensures no { result ≡ false → ¬ AreInForm E pages header.now.count header.now.root header.now.top header.now.free header.now.levels }
+    ensures yes { result ≡ true
+        → AreInForm E pages header.now.count header.now.root header.now.top header.now.free header.now.levels }
+    ensures no { result ≡ false
+        → ¬ AreInForm E pages header.now.count header.now.root header.now.top header.now.free header.now.levels }
 {
     if header.levels > 6 || header.top >= pages || header.free >= pages {
         return false;
@@ -159,16 +167,21 @@ pub fn read_header<M: FlatMem, const E: usize, const K: usize>(
     requires widths { IsWidths E K }
     requires small { M.size mem.old ≤ 2 ^ 27 }
     requires some_pages { 9 * 512 ≤ M.size mem.old }
-    ensures header { (b : List ℕ) → M.reveals mem.old b → IfOk result (λ h. (h.levels ≡ levels_in (page_at b 0)) × (h.root ≡ root_in (page_at b 0))) }
+    ensures header { (b : List ℕ) → M.reveals mem.old b
+        → IfOk result (λ h. (h.levels ≡ levels_in (page_at b 0)) × (h.root ≡ root_in (page_at b 0))) }
     ensures read { (b : List ℕ) → M.reveals mem.old b → OnOk result (page.new ≡ page_at b 0) }
-    ensures fields { (b : List ℕ) → M.reveals mem.old b → IfOk result (λ h. IsHead (page_at b 0) h.count h.root h.top h.free h.levels) }
+    ensures fields { (b : List ℕ) → M.reveals mem.old b
+        → IfOk result (λ h. IsHead (page_at b 0) h.count h.root h.top h.free h.levels) }
     ensures count { IfOk result (λ h. h.count ≡ count_in page.new) }
     ensures form { IfOk result (λ h. CanBegin (M.size mem.old / 512) h.levels h.root) }
     ensures whole { IfOk result (λ h. AreInForm E (M.size mem.old / 512) h.count h.root h.top h.free h.levels) }
-    ensures well { (b : List ℕ) → M.reveals mem.old b → (records : List (List ℕ)) → IsTree E K (M.size mem.old / 512) b records → IfErr result FromMemory }
+    ensures well { (b : List ℕ) → M.reveals mem.old b → (records : List (List ℕ))
+        → IsTree E K (M.size mem.old / 512) b records → IfErr result FromMemory }
     ensures named { IfErr result IsPast }
-    ensures broken { (b : List ℕ) → M.reveals mem.old b → IfErr result (IfMalformed (Breaks E K (M.size mem.old / 512) b)) }
-    ensures unlike { (b : List ℕ) → M.reveals mem.old b → IfErr result (IfMalformed (λ _. ¬ IsHeaderForm E (M.size mem.old / 512) (page_at b 0))) }
+    ensures broken { (b : List ℕ) → M.reveals mem.old b
+        → IfErr result (IfMalformed (Breaks E K (M.size mem.old / 512) b)) }
+    ensures unlike { (b : List ℕ) → M.reveals mem.old b
+        → IfErr result (IfMalformed (λ _. ¬ IsHeaderForm E (M.size mem.old / 512) (page_at b 0))) }
     ensures unchanged { (b : List ℕ) → M.reveals mem.old b → M.reveals mem.new b }
     ensures kept { M.beside mem.old mem.new }
     ensures looked { M.only_reads mem.old mem.new }
@@ -192,8 +205,10 @@ pub fn count<M: FlatMem, const E: usize, const K: usize>(
     requires small { M.size mem.old ≤ 2 ^ 27 }
     requires some_pages { 9 * 512 ≤ M.size mem.old }
     ensures header { (b : List ℕ) → M.reveals mem.old b → IfOk result (λ n. n ≡ count_in (page_at b 0)) }
-    ensures well { (b : List ℕ) → M.reveals mem.old b → (records : List (List ℕ)) → IsTree E K (M.size mem.old / 512) b records → MatchResult result (λ n. n ≡ length records) FromMemory }
-    ensures broken { (b : List ℕ) → M.reveals mem.old b → IfErr result (IfMalformed (Breaks E K (M.size mem.old / 512) b)) }
+    ensures well { (b : List ℕ) → M.reveals mem.old b → (records : List (List ℕ))
+        → IsTree E K (M.size mem.old / 512) b records → MatchResult result (λ n. n ≡ length records) FromMemory }
+    ensures broken { (b : List ℕ) → M.reveals mem.old b
+        → IfErr result (IfMalformed (Breaks E K (M.size mem.old / 512) b)) }
     ensures unchanged { (b : List ℕ) → M.reveals mem.old b → M.reveals mem.new b }
     ensures kept { M.beside mem.old mem.new }
     ensures looked { M.only_reads mem.old mem.new }
@@ -216,9 +231,12 @@ pub fn look_up<M: FlatMem, const E: usize, const K: usize>(
     requires widths { IsWidths E K }
     requires small { M.size mem.old ≤ 2 ^ 27 }
     requires some_pages { 9 * 512 ≤ M.size mem.old }
-    ensures answer { (b : List ℕ) → M.reveals mem.old b → (records : List (List ℕ)) → IsTree E K (M.size mem.old / 512) b records → MatchResult result (λ found. IsLastEntry K records key.now into.new (is_some found)) FromMemory }
+    ensures answer { (b : List ℕ) → M.reveals mem.old b → (records : List (List ℕ))
+        → IsTree E K (M.size mem.old / 512) b records
+        → MatchResult result (λ found. IsLastEntry K records key.now into.new (is_some found)) FromMemory }
     ensures home { (b : List ℕ) → M.reveals mem.old b → IfOk result (λ found. IfSome found (StandsIn E K b into.new)) }
-    ensures broken { (b : List ℕ) → M.reveals mem.old b → IfErr result (IfMalformed (Breaks E K (M.size mem.old / 512) b)) }
+    ensures broken { (b : List ℕ) → M.reveals mem.old b
+        → IfErr result (IfMalformed (Breaks E K (M.size mem.old / 512) b)) }
     ensures unchanged { (b : List ℕ) → M.reveals mem.old b → M.reveals mem.new b }
     ensures kept { M.beside mem.old mem.new }
     ensures looked { M.only_reads mem.old mem.new }

@@ -36,7 +36,10 @@ pub fn name_leaf<M: FlatMem, const K: usize>(
     requires key_most { K ≤ 12 }
     requires small { M.size mem.old ≤ 2 ^ 27 }
     requires few { levels ≤ 6 }
-    ensures named { (b : List ℕ) → M.reveals mem.old b → CanName K b (M.size mem.old / 512) levels path.now.pages path.now.index → MatchResult result (λ _. IsNamed K (M.reveals mem.new) b levels path.now.pages path.now.index key.now) FromMemory }
+    ensures named { (b : List ℕ) → M.reveals mem.old b
+        → CanName K b (M.size mem.old / 512) levels path.now.pages path.now.index
+        → MatchResult result (λ _. IsNamed K (M.reveals mem.new) b levels path.now.pages path.now.index key.now)
+        FromMemory }
     ensures width { length key.now ≡ K }
     ensures kept { M.beside mem.old mem.new }
     ensures cause { IfErr result (IfMemNotFull (M.accounted mem.old mem.new)) }

@@ -38,10 +38,23 @@ fn take_out<M: FlatMem, const E: usize, const K: usize>(
     requires path { (l : ℕ) → 1 < l → l ≤ header.old.levels → get_or path.now.pages l 0 < M.size mem.old / 512 }
     requires below { place.index < filled page.old }
     requires most { filled page.old ≤ leaf_room E }
-    ensures out { (b : List ℕ) → M.reveals mem.old b → (records : List (List ℕ)) (here : IsSectorState E K (M.size mem.old / 512) b records header.old.levels header.old.root header.old.free header.old.top) (i : ℕ)
-        → IsPlaced b header.old.levels here.nodes page.old path.now.pages path.now.index i place.page place.index → MatchResult result (λ _. IsLeft E K (M.size mem.old / 512) (M.reveals mem.new) (remove records i) header.new.levels header.new.root header.new.free header.new.top) FromMemory }
-    ensures broken { (b : List ℕ) → M.reveals mem.old b → header.old.levels ≡ levels_in (page_at b 0) → IsMetPath K b header.old.levels 1 header.old.root path.now.pages path.now.index → Meets K b 1 place.page → page.old ≡ page_at b place.page → IfErr result (IfMalformed (Breaks E K (M.size mem.old / 512) b)) }
-    ensures named { (b : List ℕ) → M.reveals mem.old b → header.old.levels ≡ levels_in (page_at b 0) → IsMetPath K b header.old.levels 1 header.old.root path.now.pages path.now.index → Meets K b 1 place.page → IfErr result (IfMalformed (λ page. 1 ≤ page)) }
+    ensures out { (b : List ℕ) → M.reveals mem.old b
+        → (records : List (List ℕ))
+        (here : IsSectorState E K (M.size mem.old / 512) b records header.old.levels header.old.root header.old.free
+        header.old.top)
+        (i : ℕ)
+        → IsPlaced b header.old.levels here.nodes page.old path.now.pages path.now.index i place.page place.index
+        → MatchResult result
+        (λ _.
+        IsLeft E K (M.size mem.old / 512) (M.reveals mem.new) (remove records i) header.new.levels header.new.root
+        header.new.free header.new.top)
+        FromMemory }
+    ensures broken { (b : List ℕ) → M.reveals mem.old b → header.old.levels ≡ levels_in (page_at b 0)
+        → IsMetPath K b header.old.levels 1 header.old.root path.now.pages path.now.index → Meets K b 1 place.page
+        → page.old ≡ page_at b place.page → IfErr result (IfMalformed (Breaks E K (M.size mem.old / 512) b)) }
+    ensures named { (b : List ℕ) → M.reveals mem.old b → header.old.levels ≡ levels_in (page_at b 0)
+        → IsMetPath K b header.old.levels 1 header.old.root path.now.pages path.now.index → Meets K b 1 place.page
+        → IfErr result (IfMalformed (λ page. 1 ≤ page)) }
     ensures levels { header.new.levels ≤ header.old.levels }
     ensures count { header.new.count ≡ header.old.count }
     ensures kept { M.beside mem.old mem.new }
@@ -87,11 +100,24 @@ fn remove_in<M: FlatMem, const E: usize, const K: usize>(
     requires small { M.size mem.old ≤ 2 ^ 27 }
     requires some { 1 ≤ header.old.levels }
     requires begins { CanBegin (M.size mem.old / 512) header.old.levels header.old.root }
-    ensures out { (b : List ℕ) → M.reveals mem.old b → (records : List (List ℕ)) → IsTree E K (M.size mem.old / 512) b records → IsHead (page_at b 0) header.old.count header.old.root header.old.top header.old.free header.old.levels → index < length records
-        → MatchResult result (λ _. IsLeft E K (M.size mem.old / 512) (M.reveals mem.new) (remove records index) header.new.levels header.new.root header.new.free header.new.top) FromMemory }
-    ensures stood { (b : List ℕ) → M.reveals mem.old b → IsHead (page_at b 0) header.old.count header.old.root header.old.top header.old.free header.old.levels → IfOk result (λ _. HasNth E K b index) }
-    ensures broken { (b : List ℕ) → M.reveals mem.old b → IsHead (page_at b 0) header.old.count header.old.root header.old.top header.old.free header.old.levels → index < header.old.count → IfErr result (IfMalformed (Breaks E K (M.size mem.old / 512) b)) }
-    ensures missing { (b : List ℕ) → M.reveals mem.old b → IsHead (page_at b 0) header.old.count header.old.root header.old.top header.old.free header.old.levels → IfErr result (IfMalformed (λ page. page ≡ 0 → MissesNth E K (M.size mem.old / 512) b index)) }
+    ensures out { (b : List ℕ) → M.reveals mem.old b → (records : List (List ℕ))
+        → IsTree E K (M.size mem.old / 512) b records
+        → IsHead (page_at b 0) header.old.count header.old.root header.old.top header.old.free header.old.levels
+        → index < length records
+        → MatchResult result
+        (λ _.
+        IsLeft E K (M.size mem.old / 512) (M.reveals mem.new) (remove records index) header.new.levels header.new.root
+        header.new.free header.new.top)
+        FromMemory }
+    ensures stood { (b : List ℕ) → M.reveals mem.old b
+        → IsHead (page_at b 0) header.old.count header.old.root header.old.top header.old.free header.old.levels
+        → IfOk result (λ _. HasNth E K b index) }
+    ensures broken { (b : List ℕ) → M.reveals mem.old b
+        → IsHead (page_at b 0) header.old.count header.old.root header.old.top header.old.free header.old.levels
+        → index < header.old.count → IfErr result (IfMalformed (Breaks E K (M.size mem.old / 512) b)) }
+    ensures missing { (b : List ℕ) → M.reveals mem.old b
+        → IsHead (page_at b 0) header.old.count header.old.root header.old.top header.old.free header.old.levels
+        → IfErr result (IfMalformed (λ page. page ≡ 0 → MissesNth E K (M.size mem.old / 512) b index)) }
     ensures few { header.new.levels ≤ 6 }
     ensures count { header.new.count ≡ header.old.count }
     ensures kept { M.beside mem.old mem.new }
@@ -128,13 +154,21 @@ pub fn remove<M: FlatMem, const E: usize, const K: usize>(
     requires widths { IsWidths E K }
     requires small { M.size mem.old ≤ 2 ^ 27 }
     requires some_pages { 9 * 512 ≤ M.size mem.old }
-    ensures answer { (b : List ℕ) → M.reveals mem.old b → (records : List (List ℕ)) → IsTree E K (M.size mem.old / 512) b records → index < length records → MatchResult result (λ _. IsOutAt E K (M.size mem.old / 512) (M.reveals mem.new) records index) FromMemory }
-    ensures past { (b : List ℕ) → M.reveals mem.old b → (records : List (List ℕ)) → IsTree E K (M.size mem.old / 512) b records → length records ≤ index → MatchResult result (λ _. ⊥) IsPast }
-    ensures past_any { (b : List ℕ) → M.reveals mem.old b → count_in (page_at b 0) ≤ index → MatchResult result (λ _. ⊥) IsPast }
+    ensures answer { (b : List ℕ) → M.reveals mem.old b → (records : List (List ℕ))
+        → IsTree E K (M.size mem.old / 512) b records → index < length records
+        → MatchResult result (λ _. IsOutAt E K (M.size mem.old / 512) (M.reveals mem.new) records index) FromMemory }
+    ensures past { (b : List ℕ) → M.reveals mem.old b → (records : List (List ℕ))
+        → IsTree E K (M.size mem.old / 512) b records → length records ≤ index → MatchResult result (λ _. ⊥) IsPast }
+    ensures past_any { (b : List ℕ) → M.reveals mem.old b → count_in (page_at b 0) ≤ index
+        → MatchResult result (λ _. ⊥) IsPast }
     ensures past_same { (b : List ℕ) → M.reveals mem.old b → count_in (page_at b 0) ≤ index → M.reveals mem.new b }
     ensures stood { (b : List ℕ) → M.reveals mem.old b → IfOk result (λ _. HasNth E K b index) }
-    ensures broken { (b : List ℕ) → M.reveals mem.old b → IfErr result (IfMalformed (λ page. Breaks E K (M.size mem.old / 512) b page ⊎ ((page ≡ 0) × (count_in (page_at b 0) ≤ index)))) }
-    ensures missing { (b : List ℕ) → M.reveals mem.old b → IfErr result (IfMalformed (λ page. page ≡ 0 → MissesNth E K (M.size mem.old / 512) b index)) }
+    ensures broken { (b : List ℕ) → M.reveals mem.old b
+        → IfErr result
+        (IfMalformed
+        (λ page. Breaks E K (M.size mem.old / 512) b page ⊎ ((page ≡ 0) × (count_in (page_at b 0) ≤ index)))) }
+    ensures missing { (b : List ℕ) → M.reveals mem.old b
+        → IfErr result (IfMalformed (λ page. page ≡ 0 → MissesNth E K (M.size mem.old / 512) b index)) }
     ensures kept { M.beside mem.old mem.new }
     ensures cause { IfErr result (IfMemNotFull (M.accounted mem.old mem.new)) }
     ensures cost { M.spent mem.new ≤ M.spent mem.old + 15 * (M.size mem.old / 512) * M.cost }

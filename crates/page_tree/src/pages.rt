@@ -97,7 +97,8 @@ pub fn first_key_of<const K: usize>(page: &Page, into: &mut [u8; K])
 /// Writes page `index` for a call of the tree.
 pub fn store<M: FlatMem>(mem: &mut M, index: u32, page: &Page) -> Result<(), TreeError<M::Error>>
     requires { 512 * index + 512 ≤ M.size mem.old }
-    ensures written { (b : List ℕ) → M.reveals mem.old b → OnOk result (M.reveals mem.new (overwritten b (512 * index) page.now)) }
+    ensures written { (b : List ℕ) → M.reveals mem.old b
+        → OnOk result (M.reveals mem.new (overwritten b (512 * index) page.now)) }
     ensures memory { IfErr result FromMemory }
     ensures kept { M.beside mem.old mem.new }
     ensures cause { IfErr result (IfMemNotFull (M.accounted mem.old mem.new)) }

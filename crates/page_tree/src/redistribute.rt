@@ -21,7 +21,8 @@ pub fn give_page<M: FlatMem>(
     at: u32,
 ) -> Result<(), TreeError<M::Error>>
     requires inside { at < M.size mem.old / 512 }
-    ensures given { (b : List ℕ) → M.reveals mem.old b → MatchResult result (λ _. IsGiven (M.reveals mem.new) b at header.old.free) FromMemory }
+    ensures given { (b : List ℕ) → M.reveals mem.old b
+        → MatchResult result (λ _. IsGiven (M.reveals mem.new) b at header.old.free) FromMemory }
     ensures free { OnOk result (header.new.free ≡ at) }
     ensures count { header.new.count ≡ header.old.count }
     ensures root { header.new.root ≡ header.old.root }
@@ -45,7 +46,8 @@ fn write_free<M: FlatMem>(
     next: u32,
 ) -> Result<(), TreeError<M::Error>>
     requires inside { at < M.size mem.old / 512 }
-    ensures given { (b : List ℕ) → M.reveals mem.old b → MatchResult result (λ _. IsGiven (M.reveals mem.new) b at next) FromMemory }
+    ensures given { (b : List ℕ) → M.reveals mem.old b
+        → MatchResult result (λ _. IsGiven (M.reveals mem.new) b at next) FromMemory }
     ensures memory { IfErr result FromMemory }
     ensures kept { M.beside mem.old mem.new }
     ensures cause { IfErr result (IfMemNotFull (M.accounted mem.old mem.new)) }
@@ -67,7 +69,11 @@ fn balance<const E: usize, const K: usize>(
 ) -> bool
     requires widths { IsWidths E K }
     requires lean { IsLean E K level (filled left.old) (filled right.old) }
-    ensures balanced { (pages : ℕ) (c : List ℕ) (records : List (List ℕ)) (levels : ℕ) (paths index : List ℕ) (left_at right_at slot root first top : ℕ) (pair : IsPair E K pages c records levels level paths index left_at right_at slot left.old right.old key.old root first top) → 1 ≤ level → IsBalanced E K level (pair.xs ++ pair.ys) left.new right.new key.new result }
+    ensures balanced { (pages : ℕ) (c : List ℕ) (records : List (List ℕ)) (levels : ℕ) (paths index : List ℕ)
+        (left_at right_at slot root first top : ℕ)
+        (pair : IsPair E K pages c records levels level paths index left_at right_at slot left.old right.old key.old
+        root first top)
+        → 1 ≤ level → IsBalanced E K level (pair.xs ++ pair.ys) left.new right.new key.new result }
 {
     if level == 1 {
         balance_leaves::<E, K>(left, right, key)
@@ -91,9 +97,20 @@ pub fn redistribute_page<M: FlatMem, const E: usize, const K: usize>(
     requires lean { IsLean E K level (filled left.old) (filled right.old) }
     requires left_inside { left_at < M.size mem.old / 512 }
     requires right_inside { right_at < M.size mem.old / 512 }
-    ensures redistribute { (b : List ℕ) → M.reveals mem.old b → (records : List (List ℕ)) (levels : ℕ) (paths index : List ℕ) (slot : ℕ) → IsPair E K (M.size mem.old / 512) b records levels level paths index left_at right_at slot left.old right.old key.old header.old.root header.old.free header.old.top → 1 ≤ level
-        → MatchResult result (IsRedistributed E K (M.size mem.old / 512) (M.reveals mem.new) b records levels level paths index left_at right_at slot key.new header.old.root header.new.free header.old.top) FromMemory }
-    ensures on { (root levels : ℕ) (paths index b c : List ℕ) → M.reveals mem.old c → IsRebalancing K b c levels level root paths index → 1 ≤ level → Meets K b level left_at → Meets K b level right_at → AreNotAbove paths level levels left_at right_at → MatchResult result (λ _. (d : List ℕ) × M.reveals mem.new d × IsRebalancing K b d levels (level + 1) root paths index) FromMemory }
+    ensures redistribute { (b : List ℕ) → M.reveals mem.old b
+        → (records : List (List ℕ)) (levels : ℕ) (paths index : List ℕ) (slot : ℕ)
+        → IsPair E K (M.size mem.old / 512) b records levels level paths index left_at right_at slot left.old right.old
+        key.old header.old.root header.old.free header.old.top
+        → 1 ≤ level
+        → MatchResult result
+        (IsRedistributed E K (M.size mem.old / 512) (M.reveals mem.new) b records levels level paths index left_at
+        right_at slot key.new header.old.root header.new.free header.old.top)
+        FromMemory }
+    ensures on { (root levels : ℕ) (paths index b c : List ℕ) → M.reveals mem.old c
+        → IsRebalancing K b c levels level root paths index → 1 ≤ level → Meets K b level left_at
+        → Meets K b level right_at → AreNotAbove paths level levels left_at right_at
+        → MatchResult result
+        (λ _. (d : List ℕ) × M.reveals mem.new d × IsRebalancing K b d levels (level + 1) root paths index) FromMemory }
     ensures count { header.new.count ≡ header.old.count }
     ensures root { header.new.root ≡ header.old.root }
     ensures top { header.new.top ≡ header.old.top }

@@ -32,9 +32,16 @@ fn remove_in<M: FlatMem, const E: usize, const K: usize>(
     requires small { M.size mem.old ≤ 2 ^ 27 }
     requires some { 1 ≤ header.old.levels }
     requires begins { CanBegin (M.size mem.old / 512) header.old.levels header.old.root }
-    ensures out { (b : List ℕ) → M.reveals mem.old b → (records : List (List ℕ)) → IsTree E K (M.size mem.old / 512) b records → IsHead (page_at b 0) header.old.count header.old.root header.old.top header.old.free header.old.levels
-        → MatchResult result (IsOut E K (M.size mem.old / 512) (M.reveals mem.new) b records key.now header.new.levels header.new.root header.new.free header.new.top) FromMemory }
-    ensures broken { (b : List ℕ) → M.reveals mem.old b → header.old.levels ≡ levels_in (page_at b 0) → Meets K b header.old.levels header.old.root → IfErr result (IfMalformed (Breaks E K (M.size mem.old / 512) b)) }
+    ensures out { (b : List ℕ) → M.reveals mem.old b → (records : List (List ℕ))
+        → IsTree E K (M.size mem.old / 512) b records
+        → IsHead (page_at b 0) header.old.count header.old.root header.old.top header.old.free header.old.levels
+        → MatchResult result
+        (IsOut E K (M.size mem.old / 512) (M.reveals mem.new) b records key.now header.new.levels header.new.root
+        header.new.free header.new.top)
+        FromMemory }
+    ensures broken { (b : List ℕ) → M.reveals mem.old b → header.old.levels ≡ levels_in (page_at b 0)
+        → Meets K b header.old.levels header.old.root
+        → IfErr result (IfMalformed (Breaks E K (M.size mem.old / 512) b)) }
     ensures few { header.new.levels ≤ 6 }
     ensures count { header.new.count ≡ header.old.count }
     ensures absent { (b : List ℕ) → M.reveals mem.old b → IfOk result (λ found. found ≡ false → M.reveals mem.new b) }
@@ -85,8 +92,11 @@ pub fn remove_key<M: FlatMem, const E: usize, const K: usize>(
     requires widths { IsWidths E K }
     requires small { M.size mem.old ≤ 2 ^ 27 }
     requires some_pages { 9 * 512 ≤ M.size mem.old }
-    ensures answer { (b : List ℕ) → M.reveals mem.old b → (records : List (List ℕ)) → IsTree E K (M.size mem.old / 512) b records → MatchResult result (IsRemoved E K (M.size mem.old / 512) (M.reveals mem.new) b records key.now) FromMemory }
-    ensures broken { (b : List ℕ) → M.reveals mem.old b → IfErr result (IfMalformed (Breaks E K (M.size mem.old / 512) b)) }
+    ensures answer { (b : List ℕ) → M.reveals mem.old b → (records : List (List ℕ))
+        → IsTree E K (M.size mem.old / 512) b records
+        → MatchResult result (IsRemoved E K (M.size mem.old / 512) (M.reveals mem.new) b records key.now) FromMemory }
+    ensures broken { (b : List ℕ) → M.reveals mem.old b
+        → IfErr result (IfMalformed (Breaks E K (M.size mem.old / 512) b)) }
     ensures absent { (b : List ℕ) → M.reveals mem.old b → IfOk result (λ found. found ≡ false → M.reveals mem.new b) }
     ensures kept { M.beside mem.old mem.new }
     ensures cause { IfErr result (IfMemNotFull (M.accounted mem.old mem.new)) }

@@ -27,9 +27,13 @@ fn replace_in<M: FlatMem, const E: usize, const K: usize>(
     requires some { 1 ≤ header.levels }
     requires begins { CanBegin (M.size mem.old / 512) header.levels header.root }
     requires same { key.now ≡ take K entry.now }
-    ensures replaced { (b : List ℕ) → M.reveals mem.old b → (records : List (List ℕ)) → IsTree E K (M.size mem.old / 512) b records → IsHead (page_at b 0) header.count header.root header.top header.free header.levels → MatchResult result (IsReplaced E K (M.size mem.old / 512) (M.reveals mem.new) b records entry.now) FromMemory }
+    ensures replaced { (b : List ℕ) → M.reveals mem.old b → (records : List (List ℕ))
+        → IsTree E K (M.size mem.old / 512) b records
+        → IsHead (page_at b 0) header.count header.root header.top header.free header.levels
+        → MatchResult result (IsReplaced E K (M.size mem.old / 512) (M.reveals mem.new) b records entry.now) FromMemory }
     ensures absent { (b : List ℕ) → M.reveals mem.old b → IfOk result (λ found. found ≡ false → M.reveals mem.new b) }
-    ensures broken { (b : List ℕ) → M.reveals mem.old b → Meets K b header.levels header.root → IfErr result (IfMalformed (Breaks E K (M.size mem.old / 512) b)) }
+    ensures broken { (b : List ℕ) → M.reveals mem.old b → Meets K b header.levels header.root
+        → IfErr result (IfMalformed (Breaks E K (M.size mem.old / 512) b)) }
     ensures kept { M.beside mem.old mem.new }
     ensures cause { IfErr result (IfMemNotFull (M.accounted mem.old mem.new)) }
     ensures cost { M.spent mem.new ≤ M.spent mem.old + 7 * M.cost }
@@ -57,9 +61,12 @@ pub fn replace_key<M: FlatMem, const E: usize, const K: usize>(
     requires widths { IsWidths E K }
     requires small { M.size mem.old ≤ 2 ^ 27 }
     requires some_pages { 9 * 512 ≤ M.size mem.old }
-    ensures answer { (b : List ℕ) → M.reveals mem.old b → (records : List (List ℕ)) → IsTree E K (M.size mem.old / 512) b records → MatchResult result (IsReplaced E K (M.size mem.old / 512) (M.reveals mem.new) b records entry.now) FromMemory }
+    ensures answer { (b : List ℕ) → M.reveals mem.old b → (records : List (List ℕ))
+        → IsTree E K (M.size mem.old / 512) b records
+        → MatchResult result (IsReplaced E K (M.size mem.old / 512) (M.reveals mem.new) b records entry.now) FromMemory }
     ensures absent { (b : List ℕ) → M.reveals mem.old b → IfOk result (λ found. found ≡ false → M.reveals mem.new b) }
-    ensures broken { (b : List ℕ) → M.reveals mem.old b → IfErr result (IfMalformed (Breaks E K (M.size mem.old / 512) b)) }
+    ensures broken { (b : List ℕ) → M.reveals mem.old b
+        → IfErr result (IfMalformed (Breaks E K (M.size mem.old / 512) b)) }
     ensures kept { M.beside mem.old mem.new }
     ensures cause { IfErr result (IfMemNotFull (M.accounted mem.old mem.new)) }
     ensures cost { M.spent mem.new ≤ M.spent mem.old + 8 * M.cost }

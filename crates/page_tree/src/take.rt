@@ -21,9 +21,15 @@ pub fn take_page<M: FlatMem>(mem: &mut M, header: &mut Header) -> Result<u32, Tr
     requires small { M.size mem.old ≤ 2 ^ 27 }
     requires some_pages { 9 * 512 ≤ M.size mem.old }
     requires free { header.old.free < M.size mem.old / 512 }
-    ensures taken { (b : List ℕ) → M.reveals mem.old b → (free : List ℕ) → CanTake b free header.old.free header.old.top (M.size mem.old / 512) → MatchResult result (IsTaken b free header.old.top header.new.free header.new.top) FromMemory }
-    ensures on { (e k level t : ℕ) (b c : List ℕ) → M.reveals mem.old c → t ≤ 5 → IsUnderWay k b c level t header.old.free header.old.top → MatchResult result (λ page. IsTakenOn k b c level t page header.new.free header.new.top) (IfMalformed (StopsInsertion e k (M.size mem.old / 512) b)) }
-    ensures first { (b : List ℕ) → M.reveals mem.old b → IfOk result (λ page. IsFirstFree b header.old.free header.old.top page header.new.free header.new.top) }
+    ensures taken { (b : List ℕ) → M.reveals mem.old b → (free : List ℕ)
+        → CanTake b free header.old.free header.old.top (M.size mem.old / 512)
+        → MatchResult result (IsTaken b free header.old.top header.new.free header.new.top) FromMemory }
+    ensures on { (e k level t : ℕ) (b c : List ℕ) → M.reveals mem.old c → t ≤ 5
+        → IsUnderWay k b c level t header.old.free header.old.top
+        → MatchResult result (λ page. IsTakenOn k b c level t page header.new.free header.new.top)
+        (IfMalformed (StopsInsertion e k (M.size mem.old / 512) b)) }
+    ensures first { (b : List ℕ) → M.reveals mem.old b
+        → IfOk result (λ page. IsFirstFree b header.old.free header.old.top page header.new.free header.new.top) }
     ensures inside { IfOk result (λ page. (1 ≤ page) × (page < M.size mem.old / 512)) }
     ensures free { IfOk result (λ _. header.new.free < M.size mem.old / 512) }
     ensures count { header.new.count ≡ header.old.count }
@@ -79,9 +85,18 @@ pub fn finish<M: FlatMem>(
 ) -> Result<(), TreeError<M::Error>>
     requires some_pages { 9 * 512 ≤ M.size mem.old }
     requires few { header.levels ≤ 6 }
-    ensures tree { (e k : ℕ) (c : List ℕ) → M.reveals mem.old c → (records : List (List ℕ)) → IsClosed e k (M.size mem.old / 512) c records header.levels header.root header.free header.top → 1 ≤ header.levels → IsBlank page.old → header.count ≡ length records → length records ≤ capacity_of e (M.size mem.old / 512) → MatchResult result (λ _. (x : List ℕ) × M.reveals mem.new x × IsTree e k (M.size mem.old / 512) x records) FromMemory }
+    ensures tree { (e k : ℕ) (c : List ℕ) → M.reveals mem.old c → (records : List (List ℕ))
+        → IsClosed e k (M.size mem.old / 512) c records header.levels header.root header.free header.top
+        → 1 ≤ header.levels → IsBlank page.old → header.count ≡ length records
+        → length records ≤ capacity_of e (M.size mem.old / 512)
+        → MatchResult result (λ _. (x : List ℕ) × M.reveals mem.new x × IsTree e k (M.size mem.old / 512) x records)
+        FromMemory }
     ensures memory { IfErr result FromMemory }
-    ensures empty { (e k : ℕ) (c : List ℕ) → M.reveals mem.old c → (nodes : ℕ → List Node) (free : List ℕ) → IsOpen e k c 0 nodes free header.free header.top → header.levels ≡ 0 → IsBlank page.old → header.root ≡ 0 → header.count ≡ 0 → header.top < M.size mem.old / 512 → MatchResult result (λ _. (x : List ℕ) × M.reveals mem.new x × IsTree e k (M.size mem.old / 512) x []) FromMemory }
+    ensures empty { (e k : ℕ) (c : List ℕ) → M.reveals mem.old c → (nodes : ℕ → List Node) (free : List ℕ)
+        → IsOpen e k c 0 nodes free header.free header.top → header.levels ≡ 0 → IsBlank page.old → header.root ≡ 0
+        → header.count ≡ 0 → header.top < M.size mem.old / 512
+        → MatchResult result (λ _. (x : List ℕ) × M.reveals mem.new x × IsTree e k (M.size mem.old / 512) x [])
+        FromMemory }
     ensures kept { M.beside mem.old mem.new }
     ensures cause { IfErr result (IfMemNotFull (M.accounted mem.old mem.new)) }
     ensures cost { M.spent mem.new ≤ M.spent mem.old + M.cost }
@@ -98,7 +113,9 @@ pub fn begin<M: FlatMem, const E: usize, const K: usize>(
     mem: &mut M,
 ) -> Result<(), TreeError<M::Error>>
     requires some_pages { 9 * 512 ≤ M.size mem.old }
-    ensures empty { (b : List ℕ) → M.reveals mem.old b → MatchResult result (λ _. (x : List ℕ) × M.reveals mem.new x × IsTree E K (M.size mem.old / 512) x []) FromMemory }
+    ensures empty { (b : List ℕ) → M.reveals mem.old b
+        → MatchResult result (λ _. (x : List ℕ) × M.reveals mem.new x × IsTree E K (M.size mem.old / 512) x [])
+        FromMemory }
     ensures memory { IfErr result FromMemory }
     ensures kept { M.beside mem.old mem.new }
     ensures cause { IfErr result (IfMemNotFull (M.accounted mem.old mem.new)) }
@@ -110,7 +127,9 @@ pub fn begin<M: FlatMem, const E: usize, const K: usize>(
 
 fn write_empty<M: FlatMem>(mem: &mut M, page: &mut Page) -> Result<(), TreeError<M::Error>>
     requires some_pages { 9 * 512 ≤ M.size mem.old }
-    ensures empty { (e k : ℕ) (b : List ℕ) → M.reveals mem.old b → IsBlank page.old → MatchResult result (λ _. (x : List ℕ) × M.reveals mem.new x × IsTree e k (M.size mem.old / 512) x []) FromMemory }
+    ensures empty { (e k : ℕ) (b : List ℕ) → M.reveals mem.old b → IsBlank page.old
+        → MatchResult result (λ _. (x : List ℕ) × M.reveals mem.new x × IsTree e k (M.size mem.old / 512) x [])
+        FromMemory }
     ensures memory { IfErr result FromMemory }
     ensures kept { M.beside mem.old mem.new }
     ensures cause { IfErr result (IfMemNotFull (M.accounted mem.old mem.new)) }

@@ -37,9 +37,22 @@ pub fn take_later<M: FlatMem, const E: usize, const K: usize>(
     requires most { count ≤ leaf_room E }
     requires below { place < count }
     requires after { 0 < place }
-    ensures out { (b : List ℕ) → M.reveals mem.old b → (records : List (List ℕ)) (here : IsSectorState E K (M.size mem.old / 512) b records header.old.levels header.old.root header.old.free header.old.top) (home : ℕ → ℕ) → IsPath here.nodes header.old.levels 1 path.now.pages path.now.index at home → page.old ≡ page_at b (node_at (here.nodes 1) (home 1)).page
-        → MatchResult result (λ _. RevealsClosed E K (M.size mem.old / 512) (M.reveals mem.new) (remove records (before (here.nodes 1) (home 1) + place)) header.new.levels header.new.root header.new.free header.new.top) FromMemory }
-    ensures broken { (root : ℕ) (b : List ℕ) → M.reveals mem.old b → header.old.levels ≡ levels_in (page_at b 0) → IsMetPath K b header.old.levels 1 root path.now.pages path.now.index → Meets K b 1 at → IfErr result (IfMalformed (Breaks E K (M.size mem.old / 512) b)) }
+    ensures out { (b : List ℕ) → M.reveals mem.old b
+        → (records : List (List ℕ))
+        (here : IsSectorState E K (M.size mem.old / 512) b records header.old.levels header.old.root header.old.free
+        header.old.top)
+        (home : ℕ → ℕ)
+        → IsPath here.nodes header.old.levels 1 path.now.pages path.now.index at home
+        → page.old ≡ page_at b (node_at (here.nodes 1) (home 1)).page
+        → MatchResult result
+        (λ _.
+        RevealsClosed E K (M.size mem.old / 512) (M.reveals mem.new)
+        (remove records (before (here.nodes 1) (home 1) + place)) header.new.levels header.new.root header.new.free
+        header.new.top)
+        FromMemory }
+    ensures broken { (root : ℕ) (b : List ℕ) → M.reveals mem.old b → header.old.levels ≡ levels_in (page_at b 0)
+        → IsMetPath K b header.old.levels 1 root path.now.pages path.now.index → Meets K b 1 at
+        → IfErr result (IfMalformed (Breaks E K (M.size mem.old / 512) b)) }
     ensures named { AvoidsHeader header.old.levels path.now.pages → IfErr result (IfMalformed (λ page. 1 ≤ page)) }
     ensures levels { header.new.levels ≤ header.old.levels }
     ensures count { header.new.count ≡ header.old.count }
@@ -76,10 +89,25 @@ pub fn take_first<M: FlatMem, const E: usize, const K: usize>(
     requires counts { count ≡ filled page.old }
     requires two { 2 ≤ count }
     requires most { count ≤ leaf_room E }
-    ensures out { (b : List ℕ) → M.reveals mem.old b → (records : List (List ℕ)) (here : IsSectorState E K (M.size mem.old / 512) b records header.old.levels header.old.root header.old.free header.old.top) (home : ℕ → ℕ) → IsPath here.nodes header.old.levels 1 path.now.pages path.now.index at home → page.old ≡ page_at b (node_at (here.nodes 1) (home 1)).page
-        → MatchResult result (λ _. RevealsClosed E K (M.size mem.old / 512) (M.reveals mem.new) (remove records (before (here.nodes 1) (home 1) + 0)) header.new.levels header.new.root header.new.free header.new.top) FromMemory }
-    ensures broken { (root : ℕ) (b : List ℕ) → M.reveals mem.old b → header.old.levels ≡ levels_in (page_at b 0) → IsMetPath K b header.old.levels 1 root path.now.pages path.now.index → Meets K b 1 at → IfErr result (IfMalformed (Breaks E K (M.size mem.old / 512) b)) }
-    ensures named { (root : ℕ) (b : List ℕ) → M.reveals mem.old b → header.old.levels ≡ levels_in (page_at b 0) → IsMetPath K b header.old.levels 1 root path.now.pages path.now.index → IfErr result (IfMalformed (λ page. 1 ≤ page)) }
+    ensures out { (b : List ℕ) → M.reveals mem.old b
+        → (records : List (List ℕ))
+        (here : IsSectorState E K (M.size mem.old / 512) b records header.old.levels header.old.root header.old.free
+        header.old.top)
+        (home : ℕ → ℕ)
+        → IsPath here.nodes header.old.levels 1 path.now.pages path.now.index at home
+        → page.old ≡ page_at b (node_at (here.nodes 1) (home 1)).page
+        → MatchResult result
+        (λ _.
+        RevealsClosed E K (M.size mem.old / 512) (M.reveals mem.new)
+        (remove records (before (here.nodes 1) (home 1) + 0)) header.new.levels header.new.root header.new.free
+        header.new.top)
+        FromMemory }
+    ensures broken { (root : ℕ) (b : List ℕ) → M.reveals mem.old b → header.old.levels ≡ levels_in (page_at b 0)
+        → IsMetPath K b header.old.levels 1 root path.now.pages path.now.index → Meets K b 1 at
+        → IfErr result (IfMalformed (Breaks E K (M.size mem.old / 512) b)) }
+    ensures named { (root : ℕ) (b : List ℕ) → M.reveals mem.old b → header.old.levels ≡ levels_in (page_at b 0)
+        → IsMetPath K b header.old.levels 1 root path.now.pages path.now.index
+        → IfErr result (IfMalformed (λ page. 1 ≤ page)) }
     ensures levels { header.new.levels ≤ header.old.levels }
     ensures count { header.new.count ≡ header.old.count }
     ensures kept { M.beside mem.old mem.new }

@@ -36,7 +36,8 @@ impl<M: FlatMem + Drop, const E: usize, const K: usize> PageTree<M, E, K> {
         requires least { 9 * 512 ≤ M.size mem }
         requires most { M.size mem ≤ 2 ^ 27 }
         ensures empty { (b : List ℕ) → M.reveals mem b → IfOk result (λ t. Lists t []) }
-        ensures cause { IfErr result (λ why. (m : M) × M.beside mem m × FromMemory why × IfMemNotFull (M.accounted mem m) why) }
+        ensures cause { IfErr result
+            (λ why. (m : M) × M.beside mem m × FromMemory why × IfMemNotFull (M.accounted mem m) why) }
         ensures kept { IfOk result (λ t. M.beside mem (tree_memory t)) }
         ensures cost { IfOk result (λ t. M.spent (tree_memory t) ≤ M.spent mem + M.cost) }
     {
@@ -72,9 +73,12 @@ impl<M: FlatMem, const E: usize, const K: usize> PageTree<M, E, K> {
     /// How many entries there are, as the header says.
     pub fn count(&mut self) -> Result<u32, TreeError<M::Error>>
         ensures count { (xs : List (List ℕ)) → Lists self.old xs → MatchResult result (λ n. n ≡ length xs) FromMemory }
-        ensures header { (b : List ℕ) → M.reveals (tree_memory self.old) b → IfOk result (λ n. n ≡ count_in (page_at b 0)) }
-        ensures malformed { (b : List ℕ) → M.reveals (tree_memory self.old) b → IfErr result (IfMalformed (Breaks E K (M.size (tree_memory self.old) / 512) b)) }
-        ensures inside { (b : List ℕ) → M.reveals (tree_memory self.old) b → IfErr result (IfMalformed (λ page. page < M.size (tree_memory self.old) / 512)) }
+        ensures header { (b : List ℕ) → M.reveals (tree_memory self.old) b
+            → IfOk result (λ n. n ≡ count_in (page_at b 0)) }
+        ensures malformed { (b : List ℕ) → M.reveals (tree_memory self.old) b
+            → IfErr result (IfMalformed (Breaks E K (M.size (tree_memory self.old) / 512) b)) }
+        ensures inside { (b : List ℕ) → M.reveals (tree_memory self.old) b
+            → IfErr result (IfMalformed (λ page. page < M.size (tree_memory self.old) / 512)) }
         ensures cause { IfErr result (IfMemNotFull (M.accounted (tree_memory self.old) (tree_memory self.new))) }
         ensures same_list { (xs : List (List ℕ)) → Lists self.old xs → Lists self.new xs }
         ensures same_bytes { (b : List ℕ) → M.reveals (tree_memory self.old) b → M.reveals (tree_memory self.new) b }
@@ -91,9 +95,12 @@ impl<M: FlatMem, const E: usize, const K: usize> PageTree<M, E, K> {
         key: &[u8; K],
         into: &mut [u8; E],
     ) -> Result<bool, TreeError<M::Error>>
-        ensures found { (xs : List (List ℕ)) → Lists self.old xs → MatchResult result (IsLastEntry K xs key.now into.new) FromMemory }
-        ensures malformed { (b : List ℕ) → M.reveals (tree_memory self.old) b → IfErr result (IfMalformed (Breaks E K (M.size (tree_memory self.old) / 512) b)) }
-        ensures inside { (b : List ℕ) → M.reveals (tree_memory self.old) b → IfErr result (IfMalformed (λ page. page < M.size (tree_memory self.old) / 512)) }
+        ensures found { (xs : List (List ℕ)) → Lists self.old xs
+            → MatchResult result (IsLastEntry K xs key.now into.new) FromMemory }
+        ensures malformed { (b : List ℕ) → M.reveals (tree_memory self.old) b
+            → IfErr result (IfMalformed (Breaks E K (M.size (tree_memory self.old) / 512) b)) }
+        ensures inside { (b : List ℕ) → M.reveals (tree_memory self.old) b
+            → IfErr result (IfMalformed (λ page. page < M.size (tree_memory self.old) / 512)) }
         ensures cause { IfErr result (IfMemNotFull (M.accounted (tree_memory self.old) (tree_memory self.new))) }
         ensures same_list { (xs : List (List ℕ)) → Lists self.old xs → Lists self.new xs }
         ensures same_bytes { (b : List ℕ) → M.reveals (tree_memory self.old) b → M.reveals (tree_memory self.new) b }
@@ -113,10 +120,14 @@ impl<M: FlatMem, const E: usize, const K: usize> PageTree<M, E, K> {
         key: &[u8; K],
         into: &mut [u8; E],
     ) -> Result<Option<u32>, TreeError<M::Error>>
-        ensures found { (xs : List (List ℕ)) → Lists self.old xs → MatchResult result (λ page. IsLastEntry K xs key.now into.new (is_some page)) FromMemory }
-        ensures page { (b : List ℕ) → M.reveals (tree_memory self.old) b → IfOk result (λ page. IfSome page (StandsIn E K b into.new)) }
-        ensures malformed { (b : List ℕ) → M.reveals (tree_memory self.old) b → IfErr result (IfMalformed (Breaks E K (M.size (tree_memory self.old) / 512) b)) }
-        ensures inside { (b : List ℕ) → M.reveals (tree_memory self.old) b → IfErr result (IfMalformed (λ page. page < M.size (tree_memory self.old) / 512)) }
+        ensures found { (xs : List (List ℕ)) → Lists self.old xs
+            → MatchResult result (λ page. IsLastEntry K xs key.now into.new (is_some page)) FromMemory }
+        ensures page { (b : List ℕ) → M.reveals (tree_memory self.old) b
+            → IfOk result (λ page. IfSome page (StandsIn E K b into.new)) }
+        ensures malformed { (b : List ℕ) → M.reveals (tree_memory self.old) b
+            → IfErr result (IfMalformed (Breaks E K (M.size (tree_memory self.old) / 512) b)) }
+        ensures inside { (b : List ℕ) → M.reveals (tree_memory self.old) b
+            → IfErr result (IfMalformed (λ page. page < M.size (tree_memory self.old) / 512)) }
         ensures cause { IfErr result (IfMemNotFull (M.accounted (tree_memory self.old) (tree_memory self.new))) }
         ensures same_list { (xs : List (List ℕ)) → Lists self.old xs → Lists self.new xs }
         ensures same_bytes { (b : List ℕ) → M.reveals (tree_memory self.old) b → M.reveals (tree_memory self.new) b }
@@ -133,9 +144,12 @@ impl<M: FlatMem, const E: usize, const K: usize> PageTree<M, E, K> {
         key: &[u8; K],
         into: &mut [u8; E],
     ) -> Result<bool, TreeError<M::Error>>
-        ensures found { (xs : List (List ℕ)) → Lists self.old xs → MatchResult result (IsNextEntry K xs key.now into.new) FromMemory }
-        ensures malformed { (b : List ℕ) → M.reveals (tree_memory self.old) b → IfErr result (IfMalformed (Breaks E K (M.size (tree_memory self.old) / 512) b)) }
-        ensures inside { (b : List ℕ) → M.reveals (tree_memory self.old) b → IfErr result (IfMalformed (λ page. page < M.size (tree_memory self.old) / 512)) }
+        ensures found { (xs : List (List ℕ)) → Lists self.old xs
+            → MatchResult result (IsNextEntry K xs key.now into.new) FromMemory }
+        ensures malformed { (b : List ℕ) → M.reveals (tree_memory self.old) b
+            → IfErr result (IfMalformed (Breaks E K (M.size (tree_memory self.old) / 512) b)) }
+        ensures inside { (b : List ℕ) → M.reveals (tree_memory self.old) b
+            → IfErr result (IfMalformed (λ page. page < M.size (tree_memory self.old) / 512)) }
         ensures cause { IfErr result (IfMemNotFull (M.accounted (tree_memory self.old) (tree_memory self.new))) }
         ensures same_list { (xs : List (List ℕ)) → Lists self.old xs → Lists self.new xs }
         ensures same_bytes { (b : List ℕ) → M.reveals (tree_memory self.old) b → M.reveals (tree_memory self.new) b }
@@ -155,10 +169,14 @@ impl<M: FlatMem, const E: usize, const K: usize> PageTree<M, E, K> {
         key: &[u8; K],
         into: &mut [u8; E],
     ) -> Result<Option<u32>, TreeError<M::Error>>
-        ensures found { (xs : List (List ℕ)) → Lists self.old xs → MatchResult result (λ page. IsNextEntry K xs key.now into.new (is_some page)) FromMemory }
-        ensures page { (b : List ℕ) → M.reveals (tree_memory self.old) b → IfOk result (λ page. IfSome page (StandsIn E K b into.new)) }
-        ensures malformed { (b : List ℕ) → M.reveals (tree_memory self.old) b → IfErr result (IfMalformed (Breaks E K (M.size (tree_memory self.old) / 512) b)) }
-        ensures inside { (b : List ℕ) → M.reveals (tree_memory self.old) b → IfErr result (IfMalformed (λ page. page < M.size (tree_memory self.old) / 512)) }
+        ensures found { (xs : List (List ℕ)) → Lists self.old xs
+            → MatchResult result (λ page. IsNextEntry K xs key.now into.new (is_some page)) FromMemory }
+        ensures page { (b : List ℕ) → M.reveals (tree_memory self.old) b
+            → IfOk result (λ page. IfSome page (StandsIn E K b into.new)) }
+        ensures malformed { (b : List ℕ) → M.reveals (tree_memory self.old) b
+            → IfErr result (IfMalformed (Breaks E K (M.size (tree_memory self.old) / 512) b)) }
+        ensures inside { (b : List ℕ) → M.reveals (tree_memory self.old) b
+            → IfErr result (IfMalformed (λ page. page < M.size (tree_memory self.old) / 512)) }
         ensures cause { IfErr result (IfMemNotFull (M.accounted (tree_memory self.old) (tree_memory self.new))) }
         ensures same_list { (xs : List (List ℕ)) → Lists self.old xs → Lists self.new xs }
         ensures same_bytes { (b : List ℕ) → M.reveals (tree_memory self.old) b → M.reveals (tree_memory self.new) b }
@@ -171,11 +189,18 @@ impl<M: FlatMem, const E: usize, const K: usize> PageTree<M, E, K> {
 
     /// Adds an entry after the last whose key is at most its own.
     pub fn insert(&mut self, entry: &[u8; E]) -> Result<(), TreeError<M::Error>>
-        ensures inserted { (xs : List (List ℕ)) → Lists self.old xs → MatchResult result (λ _. IsInserted E K (M.size (tree_memory self.old) / 512) (Lists self.new) xs entry.now) (IsFull E (M.size (tree_memory self.old) / 512) (Lists self.new) xs) }
-        ensures full { (b : List ℕ) → M.reveals (tree_memory self.old) b → IfErr result (IfFull (capacity_of E (M.size (tree_memory self.old) / 512) ≤ count_in (page_at b 0))) }
-        ensures full_same { (b : List ℕ) → M.reveals (tree_memory self.old) b → IfErr result (IfFull (M.reveals (tree_memory self.new) b)) }
-        ensures malformed { (b : List ℕ) → M.reveals (tree_memory self.old) b → IfErr result (IfMalformed (StopsInsertion E K (M.size (tree_memory self.old) / 512) b)) }
-        ensures inside { (b : List ℕ) → M.reveals (tree_memory self.old) b → IfErr result (IfMalformed (λ page. page < M.size (tree_memory self.old) / 512)) }
+        ensures inserted { (xs : List (List ℕ)) → Lists self.old xs
+            → MatchResult result
+            (λ _. IsInserted E K (M.size (tree_memory self.old) / 512) (Lists self.new) xs entry.now)
+            (IsFull E (M.size (tree_memory self.old) / 512) (Lists self.new) xs) }
+        ensures full { (b : List ℕ) → M.reveals (tree_memory self.old) b
+            → IfErr result (IfFull (capacity_of E (M.size (tree_memory self.old) / 512) ≤ count_in (page_at b 0))) }
+        ensures full_same { (b : List ℕ) → M.reveals (tree_memory self.old) b
+            → IfErr result (IfFull (M.reveals (tree_memory self.new) b)) }
+        ensures malformed { (b : List ℕ) → M.reveals (tree_memory self.old) b
+            → IfErr result (IfMalformed (StopsInsertion E K (M.size (tree_memory self.old) / 512) b)) }
+        ensures inside { (b : List ℕ) → M.reveals (tree_memory self.old) b
+            → IfErr result (IfMalformed (λ page. page < M.size (tree_memory self.old) / 512)) }
         ensures cause { IfErr result (IfMemory (M.accounted (tree_memory self.old) (tree_memory self.new))) }
         ensures kept { M.beside (tree_memory self.old) (tree_memory self.new) }
         ensures cost { M.spent (tree_memory self.new) ≤ M.spent (tree_memory self.old) + 33 * M.cost }
@@ -185,10 +210,14 @@ impl<M: FlatMem, const E: usize, const K: usize> PageTree<M, E, K> {
 
     /// Takes out the last entry that has this key, and says whether there was one.
     pub fn remove_key(&mut self, key: &[u8; K]) -> Result<bool, TreeError<M::Error>>
-        ensures removed { (xs : List (List ℕ)) → Lists self.old xs → MatchResult result (IsTakenOut K (Lists self.new) xs key.now) FromMemory }
-        ensures absent { (b : List ℕ) → M.reveals (tree_memory self.old) b → IfOk result (λ found. found ≡ false → M.reveals (tree_memory self.new) b) }
-        ensures malformed { (b : List ℕ) → M.reveals (tree_memory self.old) b → IfErr result (IfMalformed (Breaks E K (M.size (tree_memory self.old) / 512) b)) }
-        ensures inside { (b : List ℕ) → M.reveals (tree_memory self.old) b → IfErr result (IfMalformed (λ page. page < M.size (tree_memory self.old) / 512)) }
+        ensures removed { (xs : List (List ℕ)) → Lists self.old xs
+            → MatchResult result (IsTakenOut K (Lists self.new) xs key.now) FromMemory }
+        ensures absent { (b : List ℕ) → M.reveals (tree_memory self.old) b
+            → IfOk result (λ found. found ≡ false → M.reveals (tree_memory self.new) b) }
+        ensures malformed { (b : List ℕ) → M.reveals (tree_memory self.old) b
+            → IfErr result (IfMalformed (Breaks E K (M.size (tree_memory self.old) / 512) b)) }
+        ensures inside { (b : List ℕ) → M.reveals (tree_memory self.old) b
+            → IfErr result (IfMalformed (λ page. page < M.size (tree_memory self.old) / 512)) }
         ensures cause { IfErr result (IfMemNotFull (M.accounted (tree_memory self.old) (tree_memory self.new))) }
         ensures kept { M.beside (tree_memory self.old) (tree_memory self.new) }
         ensures cost { M.spent (tree_memory self.new) ≤ M.spent (tree_memory self.old) + 36 * M.cost }
@@ -198,10 +227,14 @@ impl<M: FlatMem, const E: usize, const K: usize> PageTree<M, E, K> {
 
     /// Writes an entry over the last that has its key, and says whether there was one.
     pub fn replace_key(&mut self, entry: &[u8; E]) -> Result<bool, TreeError<M::Error>>
-        ensures replaced { (xs : List (List ℕ)) → Lists self.old xs → MatchResult result (IsPutOver K (Lists self.new) xs entry.now) FromMemory }
-        ensures absent { (b : List ℕ) → M.reveals (tree_memory self.old) b → IfOk result (λ found. found ≡ false → M.reveals (tree_memory self.new) b) }
-        ensures malformed { (b : List ℕ) → M.reveals (tree_memory self.old) b → IfErr result (IfMalformed (Breaks E K (M.size (tree_memory self.old) / 512) b)) }
-        ensures inside { (b : List ℕ) → M.reveals (tree_memory self.old) b → IfErr result (IfMalformed (λ page. page < M.size (tree_memory self.old) / 512)) }
+        ensures replaced { (xs : List (List ℕ)) → Lists self.old xs
+            → MatchResult result (IsPutOver K (Lists self.new) xs entry.now) FromMemory }
+        ensures absent { (b : List ℕ) → M.reveals (tree_memory self.old) b
+            → IfOk result (λ found. found ≡ false → M.reveals (tree_memory self.new) b) }
+        ensures malformed { (b : List ℕ) → M.reveals (tree_memory self.old) b
+            → IfErr result (IfMalformed (Breaks E K (M.size (tree_memory self.old) / 512) b)) }
+        ensures inside { (b : List ℕ) → M.reveals (tree_memory self.old) b
+            → IfErr result (IfMalformed (λ page. page < M.size (tree_memory self.old) / 512)) }
         ensures cause { IfErr result (IfMemNotFull (M.accounted (tree_memory self.old) (tree_memory self.new))) }
         ensures kept { M.beside (tree_memory self.old) (tree_memory self.new) }
         ensures cost { M.spent (tree_memory self.new) ≤ M.spent (tree_memory self.old) + 8 * M.cost }
@@ -211,68 +244,113 @@ impl<M: FlatMem, const E: usize, const K: usize> PageTree<M, E, K> {
 
     /// Gives in `into` the entry of this index, found leaf by leaf.
     pub fn nth(&mut self, index: u32, into: &mut [u8; E]) -> Result<(), TreeError<M::Error>>
-        ensures entry { (xs : List (List ℕ)) → Lists self.old xs → index < length xs → MatchResult result (λ _. into.new ≡ entry_at xs index) FromMemory }
-        ensures past { (xs : List (List ℕ)) → Lists self.old xs → length xs ≤ index → MatchResult result (λ _. ⊥) IsPast }
-        ensures past_any { (b : List ℕ) → M.reveals (tree_memory self.old) b → count_in (page_at b 0) ≤ index → MatchResult result (λ _. ⊥) IsPast }
-        ensures stands { (b : List ℕ) → M.reveals (tree_memory self.old) b → IfOk result (λ _. IsNth E K b index into.new) }
-        ensures malformed { (b : List ℕ) → M.reveals (tree_memory self.old) b → IfErr result (IfMalformed (λ page. Breaks E K (M.size (tree_memory self.old) / 512) b page ⊎ ((page ≡ 0) × (count_in (page_at b 0) ≤ index)))) }
-        ensures missing { (b : List ℕ) → M.reveals (tree_memory self.old) b → IfErr result (IfMalformed (λ page. page ≡ 0 → MissesNth E K (M.size (tree_memory self.old) / 512) b index)) }
-        ensures inside { (b : List ℕ) → M.reveals (tree_memory self.old) b → IfErr result (IfMalformed (λ page. page < M.size (tree_memory self.old) / 512)) }
+        ensures entry { (xs : List (List ℕ)) → Lists self.old xs → index < length xs
+            → MatchResult result (λ _. into.new ≡ entry_at xs index) FromMemory }
+        ensures past { (xs : List (List ℕ)) → Lists self.old xs → length xs ≤ index
+            → MatchResult result (λ _. ⊥) IsPast }
+        ensures past_any { (b : List ℕ) → M.reveals (tree_memory self.old) b → count_in (page_at b 0) ≤ index
+            → MatchResult result (λ _. ⊥) IsPast }
+        ensures stands { (b : List ℕ) → M.reveals (tree_memory self.old) b
+            → IfOk result (λ _. IsNth E K b index into.new) }
+        ensures malformed { (b : List ℕ) → M.reveals (tree_memory self.old) b
+            → IfErr result
+            (IfMalformed
+            (λ page.
+            Breaks E K (M.size (tree_memory self.old) / 512) b page
+            ⊎ ((page ≡ 0) × (count_in (page_at b 0) ≤ index)))) }
+        ensures missing { (b : List ℕ) → M.reveals (tree_memory self.old) b
+            → IfErr result
+            (IfMalformed (λ page. page ≡ 0 → MissesNth E K (M.size (tree_memory self.old) / 512) b index)) }
+        ensures inside { (b : List ℕ) → M.reveals (tree_memory self.old) b
+            → IfErr result (IfMalformed (λ page. page < M.size (tree_memory self.old) / 512)) }
         ensures cause { IfErr result (IfMemNotFull (M.accounted (tree_memory self.old) (tree_memory self.new))) }
         ensures same_list { (xs : List (List ℕ)) → Lists self.old xs → Lists self.new xs }
         ensures same_bytes { (b : List ℕ) → M.reveals (tree_memory self.old) b → M.reveals (tree_memory self.new) b }
         ensures kept { M.beside (tree_memory self.old) (tree_memory self.new) }
         ensures looked { M.only_reads (tree_memory self.old) (tree_memory self.new) }
-        ensures cost { M.spent (tree_memory self.new) ≤ M.spent (tree_memory self.old) + 12 * (M.size (tree_memory self.old) / 512) * M.cost }
+        ensures cost { M.spent (tree_memory self.new) ≤ M.spent (tree_memory self.old) + 12
+            * (M.size (tree_memory self.old) / 512) * M.cost }
     {
         by_index::nth::<M, E, K>(&mut self.mem, index, into)
     }
 
     /// Finds the index of the last entry whose key is at most `key`, leaf by leaf.
     pub fn find_last_at_most(&mut self, key: &[u8; K]) -> Result<Option<u32>, TreeError<M::Error>>
-        ensures found { (xs : List (List ℕ)) → Lists self.old xs → MatchResult result (IsFound K xs key.now) FromMemory }
-        ensures malformed { (b : List ℕ) → M.reveals (tree_memory self.old) b → IfErr result (IfMalformed (Breaks E K (M.size (tree_memory self.old) / 512) b)) }
-        ensures inside { (b : List ℕ) → M.reveals (tree_memory self.old) b → IfErr result (IfMalformed (λ page. page < M.size (tree_memory self.old) / 512)) }
+        ensures found { (xs : List (List ℕ)) → Lists self.old xs
+            → MatchResult result (IsFound K xs key.now) FromMemory }
+        ensures malformed { (b : List ℕ) → M.reveals (tree_memory self.old) b
+            → IfErr result (IfMalformed (Breaks E K (M.size (tree_memory self.old) / 512) b)) }
+        ensures inside { (b : List ℕ) → M.reveals (tree_memory self.old) b
+            → IfErr result (IfMalformed (λ page. page < M.size (tree_memory self.old) / 512)) }
         ensures cause { IfErr result (IfMemNotFull (M.accounted (tree_memory self.old) (tree_memory self.new))) }
         ensures same_list { (xs : List (List ℕ)) → Lists self.old xs → Lists self.new xs }
         ensures same_bytes { (b : List ℕ) → M.reveals (tree_memory self.old) b → M.reveals (tree_memory self.new) b }
         ensures kept { M.beside (tree_memory self.old) (tree_memory self.new) }
         ensures looked { M.only_reads (tree_memory self.old) (tree_memory self.new) }
-        ensures cost { M.spent (tree_memory self.new) ≤ M.spent (tree_memory self.old) + 12 * (M.size (tree_memory self.old) / 512) * M.cost }
+        ensures cost { M.spent (tree_memory self.new) ≤ M.spent (tree_memory self.old) + 12
+            * (M.size (tree_memory self.old) / 512) * M.cost }
     {
         last_at_most::find_last_at_most::<M, E, K>(&mut self.mem, key)
     }
 
     /// Writes an entry over the one of this index, whose key is the same.
     pub fn replace(&mut self, index: u32, entry: &[u8; E]) -> Result<(), TreeError<M::Error>>
-        ensures replaced { (xs : List (List ℕ)) → Lists self.old xs → index < length xs → take K entry.now ≡ key_at K xs index → MatchResult result (λ _. Lists self.new (slice_set xs index entry.now)) FromMemory }
-        ensures past { (xs : List (List ℕ)) → Lists self.old xs → length xs ≤ index → MatchResult result (λ _. ⊥) IsPast }
-        ensures past_any { (b : List ℕ) → M.reveals (tree_memory self.old) b → count_in (page_at b 0) ≤ index → MatchResult result (λ _. ⊥) IsPast }
-        ensures past_same { (b : List ℕ) → M.reveals (tree_memory self.old) b → count_in (page_at b 0) ≤ index → M.reveals (tree_memory self.new) b }
-        ensures written { (b : List ℕ) → M.reveals (tree_memory self.old) b → IfOk result (λ _. IsNthSet E K (M.reveals (tree_memory self.new)) b index entry.now) }
-        ensures malformed { (b : List ℕ) → M.reveals (tree_memory self.old) b → IfErr result (IfMalformed (λ page. Breaks E K (M.size (tree_memory self.old) / 512) b page ⊎ ((page ≡ 0) × (count_in (page_at b 0) ≤ index)))) }
-        ensures missing { (b : List ℕ) → M.reveals (tree_memory self.old) b → IfErr result (IfMalformed (λ page. page ≡ 0 → MissesNth E K (M.size (tree_memory self.old) / 512) b index)) }
-        ensures inside { (b : List ℕ) → M.reveals (tree_memory self.old) b → IfErr result (IfMalformed (λ page. page < M.size (tree_memory self.old) / 512)) }
+        ensures replaced { (xs : List (List ℕ)) → Lists self.old xs → index < length xs
+            → take K entry.now ≡ key_at K xs index
+            → MatchResult result (λ _. Lists self.new (slice_set xs index entry.now)) FromMemory }
+        ensures past { (xs : List (List ℕ)) → Lists self.old xs → length xs ≤ index
+            → MatchResult result (λ _. ⊥) IsPast }
+        ensures past_any { (b : List ℕ) → M.reveals (tree_memory self.old) b → count_in (page_at b 0) ≤ index
+            → MatchResult result (λ _. ⊥) IsPast }
+        ensures past_same { (b : List ℕ) → M.reveals (tree_memory self.old) b → count_in (page_at b 0) ≤ index
+            → M.reveals (tree_memory self.new) b }
+        ensures written { (b : List ℕ) → M.reveals (tree_memory self.old) b
+            → IfOk result (λ _. IsNthSet E K (M.reveals (tree_memory self.new)) b index entry.now) }
+        ensures malformed { (b : List ℕ) → M.reveals (tree_memory self.old) b
+            → IfErr result
+            (IfMalformed
+            (λ page.
+            Breaks E K (M.size (tree_memory self.old) / 512) b page
+            ⊎ ((page ≡ 0) × (count_in (page_at b 0) ≤ index)))) }
+        ensures missing { (b : List ℕ) → M.reveals (tree_memory self.old) b
+            → IfErr result
+            (IfMalformed (λ page. page ≡ 0 → MissesNth E K (M.size (tree_memory self.old) / 512) b index)) }
+        ensures inside { (b : List ℕ) → M.reveals (tree_memory self.old) b
+            → IfErr result (IfMalformed (λ page. page < M.size (tree_memory self.old) / 512)) }
         ensures cause { IfErr result (IfMemNotFull (M.accounted (tree_memory self.old) (tree_memory self.new))) }
         ensures kept { M.beside (tree_memory self.old) (tree_memory self.new) }
-        ensures cost { M.spent (tree_memory self.new) ≤ M.spent (tree_memory self.old) + 12 * (M.size (tree_memory self.old) / 512) * M.cost }
+        ensures cost { M.spent (tree_memory self.new) ≤ M.spent (tree_memory self.old) + 12
+            * (M.size (tree_memory self.old) / 512) * M.cost }
     {
         edit_by_index::replace::<M, E, K>(&mut self.mem, index, entry)
     }
 
     /// Takes out the entry of this index.
     pub fn remove(&mut self, index: u32) -> Result<(), TreeError<M::Error>>
-        ensures removed { (xs : List (List ℕ)) → Lists self.old xs → index < length xs → MatchResult result (λ _. Lists self.new (remove xs index)) FromMemory }
-        ensures past { (xs : List (List ℕ)) → Lists self.old xs → length xs ≤ index → MatchResult result (λ _. ⊥) IsPast }
-        ensures past_any { (b : List ℕ) → M.reveals (tree_memory self.old) b → count_in (page_at b 0) ≤ index → MatchResult result (λ _. ⊥) IsPast }
-        ensures past_same { (b : List ℕ) → M.reveals (tree_memory self.old) b → count_in (page_at b 0) ≤ index → M.reveals (tree_memory self.new) b }
+        ensures removed { (xs : List (List ℕ)) → Lists self.old xs → index < length xs
+            → MatchResult result (λ _. Lists self.new (remove xs index)) FromMemory }
+        ensures past { (xs : List (List ℕ)) → Lists self.old xs → length xs ≤ index
+            → MatchResult result (λ _. ⊥) IsPast }
+        ensures past_any { (b : List ℕ) → M.reveals (tree_memory self.old) b → count_in (page_at b 0) ≤ index
+            → MatchResult result (λ _. ⊥) IsPast }
+        ensures past_same { (b : List ℕ) → M.reveals (tree_memory self.old) b → count_in (page_at b 0) ≤ index
+            → M.reveals (tree_memory self.new) b }
         ensures stood { (b : List ℕ) → M.reveals (tree_memory self.old) b → IfOk result (λ _. HasNth E K b index) }
-        ensures malformed { (b : List ℕ) → M.reveals (tree_memory self.old) b → IfErr result (IfMalformed (λ page. Breaks E K (M.size (tree_memory self.old) / 512) b page ⊎ ((page ≡ 0) × (count_in (page_at b 0) ≤ index)))) }
-        ensures missing { (b : List ℕ) → M.reveals (tree_memory self.old) b → IfErr result (IfMalformed (λ page. page ≡ 0 → MissesNth E K (M.size (tree_memory self.old) / 512) b index)) }
-        ensures inside { (b : List ℕ) → M.reveals (tree_memory self.old) b → IfErr result (IfMalformed (λ page. page < M.size (tree_memory self.old) / 512)) }
+        ensures malformed { (b : List ℕ) → M.reveals (tree_memory self.old) b
+            → IfErr result
+            (IfMalformed
+            (λ page.
+            Breaks E K (M.size (tree_memory self.old) / 512) b page
+            ⊎ ((page ≡ 0) × (count_in (page_at b 0) ≤ index)))) }
+        ensures missing { (b : List ℕ) → M.reveals (tree_memory self.old) b
+            → IfErr result
+            (IfMalformed (λ page. page ≡ 0 → MissesNth E K (M.size (tree_memory self.old) / 512) b index)) }
+        ensures inside { (b : List ℕ) → M.reveals (tree_memory self.old) b
+            → IfErr result (IfMalformed (λ page. page < M.size (tree_memory self.old) / 512)) }
         ensures cause { IfErr result (IfMemNotFull (M.accounted (tree_memory self.old) (tree_memory self.new))) }
         ensures kept { M.beside (tree_memory self.old) (tree_memory self.new) }
-        ensures cost { M.spent (tree_memory self.new) ≤ M.spent (tree_memory self.old) + 15 * (M.size (tree_memory self.old) / 512) * M.cost }
+        ensures cost { M.spent (tree_memory self.new) ≤ M.spent (tree_memory self.old) + 15
+            * (M.size (tree_memory self.old) / 512) * M.cost }
     {
         out_by_index::remove::<M, E, K>(&mut self.mem, index)
     }

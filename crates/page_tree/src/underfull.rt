@@ -71,7 +71,8 @@ fn drop_root<M: FlatMem, const K: usize>(
     requires key_most { K ≤ 12 }
     requires inside { root < M.size mem.old / 512 }
     requires some { 1 ≤ header.old.levels }
-    ensures given { (b : List ℕ) → M.reveals mem.old b → MatchResult result (λ _. IsGiven (M.reveals mem.new) b root header.old.free) FromMemory }
+    ensures given { (b : List ℕ) → M.reveals mem.old b
+        → MatchResult result (λ _. IsGiven (M.reveals mem.new) b root header.old.free) FromMemory }
     ensures free { OnOk result (header.new.free ≡ root) }
     ensures root { header.new.root ≡ link_at K page.now 0 }
     ensures levels { header.new.levels + 1 ≡ header.old.levels }
@@ -110,9 +111,19 @@ fn rebalance_underfull<M: FlatMem, const E: usize, const K: usize>(
     requires underfull { IsUnderfull E K level (filled page.old) }
     requires inside { at.old < M.size mem.old / 512 }
     requires path { (l : ℕ) → 1 < l → l ≤ header.old.levels → get_or path.now.pages l 0 < M.size mem.old / 512 }
-    ensures rebalanced { (b : List ℕ) → M.reveals mem.old b → (records : List (List ℕ)) → IsPending E K (M.size mem.old / 512) b records header.old.levels level path.now.pages path.now.index at.old page.old header.old.root header.old.free header.old.top
-        → MatchResult result (IsRebalanced E K (M.size mem.old / 512) (M.reveals mem.new) records header.old.levels (level + 1) path.now.pages path.now.index at.new page.new header.old.root header.new.free header.new.top header.new.levels header.new.root) FromMemory }
-    ensures on { (root : ℕ) (b c : List ℕ) → M.reveals mem.old c → IsRebalancing K b c header.old.levels level root path.now.pages path.now.index → Meets K b level at.old → MatchResult result (RebalancesOn K (M.reveals mem.new) b header.old.levels (level + 1) root path.now.pages path.now.index) (IfMalformed (Breaks E K (M.size mem.old / 512) b)) }
+    ensures rebalanced { (b : List ℕ) → M.reveals mem.old b → (records : List (List ℕ))
+        → IsPending E K (M.size mem.old / 512) b records header.old.levels level path.now.pages path.now.index at.old
+        page.old header.old.root header.old.free header.old.top
+        → MatchResult result
+        (IsRebalanced E K (M.size mem.old / 512) (M.reveals mem.new) records header.old.levels (level + 1)
+        path.now.pages path.now.index at.new page.new header.old.root header.new.free header.new.top header.new.levels
+        header.new.root)
+        FromMemory }
+    ensures on { (root : ℕ) (b c : List ℕ) → M.reveals mem.old c
+        → IsRebalancing K b c header.old.levels level root path.now.pages path.now.index → Meets K b level at.old
+        → MatchResult result
+        (RebalancesOn K (M.reveals mem.new) b header.old.levels (level + 1) root path.now.pages path.now.index)
+        (IfMalformed (Breaks E K (M.size mem.old / 512) b)) }
     ensures named { AvoidsHeader header.old.levels path.now.pages → IfErr result (IfMalformed (λ page. 1 ≤ page)) }
     ensures up { IfOk result (λ done. done ≡ false → at.new ≡ get_or path.now.pages (level + 1) 0) }
     ensures same_levels { IfOk result (λ done. done ≡ false → header.new.levels ≡ header.old.levels) }
@@ -176,9 +187,19 @@ fn rebalance_up<M: FlatMem, const E: usize, const K: usize>(
     requires few { header.old.levels ≤ 6 }
     requires inside { at.old < M.size mem.old / 512 }
     requires path { (l : ℕ) → 1 < l → l ≤ header.old.levels → get_or path.now.pages l 0 < M.size mem.old / 512 }
-    ensures rebalanced { (b : List ℕ) → M.reveals mem.old b → (records : List (List ℕ)) → IsPending E K (M.size mem.old / 512) b records header.old.levels level path.now.pages path.now.index at.old page.old header.old.root header.old.free header.old.top
-        → MatchResult result (IsRebalanced E K (M.size mem.old / 512) (M.reveals mem.new) records header.old.levels (level + 1) path.now.pages path.now.index at.new page.new header.old.root header.new.free header.new.top header.new.levels header.new.root) FromMemory }
-    ensures on { (root : ℕ) (b c : List ℕ) → M.reveals mem.old c → IsRebalancing K b c header.old.levels level root path.now.pages path.now.index → Meets K b level at.old → MatchResult result (RebalancesOn K (M.reveals mem.new) b header.old.levels (level + 1) root path.now.pages path.now.index) (IfMalformed (Breaks E K (M.size mem.old / 512) b)) }
+    ensures rebalanced { (b : List ℕ) → M.reveals mem.old b → (records : List (List ℕ))
+        → IsPending E K (M.size mem.old / 512) b records header.old.levels level path.now.pages path.now.index at.old
+        page.old header.old.root header.old.free header.old.top
+        → MatchResult result
+        (IsRebalanced E K (M.size mem.old / 512) (M.reveals mem.new) records header.old.levels (level + 1)
+        path.now.pages path.now.index at.new page.new header.old.root header.new.free header.new.top header.new.levels
+        header.new.root)
+        FromMemory }
+    ensures on { (root : ℕ) (b c : List ℕ) → M.reveals mem.old c
+        → IsRebalancing K b c header.old.levels level root path.now.pages path.now.index → Meets K b level at.old
+        → MatchResult result
+        (RebalancesOn K (M.reveals mem.new) b header.old.levels (level + 1) root path.now.pages path.now.index)
+        (IfMalformed (Breaks E K (M.size mem.old / 512) b)) }
     ensures named { AvoidsHeader header.old.levels path.now.pages → IfErr result (IfMalformed (λ page. 1 ≤ page)) }
     ensures up { IfOk result (λ done. done ≡ false → at.new ≡ get_or path.now.pages (level + 1) 0) }
     ensures same_levels { IfOk result (λ done. done ≡ false → header.new.levels ≡ header.old.levels) }
@@ -222,9 +243,17 @@ pub fn rebalance<M: FlatMem, const E: usize, const K: usize>(
     requires few { header.old.levels ≤ 6 }
     requires inside { at < M.size mem.old / 512 }
     requires path { (l : ℕ) → 1 < l → l ≤ header.old.levels → get_or path.now.pages l 0 < M.size mem.old / 512 }
-    ensures rebalanced { (b : List ℕ) → M.reveals mem.old b → (records : List (List ℕ)) → IsPending E K (M.size mem.old / 512) b records header.old.levels 1 path.now.pages path.now.index at page.old header.old.root header.old.free header.old.top
-        → MatchResult result (λ _. RevealsClosed E K (M.size mem.old / 512) (M.reveals mem.new) records header.new.levels header.new.root header.new.free header.new.top) FromMemory }
-    ensures broken { (root : ℕ) (b c : List ℕ) → M.reveals mem.old c → IsRebalancing K b c header.old.levels 1 root path.now.pages path.now.index → Meets K b 1 at → IfErr result (IfMalformed (Breaks E K (M.size mem.old / 512) b)) }
+    ensures rebalanced { (b : List ℕ) → M.reveals mem.old b → (records : List (List ℕ))
+        → IsPending E K (M.size mem.old / 512) b records header.old.levels 1 path.now.pages path.now.index at page.old
+        header.old.root header.old.free header.old.top
+        → MatchResult result
+        (λ _.
+        RevealsClosed E K (M.size mem.old / 512) (M.reveals mem.new) records header.new.levels header.new.root
+        header.new.free header.new.top)
+        FromMemory }
+    ensures broken { (root : ℕ) (b c : List ℕ) → M.reveals mem.old c
+        → IsRebalancing K b c header.old.levels 1 root path.now.pages path.now.index → Meets K b 1 at
+        → IfErr result (IfMalformed (Breaks E K (M.size mem.old / 512) b)) }
     ensures named { AvoidsHeader header.old.levels path.now.pages → IfErr result (IfMalformed (λ page. 1 ≤ page)) }
     ensures levels { header.new.levels ≤ header.old.levels }
     ensures count { header.new.count ≡ header.old.count }

@@ -24,7 +24,8 @@ pub fn read_inner<M: FlatMem, const K: usize>(
     ensures read { (b : List ℕ) → M.reveals mem.old b → OnOk result (page.new ≡ page_at b at) }
     ensures form { IfOk result (λ n. (n ≡ filled page.new) × IsInnerForm K page.new) }
     ensures well { (b : List ℕ) → M.reveals mem.old b → IsInnerForm K (page_at b at) → IfErr result FromMemory }
-    ensures broken { (e l pages : ℕ) (b : List ℕ) → M.reveals mem.old b → 1 < l → Meets K b l at → IfErr result (IfMalformed (Breaks e K pages b)) }
+    ensures broken { (e l pages : ℕ) (b : List ℕ) → M.reveals mem.old b → 1 < l → Meets K b l at
+        → IfErr result (IfMalformed (Breaks e K pages b)) }
     ensures named { IfErr result (IfMalformed (λ page. page ≡ at)) }
     ensures unchanged { (b : List ℕ) → M.reveals mem.old b → M.reveals mem.new b }
     ensures kept { M.beside mem.old mem.new }
@@ -54,7 +55,8 @@ pub fn read_leaf<M: FlatMem, const E: usize, const K: usize>(
     ensures read { (b : List ℕ) → M.reveals mem.old b → OnOk result (page.new ≡ page_at b at) }
     ensures form { IfOk result (λ _. IsLeafForm E page.new) }
     ensures well { (b : List ℕ) → M.reveals mem.old b → IsLeafForm E (page_at b at) → IfErr result FromMemory }
-    ensures broken { (pages : ℕ) (b : List ℕ) → M.reveals mem.old b → Meets K b 1 at → IfErr result (IfMalformed (Breaks E K pages b)) }
+    ensures broken { (pages : ℕ) (b : List ℕ) → M.reveals mem.old b → Meets K b 1 at
+        → IfErr result (IfMalformed (Breaks E K pages b)) }
     ensures named { IfErr result (IfMalformed (λ page. page ≡ at)) }
     ensures unchanged { (b : List ℕ) → M.reveals mem.old b → M.reveals mem.new b }
     ensures kept { M.beside mem.old mem.new }
@@ -87,12 +89,28 @@ pub fn go_down<M: FlatMem, const E: usize, const K: usize>(
     requires some { 1 ≤ level }
     requires most { level ≤ 6 }
     requires inside { at < M.size mem.old / 512 }
-    ensures leaf { (b : List ℕ) → M.reveals mem.old b → (records : List (List ℕ)) (levels root : ℕ) (nodes : ℕ → List Node) (home : ℕ → ℕ) → IsRooted E K (M.size mem.old / 512) b records levels root nodes → level ≤ levels → IsPath nodes levels level path.old.pages path.old.index at home → (1 < level → place < length (node_at (nodes level) (home level)).items) → MatchResult result (λ leaf. IsLed b levels nodes page.new path.new.pages path.new.index leaf (leaf_under nodes level (home level) place)) FromMemory }
-    ensures met { (b : List ℕ) → M.reveals mem.old b → (levels root : ℕ) → level ≤ levels → Meets K b level at → IsMetPath K b levels level root path.old.pages path.old.index → (1 < level → place ≤ filled (page_at b at)) → (level ≡ levels → at ≡ root) → MatchResult result (λ leaf. Meets K b 1 leaf × IsMetPath K b levels 1 root path.new.pages path.new.index) (IfMalformed (Breaks E K (M.size mem.old / 512) b)) }
+    ensures leaf { (b : List ℕ) → M.reveals mem.old b
+        → (records : List (List ℕ)) (levels root : ℕ) (nodes : ℕ → List Node) (home : ℕ → ℕ)
+        → IsRooted E K (M.size mem.old / 512) b records levels root nodes → level ≤ levels
+        → IsPath nodes levels level path.old.pages path.old.index at home
+        → (1 < level → place < length (node_at (nodes level) (home level)).items)
+        → MatchResult result
+        (λ leaf.
+        IsLed b levels nodes page.new path.new.pages path.new.index leaf (leaf_under nodes level (home level) place))
+        FromMemory }
+    ensures met { (b : List ℕ) → M.reveals mem.old b → (levels root : ℕ) → level ≤ levels → Meets K b level at
+        → IsMetPath K b levels level root path.old.pages path.old.index → (1 < level → place ≤ filled (page_at b at))
+        → (level ≡ levels → at ≡ root)
+        → MatchResult result (λ leaf. Meets K b 1 leaf × IsMetPath K b levels 1 root path.new.pages path.new.index)
+        (IfMalformed (Breaks E K (M.size mem.old / 512) b)) }
     ensures named { 1 ≤ at → IfErr result (IfMalformed (λ page. 1 ≤ page)) }
-    ensures thread { (b : List ℕ) → M.reveals mem.old b → (levels root : ℕ) → level ≤ levels → IsThread K b levels level root path.old.pages path.old.index at → IfOk result (IsThread K b levels 1 root path.new.pages path.new.index) }
-    ensures down { IfOk result (λ _. IsLedDown level at place path.old.pages path.old.index path.new.pages path.new.index) }
-    ensures path { (levels : ℕ) → ((n : ℕ) → level < n → n ≤ levels → get_or path.old.pages n 0 < M.size mem.old / 512) → IfOk result (λ _. (n : ℕ) → 1 < n → n ≤ levels → get_or path.new.pages n 0 < M.size mem.old / 512) }
+    ensures thread { (b : List ℕ) → M.reveals mem.old b → (levels root : ℕ) → level ≤ levels
+        → IsThread K b levels level root path.old.pages path.old.index at
+        → IfOk result (IsThread K b levels 1 root path.new.pages path.new.index) }
+    ensures down { IfOk result
+        (λ _. IsLedDown level at place path.old.pages path.old.index path.new.pages path.new.index) }
+    ensures path { (levels : ℕ) → ((n : ℕ) → level < n → n ≤ levels → get_or path.old.pages n 0 < M.size mem.old / 512)
+        → IfOk result (λ _. (n : ℕ) → 1 < n → n ≤ levels → get_or path.new.pages n 0 < M.size mem.old / 512) }
     ensures inside { IfOk result (λ leaf. leaf < M.size mem.old / 512) }
     ensures form { IfOk result (λ _. IsLeafForm E page.new) }
     ensures read { (b : List ℕ) → M.reveals mem.old b → IfOk result (λ leaf. page.new ≡ page_at b leaf) }
@@ -143,10 +161,21 @@ fn turning_level<M: FlatMem, const K: usize>(
     requires some { 1 ≤ levels }
     requires most { levels ≤ 6 }
     requires path { (n : ℕ) → 1 < n → n ≤ levels → get_or path.now.pages n 0 < M.size mem.old / 512 }
-    ensures turn { (b : List ℕ) → M.reveals mem.old b → (e : ℕ) (records : List (List ℕ)) (root at : ℕ) (nodes : ℕ → List Node) (home : ℕ → ℕ) → IsRooted e K (M.size mem.old / 512) b records levels root nodes → IsPath nodes levels 1 path.now.pages path.now.index at home → MatchResult result (Turns nodes levels path.now.index home) FromMemory }
-    ensures met { (b : List ℕ) → M.reveals mem.old b → (e root : ℕ) → IsMetPath K b levels 1 root path.now.pages path.now.index → MatchResult result (λ found. IfSome found (λ level. get_or path.now.index level 0 + 1 ≤ filled (page_at b (get_or path.now.pages level 0)))) (IfMalformed (Breaks e K (M.size mem.old / 512) b)) }
+    ensures turn { (b : List ℕ) → M.reveals mem.old b
+        → (e : ℕ) (records : List (List ℕ)) (root at : ℕ) (nodes : ℕ → List Node) (home : ℕ → ℕ)
+        → IsRooted e K (M.size mem.old / 512) b records levels root nodes
+        → IsPath nodes levels 1 path.now.pages path.now.index at home
+        → MatchResult result (Turns nodes levels path.now.index home) FromMemory }
+    ensures met { (b : List ℕ) → M.reveals mem.old b → (e root : ℕ)
+        → IsMetPath K b levels 1 root path.now.pages path.now.index
+        → MatchResult result
+        (λ found.
+        IfSome found (λ level. get_or path.now.index level 0 + 1 ≤ filled (page_at b (get_or path.now.pages level 0))))
+        (IfMalformed (Breaks e K (M.size mem.old / 512) b)) }
     ensures named { AvoidsHeader levels path.now.pages → IfErr result (IfMalformed (λ page. 1 ≤ page)) }
-    ensures last { (b : List ℕ) → M.reveals mem.old b → (root : ℕ) → IsMetPath K b levels 1 root path.now.pages path.now.index → IfOk result (IsLastUntil b levels path.now.pages path.now.index) }
+    ensures last { (b : List ℕ) → M.reveals mem.old b → (root : ℕ)
+        → IsMetPath K b levels 1 root path.now.pages path.now.index
+        → IfOk result (IsLastUntil b levels path.now.pages path.now.index) }
     ensures form { IfOk result (λ found. IfSome found (λ level. (2 ≤ level) × (level ≤ levels))) }
     ensures unchanged { (b : List ℕ) → M.reveals mem.old b → M.reveals mem.new b }
     ensures kept { M.beside mem.old mem.new }
@@ -182,14 +211,26 @@ pub fn next_leaf<M: FlatMem, const E: usize, const K: usize>(
     requires some { 1 ≤ levels }
     requires most { levels ≤ 6 }
     requires path { (n : ℕ) → 1 < n → n ≤ levels → get_or path.old.pages n 0 < M.size mem.old / 512 }
-    ensures leaf { (b : List ℕ) → M.reveals mem.old b → (records : List (List ℕ)) (root at : ℕ) (nodes : ℕ → List Node) (home : ℕ → ℕ) → IsRooted E K (M.size mem.old / 512) b records levels root nodes → IsPath nodes levels 1 path.old.pages path.old.index at home → MatchResult result (IsLedOn b levels nodes page.new path.new.pages path.new.index (home 1)) FromMemory }
-    ensures met { (b : List ℕ) → M.reveals mem.old b → (root : ℕ) → IsMetPath K b levels 1 root path.old.pages path.old.index → MatchResult result (λ found. IfSome found (Meets K b 1) × IsMetPath K b levels 1 root path.new.pages path.new.index) (IfMalformed (Breaks E K (M.size mem.old / 512) b)) }
+    ensures leaf { (b : List ℕ) → M.reveals mem.old b
+        → (records : List (List ℕ)) (root at : ℕ) (nodes : ℕ → List Node) (home : ℕ → ℕ)
+        → IsRooted E K (M.size mem.old / 512) b records levels root nodes
+        → IsPath nodes levels 1 path.old.pages path.old.index at home
+        → MatchResult result (IsLedOn b levels nodes page.new path.new.pages path.new.index (home 1)) FromMemory }
+    ensures met { (b : List ℕ) → M.reveals mem.old b → (root : ℕ)
+        → IsMetPath K b levels 1 root path.old.pages path.old.index
+        → MatchResult result
+        (λ found. IfSome found (Meets K b 1) × IsMetPath K b levels 1 root path.new.pages path.new.index)
+        (IfMalformed (Breaks E K (M.size mem.old / 512) b)) }
     ensures named { AvoidsHeader levels path.old.pages → IfErr result (IfMalformed (λ page. 1 ≤ page)) }
-    ensures walked { (b : List ℕ) → M.reveals mem.old b → (root at : ℕ) (passed : List ℕ) → IsWalked K b levels root path.old.pages path.old.index at passed → MatchResult result (IsWalkedOn K b levels root path.new.pages path.new.index at passed) (IfMalformed (Breaks E K (M.size mem.old / 512) b)) }
+    ensures walked { (b : List ℕ) → M.reveals mem.old b → (root at : ℕ) (passed : List ℕ)
+        → IsWalked K b levels root path.old.pages path.old.index at passed
+        → MatchResult result (IsWalkedOn K b levels root path.new.pages path.new.index at passed)
+        (IfMalformed (Breaks E K (M.size mem.old / 512) b)) }
     ensures path { IfOk result (λ _. (n : ℕ) → 1 < n → n ≤ levels → get_or path.new.pages n 0 < M.size mem.old / 512) }
     ensures inside { IfOk result (λ found. IfSome found (λ leaf. leaf < M.size mem.old / 512)) }
     ensures form { IfOk result (λ found. IfSome found (λ _. IsLeafForm E page.new)) }
-    ensures read { (b : List ℕ) → M.reveals mem.old b → IfOk result (λ found. IfSome found (λ leaf. page.new ≡ page_at b leaf)) }
+    ensures read { (b : List ℕ) → M.reveals mem.old b
+        → IfOk result (λ found. IfSome found (λ leaf. page.new ≡ page_at b leaf)) }
     ensures unchanged { (b : List ℕ) → M.reveals mem.old b → M.reveals mem.new b }
     ensures kept { M.beside mem.old mem.new }
     ensures looked { M.only_reads mem.old mem.new }

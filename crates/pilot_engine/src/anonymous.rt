@@ -35,14 +35,19 @@ impl<D: Disk, A: Allocator> Session<D, A> {
     pub(crate) fn unmap(&mut self, space: u32) -> Result<Reply, Halt>
         requires size { FitsLayout (state self.old.core) }
         requires opened { IsOpen (state self.old.core).layout self.old.volume }
-        ensures answers { (m : Machine) → Runs self.old.core self.old.volume m → Answers m (call.Unmap space) self.old self.new result }
+        ensures answers { (m : Machine) → Runs self.old.core self.old.volume m
+            → Answers m (call.Unmap space) self.old self.new result }
         ensures synced { IfOk result (λ answer. answer ≡ reply.Done → (state self.new.core).disk.synced ≡ true) }
-        ensures counted { result ≡ Err halt.Disk → Rose (state self.old.core).disk.faults (state self.new.core).disk.faults }
-        ensures cause { IfErr result (UnmapHalts space self.old.core.intervals (state self.old.core) (state self.new.core)) }
-        ensures missing { (ss : List Space) → Sees (state self.old.core) (kept self.old.core) self.old.core.intervals ss → IfErr result (MissesPage (missing_page (call.Unmap space) ss)) }
+        ensures counted { result ≡ Err halt.Disk
+            → Rose (state self.old.core).disk.faults (state self.new.core).disk.faults }
+        ensures cause { IfErr result
+            (UnmapHalts space self.old.core.intervals (state self.old.core) (state self.new.core)) }
+        ensures missing { (ss : List Space) → Sees (state self.old.core) (kept self.old.core) self.old.core.intervals ss
+            → IfErr result (MissesPage (missing_page (call.Unmap space) ss)) }
         ensures accounts { (o : InitialState) → KeepsOn o self.old.core.filer → Accounts o o self.old self.new result }
         ensures evidence_seen { IfErr result (ShowsEvidence (state self.new.core).disk) }
-        ensures wrote { Wrote (state self.old.core).disk (state self.old.core).slots (state self.new.core).disk (state self.new.core).slots }
+        ensures wrote { Wrote (state self.old.core).disk (state self.old.core).slots (state self.new.core).disk
+            (state self.new.core).slots }
         ensures spares { SparesAll (state self.old.core).disk (state self.new.core).disk }
         ensures stays { Stays self.old self.new }
         ensures running { self.new.running ≡ self.old.running }
@@ -69,13 +74,20 @@ impl<D: Disk, A: Allocator> Session<D, A> {
     pub(crate) fn map_anonymous(&mut self, space: u32) -> Result<Reply, Halt>
         requires size { FitsLayout (state self.old.core) }
         requires opened { IsOpen (state self.old.core).layout self.old.volume }
-        ensures answers { (m : Machine) → Runs self.old.core self.old.volume m → Answers m (call.MapAnonymous space) self.old self.new result }
-        ensures counted { result ≡ Err halt.Disk → Rose (state self.old.core).disk.faults (state self.new.core).disk.faults }
-        ensures cause { IfErr result (MapNewHalts (next_id self.old.volume.root) self.old.core.intervals (state self.old.core) (state self.new.core)) }
-        ensures accounts { (o : InitialState) → KeepsOn o self.old.core.filer → IsNotOlder o self.old.volume.root → Accounts o (giving o (next_id self.new.volume.root)) self.old self.new result }
+        ensures answers { (m : Machine) → Runs self.old.core self.old.volume m
+            → Answers m (call.MapAnonymous space) self.old self.new result }
+        ensures counted { result ≡ Err halt.Disk
+            → Rose (state self.old.core).disk.faults (state self.new.core).disk.faults }
+        ensures cause { IfErr result
+            (MapNewHalts (next_id self.old.volume.root) self.old.core.intervals (state self.old.core)
+            (state self.new.core)) }
+        ensures accounts { (o : InitialState) → KeepsOn o self.old.core.filer → IsNotOlder o self.old.volume.root
+            → Accounts o (giving o (next_id self.new.volume.root)) self.old self.new result }
         ensures evidence_seen { IfErr result (ShowsEvidence (state self.new.core).disk) }
-        ensures wrote { Wrote (state self.old.core).disk (state self.old.core).slots (state self.new.core).disk (state self.new.core).slots }
-        ensures spares { SparesBut (next_id self.old.volume.root) (state self.old.core).disk (state self.new.core).disk }
+        ensures wrote { Wrote (state self.old.core).disk (state self.old.core).slots (state self.new.core).disk
+            (state self.new.core).slots }
+        ensures spares { SparesBut (next_id self.old.volume.root) (state self.old.core).disk
+            (state self.new.core).disk }
         ensures stays { Stays self.old self.new }
         ensures running { self.new.running ≡ self.old.running }
     {

@@ -31,17 +31,28 @@ impl<D: Disk, A: Allocator> Session<D, A> {
     pub(crate) fn volume(&mut self) -> Result<Reply, Halt>
         requires size { FitsLayout (state self.old.core) }
         requires opened { IsOpen (state self.old.core).layout self.old.volume }
-        ensures carried { (spaces_of : TablesMeaning) (m : Machine) → IsSession spaces_of (state self.old.core).disk (state self.old.core).slots (state self.old.core).layout (state self.old.core).runs self.old.volume m
-            → IfOk result (λ reply. Carries spaces_of m (call.Volume) reply (state self.new.core).disk (state self.new.core).slots (state self.new.core).layout (state self.new.core).runs self.new.volume) }
-        ensures sound { (spaces_of : TablesMeaning) (m : Machine) → IsSession spaces_of (state self.old.core).disk (state self.old.core).slots (state self.old.core).layout (state self.old.core).runs self.old.volume m
+        ensures carried { (spaces_of : TablesMeaning) (m : Machine)
+            → IsSession spaces_of (state self.old.core).disk (state self.old.core).slots (state self.old.core).layout
+            (state self.old.core).runs self.old.volume m
+            → IfOk result
+            (λ reply.
+            Carries spaces_of m (call.Volume) reply (state self.new.core).disk (state self.new.core).slots
+            (state self.new.core).layout (state self.new.core).runs self.new.volume) }
+        ensures sound { (spaces_of : TablesMeaning) (m : Machine)
+            → IsSession spaces_of (state self.old.core).disk (state self.old.core).slots (state self.old.core).layout
+            (state self.old.core).runs self.old.volume m
             → IfErr result (λ e. e ≡ halt.Disk) }
-        ensures passes { (spaces_of : TablesMeaning) (m : Machine) → IsSession spaces_of (state self.old.core).disk (state self.old.core).slots (state self.old.core).layout (state self.old.core).runs self.old.volume m
+        ensures passes { (spaces_of : TablesMeaning) (m : Machine)
+            → IsSession spaces_of (state self.old.core).disk (state self.old.core).slots (state self.old.core).layout
+            (state self.old.core).runs self.old.volume m
             → Passes m (call.Volume) (state self.old.core).disk (state self.new.core).disk }
-        ensures counted { result ≡ Err halt.Disk → Rose (state self.old.core).disk.faults (state self.new.core).disk.faults }
+        ensures counted { result ≡ Err halt.Disk
+            → Rose (state self.old.core).disk.faults (state self.new.core).disk.faults }
         ensures cause { IfErr result (λ e. ⊥) }
         ensures accounts { (o : InitialState) → KeepsOn o self.old.core.filer → Accounts o o self.old self.new result }
         ensures evidence_seen { IfErr result (ShowsEvidence (state self.new.core).disk) }
-        ensures wrote { Wrote (state self.old.core).disk (state self.old.core).slots (state self.new.core).disk (state self.new.core).slots }
+        ensures wrote { Wrote (state self.old.core).disk (state self.old.core).slots (state self.new.core).disk
+            (state self.new.core).slots }
         ensures unlabelled { WritesPagesAlone (state self.old.core).disk (state self.new.core).disk }
         ensures stays { Stays self.old self.new }
         ensures running { self.new.running ≡ self.old.running }
@@ -58,12 +69,16 @@ impl<D: Disk, A: Allocator> Session<D, A> {
     pub(crate) fn attributes(&mut self, id: FileId) -> Result<Reply, Halt>
         requires size { FitsLayout (state self.old.core) }
         requires opened { IsOpen (state self.old.core).layout self.old.volume }
-        ensures answers { (m : Machine) → Runs self.old.core self.old.volume m → Answers m (call.Attributes id) self.old self.new result }
-        ensures counted { result ≡ Err halt.Disk → Rose (state self.old.core).disk.faults (state self.new.core).disk.faults }
-        ensures cause { IfErr result (NamedHalts id self.old.core.intervals (state self.old.core) (state self.new.core)) }
+        ensures answers { (m : Machine) → Runs self.old.core self.old.volume m
+            → Answers m (call.Attributes id) self.old self.new result }
+        ensures counted { result ≡ Err halt.Disk
+            → Rose (state self.old.core).disk.faults (state self.new.core).disk.faults }
+        ensures cause { IfErr result
+            (NamedHalts id self.old.core.intervals (state self.old.core) (state self.new.core)) }
         ensures accounts { (o : InitialState) → KeepsOn o self.old.core.filer → Accounts o o self.old self.new result }
         ensures evidence_seen { IfErr result (ShowsEvidence (state self.new.core).disk) }
-        ensures wrote { Wrote (state self.old.core).disk (state self.old.core).slots (state self.new.core).disk (state self.new.core).slots }
+        ensures wrote { Wrote (state self.old.core).disk (state self.old.core).slots (state self.new.core).disk
+            (state self.new.core).slots }
         ensures unlabelled { WritesPagesAlone (state self.old.core).disk (state self.new.core).disk }
         ensures stays { Stays self.old self.new }
         ensures running { self.new.running ≡ self.old.running }

@@ -32,22 +32,36 @@ impl<D: Disk, A: Allocator> Session<D, A> {
         requires size { FitsLayout (state self.old.core) }
         requires opened { IsOpen (state self.old.core).layout self.old.volume }
         requires client { 16 ≤ id }
-        ensures shed { (spaces_of : TablesMeaning) (m : Machine) → IsAlone spaces_of (state self.old.core).disk (state self.old.core).slots (state self.old.core).layout (state self.old.core).runs self.old.volume m
-            → OnOk result (Shed spaces_of (λ other. other ≡ id) m (state self.new.core).disk (state self.new.core).slots (state self.new.core).layout (state self.new.core).runs self.new.volume) }
-        ensures sound { (spaces_of : TablesMeaning) (m : Machine) → IsAlone spaces_of (state self.old.core).disk (state self.old.core).slots (state self.old.core).layout (state self.old.core).runs self.old.volume m
+        ensures shed { (spaces_of : TablesMeaning) (m : Machine)
+            → IsAlone spaces_of (state self.old.core).disk (state self.old.core).slots (state self.old.core).layout
+            (state self.old.core).runs self.old.volume m
+            → OnOk result
+            (Shed spaces_of (λ other. other ≡ id) m (state self.new.core).disk (state self.new.core).slots
+            (state self.new.core).layout (state self.new.core).runs self.new.volume) }
+        ensures sound { (spaces_of : TablesMeaning) (m : Machine)
+            → IsAlone spaces_of (state self.old.core).disk (state self.old.core).slots (state self.old.core).layout
+            (state self.old.core).runs self.old.volume m
             → IfErr result (λ e. e ≡ halt.Disk) }
-        ensures stops { (spaces_of : TablesMeaning) (m : Machine) → IsAlone spaces_of (state self.old.core).disk (state self.old.core).slots (state self.old.core).layout (state self.old.core).runs self.old.volume m
+        ensures stops { (spaces_of : TablesMeaning) (m : Machine)
+            → IsAlone spaces_of (state self.old.core).disk (state self.old.core).slots (state self.old.core).layout
+            (state self.old.core).runs self.old.volume m
             → Throughout (IsOpenStop m) (state self.old.core).disk (state self.new.core).disk }
-        ensures counted { result ≡ Err halt.Disk → Rose (state self.old.core).disk.faults (state self.new.core).disk.faults }
+        ensures counted { result ≡ Err halt.Disk
+            → Rose (state self.old.core).disk.faults (state self.new.core).disk.faults }
         ensures cause { IfErr result (OnFileHalts id (RemoveHalts id) (state self.old.core) (state self.new.core)) }
-        ensures accounts { (o : InitialState) → KeepsOn o self.old.core.filer → AccountsEnd o o self.old self.new result }
+        ensures accounts { (o : InitialState) → KeepsOn o self.old.core.filer
+            → AccountsEnd o o self.old self.new result }
         ensures evidence_seen { IfErr result (ShowsEvidence (state self.new.core).disk) }
-        ensures wrote { Wrote (state self.old.core).disk (state self.old.core).slots (state self.new.core).disk (state self.new.core).slots }
+        ensures wrote { Wrote (state self.old.core).disk (state self.old.core).slots (state self.new.core).disk
+            (state self.new.core).slots }
         ensures spares { SparesAll (state self.old.core).disk (state self.new.core).disk }
         ensures open_still { IsOpen (state self.new.core).layout self.new.volume }
         ensures layout { (state self.new.core).layout ≡ (state self.old.core).layout }
-        ensures cost { (spaces_of : TablesMeaning) (m : Machine) (f : File) → IsAlone spaces_of (state self.old.core).disk (state self.old.core).slots (state self.old.core).layout (state self.old.core).runs self.old.volume m
-            → file_at m.files id ≡ Some f → (state self.new.core).disk.transfers ≤ (state self.old.core).disk.transfers + delete_cost * room_of f }
+        ensures cost { (spaces_of : TablesMeaning) (m : Machine) (f : File)
+            → IsAlone spaces_of (state self.old.core).disk (state self.old.core).slots (state self.old.core).layout
+            (state self.old.core).runs self.old.volume m
+            → file_at m.files id ≡ Some f
+            → (state self.new.core).disk.transfers ≤ (state self.old.core).disk.transfers + delete_cost * room_of f }
     {
         let found = match attributes_of(&mut self.core.filer, id) {
             Ok(Some(found)) => found,
@@ -68,25 +82,47 @@ impl<D: Disk, A: Allocator> Session<D, A> {
         requires size { FitsLayout (state self.old.core) }
         requires opened { IsOpen (state self.old.core).layout self.old.volume }
         requires client { 15 ≤ cursor }
-        ensures shed { (spaces_of : TablesMeaning) (m : Machine) → IsAlone spaces_of (state self.old.core).disk (state self.old.core).slots (state self.old.core).layout (state self.old.core).runs self.old.volume m
-            → IfOk result (λ next. Shed spaces_of (up_to_next cursor next) m (state self.new.core).disk (state self.new.core).slots (state self.new.core).layout (state self.new.core).runs self.new.volume) }
+        ensures shed { (spaces_of : TablesMeaning) (m : Machine)
+            → IsAlone spaces_of (state self.old.core).disk (state self.old.core).slots (state self.old.core).layout
+            (state self.old.core).runs self.old.volume m
+            → IfOk result
+            (λ next.
+            Shed spaces_of (up_to_next cursor next) m (state self.new.core).disk (state self.new.core).slots
+            (state self.new.core).layout (state self.new.core).runs self.new.volume) }
         ensures above { IfOk result (λ next. IfSome next (λ id. cursor < id)) }
-        ensures sound { (spaces_of : TablesMeaning) (m : Machine) → IsAlone spaces_of (state self.old.core).disk (state self.old.core).slots (state self.old.core).layout (state self.old.core).runs self.old.volume m
+        ensures sound { (spaces_of : TablesMeaning) (m : Machine)
+            → IsAlone spaces_of (state self.old.core).disk (state self.old.core).slots (state self.old.core).layout
+            (state self.old.core).runs self.old.volume m
             → IfErr result (λ e. e ≡ halt.Disk) }
-        ensures stops { (spaces_of : TablesMeaning) (m : Machine) → IsAlone spaces_of (state self.old.core).disk (state self.old.core).slots (state self.old.core).layout (state self.old.core).runs self.old.volume m
+        ensures stops { (spaces_of : TablesMeaning) (m : Machine)
+            → IsAlone spaces_of (state self.old.core).disk (state self.old.core).slots (state self.old.core).layout
+            (state self.old.core).runs self.old.volume m
             → Throughout (IsOpenStop m) (state self.old.core).disk (state self.new.core).disk }
-        ensures counted { result ≡ Err halt.Disk → Rose (state self.old.core).disk.faults (state self.new.core).disk.faults }
+        ensures counted { result ≡ Err halt.Disk
+            → Rose (state self.old.core).disk.faults (state self.new.core).disk.faults }
         ensures cause { IfErr result (ClearHalts (state self.old.core) (state self.new.core)) }
-        ensures accounts { (o : InitialState) → KeepsOn o self.old.core.filer → AccountsEnd o o self.old self.new result }
+        ensures accounts { (o : InitialState) → KeepsOn o self.old.core.filer
+            → AccountsEnd o o self.old self.new result }
         ensures evidence_seen { IfErr result (ShowsEvidence (state self.new.core).disk) }
-        ensures wrote { Wrote (state self.old.core).disk (state self.old.core).slots (state self.new.core).disk (state self.new.core).slots }
+        ensures wrote { Wrote (state self.old.core).disk (state self.old.core).slots (state self.new.core).disk
+            (state self.new.core).slots }
         ensures spares { SparesAll (state self.old.core).disk (state self.new.core).disk }
         ensures open_still { IsOpen (state self.new.core).layout self.new.volume }
         ensures layout { (state self.new.core).layout ≡ (state self.old.core).layout }
-        ensures cost { (spaces_of : TablesMeaning) (m : Machine) → IsAlone spaces_of (state self.old.core).disk (state self.old.core).slots (state self.old.core).layout (state self.old.core).runs self.old.volume m
-            → (state self.new.core).disk.transfers ≤ (state self.old.core).disk.transfers + (36 + visit_cost * room_above cursor m.files) }
-        ensures paid { (spaces_of : TablesMeaning) (m : Machine) → IsAlone spaces_of (state self.old.core).disk (state self.old.core).slots (state self.old.core).layout (state self.old.core).runs self.old.volume m
-            → IfOk result (λ next. IfSome next (λ id. (state self.new.core).disk.transfers + visit_cost * room_above id m.files ≤ (state self.old.core).disk.transfers + visit_cost * room_above cursor m.files)) }
+        ensures cost { (spaces_of : TablesMeaning) (m : Machine)
+            → IsAlone spaces_of (state self.old.core).disk (state self.old.core).slots (state self.old.core).layout
+            (state self.old.core).runs self.old.volume m
+            → (state self.new.core).disk.transfers ≤ (state self.old.core).disk.transfers
+            + (36 + visit_cost * room_above cursor m.files) }
+        ensures paid { (spaces_of : TablesMeaning) (m : Machine)
+            → IsAlone spaces_of (state self.old.core).disk (state self.old.core).slots (state self.old.core).layout
+            (state self.old.core).runs self.old.volume m
+            → IfOk result
+            (λ next.
+            IfSome next
+            (λ id.
+            (state self.new.core).disk.transfers + visit_cost * room_above id m.files
+            ≤ (state self.old.core).disk.transfers + visit_cost * room_above cursor m.files)) }
     {
         let id = match next(&mut self.core.filer, cursor) {
             Ok(Some(id)) => id,
@@ -103,21 +139,34 @@ impl<D: Disk, A: Allocator> Session<D, A> {
     pub(crate) fn delete_temporary(&mut self) -> Result<(), Halt>
         requires size { FitsLayout (state self.old.core) }
         requires opened { IsOpen (state self.old.core).layout self.old.volume }
-        ensures shed { (spaces_of : TablesMeaning) (m : Machine) → IsAlone spaces_of (state self.old.core).disk (state self.old.core).slots (state self.old.core).layout (state self.old.core).runs self.old.volume m
-            → OnOk result (Shed spaces_of (λ id. Unit {0}) m (state self.new.core).disk (state self.new.core).slots (state self.new.core).layout (state self.new.core).runs self.new.volume) }
-        ensures sound { (spaces_of : TablesMeaning) (m : Machine) → IsAlone spaces_of (state self.old.core).disk (state self.old.core).slots (state self.old.core).layout (state self.old.core).runs self.old.volume m
+        ensures shed { (spaces_of : TablesMeaning) (m : Machine)
+            → IsAlone spaces_of (state self.old.core).disk (state self.old.core).slots (state self.old.core).layout
+            (state self.old.core).runs self.old.volume m
+            → OnOk result
+            (Shed spaces_of (λ id. Unit {0}) m (state self.new.core).disk (state self.new.core).slots
+            (state self.new.core).layout (state self.new.core).runs self.new.volume) }
+        ensures sound { (spaces_of : TablesMeaning) (m : Machine)
+            → IsAlone spaces_of (state self.old.core).disk (state self.old.core).slots (state self.old.core).layout
+            (state self.old.core).runs self.old.volume m
             → IfErr result (λ e. e ≡ halt.Disk) }
-        ensures stops { (spaces_of : TablesMeaning) (m : Machine) → IsAlone spaces_of (state self.old.core).disk (state self.old.core).slots (state self.old.core).layout (state self.old.core).runs self.old.volume m
+        ensures stops { (spaces_of : TablesMeaning) (m : Machine)
+            → IsAlone spaces_of (state self.old.core).disk (state self.old.core).slots (state self.old.core).layout
+            (state self.old.core).runs self.old.volume m
             → Throughout (IsOpenStop m) (state self.old.core).disk (state self.new.core).disk }
-        ensures counted { result ≡ Err halt.Disk → Rose (state self.old.core).disk.faults (state self.new.core).disk.faults }
+        ensures counted { result ≡ Err halt.Disk
+            → Rose (state self.old.core).disk.faults (state self.new.core).disk.faults }
         ensures cause { IfErr result (After Made ClearHalts (state self.old.core) (state self.new.core)) }
-        ensures accounts { (o : InitialState) → KeepsOn o self.old.core.filer → AccountsEnd o o self.old self.new result }
+        ensures accounts { (o : InitialState) → KeepsOn o self.old.core.filer
+            → AccountsEnd o o self.old self.new result }
         ensures evidence_seen { IfErr result (ShowsEvidence (state self.new.core).disk) }
-        ensures wrote { Wrote (state self.old.core).disk (state self.old.core).slots (state self.new.core).disk (state self.new.core).slots }
+        ensures wrote { Wrote (state self.old.core).disk (state self.old.core).slots (state self.new.core).disk
+            (state self.new.core).slots }
         ensures spares { SparesAll (state self.old.core).disk (state self.new.core).disk }
         ensures open_still { IsOpen (state self.new.core).layout self.new.volume }
         ensures layout { (state self.new.core).layout ≡ (state self.old.core).layout }
-        ensures cost { (spaces_of : TablesMeaning) (m : Machine) → IsAlone spaces_of (state self.old.core).disk (state self.old.core).slots (state self.old.core).layout (state self.old.core).runs self.old.volume m
+        ensures cost { (spaces_of : TablesMeaning) (m : Machine)
+            → IsAlone spaces_of (state self.old.core).disk (state self.old.core).slots (state self.old.core).layout
+            (state self.old.core).runs self.old.volume m
             → (state self.new.core).disk.transfers ≤ (state self.old.core).disk.transfers + (36 + visit_cost * used m) }
     {
         let mut cursor = LAST_RESERVED;

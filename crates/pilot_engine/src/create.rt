@@ -32,27 +32,51 @@ impl<D: Disk, A: Allocator> Session<D, A> {
     pub(crate) fn create(&mut self, pages: u32, kind: u16) -> Result<Reply, Halt>
         requires size { FitsLayout (state self.old.core) }
         requires opened { IsOpen (state self.old.core).layout self.old.volume }
-        ensures carried { (spaces_of : TablesMeaning) (m : Machine) → IsSession spaces_of (state self.old.core).disk (state self.old.core).slots (state self.old.core).layout (state self.old.core).runs self.old.volume m
-            → IfOk result (λ reply. Carries spaces_of m (call.Create pages kind) reply (state self.new.core).disk (state self.new.core).slots (state self.new.core).layout (state self.new.core).runs self.new.volume) }
-        ensures sound { (spaces_of : TablesMeaning) (m : Machine) → IsSession spaces_of (state self.old.core).disk (state self.old.core).slots (state self.old.core).layout (state self.old.core).runs self.old.volume m
+        ensures carried { (spaces_of : TablesMeaning) (m : Machine)
+            → IsSession spaces_of (state self.old.core).disk (state self.old.core).slots (state self.old.core).layout
+            (state self.old.core).runs self.old.volume m
+            → IfOk result
+            (λ reply.
+            Carries spaces_of m (call.Create pages kind) reply (state self.new.core).disk (state self.new.core).slots
+            (state self.new.core).layout (state self.new.core).runs self.new.volume) }
+        ensures sound { (spaces_of : TablesMeaning) (m : Machine)
+            → IsSession spaces_of (state self.old.core).disk (state self.old.core).slots (state self.old.core).layout
+            (state self.old.core).runs self.old.volume m
             → IfErr result (λ e. e ≡ halt.Disk) }
-        ensures passes { (spaces_of : TablesMeaning) (m : Machine) → IsSession spaces_of (state self.old.core).disk (state self.old.core).slots (state self.old.core).layout (state self.old.core).runs self.old.volume m
+        ensures passes { (spaces_of : TablesMeaning) (m : Machine)
+            → IsSession spaces_of (state self.old.core).disk (state self.old.core).slots (state self.old.core).layout
+            (state self.old.core).runs self.old.volume m
             → Passes m (call.Create pages kind) (state self.old.core).disk (state self.new.core).disk }
-        ensures counted { result ≡ Err halt.Disk → Rose (state self.old.core).disk.faults (state self.new.core).disk.faults }
-        ensures cause { IfErr result (NewFileHalts (next_id self.old.volume.root) (IsNewPage pages) (state self.old.core) (state self.new.core)) }
-        ensures keeps_to { (o : InitialState) → KeepsOn o self.old.core.filer → IsNotOlder o self.old.volume.root → OnOk result (KeepsOn (giving o (next_id self.new.volume.root)) self.new.core.filer) }
-        ensures reasons { (o : InitialState) → KeepsOn o self.old.core.filer → IsNotOlder o self.old.volume.root → IfErr result (ShowsReason o (state self.old.core).layout (state self.new.core).disk) }
-        ensures sees { (o : InitialState) → KeepsOn o self.old.core.filer → IsNotOlder o self.old.volume.root → MatchResult result (λ _. StillSees self.old.core self.new.core) (λ e. SeesOn self.old.core → IsBlameless o (state self.new.core).disk e) }
+        ensures counted { result ≡ Err halt.Disk
+            → Rose (state self.old.core).disk.faults (state self.new.core).disk.faults }
+        ensures cause { IfErr result
+            (NewFileHalts (next_id self.old.volume.root) (IsNewPage pages) (state self.old.core)
+            (state self.new.core)) }
+        ensures keeps_to { (o : InitialState) → KeepsOn o self.old.core.filer → IsNotOlder o self.old.volume.root
+            → OnOk result (KeepsOn (giving o (next_id self.new.volume.root)) self.new.core.filer) }
+        ensures reasons { (o : InitialState) → KeepsOn o self.old.core.filer → IsNotOlder o self.old.volume.root
+            → IfErr result (ShowsReason o (state self.old.core).layout (state self.new.core).disk) }
+        ensures sees { (o : InitialState) → KeepsOn o self.old.core.filer → IsNotOlder o self.old.volume.root
+            → MatchResult result (λ _. StillSees self.old.core self.new.core)
+            (λ e. SeesOn self.old.core → IsBlameless o (state self.new.core).disk e) }
         ensures next { IfOk result (λ answer. (id : ℕ) → answer ≡ reply.File id → id ≡ next_id self.old.volume.root) }
-        ensures home { (o : InitialState) → KeepsOn o self.old.core.filer → IfOk result (λ answer. (id : ℕ) → answer ≡ reply.File id → (page : ℕ) → page < pages → WasBelow o (state self.new.core).disk id page) }
+        ensures home { (o : InitialState) → KeepsOn o self.old.core.filer
+            → IfOk result
+            (λ answer.
+            (id : ℕ) → answer ≡ reply.File id → (page : ℕ) → page < pages
+            → WasBelow o (state self.new.core).disk id page) }
         ensures evidence_seen { IfErr result (ShowsEvidence (state self.new.core).disk) }
-        ensures wrote { Wrote (state self.old.core).disk (state self.old.core).slots (state self.new.core).disk (state self.new.core).slots }
-        ensures spares { SparesBut (next_id self.old.volume.root) (state self.old.core).disk (state self.new.core).disk }
+        ensures wrote { Wrote (state self.old.core).disk (state self.old.core).slots (state self.new.core).disk
+            (state self.new.core).slots }
+        ensures spares { SparesBut (next_id self.old.volume.root) (state self.old.core).disk
+            (state self.new.core).disk }
         ensures stays { Stays self.old self.new }
         ensures running { self.new.running ≡ self.old.running }
         ensures kept { kept self.new.core ≡ kept self.old.core }
         ensures intervals { self.new.core.intervals ≡ self.old.core.intervals }
-        ensures cost { (state self.new.core).disk.transfers ≤ (state self.old.core).disk.transfers + (1 + 2 * (1 + 51 * most_records (state self.old.core).layout.sectors) + (pages + 1) * (8 * (state self.old.core).layout.vam + 100)) }
+        ensures cost { (state self.new.core).disk.transfers ≤ (state self.old.core).disk.transfers
+            + (1 + 2 * (1 + 51 * most_records (state self.old.core).layout.sectors) + (pages + 1)
+            * (8 * (state self.old.core).layout.vam + 100)) }
         ensures bounded { CostsInside (state self.old.core).disk (state self.new.core).disk }
     {
         let free = self.volume.layout.capacity - self.volume.used;

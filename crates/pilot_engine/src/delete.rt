@@ -45,29 +45,44 @@ impl<D: Disk, A: Allocator> Session<D, A> {
     pub(crate) fn delete_unseen(&mut self, id: FileId, anonymous: bool) -> Result<Reply, Halt>
         requires size { FitsLayout (state self.old.core) }
         requires opened { IsOpen (state self.old.core).layout self.old.volume }
-        ensures carried { (spaces_of : TablesMeaning) (m : Machine) → IsSession spaces_of (state self.old.core).disk (state self.old.core).slots (state self.old.core).layout (state self.old.core).runs self.old.volume m
+        ensures carried { (spaces_of : TablesMeaning) (m : Machine)
+            → IsSession spaces_of (state self.old.core).disk (state self.old.core).slots (state self.old.core).layout
+            (state self.old.core).runs self.old.volume m
             → file_mapped m id (λ w. true) ≡ None
             → (anonymous ≡ true → IfSome (file_at m.files id) (λ f. IsFalse f.permanent))
-            → IfOk result (λ reply. Carries spaces_of m (call.Delete id) reply (state self.new.core).disk (state self.new.core).slots (state self.new.core).layout (state self.new.core).runs self.new.volume) }
-        ensures sound { (spaces_of : TablesMeaning) (m : Machine) → IsSession spaces_of (state self.old.core).disk (state self.old.core).slots (state self.old.core).layout (state self.old.core).runs self.old.volume m
+            → IfOk result
+            (λ reply.
+            Carries spaces_of m (call.Delete id) reply (state self.new.core).disk (state self.new.core).slots
+            (state self.new.core).layout (state self.new.core).runs self.new.volume) }
+        ensures sound { (spaces_of : TablesMeaning) (m : Machine)
+            → IsSession spaces_of (state self.old.core).disk (state self.old.core).slots (state self.old.core).layout
+            (state self.old.core).runs self.old.volume m
             → file_mapped m id (λ w. true) ≡ None
             → (anonymous ≡ true → IfSome (file_at m.files id) (λ f. IsFalse f.permanent))
             → IfErr result (λ e. e ≡ halt.Disk) }
-        ensures passes { (spaces_of : TablesMeaning) (m : Machine) → IsSession spaces_of (state self.old.core).disk (state self.old.core).slots (state self.old.core).layout (state self.old.core).runs self.old.volume m
+        ensures passes { (spaces_of : TablesMeaning) (m : Machine)
+            → IsSession spaces_of (state self.old.core).disk (state self.old.core).slots (state self.old.core).layout
+            (state self.old.core).runs self.old.volume m
             → file_mapped m id (λ w. true) ≡ None
             → (anonymous ≡ true → IfSome (file_at m.files id) (λ f. IsFalse f.permanent))
             → Passes m (call.Delete id) (state self.old.core).disk (state self.new.core).disk }
-        ensures counted { result ≡ Err halt.Disk → Rose (state self.old.core).disk.faults (state self.new.core).disk.faults }
+        ensures counted { result ≡ Err halt.Disk
+            → Rose (state self.old.core).disk.faults (state self.new.core).disk.faults }
         ensures cause { IfErr result (OnFileHalts id (RemoveHalts id) (state self.old.core) (state self.new.core)) }
         ensures accounts { (o : InitialState) → KeepsOn o self.old.core.filer → Accounts o o self.old self.new result }
         ensures evidence_seen { IfErr result (ShowsEvidence (state self.new.core).disk) }
-        ensures wrote { Wrote (state self.old.core).disk (state self.old.core).slots (state self.new.core).disk (state self.new.core).slots }
+        ensures wrote { Wrote (state self.old.core).disk (state self.old.core).slots (state self.new.core).disk
+            (state self.new.core).slots }
         ensures stays { Stays self.old self.new }
         ensures running { self.new.running ≡ self.old.running }
         ensures kept { kept self.new.core ≡ kept self.old.core }
         ensures intervals { self.new.core.intervals ≡ self.old.core.intervals }
-        ensures cost { (state self.new.core).disk.transfers ≤ (state self.old.core).disk.transfers + (43 + 2 ^ 32 * (16 + 4 * (state self.old.core).layout.vam) + 2 * (1 + 51 * most_records (state self.old.core).layout.sectors)) }
-        ensures bounded { (spaces_of : TablesMeaning) (m : Machine) → IsSession spaces_of (state self.old.core).disk (state self.old.core).slots (state self.old.core).layout (state self.old.core).runs self.old.volume m
+        ensures cost { (state self.new.core).disk.transfers ≤ (state self.old.core).disk.transfers
+            + (43 + 2 ^ 32 * (16 + 4 * (state self.old.core).layout.vam) + 2
+            * (1 + 51 * most_records (state self.old.core).layout.sectors)) }
+        ensures bounded { (spaces_of : TablesMeaning) (m : Machine)
+            → IsSession spaces_of (state self.old.core).disk (state self.old.core).slots (state self.old.core).layout
+            (state self.old.core).runs self.old.volume m
             → CostsInside (state self.old.core).disk (state self.new.core).disk }
         ensures own { RelabelsOwn id (state self.old.core).disk (state self.new.core).disk }
         ensures spares { SparesBut id (state self.old.core).disk (state self.new.core).disk }
@@ -92,12 +107,16 @@ impl<D: Disk, A: Allocator> Session<D, A> {
     pub(crate) fn delete(&mut self, id: FileId) -> Result<Reply, Halt>
         requires size { FitsLayout (state self.old.core) }
         requires opened { IsOpen (state self.old.core).layout self.old.volume }
-        ensures answers { (m : Machine) → Runs self.old.core self.old.volume m → Answers m (call.Delete id) self.old self.new result }
-        ensures counted { result ≡ Err halt.Disk → Rose (state self.old.core).disk.faults (state self.new.core).disk.faults }
-        ensures cause { IfErr result (OnNamedHalts id self.old.core.intervals (RemoveHalts id) (state self.old.core) (state self.new.core)) }
+        ensures answers { (m : Machine) → Runs self.old.core self.old.volume m
+            → Answers m (call.Delete id) self.old self.new result }
+        ensures counted { result ≡ Err halt.Disk
+            → Rose (state self.old.core).disk.faults (state self.new.core).disk.faults }
+        ensures cause { IfErr result
+            (OnNamedHalts id self.old.core.intervals (RemoveHalts id) (state self.old.core) (state self.new.core)) }
         ensures accounts { (o : InitialState) → KeepsOn o self.old.core.filer → Accounts o o self.old self.new result }
         ensures evidence_seen { IfErr result (ShowsEvidence (state self.new.core).disk) }
-        ensures wrote { Wrote (state self.old.core).disk (state self.old.core).slots (state self.new.core).disk (state self.new.core).slots }
+        ensures wrote { Wrote (state self.old.core).disk (state self.old.core).slots (state self.new.core).disk
+            (state self.new.core).slots }
         ensures stays { Stays self.old self.new }
         ensures running { self.new.running ≡ self.old.running }
         ensures own { RelabelsOwn id (state self.old.core).disk (state self.new.core).disk }

@@ -65,19 +65,28 @@ impl<D: Disk, A: Allocator> Session<D, A> {
         requires size { FitsLayout (state self.old.core) }
         requires opened { IsOpen (state self.old.core).layout self.old.volume }
         ensures alone { (m : Machine) → Runs self.old.core self.old.volume m
-            → OnOk result (IsAlone root_alone (state self.new.core).disk (state self.new.core).slots (state self.new.core).layout (state self.new.core).runs self.new.volume (record m { spaces = root ∷ []; unforced = [] })) }
+            → OnOk result
+            (IsAlone root_alone (state self.new.core).disk (state self.new.core).slots (state self.new.core).layout
+            (state self.new.core).runs self.new.volume (record m { spaces = root ∷ []; unforced = [] })) }
         ensures sound { (m : Machine) → Runs self.old.core self.old.volume m → IfErr result (λ e. e ≡ halt.Disk) }
-        ensures stops { (m : Machine) → Runs self.old.core self.old.volume m → Throughout (IsOpenStop m) (state self.old.core).disk (state self.new.core).disk }
-        ensures counted { result ≡ Err halt.Disk → Rose (state self.old.core).disk.faults (state self.new.core).disk.faults }
-        ensures cause { IfErr result (ReachHalts (BreaksWithin (state self.old.core) self.old.core.intervals 0 root_pages) (state self.old.core) (state self.new.core)) }
-        ensures accounts { (o : InitialState) → KeepsOn o self.old.core.filer → AccountsEnd o o self.old self.new result }
+        ensures stops { (m : Machine) → Runs self.old.core self.old.volume m
+            → Throughout (IsOpenStop m) (state self.old.core).disk (state self.new.core).disk }
+        ensures counted { result ≡ Err halt.Disk
+            → Rose (state self.old.core).disk.faults (state self.new.core).disk.faults }
+        ensures cause { IfErr result
+            (ReachHalts (BreaksWithin (state self.old.core) self.old.core.intervals 0 root_pages) (state self.old.core)
+            (state self.new.core)) }
+        ensures accounts { (o : InitialState) → KeepsOn o self.old.core.filer
+            → AccountsEnd o o self.old self.new result }
         ensures evidence_seen { IfErr result (ShowsEvidence (state self.new.core).disk) }
-        ensures wrote { Wrote (state self.old.core).disk (state self.old.core).slots (state self.new.core).disk (state self.new.core).slots }
+        ensures wrote { Wrote (state self.old.core).disk (state self.old.core).slots (state self.new.core).disk
+            (state self.new.core).slots }
         ensures spares { SparesAll (state self.old.core).disk (state self.new.core).disk }
         ensures layout { (state self.new.core).layout ≡ (state self.old.core).layout }
         ensures open_still { IsOpen (state self.new.core).layout self.new.volume }
         ensures volume { self.new.volume ≡ self.old.volume }
-        ensures cost { (state self.new.core).disk.transfers ≤ (state self.old.core).disk.transfers + 1024 * (196 + length (state self.old.core).slots) }
+        ensures cost { (state self.new.core).disk.transfers ≤ (state self.old.core).disk.transfers + 1024
+            * (196 + length (state self.old.core).slots) }
     {
         match self.core.evict(0, ROOT_PAGES) {
             Ok(()) => Ok(()),
@@ -90,19 +99,28 @@ impl<D: Disk, A: Allocator> Session<D, A> {
         requires size { FitsLayout (state self.old.core) }
         requires opened { IsOpen (state self.old.core).layout self.old.volume }
         ensures alone { (m : Machine) → Runs self.old.core self.old.volume m
-            → OnOk result (IsAlone root_alone (state self.new.core).disk (state self.new.core).slots (state self.new.core).layout (state self.new.core).runs self.new.volume (record m { spaces = root ∷ []; unforced = [] })) }
+            → OnOk result
+            (IsAlone root_alone (state self.new.core).disk (state self.new.core).slots (state self.new.core).layout
+            (state self.new.core).runs self.new.volume (record m { spaces = root ∷ []; unforced = [] })) }
         ensures sound { (m : Machine) → Runs self.old.core self.old.volume m → IfErr result (λ e. e ≡ halt.Disk) }
-        ensures stops { (m : Machine) → Runs self.old.core self.old.volume m → Throughout (IsOpenStop m) (state self.old.core).disk (state self.new.core).disk }
-        ensures counted { result ≡ Err halt.Disk → Rose (state self.old.core).disk.faults (state self.new.core).disk.faults }
-        ensures cause { IfErr result (ReachHalts (BreaksWithin (state self.old.core) self.old.core.intervals 0 root_pages) (state self.old.core) (state self.new.core)) }
-        ensures accounts { (o : InitialState) → KeepsOn o self.old.core.filer → AccountsEnd o o self.old self.new result }
+        ensures stops { (m : Machine) → Runs self.old.core self.old.volume m
+            → Throughout (IsOpenStop m) (state self.old.core).disk (state self.new.core).disk }
+        ensures counted { result ≡ Err halt.Disk
+            → Rose (state self.old.core).disk.faults (state self.new.core).disk.faults }
+        ensures cause { IfErr result
+            (ReachHalts (BreaksWithin (state self.old.core) self.old.core.intervals 0 root_pages) (state self.old.core)
+            (state self.new.core)) }
+        ensures accounts { (o : InitialState) → KeepsOn o self.old.core.filer
+            → AccountsEnd o o self.old self.new result }
         ensures evidence_seen { IfErr result (ShowsEvidence (state self.new.core).disk) }
-        ensures wrote { Wrote (state self.old.core).disk (state self.old.core).slots (state self.new.core).disk (state self.new.core).slots }
+        ensures wrote { Wrote (state self.old.core).disk (state self.old.core).slots (state self.new.core).disk
+            (state self.new.core).slots }
         ensures spares { SparesAll (state self.old.core).disk (state self.new.core).disk }
         ensures layout { (state self.new.core).layout ≡ (state self.old.core).layout }
         ensures open_still { IsOpen (state self.new.core).layout self.new.volume }
         ensures volume { self.new.volume ≡ self.old.volume }
-        ensures cost { (state self.new.core).disk.transfers ≤ (state self.old.core).disk.transfers + 1024 * (196 + 4096) }
+        ensures cost { (state self.new.core).disk.transfers ≤ (state self.old.core).disk.transfers + 1024
+            * (196 + 4096) }
     {
         look_at_frames(&mut self.core.filer);
         match self.evict_root() {
@@ -115,24 +133,40 @@ impl<D: Disk, A: Allocator> Session<D, A> {
     fn empty(&mut self) -> Result<(), Halt>
         requires size { FitsLayout (state self.old.core) }
         requires opened { IsOpen (state self.old.core).layout self.old.volume }
-        ensures emptied { (spaces_of : TablesMeaning) (m : Machine) → IsAlone spaces_of (state self.old.core).disk (state self.old.core).slots (state self.old.core).layout (state self.old.core).runs self.old.volume m
+        ensures emptied { (spaces_of : TablesMeaning) (m : Machine)
+            → IsAlone spaces_of (state self.old.core).disk (state self.old.core).slots (state self.old.core).layout
+            (state self.old.core).runs self.old.volume m
             → OnOk result (IsEmptied m self.new.volume.root (state self.new.core).disk (state self.new.core).slots) }
-        ensures sound { (spaces_of : TablesMeaning) (m : Machine) → IsAlone spaces_of (state self.old.core).disk (state self.old.core).slots (state self.old.core).layout (state self.old.core).runs self.old.volume m
+        ensures sound { (spaces_of : TablesMeaning) (m : Machine)
+            → IsAlone spaces_of (state self.old.core).disk (state self.old.core).slots (state self.old.core).layout
+            (state self.old.core).runs self.old.volume m
             → IfErr result (λ e. e ≡ halt.Disk) }
-        ensures stops { (spaces_of : TablesMeaning) (m : Machine) → IsAlone spaces_of (state self.old.core).disk (state self.old.core).slots (state self.old.core).layout (state self.old.core).runs self.old.volume m
+        ensures stops { (spaces_of : TablesMeaning) (m : Machine)
+            → IsAlone spaces_of (state self.old.core).disk (state self.old.core).slots (state self.old.core).layout
+            (state self.old.core).runs self.old.volume m
             → Throughout (IsOpenStop m) (state self.old.core).disk (state self.new.core).disk }
-        ensures counted { result ≡ Err halt.Disk → Rose (state self.old.core).disk.faults (state self.new.core).disk.faults }
-        ensures cause { IfErr result (After Made (λ u x e. ClearHalts u x e ⊎ FreeTablesHalts u x e) (state self.old.core) (state self.new.core)) }
-        ensures keeps_to { (o : InitialState) → KeepsOn o self.old.core.filer → OnOk result (KeepsBare o self.new.core.filer) }
-        ensures reasons { (o : InitialState) → KeepsOn o self.old.core.filer → IfErr result (ShowsReason o (state self.old.core).layout (state self.new.core).disk) }
-        ensures sees { (o : InitialState) → KeepsOn o self.old.core.filer → SeesHome o self.old.core → IfErr result (NeverBlamesEnd o (state self.new.core).disk) }
+        ensures counted { result ≡ Err halt.Disk
+            → Rose (state self.old.core).disk.faults (state self.new.core).disk.faults }
+        ensures cause { IfErr result
+            (After Made (λ u x e. ClearHalts u x e ⊎ FreeTablesHalts u x e) (state self.old.core)
+            (state self.new.core)) }
+        ensures keeps_to { (o : InitialState) → KeepsOn o self.old.core.filer
+            → OnOk result (KeepsBare o self.new.core.filer) }
+        ensures reasons { (o : InitialState) → KeepsOn o self.old.core.filer
+            → IfErr result (ShowsReason o (state self.old.core).layout (state self.new.core).disk) }
+        ensures sees { (o : InitialState) → KeepsOn o self.old.core.filer → SeesHome o self.old.core
+            → IfErr result (NeverBlamesEnd o (state self.new.core).disk) }
         ensures evidence_seen { IfErr result (ShowsEvidence (state self.new.core).disk) }
-        ensures wrote { Wrote (state self.old.core).disk (state self.old.core).slots (state self.new.core).disk (state self.new.core).slots }
+        ensures wrote { Wrote (state self.old.core).disk (state self.old.core).slots (state self.new.core).disk
+            (state self.new.core).slots }
         ensures spares { SparesAll (state self.old.core).disk (state self.new.core).disk }
         ensures open_still { IsOpen (state self.new.core).layout self.new.volume }
         ensures layout { (state self.new.core).layout ≡ (state self.old.core).layout }
-        ensures cost { (spaces_of : TablesMeaning) (m : Machine) → IsAlone spaces_of (state self.old.core).disk (state self.old.core).slots (state self.old.core).layout (state self.old.core).runs self.old.volume m
-            → (state self.new.core).disk.transfers ≤ (state self.old.core).disk.transfers + emptying_bound (state self.old.core).layout.sectors }
+        ensures cost { (spaces_of : TablesMeaning) (m : Machine)
+            → IsAlone spaces_of (state self.old.core).disk (state self.old.core).slots (state self.old.core).layout
+            (state self.old.core).runs self.old.volume m
+            → (state self.new.core).disk.transfers ≤ (state self.old.core).disk.transfers + emptying_bound
+            (state self.old.core).layout.sectors }
     {
         match self.delete_temporary() {
             Ok(()) => (),
@@ -149,10 +183,13 @@ impl<D: Disk, A: Allocator> Session<D, A> {
         requires size { FitsLayout (state self.old.core) }
         ensures clean { OnOk result ((page : ℕ) → IsDirty (state self.new.core).slots (id_of which) page → ⊥) }
         ensures sound { (x : List Sector) → HasMemory (state self.old.core) x → IfErr result (λ e. e ≡ halt.Disk) }
-        ensures counted { result ≡ Err halt.Disk → Rose (state self.old.core).disk.faults (state self.new.core).disk.faults }
+        ensures counted { result ≡ Err halt.Disk
+            → Rose (state self.old.core).disk.faults (state self.new.core).disk.faults }
         ensures cause { IfErr result (WriteHalts (state self.old.core) (state self.new.core)) }
-        ensures keeps_to { (o : InitialState) → KeepsBare o self.old.core.filer → OnOk result (KeepsBare o self.new.core.filer) }
-        ensures reasons { (o : InitialState) → KeepsBare o self.old.core.filer → IfErr result (ShowsReason o (state self.old.core).layout (state self.new.core).disk) }
+        ensures keeps_to { (o : InitialState) → KeepsBare o self.old.core.filer
+            → OnOk result (KeepsBare o self.new.core.filer) }
+        ensures reasons { (o : InitialState) → KeepsBare o self.old.core.filer
+            → IfErr result (ShowsReason o (state self.old.core).layout (state self.new.core).disk) }
         ensures right { (o : InitialState) → IfErr result (NeverBlamesEnd o (state self.new.core).disk) }
         ensures evidence_seen { IfErr result (ShowsEvidence (state self.new.core).disk) }
         ensures swaps { SwapsOnly (state self.old.core) (state self.new.core) }
@@ -174,10 +211,13 @@ impl<D: Disk, A: Allocator> Session<D, A> {
         requires size { FitsLayout (state self.old.core) }
         ensures clean { OnOk result (AreWritten (state self.new.core).slots) }
         ensures sound { (x : List Sector) → HasMemory (state self.old.core) x → IfErr result (λ e. e ≡ halt.Disk) }
-        ensures counted { result ≡ Err halt.Disk → Rose (state self.old.core).disk.faults (state self.new.core).disk.faults }
+        ensures counted { result ≡ Err halt.Disk
+            → Rose (state self.old.core).disk.faults (state self.new.core).disk.faults }
         ensures cause { IfErr result (After Made WriteHalts (state self.old.core) (state self.new.core)) }
-        ensures keeps_to { (o : InitialState) → KeepsBare o self.old.core.filer → OnOk result (KeepsBare o self.new.core.filer) }
-        ensures reasons { (o : InitialState) → KeepsBare o self.old.core.filer → IfErr result (ShowsReason o (state self.old.core).layout (state self.new.core).disk) }
+        ensures keeps_to { (o : InitialState) → KeepsBare o self.old.core.filer
+            → OnOk result (KeepsBare o self.new.core.filer) }
+        ensures reasons { (o : InitialState) → KeepsBare o self.old.core.filer
+            → IfErr result (ShowsReason o (state self.old.core).layout (state self.new.core).disk) }
         ensures right { (o : InitialState) → IfErr result (NeverBlamesEnd o (state self.new.core).disk) }
         ensures evidence_seen { IfErr result (ShowsEvidence (state self.new.core).disk) }
         ensures swaps { SwapsOnly (state self.old.core) (state self.new.core) }
@@ -201,9 +241,11 @@ impl<D: Disk, A: Allocator> Session<D, A> {
         ensures clean { OnOk result (AreWritten (state self.new.core).slots) }
         ensures synced { OnOk result ((state self.new.core).disk.synced ≡ true) }
         ensures sound { (x : List Sector) → HasMemory (state self.old.core) x → IfErr result (λ e. e ≡ halt.Disk) }
-        ensures counted { result ≡ Err halt.Disk → Rose (state self.old.core).disk.faults (state self.new.core).disk.faults }
+        ensures counted { result ≡ Err halt.Disk
+            → Rose (state self.old.core).disk.faults (state self.new.core).disk.faults }
         ensures cause { IfErr result (After Made WriteHalts (state self.old.core) (state self.new.core)) }
-        ensures reasons { (o : InitialState) → KeepsBare o self.old.core.filer → IfErr result (ShowsReason o (state self.old.core).layout (state self.new.core).disk) }
+        ensures reasons { (o : InitialState) → KeepsBare o self.old.core.filer
+            → IfErr result (ShowsReason o (state self.old.core).layout (state self.new.core).disk) }
         ensures right { (o : InitialState) → IfErr result (NeverBlamesEnd o (state self.new.core).disk) }
         ensures evidence_seen { IfErr result (ShowsEvidence (state self.new.core).disk) }
         ensures swaps { SwapsOnly (state self.old.core) (state self.new.core) }
@@ -225,12 +267,15 @@ impl<D: Disk, A: Allocator> Session<D, A> {
     fn write_clean(&mut self) -> Result<(), Halt>
         requires size { FitsLayout (state self.old.core) }
         requires opened { IsOpen (state self.old.core).layout self.old.volume }
-        ensures made { (m : Machine) → IsReady m self.old.volume.root (state self.old.core).disk → OnOk result (RevealsShut m (state self.new.core).disk) }
+        ensures made { (m : Machine) → IsReady m self.old.volume.root (state self.old.core).disk
+            → OnOk result (RevealsShut m (state self.new.core).disk) }
         ensures fault { IfErr result (λ e. e ≡ halt.Disk) }
         ensures counted { OnErr result (Rose (state self.old.core).disk.faults (state self.new.core).disk.faults) }
-        ensures stops { (m : Machine) → IsReady m self.old.volume.root (state self.old.core).disk → ((d : List Sector) → (state self.old.core).disk.contents ≡ Some d → IsOpenStop m d)
+        ensures stops { (m : Machine) → IsReady m self.old.volume.root (state self.old.core).disk
+            → ((d : List Sector) → (state self.old.core).disk.contents ≡ Some d → IsOpenStop m d)
             → Throughout (IsStop m) (state self.old.core).disk (state self.new.core).disk }
-        ensures wrote { WroteAny (state self.old.core).disk (state self.old.core).slots (state self.new.core).disk (state self.new.core).slots }
+        ensures wrote { WroteAny (state self.old.core).disk (state self.old.core).slots (state self.new.core).disk
+            (state self.new.core).slots }
         ensures spares { SparesAll (state self.old.core).disk (state self.new.core).disk }
         ensures sets { (m : Machine) → IsReady m self.old.volume.root (state self.old.core).disk
             → MayClose self.old.volume.root (state self.old.core).disk (state self.new.core).disk }
@@ -255,13 +300,17 @@ impl<D: Disk, A: Allocator> Session<D, A> {
         ensures synced { OnOk result ((state self.new.core).disk.synced ≡ true) }
         ensures stops { (m : Machine) → Runs self.old.core self.old.volume m
             → Throughout (IsStop m) (state self.old.core).disk (state self.new.core).disk }
-        ensures counted { result ≡ Err halt.Disk → Rose (state self.old.core).disk.faults (state self.new.core).disk.faults }
+        ensures counted { result ≡ Err halt.Disk
+            → Rose (state self.old.core).disk.faults (state self.new.core).disk.faults }
         ensures cause { IfErr result (EndHalts self.old.core.intervals (state self.old.core) (state self.new.core)) }
-        ensures reasons { (o : InitialState) → KeepsOn o self.old.core.filer → IfErr result (ShowsReason o (state self.old.core).layout (state self.new.core).disk) }
-        ensures sees { (o : InitialState) → KeepsOn o self.old.core.filer → SeesHome o self.old.core → IfErr result (NeverBlamesEnd o (state self.new.core).disk) }
+        ensures reasons { (o : InitialState) → KeepsOn o self.old.core.filer
+            → IfErr result (ShowsReason o (state self.old.core).layout (state self.new.core).disk) }
+        ensures sees { (o : InitialState) → KeepsOn o self.old.core.filer → SeesHome o self.old.core
+            → IfErr result (NeverBlamesEnd o (state self.new.core).disk) }
         ensures evidence_seen { IfErr result (ShowsEvidence (state self.new.core).disk) }
         ensures left_open { IsUnset (state self.old.core).disk → IfErr result (LeavesOpen (state self.new.core).disk) }
-        ensures wrote { WroteAny (state self.old.core).disk (state self.old.core).slots (state self.new.core).disk (state self.new.core).slots }
+        ensures wrote { WroteAny (state self.old.core).disk (state self.old.core).slots (state self.new.core).disk
+            (state self.new.core).slots }
         ensures spares { SparesAll (state self.old.core).disk (state self.new.core).disk }
         ensures syncs { (m : Machine) → Runs self.old.core self.old.volume m
             → ShutsBySync (state self.old.core).disk (state self.new.core).disk }
@@ -317,9 +366,12 @@ impl<D: Disk, A: Allocator> Session<D, A> {
         ensures stops { (m : Machine) → Runs self.core self.volume m
             → Throughout (IsStop m) (state self.core).disk (D.state result.1) }
         ensures counted { result.0 ≡ Err halt.Disk → Rose (state self.core).disk.faults (D.state result.1).faults }
-        ensures cause { IfErr result.0 (EndHalts self.core.intervals (state self.core) (record (state self.core) { disk = D.state result.1 })) }
-        ensures reasons { (o : InitialState) → KeepsOn o self.core.filer → IfErr result.0 (ShowsReason o (state self.core).layout (D.state result.1)) }
-        ensures sees { (o : InitialState) → KeepsOn o self.core.filer → SeesHome o self.core → IfErr result.0 (NeverBlamesEnd o (D.state result.1)) }
+        ensures cause { IfErr result.0
+            (EndHalts self.core.intervals (state self.core) (record (state self.core) { disk = D.state result.1 })) }
+        ensures reasons { (o : InitialState) → KeepsOn o self.core.filer
+            → IfErr result.0 (ShowsReason o (state self.core).layout (D.state result.1)) }
+        ensures sees { (o : InitialState) → KeepsOn o self.core.filer → SeesHome o self.core
+            → IfErr result.0 (NeverBlamesEnd o (D.state result.1)) }
         ensures evidence_seen { IfErr result.0 (ShowsEvidence (D.state result.1)) }
         ensures left_open { IsUnset (state self.core).disk → IfErr result.0 (LeavesOpen (D.state result.1)) }
         ensures wrote { WroteOn (state self.core).slots (state self.core).disk (D.state result.1) }

@@ -96,22 +96,28 @@ impl<D: Disk, A: Allocator> Session<D, A> {
         ensures frames { IfOk result (λ s. length (state s.core).slots ≡ frames) }
 
         // No session starts.
-        ensures count { ¬ IsCount (D.state disk).sectors → MatchResult result (λ s. ⊥) (λ e. e.0 ≡ start_fault.Root (fault.BadCount (D.state disk).sectors)) }
+        ensures count { ¬ IsCount (D.state disk).sectors
+            → MatchResult result (λ s. ⊥) (λ e. e.0 ≡ start_fault.Root (fault.BadCount (D.state disk).sectors)) }
         ensures refused { IfErr result (λ e. IsFreshFault (D.state disk).sectors e.0) }
         ensures unwritten { IfErr result (λ e. IsEarly e.0 → OnlyReads (D.state disk) (D.state e.1)) }
         ensures counted { IfErr result (λ e. IsDiskFault e.0 → Rose (D.state disk).faults (D.state e.1).faults) }
-        ensures sound { (d : List Sector) → (D.state disk).contents ≡ Some d → IsCount (D.state disk).sectors → IfErr result (λ e. IsOutside e.0) }
+        ensures sound { (d : List Sector) → (D.state disk).contents ≡ Some d → IsCount (D.state disk).sectors
+            → IfErr result (λ e. IsOutside e.0) }
         ensures cause { IfErr result (λ e. HasFreshCause (D.state disk) (D.state e.1) e.0) }
         ensures evidence_seen { IfErr result (λ e. IsSoAtStart (D.state e.1) e.0) }
 
         // What was written, whether or not one starts.
-        ensures wrote { MatchResult result (λ s. WroteOnNew (D.state disk) (state s.core).disk) (λ e. BeganVolume (D.state disk) (D.state e.1) ⊎ WroteOnNew (D.state disk) (D.state e.1)) }
+        ensures wrote { MatchResult result (λ s. WroteOnNew (D.state disk) (state s.core).disk)
+            (λ e. BeganVolume (D.state disk) (D.state e.1) ⊎ WroteOnNew (D.state disk) (D.state e.1)) }
         ensures crash_states { (d : List Sector) → (D.state disk).contents ≡ Some d
-            → MatchResult result (λ s. KeepsNew (D.state disk) (state s.core).disk) (λ e. BeganVolume (D.state disk) (D.state e.1) ⊎ KeepsNew (D.state disk) (D.state e.1)) }
-        ensures left_open { MatchResult result (λ s. IsUnset (state s.core).disk) (λ e. LeavesOpenAtStart (D.state e.1) e.0) }
+            → MatchResult result (λ s. KeepsNew (D.state disk) (state s.core).disk)
+            (λ e. BeganVolume (D.state disk) (D.state e.1) ⊎ KeepsNew (D.state disk) (D.state e.1)) }
+        ensures left_open { MatchResult result (λ s. IsUnset (state s.core).disk)
+            (λ e. LeavesOpenAtStart (D.state e.1) e.0) }
 
         // The disk is the same, later.
-        ensures later { MatchResult result (λ s. IsLater (D.state disk) (state s.core).disk) (λ e. IsLater (D.state disk) (D.state e.1)) }
+        ensures later { MatchResult result (λ s. IsLater (D.state disk) (state s.core).disk)
+            (λ e. IsLater (D.state disk) (D.state e.1)) }
     {
         let (mut filer, layout) = match frames_for(alloc, disk, frames) {
             Ok(opened) => opened,

@@ -16,5 +16,6 @@ pub fn sessions_have_room()
 
 /// A sound volume, on a disk that reveals its writes, is one whose sessions have a reason for each label that they reveal.
 pub fn sound_volumes_are_begun()
-    ensures { (d : List Sector) (ws : List DiskWrite) (disk : DiskState) → Sound d → disk.contents ≡ Some d → disk.writes ≡ Some ws → IsBegun d (label_triples d) ws disk }
+    ensures { (d : List Sector) (ws : List DiskWrite) (disk : DiskState) → Sound d → disk.contents ≡ Some d
+        → disk.writes ≡ Some ws → IsBegun d (label_triples d) ws disk }
 {}

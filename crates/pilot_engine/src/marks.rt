@@ -36,19 +36,30 @@ impl<D: Disk, A: Allocator> Session<D, A> {
     fn mark_permanent(&mut self, id: FileId) -> Result<Reply, Halt>
         requires size { FitsLayout (state self.old.core) }
         requires opened { IsOpen (state self.old.core).layout self.old.volume }
-        ensures carried { (spaces_of : TablesMeaning) (m : Machine) → IsSession spaces_of (state self.old.core).disk (state self.old.core).slots (state self.old.core).layout (state self.old.core).runs self.old.volume m
+        ensures carried { (spaces_of : TablesMeaning) (m : Machine)
+            → IsSession spaces_of (state self.old.core).disk (state self.old.core).slots (state self.old.core).layout
+            (state self.old.core).runs self.old.volume m
             → is_anonymous m.spaces id ≡ false
-            → IfOk result (λ reply. Carries spaces_of m (call.MakePermanent id) reply (state self.new.core).disk (state self.new.core).slots (state self.new.core).layout (state self.new.core).runs self.new.volume) }
-        ensures sound { (spaces_of : TablesMeaning) (m : Machine) → IsSession spaces_of (state self.old.core).disk (state self.old.core).slots (state self.old.core).layout (state self.old.core).runs self.old.volume m
+            → IfOk result
+            (λ reply.
+            Carries spaces_of m (call.MakePermanent id) reply (state self.new.core).disk (state self.new.core).slots
+            (state self.new.core).layout (state self.new.core).runs self.new.volume) }
+        ensures sound { (spaces_of : TablesMeaning) (m : Machine)
+            → IsSession spaces_of (state self.old.core).disk (state self.old.core).slots (state self.old.core).layout
+            (state self.old.core).runs self.old.volume m
             → IfErr result (λ e. e ≡ halt.Disk) }
-        ensures passes { (spaces_of : TablesMeaning) (m : Machine) → IsSession spaces_of (state self.old.core).disk (state self.old.core).slots (state self.old.core).layout (state self.old.core).runs self.old.volume m
+        ensures passes { (spaces_of : TablesMeaning) (m : Machine)
+            → IsSession spaces_of (state self.old.core).disk (state self.old.core).slots (state self.old.core).layout
+            (state self.old.core).runs self.old.volume m
             → is_anonymous m.spaces id ≡ false
             → Passes m (call.MakePermanent id) (state self.old.core).disk (state self.new.core).disk }
-        ensures counted { result ≡ Err halt.Disk → Rose (state self.old.core).disk.faults (state self.new.core).disk.faults }
+        ensures counted { result ≡ Err halt.Disk
+            → Rose (state self.old.core).disk.faults (state self.new.core).disk.faults }
         ensures cause { IfErr result (OnFileHalts id (MarkHalts id) (state self.old.core) (state self.new.core)) }
         ensures accounts { (o : InitialState) → KeepsOn o self.old.core.filer → Accounts o o self.old self.new result }
         ensures evidence_seen { IfErr result (ShowsEvidence (state self.new.core).disk) }
-        ensures wrote { Wrote (state self.old.core).disk (state self.old.core).slots (state self.new.core).disk (state self.new.core).slots }
+        ensures wrote { Wrote (state self.old.core).disk (state self.old.core).slots (state self.new.core).disk
+            (state self.new.core).slots }
         ensures stays { Stays self.old self.new }
         ensures running { self.new.running ≡ self.old.running }
         ensures kept { kept self.new.core ≡ kept self.old.core }
@@ -73,19 +84,30 @@ impl<D: Disk, A: Allocator> Session<D, A> {
     fn mark_immutable(&mut self, id: FileId) -> Result<Reply, Halt>
         requires size { FitsLayout (state self.old.core) }
         requires opened { IsOpen (state self.old.core).layout self.old.volume }
-        ensures carried { (spaces_of : TablesMeaning) (m : Machine) → IsSession spaces_of (state self.old.core).disk (state self.old.core).slots (state self.old.core).layout (state self.old.core).runs self.old.volume m
+        ensures carried { (spaces_of : TablesMeaning) (m : Machine)
+            → IsSession spaces_of (state self.old.core).disk (state self.old.core).slots (state self.old.core).layout
+            (state self.old.core).runs self.old.volume m
             → is_anonymous m.spaces id ≡ false → file_mapped m id (λ w. w.writable) ≡ None
-            → IfOk result (λ reply. Carries spaces_of m (call.MakeImmutable id) reply (state self.new.core).disk (state self.new.core).slots (state self.new.core).layout (state self.new.core).runs self.new.volume) }
-        ensures sound { (spaces_of : TablesMeaning) (m : Machine) → IsSession spaces_of (state self.old.core).disk (state self.old.core).slots (state self.old.core).layout (state self.old.core).runs self.old.volume m
+            → IfOk result
+            (λ reply.
+            Carries spaces_of m (call.MakeImmutable id) reply (state self.new.core).disk (state self.new.core).slots
+            (state self.new.core).layout (state self.new.core).runs self.new.volume) }
+        ensures sound { (spaces_of : TablesMeaning) (m : Machine)
+            → IsSession spaces_of (state self.old.core).disk (state self.old.core).slots (state self.old.core).layout
+            (state self.old.core).runs self.old.volume m
             → IfErr result (λ e. e ≡ halt.Disk) }
-        ensures passes { (spaces_of : TablesMeaning) (m : Machine) → IsSession spaces_of (state self.old.core).disk (state self.old.core).slots (state self.old.core).layout (state self.old.core).runs self.old.volume m
+        ensures passes { (spaces_of : TablesMeaning) (m : Machine)
+            → IsSession spaces_of (state self.old.core).disk (state self.old.core).slots (state self.old.core).layout
+            (state self.old.core).runs self.old.volume m
             → is_anonymous m.spaces id ≡ false → file_mapped m id (λ w. w.writable) ≡ None
             → Passes m (call.MakeImmutable id) (state self.old.core).disk (state self.new.core).disk }
-        ensures counted { result ≡ Err halt.Disk → Rose (state self.old.core).disk.faults (state self.new.core).disk.faults }
+        ensures counted { result ≡ Err halt.Disk
+            → Rose (state self.old.core).disk.faults (state self.new.core).disk.faults }
         ensures cause { IfErr result (OnFileHalts id (MarkHalts id) (state self.old.core) (state self.new.core)) }
         ensures accounts { (o : InitialState) → KeepsOn o self.old.core.filer → Accounts o o self.old self.new result }
         ensures evidence_seen { IfErr result (ShowsEvidence (state self.new.core).disk) }
-        ensures wrote { Wrote (state self.old.core).disk (state self.old.core).slots (state self.new.core).disk (state self.new.core).slots }
+        ensures wrote { Wrote (state self.old.core).disk (state self.old.core).slots (state self.new.core).disk
+            (state self.new.core).slots }
         ensures stays { Stays self.old self.new }
         ensures running { self.new.running ≡ self.old.running }
         ensures kept { kept self.new.core ≡ kept self.old.core }
@@ -110,12 +132,16 @@ impl<D: Disk, A: Allocator> Session<D, A> {
     pub(crate) fn make_permanent(&mut self, id: FileId) -> Result<Reply, Halt>
         requires size { FitsLayout (state self.old.core) }
         requires opened { IsOpen (state self.old.core).layout self.old.volume }
-        ensures answers { (m : Machine) → Runs self.old.core self.old.volume m → Answers m (call.MakePermanent id) self.old self.new result }
-        ensures counted { result ≡ Err halt.Disk → Rose (state self.old.core).disk.faults (state self.new.core).disk.faults }
-        ensures cause { IfErr result (OnNamedHalts id self.old.core.intervals (MarkHalts id) (state self.old.core) (state self.new.core)) }
+        ensures answers { (m : Machine) → Runs self.old.core self.old.volume m
+            → Answers m (call.MakePermanent id) self.old self.new result }
+        ensures counted { result ≡ Err halt.Disk
+            → Rose (state self.old.core).disk.faults (state self.new.core).disk.faults }
+        ensures cause { IfErr result
+            (OnNamedHalts id self.old.core.intervals (MarkHalts id) (state self.old.core) (state self.new.core)) }
         ensures accounts { (o : InitialState) → KeepsOn o self.old.core.filer → Accounts o o self.old self.new result }
         ensures evidence_seen { IfErr result (ShowsEvidence (state self.new.core).disk) }
-        ensures wrote { Wrote (state self.old.core).disk (state self.old.core).slots (state self.new.core).disk (state self.new.core).slots }
+        ensures wrote { Wrote (state self.old.core).disk (state self.old.core).slots (state self.new.core).disk
+            (state self.new.core).slots }
         ensures stays { Stays self.old self.new }
         ensures running { self.new.running ≡ self.old.running }
         ensures own { RelabelsOwn id (state self.old.core).disk (state self.new.core).disk }
@@ -133,12 +159,16 @@ impl<D: Disk, A: Allocator> Session<D, A> {
     pub(crate) fn make_immutable(&mut self, id: FileId) -> Result<Reply, Halt>
         requires size { FitsLayout (state self.old.core) }
         requires opened { IsOpen (state self.old.core).layout self.old.volume }
-        ensures answers { (m : Machine) → Runs self.old.core self.old.volume m → Answers m (call.MakeImmutable id) self.old self.new result }
-        ensures counted { result ≡ Err halt.Disk → Rose (state self.old.core).disk.faults (state self.new.core).disk.faults }
-        ensures cause { IfErr result (OnNamedHalts id self.old.core.intervals (MarkHalts id) (state self.old.core) (state self.new.core)) }
+        ensures answers { (m : Machine) → Runs self.old.core self.old.volume m
+            → Answers m (call.MakeImmutable id) self.old self.new result }
+        ensures counted { result ≡ Err halt.Disk
+            → Rose (state self.old.core).disk.faults (state self.new.core).disk.faults }
+        ensures cause { IfErr result
+            (OnNamedHalts id self.old.core.intervals (MarkHalts id) (state self.old.core) (state self.new.core)) }
         ensures accounts { (o : InitialState) → KeepsOn o self.old.core.filer → Accounts o o self.old self.new result }
         ensures evidence_seen { IfErr result (ShowsEvidence (state self.new.core).disk) }
-        ensures wrote { Wrote (state self.old.core).disk (state self.old.core).slots (state self.new.core).disk (state self.new.core).slots }
+        ensures wrote { Wrote (state self.old.core).disk (state self.old.core).slots (state self.new.core).disk
+            (state self.new.core).slots }
         ensures stays { Stays self.old self.new }
         ensures running { self.new.running ≡ self.old.running }
         ensures own { RelabelsOwn id (state self.old.core).disk (state self.new.core).disk }

@@ -43,7 +43,8 @@ impl<D: Disk, A: Allocator> Session<D, A> {
         ensures above { IfOk result (λ next. IfSome next (λ passed. cursor < passed.id)) }
         ensures runs { (m : Machine) → Runs self.old.core self.old.volume m → Runs self.new.core self.new.volume m }
         ensures sound { (m : Machine) → Runs self.old.core self.old.volume m → IfErr result (λ e. e ≡ halt.Disk) }
-        ensures counted { result ≡ Err halt.Disk → Rose (state self.old.core).disk.faults (state self.new.core).disk.faults }
+        ensures counted { result ≡ Err halt.Disk
+            → Rose (state self.old.core).disk.faults (state self.new.core).disk.faults }
         ensures cause { IfErr result (TurnHalts self.old.core.intervals (state self.old.core) (state self.new.core)) }
         ensures accounts { (o : InitialState) → KeepsOn o self.old.core.filer → Accounts o o self.old self.new result }
         ensures evidence_seen { IfErr result (ShowsEvidence (state self.new.core).disk) }
@@ -71,12 +72,15 @@ impl<D: Disk, A: Allocator> Session<D, A> {
     pub(crate) fn next(&mut self, id: FileId) -> Result<Reply, Halt>
         requires size { FitsLayout (state self.old.core) }
         requires opened { IsOpen (state self.old.core).layout self.old.volume }
-        ensures answers { (m : Machine) → Runs self.old.core self.old.volume m → Answers m (call.Next id) self.old self.new result }
-        ensures counted { result ≡ Err halt.Disk → Rose (state self.old.core).disk.faults (state self.new.core).disk.faults }
+        ensures answers { (m : Machine) → Runs self.old.core self.old.volume m
+            → Answers m (call.Next id) self.old self.new result }
+        ensures counted { result ≡ Err halt.Disk
+            → Rose (state self.old.core).disk.faults (state self.new.core).disk.faults }
         ensures cause { IfErr result (NextHalts self.old.core.intervals (state self.old.core) (state self.new.core)) }
         ensures accounts { (o : InitialState) → KeepsOn o self.old.core.filer → Accounts o o self.old self.new result }
         ensures evidence_seen { IfErr result (ShowsEvidence (state self.new.core).disk) }
-        ensures wrote { Wrote (state self.old.core).disk (state self.old.core).slots (state self.new.core).disk (state self.new.core).slots }
+        ensures wrote { Wrote (state self.old.core).disk (state self.old.core).slots (state self.new.core).disk
+            (state self.new.core).slots }
         ensures unlabelled { WritesPagesAlone (state self.old.core).disk (state self.new.core).disk }
         ensures stays { Stays self.old self.new }
         ensures running { self.new.running ≡ self.old.running }

@@ -76,15 +76,20 @@ impl<D: Disk, A: Allocator> Session<D, A> {
         // No session starts.
         ensures memory { IfErr result (λ e. e.0 ≡ start_fault.NoMemory → e.1 ≡ disk) }
         ensures no_root { (why : RootFault) → IfErr result (λ e. e.0 ≢ start_fault.Root why) }
-        ensures sound { (d : List Sector) → (D.state disk).contents ≡ Some d → Sound d → IfErr result (λ e. IsOutside e.0) }
+        ensures sound { (d : List Sector) → (D.state disk).contents ≡ Some d → Sound d
+            → IfErr result (λ e. IsOutside e.0) }
         ensures counted { IfErr result (λ e. IsDiskFault e.0 → Rose (D.state disk).faults (D.state e.1).faults) }
         ensures evidence_seen { IfErr result (λ e. IsSoAtStart (D.state e.1) e.0) }
-        ensures revealed { (d : List Sector) → (D.state disk).contents ≡ Some d → IfErr result (λ e. (h : List Sector) × ((D.state e.1).contents ≡ Some h)) }
+        ensures revealed { (d : List Sector) → (D.state disk).contents ≡ Some d
+            → IfErr result (λ e. (h : List Sector) × ((D.state e.1).contents ≡ Some h)) }
 
         // Whether or not one starts.
-        ensures went { MatchResult result (λ s. Went (D.state disk) (state s.core).disk) (λ e. Went (D.state disk) (D.state e.1)) }
-        ensures left_open { MatchResult result (λ s. IsUnset (state s.core).disk) (λ e. LeavesOpenAtStart (D.state e.1) e.0) }
-        ensures bounded { MatchResult result (λ s. CostsRest (D.state disk) (state s.core).disk) (λ e. CostsRest (D.state disk) (D.state e.1)) }
+        ensures went { MatchResult result (λ s. Went (D.state disk) (state s.core).disk)
+            (λ e. Went (D.state disk) (D.state e.1)) }
+        ensures left_open { MatchResult result (λ s. IsUnset (state s.core).disk)
+            (λ e. LeavesOpenAtStart (D.state e.1) e.0) }
+        ensures bounded { MatchResult result (λ s. CostsRest (D.state disk) (state s.core).disk)
+            (λ e. CostsRest (D.state disk) (D.state e.1)) }
     {
         let (mut filer, layout) = match filer_over(alloc, disk, root, frames) {
             Ok(opened) => opened,

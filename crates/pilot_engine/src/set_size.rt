@@ -41,7 +41,8 @@ fn may_be_file(id: FileId) -> bool
 // Whether a file that has so many pages may have so many, beside all others.
 fn has_room(volume: Volume, found: u32, pages: u32) -> bool
     requires room { volume.used ≤ volume.layout.capacity }
-    ensures { result ≡ (nat_le pages volume.layout.capacity && nat_le (volume.used + pages - found) volume.layout.capacity) }
+    ensures { result
+        ≡ (nat_le pages volume.layout.capacity && nat_le (volume.used + pages - found) volume.layout.capacity) }
 {
     let capacity = volume.layout.capacity;
     pages <= capacity && pages.saturating_sub(found) <= capacity - volume.used
@@ -61,26 +62,40 @@ impl<D: Disk, A: Allocator> Session<D, A> {
     fn resize(&mut self, id: FileId, pages: u32, seen: Option<u32>) -> Result<Reply, Halt>
         requires size { FitsLayout (state self.old.core) }
         requires opened { IsOpen (state self.old.core).layout self.old.volume }
-        ensures carried { (spaces_of : TablesMeaning) (m : Machine) → IsSession spaces_of (state self.old.core).disk (state self.old.core).slots (state self.old.core).layout (state self.old.core).runs self.old.volume m
+        ensures carried { (spaces_of : TablesMeaning) (m : Machine)
+            → IsSession spaces_of (state self.old.core).disk (state self.old.core).slots (state self.old.core).layout
+            (state self.old.core).runs self.old.volume m
             → IsSeenBy m id seen
-            → IfOk result (λ reply. Carries spaces_of m (call.SetSize id pages) reply (state self.new.core).disk (state self.new.core).slots (state self.new.core).layout (state self.new.core).runs self.new.volume) }
-        ensures sound { (spaces_of : TablesMeaning) (m : Machine) → IsSession spaces_of (state self.old.core).disk (state self.old.core).slots (state self.old.core).layout (state self.old.core).runs self.old.volume m
-            → IsSeenBy m id seen
-            → IfErr result (λ e. e ≡ halt.Disk) }
-        ensures passes { (spaces_of : TablesMeaning) (m : Machine) → IsSession spaces_of (state self.old.core).disk (state self.old.core).slots (state self.old.core).layout (state self.old.core).runs self.old.volume m
+            → IfOk result
+            (λ reply.
+            Carries spaces_of m (call.SetSize id pages) reply (state self.new.core).disk (state self.new.core).slots
+            (state self.new.core).layout (state self.new.core).runs self.new.volume) }
+        ensures sound { (spaces_of : TablesMeaning) (m : Machine)
+            → IsSession spaces_of (state self.old.core).disk (state self.old.core).slots (state self.old.core).layout
+            (state self.old.core).runs self.old.volume m
+            → IsSeenBy m id seen → IfErr result (λ e. e ≡ halt.Disk) }
+        ensures passes { (spaces_of : TablesMeaning) (m : Machine)
+            → IsSession spaces_of (state self.old.core).disk (state self.old.core).slots (state self.old.core).layout
+            (state self.old.core).runs self.old.volume m
             → IsSeenBy m id seen
             → Passes m (call.SetSize id pages) (state self.old.core).disk (state self.new.core).disk }
-        ensures counted { result ≡ Err halt.Disk → Rose (state self.old.core).disk.faults (state self.new.core).disk.faults }
+        ensures counted { result ≡ Err halt.Disk
+            → Rose (state self.old.core).disk.faults (state self.new.core).disk.faults }
         ensures cause { IfErr result (OnFileHalts id (SizeHalts id pages) (state self.old.core) (state self.new.core)) }
         ensures accounts { (o : InitialState) → KeepsOn o self.old.core.filer → Accounts o o self.old self.new result }
         ensures evidence_seen { IfErr result (ShowsEvidence (state self.new.core).disk) }
-        ensures wrote { Wrote (state self.old.core).disk (state self.old.core).slots (state self.new.core).disk (state self.new.core).slots }
+        ensures wrote { Wrote (state self.old.core).disk (state self.old.core).slots (state self.new.core).disk
+            (state self.new.core).slots }
         ensures stays { Stays self.old self.new }
         ensures running { self.new.running ≡ self.old.running }
         ensures kept { kept self.new.core ≡ kept self.old.core }
         ensures intervals { self.new.core.intervals ≡ self.old.core.intervals }
-        ensures cost { (state self.new.core).disk.transfers ≤ (state self.old.core).disk.transfers + (158 + 4294967295 * (8 * (state self.old.core).layout.vam + 100) + 102 * most_records (state self.old.core).layout.sectors) }
-        ensures bounded { (spaces_of : TablesMeaning) (m : Machine) → IsSession spaces_of (state self.old.core).disk (state self.old.core).slots (state self.old.core).layout (state self.old.core).runs self.old.volume m
+        ensures cost { (state self.new.core).disk.transfers ≤ (state self.old.core).disk.transfers
+            + (158 + 4294967295 * (8 * (state self.old.core).layout.vam + 100) + 102 * most_records
+            (state self.old.core).layout.sectors) }
+        ensures bounded { (spaces_of : TablesMeaning) (m : Machine)
+            → IsSession spaces_of (state self.old.core).disk (state self.old.core).slots (state self.old.core).layout
+            (state self.old.core).runs self.old.volume m
             → CostsInside (state self.old.core).disk (state self.new.core).disk }
         ensures own { RelabelsOwn id (state self.old.core).disk (state self.new.core).disk }
         ensures spares { SparesBut id (state self.old.core).disk (state self.new.core).disk }
@@ -113,12 +128,16 @@ impl<D: Disk, A: Allocator> Session<D, A> {
     pub(crate) fn set_size(&mut self, id: FileId, pages: u32) -> Result<Reply, Halt>
         requires size { FitsLayout (state self.old.core) }
         requires opened { IsOpen (state self.old.core).layout self.old.volume }
-        ensures answers { (m : Machine) → Runs self.old.core self.old.volume m → Answers m (call.SetSize id pages) self.old self.new result }
-        ensures counted { result ≡ Err halt.Disk → Rose (state self.old.core).disk.faults (state self.new.core).disk.faults }
-        ensures cause { IfErr result (OnNamedHalts id self.old.core.intervals (SizeHalts id pages) (state self.old.core) (state self.new.core)) }
+        ensures answers { (m : Machine) → Runs self.old.core self.old.volume m
+            → Answers m (call.SetSize id pages) self.old self.new result }
+        ensures counted { result ≡ Err halt.Disk
+            → Rose (state self.old.core).disk.faults (state self.new.core).disk.faults }
+        ensures cause { IfErr result
+            (OnNamedHalts id self.old.core.intervals (SizeHalts id pages) (state self.old.core) (state self.new.core)) }
         ensures accounts { (o : InitialState) → KeepsOn o self.old.core.filer → Accounts o o self.old self.new result }
         ensures evidence_seen { IfErr result (ShowsEvidence (state self.new.core).disk) }
-        ensures wrote { Wrote (state self.old.core).disk (state self.old.core).slots (state self.new.core).disk (state self.new.core).slots }
+        ensures wrote { Wrote (state self.old.core).disk (state self.old.core).slots (state self.new.core).disk
+            (state self.new.core).slots }
         ensures stays { Stays self.old self.new }
         ensures running { self.new.running ≡ self.old.running }
         ensures own { RelabelsOwn id (state self.old.core).disk (state self.new.core).disk }

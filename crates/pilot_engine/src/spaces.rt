@@ -40,21 +40,32 @@ impl<D: Disk, A: Allocator> Session<D, A> {
         requires opened { IsOpen (state self.old.core).layout self.old.volume }
         requires on_spaces { is_on_spaces call.now ≡ true }
         requires in_form { IsInForm call.now }
-        ensures answers { (m : Machine) → Runs self.old.core self.old.volume m → Answers m call.now self.old self.new result }
-        ensures forced { (m : Machine) → waits call.now ≡ true → refusal m call.now ≡ None → Runs self.old.core self.old.volume m
-            → OnOk result ((state self.new.core).disk.synced ≡ true) }
+        ensures answers { (m : Machine) → Runs self.old.core self.old.volume m
+            → Answers m call.now self.old self.new result }
+        ensures forced { (m : Machine) → waits call.now ≡ true → refusal m call.now ≡ None
+            → Runs self.old.core self.old.volume m → OnOk result ((state self.new.core).disk.synced ≡ true) }
         ensures advised { (m : Machine) → refusal m call.now ≡ None → Runs self.old.core self.old.volume m
             → OnOk result (IsAdvised m.spaces call.now (kept self.new.core) (state self.new.core).slots) }
-        ensures fails { IfErr result (Fails (StepHalts (next_id self.old.volume.root) call.now self.old.core.intervals (state self.old.core) (state self.new.core)) (state self.old.core) (state self.new.core)) }
-        ensures missing { (ss : List Space) → Sees (state self.old.core) (kept self.old.core) self.old.core.intervals ss → IfErr result (MissesPage (missing_page call.now ss)) }
-        ensures accounts { (o : InitialState) → KeepsOn o self.old.core.filer → IsNotOlder o self.old.volume.root → Accounts o (giving o (next_id self.new.volume.root)) self.old self.new result }
-        ensures wrote { WroteIn (may_dirty call.now) (state self.old.core).disk (state self.old.core).slots (state self.new.core).disk (state self.new.core).slots }
+        ensures fails { IfErr result
+            (Fails
+            (StepHalts (next_id self.old.volume.root) call.now self.old.core.intervals (state self.old.core)
+            (state self.new.core))
+            (state self.old.core) (state self.new.core)) }
+        ensures missing { (ss : List Space) → Sees (state self.old.core) (kept self.old.core) self.old.core.intervals ss
+            → IfErr result (MissesPage (missing_page call.now ss)) }
+        ensures accounts { (o : InitialState) → KeepsOn o self.old.core.filer → IsNotOlder o self.old.volume.root
+            → Accounts o (giving o (next_id self.new.volume.root)) self.old self.new result }
+        ensures wrote { WroteIn (may_dirty call.now) (state self.old.core).disk (state self.old.core).slots
+            (state self.new.core).disk (state self.new.core).slots }
         ensures stays { Stays self.old self.new }
         ensures running { self.new.running ≡ self.old.running }
-        ensures reference { is_reference call.now ≡ true → (state self.new.core).disk.transfers ≤ (state self.old.core).disk.transfers + 1680 }
+        ensures reference { is_reference call.now ≡ true
+            → (state self.new.core).disk.transfers ≤ (state self.old.core).disk.transfers + 1680 }
         ensures spares { SparesOthers call.now self.old self.new }
-        ensures unlabelled { keeps_labels call.now ≡ true → WritesPagesAlone (state self.old.core).disk (state self.new.core).disk }
-        ensures idle { (m : Machine) → Runs self.old.core self.old.volume m → IsResident call.now (kept self.old.core) (state self.old.core).slots
+        ensures unlabelled { keeps_labels call.now ≡ true
+            → WritesPagesAlone (state self.old.core).disk (state self.new.core).disk }
+        ensures idle { (m : Machine) → Runs self.old.core self.old.volume m
+            → IsResident call.now (kept self.old.core) (state self.old.core).slots
             → IsOk result × ((state self.new.core).disk ≡ (state self.old.core).disk) }
     {
         match call {

@@ -66,16 +66,22 @@ fn used_of(layout: Layout, free: u32) -> u32
 // Writes the tables of the root alone into the pages of the space tables, which were made.
 fn write_tables<D: Disk, A: Allocator>(filer: &mut Filer<D, A>) -> Result<(), Halt>
     requires size { FitsLayout (view_of filer.old) }
-    ensures runs { (d : List Sector) (volume : Volume) → IsSession root_alone (view_of filer.old).disk (view_of filer.old).slots (view_of filer.old).layout (view_of filer.old).runs volume (start d)
+    ensures runs { (d : List Sector) (volume : Volume)
+        → IsSession root_alone (view_of filer.old).disk (view_of filer.old).slots (view_of filer.old).layout
+        (view_of filer.old).runs volume (start d)
         → OnOk result (IsRunning (view_of filer.new) [] 1 volume (start d)) }
-    ensures sound { (d : List Sector) (volume : Volume) → IsSession root_alone (view_of filer.old).disk (view_of filer.old).slots (view_of filer.old).layout (view_of filer.old).runs volume (start d)
+    ensures sound { (d : List Sector) (volume : Volume)
+        → IsSession root_alone (view_of filer.old).disk (view_of filer.old).slots (view_of filer.old).layout
+        (view_of filer.old).runs volume (start d)
         → IfErr result (λ e. e ≡ halt.Disk) }
     ensures makes { MakesOnly volume_page [] (view_of filer.old) (view_of filer.new) }
     ensures counted { result ≡ Err halt.Disk → Rose (view_of filer.old).disk.faults (view_of filer.new).disk.faults }
     ensures cause { IfErr result (TablesHalts (view_of filer.old) (view_of filer.new)) }
     ensures keeps_to { (o : InitialState) → KeepsOn o filer.old → OnOk result (KeepsOn o filer.new) }
-    ensures reasons { (o : InitialState) → KeepsOn o filer.old → IfErr result (ShowsReason o (view_of filer.old).layout (view_of filer.new).disk) }
-    ensures sees { (b : List ℕ) → TablesAre (view_of filer.old) b → MatchResult result (λ _. SeesRoot (view_of filer.new)) NeverBlamesFiles }
+    ensures reasons { (o : InitialState) → KeepsOn o filer.old
+        → IfErr result (ShowsReason o (view_of filer.old).layout (view_of filer.new).disk) }
+    ensures sees { (b : List ℕ) → TablesAre (view_of filer.old) b
+        → MatchResult result (λ _. SeesRoot (view_of filer.new)) NeverBlamesFiles }
     ensures evidence_seen { IfErr result (ShowsEvidence (view_of filer.new).disk) }
     ensures layout { (view_of filer.new).layout ≡ (view_of filer.old).layout }
     ensures cost { (view_of filer.new).disk.transfers ≤ (view_of filer.old).disk.transfers + 14392 }
@@ -95,11 +101,15 @@ fn put_in_use<D: Disk, A: Allocator>(filer: &mut Filer<D, A>, root: Root) -> Res
     requires serial { root.serial < 2 ^ 32 }
     requires counter { root.counter < 2 ^ 32 }
     requires bare { IsBare (view_of filer.old).slots }
-    ensures made { OnOk result (Goes (λ m n. n ≡ written (root_write root) m) no_page (root_write root ∷ []) (view_of filer.old).disk (view_of filer.old).slots (view_of filer.new).disk (view_of filer.old).slots) }
-    ensures stopped { OnErr result (MayHaveWritten (root_write root) (view_of filer.old).disk (view_of filer.old).slots (view_of filer.new).disk) }
+    ensures made { OnOk result
+        (Goes (λ m n. n ≡ written (root_write root) m) no_page (root_write root ∷ []) (view_of filer.old).disk
+        (view_of filer.old).slots (view_of filer.new).disk (view_of filer.old).slots) }
+    ensures stopped { OnErr result
+        (MayHaveWritten (root_write root) (view_of filer.old).disk (view_of filer.old).slots (view_of filer.new).disk) }
     ensures synced { OnOk result (SyncsFirst (view_of filer.old).disk (view_of filer.new).disk) }
     ensures fault { IfErr result (λ e. e ≡ halt.Disk) }
-    ensures keeps_to { (o : InitialState) (named : Triples) → Keeps o filer.old named → next_id root ≤ o.next → OnOk result (Keeps o filer.new named) }
+    ensures keeps_to { (o : InitialState) (named : Triples) → Keeps o filer.old named → next_id root ≤ o.next
+        → OnOk result (Keeps o filer.new named) }
     ensures counted { OnErr result (Rose (view_of filer.old).disk.faults (view_of filer.new).disk.faults) }
     ensures frames { (view_of filer.new).slots ≡ (view_of filer.old).slots }
     ensures layout { (view_of filer.new).layout ≡ (view_of filer.old).layout }
@@ -129,27 +139,37 @@ pub(crate) fn begin<D: Disk, A: Allocator>(
     requires valid { IsValidRoot (view_of filer.old).layout.sectors root }
     requires bare { IsBare (view_of filer.old).slots }
     requires no_runs { (n : ℕ) → runs_of n (view_of filer.old).runs ≡ [] }
-    ensures begun { (d : List Sector) → (view_of filer.old).disk.contents ≡ Some d → Sound d → root ≡ root_in (root_page d)
-        → IfOk result (λ volume. IsRunning (view_of filer.new) [] 1 volume (start d)) }
-    ensures sound { (d : List Sector) → (view_of filer.old).disk.contents ≡ Some d → Sound d → root ≡ root_in (root_page d) → IfErr result (λ e. e ≡ halt.Disk) }
+    ensures begun { (d : List Sector) → (view_of filer.old).disk.contents ≡ Some d → Sound d
+        → root ≡ root_in (root_page d) → IfOk result (λ volume. IsRunning (view_of filer.new) [] 1 volume (start d)) }
+    ensures sound { (d : List Sector) → (view_of filer.old).disk.contents ≡ Some d → Sound d
+        → root ≡ root_in (root_page d) → IfErr result (λ e. e ≡ halt.Disk) }
     ensures opened { IfOk result (IsOpen (view_of filer.new).layout) }
-    ensures starts { StartsSome root (view_of filer.old).disk (view_of filer.old).slots (view_of filer.new).disk (view_of filer.new).slots }
+    ensures starts { StartsSome root (view_of filer.old).disk (view_of filer.old).slots (view_of filer.new).disk
+        (view_of filer.new).slots }
     ensures synced { IfOk result (λ volume. SyncsFirst (view_of filer.old).disk (view_of filer.new).disk) }
     ensures counted { result ≡ Err halt.Disk → Rose (view_of filer.old).disk.faults (view_of filer.new).disk.faults }
     ensures cause { IfErr result (StartHalts root (view_of filer.old) (view_of filer.new)) }
-    ensures keeps_to { (d : List Sector) (named : Triples) (ws : List DiskWrite) → IsBegun d named ws (view_of filer.old).disk
+    ensures keeps_to { (d : List Sector) (named : Triples) (ws : List DiskWrite)
+        → IsBegun d named ws (view_of filer.old).disk
         → IfOk result (λ volume. KeepsOn (initial_state d named (ws ++ (root_write (in_use root) ∷ []))) filer.new) }
-    ensures reasons { (d : List Sector) (named : Triples) (ws : List DiskWrite) → IsBegun d named ws (view_of filer.old).disk
-        → IfErr result (ShowsReason (initial_state d named (ws ++ (root_write (in_use root) ∷ []))) (view_of filer.old).layout (view_of filer.new).disk) }
-    ensures sees { (d : List Sector) (named : Triples) (ws : List DiskWrite) → IsBegun d named ws (view_of filer.old).disk
+    ensures reasons { (d : List Sector) (named : Triples) (ws : List DiskWrite)
+        → IsBegun d named ws (view_of filer.old).disk
+        → IfErr result
+        (ShowsReason (initial_state d named (ws ++ (root_write (in_use root) ∷ []))) (view_of filer.old).layout
+        (view_of filer.new).disk) }
+    ensures sees { (d : List Sector) (named : Triples) (ws : List DiskWrite)
+        → IsBegun d named ws (view_of filer.old).disk
         → MatchResult result (λ volume. SeesRoot (view_of filer.new)) NeverBlamesFiles }
     ensures monotone { IfOk result (λ volume. IsMonotone root volume.root) }
     ensures evidence_seen { IfErr result (ShowsEvidence (view_of filer.new).disk) }
-    ensures left_open { MatchResult result (λ volume. IsUnset (view_of filer.new).disk) (LeavesOpen (view_of filer.new).disk) }
+    ensures left_open { MatchResult result (λ volume. IsUnset (view_of filer.new).disk)
+        (LeavesOpen (view_of filer.new).disk) }
     ensures serial { root.serial < 2 ^ 32 }
     ensures counter { root.counter < 2 ^ 32 }
     ensures layout { (view_of filer.new).layout ≡ (view_of filer.old).layout }
-    ensures cost { (view_of filer.new).disk.transfers ≤ (view_of filer.old).disk.transfers + (14393 + 2 * (view_of filer.old).layout.vam + 2 * (1 + 51 * most_records (view_of filer.old).layout.sectors) + 96 * (8 * (view_of filer.old).layout.vam + 100)) }
+    ensures cost { (view_of filer.new).disk.transfers ≤ (view_of filer.old).disk.transfers
+        + (14393 + 2 * (view_of filer.old).layout.vam + 2 * (1 + 51 * most_records (view_of filer.old).layout.sectors)
+        + 96 * (8 * (view_of filer.old).layout.vam + 100)) }
 {
     let root = in_use(root);
     match put_in_use(filer, root) {
@@ -189,15 +209,21 @@ fn frames_over<D: Disk, A: Allocator>(
     ensures bare { IfOk result (λ r. IsBare (view_of r.0).slots) }
     ensures no_runs { IfOk result (λ r. (n : ℕ) → runs_of n r.0.runs ≡ []) }
     ensures frames { IfOk result (λ r. length (view_of r.0).slots ≡ frames) }
-    ensures read { (d : List Sector) → (D.state disk).contents ≡ Some d → IfOk result (λ r. r.2 ≡ root_in (root_page d)) }
-    ensures count { ¬ IsCount (D.state disk).sectors → MatchResult result (λ r. ⊥) (λ e. e.0 ≡ start_fault.Root (fault.BadCount (D.state disk).sectors)) }
-    ensures bad_count { (n : ℕ) → IfErr result (λ e. e.0 ≡ start_fault.Root (fault.BadCount n) → ¬ IsCount (D.state disk).sectors × (n ≡ (D.state disk).sectors)) }
+    ensures read { (d : List Sector) → (D.state disk).contents ≡ Some d
+        → IfOk result (λ r. r.2 ≡ root_in (root_page d)) }
+    ensures count { ¬ IsCount (D.state disk).sectors
+        → MatchResult result (λ r. ⊥) (λ e. e.0 ≡ start_fault.Root (fault.BadCount (D.state disk).sectors)) }
+    ensures bad_count { (n : ℕ)
+        → IfErr result
+        (λ e.
+        e.0 ≡ start_fault.Root (fault.BadCount n) → ¬ IsCount (D.state disk).sectors × (n ≡ (D.state disk).sectors)) }
     ensures refused { (d : List Sector) (why : RootFault) → (D.state disk).contents ≡ Some d → IsRefused d why
         → MatchResult result (λ r. ⊥) (λ e. (e.0 ≡ start_fault.Root why) ⊎ (e.0 ≡ start_fault.Root fault.Disk)) }
     ensures judged { (d : List Sector) → (D.state disk).contents ≡ Some d → IfErr result (λ e. IsRightRefusal d e.0) }
     ensures early { IfErr result (λ e. IsEarly e.0) }
     ensures counted { IfErr result (λ e. IsDiskFault e.0 → Rose (D.state disk).faults (D.state e.1).faults) }
-    ensures reads { MatchResult result (λ r. ReadsAtMost 1 (D.state disk) (view_of r.0).disk) (λ e. ReadsAtMost 1 (D.state disk) (D.state e.1)) }
+    ensures reads { MatchResult result (λ r. ReadsAtMost 1 (D.state disk) (view_of r.0).disk)
+        (λ e. ReadsAtMost 1 (D.state disk) (D.state e.1)) }
 {
     let mut disk = disk;
     let root = match read_root(&mut disk, true) {
@@ -229,32 +255,46 @@ impl<D: Disk, A: Allocator> Session<D, A> {
         ensures clean { IfOk result (λ s. (id page : ℕ) → IsDirty (state s.core).slots id page → volume_page id page) }
 
         // No session starts.
-        ensures count { ¬ IsCount (D.state disk).sectors → MatchResult result (λ s. ⊥) (λ e. e.0 ≡ start_fault.Root (fault.BadCount (D.state disk).sectors)) }
-        ensures bad_count { (n : ℕ) → IfErr result (λ e. e.0 ≡ start_fault.Root (fault.BadCount n) → ¬ IsCount (D.state disk).sectors × (n ≡ (D.state disk).sectors)) }
+        ensures count { ¬ IsCount (D.state disk).sectors
+            → MatchResult result (λ s. ⊥) (λ e. e.0 ≡ start_fault.Root (fault.BadCount (D.state disk).sectors)) }
+        ensures bad_count { (n : ℕ)
+            → IfErr result
+            (λ e.
+            e.0 ≡ start_fault.Root (fault.BadCount n)
+            → ¬ IsCount (D.state disk).sectors × (n ≡ (D.state disk).sectors)) }
         ensures refused { (d : List Sector) (why : RootFault) → (D.state disk).contents ≡ Some d → IsRefused d why
             → MatchResult result (λ s. ⊥) (λ e. (e.0 ≡ start_fault.Root why) ⊎ (e.0 ≡ start_fault.Root fault.Disk)) }
-        ensures judged { (d : List Sector) → (D.state disk).contents ≡ Some d → IfErr result (λ e. IsRightRefusal d e.0) }
-        ensures sound { (d : List Sector) → (D.state disk).contents ≡ Some d → Sound d → IfErr result (λ e. IsOutside e.0) }
+        ensures judged { (d : List Sector) → (D.state disk).contents ≡ Some d
+            → IfErr result (λ e. IsRightRefusal d e.0) }
+        ensures sound { (d : List Sector) → (D.state disk).contents ≡ Some d → Sound d
+            → IfErr result (λ e. IsOutside e.0) }
         ensures unwritten { IfErr result (λ e. IsEarly e.0 → OnlyReads (D.state disk) (D.state e.1)) }
         ensures counted { IfErr result (λ e. IsDiskFault e.0 → Rose (D.state disk).faults (D.state e.1).faults) }
         ensures cause { IfErr result (λ e. HasStartCause (D.state disk) (D.state e.1) e.0) }
         ensures keeps_to { (d : List Sector) (named : Triples) (ws : List DiskWrite) → IsBegun d named ws (D.state disk)
             → IfOk result (λ s. FromStart d named ws (λ o. KeepsOn o s.core.filer)) }
         ensures reasons { (d : List Sector) (named : Triples) (ws : List DiskWrite) → IsBegun d named ws (D.state disk)
-            → IfErr result (λ e. FromStart d named ws (λ o. ShowsReasonAtStart o (layout_of (length d)) (D.state e.1) e.0)) }
+            → IfErr result
+            (λ e. FromStart d named ws (λ o. ShowsReasonAtStart o (layout_of (length d)) (D.state e.1) e.0)) }
         ensures sees { (d : List Sector) (named : Triples) (ws : List DiskWrite) → IsBegun d named ws (D.state disk)
             → MatchResult result (λ s. SeesFiles no_page s.core) (λ e. NeverBlamesFilesAtStart e.0) }
-        ensures monotone { (d : List Sector) → (D.state disk).contents ≡ Some d → IfOk result (λ s. IsMonotone (root_in (root_page d)) s.volume.root) }
+        ensures monotone { (d : List Sector) → (D.state disk).contents ≡ Some d
+            → IfOk result (λ s. IsMonotone (root_in (root_page d)) s.volume.root) }
         ensures evidence_seen { IfErr result (λ e. IsSoAtStart (D.state e.1) e.0) }
 
         // What was written, whether or not one starts.
         ensures crash_states { (d : List Sector) → (D.state disk).contents ≡ Some d → LabelsRight d
-            → MatchResult result (λ s. KeepsFiles d (D.state disk) (state s.core).disk) (λ e. KeepsFiles d (D.state disk) (D.state e.1)) }
+            → MatchResult result (λ s. KeepsFiles d (D.state disk) (state s.core).disk)
+            (λ e. KeepsFiles d (D.state disk) (D.state e.1)) }
         ensures synced { IfOk result (λ s. SyncsFirst (D.state disk) (state s.core).disk) }
-        ensures wrote { MatchResult result (λ s. WroteFirst (D.state disk) (state s.core).disk) (λ e. WroteFirst (D.state disk) (D.state e.1)) }
-        ensures left_open { MatchResult result (λ s. IsUnset (state s.core).disk) (λ e. LeavesOpenAtStart (D.state e.1) e.0) }
-        ensures cost { MatchResult result (λ s. CostsStart (D.state disk) (state s.core).disk) (λ e. CostsStart (D.state disk) (D.state e.1)) }
-        ensures bounded { MatchResult result (λ s. CostsOther (D.state disk) (state s.core).disk) (λ e. CostsOther (D.state disk) (D.state e.1)) }
+        ensures wrote { MatchResult result (λ s. WroteFirst (D.state disk) (state s.core).disk)
+            (λ e. WroteFirst (D.state disk) (D.state e.1)) }
+        ensures left_open { MatchResult result (λ s. IsUnset (state s.core).disk)
+            (λ e. LeavesOpenAtStart (D.state e.1) e.0) }
+        ensures cost { MatchResult result (λ s. CostsStart (D.state disk) (state s.core).disk)
+            (λ e. CostsStart (D.state disk) (D.state e.1)) }
+        ensures bounded { MatchResult result (λ s. CostsOther (D.state disk) (state s.core).disk)
+            (λ e. CostsOther (D.state disk) (D.state e.1)) }
     {
         let (mut filer, layout, root) = match frames_over(alloc, disk, frames) {
             Ok(opened) => opened,

@@ -53,11 +53,16 @@ pub(crate) fn close<D: Disk, A: Allocator, K: Sink>(
         (last_line Cause.DiskFault) }
     ensures disk_cause { result.0 ≡ Some Status.DiskFault
         → Rose (state session.core).disk.faults (D.state result.1).faults }
-    ensures damage_line { result.0 ≡ Some Status.Damaged → (e : Evidence) × Puts (Rose (K.faults sink.old) (K.faults sink.new)) (K.took sink.old) (K.took sink.new)
+    ensures damage_line { result.0 ≡ Some Status.Damaged
+        → (e : Evidence)
+        × Puts (Rose (K.faults sink.old) (K.faults sink.new)) (K.took sink.old) (K.took sink.new)
         (last_line (Cause.Damaged e)) }
-    ensures evidence_seen { result.0 ≡ Some Status.Damaged → (e : Evidence) × IsEvident (D.state result.1) e × FromEachInitialState session (D.state result.1) e × Puts (Rose (K.faults sink.old) (K.faults sink.new)) (K.took sink.old) (K.took sink.new)
+    ensures evidence_seen { result.0 ≡ Some Status.Damaged
+        → (e : Evidence) × IsEvident (D.state result.1) e × FromEachInitialState session (D.state result.1) e
+        × Puts (Rose (K.faults sink.old) (K.faults sink.new)) (K.took sink.old) (K.took sink.new)
         (last_line (Cause.Damaged e)) }
-    ensures left_open { IsUnset (state session.core).disk → result.0 ≡ Some Status.Damaged → IsUnset (D.state result.1) }
+    ensures left_open { IsUnset (state session.core).disk → result.0 ≡ Some Status.Damaged
+        → IsUnset (D.state result.1) }
     ensures ends { (result.0 ≡ None) ⊎ (result.0 ≡ Some Status.DiskFault)
         ⊎ (result.0 ≡ Some Status.Damaged) }
     ensures wrote { WroteOn (state session.core).slots (state session.core).disk (D.state result.1) }
@@ -96,12 +101,15 @@ pub(crate) fn end_trace<D: RunDisk, A: Allocator, K: Sink>(
         × Appends (K.took sink.old) (K.took sink.new) prefix }
     ensures stream_cause { result.0 ≡ Status.StreamFault
         → Rose (K.faults sink.old) (K.faults sink.new) × (end ≢ End.Trace) }
-    ensures disk_fault { result.0 ≡ Status.DiskFault → (D.shown result.1 ≡ None)
-        × Rose (state session.core).disk.faults (D.state result.1).faults
-        × Puts (Rose (K.faults sink.old) (K.faults sink.new)) (K.took sink.old) (K.took sink.new) (last_line Cause.DiskFault) }
-    ensures damage { result.0 ≡ Status.Damaged → (e : Evidence)
+    ensures disk_fault { result.0 ≡ Status.DiskFault
+        → (D.shown result.1 ≡ None) × Rose (state session.core).disk.faults (D.state result.1).faults
+        × Puts (Rose (K.faults sink.old) (K.faults sink.new)) (K.took sink.old) (K.took sink.new)
+        (last_line Cause.DiskFault) }
+    ensures damage { result.0 ≡ Status.Damaged
+        → (e : Evidence)
         × HasSeen (D.shown result.1) (D.state result.1) (FromEachInitialState session (D.state result.1)) e
-        × Puts (Rose (K.faults sink.old) (K.faults sink.new)) (K.took sink.old) (K.took sink.new) (last_line (Cause.Damaged e)) }
+        × Puts (Rose (K.faults sink.old) (K.faults sink.new)) (K.took sink.old) (K.took sink.new)
+        (last_line (Cause.Damaged e)) }
     ensures left_open { IsUnset (state session.core).disk → result.0 ≡ Status.Damaged → IsUnset (D.state result.1) }
     ensures ends { (result.0 ≡ Status.Done) ⊎ (result.0 ≡ Status.StreamFault)
         ⊎ (result.0 ≡ Status.DiskFault) ⊎ (result.0 ≡ Status.Damaged) }

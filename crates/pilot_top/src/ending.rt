@@ -29,7 +29,8 @@ use trace_io::Sink;
 /// Writes why a run stopped, and gives the status: a label that had changed comes before any other halt.
 pub(crate) fn stop_on<D: RunDisk, K: Sink>(disk: &D, halt: Halt, sink: &mut K) -> Status
     ensures status { result ≡ status_of (halt_on (D.shown disk.now) halt) }
-    ensures line { Puts (Rose (K.faults sink.old) (K.faults sink.new)) (K.took sink.old) (K.took sink.new) (last_line (cause_of (halt_on (D.shown disk.now) halt))) }
+    ensures line { Puts (Rose (K.faults sink.old) (K.faults sink.new)) (K.took sink.old) (K.took sink.new)
+        (last_line (cause_of (halt_on (D.shown disk.now) halt))) }
     ensures later { K.faults sink.old ≤ K.faults sink.new }
 {
     match disk.changed() {
@@ -45,11 +46,14 @@ pub(crate) fn bring<D: RunDisk, K: Sink>(disk: &mut D, sink: &mut K) -> Option<S
     ensures went { Went (D.state disk.old) (D.state disk.new) }
     ensures transfers { (D.state disk.new).transfers ≡ (D.state disk.old).transfers }
     ensures quiet { result ≡ None → sink.new ≡ sink.old }
-    ensures disk_fault { result ≡ Some Status.DiskFault → (D.shown disk.new ≡ None)
-        × Rose (D.state disk.old).faults (D.state disk.new).faults
-        × Puts (Rose (K.faults sink.old) (K.faults sink.new)) (K.took sink.old) (K.took sink.new) (last_line Cause.DiskFault) }
-    ensures changed { result ≡ Some Status.Damaged → (e : Evidence) × (D.shown disk.new ≡ Some e)
-        × Puts (Rose (K.faults sink.old) (K.faults sink.new)) (K.took sink.old) (K.took sink.new) (last_line (Cause.Damaged e)) }
+    ensures disk_fault { result ≡ Some Status.DiskFault
+        → (D.shown disk.new ≡ None) × Rose (D.state disk.old).faults (D.state disk.new).faults
+        × Puts (Rose (K.faults sink.old) (K.faults sink.new)) (K.took sink.old) (K.took sink.new)
+        (last_line Cause.DiskFault) }
+    ensures changed { result ≡ Some Status.Damaged
+        → (e : Evidence) × (D.shown disk.new ≡ Some e)
+        × Puts (Rose (K.faults sink.old) (K.faults sink.new)) (K.took sink.old) (K.took sink.new)
+        (last_line (Cause.Damaged e)) }
     ensures ends { (result ≡ None) ⊎ (result ≡ Some Status.DiskFault) ⊎ (result ≡ Some Status.Damaged) }
     ensures later { K.faults sink.old ≤ K.faults sink.new }
 {
@@ -67,11 +71,14 @@ pub(crate) fn end_long<D: RunDisk, K: Sink>(disk: D, sink: &mut K) -> (Status, D
     ensures transfers { (D.state result.1).transfers ≡ (D.state disk).transfers }
     ensures line { result.0 ≡ Status.Long
         → Puts (Rose (K.faults sink.old) (K.faults sink.new)) (K.took sink.old) (K.took sink.new) (last_line Cause.Long) }
-    ensures disk_fault { result.0 ≡ Status.DiskFault → (D.shown result.1 ≡ None)
-        × Rose (D.state disk).faults (D.state result.1).faults
-        × Puts (Rose (K.faults sink.old) (K.faults sink.new)) (K.took sink.old) (K.took sink.new) (last_line Cause.DiskFault) }
-    ensures changed { result.0 ≡ Status.Damaged → (e : Evidence) × (D.shown result.1 ≡ Some e)
-        × Puts (Rose (K.faults sink.old) (K.faults sink.new)) (K.took sink.old) (K.took sink.new) (last_line (Cause.Damaged e)) }
+    ensures disk_fault { result.0 ≡ Status.DiskFault
+        → (D.shown result.1 ≡ None) × Rose (D.state disk).faults (D.state result.1).faults
+        × Puts (Rose (K.faults sink.old) (K.faults sink.new)) (K.took sink.old) (K.took sink.new)
+        (last_line Cause.DiskFault) }
+    ensures changed { result.0 ≡ Status.Damaged
+        → (e : Evidence) × (D.shown result.1 ≡ Some e)
+        × Puts (Rose (K.faults sink.old) (K.faults sink.new)) (K.took sink.old) (K.took sink.new)
+        (last_line (Cause.Damaged e)) }
     ensures ends { (result.0 ≡ Status.Long) ⊎ (result.0 ≡ Status.DiskFault) ⊎ (result.0 ≡ Status.Damaged) }
     ensures later { K.faults sink.old ≤ K.faults sink.new }
 {
@@ -101,13 +108,17 @@ pub(crate) fn close_run<D: RunDisk, A: Allocator, K: Sink>(
     ensures cost { (m : Machine) → Runs session.core session.volume m
         → CostsOther (state session.core).disk (D.state result.1) }
     ensures quiet { result.0 ≡ None → sink.new ≡ sink.old }
-    ensures disk_fault { result.0 ≡ Some Status.DiskFault → (D.shown result.1 ≡ None)
-        × Rose (state session.core).disk.faults (D.state result.1).faults
-        × Puts (Rose (K.faults sink.old) (K.faults sink.new)) (K.took sink.old) (K.took sink.new) (last_line Cause.DiskFault) }
-    ensures damage { result.0 ≡ Some Status.Damaged → (e : Evidence)
+    ensures disk_fault { result.0 ≡ Some Status.DiskFault
+        → (D.shown result.1 ≡ None) × Rose (state session.core).disk.faults (D.state result.1).faults
+        × Puts (Rose (K.faults sink.old) (K.faults sink.new)) (K.took sink.old) (K.took sink.new)
+        (last_line Cause.DiskFault) }
+    ensures damage { result.0 ≡ Some Status.Damaged
+        → (e : Evidence)
         × HasSeen (D.shown result.1) (D.state result.1) (FromEachInitialState session (D.state result.1)) e
-        × Puts (Rose (K.faults sink.old) (K.faults sink.new)) (K.took sink.old) (K.took sink.new) (last_line (Cause.Damaged e)) }
-    ensures left_open { IsUnset (state session.core).disk → result.0 ≡ Some Status.Damaged → IsUnset (D.state result.1) }
+        × Puts (Rose (K.faults sink.old) (K.faults sink.new)) (K.took sink.old) (K.took sink.new)
+        (last_line (Cause.Damaged e)) }
+    ensures left_open { IsUnset (state session.core).disk → result.0 ≡ Some Status.Damaged
+        → IsUnset (D.state result.1) }
     ensures ends { (result.0 ≡ None) ⊎ (result.0 ≡ Some Status.DiskFault)
         ⊎ (result.0 ≡ Some Status.Damaged) }
     ensures wrote { WroteOn (state session.core).slots (state session.core).disk (D.state result.1) }

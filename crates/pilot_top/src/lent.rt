@@ -31,7 +31,8 @@ pub(crate) fn run_on<A: Allocator, D: Disk, S: Source, K: Sink>(
     ensures cause { (words : List (String Global)) → Means words (command.Run frames 0) → HasReason words result
         (world (D.state disk.old) (S.left source.old) (S.faults source.old) (K.took sink.old) (K.faults sink.old))
         (world (D.state disk.new) (S.left source.new) (S.faults source.new) (K.took sink.new) (K.faults sink.new)) }
-    ensures keeps_source { (words : List (String Global)) → Means words (command.Run frames 0) → TakesNothing words result
+    ensures keeps_source { (words : List (String Global)) → Means words (command.Run frames 0)
+        → TakesNothing words result
         (world (D.state disk.old) (S.left source.old) (S.faults source.old) (K.took sink.old) (K.faults sink.old))
         → source.new ≡ source.old }
     ensures understood { result ≢ Status.Usage }
@@ -60,7 +61,8 @@ pub(crate) fn run_queued_on<A: Allocator + Clone, D: Disk, S: Source, K: Sink>(
     ensures cause { (words : List (String Global)) → Means words (command.Run frames room) → HasReason words result
         (world (D.state disk.old) (S.left source.old) (S.faults source.old) (K.took sink.old) (K.faults sink.old))
         (world (D.state disk.new) (S.left source.new) (S.faults source.new) (K.took sink.new) (K.faults sink.new)) }
-    ensures keeps_source { (words : List (String Global)) → Means words (command.Run frames room) → TakesNothing words result
+    ensures keeps_source { (words : List (String Global)) → Means words (command.Run frames room)
+        → TakesNothing words result
         (world (D.state disk.old) (S.left source.old) (S.faults source.old) (K.took sink.old) (K.faults sink.old))
         → source.new ≡ source.old }
     ensures understood { result ≢ Status.Usage }

@@ -35,7 +35,8 @@ use write_queue::RunQueue;
 
 // Writes why no session started over a disk before which pages may wait, and gives the status.
 fn refuse_on<D: RunDisk, K: Sink>(disk: &D, fault: StartFault, sink: &mut K) -> Status
-    ensures stops { StopsAs (fault_on (D.shown disk.now) fault) result sink.old sink.new (Puts (Rose (K.faults sink.old) (K.faults sink.new)) (K.took sink.old) (K.took sink.new)) }
+    ensures stops { StopsAs (fault_on (D.shown disk.now) fault) result sink.old sink.new
+        (Puts (Rose (K.faults sink.old) (K.faults sink.new)) (K.took sink.old) (K.took sink.new)) }
     ensures later { K.faults sink.old ≤ K.faults sink.new }
 {
     match fault {
@@ -93,7 +94,8 @@ fn run_rooted<D: RunDisk, A: Allocator, S: Source, K: Sink>(
 
     // Why it ended so.
     ensures sound { (d : List Sector) → (D.state disk).contents ≡ Some d → Sound d → result.0 ≢ Status.Damaged }
-    ensures memory { result.0 ≡ Status.NoMemory → (result.1 ≡ disk) × (source.new ≡ source.old) × (sink.new ≡ sink.old) }
+    ensures memory { result.0 ≡ Status.NoMemory
+        → (result.1 ≡ disk) × (source.new ≡ source.old) × (sink.new ≡ sink.old) }
     ensures disk_cause { result.0 ≡ Status.DiskFault → (D.shown result.1 ≡ None)
         × Rose (D.state disk).faults (D.state result.1).faults }
     ensures stream_cause { result.0 ≡ Status.StreamFault

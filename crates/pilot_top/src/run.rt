@@ -54,14 +54,14 @@ pub(crate) fn answer_lines<D: RunDisk, A: Allocator, S: Source, K: Sink>(
     requires size { FitsLayout (state session.core) }
     requires opened { IsOpen (state session.core).layout session.volume }
     requires running { session.running ≡ true }
-    ensures answering { (m : Machine) (b t : List ℕ) → Runs session.core session.volume m
-        → S.left source.old ≡ Some b → K.took sink.old ≡ Some t
-        → Answering result.0 m b (S.left source.new) t (K.took sink.new)
-        (Rose (K.faults sink.old) (K.faults sink.new)) (LeadsTo m (reading b) (state session.core).disk (D.state result.1)) }
-    ensures replied { (b t : List ℕ) → IsLeftOpen (state session.core).disk
-        → S.left source.old ≡ Some b → K.took sink.old ≡ Some t → (result.0 ≡ Status.Damaged → D.shown result.1 ≡ None)
-        → Replied result.0 b (S.left source.new) t (K.took sink.new)
-        (Rose (K.faults sink.old) (K.faults sink.new)) (D.state result.1) (FromEachInitialState session (D.state result.1)) }
+    ensures answering { (m : Machine) (b t : List ℕ) → Runs session.core session.volume m → S.left source.old ≡ Some b
+        → K.took sink.old ≡ Some t
+        → Answering result.0 m b (S.left source.new) t (K.took sink.new) (Rose (K.faults sink.old) (K.faults sink.new))
+        (LeadsTo m (reading b) (state session.core).disk (D.state result.1)) }
+    ensures replied { (b t : List ℕ) → IsLeftOpen (state session.core).disk → S.left source.old ≡ Some b
+        → K.took sink.old ≡ Some t → (result.0 ≡ Status.Damaged → D.shown result.1 ≡ None)
+        → Replied result.0 b (S.left source.new) t (K.took sink.new) (Rose (K.faults sink.old) (K.faults sink.new))
+        (D.state result.1) (FromEachInitialState session (D.state result.1)) }
     ensures changed { (b t : List ℕ) (e : Evidence) → S.left source.old ≡ Some b → K.took sink.old ≡ Some t
         → result.0 ≡ Status.Damaged → D.shown result.1 ≡ Some e
         → RepliesChange b t (K.took sink.new) (Rose (K.faults sink.old) (K.faults sink.new)) e }
@@ -71,9 +71,9 @@ pub(crate) fn answer_lines<D: RunDisk, A: Allocator, S: Source, K: Sink>(
         → S.left source.old ≡ Some b → result.0 ≡ Status.Done → halts (reading b) ≡ false
         → HasShut (after m (reading b) (length (reading b))) (D.state result.1) }
     ensures closed_unheard { (m : Machine) (b : List ℕ) → Runs session.core session.volume m
-        → S.left source.old ≡ Some b → result.0 ≡ Status.StreamFault → ¬ Rose (S.faults source.old) (S.faults source.new)
-        → S.left source.new ≡ Some (rest_of b) → closes (reading b) ≡ true
-        → HasShut (after m (reading b) (length (reading b))) (D.state result.1) }
+        → S.left source.old ≡ Some b → result.0 ≡ Status.StreamFault
+        → ¬ Rose (S.faults source.old) (S.faults source.new) → S.left source.new ≡ Some (rest_of b)
+        → closes (reading b) ≡ true → HasShut (after m (reading b) (length (reading b))) (D.state result.1) }
     ensures some_crash_states { (m : Machine) → Runs session.core session.volume m
         → (lines : List TraceLine) × CrashStates m lines (state session.core).disk (D.state result.1) }
     ensures stays_open { (b : List ℕ) → IsLeftOpen (state session.core).disk
@@ -83,14 +83,16 @@ pub(crate) fn answer_lines<D: RunDisk, A: Allocator, S: Source, K: Sink>(
         → IsLeftOpen (D.state result.1) }
     ensures left_open { IsLeftOpen (state session.core).disk
         → (result.0 ≡ Status.Long) ⊎ (result.0 ≡ Status.Damaged) → IsLeftOpen (D.state result.1) }
-    ensures transfers { (m : Machine) (b : List ℕ) → Runs session.core session.volume m
-        → S.left source.old ≡ Some b
-        → (D.state result.1).transfers ≤ (state session.core).disk.transfers + (other_bound (state session.core).disk.sectors + sum_by (line_bound (state session.core).disk.sectors) (reading b)) }
+    ensures transfers { (m : Machine) (b : List ℕ) → Runs session.core session.volume m → S.left source.old ≡ Some b
+        → (D.state result.1).transfers ≤ (state session.core).disk.transfers
+        + (other_bound (state session.core).disk.sectors + sum_by (line_bound (state session.core).disk.sectors)
+        (reading b)) }
     ensures sound { (m : Machine) → Runs session.core session.volume m
         → result.0 ≢ Status.Damaged }
-    ensures damage { (t : List ℕ) → IsLeftOpen (state session.core).disk
-        → K.took sink.old ≡ Some t → result.0 ≡ Status.Damaged → D.shown result.1 ≡ None
-        → (revealed : RevealsDamage t (K.took sink.new) (Rose (K.faults sink.old) (K.faults sink.new)) (D.state result.1))
+    ensures damage { (t : List ℕ) → IsLeftOpen (state session.core).disk → K.took sink.old ≡ Some t
+        → result.0 ≡ Status.Damaged → D.shown result.1 ≡ None
+        → (revealed : RevealsDamage t (K.took sink.new) (Rose (K.faults sink.old) (K.faults sink.new))
+        (D.state result.1))
         × FromEachInitialState session (D.state result.1) revealed.evidence }
     ensures changed_line { (t : List ℕ) (e : Evidence) → K.took sink.old ≡ Some t
         → result.0 ≡ Status.Damaged → D.shown result.1 ≡ Some e
@@ -103,7 +105,8 @@ pub(crate) fn answer_lines<D: RunDisk, A: Allocator, S: Source, K: Sink>(
         → Stops result.0 b (S.left source.new) t (K.took sink.new) (Rose (K.faults sink.old) (K.faults sink.new))
         (λ k. InParts (PartMay (reading b)) k (state session.core).disk (D.state result.1)) }
     ensures spares { (b : List ℕ) → S.left source.old ≡ Some b
-        → RunSpares session.volume.root (reading b) (state session.core).disk (state session.core).slots (D.state result.1) }
+        → RunSpares session.volume.root (reading b) (state session.core).disk (state session.core).slots
+        (D.state result.1) }
     ensures same_disk { Went (state session.core).disk (D.state result.1) }
     ensures disk_cause { result.0 ≡ Status.DiskFault → (D.shown result.1 ≡ None)
         × Rose (state session.core).disk.faults (D.state result.1).faults }
@@ -156,8 +159,8 @@ pub(crate) fn run<A: Allocator, D: RunDisk, S: Source, K: Sink>(
         → Run result.0 d b (S.left source.new) t (K.took sink.new)
         (Rose (K.faults sink.old) (K.faults sink.new)) (D.state disk) (D.state result.1) }
     ensures replied { (b t : List ℕ) → S.left source.old ≡ Some b → K.took sink.old ≡ Some t
-        → Replied result.0 b (S.left source.new) t (K.took sink.new)
-        (Rose (K.faults sink.old) (K.faults sink.new)) (D.state result.1) (FromInitialState (D.state disk) (D.state result.1)) }
+        → Replied result.0 b (S.left source.new) t (K.took sink.new) (Rose (K.faults sink.old) (K.faults sink.new))
+        (D.state result.1) (FromInitialState (D.state disk) (D.state result.1)) }
     ensures crash_states { (d : List Sector) (b : List ℕ)
         → (D.state disk).contents ≡ Some d → Sound d → S.left source.old ≡ Some b
         → CrashStates (start d) (reading b) (D.state disk) (D.state result.1) }
@@ -183,7 +186,8 @@ pub(crate) fn run<A: Allocator, D: RunDisk, S: Source, K: Sink>(
     ensures sound { (d : List Sector) → (D.state disk).contents ≡ Some d → Sound d
         → result.0 ≢ Status.NotOpened × result.0 ≢ Status.Damaged }
     ensures damage { (t : List ℕ) → K.took sink.old ≡ Some t → result.0 ≡ Status.Damaged
-        → (revealed : RevealsDamage t (K.took sink.new) (Rose (K.faults sink.old) (K.faults sink.new)) (D.state result.1))
+        → (revealed : RevealsDamage t (K.took sink.new) (Rose (K.faults sink.old) (K.faults sink.new))
+        (D.state result.1))
         × FromInitialState (D.state disk) (D.state result.1) revealed.evidence }
     ensures permitted { Lawfully (D.state disk) (D.state result.1) }
     ensures cuts { (d : List Sector) → (D.state disk).contents ≡ Some d → Sound d

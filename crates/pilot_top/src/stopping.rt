@@ -15,7 +15,8 @@ use trace_io::Sink;
 /// Writes why a session stopped, and gives the status.
 pub(crate) fn stop<K: Sink>(halt: Halt, sink: &mut K) -> Status
     ensures status { result ≡ status_of halt }
-    ensures line { Puts (Rose (K.faults sink.old) (K.faults sink.new)) (K.took sink.old) (K.took sink.new) (last_line (cause_of halt)) }
+    ensures line { Puts (Rose (K.faults sink.old) (K.faults sink.new)) (K.took sink.old) (K.took sink.new)
+        (last_line (cause_of halt)) }
     ensures later { K.faults sink.old ≤ K.faults sink.new }
 {
     match halt {
@@ -32,7 +33,8 @@ pub(crate) fn stop<K: Sink>(halt: Halt, sink: &mut K) -> Status
 
 /// Writes why no session started, unless there was no memory, and gives the status.
 pub(crate) fn refuse<K: Sink>(fault: StartFault, sink: &mut K) -> Status
-    ensures stops { StopsAs fault result sink.old sink.new (Puts (Rose (K.faults sink.old) (K.faults sink.new)) (K.took sink.old) (K.took sink.new)) }
+    ensures stops { StopsAs fault result sink.old sink.new
+        (Puts (Rose (K.faults sink.old) (K.faults sink.new)) (K.took sink.old) (K.took sink.new)) }
     ensures later { K.faults sink.old ≤ K.faults sink.new }
 {
     match fault {

@@ -69,9 +69,11 @@ fn prepare<D: Disk, A: Allocator>(session: &mut Session<D, A>) -> Result<(), Hal
     requires opened { IsOpen (state session.old.core).layout session.old.volume }
     requires running { session.old.running ≡ true }
     ensures answered { (m : Machine) → Runs session.old.core session.old.volume m
-        → OnOk result ((replies : List Reply) × HasAnswered m first_calls replies (Runs session.new.core session.new.volume)) }
+        → OnOk result
+        ((replies : List Reply) × HasAnswered m first_calls replies (Runs session.new.core session.new.volume)) }
     ensures sound { (m : Machine) → Runs session.old.core session.old.volume m → IfErr result (λ e. e ≡ halt.Disk) }
-    ensures counted { result ≡ Err halt.Disk → Rose (state session.old.core).disk.faults (state session.new.core).disk.faults }
+    ensures counted { result ≡ Err halt.Disk
+        → Rose (state session.old.core).disk.faults (state session.new.core).disk.faults }
     ensures evidence_seen { IfErr result (ShowsEvidence (state session.new.core).disk) }
     ensures permitted { Openly (state session.old.core).disk (state session.new.core).disk }
     ensures went { Went (state session.old.core).disk (state session.new.core).disk }
@@ -102,7 +104,8 @@ fn count_calls<D: Disk, A: Allocator>(
         × ((m : Machine) → Runs session.old.core session.old.volume m
         → HasAnswered m (drawn_calls seed calls) replies (Runs session.new.core session.new.volume))) }
     ensures sound { (m : Machine) → Runs session.old.core session.old.volume m → IfErr result (λ e. e ≡ halt.Disk) }
-    ensures counted { result ≡ Err halt.Disk → Rose (state session.old.core).disk.faults (state session.new.core).disk.faults }
+    ensures counted { result ≡ Err halt.Disk
+        → Rose (state session.old.core).disk.faults (state session.new.core).disk.faults }
     ensures evidence_seen { IfErr result (ShowsEvidence (state session.new.core).disk) }
     ensures permitted { Openly (state session.old.core).disk (state session.new.core).disk }
     ensures went { Went (state session.old.core).disk (state session.new.core).disk }
@@ -134,7 +137,8 @@ fn try_calls<D: Disk, A: Allocator>(
         × ((m : Machine) → Runs session.old.core session.old.volume m → IsTrialOf m seed calls replies
         × Runs session.new.core session.new.volume (after_calls m (first_calls ++ drawn_calls seed calls)))) }
     ensures sound { (m : Machine) → Runs session.old.core session.old.volume m → IfErr result (λ e. e ≡ halt.Disk) }
-    ensures counted { result ≡ Err halt.Disk → Rose (state session.old.core).disk.faults (state session.new.core).disk.faults }
+    ensures counted { result ≡ Err halt.Disk
+        → Rose (state session.old.core).disk.faults (state session.new.core).disk.faults }
     ensures evidence_seen { IfErr result (ShowsEvidence (state session.new.core).disk) }
     ensures permitted { Openly (state session.old.core).disk (state session.new.core).disk }
     ensures went { Went (state session.old.core).disk (state session.new.core).disk }

@@ -68,17 +68,20 @@ pub(crate) fn take_turn<D: Disk, A: Allocator, S: Source>(
     requires opened { IsOpen (state session.old.core).layout session.old.volume }
     requires running { session.old.running ≡ true }
     ensures turns { Turns result (S.left source.old) (S.left source.new) lines.old lines.new
-        (Runs session.old.core session.old.volume)
-        (Runs session.new.core session.new.volume)
-        (λ m line. LineCrashStates m line (state session.old.core).disk (state session.new.core).disk
+        (Runs session.old.core session.old.volume) (Runs session.new.core session.new.volume)
+        (λ m line.
+        LineCrashStates m line (state session.old.core).disk (state session.new.core).disk
         × CostsLine line (state session.old.core).disk (state session.new.core).disk)
-        (λ line. LineDone session.old.volume.root line (state session.old.core).disk (state session.old.core).slots (state session.new.core).disk (state session.new.core).slots) }
+        (λ line.
+        LineDone session.old.volume.root line (state session.old.core).disk (state session.old.core).slots
+        (state session.new.core).disk (state session.new.core).slots) }
     ensures bound { lines.new.taken ≤ lines.new.limit }
     ensures idle { IsIdle result → session.new ≡ session.old }
     ensures going { IsGoing result → session.new.running ≡ true }
     ensures sound { (m : Machine) (why : Halt) → Runs session.old.core session.old.volume m
         → result ≡ Turn.Halts why → why ≡ halt.Disk }
-    ensures counted { result ≡ Turn.Halts halt.Disk → Rose (state session.old.core).disk.faults (state session.new.core).disk.faults }
+    ensures counted { result ≡ Turn.Halts halt.Disk
+        → Rose (state session.old.core).disk.faults (state session.new.core).disk.faults }
     ensures keeps_to { (o : InitialState) → KeepsOn o session.old.core.filer → IsNotOlder o session.old.volume.root
         → IsGoing result → KeepsOn (giving o (next_id session.new.volume.root)) session.new.core.filer }
     ensures reasons { (o : InitialState) → KeepsOn o session.old.core.filer → IsNotOlder o session.old.volume.root
@@ -87,10 +90,12 @@ pub(crate) fn take_turn<D: Disk, A: Allocator, S: Source>(
     ensures sees { (o : InitialState) → KeepsOn o session.old.core.filer → IsNotOlder o session.old.volume.root
         → SeesHome o session.old.core → IsGoing result → SeesHome o session.new.core }
     ensures right { (o : InitialState) → KeepsOn o session.old.core.filer → IsNotOlder o session.old.volume.root
-        → SeesHome o session.old.core → (why : Halt) → result ≡ Turn.Halts why → IsBlameless o (state session.new.core).disk why }
+        → SeesHome o session.old.core → (why : Halt) → result ≡ Turn.Halts why
+        → IsBlameless o (state session.new.core).disk why }
     ensures monotone { IsMonotone session.old.volume.root session.new.volume.root }
     ensures evidence_seen { (why : Halt) → result ≡ Turn.Halts why → ShowsEvidence (state session.new.core).disk why }
-    ensures wrote { WroteIn client_or_own (state session.old.core).disk (state session.old.core).slots (state session.new.core).disk (state session.new.core).slots }
+    ensures wrote { WroteIn client_or_own (state session.old.core).disk (state session.old.core).slots
+        (state session.new.core).disk (state session.new.core).slots }
     ensures open_still { IsOpen (state session.new.core).layout session.new.volume }
     ensures layout { (state session.new.core).layout ≡ (state session.old.core).layout }
     ensures source_later { S.faults source.old ≤ S.faults source.new }

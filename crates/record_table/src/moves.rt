@@ -59,7 +59,8 @@ fn push_page<M: FlatMem, const E: usize>(
     requires some { 1 ≤ E }
     requires most { E ≤ 64 }
     requires inside { at < capacity_of E (M.size mem.old) }
-    ensures moved { (b : List ℕ) → M.reveals mem.old b → OnOk result (MovesUp E (M.reveals mem.new) b at carried.old carried.new) }
+    ensures moved { (b : List ℕ) → M.reveals mem.old b
+        → OnOk result (MovesUp E (M.reveals mem.new) b at carried.old carried.new) }
     ensures long { length carried.new ≡ E }
     ensures kept { M.beside mem.old mem.new }
     ensures cause { IfErr result (λ e. M.accounted mem.old mem.new e) }
@@ -82,7 +83,8 @@ fn pull_page<M: FlatMem, const E: usize>(
     requires some { 1 ≤ E }
     requires most { E ≤ 64 }
     requires inside { at < capacity_of E (M.size mem.old) }
-    ensures moved { (b : List ℕ) → M.reveals mem.old b → OnOk result (MovesDown E (M.reveals mem.new) b at carried.old carried.new) }
+    ensures moved { (b : List ℕ) → M.reveals mem.old b
+        → OnOk result (MovesDown E (M.reveals mem.new) b at carried.old carried.new) }
     ensures long { length carried.new ≡ E }
     ensures kept { M.beside mem.old mem.new }
     ensures cause { IfErr result (λ e. M.accounted mem.old mem.new e) }

@@ -30,13 +30,16 @@ ghost use Rattle.labelled_disk.specs.FilesOn.{disk_file};
 
 /// Each part of what a session stands for stays where pages of other kinds change.
 pub fn parts_stay()
-    ensures { (spaces_of : TablesMeaning) (m n : List Sector) (kinds : Kind → Bool) (same : SameBut kinds m n) → Stays spaces_of m n kinds same }
+    ensures { (spaces_of : TablesMeaning) (m n : List Sector) (kinds : Kind → Bool) (same : SameBut kinds m n)
+        → Stays spaces_of m n kinds same }
 {}
 
 /// Labels that are those of some files reveal these files, and no others.
 pub fn labels_reveal_files()
-    ensures found { (d : List Sector) (shapes : Shapes) → HasLabels (labels_of d) shapes → AreShapes shapes → (id : ℕ) (f : Shape) → shapes id ≡ Some f → (g : File) × IsFound d id f g }
-    ensures missing { (d : List Sector) (shapes : Shapes) → HasLabels (labels_of d) shapes → AreShapes shapes → (id : ℕ) → shapes id ≡ None → disk_file true d id ≡ None }
+    ensures found { (d : List Sector) (shapes : Shapes) → HasLabels (labels_of d) shapes → AreShapes shapes
+        → (id : ℕ) (f : Shape) → shapes id ≡ Some f → (g : File) × IsFound d id f g }
+    ensures missing { (d : List Sector) (shapes : Shapes) → HasLabels (labels_of d) shapes → AreShapes shapes → (id : ℕ)
+        → shapes id ≡ None → disk_file true d id ≡ None }
 {}
 
 /// The disk reveals the settled files of the machine that it and its frames stand for, in each crash state of swapping too.

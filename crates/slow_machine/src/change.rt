@@ -30,7 +30,10 @@ impl<A: Allocator + Clone> SlowMachine<A> {
 
     pub(crate) fn create(&mut self, pages: u32, kind: u16) -> Result<Reply, AllocError>
         requires { refusal self.old (call_of.Create pages kind) ≡ None }
-        ensures ok { IfOk result (λ r. (r ≡ plain_reply self.old (call_of.Create pages kind)) × (self.new ≡ change self.old (call_of.Create pages kind))) }
+        ensures ok { IfOk result
+            (λ r.
+            (r ≡ plain_reply self.old (call_of.Create pages kind))
+            × (self.new ≡ change self.old (call_of.Create pages kind))) }
         ensures err { OnErr result (self.new ≡ self.old) }
     {
         let id = self.add_file(pages, kind)?;
@@ -84,7 +87,10 @@ impl<A: Allocator + Clone> SlowMachine<A> {
         first: Option<u32>,
     ) -> Result<Reply, AllocError>
         requires { refusal self.old (call_of.MakeSpace parent pages first) ≡ None }
-        ensures ok { IfOk result (λ r. (r ≡ plain_reply self.old (call_of.MakeSpace parent pages first)) × (self.new ≡ change self.old (call_of.MakeSpace parent pages first))) }
+        ensures ok { IfOk result
+            (λ r.
+            (r ≡ plain_reply self.old (call_of.MakeSpace parent pages first))
+            × (self.new ≡ change self.old (call_of.MakeSpace parent pages first))) }
         ensures err { OnErr result (self.new ≡ self.old) }
     {
         let place = self.first_page_for(parent, pages, first);

@@ -130,7 +130,8 @@ pub fn resized<A: Allocator + Clone>(
 /// Writes a byte at a place of a file.
 fn write_at<A: Allocator>(files: &mut [StoredFile<A>], id: FileId, page: u64, offset: u32, byte: u8)
     requires { offset < 512 }
-    ensures { files.new ≡ after.change_file id (after.with_byte (record { file = id; page = page; offset = offset }) byte) files.old }
+    ensures { files.new ≡ after.change_file id
+        (after.with_byte (record { file = id; page = page; offset = offset }) byte) files.old }
 {
     for f in files.iter_mut() {
         f.write_at(id, page, offset, byte);

@@ -21,7 +21,8 @@ fn killed_page(spaces: &[Space], range: &Space, at: &FilePage, page: CellPage) -
 
 /// Kills those pages of a file that a writable window shows in the range.
 pub fn kill_pages(spaces: &[Space], range: &Space, file: FileId, pages: &mut [CellPage])
-    ensures { pages.new ≡ after.with_any (λ page. after.is_writable_within spaces.now range.now (record { file = file; page = page })) pages.old }
+    ensures { pages.new ≡ after.with_any
+        (λ page. after.is_writable_within spaces.now range.now (record { file = file; page = page })) pages.old }
 {
     for (index, page) in pages.iter_mut().enumerate() {
         let at = FilePage {

@@ -76,7 +76,9 @@ fn has_child_over(spaces: &[Space], parent: u32, page: u32) -> bool
 
 /// Whether the space holds the page, and has no child that holds it.
 fn is_innermost(spaces: &[Space], s: &Space, page: u32) -> bool
-    ensures { result ≡ (of_space.holds s.now page && not (list_any (λ t. of_space.is_child_of s.now.handle t && of_space.holds t page) spaces.now)) }
+    ensures { result
+        ≡ (of_space.holds s.now page && not
+        (list_any (λ t. of_space.is_child_of s.now.handle t && of_space.holds t page) spaces.now)) }
 {
     holds(s, u64::from(page)) && !has_child_over(spaces, s.handle, page)
 }
@@ -124,7 +126,9 @@ fn is_above<A: Allocator>(
     id: FileId,
     file: &StoredFile<A>,
 ) -> bool
-    ensures { result ≡ (nat_lt id file.now.id && is_some (if of_machine.is_anonymous spaces.now file.now.id then None else of_file.file_at files.now file.now.id)) }
+    ensures { result
+        ≡ (nat_lt id file.now.id && is_some
+        (if of_machine.is_anonymous spaces.now file.now.id then None else of_file.file_at files.now file.now.id)) }
 {
     id < file.id() && is_nameable(files, spaces, file.id())
 }
@@ -135,7 +139,12 @@ pub fn nameable_above<A: Allocator>(
     spaces: &[Space],
     id: FileId,
 ) -> Option<FileId>
-    ensures { result ≡ option_map (λ f. f.id) (find (λ f. nat_lt id f.id && is_some (if of_machine.is_anonymous spaces.now f.id then None else of_file.file_at files.now f.id)) files.now) }
+    ensures { result ≡ option_map (λ f. f.id)
+        (find
+        (λ f.
+        nat_lt id f.id && is_some
+        (if of_machine.is_anonymous spaces.now f.id then None else of_file.file_at files.now f.id))
+        files.now) }
 {
     files
         .iter()

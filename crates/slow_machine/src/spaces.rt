@@ -107,7 +107,9 @@ pub fn set_window<A: Allocator>(spaces: &mut Vec<Space, A>, handle: u32, window:
 
 /// The space, with its window in that mode where it has the handle.
 fn with_mode(space: Space, handle: u32, writable: bool) -> Space
-    ensures { result ≡ (if space.handle == handle then record space { window = option_map (after.with_mode writable) space.window } else space) }
+    ensures { result
+        ≡ (if space.handle == handle then record space { window = option_map (after.with_mode writable) space.window }
+        else space) }
 {
     if space.handle == handle {
         return Space {

@@ -48,7 +48,10 @@ impl<A: Allocator> StoredFile<A> {
 
     /// A temporary file of zero pages, which may be changed.
     pub fn new(alloc: A, id: FileId, kind: u16, pages: u32) -> Result<StoredFile<A>, AllocError>
-        ensures { IfOk result (λ f. f ≡ record { id = id; kind = kind; permanent = false; immutable = false; pages = replicate pages zero_page }) }
+        ensures { IfOk result
+            (λ f.
+            f ≡ record
+            { id = id; kind = kind; permanent = false; immutable = false; pages = replicate pages zero_page }) }
     {
         let mut made = Vec::new(alloc);
         made.resize(pages as usize, zero_page())?;
@@ -113,7 +116,9 @@ impl<A: Allocator> StoredFile<A> {
     /// Writes a byte at that offset of that page, where this is the file.
     pub fn write_at(&mut self, id: FileId, page: u64, offset: u32, byte: u8)
         requires { offset < 512 }
-        ensures { self.new ≡ (if self.old.id == id then with_byte (record { file = id; page = page; offset = offset }) byte self.old else self.old) }
+        ensures { self.new
+            ≡ (if self.old.id == id then with_byte (record { file = id; page = page; offset = offset }) byte self.old
+            else self.old) }
     {
         if self.id == id && page < self.pages.len() as u64 {
             self.pages[page as usize][offset as usize] = Some(byte);

@@ -52,7 +52,8 @@ pub fn mark_both<A: Allocator>(
     first: u32,
     last: u32,
 ) -> Result<(), AllocError>
-    ensures ok { OnOk result (unforced.new.items ≡ fold (after.mark_page spaces.now) unforced.old.items (one_or_two first last)) }
+    ensures ok { OnOk result
+        (unforced.new.items ≡ fold (after.mark_page spaces.now) unforced.old.items (one_or_two first last)) }
     ensures err { OnErr result (unforced.new.items ≡ unforced.old.items) }
 {
     let before = unforced.len();
@@ -76,7 +77,8 @@ pub fn force_window<A: Allocator>(space: &Space, unforced: &mut Vec<FilePage, A>
 
 /// Takes the pages away that the window of the space shows, where it is no longer writable.
 pub fn force_unless<A: Allocator>(writable: bool, space: &Space, unforced: &mut Vec<FilePage, A>)
-    ensures { unforced.new.items ≡ (if writable then unforced.old.items else after.without_window_of space.now unforced.old.items) }
+    ensures { unforced.new.items
+        ≡ (if writable then unforced.old.items else after.without_window_of space.now unforced.old.items) }
 {
     if !writable {
         force_window(space, unforced);

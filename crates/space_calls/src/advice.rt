@@ -33,19 +33,30 @@ use table_calls::bounds;
 /// Brings in the swap units of the pages of a space, at most half of the frames.
 pub fn activate<D: Disk, A: Allocator>(core: &mut Core<D, A>, space: u32) -> Result<Reply, Halt>
     requires size { FitsLayout (state core.old) }
-    ensures answers { (volume : Volume) (m : Machine) → Runs core.old volume m → Answers m (call.Activate space) core.old core.new volume result }
+    ensures answers { (volume : Volume) (m : Machine) → Runs core.old volume m
+        → Answers m (call.Activate space) core.old core.new volume result }
     ensures counted { result ≡ Err halt.Disk → Rose (state core.old).disk.faults (state core.new).disk.faults }
-    ensures cause { IfErr result (TouchHalts (BreaksRange (state core.old) core.old.intervals space) (state core.old) (state core.new)) }
-    ensures missing { (ss : List Space) → Sees (state core.old) (kept core.old) core.old.intervals ss → IfErr result (MissesPage (space_units ss space)) }
+    ensures cause { IfErr result
+        (TouchHalts (BreaksRange (state core.old) core.old.intervals space) (state core.old) (state core.new)) }
+    ensures missing { (ss : List Space) → Sees (state core.old) (kept core.old) core.old.intervals ss
+        → IfErr result (MissesPage (space_units ss space)) }
     ensures evidence_seen { IfErr result (ShowsEvidence (state core.new).disk) }
-    ensures wrote { WroteIn (volume_page) (state core.old).disk (state core.old).slots (state core.new).disk (state core.new).slots }
+    ensures wrote { WroteIn (volume_page) (state core.old).disk (state core.old).slots (state core.new).disk
+        (state core.new).slots }
     ensures sees { OnOk result (StillOn core.old core.new) }
     ensures right { SeesOn core.old → IfErr result NeverBlamesTables }
     ensures moves { Moves (state core.old) (state core.new) }
     ensures layout { (state core.new).layout ≡ (state core.old).layout }
     ensures cost { CostsOther (state core.old).disk (state core.new).disk }
-    ensures whole { (volume : Volume) (m : Machine) (s : Space) → Runs core.old volume m → space_at m.spaces space ≡ Some s → OnOk result (IsActive m.spaces (kept core.new) (state core.new).slots s.first (s.first + s.pages)) }
-    ensures brought { (volume : Volume) (m : Machine) (s : Space) → Runs core.old volume m → space_at m.spaces space ≡ Some s → OnOk result ((units : ℕ) × AreBrought m.spaces (kept core.new) (state core.new).slots s.first (s.first + s.pages) (length (state core.old).slots / 2) units) }
+    ensures whole { (volume : Volume) (m : Machine) (s : Space) → Runs core.old volume m
+        → space_at m.spaces space ≡ Some s
+        → OnOk result (IsActive m.spaces (kept core.new) (state core.new).slots s.first (s.first + s.pages)) }
+    ensures brought { (volume : Volume) (m : Machine) (s : Space) → Runs core.old volume m
+        → space_at m.spaces space ≡ Some s
+        → OnOk result
+        ((units : ℕ)
+        × AreBrought m.spaces (kept core.new) (state core.new).slots s.first (s.first + s.pages)
+        (length (state core.old).slots / 2) units) }
 {
     let (first, pages) = match bounds(core, space) {
         Ok(Ok(run)) => run,

@@ -27,11 +27,13 @@ use std::alloc::Allocator;
 // keeps the interval.
 pub(crate) fn shows_nothing<D: Disk, A: Allocator>(core: &mut Core<D, A>) -> Result<bool, Halt>
     requires size { FitsLayout (state core.old) }
-    ensures answer { (volume : Volume) (m : Machine) → Runs core.old volume m → IfOk result (λ none. none ≡ true → list_any is_mapped m.spaces ≡ false) }
+    ensures answer { (volume : Volume) (m : Machine) → Runs core.old volume m
+        → IfOk result (λ none. none ≡ true → list_any is_mapped m.spaces ≡ false) }
     ensures looks { Looks core.old core.new }
     ensures sound { (volume : Volume) (m : Machine) → Runs core.old volume m → IfErr result (λ e. e ≡ halt.Disk) }
     ensures counted { result ≡ Err halt.Disk → Rose (state core.old).disk.faults (state core.new).disk.faults }
-    ensures cause { IfErr result (ReachHalts (BreaksTables (state core.old) core.old.intervals 0) (state core.old) (state core.new)) }
+    ensures cause { IfErr result
+        (ReachHalts (BreaksTables (state core.old) core.old.intervals 0) (state core.old) (state core.new)) }
     ensures evidence_seen { IfErr result (ShowsEvidence (state core.new).disk) }
     ensures right { SeesOn core.old → IfErr result NeverBlamesTables }
     ensures cost { (state core.new).disk.transfers ≤ (state core.old).disk.transfers + 196 }

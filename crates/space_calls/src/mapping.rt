@@ -54,16 +54,27 @@ pub fn give_window<D: Disk, A: Allocator>(
     shown: Shown,
 ) -> Result<Reply, Halt>
     requires size { FitsLayout (state core.old) }
-    ensures given { (volume : Volume) (m : Machine) (x : Space) → Runs core.old volume m → MayHaveWindow m.spaces x → x.handle ≡ space → x.window ≡ None → WindowFits x.pages (window_of shown)
+    ensures given { (volume : Volume) (m : Machine) (x : Space) → Runs core.old volume m → MayHaveWindow m.spaces x
+        → x.handle ≡ space → x.window ≡ None → WindowFits x.pages (window_of shown)
         → IsMachine (record m { spaces = set_window space (Some (window_of shown)) m.spaces })
-        → IfOk result (λ reply. (reply ≡ answer.Done) × Runs core.new volume (record m { spaces = set_window space (Some (window_of shown)) m.spaces })) }
-    ensures sound { (volume : Volume) (m : Machine) (x : Space) → Runs core.old volume m → MayHaveWindow m.spaces x → x.handle ≡ space → x.window ≡ None → WindowFits x.pages (window_of shown) → IfErr result (λ e. e ≡ halt.Disk) }
+        → IfOk result
+        (λ reply.
+        (reply ≡ answer.Done)
+        × Runs core.new volume (record m { spaces = set_window space (Some (window_of shown)) m.spaces })) }
+    ensures sound { (volume : Volume) (m : Machine) (x : Space) → Runs core.old volume m → MayHaveWindow m.spaces x
+        → x.handle ≡ space → x.window ≡ None → WindowFits x.pages (window_of shown)
+        → IfErr result (λ e. e ≡ halt.Disk) }
     ensures counted { result ≡ Err halt.Disk → Rose (state core.old).disk.faults (state core.new).disk.faults }
     ensures cause { IfErr result (ChangeHalts core.old.intervals (state core.old) (state core.new)) }
     ensures evidence_seen { IfErr result (ShowsEvidence (state core.new).disk) }
     ensures makes { MakesOnly volume_page [] (state core.old) (state core.new) }
-    ensures sees { (ss : List Space) (x : Space) → Sees (state core.old) (kept core.old) core.old.intervals ss → MayHaveWindow ss x → x.handle ≡ space → WindowFits x.pages (window_of shown)
-        → IfOk result (λ reply. (reply ≡ answer.Done) × SeesFiles (λ file last. IsShown ss file last ⊎ ((file ≡ shown.id) × IsLastFrom ss space shown.page last)) core.new) }
+    ensures sees { (ss : List Space) (x : Space) → Sees (state core.old) (kept core.old) core.old.intervals ss
+        → MayHaveWindow ss x → x.handle ≡ space → WindowFits x.pages (window_of shown)
+        → IfOk result
+        (λ reply.
+        (reply ≡ answer.Done)
+        × SeesFiles (λ file last. IsShown ss file last ⊎ ((file ≡ shown.id) × IsLastFrom ss space shown.page last))
+        core.new) }
     ensures right { SeesOn core.old → IfErr result NeverBlamesTables }
     ensures moves { Moves (state core.old) (state core.new) }
     ensures layout { (state core.new).layout ≡ (state core.old).layout }
@@ -96,15 +107,19 @@ fn may_map<D: Disk, A: Allocator>(
     writable: bool,
 ) -> Result<Result<(), Refusal>, Halt>
     requires size { FitsLayout (state core.old) }
-    ensures answer { (volume : Volume) (m : Machine) → Runs core.old volume m → IfOk result (Reveals (refusal m (call.Map space id page writable)) (λ _. IsInReach m space page)) }
+    ensures answer { (volume : Volume) (m : Machine) → Runs core.old volume m
+        → IfOk result (Reveals (refusal m (call.Map space id page writable)) (λ _. IsInReach m space page)) }
     ensures looks { Looks core.old core.new }
     ensures sound { (volume : Volume) (m : Machine) → Runs core.old volume m → IfErr result (λ e. e ≡ halt.Disk) }
     ensures counted { result ≡ Err halt.Disk → Rose (state core.old).disk.faults (state core.new).disk.faults }
     ensures cause { IfErr result (MapFileHalts space id core.old.intervals (state core.old) (state core.new)) }
     ensures evidence_seen { IfErr result (ShowsEvidence (state core.new).disk) }
-    ensures seen { (ss : List Space) → Sees (state core.old) (kept core.old) core.old.intervals ss → IfOk result (IfGiven (λ _. MayShow ss space id page writable)) }
+    ensures seen { (ss : List Space) → Sees (state core.old) (kept core.old) core.old.intervals ss
+        → IfOk result (IfGiven (λ _. MayShow ss space id page writable)) }
     ensures right { SeesOn core.old → IfErr result NeverBlamesTables }
-    ensures found { (ss : List Space) (m : List Sector) (named : Triples) → Sees (state core.old) (kept core.old) core.old.intervals ss → HasMemory (state core.old) m → MapIs (state core.old).layout named m → AreOf named (kept_by (state core.old))
+    ensures found { (ss : List Space) (m : List Sector) (named : Triples)
+        → Sees (state core.old) (kept core.old) core.old.intervals ss → HasMemory (state core.old) m
+        → MapIs (state core.old).layout named m → AreOf named (kept_by (state core.old))
         → IfOk result (IfGiven (λ _. ReachesOver ss space id page named)) }
     ensures cost { (state core.new).disk.transfers ≤ (state core.old).disk.transfers + 28953 }
 {
@@ -144,13 +159,20 @@ pub fn map<D: Disk, A: Allocator>(
     writable: bool,
 ) -> Result<Reply, Halt>
     requires size { FitsLayout (state core.old) }
-    ensures answers { (volume : Volume) (m : Machine) → Runs core.old volume m → Answers m (call.Map space id page writable) core.old core.new volume result }
+    ensures answers { (volume : Volume) (m : Machine) → Runs core.old volume m
+        → Answers m (call.Map space id page writable) core.old core.new volume result }
     ensures counted { result ≡ Err halt.Disk → Rose (state core.old).disk.faults (state core.new).disk.faults }
     ensures cause { IfErr result (MapFileHalts space id core.old.intervals (state core.old) (state core.new)) }
     ensures evidence_seen { IfErr result (ShowsEvidence (state core.new).disk) }
-    ensures wrote { WroteIn (volume_page) (state core.old).disk (state core.old).slots (state core.new).disk (state core.new).slots }
-    ensures sees { IfOk result (λ reply. StillOnOr (λ ss file last. (reply ≡ answer.Done) × (file ≡ id) × IsLastFrom ss space page last) core.old core.new) }
-    ensures found { (ss : List Space) (m : List Sector) (named : Triples) → Sees (state core.old) (kept core.old) core.old.intervals ss → HasMemory (state core.old) m → MapIs (state core.old).layout named m → AreOf named (kept_by (state core.old))
+    ensures wrote { WroteIn (volume_page) (state core.old).disk (state core.old).slots (state core.new).disk
+        (state core.new).slots }
+    ensures sees { IfOk result
+        (λ reply.
+        StillOnOr (λ ss file last. (reply ≡ answer.Done) × (file ≡ id) × IsLastFrom ss space page last) core.old
+        core.new) }
+    ensures found { (ss : List Space) (m : List Sector) (named : Triples)
+        → Sees (state core.old) (kept core.old) core.old.intervals ss → HasMemory (state core.old) m
+        → MapIs (state core.old).layout named m → AreOf named (kept_by (state core.old))
         → IfOk result (λ reply. reply ≡ answer.Done → ReachesOver ss space id page named) }
     ensures right { SeesOn core.old → IfErr result NeverBlamesTables }
     ensures moves { Moves (state core.old) (state core.new) }

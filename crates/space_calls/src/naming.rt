@@ -45,7 +45,8 @@ pub fn window_on<D: Disk, A: Allocator>(
     writable_only: bool,
 ) -> Result<Option<(u32, Shown)>, Halt>
     requires size { FitsLayout (state core.old) }
-    ensures answer { (volume : Volume) (m : Machine) → Runs core.old volume m → IfOk result (IsFirstWith (shows id writable_only) m.spaces) }
+    ensures answer { (volume : Volume) (m : Machine) → Runs core.old volume m
+        → IfOk result (IsFirstWith (shows id writable_only) m.spaces) }
     ensures looks { Looks core.old core.new }
     ensures sound { (volume : Volume) (m : Machine) → Runs core.old volume m → IfErr result (λ e. e ≡ halt.Disk) }
     ensures counted { result ≡ Err halt.Disk → Rose (state core.old).disk.faults (state core.new).disk.faults }
@@ -87,14 +88,16 @@ pub fn named_file<D: Disk, A: Allocator>(
     id: FileId,
 ) -> Result<Option<Attributes>, Halt>
     requires size { FitsLayout (state core.old) }
-    ensures answer { (volume : Volume) (m : Machine) → Runs core.old volume m → IfOk result (IsNameable (nameable m id)) }
+    ensures answer { (volume : Volume) (m : Machine) → Runs core.old volume m
+        → IfOk result (IsNameable (nameable m id)) }
     ensures looks { Looks core.old core.new }
     ensures sound { (volume : Volume) (m : Machine) → Runs core.old volume m → IfErr result (λ e. e ≡ halt.Disk) }
     ensures counted { result ≡ Err halt.Disk → Rose (state core.old).disk.faults (state core.new).disk.faults }
     ensures cause { IfErr result (NamedHalts id core.old.intervals (state core.old) (state core.new)) }
     ensures evidence_seen { IfErr result (ShowsEvidence (state core.new).disk) }
     ensures client { IfOk result (λ o. IfSome o (λ _. 16 ≤ id)) }
-    ensures size { (m : List Sector) (named : Triples) → HasMemory (state core.old) m → MapIs (state core.old).layout named m → AreOf named (kept_by (state core.old))
+    ensures size { (m : List Sector) (named : Triples) → HasMemory (state core.old) m
+        → MapIs (state core.old).layout named m → AreOf named (kept_by (state core.old))
         → IfOk result (λ o. IfSome o (λ found. IsSize named id found.pages)) }
     ensures right { SeesOn core.old → IfErr result NeverBlamesTables }
     ensures cost { (state core.new).disk.transfers ≤ (state core.old).disk.transfers + 14561 }

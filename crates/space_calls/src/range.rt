@@ -47,11 +47,16 @@ fn range_of<D: Disk, A: Allocator>(
     space: u32,
 ) -> Result<Result<(u32, u32), Refusal>, Halt>
     requires size { FitsLayout (state core.old) }
-    ensures answer { (m : List Sector) (named : Triples) (ss : List Space) → Knows core.old m named ss → IfOk result (Reveals (no_space ss space) (λ run. (s : Space) × (space_at ss space ≡ Some s) × (run ≡ (s.first, s.pages)))) }
+    ensures answer { (m : List Sector) (named : Triples) (ss : List Space) → Knows core.old m named ss
+        → IfOk result
+        (Reveals (no_space ss space) (λ run. (s : Space) × (space_at ss space ≡ Some s) × (run ≡ (s.first, s.pages)))) }
     ensures read { IfOk result (IfGiven (TablesSay (state core.old) (λ b. IsRunAt b space))) }
     ensures counted { result ≡ Err halt.Disk → Rose (state core.old).disk.faults (state core.new).disk.faults }
-    ensures sound { (m : List Sector) (named : Triples) (ss : List Space) → Knows core.old m named ss → IfErr result (λ e. e ≡ halt.Disk) }
-    ensures cause { IfErr result (ReachHalts (TablesBreak (state core.old) (λ b page. BreaksSlot b page space)) (state core.old) (state core.new)) }
+    ensures sound { (m : List Sector) (named : Triples) (ss : List Space) → Knows core.old m named ss
+        → IfErr result (λ e. e ≡ halt.Disk) }
+    ensures cause { IfErr result
+        (ReachHalts (TablesBreak (state core.old) (λ b page. BreaksSlot b page space)) (state core.old)
+        (state core.new)) }
     ensures evidence_seen { IfErr result (ShowsEvidence (state core.new).disk) }
     ensures still { StillSees core.old core.new }
     ensures right { SeesOn core.old → IfErr result NeverBlamesTables }
@@ -66,16 +71,21 @@ fn range_of<D: Disk, A: Allocator>(
 /// Writes out what is dirty of the pages of a space, and gives their frames up.
 pub fn deactivate<D: Disk, A: Allocator>(core: &mut Core<D, A>, space: u32) -> Result<Reply, Halt>
     requires size { FitsLayout (state core.old) }
-    ensures answers { (volume : Volume) (m : Machine) → Runs core.old volume m → Answers m (call.Deactivate space) core.old core.new volume result }
+    ensures answers { (volume : Volume) (m : Machine) → Runs core.old volume m
+        → Answers m (call.Deactivate space) core.old core.new volume result }
     ensures counted { result ≡ Err halt.Disk → Rose (state core.old).disk.faults (state core.new).disk.faults }
-    ensures wrote { WroteIn (volume_page) (state core.old).disk (state core.old).slots (state core.new).disk (state core.new).slots }
+    ensures wrote { WroteIn (volume_page) (state core.old).disk (state core.old).slots (state core.new).disk
+        (state core.new).slots }
     ensures sees { OnOk result (StillOn core.old core.new) }
     ensures right { SeesOn core.old → IfErr result NeverBlamesTables }
     ensures moves { Moves (state core.old) (state core.new) }
     ensures layout { (state core.new).layout ≡ (state core.old).layout }
     ensures cost { CostsOther (state core.old).disk (state core.new).disk }
-    ensures gone { (volume : Volume) (m : Machine) (s : Space) → Runs core.old volume m → space_at m.spaces space ≡ Some s → OnOk result (AreGone m.spaces (state core.new).slots s.first (s.first + s.pages)) }
-    ensures cause { IfErr result (ReachHalts (BreaksRange (state core.old) core.old.intervals space) (state core.old) (state core.new)) }
+    ensures gone { (volume : Volume) (m : Machine) (s : Space) → Runs core.old volume m
+        → space_at m.spaces space ≡ Some s
+        → OnOk result (AreGone m.spaces (state core.new).slots s.first (s.first + s.pages)) }
+    ensures cause { IfErr result
+        (ReachHalts (BreaksRange (state core.old) core.old.intervals space) (state core.old) (state core.new)) }
     ensures evidence_seen { IfErr result (ShowsEvidence (state core.new).disk) }
 {
     let (first, pages) = match range_of(core, space) {
@@ -94,19 +104,27 @@ pub fn deactivate<D: Disk, A: Allocator>(core: &mut Core<D, A>, space: u32) -> R
 /// all of them, no table is asked but for where the space lies.
 pub fn kill<D: Disk, A: Allocator>(core: &mut Core<D, A>, space: u32) -> Result<Reply, Halt>
     requires size { FitsLayout (state core.old) }
-    ensures answers { (volume : Volume) (m : Machine) → Runs core.old volume m → Answers m (call.Kill space) core.old core.new volume result }
+    ensures answers { (volume : Volume) (m : Machine) → Runs core.old volume m
+        → Answers m (call.Kill space) core.old core.new volume result }
     ensures counted { result ≡ Err halt.Disk → Rose (state core.old).disk.faults (state core.new).disk.faults }
-    ensures wrote { WroteIn (volume_page) (state core.old).disk (state core.old).slots (state core.new).disk (state core.new).slots }
+    ensures wrote { WroteIn (volume_page) (state core.old).disk (state core.old).slots (state core.new).disk
+        (state core.new).slots }
     ensures sees { OnOk result (StillOn core.old core.new) }
     ensures right { SeesOn core.old → IfErr result NeverBlamesTables }
     ensures moves { Moves (state core.old) (state core.new) }
     ensures layout { (state core.new).layout ≡ (state core.old).layout }
     ensures cost { CostsOther (state core.old).disk (state core.new).disk }
-    ensures gone { (volume : Volume) (m : Machine) (s : Space) → Runs core.old volume m → space_at m.spaces space ≡ Some s → OnOk result (AreWritableSo (is_absent (state core.new).slots) m.spaces s.first (s.first + s.pages)) }
-    ensures cause { IfErr result (ReachHalts (BreaksRange (state core.old) core.old.intervals space) (state core.old) (state core.new)) }
+    ensures gone { (volume : Volume) (m : Machine) (s : Space) → Runs core.old volume m
+        → space_at m.spaces space ≡ Some s
+        → OnOk result (AreWritableSo (is_absent (state core.new).slots) m.spaces s.first (s.first + s.pages)) }
+    ensures cause { IfErr result
+        (ReachHalts (BreaksRange (state core.old) core.old.intervals space) (state core.old) (state core.new)) }
     ensures evidence_seen { IfErr result (ShowsEvidence (state core.new).disk) }
-    ensures idle { (volume : Volume) (m : Machine) (s : Space) → Runs core.old volume m → space_at m.spaces space ≡ Some s → AreFound (kept core.old) s.first (s.first + s.pages) → (state core.new).disk.transfers ≤ (state core.old).disk.transfers + 28 }
-    ensures short { (state core.new).disk.transfers ≤ (state core.old).disk.transfers + (28 + (core.old.intervals + 1) * 196) }
+    ensures idle { (volume : Volume) (m : Machine) (s : Space) → Runs core.old volume m
+        → space_at m.spaces space ≡ Some s → AreFound (kept core.old) s.first (s.first + s.pages)
+        → (state core.new).disk.transfers ≤ (state core.old).disk.transfers + 28 }
+    ensures short { (state core.new).disk.transfers ≤ (state core.old).disk.transfers
+        + (28 + (core.old.intervals + 1) * 196) }
 {
     let (first, pages) = match range_of(core, space) {
         Ok(Ok(found)) => found,
@@ -124,17 +142,23 @@ pub fn kill<D: Disk, A: Allocator>(core: &mut Core<D, A>, space: u32) -> Result<
 /// frames stay, but where pages of the tables and of the map, which are asked, take their slots.
 pub fn force_out<D: Disk, A: Allocator>(core: &mut Core<D, A>, space: u32) -> Result<Reply, Halt>
     requires size { FitsLayout (state core.old) }
-    ensures answers { (volume : Volume) (m : Machine) → Runs core.old volume m → Answers m (call.ForceOut space) core.old core.new volume result }
+    ensures answers { (volume : Volume) (m : Machine) → Runs core.old volume m
+        → Answers m (call.ForceOut space) core.old core.new volume result }
     ensures counted { result ≡ Err halt.Disk → Rose (state core.old).disk.faults (state core.new).disk.faults }
-    ensures wrote { WroteIn (volume_page) (state core.old).disk (state core.old).slots (state core.new).disk (state core.new).slots }
+    ensures wrote { WroteIn (volume_page) (state core.old).disk (state core.old).slots (state core.new).disk
+        (state core.new).slots }
     ensures sees { OnOk result (StillOn core.old core.new) }
     ensures right { SeesOn core.old → IfErr result NeverBlamesTables }
     ensures moves { Moves (state core.old) (state core.new) }
     ensures layout { (state core.new).layout ≡ (state core.old).layout }
     ensures cost { CostsOther (state core.old).disk (state core.new).disk }
-    ensures clean { (volume : Volume) (m : Machine) (s : Space) → Runs core.old volume m → space_at m.spaces space ≡ Some s → OnOk result (AreClean m.spaces (state core.new).slots s.first (s.first + s.pages)) }
-    ensures synced { (volume : Volume) (m : Machine) → Runs core.old volume m → refusal m (call.ForceOut space) ≡ None → OnOk result ((state core.new).disk.synced ≡ true) }
-    ensures cause { IfErr result (ReachHalts (BreaksRange (state core.old) core.old.intervals space) (state core.old) (state core.new)) }
+    ensures clean { (volume : Volume) (m : Machine) (s : Space) → Runs core.old volume m
+        → space_at m.spaces space ≡ Some s
+        → OnOk result (AreClean m.spaces (state core.new).slots s.first (s.first + s.pages)) }
+    ensures synced { (volume : Volume) (m : Machine) → Runs core.old volume m → refusal m (call.ForceOut space) ≡ None
+        → OnOk result ((state core.new).disk.synced ≡ true) }
+    ensures cause { IfErr result
+        (ReachHalts (BreaksRange (state core.old) core.old.intervals space) (state core.old) (state core.new)) }
     ensures evidence_seen { IfErr result (ShowsEvidence (state core.new).disk) }
     ensures stay { StayOrYield (state core.old).slots (state core.new).slots }
     ensures settled { IfOk result (λ answer. answer ≡ reply.Done → (state core.new).disk.synced ≡ true) }

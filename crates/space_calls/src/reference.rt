@@ -38,19 +38,27 @@ pub fn load<D: Disk, A: Allocator>(
     requires size { FitsLayout (state core.old) }
     requires some { 1 ≤ count }
     requires few { count ≤ 64 }
-    ensures answers { (volume : Volume) (m : Machine) → Runs core.old volume m → Answers m (call.Load address count) core.old core.new volume result }
+    ensures answers { (volume : Volume) (m : Machine) → Runs core.old volume m
+        → Answers m (call.Load address count) core.old core.new volume result }
     ensures counted { result ≡ Err halt.Disk → Rose (state core.old).disk.faults (state core.new).disk.faults }
-    ensures wrote { WroteIn (volume_page) (state core.old).disk (state core.old).slots (state core.new).disk (state core.new).slots }
+    ensures wrote { WroteIn (volume_page) (state core.old).disk (state core.old).slots (state core.new).disk
+        (state core.new).slots }
     ensures sees { OnOk result (StillOn core.old core.new) }
     ensures right { SeesOn core.old → IfErr result NeverBlamesTables }
     ensures moves { Moves (state core.old) (state core.new) }
     ensures layout { (state core.new).layout ≡ (state core.old).layout }
     ensures cost { (state core.new).disk.transfers ≤ (state core.old).disk.transfers + 1680 }
-    ensures ready { (volume : Volume) (m : Machine) → Runs core.old volume m → refusal m (call.Load address count) ≡ None → OnOk result (IsReady (kept core.new) (state core.new).slots (last_page address count)) }
-    ensures cause { IfErr result (TouchHalts (BreaksFor (state core.old) core.old.intervals address count) (state core.old) (state core.new)) }
-    ensures missing { (ss : List Space) → Sees (state core.old) (kept core.old) core.old.intervals ss → IfErr result (MissesPage (shown_units ss address count)) }
+    ensures ready { (volume : Volume) (m : Machine) → Runs core.old volume m
+        → refusal m (call.Load address count) ≡ None
+        → OnOk result (IsReady (kept core.new) (state core.new).slots (last_page address count)) }
+    ensures cause { IfErr result
+        (TouchHalts (BreaksFor (state core.old) core.old.intervals address count) (state core.old) (state core.new)) }
+    ensures missing { (ss : List Space) → Sees (state core.old) (kept core.old) core.old.intervals ss
+        → IfErr result (MissesPage (shown_units ss address count)) }
     ensures evidence_seen { IfErr result (ShowsEvidence (state core.new).disk) }
-    ensures idle { (volume : Volume) (m : Machine) → Runs core.old volume m → IsReady (kept core.old) (state core.old).slots (address / 512) → IsReady (kept core.old) (state core.old).slots (last_page address count)
+    ensures idle { (volume : Volume) (m : Machine) → Runs core.old volume m
+        → IsReady (kept core.old) (state core.old).slots (address / 512)
+        → IsReady (kept core.old) (state core.old).slots (last_page address count)
         → IsOk result × (core.new.filer ≡ core.old.filer) × (kept core.new ≡ kept core.old) }
 {
     let mut room = [0; 64];
@@ -72,19 +80,28 @@ pub fn store<D: Disk, A: Allocator>(
     requires size { FitsLayout (state core.old) }
     requires some { 1 ≤ length bytes.now }
     requires few { length bytes.now ≤ 64 }
-    ensures answers { (volume : Volume) (m : Machine) → Runs core.old volume m → Answers m (call.Store address bytes.now) core.old core.new volume result }
+    ensures answers { (volume : Volume) (m : Machine) → Runs core.old volume m
+        → Answers m (call.Store address bytes.now) core.old core.new volume result }
     ensures counted { result ≡ Err halt.Disk → Rose (state core.old).disk.faults (state core.new).disk.faults }
-    ensures wrote { WroteIn (client_or_own) (state core.old).disk (state core.old).slots (state core.new).disk (state core.new).slots }
+    ensures wrote { WroteIn (client_or_own) (state core.old).disk (state core.old).slots (state core.new).disk
+        (state core.new).slots }
     ensures sees { OnOk result (StillOn core.old core.new) }
     ensures right { SeesOn core.old → IfErr result NeverBlamesTables }
     ensures moves { Moves (state core.old) (state core.new) }
     ensures layout { (state core.new).layout ≡ (state core.old).layout }
     ensures cost { (state core.new).disk.transfers ≤ (state core.old).disk.transfers + 1680 }
-    ensures ready { (volume : Volume) (m : Machine) → Runs core.old volume m → refusal m (call.Store address bytes.now) ≡ None → OnOk result (IsReady (kept core.new) (state core.new).slots (last_page address (length bytes.now))) }
-    ensures cause { IfErr result (TouchHalts (BreaksFor (state core.old) core.old.intervals address (length bytes.now)) (state core.old) (state core.new)) }
-    ensures missing { (ss : List Space) → Sees (state core.old) (kept core.old) core.old.intervals ss → IfErr result (MissesPage (shown_units ss address (length bytes.now))) }
+    ensures ready { (volume : Volume) (m : Machine) → Runs core.old volume m
+        → refusal m (call.Store address bytes.now) ≡ None
+        → OnOk result (IsReady (kept core.new) (state core.new).slots (last_page address (length bytes.now))) }
+    ensures cause { IfErr result
+        (TouchHalts (BreaksFor (state core.old) core.old.intervals address (length bytes.now)) (state core.old)
+        (state core.new)) }
+    ensures missing { (ss : List Space) → Sees (state core.old) (kept core.old) core.old.intervals ss
+        → IfErr result (MissesPage (shown_units ss address (length bytes.now))) }
     ensures evidence_seen { IfErr result (ShowsEvidence (state core.new).disk) }
-    ensures idle { (volume : Volume) (m : Machine) → Runs core.old volume m → IsReady (kept core.old) (state core.old).slots (address / 512) → IsReady (kept core.old) (state core.old).slots (last_page address (length bytes.now))
+    ensures idle { (volume : Volume) (m : Machine) → Runs core.old volume m
+        → IsReady (kept core.old) (state core.old).slots (address / 512)
+        → IsReady (kept core.old) (state core.old).slots (last_page address (length bytes.now))
         → IsOk result × ((state core.new).disk ≡ (state core.old).disk) × (kept core.new ≡ kept core.old) }
 {
     match core.store(address, bytes) {

@@ -36,13 +36,17 @@ pub fn make_space<D: Disk, A: Allocator>(
     first: Option<u32>,
 ) -> Result<Reply, Halt>
     requires size { FitsLayout (state core.old) }
-    ensures carried { (volume : Volume) (m : Machine) → Runs core.old volume m → IfOk result (Carried m (call.MakeSpace parent pages first) core.new volume) }
+    ensures carried { (volume : Volume) (m : Machine) → Runs core.old volume m
+        → IfOk result (Carried m (call.MakeSpace parent pages first) core.new volume) }
     ensures sound { (volume : Volume) (m : Machine) → Runs core.old volume m → IfErr result (λ e. e ≡ halt.Disk) }
-    ensures passes { (volume : Volume) (m : Machine) → Runs core.old volume m → Passes m (call.MakeSpace parent pages first) (state core.old).disk (state core.new).disk }
+    ensures passes { (volume : Volume) (m : Machine) → Runs core.old volume m
+        → Passes m (call.MakeSpace parent pages first) (state core.old).disk (state core.new).disk }
     ensures counted { result ≡ Err halt.Disk → Rose (state core.old).disk.faults (state core.new).disk.faults }
-    ensures cause { IfErr result (MakeSpaceHalts parent pages first core.old.intervals (state core.old) (state core.new)) }
+    ensures cause { IfErr result
+        (MakeSpaceHalts parent pages first core.old.intervals (state core.old) (state core.new)) }
     ensures evidence_seen { IfErr result (ShowsEvidence (state core.new).disk) }
-    ensures wrote { WroteIn (volume_page) (state core.old).disk (state core.old).slots (state core.new).disk (state core.new).slots }
+    ensures wrote { WroteIn (volume_page) (state core.old).disk (state core.old).slots (state core.new).disk
+        (state core.new).slots }
     ensures sees { OnOk result (StillOn core.old core.new) }
     ensures right { SeesOn core.old → IfErr result NeverBlamesTables }
     ensures moves { Moves (state core.old) (state core.new) }
@@ -63,13 +67,16 @@ pub fn make_space<D: Disk, A: Allocator>(
 /// Removes a space that has no children and is not mapped.
 pub fn remove_space<D: Disk, A: Allocator>(core: &mut Core<D, A>, space: u32) -> Result<Reply, Halt>
     requires size { FitsLayout (state core.old) }
-    ensures carried { (volume : Volume) (m : Machine) → Runs core.old volume m → IfOk result (Carried m (call.RemoveSpace space) core.new volume) }
+    ensures carried { (volume : Volume) (m : Machine) → Runs core.old volume m
+        → IfOk result (Carried m (call.RemoveSpace space) core.new volume) }
     ensures sound { (volume : Volume) (m : Machine) → Runs core.old volume m → IfErr result (λ e. e ≡ halt.Disk) }
-    ensures passes { (volume : Volume) (m : Machine) → Runs core.old volume m → Passes m (call.RemoveSpace space) (state core.old).disk (state core.new).disk }
+    ensures passes { (volume : Volume) (m : Machine) → Runs core.old volume m
+        → Passes m (call.RemoveSpace space) (state core.old).disk (state core.new).disk }
     ensures counted { result ≡ Err halt.Disk → Rose (state core.old).disk.faults (state core.new).disk.faults }
     ensures cause { IfErr result (RemoveSpaceHalts space core.old.intervals (state core.old) (state core.new)) }
     ensures evidence_seen { IfErr result (ShowsEvidence (state core.new).disk) }
-    ensures wrote { WroteIn (volume_page) (state core.old).disk (state core.old).slots (state core.new).disk (state core.new).slots }
+    ensures wrote { WroteIn (volume_page) (state core.old).disk (state core.old).slots (state core.new).disk
+        (state core.new).slots }
     ensures sees { OnOk result (StillOn core.old core.new) }
     ensures right { SeesOn core.old → IfErr result NeverBlamesTables }
     ensures moves { Moves (state core.old) (state core.new) }
@@ -90,11 +97,13 @@ pub fn remove_space<D: Disk, A: Allocator>(core: &mut Core<D, A>, space: u32) ->
 /// The innermost space at a page.
 pub fn place<D: Disk, A: Allocator>(core: &mut Core<D, A>, page: u32) -> Result<Reply, Halt>
     requires size { FitsLayout (state core.old) }
-    ensures answers { (volume : Volume) (m : Machine) → Runs core.old volume m → Answers m (call.Place page) core.old core.new volume result }
+    ensures answers { (volume : Volume) (m : Machine) → Runs core.old volume m
+        → Answers m (call.Place page) core.old core.new volume result }
     ensures counted { result ≡ Err halt.Disk → Rose (state core.old).disk.faults (state core.new).disk.faults }
     ensures cause { IfErr result (PlaceHalts page core.old.intervals (state core.old) (state core.new)) }
     ensures evidence_seen { IfErr result (ShowsEvidence (state core.new).disk) }
-    ensures wrote { WroteIn (volume_page) (state core.old).disk (state core.old).slots (state core.new).disk (state core.new).slots }
+    ensures wrote { WroteIn (volume_page) (state core.old).disk (state core.old).slots (state core.new).disk
+        (state core.new).slots }
     ensures sees { OnOk result (StillOn core.old core.new) }
     ensures right { SeesOn core.old → IfErr result NeverBlamesTables }
     ensures moves { Moves (state core.old) (state core.new) }
@@ -119,13 +128,16 @@ pub fn set_units<D: Disk, A: Allocator>(
     pages: u32,
 ) -> Result<Reply, Halt>
     requires size { FitsLayout (state core.old) }
-    ensures carried { (volume : Volume) (m : Machine) → Runs core.old volume m → IfOk result (Carried m (call.Units space pages) core.new volume) }
+    ensures carried { (volume : Volume) (m : Machine) → Runs core.old volume m
+        → IfOk result (Carried m (call.Units space pages) core.new volume) }
     ensures sound { (volume : Volume) (m : Machine) → Runs core.old volume m → IfErr result (λ e. e ≡ halt.Disk) }
-    ensures passes { (volume : Volume) (m : Machine) → Runs core.old volume m → Passes m (call.Units space pages) (state core.old).disk (state core.new).disk }
+    ensures passes { (volume : Volume) (m : Machine) → Runs core.old volume m
+        → Passes m (call.Units space pages) (state core.old).disk (state core.new).disk }
     ensures counted { result ≡ Err halt.Disk → Rose (state core.old).disk.faults (state core.new).disk.faults }
     ensures cause { IfErr result (ChangeHalts core.old.intervals (state core.old) (state core.new)) }
     ensures evidence_seen { IfErr result (ShowsEvidence (state core.new).disk) }
-    ensures wrote { WroteIn (volume_page) (state core.old).disk (state core.old).slots (state core.new).disk (state core.new).slots }
+    ensures wrote { WroteIn (volume_page) (state core.old).disk (state core.old).slots (state core.new).disk
+        (state core.new).slots }
     ensures sees { OnOk result (StillOn core.old core.new) }
     ensures right { SeesOn core.old → IfErr result NeverBlamesTables }
     ensures moves { Moves (state core.old) (state core.new) }

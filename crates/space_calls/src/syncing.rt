@@ -21,7 +21,8 @@ pub fn sync<D: Disk, A: Allocator>(core: &mut Core<D, A>) -> Result<(), Halt>
     ensures still { StillSees core.old core.new }
     ensures right { SeesOn core.old → IfErr result NeverBlamesTables }
     ensures reaches { Reaches (state core.old) (state core.new) }
-    ensures known { (m : List Sector) (named : Triples) (ss : List Space) → Knows core.old m named ss → Knows core.new m named ss }
+    ensures known { (m : List Sector) (named : Triples) (ss : List Space) → Knows core.old m named ss
+        → Knows core.new m named ss }
     ensures same { RevealsSame (state core.old).disk (state core.new).disk }
     ensures fault { IfErr result (λ e. e ≡ halt.Disk) }
     ensures counted { OnErr result (Rose (state core.old).disk.faults (state core.new).disk.faults) }

@@ -47,10 +47,13 @@ pub fn take_window<D: Disk, A: Allocator>(
     space: u32,
 ) -> Result<Result<Shown, Refusal>, Halt>
     requires size { FitsLayout (state core.old) }
-    ensures taken { (volume : Volume) (m : Machine) → Runs core.old volume m → IfOk result (Reveals (first_of (window_row m.spaces space)) (IsTaken m space (λ n. Runs core.new volume n))) }
-    ensures refused { (volume : Volume) (m : Machine) → Runs core.old volume m → IfOk result (IsRefused (Runs core.new volume m)) }
+    ensures taken { (volume : Volume) (m : Machine) → Runs core.old volume m
+        → IfOk result (Reveals (first_of (window_row m.spaces space)) (IsTaken m space (λ n. Runs core.new volume n))) }
+    ensures refused { (volume : Volume) (m : Machine) → Runs core.old volume m
+        → IfOk result (IsRefused (Runs core.new volume m)) }
     ensures read { IfOk result (IfGiven (TablesSay (state core.old) (λ b. IsShownAt b space))) }
-    ensures seen { (ss : List Space) → Sees (state core.old) (kept core.old) core.old.intervals ss → IfOk result (IfGiven (ShowsIn ss space)) }
+    ensures seen { (ss : List Space) → Sees (state core.old) (kept core.old) core.old.intervals ss
+        → IfOk result (IfGiven (ShowsIn ss space)) }
     ensures sound { (volume : Volume) (m : Machine) → Runs core.old volume m → IfErr result (λ e. e ≡ halt.Disk) }
     ensures counted { result ≡ Err halt.Disk → Rose (state core.old).disk.faults (state core.new).disk.faults }
     ensures cause { IfErr result (TakeWindowHalts space core.old.intervals (state core.old) (state core.new)) }
@@ -90,13 +93,18 @@ fn protect_writable<D: Disk, A: Allocator>(
     shown: Shown,
 ) -> Result<Reply, Halt>
     requires size { FitsLayout (state core.old) }
-    ensures carried { (volume : Volume) (m : Machine) (s : Space) → Runs core.old volume m → space_at m.spaces space ≡ Some s → s.window ≡ Some (window_of shown) → IfOk result (Carried m (call.Protect space true) core.new volume) }
-    ensures sound { (volume : Volume) (m : Machine) (s : Space) → Runs core.old volume m → space_at m.spaces space ≡ Some s → s.window ≡ Some (window_of shown) → IfErr result (λ e. e ≡ halt.Disk) }
+    ensures carried { (volume : Volume) (m : Machine) (s : Space) → Runs core.old volume m
+        → space_at m.spaces space ≡ Some s → s.window ≡ Some (window_of shown)
+        → IfOk result (Carried m (call.Protect space true) core.new volume) }
+    ensures sound { (volume : Volume) (m : Machine) (s : Space) → Runs core.old volume m
+        → space_at m.spaces space ≡ Some s → s.window ≡ Some (window_of shown) → IfErr result (λ e. e ≡ halt.Disk) }
     ensures counted { result ≡ Err halt.Disk → Rose (state core.old).disk.faults (state core.new).disk.faults }
     ensures cause { IfErr result (WritableHalts shown.id core.old.intervals (state core.old) (state core.new)) }
     ensures evidence_seen { IfErr result (ShowsEvidence (state core.new).disk) }
     ensures makes { MakesOnly volume_page [] (state core.old) (state core.new) }
-    ensures sees { (ss : List Space) (s : Space) → Sees (state core.old) (kept core.old) core.old.intervals ss → space_at ss space ≡ Some s → s.window ≡ Some (window_of shown) → OnOk result (SeesFiles (IsShown ss) core.new) }
+    ensures sees { (ss : List Space) (s : Space) → Sees (state core.old) (kept core.old) core.old.intervals ss
+        → space_at ss space ≡ Some s → s.window ≡ Some (window_of shown)
+        → OnOk result (SeesFiles (IsShown ss) core.new) }
     ensures right { SeesOn core.old → IfErr result NeverBlamesTables }
     ensures moves { Moves (state core.old) (state core.new) }
     ensures layout { (state core.new).layout ≡ (state core.old).layout }
@@ -127,15 +135,25 @@ fn protect_read_only<D: Disk, A: Allocator>(
     pages: u32,
 ) -> Result<Reply, Halt>
     requires size { FitsLayout (state core.old) }
-    ensures carried { (volume : Volume) (m : Machine) (s : Space) → Runs core.old volume m → space_at m.spaces space ≡ Some s → s.window ≡ Some (window_of shown) → first ≡ s.first → pages ≡ s.pages → IfOk result (Carried m (call.Protect space false) core.new volume) }
-    ensures sound { (volume : Volume) (m : Machine) (s : Space) → Runs core.old volume m → space_at m.spaces space ≡ Some s → s.window ≡ Some (window_of shown) → first ≡ s.first → pages ≡ s.pages → IfErr result (λ e. e ≡ halt.Disk) }
-    ensures synced { (volume : Volume) (m : Machine) (s : Space) → Runs core.old volume m → space_at m.spaces space ≡ Some s → s.window ≡ Some (window_of shown) → first ≡ s.first → pages ≡ s.pages → OnOk result ((state core.new).disk.synced ≡ true) }
+    ensures carried { (volume : Volume) (m : Machine) (s : Space) → Runs core.old volume m
+        → space_at m.spaces space ≡ Some s → s.window ≡ Some (window_of shown) → first ≡ s.first → pages ≡ s.pages
+        → IfOk result (Carried m (call.Protect space false) core.new volume) }
+    ensures sound { (volume : Volume) (m : Machine) (s : Space) → Runs core.old volume m
+        → space_at m.spaces space ≡ Some s → s.window ≡ Some (window_of shown) → first ≡ s.first → pages ≡ s.pages
+        → IfErr result (λ e. e ≡ halt.Disk) }
+    ensures synced { (volume : Volume) (m : Machine) (s : Space) → Runs core.old volume m
+        → space_at m.spaces space ≡ Some s → s.window ≡ Some (window_of shown) → first ≡ s.first → pages ≡ s.pages
+        → OnOk result ((state core.new).disk.synced ≡ true) }
     ensures settled { IfOk result (λ answer. answer ≡ reply.Done → (state core.new).disk.synced ≡ true) }
     ensures counted { result ≡ Err halt.Disk → Rose (state core.old).disk.faults (state core.new).disk.faults }
-    ensures cause { IfErr result (ReachHalts (BreaksPart (state core.old) core.old.intervals first (first + pages)) (state core.old) (state core.new)) }
+    ensures cause { IfErr result
+        (ReachHalts (BreaksPart (state core.old) core.old.intervals first (first + pages)) (state core.old)
+        (state core.new)) }
     ensures evidence_seen { IfErr result (ShowsEvidence (state core.new).disk) }
     ensures makes { MakesOnly volume_page [] (state core.old) (state core.new) }
-    ensures sees { (ss : List Space) (s : Space) → Sees (state core.old) (kept core.old) core.old.intervals ss → space_at ss space ≡ Some s → s.window ≡ Some (window_of shown) → OnOk result (SeesFiles (IsShown ss) core.new) }
+    ensures sees { (ss : List Space) (s : Space) → Sees (state core.old) (kept core.old) core.old.intervals ss
+        → space_at ss space ≡ Some s → s.window ≡ Some (window_of shown)
+        → OnOk result (SeesFiles (IsShown ss) core.new) }
     ensures right { SeesOn core.old → IfErr result NeverBlamesTables }
     ensures moves { Moves (state core.old) (state core.new) }
     ensures layout { (state core.new).layout ≡ (state core.old).layout }
@@ -167,18 +185,22 @@ pub fn protect<D: Disk, A: Allocator>(
     writable: bool,
 ) -> Result<Reply, Halt>
     requires size { FitsLayout (state core.old) }
-    ensures answers { (volume : Volume) (m : Machine) → Runs core.old volume m → Answers m (call.Protect space writable) core.old core.new volume result }
+    ensures answers { (volume : Volume) (m : Machine) → Runs core.old volume m
+        → Answers m (call.Protect space writable) core.old core.new volume result }
     ensures counted { result ≡ Err halt.Disk → Rose (state core.old).disk.faults (state core.new).disk.faults }
     ensures cause { IfErr result (ProtectHalts space writable core.old.intervals (state core.old) (state core.new)) }
     ensures evidence_seen { IfErr result (ShowsEvidence (state core.new).disk) }
-    ensures wrote { WroteIn (volume_page) (state core.old).disk (state core.old).slots (state core.new).disk (state core.new).slots }
+    ensures wrote { WroteIn (volume_page) (state core.old).disk (state core.old).slots (state core.new).disk
+        (state core.new).slots }
     ensures sees { OnOk result (StillOn core.old core.new) }
     ensures right { SeesOn core.old → IfErr result NeverBlamesTables }
     ensures moves { Moves (state core.old) (state core.new) }
     ensures layout { (state core.new).layout ≡ (state core.old).layout }
     ensures cost { CostsOther (state core.old).disk (state core.new).disk }
-    ensures synced { (volume : Volume) (m : Machine) → Runs core.old volume m → writable ≡ false → refusal m (call.Protect space writable) ≡ None → OnOk result ((state core.new).disk.synced ≡ true) }
-    ensures settled { writable ≡ false → IfOk result (λ answer. answer ≡ reply.Done → (state core.new).disk.synced ≡ true) }
+    ensures synced { (volume : Volume) (m : Machine) → Runs core.old volume m → writable ≡ false
+        → refusal m (call.Protect space writable) ≡ None → OnOk result ((state core.new).disk.synced ≡ true) }
+    ensures settled { writable ≡ false
+        → IfOk result (λ answer. answer ≡ reply.Done → (state core.new).disk.synced ≡ true) }
 {
     let (shown, first, pages) = match find_window(core, space) {
         Ok(Ok(found)) => found,

@@ -49,15 +49,18 @@ pub(crate) fn find_window<D: Disk, A: Allocator>(
     space: u32,
 ) -> Result<Result<(Shown, u32, u32), Refusal>, Halt>
     requires size { FitsLayout (state core.old) }
-    ensures answer { (volume : Volume) (m : Machine) → Runs core.old volume m → IfOk result (Reveals (first_of (window_row m.spaces space)) (IsWindowIn m.spaces space)) }
+    ensures answer { (volume : Volume) (m : Machine) → Runs core.old volume m
+        → IfOk result (Reveals (first_of (window_row m.spaces space)) (IsWindowIn m.spaces space)) }
     ensures read { IfOk result (IfGiven (λ found. TablesSay (state core.old) (λ b. IsShownAt b space) found.0)) }
-    ensures range { IfOk result (IfGiven (λ found. TablesSay (state core.old) (λ b. IsRunAt b space) (found.1, found.2))) }
+    ensures range { IfOk result
+        (IfGiven (λ found. TablesSay (state core.old) (λ b. IsRunAt b space) (found.1, found.2))) }
     ensures looks { Looks core.old core.new }
     ensures sound { (volume : Volume) (m : Machine) → Runs core.old volume m → IfErr result (λ e. e ≡ halt.Disk) }
     ensures counted { result ≡ Err halt.Disk → Rose (state core.old).disk.faults (state core.new).disk.faults }
     ensures cause { IfErr result (SlotHalts space (state core.old) (state core.new)) }
     ensures evidence_seen { IfErr result (ShowsEvidence (state core.new).disk) }
-    ensures seen { (ss : List Space) → Sees (state core.old) (kept core.old) core.old.intervals ss → IfOk result (Reveals (first_of (window_row ss space)) (IsWindowIn ss space)) }
+    ensures seen { (ss : List Space) → Sees (state core.old) (kept core.old) core.old.intervals ss
+        → IfOk result (Reveals (first_of (window_row ss space)) (IsWindowIn ss space)) }
     ensures right { SeesOn core.old → IfErr result NeverBlamesTables }
     ensures cost { (state core.new).disk.transfers ≤ (state core.old).disk.transfers + 56 }
 {
@@ -80,11 +83,14 @@ pub(crate) fn evict_range<D: Disk, A: Allocator>(
     pages: u32,
 ) -> Result<(), Halt>
     requires size { FitsLayout (state core.old) }
-    ensures rest { (volume : Volume) (m : Machine) → Runs core.old volume m → OnOk result (AreGone m.spaces (state core.new).slots first (first + pages)) }
+    ensures rest { (volume : Volume) (m : Machine) → Runs core.old volume m
+        → OnOk result (AreGone m.spaces (state core.new).slots first (first + pages)) }
     ensures looks { Looks core.old core.new }
     ensures sound { (volume : Volume) (m : Machine) → Runs core.old volume m → IfErr result (λ e. e ≡ halt.Disk) }
     ensures counted { result ≡ Err halt.Disk → Rose (state core.old).disk.faults (state core.new).disk.faults }
-    ensures cause { IfErr result (ReachHalts (BreaksWithin (state core.old) core.old.intervals first (first + pages)) (state core.old) (state core.new)) }
+    ensures cause { IfErr result
+        (ReachHalts (BreaksWithin (state core.old) core.old.intervals first (first + pages)) (state core.old)
+        (state core.new)) }
     ensures evidence_seen { IfErr result (ShowsEvidence (state core.new).disk) }
     ensures right { SeesOn core.old → IfErr result NeverBlamesTables }
     ensures cost { (state core.new).disk.transfers ≤ (state core.old).disk.transfers + 4395008 }
@@ -100,11 +106,14 @@ pub(crate) fn flush_range<D: Disk, A: Allocator>(
     pages: u32,
 ) -> Result<(), Halt>
     requires size { FitsLayout (state core.old) }
-    ensures rest { (volume : Volume) (m : Machine) → Runs core.old volume m → OnOk result (AreClean m.spaces (state core.new).slots first (first + pages)) }
+    ensures rest { (volume : Volume) (m : Machine) → Runs core.old volume m
+        → OnOk result (AreClean m.spaces (state core.new).slots first (first + pages)) }
     ensures looks { Looks core.old core.new }
     ensures sound { (volume : Volume) (m : Machine) → Runs core.old volume m → IfErr result (λ e. e ≡ halt.Disk) }
     ensures counted { result ≡ Err halt.Disk → Rose (state core.old).disk.faults (state core.new).disk.faults }
-    ensures cause { IfErr result (ReachHalts (BreaksWithin (state core.old) core.old.intervals first (first + pages)) (state core.old) (state core.new)) }
+    ensures cause { IfErr result
+        (ReachHalts (BreaksWithin (state core.old) core.old.intervals first (first + pages)) (state core.old)
+        (state core.new)) }
     ensures evidence_seen { IfErr result (ShowsEvidence (state core.new).disk) }
     ensures right { SeesOn core.old → IfErr result NeverBlamesTables }
     ensures cost { (state core.new).disk.transfers ≤ (state core.old).disk.transfers + 4395008 }
@@ -120,15 +129,24 @@ pub(crate) fn change_window<D: Disk, A: Allocator>(
     shown: Option<Shown>,
 ) -> Result<Result<(), Refusal>, Halt>
     requires size { FitsLayout (state core.old) }
-    ensures done { (volume : Volume) (m : Machine) (x : Space) (unforced : List FilePage) → Runs core.old volume m → MayHaveWindow m.spaces x → x.handle ≡ space → IfSome shown (λ w. WindowFits x.pages (window_of w))
-        → IsMachine (record m { spaces = with_window space (option_map window_of shown) m.spaces; unforced = unforced }) → HasFrames (state core.old).slots (with_window space (option_map window_of shown) m.spaces) → DirtyAreLoose (state core.old).slots unforced
-        → IfOk result (IsDone (Runs core.new volume (record m { spaces = with_window space (option_map window_of shown) m.spaces; unforced = unforced }))) }
-    ensures sound { (volume : Volume) (m : Machine) (x : Space) → Runs core.old volume m → MayHaveWindow m.spaces x → x.handle ≡ space → IfSome shown (λ w. WindowFits x.pages (window_of w)) → IfErr result (λ e. e ≡ halt.Disk) }
+    ensures done { (volume : Volume) (m : Machine) (x : Space) (unforced : List FilePage) → Runs core.old volume m
+        → MayHaveWindow m.spaces x → x.handle ≡ space → IfSome shown (λ w. WindowFits x.pages (window_of w))
+        → IsMachine (record m { spaces = with_window space (option_map window_of shown) m.spaces; unforced = unforced })
+        → HasFrames (state core.old).slots (with_window space (option_map window_of shown) m.spaces)
+        → DirtyAreLoose (state core.old).slots unforced
+        → IfOk result
+        (IsDone
+        (Runs core.new volume
+        (record m { spaces = with_window space (option_map window_of shown) m.spaces; unforced = unforced }))) }
+    ensures sound { (volume : Volume) (m : Machine) (x : Space) → Runs core.old volume m → MayHaveWindow m.spaces x
+        → x.handle ≡ space → IfSome shown (λ w. WindowFits x.pages (window_of w)) → IfErr result (λ e. e ≡ halt.Disk) }
     ensures counted { result ≡ Err halt.Disk → Rose (state core.old).disk.faults (state core.new).disk.faults }
     ensures cause { IfErr result (ChangeHalts core.old.intervals (state core.old) (state core.new)) }
     ensures evidence_seen { IfErr result (ShowsEvidence (state core.new).disk) }
-    ensures sees { (ss : List Space) (x : Space) → Sees (state core.old) (kept core.old) core.old.intervals ss → MayHaveWindow ss x → x.handle ≡ space → IfSome shown (λ w. WindowFits x.pages (window_of w))
-        → OnOk result (Sees (state core.new) (kept core.new) core.new.intervals (with_window space (option_map window_of shown) ss)) }
+    ensures sees { (ss : List Space) (x : Space) → Sees (state core.old) (kept core.old) core.old.intervals ss
+        → MayHaveWindow ss x → x.handle ≡ space → IfSome shown (λ w. WindowFits x.pages (window_of w))
+        → OnOk result
+        (Sees (state core.new) (kept core.new) core.new.intervals (with_window space (option_map window_of shown) ss)) }
     ensures right { SeesOn core.old → IfErr result NeverBlamesTables }
     ensures reshapes { Reshapes (state core.old) (state core.new) }
     ensures makes { MakesOnly volume_page [] (state core.old) (state core.new) }
@@ -149,7 +167,8 @@ pub(crate) fn shows_immutable<D: Disk, A: Allocator>(
     id: FileId,
 ) -> Result<bool, Halt>
     requires size { FitsLayout (state core.old) }
-    ensures answer { (volume : Volume) (m : Machine) → Runs core.old volume m → IfOk result (λ is. is_immutable m id ≡ then_some is why.Immutable) }
+    ensures answer { (volume : Volume) (m : Machine) → Runs core.old volume m
+        → IfOk result (λ is. is_immutable m id ≡ then_some is why.Immutable) }
     ensures looks { Looks core.old core.new }
     ensures sound { (volume : Volume) (m : Machine) → Runs core.old volume m → IfErr result (λ e. e ≡ halt.Disk) }
     ensures counted { result ≡ Err halt.Disk → Rose (state core.old).disk.faults (state core.new).disk.faults }

@@ -36,11 +36,18 @@ pub fn add<M: FlatMem>(
     requires size { 49152 ≤ M.size mem.old }
     requires some { 1 ≤ count }
     requires few { count ≤ 1023 }
-    ensures answer { (ss : List Space) → RevealSpaces (M.reveals mem.old) count ss → Answers (first_of (add_row ss parent pages first))
-        (λ at. RevealSpaces (M.reveals mem.new) at.2 (put_space (made ss parent pages first) ss) × (at.0 ≡ (made ss parent pages first).handle) × (at.1 ≡ (made ss parent pages first).first))
+    ensures answer { (ss : List Space) → RevealSpaces (M.reveals mem.old) count ss
+        → Answers (first_of (add_row ss parent pages first))
+        (λ at.
+        RevealSpaces (M.reveals mem.new) at.2 (put_space (made ss parent pages first) ss)
+        × (at.0 ≡ (made ss parent pages first).handle) × (at.1 ≡ (made ss parent pages first).first))
         (RevealSpaces (M.reveals mem.new) count ss) result }
     ensures form { IfOk result (λ at. (lies_in_root at.1 pages ≡ true) × (1 ≤ at.2) × (at.2 ≤ 1023)) }
-    ensures malformed { (b : List ℕ) → M.reveals mem.old b → IfErr result (IfMalformed (λ page. BreaksHierarchy b page ⊎ (BreaksAt first count b page ⊎ MakesTooMany count b parent pages first page))) }
+    ensures malformed { (b : List ℕ) → M.reveals mem.old b
+        → IfErr result
+        (IfMalformed
+        (λ page.
+        BreaksHierarchy b page ⊎ (BreaksAt first count b page ⊎ MakesTooMany count b parent pages first page))) }
     ensures kept { M.beside mem.old mem.new }
     ensures cause { IfErr result (IfMem (M.accounted mem.old mem.new)) }
     ensures cost { M.spent mem.new ≤ M.spent mem.old + 1793 * M.cost }

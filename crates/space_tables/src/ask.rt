@@ -21,9 +21,11 @@ pub fn existing<M: FlatMem>(mem: &mut M, handle: u32) -> Result<Space, SpaceErro
     requires size { 49152 ≤ M.size mem.old }
     ensures answer { (count : ℕ) (ss : List Space) → RevealSpaces (M.reveals mem.old) count ss
         → Replies (no_space ss handle) (λ s. space_at ss handle ≡ Some s) result }
-    ensures read { (b : List ℕ) → M.reveals mem.old b → IfOk result (λ s. slot_in handle (slot_record b handle) ≡ Some s) }
+    ensures read { (b : List ℕ) → M.reveals mem.old b
+        → IfOk result (λ s. slot_in handle (slot_record b handle) ≡ Some s) }
     ensures form { IfOk result (λ s. (space_in_form s ≡ true) × (s.handle ≡ handle) × (handle < 512)) }
-    ensures malformed { (b : List ℕ) → M.reveals mem.old b → IfErr result (IfMalformed (λ page. BreaksSlot b page handle)) }
+    ensures malformed { (b : List ℕ) → M.reveals mem.old b
+        → IfErr result (IfMalformed (λ page. BreaksSlot b page handle)) }
     ensures unchanged { (b : List ℕ) → M.reveals mem.old b → M.reveals mem.new b }
     ensures kept { M.beside mem.old mem.new }
     ensures looked { M.only_reads mem.old mem.new }
@@ -66,7 +68,8 @@ pub fn unmapped<M: FlatMem>(mem: &mut M, handle: u32) -> Result<Space, SpaceErro
     requires size { 49152 ≤ M.size mem.old }
     ensures answer { (count : ℕ) (ss : List Space) → RevealSpaces (M.reveals mem.old) count ss
         → Replies (first_of (map_row ss handle)) (λ s. space_at ss handle ≡ Some s) result }
-    ensures read { (b : List ℕ) → M.reveals mem.old b → IfOk result (λ s. slot_in handle (slot_record b handle) ≡ Some s) }
+    ensures read { (b : List ℕ) → M.reveals mem.old b
+        → IfOk result (λ s. slot_in handle (slot_record b handle) ≡ Some s) }
     ensures form { IfOk result (λ s. space_in_form s ≡ true) }
     ensures malformed { (b : List ℕ) → M.reveals mem.old b → IfErr result (IfMalformed (BreaksHierarchy b)) }
     ensures unchanged { (b : List ℕ) → M.reveals mem.old b → M.reveals mem.new b }

@@ -15,7 +15,8 @@ use swap_units::{Interval, Mode, ROOT_PAGES};
 // Writes that no space stands at any handle, and the interval of the root.
 fn clear<M: FlatMem>(mem: &mut M) -> Result<(), SpaceError<M::Error>>
     requires size { 49152 ≤ M.size mem.old }
-    ensures cleared { (b : List ℕ) → M.reveals mem.old b → OnOk result (HoldTables (M.reveals mem.new) (bare_slots 512) (root_interval ∷ [])) }
+    ensures cleared { (b : List ℕ) → M.reveals mem.old b
+        → OnOk result (HoldTables (M.reveals mem.new) (bare_slots 512) (root_interval ∷ [])) }
     ensures memory { IfErr result FromMemory }
     ensures kept { M.beside mem.old mem.new }
     ensures cause { IfErr result (IfMem (M.accounted mem.old mem.new)) }

@@ -67,11 +67,14 @@ fn rewrite_at<M: FlatMem>(
 ) -> Result<(), SpaceError<M::Error>>
     requires size { 49152 ≤ M.size mem.old }
     requires inside { index < 1024 }
-    ensures changed { (slots : List (Option Space)) (xs : List Interval) (x : Interval) → HoldTables (M.reveals mem.old) slots xs
-        → slice_get xs index ≡ Some x → IsReadable x → Counts change.now → HasSmallHandle change.now
-        → MatchResult result (λ _. HoldTables (M.reveals mem.new) slots (slice_set xs index (changed change.now x))) FromMemory }
+    ensures changed { (slots : List (Option Space)) (xs : List Interval) (x : Interval)
+        → HoldTables (M.reveals mem.old) slots xs → slice_get xs index ≡ Some x → IsReadable x → Counts change.now
+        → HasSmallHandle change.now
+        → MatchResult result (λ _. HoldTables (M.reveals mem.new) slots (slice_set xs index (changed change.now x)))
+        FromMemory }
     ensures rest { (b : List ℕ) → M.reveals mem.old b → OnOk result (RevealsRest (M.reveals mem.new) b (index + 1)) }
-    ensures malformed { (b : List ℕ) (count : ℕ) → M.reveals mem.old b → index < count → IfErr result (IfMalformed (λ page. BreaksInterval count b page index)) }
+    ensures malformed { (b : List ℕ) (count : ℕ) → M.reveals mem.old b → index < count
+        → IfErr result (IfMalformed (λ page. BreaksInterval count b page index)) }
     ensures refused { IfErr result NotRefused }
     ensures kept { M.beside mem.old mem.new }
     ensures cause { IfErr result (IfMem (M.accounted mem.old mem.new)) }
@@ -94,7 +97,8 @@ pub fn rewrite<M: FlatMem>(
     requires size { 49152 ≤ M.size mem.old }
     requires few { count ≤ 1023 }
     ensures changed { (slots : List (Option Space)) (xs : List Interval) → HoldTables (M.reveals mem.old) slots xs
-        → length xs ≡ count → ((k : ℕ) (x : Interval) → slice_get xs k ≡ Some x → IsReadable x) → Counts change.now → HasSmallHandle change.now
+        → length xs ≡ count → ((k : ℕ) (x : Interval) → slice_get xs k ≡ Some x → IsReadable x) → Counts change.now
+        → HasSmallHandle change.now
         → MatchResult result (λ _. HoldTables (M.reveals mem.new) slots (map (changed change.now) xs)) FromMemory }
     ensures malformed { (b : List ℕ) → M.reveals mem.old b → IfErr result (IfMalformed (BreaksProjection count b)) }
     ensures refused { IfErr result NotRefused }

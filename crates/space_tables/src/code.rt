@@ -134,7 +134,8 @@ fn window_in(mode: Mode, id: FileId, page: u32) -> Option<Window>
 
 // The space in the record of a handle, with the mode that its byte has.
 fn space_of(handle: u32, bytes: &Record, mode: Mode) -> Space
-    ensures { result ≡ record (space_in handle bytes.now) { window = window_in mode (field 8 16 bytes.now) (field 4 24 bytes.now) } }
+    ensures { result ≡ record (space_in handle bytes.now)
+        { window = window_in mode (field 8 16 bytes.now) (field 4 24 bytes.now) } }
 {
     Space {
         handle,

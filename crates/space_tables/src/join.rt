@@ -31,8 +31,9 @@ fn next<M: FlatMem>(
     requires size { 49152 ≤ M.size mem.old }
     requires few { count ≤ 1023 }
     requires order { index < count }
-    ensures next { (slots : List (Option Space)) (xs : List Interval) → HoldTables (M.reveals mem.old) slots xs → length xs ≡ count
-        → ((k : ℕ) (x : Interval) → slice_get xs k ≡ Some x → IsReadable x) → MatchResult result (λ o. o ≡ slice_get xs (suc index)) FromMemory }
+    ensures next { (slots : List (Option Space)) (xs : List Interval) → HoldTables (M.reveals mem.old) slots xs
+        → length xs ≡ count → ((k : ℕ) (x : Interval) → slice_get xs k ≡ Some x → IsReadable x)
+        → MatchResult result (λ o. o ≡ slice_get xs (suc index)) FromMemory }
     ensures inside { IfOk result (λ o. IfSome o (λ _. index + 1 < count)) }
     ensures pages { IfOk result (λ o. pages_in o ≤ root_pages) }
     ensures malformed { (b : List ℕ) → M.reveals mem.old b → IfErr result (IfMalformed (BreaksProjection count b)) }
@@ -54,11 +55,13 @@ fn next<M: FlatMem>(
 fn previous<M: FlatMem>(mem: &mut M, index: u32) -> Result<Option<Interval>, SpaceError<M::Error>>
     requires size { 49152 ≤ M.size mem.old }
     requires few { index < 1023 }
-    ensures previous { (slots : List (Option Space)) (xs : List Interval) → HoldTables (M.reveals mem.old) slots xs → index < length xs
-        → ((k : ℕ) (x : Interval) → slice_get xs k ≡ Some x → IsReadable x) → MatchResult result (λ o. o ≡ one_before xs index) FromMemory }
+    ensures previous { (slots : List (Option Space)) (xs : List Interval) → HoldTables (M.reveals mem.old) slots xs
+        → index < length xs → ((k : ℕ) (x : Interval) → slice_get xs k ≡ Some x → IsReadable x)
+        → MatchResult result (λ o. o ≡ one_before xs index) FromMemory }
     ensures inside { IfOk result (λ o. IfSome o (λ _. 1 ≤ index)) }
     ensures pages { IfOk result (λ o. pages_in o ≤ root_pages) }
-    ensures malformed { (b : List ℕ) (count : ℕ) → M.reveals mem.old b → index < count → IfErr result (IfMalformed (BreaksProjection count b)) }
+    ensures malformed { (b : List ℕ) (count : ℕ) → M.reveals mem.old b → index < count
+        → IfErr result (IfMalformed (BreaksProjection count b)) }
     ensures refused { IfErr result NotRefused }
     ensures unchanged { (b : List ℕ) → M.reveals mem.old b → M.reveals mem.new b }
     ensures kept { M.beside mem.old mem.new }
@@ -85,9 +88,12 @@ fn pair<M: FlatMem>(
     requires few { count ≤ 1023 }
     requires order { (index < count) × IfSome next (λ _. index + 1 < count) }
     requires pages { i.now.pages + pages_in next < 2 ^ 32 }
-    ensures paired { (slots : List (Option Space)) (xs : List Interval) → HoldTables (M.reveals mem.old) slots xs → length xs ≡ count
-        → slice_get xs index ≡ Some i.now → slice_get xs (suc index) ≡ next
-        → IfOk result (λ at. HoldTables (M.reveals mem.new) slots (paired xs index) × (length (paired xs index) ≡ at.0) × (slice_get (paired xs index) index ≡ Some at.1)) }
+    ensures paired { (slots : List (Option Space)) (xs : List Interval) → HoldTables (M.reveals mem.old) slots xs
+        → length xs ≡ count → slice_get xs index ≡ Some i.now → slice_get xs (suc index) ≡ next
+        → IfOk result
+        (λ at.
+        HoldTables (M.reveals mem.new) slots (paired xs index) × (length (paired xs index) ≡ at.0)
+        × (slice_get (paired xs index) index ≡ Some at.1)) }
     ensures count { IfOk result (λ at. (index < at.0) × (at.0 ≤ count)) }
     ensures pages { IfOk result (λ at. at.1.pages ≤ i.now.pages + pages_in next) }
     ensures memory { IfErr result FromMemory }
@@ -122,9 +128,10 @@ fn pair_before<M: FlatMem>(
     requires few { count ≤ 1023 }
     requires order { (index < count) × IfSome before (λ _. 1 ≤ index) }
     requires pages { pages_in before + i.now.pages < 2 ^ 32 }
-    ensures paired { (slots : List (Option Space)) (xs : List Interval) → HoldTables (M.reveals mem.old) slots xs → length xs ≡ count
-        → slice_get xs index ≡ Some i.now → one_before xs index ≡ before
-        → IfOk result (λ n. HoldTables (M.reveals mem.new) slots (paired_before xs index) × (length (paired_before xs index) ≡ n)) }
+    ensures paired { (slots : List (Option Space)) (xs : List Interval) → HoldTables (M.reveals mem.old) slots xs
+        → length xs ≡ count → slice_get xs index ≡ Some i.now → one_before xs index ≡ before
+        → IfOk result
+        (λ n. HoldTables (M.reveals mem.new) slots (paired_before xs index) × (length (paired_before xs index) ≡ n)) }
     ensures count { IfOk result (λ n. (1 ≤ n) × (n ≤ count)) }
     ensures memory { IfErr result FromMemory }
     ensures kept { M.beside mem.old mem.new }
@@ -150,9 +157,12 @@ pub fn rejoin<M: FlatMem>(
     requires few { count ≤ 1023 }
     requires order { index < count }
     requires pages { new.now.pages ≤ root_pages }
-    ensures rejoined { (slots : List (Option Space)) (xs : List Interval) → HoldTables (M.reveals mem.old) slots xs → length xs ≡ count
-        → ((k : ℕ) (x : Interval) → slice_get xs k ≡ Some x → IsReadable x)
-        → MatchResult result (λ n. HoldTables (M.reveals mem.new) slots (rejoined xs index new.now) × (length (rejoined xs index new.now) ≡ n)) FromMemory }
+    ensures rejoined { (slots : List (Option Space)) (xs : List Interval) → HoldTables (M.reveals mem.old) slots xs
+        → length xs ≡ count → ((k : ℕ) (x : Interval) → slice_get xs k ≡ Some x → IsReadable x)
+        → MatchResult result
+        (λ n.
+        HoldTables (M.reveals mem.new) slots (rejoined xs index new.now) × (length (rejoined xs index new.now) ≡ n))
+        FromMemory }
     ensures count { IfOk result (λ n. (1 ≤ n) × (n ≤ count)) }
     ensures malformed { (b : List ℕ) → M.reveals mem.old b → IfErr result (IfMalformed (BreaksProjection count b)) }
     ensures refused { IfErr result NotRefused }

@@ -34,8 +34,10 @@ fn look_up_record<M: FlatMem>(
     requires few { count ≤ 1023 }
     ensures answer { (w : List ℕ) → M.reveals mem.old w
         → IfOk result (IsAnswer 4 (entries 32 (part w 16384 32768) count) count (to_be_bytes w32 page) into.new) }
-    ensures before { (w : List ℕ) → M.reveals mem.old w → result ≡ Ok Before → 0 < count → at_most (part w 16384 4) (to_be_bytes w32 page) ≡ false }
-    ensures turn { (w : List ℕ) → M.reveals mem.old w → IfOk result (TurnsAt 4 (entries 32 (part w 16384 32768) count) (to_be_bytes w32 page)) }
+    ensures before { (w : List ℕ) → M.reveals mem.old w → result ≡ Ok Before → 0 < count
+        → at_most (part w 16384 4) (to_be_bytes w32 page) ≡ false }
+    ensures turn { (w : List ℕ) → M.reveals mem.old w
+        → IfOk result (TurnsAt 4 (entries 32 (part w 16384 32768) count) (to_be_bytes w32 page)) }
     ensures form { IfOk result (IsWithin (Given count) count) }
     ensures unchanged { (w : List ℕ) → M.reveals mem.old w → M.reveals mem.new w }
     ensures kept { M.beside mem.old mem.new }
@@ -57,10 +59,12 @@ pub fn find<M: FlatMem>(
     requires size { 49152 ≤ M.size mem.old }
     requires some { 1 ≤ count }
     requires few { count ≤ 1023 }
-    ensures found { (slots : List (Option Space)) (xs : List Interval) → HoldTables (M.reveals mem.old) slots xs → AreRight slots xs
-        → length xs ≡ count → page < root_pages → MatchResult result (λ at. slice_get xs at.0 ≡ Some at.1) FromMemory }
+    ensures found { (slots : List (Option Space)) (xs : List Interval) → HoldTables (M.reveals mem.old) slots xs
+        → AreRight slots xs → length xs ≡ count → page < root_pages
+        → MatchResult result (λ at. slice_get xs at.0 ≡ Some at.1) FromMemory }
     ensures form { IfOk result (λ at. (at.0 < count) × (in_form at.1 ≡ true) × (has_page page at.1 ≡ true)) }
-    ensures read { (b : List ℕ) → M.reveals mem.old b → IfOk result (λ at. at.1 ≡ interval_in (interval_record b at.0)) }
+    ensures read { (b : List ℕ) → M.reveals mem.old b
+        → IfOk result (λ at. at.1 ≡ interval_in (interval_record b at.0)) }
     ensures malformed { (b : List ℕ) → M.reveals mem.old b → IfErr result (IfMalformed (BreaksLookUp page count b)) }
     ensures refused { IfErr result NotRefused }
     ensures unchanged { (b : List ℕ) → M.reveals mem.old b → M.reveals mem.new b }
@@ -94,7 +98,8 @@ fn insert_record<M: FlatMem>(
     requires size { 49152 ≤ M.size mem.old }
     requires order { at ≤ count }
     requires few { count ≤ 1022 }
-    ensures inserted { (slots : List (Option Space)) (xs : List Interval) (x : Interval) → HoldTables (M.reveals mem.old) slots xs → length xs ≡ count → bytes.now ≡ bytes_of x
+    ensures inserted { (slots : List (Option Space)) (xs : List Interval) (x : Interval)
+        → HoldTables (M.reveals mem.old) slots xs → length xs ≡ count → bytes.now ≡ bytes_of x
         → OnOk result (HoldTables (M.reveals mem.new) slots (insert xs at x)) }
     ensures room { result ≢ Err TableError.Full }
     ensures kept { M.beside mem.old mem.new }
@@ -115,8 +120,8 @@ pub fn insert<M: FlatMem>(
     requires size { 49152 ≤ M.size mem.old }
     requires order { at ≤ count }
     requires few { count ≤ 1022 }
-    ensures inserted { (slots : List (Option Space)) (xs : List Interval) → HoldTables (M.reveals mem.old) slots xs → length xs ≡ count
-        → OnOk result (HoldTables (M.reveals mem.new) slots (insert xs at interval.now)) }
+    ensures inserted { (slots : List (Option Space)) (xs : List Interval) → HoldTables (M.reveals mem.old) slots xs
+        → length xs ≡ count → OnOk result (HoldTables (M.reveals mem.new) slots (insert xs at interval.now)) }
     ensures memory { IfErr result FromMemory }
     ensures kept { M.beside mem.old mem.new }
     ensures cause { IfErr result (IfMem (M.accounted mem.old mem.new)) }
@@ -134,8 +139,8 @@ fn remove_record<M: FlatMem>(mem: &mut M, count: u32, at: u32) -> Result<(), M::
     requires size { 49152 ≤ M.size mem.old }
     requires order { at < count }
     requires few { count ≤ 1023 }
-    ensures removed { (slots : List (Option Space)) (xs : List Interval) → HoldTables (M.reveals mem.old) slots xs → length xs ≡ count
-        → OnOk result (HoldTables (M.reveals mem.new) slots (remove xs at)) }
+    ensures removed { (slots : List (Option Space)) (xs : List Interval) → HoldTables (M.reveals mem.old) slots xs
+        → length xs ≡ count → OnOk result (HoldTables (M.reveals mem.new) slots (remove xs at)) }
     ensures kept { M.beside mem.old mem.new }
     ensures cause { IfErr result (λ e. M.accounted mem.old mem.new e) }
     ensures cost { M.spent mem.new ≤ M.spent mem.old + 128 * M.cost }
@@ -149,8 +154,8 @@ pub fn remove<M: FlatMem>(mem: &mut M, count: u32, at: u32) -> Result<(), SpaceE
     requires size { 49152 ≤ M.size mem.old }
     requires order { at < count }
     requires few { count ≤ 1023 }
-    ensures removed { (slots : List (Option Space)) (xs : List Interval) → HoldTables (M.reveals mem.old) slots xs → length xs ≡ count
-        → OnOk result (HoldTables (M.reveals mem.new) slots (remove xs at)) }
+    ensures removed { (slots : List (Option Space)) (xs : List Interval) → HoldTables (M.reveals mem.old) slots xs
+        → length xs ≡ count → OnOk result (HoldTables (M.reveals mem.new) slots (remove xs at)) }
     ensures memory { IfErr result FromMemory }
     ensures kept { M.beside mem.old mem.new }
     ensures cause { IfErr result (IfMem (M.accounted mem.old mem.new)) }

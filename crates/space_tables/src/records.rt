@@ -40,7 +40,8 @@ pub fn store<M: FlatMem>(
 ) -> Result<(), SpaceError<M::Error>>
     requires size { 49152 ≤ M.size mem.old }
     requires inside { index < 1536 }
-    ensures written { (b : List ℕ) → M.reveals mem.old b → OnOk result (M.reveals mem.new (overwritten b (32 * index) bytes.now)) }
+    ensures written { (b : List ℕ) → M.reveals mem.old b
+        → OnOk result (M.reveals mem.new (overwritten b (32 * index) bytes.now)) }
     ensures memory { IfErr result FromMemory }
     ensures unchanged { (b : List ℕ) → M.reveals mem.old b → OnErr result (M.reveals mem.new b) }
     ensures kept { M.beside mem.old mem.new }
@@ -57,11 +58,12 @@ pub fn store<M: FlatMem>(
 pub fn slot<M: FlatMem>(mem: &mut M, handle: u32) -> Result<Option<Space>, SpaceError<M::Error>>
     requires size { 49152 ≤ M.size mem.old }
     requires inside { handle < 512 }
-    ensures slot { (slots : List (Option Space)) (xs : List Interval) → HoldTables (M.reveals mem.old) slots xs → AreReadable slots xs
-        → MatchResult result (λ o. slice_get slots handle ≡ Some o) FromMemory }
+    ensures slot { (slots : List (Option Space)) (xs : List Interval) → HoldTables (M.reveals mem.old) slots xs
+        → AreReadable slots xs → MatchResult result (λ o. slice_get slots handle ≡ Some o) FromMemory }
     ensures read { (b : List ℕ) → M.reveals mem.old b → IfOk result (λ o. o ≡ slot_in handle (slot_record b handle)) }
     ensures form { IfOk result (λ o. IfSome o (λ s. (space_in_form s ≡ true) × (s.handle ≡ handle))) }
-    ensures malformed { (b : List ℕ) → M.reveals mem.old b → IfErr result (IfMalformed (λ page. BreaksSlot b page handle)) }
+    ensures malformed { (b : List ℕ) → M.reveals mem.old b
+        → IfErr result (IfMalformed (λ page. BreaksSlot b page handle)) }
     ensures refused { IfErr result NotRefused }
     ensures unchanged { (b : List ℕ) → M.reveals mem.old b → M.reveals mem.new b }
     ensures kept { M.beside mem.old mem.new }
@@ -104,7 +106,9 @@ pub fn load_page<M: FlatMem>(
 /// form.
 pub fn slot_on(page: &Page, handle: u32) -> Option<Option<Space>>
     requires inside { handle < 512 }
-    ensures slot { (b : List ℕ) → page.now ≡ slot_page b handle → result ≡ (if is_slot_record (slot_record b handle) then Some (slot_in handle (slot_record b handle)) else None) }
+    ensures slot { (b : List ℕ) → page.now ≡ slot_page b handle
+        → result
+        ≡ (if is_slot_record (slot_record b handle) then Some (slot_in handle (slot_record b handle)) else None) }
     ensures form { IfSome result (λ o. IfSome o (λ s. (space_in_form s ≡ true) × (s.handle ≡ handle))) }
 {
     let at = (handle % 16 * 32) as usize;
@@ -119,8 +123,8 @@ pub fn slot_on(page: &Page, handle: u32) -> Option<Option<Space>>
 /// Whether a space stands at a handle, by the page that has its record: the first byte of the record is not 0.
 pub fn has_space_on(page: &Page, handle: u32) -> bool
     requires inside { handle < 512 }
-    ensures space { (b : List ℕ) (slots : List (Option Space)) (xs : List Interval) → page.now ≡ slot_page b handle → AreTables b slots xs
-        → (result ≡ false) ↔ (slice_get slots handle ≡ Some None) }
+    ensures space { (b : List ℕ) (slots : List (Option Space)) (xs : List Interval) → page.now ≡ slot_page b handle
+        → AreTables b slots xs → (result ≡ false) ↔ (slice_get slots handle ≡ Some None) }
 {
     page[(handle % 16 * 32) as usize] != 0
 }
@@ -129,11 +133,13 @@ pub fn has_space_on(page: &Page, handle: u32) -> bool
 pub fn interval<M: FlatMem>(mem: &mut M, index: u32) -> Result<Interval, SpaceError<M::Error>>
     requires size { 49152 ≤ M.size mem.old }
     requires inside { index < 1024 }
-    ensures interval { (slots : List (Option Space)) (xs : List Interval) (x : Interval) → HoldTables (M.reveals mem.old) slots xs
-        → slice_get xs index ≡ Some x → IsReadable x → MatchResult result (λ y. y ≡ x) FromMemory }
+    ensures interval { (slots : List (Option Space)) (xs : List Interval) (x : Interval)
+        → HoldTables (M.reveals mem.old) slots xs → slice_get xs index ≡ Some x → IsReadable x
+        → MatchResult result (λ y. y ≡ x) FromMemory }
     ensures read { (b : List ℕ) → M.reveals mem.old b → IfOk result (λ x. x ≡ interval_in (interval_record b index)) }
     ensures form { IfOk result (λ x. in_form x ≡ true) }
-    ensures malformed { (b : List ℕ) (count : ℕ) → M.reveals mem.old b → index < count → IfErr result (IfMalformed (λ page. BreaksInterval count b page index)) }
+    ensures malformed { (b : List ℕ) (count : ℕ) → M.reveals mem.old b → index < count
+        → IfErr result (IfMalformed (λ page. BreaksInterval count b page index)) }
     ensures refused { IfErr result NotRefused }
     ensures unchanged { (b : List ℕ) → M.reveals mem.old b → M.reveals mem.new b }
     ensures kept { M.beside mem.old mem.new }
@@ -159,7 +165,8 @@ pub fn put_slot<M: FlatMem>(
 ) -> Result<(), SpaceError<M::Error>>
     requires size { 49152 ≤ M.size mem.old }
     requires inside { handle < 512 }
-    ensures written { (slots : List (Option Space)) (xs : List Interval) (o : Option Space) → HoldTables (M.reveals mem.old) slots xs → bytes.now ≡ slot_bytes o
+    ensures written { (slots : List (Option Space)) (xs : List Interval) (o : Option Space)
+        → HoldTables (M.reveals mem.old) slots xs → bytes.now ≡ slot_bytes o
         → OnOk result (HoldTables (M.reveals mem.new) (slice_set slots handle o) xs) }
     ensures rest { (b : List ℕ) → M.reveals mem.old b → OnOk result (RevealsRest (M.reveals mem.new) b 0) }
     ensures memory { IfErr result FromMemory }

@@ -50,10 +50,12 @@ pub fn remove<M: FlatMem>(mem: &mut M, count: u32, handle: u32) -> Result<u32, S
     requires size { 49152 ≤ M.size mem.old }
     requires some { 1 ≤ count }
     requires few { count ≤ 1023 }
-    ensures answer { (ss : List Space) → RevealSpaces (M.reveals mem.old) count ss → Answers (first_of (remove_row ss handle))
-        (λ n. RevealSpaces (M.reveals mem.new) n (without_space handle ss)) (RevealSpaces (M.reveals mem.new) count ss) result }
+    ensures answer { (ss : List Space) → RevealSpaces (M.reveals mem.old) count ss
+        → Answers (first_of (remove_row ss handle)) (λ n. RevealSpaces (M.reveals mem.new) n (without_space handle ss))
+        (RevealSpaces (M.reveals mem.new) count ss) result }
     ensures form { IfOk result (λ n. (1 ≤ n) × (n ≤ 1023)) }
-    ensures malformed { (b : List ℕ) → M.reveals mem.old b → IfErr result (IfMalformed (BreaksFor (first_in_slot b handle) count b)) }
+    ensures malformed { (b : List ℕ) → M.reveals mem.old b
+        → IfErr result (IfMalformed (BreaksFor (first_in_slot b handle) count b)) }
     ensures kept { M.beside mem.old mem.new }
     ensures cause { IfErr result (IfMem (M.accounted mem.old mem.new)) }
     ensures cost { M.spent mem.new ≤ M.spent mem.old + 783 * M.cost }

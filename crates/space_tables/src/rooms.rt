@@ -43,10 +43,17 @@ fn find_gap<M: FlatMem>(
 ) -> Result<Option<Room>, SpaceError<M::Error>>
     requires size { 49152 ≤ M.size mem.old }
     requires few { count ≤ 1023 }
-    ensures found { (slots : List (Option Space)) (xs : List Interval) → HoldTables (M.reveals mem.old) slots xs → length xs ≡ count
-        → ((k : ℕ) (x : Interval) → slice_get xs k ≡ Some x → IsReadable x) → MatchResult result (IsFirstGap parent pages xs) FromMemory }
-    ensures form { IfOk result (λ o. IfSome o (λ r. (r.index < count) × (in_form r.interval ≡ true) × (is_gap parent pages r.interval ≡ true) × (r.first ≡ r.interval.first))) }
-    ensures read { (b : List ℕ) → M.reveals mem.old b → IfOk result (λ o. IfSome o (λ r. r.interval ≡ interval_in (interval_record b r.index))) }
+    ensures found { (slots : List (Option Space)) (xs : List Interval) → HoldTables (M.reveals mem.old) slots xs
+        → length xs ≡ count → ((k : ℕ) (x : Interval) → slice_get xs k ≡ Some x → IsReadable x)
+        → MatchResult result (IsFirstGap parent pages xs) FromMemory }
+    ensures form { IfOk result
+        (λ o.
+        IfSome o
+        (λ r.
+        (r.index < count) × (in_form r.interval ≡ true) × (is_gap parent pages r.interval ≡ true)
+        × (r.first ≡ r.interval.first))) }
+    ensures read { (b : List ℕ) → M.reveals mem.old b
+        → IfOk result (λ o. IfSome o (λ r. r.interval ≡ interval_in (interval_record b r.index))) }
     ensures malformed { (b : List ℕ) → M.reveals mem.old b → IfErr result (IfMalformed (BreaksProjection count b)) }
     ensures refused { IfErr result NotRefused }
     ensures unchanged { (b : List ℕ) → M.reveals mem.old b → M.reveals mem.new b }
@@ -90,13 +97,19 @@ fn given_room<M: FlatMem>(
     requires some { 1 ≤ count }
     requires few { count ≤ 1023 }
     requires pages { 1 ≤ pages }
-    ensures answer { (slots : List (Option Space)) (xs : List Interval) (p : Space) → HoldTables (M.reveals mem.old) slots xs → AreRight slots xs → length xs ≡ count
-        → space_at (listed slots) parent ≡ Some p → Replies (no_place (listed slots) parent pages (Some first))
+    ensures answer { (slots : List (Option Space)) (xs : List Interval) (p : Space)
+        → HoldTables (M.reveals mem.old) slots xs → AreRight slots xs → length xs ≡ count
+        → space_at (listed slots) parent ≡ Some p
+        → Replies (no_place (listed slots) parent pages (Some first))
         (λ r. (slice_get xs r.index ≡ Some r.interval) × (r.first ≡ first)) result }
-    ensures form { IfOk result (λ r. (r.index < count) × (in_form r.interval ≡ true) × (r.interval.first ≤ r.first) × (r.first + pages ≤ end_of r.interval)) }
+    ensures form { IfOk result
+        (λ r.
+        (r.index < count) × (in_form r.interval ≡ true) × (r.interval.first ≤ r.first)
+        × (r.first + pages ≤ end_of r.interval)) }
     ensures own { IfOk result (λ r. r.interval.space ≡ parent) }
     ensures placed { IfOk result (λ r. r.first ≡ first) }
-    ensures read { (b : List ℕ) → M.reveals mem.old b → IfOk result (λ r. r.interval ≡ interval_in (interval_record b r.index)) }
+    ensures read { (b : List ℕ) → M.reveals mem.old b
+        → IfOk result (λ r. r.interval ≡ interval_in (interval_record b r.index)) }
     ensures malformed { (b : List ℕ) → M.reveals mem.old b → IfErr result (IfMalformed (BreaksLookUp first count b)) }
     ensures unchanged { (b : List ℕ) → M.reveals mem.old b → M.reveals mem.new b }
     ensures kept { M.beside mem.old mem.new }
@@ -131,13 +144,20 @@ pub fn find_room<M: FlatMem>(
     requires some { 1 ≤ count }
     requires few { count ≤ 1023 }
     requires pages { 1 ≤ pages }
-    ensures answer { (slots : List (Option Space)) (xs : List Interval) (p : Space) → HoldTables (M.reveals mem.old) slots xs → AreRight slots xs → length xs ≡ count
-        → space_at (listed slots) parent ≡ Some p → Replies (no_place (listed slots) parent pages first)
-        (λ r. (slice_get xs r.index ≡ Some r.interval) × (r.first ≡ first_page_for (listed slots) parent pages first)) result }
-    ensures form { IfOk result (λ r. (r.index < count) × (in_form r.interval ≡ true) × (r.interval.first ≤ r.first) × (r.first + pages ≤ end_of r.interval)) }
+    ensures answer { (slots : List (Option Space)) (xs : List Interval) (p : Space)
+        → HoldTables (M.reveals mem.old) slots xs → AreRight slots xs → length xs ≡ count
+        → space_at (listed slots) parent ≡ Some p
+        → Replies (no_place (listed slots) parent pages first)
+        (λ r. (slice_get xs r.index ≡ Some r.interval) × (r.first ≡ first_page_for (listed slots) parent pages first))
+        result }
+    ensures form { IfOk result
+        (λ r.
+        (r.index < count) × (in_form r.interval ≡ true) × (r.interval.first ≤ r.first)
+        × (r.first + pages ≤ end_of r.interval)) }
     ensures own { IfOk result (λ r. r.interval.space ≡ parent) }
     ensures placed { IfOk result (λ r. r.first ≡ option_map_or (λ p. p) first r.interval.first) }
-    ensures read { (b : List ℕ) → M.reveals mem.old b → IfOk result (λ r. r.interval ≡ interval_in (interval_record b r.index)) }
+    ensures read { (b : List ℕ) → M.reveals mem.old b
+        → IfOk result (λ r. r.interval ≡ interval_in (interval_record b r.index)) }
     ensures malformed { (b : List ℕ) → M.reveals mem.old b → IfErr result (IfMalformed (BreaksAt first count b)) }
     ensures unchanged { (b : List ℕ) → M.reveals mem.old b → M.reveals mem.new b }
     ensures kept { M.beside mem.old mem.new }

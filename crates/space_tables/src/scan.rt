@@ -43,11 +43,15 @@ fn passes(test: &Test, s: &Space) -> bool
 // breaks its form.
 fn passing(page: &Page, handle: u32, test: &Test) -> Option<Option<Space>>
     requires inside { handle < 512 }
-    ensures found { (b : List ℕ) (slots : List (Option Space)) (xs : List Interval) → page.now ≡ slot_page b handle → AreTables b slots xs → AreReadable slots xs
+    ensures found { (b : List ℕ) (slots : List (Option Space)) (xs : List Interval) → page.now ≡ slot_page b handle
+        → AreTables b slots xs → AreReadable slots xs
         → (p : Option Space) × (slice_get slots handle ≡ Some p) × (result ≡ Some (kept (passes test.now) p)) }
-    ensures read { (b : List ℕ) → page.now ≡ slot_page b handle → IfSome result (λ o. IfSome o (λ s. slot_in s.handle (slot_record b s.handle) ≡ Some s)) }
-    ensures form { IfSome result (λ o. IfSome o (λ s. (space_in_form s ≡ true) × (passes test.now s ≡ true) × (s.handle < 512))) }
-    ensures malformed { (b : List ℕ) → page.now ≡ slot_page b handle → result ≡ None → BreaksSlot b (handle / 16) handle }
+    ensures read { (b : List ℕ) → page.now ≡ slot_page b handle
+        → IfSome result (λ o. IfSome o (λ s. slot_in s.handle (slot_record b s.handle) ≡ Some s)) }
+    ensures form { IfSome result
+        (λ o. IfSome o (λ s. (space_in_form s ≡ true) × (passes test.now s ≡ true) × (s.handle < 512))) }
+    ensures malformed { (b : List ℕ) → page.now ≡ slot_page b handle → result ≡ None
+        → BreaksSlot b (handle / 16) handle }
 {
     match slot_on(page, handle)? {
         Some(space) => {
@@ -66,10 +70,13 @@ fn passing(page: &Page, handle: u32, test: &Test) -> Option<Option<Space>>
 fn first_on(page: &Page, first: u32, test: &Test) -> Option<Option<Space>>
     requires whole { first % 16 ≡ 0 }
     requires inside { first < 512 }
-    ensures found { (b : List ℕ) (slots : List (Option Space)) (xs : List Interval) → page.now ≡ slot_page b first → AreTables b slots xs → AreReadable slots xs
+    ensures found { (b : List ℕ) (slots : List (Option Space)) (xs : List Interval) → page.now ≡ slot_page b first
+        → AreTables b slots xs → AreReadable slots xs
         → (o : Option Space) × (result ≡ Some o) × IsFirstOn (passes test.now) slots first o }
-    ensures read { (b : List ℕ) → page.now ≡ slot_page b first → IfSome result (λ o. IfSome o (λ s. slot_in s.handle (slot_record b s.handle) ≡ Some s)) }
-    ensures form { IfSome result (λ o. IfSome o (λ s. (space_in_form s ≡ true) × (passes test.now s ≡ true) × (s.handle < 512))) }
+    ensures read { (b : List ℕ) → page.now ≡ slot_page b first
+        → IfSome result (λ o. IfSome o (λ s. slot_in s.handle (slot_record b s.handle) ≡ Some s)) }
+    ensures form { IfSome result
+        (λ o. IfSome o (λ s. (space_in_form s ≡ true) × (passes test.now s ≡ true) × (s.handle < 512))) }
     ensures malformed { (b : List ℕ) → page.now ≡ slot_page b first → result ≡ None → BreaksHierarchy b (first / 16) }
 {
     let mut handle = first;
@@ -92,10 +99,12 @@ pub fn find_space<M: FlatMem>(
     test: &Test,
 ) -> Result<Option<Space>, SpaceError<M::Error>>
     requires size { 49152 ≤ M.size mem.old }
-    ensures found { (slots : List (Option Space)) (xs : List Interval) → HoldTables (M.reveals mem.old) slots xs → AreReadable slots xs
-        → MatchResult result (λ o. o ≡ find (passes test.now) (listed slots)) FromMemory }
-    ensures read { (b : List ℕ) → M.reveals mem.old b → IfOk result (λ o. IfSome o (λ s. slot_in s.handle (slot_record b s.handle) ≡ Some s)) }
-    ensures form { IfOk result (λ o. IfSome o (λ s. (space_in_form s ≡ true) × (passes test.now s ≡ true) × (s.handle < 512))) }
+    ensures found { (slots : List (Option Space)) (xs : List Interval) → HoldTables (M.reveals mem.old) slots xs
+        → AreReadable slots xs → MatchResult result (λ o. o ≡ find (passes test.now) (listed slots)) FromMemory }
+    ensures read { (b : List ℕ) → M.reveals mem.old b
+        → IfOk result (λ o. IfSome o (λ s. slot_in s.handle (slot_record b s.handle) ≡ Some s)) }
+    ensures form { IfOk result
+        (λ o. IfSome o (λ s. (space_in_form s ≡ true) × (passes test.now s ≡ true) × (s.handle < 512))) }
     ensures malformed { (b : List ℕ) → M.reveals mem.old b → IfErr result (IfMalformed (BreaksHierarchy b)) }
     ensures refused { IfErr result NotRefused }
     ensures unchanged { (b : List ℕ) → M.reveals mem.old b → M.reveals mem.new b }
@@ -122,8 +131,8 @@ pub fn find_space<M: FlatMem>(
 // The lowest handle from `from` on that no space has, among those whose records the page has.
 fn free_on(page: &Page, from: u32) -> Option<u32>
     requires inside { from < 512 }
-    ensures free { (b : List ℕ) (slots : List (Option Space)) (xs : List Interval) → page.now ≡ slot_page b from → AreTables b slots xs
-        → IsLowestFrom slots from (end_on from) result }
+    ensures free { (b : List ℕ) (slots : List (Option Space)) (xs : List Interval) → page.now ≡ slot_page b from
+        → AreTables b slots xs → IsLowestFrom slots from (end_on from) result }
     ensures form { IfSome result (λ h. (from ≤ h) × (h < 512)) }
 {
     let end = from - from % 16 + 16;
@@ -140,8 +149,8 @@ fn free_on(page: &Page, from: u32) -> Option<u32>
 /// The lowest handle from 1 on that no space has.
 pub fn free_handle<M: FlatMem>(mem: &mut M) -> Result<Option<u32>, SpaceError<M::Error>>
     requires size { 49152 ≤ M.size mem.old }
-    ensures free { (slots : List (Option Space)) (xs : List Interval) → HoldTables (M.reveals mem.old) slots xs → AreReadable slots xs
-        → MatchResult result (IsLowestFree slots) FromMemory }
+    ensures free { (slots : List (Option Space)) (xs : List Interval) → HoldTables (M.reveals mem.old) slots xs
+        → AreReadable slots xs → MatchResult result (IsLowestFree slots) FromMemory }
     ensures form { IfOk result (λ o. IfSome o (λ h. (1 ≤ h) × (h < 512))) }
     ensures memory { IfErr result FromMemory }
     ensures refused { IfErr result NotRefused }

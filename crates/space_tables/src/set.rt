@@ -27,8 +27,10 @@ pub fn set_unit<M: FlatMem>(
 ) -> Result<(), SpaceError<M::Error>>
     requires size { 49152 ≤ M.size mem.old }
     requires few { count ≤ 1023 }
-    ensures answer { (ss : List Space) → RevealSpaces (M.reveals mem.old) count ss → Answers (first_of (unit_row ss handle unit))
-        (λ _. RevealSpaces (M.reveals mem.new) count (change_space handle (λ s. record s { unit = unit }) ss)) (RevealSpaces (M.reveals mem.new) count ss) result }
+    ensures answer { (ss : List Space) → RevealSpaces (M.reveals mem.old) count ss
+        → Answers (first_of (unit_row ss handle unit))
+        (λ _. RevealSpaces (M.reveals mem.new) count (change_space handle (λ s. record s { unit = unit }) ss))
+        (RevealSpaces (M.reveals mem.new) count ss) result }
     ensures malformed { (b : List ℕ) → M.reveals mem.old b → IfErr result (IfMalformed (Breaks count b)) }
     ensures kept { M.beside mem.old mem.new }
     ensures cause { IfErr result (IfMem (M.accounted mem.old mem.new)) }
@@ -55,7 +57,8 @@ pub fn set_window<M: FlatMem>(
 ) -> Result<(), SpaceError<M::Error>>
     requires size { 49152 ≤ M.size mem.old }
     requires few { count ≤ 1023 }
-    ensures done { (ss : List Space) (x : Space) → RevealSpaces (M.reveals mem.old) count ss → MayHaveWindow ss x → x.handle ≡ handle → IfSome window (WindowFits x.pages)
+    ensures done { (ss : List Space) (x : Space) → RevealSpaces (M.reveals mem.old) count ss → MayHaveWindow ss x
+        → x.handle ≡ handle → IfSome window (WindowFits x.pages)
         → MatchResult result (λ _. RevealSpaces (M.reveals mem.new) count (set_window handle window ss)) FromMemory }
     ensures malformed { (b : List ℕ) → M.reveals mem.old b → IfErr result (IfMalformed (Breaks count b)) }
     ensures kept { M.beside mem.old mem.new }

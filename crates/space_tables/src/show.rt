@@ -19,9 +19,12 @@ pub fn showing<M: FlatMem>(
     writable_only: bool,
 ) -> Result<Option<(u32, Shown)>, SpaceError<M::Error>>
     requires size { 49152 ≤ M.size mem.old }
-    ensures answer { (count : ℕ) (ss : List Space) → RevealSpaces (M.reveals mem.old) count ss → IfOk result (IsFirstWith (shows id writable_only) ss) }
-    ensures right { (count : ℕ) (ss : List Space) → RevealSpaces (M.reveals mem.old) count ss → IfErr result FromMemory }
-    ensures form { IfOk result (λ o. IfSome o (λ at. (16 ≤ at.1.id) × (at.1.id ≡ id) × (writable_only ≡ true → at.1.writable ≡ true))) }
+    ensures answer { (count : ℕ) (ss : List Space) → RevealSpaces (M.reveals mem.old) count ss
+        → IfOk result (IsFirstWith (shows id writable_only) ss) }
+    ensures right { (count : ℕ) (ss : List Space) → RevealSpaces (M.reveals mem.old) count ss
+        → IfErr result FromMemory }
+    ensures form { IfOk result
+        (λ o. IfSome o (λ at. (16 ≤ at.1.id) × (at.1.id ≡ id) × (writable_only ≡ true → at.1.writable ≡ true))) }
     ensures read { (b : List ℕ) → M.reveals mem.old b → IfOk result (λ o. IfSome o (λ at. IsShownAt b at.0 at.1)) }
     ensures malformed { (b : List ℕ) → M.reveals mem.old b → IfErr result (IfMalformed (BreaksHierarchy b)) }
     ensures refused { IfErr result NotRefused }

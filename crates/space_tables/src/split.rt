@@ -62,8 +62,12 @@ fn put_part<M: FlatMem>(
     requires form { in_form i.now ≡ true }
     requires inside { (i.now.first ≤ first) × (first + pages ≤ end_of i.now) }
     requires few { (count ≤ 1023) × (pages ≢ 0 → count ≤ 1022) }
-    ensures put { (slots : List (Option Space)) (xs : List Interval) → HoldTables (M.reveals mem.old) slots xs → length xs ≡ count
-        → IfOk result (λ n. HoldTables (M.reveals mem.new) slots (put_in xs at (some_pages (cut i.now first pages))) × (length (put_in xs at (some_pages (cut i.now first pages))) ≡ n)) }
+    ensures put { (slots : List (Option Space)) (xs : List Interval) → HoldTables (M.reveals mem.old) slots xs
+        → length xs ≡ count
+        → IfOk result
+        (λ n.
+        HoldTables (M.reveals mem.new) slots (put_in xs at (some_pages (cut i.now first pages)))
+        × (length (put_in xs at (some_pages (cut i.now first pages))) ≡ n)) }
     ensures count { IfOk result (λ n. (count ≤ n) × (n ≤ count + 1) × (n ≤ 1023) × (pages ≡ 0 → n ≡ count)) }
     ensures memory { IfErr result FromMemory }
     ensures kept { M.beside mem.old mem.new }
@@ -105,8 +109,12 @@ pub fn split<M: FlatMem>(
     requires handle { x.now.handle ≤ 511 }
     requires some { 1 ≤ x.now.pages }
     requires inside { (i.now.first ≤ x.now.first) × (end x.now ≤ end_of i.now) }
-    ensures split { (slots : List (Option Space)) (xs : List Interval) → HoldTables (M.reveals mem.old) slots xs → length xs ≡ count → slice_get xs index ≡ Some i.now
-        → IfOk result (λ n. HoldTables (M.reveals mem.new) slots (replaced xs index (pieces x.now i.now)) × (length (replaced xs index (pieces x.now i.now)) ≡ n)) }
+    ensures split { (slots : List (Option Space)) (xs : List Interval) → HoldTables (M.reveals mem.old) slots xs
+        → length xs ≡ count → slice_get xs index ≡ Some i.now
+        → IfOk result
+        (λ n.
+        HoldTables (M.reveals mem.new) slots (replaced xs index (pieces x.now i.now))
+        × (length (replaced xs index (pieces x.now i.now)) ≡ n)) }
     ensures memory { count ≤ 1021 → IfErr result FromMemory }
     ensures count { IfOk result (λ n. (1 ≤ n) × (n ≤ 1023)) }
     ensures malformed { IfErr result (IfMalformed (IsOverfull count x.now i.now)) }

@@ -43,7 +43,8 @@ impl<M: FlatMem + Drop> SpaceTables<M> {
     pub fn begin(mem: M) -> Result<SpaceTables<M>, SpaceError<M::Error>>
         requires size { 49152 ≤ M.size mem }
         ensures begun { (b : List ℕ) → M.reveals mem b → IfOk result (λ t. Reveals t (root ∷ [])) }
-        ensures cause { IfErr result (λ why. (m : M) × M.beside mem m × FromMemory why × IfMem (M.accounted mem m) why) }
+        ensures cause { IfErr result
+            (λ why. (m : M) × M.beside mem m × FromMemory why × IfMem (M.accounted mem m) why) }
         ensures kept { IfOk result (λ t. M.beside mem (tables_memory t)) }
         ensures count { IfOk result (λ t. interval_count t ≡ 1) }
         ensures cost { IfOk result (λ t. M.spent (tables_memory t) ≤ M.spent mem + 514 * M.cost) }
@@ -61,7 +62,8 @@ impl<M: FlatMem> SpaceTables<M> {
     /// was done or the memory failed.
     pub fn begin_in(mem: &mut M) -> Result<(), SpaceError<M::Error>>
         requires size { 49152 ≤ M.size mem.old }
-        ensures begun { (b : List ℕ) → M.reveals mem.old b → OnOk result (RevealSpaces (M.reveals mem.new) 1 (root ∷ [])) }
+        ensures begun { (b : List ℕ) → M.reveals mem.old b
+            → OnOk result (RevealSpaces (M.reveals mem.new) 1 (root ∷ [])) }
         ensures memory { IfErr result FromMemory }
         ensures cause { IfErr result (IfMem (M.accounted mem.old mem.new)) }
         ensures kept { M.beside mem.old mem.new }
@@ -91,12 +93,15 @@ impl<M: FlatMem> SpaceTables<M> {
 
     /// The interval that holds a page, or None where the page is not one of the root.
     pub fn describe(&mut self, page: u32) -> Result<Option<Interval>, SpaceError<M::Error>>
-        ensures interval { (ss : List Space) → Reveals self.old ss → IfOk result (λ o. IfSome o (IsIntervalAt ss page)) }
+        ensures interval { (ss : List Space) → Reveals self.old ss
+            → IfOk result (λ o. IfSome o (IsIntervalAt ss page)) }
         ensures right { (ss : List Space) → Reveals self.old ss → IfErr result FromMemory }
         ensures none { IfOk result (λ o. (o ≡ None) ↔ (root_pages ≤ page)) }
         ensures form { IfOk result (λ o. IfSome o (λ x. (in_form x ≡ true) × (has_page page x ≡ true))) }
-        ensures read { (b : List ℕ) → M.reveals (tables_memory self.old) b → IfOk result (λ o. IfSome o (IsRecorded (interval_count self.old) b)) }
-        ensures malformed { (b : List ℕ) → M.reveals (tables_memory self.old) b → IfErr result (IfMalformed (BreaksLookUp page (interval_count self.old) b)) }
+        ensures read { (b : List ℕ) → M.reveals (tables_memory self.old) b
+            → IfOk result (λ o. IfSome o (IsRecorded (interval_count self.old) b)) }
+        ensures malformed { (b : List ℕ) → M.reveals (tables_memory self.old) b
+            → IfErr result (IfMalformed (BreaksLookUp page (interval_count self.old) b)) }
         ensures refused { IfErr result NotRefused }
         ensures cause { IfErr result (IfMem (M.accounted (tables_memory self.old) (tables_memory self.new))) }
         ensures unchanged { (b : List ℕ) → M.reveals (tables_memory self.old) b → M.reveals (tables_memory self.new) b }
@@ -115,10 +120,12 @@ impl<M: FlatMem> SpaceTables<M> {
     /// The first page of a space, and how many pages it has.
     pub fn bounds(&mut self, space: u32) -> Result<(u32, u32), SpaceError<M::Error>>
         ensures answer { (ss : List Space) → Reveals self.old ss
-            → Replies (no_space ss space) (λ run. (s : Space) × (space_at ss space ≡ Some s) × (run ≡ (s.first, s.pages))) result }
+            → Replies (no_space ss space)
+            (λ run. (s : Space) × (space_at ss space ≡ Some s) × (run ≡ (s.first, s.pages))) result }
         ensures form { IfOk result (λ run. lies_in_root run.0 run.1 ≡ true) }
         ensures read { (b : List ℕ) → M.reveals (tables_memory self.old) b → IfOk result (IsRunAt b space) }
-        ensures malformed { (b : List ℕ) → M.reveals (tables_memory self.old) b → IfErr result (IfMalformed (λ page. BreaksSlot b page space)) }
+        ensures malformed { (b : List ℕ) → M.reveals (tables_memory self.old) b
+            → IfErr result (IfMalformed (λ page. BreaksSlot b page space)) }
         ensures cause { IfErr result (IfMem (M.accounted (tables_memory self.old) (tables_memory self.new))) }
         ensures unchanged { (b : List ℕ) → M.reveals (tables_memory self.old) b → M.reveals (tables_memory self.new) b }
         ensures count { interval_count self.new ≡ interval_count self.old }
@@ -135,7 +142,8 @@ impl<M: FlatMem> SpaceTables<M> {
         ensures answer { (ss : List Space) → Reveals self.old ss → Replies (first_of (past_root page ∷ []))
             (λ at. (s : Space) × (innermost ss page ≡ Some s) × (at ≡ (s.handle, s.first, s.pages))) result }
         ensures form { IfOk result (λ at. lies_in_root at.1 at.2 ≡ true) }
-        ensures malformed { (b : List ℕ) → M.reveals (tables_memory self.old) b → IfErr result (IfMalformed (BreaksFor page (interval_count self.old) b)) }
+        ensures malformed { (b : List ℕ) → M.reveals (tables_memory self.old) b
+            → IfErr result (IfMalformed (BreaksFor page (interval_count self.old) b)) }
         ensures cause { IfErr result (IfMem (M.accounted (tables_memory self.old) (tables_memory self.new))) }
         ensures unchanged { (b : List ℕ) → M.reveals (tables_memory self.old) b → M.reveals (tables_memory self.new) b }
         ensures count { interval_count self.new ≡ interval_count self.old }
@@ -150,10 +158,12 @@ impl<M: FlatMem> SpaceTables<M> {
     /// The tests of a call that maps a space, as far as they ask of spaces; then its first page and how many it has.
     pub fn can_map(&mut self, space: u32) -> Result<(u32, u32), SpaceError<M::Error>>
         ensures answer { (ss : List Space) → Reveals self.old ss
-            → Replies (first_of (map_row ss space)) (λ run. (s : Space) × (space_at ss space ≡ Some s) × (run ≡ (s.first, s.pages))) result }
+            → Replies (first_of (map_row ss space))
+            (λ run. (s : Space) × (space_at ss space ≡ Some s) × (run ≡ (s.first, s.pages))) result }
         ensures form { IfOk result (λ run. lies_in_root run.0 run.1 ≡ true) }
         ensures read { (b : List ℕ) → M.reveals (tables_memory self.old) b → IfOk result (IsRunAt b space) }
-        ensures malformed { (b : List ℕ) → M.reveals (tables_memory self.old) b → IfErr result (IfMalformed (BreaksHierarchy b)) }
+        ensures malformed { (b : List ℕ) → M.reveals (tables_memory self.old) b
+            → IfErr result (IfMalformed (BreaksHierarchy b)) }
         ensures cause { IfErr result (IfMem (M.accounted (tables_memory self.old) (tables_memory self.new))) }
         ensures unchanged { (b : List ℕ) → M.reveals (tables_memory self.old) b → M.reveals (tables_memory self.new) b }
         ensures count { interval_count self.new ≡ interval_count self.old }
@@ -171,7 +181,8 @@ impl<M: FlatMem> SpaceTables<M> {
             (λ shown. (s : Space) × (space_at ss space ≡ Some s) × (s.window ≡ Some (window_of shown))) result }
         ensures form { IfOk result (λ shown. 16 ≤ shown.id) }
         ensures read { (b : List ℕ) → M.reveals (tables_memory self.old) b → IfOk result (IsShownAt b space) }
-        ensures malformed { (b : List ℕ) → M.reveals (tables_memory self.old) b → IfErr result (IfMalformed (λ page. BreaksSlot b page space)) }
+        ensures malformed { (b : List ℕ) → M.reveals (tables_memory self.old) b
+            → IfErr result (IfMalformed (λ page. BreaksSlot b page space)) }
         ensures cause { IfErr result (IfMem (M.accounted (tables_memory self.old) (tables_memory self.new))) }
         ensures unchanged { (b : List ℕ) → M.reveals (tables_memory self.old) b → M.reveals (tables_memory self.new) b }
         ensures count { interval_count self.new ≡ interval_count self.old }
@@ -192,11 +203,15 @@ impl<M: FlatMem> SpaceTables<M> {
         id: FileId,
         writable_only: bool,
     ) -> Result<Option<(u32, Shown)>, SpaceError<M::Error>>
-        ensures answer { (ss : List Space) → Reveals self.old ss → IfOk result (IsFirstWith (shows id writable_only) ss) }
+        ensures answer { (ss : List Space) → Reveals self.old ss
+            → IfOk result (IsFirstWith (shows id writable_only) ss) }
         ensures right { (ss : List Space) → Reveals self.old ss → IfErr result FromMemory }
-        ensures form { IfOk result (λ o. IfSome o (λ at. (16 ≤ at.1.id) × (at.1.id ≡ id) × (writable_only ≡ true → at.1.writable ≡ true))) }
-        ensures read { (b : List ℕ) → M.reveals (tables_memory self.old) b → IfOk result (λ o. IfSome o (λ at. IsShownAt b at.0 at.1)) }
-        ensures malformed { (b : List ℕ) → M.reveals (tables_memory self.old) b → IfErr result (IfMalformed (BreaksHierarchy b)) }
+        ensures form { IfOk result
+            (λ o. IfSome o (λ at. (16 ≤ at.1.id) × (at.1.id ≡ id) × (writable_only ≡ true → at.1.writable ≡ true))) }
+        ensures read { (b : List ℕ) → M.reveals (tables_memory self.old) b
+            → IfOk result (λ o. IfSome o (λ at. IsShownAt b at.0 at.1)) }
+        ensures malformed { (b : List ℕ) → M.reveals (tables_memory self.old) b
+            → IfErr result (IfMalformed (BreaksHierarchy b)) }
         ensures refused { IfErr result NotRefused }
         ensures cause { IfErr result (IfMem (M.accounted (tables_memory self.old) (tables_memory self.new))) }
         ensures unchanged { (b : List ℕ) → M.reveals (tables_memory self.old) b → M.reveals (tables_memory self.new) b }
@@ -216,12 +231,20 @@ impl<M: FlatMem> SpaceTables<M> {
         pages: u32,
         first: Option<u32>,
     ) -> Result<(u32, u32), SpaceError<M::Error>>
-        ensures answer { (ss : List Space) → Reveals self.old ss → Answers (first_of (add_row ss parent pages first))
-            (λ at. Reveals self.new (put_space (made ss parent pages first) ss) × (at.0 ≡ (made ss parent pages first).handle) × (at.1 ≡ (made ss parent pages first).first))
+        ensures answer { (ss : List Space) → Reveals self.old ss
+            → Answers (first_of (add_row ss parent pages first))
+            (λ at.
+            Reveals self.new (put_space (made ss parent pages first) ss) × (at.0 ≡ (made ss parent pages first).handle)
+            × (at.1 ≡ (made ss parent pages first).first))
             (Reveals self.new ss) result }
         ensures form { IfOk result (λ at. lies_in_root at.1 pages ≡ true) }
         ensures malformed { (b : List ℕ) → M.reveals (tables_memory self.old) b
-            → IfErr result (IfMalformed (λ page. BreaksHierarchy b page ⊎ (BreaksAt first (interval_count self.old) b page ⊎ MakesTooMany (interval_count self.old) b parent pages first page))) }
+            → IfErr result
+            (IfMalformed
+            (λ page.
+            BreaksHierarchy b page
+            ⊎ (BreaksAt first (interval_count self.old) b page
+            ⊎ MakesTooMany (interval_count self.old) b parent pages first page))) }
         ensures cause { IfErr result (IfMem (M.accounted (tables_memory self.old) (tables_memory self.new))) }
         ensures kept { M.beside (tables_memory self.old) (tables_memory self.new) }
         ensures cost { M.spent (tables_memory self.new) ≤ M.spent (tables_memory self.old) + 1793 * M.cost }
@@ -247,9 +270,12 @@ impl<M: FlatMem> SpaceTables<M> {
 
     /// Gives a space another unit size, 1 to 16 pages.
     pub fn set_unit(&mut self, space: u32, unit: u32) -> Result<(), SpaceError<M::Error>>
-        ensures answer { (ss : List Space) → Reveals self.old ss → Answers (first_of (unit_row ss space unit))
-            (λ _. Reveals self.new (change_space space (λ s. record s { unit = unit }) ss)) (Reveals self.new ss) result }
-        ensures malformed { (b : List ℕ) → M.reveals (tables_memory self.old) b → IfErr result (IfMalformed (Breaks (interval_count self.old) b)) }
+        ensures answer { (ss : List Space) → Reveals self.old ss
+            → Answers (first_of (unit_row ss space unit))
+            (λ _. Reveals self.new (change_space space (λ s. record s { unit = unit }) ss)) (Reveals self.new ss)
+            result }
+        ensures malformed { (b : List ℕ) → M.reveals (tables_memory self.old) b
+            → IfErr result (IfMalformed (Breaks (interval_count self.old) b)) }
         ensures cause { IfErr result (IfMem (M.accounted (tables_memory self.old) (tables_memory self.new))) }
         ensures count { interval_count self.new ≡ interval_count self.old }
         ensures kept { M.beside (tables_memory self.old) (tables_memory self.new) }
@@ -264,9 +290,11 @@ impl<M: FlatMem> SpaceTables<M> {
         space: u32,
         shown: Option<Shown>,
     ) -> Result<(), SpaceError<M::Error>>
-        ensures done { (ss : List Space) (x : Space) → Reveals self.old ss → MayHaveWindow ss x → x.handle ≡ space → IfSome shown (λ w. WindowFits x.pages (window_of w))
+        ensures done { (ss : List Space) (x : Space) → Reveals self.old ss → MayHaveWindow ss x → x.handle ≡ space
+            → IfSome shown (λ w. WindowFits x.pages (window_of w))
             → MatchResult result (λ _. Reveals self.new (set_window space (option_map window_of shown) ss)) FromMemory }
-        ensures malformed { (b : List ℕ) → M.reveals (tables_memory self.old) b → IfErr result (IfMalformed (Breaks (interval_count self.old) b)) }
+        ensures malformed { (b : List ℕ) → M.reveals (tables_memory self.old) b
+            → IfErr result (IfMalformed (Breaks (interval_count self.old) b)) }
         ensures cause { IfErr result (IfMem (M.accounted (tables_memory self.old) (tables_memory self.new))) }
         ensures count { interval_count self.new ≡ interval_count self.old }
         ensures kept { M.beside (tables_memory self.old) (tables_memory self.new) }

@@ -29,15 +29,26 @@ pub type Book<'d, D, A> = BookOver<&'d mut D, A>;
 impl<D: Disk, A: Allocator> BookOver<D, A> {
     /// The last of the entries whose key is at most this one.
     pub fn find(&mut self, key: &[u8; 12]) -> Result<Option<u32>, Halt>
-        requires count { self.old.count ≤ capacity_of 24 (size_in FileMap (D.state self.old.swapper.disk).sectors self.old.swapper.layout) }
+        requires count { self.old.count ≤ capacity_of 24
+            (size_in FileMap (D.state self.old.swapper.disk).sectors self.old.swapper.layout) }
         requires small { size_in FileMap (D.state self.old.swapper.disk).sectors self.old.swapper.layout ≤ 2 ^ 31 }
-        ensures found { (b : List ℕ) → Reveals FileMap (D.state self.old.swapper.disk) self.old.swapper.pool self.old.swapper.layout b → IsInKeyOrder 12 (entries 24 b self.old.count) → IfOk result (IsFound 12 (entries 24 b self.old.count) key.now) }
-        ensures shows { (b : List ℕ) → Reveals FileMap (D.state self.old.swapper.disk) self.old.swapper.pool self.old.swapper.layout b → Reveals FileMap (D.state self.new.swapper.disk) self.new.swapper.pool self.new.swapper.layout b }
+        ensures found { (b : List ℕ)
+            → Reveals FileMap (D.state self.old.swapper.disk) self.old.swapper.pool self.old.swapper.layout b
+            → IsInKeyOrder 12 (entries 24 b self.old.count)
+            → IfOk result (IsFound 12 (entries 24 b self.old.count) key.now) }
+        ensures shows { (b : List ℕ)
+            → Reveals FileMap (D.state self.old.swapper.disk) self.old.swapper.pool self.old.swapper.layout b
+            → Reveals FileMap (D.state self.new.swapper.disk) self.new.swapper.pool self.new.swapper.layout b }
         ensures count { self.new.count ≡ self.old.count }
         ensures layout { self.new.swapper.layout ≡ self.old.swapper.layout }
-        ensures kept { Beside FileMap (D.state self.old.swapper.disk) self.old.swapper.pool self.old.swapper.layout (D.state self.new.swapper.disk) self.new.swapper.pool self.new.swapper.layout }
-        ensures cause { IfErr result (λ e. IsAccounted FileMap (D.state self.old.swapper.disk) self.old.swapper.pool self.old.swapper.layout (D.state self.new.swapper.disk) e) }
-        ensures cost { (t : ℕ) → pages_of 24 self.old.count ≤ 2 ^ t → (D.state self.new.swapper.disk).transfers ≤ (D.state self.old.swapper.disk).transfers + (1 + t) * 2 }
+        ensures kept { Beside FileMap (D.state self.old.swapper.disk) self.old.swapper.pool self.old.swapper.layout
+            (D.state self.new.swapper.disk) self.new.swapper.pool self.new.swapper.layout }
+        ensures cause { IfErr result
+            (λ e.
+            IsAccounted FileMap (D.state self.old.swapper.disk) self.old.swapper.pool self.old.swapper.layout
+            (D.state self.new.swapper.disk) e) }
+        ensures cost { (t : ℕ) → pages_of 24 self.old.count ≤ 2 ^ t
+            → (D.state self.new.swapper.disk).transfers ≤ (D.state self.old.swapper.disk).transfers + (1 + t) * 2 }
     {
         let mut table = RecordTable::<MapMemory<D, A>, 24, 12>::over(
             self.swapper.map_memory(Manager::FileMap),
@@ -48,14 +59,29 @@ impl<D: Disk, A: Allocator> BookOver<D, A> {
 
     /// One entry more. After an error of the disk the entries are open, and the count is what it was.
     pub fn add(&mut self, entry: &[u8; 24]) -> Result<(), TableError<Halt>>
-        requires count { self.old.count ≤ capacity_of 24 (size_in FileMap (D.state self.old.swapper.disk).sectors self.old.swapper.layout) }
+        requires count { self.old.count ≤ capacity_of 24
+            (size_in FileMap (D.state self.old.swapper.disk).sectors self.old.swapper.layout) }
         requires small { size_in FileMap (D.state self.old.swapper.disk).sectors self.old.swapper.layout ≤ 2 ^ 31 }
-        ensures inserted { (b : List ℕ) → Reveals FileMap (D.state self.old.swapper.disk) self.old.swapper.pool self.old.swapper.layout b → OnOk result (IsInserted 12 (RevealsEntries 24 (Reveals FileMap (D.state self.new.swapper.disk) self.new.swapper.pool self.new.swapper.layout) (self.old.count + 1)) (entries 24 b self.old.count) entry.now) }
-        ensures full { (result ≡ Err TableError.Full) ↔ (self.old.count ≡ capacity_of 24 (size_in FileMap (D.state self.old.swapper.disk).sectors self.old.swapper.layout)) }
+        ensures inserted { (b : List ℕ)
+            → Reveals FileMap (D.state self.old.swapper.disk) self.old.swapper.pool self.old.swapper.layout b
+            → OnOk result
+            (IsInserted 12
+            (RevealsEntries 24
+            (Reveals FileMap (D.state self.new.swapper.disk) self.new.swapper.pool self.new.swapper.layout)
+            (self.old.count + 1))
+            (entries 24 b self.old.count) entry.now) }
+        ensures full { (result ≡ Err TableError.Full) ↔
+            (self.old.count ≡ capacity_of 24
+            (size_in FileMap (D.state self.old.swapper.disk).sectors self.old.swapper.layout)) }
         ensures count { self.new.count ≡ (if is_ok result then self.old.count + 1 else self.old.count) }
         ensures layout { self.new.swapper.layout ≡ self.old.swapper.layout }
-        ensures kept { Beside FileMap (D.state self.old.swapper.disk) self.old.swapper.pool self.old.swapper.layout (D.state self.new.swapper.disk) self.new.swapper.pool self.new.swapper.layout }
-        ensures cause { IfErr result (IfTable (λ e. IsAccounted FileMap (D.state self.old.swapper.disk) self.old.swapper.pool self.old.swapper.layout (D.state self.new.swapper.disk) e)) }
+        ensures kept { Beside FileMap (D.state self.old.swapper.disk) self.old.swapper.pool self.old.swapper.layout
+            (D.state self.new.swapper.disk) self.new.swapper.pool self.new.swapper.layout }
+        ensures cause { IfErr result
+            (IfTable
+            (λ e.
+            IsAccounted FileMap (D.state self.old.swapper.disk) self.old.swapper.pool self.old.swapper.layout
+            (D.state self.new.swapper.disk) e)) }
     {
         let mut table = RecordTable::<MapMemory<D, A>, 24, 12>::over(
             self.swapper.map_memory(Manager::FileMap),
@@ -74,17 +100,32 @@ impl<D: Disk, A: Allocator> BookOver<D, A> {
         most: u32,
     ) -> Result<(u32, u32), AllocError<Halt>>
         requires order { first < sectors }
-        requires fits { 512 * pages_to sectors ≤ size_in AllocationMap (D.state self.old.swapper.disk).sectors self.old.swapper.layout }
+        requires fits { 512 * pages_to sectors ≤ size_in AllocationMap (D.state self.old.swapper.disk).sectors
+            self.old.swapper.layout }
         requires some { 1 ≤ most }
-        ensures lowest { (b : List ℕ) → Reveals AllocationMap (D.state self.old.swapper.disk) self.old.swapper.pool self.old.swapper.layout b → IfOk result (λ run. IsLowestFree b first sectors run.0) }
-        ensures taken { (b : List ℕ) → Reveals AllocationMap (D.state self.old.swapper.disk) self.old.swapper.pool self.old.swapper.layout b → IfOk result (RevealsTaken (Reveals AllocationMap (D.state self.new.swapper.disk) self.new.swapper.pool self.new.swapper.layout) b) }
+        ensures lowest { (b : List ℕ)
+            → Reveals AllocationMap (D.state self.old.swapper.disk) self.old.swapper.pool self.old.swapper.layout b
+            → IfOk result (λ run. IsLowestFree b first sectors run.0) }
+        ensures taken { (b : List ℕ)
+            → Reveals AllocationMap (D.state self.old.swapper.disk) self.old.swapper.pool self.old.swapper.layout b
+            → IfOk result
+            (RevealsTaken
+            (Reveals AllocationMap (D.state self.new.swapper.disk) self.new.swapper.pool self.new.swapper.layout) b) }
         ensures form { IfOk result (IsDataRun first sectors most) }
-        ensures no_room { (b : List ℕ) → Reveals AllocationMap (D.state self.old.swapper.disk) self.old.swapper.pool self.old.swapper.layout b → result ≡ Err AllocError.NoRoom → AreAll true b first sectors }
+        ensures no_room { (b : List ℕ)
+            → Reveals AllocationMap (D.state self.old.swapper.disk) self.old.swapper.pool self.old.swapper.layout b
+            → result ≡ Err AllocError.NoRoom → AreAll true b first sectors }
         ensures count { self.new.count ≡ self.old.count }
         ensures layout { self.new.swapper.layout ≡ self.old.swapper.layout }
-        ensures kept { Beside AllocationMap (D.state self.old.swapper.disk) self.old.swapper.pool self.old.swapper.layout (D.state self.new.swapper.disk) self.new.swapper.pool self.new.swapper.layout }
-        ensures cause { IfErr result (IfMem (λ e. IsAccounted AllocationMap (D.state self.old.swapper.disk) self.old.swapper.pool self.old.swapper.layout (D.state self.new.swapper.disk) e)) }
-        ensures cost { (D.state self.new.swapper.disk).transfers ≤ (D.state self.old.swapper.disk).transfers + 4 * pages_to sectors * 2 }
+        ensures kept { Beside AllocationMap (D.state self.old.swapper.disk) self.old.swapper.pool
+            self.old.swapper.layout (D.state self.new.swapper.disk) self.new.swapper.pool self.new.swapper.layout }
+        ensures cause { IfErr result
+            (IfMem
+            (λ e.
+            IsAccounted AllocationMap (D.state self.old.swapper.disk) self.old.swapper.pool self.old.swapper.layout
+            (D.state self.new.swapper.disk) e)) }
+        ensures cost { (D.state self.new.swapper.disk).transfers ≤ (D.state self.old.swapper.disk).transfers + 4
+            * pages_to sectors * 2 }
     {
         let mut map = AllocMap::<MapMemory<D, A>>::over(
             self.swapper.map_memory(Manager::AllocationMap),
@@ -97,14 +138,24 @@ impl<D: Disk, A: Allocator> BookOver<D, A> {
     /// Gives sectors back.
     pub fn give(&mut self, first: u32, sectors: u32, sector: u32, pages: u32) -> Result<(), Halt>
         requires order { first < sectors }
-        requires fits { 512 * pages_to sectors ≤ size_in AllocationMap (D.state self.old.swapper.disk).sectors self.old.swapper.layout }
+        requires fits { 512 * pages_to sectors ≤ size_in AllocationMap (D.state self.old.swapper.disk).sectors
+            self.old.swapper.layout }
         requires data { first ≤ sector }
         requires inside { sector + pages ≤ sectors }
-        ensures given { (b : List ℕ) → Reveals AllocationMap (D.state self.old.swapper.disk) self.old.swapper.pool self.old.swapper.layout b → OnOk result (RevealsMarked false (Reveals AllocationMap (D.state self.new.swapper.disk) self.new.swapper.pool self.new.swapper.layout) b sector (sector + pages)) }
+        ensures given { (b : List ℕ)
+            → Reveals AllocationMap (D.state self.old.swapper.disk) self.old.swapper.pool self.old.swapper.layout b
+            → OnOk result
+            (RevealsMarked false
+            (Reveals AllocationMap (D.state self.new.swapper.disk) self.new.swapper.pool self.new.swapper.layout) b
+            sector (sector + pages)) }
         ensures count { self.new.count ≡ self.old.count }
         ensures layout { self.new.swapper.layout ≡ self.old.swapper.layout }
-        ensures kept { Beside AllocationMap (D.state self.old.swapper.disk) self.old.swapper.pool self.old.swapper.layout (D.state self.new.swapper.disk) self.new.swapper.pool self.new.swapper.layout }
-        ensures cause { IfErr result (λ e. IsAccounted AllocationMap (D.state self.old.swapper.disk) self.old.swapper.pool self.old.swapper.layout (D.state self.new.swapper.disk) e) }
+        ensures kept { Beside AllocationMap (D.state self.old.swapper.disk) self.old.swapper.pool
+            self.old.swapper.layout (D.state self.new.swapper.disk) self.new.swapper.pool self.new.swapper.layout }
+        ensures cause { IfErr result
+            (λ e.
+            IsAccounted AllocationMap (D.state self.old.swapper.disk) self.old.swapper.pool self.old.swapper.layout
+            (D.state self.new.swapper.disk) e) }
     {
         let mut map = AllocMap::<MapMemory<D, A>>::over(
             self.swapper.map_memory(Manager::AllocationMap),
@@ -117,7 +168,8 @@ impl<D: Disk, A: Allocator> BookOver<D, A> {
     /// Waits for what was written, through the disk that the swapper lends.
     pub fn sync(&mut self) -> Result<(), Halt>
         ensures synced { OnOk result ((D.state self.new.swapper.disk).synced ≡ true) }
-        ensures cause { IfErr result (λ e. Rose (D.state self.old.swapper.disk).faults (D.state self.new.swapper.disk).faults) }
+        ensures cause { IfErr result
+            (λ e. Rose (D.state self.old.swapper.disk).faults (D.state self.new.swapper.disk).faults) }
         ensures count { self.new.count ≡ self.old.count }
         ensures pool { self.new.swapper.pool ≡ self.old.swapper.pool }
         ensures layout { self.new.swapper.layout ≡ self.old.swapper.layout }

@@ -25,14 +25,18 @@ impl<D: Disk, A: Allocator> Swapper<D, A> {
         ensures clean { OnOk result ((f : Frame) → Has self.new.pool slot f → f.dirty ≡ false) }
         ensures cleaned { OnOk result (self.new.pool ≡ cleaned_at self.old.pool slot) }
         ensures kept { OnErr result (self.new.pool ≡ self.old.pool) }
-        ensures sound { (m : List Sector) → Stands (D.state self.old.disk) self.old.pool m → IfErr result (λ e. e ≡ halt.Disk) }
+        ensures sound { (m : List Sector) → Stands (D.state self.old.disk) self.old.pool m
+            → IfErr result (λ e. e ≡ halt.Disk) }
         ensures cause { IfErr result (Halts no_home (D.state self.old.disk) self.old.pool (D.state self.new.disk)) }
         ensures swaps { Swaps (D.state self.old.disk) self.old.pool (D.state self.new.disk) self.new.pool }
-        ensures steps { Steps no_home no_home (D.state self.old.disk) self.old.pool (D.state self.new.disk) self.new.pool }
-        ensures frames { (i : ℕ) (f : Frame) → Has self.new.pool i f → (g : Frame) × Has self.old.pool i g × (g.home ≡ f.home) × (g.bytes ≡ f.bytes) }
+        ensures steps { Steps no_home no_home (D.state self.old.disk) self.old.pool (D.state self.new.disk)
+            self.new.pool }
+        ensures frames { (i : ℕ) (f : Frame) → Has self.new.pool i f
+            → (g : Frame) × Has self.old.pool i g × (g.home ≡ f.home) × (g.bytes ≡ f.bytes) }
         ensures empties { (i : ℕ) → IsEmpty self.new.pool i → IsEmpty self.old.pool i }
         ensures others { (i : ℕ) (f : Frame) → i ≢ slot → Has self.old.pool i f → Has self.new.pool i f }
-        ensures idle { ((f : Frame) → Has self.old.pool slot f → f.dirty ≡ false) → (self.new.disk ≡ self.old.disk) × (self.new.pool ≡ self.old.pool) }
+        ensures idle { ((f : Frame) → Has self.old.pool slot f → f.dirty ≡ false)
+            → (self.new.disk ≡ self.old.disk) × (self.new.pool ≡ self.old.pool) }
         ensures layout { self.new.layout ≡ self.old.layout }
         ensures cost { (D.state self.new.disk).transfers ≤ (D.state self.old.disk).transfers + 1 }
     {
@@ -67,10 +71,13 @@ impl<D: Disk, A: Allocator> Swapper<D, A> {
         requires nowhere { IsNowhere self.old.pool home.id home.page }
         requires full { (f : Frame) → Has self.old.pool slot f → (j : ℕ) → IsEmpty self.old.pool j → ⊥ }
         ensures there { OnOk result ((f : Frame) × Has self.new.pool slot f × (f.home ≡ home)) }
-        ensures sound { (m : List Sector) → Stands (D.state self.old.disk) self.old.pool m → IsNamed m home → IfErr result (λ e. e ≡ halt.Disk) }
-        ensures cause { IfErr result (Halts (λ h. h ≡ home) (D.state self.old.disk) self.old.pool (D.state self.new.disk)) }
+        ensures sound { (m : List Sector) → Stands (D.state self.old.disk) self.old.pool m → IsNamed m home
+            → IfErr result (λ e. e ≡ halt.Disk) }
+        ensures cause { IfErr result
+            (Halts (λ h. h ≡ home) (D.state self.old.disk) self.old.pool (D.state self.new.disk)) }
         ensures swaps { Swaps (D.state self.old.disk) self.old.pool (D.state self.new.disk) self.new.pool }
-        ensures steps { Steps (λ h. h ≡ home) no_home (D.state self.old.disk) self.old.pool (D.state self.new.disk) self.new.pool }
+        ensures steps { Steps (λ h. h ≡ home) no_home (D.state self.old.disk) self.old.pool (D.state self.new.disk)
+            self.new.pool }
         ensures brings { Brings (λ h. h ≡ home) self.old.pool self.new.pool }
         ensures others { (i : ℕ) (f : Frame) → i ≢ slot → Has self.old.pool i f → Has self.new.pool i f }
         ensures layout { self.new.layout ≡ self.old.layout }
@@ -100,15 +107,20 @@ impl<D: Disk, A: Allocator> Swapper<D, A> {
         requires size { (D.state self.old.disk).sectors ≡ self.old.layout.sectors }
         requires placed { IsPlaced self.old.layout home }
         requires keep { keep_pages ≤ 16 }
-        ensures there { IfOk result (λ i. (f : Frame) × Has self.new.pool i f × (f.home.id ≡ home.id) × (f.home.page ≡ home.page)) }
+        ensures there { IfOk result
+            (λ i. (f : Frame) × Has self.new.pool i f × (f.home.id ≡ home.id) × (f.home.page ≡ home.page)) }
         ensures below { IfOk result (λ i. i < length self.new.pool) }
-        ensures sound { (m : List Sector) → Stands (D.state self.old.disk) self.old.pool m → IsNamed m home → IfErr result (λ e. e ≡ halt.Disk) }
-        ensures cause { IfErr result (Halts (λ h. h ≡ home) (D.state self.old.disk) self.old.pool (D.state self.new.disk)) }
+        ensures sound { (m : List Sector) → Stands (D.state self.old.disk) self.old.pool m → IsNamed m home
+            → IfErr result (λ e. e ≡ halt.Disk) }
+        ensures cause { IfErr result
+            (Halts (λ h. h ≡ home) (D.state self.old.disk) self.old.pool (D.state self.new.disk)) }
         ensures swaps { Swaps (D.state self.old.disk) self.old.pool (D.state self.new.disk) self.new.pool }
-        ensures steps { Steps (λ h. h ≡ home) no_home (D.state self.old.disk) self.old.pool (D.state self.new.disk) self.new.pool }
+        ensures steps { Steps (λ h. h ≡ home) no_home (D.state self.old.disk) self.old.pool (D.state self.new.disk)
+            self.new.pool }
         ensures brings { Brings (λ h. h ≡ home) self.old.pool self.new.pool }
         ensures stays { KeepsRun self.old.pool self.new.pool home.id keep_first keep_pages }
-        ensures idle { (i : ℕ) → HasPage self.old.pool i home.id home.page → (self.new.disk ≡ self.old.disk) × (self.new.pool ≡ self.old.pool) }
+        ensures idle { (i : ℕ) → HasPage self.old.pool i home.id home.page
+            → (self.new.disk ≡ self.old.disk) × (self.new.pool ≡ self.old.pool) }
         ensures layout { self.new.layout ≡ self.old.layout }
         ensures cost { (D.state self.new.disk).transfers ≤ (D.state self.old.disk).transfers + 2 }
     {
@@ -125,15 +137,22 @@ impl<D: Disk, A: Allocator> Swapper<D, A> {
     pub fn fetch_map_page(&mut self, which: Manager, page: u32) -> Result<u32, Halt>
         requires size { (D.state self.old.disk).sectors ≡ self.old.layout.sectors }
         requires page { page < pages_of which self.old.layout }
-        ensures there { IfOk result (λ i. (f : Frame) × Has self.new.pool i f × (f.home ≡ map_home which self.old.layout page)) }
+        ensures there { IfOk result
+            (λ i. (f : Frame) × Has self.new.pool i f × (f.home ≡ map_home which self.old.layout page)) }
         ensures below { IfOk result (λ i. i < length self.new.pool) }
-        ensures pages { (m : List Sector) → Stands (D.state self.old.disk) self.old.pool m → IfOk result (λ i. (f : Frame) × Has self.new.pool i f × IsHome m f) }
-        ensures sound { (m : List Sector) → Stands (D.state self.old.disk) self.old.pool m → IsNamed m (map_home which self.old.layout page) → IfErr result (λ e. e ≡ halt.Disk) }
-        ensures cause { IfErr result (Halts (λ h. h ≡ map_home which self.old.layout page) (D.state self.old.disk) self.old.pool (D.state self.new.disk)) }
+        ensures pages { (m : List Sector) → Stands (D.state self.old.disk) self.old.pool m
+            → IfOk result (λ i. (f : Frame) × Has self.new.pool i f × IsHome m f) }
+        ensures sound { (m : List Sector) → Stands (D.state self.old.disk) self.old.pool m
+            → IsNamed m (map_home which self.old.layout page) → IfErr result (λ e. e ≡ halt.Disk) }
+        ensures cause { IfErr result
+            (Halts (λ h. h ≡ map_home which self.old.layout page) (D.state self.old.disk) self.old.pool
+            (D.state self.new.disk)) }
         ensures swaps { Swaps (D.state self.old.disk) self.old.pool (D.state self.new.disk) self.new.pool }
-        ensures steps { Steps (λ h. h ≡ map_home which self.old.layout page) no_home (D.state self.old.disk) self.old.pool (D.state self.new.disk) self.new.pool }
+        ensures steps { Steps (λ h. h ≡ map_home which self.old.layout page) no_home (D.state self.old.disk)
+            self.old.pool (D.state self.new.disk) self.new.pool }
         ensures brings { Brings (λ h. h ≡ map_home which self.old.layout page) self.old.pool self.new.pool }
-        ensures idle { (i : ℕ) → HasPage self.old.pool i (id_of which) page → (self.new.disk ≡ self.old.disk) × (self.new.pool ≡ self.old.pool) }
+        ensures idle { (i : ℕ) → HasPage self.old.pool i (id_of which) page
+            → (self.new.disk ≡ self.old.disk) × (self.new.pool ≡ self.old.pool) }
         ensures layout { self.new.layout ≡ self.old.layout }
         ensures cost { (D.state self.new.disk).transfers ≤ (D.state self.old.disk).transfers + 2 }
     {
@@ -150,13 +169,18 @@ impl<D: Disk, A: Allocator> Swapper<D, A> {
         requires row { IsRow homes.now }
         requires homes { AreFileHomes homes.now self.old.layout }
         ensures there { OnOk result (AreThere self.new.pool homes.now (length homes.now)) }
-        ensures pages { (m : List Sector) → Stands (D.state self.old.disk) self.old.pool m → OnOk result ((h : Home) → IsAmong homes.now h → IsShown self.new.pool m h) }
-        ensures sound { (m : List Sector) → Stands (D.state self.old.disk) self.old.pool m → AreNamed m (IsAmong homes.now) → IfErr result (λ e. e ≡ halt.Disk) }
-        ensures cause { IfErr result (Halts (IsAmong homes.now) (D.state self.old.disk) self.old.pool (D.state self.new.disk)) }
+        ensures pages { (m : List Sector) → Stands (D.state self.old.disk) self.old.pool m
+            → OnOk result ((h : Home) → IsAmong homes.now h → IsShown self.new.pool m h) }
+        ensures sound { (m : List Sector) → Stands (D.state self.old.disk) self.old.pool m
+            → AreNamed m (IsAmong homes.now) → IfErr result (λ e. e ≡ halt.Disk) }
+        ensures cause { IfErr result
+            (Halts (IsAmong homes.now) (D.state self.old.disk) self.old.pool (D.state self.new.disk)) }
         ensures swaps { Swaps (D.state self.old.disk) self.old.pool (D.state self.new.disk) self.new.pool }
-        ensures steps { Steps (IsAmong homes.now) no_home (D.state self.old.disk) self.old.pool (D.state self.new.disk) self.new.pool }
+        ensures steps { Steps (IsAmong homes.now) no_home (D.state self.old.disk) self.old.pool (D.state self.new.disk)
+            self.new.pool }
         ensures brings { Brings (IsAmong homes.now) self.old.pool self.new.pool }
-        ensures idle { AreThere self.old.pool homes.now (length homes.now) → (D.state self.new.disk ≡ D.state self.old.disk) × (self.new.pool ≡ self.old.pool) }
+        ensures idle { AreThere self.old.pool homes.now (length homes.now)
+            → (D.state self.new.disk ≡ D.state self.old.disk) × (self.new.pool ≡ self.old.pool) }
         ensures layout { self.new.layout ≡ self.old.layout }
         ensures cost { (D.state self.new.disk).transfers ≤ (D.state self.old.disk).transfers + 2 * length homes.now }
     {
@@ -173,9 +197,14 @@ impl<D: Disk, A: Allocator> Swapper<D, A> {
         requires below { slot < length self.old.pool }
         requires filled { IsSome (frame_at self.old.pool slot) }
         requires inside { at + length bytes.now ≤ 512 }
-        ensures frame { (f : Frame) → Has self.old.pool slot f → self.new.pool ≡ slice_set self.old.pool slot (Some (changed f at bytes.now)) }
-        ensures goes { (f : Frame) → Has self.old.pool slot f → Goes (ChangesAt f.home at bytes.now) (this_page f.home.id f.home.page) [] (D.state self.old.disk) self.old.pool (D.state self.new.disk) self.new.pool }
-        ensures steps { (f : Frame) → Has self.old.pool slot f → Steps no_home (λ h. h ≡ f.home) (D.state self.old.disk) self.old.pool (D.state self.new.disk) self.new.pool }
+        ensures frame { (f : Frame) → Has self.old.pool slot f
+            → self.new.pool ≡ slice_set self.old.pool slot (Some (changed f at bytes.now)) }
+        ensures goes { (f : Frame) → Has self.old.pool slot f
+            → Goes (ChangesAt f.home at bytes.now) (this_page f.home.id f.home.page) [] (D.state self.old.disk)
+            self.old.pool (D.state self.new.disk) self.new.pool }
+        ensures steps { (f : Frame) → Has self.old.pool slot f
+            → Steps no_home (λ h. h ≡ f.home) (D.state self.old.disk) self.old.pool (D.state self.new.disk)
+            self.new.pool }
         ensures disk { self.new.disk ≡ self.old.disk }
         ensures layout { self.new.layout ≡ self.old.layout }
     {
@@ -186,8 +215,11 @@ impl<D: Disk, A: Allocator> Swapper<D, A> {
     pub fn clear(&mut self, slot: u32)
         requires below { slot < length self.old.pool }
         ensures slot { self.new.pool ≡ slice_set self.old.pool slot None }
-        ensures swaps { ((f : Frame) → Has self.old.pool slot f → f.dirty ≡ false) → Swaps (D.state self.old.disk) self.old.pool (D.state self.new.disk) self.new.pool }
-        ensures goes { (f : Frame) → Has self.old.pool slot f → Goes (Differs (of_run f.home.id f.home.page 1)) no_page [] (D.state self.old.disk) self.old.pool (D.state self.new.disk) self.new.pool }
+        ensures swaps { ((f : Frame) → Has self.old.pool slot f → f.dirty ≡ false)
+            → Swaps (D.state self.old.disk) self.old.pool (D.state self.new.disk) self.new.pool }
+        ensures goes { (f : Frame) → Has self.old.pool slot f
+            → Goes (Differs (of_run f.home.id f.home.page 1)) no_page [] (D.state self.old.disk) self.old.pool
+            (D.state self.new.disk) self.new.pool }
         ensures disk { self.new.disk ≡ self.old.disk }
         ensures layout { self.new.layout ≡ self.old.layout }
     {

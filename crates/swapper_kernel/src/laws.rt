@@ -32,6 +32,6 @@ pub fn swapper_steps()
 /// after the other.
 pub fn maps_are_revealed()
     ensures there { (which : Manager) (disk : DiskState) (slots : Slots) (layout : Layout) (m : List Sector)
-        → IsLayout layout → disk.sectors ≡ layout.sectors → Stands disk slots m → length m ≡ layout.sectors → AreSectors m
-        → Reveals which disk slots layout (map_bytes which layout m) }
+        → IsLayout layout → disk.sectors ≡ layout.sectors → Stands disk slots m → length m ≡ layout.sectors
+        → AreSectors m → Reveals which disk slots layout (map_bytes which layout m) }
 {}

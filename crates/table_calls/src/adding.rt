@@ -38,9 +38,22 @@ fn add_in<D: Disk, A: Allocator>(
     requires size { FitsLayout (view_of filer.old) }
     requires some { 1 ≤ intervals }
     requires few { intervals ≤ 1023 }
-    ensures answer { (ss : List Space) → RevealSpaces (TablesAre (view_of filer.old)) intervals ss → Answers (first_of (add_row ss parent pages first)) (λ at. RevealSpaces (TablesAre (view_of filer.new)) result.1 (put_space (made ss parent pages first) ss) × (at.0 ≡ (made ss parent pages first).handle) × (at.1 ≡ (made ss parent pages first).first)) (RevealSpaces (TablesAre (view_of filer.new)) result.1 ss) result.0 }
-    ensures malformed { (b : List ℕ) → TablesAre (view_of filer.old) b → IfErr result.0 (IfMalformed (λ page. BreaksHierarchy b page ⊎ (BreaksAt first intervals b page ⊎ MakesTooMany intervals b parent pages first page))) }
-    ensures cause { IfErr result.0 (IfMem (IsTableAccounted (view_of filer.old).disk (view_of filer.old).slots (view_of filer.old).layout (view_of filer.old).runs (view_of filer.new).disk)) }
+    ensures answer { (ss : List Space) → RevealSpaces (TablesAre (view_of filer.old)) intervals ss
+        → Answers (first_of (add_row ss parent pages first))
+        (λ at.
+        RevealSpaces (TablesAre (view_of filer.new)) result.1 (put_space (made ss parent pages first) ss)
+        × (at.0 ≡ (made ss parent pages first).handle) × (at.1 ≡ (made ss parent pages first).first))
+        (RevealSpaces (TablesAre (view_of filer.new)) result.1 ss) result.0 }
+    ensures malformed { (b : List ℕ) → TablesAre (view_of filer.old) b
+        → IfErr result.0
+        (IfMalformed
+        (λ page.
+        BreaksHierarchy b page
+        ⊎ (BreaksAt first intervals b page ⊎ MakesTooMany intervals b parent pages first page))) }
+    ensures cause { IfErr result.0
+        (IfMem
+        (IsTableAccounted (view_of filer.old).disk (view_of filer.old).slots (view_of filer.old).layout
+        (view_of filer.old).runs (view_of filer.new).disk)) }
     ensures count { (1 ≤ result.1) × (result.1 ≤ 1023) }
     ensures kept { TablesBeside (view_of filer.old) (view_of filer.new) }
     ensures cost { (view_of filer.new).disk.transfers ≤ (view_of filer.old).disk.transfers + 50204 }
@@ -60,12 +73,30 @@ pub fn add<D: Disk, A: Allocator>(
 ) -> Result<Result<(u32, u32), Refusal>, Halt>
     requires size { FitsLayout (state core.old) }
     ensures answer { (m : List Sector) (named : Triples) (ss : List Space) → Knows core.old m named ss
-        → IfOk result (Changes (first_of (add_row ss parent pages first)) (λ at. RevealSpaces (TablesAre (state core.new)) core.new.intervals (put_space (made ss parent pages first) ss) × (at.0 ≡ (made ss parent pages first).handle) × (at.1 ≡ (made ss parent pages first).first)) (RevealSpaces (TablesAre (state core.new)) core.new.intervals ss)) }
-    ensures cause { IfErr result (ReachHalts (TablesBreak (state core.old) (λ b page. BreaksHierarchy b page ⊎ (BreaksAt first core.old.intervals b page ⊎ MakesTooMany core.old.intervals b parent pages first page))) (state core.old) (state core.new)) }
+        → IfOk result
+        (Changes (first_of (add_row ss parent pages first))
+        (λ at.
+        RevealSpaces (TablesAre (state core.new)) core.new.intervals (put_space (made ss parent pages first) ss)
+        × (at.0 ≡ (made ss parent pages first).handle) × (at.1 ≡ (made ss parent pages first).first))
+        (RevealSpaces (TablesAre (state core.new)) core.new.intervals ss)) }
+    ensures cause { IfErr result
+        (ReachHalts
+        (TablesBreak (state core.old)
+        (λ b page.
+        BreaksHierarchy b page
+        ⊎ (BreaksAt first core.old.intervals b page ⊎ MakesTooMany core.old.intervals b parent pages first page)))
+        (state core.old) (state core.new)) }
     ensures sees { (ss : List Space) → Sees (state core.old) (kept core.old) core.old.intervals ss
-        → IfOk result (Changes (first_of (add_row ss parent pages first)) (λ at. Sees (state core.new) (kept core.new) core.new.intervals (put_space (made ss parent pages first) ss) × (at.0 ≡ (made ss parent pages first).handle) × (at.1 ≡ (made ss parent pages first).first)) (Sees (state core.new) (kept core.new) core.new.intervals ss)) }
-    ensures right { (ss : List Space) → Sees (state core.old) (kept core.old) core.old.intervals ss → IfErr result NeverBlamesTables }
-    ensures sound { (m : List Sector) (named : Triples) (ss : List Space) → Knows core.old m named ss → IfErr result (λ e. e ≡ halt.Disk) }
+        → IfOk result
+        (Changes (first_of (add_row ss parent pages first))
+        (λ at.
+        Sees (state core.new) (kept core.new) core.new.intervals (put_space (made ss parent pages first) ss)
+        × (at.0 ≡ (made ss parent pages first).handle) × (at.1 ≡ (made ss parent pages first).first))
+        (Sees (state core.new) (kept core.new) core.new.intervals ss)) }
+    ensures right { (ss : List Space) → Sees (state core.old) (kept core.old) core.old.intervals ss
+        → IfErr result NeverBlamesTables }
+    ensures sound { (m : List Sector) (named : Triples) (ss : List Space) → Knows core.old m named ss
+        → IfErr result (λ e. e ≡ halt.Disk) }
     ensures retabled { Retabled core.old core.new }
     ensures cost { (state core.new).disk.transfers ≤ (state core.old).disk.transfers + 50204 }
 {
@@ -84,9 +115,16 @@ fn remove_in<D: Disk, A: Allocator>(
     requires size { FitsLayout (view_of filer.old) }
     requires some { 1 ≤ intervals }
     requires few { intervals ≤ 1023 }
-    ensures answer { (ss : List Space) → RevealSpaces (TablesAre (view_of filer.old)) intervals ss → Answers (first_of (remove_row ss space)) (λ _. RevealSpaces (TablesAre (view_of filer.new)) result.1 (without_space space ss)) (RevealSpaces (TablesAre (view_of filer.new)) result.1 ss) result.0 }
-    ensures malformed { (b : List ℕ) → TablesAre (view_of filer.old) b → IfErr result.0 (IfMalformed (λ page. BreaksFor (first_in_slot b space) intervals b page)) }
-    ensures cause { IfErr result.0 (IfMem (IsTableAccounted (view_of filer.old).disk (view_of filer.old).slots (view_of filer.old).layout (view_of filer.old).runs (view_of filer.new).disk)) }
+    ensures answer { (ss : List Space) → RevealSpaces (TablesAre (view_of filer.old)) intervals ss
+        → Answers (first_of (remove_row ss space))
+        (λ _. RevealSpaces (TablesAre (view_of filer.new)) result.1 (without_space space ss))
+        (RevealSpaces (TablesAre (view_of filer.new)) result.1 ss) result.0 }
+    ensures malformed { (b : List ℕ) → TablesAre (view_of filer.old) b
+        → IfErr result.0 (IfMalformed (λ page. BreaksFor (first_in_slot b space) intervals b page)) }
+    ensures cause { IfErr result.0
+        (IfMem
+        (IsTableAccounted (view_of filer.old).disk (view_of filer.old).slots (view_of filer.old).layout
+        (view_of filer.old).runs (view_of filer.new).disk)) }
     ensures count { (1 ≤ result.1) × (result.1 ≤ 1023) }
     ensures kept { TablesBeside (view_of filer.old) (view_of filer.new) }
     ensures cost { (view_of filer.new).disk.transfers ≤ (view_of filer.old).disk.transfers + 21924 }
@@ -103,12 +141,23 @@ pub fn remove<D: Disk, A: Allocator>(
 ) -> Result<Result<(), Refusal>, Halt>
     requires size { FitsLayout (state core.old) }
     ensures answer { (m : List Sector) (named : Triples) (ss : List Space) → Knows core.old m named ss
-        → IfOk result (Changes (first_of (remove_row ss space)) (λ _. RevealSpaces (TablesAre (state core.new)) core.new.intervals (without_space space ss)) (RevealSpaces (TablesAre (state core.new)) core.new.intervals ss)) }
-    ensures cause { IfErr result (ReachHalts (TablesBreak (state core.old) (λ b page. BreaksFor (first_in_slot b space) core.old.intervals b page)) (state core.old) (state core.new)) }
+        → IfOk result
+        (Changes (first_of (remove_row ss space))
+        (λ _. RevealSpaces (TablesAre (state core.new)) core.new.intervals (without_space space ss))
+        (RevealSpaces (TablesAre (state core.new)) core.new.intervals ss)) }
+    ensures cause { IfErr result
+        (ReachHalts
+        (TablesBreak (state core.old) (λ b page. BreaksFor (first_in_slot b space) core.old.intervals b page))
+        (state core.old) (state core.new)) }
     ensures sees { (ss : List Space) → Sees (state core.old) (kept core.old) core.old.intervals ss
-        → IfOk result (Changes (first_of (remove_row ss space)) (λ _. Sees (state core.new) (kept core.new) core.new.intervals (without_space space ss)) (Sees (state core.new) (kept core.new) core.new.intervals ss)) }
-    ensures right { (ss : List Space) → Sees (state core.old) (kept core.old) core.old.intervals ss → IfErr result NeverBlamesTables }
-    ensures sound { (m : List Sector) (named : Triples) (ss : List Space) → Knows core.old m named ss → IfErr result (λ e. e ≡ halt.Disk) }
+        → IfOk result
+        (Changes (first_of (remove_row ss space))
+        (λ _. Sees (state core.new) (kept core.new) core.new.intervals (without_space space ss))
+        (Sees (state core.new) (kept core.new) core.new.intervals ss)) }
+    ensures right { (ss : List Space) → Sees (state core.old) (kept core.old) core.old.intervals ss
+        → IfErr result NeverBlamesTables }
+    ensures sound { (m : List Sector) (named : Triples) (ss : List Space) → Knows core.old m named ss
+        → IfErr result (λ e. e ≡ halt.Disk) }
     ensures retabled { Retabled core.old core.new }
     ensures cost { (state core.new).disk.transfers ≤ (state core.old).disk.transfers + 21924 }
 {

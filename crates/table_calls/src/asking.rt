@@ -36,11 +36,17 @@ fn ask_bounds<D: Disk, A: Allocator>(
     requires size { FitsLayout (view_of filer.old) }
     requires some { 1 ≤ intervals }
     requires few { intervals ≤ 1023 }
-    ensures answer { (ss : List Space) → RevealSpaces (TablesAre (view_of filer.old)) intervals ss → Replies (no_space ss space) (λ run. (s : Space) × (space_at ss space ≡ Some s) × (run ≡ (s.first, s.pages))) result }
+    ensures answer { (ss : List Space) → RevealSpaces (TablesAre (view_of filer.old)) intervals ss
+        → Replies (no_space ss space) (λ run. (s : Space) × (space_at ss space ≡ Some s) × (run ≡ (s.first, s.pages)))
+        result }
     ensures form { IfOk result (λ run. lies_in_root run.0 run.1 ≡ true) }
     ensures read { (b : List ℕ) → TablesAre (view_of filer.old) b → IfOk result (IsRunAt b space) }
-    ensures malformed { (b : List ℕ) → TablesAre (view_of filer.old) b → IfErr result (IfMalformed (λ page. BreaksSlot b page space)) }
-    ensures cause { IfErr result (IfMem (IsTableAccounted (view_of filer.old).disk (view_of filer.old).slots (view_of filer.old).layout (view_of filer.old).runs (view_of filer.new).disk)) }
+    ensures malformed { (b : List ℕ) → TablesAre (view_of filer.old) b
+        → IfErr result (IfMalformed (λ page. BreaksSlot b page space)) }
+    ensures cause { IfErr result
+        (IfMem
+        (IsTableAccounted (view_of filer.old).disk (view_of filer.old).slots (view_of filer.old).layout
+        (view_of filer.old).runs (view_of filer.new).disk)) }
     ensures same { (b : List ℕ) → TablesAre (view_of filer.old) b → TablesAre (view_of filer.new) b }
     ensures kept { TablesBeside (view_of filer.old) (view_of filer.new) }
     ensures cost { (view_of filer.new).disk.transfers ≤ (view_of filer.old).disk.transfers + 28 }
@@ -55,14 +61,23 @@ pub fn bounds<D: Disk, A: Allocator>(
     space: u32,
 ) -> Result<Result<(u32, u32), Refusal>, Halt>
     requires size { FitsLayout (state core.old) }
-    ensures answer { (m : List Sector) (named : Triples) (ss : List Space) → Knows core.old m named ss → IfOk result (Reveals (no_space ss space) (λ run. (s : Space) × (space_at ss space ≡ Some s) × (run ≡ (s.first, s.pages)))) }
+    ensures answer { (m : List Sector) (named : Triples) (ss : List Space) → Knows core.old m named ss
+        → IfOk result
+        (Reveals (no_space ss space) (λ run. (s : Space) × (space_at ss space ≡ Some s) × (run ≡ (s.first, s.pages)))) }
     ensures form { IfOk result (IfGiven (λ run. lies_in_root run.0 run.1 ≡ true)) }
     ensures read { IfOk result (IfGiven (TablesSay (state core.old) (λ b. IsRunAt b space))) }
-    ensures cause { IfErr result (ReachHalts (TablesBreak (state core.old) (λ b page. BreaksSlot b page space)) (state core.old) (state core.new)) }
-    ensures seen { (ss : List Space) → Sees (state core.old) (kept core.old) core.old.intervals ss → IfOk result (Reveals (no_space ss space) (λ run. (s : Space) × (space_at ss space ≡ Some s) × (run ≡ (s.first, s.pages)))) }
-    ensures sees { (ss : List Space) → Sees (state core.old) (kept core.old) core.old.intervals ss → Sees (state core.new) (kept core.new) core.new.intervals ss }
-    ensures right { (ss : List Space) → Sees (state core.old) (kept core.old) core.old.intervals ss → IfErr result NeverBlamesTables }
-    ensures sound { (m : List Sector) (named : Triples) (ss : List Space) → Knows core.old m named ss → IfErr result (λ e. e ≡ halt.Disk) }
+    ensures cause { IfErr result
+        (ReachHalts (TablesBreak (state core.old) (λ b page. BreaksSlot b page space)) (state core.old)
+        (state core.new)) }
+    ensures seen { (ss : List Space) → Sees (state core.old) (kept core.old) core.old.intervals ss
+        → IfOk result
+        (Reveals (no_space ss space) (λ run. (s : Space) × (space_at ss space ≡ Some s) × (run ≡ (s.first, s.pages)))) }
+    ensures sees { (ss : List Space) → Sees (state core.old) (kept core.old) core.old.intervals ss
+        → Sees (state core.new) (kept core.new) core.new.intervals ss }
+    ensures right { (ss : List Space) → Sees (state core.old) (kept core.old) core.old.intervals ss
+        → IfErr result NeverBlamesTables }
+    ensures sound { (m : List Sector) (named : Triples) (ss : List Space) → Knows core.old m named ss
+        → IfErr result (λ e. e ≡ halt.Disk) }
     ensures asked { Asked core.old core.new }
     ensures cost { (state core.new).disk.transfers ≤ (state core.old).disk.transfers + 28 }
 {
@@ -79,10 +94,16 @@ fn ask_place<D: Disk, A: Allocator>(
     requires size { FitsLayout (view_of filer.old) }
     requires some { 1 ≤ intervals }
     requires few { intervals ≤ 1023 }
-    ensures answer { (ss : List Space) → RevealSpaces (TablesAre (view_of filer.old)) intervals ss → Replies (first_of (past_root page ∷ [])) (λ at. (s : Space) × (innermost ss page ≡ Some s) × (at ≡ (s.handle, s.first, s.pages))) result }
+    ensures answer { (ss : List Space) → RevealSpaces (TablesAre (view_of filer.old)) intervals ss
+        → Replies (first_of (past_root page ∷ []))
+        (λ at. (s : Space) × (innermost ss page ≡ Some s) × (at ≡ (s.handle, s.first, s.pages))) result }
     ensures form { IfOk result (λ at. lies_in_root at.1 at.2 ≡ true) }
-    ensures malformed { (b : List ℕ) → TablesAre (view_of filer.old) b → IfErr result (IfMalformed (λ broken. BreaksFor page intervals b broken)) }
-    ensures cause { IfErr result (IfMem (IsTableAccounted (view_of filer.old).disk (view_of filer.old).slots (view_of filer.old).layout (view_of filer.old).runs (view_of filer.new).disk)) }
+    ensures malformed { (b : List ℕ) → TablesAre (view_of filer.old) b
+        → IfErr result (IfMalformed (λ broken. BreaksFor page intervals b broken)) }
+    ensures cause { IfErr result
+        (IfMem
+        (IsTableAccounted (view_of filer.old).disk (view_of filer.old).slots (view_of filer.old).layout
+        (view_of filer.old).runs (view_of filer.new).disk)) }
     ensures same { (b : List ℕ) → TablesAre (view_of filer.old) b → TablesAre (view_of filer.new) b }
     ensures kept { TablesBeside (view_of filer.old) (view_of filer.new) }
     ensures cost { (view_of filer.new).disk.transfers ≤ (view_of filer.old).disk.transfers + 224 }
@@ -97,13 +118,24 @@ pub fn place<D: Disk, A: Allocator>(
     page: u32,
 ) -> Result<Result<(u32, u32, u32), Refusal>, Halt>
     requires size { FitsLayout (state core.old) }
-    ensures answer { (m : List Sector) (named : Triples) (ss : List Space) → Knows core.old m named ss → IfOk result (Reveals (first_of (past_root page ∷ [])) (λ at. (s : Space) × (innermost ss page ≡ Some s) × (at ≡ (s.handle, s.first, s.pages)))) }
+    ensures answer { (m : List Sector) (named : Triples) (ss : List Space) → Knows core.old m named ss
+        → IfOk result
+        (Reveals (first_of (past_root page ∷ []))
+        (λ at. (s : Space) × (innermost ss page ≡ Some s) × (at ≡ (s.handle, s.first, s.pages)))) }
     ensures form { IfOk result (IfGiven (λ at. lies_in_root at.1 at.2 ≡ true)) }
-    ensures cause { IfErr result (ReachHalts (TablesBreak (state core.old) (λ b broken. BreaksFor page core.old.intervals b broken)) (state core.old) (state core.new)) }
-    ensures seen { (ss : List Space) → Sees (state core.old) (kept core.old) core.old.intervals ss → IfOk result (Reveals (first_of (past_root page ∷ [])) (λ at. (s : Space) × (innermost ss page ≡ Some s) × (at ≡ (s.handle, s.first, s.pages)))) }
-    ensures sees { (ss : List Space) → Sees (state core.old) (kept core.old) core.old.intervals ss → Sees (state core.new) (kept core.new) core.new.intervals ss }
-    ensures right { (ss : List Space) → Sees (state core.old) (kept core.old) core.old.intervals ss → IfErr result NeverBlamesTables }
-    ensures sound { (m : List Sector) (named : Triples) (ss : List Space) → Knows core.old m named ss → IfErr result (λ e. e ≡ halt.Disk) }
+    ensures cause { IfErr result
+        (ReachHalts (TablesBreak (state core.old) (λ b broken. BreaksFor page core.old.intervals b broken))
+        (state core.old) (state core.new)) }
+    ensures seen { (ss : List Space) → Sees (state core.old) (kept core.old) core.old.intervals ss
+        → IfOk result
+        (Reveals (first_of (past_root page ∷ []))
+        (λ at. (s : Space) × (innermost ss page ≡ Some s) × (at ≡ (s.handle, s.first, s.pages)))) }
+    ensures sees { (ss : List Space) → Sees (state core.old) (kept core.old) core.old.intervals ss
+        → Sees (state core.new) (kept core.new) core.new.intervals ss }
+    ensures right { (ss : List Space) → Sees (state core.old) (kept core.old) core.old.intervals ss
+        → IfErr result NeverBlamesTables }
+    ensures sound { (m : List Sector) (named : Triples) (ss : List Space) → Knows core.old m named ss
+        → IfErr result (λ e. e ≡ halt.Disk) }
     ensures asked { Asked core.old core.new }
     ensures cost { (state core.new).disk.transfers ≤ (state core.old).disk.transfers + 224 }
 {
@@ -120,10 +152,16 @@ fn ask_can_map<D: Disk, A: Allocator>(
     requires size { FitsLayout (view_of filer.old) }
     requires some { 1 ≤ intervals }
     requires few { intervals ≤ 1023 }
-    ensures answer { (ss : List Space) → RevealSpaces (TablesAre (view_of filer.old)) intervals ss → Replies (first_of (map_row ss space)) (λ run. (s : Space) × (space_at ss space ≡ Some s) × (run ≡ (s.first, s.pages))) result }
+    ensures answer { (ss : List Space) → RevealSpaces (TablesAre (view_of filer.old)) intervals ss
+        → Replies (first_of (map_row ss space))
+        (λ run. (s : Space) × (space_at ss space ≡ Some s) × (run ≡ (s.first, s.pages))) result }
     ensures form { IfOk result (λ run. lies_in_root run.0 run.1 ≡ true) }
-    ensures malformed { (b : List ℕ) → TablesAre (view_of filer.old) b → IfErr result (IfMalformed (λ page. BreaksHierarchy b page)) }
-    ensures cause { IfErr result (IfMem (IsTableAccounted (view_of filer.old).disk (view_of filer.old).slots (view_of filer.old).layout (view_of filer.old).runs (view_of filer.new).disk)) }
+    ensures malformed { (b : List ℕ) → TablesAre (view_of filer.old) b
+        → IfErr result (IfMalformed (λ page. BreaksHierarchy b page)) }
+    ensures cause { IfErr result
+        (IfMem
+        (IsTableAccounted (view_of filer.old).disk (view_of filer.old).slots (view_of filer.old).layout
+        (view_of filer.old).runs (view_of filer.new).disk)) }
     ensures same { (b : List ℕ) → TablesAre (view_of filer.old) b → TablesAre (view_of filer.new) b }
     ensures kept { TablesBeside (view_of filer.old) (view_of filer.new) }
     ensures cost { (view_of filer.new).disk.transfers ≤ (view_of filer.old).disk.transfers + 14364 }
@@ -138,13 +176,24 @@ pub fn can_map<D: Disk, A: Allocator>(
     space: u32,
 ) -> Result<Result<(u32, u32), Refusal>, Halt>
     requires size { FitsLayout (state core.old) }
-    ensures answer { (m : List Sector) (named : Triples) (ss : List Space) → Knows core.old m named ss → IfOk result (Reveals (first_of (map_row ss space)) (λ run. (s : Space) × (space_at ss space ≡ Some s) × (run ≡ (s.first, s.pages)))) }
+    ensures answer { (m : List Sector) (named : Triples) (ss : List Space) → Knows core.old m named ss
+        → IfOk result
+        (Reveals (first_of (map_row ss space))
+        (λ run. (s : Space) × (space_at ss space ≡ Some s) × (run ≡ (s.first, s.pages)))) }
     ensures form { IfOk result (IfGiven (λ run. lies_in_root run.0 run.1 ≡ true)) }
-    ensures cause { IfErr result (ReachHalts (TablesBreak (state core.old) (λ b page. BreaksHierarchy b page)) (state core.old) (state core.new)) }
-    ensures seen { (ss : List Space) → Sees (state core.old) (kept core.old) core.old.intervals ss → IfOk result (Reveals (first_of (map_row ss space)) (λ run. (s : Space) × (space_at ss space ≡ Some s) × (run ≡ (s.first, s.pages)))) }
-    ensures sees { (ss : List Space) → Sees (state core.old) (kept core.old) core.old.intervals ss → Sees (state core.new) (kept core.new) core.new.intervals ss }
-    ensures right { (ss : List Space) → Sees (state core.old) (kept core.old) core.old.intervals ss → IfErr result NeverBlamesTables }
-    ensures sound { (m : List Sector) (named : Triples) (ss : List Space) → Knows core.old m named ss → IfErr result (λ e. e ≡ halt.Disk) }
+    ensures cause { IfErr result
+        (ReachHalts (TablesBreak (state core.old) (λ b page. BreaksHierarchy b page)) (state core.old)
+        (state core.new)) }
+    ensures seen { (ss : List Space) → Sees (state core.old) (kept core.old) core.old.intervals ss
+        → IfOk result
+        (Reveals (first_of (map_row ss space))
+        (λ run. (s : Space) × (space_at ss space ≡ Some s) × (run ≡ (s.first, s.pages)))) }
+    ensures sees { (ss : List Space) → Sees (state core.old) (kept core.old) core.old.intervals ss
+        → Sees (state core.new) (kept core.new) core.new.intervals ss }
+    ensures right { (ss : List Space) → Sees (state core.old) (kept core.old) core.old.intervals ss
+        → IfErr result NeverBlamesTables }
+    ensures sound { (m : List Sector) (named : Triples) (ss : List Space) → Knows core.old m named ss
+        → IfErr result (λ e. e ≡ halt.Disk) }
     ensures asked { Asked core.old core.new }
     ensures cost { (state core.new).disk.transfers ≤ (state core.old).disk.transfers + 14364 }
 {

@@ -21,9 +21,13 @@ use std::alloc::Allocator;
 // Begins the tables that stand in a filer's space tables.
 fn begin_in<D: Disk, A: Allocator>(filer: &mut Filer<D, A>) -> Result<(), SpaceError<Halt>>
     requires size { FitsLayout (view_of filer.old) }
-    ensures begun { (b : List ℕ) → TablesAre (view_of filer.old) b → OnOk result (RevealSpaces (TablesAre (view_of filer.new)) 1 (root ∷ [])) }
+    ensures begun { (b : List ℕ) → TablesAre (view_of filer.old) b
+        → OnOk result (RevealSpaces (TablesAre (view_of filer.new)) 1 (root ∷ [])) }
     ensures memory { IfErr result FromMemory }
-    ensures cause { IfErr result (IfMem (IsTableAccounted (view_of filer.old).disk (view_of filer.old).slots (view_of filer.old).layout (view_of filer.old).runs (view_of filer.new).disk)) }
+    ensures cause { IfErr result
+        (IfMem
+        (IsTableAccounted (view_of filer.old).disk (view_of filer.old).slots (view_of filer.old).layout
+        (view_of filer.old).runs (view_of filer.new).disk)) }
     ensures kept { TablesBeside (view_of filer.old) (view_of filer.new) }
     ensures cost { (view_of filer.new).disk.transfers ≤ (view_of filer.old).disk.transfers + 14392 }
 {
@@ -34,11 +38,14 @@ fn begin_in<D: Disk, A: Allocator>(filer: &mut Filer<D, A>) -> Result<(), SpaceE
 /// Writes the tables of the root alone, with one interval, over whatever bytes stand in the space tables.
 pub fn begin<D: Disk, A: Allocator>(filer: &mut Filer<D, A>) -> Result<(), Halt>
     requires size { FitsLayout (view_of filer.old) }
-    ensures begun { (b : List ℕ) → TablesAre (view_of filer.old) b → OnOk result (RevealSpaces (TablesAre (view_of filer.new)) 1 (root ∷ [])) }
-    ensures sees { (b : List ℕ) → TablesAre (view_of filer.old) b → OnOk result (Sees (view_of filer.new) [] 1 (root ∷ [])) }
+    ensures begun { (b : List ℕ) → TablesAre (view_of filer.old) b
+        → OnOk result (RevealSpaces (TablesAre (view_of filer.new)) 1 (root ∷ [])) }
+    ensures sees { (b : List ℕ) → TablesAre (view_of filer.old) b
+        → OnOk result (Sees (view_of filer.new) [] 1 (root ∷ [])) }
     ensures cause { IfErr result (ReachHalts (λ page. ⊥) (view_of filer.old) (view_of filer.new)) }
     ensures right { (b : List ℕ) → TablesAre (view_of filer.old) b → IfErr result NeverBlamesTables }
-    ensures sound { (m : List Sector) (named : Triples) (b : List ℕ) → Known (view_of filer.old) m named b → IfErr result (λ e. e ≡ halt.Disk) }
+    ensures sound { (m : List Sector) (named : Triples) (b : List ℕ) → Known (view_of filer.old) m named b
+        → IfErr result (λ e. e ≡ halt.Disk) }
     ensures came { BringsOwn (view_of filer.old).slots (view_of filer.new).slots }
     ensures kept { TablesBeside (view_of filer.old) (view_of filer.new) }
     ensures cost { (view_of filer.new).disk.transfers ≤ (view_of filer.old).disk.transfers + 14392 }

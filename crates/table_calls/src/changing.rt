@@ -40,9 +40,17 @@ fn set_unit_in<D: Disk, A: Allocator>(
     requires size { FitsLayout (view_of filer.old) }
     requires some { 1 ≤ intervals }
     requires few { intervals ≤ 1023 }
-    ensures answer { (ss : List Space) → RevealSpaces (TablesAre (view_of filer.old)) intervals ss → Answers (first_of (unit_row ss space unit)) (λ _. RevealSpaces (TablesAre (view_of filer.new)) intervals (change_space space (λ s. record s { unit = unit }) ss)) (RevealSpaces (TablesAre (view_of filer.new)) intervals ss) result }
-    ensures malformed { (b : List ℕ) → TablesAre (view_of filer.old) b → IfErr result (IfMalformed (λ page. Breaks intervals b page)) }
-    ensures cause { IfErr result (IfMem (IsTableAccounted (view_of filer.old).disk (view_of filer.old).slots (view_of filer.old).layout (view_of filer.old).runs (view_of filer.new).disk)) }
+    ensures answer { (ss : List Space) → RevealSpaces (TablesAre (view_of filer.old)) intervals ss
+        → Answers (first_of (unit_row ss space unit))
+        (λ _.
+        RevealSpaces (TablesAre (view_of filer.new)) intervals (change_space space (λ s. record s { unit = unit }) ss))
+        (RevealSpaces (TablesAre (view_of filer.new)) intervals ss) result }
+    ensures malformed { (b : List ℕ) → TablesAre (view_of filer.old) b
+        → IfErr result (IfMalformed (λ page. Breaks intervals b page)) }
+    ensures cause { IfErr result
+        (IfMem
+        (IsTableAccounted (view_of filer.old).disk (view_of filer.old).slots (view_of filer.old).layout
+        (view_of filer.old).runs (view_of filer.new).disk)) }
     ensures kept { TablesBeside (view_of filer.old) (view_of filer.new) }
     ensures cost { (view_of filer.new).disk.transfers ≤ (view_of filer.old).disk.transfers + 57344 }
 {
@@ -58,12 +66,26 @@ pub fn set_unit<D: Disk, A: Allocator>(
 ) -> Result<Result<(), Refusal>, Halt>
     requires size { FitsLayout (state core.old) }
     ensures answer { (m : List Sector) (named : Triples) (ss : List Space) → Knows core.old m named ss
-        → IfOk result (Changes (first_of (unit_row ss space unit)) (λ _. RevealSpaces (TablesAre (state core.new)) core.new.intervals (change_space space (λ s. record s { unit = unit }) ss)) (RevealSpaces (TablesAre (state core.new)) core.new.intervals ss)) }
-    ensures cause { IfErr result (ReachHalts (TablesBreak (state core.old) (λ b page. Breaks core.old.intervals b page)) (state core.old) (state core.new)) }
+        → IfOk result
+        (Changes (first_of (unit_row ss space unit))
+        (λ _.
+        RevealSpaces (TablesAre (state core.new)) core.new.intervals
+        (change_space space (λ s. record s { unit = unit }) ss))
+        (RevealSpaces (TablesAre (state core.new)) core.new.intervals ss)) }
+    ensures cause { IfErr result
+        (ReachHalts (TablesBreak (state core.old) (λ b page. Breaks core.old.intervals b page)) (state core.old)
+        (state core.new)) }
     ensures sees { (ss : List Space) → Sees (state core.old) (kept core.old) core.old.intervals ss
-        → IfOk result (Changes (first_of (unit_row ss space unit)) (λ _. Sees (state core.new) (kept core.new) core.new.intervals (change_space space (λ s. record s { unit = unit }) ss)) (Sees (state core.new) (kept core.new) core.new.intervals ss)) }
-    ensures right { (ss : List Space) → Sees (state core.old) (kept core.old) core.old.intervals ss → IfErr result NeverBlamesTables }
-    ensures sound { (m : List Sector) (named : Triples) (ss : List Space) → Knows core.old m named ss → IfErr result (λ e. e ≡ halt.Disk) }
+        → IfOk result
+        (Changes (first_of (unit_row ss space unit))
+        (λ _.
+        Sees (state core.new) (kept core.new) core.new.intervals
+        (change_space space (λ s. record s { unit = unit }) ss))
+        (Sees (state core.new) (kept core.new) core.new.intervals ss)) }
+    ensures right { (ss : List Space) → Sees (state core.old) (kept core.old) core.old.intervals ss
+        → IfErr result NeverBlamesTables }
+    ensures sound { (m : List Sector) (named : Triples) (ss : List Space) → Knows core.old m named ss
+        → IfErr result (λ e. e ≡ halt.Disk) }
     ensures retabled { Retabled core.old core.new }
     ensures intervals { core.new.intervals ≡ core.old.intervals }
     ensures cost { (state core.new).disk.transfers ≤ (state core.old).disk.transfers + 57344 }
@@ -82,10 +104,17 @@ fn set_window_in<D: Disk, A: Allocator>(
     requires size { FitsLayout (view_of filer.old) }
     requires some { 1 ≤ intervals }
     requires few { intervals ≤ 1023 }
-    ensures done { (ss : List Space) (x : Space) → RevealSpaces (TablesAre (view_of filer.old)) intervals ss → MayHaveWindow ss x → x.handle ≡ space → IfSome shown (λ w. WindowFits x.pages (window_of w))
-        → MatchResult result (λ _. RevealSpaces (TablesAre (view_of filer.new)) intervals (set_window space (option_map window_of shown) ss)) FromMemory }
-    ensures malformed { (b : List ℕ) → TablesAre (view_of filer.old) b → IfErr result (IfMalformed (Breaks intervals b)) }
-    ensures cause { IfErr result (IfMem (IsTableAccounted (view_of filer.old).disk (view_of filer.old).slots (view_of filer.old).layout (view_of filer.old).runs (view_of filer.new).disk)) }
+    ensures done { (ss : List Space) (x : Space) → RevealSpaces (TablesAre (view_of filer.old)) intervals ss
+        → MayHaveWindow ss x → x.handle ≡ space → IfSome shown (λ w. WindowFits x.pages (window_of w))
+        → MatchResult result
+        (λ _. RevealSpaces (TablesAre (view_of filer.new)) intervals (set_window space (option_map window_of shown) ss))
+        FromMemory }
+    ensures malformed { (b : List ℕ) → TablesAre (view_of filer.old) b
+        → IfErr result (IfMalformed (Breaks intervals b)) }
+    ensures cause { IfErr result
+        (IfMem
+        (IsTableAccounted (view_of filer.old).disk (view_of filer.old).slots (view_of filer.old).layout
+        (view_of filer.old).runs (view_of filer.new).disk)) }
     ensures kept { TablesBeside (view_of filer.old) (view_of filer.new) }
     ensures cost { (view_of filer.new).disk.transfers ≤ (view_of filer.old).disk.transfers + 57344 }
 {
@@ -101,14 +130,24 @@ pub fn set_window<D: Disk, A: Allocator>(
     shown: Option<Shown>,
 ) -> Result<Result<(), Refusal>, Halt>
     requires size { FitsLayout (state core.old) }
-    ensures done { (m : List Sector) (named : Triples) (ss : List Space) (x : Space) → Knows core.old m named ss → MayHaveWindow ss x → x.handle ≡ space → IfSome shown (λ w. WindowFits x.pages (window_of w))
-        → IfOk result (IsDone (RevealSpaces (TablesAre (state core.new)) core.new.intervals (set_window space (option_map window_of shown) ss))) }
-    ensures sound { (m : List Sector) (named : Triples) (ss : List Space) (x : Space) → Knows core.old m named ss → MayHaveWindow ss x → x.handle ≡ space → IfSome shown (λ w. WindowFits x.pages (window_of w))
+    ensures done { (m : List Sector) (named : Triples) (ss : List Space) (x : Space) → Knows core.old m named ss
+        → MayHaveWindow ss x → x.handle ≡ space → IfSome shown (λ w. WindowFits x.pages (window_of w))
+        → IfOk result
+        (IsDone
+        (RevealSpaces (TablesAre (state core.new)) core.new.intervals
+        (set_window space (option_map window_of shown) ss))) }
+    ensures sound { (m : List Sector) (named : Triples) (ss : List Space) (x : Space) → Knows core.old m named ss
+        → MayHaveWindow ss x → x.handle ≡ space → IfSome shown (λ w. WindowFits x.pages (window_of w))
         → IfErr result (λ e. e ≡ halt.Disk) }
-    ensures cause { IfErr result (ReachHalts (TablesBreak (state core.old) (Breaks core.old.intervals)) (state core.old) (state core.new)) }
-    ensures sees { (ss : List Space) (x : Space) → Sees (state core.old) (kept core.old) core.old.intervals ss → MayHaveWindow ss x → x.handle ≡ space → IfSome shown (λ w. WindowFits x.pages (window_of w))
-        → IfOk result (IsDone (Sees (state core.new) (kept core.new) core.new.intervals (set_window space (option_map window_of shown) ss))) }
-    ensures right { (ss : List Space) → Sees (state core.old) (kept core.old) core.old.intervals ss → IfErr result NeverBlamesTables }
+    ensures cause { IfErr result
+        (ReachHalts (TablesBreak (state core.old) (Breaks core.old.intervals)) (state core.old) (state core.new)) }
+    ensures sees { (ss : List Space) (x : Space) → Sees (state core.old) (kept core.old) core.old.intervals ss
+        → MayHaveWindow ss x → x.handle ≡ space → IfSome shown (λ w. WindowFits x.pages (window_of w))
+        → IfOk result
+        (IsDone
+        (Sees (state core.new) (kept core.new) core.new.intervals (set_window space (option_map window_of shown) ss))) }
+    ensures right { (ss : List Space) → Sees (state core.old) (kept core.old) core.old.intervals ss
+        → IfErr result NeverBlamesTables }
     ensures retabled { Retabled core.old core.new }
     ensures intervals { core.new.intervals ≡ core.old.intervals }
     ensures cost { (state core.new).disk.transfers ≤ (state core.old).disk.transfers + 57344 }

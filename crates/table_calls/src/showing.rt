@@ -36,11 +36,17 @@ fn ask_shown<D: Disk, A: Allocator>(
     requires size { FitsLayout (view_of filer.old) }
     requires some { 1 ≤ intervals }
     requires few { intervals ≤ 1023 }
-    ensures answer { (ss : List Space) → RevealSpaces (TablesAre (view_of filer.old)) intervals ss → Replies (first_of (window_row ss space)) (λ x. (s : Space) × (space_at ss space ≡ Some s) × (s.window ≡ Some (window_of x))) result }
+    ensures answer { (ss : List Space) → RevealSpaces (TablesAre (view_of filer.old)) intervals ss
+        → Replies (first_of (window_row ss space))
+        (λ x. (s : Space) × (space_at ss space ≡ Some s) × (s.window ≡ Some (window_of x))) result }
     ensures form { IfOk result (λ x. 16 ≤ x.id) }
     ensures read { (b : List ℕ) → TablesAre (view_of filer.old) b → IfOk result (IsShownAt b space) }
-    ensures malformed { (b : List ℕ) → TablesAre (view_of filer.old) b → IfErr result (IfMalformed (λ page. BreaksSlot b page space)) }
-    ensures cause { IfErr result (IfMem (IsTableAccounted (view_of filer.old).disk (view_of filer.old).slots (view_of filer.old).layout (view_of filer.old).runs (view_of filer.new).disk)) }
+    ensures malformed { (b : List ℕ) → TablesAre (view_of filer.old) b
+        → IfErr result (IfMalformed (λ page. BreaksSlot b page space)) }
+    ensures cause { IfErr result
+        (IfMem
+        (IsTableAccounted (view_of filer.old).disk (view_of filer.old).slots (view_of filer.old).layout
+        (view_of filer.old).runs (view_of filer.new).disk)) }
     ensures same { (b : List ℕ) → TablesAre (view_of filer.old) b → TablesAre (view_of filer.new) b }
     ensures kept { TablesBeside (view_of filer.old) (view_of filer.new) }
     ensures cost { (view_of filer.new).disk.transfers ≤ (view_of filer.old).disk.transfers + 28 }
@@ -55,14 +61,25 @@ pub fn shown<D: Disk, A: Allocator>(
     space: u32,
 ) -> Result<Result<Shown, Refusal>, Halt>
     requires size { FitsLayout (state core.old) }
-    ensures answer { (m : List Sector) (named : Triples) (ss : List Space) → Knows core.old m named ss → IfOk result (Reveals (first_of (window_row ss space)) (λ x. (s : Space) × (space_at ss space ≡ Some s) × (s.window ≡ Some (window_of x)))) }
+    ensures answer { (m : List Sector) (named : Triples) (ss : List Space) → Knows core.old m named ss
+        → IfOk result
+        (Reveals (first_of (window_row ss space))
+        (λ x. (s : Space) × (space_at ss space ≡ Some s) × (s.window ≡ Some (window_of x)))) }
     ensures form { IfOk result (IfGiven (λ x. 16 ≤ x.id)) }
     ensures read { IfOk result (IfGiven (TablesSay (state core.old) (λ b. IsShownAt b space))) }
-    ensures cause { IfErr result (ReachHalts (TablesBreak (state core.old) (λ b page. BreaksSlot b page space)) (state core.old) (state core.new)) }
-    ensures seen { (ss : List Space) → Sees (state core.old) (kept core.old) core.old.intervals ss → IfOk result (Reveals (first_of (window_row ss space)) (λ x. (s : Space) × (space_at ss space ≡ Some s) × (s.window ≡ Some (window_of x)))) }
-    ensures sees { (ss : List Space) → Sees (state core.old) (kept core.old) core.old.intervals ss → Sees (state core.new) (kept core.new) core.new.intervals ss }
-    ensures right { (ss : List Space) → Sees (state core.old) (kept core.old) core.old.intervals ss → IfErr result NeverBlamesTables }
-    ensures sound { (m : List Sector) (named : Triples) (ss : List Space) → Knows core.old m named ss → IfErr result (λ e. e ≡ halt.Disk) }
+    ensures cause { IfErr result
+        (ReachHalts (TablesBreak (state core.old) (λ b page. BreaksSlot b page space)) (state core.old)
+        (state core.new)) }
+    ensures seen { (ss : List Space) → Sees (state core.old) (kept core.old) core.old.intervals ss
+        → IfOk result
+        (Reveals (first_of (window_row ss space))
+        (λ x. (s : Space) × (space_at ss space ≡ Some s) × (s.window ≡ Some (window_of x)))) }
+    ensures sees { (ss : List Space) → Sees (state core.old) (kept core.old) core.old.intervals ss
+        → Sees (state core.new) (kept core.new) core.new.intervals ss }
+    ensures right { (ss : List Space) → Sees (state core.old) (kept core.old) core.old.intervals ss
+        → IfErr result NeverBlamesTables }
+    ensures sound { (m : List Sector) (named : Triples) (ss : List Space) → Knows core.old m named ss
+        → IfErr result (λ e. e ≡ halt.Disk) }
     ensures asked { Asked core.old core.new }
     ensures cost { (state core.new).disk.transfers ≤ (state core.old).disk.transfers + 28 }
 {
@@ -80,12 +97,19 @@ fn ask_shows_file<D: Disk, A: Allocator>(
     requires size { FitsLayout (view_of filer.old) }
     requires some { 1 ≤ intervals }
     requires few { intervals ≤ 1023 }
-    ensures answer { (ss : List Space) → RevealSpaces (TablesAre (view_of filer.old)) intervals ss → IfOk result (IsFirstWith (shows id writable_only) ss) }
-    ensures right { (ss : List Space) → RevealSpaces (TablesAre (view_of filer.old)) intervals ss → IfErr result FromMemory }
-    ensures form { IfOk result (λ o. IfSome o (λ at. (16 ≤ at.1.id) × (at.1.id ≡ id) × (writable_only ≡ true → at.1.writable ≡ true))) }
-    ensures malformed { (b : List ℕ) → TablesAre (view_of filer.old) b → IfErr result (IfMalformed (BreaksHierarchy b)) }
+    ensures answer { (ss : List Space) → RevealSpaces (TablesAre (view_of filer.old)) intervals ss
+        → IfOk result (IsFirstWith (shows id writable_only) ss) }
+    ensures right { (ss : List Space) → RevealSpaces (TablesAre (view_of filer.old)) intervals ss
+        → IfErr result FromMemory }
+    ensures form { IfOk result
+        (λ o. IfSome o (λ at. (16 ≤ at.1.id) × (at.1.id ≡ id) × (writable_only ≡ true → at.1.writable ≡ true))) }
+    ensures malformed { (b : List ℕ) → TablesAre (view_of filer.old) b
+        → IfErr result (IfMalformed (BreaksHierarchy b)) }
     ensures refused { IfErr result NotRefused }
-    ensures cause { IfErr result (IfMem (IsTableAccounted (view_of filer.old).disk (view_of filer.old).slots (view_of filer.old).layout (view_of filer.old).runs (view_of filer.new).disk)) }
+    ensures cause { IfErr result
+        (IfMem
+        (IsTableAccounted (view_of filer.old).disk (view_of filer.old).slots (view_of filer.old).layout
+        (view_of filer.old).runs (view_of filer.new).disk)) }
     ensures same { (b : List ℕ) → TablesAre (view_of filer.old) b → TablesAre (view_of filer.new) b }
     ensures kept { TablesBeside (view_of filer.old) (view_of filer.new) }
     ensures cost { (view_of filer.new).disk.transfers ≤ (view_of filer.old).disk.transfers + 14336 }
@@ -101,13 +125,20 @@ pub fn shows_file<D: Disk, A: Allocator>(
     writable_only: bool,
 ) -> Result<Option<(u32, Shown)>, Halt>
     requires size { FitsLayout (state core.old) }
-    ensures answer { (m : List Sector) (named : Triples) (ss : List Space) → Knows core.old m named ss → IfOk result (IsFirstWith (shows id writable_only) ss) }
-    ensures form { IfOk result (λ o. IfSome o (λ at. (16 ≤ at.1.id) × (at.1.id ≡ id) × (writable_only ≡ true → at.1.writable ≡ true))) }
-    ensures cause { IfErr result (ReachHalts (TablesBreak (state core.old) BreaksHierarchy) (state core.old) (state core.new)) }
-    ensures seen { (ss : List Space) → Sees (state core.old) (kept core.old) core.old.intervals ss → IfOk result (IsFirstWith (shows id writable_only) ss) }
-    ensures sees { (ss : List Space) → Sees (state core.old) (kept core.old) core.old.intervals ss → Sees (state core.new) (kept core.new) core.new.intervals ss }
-    ensures right { (ss : List Space) → Sees (state core.old) (kept core.old) core.old.intervals ss → IfErr result NeverBlamesTables }
-    ensures sound { (m : List Sector) (named : Triples) (ss : List Space) → Knows core.old m named ss → IfErr result (λ e. e ≡ halt.Disk) }
+    ensures answer { (m : List Sector) (named : Triples) (ss : List Space) → Knows core.old m named ss
+        → IfOk result (IsFirstWith (shows id writable_only) ss) }
+    ensures form { IfOk result
+        (λ o. IfSome o (λ at. (16 ≤ at.1.id) × (at.1.id ≡ id) × (writable_only ≡ true → at.1.writable ≡ true))) }
+    ensures cause { IfErr result
+        (ReachHalts (TablesBreak (state core.old) BreaksHierarchy) (state core.old) (state core.new)) }
+    ensures seen { (ss : List Space) → Sees (state core.old) (kept core.old) core.old.intervals ss
+        → IfOk result (IsFirstWith (shows id writable_only) ss) }
+    ensures sees { (ss : List Space) → Sees (state core.old) (kept core.old) core.old.intervals ss
+        → Sees (state core.new) (kept core.new) core.new.intervals ss }
+    ensures right { (ss : List Space) → Sees (state core.old) (kept core.old) core.old.intervals ss
+        → IfErr result NeverBlamesTables }
+    ensures sound { (m : List Sector) (named : Triples) (ss : List Space) → Knows core.old m named ss
+        → IfErr result (λ e. e ≡ halt.Disk) }
     ensures asked { Asked core.old core.new }
     ensures cost { (state core.new).disk.transfers ≤ (state core.old).disk.transfers + 14336 }
 {

@@ -136,8 +136,10 @@ pub(crate) fn judge(
 /// after, and where `clean_only` is set that the volume was closed. The first test that fails is
 /// the answer.
 pub fn read_root<D: Disk>(disk: &mut D, clean_only: bool) -> Result<Root, RootFault>
-    ensures count { ¬ IsCount (D.state disk.old).sectors → result ≡ Err (RootFault.BadCount (D.state disk.old).sectors) }
-    ensures bad_count { (n : ℕ) → result ≡ Err (RootFault.BadCount n) → ¬ IsCount (D.state disk.old).sectors × (n ≡ (D.state disk.old).sectors) }
+    ensures count { ¬ IsCount (D.state disk.old).sectors
+        → result ≡ Err (RootFault.BadCount (D.state disk.old).sectors) }
+    ensures bad_count { (n : ℕ) → result ≡ Err (RootFault.BadCount n)
+        → ¬ IsCount (D.state disk.old).sectors × (n ≡ (D.state disk.old).sectors) }
     ensures judged { IsCount (D.state disk.old).sectors → (d : List Sector) → (D.state disk.old).contents ≡ Some d
         → (s : Sector) → slice_get d 0 ≡ Some s → IsUnlessFault result (judged clean_only (length d) s) }
     ensures valid { IfOk result (IsValidRoot (D.state disk.old).sectors) }
