@@ -49,7 +49,8 @@ impl<D: Disk, A: Allocator> Filer<D, A> {
         ensures right { (m : List Sector) (named : Triples)
             → Stands (D.state self.old.swapper.disk) self.old.swapper.pool m → MapIs self.old.swapper.layout named m
             → IsNew named run
-            → IfErr result (IsFaultOrMost self.old.swapper.layout (D.state self.old.swapper.disk) self.old.swapper.pool) }
+            → IfErr result
+            (IsFaultOrMost self.old.swapper.layout (D.state self.old.swapper.disk) self.old.swapper.pool) }
         ensures cause { IfErr result
             (AddHalts self.old.swapper.layout (D.state self.old.swapper.disk) self.old.swapper.pool
             (D.state self.new.swapper.disk)) }
@@ -89,7 +90,8 @@ impl<D: Disk, A: Allocator> Filer<D, A> {
             (λ why.
             MapHalts self.old.swapper.layout (D.state self.old.swapper.disk) self.old.swapper.pool
             (D.state self.new.swapper.disk) why
-            ⊎ IsToCut id from (MapShows self.old.swapper.layout (D.state self.old.swapper.disk) self.old.swapper.pool)) }
+            ⊎ IsToCut id from
+            (MapShows self.old.swapper.layout (D.state self.old.swapper.disk) self.old.swapper.pool)) }
         ensures cause { IfErr result
             (CutHalts self.old.swapper.layout (D.state self.old.swapper.disk) self.old.swapper.pool
             (D.state self.new.swapper.disk) self.new.swapper.pool) }

@@ -36,7 +36,8 @@ impl<D: Disk, A: Allocator> Filer<D, A> {
             → Stands (D.state self.new.swapper.disk) self.new.swapper.pool m }
         ensures same { (b : List ℕ)
             → TablesReveal (D.state self.old.swapper.disk) self.old.swapper.pool self.old.swapper.layout self.old.runs b
-            → TablesReveal (D.state self.new.swapper.disk) self.new.swapper.pool self.new.swapper.layout self.new.runs b }
+            → TablesReveal (D.state self.new.swapper.disk) self.new.swapper.pool self.new.swapper.layout self.new.runs
+            b }
         ensures error { IfErr result
             (IsTableAccounted (D.state self.old.swapper.disk) self.old.swapper.pool self.old.swapper.layout
             self.old.runs (D.state self.new.swapper.disk)) }
@@ -76,7 +77,8 @@ impl<D: Disk, A: Allocator> Filer<D, A> {
             → IfOk result (λ i. (f : Frame) × Has self.new.swapper.pool i f × (f.bytes ≡ part b (512 * page) 512)) }
         ensures same { (b : List ℕ)
             → TablesReveal (D.state self.old.swapper.disk) self.old.swapper.pool self.old.swapper.layout self.old.runs b
-            → TablesReveal (D.state self.new.swapper.disk) self.new.swapper.pool self.new.swapper.layout self.new.runs b }
+            → TablesReveal (D.state self.new.swapper.disk) self.new.swapper.pool self.new.swapper.layout self.new.runs
+            b }
         ensures error { IfErr result
             (IsTableAccounted (D.state self.old.swapper.disk) self.old.swapper.pool self.old.swapper.layout
             self.old.runs (D.state self.new.swapper.disk)) }

@@ -261,8 +261,10 @@ impl<A: Allocator> Table<A> {
     /// Puts a clean frame into the slot, which remembers nothing.
     pub(crate) fn fill(&mut self, slot: u16, home: Home, bytes: &Page)
         requires { slot < length self.old.frames }
-        ensures value { self.new ≡ record self.old
-            { frames = slice_set self.old.frames slot (Some (new_frame home bytes.now)); founds = slice_set self.old.founds slot nothing } }
+        ensures value { self.new ≡ record self.old {
+          frames = slice_set self.old.frames slot (Some (new_frame home bytes.now));
+          founds = slice_set self.old.founds slot nothing;
+        } }
         ensures page { IsPageBytes bytes.now }
     {
         let Home { sector, id, page } = home;
@@ -289,8 +291,10 @@ impl<A: Allocator> Table<A> {
     pub(crate) fn overwrite(&mut self, slot: u16, at: usize, bytes: &[u8])
         requires below { slot < length self.old.frames }
         requires inside { at + length bytes.now ≤ 512 }
-        ensures { self.new ≡ record self.old
-            { frames = slice_set self.old.frames slot (option_map (λ f. changed f at bytes.now) (frame_at self.old.frames slot)) } }
+        ensures { self.new ≡ record self.old {
+          frames = slice_set self.old.frames slot
+              (option_map (λ f. changed f at bytes.now) (frame_at self.old.frames slot));
+        } }
     {
         match &mut self.slots[slot as usize].kept {
             Some(kept) => kept.overwrite(at, bytes),

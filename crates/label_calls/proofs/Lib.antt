@@ -1,3 +1,4 @@
+pub mod BytesLemmas
 pub mod OwnLemmas
 pub mod RelabelLemmas
 pub mod RunLemmas

@@ -1,3 +1,4 @@
+pub mod Bytes
 pub mod Labels
 pub mod Own
 pub mod OwnLaws

@@ -1,21 +1,21 @@
 //! The label of one data sector.
-ghost use Rattle.std.specs.Prelude.{◌≡◌, ◌⊎◌, ◌<◌, ◌≤◌, ◌+◌, ℕ, true, false, List, [], Some, IfOk, IfErr, OnErr, OnOk};
+ghost use Rattle.std.specs.Prelude.{◌≡◌, ◌⊎◌, ◌<◌, ◌≤◌, ◌+◌, ℕ, false, List, [], Some, IfErr, OnErr, OnOk};
 ghost use Rattle.labelled_disk.specs.declared.disk.DiskWrite.TheVariants as write;
 ghost use Rattle.labelled_disk.specs.declared.evidence.Halt.TheVariants as halt;
 ghost use Rattle.labelled_disk.specs.Label.{leader_page, is_permanent};
 ghost use Rattle.labelled_disk.specs.Runs.{zero_bytes};
 ghost use Rattle.labelled_disk.specs.Sectors.{Sector, free_label};
-ghost use Rattle.labelled_disk.specs.Calls.{Moves, Rose, RevealsSame, RevealsWrite};
 ghost use Rattle.labelled_disk.specs.State.{HasLabel};
 ghost use Rattle.labelled_disk.specs.declared.label.Label.{Label};
-ghost use Rattle.swapper_kernel.specs.Goes.{Makes, Went, no_page};
+ghost use Rattle.swapper_kernel.specs.Goes.{Makes, no_page};
 ghost use Rattle.swapper_kernel.specs.Halts.{HasCause};
 ghost use Rattle.swapper_kernel.specs.Stands.{Stands};
 ghost use Rattle.label_calls.specs.Labels.{IsFresh, HasOne, Relabels, MayHaveWritten, IsTaken, IsNotOf, free_ones, ones_of, with_mark};
 ghost use Rattle.label_calls.specs.Own.{RelabelsOwn};
-ghost use Rattle.label_calls.specs.Synced.{SyncedThere, SyncsAroundOne, SyncsLeaders};
+ghost use Rattle.label_calls.specs.Synced.{SyncsLeaders};
 
-use labelled_disk::{Disk, Evidence, FileId, Halt, LEADER, Label, PAGE_BYTES, Wanted};
+use crate::label::{read_label, relabel, write_fresh};
+use labelled_disk::{Disk, Evidence, FileId, Halt, LEADER, Label, Wanted};
 use std::alloc::Allocator;
 use swapper_kernel::Swapper;
 
@@ -35,188 +35,6 @@ impl Mark {
             Mark::Permanent => label.with_permanent(),
             Mark::Immutable => label.with_immutable(),
         }
-    }
-}
-
-/// The label of a sector, as the disk has it.
-pub fn read_label<D: Disk, A: Allocator>(
-    swapper: &mut Swapper<D, A>,
-    sector: u32,
-) -> Result<Label, Halt>
-    requires { sector < (D.state swapper.old.disk).sectors }
-    ensures found { IfOk result (HasLabel (D.state swapper.old.disk) sector) }
-    ensures same { RevealsSame (D.state swapper.old.disk) (D.state swapper.new.disk) }
-    ensures moves { Moves (D.state swapper.old.disk) (D.state swapper.new.disk) }
-    ensures makes { Makes no_page [] (D.state swapper.old.disk) swapper.old.pool (D.state swapper.new.disk)
-        swapper.new.pool }
-    ensures cause { IfErr result
-        (λ e. (e ≡ halt.Disk) × Rose (D.state swapper.old.disk).faults (D.state swapper.new.disk).faults) }
-    ensures frames { swapper.new.pool ≡ swapper.old.pool }
-    ensures layout { swapper.new.layout ≡ swapper.old.layout }
-{
-    let mut page = [0; PAGE_BYTES];
-    let disk = swapper.disk_over();
-    match disk.read(sector, &mut page) {
-        Ok(label) => Ok(label),
-        Err(_) => Err(Halt::Disk),
-    }
-}
-
-// Writes a label over that of a data sector, whose page stays.
-fn write_label<D: Disk, A: Allocator>(
-    swapper: &mut Swapper<D, A>,
-    sector: u32,
-    label: Label,
-) -> Result<(), Halt>
-    requires { sector < (D.state swapper.old.disk).sectors }
-    ensures writes { OnOk result
-        (RevealsWrite (write.LabelOnly sector label) (D.state swapper.old.disk) (D.state swapper.new.disk)) }
-    ensures stopped { OnErr result
-        (RevealsSame (D.state swapper.old.disk) (D.state swapper.new.disk)
-        ⊎ RevealsWrite (write.LabelOnly sector label) (D.state swapper.old.disk) (D.state swapper.new.disk)) }
-    ensures moves { Moves (D.state swapper.old.disk) (D.state swapper.new.disk) }
-    ensures cause { IfErr result
-        (λ e. (e ≡ halt.Disk) × Rose (D.state swapper.old.disk).faults (D.state swapper.new.disk).faults) }
-    ensures frames { swapper.new.pool ≡ swapper.old.pool }
-    ensures layout { swapper.new.layout ≡ swapper.old.layout }
-{
-    let disk = swapper.disk_over();
-    match disk.write_label(sector, &label) {
-        Ok(()) => Ok(()),
-        Err(_) => Err(Halt::Disk),
-    }
-}
-
-/// Waits until all that was written is on the medium.
-pub fn sync<D: Disk, A: Allocator>(swapper: &mut Swapper<D, A>) -> Result<(), Halt>
-    ensures synced { OnOk result (SyncedThere (D.state swapper.old.disk) (D.state swapper.new.disk)) }
-    ensures same { RevealsSame (D.state swapper.old.disk) (D.state swapper.new.disk) }
-    ensures went { Went (D.state swapper.old.disk) (D.state swapper.new.disk) }
-    ensures makes { Makes no_page [] (D.state swapper.old.disk) swapper.old.pool (D.state swapper.new.disk)
-        swapper.new.pool }
-    ensures cause { IfErr result
-        (λ e. (e ≡ halt.Disk) × Rose (D.state swapper.old.disk).faults (D.state swapper.new.disk).faults) }
-    ensures frames { swapper.new.pool ≡ swapper.old.pool }
-    ensures layout { swapper.new.layout ≡ swapper.old.layout }
-    ensures cost { (D.state swapper.new.disk).transfers ≤ (D.state swapper.old.disk).transfers }
-{
-    let disk = swapper.disk_over();
-    match disk.sync() {
-        Ok(()) => Ok(()),
-        Err(_) => Err(Halt::Disk),
-    }
-}
-
-// Whether one of the two labels is that of a permanent file's leader.
-fn counts(found: Label, label: Label) -> bool
-    ensures none { result ≡ false → (is_permanent found ≡ false) × (is_permanent label ≡ false) }
-{
-    found.marks().permanent || label.marks().permanent
-}
-
-// Writes a label over this one between two syncs. The second is left out where the label is not free.
-fn relabel_alone<D: Disk, A: Allocator>(
-    swapper: &mut Swapper<D, A>,
-    sector: u32,
-    found: Label,
-    label: Label,
-) -> Result<(), Halt>
-    requires { sector < (D.state swapper.old.disk).sectors }
-    ensures writes { OnOk result
-        (RevealsWrite (write.LabelOnly sector label) (D.state swapper.old.disk) (D.state swapper.new.disk)) }
-    ensures stopped { OnErr result
-        (RevealsSame (D.state swapper.old.disk) (D.state swapper.new.disk)
-        ⊎ RevealsWrite (write.LabelOnly sector label) (D.state swapper.old.disk) (D.state swapper.new.disk)) }
-    ensures around { OnOk result
-        (SyncsAroundOne false found label (D.state swapper.old.disk) (D.state swapper.new.disk)) }
-    ensures stopped_around { OnErr result
-        (RevealsSame (D.state swapper.old.disk) (D.state swapper.new.disk)
-        ⊎ SyncsAroundOne true found label (D.state swapper.old.disk) (D.state swapper.new.disk)) }
-    ensures went { Went (D.state swapper.old.disk) (D.state swapper.new.disk) }
-    ensures cause { IfErr result
-        (λ e. (e ≡ halt.Disk) × Rose (D.state swapper.old.disk).faults (D.state swapper.new.disk).faults) }
-    ensures frames { swapper.new.pool ≡ swapper.old.pool }
-    ensures layout { swapper.new.layout ≡ swapper.old.layout }
-    ensures cost { (D.state swapper.new.disk).transfers ≤ (D.state swapper.old.disk).transfers + 1 }
-{
-    match sync(swapper) {
-        Ok(()) => (),
-        Err(halt) => return Err(halt),
-    }
-    match write_label(swapper, sector, label) {
-        Ok(()) => (),
-        Err(halt) => return Err(halt),
-    }
-    if !label.is_free() {
-        return Ok(());
-    }
-    match sync(swapper) {
-        Ok(()) => Ok(()),
-        Err(halt) => Err(halt),
-    }
-}
-
-// Writes a label over this one. The disk is synced before where either is that of a permanent file's leader, and after it, too,
-// where such a leader goes.
-fn relabel<D: Disk, A: Allocator>(
-    swapper: &mut Swapper<D, A>,
-    sector: u32,
-    found: Label,
-    label: Label,
-) -> Result<(), Halt>
-    requires { sector < (D.state swapper.old.disk).sectors }
-    ensures writes { OnOk result
-        (RevealsWrite (write.LabelOnly sector label) (D.state swapper.old.disk) (D.state swapper.new.disk)) }
-    ensures stopped { OnErr result
-        (RevealsSame (D.state swapper.old.disk) (D.state swapper.new.disk)
-        ⊎ RevealsWrite (write.LabelOnly sector label) (D.state swapper.old.disk) (D.state swapper.new.disk)) }
-    ensures around { OnOk result
-        (SyncsAroundOne false found label (D.state swapper.old.disk) (D.state swapper.new.disk)) }
-    ensures stopped_around { OnErr result
-        (RevealsSame (D.state swapper.old.disk) (D.state swapper.new.disk)
-        ⊎ SyncsAroundOne true found label (D.state swapper.old.disk) (D.state swapper.new.disk)) }
-    ensures went { Went (D.state swapper.old.disk) (D.state swapper.new.disk) }
-    ensures cause { IfErr result
-        (λ e. (e ≡ halt.Disk) × Rose (D.state swapper.old.disk).faults (D.state swapper.new.disk).faults) }
-    ensures frames { swapper.new.pool ≡ swapper.old.pool }
-    ensures layout { swapper.new.layout ≡ swapper.old.layout }
-    ensures cost { (D.state swapper.new.disk).transfers ≤ (D.state swapper.old.disk).transfers + 1 }
-{
-    if counts(found, label) {
-        return match relabel_alone(swapper, sector, found, label) {
-            Ok(()) => Ok(()),
-            Err(halt) => Err(halt),
-        };
-    }
-    match write_label(swapper, sector, label) {
-        Ok(()) => Ok(()),
-        Err(halt) => Err(halt),
-    }
-}
-
-// Writes a label and a page of zeros into a data sector.
-#[tactic(auto, unfolding(labelled_disk::specs::Runs::zero_bytes))]
-fn write_fresh<D: Disk, A: Allocator>(
-    swapper: &mut Swapper<D, A>,
-    sector: u32,
-    label: Label,
-) -> Result<(), Halt>
-    requires { sector < (D.state swapper.old.disk).sectors }
-    ensures writes { OnOk result
-        (RevealsWrite (write.Whole sector label zero_bytes) (D.state swapper.old.disk) (D.state swapper.new.disk)) }
-    ensures stopped { OnErr result
-        (RevealsSame (D.state swapper.old.disk) (D.state swapper.new.disk)
-        ⊎ RevealsWrite (write.Whole sector label zero_bytes) (D.state swapper.old.disk) (D.state swapper.new.disk)) }
-    ensures moves { Moves (D.state swapper.old.disk) (D.state swapper.new.disk) }
-    ensures cause { IfErr result
-        (λ e. (e ≡ halt.Disk) × Rose (D.state swapper.old.disk).faults (D.state swapper.new.disk).faults) }
-    ensures frames { swapper.new.pool ≡ swapper.old.pool }
-    ensures layout { swapper.new.layout ≡ swapper.old.layout }
-{
-    let disk = swapper.disk_over();
-    match disk.write(sector, &label, &[0; PAGE_BYTES]) {
-        Ok(()) => Ok(()),
-        Err(_) => Err(Halt::Disk),
     }
 }
 
@@ -300,6 +118,9 @@ pub fn free_page<D: Disk, A: Allocator>(
     ensures cost { (D.state swapper.new.disk).transfers ≤ (D.state swapper.old.disk).transfers + 2 }
     ensures own { RelabelsOwn wanted.id (D.state swapper.old.disk) (D.state swapper.new.disk) }
     ensures around { SyncsLeaders result (D.state swapper.old.disk) (D.state swapper.new.disk) }
+    ensures unsynced { (label : Label) → HasLabel (D.state swapper.old.disk) sector label → is_permanent label ≡ false
+        → (d : List Sector) → (D.state swapper.old.disk).contents ≡ Some d
+        → (D.state swapper.new.disk).syncs ≡ (D.state swapper.old.disk).syncs }
 {
     let found = match read_label(swapper, sector) {
         Ok(found) => found,
@@ -357,6 +178,10 @@ pub fn mark_leader<D: Disk, A: Allocator>(
     ensures cost { (D.state swapper.new.disk).transfers ≤ (D.state swapper.old.disk).transfers + 2 }
     ensures own { RelabelsOwn id (D.state swapper.old.disk) (D.state swapper.new.disk) }
     ensures around { SyncsLeaders result (D.state swapper.old.disk) (D.state swapper.new.disk) }
+    ensures unsynced { (label : Label) → HasLabel (D.state swapper.old.disk) sector label
+        → is_permanent (with_mark mark label) ≡ false → (d : List Sector)
+        → (D.state swapper.old.disk).contents ≡ Some d
+        → (D.state swapper.new.disk).syncs ≡ (D.state swapper.old.disk).syncs }
 {
     let wanted = Wanted { id, page: LEADER };
     let found = match read_label(swapper, sector) {

@@ -38,7 +38,8 @@ pub fn load_above<M: FlatMem, const K: usize>(
     ensures more { IfOk result (λ _. level + 1 < levels → 2 ≤ filled above.new) }
     ensures well { (e : ℕ) (b : List ℕ) → M.reveals mem.old b
         → (records : List (List ℕ)) (at : ℕ) (page : List ℕ) (root first top : ℕ)
-        → IsPending e K (M.size mem.old / 512) b records levels level path.now.pages path.now.index at page root first top
+        → IsPending e K (M.size mem.old / 512) b records levels level path.now.pages path.now.index at page root first
+        top
         → IfErr result FromMemory }
     ensures like { (root : ℕ) (b c : List ℕ) → M.reveals mem.old c
         → IsRebalancing K b c levels level root path.now.pages path.now.index

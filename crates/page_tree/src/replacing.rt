@@ -30,7 +30,8 @@ fn replace_in<M: FlatMem, const E: usize, const K: usize>(
     ensures replaced { (b : List ℕ) → M.reveals mem.old b → (records : List (List ℕ))
         → IsTree E K (M.size mem.old / 512) b records
         → IsHead (page_at b 0) header.count header.root header.top header.free header.levels
-        → MatchResult result (IsReplaced E K (M.size mem.old / 512) (M.reveals mem.new) b records entry.now) FromMemory }
+        → MatchResult result (IsReplaced E K (M.size mem.old / 512) (M.reveals mem.new) b records entry.now)
+        FromMemory }
     ensures absent { (b : List ℕ) → M.reveals mem.old b → IfOk result (λ found. found ≡ false → M.reveals mem.new b) }
     ensures broken { (b : List ℕ) → M.reveals mem.old b → Meets K b header.levels header.root
         → IfErr result (IfMalformed (Breaks E K (M.size mem.old / 512) b)) }
@@ -63,7 +64,8 @@ pub fn replace_key<M: FlatMem, const E: usize, const K: usize>(
     requires some_pages { 9 * 512 ≤ M.size mem.old }
     ensures answer { (b : List ℕ) → M.reveals mem.old b → (records : List (List ℕ))
         → IsTree E K (M.size mem.old / 512) b records
-        → MatchResult result (IsReplaced E K (M.size mem.old / 512) (M.reveals mem.new) b records entry.now) FromMemory }
+        → MatchResult result (IsReplaced E K (M.size mem.old / 512) (M.reveals mem.new) b records entry.now)
+        FromMemory }
     ensures absent { (b : List ℕ) → M.reveals mem.old b → IfOk result (λ found. found ≡ false → M.reveals mem.new b) }
     ensures broken { (b : List ℕ) → M.reveals mem.old b
         → IfErr result (IfMalformed (Breaks E K (M.size mem.old / 512) b)) }

@@ -122,9 +122,9 @@ pub place_laws : PlaceLaws
 place_laws = record {
   made = page_made;
   freed = page_freed;
-  grown = labels_grown;
+  grown = labels_grown {tables = 96};
   shrunk = labels_shrunk;
-  created = labels_created;
+  created = labels_created {tables = 96};
   bits_made = λ labels marks later k old new h there taken own others. bits_set labels marks later k new old h there (own ∙ ap not (sym taken)) others;
   bits_freed = λ labels marks later k old new h there free own others. bits_set labels marks later k new old h there (own ∙ ap not (sym free)) others;
   triple_made = triples_made;

@@ -185,7 +185,7 @@ module _ (spaces_of : TablesMeaning) (marks later : ℕ → Bool) (named : Tripl
       let are = machine_shapes m h.machine (length x) (slice_get x 0) h.root in
       let here : shapes_of m.files id ≡ Some (shape_of f) = ap (λ (o : Option File). option_map shape_of o) found in
       let short : size f + length is < leader_page = after_shapes.short id (sized (size f + length is) (shape_of f)) (ap (λ (s : Shapes). s id) shapes_grown ∙ with_here (shapes_of m.files) id (sized (size f + length is) (shape_of f))) in
-      let book = book_grown id f.kind is (labels_of x) (shapes_of m.files) marks named (shape_of f) (size f) refl are here short g.free
+      let book = book_grown {tables = 96} id f.kind is (labels_of x) (shapes_of m.files) marks named (shape_of f) (size f) refl are here short g.free
       (record { labels_right = h.labels; bits = h.bits; triples = h.triples }) in
       record {
         machine = after_machine;
@@ -214,7 +214,7 @@ module _ (spaces_of : TablesMeaning) (marks later : ℕ → Bool) (named : Tripl
 
 pub grow_laws : (spaces_of : TablesMeaning) → GrowLaws spaces_of
 grow_laws spaces_of = record {
-  book = λ id kind is labels shapes marks named f are found short free h. book_grown id kind is labels shapes marks named f f.size refl are found short free h;
+  book = λ id kind is labels shapes marks named f are found short free h. book_grown {tables = 96} id kind is labels shapes marks named f f.size refl are found short free h;
   grown = λ x y m id f is found grows after h. record {
     named = grown_names id (size f) is h.named;
     map = grows.triples h.named h.map;

@@ -10,11 +10,11 @@ use Rattle.labelled_disk.specs.Layout.{first_data, vam, vfm}
 use Rattle.labelled_disk.specs.File.{size}
 use Rattle.labelled_disk.proofs.Finds.{get_set_same, get_set_other}
 use Rattle.file_map.specs.FileMap.{Triples}
-use Rattle.session_words.specs.Parts.{Shape, Shapes, HasLabels, HasMapLabels, is_owned}
+use Rattle.session_words.specs.Parts.{Shape, Shapes, HasLabelsUpto, HasMapLabels, is_owned_upto}
 use Rattle.session_words.specs.Found.{AreShapes}
 use Rattle.session_words.specs.PlaceLaws.{IsMade, with_shape, sized}
-use Rattle.session_words.specs.GrowLaws.{IsBook, grown_labels, grown_marks, grown_names, AreFree}
-use Rattle.session_words.proofs.FoundLemmas.{owner, above_reserved}
+use Rattle.session_words.specs.GrowLaws.{IsBookUpto, grown_labels, grown_marks, grown_names, AreFree}
+use Rattle.session_words.proofs.FoundLemmas.{owner_upto, above_reserved}
 use Rattle.session_words.proofs.LooseLemmas.{names_id}
 use Rattle.session_words.proofs.PlaceLemmas.{labels_grown}
 use Rattle.session_words.proofs.BookLemmas.{bits_set, triples_made}
@@ -48,48 +48,48 @@ with_are shapes id f g are is short = record {
     shorter i h false found = are.short i h found
 
 -- page by page
-pub book_grown : (id kind : ℕ) (is : List ℕ) (labels : List Label) (shapes : Shapes) (marks : ℕ → Bool) (named : Triples) (f : Shape) (page : ℕ) → f.size ≡ page → AreShapes shapes → shapes id ≡ Some f
-    → page + length is < leader_page → AreFree id kind page is labels → IsBook labels shapes marks named
-    → IsBook (grown_labels id kind page is labels) (with_shape shapes id (sized (page + length is) f)) (grown_marks is marks) (grown_names id page is named)
-book_grown id kind [] labels shapes marks named f page size are found short free h =
+pub book_grown : {tables : ℕ} (id kind : ℕ) (is : List ℕ) (labels : List Label) (shapes : Shapes) (marks : ℕ → Bool) (named : Triples) (f : Shape) (page : ℕ) → f.size ≡ page → AreShapes shapes → shapes id ≡ Some f
+    → page + length is < leader_page → AreFree id kind page is labels → IsBookUpto tables labels shapes marks named
+    → IsBookUpto tables (grown_labels id kind page is labels) (with_shape shapes id (sized (page + length is) f)) (grown_marks is marks) (grown_names id page is named)
+book_grown {tables = tables} id kind [] labels shapes marks named f page size are found short free h =
     let z : page + 0 ≡ f.size = omega arith in
     let same : with_shape shapes id (sized (page + 0) f) ≡ shapes = λ i j. each (ap (λ (n : ℕ). sized n f) z) j (j == id) refl i in
-    subst (λ (s : Shapes). IsBook labels s marks named) (sym same) h
+    subst (λ (s : Shapes). IsBookUpto tables labels s marks named) (sym same) h
   where
     each : sized (page + 0) f ≡ f → (j : ℕ) (b : Bool) → (j == id) ≡ b → (if b then Some (sized (page + 0) f) else shapes j) ≡ shapes j
     each same j true e = ap (λ (x : Shape). Some x) same ∙ sym found ∙ ap shapes (sym (eqb-true j id e))
     each same j false e = refl
-book_grown id kind (i ∷ is) labels shapes marks named f page size are found short free h =
+book_grown {tables = tables} id kind (i ∷ is) labels shapes marks named f page size are found short free h =
     let new : Label = page_label id kind page in
     let high = above_reserved id (are.given id f found) in
     let taken : is_free (page_label id kind page) ≡ false = ne_eqb id 0 (omega arith) in
-    let made : IsMade labels i (page_label id kind page) (is_owned shapes) = record {
+    let made : IsMade labels i (page_label id kind page) (is_owned_upto tables shapes) = record {
       old = free.0.label;
       there = free.0.there;
       free = free.0.free;
       taken = taken;
       named = page_label_named id kind page;
-      fresh = unowned (is_owned shapes id page) refl;
+      fresh = unowned (is_owned_upto tables shapes id page) refl;
     } in
     let z : suc f.size ≡ page + 1 = omega arith in
-    let once : IsBook (slice_set labels i (page_label id kind page)) (with_shape shapes id (sized (page + 1) f)) (λ k. k == i || marks k) (λ j p s. (j == id && p == page && s == i) || named j p s) = record {
-      labels_right = subst (λ (n : ℕ). HasLabels (slice_set labels i (page_label id kind page)) (with_shape shapes id (sized n f))) z (labels_grown labels i (page_label id kind page) shapes f h.labels_right are made found (sym size));
+    let once : IsBookUpto tables (slice_set labels i (page_label id kind page)) (with_shape shapes id (sized (page + 1) f)) (λ k. k == i || marks k) (λ j p s. (j == id && p == page && s == i) || named j p s) = record {
+      labels_right = subst (λ (n : ℕ). HasLabelsUpto tables (slice_set labels i (page_label id kind page)) (with_shape shapes id (sized n f))) z (labels_grown labels i (page_label id kind page) shapes f h.labels_right are made found (sym size));
       bits = bits_set labels marks (λ k. k == i || marks k) i (page_label id kind page) free.0.label h.bits free.0.there
           ((let a : (i == i) ≡ true = eq-eqb i i refl in ap (λ (b : Bool). b || marks i) a) ∙ ap not (sym taken))
           (λ k below other. let a : (k == i) ≡ false = ne_eqb k i other in ap (λ (b : Bool). b || marks k) a);
       triples = triples_made labels named (λ j p s. (j == id && p == page && s == i) || named j p s) i free.0.label (page_label id kind page) h.triples free.0.there free.0.free taken (λ j p s. refl);
     } in
-    let rest = book_grown id kind is (slice_set labels i (page_label id kind page)) (with_shape shapes id (sized (page + 1) f)) (λ k. k == i || marks k) (λ j p s. (j == id && p == page && s == i) || named j p s)
+    let rest = book_grown {tables = tables} id kind is (slice_set labels i (page_label id kind page)) (with_shape shapes id (sized (page + 1) f)) (λ k. k == i || marks k) (λ j p s. (j == id && p == page && s == i) || named j p s)
     (sized (page + 1) f) (page + 1) refl (with_are shapes id f (sized (page + 1) f) are found (omega (arith, short))) (with_here shapes id (sized (page + 1) f)) (omega (arith, short)) free.1 once in
     let y : page + 1 + length is ≡ page + suc (length is) = omega arith in
-    subst (λ (s : Shapes). IsBook (grown_labels id kind (page + 1) is (slice_set labels i (page_label id kind page))) s (grown_marks is (λ k. k == i || marks k)) (grown_names id (page + 1) is (λ j p s. (j == id && p == page && s == i) || named j p s)))
+    subst (λ (s : Shapes). IsBookUpto tables (grown_labels id kind (page + 1) is (slice_set labels i (page_label id kind page))) s (grown_marks is (λ k. k == i || marks k)) (grown_names id (page + 1) is (λ j p s. (j == id && p == page && s == i) || named j p s)))
     (with_twice shapes id (sized (page + 1) f) (sized (page + 1 + length is) f) ∙ ap (λ (n : ℕ). with_shape shapes id (sized n f)) y) rest
   where
-    unowned : (b : Bool) → is_owned shapes id page ≡ b → is_owned shapes id page ≡ false
+    unowned : (b : Bool) → is_owned_upto tables shapes id page ≡ b → is_owned_upto tables shapes id page ≡ false
     unowned false e = e
     unowned true e =
         let high = above_reserved id (are.given id f found) in
-        let g = owner shapes id page (omega arith) e in
+        let g = owner_upto tables shapes id page (omega arith) e in
         let same : f ≡ g.0 = same_Some f g.0 (sym found ∙ g.1) in
         let sizes : f.size ≡ g.0.size = ap (λ (x : Shape). x.size) same in
         absurd (⊎_elim (λ (l : page ≡ leader_page). omega (arith, l, short)) (λ (l : page < g.0.size). omega (arith, l, size, sizes)) g.2)

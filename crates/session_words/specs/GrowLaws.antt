@@ -13,16 +13,20 @@ use Rattle.flat_machine.specs.IsMachine.{IsMachine}
 use Rattle.flat_machine.specs.Next.{change_file}
 use Rattle.swapper_kernel.specs.Stands.{labels_of}
 use Rattle.swapper_kernel.specs.Kinds.{kind_of, maps_alone}
-use Rattle.session_words.specs.Parts.{TablesMeaning, Shape, Shapes, HasLabel, HasLabels, MarksFit, HasTriples, is_marked}
+use Rattle.session_words.specs.Parts.{TablesMeaning, Shape, Shapes, HasLabel, HasLabelsUpto, MarksFit, HasTriples, is_marked}
 use Rattle.session_words.specs.Found.{AreShapes}
 use Rattle.session_words.specs.PlaceLaws.{with_shape, sized}
 use Rattle.session_words.specs.StandsFor.{IsFor}
 
--- what labels, bits and triples say together
-pub record IsBook (labels : List Label) (shapes : Shapes) (marks : ℕ → Bool) (named : Triples) : Type 0 where
-  pub labels_right : HasLabels labels shapes
+-- what labels, bits and triples say together, of so many pages of the space tables and of files
+pub record IsBookUpto (tables : ℕ) (labels : List Label) (shapes : Shapes) (marks : ℕ → Bool) (named : Triples) : Type 0 where
+  pub labels_right : HasLabelsUpto tables labels shapes
   pub bits : MarksFit marks labels
   pub triples : HasTriples named labels
+
+-- of all 96, and of files
+abbrev pub IsBook : List Label → Shapes → (ℕ → Bool) → Triples → Type 0
+IsBook labels shapes marks named = IsBookUpto 96 labels shapes marks named
 
 -- the data sector is free
 pub record IsFree (labels : List Label) (k : ℕ) : Type 0 where

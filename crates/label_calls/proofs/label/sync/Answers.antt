@@ -3,7 +3,7 @@ use Rattle.labelled_disk.specs.Syncing.{synced_by}
 use Rattle.labelled_disk.specs.Calls.{Syncs}
 use Rattle.swapper_kernel.specs.SyncLaws.{synced_went, synced_swaps}
 use Rattle.label_calls.proofs.SyncedCalls.{synced_there}
-use Rattle.label_calls.proofs.page.sync.Goals as goal
+use Rattle.label_calls.proofs.label.sync.Goals as goal
 
 pub returns-in-Ok-clause-synced : goal.returns-in-Ok-clause-synced
 returns-in-Ok-clause-synced g c =

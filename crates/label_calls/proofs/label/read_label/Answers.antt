@@ -1,7 +1,7 @@
 use Rattle.std.proofs.Common.{rules}
 use Rattle.labelled_disk.specs.Calls.{RevealsSame, Moves}
 use Rattle.swapper_kernel.proofs.StepLemmas.{step_laws}
-use Rattle.label_calls.proofs.page.read_label.Goals as goal
+use Rattle.label_calls.proofs.label.read_label.Goals as goal
 
 pub returns-in-Ok-clause-makes : goal.returns-in-Ok-clause-makes
 returns-in-Ok-clause-makes g c =

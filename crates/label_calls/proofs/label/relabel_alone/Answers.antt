@@ -4,7 +4,7 @@ use Rattle.labelled_disk.specs.Label.{is_free}
 use Rattle.swapper_kernel.specs.GoesLaws.{went_itself, went_then}
 use Rattle.swapper_kernel.proofs.StepLemmas.{went_by}
 use Rattle.label_calls.proofs.SyncedCalls.{around_alone, around_stopped}
-use Rattle.label_calls.proofs.page.relabel_alone.Goals as goal
+use Rattle.label_calls.proofs.label.relabel_alone.Goals as goal
 
 pub returns-in-Err-write_label-clause-stopped_around : goal.returns-in-Err-write_label-clause-stopped_around
 returns-in-Err-write_label-clause-stopped_around g c = inr (around_stopped c.args.found c.args.label c.in-Ok.ensures.synced c.sync.ensures.went (went_by c.write_label.ensures.moves))

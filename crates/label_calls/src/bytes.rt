@@ -1,0 +1,90 @@
+//! The page of one data sector, past the frames: no frame has it.
+ghost use Rattle.std.specs.Prelude.{◌≡◌, ◌<◌, List, [], IfErr, OnErr, OnOk};
+ghost use Rattle.labelled_disk.specs.declared.evidence.Halt.TheVariants as halt;
+ghost use Rattle.labelled_disk.specs.Sectors.{Sector};
+ghost use Rattle.labelled_disk.specs.Calls.{Moves, RevealsSame};
+ghost use Rattle.swapper_kernel.specs.Goes.{Makes, no_page};
+ghost use Rattle.swapper_kernel.specs.Halts.{HasCause};
+ghost use Rattle.swapper_kernel.specs.Stands.{Stands};
+ghost use Rattle.label_calls.specs.Bytes.{MayWritePage, ReadsPage, WritesPage};
+ghost use Rattle.label_calls.specs.Labels.{HasOne, IsNotOf, IsUncovered, ones_of};
+
+use labelled_disk::{Disk, DiskError, Evidence, Halt, Page, Wanted};
+use std::alloc::Allocator;
+use swapper_kernel::Swapper;
+
+/// The bytes of a page, from the sector whose label names it. After an error `into` may have any bytes.
+pub fn read_page<D: Disk, A: Allocator>(
+    swapper: &mut Swapper<D, A>,
+    sector: u32,
+    wanted: Wanted,
+    into: &mut Page,
+) -> Result<(), Halt>
+    requires { sector < (D.state swapper.old.disk).sectors }
+    ensures read { OnOk result (ReadsPage sector wanted into.new (D.state swapper.old.disk) swapper.old.pool) }
+    ensures same { RevealsSame (D.state swapper.old.disk) (D.state swapper.new.disk) }
+    ensures moves { Moves (D.state swapper.old.disk) (D.state swapper.new.disk) }
+    ensures makes { Makes no_page [] (D.state swapper.old.disk) swapper.old.pool (D.state swapper.new.disk)
+        swapper.new.pool }
+    ensures sound { (m : List Sector) → Stands (D.state swapper.old.disk) swapper.old.pool m
+        → HasOne (ones_of wanted) m sector → IfErr result (λ e. e ≡ halt.Disk) }
+    ensures cause { IfErr result
+        (HasCause (IsNotOf sector wanted (D.state swapper.old.disk)) (D.state swapper.old.disk)
+        (D.state swapper.new.disk)) }
+    ensures evidence_seen { IfErr result
+        (HasCause (IsNotOf sector wanted (D.state swapper.new.disk)) (D.state swapper.old.disk)
+        (D.state swapper.new.disk)) }
+    ensures frames { swapper.new.pool ≡ swapper.old.pool }
+    ensures layout { swapper.new.layout ≡ swapper.old.layout }
+{
+    let disk = swapper.disk_over();
+    let found = match disk.read(sector, into) {
+        Ok(found) => found,
+        Err(_) => return Err(Halt::Disk),
+    };
+    if !found.names(wanted) {
+        return Err(Halt::Damaged(Evidence::Mismatch {
+            sector,
+            wanted,
+            found,
+        }));
+    }
+    Ok(())
+}
+
+/// Puts these bytes into the sector whose label names the page, and keeps the label.
+pub fn write_page<D: Disk, A: Allocator>(
+    swapper: &mut Swapper<D, A>,
+    sector: u32,
+    wanted: Wanted,
+    bytes: &Page,
+) -> Result<(), Halt>
+    requires inside { sector < (D.state swapper.old.disk).sectors }
+    requires not_root { 0 < sector }
+    ensures written { OnOk result
+        (WritesPage sector wanted bytes.now (D.state swapper.old.disk) swapper.old.pool (D.state swapper.new.disk)) }
+    ensures stopped { OnErr result
+        (MayWritePage sector wanted bytes.now (D.state swapper.old.disk) swapper.old.pool (D.state swapper.new.disk)) }
+    ensures moves { Moves (D.state swapper.old.disk) (D.state swapper.new.disk) }
+    ensures sound { (m : List Sector) → Stands (D.state swapper.old.disk) swapper.old.pool m
+        → HasOne (ones_of wanted) m sector → IfErr result (λ e. e ≡ halt.Disk) }
+    ensures cause { IfErr result
+        (HasCause (IsNotOf sector wanted (D.state swapper.old.disk)) (D.state swapper.old.disk)
+        (D.state swapper.new.disk)) }
+    ensures evidence_seen { IfErr result
+        (HasCause (IsNotOf sector wanted (D.state swapper.new.disk)) (D.state swapper.old.disk)
+        (D.state swapper.new.disk)) }
+    ensures frames { swapper.new.pool ≡ swapper.old.pool }
+    ensures layout { swapper.new.layout ≡ swapper.old.layout }
+{
+    let disk = swapper.disk_over();
+    match disk.write_data(sector, wanted, bytes) {
+        Ok(()) => Ok(()),
+        Err(DiskError::Failed) => Err(Halt::Disk),
+        Err(DiskError::Wrong { found }) => Err(Halt::Damaged(Evidence::Mismatch {
+            sector,
+            wanted,
+            found,
+        })),
+    }
+}
