@@ -27,9 +27,8 @@ impl DescriptorCache {
     }
 
     /// The first of the kept intervals that has the page, or None where none has it.
-    pub fn look(&mut self, page: u32) -> Option<Interval>
-        ensures found { result ≡ find (has_page page) (kept_in self.old) }
-        ensures kept { kept_in self.new ≡ kept_in self.old }
+    pub fn look(&self, page: u32) -> Option<Interval>
+        ensures found { result ≡ find (has_page page) (kept_in self.now) }
     {
         self.kept.iter().copied().find(|x| x.has_page(page))
     }

@@ -20,12 +20,13 @@ use Rattle.filer_kernel.specs.PlaceLaws.{data_first}
 use Rattle.swapper_kernel.specs.Homes.{IsLayout, IsAmong}
 use Rattle.swapper_kernel.specs.HaltLaws.{brings_itself, brings_then}
 use Rattle.filer_kernel.specs.View.{View, kept_by}
-use Rattle.fault_core.specs.Reach.{IsReachedHome, Reaches, TouchHalts, BringsOwn, no_break}
+use Rattle.fault_core.specs.Reach.{IsReachedHome, Reaches, StayOrYield, TouchHalts, BringsOwn, no_break}
 use Rattle.fault_core.specs.Revealed.{Known}
 use Rattle.fault_core.specs.Homes.{AreHomesOf, HaveSectors}
 use Rattle.fault_core.specs.Room.{KeepsWhileEmpty}
 use Rattle.fault_core.proofs.ReachLemmas.{reaches_itself, reaches_then, reached_home_before, finds_before, known_after}
 use Rattle.fault_core.proofs.RoomLemmas.{room_itself, room_then}
+use Rattle.fault_core.proofs.YieldLemmas.{yield_itself, yield_then}
 
 -- a home that was found for the page
 pub record IsHomeFor (v : View) (id page : ℕ) (h : Home) : Type 0 where
@@ -40,6 +41,7 @@ pub record IsFinding (v : View) (id first pages : ℕ) (w : View) (homes : List 
   pub reaches : Reaches v w
   pub came : BringsOwn v.slots w.slots
   pub room : KeepsWhileEmpty v.slots w.slots
+  pub stay : StayOrYield v.slots w.slots
   pub long : length homes ≡ 16
   pub found : (j : ℕ) (h : Home) → j < k → slice_get homes j ≡ Some h → IsHomeFor v id (first + j) h
   pub are_named : (m : List Sector) (named : Triples) (b : List ℕ) → Known v m named b → (j : ℕ) (h : Home) → j < k → slice_get homes j ≡ Some h → named h.id h.page h.sector ≡ true
@@ -52,6 +54,7 @@ finding_none v id first pages homes size long = record {
   reaches = reaches_itself v;
   came = brings_itself (λ home. (1 ≤ home.id) × (home.id ≤ 3)) v.slots;
   room = room_itself v.slots;
+  stay = yield_itself v.slots;
   long = long;
   found = λ j h below here. absurd (omega (arith, below));
   are_named = λ m named b known j h below here. absurd (omega (arith, below));
@@ -68,8 +71,8 @@ set_cases homes k j home h long below here = elim (cases_eq j k) [
 module _ {v : View} {id first pages : ℕ} {w : View} {homes : List Home} {k : ℕ} (is : IsLayout v.layout) (h : IsFinding v id first pages w homes k) where
   pub finding_more : (x : View) (home : Home) → pages ≤ 16 → k < pages → IsReachedHome w home → home.id ≡ id → home.page ≡ first + k
       → ((m : List Sector) (named : Triples) (b : List ℕ) → Known w m named b → named id (first + k) home.sector ≡ true)
-      → Reaches w x → BringsOwn w.slots x.slots → KeepsWhileEmpty w.slots x.slots → x.disk.transfers ≤ w.disk.transfers + 14 → IsFinding v id first pages x (slice_set homes k home) (k + 1)
-  finding_more x home few below reached same_id same_page revealed next came room cost =
+      → Reaches w x → BringsOwn w.slots x.slots → KeepsWhileEmpty w.slots x.slots → StayOrYield w.slots x.slots → x.disk.transfers ≤ w.disk.transfers + 14 → IsFinding v id first pages x (slice_set homes k home) (k + 1)
+  finding_more x home few below reached same_id same_page revealed next came room stay cost =
       let long = h.long in
       let inside : k < length homes = omega (arith, long, below, few) in
       let same_long : length (slice_set homes k home) ≡ length homes = simp length-set in
@@ -79,6 +82,7 @@ module _ {v : View} {id first pages : ℕ} {w : View} {homes : List Home} {k : �
         reaches = reaches_then v w is h.reaches x next;
         came = brings_then h.came came;
         room = room_then h.room room;
+        stay = yield_then h.stay stay;
         long = same_long ∙ long;
         found = λ j g under here. elim (set_cases homes k j home g inside under here) [
           | inl (at, same) ↦ subst (IsHomeFor v id (first + j)) same (record { is_id = same_id; is_page = same_page ∙ ap (λ n. first + n) (sym at); reached = reached_home_before v w is h.reaches home reached })
@@ -105,6 +109,9 @@ module _ {v : View} {id first pages : ℕ} {w : View} {homes : List Home} {k : �
 
   pub finding_room : (t : Slots) → KeepsWhileEmpty w.slots t → KeepsWhileEmpty v.slots t
   finding_room t room = room_then h.room room
+
+  pub finding_stay : (t : Slots) → StayOrYield w.slots t → StayOrYield v.slots t
+  finding_stay t stay = yield_then h.stay stay
 
   pub finding_stopped : (x : View) → Reaches w x → Reaches v x
   finding_stopped x next = reaches_then v w is h.reaches x next

@@ -29,6 +29,9 @@ mod WholeLemmas
 mod ActivateLemmas
 mod RoomLemmas
 mod AttemptLemmas
+mod ReadyLemmas
 mod MovedLemmas
 pub mod LackLemmas
 pub mod NeverBlamesLemmas
+mod ReferredLemmas
+mod EarlyLemmas

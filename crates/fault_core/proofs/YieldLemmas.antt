@@ -13,7 +13,7 @@ use Rattle.force_calls.specs.Run.{Stay}
 use Rattle.swapper_kernel.specs.declared.manager.Manager.TheVariants.{FileMap}
 use Rattle.swapper_kernel.specs.Maps.{IsMapHome}
 use Rattle.swapper_kernel.specs.Homes.{Homes}
-use Rattle.swapper_kernel.specs.Steps.{Step, IsStep, IsCourse, fills, writes_out, alters}
+use Rattle.swapper_kernel.specs.Steps.{Step, Steps, IsStep, IsCourse, fills, writes_out, alters}
 use Rattle.filer_kernel.specs.Tables.{BesideTables, IsComing, IsChanging}
 use Rattle.fault_core.specs.Reach.{IsManagersPage, StayOrYield}
 use Rattle.filer_kernel.specs.View.{View, kept_by}
@@ -66,6 +66,10 @@ module _ (come change : Homes) (comes : (home : Home) → come home → IsManage
   course_yields [] a s b t h = yield_same s t h.1
   course_yields (k ∷ ks) a s b t (m, u, first, rest) = yield_then (step_yields k a s m u first) (course_yields ks m u b t rest)
 
+-- whatever steps a call takes by which pages of these come, and none changes but such pages
+pub steps_yield : (come change : Homes) → ((home : Home) → come home → IsManagersPage home) → ((home : Home) → change home → IsManagersPage home) → {a b : DiskState} {s t : Slots} → Steps come change a s b t → StayOrYield s t
+steps_yield come change comes changes {a = a} {b = b} {s = s} {t = t} h = course_yields come change comes changes h.steps a s b t h.course
+
 -- ---- The tables were asked, or changed.
 
 map_own : (layout : Layout) (home : Home) → IsMapHome FileMap layout home → IsManagersPage home
@@ -77,3 +81,8 @@ tables_yield v w beside =
     (λ home coming. elim coming [ inl map ↦ map_own v.layout home map | inr found ↦ inr found.table.of_tables ])
     (λ home changing. elim changing [ inl map ↦ map_own v.layout home map | inr table ↦ inr table.of_tables ])
     beside.steps.steps v.disk v.slots w.disk w.slots beside.steps.course
+
+-- ---- The file map was asked.
+
+pub map_yields : {a b : DiskState} {s t : Slots} (layout : Layout) → Steps (IsMapHome FileMap layout) (IsMapHome FileMap layout) a s b t → StayOrYield s t
+map_yields layout steps = steps_yield (IsMapHome FileMap layout) (IsMapHome FileMap layout) (map_own layout) (map_own layout) steps

@@ -18,3 +18,5 @@ pub mod Attempt
 pub mod Room
 pub mod Lack
 pub mod NeverBlames
+pub mod Ready
+pub mod Early

@@ -37,8 +37,12 @@ pub(crate) enum Prospect {
     Settled(Attempt),
 }
 
-// The slot of a page that an interval shows, or None where the page is not resident.
-fn slot_at<D: Disk, A: Allocator>(filer: &mut Filer<D, A>, x: &Interval, page: u32) -> Option<u32>
+/// The slot of a page that an interval shows, or None where the page is not resident.
+pub(crate) fn slot_at<D: Disk, A: Allocator>(
+    filer: &mut Filer<D, A>,
+    x: &Interval,
+    page: u32,
+) -> Option<u32>
     requires shows { Shows x.now page }
     ensures slot { IfSome result (λ i. HasPage (view_of filer.old).slots i x.now.id (file_page x.now page)) }
     ensures absent { result ≡ None → is_absent (view_of filer.old).slots x.now.id (file_page x.now page) }

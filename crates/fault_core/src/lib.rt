@@ -12,6 +12,7 @@ mod laws;
 mod load;
 mod plan;
 mod range;
+mod ready;
 mod reference;
 mod search;
 mod shown;

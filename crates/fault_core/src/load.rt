@@ -20,6 +20,7 @@ ghost use Rattle.fault_core.specs.NeverBlames.{NeverBlamesTables};
 use crate::Core;
 use crate::attempt::{Attempt, Prospect};
 use crate::frames::{copy_out, copy_pages};
+use crate::ready::load_at_hand;
 use crate::reference::{Access, Reference};
 use crate::touch::touch;
 use filer_kernel::Filer;
@@ -107,9 +108,8 @@ fn load_shown<D: Disk, A: Allocator>(
 impl<D: Disk, A: Allocator> Core<D, A> {
     ghost use Rattle.fault_core.specs.Core.{kept, state, Knows};
 
-    /// Loads 1 to 512 bytes from an address on. All pages of the reference are tested before the first byte is moved. After
-    /// `Done` the last page is ready. One that halts, and is on one page, moves no byte.
-    pub fn load(&mut self, address: u32, into: &mut [u8]) -> Result<Access, Halt>
+    // Loads 1 to 512 bytes, and brings in what is not resident.
+    fn bring_and_load(&mut self, address: u32, into: &mut [u8]) -> Result<Access, Halt>
         requires size { FitsLayout (state self.old) }
         requires some { 1 ≤ length into.old }
         requires few { length into.old ≤ 512 }
@@ -156,6 +156,51 @@ impl<D: Disk, A: Allocator> Core<D, A> {
             Ok(()) => Ok(Access::Done),
             Err(halt) => Err(halt),
         }
+    }
+
+    /// Loads 1 to 512 bytes from an address on. All pages of the reference are tested before the first byte is moved. After
+    /// `Done` the last page is ready. One that halts, and is on one page, moves no byte.
+    pub fn load(&mut self, address: u32, into: &mut [u8]) -> Result<Access, Halt>
+        requires size { FitsLayout (state self.old) }
+        requires some { 1 ≤ length into.old }
+        requires few { length into.old ≤ 512 }
+        ensures access { (m : List Sector) (named : Triples) (ss : List Space) → Knows self.old m named ss
+            → IfOk result (λ a. a ≡ access_of ss false address (length into.old)) }
+        ensures bytes { (m : List Sector) (named : Triples) (ss : List Space) → Knows self.old m named ss
+            → IfOk result (λ a. a ≡ access.Done → Loads ss address into.new m) }
+        ensures width { length into.new ≡ length into.old }
+        ensures refused { IfOk result (λ a. a ≢ access.Done → into.new ≡ into.old) }
+        ensures intact { address % 512 + length into.old ≤ 512 → OnErr result (into.new ≡ into.old) }
+        ensures ready { IfOk result
+            (λ a.
+            a ≡ access.Done → IsReady (kept self.new) (state self.new).slots (last_page address (length into.old))) }
+        ensures cause { IfErr result
+            (TouchHalts (BreaksFor (state self.old) self.old.intervals address (length into.old)) (state self.old)
+            (state self.new)) }
+        ensures missing { (ss : List Space) → Sees (state self.old) (kept self.old) self.old.intervals ss
+            → IfErr result (MissesPage (shown_units ss address (length into.old))) }
+        ensures sees { (ss : List Space) → Sees (state self.old) (kept self.old) self.old.intervals ss
+            → Sees (state self.new) (kept self.new) self.new.intervals ss }
+        ensures right { (ss : List Space) → Sees (state self.old) (kept self.old) self.old.intervals ss
+            → IfErr result NeverBlamesTables }
+        ensures sound { (m : List Sector) (named : Triples) (ss : List Space) → Knows self.old m named ss
+            → IfErr result (λ e. e ≡ halt.Disk) }
+        ensures same { (m : List Sector) (named : Triples) (ss : List Space) → Knows self.old m named ss
+            → Knows self.new m named ss }
+        ensures reaches { Reaches (state self.old) (state self.new) }
+        ensures came { (m : List Sector) (named : Triples) (ss : List Space) → Knows self.old m named ss
+            → BringsKnown ss (state self.old).slots (state self.new).slots }
+        ensures intervals { self.new.intervals ≡ self.old.intervals }
+        ensures idle { IsReady (kept self.old) (state self.old).slots (address / 512)
+            → IsReady (kept self.old) (state self.old).slots (last_page address (length into.old))
+            → AreApart (kept self.old)
+            → IsOk result × (self.new.filer ≡ self.old.filer) × (kept self.new ≡ kept self.old) }
+        ensures cost { (state self.new).disk.transfers ≤ (state self.old).disk.transfers + 1680 }
+    {
+        if load_at_hand(&mut self.filer, &self.descriptors, address, into) {
+            return Ok(Access::Done);
+        }
+        self.bring_and_load(address, into)
     }
 
     /// Loads 1 to 512 bytes from an address on where all pages of the reference are resident, and brings in no page of a

@@ -7,7 +7,7 @@ ghost use Rattle.flat_machine.specs.declared.space.Space.{Space};
 ghost use Rattle.flat_machine.specs.At.{shown_at};
 ghost use Rattle.fault_core.specs.Homes.{homes_in};
 ghost use Rattle.fault_core.specs.Plan.{IsKeptPlan, IsPlanAt};
-ghost use Rattle.fault_core.specs.Reach.{Reaches, TouchHalts, BringsOwn};
+ghost use Rattle.fault_core.specs.Reach.{Reaches, StayOrYield, TouchHalts, BringsOwn};
 ghost use Rattle.fault_core.specs.Revealed.{BreaksTables};
 ghost use Rattle.fault_core.specs.Lack.{MissesPage, Sees, kept_unit, shown_unit};
 ghost use Rattle.fault_core.specs.NeverBlames.{NeverBlamesTables};
@@ -55,6 +55,7 @@ impl<D: Disk, A: Allocator> Core<D, A> {
             → Knows self.new m named ss }
         ensures reaches { Reaches (state self.old) (state self.new) }
         ensures came { BringsOwn (state self.old).slots (state self.new).slots }
+        ensures stay { StayOrYield (state self.old).slots (state self.new).slots }
         ensures intervals { self.new.intervals ≡ self.old.intervals }
         ensures cost { (state self.new).disk.transfers ≤ (state self.old).disk.transfers + 420 }
     {

@@ -125,7 +125,8 @@ impl<D: Disk, A: Allocator> Core<D, A> {
         ensures came { BringsOwn (state self.old).slots (state self.new).slots }
         ensures stay { write_back ≡ way_is.Flush → StayOrYield (state self.old).slots (state self.new).slots }
         ensures frames { (x : IntervalIs) → find (has_page page) (kept self.old) ≡ Some x → end ≤ x.first + x.pages
-            → LeavesFrames write_back x.id (file_page x page) (end - page) (state self.old).slots (state self.new).slots }
+            → LeavesFrames write_back x.id (file_page x page) (end - page) (state self.old).slots
+            (state self.new).slots }
         ensures all { (x : IntervalIs) → find (has_page page) (kept self.old) ≡ Some x → end ≤ x.first + x.pages
             → IfOk result (λ next. next ≡ end) }
         ensures intervals { self.new.intervals ≡ self.old.intervals }

@@ -11,7 +11,7 @@ ghost use Rattle.frame_pool.specs.declared.home.Home.{Home as HomeIs};
 ghost use Rattle.swapper_kernel.specs.Homes.{IsAmong};
 ghost use Rattle.swapper_kernel.specs.Stands.{Stands};
 ghost use Rattle.filer_kernel.specs.View.{FitsLayout, HasMemory, kept_by, view_of};
-ghost use Rattle.fault_core.specs.Reach.{IsReachedHome, Reaches, ReachHalts, TouchHalts, BringsOwn, no_break};
+ghost use Rattle.fault_core.specs.Reach.{IsReachedHome, Reaches, ReachHalts, StayOrYield, TouchHalts, BringsOwn, no_break};
 ghost use Rattle.fault_core.specs.Revealed.{Known};
 ghost use Rattle.fault_core.specs.Homes.{homes_in, AreHomesOf, HaveSectors};
 ghost use Rattle.fault_core.specs.Room.{KeepsWhileEmpty};
@@ -57,6 +57,7 @@ fn run_of<D: Disk, A: Allocator>(
     ensures reaches { Reaches (view_of filer.old) (view_of filer.new) }
     ensures came { BringsOwn (view_of filer.old).slots (view_of filer.new).slots }
     ensures room { KeepsWhileEmpty (view_of filer.old).slots (view_of filer.new).slots }
+    ensures stay { StayOrYield (view_of filer.old).slots (view_of filer.new).slots }
     ensures cost { (view_of filer.new).disk.transfers ≤ (view_of filer.old).disk.transfers + 14 }
 {
     count_frames(filer);
@@ -82,6 +83,7 @@ fn home_of<D: Disk, A: Allocator>(
     ensures reaches { Reaches (view_of filer.old) (view_of filer.new) }
     ensures came { BringsOwn (view_of filer.old).slots (view_of filer.new).slots }
     ensures room { KeepsWhileEmpty (view_of filer.old).slots (view_of filer.new).slots }
+    ensures stay { StayOrYield (view_of filer.old).slots (view_of filer.new).slots }
     ensures cost { (view_of filer.new).disk.transfers ≤ (view_of filer.old).disk.transfers + 14 }
 {
     match run_of(filer, id, page) {
@@ -119,6 +121,7 @@ pub(crate) fn homes_of<D: Disk, A: Allocator>(
     ensures reaches { Reaches (view_of filer.old) (view_of filer.new) }
     ensures came { BringsOwn (view_of filer.old).slots (view_of filer.new).slots }
     ensures room { KeepsWhileEmpty (view_of filer.old).slots (view_of filer.new).slots }
+    ensures stay { StayOrYield (view_of filer.old).slots (view_of filer.new).slots }
     ensures cost { (view_of filer.new).disk.transfers ≤ (view_of filer.old).disk.transfers + 14 * pages }
 {
     let mut homes = [Home {

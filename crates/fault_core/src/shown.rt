@@ -9,7 +9,7 @@ ghost use Rattle.swap_units.specs.Mode.{is_mapped};
 ghost use Rattle.swap_units.specs.Unit.{Holds};
 ghost use Rattle.space_tables.specs.SpaceTables.{IsIntervalAt};
 ghost use Rattle.fault_core.specs.Kept.{IsFormed, IsKept, AreApart};
-ghost use Rattle.fault_core.specs.Reach.{Reaches, ReachHalts, BringsOwn};
+ghost use Rattle.fault_core.specs.Reach.{Reaches, ReachHalts, BringsOwn, StayOrYield};
 ghost use Rattle.fault_core.specs.Revealed.{BreaksTables};
 ghost use Rattle.fault_core.specs.Unit.{IsReady, IsWhole};
 ghost use Rattle.fault_core.specs.Room.{KeepsWhileEmpty};
@@ -44,6 +44,7 @@ impl<D: Disk, A: Allocator> Core<D, A> {
         ensures reaches { Reaches (state self.old) (state self.new) }
         ensures came { BringsOwn (state self.old).slots (state self.new).slots }
         ensures room { KeepsWhileEmpty (state self.old).slots (state self.new).slots }
+        ensures stay { StayOrYield (state self.old).slots (state self.new).slots }
         ensures intervals { self.new.intervals ≡ self.old.intervals }
         ensures idle { IsReady (kept self.old) (state self.old).slots page → AreApart (kept self.old)
             → IfOk result (λ o. IfSome o (λ x. IsWhole (state self.old).slots x page) × (o ≢ None)) × IsOk result

@@ -6,7 +6,7 @@ ghost use Rattle.file_map.specs.FileMap.{Triples};
 ghost use Rattle.flat_machine.specs.declared.space.Space.{Space};
 ghost use Rattle.swapper_kernel.specs.Goes.{Goes, IsDirty, Same, this_page};
 ghost use Rattle.swapper_kernel.specs.Stands.{Stands};
-ghost use Rattle.session_words.specs.CellLaws.{IsTouchedOrOwn, Stores, StoresAt};
+ghost use Rattle.session_words.specs.CellLaws.{IsTouched, IsTouchedOrOwn, Stores, StoresAt};
 ghost use Rattle.fault_core.specs.declared.reference.Access.TheVariants as access;
 ghost use Rattle.session_words.specs.FrameLaws.{BringsKnown};
 ghost use Rattle.fault_core.specs.Access.{BreaksFor, Shows, access_of, last_page};
@@ -24,6 +24,7 @@ ghost use Rattle.fault_core.specs.NeverBlames.{NeverBlamesTables};
 use crate::Core;
 use crate::attempt::{Attempt, Prospect};
 use crate::frames::{change_in, change_pages};
+use crate::ready::store_at_hand;
 use crate::reference::{Access, Reference};
 use crate::touch::touch;
 use filer_kernel::Filer;
@@ -119,6 +120,68 @@ fn store_shown<D: Disk, A: Allocator>(
 impl<D: Disk, A: Allocator> Core<D, A> {
     ghost use Rattle.fault_core.specs.Core.{kept, state, Knows};
 
+    // Stores 1 to 512 bytes, and brings in what is not resident.
+    fn bring_and_store(&mut self, address: u32, bytes: &[u8]) -> Result<Access, Halt>
+        requires size { FitsLayout (state self.old) }
+        requires some { 1 ≤ length bytes.now }
+        requires few { length bytes.now ≤ 512 }
+        ensures access { (m : List Sector) (named : Triples) (ss : List Space) → Knows self.old m named ss
+            → IfOk result (λ a. a ≡ access_of ss true address (length bytes.now)) }
+        ensures stored { (m : List Sector) (named : Triples) (ss : List Space) → Knows self.old m named ss
+            → IfOk result
+            (λ a.
+            GoesTo (StoresAs a ss address bytes.now) (IsTouchedOrOwn ss address (length bytes.now)) [] (state self.old)
+            (state self.new)) }
+        ensures halted { (m : List Sector) (named : Triples) (ss : List Space) → Knows self.old m named ss
+            → OnErr result
+            (GoesTo (StoresSome ss address bytes.now) (IsTouchedOrOwn ss address (length bytes.now)) [] (state self.old)
+            (state self.new)) }
+        ensures known { (m n : List Sector) (named : Triples) (ss : List Space) → Knows self.old m named ss
+            → HasMemory (state self.new) n → Knows self.new n named ss }
+        ensures tested { (m : List Sector) (named : Triples) (ss : List Space) → Knows self.old m named ss
+            → access_of ss true address (length bytes.now) ≢ access.Done → Reaches (state self.old) (state self.new) }
+        ensures refused { IfOk result (λ a. a ≢ access.Done → Reaches (state self.old) (state self.new)) }
+        ensures ready { IfOk result
+            (λ a.
+            a ≡ access.Done → IsReady (kept self.new) (state self.new).slots (last_page address (length bytes.now))) }
+        ensures dirty { (m : List Sector) (named : Triples) (ss : List Space) → Knows self.old m named ss
+            → IfOk result
+            (λ a. a ≡ access.Done → IsShownDirty ss (state self.new).slots (last_page address (length bytes.now))) }
+        ensures cause { IfErr result
+            (TouchHalts (BreaksFor (state self.old) self.old.intervals address (length bytes.now)) (state self.old)
+            (state self.new)) }
+        ensures missing { (ss : List Space) → Sees (state self.old) (kept self.old) self.old.intervals ss
+            → IfErr result (MissesPage (shown_units ss address (length bytes.now))) }
+        ensures sees { (ss : List Space) → Sees (state self.old) (kept self.old) self.old.intervals ss
+            → Sees (state self.new) (kept self.new) self.new.intervals ss }
+        ensures right { (ss : List Space) → Sees (state self.old) (kept self.old) self.old.intervals ss
+            → IfErr result NeverBlamesTables }
+        ensures sound { (m : List Sector) (named : Triples) (ss : List Space) → Knows self.old m named ss
+            → IfErr result (λ e. e ≡ halt.Disk) }
+        ensures touches { Touches client_page (state self.old) (state self.new) }
+        ensures shown { (ss : List Space) → Sees (state self.old) (kept self.old) self.old.intervals ss
+            → Touches (IsTouched ss address (length bytes.now)) (state self.old) (state self.new) }
+        ensures came { (m : List Sector) (named : Triples) (ss : List Space) → Knows self.old m named ss
+            → BringsKnown ss (state self.old).slots (state self.new).slots }
+        ensures intervals { self.new.intervals ≡ self.old.intervals }
+        ensures idle { IsReady (kept self.old) (state self.old).slots (address / 512)
+            → IsReady (kept self.old) (state self.old).slots (last_page address (length bytes.now))
+            → AreApart (kept self.old)
+            → IsOk result × ((state self.new).disk ≡ (state self.old).disk) × (kept self.new ≡ kept self.old) }
+        ensures cost { (state self.new).disk.transfers ≤ (state self.old).disk.transfers + 1680 }
+    {
+        let (first, last) = match self.refer(address, bytes.len() as u32, true) {
+            Ok(Reference::Shown { first, last }) => (first, last),
+            Ok(Reference::NoMap(page)) => return Ok(Access::NoMap(page)),
+            Ok(Reference::ReadOnly(page)) => return Ok(Access::ReadOnly(page)),
+            Err(halt) => return Err(halt),
+        };
+        match store_shown(&mut self.filer, &first, &last, address, bytes) {
+            Ok(()) => Ok(Access::Done),
+            Err(halt) => Err(halt),
+        }
+    }
+
     /// Stores 1 to 512 bytes from an address on. All pages of the reference are tested before the first byte is moved: one
     /// that is refused changes nothing. After `Done` the last page is ready, and its frame dirty.
     pub fn store(&mut self, address: u32, bytes: &[u8]) -> Result<Access, Halt>
@@ -159,6 +222,8 @@ impl<D: Disk, A: Allocator> Core<D, A> {
         ensures sound { (m : List Sector) (named : Triples) (ss : List Space) → Knows self.old m named ss
             → IfErr result (λ e. e ≡ halt.Disk) }
         ensures touches { Touches client_page (state self.old) (state self.new) }
+        ensures shown { (ss : List Space) → Sees (state self.old) (kept self.old) self.old.intervals ss
+            → Touches (IsTouched ss address (length bytes.now)) (state self.old) (state self.new) }
         ensures came { (m : List Sector) (named : Triples) (ss : List Space) → Knows self.old m named ss
             → BringsKnown ss (state self.old).slots (state self.new).slots }
         ensures intervals { self.new.intervals ≡ self.old.intervals }
@@ -168,16 +233,10 @@ impl<D: Disk, A: Allocator> Core<D, A> {
             → IsOk result × ((state self.new).disk ≡ (state self.old).disk) × (kept self.new ≡ kept self.old) }
         ensures cost { (state self.new).disk.transfers ≤ (state self.old).disk.transfers + 1680 }
     {
-        let (first, last) = match self.refer(address, bytes.len() as u32, true) {
-            Ok(Reference::Shown { first, last }) => (first, last),
-            Ok(Reference::NoMap(page)) => return Ok(Access::NoMap(page)),
-            Ok(Reference::ReadOnly(page)) => return Ok(Access::ReadOnly(page)),
-            Err(halt) => return Err(halt),
-        };
-        match store_shown(&mut self.filer, &first, &last, address, bytes) {
-            Ok(()) => Ok(Access::Done),
-            Err(halt) => Err(halt),
+        if store_at_hand(&mut self.filer, &self.descriptors, address, bytes) {
+            return Ok(Access::Done);
         }
+        self.bring_and_store(address, bytes)
     }
 
     /// Stores 1 to 512 bytes from an address on where all pages of the reference are resident, and brings in no page of a

@@ -8,6 +8,7 @@ ghost use Rattle.flat_machine.specs.declared.space.Space.{Space};
 ghost use Rattle.flat_machine.specs.At.{shown_at};
 ghost use Rattle.session_words.specs.FrameLaws.{BringsKnown};
 ghost use Rattle.fault_core.specs.Access.{Shows};
+ghost use Rattle.fault_core.specs.Early.{IfUnfound, KeepsClients};
 ghost use Rattle.fault_core.specs.Kept.{AreApart};
 ghost use Rattle.filer_kernel.specs.View.{FitsLayout, view_of};
 ghost use Rattle.fault_core.specs.Reach.{Reaches, TouchHalts, no_break};
@@ -40,6 +41,7 @@ fn bring_unit<D: Disk, A: Allocator>(
     ensures reaches { Reaches (view_of filer.old) (view_of filer.new) }
     ensures came { BringsShown x.now (view_of filer.old).slots (view_of filer.new).slots }
     ensures room { KeepsWhileEmpty (view_of filer.old).slots (view_of filer.new).slots }
+    ensures early { IfErr result (IfUnfound (KeepsClients (view_of filer.old).slots (view_of filer.new).slots)) }
     ensures idle { IsWhole (view_of filer.old).slots x.now page → IsOk result × (filer.new ≡ filer.old) }
     ensures cost { (view_of filer.new).disk.transfers ≤ (view_of filer.old).disk.transfers + 256 }
 {
@@ -68,6 +70,7 @@ pub(crate) fn touch<D: Disk, A: Allocator>(
     ensures reaches { Reaches (view_of filer.old) (view_of filer.new) }
     ensures came { BringsShown x.now (view_of filer.old).slots (view_of filer.new).slots }
     ensures room { KeepsWhileEmpty (view_of filer.old).slots (view_of filer.new).slots }
+    ensures early { IfErr result (IfUnfound (KeepsClients (view_of filer.old).slots (view_of filer.new).slots)) }
     ensures idle { IsWhole (view_of filer.old).slots x.now page → IsOk result × (filer.new ≡ filer.old) }
     ensures cost { (view_of filer.new).disk.transfers ≤ (view_of filer.old).disk.transfers + 256 }
 {
@@ -106,6 +109,7 @@ impl<D: Disk, A: Allocator> Core<D, A> {
         ensures came { (m : List Sector) (named : Triples) (ss : List Space) → Knows self.old m named ss
             → BringsKnown ss (state self.old).slots (state self.new).slots }
         ensures room { KeepsWhileEmpty (state self.old).slots (state self.new).slots }
+        ensures early { IfErr result (IfUnfound (KeepsClients (state self.old).slots (state self.new).slots)) }
         ensures intervals { self.new.intervals ≡ self.old.intervals }
         ensures idle { IsReady (kept self.old) (state self.old).slots page → AreApart (kept self.old)
             → IsOk result × (self.new.filer ≡ self.old.filer) × (kept self.new ≡ kept self.old) }

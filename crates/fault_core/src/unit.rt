@@ -15,6 +15,7 @@ ghost use Rattle.fault_core.specs.Kept.{IsFormed};
 ghost use Rattle.filer_kernel.specs.View.{FitsLayout, HasMemory, SwapsOnly, view_of};
 ghost use Rattle.fault_core.specs.Reach.{Reaches, TouchHalts, no_break};
 ghost use Rattle.fault_core.specs.Revealed.{Known};
+ghost use Rattle.fault_core.specs.Early.{IfUnfound, KeepsClients};
 ghost use Rattle.fault_core.specs.Homes.{homes_in, AreHomesOf, HaveSectors};
 ghost use Rattle.fault_core.specs.Unit.{AreResident, AreRunStored, BringsRun, IsResident, IsUnitRun};
 ghost use Rattle.fault_core.specs.Room.{KeepsWhileEmpty};
@@ -109,6 +110,7 @@ pub(crate) fn bring_run<D: Disk, A: Allocator>(
     ensures reaches { Reaches (view_of filer.old) (view_of filer.new) }
     ensures came { BringsRun id first pages (view_of filer.old).slots (view_of filer.new).slots }
     ensures room { KeepsWhileEmpty (view_of filer.old).slots (view_of filer.new).slots }
+    ensures early { IfErr result (IfUnfound (KeepsClients (view_of filer.old).slots (view_of filer.new).slots)) }
     ensures cost { (view_of filer.new).disk.transfers ≤ (view_of filer.old).disk.transfers + 256 }
 {
     let homes = match homes_of(filer, id, first, pages) {

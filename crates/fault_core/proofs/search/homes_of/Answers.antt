@@ -1,7 +1,7 @@
 use Rattle.std.proofs.Common.{◌≡◌, subst, arith, ◌+◌}
 use Rattle.std.proofs.lemmas.List.{length-replicate}
 use Rattle.filer_kernel.specs.View.{accepted, view_of}
-use Rattle.fault_core.proofs.FindLemmas.{IsFinding, finding_none, finding_more, finding_halt, finding_sound, finding_came, finding_room, finding_stopped, finding_cost, found_are, found_each, found_named}
+use Rattle.fault_core.proofs.FindLemmas.{IsFinding, finding_none, finding_more, finding_halt, finding_sound, finding_came, finding_room, finding_stay, finding_stopped, finding_cost, found_are, found_each, found_named}
 use Rattle.fault_core.proofs.search.homes_of.Given as given
 use Rattle.fault_core.specs.Lack.{run_pages}
 use Rattle.fault_core.proofs.LackLemmas.{misses_wider}
@@ -36,7 +36,7 @@ returns-in-Err-clause-cost g c = finding_cost (accepted c.args.filer.now) c.loop
 pub loop-k-preserved : goal.loop-k-preserved
 loop-k-preserved g c =
     finding_more (accepted c.args.filer.now) c.loop-k.invariant (view_of c.home_of.new.filer) c.in-Ok.home c.requires.few c.loop-k-test.true c.in-Ok.ensures.found c.in-Ok.ensures.is.0 c.in-Ok.ensures.is.1 c.in-Ok.ensures.named
-    c.home_of.ensures.reaches c.home_of.ensures.came c.home_of.ensures.room c.home_of.ensures.cost
+    c.home_of.ensures.reaches c.home_of.ensures.came c.home_of.ensures.room c.home_of.ensures.stay c.home_of.ensures.cost
 
 -- ---- All were found.
 
@@ -61,6 +61,12 @@ returns-clause-reaches g c = (all g (goal.at.returns-clause-reaches g c).After-l
 
 pub returns-clause-came : goal.returns-clause-came
 returns-clause-came g c = (all g (goal.at.returns-clause-came g c).After-loop-k).came
+
+pub returns-in-Err-clause-stay : goal.returns-in-Err-clause-stay
+returns-in-Err-clause-stay g c = finding_stay (accepted c.args.filer.now) c.loop-k.invariant (view_of c.home_of.new.filer).slots c.home_of.ensures.stay
+
+pub returns-clause-stay : goal.returns-clause-stay
+returns-clause-stay g c = (all g (goal.at.returns-clause-stay g c).After-loop-k).stay
 
 pub returns-clause-room : goal.returns-clause-room
 returns-clause-room g c = (all g (goal.at.returns-clause-room g c).After-loop-k).room

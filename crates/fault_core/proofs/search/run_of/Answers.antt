@@ -5,6 +5,7 @@ use Rattle.fault_core.specs.Reach.{ReachHalts, no_break}
 use Rattle.fault_core.specs.Revealed.{Known}
 use Rattle.fault_core.proofs.RoomLemmas.{steps_room}
 use Rattle.fault_core.proofs.TurnLemmas.{reaches_map, own_map, map_halt}
+use Rattle.fault_core.proofs.YieldLemmas.{map_yields}
 use Rattle.fault_core.proofs.search.run_of.Goals as goal
 
 pub returns-clause-nowhere : goal.returns-clause-nowhere
@@ -37,3 +38,6 @@ returns-clause-came g c = rw (← c.count_frames.ensures.same) (own_map (view_of
 
 pub returns-clause-room : goal.returns-clause-room
 returns-clause-room g c = rw (← c.count_frames.ensures.same) (steps_room c.find.ensures.beside.steps)
+
+pub returns-clause-stay : goal.returns-clause-stay
+returns-clause-stay g c = rw (← c.count_frames.ensures.same) (map_yields (view_of c.count_frames.new.filer).layout c.find.ensures.beside.steps)

@@ -42,3 +42,6 @@ returns-clause-misses g c =
 
 pub returns-then-is_there-clause-reaches : goal.returns-then-is_there-clause-reaches
 returns-then-is_there-clause-reaches g c = rw c.is_there.ensures.same (reaches_itself (view_of c.args.filer.now))
+
+pub returns-clause-early : goal.returns-clause-early
+returns-clause-early g c = rw (← c.is_there.ensures.same) c.bring_run.ensures.early

@@ -13,6 +13,8 @@ use Rattle.fault_core.proofs.RoomLemmas.{room_then, steps_room}
 use Rattle.fault_core.proofs.RunLemmas.{homes_row, homes_resident, run_came, homes_are_named, have_sectors, homes_placed}
 use Rattle.fault_core.proofs.TurnLemmas.{reaches_brought, brought_halt}
 use Rattle.fault_core.specs.Lack.{MissesPage, run_pages}
+use Rattle.fault_core.specs.Early.{IfUnfound, KeepsClients}
+use Rattle.fault_core.proofs.EarlyLemmas.{brought_found, unfound_so}
 use Rattle.fault_core.proofs.LackLemmas.{brought_misses}
 use Rattle.fault_core.proofs.unit.bring_run.Goals as goal
 
@@ -62,3 +64,19 @@ returns-clause-misses g c =
     let x = view_of c.bring.new.filer in
     err_wider c.bring.result (Halts (IsAmong (homes_in c.in-Ok.homes)) w.disk w.slots x.disk) (MissesPage (run_pages c.args.id c.args.first c.args.pages))
     (brought_misses (IsAmong (homes_in c.in-Ok.homes)) w.disk w.slots x.disk (run_pages c.args.id c.args.first c.args.pages)) c.bring.ensures.cause
+
+-- ---- A page has no home.
+
+pub returns-in-Err-clause-early : goal.returns-in-Err-clause-early
+returns-in-Err-clause-early g c =
+    let v = view_of c.args.filer.now in
+    let w = view_of c.homes_of.new.filer in
+    unfound_so (KeepsClients v.slots w.slots) c.in-Err.halt (record { came = c.homes_of.ensures.came; stay = c.homes_of.ensures.stay })
+
+pub returns-clause-early : goal.returns-clause-early
+returns-clause-early g c =
+    let v = view_of c.args.filer.now in
+    let w = view_of c.homes_of.new.filer in
+    let x = view_of c.bring.new.filer in
+    err_wider c.bring.result (Halts (IsAmong (homes_in c.in-Ok.homes)) w.disk w.slots x.disk) (IfUnfound (KeepsClients v.slots x.slots))
+    (brought_found (IsAmong (homes_in c.in-Ok.homes)) w.disk w.slots x.disk (KeepsClients v.slots x.slots)) c.bring.ensures.cause

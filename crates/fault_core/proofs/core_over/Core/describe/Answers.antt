@@ -1,11 +1,11 @@
-use Rattle.std.proofs.Common.{rules, ◌≡◌, ◌∙◌, sym, subst, inl, inr, arith, List, Err, Option}
+use Rattle.std.proofs.Common.{rules, ◌≡◌, ◌∙◌, sym, subst, inl, inr, arith, Err, Option}
 use Rattle.std.specs.Prelude.{IfSome}
 use Rattle.std.proofs.lemmas.Option.{none-some}
 use Rattle.swap_units.specs.declared.interval.Interval.{Interval}
 use Rattle.swap_units.specs.Unit.{Holds}
 use Rattle.descriptor_cache.specs.Cache.{kept_in}
 use Rattle.space_tables.specs.SpaceTables.{IsIntervalAt}
-use Rattle.fault_core.specs.Kept.{IsFormed, IsKept, AreFormed}
+use Rattle.fault_core.specs.Kept.{IsFormed}
 use Rattle.fault_core.specs.ReachLaws.{touch_of_reach}
 use Rattle.fault_core.specs.Revealed.{BreaksTables, IsIntervalOf}
 use Rattle.filer_kernel.specs.View.{accepted, view_of}
@@ -36,14 +36,14 @@ pub returns-in-Some-clause-form : goal.returns-in-Some-clause-form
 returns-in-Some-clause-form g c = let own = has g c in (own.formed, own.holds)
 
 pub returns-in-Some-clause-is_kept : goal.returns-in-Some-clause-is_kept
-returns-in-Some-clause-is_kept g c = subst (λ (l : List Interval). IsKept l c.in-Some.interval) (sym c.look.ensures.kept) (has g c).kept
+returns-in-Some-clause-is_kept g c = (has g c).kept
 
 pub returns-in-Some-clause-interval : goal.returns-in-Some-clause-interval
 returns-in-Some-clause-interval g c = λ m named ss knows. let own = has g c in interval_at ss c.args.page c.in-Some.interval (knows.cached c.in-Some.interval own.kept) own.holds
 
 pub returns-in-Some-clause-same : goal.returns-in-Some-clause-same
 returns-in-Some-clause-same g c = λ m named ss knows.
-    revealed_after knows _ _ (accepted c.args.self.now.filer) (reaches_itself (view_of c.args.self.now.filer)) (λ x one. inl (subst (λ (l : List Interval). IsKept l x) c.look.ensures.kept one))
+    revealed_after knows _ _ (accepted c.args.self.now.filer) (reaches_itself (view_of c.args.self.now.filer)) (λ x one. inl one)
 
 pub returns-in-Some-clause-reaches : goal.returns-in-Some-clause-reaches
 returns-in-Some-clause-reaches g c = reaches_itself (view_of c.args.self.now.filer)
@@ -63,7 +63,7 @@ returns-in_err-found-clause-sound g c = λ m named ss knows.
 
 pub returns-in_err-found-clause-same : goal.returns-in_err-found-clause-same
 returns-in_err-found-clause-same g c = λ m named ss knows.
-    revealed_after knows _ _ (accepted c.args.self.now.filer) c.look_up.ensures.reaches (λ x one. inl (subst (λ (l : List Interval). IsKept l x) c.look.ensures.kept one))
+    revealed_after knows _ _ (accepted c.args.self.now.filer) c.look_up.ensures.reaches (λ x one. inl one)
 
 -- ---- The tables gave an interval, and it is kept.
 
@@ -73,21 +73,12 @@ invariant_of-self-in-Some-found g c =
     record {
       some = c.args.self.now.some;
       few = c.args.self.now.few;
-      formed = formed_more (kept_in c.look.new.self) (kept_in c.keep.new.self) c.in-Some-found.interval c.keep.ensures.room c.keep.ensures.full c.keep.ensures.few (subst AreFormed (sym c.look.ensures.kept) c.args.self.now.formed) form.0;
+      formed = formed_more (kept_in c.args.self.now.descriptors) (kept_in c.keep.new.self) c.in-Some-found.interval c.keep.ensures.room c.keep.ensures.full c.keep.ensures.few c.args.self.now.formed form.0;
     }
-
-pub invariant_of-self : goal.invariant_of-self
-invariant_of-self g c = record { some = c.args.self.now.some; few = c.args.self.now.few; formed = subst AreFormed (sym c.look.ensures.kept) c.args.self.now.formed }
-
-pub invariant_of-self-in-Break-1 : goal.invariant_of-self-in-Break-1
-invariant_of-self-in-Break-1 g c = record { some = c.args.self.now.some; few = c.args.self.now.few; formed = subst AreFormed (sym c.look.ensures.kept) c.args.self.now.formed }
-
-pub invariant_of-self-in_default-found : goal.invariant_of-self-in_default-found
-invariant_of-self-in_default-found g c = record { some = c.args.self.now.some; few = c.args.self.now.few; formed = subst AreFormed (sym c.look.ensures.kept) c.args.self.now.formed }
 
 pub returns-in-Some-found-clause-is_kept : goal.returns-in-Some-found-clause-is_kept
 returns-in-Some-found-clause-is_kept g c =
-    kept_new (kept_in c.look.new.self) (kept_in c.keep.new.self) c.in-Some-found.interval c.keep.ensures.room c.keep.ensures.full c.keep.ensures.few
+    kept_new (kept_in c.args.self.now.descriptors) (kept_in c.keep.new.self) c.in-Some-found.interval c.keep.ensures.room c.keep.ensures.full c.keep.ensures.few
 
 pub returns-in-Some-found-clause-interval : goal.returns-in-Some-found-clause-interval
 returns-in-Some-found-clause-interval g c = λ m named ss knows.
@@ -97,34 +88,34 @@ pub returns-in-Some-found-clause-same : goal.returns-in-Some-found-clause-same
 returns-in-Some-found-clause-same g c = λ m named ss knows.
     let at = subst (λ (o : Option Interval). IfSome o (IsIntervalAt ss c.args.page)) c.in-Some-found.is (c.in_ok-found.ensures.interval knows.bytes ss (tables_revealed knows) knows.tables) in
     revealed_after knows _ _ (accepted c.args.self.now.filer) c.look_up.ensures.reaches
-    (λ x one. elim (kept_before (kept_in c.look.new.self) (kept_in c.keep.new.self) c.in-Some-found.interval c.keep.ensures.room c.keep.ensures.full c.keep.ensures.few x one) [
-      | inl was ↦ inl (subst (λ (l : List Interval). IsKept l x) c.look.ensures.kept was)
+    (λ x one. elim (kept_before (kept_in c.args.self.now.descriptors) (kept_in c.keep.new.self) c.in-Some-found.interval c.keep.ensures.room c.keep.ensures.full c.keep.ensures.few x one) [
+      | inl was ↦ inl was
       | inr same ↦ inr (subst (λ (y : Interval). IsIntervalOf ss y) same (interval_of ss c.args.page c.in-Some-found.interval at))
     ])
 
 pub returns-in_default-found-clause-same : goal.returns-in_default-found-clause-same
 returns-in_default-found-clause-same g c = λ m named ss knows.
-    revealed_after knows _ _ (accepted c.args.self.now.filer) c.look_up.ensures.reaches (λ x one. inl (subst (λ (l : List Interval). IsKept l x) c.look.ensures.kept one))
+    revealed_after knows _ _ (accepted c.args.self.now.filer) c.look_up.ensures.reaches (λ x one. inl one)
 
 -- ---- The tables are revealed.
 
 pub returns-in-Some-clause-sees : goal.returns-in-Some-clause-sees
-returns-in-Some-clause-sees g c = λ ss s. sees_after s _ _ (reaches_itself (view_of c.args.self.now.filer)) (λ x one. inl (subst (λ (l : List Interval). IsKept l x) c.look.ensures.kept one))
+returns-in-Some-clause-sees g c = λ ss s. sees_after s _ _ (reaches_itself (view_of c.args.self.now.filer)) (λ x one. inl one)
 
 pub returns-in_err-found-clause-sees : goal.returns-in_err-found-clause-sees
-returns-in_err-found-clause-sees g c = λ ss s. sees_after s _ _ c.look_up.ensures.reaches (λ x one. inl (subst (λ (l : List Interval). IsKept l x) c.look.ensures.kept one))
+returns-in_err-found-clause-sees g c = λ ss s. sees_after s _ _ c.look_up.ensures.reaches (λ x one. inl one)
 
 pub returns-in-Some-found-clause-sees : goal.returns-in-Some-found-clause-sees
 returns-in-Some-found-clause-sees g c = λ ss s.
     let at = subst (λ (o : Option Interval). IfSome o (IsIntervalAt ss c.args.page)) c.in-Some-found.is (c.in_ok-found.ensures.interval s.bytes ss s.revealed s.tables) in
     sees_after s _ _ c.look_up.ensures.reaches
-    (λ x one. elim (kept_before (kept_in c.look.new.self) (kept_in c.keep.new.self) c.in-Some-found.interval c.keep.ensures.room c.keep.ensures.full c.keep.ensures.few x one) [
-      | inl was ↦ inl (subst (λ (l : List Interval). IsKept l x) c.look.ensures.kept was)
+    (λ x one. elim (kept_before (kept_in c.args.self.now.descriptors) (kept_in c.keep.new.self) c.in-Some-found.interval c.keep.ensures.room c.keep.ensures.full c.keep.ensures.few x one) [
+      | inl was ↦ inl was
       | inr same ↦ inr (subst (λ (y : Interval). IsIntervalOf ss y) same (interval_of ss c.args.page c.in-Some-found.interval at))
     ])
 
 pub returns-in_default-found-clause-sees : goal.returns-in_default-found-clause-sees
-returns-in_default-found-clause-sees g c = λ ss s. sees_after s _ _ c.look_up.ensures.reaches (λ x one. inl (subst (λ (l : List Interval). IsKept l x) c.look.ensures.kept one))
+returns-in_default-found-clause-sees g c = λ ss s. sees_after s _ _ c.look_up.ensures.reaches (λ x one. inl one)
 
 pub returns-in_err-found-clause-right : goal.returns-in_err-found-clause-right
 returns-in_err-found-clause-right g c = λ ss s.

@@ -17,6 +17,8 @@ use Rattle.fault_core.proofs.RoomLemmas.{room_then}
 use Rattle.fault_core.proofs.ShowLemmas.{shown_is, all_stored, known_came, own_came}
 use Rattle.fault_core.proofs.RevealedLemmas.{interval_of, revealed_after}
 use Rattle.fault_core.specs.Lack.{kept_unit, shown_unit, unit_pages}
+use Rattle.fault_core.specs.Early.{KeepsClients}
+use Rattle.fault_core.proofs.EarlyLemmas.{clients_then, unfound_less, unfound_so}
 use Rattle.fault_core.proofs.LackLemmas.{misses_wider, seen_at, sees_after, unit_shown}
 use Rattle.fault_core.proofs.NeverBlamesLemmas.{table_never_blames}
 use Rattle.fault_core.proofs.core_over.Core.fetch_page.Goals as goal
@@ -173,3 +175,16 @@ returns-in-Err-clause-right g c = λ ss s. table_never_blames s c.args.self.now.
 
 pub returns-in-Err-touch-clause-right : goal.returns-in-Err-touch-clause-right
 returns-in-Err-touch-clause-right g c = λ ss s. table_never_blames s c.args.self.now.some (view_of c.touch.new.filer) c.in-Err-touch.halt c.args.page (returns-in-Err-touch-clause-cause g c)
+
+-- ---- A page has no home.
+
+pub returns-in-Err-clause-early : goal.returns-in-Err-clause-early
+returns-in-Err-clause-early g c =
+    unfound_so (KeepsClients (state c.args.self.now).slots (state c.shown.new.self).slots) c.in-Err.halt (record { came = c.shown.ensures.came; stay = c.shown.ensures.stay })
+
+pub returns-in-Err-touch-clause-early : goal.returns-in-Err-touch-clause-early
+returns-in-Err-touch-clause-early g c =
+    let v = (state c.args.self.now).slots in
+    let w = (state c.shown.new.self).slots in
+    let x = (view_of c.touch.new.filer).slots in
+    unfound_less (KeepsClients w x) (KeepsClients v x) (λ later. clients_then (record { came = c.shown.ensures.came; stay = c.shown.ensures.stay }) later) c.in-Err-touch.halt c.in-Err-touch.ensures.early

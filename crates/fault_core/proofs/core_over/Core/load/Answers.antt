@@ -1,183 +1,90 @@
-use Rattle.std.proofs.Common.{◌∙◌, ◌/◌, false, refl, arith, inl, length, inr}
-use Rattle.swapper_kernel.specs.HaltLaws.{brings_then}
-use Rattle.fault_core.specs.Access.{Shows, access_of, last_page, BreaksFor}
-use Rattle.fault_core.specs.Core.{kept, state}
-use Rattle.fault_core.specs.Kept.{IsKept}
-use Rattle.filer_kernel.specs.Evidence.{MayBeMissing}
-use Rattle.fault_core.specs.Reach.{no_break}
-use Rattle.fault_core.specs.ReachLaws.{reach_misses, touch_of_reach}
-use Rattle.fault_core.specs.Unit.{IsWhole}
-use Rattle.filer_kernel.specs.View.{accepted, view_of}
-use Rattle.fault_core.proofs.AccessLemmas.{at_shown, both_seen, came_to}
-use Rattle.fault_core.proofs.ReachLemmas.{reaches_then, finds_before}
-use Rattle.fault_core.proofs.ShowLemmas.{own_came, both_came}
-use Rattle.fault_core.proofs.RevealedLemmas.{revealed_after}
-use Rattle.fault_core.specs.Lack.{both_units, shown_units}
-use Rattle.fault_core.proofs.LackLemmas.{misses_wider, sees_after, unit_shown}
-use Rattle.space_tables.specs.SpaceTables.{IsIntervalAt}
-use Rattle.fault_core.proofs.NeverBlamesLemmas.{reference_never_blames}
+use Rattle.std.proofs.Common.{refl}
+use Rattle.swapper_kernel.specs.HaltLaws.{brings_itself}
+use Rattle.session_words.specs.FrameLaws.{IsKnown}
+use Rattle.fault_core.specs.Core.{state}
+use Rattle.fault_core.proofs.ReachLemmas.{reaches_itself}
+use Rattle.fault_core.proofs.ReadyLemmas.{hand_granted, hand_ready}
 use Rattle.fault_core.proofs.core_over.Core.load.Goals as goal
 
--- ---- It is refused.
+-- ---- The page is at hand.
 
-pub returns-in-Ok-NoMap-clause-access : goal.returns-in-Ok-NoMap-clause-access
-returns-in-Ok-NoMap-clause-access g c = λ m named ss knows.
-    came_to (access_of ss false c.args.address (length c.args.into.now)) c.in-Ok-NoMap.field-0 _ c.in-Ok-NoMap.field-0-is (c.in-Ok-NoMap.ensures.access m named ss knows)
+pub returns-then-load_at_hand-clause-access : goal.returns-then-load_at_hand-clause-access
+returns-then-load_at_hand-clause-access g c = λ m named ss knows.
+    hand_granted (c.load_at_hand.ensures.ready c.if-load_at_hand.true).1 c.requires.some knows
 
-pub returns-in-Ok-ReadOnly-clause-access : goal.returns-in-Ok-ReadOnly-clause-access
-returns-in-Ok-ReadOnly-clause-access g c = λ m named ss knows.
-    came_to (access_of ss false c.args.address (length c.args.into.now)) c.in-Ok-ReadOnly.field-0 _ c.in-Ok-ReadOnly.field-0-is (c.in-Ok-ReadOnly.ensures.access m named ss knows)
+pub returns-then-load_at_hand-clause-bytes : goal.returns-then-load_at_hand-clause-bytes
+returns-then-load_at_hand-clause-bytes g c = λ m named ss knows done.
+    c.load_at_hand.ensures.bytes c.args.self.now.intervals m named ss c.if-load_at_hand.true knows
 
--- ---- All bytes were loaded.
+pub returns-then-load_at_hand-clause-ready : goal.returns-then-load_at_hand-clause-ready
+returns-then-load_at_hand-clause-ready g c = λ done.
+    rw c.load_at_hand.ensures.same (hand_ready (c.load_at_hand.ensures.ready c.if-load_at_hand.true).1 c.requires.some)
 
-pub returns-in-Ok-clause-access : goal.returns-in-Ok-clause-access
-returns-in-Ok-clause-access g c = λ m named ss knows.
-    came_to (access_of ss false c.args.address (length c.args.into.now)) c.in-Ok-Shown.field-0 _ c.in-Ok-Shown.field-0-is (c.in-Ok-Shown.ensures.access m named ss knows)
+pub returns-then-load_at_hand-clause-sees : goal.returns-then-load_at_hand-clause-sees
+returns-then-load_at_hand-clause-sees g c = λ ss s. rw c.load_at_hand.ensures.same s
 
-pub returns-in-Ok-clause-bytes : goal.returns-in-Ok-clause-bytes
-returns-in-Ok-clause-bytes g c = λ m named ss knows done.
-    let x = c.in-Ok-Shown.first in
-    let y = c.in-Ok-Shown.last in
-    let p = c.args.address / 512 in
-    let q = last_page c.args.address (length c.args.into.now) in
-    let after = c.in-Ok-Shown.ensures.same m named ss knows in
-    let seen = both_seen after c.in-Ok-Shown.field-0 x y p q c.in-Ok-Shown.field-0-is c.in-Ok-Shown.ensures.form (c.in-Ok-Shown.ensures.intervals_at m named ss knows) in
-    c.in-Ok.ensures.bytes m named after.bytes ss after.known seen.0 seen.1
+pub returns-then-load_at_hand-clause-same : goal.returns-then-load_at_hand-clause-same
+returns-then-load_at_hand-clause-same g c = λ m named ss knows. rw c.load_at_hand.ensures.same knows
 
-pub returns-in-Ok-clause-ready : goal.returns-in-Ok-clause-ready
-returns-in-Ok-clause-ready g c = λ done.
-    let x = c.in-Ok-Shown.first in
-    let y = c.in-Ok-Shown.last in
-    let form = at_shown (λ x y. Shows x (c.args.address / 512) × Shows y (last_page c.args.address (length c.args.into.now))) c.in-Ok-Shown.field-0 x y c.in-Ok-Shown.field-0-is c.in-Ok-Shown.ensures.form in
-    record {
-      interval = y;
-      is_kept = at_shown (λ x y. IsKept (kept c.refer.new.self) y) c.in-Ok-Shown.field-0 x y c.in-Ok-Shown.field-0-is c.in-Ok-Shown.ensures.is_kept;
-      holds = form.1.holds;
-      mapped = form.1.mapped;
-      whole = c.in-Ok.ensures.whole;
-    }
+pub returns-then-load_at_hand-clause-reaches : goal.returns-then-load_at_hand-clause-reaches
+returns-then-load_at_hand-clause-reaches g c = rw c.load_at_hand.ensures.same (reaches_itself (state c.args.self.now))
 
-pub returns-in-Ok-clause-same : goal.returns-in-Ok-clause-same
-returns-in-Ok-clause-same g c = λ m named ss knows.
-    revealed_after (c.in-Ok-Shown.ensures.same m named ss knows) _ _ (accepted c.refer.new.self.filer) c.load_shown.ensures.reaches (λ x one. inl one)
+pub returns-then-load_at_hand-clause-came : goal.returns-then-load_at_hand-clause-came
+returns-then-load_at_hand-clause-came g c = λ m named ss knows.
+    rw c.load_at_hand.ensures.same (brings_itself (λ home. IsKnown ss home.id home.page) (state c.args.self.now).slots)
 
-pub returns-in-Ok-clause-reaches : goal.returns-in-Ok-clause-reaches
-returns-in-Ok-clause-reaches g c =
-    reaches_then (state c.args.self.now) (state c.refer.new.self) (accepted c.args.self.now.filer) c.refer.ensures.reaches (view_of c.load_shown.new.filer) c.load_shown.ensures.reaches
+pub returns-then-load_at_hand-clause-idle : goal.returns-then-load_at_hand-clause-idle
+returns-then-load_at_hand-clause-idle g c = λ first last apart. (refl, c.load_at_hand.ensures.same, refl)
 
-pub returns-in-Ok-clause-came : goal.returns-in-Ok-clause-came
-returns-in-Ok-clause-came g c = λ m named ss knows.
-    let x = c.in-Ok-Shown.first in
-    let y = c.in-Ok-Shown.last in
-    let p = c.args.address / 512 in
-    let q = last_page c.args.address (length c.args.into.now) in
-    let seen = both_seen knows c.in-Ok-Shown.field-0 x y p q c.in-Ok-Shown.field-0-is c.in-Ok-Shown.ensures.form (c.in-Ok-Shown.ensures.intervals_at m named ss knows) in
-    brings_then (own_came ss (state c.args.self.now).slots (state c.refer.new.self).slots c.refer.ensures.came)
-    (both_came ss named m x y seen.0 seen.1
-    (state c.refer.new.self).slots (view_of c.load_shown.new.filer).slots c.load_shown.ensures.came)
+-- ---- What is not resident is brought in.
 
-pub returns-in-Ok-clause-idle : goal.returns-in-Ok-clause-idle
-returns-in-Ok-clause-idle g c = λ first last apart.
-    let x = c.in-Ok-Shown.first in
-    let y = c.in-Ok-Shown.last in
-    let p = c.args.address / 512 in
-    let q = last_page c.args.address (length c.args.into.now) in
-    let one = c.in-Ok-Shown.ensures.idle first last apart in
-    let whole = at_shown (λ x y. IsWhole (state c.args.self.now).slots x p × IsWhole (state c.args.self.now).slots y q) c.in-Ok-Shown.field-0 x y c.in-Ok-Shown.field-0-is one.0 in
-    let x_whole : IsWhole (state c.refer.new.self).slots x p = rw one.2 whole.0 in
-    let y_whole : IsWhole (state c.refer.new.self).slots y q = rw one.2 whole.1 in
-    let two = c.load_shown.ensures.idle x_whole y_whole in
-    (refl, two.1 ∙ one.2, one.3)
+pub returns-clause-access : goal.returns-clause-access
+returns-clause-access g c = rw (c.load_at_hand.ensures.same, c.load_at_hand.ensures.left c.if-load_at_hand.false) at c.bring_and_load.ensures.access
 
--- ---- The disk failed.
+pub returns-clause-bytes : goal.returns-clause-bytes
+returns-clause-bytes g c = rw c.load_at_hand.ensures.same at c.bring_and_load.ensures.bytes
 
-pub returns-in-Err-clause-cause : goal.returns-in-Err-clause-cause
-returns-in-Err-clause-cause g c = touch_of_reach (BreaksFor (state c.args.self.now) c.args.self.now.intervals c.args.address (length c.args.into.now)) (state c.args.self.now) (state c.refer.new.self) c.in-Err.halt c.in-Err.ensures.cause
+pub returns-clause-width : goal.returns-clause-width
+returns-clause-width g c = rw (c.load_at_hand.ensures.left c.if-load_at_hand.false) at c.bring_and_load.ensures.width
 
-pub returns-in-Err-load_shown-clause-cause : goal.returns-in-Err-load_shown-clause-cause
-returns-in-Err-load_shown-clause-cause g c =
-    let v = state c.args.self.now in
-    let x = view_of c.load_shown.new.filer in
-    finds_before v (state c.refer.new.self) (accepted c.args.self.now.filer) c.refer.ensures.reaches MayBeMissing no_break (BreaksFor v c.args.self.now.intervals c.args.address (length c.args.into.now)) (λ page none. absurd none)
-    x x (omega arith) c.in-Err-load_shown.halt c.in-Err-load_shown.ensures.cause
+pub returns-clause-refused : goal.returns-clause-refused
+returns-clause-refused g c = rw (c.load_at_hand.ensures.left c.if-load_at_hand.false) at c.bring_and_load.ensures.refused
 
-pub returns-in-Err-load_shown-clause-intact : goal.returns-in-Err-load_shown-clause-intact
-returns-in-Err-load_shown-clause-intact g c = λ one. c.in-Err-load_shown.ensures.intact one
+pub returns-clause-intact : goal.returns-clause-intact
+returns-clause-intact g c = rw (c.load_at_hand.ensures.left c.if-load_at_hand.false) at c.bring_and_load.ensures.intact
 
-pub returns-in-Err-load_shown-clause-sound : goal.returns-in-Err-load_shown-clause-sound
-returns-in-Err-load_shown-clause-sound g c = λ m named ss knows.
-    let x = c.in-Ok-Shown.first in
-    let y = c.in-Ok-Shown.last in
-    let p = c.args.address / 512 in
-    let q = last_page c.args.address (length c.args.into.now) in
-    let after = c.in-Ok-Shown.ensures.same m named ss knows in
-    let seen = both_seen after c.in-Ok-Shown.field-0 x y p q c.in-Ok-Shown.field-0-is c.in-Ok-Shown.ensures.form (c.in-Ok-Shown.ensures.intervals_at m named ss knows) in
-    c.in-Err-load_shown.ensures.sound m named after.bytes after.known seen.0.stored seen.1.stored
+pub returns-clause-ready : goal.returns-clause-ready
+returns-clause-ready g c = rw (c.load_at_hand.ensures.left c.if-load_at_hand.false) at c.bring_and_load.ensures.ready
 
-pub returns-in-Err-load_shown-clause-same : goal.returns-in-Err-load_shown-clause-same
-returns-in-Err-load_shown-clause-same g c = λ m named ss knows.
-    revealed_after (c.in-Ok-Shown.ensures.same m named ss knows) _ _ (accepted c.refer.new.self.filer) c.load_shown.ensures.reaches (λ x one. inl one)
+pub returns-clause-cause : goal.returns-clause-cause
+returns-clause-cause g c = rw (c.load_at_hand.ensures.same, c.load_at_hand.ensures.left c.if-load_at_hand.false) at c.bring_and_load.ensures.cause
 
-pub returns-in-Err-load_shown-clause-reaches : goal.returns-in-Err-load_shown-clause-reaches
-returns-in-Err-load_shown-clause-reaches g c =
-    reaches_then (state c.args.self.now) (state c.refer.new.self) (accepted c.args.self.now.filer) c.refer.ensures.reaches (view_of c.load_shown.new.filer) c.load_shown.ensures.reaches
+pub returns-clause-missing : goal.returns-clause-missing
+returns-clause-missing g c = rw (c.load_at_hand.ensures.same, c.load_at_hand.ensures.left c.if-load_at_hand.false) at c.bring_and_load.ensures.missing
 
-pub returns-in-Err-load_shown-clause-came : goal.returns-in-Err-load_shown-clause-came
-returns-in-Err-load_shown-clause-came g c = λ m named ss knows.
-    let x = c.in-Ok-Shown.first in
-    let y = c.in-Ok-Shown.last in
-    let p = c.args.address / 512 in
-    let q = last_page c.args.address (length c.args.into.now) in
-    let seen = both_seen knows c.in-Ok-Shown.field-0 x y p q c.in-Ok-Shown.field-0-is c.in-Ok-Shown.ensures.form (c.in-Ok-Shown.ensures.intervals_at m named ss knows) in
-    brings_then (own_came ss (state c.args.self.now).slots (state c.refer.new.self).slots c.refer.ensures.came)
-    (both_came ss named m x y seen.0 seen.1
-    (state c.refer.new.self).slots (view_of c.load_shown.new.filer).slots c.load_shown.ensures.came)
+pub returns-clause-sees : goal.returns-clause-sees
+returns-clause-sees g c = rw c.load_at_hand.ensures.same at c.bring_and_load.ensures.sees
 
-pub returns-in-Err-load_shown-clause-idle : goal.returns-in-Err-load_shown-clause-idle
-returns-in-Err-load_shown-clause-idle g c = λ first last apart.
-    let x = c.in-Ok-Shown.first in
-    let y = c.in-Ok-Shown.last in
-    let p = c.args.address / 512 in
-    let q = last_page c.args.address (length c.args.into.now) in
-    let one = c.in-Ok-Shown.ensures.idle first last apart in
-    let whole = at_shown (λ x y. IsWhole (state c.args.self.now).slots x p × IsWhole (state c.args.self.now).slots y q) c.in-Ok-Shown.field-0 x y c.in-Ok-Shown.field-0-is one.0 in
-    let x_whole : IsWhole (state c.refer.new.self).slots x p = rw one.2 whole.0 in
-    let y_whole : IsWhole (state c.refer.new.self).slots y q = rw one.2 whole.1 in
-    let two = c.in-Err-load_shown.ensures.idle x_whole y_whole in
-    (two.0, two.1 ∙ one.2, one.3)
+pub returns-clause-right : goal.returns-clause-right
+returns-clause-right g c = rw c.load_at_hand.ensures.same at c.bring_and_load.ensures.right
 
--- ---- A page has no sector.
+pub returns-clause-sound : goal.returns-clause-sound
+returns-clause-sound g c = rw c.load_at_hand.ensures.same at c.bring_and_load.ensures.sound
 
-pub returns-in-Err-clause-missing : goal.returns-in-Err-clause-missing
-returns-in-Err-clause-missing g c = λ ss s.
-    let v = state c.args.self.now in
-    let n = length c.args.into.now in
-    reach_misses (BreaksFor v c.args.self.now.intervals c.args.address n) v (state c.refer.new.self) (shown_units ss c.args.address n) c.in-Err.halt c.in-Err.ensures.cause
+pub returns-clause-same : goal.returns-clause-same
+returns-clause-same g c = rw c.load_at_hand.ensures.same at c.bring_and_load.ensures.same
 
-pub returns-in-Err-load_shown-clause-missing : goal.returns-in-Err-load_shown-clause-missing
-returns-in-Err-load_shown-clause-missing g c = λ ss s.
-    let x = c.in-Ok-Shown.first in
-    let y = c.in-Ok-Shown.last in
-    let a = c.args.address in
-    let n = length c.args.into.now in
-    let mid = c.in-Ok-Shown.ensures.sees ss s in
-    let form = at_shown (λ x y. Shows x (a / 512) × Shows y (last_page a n)) c.in-Ok-Shown.field-0 x y c.in-Ok-Shown.field-0-is c.in-Ok-Shown.ensures.form in
-    let at = at_shown (λ x y. IsIntervalAt ss (a / 512) x × IsIntervalAt ss (last_page a n) y) c.in-Ok-Shown.field-0 x y c.in-Ok-Shown.field-0-is (c.in-Ok-Shown.ensures.seen ss s) in
-    misses_wider (both_units x y a n) (shown_units ss a n) (λ id number one. elim one [
-      | inl own ↦ inl (unit_shown mid x (a / 512) at.0 form.0.mapped id number own)
-      | inr own ↦ inr (unit_shown mid y (last_page a n) at.1 form.1.mapped id number own)
-    ]) c.in-Err-load_shown.halt c.in-Err-load_shown.ensures.misses
+pub returns-clause-reaches : goal.returns-clause-reaches
+returns-clause-reaches g c = rw c.load_at_hand.ensures.same at c.bring_and_load.ensures.reaches
 
--- ---- The tables are revealed.
+pub returns-clause-came : goal.returns-clause-came
+returns-clause-came g c = rw c.load_at_hand.ensures.same at c.bring_and_load.ensures.came
 
-pub returns-in-Ok-clause-sees : goal.returns-in-Ok-clause-sees
-returns-in-Ok-clause-sees g c = λ ss s. sees_after (c.in-Ok-Shown.ensures.sees ss s) _ _ c.load_shown.ensures.reaches (λ x one. inl one)
+pub returns-clause-intervals : goal.returns-clause-intervals
+returns-clause-intervals g c = c.bring_and_load.ensures.intervals
 
-pub returns-in-Err-load_shown-clause-sees : goal.returns-in-Err-load_shown-clause-sees
-returns-in-Err-load_shown-clause-sees g c = λ ss s. sees_after (c.in-Ok-Shown.ensures.sees ss s) _ _ c.load_shown.ensures.reaches (λ x one. inl one)
+pub returns-clause-idle : goal.returns-clause-idle
+returns-clause-idle g c = rw (c.load_at_hand.ensures.same, c.load_at_hand.ensures.left c.if-load_at_hand.false) at c.bring_and_load.ensures.idle
 
-pub returns-in-Err-clause-right : goal.returns-in-Err-clause-right
-returns-in-Err-clause-right g c = λ ss s. reference_never_blames s c.args.self.now.some (state c.refer.new.self) c.in-Err.halt c.args.address (length c.args.into.now) (returns-in-Err-clause-cause g c)
-
-pub returns-in-Err-load_shown-clause-right : goal.returns-in-Err-load_shown-clause-right
-returns-in-Err-load_shown-clause-right g c = λ ss s. reference_never_blames s c.args.self.now.some (view_of c.load_shown.new.filer) c.in-Err-load_shown.halt c.args.address (length c.args.into.now) (returns-in-Err-load_shown-clause-cause g c)
+pub returns-clause-cost : goal.returns-clause-cost
+returns-clause-cost g c = rw c.load_at_hand.ensures.same at c.bring_and_load.ensures.cost

@@ -19,6 +19,7 @@ use Rattle.std.specs.Prelude.{IfSome}
 use Rattle.swap_units.specs.declared.interval.Interval.{Interval}
 use Rattle.fault_core.specs.Kept.{IsKept}
 use Rattle.fault_core.proofs.NeverBlamesLemmas.{table_never_blames}
+use Rattle.fault_core.proofs.YieldLemmas.{yield_then}
 use Rattle.fault_core.proofs.core_over.Core.resolve.Goals as goal
 
 pub returns-in-Ok-None-clause-none : goal.returns-in-Ok-None-clause-none
@@ -129,3 +130,11 @@ returns-in-Err-clause-right g c = λ ss s. table_never_blames s c.args.self.now.
 
 pub returns-in-Err-homes_of-clause-right : goal.returns-in-Err-homes_of-clause-right
 returns-in-Err-homes_of-clause-right g c = λ ss s. table_never_blames s c.args.self.now.some (view_of c.homes_of.new.filer) c.in-Err-homes_of.halt c.args.page (returns-in-Err-homes_of-clause-cause g c)
+
+-- ---- The frames.
+
+pub returns-in-Ok-clause-stay : goal.returns-in-Ok-clause-stay
+returns-in-Ok-clause-stay g c = yield_then c.shown.ensures.stay c.homes_of.ensures.stay
+
+pub returns-in-Err-homes_of-clause-stay : goal.returns-in-Err-homes_of-clause-stay
+returns-in-Err-homes_of-clause-stay g c = yield_then c.shown.ensures.stay c.homes_of.ensures.stay

@@ -1,264 +1,98 @@
-use Rattle.std.proofs.Common.{◌/◌, true, refl, sym, arith, length, inl, inr}
-use Rattle.swapper_kernel.specs.HaltLaws.{brings_then}
-use Rattle.session_words.specs.CellLaws.{IsTouchedOrOwn}
-use Rattle.fault_core.specs.declared.reference.Access.TheVariants as access
-use Rattle.fault_core.specs.Access.{Shows, access_of, last_page, BreaksFor}
-use Rattle.fault_core.specs.Core.{kept, state}
-use Rattle.fault_core.specs.Kept.{IsKept}
-use Rattle.fault_core.specs.Moves.{StoresAs, StoresSome, client_page, of_reference}
-use Rattle.filer_kernel.specs.Evidence.{MayBeMissing}
-use Rattle.fault_core.specs.Reach.{no_break}
-use Rattle.fault_core.specs.ReachLaws.{reach_misses, touch_of_reach}
-use Rattle.fault_core.specs.Unit.{IsWhole, file_page}
-use Rattle.filer_kernel.specs.View.{accepted, view_of}
-use Rattle.fault_core.proofs.AccessLemmas.{at_shown, both_seen, came_to}
-use Rattle.fault_core.proofs.BeforeLemmas.{touches_of, touches_then, touches_wider}
-use Rattle.fault_core.proofs.LeaveLemmas.{clients_alone, goes_refused, goes_revealed, none_stored, revealed_leaves, revealed_stands, touched_or_own}
-use Rattle.fault_core.proofs.ReachLemmas.{finds_before}
-use Rattle.fault_core.proofs.ShowLemmas.{own_came, both_came}
-use Rattle.fault_core.specs.Lack.{both_units, shown_units}
-use Rattle.fault_core.proofs.LackLemmas.{misses_wider, unit_shown}
-use Rattle.space_tables.specs.SpaceTables.{IsIntervalAt}
-use Rattle.fault_core.proofs.NeverBlamesLemmas.{reference_never_blames, sees_touched}
+use Rattle.std.proofs.Common.{refl, sym}
+use Rattle.fault_core.proofs.ReadyLemmas.{changed_clients, changed_dirty, changed_goes, changed_known, changed_ready, changed_sees, changed_shown, hand_granted}
+use Rattle.fault_core.proofs.ShowLemmas.{own_came}
 use Rattle.fault_core.proofs.core_over.Core.store.Goals as goal
 
--- ---- It is refused.
+-- ---- The page is at hand.
 
-pub returns-in-Ok-NoMap-clause-access : goal.returns-in-Ok-NoMap-clause-access
-returns-in-Ok-NoMap-clause-access g c = λ m named ss knows.
-    came_to (access_of ss true c.args.address (length c.args.bytes.now)) c.in-Ok-NoMap.field-0 _ c.in-Ok-NoMap.field-0-is (c.in-Ok-NoMap.ensures.access m named ss knows)
+pub returns-then-store_at_hand-clause-access : goal.returns-then-store_at_hand-clause-access
+returns-then-store_at_hand-clause-access g c = λ m named ss knows. hand_granted (c.store_at_hand.ensures.stored c.if-store_at_hand.true).hand c.requires.some knows
 
-pub returns-in-Ok-NoMap-clause-stored : goal.returns-in-Ok-NoMap-clause-stored
-returns-in-Ok-NoMap-clause-stored g c = λ m named ss knows.
-    goes_refused (StoresAs (access.NoMap c.in-Ok-NoMap.page) ss c.args.address c.args.bytes.now) c.args.address (length c.args.bytes.now) refl c.refer.ensures.reaches knows (c.in-Ok-NoMap.ensures.same m named ss knows)
+pub returns-then-store_at_hand-clause-stored : goal.returns-then-store_at_hand-clause-stored
+returns-then-store_at_hand-clause-stored g c = λ m named ss knows. changed_goes (c.store_at_hand.ensures.stored c.if-store_at_hand.true) c.requires.some knows
 
-pub returns-in-Ok-NoMap-clause-known : goal.returns-in-Ok-NoMap-clause-known
-returns-in-Ok-NoMap-clause-known g c = λ m n named ss knows stands. revealed_stands (c.in-Ok-NoMap.ensures.same m named ss knows) n stands
+pub returns-then-store_at_hand-clause-known : goal.returns-then-store_at_hand-clause-known
+returns-then-store_at_hand-clause-known g c = λ m n named ss knows stands. changed_known (c.store_at_hand.ensures.stored c.if-store_at_hand.true) knows n stands
 
-pub returns-in-Ok-NoMap-clause-touches : goal.returns-in-Ok-NoMap-clause-touches
-returns-in-Ok-NoMap-clause-touches g c = touches_of client_page c.refer.ensures.reaches
+pub returns-then-store_at_hand-clause-tested : goal.returns-then-store_at_hand-clause-tested
+returns-then-store_at_hand-clause-tested g c = λ m named ss knows other. absurd (other (sym (hand_granted (c.store_at_hand.ensures.stored c.if-store_at_hand.true).hand c.requires.some knows)))
 
-pub returns-in-Ok-ReadOnly-clause-access : goal.returns-in-Ok-ReadOnly-clause-access
-returns-in-Ok-ReadOnly-clause-access g c = λ m named ss knows.
-    came_to (access_of ss true c.args.address (length c.args.bytes.now)) c.in-Ok-ReadOnly.field-0 _ c.in-Ok-ReadOnly.field-0-is (c.in-Ok-ReadOnly.ensures.access m named ss knows)
+pub returns-then-store_at_hand-clause-ready : goal.returns-then-store_at_hand-clause-ready
+returns-then-store_at_hand-clause-ready g c = λ done. changed_ready (c.store_at_hand.ensures.stored c.if-store_at_hand.true) c.requires.some
 
-pub returns-in-Ok-ReadOnly-clause-stored : goal.returns-in-Ok-ReadOnly-clause-stored
-returns-in-Ok-ReadOnly-clause-stored g c = λ m named ss knows.
-    goes_refused (StoresAs (access.ReadOnly c.in-Ok-ReadOnly.page) ss c.args.address c.args.bytes.now) c.args.address (length c.args.bytes.now) refl c.refer.ensures.reaches knows (c.in-Ok-ReadOnly.ensures.same m named ss knows)
+pub returns-then-store_at_hand-clause-dirty : goal.returns-then-store_at_hand-clause-dirty
+returns-then-store_at_hand-clause-dirty g c = λ m named ss knows done. changed_dirty (c.store_at_hand.ensures.stored c.if-store_at_hand.true) c.requires.some knows
 
-pub returns-in-Ok-ReadOnly-clause-known : goal.returns-in-Ok-ReadOnly-clause-known
-returns-in-Ok-ReadOnly-clause-known g c = λ m n named ss knows stands. revealed_stands (c.in-Ok-ReadOnly.ensures.same m named ss knows) n stands
+pub returns-then-store_at_hand-clause-sees : goal.returns-then-store_at_hand-clause-sees
+returns-then-store_at_hand-clause-sees g c = λ ss s. changed_sees (c.store_at_hand.ensures.stored c.if-store_at_hand.true) s
 
-pub returns-in-Ok-ReadOnly-clause-touches : goal.returns-in-Ok-ReadOnly-clause-touches
-returns-in-Ok-ReadOnly-clause-touches g c = touches_of client_page c.refer.ensures.reaches
+pub returns-then-store_at_hand-clause-touches : goal.returns-then-store_at_hand-clause-touches
+returns-then-store_at_hand-clause-touches g c = changed_clients (c.store_at_hand.ensures.stored c.if-store_at_hand.true)
 
--- ---- The pages could not be described.
+pub returns-then-store_at_hand-clause-shown : goal.returns-then-store_at_hand-clause-shown
+returns-then-store_at_hand-clause-shown g c = λ ss s. changed_shown (c.store_at_hand.ensures.stored c.if-store_at_hand.true) s
 
-pub returns-in-Err-clause-cause : goal.returns-in-Err-clause-cause
-returns-in-Err-clause-cause g c = touch_of_reach (BreaksFor (state c.args.self.now) c.args.self.now.intervals c.args.address (length c.args.bytes.now)) (state c.args.self.now) (state c.refer.new.self) c.in-Err.halt c.in-Err.ensures.cause
+pub returns-then-store_at_hand-clause-came : goal.returns-then-store_at_hand-clause-came
+returns-then-store_at_hand-clause-came g c = λ m named ss knows. own_came ss _ _ (c.store_at_hand.ensures.stored c.if-store_at_hand.true).came
 
-pub returns-in-Err-clause-halted : goal.returns-in-Err-clause-halted
-returns-in-Err-clause-halted g c = λ m named ss knows.
-    goes_refused (StoresSome ss c.args.address c.args.bytes.now) c.args.address (length c.args.bytes.now) (none_stored ss c.args.address c.args.bytes.now m m refl) c.refer.ensures.reaches knows (c.in-Err.ensures.same m named ss knows)
+pub returns-then-store_at_hand-clause-idle : goal.returns-then-store_at_hand-clause-idle
+returns-then-store_at_hand-clause-idle g c = λ first last apart. (refl, (c.store_at_hand.ensures.stored c.if-store_at_hand.true).disk, refl)
 
-pub returns-in-Err-clause-known : goal.returns-in-Err-clause-known
-returns-in-Err-clause-known g c = λ m n named ss knows stands. revealed_stands (c.in-Err.ensures.same m named ss knows) n stands
+-- ---- What is not resident is brought in.
 
-pub returns-in-Err-clause-touches : goal.returns-in-Err-clause-touches
-returns-in-Err-clause-touches g c = touches_of client_page c.refer.ensures.reaches
+pub returns-clause-access : goal.returns-clause-access
+returns-clause-access g c = rw (c.store_at_hand.ensures.left c.if-store_at_hand.false) at c.bring_and_store.ensures.access
 
--- ---- All bytes were stored.
+pub returns-clause-stored : goal.returns-clause-stored
+returns-clause-stored g c = rw (c.store_at_hand.ensures.left c.if-store_at_hand.false) at c.bring_and_store.ensures.stored
 
-pub returns-in-Ok-clause-access : goal.returns-in-Ok-clause-access
-returns-in-Ok-clause-access g c = λ m named ss knows.
-    came_to (access_of ss true c.args.address (length c.args.bytes.now)) c.in-Ok-Shown.field-0 _ c.in-Ok-Shown.field-0-is (c.in-Ok-Shown.ensures.access m named ss knows)
+pub returns-clause-halted : goal.returns-clause-halted
+returns-clause-halted g c = rw (c.store_at_hand.ensures.left c.if-store_at_hand.false) at c.bring_and_store.ensures.halted
 
--- one that would be refused doesn't come here
-pub returns-in-Ok-clause-tested : goal.returns-in-Ok-clause-tested
-returns-in-Ok-clause-tested g c = λ m named ss knows other.
-    absurd (other (sym (came_to (access_of ss true c.args.address (length c.args.bytes.now)) c.in-Ok-Shown.field-0 _ c.in-Ok-Shown.field-0-is (c.in-Ok-Shown.ensures.access m named ss knows))))
+pub returns-clause-known : goal.returns-clause-known
+returns-clause-known g c = rw (c.store_at_hand.ensures.left c.if-store_at_hand.false) at c.bring_and_store.ensures.known
 
-pub returns-in-Ok-clause-stored : goal.returns-in-Ok-clause-stored
-returns-in-Ok-clause-stored g c = λ m named ss knows.
-    let x = c.in-Ok-Shown.first in
-    let y = c.in-Ok-Shown.last in
-    let a = c.args.address in
-    let n = length c.args.bytes.now in
-    let after = c.in-Ok-Shown.ensures.same m named ss knows in
-    let form = at_shown (λ x y. Shows x (a / 512) × Shows y (last_page a n)) c.in-Ok-Shown.field-0 x y c.in-Ok-Shown.field-0-is c.in-Ok-Shown.ensures.form in
-    let seen = both_seen after c.in-Ok-Shown.field-0 x y (a / 512) (last_page a n) c.in-Ok-Shown.field-0-is c.in-Ok-Shown.ensures.form (c.in-Ok-Shown.ensures.intervals_at m named ss knows) in
-    let l = c.in-Ok.ensures.stored m named after.bytes ss after.known seen.0 seen.1 in
-    goes_revealed (StoresAs access.Done ss a c.args.bytes.now) (of_reference x y a n) (IsTouchedOrOwn ss a n)
-    (touches_then (state c.args.self.now) (state c.refer.new.self) (accepted c.args.self.now.filer) (touches_of (of_reference x y a n) c.refer.ensures.reaches) (view_of c.store_shown.new.filer) c.store_shown.ensures.touches)
-    (touched_or_own ss named m x y a n seen.0 seen.1 form.0.holds form.1.holds) knows.known.stands l.memory l.known.stands l.changed
+pub returns-clause-tested : goal.returns-clause-tested
+returns-clause-tested g c = rw (c.store_at_hand.ensures.left c.if-store_at_hand.false) at c.bring_and_store.ensures.tested
 
-pub returns-in-Ok-clause-known : goal.returns-in-Ok-clause-known
-returns-in-Ok-clause-known g c = λ m n named ss knows stands.
-    let after = c.in-Ok-Shown.ensures.same m named ss knows in
-    let seen = both_seen after c.in-Ok-Shown.field-0 c.in-Ok-Shown.first c.in-Ok-Shown.last (c.args.address / 512) (last_page c.args.address (length c.args.bytes.now)) c.in-Ok-Shown.field-0-is c.in-Ok-Shown.ensures.form (c.in-Ok-Shown.ensures.intervals_at m named ss knows) in
-    revealed_stands (revealed_leaves after (c.in-Ok.ensures.stored m named after.bytes ss after.known seen.0 seen.1)) n stands
+pub returns-clause-refused : goal.returns-clause-refused
+returns-clause-refused g c = rw (c.store_at_hand.ensures.left c.if-store_at_hand.false) at c.bring_and_store.ensures.refused
 
-pub returns-in-Ok-clause-ready : goal.returns-in-Ok-clause-ready
-returns-in-Ok-clause-ready g c = λ done.
-    let x = c.in-Ok-Shown.first in
-    let y = c.in-Ok-Shown.last in
-    let form = at_shown (λ x y. Shows x (c.args.address / 512) × Shows y (last_page c.args.address (length c.args.bytes.now))) c.in-Ok-Shown.field-0 x y c.in-Ok-Shown.field-0-is c.in-Ok-Shown.ensures.form in
-    record {
-      interval = y;
-      is_kept = at_shown (λ x y. IsKept (kept c.refer.new.self) y) c.in-Ok-Shown.field-0 x y c.in-Ok-Shown.field-0-is c.in-Ok-Shown.ensures.is_kept;
-      holds = form.1.holds;
-      mapped = form.1.mapped;
-      whole = c.in-Ok.ensures.whole;
-    }
+pub returns-clause-ready : goal.returns-clause-ready
+returns-clause-ready g c = c.bring_and_store.ensures.ready
 
-pub returns-in-Ok-clause-dirty : goal.returns-in-Ok-clause-dirty
-returns-in-Ok-clause-dirty g c = λ m named ss knows done.
-    let x = c.in-Ok-Shown.first in
-    let y = c.in-Ok-Shown.last in
-    let q = last_page c.args.address (length c.args.bytes.now) in
-    let form = at_shown (λ x y. Shows x (c.args.address / 512) × Shows y q) c.in-Ok-Shown.field-0 x y c.in-Ok-Shown.field-0-is c.in-Ok-Shown.ensures.form in
-    let seen = both_seen knows c.in-Ok-Shown.field-0 x y (c.args.address / 512) q c.in-Ok-Shown.field-0-is c.in-Ok-Shown.ensures.form (c.in-Ok-Shown.ensures.intervals_at m named ss knows) in
-    record { shown = record { file = y.id; page = file_page y q }; is_shown = seen.1.shown q form.1.holds; dirty = c.in-Ok.ensures.dirty }
+pub returns-clause-dirty : goal.returns-clause-dirty
+returns-clause-dirty g c = rw (c.store_at_hand.ensures.left c.if-store_at_hand.false) at c.bring_and_store.ensures.dirty
 
-pub returns-in-Ok-clause-touches : goal.returns-in-Ok-clause-touches
-returns-in-Ok-clause-touches g c =
-    let x = c.in-Ok-Shown.first in
-    let y = c.in-Ok-Shown.last in
-    let a = c.args.address in
-    let n = length c.args.bytes.now in
-    let form = at_shown (λ x y. Shows x (a / 512) × Shows y (last_page a n)) c.in-Ok-Shown.field-0 x y c.in-Ok-Shown.field-0-is c.in-Ok-Shown.ensures.form in
-    touches_wider (of_reference x y a n) client_page (clients_alone x y a n (form.0.formed.shows form.0.mapped).0 (form.1.formed.shows form.1.mapped).0)
-    (touches_then (state c.args.self.now) (state c.refer.new.self) (accepted c.args.self.now.filer) (touches_of (of_reference x y a n) c.refer.ensures.reaches) (view_of c.store_shown.new.filer) c.store_shown.ensures.touches)
+pub returns-clause-cause : goal.returns-clause-cause
+returns-clause-cause g c = rw (c.store_at_hand.ensures.left c.if-store_at_hand.false) at c.bring_and_store.ensures.cause
 
-pub returns-in-Ok-clause-came : goal.returns-in-Ok-clause-came
-returns-in-Ok-clause-came g c = λ m named ss knows.
-    let x = c.in-Ok-Shown.first in
-    let y = c.in-Ok-Shown.last in
-    let seen = both_seen knows c.in-Ok-Shown.field-0 x y (c.args.address / 512) (last_page c.args.address (length c.args.bytes.now)) c.in-Ok-Shown.field-0-is c.in-Ok-Shown.ensures.form (c.in-Ok-Shown.ensures.intervals_at m named ss knows) in
-    brings_then (own_came ss (state c.args.self.now).slots (state c.refer.new.self).slots c.refer.ensures.came)
-    (both_came ss named m x y seen.0 seen.1 (state c.refer.new.self).slots (view_of c.store_shown.new.filer).slots c.store_shown.ensures.came)
+pub returns-clause-missing : goal.returns-clause-missing
+returns-clause-missing g c = rw (c.store_at_hand.ensures.left c.if-store_at_hand.false) at c.bring_and_store.ensures.missing
 
-pub returns-in-Ok-clause-idle : goal.returns-in-Ok-clause-idle
-returns-in-Ok-clause-idle g c = λ first last apart.
-    let x = c.in-Ok-Shown.first in
-    let y = c.in-Ok-Shown.last in
-    let p = c.args.address / 512 in
-    let q = last_page c.args.address (length c.args.bytes.now) in
-    let one = c.in-Ok-Shown.ensures.idle first last apart in
-    let whole = at_shown (λ x y. IsWhole (state c.args.self.now).slots x p × IsWhole (state c.args.self.now).slots y q) c.in-Ok-Shown.field-0 x y c.in-Ok-Shown.field-0-is one.0 in
-    let x_whole : IsWhole (state c.refer.new.self).slots x p = rw one.2 whole.0 in
-    let y_whole : IsWhole (state c.refer.new.self).slots y q = rw one.2 whole.1 in
-    let two = c.store_shown.ensures.idle x_whole y_whole in
-    (refl, rw (← one.2) two.1, one.3)
+pub returns-clause-sees : goal.returns-clause-sees
+returns-clause-sees g c = rw (c.store_at_hand.ensures.left c.if-store_at_hand.false) at c.bring_and_store.ensures.sees
 
--- ---- The disk failed.
+pub returns-clause-right : goal.returns-clause-right
+returns-clause-right g c = rw (c.store_at_hand.ensures.left c.if-store_at_hand.false) at c.bring_and_store.ensures.right
 
-pub returns-in-Err-store_shown-clause-tested : goal.returns-in-Err-store_shown-clause-tested
-returns-in-Err-store_shown-clause-tested g c = λ m named ss knows other.
-    absurd (other (sym (came_to (access_of ss true c.args.address (length c.args.bytes.now)) c.in-Ok-Shown.field-0 _ c.in-Ok-Shown.field-0-is (c.in-Ok-Shown.ensures.access m named ss knows))))
+pub returns-clause-sound : goal.returns-clause-sound
+returns-clause-sound g c = rw (c.store_at_hand.ensures.left c.if-store_at_hand.false) at c.bring_and_store.ensures.sound
 
-pub returns-in-Err-store_shown-clause-halted : goal.returns-in-Err-store_shown-clause-halted
-returns-in-Err-store_shown-clause-halted g c = λ m named ss knows.
-    let x = c.in-Ok-Shown.first in
-    let y = c.in-Ok-Shown.last in
-    let a = c.args.address in
-    let n = length c.args.bytes.now in
-    let after = c.in-Ok-Shown.ensures.same m named ss knows in
-    let form = at_shown (λ x y. Shows x (a / 512) × Shows y (last_page a n)) c.in-Ok-Shown.field-0 x y c.in-Ok-Shown.field-0-is c.in-Ok-Shown.ensures.form in
-    let seen = both_seen after c.in-Ok-Shown.field-0 x y (a / 512) (last_page a n) c.in-Ok-Shown.field-0-is c.in-Ok-Shown.ensures.form (c.in-Ok-Shown.ensures.intervals_at m named ss knows) in
-    let l = c.in-Err-store_shown.ensures.halted m named after.bytes ss after.known seen.0 in
-    goes_revealed (StoresSome ss a c.args.bytes.now) (of_reference x y a n) (IsTouchedOrOwn ss a n)
-    (touches_then (state c.args.self.now) (state c.refer.new.self) (accepted c.args.self.now.filer) (touches_of (of_reference x y a n) c.refer.ensures.reaches) (view_of c.store_shown.new.filer) c.store_shown.ensures.touches)
-    (touched_or_own ss named m x y a n seen.0 seen.1 form.0.holds form.1.holds) knows.known.stands l.memory l.known.stands l.changed
+pub returns-clause-touches : goal.returns-clause-touches
+returns-clause-touches g c = rw (c.store_at_hand.ensures.left c.if-store_at_hand.false) at c.bring_and_store.ensures.touches
 
-pub returns-in-Err-store_shown-clause-known : goal.returns-in-Err-store_shown-clause-known
-returns-in-Err-store_shown-clause-known g c = λ m n named ss knows stands.
-    let after = c.in-Ok-Shown.ensures.same m named ss knows in
-    let seen = both_seen after c.in-Ok-Shown.field-0 c.in-Ok-Shown.first c.in-Ok-Shown.last (c.args.address / 512) (last_page c.args.address (length c.args.bytes.now)) c.in-Ok-Shown.field-0-is c.in-Ok-Shown.ensures.form (c.in-Ok-Shown.ensures.intervals_at m named ss knows) in
-    revealed_stands (revealed_leaves after (c.in-Err-store_shown.ensures.halted m named after.bytes ss after.known seen.0)) n stands
+pub returns-clause-came : goal.returns-clause-came
+returns-clause-came g c = rw (c.store_at_hand.ensures.left c.if-store_at_hand.false) at c.bring_and_store.ensures.came
 
-pub returns-in-Err-store_shown-clause-cause : goal.returns-in-Err-store_shown-clause-cause
-returns-in-Err-store_shown-clause-cause g c =
-    let v = state c.args.self.now in
-    let x = view_of c.store_shown.new.filer in
-    finds_before v (state c.refer.new.self) (accepted c.args.self.now.filer) c.refer.ensures.reaches MayBeMissing no_break (BreaksFor v c.args.self.now.intervals c.args.address (length c.args.bytes.now)) (λ page none. absurd none)
-    x x (omega arith) c.in-Err-store_shown.halt c.in-Err-store_shown.ensures.cause
+pub returns-clause-intervals : goal.returns-clause-intervals
+returns-clause-intervals g c = c.bring_and_store.ensures.intervals
 
-pub returns-in-Err-store_shown-clause-sound : goal.returns-in-Err-store_shown-clause-sound
-returns-in-Err-store_shown-clause-sound g c = λ m named ss knows.
-    let after = c.in-Ok-Shown.ensures.same m named ss knows in
-    let seen = both_seen after c.in-Ok-Shown.field-0 c.in-Ok-Shown.first c.in-Ok-Shown.last (c.args.address / 512) (last_page c.args.address (length c.args.bytes.now)) c.in-Ok-Shown.field-0-is c.in-Ok-Shown.ensures.form (c.in-Ok-Shown.ensures.intervals_at m named ss knows) in
-    c.in-Err-store_shown.ensures.sound m named after.bytes after.known seen.0.stored seen.1.stored
+pub returns-clause-idle : goal.returns-clause-idle
+returns-clause-idle g c = rw (c.store_at_hand.ensures.left c.if-store_at_hand.false) at c.bring_and_store.ensures.idle
 
-pub returns-in-Err-store_shown-clause-touches : goal.returns-in-Err-store_shown-clause-touches
-returns-in-Err-store_shown-clause-touches g c =
-    let x = c.in-Ok-Shown.first in
-    let y = c.in-Ok-Shown.last in
-    let a = c.args.address in
-    let n = length c.args.bytes.now in
-    let form = at_shown (λ x y. Shows x (a / 512) × Shows y (last_page a n)) c.in-Ok-Shown.field-0 x y c.in-Ok-Shown.field-0-is c.in-Ok-Shown.ensures.form in
-    touches_wider (of_reference x y a n) client_page (clients_alone x y a n (form.0.formed.shows form.0.mapped).0 (form.1.formed.shows form.1.mapped).0)
-    (touches_then (state c.args.self.now) (state c.refer.new.self) (accepted c.args.self.now.filer) (touches_of (of_reference x y a n) c.refer.ensures.reaches) (view_of c.store_shown.new.filer) c.store_shown.ensures.touches)
+pub returns-clause-cost : goal.returns-clause-cost
+returns-clause-cost g c = rw (c.store_at_hand.ensures.left c.if-store_at_hand.false) at c.bring_and_store.ensures.cost
 
-pub returns-in-Err-store_shown-clause-came : goal.returns-in-Err-store_shown-clause-came
-returns-in-Err-store_shown-clause-came g c = λ m named ss knows.
-    let x = c.in-Ok-Shown.first in
-    let y = c.in-Ok-Shown.last in
-    let seen = both_seen knows c.in-Ok-Shown.field-0 x y (c.args.address / 512) (last_page c.args.address (length c.args.bytes.now)) c.in-Ok-Shown.field-0-is c.in-Ok-Shown.ensures.form (c.in-Ok-Shown.ensures.intervals_at m named ss knows) in
-    brings_then (own_came ss (state c.args.self.now).slots (state c.refer.new.self).slots c.refer.ensures.came)
-    (both_came ss named m x y seen.0 seen.1 (state c.refer.new.self).slots (view_of c.store_shown.new.filer).slots c.store_shown.ensures.came)
-
-pub returns-in-Err-store_shown-clause-idle : goal.returns-in-Err-store_shown-clause-idle
-returns-in-Err-store_shown-clause-idle g c = λ first last apart.
-    let x = c.in-Ok-Shown.first in
-    let y = c.in-Ok-Shown.last in
-    let p = c.args.address / 512 in
-    let q = last_page c.args.address (length c.args.bytes.now) in
-    let one = c.in-Ok-Shown.ensures.idle first last apart in
-    let whole = at_shown (λ x y. IsWhole (state c.args.self.now).slots x p × IsWhole (state c.args.self.now).slots y q) c.in-Ok-Shown.field-0 x y c.in-Ok-Shown.field-0-is one.0 in
-    let x_whole : IsWhole (state c.refer.new.self).slots x p = rw one.2 whole.0 in
-    let y_whole : IsWhole (state c.refer.new.self).slots y q = rw one.2 whole.1 in
-    let two = c.in-Err-store_shown.ensures.idle x_whole y_whole in
-    (two.0, rw (← one.2) two.1, one.3)
-
--- ---- A page has no sector.
-
-pub returns-in-Err-clause-missing : goal.returns-in-Err-clause-missing
-returns-in-Err-clause-missing g c = λ ss s.
-    let v = state c.args.self.now in
-    let n = length c.args.bytes.now in
-    reach_misses (BreaksFor v c.args.self.now.intervals c.args.address n) v (state c.refer.new.self) (shown_units ss c.args.address n) c.in-Err.halt c.in-Err.ensures.cause
-
-pub returns-in-Err-store_shown-clause-missing : goal.returns-in-Err-store_shown-clause-missing
-returns-in-Err-store_shown-clause-missing g c = λ ss s.
-    let x = c.in-Ok-Shown.first in
-    let y = c.in-Ok-Shown.last in
-    let a = c.args.address in
-    let n = length c.args.bytes.now in
-    let mid = c.in-Ok-Shown.ensures.sees ss s in
-    let form = at_shown (λ x y. Shows x (a / 512) × Shows y (last_page a n)) c.in-Ok-Shown.field-0 x y c.in-Ok-Shown.field-0-is c.in-Ok-Shown.ensures.form in
-    let at = at_shown (λ x y. IsIntervalAt ss (a / 512) x × IsIntervalAt ss (last_page a n) y) c.in-Ok-Shown.field-0 x y c.in-Ok-Shown.field-0-is (c.in-Ok-Shown.ensures.seen ss s) in
-    misses_wider (both_units x y a n) (shown_units ss a n) (λ id number one. elim one [
-      | inl own ↦ inl (unit_shown mid x (a / 512) at.0 form.0.mapped id number own)
-      | inr own ↦ inr (unit_shown mid y (last_page a n) at.1 form.1.mapped id number own)
-    ]) c.in-Err-store_shown.halt c.in-Err-store_shown.ensures.misses
-
--- ---- The tables are revealed.
-
-pub returns-in-Ok-clause-sees : goal.returns-in-Ok-clause-sees
-returns-in-Ok-clause-sees g c =
-    let x = c.in-Ok-Shown.first in
-    let y = c.in-Ok-Shown.last in
-    λ ss s. sees_touched (c.in-Ok-Shown.ensures.sees ss s) (of_reference x y c.args.address (length c.args.bytes.now)) (view_of c.store_shown.new.filer) c.store_shown.ensures.touches
-
-pub returns-in-Err-store_shown-clause-sees : goal.returns-in-Err-store_shown-clause-sees
-returns-in-Err-store_shown-clause-sees g c =
-    let x = c.in-Ok-Shown.first in
-    let y = c.in-Ok-Shown.last in
-    λ ss s. sees_touched (c.in-Ok-Shown.ensures.sees ss s) (of_reference x y c.args.address (length c.args.bytes.now)) (view_of c.store_shown.new.filer) c.store_shown.ensures.touches
-
-pub returns-in-Err-clause-right : goal.returns-in-Err-clause-right
-returns-in-Err-clause-right g c = λ ss s. reference_never_blames s c.args.self.now.some (state c.refer.new.self) c.in-Err.halt c.args.address (length c.args.bytes.now) (returns-in-Err-clause-cause g c)
-
-pub returns-in-Err-store_shown-clause-right : goal.returns-in-Err-store_shown-clause-right
-returns-in-Err-store_shown-clause-right g c = λ ss s. reference_never_blames s c.args.self.now.some (view_of c.store_shown.new.filer) c.in-Err-store_shown.halt c.args.address (length c.args.bytes.now) (returns-in-Err-store_shown-clause-cause g c)
+pub returns-clause-shown : goal.returns-clause-shown
+returns-clause-shown g c = rw (c.store_at_hand.ensures.left c.if-store_at_hand.false) at c.bring_and_store.ensures.shown

@@ -1,0 +1,120 @@
+//! A reference on one page that is ready: a kept interval shows it, and its whole swap unit is resident. No table is asked.
+ghost use Rattle.std.specs.Prelude.{◌≡◌, ◌≢◌, ◌≤◌, ◌/◌, ℕ, true, false, List, length, None, IfSome};
+ghost use Rattle.labelled_disk.specs.Sectors.{Sector};
+ghost use Rattle.descriptor_cache.specs.Cache.{kept_in};
+ghost use Rattle.file_map.specs.FileMap.{Triples};
+ghost use Rattle.flat_machine.specs.declared.space.Space.{Space};
+ghost use Rattle.frame_pool.specs.Frames.{HasPage};
+ghost use Rattle.swap_units.specs.Mode.{is_mapped};
+ghost use Rattle.filer_kernel.specs.View.{view_of};
+ghost use Rattle.fault_core.specs.Access.{Shows, is_load_only};
+ghost use Rattle.fault_core.specs.Kept.{AreFormed};
+ghost use Rattle.fault_core.specs.Moves.{Loads};
+ghost use Rattle.fault_core.specs.Ready.{IsAtHand, IsChanged};
+ghost use Rattle.fault_core.specs.Revealed.{Revealed};
+ghost use Rattle.fault_core.specs.Unit.{IsWhole, file_page};
+
+use crate::attempt::slot_at;
+use crate::frames::{change_in, copy_out};
+use crate::unit::{is_there, unit_run};
+use descriptor_cache::DescriptorCache;
+use filer_kernel::Filer;
+use labelled_disk::{Disk, PAGE_BYTES};
+use std::alloc::Allocator;
+use swap_units::Interval;
+
+// Whether the pages of an interval may be loaded, or stored to.
+fn lets(x: &Interval, writes: bool) -> bool
+    ensures mapped { result ≡ true → is_mapped x.now.mode ≡ true }
+    ensures allowed { result ≡ true → writes ≡ true → is_load_only x.now ≡ false }
+{
+    if writes {
+        return x.mode.is_writable();
+    }
+    x.mode.is_mapped()
+}
+
+// The slot of a page that an interval shows, where its whole swap unit is resident.
+fn whole_slot<D: Disk, A: Allocator>(
+    filer: &mut Filer<D, A>,
+    x: &Interval,
+    page: u32,
+) -> Option<u32>
+    requires shows { Shows x.now page }
+    ensures slot { IfSome result (λ i. HasPage (view_of filer.old).slots i x.now.id (file_page x.now page)) }
+    ensures whole { result ≢ None → IsWhole (view_of filer.old).slots x.now page }
+    ensures same { filer.new ≡ filer.old }
+{
+    let (first, pages) = unit_run(x, page);
+    if !is_there(filer, x.id, first, pages) {
+        return None;
+    }
+    slot_at(filer, x, page)
+}
+
+// The slot of the page of a reference, where the reference is on one page, and that is ready.
+fn slot_at_hand<D: Disk, A: Allocator>(
+    filer: &mut Filer<D, A>,
+    kept: &DescriptorCache,
+    address: u32,
+    count: usize,
+    writes: bool,
+) -> Option<u32>
+    requires formed { AreFormed (kept_in kept.now) }
+    ensures ready { IfSome result (IsAtHand (kept_in kept.now) (view_of filer.old).slots writes address count) }
+    ensures same { filer.new ≡ filer.old }
+{
+    if count > PAGE_BYTES - (address % PAGE_BYTES as u32) as usize {
+        return None;
+    }
+    let page = address / PAGE_BYTES as u32;
+    let Some(x) = kept.look(page) else {
+        return None;
+    };
+    if !lets(&x, writes) {
+        return None;
+    }
+    whole_slot(filer, &x, page)
+}
+
+/// Loads bytes of a page that is ready, and says whether it did.
+pub(crate) fn load_at_hand<D: Disk, A: Allocator>(
+    filer: &mut Filer<D, A>,
+    kept: &DescriptorCache,
+    address: u32,
+    into: &mut [u8],
+) -> bool
+    requires formed { AreFormed (kept_in kept.now) }
+    ensures ready { result ≡ true → (slot : ℕ)
+        × IsAtHand (kept_in kept.now) (view_of filer.old).slots false address (length into.old) slot }
+    ensures bytes { (n : ℕ) (m : List Sector) (named : Triples) (ss : List Space) → result ≡ true
+        → Revealed (view_of filer.old) (kept_in kept.now) n m named ss → Loads ss address into.new m }
+    ensures width { length into.new ≡ length into.old }
+    ensures left { result ≡ false → into.new ≡ into.old }
+    ensures same { filer.new ≡ filer.old }
+{
+    let Some(slot) = slot_at_hand(filer, kept, address, into.len(), false) else {
+        return false;
+    };
+    copy_out(filer, slot, (address % PAGE_BYTES as u32) as usize, into);
+    true
+}
+
+/// Stores bytes to a page that is ready, and says whether it did. The frame is dirty then.
+pub(crate) fn store_at_hand<D: Disk, A: Allocator>(
+    filer: &mut Filer<D, A>,
+    kept: &DescriptorCache,
+    address: u32,
+    bytes: &[u8],
+) -> bool
+    requires formed { AreFormed (kept_in kept.now) }
+    ensures stored { result ≡ true
+        → IsChanged (kept_in kept.now) address bytes.now (view_of filer.old) (view_of filer.new) }
+    ensures left { result ≡ false → filer.new ≡ filer.old }
+{
+    let Some(slot) = slot_at_hand(filer, kept, address, bytes.len(), true) else {
+        return false;
+    };
+    change_in(filer, slot, address % PAGE_BYTES as u32, bytes);
+    true
+}
