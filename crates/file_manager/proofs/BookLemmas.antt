@@ -25,7 +25,7 @@ use Rattle.swapper_kernel.specs.Homes.{IsLayout, AreNamed, Brings, IsNamed}
 use Rattle.swapper_kernel.specs.Maps.{IsMapHome}
 use Rattle.swapper_kernel.specs.Stands.{Stands, labels_of}
 use Rattle.swapper_kernel.specs.DiffersLaws.{sector_of_label}
-use Rattle.session_words.specs.Parts.{Shape, Shapes, HasMapLabels, HasTriples, IsLeader, IsTriple, is_owned}
+use Rattle.session_words.specs.Parts.{Shape, Shapes, HasMapLabels, HasTriples, IsLeader, IsTriple, is_owned_upto}
 use Rattle.session_words.specs.GrowLaws.{AreFree, grown_labels}
 use Rattle.session_words.proofs.LooseLemmas.{names_id}
 use Rattle.session_words.specs.FrameLaws.{HasFrames}
@@ -35,9 +35,9 @@ use Rattle.filer_kernel.specs.declared.cached.CachedRuns.{CachedRuns}
 use Rattle.filer_kernel.specs.Cached.{runs_of}
 use Rattle.filer_kernel.specs.Triples.{MapIs, AreOf}
 use Rattle.filer_kernel.specs.PlaceLaws.{data_first}
-use Rattle.file_manager.specs.Book.{AreTrue, IsBooked, Books, BringsOwn}
+use Rattle.file_manager.specs.Book.{AreTrue, IsBookedUpto, BooksUpto, BringsOwn}
 
-module _ (layout : Layout) (runs : List Run) (shapes : Shapes) (x : List Sector) (is : IsLayout layout) (booked : IsBooked layout runs shapes x) where
+module _ {tables : ℕ} (layout : Layout) (runs : List Run) (shapes : Shapes) (x : List Sector) (is : IsLayout layout) (booked : IsBookedUpto tables layout runs shapes x) where
   -- the map is one that the filer finds
   pub map_is : MapIs layout booked.named x
   map_is =
@@ -93,8 +93,8 @@ own_maps FileMap layout before after brings = record {
 }
 
 -- where the memory stands still, with runs that are the map's, the book is as it was
-pub books_stay : (layout : Layout) (old new : DiskState) (before after : Slots) (kept runs : CachedRuns) (shapes : Shapes) (spaces : List Space) (x : List Sector) (books : Books old before layout kept shapes spaces x)
-    → Stands new after x → BringsOwn before after → AreOf books.booked.named (runs_of layout.sectors runs) → Books new after layout runs shapes spaces x
+pub books_stay : {tables : ℕ} (layout : Layout) (old new : DiskState) (before after : Slots) (kept runs : CachedRuns) (shapes : Shapes) (spaces : List Space) (x : List Sector) (books : BooksUpto tables old before layout kept shapes spaces x)
+    → Stands new after x → BringsOwn before after → AreOf books.booked.named (runs_of layout.sectors runs) → BooksUpto tables new after layout runs shapes spaces x
 books_stay layout old new before after kept runs shapes spaces x books stands brings of =
     let b = books.booked in
     record {
@@ -119,21 +119,21 @@ held_within : (r : Run) (id page : ℕ) → holds r id page ≡ true → (r.firs
 held_within r id page has = (grind (arith, nat_tests), grind (arith, nat_tests))
 
 -- a file's leader is one of the pages that labels name
-pub leader_owned : (shapes : Shapes) (id : ℕ) (f : Shape) → shapes id ≡ Some f → is_owned shapes id leader_page ≡ true
-leader_owned shapes id f is = rw is (or_true (id == 3 && nat_lt leader_page 96))
+pub leader_owned : (tables : ℕ) (shapes : Shapes) (id : ℕ) (f : Shape) → shapes id ≡ Some f → is_owned_upto tables shapes id leader_page ≡ true
+leader_owned tables shapes id f is = rw is (or_true (id == 3 && nat_lt leader_page tables))
   where
     or_true : (b : Bool) → (b || true) ≡ true
     or_true true = refl
     or_true false = refl
 
 -- where no sector is named for a file's leader, there is no such file
-pub no_leader : (layout : Layout) (runs : List Run) (shapes : Shapes) (x : List Sector) (b : IsBooked layout runs shapes x) (id : ℕ) → IsNowhere b.named id leader_page → shapes id ≡ None
-no_leader layout runs shapes x b id nowhere = either (shapes id) refl
+pub no_leader : {tables : ℕ} (layout : Layout) (runs : List Run) (shapes : Shapes) (x : List Sector) (b : IsBookedUpto tables layout runs shapes x) (id : ℕ) → IsNowhere b.named id leader_page → shapes id ≡ None
+no_leader {tables = tables} layout runs shapes x b id nowhere = either (shapes id) refl
   where
     either : (o : Option Shape) → shapes id ≡ o → o ≡ None
     either None is = refl
     either (Some f) is =
-        let owned : is_owned shapes id leader_page ≡ true = leader_owned shapes id f is in
+        let owned : is_owned_upto tables shapes id leader_page ≡ true = leader_owned tables shapes id f is in
         let place = b.labels.pages.all id leader_page owned in
         let named = b.triples.all id leader_page place.place (record { label = place.label; there = place.there; taken = place.taken; same_id = place.same_id; same_page = place.same_page }) in
         absurd (true≢false (sym named ∙ nowhere place.place))
@@ -156,22 +156,22 @@ pub record LeaderReveals (labels : List Label) (shapes : Shapes) (id sector : �
   pub reveals : IsLeader label shape
   pub named : names label (record { id = id; page = leader_page }) ≡ true
 
-pub owned_shape : (shapes : Shapes) (id page : ℕ) → 16 ≤ id → is_owned shapes id page ≡ true → (f : Shape) × (shapes id ≡ Some f)
-owned_shape shapes id page some owned = either (shapes id) refl
+pub owned_shape : (tables : ℕ) (shapes : Shapes) (id page : ℕ) → 16 ≤ id → is_owned_upto tables shapes id page ≡ true → (f : Shape) × (shapes id ≡ Some f)
+owned_shape tables shapes id page some owned = either (shapes id) refl
   where
     either : (o : Option Shape) → shapes id ≡ o → (f : Shape) × (shapes id ≡ Some f)
     either (Some f) is = (f, is)
     either None is =
         let small : (id == 3) ≡ false = grind (arith, nat_tests) in
-        let none : is_owned shapes id page ≡ false = rw (small, is) refl in
+        let none : is_owned_upto tables shapes id page ≡ false = rw (small, is) refl in
         absurd (true≢false (sym owned ∙ none))
 
-pub leader_reveals : (layout : Layout) (runs : List Run) (shapes : Shapes) (x : List Sector) (b : IsBooked layout runs shapes x) (id sector : ℕ) → 16 ≤ id → IsTriple (labels_of x) id leader_page sector
+pub leader_reveals : {tables : ℕ} (layout : Layout) (runs : List Run) (shapes : Shapes) (x : List Sector) (b : IsBookedUpto tables layout runs shapes x) (id sector : ℕ) → 16 ≤ id → IsTriple (labels_of x) id leader_page sector
     → LeaderReveals (labels_of x) shapes id sector
-leader_reveals layout runs shapes x b id sector some triple =
+leader_reveals {tables = tables} layout runs shapes x b id sector some triple =
     let owned = b.labels.pages.only sector triple.label triple.there triple.taken in
-    let own : is_owned shapes id leader_page ≡ true = (λ j. is_owned shapes (sym triple.same_id j) (sym triple.same_page j)) ∙ owned.is in
-    let f = owned_shape shapes id leader_page some own in
+    let own : is_owned_upto tables shapes id leader_page ≡ true = (λ j. is_owned_upto tables shapes (sym triple.same_id j) (sym triple.same_page j)) ∙ owned.is in
+    let f = owned_shape tables shapes id leader_page some own in
     record {
       label = triple.label;
       here = triple.there.here;

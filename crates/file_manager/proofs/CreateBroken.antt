@@ -31,7 +31,7 @@ use Rattle.file_manager.specs.Book.{Leads}
 use Rattle.file_manager.specs.Broken.{GrewSome}
 use Rattle.file_manager.specs.CreateBroken.{CreatedSome}
 use Rattle.file_manager.specs.Creating.{next_id, counted}
-use Rattle.file_manager.specs.Making.{MayCreate, MayGrow}
+use Rattle.file_manager.specs.Making.{MayCreateUpto, MayGrowUpto}
 use Rattle.file_manager.proofs.GrowBroken.{all_back, free_first, unused_first}
 use Rattle.file_manager.proofs.LeaderLemmas.{led, may_then}
 use Rattle.file_manager.proofs.NewFile.{began}
@@ -71,9 +71,9 @@ leader_broken {a = a} {b = b} {s = s} {t = t} id kind pages x some = either some
     either (i ∷ j ∷ is) few free n makes = absurd (omega (arith, few))
 
 -- a stop after it
-pub pages_broken : (layout : Layout) (is_layout : IsLayout layout) (kept : CachedRuns) (shapes : Shapes) (spaces : List Space) (x : List Sector) (d0 : DiskState) (s0 : Slots) (id kind pages : ℕ)
-    (of_file : is_file_id id ≡ true) (may : MayCreate d0 s0 layout kept shapes spaces id pages x) (leader : ℕ) (d : DiskState) (s : Slots) (leads : Leads (Grows id kind leader_page (leader ∷ [])) (growth id kind leader_page (leader ∷ [])) d0 s0 layout d s kept)
-    (d2 : DiskState) (s2 : Slots) → ((y : List Sector) (ss : Shapes) (sp : List Space) (f : Shape) → MayGrow d s layout kept ss sp id f pages y → f.size ≡ 0 → GrewSome id kind 0 (pages - 0) y d s d2 s2) → CreatedSome [] id kind pages x d0 s0 d2 s2
+pub pages_broken : {tables : ℕ} (layout : Layout) (is_layout : IsLayout layout) (kept : CachedRuns) (shapes : Shapes) (spaces : List Space) (x : List Sector) (d0 : DiskState) (s0 : Slots) (id kind pages : ℕ)
+    (of_file : is_file_id id ≡ true) (may : MayCreateUpto tables d0 s0 layout kept shapes spaces id pages x) (leader : ℕ) (d : DiskState) (s : Slots) (leads : Leads (Grows id kind leader_page (leader ∷ [])) (growth id kind leader_page (leader ∷ [])) d0 s0 layout d s kept)
+    (d2 : DiskState) (s2 : Slots) → ((y : List Sector) (ss : Shapes) (sp : List Space) (f : Shape) → MayGrowUpto tables d s layout kept ss sp id f pages y → f.size ≡ 0 → GrewSome id kind 0 (pages - 0) y d s d2 s2) → CreatedSome [] id kind pages x d0 s0 d2 s2
 pages_broken layout is_layout kept shapes spaces x d0 s0 id kind pages of_file may leader d s leads d2 s2 broken =
     let y = led layout is_layout kept shapes spaces x d0 s0 id kind pages of_file may leader d s leads in
     let rest = broken y.0 _ spaces _ (may_then layout is_layout kept shapes spaces x d0 s0 id kind pages of_file may leader d s leads) refl in

@@ -36,31 +36,31 @@ use Rattle.label_calls.specs.Labels.{IsNotOf}
 use Rattle.filer_kernel.specs.Causes.{MapShows, MapEvidence, MapHalts, IsRunHome}
 use Rattle.session_words.specs.FrameLaws.{HasFrames}
 use Rattle.session_words.specs.Volume.{volume_page}
-use Rattle.session_words.specs.Parts.{Shape, Shapes, IsLeader, IsTriple, is_owned}
+use Rattle.session_words.specs.Parts.{Shape, Shapes, IsLeader, IsTriple, is_owned_upto}
 use Rattle.file_manager.specs.Finding.{FileHalts, shape_of_leader}
-use Rattle.file_manager.specs.Book.{IsBooked, Books, BringsOwn}
+use Rattle.file_manager.specs.Book.{IsBookedUpto, BooksUpto, BringsOwn}
 use Rattle.file_manager.proofs.BookLemmas.{leader_reveals}
 use Rattle.file_manager.proofs.FreedRun.{map_makes, map_brings}
 
 -- the pages of a file are those below its size, and its leader
-pub page_below : (shapes : Shapes) (id page : ℕ) (f : Shape) → 16 ≤ id → shapes id ≡ Some f → page ≢ leader_page → is_owned shapes id page ≡ true → page < f.size
-page_below shapes id page f some is other owned =
+pub page_below : (tables : ℕ) (shapes : Shapes) (id page : ℕ) (f : Shape) → 16 ≤ id → shapes id ≡ Some f → page ≢ leader_page → is_owned_upto tables shapes id page ≡ true → page < f.size
+page_below tables shapes id page f some is other owned =
     let three : (id == 3) ≡ false = ne_eqb id 3 (λ q. omega (arith, q, some)) in
     let last : (page == leader_page) ≡ false = ne_eqb page leader_page other in
-    let same : is_owned shapes id page ≡ nat_lt page f.size = λ j. (three j && nat_lt page 96) || option_map_or (λ (g : Shape). last j || nat_lt page g.size) (is j) false in
+    let same : is_owned_upto tables shapes id page ≡ nat_lt page f.size = λ j. (three j && nat_lt page tables) || option_map_or (λ (g : Shape). last j || nat_lt page g.size) (is j) false in
     ltb-true page f.size (sym same ∙ owned)
 
-pub below_owned : (shapes : Shapes) (id page : ℕ) (f : Shape) → shapes id ≡ Some f → page < f.size → is_owned shapes id page ≡ true
-below_owned shapes id page f is below =
+pub below_owned : (tables : ℕ) (shapes : Shapes) (id page : ℕ) (f : Shape) → shapes id ≡ Some f → page < f.size → is_owned_upto tables shapes id page ≡ true
+below_owned tables shapes id page f is below =
     let x : nat_lt page f.size ≡ true = grind (arith, nat_tests) in
-    rw (is, x) (either (id == 3 && nat_lt page 96) (page == leader_page))
+    rw (is, x) (either (id == 3 && nat_lt page tables) (page == leader_page))
   where
     either : (a b : Bool) → (a || (b || true)) ≡ true
     either true b = refl
     either false true = refl
     either false false = refl
 
-module _ (layout : Layout) (runs : List Run) (shapes : Shapes) (x : List Sector) (b : IsBooked layout runs shapes x) (id : ℕ) (some : 16 ≤ id) where
+module _ {tables : ℕ} (layout : Layout) (runs : List Run) (shapes : Shapes) (x : List Sector) (b : IsBookedUpto tables layout runs shapes x) (id : ℕ) (some : 16 ≤ id) where
   -- the map's size of a file is that of its shape
   pub size_is : (f : Shape) → shapes id ≡ Some f → (size : ℕ) → IsSize b.named id size → size ≡ f.size
   size_is f is size found =
@@ -74,15 +74,15 @@ module _ (layout : Layout) (runs : List Run) (shapes : Shapes) (x : List Sector)
           let last = found.reached p (let z : p + 1 ≡ size = omega (arith, same) in z) in
           let t = b.triples.only id p last.0 last.1 in
           let o = b.labels.pages.only last.0 t.label t.there t.taken in
-          let owned : is_owned shapes id p ≡ true = (λ j. is_owned shapes (sym t.same_id j) (sym t.same_page j)) ∙ o.is in
+          let owned : is_owned_upto tables shapes id p ≡ true = (λ j. is_owned_upto tables shapes (sym t.same_id j) (sym t.same_page j)) ∙ o.is in
           let under = found.below in
-          let below = page_below shapes id p f some is (λ q. omega (arith, q, same, under)) owned in
+          let below = page_below tables shapes id p f some is (λ q. omega (arith, q, same, under)) owned in
           omega (arith, below)
 
       no_fewer : (n : ℕ) → n ≡ f.size → n ≤ size
       no_fewer zero same = omega arith
       no_fewer (suc p) same =
-          let place = b.labels.pages.all id p (below_owned shapes id p f is (omega (arith, same))) in
+          let place = b.labels.pages.all id p (below_owned tables shapes id p f is (omega (arith, same))) in
           let named = b.triples.all id p place.place (record { label = place.label; there = place.there; taken = place.taken; same_id = place.same_id; same_page = place.same_page }) in
           let short = b.files.short id f is in
           let below = found.highest p place.place named (omega (arith, same, short)) in
@@ -148,11 +148,11 @@ leader_halts layout kept id a c s (Damaged e) h = inl h
 stands_read : {a b : DiskState} {s t : Slots} {m : List Sector} → RevealsSame a b → t ≡ s → Stands a s m → Stands b t m
 stands_read {b = b} {m = m} revealed frames h = subst (λ (q : Slots). Stands b q m) (sym frames) (record { sectors = h.sectors; revealed = revealed.contents ∙ h.revealed; merged = h.merged })
 
-pub books_read : {layout : Layout} {runs kept : CachedRuns} {shapes : Shapes} {spaces : List Space} {x : List Sector} {a b : DiskState} {s t : Slots} → RevealsSame a b → t ≡ s → kept ≡ runs
-    → Books a s layout runs shapes spaces x → Books b t layout kept shapes spaces x
-books_read {layout = layout} {shapes = shapes} {spaces = spaces} {x = x} revealed frames same books = record {
+pub books_read : {tables : ℕ} {layout : Layout} {runs kept : CachedRuns} {shapes : Shapes} {spaces : List Space} {x : List Sector} {a b : DiskState} {s t : Slots} → RevealsSame a b → t ≡ s → kept ≡ runs
+    → BooksUpto tables a s layout runs shapes spaces x → BooksUpto tables b t layout kept shapes spaces x
+books_read {tables = tables} {layout = layout} {shapes = shapes} {spaces = spaces} {x = x} revealed frames same books = record {
   stands = stands_read revealed frames books.stands;
-  booked = subst (λ (r : CachedRuns). IsBooked layout (runs_of layout.sectors r) shapes x) (sym same) books.booked;
+  booked = subst (λ (r : CachedRuns). IsBookedUpto tables layout (runs_of layout.sectors r) shapes x) (sym same) books.booked;
   frames = subst (λ (q : Slots). HasFrames q spaces) (sym frames) books.frames;
 }
 

@@ -33,9 +33,9 @@ use Rattle.filer_kernel.specs.declared.cached.CachedRuns.{CachedRuns}
 use Rattle.session_words.specs.Parts.{Shape, Shapes}
 use Rattle.session_words.specs.GrowLaws.{IsFree, AreFree, Grows, grown_labels}
 use Rattle.session_words.specs.Volume.{volume_page}
-use Rattle.file_manager.specs.Book.{Books, Leads}
+use Rattle.file_manager.specs.Book.{BooksUpto, Leads}
 use Rattle.file_manager.specs.Broken.{GrewSome}
-use Rattle.file_manager.specs.Making.{AreUnowned, ShowsNoFree, MayGrow, free_count, sectors_of}
+use Rattle.file_manager.specs.Making.{AreUnownedUpto, ShowsNoFree, MayGrowUpto, free_count, sectors_of}
 use Rattle.file_manager.proofs.GrowSteps.{free_append, growth_append}
 use Rattle.file_manager.proofs.RunLeads.{map_makes, added_makes, take_all}
 use Rattle.file_manager.proofs.UpLemmas.{after, books_then, unowned_then, some_then}
@@ -77,11 +77,11 @@ few_more n a b from page end sum long few above below = omega (arith, sum, long,
 module _ (id kind from end page : ℕ) (d0 : DiskState) (s0 : Slots) (layout : Layout) (is_layout : IsLayout layout) (kept : CachedRuns) (d : DiskState) (s : Slots) (later : Layout) (runs : CachedRuns)
     (up : IsUpTo id kind from end page d0 s0 layout kept d s later runs) (short : end < leader_page) where
   pub up_broken : (d2 : DiskState) (s2 : Slots) → page < end
-      → ((x : List Sector) (shapes : Shapes) (spaces : List Space) → Books d s later runs shapes spaces x → ShowsNoFree spaces → AreUnowned shapes id page (end - page) → 1 ≤ free_count later x → GrewSome id kind page (end - page) x d s d2 s2)
-      → (x : List Sector) (shapes : Shapes) (spaces : List Space) (f : Shape) → MayGrow d0 s0 layout kept shapes spaces id f end x → f.size ≡ from → GrewSome id kind from (end - from) x d0 s0 d2 s2
-  up_broken d2 s2 below broken x shapes spaces f may size =
+      → ((tables : ℕ) (x : List Sector) (shapes : Shapes) (spaces : List Space) → BooksUpto tables d s later runs shapes spaces x → ShowsNoFree spaces → AreUnownedUpto tables shapes id page (end - page) → 1 ≤ free_count later x → GrewSome id kind page (end - page) x d s d2 s2)
+      → (tables : ℕ) (x : List Sector) (shapes : Shapes) (spaces : List Space) (f : Shape) → MayGrowUpto tables d0 s0 layout kept shapes spaces id f end x → f.size ≡ from → GrewSome id kind from (end - from) x d0 s0 d2 s2
+  up_broken d2 s2 below broken tables x shapes spaces f may size =
       let above = up.above in
-      let g = up.revealed x shapes spaces f may size in
+      let g = up.revealed tables x shapes spaces f may size in
       let long = g.long in
       let at : f.size + length g.sectors ≡ page = reached from f.size (length g.sectors) page size long above in
       let so_far : from + length g.sectors ≡ page = reached from from (length g.sectors) page refl long above in
@@ -90,7 +90,7 @@ module _ (id kind from end page : ℕ) (d0 : DiskState) (s0 : Slots) (layout : L
       let books = books_then layout is_layout kept shapes spaces x d0 s0 id kind f end may short g.sectors page at up.below d s leads in
       let unowned = unowned_then layout is_layout kept shapes spaces x d0 s0 id kind f end may short g.sectors page at up.below d s leads in
       let some = some_then layout is_layout kept shapes spaces x d0 s0 id kind f end may short g.sectors page at up.below d s leads below in
-      let rest = (rw (up.same_layout, up.same_runs) at broken) y.0 _ spaces books may.hidden unowned some in
+      let rest = (rw (up.same_layout, up.same_runs) at broken) tables y.0 _ spaces books may.hidden unowned some in
       let first_free : AreFree id kind from g.sectors (labels_of x) = subst (λ (n : ℕ). AreFree id kind n g.sectors (labels_of x)) size y.2.grown.free in
       let labels : labels_of y.0 ≡ grown_labels id kind from g.sectors (labels_of x) = subst (λ (n : ℕ). labels_of y.0 ≡ grown_labels id kind n g.sectors (labels_of x)) size y.2.grown.labels in
       record {

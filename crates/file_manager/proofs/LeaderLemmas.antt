@@ -23,19 +23,19 @@ use Rattle.swapper_kernel.specs.Goes.{Makes}
 use Rattle.swapper_kernel.specs.GoesLaws.{goes_then, makes_then}
 use Rattle.swapper_kernel.specs.HaltLaws.{brings_then}
 use Rattle.filer_kernel.specs.declared.cached.CachedRuns.{CachedRuns}
-use Rattle.session_words.specs.Parts.{Shape, Shapes, HasLabels, HasMapLabels, MarksFit, HasTriples, is_owned, is_marked}
+use Rattle.session_words.specs.Parts.{Shape, Shapes, HasLabelsUpto, HasMapLabels, MarksFit, HasTriples, is_owned_upto, is_marked}
 use Rattle.session_words.specs.Found.{AreShapes}
 use Rattle.session_words.specs.PlaceLaws.{IsMade, with_shape, shape_by}
 use Rattle.session_words.specs.GrowLaws.{Grows, grown_labels, grown_marks, grown_names}
 use Rattle.session_words.specs.Volume.{volume_page}
 use Rattle.session_words.proofs.BitLemmas.{bits_alike}
 use Rattle.session_words.proofs.BookLemmas.{bits_set, triples_made}
-use Rattle.session_words.proofs.FoundLemmas.{owner, above_reserved}
+use Rattle.session_words.proofs.FoundLemmas.{owner_upto, above_reserved}
 use Rattle.session_words.proofs.GrownLemmas.{page_label_named, grown_long, map_labels_grown, with_here}
 use Rattle.session_words.proofs.PlaceLemmas.{labels_created}
 use Rattle.file_manager.proofs.BookLemmas.{root_label_grown}
 use Rattle.file_manager.specs.Book.{Leads}
-use Rattle.file_manager.specs.Making.{AreUnowned, MayGrow, MayCreate, GrownBy, MakesAll, MakesSome, LedAndGrown, CreatedBy, CreatesAll, CreatesSome, IsRunFor, sectors_of}
+use Rattle.file_manager.specs.Making.{AreUnownedUpto, MayGrowUpto, MayCreateUpto, GrownBy, MakesAll, MakesSome, LedAndGrown, CreatedBy, CreatesAll, CreatesSome, IsRunFor, sectors_of}
 use Rattle.file_manager.proofs.GrowSteps.{long_grown}
 use Rattle.file_manager.proofs.RunLeads.{own_known}
 use Rattle.file_manager.proofs.UpLemmas.{free_left}
@@ -49,15 +49,15 @@ one_sector n id page run for_it =
     ap (range_with_len run.sector) one
 
 -- no shape has the file, so no page of it
-pub unowned_file : (shapes : Shapes) (id page pages : ℕ) → 16 ≤ id → shapes id ≡ None → AreUnowned shapes id page pages
-unowned_file shapes id page pages high none p above below = either (is_owned shapes id p) refl
+pub unowned_file : (tables : ℕ) (shapes : Shapes) (id page pages : ℕ) → 16 ≤ id → shapes id ≡ None → AreUnownedUpto tables shapes id page pages
+unowned_file tables shapes id page pages high none p above below = either (is_owned_upto tables shapes id p) refl
   where
-    either : (b : Bool) → is_owned shapes id p ≡ b → is_owned shapes id p ≡ false
+    either : (b : Bool) → is_owned_upto tables shapes id p ≡ b → is_owned_upto tables shapes id p ≡ false
     either false e = e
-    either true e = let g = owner shapes id p (λ q. omega (arith, q, high)) e in absurd (none-some g.0 (sym none ∙ g.1))
+    either true e = let g = owner_upto tables shapes id p (λ q. omega (arith, q, high)) e in absurd (none-some g.0 (sym none ∙ g.1))
 
-module _ (layout : Layout) (is_layout : IsLayout layout) (kept : CachedRuns) (shapes : Shapes) (spaces : List Space) (x : List Sector) (d0 : DiskState) (s0 : Slots)
-    (id kind pages : ℕ) (of_file : is_file_id id ≡ true) (may : MayCreate d0 s0 layout kept shapes spaces id pages x) (leader : ℕ) (d : DiskState) (s : Slots)
+module _ {tables : ℕ} (layout : Layout) (is_layout : IsLayout layout) (kept : CachedRuns) (shapes : Shapes) (spaces : List Space) (x : List Sector) (d0 : DiskState) (s0 : Slots)
+    (id kind pages : ℕ) (of_file : is_file_id id ≡ true) (may : MayCreateUpto tables d0 s0 layout kept shapes spaces id pages x) (leader : ℕ) (d : DiskState) (s : Slots)
     (leads : Leads (Grows id kind leader_page (leader ∷ [])) (growth id kind leader_page (leader ∷ [])) d0 s0 layout d s kept) where
   made_shape : Shape
   made_shape = shape_by (page_label id kind leader_page)
@@ -79,7 +79,7 @@ module _ (layout : Layout) (is_layout : IsLayout layout) (kept : CachedRuns) (sh
       short i h true found = let size : 0 ≡ h.size = ap (λ (w : Shape). w.size) (same_Some (shape_by (page_label id kind leader_page)) h found) in omega (arith, size)
       short i h false found = may.are.short i h found
 
-  pub may_then : MayGrow d s layout kept (with_shape shapes id (shape_by (page_label id kind leader_page))) spaces id (shape_by (page_label id kind leader_page)) pages led.0
+  pub may_then : MayGrowUpto tables d s layout kept (with_shape shapes id (shape_by (page_label id kind leader_page))) spaces id (shape_by (page_label id kind leader_page)) pages led.0
   may_then =
       let booked = may.books.booked in
       let high = above_reserved id of_file in
@@ -88,13 +88,13 @@ module _ (layout : Layout) (is_layout : IsLayout layout) (kept : CachedRuns) (sh
       let new : Label = page_label id kind leader_page in
       let free = g.grown.free.0 in
       let taken : is_free (page_label id kind leader_page) ≡ false = ne_eqb id 0 (omega (arith, high)) in
-      let made : IsMade (labels_of x) leader (page_label id kind leader_page) (is_owned shapes) = record {
+      let made : IsMade (labels_of x) leader (page_label id kind leader_page) (is_owned_upto tables shapes) = record {
         old = free.label;
         there = free.there;
         free = free.free;
         taken = taken;
         named = page_label_named id kind leader_page;
-        fresh = unowned_file shapes id leader_page 1 high may.none leader_page (omega arith) (omega arith);
+        fresh = unowned_file tables shapes id leader_page 1 high may.none leader_page (omega arith) (omega arith);
       } in
       let long : length (grown_labels id kind leader_page (leader ∷ []) (labels_of x)) ≡ length x = grown_long id kind leader_page (leader ∷ []) (labels_of x) ∙ length-map x (λ s. s.0) in
       let some : 1 ≤ length (grown_labels id kind leader_page (leader ∷ []) (labels_of x)) = let b = booked.long in let c = is_layout.0.0 in omega (arith, long, b, c) in
@@ -114,7 +114,7 @@ module _ (layout : Layout) (is_layout : IsLayout layout) (kept : CachedRuns) (sh
             root_label = subst (λ (l : List Label). IsSomeAnd (slice_get l 0) (λ m. IsTrue (names m (record { id = 4; page = 0 })))) (sym g.grown.labels)
                 (root_label_grown id kind leader_page (leader ∷ []) (labels_of x) g.grown.free booked.root_label);
             map_labels = subst HasMapLabels (sym g.grown.labels) (map_labels_grown id kind leader_page (leader ∷ []) (labels_of x) g.grown.free booked.map_labels);
-            labels = subst (λ (l : List Label). HasLabels l (with_shape shapes id (shape_by (page_label id kind leader_page)))) (sym g.grown.labels)
+            labels = subst (λ (l : List Label). HasLabelsUpto tables l (with_shape shapes id (shape_by (page_label id kind leader_page)))) (sym g.grown.labels)
                 (labels_created (labels_of x) leader (page_label id kind leader_page) shapes booked.labels made (λ q. omega (arith, q, high)) may.none refl);
             bits = subst (MarksFit (is_marked led.0)) (sym g.grown.labels) (bits_alike (grown_labels id kind leader_page (leader ∷ []) (labels_of x)) (grown_marks (leader ∷ []) (is_marked x)) (is_marked led.0) some
                 (λ k below. g.bits k (subst (λ (n : ℕ). k < 4096 * vam n) long below)) bits);
@@ -149,14 +149,14 @@ module _ (layout : Layout) (is_layout : IsLayout layout) (kept : CachedRuns) (sh
 
   -- in the words of the loop over runs
   pub file_made : (d2 : DiskState) (s2 : Slots) (r2 : CachedRuns) → r2 ≡ kept
-      → ((y : List Sector) (ss : Shapes) (sp : List Space) (f : Shape) → MayGrow d s layout kept ss sp id f pages y → f.size ≡ 0 → GrownBy id kind 0 (pages - 0) d s layout d2 s2 r2) → CreatedBy id kind pages d0 s0 layout d2 s2 r2
+      → ((y : List Sector) (ss : Shapes) (sp : List Space) (f : Shape) → MayGrowUpto tables d s layout kept ss sp id f pages y → f.size ≡ 0 → GrownBy id kind 0 (pages - 0) d s layout d2 s2 r2) → CreatedBy id kind pages d0 s0 layout d2 s2 r2
   file_made d2 s2 r2 same made =
       let z : pages - 0 ≡ pages = omega arith in
       let grown = made led.0 _ spaces _ may_then refl in
       subst (λ (r : CachedRuns). CreatedBy id kind pages d0 s0 layout d2 s2 r) (sym same)
       (pages_then d2 s2 (subst (λ (r : CachedRuns). GrownBy id kind 0 pages d s layout d2 s2 r) same (subst (λ (n : ℕ). GrownBy id kind 0 n d s layout d2 s2 r2) z grown)))
 
-  pub file_sound : (e : Halt) → ((y : List Sector) (ss : Shapes) (sp : List Space) (f : Shape) → MayGrow d s layout kept ss sp id f pages y → f.size ≡ 0 → e ≡ halt.Disk) → e ≡ halt.Disk
+  pub file_sound : (e : Halt) → ((y : List Sector) (ss : Shapes) (sp : List Space) (f : Shape) → MayGrowUpto tables d s layout kept ss sp id f pages y → f.size ≡ 0 → e ≡ halt.Disk) → e ≡ halt.Disk
   file_sound e sound = sound led.0 _ spaces _ may_then refl
 
 -- the leader's run is one sector

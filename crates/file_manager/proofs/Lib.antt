@@ -29,6 +29,7 @@ pub mod MarkStops
 pub mod NextLemmas
 pub mod GrowBroken
 pub mod CreateBroken
+pub mod CreatedFile
 pub mod CountedLemmas
 pub mod FindingLemmas
 pub mod LookLemmas

@@ -36,7 +36,7 @@ use Rattle.label_calls.specs.declared.page.Mark.{Mark}
 use Rattle.label_calls.specs.declared.page.Mark.TheVariants.{Permanent, Immutable}
 use Rattle.label_calls.specs.Labels.{HasOne, MayHaveWritten, Relabels, ones_of, with_mark}
 use Rattle.file_manager.specs.Answer.{IsMarked, WritesMark}
-use Rattle.file_manager.specs.Book.{AreTrue, IsBooked, Books, BringsOwn}
+use Rattle.file_manager.specs.Book.{AreTrue, IsBookedUpto, BooksUpto, BringsOwn}
 use Rattle.file_manager.proofs.BookLemmas.{label_in, leader_reveals}
 
 same_elements : {X : Type 0} (xs ys : List X) → ((i : ℕ) → slice_get xs i ≡ slice_get ys i) → xs ≡ ys
@@ -57,7 +57,7 @@ goes_at P pages run old new before after x y makes first next is = record {
 }
 
 -- the label of a page of a file, in a sector before the data, is not there
-module _ (layout : Layout) (runs : List Run) (shapes : Shapes) (x : List Sector) (b : IsBooked layout runs shapes x) (id : ℕ) (some : 16 ≤ id) where
+module _ {tables : ℕ} (layout : Layout) (runs : List Run) (shapes : Shapes) (x : List Sector) (b : IsBookedUpto tables layout runs shapes x) (id : ℕ) (some : 16 ≤ id) where
   other_id : (l : Label) (k : ℕ) → slice_get (labels_of x) k ≡ Some l → k < first_data (length (labels_of x)) → l.id ≢ id
   unfolding first_data
   other_id l k here below same = elim (place k (vam (length (labels_of x))) (vfm (length (labels_of x))) below) [
@@ -145,7 +145,7 @@ low_flags : (l : Label) (id page : ℕ) → names l (record { id = id; page = pa
 low_flags l id page named = grind (arith, nat_tests)
 
 -- the memory whose leader has a mark more
-module _ (layout : Layout) (runs : List Run) (shapes : Shapes) (x : List Sector) (b : IsBooked layout runs shapes x) (id : ℕ) (some : 16 ≤ id) (mark : Mark)
+module _ {tables : ℕ} (layout : Layout) (runs : List Run) (shapes : Shapes) (x : List Sector) (b : IsBookedUpto tables layout runs shapes x) (id : ℕ) (some : 16 ≤ id) (mark : Mark)
     (sector : ℕ) (s : Sector) (here : slice_get x sector ≡ Some s) (t : IsTriple (labels_of x) id leader_page sector) where
   is_label : t.label ≡ s.0
   is_label = same_Some t.label s.0 (sym t.there.here ∙ label_here x sector s here)
@@ -207,8 +207,8 @@ module _ (layout : Layout) (runs : List Run) (shapes : Shapes) (x : List Sector)
       subst (Marks id (with_mark mark) x) (sym is) (record { labels = labels_marked; pages = set_pages x sector s (with_mark mark s.0) here; sectors = in_form })
 
 -- A mark that was written in the sector of the leader, after a search.
-pub marked_after : (layout : Layout) (old mid new : DiskState) (before between after : Slots) (kept runs : CachedRuns) (shapes : Shapes) (spaces : List Space) (x : List Sector) (id sector : ℕ) (mark : Mark) → 16 ≤ id
-    → Books old before layout kept shapes spaces x → Books mid between layout runs shapes spaces x → Makes volume_page [] old before mid between → BringsOwn before between
+pub marked_after : {tables : ℕ} (layout : Layout) (old mid new : DiskState) (before between after : Slots) (kept runs : CachedRuns) (shapes : Shapes) (spaces : List Space) (x : List Sector) (id sector : ℕ) (mark : Mark) → 16 ≤ id
+    → BooksUpto tables old before layout kept shapes spaces x → BooksUpto tables mid between layout runs shapes spaces x → Makes volume_page [] old before mid between → BringsOwn before between
     → IsTriple (labels_of x) id leader_page sector → is_shown spaces id leader_page ≡ false → after ≡ between
     → (label : Label) × Relabels (λ l. (l ≡ label) × ones_of (record { id = id; page = leader_page }) l) sector (LabelOnly sector (with_mark mark label)) mid between new
     → IsMarked id (with_mark mark) x old before layout new after runs
@@ -268,7 +268,7 @@ marked_sectors mark old new before after (inl none) = none.went.sectors
 marked_sectors mark old new before after (inr made) = made.2.went.sectors
 
 -- the leader of a file has a label that names it
-pub leader_one : (layout : Layout) (runs : List Run) (shapes : Shapes) (x : List Sector) (b : IsBooked layout runs shapes x) (id sector : ℕ) → 16 ≤ id → IsTriple (labels_of x) id leader_page sector → HasOne (ones_of (record { id = id; page = leader_page })) x sector
+pub leader_one : {tables : ℕ} (layout : Layout) (runs : List Run) (shapes : Shapes) (x : List Sector) (b : IsBookedUpto tables layout runs shapes x) (id sector : ℕ) → 16 ≤ id → IsTriple (labels_of x) id leader_page sector → HasOne (ones_of (record { id = id; page = leader_page })) x sector
 leader_one layout runs shapes x b id sector some t =
     let reveals = leader_reveals layout runs shapes x b id sector some t in
     let u = sector_of_label x sector reveals.label reveals.here in

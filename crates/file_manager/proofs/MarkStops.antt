@@ -20,7 +20,7 @@ use Rattle.filer_kernel.specs.declared.cached.CachedRuns.{CachedRuns}
 use Rattle.filer_kernel.specs.Cached.{runs_of}
 use Rattle.label_calls.specs.declared.page.Mark.{Mark}
 use Rattle.label_calls.specs.Labels.{MayHaveWritten, with_mark}
-use Rattle.file_manager.specs.Book.{Books}
+use Rattle.file_manager.specs.Book.{BooksUpto}
 use Rattle.file_manager.specs.Broken.{MarksFirst}
 use Rattle.file_manager.proofs.BookLemmas.{leader_reveals}
 use Rattle.file_manager.proofs.MarkLemmas.{leader_named}
@@ -32,8 +32,8 @@ label_on disk slots x stands sector s here label has =
     same_Some label t.0.0 (sym (has stands.sectors stands.revealed) ∙ ap (option_map (λ (u : Sector). u.0)) t.1) ∙ t.2
 
 -- after a search that wrote no label
-module _ (layout : Layout) (old mid new : DiskState) (before between after : Slots) (runs : CachedRuns) (shapes : Shapes) (spaces : List Space) (x : List Sector) (id sector : ℕ) (mark : Mark) (some : 16 ≤ id)
-    (books : Books mid between layout runs shapes spaces x) (first : Makes volume_page [] old before mid between) (t : IsTriple (labels_of x) id leader_page sector) (frames : after ≡ between) where
+module _ {tables : ℕ} (layout : Layout) (old mid new : DiskState) (before between after : Slots) (runs : CachedRuns) (shapes : Shapes) (spaces : List Space) (x : List Sector) (id sector : ℕ) (mark : Mark) (some : 16 ≤ id)
+    (books : BooksUpto tables mid between layout runs shapes spaces x) (first : Makes volume_page [] old before mid between) (t : IsTriple (labels_of x) id leader_page sector) (frames : after ≡ between) where
   wrote_none : Makes no_page [] mid between new after → MarksFirst id (with_mark mark) x old before new after
   wrote_none none = inl (makes_then first (makes_wider volume_page (λ i p no. absurd no) none))
 

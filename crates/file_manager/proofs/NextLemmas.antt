@@ -21,7 +21,7 @@ module _ (layout : Layout) (runs : List Run) (shapes : Shapes) (x : List Sector)
   -- the map names the leader of each file
   pub file_named : (id : ℕ) (f : Shape) → shapes id ≡ Some f → (sector : ℕ) × (b.named id leader_page sector ≡ true)
   file_named id f is =
-      let place = b.labels.pages.all id leader_page (leader_owned shapes id f is) in
+      let place = b.labels.pages.all id leader_page (leader_owned 96 shapes id f is) in
       (place.place, b.triples.all id leader_page place.place (record { label = place.label; there = place.there; taken = place.taken; same_id = place.same_id; same_page = place.same_page }))
 
   -- and pages of files alone
@@ -30,7 +30,7 @@ module _ (layout : Layout) (runs : List Run) (shapes : Shapes) (x : List Sector)
       let triple = b.triples.only id page sector named in
       let owned = b.labels.pages.only sector triple.label triple.there triple.taken in
       let own : is_owned shapes id page ≡ true = (λ j. is_owned shapes (sym triple.same_id j) (sym triple.same_page j)) ∙ owned.is in
-      owned_shape shapes id page some own
+      owned_shape 96 shapes id page some own
 
   -- the next of the map is the next file
   pub next_is : (id : ℕ) (next : Option ℕ) → IsNext b.named id next → IsNextFile shapes id next

@@ -29,7 +29,7 @@ use Rattle.volume_root.specs.declared.root.Root.{Root}
 use Rattle.volume_root.specs.RootPage.{IsValidRoot, root_bytes, root_in, root_write}
 use Rattle.volume_root.proofs.WrittenLemmas.{root_read}
 use Rattle.file_manager.specs.Creating.{counted, next_id}
-use Rattle.file_manager.specs.Reasons.{HasRoot, Gives, HadNamed, IsNotOlder, IsReleased, KeepsTo, LeavesTables, MayTake, InitialState}
+use Rattle.file_manager.specs.Reasons.{HasRoot, Gives, IsNotOlder, IsReleased, KeepsTo, LeavesTables, MayTake, InitialState}
 use Rattle.file_manager.specs.TabledLaws.{StaysNamed, tables_revealed, revealed_renamed}
 use Rattle.file_manager.specs.LaterLaws.{released_counted}
 use Rattle.file_manager.specs.WriteLaws.{GivesNot, UpNot, sector_of, takes_not, whole_not_up}

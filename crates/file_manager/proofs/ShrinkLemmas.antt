@@ -71,7 +71,7 @@ module _ (layout : Layout) (is : IsLayout layout) (kept : CachedRuns) (shapes : 
   short = booked.files.short id f may.found
 
   pub may_free : MayFree d0 s0 layout kept booked.named spaces id pages f.size x
-  may_free = may_be_freed d0 s0 layout kept shapes spaces x is may.books id (inl (high, may.hidden)) pages f.size (λ page above below. below_owned shapes id page f may.found below)
+  may_free = may_be_freed d0 s0 layout kept shapes spaces x is may.books id (inl (high, may.hidden)) pages f.size (λ page above below. below_owned 96 shapes id page f may.found below)
 
   -- a page stands in one sector
   one_place : (page a b : ℕ) → booked.named id page a ≡ true → booked.named id page b ≡ true → a ≡ b
@@ -210,7 +210,7 @@ module _ (layout : Layout) (is : IsLayout layout) (kept : CachedRuns) (shapes : 
           let there : booked.named id p k ≡ true = ap (λ (n : ℕ). booked.named n p k) (sym own) ∙ is_named in
           let u = booked.triples.only id p k there in
           let o = booked.labels.pages.only k u.label u.there u.taken in
-          let below = page_below shapes id p f high may.found other ((λ j. is_owned shapes (sym u.same_id j) (sym u.same_page j)) ∙ o.is) in
+          let below = page_below 96 shapes id p f high may.found other ((λ j. is_owned shapes (sym u.same_id j) (sym u.same_page j)) ∙ o.is) in
           let long = h.long in
           let s = down_turn booked.named id f.size h.sectors h.down (f.size - (p + 1)) (omega (arith, above, below, long)) in
           let turn : f.size - (f.size - (p + 1) + 1) ≡ p = omega (arith, below) in

@@ -1,11 +1,11 @@
 -- The file map was cut of a file that it hasn't, as before the pages of the space tables are made: files and maps are as they were.
-use Rattle.std.proofs.Common.{◌≡◌, ◌≢◌, inl, ℕ, ◌+◌, ◌-◌, ◌*◌, ◌^◌, ◌<◌, ◌≤◌, true, not, List, [], length, filter, refl, sym, ◌∙◌, ap, subst, arith}
+use Rattle.std.proofs.Common.{◌≡◌, ◌≢◌, inl, ℕ, ◌+◌, ◌-◌, ◌*◌, ◌^◌, ◌<◌, ◌≤◌, true, not, List, [], ◌∷◌, length, filter, refl, sym, ◌∙◌, ap, subst, arith}
 use Rattle.std.specs.Prelude.{slice_get, nat_le, ◌==◌, IsSomeAnd, IsTrue}
 use Rattle.std.proofs.lemmas.Bool.{ne_eqb, true≢false}
 use Rattle.std.proofs.lemmas.List.{length-map}
 use Rattle.labelled_disk.specs.declared.label.Label.{Label}
 use Rattle.labelled_disk.specs.declared.layout.Layout.{Layout}
-use Rattle.labelled_disk.specs.Label.{names}
+use Rattle.labelled_disk.specs.Label.{names, leader_page}
 use Rattle.labelled_disk.specs.Layout.{vam}
 use Rattle.labelled_disk.specs.Sectors.{Sector, AreSectors}
 use Rattle.labelled_disk.specs.State.{DiskState}
@@ -34,7 +34,7 @@ use Rattle.session_words.specs.Parts.{Shapes, HasLabelsUpto, HasMapLabels, Marks
 use Rattle.session_words.proofs.BitLemmas.{bits_alike}
 use Rattle.session_words.proofs.ShownLemmas.{shown_laws}
 use Rattle.file_manager.specs.Book.{BooksUpto}
-use Rattle.file_manager.specs.Making.{MakesAll, MakesSome, free_count}
+use Rattle.file_manager.specs.Making.{LedAndGrown, MakesAll, MakesSome, free_count}
 use Rattle.file_manager.specs.Tables.{MayBegin, BegunBy}
 use Rattle.file_manager.proofs.BookLemmas.{true_by_map, known_after}
 use Rattle.file_manager.proofs.FreedRun.{map_brings, map_makes}
@@ -131,6 +131,31 @@ module _ {tables : ℕ} (layout : Layout) (is : IsLayout layout) (kept : CachedR
             ∙ marks_alike sectors (is_marked cut.memory) (is_marked x) k (mark_cut k (subst (λ (v : ℕ). k < 4096 * v) (sym (vam_is layout is runs shapes x books.booked)) below));
         triples = λ named names.
             made.triples named (renamed cut.memory books.booked.named named (named_once x books.booked.named named few books.booked.map names) map_cut);
+      }
+
+  -- and so were the leader and the pages of a file
+  pub file_after : (kind leader : ℕ) (sectors : List ℕ) (y : List Sector) → LedAndGrown id kind leader sectors cut.memory y → LedAndGrown id kind leader sectors x y
+  file_after kind leader sectors y made =
+      let few : length x < 2 ^ 32 = let size = books.booked.long in let most = is.0.1 in omega (arith, size, most) in
+      record {
+        middle = made.middle;
+        led = record {
+          grown = record {
+            free = subst (AreFree id kind leader_page (leader ∷ [])) labels_cut made.led.grown.free;
+            labels = made.led.grown.labels ∙ ap (grown_labels id kind leader_page (leader ∷ [])) labels_cut;
+            pages = λ k s here none unmapped.
+                let now = cut.differs.pages k s here (no_map FileMap (length x) layout (vam_is layout is runs shapes x books.booked) (vfm_is layout is runs shapes x books.booked) k s.0 unmapped) in
+                made.led.grown.pages k s now none (ap (λ (n : ℕ). maps_alone (kind_of n k s.0)) long_cut ∙ unmapped);
+            fresh = made.led.grown.fresh;
+            sectors = made.led.grown.sectors;
+          };
+          bits = λ k below.
+              made.led.bits k (subst (λ (n : ℕ). k < 4096 * vam n) (sym long_cut) below)
+              ∙ marks_alike (leader ∷ []) (is_marked cut.memory) (is_marked x) k (mark_cut k (subst (λ (v : ℕ). k < 4096 * v) (sym (vam_is layout is runs shapes x books.booked)) below));
+          triples = λ named names.
+              made.led.triples named (renamed cut.memory books.booked.named named (named_once x books.booked.named named few books.booked.map names) map_cut);
+        };
+        grown = made.grown;
       }
 
 module _ (layout : Layout) (is : IsLayout layout) (kept : CachedRuns) (shapes : Shapes) (spaces : List Space) (x : List Sector) (d0 : DiskState) (s0 : Slots) (may : MayBegin d0 s0 layout kept shapes spaces x) where

@@ -26,17 +26,17 @@ use Rattle.swapper_kernel.specs.HaltLaws.{brings_then}
 use Rattle.filer_kernel.specs.declared.cached.CachedRuns.{CachedRuns}
 use Rattle.filer_kernel.specs.Cached.{runs_of}
 use Rattle.flat_machine.specs.declared.space.Space.{Space}
-use Rattle.session_words.specs.Parts.{Shape, Shapes, HasLabel, HasLabels, HasMapLabels, MarksFit, HasTriples, is_owned, is_marked}
+use Rattle.session_words.specs.Parts.{Shape, Shapes, HasLabel, HasLabelsUpto, HasMapLabels, MarksFit, HasTriples, is_owned_upto, is_marked}
 use Rattle.session_words.specs.PlaceLaws.{with_shape, sized}
-use Rattle.session_words.specs.GrowLaws.{IsBook, AreFree, Grows, grown_labels, grown_marks, grown_names}
+use Rattle.session_words.specs.GrowLaws.{IsBookUpto, AreFree, Grows, grown_labels, grown_marks, grown_names}
 use Rattle.session_words.specs.Volume.{volume_page}
 use Rattle.session_words.proofs.BitLemmas.{bits_alike}
-use Rattle.session_words.proofs.FoundLemmas.{owner, above_reserved}
+use Rattle.session_words.proofs.FoundLemmas.{owner_upto, above_reserved}
 use Rattle.session_words.proofs.GrownLemmas.{book_grown, grown_long, map_labels_grown, with_here}
 use Rattle.session_words.specs.Found.{AreShapes}
 use Rattle.file_manager.proofs.BookLemmas.{root_label_grown}
-use Rattle.file_manager.specs.Book.{Books, BooksUpto, Leads}
-use Rattle.file_manager.specs.Making.{AreUnowned, MayGrow, free_count, sectors_of}
+use Rattle.file_manager.specs.Book.{BooksUpto, Leads}
+use Rattle.file_manager.specs.Making.{AreUnownedUpto, MayGrowUpto, free_count, sectors_of}
 use Rattle.file_manager.proofs.GrowSteps.{growth_append, grows_then, long_grown}
 use Rattle.file_manager.proofs.RunStages.{first_is, vam_is, in_bits}
 use Rattle.file_manager.proofs.RunLeads.{own_known}
@@ -121,8 +121,8 @@ free_left layout is_layout kept shapes spaces x d0 s0 books id kind page is some
     ap not (grows.bits k (subst (λ (v : ℕ). k < 4096 * v) (vam_is layout is_layout runs shapes x booked) (in_bits layout is_layout runs shapes x booked k (omega (arith, above, below)))))) in
     omega (arith, all, same)
 
-module _ (layout : Layout) (is_layout : IsLayout layout) (kept : CachedRuns) (shapes : Shapes) (spaces : List Space) (x : List Sector) (d0 : DiskState) (s0 : Slots)
-    (id kind : ℕ) (f : Shape) (end : ℕ) (may : MayGrow d0 s0 layout kept shapes spaces id f end x) (short : end < leader_page)
+module _ {tables : ℕ} (layout : Layout) (is_layout : IsLayout layout) (kept : CachedRuns) (shapes : Shapes) (spaces : List Space) (x : List Sector) (d0 : DiskState) (s0 : Slots)
+    (id kind : ℕ) (f : Shape) (end : ℕ) (may : MayGrowUpto tables d0 s0 layout kept shapes spaces id f end x) (short : end < leader_page)
     (is : List ℕ) (page : ℕ) (reached : f.size + length is ≡ page) (within : page ≤ end) (d : DiskState) (s : Slots)
     (leads : Leads (Grows id kind f.size is) (growth id kind f.size is) d0 s0 layout d s kept) where
   -- the memory that is made
@@ -135,7 +135,7 @@ module _ (layout : Layout) (is_layout : IsLayout layout) (kept : CachedRuns) (sh
   high : 16 ≤ id
   high = above_reserved id (may.are.given id f may.found)
 
-  grown_book : IsBook (grown_labels id kind f.size is (labels_of x)) (with_shape shapes id (sized (f.size + length is) f)) (grown_marks is (is_marked x)) (grown_names id f.size is may.books.booked.named)
+  grown_book : IsBookUpto tables (grown_labels id kind f.size is (labels_of x)) (with_shape shapes id (sized (f.size + length is) f)) (grown_marks is (is_marked x)) (grown_names id f.size is may.books.booked.named)
   grown_book = book_grown id kind is (labels_of x) shapes (is_marked x) may.books.booked.named f f.size refl may.are may.found (omega (arith, reached, within, short)) after.2.grown.free
       (record { labels_right = may.books.booked.labels; bits = may.books.booked.bits; triples = may.books.booked.triples })
 
@@ -159,7 +159,7 @@ module _ (layout : Layout) (is_layout : IsLayout layout) (kept : CachedRuns) (sh
       short_of i h true found = let size : page ≡ h.size = ap (λ (w : Shape). w.size) (same_Some (sized page f) h found) in omega (arith, size, within, short)
       short_of i h false found = may.are.short i h found
 
-  pub books_then : Books d s layout kept (with_shape shapes id (sized page f)) spaces after.0
+  pub books_then : BooksUpto tables d s layout kept (with_shape shapes id (sized page f)) spaces after.0
   books_then =
       let booked = may.books.booked in
       let some : 1 ≤ length (grown_labels id kind f.size is (labels_of x)) = let a = long_labels in let b = booked.long in let c = is_layout.0.0 in omega (arith, a, b, c) in
@@ -172,8 +172,8 @@ module _ (layout : Layout) (is_layout : IsLayout layout) (kept : CachedRuns) (sh
           root_label = subst (λ (l : List Label). IsSomeAnd (slice_get l 0) (λ m. IsTrue (names m (record { id = 4; page = 0 })))) (sym after.2.grown.labels)
               (root_label_grown id kind f.size is (labels_of x) after.2.grown.free booked.root_label);
           map_labels = subst HasMapLabels (sym after.2.grown.labels) (map_labels_grown id kind f.size is (labels_of x) after.2.grown.free booked.map_labels);
-          labels = subst (λ (l : List Label). HasLabels l (with_shape shapes id (sized page f))) (sym after.2.grown.labels)
-              (subst (λ (n : ℕ). HasLabels (grown_labels id kind f.size is (labels_of x)) (with_shape shapes id (sized n f))) reached grown_book.labels_right);
+          labels = subst (λ (l : List Label). HasLabelsUpto tables l (with_shape shapes id (sized page f))) (sym after.2.grown.labels)
+              (subst (λ (n : ℕ). HasLabelsUpto tables (grown_labels id kind f.size is (labels_of x)) (with_shape shapes id (sized n f))) reached grown_book.labels_right);
           bits = subst (MarksFit (is_marked after.0)) (sym after.2.grown.labels) (bits_alike (grown_labels id kind f.size is (labels_of x)) (grown_marks is (is_marked x)) (is_marked after.0) some
               (λ k below. after.2.bits k (subst (λ (n : ℕ). k < 4096 * vam n) long_labels below)) grown_book.bits);
           named = grown_names id f.size is booked.named;
@@ -184,14 +184,14 @@ module _ (layout : Layout) (is_layout : IsLayout layout) (kept : CachedRuns) (sh
         frames = own_known s0 s spaces leads.brings may.books.frames;
       }
 
-  pub unowned_then : AreUnowned (with_shape shapes id (sized page f)) id page (end - page)
-  unowned_then p above below = either (is_owned (with_shape shapes id (sized page f)) id p) refl
+  pub unowned_then : AreUnownedUpto tables (with_shape shapes id (sized page f)) id page (end - page)
+  unowned_then p above below = either (is_owned_upto tables (with_shape shapes id (sized page f)) id p) refl
     where
-      either : (b : Bool) → is_owned (with_shape shapes id (sized page f)) id p ≡ b → is_owned (with_shape shapes id (sized page f)) id p ≡ false
+      either : (b : Bool) → is_owned_upto tables (with_shape shapes id (sized page f)) id p ≡ b → is_owned_upto tables (with_shape shapes id (sized page f)) id p ≡ false
       either false e = e
       either true e =
           let h = high in
-          let g = owner (with_shape shapes id (sized page f)) id p (λ q. omega (arith, q, h)) e in
+          let g = owner_upto tables (with_shape shapes id (sized page f)) id p (λ q. omega (arith, q, h)) e in
           let same : g.0 ≡ sized page f = same_Some g.0 (sized page f) (sym g.1 ∙ with_here shapes id (sized page f)) in
           let size : g.0.size ≡ page = ap (λ (w : Shape). w.size) same in
           absurd (⊎_elim (λ (q : p ≡ leader_page). omega (arith, q, below, within, short)) (λ (q : p < g.0.size). omega (arith, q, size, above)) g.2)

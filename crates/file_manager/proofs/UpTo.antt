@@ -26,8 +26,8 @@ use Rattle.filer_kernel.specs.PlaceLaws.{data_first}
 use Rattle.session_words.specs.Parts.{Shape, Shapes}
 use Rattle.session_words.specs.GrowLaws.{Grows}
 use Rattle.session_words.specs.Volume.{volume_page}
-use Rattle.file_manager.specs.Book.{Books, Leads, AreTrue}
-use Rattle.file_manager.specs.Making.{AreUnowned, ShowsNoFree, MayGrow, GrownBy, MakesAll, MakesSome, IsRunFor, free_count, sectors_of}
+use Rattle.file_manager.specs.Book.{BooksUpto, Leads, AreTrue}
+use Rattle.file_manager.specs.Making.{AreUnownedUpto, ShowsNoFree, MayGrowUpto, GrownBy, MakesAll, MakesSome, IsRunFor, free_count, sectors_of}
 use Rattle.file_manager.specs.Grounds.{IsMapsHome, IsUnframed, LabelsRun, EndsAt, MakesFor, MakeHalts, RangeHalts}
 use Rattle.file_manager.proofs.GrowSteps.{growth_append, grows_none}
 use Rattle.file_manager.proofs.KeptUpTo.{RunKeeps, KeepsUpTo, keeps_more}
@@ -51,7 +51,7 @@ pub record IsUpTo (id kind from end page : ℕ) (d0 : DiskState) (s0 : Slots) (l
   pub takes : MakesFor layout id (λ p. (from ≤ p) × (p < page)) d0 s0 d s
   pub untouched : page ≡ from → (bytes : List ℕ) → Reveals FileMap d0 s0 layout bytes → Reveals FileMap d s layout bytes
   pub last : from < page → page < end → LabelsRun layout id d0 s0 d s
-  pub revealed : (x : List Sector) (shapes : Shapes) (spaces : List Space) (f : Shape) → MayGrow d0 s0 layout kept shapes spaces id f end x → f.size ≡ from → GrownBy id kind from (page - from) d0 s0 layout d s kept
+  pub revealed : (tables : ℕ) (x : List Sector) (shapes : Shapes) (spaces : List Space) (f : Shape) → MayGrowUpto tables d0 s0 layout kept shapes spaces id f end x → f.size ≡ from → GrownBy id kind from (page - from) d0 s0 layout d s kept
   pub keeps : KeepsUpTo id from end page d0 s0 layout kept d s later runs
 
 -- what a run costs is at most so much a page
@@ -82,7 +82,7 @@ up_none id kind from end d0 s0 layout kept order size = record {
   untouched = λ same bytes reveals. reveals;
   last = λ past below. absurd (omega (arith, past));
   keeps = λ o named h may untold none. (named, h, none, (λ i p sector is. is), (λ p above below. absurd (omega (arith, above, below))));
-  revealed = λ x shapes spaces f may is. record {
+  revealed = λ tables x shapes spaces f may is. record {
     sectors = [];
     long = omega arith;
     leads = record {
@@ -100,7 +100,7 @@ module _ (id kind from end page : ℕ) (d0 : DiskState) (s0 : Slots) (layout : L
 
   -- a run more
   pub up_more : (run : Run) (d2 : DiskState) (s2 : Slots) (l2 : Layout) (r2 : CachedRuns) → page < end → IsRunFor later.sectors id page (end - page) run → Makes volume_page (growth id kind page (sectors_of run)) d s d2 s2
-      → ((x : List Sector) (shapes : Shapes) (spaces : List Space) → Books d s later runs shapes spaces x → ShowsNoFree spaces → AreUnowned shapes id page (end - page) → 1 ≤ free_count later x
+      → ((tables : ℕ) (x : List Sector) (shapes : Shapes) (spaces : List Space) → BooksUpto tables d s later runs shapes spaces x → ShowsNoFree spaces → AreUnownedUpto tables shapes id page (end - page) → 1 ≤ free_count later x
       → Leads (Grows id kind page (sectors_of run)) (growth id kind page (sectors_of run)) d s later d2 s2 r2)
       → l2 ≡ later → r2 ≡ runs → d2.transfers ≤ d.transfers + (8 * later.vam + 2 * run.pages + 98) → Brings (IsMapsHome later) s s2 → MakesFor later id (λ p. (page ≤ p) × (p < page + run.pages)) d s d2 s2
       → (run.pages < end - page → (m : List Sector) (marks : Marks) → Stands d s m → BitsAre later marks m → run.sector + run.pages < later.sectors → marks (run.sector + run.pages) ≡ true)
@@ -141,15 +141,15 @@ module _ (id kind from end page : ℕ) (d0 : DiskState) (s0 : Slots) (layout : L
           makes = makes_then all.makes (subst (λ (n : ℕ). Makes volume_page (growth id kind n (sectors_of run)) d s d2 s2) (sym for_it.same_first) makes);
           ended = inr (run_ends (omega (arith, short, few)) (subst (λ (l : Layout). MakesFor l id (λ p. (page ≤ p) × (p < page + run.pages)) d s d2 s2) up.same_layout takes) (rw up.same_layout at longest));
         };
-        revealed = λ x shapes spaces f may size.
-            let g = up.revealed x shapes spaces f may size in
+        revealed = λ tables x shapes spaces f may size.
+            let g = up.revealed tables x shapes spaces f may size in
             let at = reached f g.sectors size g.long in
             let leads = subst (λ (n : ℕ). Leads (Grows id kind n g.sectors) (growth id kind n g.sectors) d0 s0 layout d s kept) (sym size) g.leads in
             let y = after layout is_layout kept shapes spaces x d0 s0 id kind f end may short g.sectors page at up.below d s leads in
             let books = books_then layout is_layout kept shapes spaces x d0 s0 id kind f end may short g.sectors page at up.below d s leads in
             let unowned = unowned_then layout is_layout kept shapes spaces x d0 s0 id kind f end may short g.sectors page at up.below d s leads in
             let some = some_then layout is_layout kept shapes spaces x d0 s0 id kind f end may short g.sectors page at up.below d s leads below in
-            let here = (rw (up.same_layout, up.same_runs) at made) y.0 _ spaces books may.hidden unowned some in
+            let here = (rw (up.same_layout, up.same_runs) at made) tables y.0 _ spaces books may.hidden unowned some in
             let next = subst (λ (r : CachedRuns). Leads (Grows id kind page (sectors_of run)) (growth id kind page (sectors_of run)) d s layout d2 s2 r) (same_runs ∙ up.same_runs) here in
             record {
               sectors = g.sectors ++ sectors_of run;
@@ -187,17 +187,17 @@ module _ (id kind from end page : ℕ) (d0 : DiskState) (s0 : Slots) (layout : L
       from_page is long = let above = up.above in omega (arith, long, above)
 
   -- a halt of the next run
-  pub up_sound : (e : Halt) → page < end → ((x : List Sector) (shapes : Shapes) (spaces : List Space) → Books d s later runs shapes spaces x → ShowsNoFree spaces → AreUnowned shapes id page (end - page) → 1 ≤ free_count later x → e ≡ halt.Disk)
-      → (x : List Sector) (shapes : Shapes) (spaces : List Space) (f : Shape) → MayGrow d0 s0 layout kept shapes spaces id f end x → f.size ≡ from → e ≡ halt.Disk
-  up_sound e below sound x shapes spaces f may size =
-      let g = up.revealed x shapes spaces f may size in
+  pub up_sound : (e : Halt) → page < end → ((tables : ℕ) (x : List Sector) (shapes : Shapes) (spaces : List Space) → BooksUpto tables d s later runs shapes spaces x → ShowsNoFree spaces → AreUnownedUpto tables shapes id page (end - page) → 1 ≤ free_count later x → e ≡ halt.Disk)
+      → (tables : ℕ) (x : List Sector) (shapes : Shapes) (spaces : List Space) (f : Shape) → MayGrowUpto tables d0 s0 layout kept shapes spaces id f end x → f.size ≡ from → e ≡ halt.Disk
+  up_sound e below sound tables x shapes spaces f may size =
+      let g = up.revealed tables x shapes spaces f may size in
       let at = reached f g.sectors size g.long in
       let leads = subst (λ (n : ℕ). Leads (Grows id kind n g.sectors) (growth id kind n g.sectors) d0 s0 layout d s kept) (sym size) g.leads in
       let y = after layout is_layout kept shapes spaces x d0 s0 id kind f end may short g.sectors page at up.below d s leads in
       let books = books_then layout is_layout kept shapes spaces x d0 s0 id kind f end may short g.sectors page at up.below d s leads in
       let unowned = unowned_then layout is_layout kept shapes spaces x d0 s0 id kind f end may short g.sectors page at up.below d s leads in
       let some = some_then layout is_layout kept shapes spaces x d0 s0 id kind f end may short g.sectors page at up.below d s leads below in
-      (rw (up.same_layout, up.same_runs) at sound) y.0 _ spaces books may.hidden unowned some
+      (rw (up.same_layout, up.same_runs) at sound) tables y.0 _ spaces books may.hidden unowned some
 
   -- what it cost
   pub up_cost : (d2 : DiskState) → page < end → d2.transfers ≤ d.transfers + (8 * later.vam + 2 * (end - page) + 98) → d2.transfers ≤ d0.transfers + (end - from) * (8 * layout.vam + 100)
@@ -246,7 +246,7 @@ module _ (id kind from end page : ℕ) (d0 : DiskState) (s0 : Slots) (layout : L
 -- all pages are made
 pub up_all : (id kind from end page : ℕ) (d0 : DiskState) (s0 : Slots) (layout : Layout) (kept : CachedRuns) (d : DiskState) (s : Slots) (later : Layout) (runs : CachedRuns) → page ≡ end
     → IsUpTo id kind from end page d0 s0 layout kept d s later runs
-    → (x : List Sector) (shapes : Shapes) (spaces : List Space) (f : Shape) → MayGrow d0 s0 layout kept shapes spaces id f end x → f.size ≡ from → GrownBy id kind from (end - from) d0 s0 layout d s runs
-up_all id kind from end page d0 s0 layout kept d s later runs all up x shapes spaces f may size =
+    → (tables : ℕ) (x : List Sector) (shapes : Shapes) (spaces : List Space) (f : Shape) → MayGrowUpto tables d0 s0 layout kept shapes spaces id f end x → f.size ≡ from → GrownBy id kind from (end - from) d0 s0 layout d s runs
+up_all id kind from end page d0 s0 layout kept d s later runs all up tables x shapes spaces f may size =
     subst (λ (r : CachedRuns). GrownBy id kind from (end - from) d0 s0 layout d s r) (sym up.same_runs)
-    (subst (λ (n : ℕ). GrownBy id kind from (n - from) d0 s0 layout d s kept) all (up.revealed x shapes spaces f may size))
+    (subst (λ (n : ℕ). GrownBy id kind from (n - from) d0 s0 layout d s kept) all (up.revealed tables x shapes spaces f may size))

@@ -28,3 +28,5 @@ pub mod TabledLaws
 pub mod RetoldLaws
 pub mod RevealedLaws
 pub mod Synced
+pub mod Stays
+pub mod Outcomes

@@ -14,7 +14,7 @@ use Rattle.filer_kernel.specs.Marks.{free_sectors}
 use Rattle.filer_kernel.specs.declared.cached.CachedRuns.{CachedRuns}
 use Rattle.session_words.specs.Found.{AreShapes}
 use Rattle.session_words.specs.GrowLaws.{Grows}
-use Rattle.file_manager.specs.Book.{Books, Leads}
+use Rattle.file_manager.specs.Book.{BooksUpto, Leads}
 use Rattle.session_words.specs.Parts.{Shape, Shapes, is_owned_upto, is_marked}
 use Rattle.flat_machine.specs.declared.space.Space.{Space}
 use Rattle.session_words.specs.FrameLaws.{is_shown}
@@ -54,14 +54,18 @@ pub record MakesSome (id kind page most : ℕ) (old : DiskState) (before : Slots
   pub count : ℕ
   pub makes : Makes volume_page (take count (growth id kind page sectors)) old before new after
 
--- The file of this shape may grow up to this many pages: the maps are right, no window shows what a free label would
--- name, and as many data sectors are free.
-pub record MayGrow (disk : DiskState) (slots : Slots) (layout : Layout) (runs : CachedRuns) (shapes : Shapes) (spaces : List Space) (id : ℕ) (f : Shape) (pages : ℕ) (memory : List Sector) : Type 0 where
-  pub books : Books disk slots layout runs shapes spaces memory
+-- The file of this shape may grow up to this many pages, beside so many of the space tables: the maps are right, no window
+-- shows what a free label would name, and as many data sectors are free.
+pub record MayGrowUpto (tables : ℕ) (disk : DiskState) (slots : Slots) (layout : Layout) (runs : CachedRuns) (shapes : Shapes) (spaces : List Space) (id : ℕ) (f : Shape) (pages : ℕ) (memory : List Sector) : Type 0 where
+  pub books : BooksUpto tables disk slots layout runs shapes spaces memory
   pub hidden : ShowsNoFree spaces
   pub are : AreShapes shapes
   pub found : shapes id ≡ Some f
   pub enough : pages - f.size ≤ free_count layout memory
+
+-- beside all 96 of them
+abbrev pub MayGrow : DiskState → Slots → Layout → CachedRuns → Shapes → List Space → ℕ → Shape → ℕ → List Sector → Type 0
+MayGrow disk slots layout runs shapes spaces id f pages memory = MayGrowUpto 96 disk slots layout runs shapes spaces id f pages memory
 
 -- so many sectors, and the growth into them led from disk and frames to later ones
 pub record GrownBy (id kind from pages : ℕ) (old : DiskState) (before : Slots) (layout : Layout) (new : DiskState) (after : Slots) (runs : CachedRuns) : Type 0 where
@@ -75,14 +79,18 @@ pub record MakesAll (id kind from pages : ℕ) (old : DiskState) (before : Slots
   pub long : length sectors ≡ pages
   pub makes : Makes volume_page (growth id kind from sectors) old before new after
 
--- The file may be made with so many pages: the maps are right, no window shows what a free label would name, no shape is
--- this file's, and a data sector more than its pages is free.
-pub record MayCreate (disk : DiskState) (slots : Slots) (layout : Layout) (runs : CachedRuns) (shapes : Shapes) (spaces : List Space) (id pages : ℕ) (memory : List Sector) : Type 0 where
-  pub books : Books disk slots layout runs shapes spaces memory
+-- The file may be made with so many pages, beside so many of the space tables: the maps are right, no window shows what a
+-- free label would name, no shape is this file's, and a data sector more than its pages is free.
+pub record MayCreateUpto (tables : ℕ) (disk : DiskState) (slots : Slots) (layout : Layout) (runs : CachedRuns) (shapes : Shapes) (spaces : List Space) (id pages : ℕ) (memory : List Sector) : Type 0 where
+  pub books : BooksUpto tables disk slots layout runs shapes spaces memory
   pub hidden : ShowsNoFree spaces
   pub are : AreShapes shapes
   pub none : shapes id ≡ None
   pub enough : pages + 1 ≤ free_count layout memory
+
+-- beside all 96 of them
+abbrev pub MayCreate : DiskState → Slots → Layout → CachedRuns → Shapes → List Space → ℕ → ℕ → List Sector → Type 0
+MayCreate disk slots layout runs shapes spaces id pages memory = MayCreateUpto 96 disk slots layout runs shapes spaces id pages memory
 
 -- the leader is made, then the pages, and the maps say so
 pub record LedAndGrown (id kind leader : ℕ) (is : List ℕ) (m n : List Sector) : Type 0 where

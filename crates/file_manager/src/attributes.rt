@@ -14,12 +14,14 @@ ghost use Rattle.filer_kernel.specs.Cached.{runs_of};
 ghost use Rattle.filer_kernel.specs.Evidence.{ShowsEvidence};
 ghost use Rattle.filer_kernel.specs.Triples.{AreOf, MapIs};
 ghost use Rattle.file_manager.specs.Attributes.{HasLeader, IsAttributesOf};
-ghost use Rattle.file_manager.specs.Book.{Books, BringsOwn};
+ghost use Rattle.file_manager.specs.Book.{BooksUpto, BringsOwn};
 ghost use Rattle.file_manager.specs.Causes.{NamesNone};
 ghost use Rattle.file_manager.specs.Finding.{FileHalts};
 ghost use Rattle.file_manager.specs.Looking.{Looks};
 ghost use Rattle.file_manager.specs.Reasons.{Keeps, InitialState, ShowsReason};
 ghost use Rattle.filer_kernel.specs.View.{FitsLayout, HasMemory, kept_by, MakesOnly, view_of};
+ghost use Rattle.file_manager.specs.Stays.{LooksAlone};
+ghost use Rattle.filer_kernel.specs.Fails.{Fails};
 
 use crate::finding::find_file;
 use crate::growth::frames_of;
@@ -45,41 +47,33 @@ pub fn attributes_of<D: Disk, A: Allocator>(
     id: FileId,
 ) -> Result<Option<Attributes>, Halt>
     requires size { FitsLayout (view_of filer.old) }
-    ensures revealed { (x : List Sector) (shapes : Shapes) (spaces : List Space)
-        → Books (view_of filer.old).disk (view_of filer.old).slots (view_of filer.old).layout (view_of filer.old).runs
-        shapes spaces x
-        → MatchResult result (IsAttributesOf (shapes id)) (λ e. e ≡ halt.Disk) }
+    ensures revealed { (tables : ℕ) (x : List Sector) (shapes : Shapes) (spaces : List Space)
+        → BooksUpto tables (view_of filer.old).disk (view_of filer.old).slots (view_of filer.old).layout
+        (view_of filer.old).runs shapes spaces x
+        → MatchResult result (IsAttributesOf (shapes id)) (λ e. e ≡ halt.Disk)
+        × BooksUpto tables (view_of filer.new).disk (view_of filer.new).slots (view_of filer.old).layout
+        (view_of filer.new).runs shapes spaces x }
     ensures reserved { id < 16 → (result ≡ Ok None) × (filer.new ≡ filer.old) }
-    ensures leader { (m : List Sector) (named : Triples) → HasMemory (view_of filer.old) m
-        → MapIs (view_of filer.old).layout named m → AreOf named (kept_by (view_of filer.old))
-        → IfOk result (λ found. IfSome found (λ _. (sector : ℕ) × (named id leader_page sector ≡ true))) }
-    ensures size { (m : List Sector) (named : Triples) → HasMemory (view_of filer.old) m
+    ensures named { (m : List Sector) (named : Triples) → HasMemory (view_of filer.old) m
         → MapIs (view_of filer.old).layout named m
-        → IfOk result (λ found. IfSome found (λ a. IsSize named id a.pages)) }
+        → IfOk result
+        (λ found.
+        IfSome found (λ a. IsSize named id a.pages)
+        × (AreOf named (kept_by (view_of filer.old))
+        → IfSome found (λ _. (sector : ℕ) × (named id leader_page sector ≡ true)))) }
     ensures marked { IfOk result (λ found. IfSome found (λ a. HasLeader (view_of filer.new).disk id a.permanent)) }
     ensures none { result ≡ Ok None
         → (id < 16)
         ⊎ NamesNone (view_of filer.old).layout (view_of filer.old).disk (view_of filer.old).slots id leader_page }
-    ensures cause { IfErr result
+    ensures fails { IfErr result
+        (Fails
         (FileHalts (view_of filer.old).layout (kept_by (view_of filer.old)) id (view_of filer.old).disk
-        (view_of filer.old).slots (view_of filer.new).disk) }
-    ensures keeps_to { (o : InitialState) (named : Triples) → Keeps o filer.old named
-        → OnOk result (Keeps o filer.new named) }
-    ensures reasons { (o : InitialState) (named : Triples) → Keeps o filer.old named
-        → IfErr result (ShowsReason o (view_of filer.old).layout (view_of filer.new).disk) }
-    ensures evidence_seen { IfErr result (ShowsEvidence (view_of filer.new).disk) }
-    ensures counted { result ≡ Err halt.Disk → Rose (view_of filer.old).disk.faults (view_of filer.new).disk.faults }
-    ensures same { (x : List Sector) (shapes : Shapes) (spaces : List Space)
-        → Books (view_of filer.old).disk (view_of filer.old).slots (view_of filer.old).layout (view_of filer.old).runs
-        shapes spaces x
-        → Books (view_of filer.new).disk (view_of filer.new).slots (view_of filer.old).layout (view_of filer.new).runs
-        shapes spaces x }
-    ensures makes { MakesOnly volume_page [] (view_of filer.old) (view_of filer.new) }
-    ensures looks { Looks (view_of filer.old).layout (view_of filer.old).disk (view_of filer.old).slots
-        (kept_by (view_of filer.old)) (view_of filer.new).disk (view_of filer.new).slots
-        (runs_of (view_of filer.old).layout.sectors (view_of filer.new).runs) }
-    ensures brings { BringsOwn (view_of filer.old).slots (view_of filer.new).slots }
-    ensures layout { (view_of filer.new).layout ≡ (view_of filer.old).layout }
+        (view_of filer.old).slots (view_of filer.new).disk)
+        (view_of filer.old) (view_of filer.new)) }
+    ensures accounts { (o : InitialState) (named : Triples) → Keeps o filer.old named
+        → MatchResult result (λ _. Keeps o filer.new named)
+        (ShowsReason o (view_of filer.old).layout (view_of filer.new).disk) }
+    ensures stays { LooksAlone (view_of filer.old) (view_of filer.new) }
     ensures cost { (view_of filer.new).disk.transfers ≤ (view_of filer.old).disk.transfers + 29 }
 {
     if id < FIRST_CLIENT {

@@ -1,5 +1,5 @@
 //! Files that are created.
-ghost use Rattle.std.specs.Prelude.{◌≡◌, ℕ, ◌+◌, ◌*◌, ◌^◌, ◌≤◌, ◌<◌, List, [], ◌∷◌, IfOk, IfErr, OnErr, OnOk};
+ghost use Rattle.std.specs.Prelude.{◌≡◌, ℕ, ◌+◌, ◌*◌, ◌^◌, ◌≤◌, ◌<◌, List, [], ◌∷◌, IfOk, IfErr, OnErr, OnOk, MatchResult};
 ghost use Rattle.labelled_disk.specs.declared.evidence.Halt.TheVariants as halt;
 ghost use Rattle.labelled_disk.specs.CrashState.{written};
 ghost use Rattle.labelled_disk.specs.Calls.{Rose};
@@ -18,6 +18,8 @@ ghost use Rattle.file_manager.specs.Making.{MayCreate};
 ghost use Rattle.file_manager.specs.Roots.{RootCounts};
 ghost use Rattle.file_manager.specs.Reasons.{giving, IsNotOlder, Keeps, KeepsFrom, InitialState, ShowsReason};
 ghost use Rattle.filer_kernel.specs.View.{FitsLayout, view_of};
+ghost use Rattle.file_manager.specs.Stays.{FramesStay, CountsInRoot};
+ghost use Rattle.filer_kernel.specs.Fails.{Fails};
 
 use crate::Volume;
 use crate::growth::frames_of;
@@ -36,7 +38,7 @@ fn next_id(root: Root) -> FileId
 }
 
 // How many data sectors the files have, once one of so many pages is among them.
-fn used_with(volume: &Volume, pages: u32) -> u32
+pub(crate) fn used_with(volume: &Volume, pages: u32) -> u32
     requires room { volume.now.used + pages + 1 ≤ volume.now.layout.capacity }
     ensures total { result ≡ volume.now.used + pages + 1 }
     ensures numbers { pages < 4294967295 }
@@ -51,20 +53,19 @@ pub fn write_over<D: Disk, A: Allocator>(filer: &mut Filer<D, A>, root: Root) ->
     requires valid { IsValidRoot (view_of filer.old).layout.sectors root }
     requires serial { root.serial < 2 ^ 32 }
     requires counter { root.counter < 2 ^ 32 }
-    ensures made { OnOk result
-        (Goes (λ m n. n ≡ written (root_write root) m) no_page (root_write root ∷ []) (view_of filer.old).disk
-        (view_of filer.old).slots (view_of filer.new).disk (view_of filer.old).slots) }
-    ensures stopped { OnErr result
-        (MayHaveWritten (root_write root) (view_of filer.old).disk (view_of filer.old).slots (view_of filer.new).disk) }
-    ensures fault { IfErr result (λ e. e ≡ halt.Disk) }
+    ensures writes { MatchResult result
+        (λ _.
+        Goes (λ m n. n ≡ written (root_write root) m) no_page (root_write root ∷ []) (view_of filer.old).disk
+        (view_of filer.old).slots (view_of filer.new).disk (view_of filer.old).slots)
+        (λ _.
+        MayHaveWritten (root_write root) (view_of filer.old).disk (view_of filer.old).slots (view_of filer.new).disk) }
+    ensures fault { IfErr result
+        (λ e. (e ≡ halt.Disk) × Rose (view_of filer.old).disk.faults (view_of filer.new).disk.faults) }
     ensures keeps_to { (o : InitialState) (named : Triples) → Keeps o filer.old named → next_id root ≤ o.next
         → OnOk result (Keeps o filer.new named) }
     ensures reasons { (o : InitialState) (named : Triples) → Keeps o filer.old named
         → IfErr result (ShowsReason o (view_of filer.old).layout (view_of filer.new).disk) }
-    ensures counted { OnErr result (Rose (view_of filer.old).disk.faults (view_of filer.new).disk.faults) }
-    ensures frames { (view_of filer.new).slots ≡ (view_of filer.old).slots }
-    ensures layout { (view_of filer.new).layout ≡ (view_of filer.old).layout }
-    ensures runs { (view_of filer.new).runs ≡ (view_of filer.old).runs }
+    ensures stays { FramesStay (view_of filer.old) (view_of filer.new) }
     ensures cost { (view_of filer.new).disk.transfers ≤ (view_of filer.old).disk.transfers + 1 }
 {
     let disk = filer.disk_over();
@@ -86,43 +87,38 @@ pub fn create<D: Disk, A: Allocator>(
     requires valid { IsValidRoot (view_of filer.old).layout.sectors volume.old.root }
     requires counter { volume.old.root.counter < 4294967295 }
     requires room { volume.old.used + pages + 1 ≤ volume.old.layout.capacity }
-    ensures next { IfOk result (λ id. id ≡ next_id volume.old.root) }
+    ensures volume { MatchResult result
+        (λ id.
+        (id ≡ next_id volume.old.root)
+        × (volume.new ≡ record volume.old { root = counted volume.old.root; used = volume.old.used + pages + 1 }))
+        (λ _. volume.new ≡ volume.old) }
     ensures created { (x : List Sector) (shapes : Shapes) (spaces : List Space)
         → MayCreate (view_of filer.old).disk (view_of filer.old).slots (view_of filer.old).layout
         (view_of filer.old).runs shapes spaces (next_id volume.old.root) pages x
-        → OnOk result
-        (CreatedAs volume.old.root kind pages (view_of filer.old).disk (view_of filer.old).slots
-        (view_of filer.old).layout (view_of filer.new).disk (view_of filer.new).slots (view_of filer.new).runs) }
-    ensures sound { (x : List Sector) (shapes : Shapes) (spaces : List Space)
-        → MayCreate (view_of filer.old).disk (view_of filer.old).slots (view_of filer.old).layout
-        (view_of filer.old).runs shapes spaces (next_id volume.old.root) pages x
-        → IfErr result (λ e. e ≡ halt.Disk) }
-    ensures broken { (x : List Sector) (shapes : Shapes) (spaces : List Space)
-        → MayCreate (view_of filer.old).disk (view_of filer.old).slots (view_of filer.old).layout
-        (view_of filer.old).runs shapes spaces (next_id volume.old.root) pages x
-        → OnErr result
-        (CreatedSome (root_write (counted volume.old.root) ∷ []) (next_id volume.old.root) kind pages x
+        → MatchResult result
+        (λ _.
+        CreatedAs volume.old.root kind pages (view_of filer.old).disk (view_of filer.old).slots
+        (view_of filer.old).layout (view_of filer.new).disk (view_of filer.new).slots (view_of filer.new).runs)
+        (λ e.
+        (e ≡ halt.Disk)
+        × CreatedSome (root_write (counted volume.old.root) ∷ []) (next_id volume.old.root) kind pages x
         (view_of filer.old).disk (view_of filer.old).slots (view_of filer.new).disk (view_of filer.new).slots) }
-    ensures cause { IfErr result
+    ensures fails { IfErr result
+        (Fails
         (CreateHalts (view_of filer.old).layout (next_id volume.old.root) (IsNewPage pages) (view_of filer.old).disk
-        (view_of filer.old).slots (view_of filer.new).disk (view_of filer.new).slots) }
-    ensures keeps_to { (o : InitialState) (named : Triples) → Keeps o filer.old named → IsNotOlder o volume.old.root
-        → OnOk result (KeepsFrom (giving o (next_id volume.new.root)) named filer.new) }
-    ensures reasons { (o : InitialState) (named : Triples) → Keeps o filer.old named → IsNotOlder o volume.old.root
-        → IfErr result (ShowsReason o (view_of filer.old).layout (view_of filer.new).disk) }
-    ensures evidence_seen { IfErr result (ShowsEvidence (view_of filer.new).disk) }
-    ensures counted { result ≡ Err halt.Disk → Rose (view_of filer.old).disk.faults (view_of filer.new).disk.faults }
-    ensures new_volume { OnOk result
-        (volume.new ≡ record volume.old { root = counted volume.old.root; used = volume.old.used + pages + 1 }) }
-    ensures same_volume { OnErr result (volume.new ≡ volume.old) }
-    ensures makes { OnOk result
-        (NewMade volume.old.root kind pages (view_of filer.old).disk (view_of filer.old).slots (view_of filer.new).disk
+        (view_of filer.old).slots (view_of filer.new).disk (view_of filer.new).slots)
+        (view_of filer.old) (view_of filer.new)) }
+    ensures accounts { (o : InitialState) (named : Triples) → Keeps o filer.old named → IsNotOlder o volume.old.root
+        → MatchResult result (λ _. KeepsFrom (giving o (next_id volume.new.root)) named filer.new)
+        (ShowsReason o (view_of filer.old).layout (view_of filer.new).disk) }
+    ensures writes { MatchResult result
+        (λ _.
+        NewMade volume.old.root kind pages (view_of filer.old).disk (view_of filer.old).slots (view_of filer.new).disk
+        (view_of filer.new).slots)
+        (λ _.
+        NewSome volume.old.root kind pages (view_of filer.old).disk (view_of filer.old).slots (view_of filer.new).disk
         (view_of filer.new).slots) }
-    ensures stopped { OnErr result
-        (NewSome volume.old.root kind pages (view_of filer.old).disk (view_of filer.old).slots (view_of filer.new).disk
-        (view_of filer.new).slots) }
-    ensures root { RootCounts volume.old.root (view_of filer.old).disk (view_of filer.new).disk }
-    ensures layout { (view_of filer.new).layout ≡ (view_of filer.old).layout }
+    ensures stays { CountsInRoot volume.old.root (view_of filer.old) (view_of filer.new) }
     ensures cost { (view_of filer.new).disk.transfers ≤ (view_of filer.old).disk.transfers
         + (1 + 2 * (1 + 51 * most_records (view_of filer.old).layout.sectors) + (pages + 1)
         * (8 * (view_of filer.old).layout.vam + 100)) }

@@ -1,5 +1,5 @@
 //! Files that get fewer pages: pages are freed, and the file map has them no more.
-ghost use Rattle.std.specs.Prelude.{◌≡◌, ◌⊎◌, ℕ, ◌+◌, ◌-◌, ◌*◌, ◌≤◌, ◌<◌, ◌==◌, true, not, List, [], filter, IfErr, OnErr, OnOk};
+ghost use Rattle.std.specs.Prelude.{◌≡◌, ◌⊎◌, ℕ, ◌+◌, ◌-◌, ◌*◌, ◌≤◌, ◌<◌, ◌==◌, true, not, List, [], filter, IfErr, OnErr, OnOk, MatchResult};
 ghost use Rattle.labelled_disk.specs.Calls.{Rose};
 ghost use Rattle.labelled_disk.specs.Label.{leader_page, is_permanent};
 ghost use Rattle.labelled_disk.specs.Sectors.{Sector, AreSectors};
@@ -27,6 +27,8 @@ ghost use Rattle.file_manager.specs.Reasons.{AreReleased, Keeps, KeepsFrom, Init
 ghost use Rattle.file_manager.specs.Synced.{SyncsQuietly, LabelsAreSynced};
 ghost use Rattle.file_manager.specs.Taking.{NamesNoneOf};
 ghost use Rattle.filer_kernel.specs.View.{FitsLayout, HasMemory, kept_by, view_of};
+ghost use Rattle.file_manager.specs.Stays.{CutsRuns};
+ghost use Rattle.filer_kernel.specs.Fails.{Fails};
 
 use crate::Volume;
 use crate::finding::FoundFile;
@@ -49,27 +51,23 @@ fn cut_synced<D: Disk, A: Allocator>(
     requires size { FitsLayout (view_of filer.old) }
     ensures cut { (m : List Sector) (named : Triples) → HasMemory (view_of filer.old) m
         → MapIs (view_of filer.old).layout named m
-        → OnOk result
-        (Becomes FileMapPages (view_of filer.old).layout m
+        → MatchResult result
+        (λ _.
+        Becomes FileMapPages (view_of filer.old).layout m
         (MapIs (view_of filer.old).layout (without_from named id from)) (view_of filer.new).disk
-        (view_of filer.new).slots) }
-    ensures runs { (n : ℕ)
-        → runs_of n (view_of filer.new).runs ≡ filter (λ r. not (r.id == id)) (runs_of n (view_of filer.old).runs) }
+        (view_of filer.new).slots)
+        IsFaultOrMismatch }
+    ensures stays { CutsRuns id (view_of filer.old) (view_of filer.new) }
     ensures sound { (m : List Sector) (named : Triples) → HasMemory (view_of filer.old) m
         → MapIs (view_of filer.old).layout named m → AreNamed m (IsMapHome FileMapPages (view_of filer.old).layout)
         → IfErr result (λ e. e ≡ halt.Disk) }
-    ensures right { (m : List Sector) (named : Triples) → HasMemory (view_of filer.old) m
-        → MapIs (view_of filer.old).layout named m → IfErr result IsFaultOrMismatch }
-    ensures begun { IfErr result
-        (λ why.
-        MapHalts (view_of filer.old).layout (view_of filer.old).disk (view_of filer.old).slots (view_of filer.new).disk
-        why
-        ⊎ IsToCut id from (MapShows (view_of filer.old).layout (view_of filer.old).disk (view_of filer.old).slots)) }
     ensures cause { IfErr result
-        (CutHalts (view_of filer.old).layout (view_of filer.old).disk (view_of filer.old).slots (view_of filer.new).disk
-        (view_of filer.new).slots) }
-    ensures beside { Beside FileMapPages (view_of filer.old).disk (view_of filer.old).slots (view_of filer.old).layout
-        (view_of filer.new).disk (view_of filer.new).slots (view_of filer.new).layout }
+        (λ why.
+        CutHalts (view_of filer.old).layout (view_of filer.old).disk (view_of filer.old).slots (view_of filer.new).disk
+        (view_of filer.new).slots why
+        × (MapHalts (view_of filer.old).layout (view_of filer.old).disk (view_of filer.old).slots
+        (view_of filer.new).disk why
+        ⊎ IsToCut id from (MapShows (view_of filer.old).layout (view_of filer.old).disk (view_of filer.old).slots))) }
     ensures cost { (view_of filer.new).disk.transfers ≤ (view_of filer.old).disk.transfers + 2
         * (1 + 51 * most_records (view_of filer.old).layout.sectors) }
     ensures synced { syncs ≡ true → OnOk result (SyncsQuietly (view_of filer.old).disk (view_of filer.new).disk) }
@@ -109,24 +107,20 @@ fn cut_to<D: Disk, A: Allocator>(
     ensures sound { (m : List Sector) (named : Triples) → HasMemory (view_of filer.old) m
         → MapIs (view_of filer.old).layout named m → AreNamed m (IsMapHome FileMapPages (view_of filer.old).layout)
         → AreOnce named → IsLeaderAlone named id leader → IfErr result (λ e. e ≡ halt.Disk) }
-    ensures runs { (n : ℕ)
-        → runs_of n (view_of filer.new).runs ≡ filter (λ r. not (r.id == id)) (runs_of n (view_of filer.old).runs) }
-    ensures cause { IfErr result
+    ensures stays { CutsRuns id (view_of filer.old) (view_of filer.new) }
+    ensures fails { IfErr result
+        (Fails
         (ShrinkHalts (IsUnframed (view_of filer.old).slots id) (view_of filer.old).layout (kept_by (view_of filer.old))
         id from (λ p. ⊥) (view_of filer.old).disk (view_of filer.old).slots (view_of filer.new).disk
-        (view_of filer.new).slots) }
-    ensures keeps_to { (o : InitialState) (named : Triples) → Keeps o filer.old named
+        (view_of filer.new).slots)
+        (view_of filer.old) (view_of filer.new)) }
+    ensures accounts { (o : InitialState) (named : Triples) → Keeps o filer.old named
         → named id leader_page leader ≡ true
-        → AreReleased o (view_of filer.old).disk named id (λ p. (from ≤ p) × (p < 4294967295))
-        → OnOk result (KeepsFrom o named filer.new) }
-    ensures reasons { (o : InitialState) (named : Triples) → Keeps o filer.old named
-        → named id leader_page leader ≡ true
-        → IfErr result (ShowsReason o (view_of filer.old).layout (view_of filer.new).disk) }
-    ensures evidence_seen { IfErr result (ShowsEvidence (view_of filer.new).disk) }
-    ensures counted { IfErr result
-        (λ e. e ≡ halt.Disk → Rose (view_of filer.old).disk.faults (view_of filer.new).disk.faults) }
-    ensures beside { Beside FileMapPages (view_of filer.old).disk (view_of filer.old).slots (view_of filer.old).layout
-        (view_of filer.new).disk (view_of filer.new).slots (view_of filer.new).layout }
+        → MatchResult result
+        (λ _.
+        AreReleased o (view_of filer.old).disk named id (λ p. (from ≤ p) × (p < 4294967295))
+        → KeepsFrom o named filer.new)
+        (ShowsReason o (view_of filer.old).layout (view_of filer.new).disk) }
     ensures cost { (view_of filer.new).disk.transfers ≤ (view_of filer.old).disk.transfers
         + (100 + 102 * most_records (view_of filer.old).layout.sectors) }
     ensures synced { syncs ≡ true → OnOk result (SyncsQuietly (view_of filer.old).disk (view_of filer.new).disk) }
@@ -159,55 +153,49 @@ pub(crate) fn shrink<D: Disk, A: Allocator>(
 ) -> Result<(), Halt>
     requires sectors { FitsLayout (view_of filer.old) }
     requires of_file { 16 ≤ id }
-    requires data { (view_of filer.old).layout.first ≤ file.sector }
-    requires inside { file.sector < (view_of filer.old).layout.sectors }
+    requires place { ((view_of filer.old).layout.first ≤ file.sector)
+        × (file.sector < (view_of filer.old).layout.sectors) }
     requires order { pages ≤ file.pages }
     ensures shrunk { (x : List Sector) (shapes : Shapes) (spaces : List Space) (f : Shape)
         → MayShrink (view_of filer.old).disk (view_of filer.old).slots (view_of filer.old).layout
         (view_of filer.old).runs shapes spaces id f pages x
         → f.size ≡ file.pages → IsTriple (labels_of x) id leader_page file.sector
-        → OnOk result
-        (ShrunkBy id pages file.pages x (view_of filer.old).disk (view_of filer.old).slots (view_of filer.old).layout
-        (view_of filer.new).disk (view_of filer.new).slots (view_of filer.new).runs) }
-    ensures sound { (x : List Sector) (shapes : Shapes) (spaces : List Space) (f : Shape)
-        → MayShrink (view_of filer.old).disk (view_of filer.old).slots (view_of filer.old).layout
-        (view_of filer.old).runs shapes spaces id f pages x
-        → f.size ≡ file.pages → IsTriple (labels_of x) id leader_page file.sector → IfErr result (λ e. e ≡ halt.Disk) }
-    ensures cause { IfErr result
+        → MatchResult result
+        (λ _.
+        ShrunkBy id pages file.pages x (view_of filer.old).disk (view_of filer.old).slots (view_of filer.old).layout
+        (view_of filer.new).disk (view_of filer.new).slots (view_of filer.new).runs)
+        (λ e.
+        (e ≡ halt.Disk)
+        × ShrunkSome id pages file.pages x (view_of filer.old).disk (view_of filer.old).slots (view_of filer.new).disk
+        (view_of filer.new).slots) }
+    ensures fails { IfErr result
+        (Fails
         (ShrinkHalts (IsUnframed (view_of filer.old).slots id) (view_of filer.old).layout (kept_by (view_of filer.old))
         id pages (λ p. (pages ≤ p) × (p < file.pages)) (view_of filer.old).disk (view_of filer.old).slots
-        (view_of filer.new).disk (view_of filer.new).slots) }
-    ensures keeps_to { (o : InitialState) (named : Triples) → Keeps o filer.old named
-        → named id leader_page file.sector ≡ true → NamesNoneOf id (λ p. (file.pages ≤ p) × (p < 4294967295)) named
-        → OnOk result (KeepsFrom o named filer.new) }
-    ensures reasons { (o : InitialState) (named : Triples) → Keeps o filer.old named
+        (view_of filer.new).disk (view_of filer.new).slots)
+        (view_of filer.old) (view_of filer.new)) }
+    ensures accounts { (o : InitialState) (named : Triples) → Keeps o filer.old named
         → named id leader_page file.sector ≡ true
-        → IfErr result (ShowsReason o (view_of filer.old).layout (view_of filer.new).disk) }
-    ensures evidence_seen { IfErr result (ShowsEvidence (view_of filer.new).disk) }
-    ensures counted { IfErr result
-        (λ e. e ≡ halt.Disk → Rose (view_of filer.old).disk.faults (view_of filer.new).disk.faults) }
-    ensures broken { (x : List Sector) (shapes : Shapes) (spaces : List Space) (f : Shape)
-        → MayShrink (view_of filer.old).disk (view_of filer.old).slots (view_of filer.old).layout
-        (view_of filer.old).runs shapes spaces id f pages x
-        → f.size ≡ file.pages → IsTriple (labels_of x) id leader_page file.sector
-        → OnErr result
-        (ShrunkSome id pages file.pages x (view_of filer.old).disk (view_of filer.old).slots (view_of filer.new).disk
+        → MatchResult result
+        (λ _. NamesNoneOf id (λ p. (file.pages ≤ p) × (p < 4294967295)) named → KeepsFrom o named filer.new)
+        (ShowsReason o (view_of filer.old).layout (view_of filer.new).disk) }
+    ensures writes { MatchResult result
+        (λ _.
+        MakesFree (file.pages - pages) (view_of filer.old).disk (view_of filer.old).slots (view_of filer.new).disk
+        (view_of filer.new).slots)
+        (λ _.
+        MakesSomeFree (view_of filer.old).disk (view_of filer.old).slots (view_of filer.new).disk
         (view_of filer.new).slots) }
-    ensures makes { OnOk result
-        (MakesFree (file.pages - pages) (view_of filer.old).disk (view_of filer.old).slots (view_of filer.new).disk
-        (view_of filer.new).slots) }
-    ensures stopped { OnErr result
-        (MakesSomeFree (view_of filer.old).disk (view_of filer.old).slots (view_of filer.new).disk
-        (view_of filer.new).slots) }
-    ensures used { OnOk result (volume.new ≡ record volume.old { used = volume.old.used - (file.pages - pages) }) }
-    ensures same_volume { OnErr result (volume.new ≡ volume.old) }
+    ensures volume { MatchResult result
+        (λ _. volume.new ≡ record volume.old { used = volume.old.used - (file.pages - pages) })
+        (λ _. volume.new ≡ volume.old) }
     ensures layout { (view_of filer.new).layout ≡ (view_of filer.old).layout }
     ensures cost { (view_of filer.new).disk.transfers ≤ (view_of filer.old).disk.transfers
         + ((file.pages - pages) * (16 + 4 * (view_of filer.old).layout.vam)
         + (100 + 102 * most_records (view_of filer.old).layout.sectors)) }
-    ensures own { RelabelsOwn id (view_of filer.old).disk (view_of filer.new).disk }
-    ensures synced { is_permanent file.leader ≡ true
-        → OnOk result (LabelsAreSynced (view_of filer.old).disk (view_of filer.new).disk) }
+    ensures labels { RelabelsOwn id (view_of filer.old).disk (view_of filer.new).disk
+        × (is_permanent file.leader ≡ true
+        → OnOk result (LabelsAreSynced (view_of filer.old).disk (view_of filer.new).disk)) }
 {
     match free_down(filer, id, pages, file.pages) {
         Ok(()) => (),

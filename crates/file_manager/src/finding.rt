@@ -23,11 +23,13 @@ ghost use Rattle.filer_kernel.specs.Triples.{MapIs, AreOf, IsOneOf};
 ghost use Rattle.file_map.specs.declared.run.Run.{Run as RunIs};
 ghost use Rattle.file_map.specs.FileMap.{Triples, IsSize};
 ghost use Rattle.file_manager.specs.Finding.{IsFoundFile, FileHalts};
-ghost use Rattle.file_manager.specs.Book.{Books, BringsOwn};
+ghost use Rattle.file_manager.specs.Book.{BooksUpto, BringsOwn};
 ghost use Rattle.file_manager.specs.Causes.{NamesNone};
 ghost use Rattle.file_manager.specs.Reasons.{Keeps, InitialState, ShowsReason};
 ghost use Rattle.file_manager.specs.Synced.{SyncsQuietly};
 ghost use Rattle.filer_kernel.specs.View.{FitsLayout, HasMemory, kept_by, MakesOnly, view_of};
+ghost use Rattle.file_manager.specs.Stays.{ReadsAlone, Searches};
+ghost use Rattle.filer_kernel.specs.Fails.{Fails};
 
 use crate::leader::leader_of;
 use crate::syncing::sync_disk;
@@ -52,8 +54,10 @@ fn read_leader<D: Disk, A: Allocator>(
     sector: u32,
 ) -> Result<Label, Halt>
     requires inside { sector < (view_of filer.old).disk.sectors }
-    ensures found { IfOk result (HasLabel (view_of filer.old).disk sector) }
-    ensures named { IfOk result (λ label. names label (record { id = id; page = leader_page }) ≡ true) }
+    ensures found { IfOk result
+        (λ label.
+        HasLabel (view_of filer.old).disk sector label
+        × (names label (record { id = id; page = leader_page }) ≡ true)) }
     ensures sound { (m : List Sector) → HasMemory (view_of filer.old) m
         → HasOne (ones_of (record { id = id; page = leader_page })) m sector → IfErr result (λ e. e ≡ halt.Disk) }
     ensures cause { IfErr result
@@ -66,11 +70,7 @@ fn read_leader<D: Disk, A: Allocator>(
         → IfErr result (ShowsReason o (view_of filer.old).layout (view_of filer.new).disk) }
     ensures evidence_seen { MayBeIn (view_of filer.old).disk.sectors sector (record { id = id; page = leader_page })
         → IfErr result (ShowsEvidence (view_of filer.new).disk) }
-    ensures same { RevealsSame (view_of filer.old).disk (view_of filer.new).disk }
-    ensures makes { MakesOnly no_page [] (view_of filer.old) (view_of filer.new) }
-    ensures frames { (view_of filer.new).slots ≡ (view_of filer.old).slots }
-    ensures layout { (view_of filer.new).layout ≡ (view_of filer.old).layout }
-    ensures runs { (view_of filer.new).runs ≡ (view_of filer.old).runs }
+    ensures stays { ReadsAlone (view_of filer.old) (view_of filer.new) }
     ensures cost { (view_of filer.new).disk.transfers ≤ (view_of filer.old).disk.transfers + 1 }
 {
     let wanted = Wanted { id, page: LEADER };
@@ -97,8 +97,10 @@ fn leader_label<D: Disk, A: Allocator>(
     syncs: bool,
 ) -> Result<Label, Halt>
     requires inside { sector < (view_of filer.old).disk.sectors }
-    ensures found { IfOk result (HasLabel (view_of filer.old).disk sector) }
-    ensures named { IfOk result (λ label. names label (record { id = id; page = leader_page }) ≡ true) }
+    ensures found { IfOk result
+        (λ label.
+        HasLabel (view_of filer.old).disk sector label
+        × (names label (record { id = id; page = leader_page }) ≡ true)) }
     ensures sound { (m : List Sector) → HasMemory (view_of filer.old) m
         → HasOne (ones_of (record { id = id; page = leader_page })) m sector → IfErr result (λ e. e ≡ halt.Disk) }
     ensures cause { IfErr result
@@ -111,11 +113,7 @@ fn leader_label<D: Disk, A: Allocator>(
         → IfErr result (ShowsReason o (view_of filer.old).layout (view_of filer.new).disk) }
     ensures evidence_seen { MayBeIn (view_of filer.old).disk.sectors sector (record { id = id; page = leader_page })
         → IfErr result (ShowsEvidence (view_of filer.new).disk) }
-    ensures same { RevealsSame (view_of filer.old).disk (view_of filer.new).disk }
-    ensures makes { MakesOnly no_page [] (view_of filer.old) (view_of filer.new) }
-    ensures frames { (view_of filer.new).slots ≡ (view_of filer.old).slots }
-    ensures layout { (view_of filer.new).layout ≡ (view_of filer.old).layout }
-    ensures runs { (view_of filer.new).runs ≡ (view_of filer.old).runs }
+    ensures stays { ReadsAlone (view_of filer.old) (view_of filer.new) }
     ensures cost { (view_of filer.new).disk.transfers ≤ (view_of filer.old).disk.transfers + 1 }
     ensures synced { syncs ≡ true
         → IfOk result
@@ -146,64 +144,41 @@ pub(crate) fn find_file<D: Disk, A: Allocator>(
 ) -> Result<Option<FoundFile>, Halt>
     requires size { FitsLayout (view_of filer.old) }
     requires client { 16 ≤ id }
-    ensures revealed { (x : List Sector) (shapes : Shapes) (spaces : List Space)
-        → Books (view_of filer.old).disk (view_of filer.old).slots (view_of filer.old).layout (view_of filer.old).runs
-        shapes spaces x
-        → MatchResult result (IsFoundFile (labels_of x) shapes id) (λ e. e ≡ halt.Disk) }
-    ensures same { (x : List Sector) (shapes : Shapes) (spaces : List Space)
-        → Books (view_of filer.old).disk (view_of filer.old).slots (view_of filer.old).layout (view_of filer.old).runs
-        shapes spaces x
-        → Books (view_of filer.new).disk (view_of filer.new).slots (view_of filer.old).layout (view_of filer.new).runs
-        shapes spaces x }
-    ensures place { IfOk result
+    ensures revealed { (tables : ℕ) (x : List Sector) (shapes : Shapes) (spaces : List Space)
+        → BooksUpto tables (view_of filer.old).disk (view_of filer.old).slots (view_of filer.old).layout
+        (view_of filer.old).runs shapes spaces x
+        → MatchResult result (IsFoundFile (labels_of x) shapes id) (λ e. e ≡ halt.Disk)
+        × BooksUpto tables (view_of filer.new).disk (view_of filer.new).slots (view_of filer.old).layout
+        (view_of filer.new).runs shapes spaces x }
+    ensures found { IfOk result
         (λ found.
         IfSome found
-        (λ file.
-        ((view_of filer.old).layout.first ≤ file.sector) × (file.sector < (view_of filer.old).layout.sectors))) }
-    ensures label { IfOk result
-        (λ found.
-        IfSome found
+        (λ file. ((view_of filer.old).layout.first ≤ file.sector) × (file.sector < (view_of filer.old).layout.sectors))
+        × IfSome found
         (λ file.
         HasLabel (view_of filer.new).disk file.sector file.leader
         × (names file.leader (record { id = id; page = leader_page }) ≡ true))) }
-    ensures size { (m : List Sector) (named : Triples) → HasMemory (view_of filer.old) m
+    ensures named { (m : List Sector) (named : Triples) → HasMemory (view_of filer.old) m
         → MapIs (view_of filer.old).layout named m
-        → IfOk result (λ found. IfSome found (λ file. IsSize named id file.pages)) }
-    ensures names { (m : List Sector) (named : Triples) → HasMemory (view_of filer.old) m
-        → MapIs (view_of filer.old).layout named m → AreOf named (kept_by (view_of filer.old))
-        → IfOk result (λ found. IfSome found (λ file. named id leader_page file.sector ≡ true)) }
+        → IfOk result
+        (λ found.
+        IfSome found (λ file. IsSize named id file.pages)
+        × (AreOf named (kept_by (view_of filer.old))
+        → IfSome found (λ file. named id leader_page file.sector ≡ true))) }
     ensures missing { result ≡ Ok None
         → NamesNone (view_of filer.old).layout (view_of filer.old).disk (view_of filer.old).slots id leader_page }
-    ensures same_bytes { (b : List ℕ)
-        → Reveals FileMap (view_of filer.old).disk (view_of filer.old).slots (view_of filer.old).layout b
-        → Reveals FileMap (view_of filer.new).disk (view_of filer.new).slots (view_of filer.old).layout b }
-    ensures beside { Beside FileMap (view_of filer.old).disk (view_of filer.old).slots (view_of filer.old).layout
-        (view_of filer.new).disk (view_of filer.new).slots (view_of filer.new).layout }
-    ensures looked { Looked FileMap (view_of filer.old).disk (view_of filer.old).slots (view_of filer.old).layout
-        (view_of filer.new).disk (view_of filer.new).slots (view_of filer.new).layout }
-    ensures runs_given { (r : RunIs) → IsOneOf r (runs_of (view_of filer.old).layout.sectors (view_of filer.new).runs)
-        → IsGiven (view_of filer.old).layout (view_of filer.old).disk (view_of filer.old).slots
-        (kept_by (view_of filer.old)) r }
-    ensures runs_are { (m : List Sector) (named : Triples) → HasMemory (view_of filer.old) m
-        → MapIs (view_of filer.old).layout named m → AreOf named (kept_by (view_of filer.old))
-        → AreOf named (runs_of (view_of filer.old).layout.sectors (view_of filer.new).runs) }
+    ensures stays { Searches id (view_of filer.old) (view_of filer.new) }
     ensures takes { OnOk result
         (MakesFor (view_of filer.old).layout id no_page_of (view_of filer.old).disk (view_of filer.old).slots
         (view_of filer.new).disk (view_of filer.new).slots) }
-    ensures makes { MakesOnly volume_page [] (view_of filer.old) (view_of filer.new) }
-    ensures brings { BringsOwn (view_of filer.old).slots (view_of filer.new).slots }
-    ensures cause { IfErr result
+    ensures fails { IfErr result
+        (Fails
         (FileHalts (view_of filer.old).layout (kept_by (view_of filer.old)) id (view_of filer.old).disk
-        (view_of filer.old).slots (view_of filer.new).disk) }
-    ensures keeps_to { (o : InitialState) (named : Triples) → Keeps o filer.old named
-        → OnOk result (Keeps o filer.new named) }
-    ensures reasons { (o : InitialState) (named : Triples) → Keeps o filer.old named
-        → IfErr result (ShowsReason o (view_of filer.old).layout (view_of filer.new).disk) }
-    ensures keeps { KeepsMap (IsUnframed (view_of filer.old).slots id) (view_of filer.old).layout id
-        (view_of filer.old).disk (view_of filer.old).slots (kept_by (view_of filer.old)) (view_of filer.new).disk
-        (view_of filer.new).slots (runs_of (view_of filer.old).layout.sectors (view_of filer.new).runs) }
-    ensures evidence_seen { IfErr result (ShowsEvidence (view_of filer.new).disk) }
-    ensures layout { (view_of filer.new).layout ≡ (view_of filer.old).layout }
+        (view_of filer.old).slots (view_of filer.new).disk)
+        (view_of filer.old) (view_of filer.new)) }
+    ensures accounts { (o : InitialState) (named : Triples) → Keeps o filer.old named
+        → MatchResult result (λ _. Keeps o filer.new named)
+        (ShowsReason o (view_of filer.old).layout (view_of filer.new).disk) }
     ensures cost { (view_of filer.new).disk.transfers ≤ (view_of filer.old).disk.transfers + 29 }
     ensures synced { syncs ≡ true
         → IfOk result

@@ -2,6 +2,7 @@
 ghost use Rattle.std.specs.Prelude.{◌≡◌, ◌⊎◌, ◌+◌, ◌^◌, ◌≤◌};
 ghost use Rattle.file_manager.specs.Forgetting.{Forgets};
 ghost use Rattle.filer_kernel.specs.View.{disk_of, view_of};
+ghost use Rattle.file_manager.specs.Stays.{RunsStay};
 
 use filer_kernel::Filer;
 use labelled_disk::{Disk, FileId};
@@ -41,8 +42,7 @@ pub(crate) fn discard_run<D: Disk, A: Allocator>(
     ensures forgets { Forgets id first pages (view_of filer.old).layout (view_of filer.old).disk
         (view_of filer.old).slots (view_of filer.new).slots }
     ensures disk { (disk_of filer.new) ≡ (disk_of filer.old) }
-    ensures layout { (view_of filer.new).layout ≡ (view_of filer.old).layout }
-    ensures runs { (view_of filer.new).runs ≡ (view_of filer.old).runs }
+    ensures stays { RunsStay (view_of filer.old) (view_of filer.new) }
 {
     let swapper = filer.swapper_over();
     discard_pages(swapper, id, first, pages);

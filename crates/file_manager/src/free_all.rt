@@ -1,5 +1,5 @@
 //! All pages of a file that become free, its leader first.
-ghost use Rattle.std.specs.Prelude.{◌≡◌, ℕ, ◌+◌, ◌*◌, ◌≤◌, List, IfErr, OnErr, OnOk, Err, ◌<◌, ◌⊎◌};
+ghost use Rattle.std.specs.Prelude.{◌≡◌, ℕ, ◌+◌, ◌*◌, ◌≤◌, List, IfErr, OnErr, OnOk, Err, ◌<◌, ◌⊎◌, MatchResult};
 ghost use Rattle.labelled_disk.specs.declared.evidence.Halt.TheVariants as halt;
 ghost use Rattle.labelled_disk.specs.Calls.{Rose};
 ghost use Rattle.labelled_disk.specs.Sectors.{Sector};
@@ -14,6 +14,9 @@ ghost use Rattle.label_calls.specs.Synced.{SyncsLeaders};
 ghost use Rattle.file_manager.specs.Freeing.{MayFreeAll, FreedAll, FreedFirst, MakesFree, MakesSomeFree};
 ghost use Rattle.file_manager.specs.Reasons.{AreReleased, Keeps, InitialState, ShowsReason};
 ghost use Rattle.filer_kernel.specs.View.{FitsLayout, kept_by, view_of};
+ghost use Rattle.file_manager.specs.Outcomes.{RelabelsAround};
+ghost use Rattle.file_manager.specs.Stays.{MapStays};
+ghost use Rattle.filer_kernel.specs.Fails.{Fails};
 
 use crate::release::{free_run, free_up};
 use filer_kernel::Filer;
@@ -31,46 +34,37 @@ pub(crate) fn free_all<D: Disk, A: Allocator>(
     ensures freed { (named : Triples) (spaces : List Space) (m : List Sector)
         → MayFreeAll (view_of filer.old).disk (view_of filer.old).slots (view_of filer.old).layout
         (view_of filer.old).runs named spaces id pages m
-        → OnOk result
-        (FreedAll (view_of filer.old).layout named spaces id pages (view_of filer.old).disk (view_of filer.old).slots
-        (view_of filer.new).disk (view_of filer.new).slots (view_of filer.new).runs) }
-    ensures sound { (named : Triples) (spaces : List Space) (m : List Sector)
-        → MayFreeAll (view_of filer.old).disk (view_of filer.old).slots (view_of filer.old).layout
-        (view_of filer.old).runs named spaces id pages m
-        → IfErr result (λ e. e ≡ halt.Disk) }
-    ensures first { (named : Triples) (spaces : List Space) (m : List Sector)
-        → MayFreeAll (view_of filer.old).disk (view_of filer.old).slots (view_of filer.old).layout
-        (view_of filer.old).runs named spaces id pages m
-        → OnErr result
-        (FreedFirst named id pages (view_of filer.old).disk (view_of filer.old).slots (view_of filer.new).disk
+        → MatchResult result
+        (λ _.
+        FreedAll (view_of filer.old).layout named spaces id pages (view_of filer.old).disk (view_of filer.old).slots
+        (view_of filer.new).disk (view_of filer.new).slots (view_of filer.new).runs)
+        (λ e.
+        (e ≡ halt.Disk)
+        × FreedFirst named id pages (view_of filer.old).disk (view_of filer.old).slots (view_of filer.new).disk
         (view_of filer.new).slots) }
-    ensures makes { OnOk result
-        (MakesFree (1 + pages) (view_of filer.old).disk (view_of filer.old).slots (view_of filer.new).disk
+    ensures writes { MatchResult result
+        (λ _.
+        MakesFree (1 + pages) (view_of filer.old).disk (view_of filer.old).slots (view_of filer.new).disk
+        (view_of filer.new).slots)
+        (λ _.
+        MakesSomeFree (view_of filer.old).disk (view_of filer.old).slots (view_of filer.new).disk
         (view_of filer.new).slots) }
-    ensures stopped { OnErr result
-        (MakesSomeFree (view_of filer.old).disk (view_of filer.old).slots (view_of filer.new).disk
-        (view_of filer.new).slots) }
-    ensures cause { IfErr result
+    ensures fails { IfErr result
+        (Fails
         (FreeHalts (IsUnframed (view_of filer.old).slots id) (view_of filer.old).layout (kept_by (view_of filer.old)) id
         (λ p. (p ≡ leader_page) ⊎ (p < pages)) (view_of filer.old).disk (view_of filer.old).slots
-        (view_of filer.new).disk) }
-    ensures keeps_to { (o : InitialState) (named : Triples) → Keeps o filer.old named
-        → OnOk result (Keeps o filer.new named) }
-    ensures evict { (o : InitialState) (named : Triples) → Keeps o filer.old named
-        → OnOk result (AreReleased o (view_of filer.new).disk named id (λ p. (p ≡ leader_page) ⊎ (p < pages))) }
-    ensures reasons { (o : InitialState) (named : Triples) → Keeps o filer.old named
-        → IfErr result (ShowsReason o (view_of filer.old).layout (view_of filer.new).disk) }
-    ensures keeps { OnOk result
-        (KeepsMap (IsUnframed (view_of filer.old).slots id) (view_of filer.old).layout id (view_of filer.old).disk
-        (view_of filer.old).slots (kept_by (view_of filer.old)) (view_of filer.new).disk (view_of filer.new).slots
-        (runs_of (view_of filer.old).layout.sectors (view_of filer.new).runs)) }
-    ensures evidence_seen { IfErr result (ShowsEvidence (view_of filer.new).disk) }
-    ensures counted { result ≡ Err halt.Disk → Rose (view_of filer.old).disk.faults (view_of filer.new).disk.faults }
-    ensures layout { (view_of filer.new).layout ≡ (view_of filer.old).layout }
+        (view_of filer.new).disk)
+        (view_of filer.old) (view_of filer.new)) }
+    ensures accounts { (o : InitialState) (named : Triples) → Keeps o filer.old named
+        → MatchResult result
+        (λ _.
+        Keeps o filer.new named
+        × AreReleased o (view_of filer.new).disk named id (λ p. (p ≡ leader_page) ⊎ (p < pages)))
+        (ShowsReason o (view_of filer.old).layout (view_of filer.new).disk) }
+    ensures stays { MapStays id result (view_of filer.old) (view_of filer.new) }
     ensures cost { (view_of filer.new).disk.transfers ≤ (view_of filer.old).disk.transfers + (1 + pages)
         * (16 + 4 * (view_of filer.old).layout.vam) }
-    ensures own { RelabelsOwn id (view_of filer.old).disk (view_of filer.new).disk }
-    ensures around { SyncsLeaders result (view_of filer.old).disk (view_of filer.new).disk }
+    ensures labels { RelabelsAround id result (view_of filer.old).disk (view_of filer.new).disk }
 {
     match free_run(filer, id, LEADER, 1) {
         Ok(_) => (),

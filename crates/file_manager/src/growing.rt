@@ -1,5 +1,5 @@
 //! Files that get more pages.
-ghost use Rattle.std.specs.Prelude.{◌≡◌, ◌+◌, ◌-◌, ◌*◌, ◌≤◌, ◌<◌, true, List, IfErr, OnErr, OnOk, min, Err};
+ghost use Rattle.std.specs.Prelude.{◌≡◌, ◌+◌, ◌-◌, ◌*◌, ◌≤◌, ◌<◌, true, List, IfErr, OnErr, OnOk, min, Err, MatchResult};
 ghost use Rattle.labelled_disk.specs.declared.evidence.Halt.TheVariants as halt;
 ghost use Rattle.labelled_disk.specs.Calls.{Rose};
 ghost use Rattle.labelled_disk.specs.Label.{is_file_id};
@@ -14,6 +14,8 @@ ghost use Rattle.file_manager.specs.Making.{MayGrow, GrownBy, MakesAll, MakesSom
 ghost use Rattle.file_manager.specs.Reasons.{Keeps, KeepsFrom, MayTake, InitialState, ShowsReason};
 ghost use Rattle.file_manager.specs.Taking.{NamesNoneOf};
 ghost use Rattle.filer_kernel.specs.View.{FitsLayout, view_of};
+ghost use Rattle.file_manager.specs.Stays.{RunsStay};
+ghost use Rattle.filer_kernel.specs.Fails.{Fails};
 
 use crate::Volume;
 use crate::growth::make_up;
@@ -38,41 +40,35 @@ pub fn grow<D: Disk, A: Allocator>(
         → MayGrow (view_of filer.old).disk (view_of filer.old).slots (view_of filer.old).layout (view_of filer.old).runs
         shapes spaces id f pages x
         → f.size ≡ size
-        → OnOk result
-        (GrownBy id kind size (pages - size) (view_of filer.old).disk (view_of filer.old).slots
-        (view_of filer.old).layout (view_of filer.new).disk (view_of filer.new).slots (view_of filer.new).runs) }
-    ensures sound { (x : List Sector) (shapes : Shapes) (spaces : List Space) (f : Shape)
-        → MayGrow (view_of filer.old).disk (view_of filer.old).slots (view_of filer.old).layout (view_of filer.old).runs
-        shapes spaces id f pages x
-        → f.size ≡ size → IfErr result (λ e. e ≡ halt.Disk) }
-    ensures broken { (x : List Sector) (shapes : Shapes) (spaces : List Space) (f : Shape)
-        → MayGrow (view_of filer.old).disk (view_of filer.old).slots (view_of filer.old).layout (view_of filer.old).runs
-        shapes spaces id f pages x
-        → f.size ≡ size
-        → OnErr result
-        (GrewSome id kind size (pages - size) x (view_of filer.old).disk (view_of filer.old).slots
+        → MatchResult result
+        (λ _.
+        GrownBy id kind size (pages - size) (view_of filer.old).disk (view_of filer.old).slots
+        (view_of filer.old).layout (view_of filer.new).disk (view_of filer.new).slots (view_of filer.new).runs)
+        (λ e.
+        (e ≡ halt.Disk)
+        × GrewSome id kind size (pages - size) x (view_of filer.old).disk (view_of filer.old).slots
         (view_of filer.new).disk (view_of filer.new).slots) }
-    ensures makes { OnOk result
-        (MakesAll id kind size (pages - size) (view_of filer.old).disk (view_of filer.old).slots
+    ensures writes { MatchResult result
+        (λ _.
+        MakesAll id kind size (pages - size) (view_of filer.old).disk (view_of filer.old).slots (view_of filer.new).disk
+        (view_of filer.new).slots)
+        (λ _.
+        MakesSome id kind size (pages - size) (view_of filer.old).disk (view_of filer.old).slots
         (view_of filer.new).disk (view_of filer.new).slots) }
-    ensures stopped { OnErr result
-        (MakesSome id kind size (pages - size) (view_of filer.old).disk (view_of filer.old).slots
-        (view_of filer.new).disk (view_of filer.new).slots) }
-    ensures cause { IfErr result
+    ensures fails { IfErr result
+        (Fails
         (RangeHalts (view_of filer.old).layout id size pages (view_of filer.old).disk (view_of filer.old).slots
-        (view_of filer.new).disk (view_of filer.new).slots) }
-    ensures keeps_to { (o : InitialState) (named : Triples) → Keeps o filer.old named → MayTake o id
-        → NamesNoneOf id (λ p. (size ≤ p) × (p < pages)) named → OnOk result (KeepsFrom o named filer.new) }
-    ensures reasons { (o : InitialState) (named : Triples) → Keeps o filer.old named → MayTake o id
+        (view_of filer.new).disk (view_of filer.new).slots)
+        (view_of filer.old) (view_of filer.new)) }
+    ensures accounts { (o : InitialState) (named : Triples) → Keeps o filer.old named → MayTake o id
         → NamesNoneOf id (λ p. (size ≤ p) × (p < pages)) named
-        → IfErr result (ShowsReason o (view_of filer.old).layout (view_of filer.new).disk) }
-    ensures evidence_seen { IfErr result (ShowsEvidence (view_of filer.new).disk) }
-    ensures counted { result ≡ Err halt.Disk → Rose (view_of filer.old).disk.faults (view_of filer.new).disk.faults }
-    ensures used { OnOk result
-        (volume.new ≡ record volume.old { used = min (volume.old.used + (pages - size)) volume.old.layout.capacity }) }
-    ensures same_volume { OnErr result (volume.new ≡ volume.old) }
-    ensures layout { (view_of filer.new).layout ≡ (view_of filer.old).layout }
-    ensures runs { (view_of filer.new).runs ≡ (view_of filer.old).runs }
+        → MatchResult result (λ _. KeepsFrom o named filer.new)
+        (ShowsReason o (view_of filer.old).layout (view_of filer.new).disk) }
+    ensures volume { MatchResult result
+        (λ _.
+        volume.new ≡ record volume.old { used = min (volume.old.used + (pages - size)) volume.old.layout.capacity })
+        (λ _. volume.new ≡ volume.old) }
+    ensures stays { RunsStay (view_of filer.old) (view_of filer.new) }
     ensures cost { (view_of filer.new).disk.transfers ≤ (view_of filer.old).disk.transfers + (pages - size)
         * (8 * (view_of filer.old).layout.vam + 100) }
 {

@@ -1,5 +1,5 @@
 //! Pages of a file that are made: free sectors are taken, labelled, and put into the file map.
-ghost use Rattle.std.specs.Prelude.{◌≡◌, ℕ, ◌+◌, ◌-◌, ◌*◌, ◌^◌, ◌≤◌, ◌<◌, true, false, List, length, Some, IfOk, IfErr, OnErr, OnOk, Err, None};
+ghost use Rattle.std.specs.Prelude.{◌≡◌, ℕ, ◌+◌, ◌-◌, ◌*◌, ◌^◌, ◌≤◌, ◌<◌, true, false, List, length, Some, IfOk, IfErr, OnErr, OnOk, Err, None, MatchResult};
 ghost use Rattle.labelled_disk.specs.declared.evidence.Halt.TheVariants as halt;
 ghost use Rattle.labelled_disk.specs.Calls.{Rose};
 ghost use Rattle.labelled_disk.specs.Label.{is_file_id};
@@ -25,12 +25,14 @@ ghost use Rattle.session_words.specs.Parts.{Shape, Shapes};
 ghost use Rattle.session_words.specs.GrowLaws.{Grows};
 ghost use Rattle.session_words.specs.Volume.{volume_page};
 ghost use Rattle.frame_pool.specs.Frames.{ArePages};
-ghost use Rattle.file_manager.specs.Book.{Books, BooksUpto, Leads};
+ghost use Rattle.file_manager.specs.Book.{BooksUpto, Leads};
 ghost use Rattle.file_manager.specs.Broken.{GrewSome};
-ghost use Rattle.file_manager.specs.Making.{AreUnowned, AreUnownedUpto, ShowsNoFree, free_count, sectors_of, IsRunFor, MayGrow, GrownBy, MakesAll, MakesSome};
+ghost use Rattle.file_manager.specs.Making.{AreUnownedUpto, ShowsNoFree, free_count, sectors_of, IsRunFor, MayGrowUpto, GrownBy, MakesAll, MakesSome};
 ghost use Rattle.file_manager.specs.Reasons.{Keeps, KeepsFrom, MayTake, InitialState, ShowsReason, telling};
 ghost use Rattle.file_manager.specs.Taking.{NamesNoneOf};
 ghost use Rattle.filer_kernel.specs.View.{FitsLayout, HasMemory, MakesOnly, view_of};
+ghost use Rattle.file_manager.specs.Stays.{FramesStay, MarksBeside, BringsMaps};
+ghost use Rattle.filer_kernel.specs.Fails.{Fails};
 
 use alloc_map::AllocError;
 use file_map::Run;
@@ -56,17 +58,15 @@ fn take_run<D: Disk, A: Allocator>(filer: &mut Filer<D, A>, most: u32) -> Result
         → BitsAre (view_of filer.old).layout marks m → AreNamed m (IsMapHome AllocationMap (view_of filer.old).layout)
         → (view_of filer.old).layout.first ≤ k → k < (view_of filer.old).layout.sectors → marks k ≡ false
         → IfErr result (λ e. e ≡ halt.Disk) }
-    ensures cause { IfErr result
+    ensures fails { IfErr result
+        (Fails
         (TakeHalts (view_of filer.old).layout (view_of filer.old).disk (view_of filer.old).slots
-        (view_of filer.new).disk (view_of filer.new).slots) }
+        (view_of filer.new).disk (view_of filer.new).slots)
+        (view_of filer.old) (view_of filer.new)) }
     ensures reasons { (o : InitialState) (named : Triples) → Keeps o filer.old named
         → IfErr result (ShowsReason o (view_of filer.old).layout (view_of filer.new).disk) }
-    ensures evidence_seen { IfErr result (ShowsEvidence (view_of filer.new).disk) }
-    ensures counted { result ≡ Err halt.Disk → Rose (view_of filer.old).disk.faults (view_of filer.new).disk.faults }
     ensures form { IfOk result (IsDataRun (view_of filer.old).layout.first (view_of filer.old).layout.sectors most) }
-    ensures kept { Beside AllocationMap (view_of filer.old).disk (view_of filer.old).slots (view_of filer.old).layout
-        (view_of filer.new).disk (view_of filer.new).slots (view_of filer.new).layout }
-    ensures runs { (view_of filer.new).runs ≡ (view_of filer.old).runs }
+    ensures stays { MarksBeside (view_of filer.old) (view_of filer.new) }
     ensures cost { (view_of filer.new).disk.transfers ≤ (view_of filer.old).disk.transfers + 8
         * (view_of filer.old).layout.vam }
 {
@@ -91,29 +91,26 @@ fn label_run<D: Disk, A: Allocator>(
     requires inside { run.sector + run.pages ≤ (view_of filer.old).layout.sectors }
     requires numbers { run.first + run.pages ≤ 2 ^ 32 }
     requires of_file { AreOfFile run.id kind run.first run.pages }
-    ensures made { OnOk result
-        (RelabelsRun run.sector run.pages (growth run.id kind run.first (sectors_of run)) (view_of filer.old).disk
-        (view_of filer.old).slots (view_of filer.new).disk) }
-    ensures were { OnOk result
-        ((d : List Sector) → (view_of filer.old).disk.contents ≡ Some d
-        → HaveOnes (λ k. free_ones) d run.sector run.pages) }
-    ensures stopped { OnErr result
-        (MadeSome (growth run.id kind run.first (sectors_of run)) (view_of filer.old).disk (view_of filer.old).slots
-        (view_of filer.new).disk) }
-    ensures named { OnErr result
-        (NamedSome (λ k. run.sector + k) (λ k. free_ones) (growth run.id kind run.first (sectors_of run))
+    ensures writes { MatchResult result
+        (λ _.
+        RelabelsRun run.sector run.pages (growth run.id kind run.first (sectors_of run)) (view_of filer.old).disk
+        (view_of filer.old).slots (view_of filer.new).disk
+        × ((d : List Sector) → (view_of filer.old).disk.contents ≡ Some d
+        → HaveOnes (λ k. free_ones) d run.sector run.pages))
+        (λ _.
+        MadeSome (growth run.id kind run.first (sectors_of run)) (view_of filer.old).disk (view_of filer.old).slots
+        (view_of filer.new).disk
+        × NamedSome (λ k. run.sector + k) (λ k. free_ones) (growth run.id kind run.first (sectors_of run))
         (view_of filer.old).disk (view_of filer.old).slots (view_of filer.new).disk) }
     ensures sound { (m : List Sector) → HasMemory (view_of filer.old) m
         → AreUncovered (view_of filer.old).slots run.sector run.pages → HaveOnes (λ k. free_ones) m run.sector run.pages
         → IfErr result (λ e. e ≡ halt.Disk) }
-    ensures cause { IfErr result
+    ensures fails { IfErr result
+        (Fails
         (HasCause (IsOneTaken run.sector run.pages (view_of filer.old).disk) (view_of filer.old).disk
-        (view_of filer.new).disk) }
-    ensures evidence_seen { IfErr result (ShowsEvidence (view_of filer.new).disk) }
-    ensures counted { result ≡ Err halt.Disk → Rose (view_of filer.old).disk.faults (view_of filer.new).disk.faults }
-    ensures frames { (view_of filer.new).slots ≡ (view_of filer.old).slots }
-    ensures layout { (view_of filer.new).layout ≡ (view_of filer.old).layout }
-    ensures runs { (view_of filer.new).runs ≡ (view_of filer.old).runs }
+        (view_of filer.new).disk)
+        (view_of filer.old) (view_of filer.new)) }
+    ensures stays { FramesStay (view_of filer.old) (view_of filer.new) }
     ensures cost { (view_of filer.new).disk.transfers ≤ (view_of filer.old).disk.transfers + 2 * run.pages }
 {
     let swapper = filer.swapper_over();
@@ -141,68 +138,57 @@ pub(crate) fn make_run<D: Disk, A: Allocator>(
     most: u32,
 ) -> Result<Run, Halt>
     requires size { FitsLayout (view_of filer.old) }
-    requires some { 1 ≤ most }
-    requires numbers { page + most ≤ 2 ^ 32 }
+    requires pages { (1 ≤ most) × (page + most ≤ 2 ^ 32) }
     requires of_file { AreOfFile id kind page most }
     ensures made { (tables : ℕ) (x : List Sector) (shapes : Shapes) (spaces : List Space)
         → BooksUpto tables (view_of filer.old).disk (view_of filer.old).slots (view_of filer.old).layout
         (view_of filer.old).runs shapes spaces x
         → ShowsNoFree spaces → AreUnownedUpto tables shapes id page most → 1 ≤ free_count (view_of filer.old).layout x
-        → IfOk result
+        → MatchResult result
         (λ run.
         Leads (Grows id kind page (sectors_of run)) (growth id kind page (sectors_of run)) (view_of filer.old).disk
         (view_of filer.old).slots (view_of filer.old).layout (view_of filer.new).disk (view_of filer.new).slots
-        (view_of filer.new).runs) }
-    ensures cause { IfErr result
+        (view_of filer.new).runs)
+        (λ e. e ≡ halt.Disk) }
+    ensures fails { IfErr result
+        (Fails
         (RangeHalts (view_of filer.old).layout id page (page + most) (view_of filer.old).disk (view_of filer.old).slots
-        (view_of filer.new).disk (view_of filer.new).slots) }
-    ensures keeps_to { (o : InitialState) (named : Triples) → Keeps o filer.old named → MayTake o id
-        → (id ≡ 3 → o.tables ≡ None) → NamesNoneOf id (λ p. (page ≤ p) × (p < page + most)) named
-        → IfOk result (λ run. Keeps o filer.new (with_run named run)) }
+        (view_of filer.new).disk (view_of filer.new).slots)
+        (view_of filer.old) (view_of filer.new)) }
+    ensures accounts { (o : InitialState) (named : Triples) → Keeps o filer.old named
+        → NamesNoneOf id (λ p. (page ≤ p) × (p < page + most)) named
+        → MatchResult result (λ run. MayTake o id → (id ≡ 3 → o.tables ≡ None) → Keeps o filer.new (with_run named run))
+        (ShowsReason o (view_of filer.old).layout (view_of filer.new).disk) }
     ensures tables { (o : InitialState) (named : Triples) (b : List ℕ) → id ≡ 3 → page + most ≤ 96
         → length b ≡ 512 * page → Keeps (telling o b) filer.old named
         → NamesNoneOf id (λ p. (page ≤ p) × (p < page + most)) named
         → IfOk result
         (λ run.
         (c : List ℕ) × (Keeps (telling o c) filer.new (with_run named run) × (length c ≡ 512 * (page + run.pages)))) }
-    ensures reasons { (o : InitialState) (named : Triples) → Keeps o filer.old named
-        → NamesNoneOf id (λ p. (page ≤ p) × (p < page + most)) named
-        → IfErr result (ShowsReason o (view_of filer.old).layout (view_of filer.new).disk) }
-    ensures longest { IfOk result
+    ensures run { IfOk result
         (λ run.
-        run.pages < most → (m : List Sector) (marks : Marks) → HasMemory (view_of filer.old) m
+        IsRunFor (view_of filer.old).layout.sectors id page most run
+        × (run.pages < most → (m : List Sector) (marks : Marks) → HasMemory (view_of filer.old) m
         → BitsAre (view_of filer.old).layout marks m → run.sector + run.pages < (view_of filer.old).layout.sectors
-        → marks (run.sector + run.pages) ≡ true) }
-    ensures takes { IfOk result
-        (λ run.
-        MakesFor (view_of filer.old).layout id (λ p. (page ≤ p) × (p < page + run.pages)) (view_of filer.old).disk
+        → marks (run.sector + run.pages) ≡ true)
+        × MakesFor (view_of filer.old).layout id (λ p. (page ≤ p) × (p < page + run.pages)) (view_of filer.old).disk
         (view_of filer.old).slots (view_of filer.new).disk (view_of filer.new).slots) }
-    ensures come { Brings (IsMapsHome (view_of filer.old).layout) (view_of filer.old).slots (view_of filer.new).slots }
-    ensures evidence_seen { IfErr result (ShowsEvidence (view_of filer.new).disk) }
-    ensures counted { result ≡ Err halt.Disk → Rose (view_of filer.old).disk.faults (view_of filer.new).disk.faults }
-    ensures form { IfOk result (IsRunFor (view_of filer.old).layout.sectors id page most) }
-    ensures sound { (tables : ℕ) (x : List Sector) (shapes : Shapes) (spaces : List Space)
+    ensures stays { BringsMaps (view_of filer.old) (view_of filer.new) }
+    ensures broken { (tables : ℕ) (x : List Sector) (shapes : Shapes) (spaces : List Space)
         → BooksUpto tables (view_of filer.old).disk (view_of filer.old).slots (view_of filer.old).layout
         (view_of filer.old).runs shapes spaces x
         → ShowsNoFree spaces → AreUnownedUpto tables shapes id page most → 1 ≤ free_count (view_of filer.old).layout x
-        → IfErr result (λ e. e ≡ halt.Disk) }
-    ensures broken { (x : List Sector) (shapes : Shapes) (spaces : List Space)
-        → Books (view_of filer.old).disk (view_of filer.old).slots (view_of filer.old).layout (view_of filer.old).runs
-        shapes spaces x
-        → ShowsNoFree spaces → AreUnowned shapes id page most → 1 ≤ free_count (view_of filer.old).layout x
         → OnErr result
         (GrewSome id kind page most x (view_of filer.old).disk (view_of filer.old).slots (view_of filer.new).disk
         (view_of filer.new).slots) }
-    ensures makes { IfOk result
-        (λ run. MakesOnly volume_page (growth id kind page (sectors_of run)) (view_of filer.old) (view_of filer.new)) }
-    ensures stopped { OnErr result
-        (MakesSome id kind page most (view_of filer.old).disk (view_of filer.old).slots (view_of filer.new).disk
+    ensures writes { MatchResult result
+        (λ run. MakesOnly volume_page (growth id kind page (sectors_of run)) (view_of filer.old) (view_of filer.new))
+        (λ _.
+        MakesSome id kind page most (view_of filer.old).disk (view_of filer.old).slots (view_of filer.new).disk
         (view_of filer.new).slots) }
-    ensures layout { (view_of filer.new).layout ≡ (view_of filer.old).layout }
-    ensures runs { (view_of filer.new).runs ≡ (view_of filer.old).runs }
-    ensures cost { (view_of filer.new).disk.transfers ≤ (view_of filer.old).disk.transfers
-        + (8 * (view_of filer.old).layout.vam + 2 * most + 98) }
-    ensures cost_made { IfOk result
+    ensures cost { ((view_of filer.new).disk.transfers ≤ (view_of filer.old).disk.transfers
+        + (8 * (view_of filer.old).layout.vam + 2 * most + 98))
+        × IfOk result
         (λ run.
         (view_of filer.new).disk.transfers ≤ (view_of filer.old).disk.transfers
         + (8 * (view_of filer.old).layout.vam + 2 * run.pages + 98)) }
@@ -241,46 +227,37 @@ pub(crate) fn make_up<D: Disk, A: Allocator>(
     requires of_file { is_file_id id ≡ true }
     requires order { from ≤ end }
     requires numbers { end < 4294967295 }
-    ensures made { (x : List Sector) (shapes : Shapes) (spaces : List Space) (f : Shape)
-        → MayGrow (view_of filer.old).disk (view_of filer.old).slots (view_of filer.old).layout (view_of filer.old).runs
-        shapes spaces id f end x
+    ensures made { (tables : ℕ) (x : List Sector) (shapes : Shapes) (spaces : List Space) (f : Shape)
+        → MayGrowUpto tables (view_of filer.old).disk (view_of filer.old).slots (view_of filer.old).layout
+        (view_of filer.old).runs shapes spaces id f end x
         → f.size ≡ from
-        → OnOk result
-        (GrownBy id kind from (end - from) (view_of filer.old).disk (view_of filer.old).slots (view_of filer.old).layout
-        (view_of filer.new).disk (view_of filer.new).slots (view_of filer.new).runs) }
-    ensures sound { (x : List Sector) (shapes : Shapes) (spaces : List Space) (f : Shape)
-        → MayGrow (view_of filer.old).disk (view_of filer.old).slots (view_of filer.old).layout (view_of filer.old).runs
-        shapes spaces id f end x
-        → f.size ≡ from → IfErr result (λ e. e ≡ halt.Disk) }
-    ensures broken { (x : List Sector) (shapes : Shapes) (spaces : List Space) (f : Shape)
-        → MayGrow (view_of filer.old).disk (view_of filer.old).slots (view_of filer.old).layout (view_of filer.old).runs
-        shapes spaces id f end x
-        → f.size ≡ from
-        → OnErr result
-        (GrewSome id kind from (end - from) x (view_of filer.old).disk (view_of filer.old).slots
+        → MatchResult result
+        (λ _.
+        GrownBy id kind from (end - from) (view_of filer.old).disk (view_of filer.old).slots (view_of filer.old).layout
+        (view_of filer.new).disk (view_of filer.new).slots (view_of filer.new).runs)
+        (λ e.
+        (e ≡ halt.Disk)
+        × GrewSome id kind from (end - from) x (view_of filer.old).disk (view_of filer.old).slots
         (view_of filer.new).disk (view_of filer.new).slots) }
-    ensures makes { OnOk result
-        (MakesAll id kind from (end - from) (view_of filer.old).disk (view_of filer.old).slots (view_of filer.new).disk
+    ensures writes { MatchResult result
+        (λ _.
+        MakesAll id kind from (end - from) (view_of filer.old).disk (view_of filer.old).slots (view_of filer.new).disk
+        (view_of filer.new).slots
+        × MakesFor (view_of filer.old).layout id (λ p. (from ≤ p) × (p < end)) (view_of filer.old).disk
+        (view_of filer.old).slots (view_of filer.new).disk (view_of filer.new).slots)
+        (λ _.
+        MakesSome id kind from (end - from) (view_of filer.old).disk (view_of filer.old).slots (view_of filer.new).disk
         (view_of filer.new).slots) }
-    ensures stopped { OnErr result
-        (MakesSome id kind from (end - from) (view_of filer.old).disk (view_of filer.old).slots (view_of filer.new).disk
-        (view_of filer.new).slots) }
-    ensures cause { IfErr result
+    ensures fails { IfErr result
+        (Fails
         (RangeHalts (view_of filer.old).layout id from end (view_of filer.old).disk (view_of filer.old).slots
-        (view_of filer.new).disk (view_of filer.new).slots) }
-    ensures keeps_to { (o : InitialState) (named : Triples) → Keeps o filer.old named → MayTake o id
-        → NamesNoneOf id (λ p. (from ≤ p) × (p < end)) named → OnOk result (KeepsFrom o named filer.new) }
-    ensures reasons { (o : InitialState) (named : Triples) → Keeps o filer.old named → MayTake o id
+        (view_of filer.new).disk (view_of filer.new).slots)
+        (view_of filer.old) (view_of filer.new)) }
+    ensures accounts { (o : InitialState) (named : Triples) → Keeps o filer.old named → MayTake o id
         → NamesNoneOf id (λ p. (from ≤ p) × (p < end)) named
-        → IfErr result (ShowsReason o (view_of filer.old).layout (view_of filer.new).disk) }
-    ensures takes { OnOk result
-        (MakesFor (view_of filer.old).layout id (λ p. (from ≤ p) × (p < end)) (view_of filer.old).disk
-        (view_of filer.old).slots (view_of filer.new).disk (view_of filer.new).slots) }
-    ensures come { Brings (IsMapsHome (view_of filer.old).layout) (view_of filer.old).slots (view_of filer.new).slots }
-    ensures evidence_seen { IfErr result (ShowsEvidence (view_of filer.new).disk) }
-    ensures counted { result ≡ Err halt.Disk → Rose (view_of filer.old).disk.faults (view_of filer.new).disk.faults }
-    ensures layout { (view_of filer.new).layout ≡ (view_of filer.old).layout }
-    ensures runs { (view_of filer.new).runs ≡ (view_of filer.old).runs }
+        → MatchResult result (λ _. KeepsFrom o named filer.new)
+        (ShowsReason o (view_of filer.old).layout (view_of filer.new).disk) }
+    ensures stays { BringsMaps (view_of filer.old) (view_of filer.new) }
     ensures cost { (view_of filer.new).disk.transfers ≤ (view_of filer.old).disk.transfers + (end - from)
         * (8 * (view_of filer.old).layout.vam + 100) }
 {

@@ -20,10 +20,12 @@ ghost use Rattle.file_map.specs.FileMap.{Triples};
 ghost use Rattle.file_manager.specs.Grounds.{KeepsMap, IsUnframed};
 ghost use Rattle.filer_kernel.specs.Evidence.{ShowsEvidence};
 ghost use Rattle.file_manager.specs.Answer.{IsLeaderOf};
-ghost use Rattle.file_manager.specs.Book.{Books, BringsOwn};
+ghost use Rattle.file_manager.specs.Book.{BooksUpto, BringsOwn};
 ghost use Rattle.file_manager.specs.Causes.{NamesNone};
 ghost use Rattle.file_manager.specs.Reasons.{Keeps, InitialState, ShowsReason};
 ghost use Rattle.filer_kernel.specs.View.{FitsLayout, HasMemory, kept_by, MakesOnly, view_of};
+ghost use Rattle.file_manager.specs.Stays.{Searches};
+ghost use Rattle.filer_kernel.specs.Fails.{Fails};
 
 use filer_kernel::Filer;
 use labelled_disk::{Disk, FileId, Halt, LEADER};
@@ -36,58 +38,34 @@ pub(crate) fn leader_of<D: Disk, A: Allocator>(
 ) -> Result<Option<u32>, Halt>
     requires size { FitsLayout (view_of filer.old) }
     requires client { 16 ≤ id }
-    ensures revealed { (x : List Sector) (shapes : Shapes) (spaces : List Space)
-        → Books (view_of filer.old).disk (view_of filer.old).slots (view_of filer.old).layout (view_of filer.old).runs
-        shapes spaces x
-        → MatchResult result (IsLeaderOf (labels_of x) shapes id) (λ e. e ≡ halt.Disk) }
-    ensures same { (x : List Sector) (shapes : Shapes) (spaces : List Space)
-        → Books (view_of filer.old).disk (view_of filer.old).slots (view_of filer.old).layout (view_of filer.old).runs
-        shapes spaces x
-        → Books (view_of filer.new).disk (view_of filer.new).slots (view_of filer.old).layout (view_of filer.new).runs
-        shapes spaces x }
-    ensures place { IfOk result
+    ensures revealed { (tables : ℕ) (x : List Sector) (shapes : Shapes) (spaces : List Space)
+        → BooksUpto tables (view_of filer.old).disk (view_of filer.old).slots (view_of filer.old).layout
+        (view_of filer.old).runs shapes spaces x
+        → MatchResult result (IsLeaderOf (labels_of x) shapes id) (λ e. e ≡ halt.Disk)
+        × BooksUpto tables (view_of filer.new).disk (view_of filer.new).slots (view_of filer.old).layout
+        (view_of filer.new).runs shapes spaces x }
+    ensures found { IfOk result
         (λ found.
         IfSome found
-        (λ sector. ((view_of filer.old).layout.first ≤ sector) × (sector < (view_of filer.old).layout.sectors))) }
-    ensures same_bytes { (b : List ℕ)
-        → Reveals FileMapPages (view_of filer.old).disk (view_of filer.old).slots (view_of filer.old).layout b
-        → Reveals FileMapPages (view_of filer.new).disk (view_of filer.new).slots (view_of filer.old).layout b }
-    ensures beside { Beside FileMapPages (view_of filer.old).disk (view_of filer.old).slots (view_of filer.old).layout
-        (view_of filer.new).disk (view_of filer.new).slots (view_of filer.new).layout }
-    ensures looked { Looked FileMapPages (view_of filer.old).disk (view_of filer.old).slots (view_of filer.old).layout
-        (view_of filer.new).disk (view_of filer.new).slots (view_of filer.new).layout }
-    ensures runs_given { (r : RunIs) → IsOneOf r (runs_of (view_of filer.old).layout.sectors (view_of filer.new).runs)
-        → IsGiven (view_of filer.old).layout (view_of filer.old).disk (view_of filer.old).slots
-        (kept_by (view_of filer.old)) r }
-    ensures runs_are { (m : List Sector) (named : Triples) → HasMemory (view_of filer.old) m
-        → MapIs (view_of filer.old).layout named m → AreOf named (kept_by (view_of filer.old))
-        → AreOf named (runs_of (view_of filer.old).layout.sectors (view_of filer.new).runs) }
-    ensures given { IfOk result
-        (λ found.
-        IfSome found
+        (λ sector. ((view_of filer.old).layout.first ≤ sector) × (sector < (view_of filer.old).layout.sectors))
+        × IfSome found
         (λ sector.
         IsRunHome (view_of filer.old).layout (view_of filer.old).disk (view_of filer.old).slots
         (kept_by (view_of filer.old)) (home_at sector (record { id = id; page = leader_page })))) }
+    ensures stays { Searches id (view_of filer.old) (view_of filer.new) }
     ensures names { (m : List Sector) (named : Triples) → HasMemory (view_of filer.old) m
         → MapIs (view_of filer.old).layout named m → AreOf named (kept_by (view_of filer.old))
         → IfOk result (λ found. IfSome found (λ sector. named id leader_page sector ≡ true)) }
     ensures missing { result ≡ Ok None
         → NamesNone (view_of filer.old).layout (view_of filer.old).disk (view_of filer.old).slots id leader_page }
-    ensures makes { MakesOnly volume_page [] (view_of filer.old) (view_of filer.new) }
-    ensures brings { BringsOwn (view_of filer.old).slots (view_of filer.new).slots }
-    ensures cause { IfErr result
+    ensures fails { IfErr result
+        (Fails
         (MapHalts (view_of filer.old).layout (view_of filer.old).disk (view_of filer.old).slots
-        (view_of filer.new).disk) }
-    ensures keeps_to { (o : InitialState) (named : Triples) → Keeps o filer.old named
-        → OnOk result (Keeps o filer.new named) }
-    ensures reasons { (o : InitialState) (named : Triples) → Keeps o filer.old named
-        → IfErr result (ShowsReason o (view_of filer.old).layout (view_of filer.new).disk) }
-    ensures keeps { KeepsMap (IsUnframed (view_of filer.old).slots id) (view_of filer.old).layout id
-        (view_of filer.old).disk (view_of filer.old).slots (kept_by (view_of filer.old)) (view_of filer.new).disk
-        (view_of filer.new).slots (runs_of (view_of filer.old).layout.sectors (view_of filer.new).runs) }
-    ensures evidence_seen { IfErr result (ShowsEvidence (view_of filer.new).disk) }
-    ensures counted { result ≡ Err halt.Disk → Rose (view_of filer.old).disk.faults (view_of filer.new).disk.faults }
-    ensures layout { (view_of filer.new).layout ≡ (view_of filer.old).layout }
+        (view_of filer.new).disk)
+        (view_of filer.old) (view_of filer.new)) }
+    ensures accounts { (o : InitialState) (named : Triples) → Keeps o filer.old named
+        → MatchResult result (λ _. Keeps o filer.new named)
+        (ShowsReason o (view_of filer.old).layout (view_of filer.new).disk) }
     ensures cost { (view_of filer.new).disk.transfers ≤ (view_of filer.old).disk.transfers + 14 }
 {
     match filer.find(id, LEADER) {

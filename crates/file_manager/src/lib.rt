@@ -3,6 +3,7 @@
 
 mod attributes;
 mod creating;
+mod creating_as;
 mod cutting;
 mod deleting;
 mod finding;
@@ -28,6 +29,7 @@ mod volume;
 
 pub use attributes::{Attributes, attributes_of};
 pub use creating::{create, write_over};
+pub use creating_as::create_as;
 pub use deleting::delete;
 pub use freeing_laws::files_may_be_freed;
 pub use growing::grow;

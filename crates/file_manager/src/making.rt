@@ -1,5 +1,5 @@
 //! Leader and pages of a new file.
-ghost use Rattle.std.specs.Prelude.{◌≡◌, ◌+◌, ◌*◌, ◌≤◌, ◌<◌, true, List, [], IfErr, OnErr, OnOk, Err};
+ghost use Rattle.std.specs.Prelude.{◌≡◌, ℕ, ◌+◌, ◌*◌, ◌≤◌, ◌<◌, true, List, [], IfErr, OnErr, OnOk, Err, MatchResult};
 ghost use Rattle.labelled_disk.specs.declared.evidence.Halt.TheVariants as halt;
 ghost use Rattle.labelled_disk.specs.Calls.{Rose};
 ghost use Rattle.labelled_disk.specs.Label.{is_file_id};
@@ -10,10 +10,12 @@ ghost use Rattle.session_words.specs.Parts.{Shapes};
 ghost use Rattle.file_manager.specs.Grounds.{IsNewPage, MakeHalts};
 ghost use Rattle.filer_kernel.specs.Evidence.{ShowsEvidence};
 ghost use Rattle.file_manager.specs.CreateBroken.{CreatedSome};
-ghost use Rattle.file_manager.specs.Making.{MayCreate, CreatedBy, CreatesAll, CreatesSome};
+ghost use Rattle.file_manager.specs.Making.{MayCreateUpto, CreatedBy, CreatesAll, CreatesSome};
 ghost use Rattle.file_manager.specs.Taking.{NamesNoneOf, every_page};
 ghost use Rattle.file_manager.specs.Reasons.{Keeps, KeepsFrom, MayTake, InitialState, ShowsReason};
 ghost use Rattle.filer_kernel.specs.View.{FitsLayout, view_of};
+ghost use Rattle.file_manager.specs.Stays.{RunsStay};
+ghost use Rattle.filer_kernel.specs.Fails.{Fails};
 
 use crate::growth::{make_run, make_up};
 use filer_kernel::Filer;
@@ -30,40 +32,34 @@ pub fn make_file<D: Disk, A: Allocator>(
     requires size { FitsLayout (view_of filer.old) }
     requires of_file { is_file_id id ≡ true }
     requires numbers { pages < 4294967295 }
-    ensures made { (x : List Sector) (shapes : Shapes) (spaces : List Space)
-        → MayCreate (view_of filer.old).disk (view_of filer.old).slots (view_of filer.old).layout
+    ensures made { (tables : ℕ) (x : List Sector) (shapes : Shapes) (spaces : List Space)
+        → MayCreateUpto tables (view_of filer.old).disk (view_of filer.old).slots (view_of filer.old).layout
         (view_of filer.old).runs shapes spaces id pages x
-        → OnOk result
-        (CreatedBy id kind pages (view_of filer.old).disk (view_of filer.old).slots (view_of filer.old).layout
-        (view_of filer.new).disk (view_of filer.new).slots (view_of filer.new).runs) }
-    ensures sound { (x : List Sector) (shapes : Shapes) (spaces : List Space)
-        → MayCreate (view_of filer.old).disk (view_of filer.old).slots (view_of filer.old).layout
-        (view_of filer.old).runs shapes spaces id pages x
-        → IfErr result (λ e. e ≡ halt.Disk) }
-    ensures broken { (x : List Sector) (shapes : Shapes) (spaces : List Space)
-        → MayCreate (view_of filer.old).disk (view_of filer.old).slots (view_of filer.old).layout
-        (view_of filer.old).runs shapes spaces id pages x
-        → OnErr result
-        (CreatedSome [] id kind pages x (view_of filer.old).disk (view_of filer.old).slots (view_of filer.new).disk
+        → MatchResult result
+        (λ _.
+        CreatedBy id kind pages (view_of filer.old).disk (view_of filer.old).slots (view_of filer.old).layout
+        (view_of filer.new).disk (view_of filer.new).slots (view_of filer.new).runs)
+        (λ e.
+        (e ≡ halt.Disk)
+        × CreatedSome [] id kind pages x (view_of filer.old).disk (view_of filer.old).slots (view_of filer.new).disk
         (view_of filer.new).slots) }
-    ensures makes { OnOk result
-        (CreatesAll id kind pages (view_of filer.old).disk (view_of filer.old).slots (view_of filer.new).disk
+    ensures writes { MatchResult result
+        (λ _.
+        CreatesAll id kind pages (view_of filer.old).disk (view_of filer.old).slots (view_of filer.new).disk
+        (view_of filer.new).slots)
+        (λ _.
+        CreatesSome id kind pages (view_of filer.old).disk (view_of filer.old).slots (view_of filer.new).disk
         (view_of filer.new).slots) }
-    ensures stopped { OnErr result
-        (CreatesSome id kind pages (view_of filer.old).disk (view_of filer.old).slots (view_of filer.new).disk
-        (view_of filer.new).slots) }
-    ensures cause { IfErr result
+    ensures fails { IfErr result
+        (Fails
         (MakeHalts (view_of filer.old).layout id every_page (IsNewPage pages) (view_of filer.old).disk
-        (view_of filer.old).slots (view_of filer.new).disk (view_of filer.new).slots) }
-    ensures keeps_to { (o : InitialState) (named : Triples) → Keeps o filer.old named → MayTake o id
-        → NamesNoneOf id every_page named → OnOk result (KeepsFrom o named filer.new) }
-    ensures reasons { (o : InitialState) (named : Triples) → Keeps o filer.old named → MayTake o id
+        (view_of filer.old).slots (view_of filer.new).disk (view_of filer.new).slots)
+        (view_of filer.old) (view_of filer.new)) }
+    ensures accounts { (o : InitialState) (named : Triples) → Keeps o filer.old named → MayTake o id
         → NamesNoneOf id every_page named
-        → IfErr result (ShowsReason o (view_of filer.old).layout (view_of filer.new).disk) }
-    ensures evidence_seen { IfErr result (ShowsEvidence (view_of filer.new).disk) }
-    ensures counted { result ≡ Err halt.Disk → Rose (view_of filer.old).disk.faults (view_of filer.new).disk.faults }
-    ensures layout { (view_of filer.new).layout ≡ (view_of filer.old).layout }
-    ensures runs { (view_of filer.new).runs ≡ (view_of filer.old).runs }
+        → MatchResult result (λ _. KeepsFrom o named filer.new)
+        (ShowsReason o (view_of filer.old).layout (view_of filer.new).disk) }
+    ensures stays { RunsStay (view_of filer.old) (view_of filer.new) }
     ensures cost { (view_of filer.new).disk.transfers ≤ (view_of filer.old).disk.transfers
         + (8 * (view_of filer.old).layout.vam + 100 + pages * (8 * (view_of filer.old).layout.vam + 100)) }
 {

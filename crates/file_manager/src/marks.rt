@@ -1,5 +1,5 @@
 //! Marks that a file gets for good.
-ghost use Rattle.std.specs.Prelude.{◌≡◌, ◌+◌, ◌≤◌, false, List, Some, IfErr, OnErr, OnOk, Err};
+ghost use Rattle.std.specs.Prelude.{◌≡◌, ℕ, ◌+◌, ◌≤◌, false, List, Some, IfErr, OnErr, OnOk, Err, MatchResult};
 ghost use Rattle.labelled_disk.specs.declared.evidence.Halt.TheVariants as halt;
 ghost use Rattle.labelled_disk.specs.Calls.{Rose};
 ghost use Rattle.labelled_disk.specs.Label.{leader_page};
@@ -14,7 +14,7 @@ ghost use Rattle.label_calls.specs.Synced.{SyncsLeaders};
 ghost use Rattle.label_laws.specs.Marks.{permanent_label, immutable_label};
 ghost use Rattle.label_calls.specs.declared.page.Mark.TheVariants.{Permanent, Immutable};
 ghost use Rattle.file_manager.specs.Answer.{IsMarked, WritesMark};
-ghost use Rattle.file_manager.specs.Book.{Books};
+ghost use Rattle.file_manager.specs.Book.{BooksUpto};
 ghost use Rattle.file_manager.specs.Broken.{MarksFirst};
 ghost use Rattle.file_manager.specs.Causes.{LeaderHalts};
 ghost use Rattle.filer_kernel.specs.Cached.{runs_of};
@@ -22,6 +22,9 @@ ghost use Rattle.filer_kernel.specs.Evidence.{ShowsEvidence};
 ghost use Rattle.file_manager.specs.Roots.{RootStays};
 ghost use Rattle.file_manager.specs.Reasons.{Keeps, InitialState, ShowsReason};
 ghost use Rattle.filer_kernel.specs.View.{FitsLayout, kept_by, view_of};
+ghost use Rattle.file_manager.specs.Outcomes.{RelabelsAround};
+ghost use Rattle.file_manager.specs.Stays.{KeepsRoot};
+ghost use Rattle.filer_kernel.specs.Fails.{Fails};
 
 use crate::leader::leader_of;
 use filer_kernel::Filer;
@@ -33,40 +36,32 @@ use std::alloc::Allocator;
 fn mark<D: Disk, A: Allocator>(filer: &mut Filer<D, A>, id: FileId, mark: Mark) -> Result<(), Halt>
     requires size { FitsLayout (view_of filer.old) }
     requires client { 16 ≤ id }
-    ensures revealed { (x : List Sector) (shapes : Shapes) (spaces : List Space) (f : Shape)
-        → Books (view_of filer.old).disk (view_of filer.old).slots (view_of filer.old).layout (view_of filer.old).runs
-        shapes spaces x
-        → shapes id ≡ Some f → is_shown spaces id leader_page ≡ false
-        → OnOk result
-        (IsMarked id (with_mark mark) x (view_of filer.old).disk (view_of filer.old).slots (view_of filer.old).layout
-        (view_of filer.new).disk (view_of filer.new).slots (view_of filer.new).runs) }
-    ensures sound { (x : List Sector) (shapes : Shapes) (spaces : List Space) (f : Shape)
-        → Books (view_of filer.old).disk (view_of filer.old).slots (view_of filer.old).layout (view_of filer.old).runs
-        shapes spaces x
-        → shapes id ≡ Some f → IfErr result (λ e. e ≡ halt.Disk) }
-    ensures broken { (x : List Sector) (shapes : Shapes) (spaces : List Space) (f : Shape)
-        → Books (view_of filer.old).disk (view_of filer.old).slots (view_of filer.old).layout (view_of filer.old).runs
-        shapes spaces x
+    ensures revealed { (tables : ℕ) (x : List Sector) (shapes : Shapes) (spaces : List Space) (f : Shape)
+        → BooksUpto tables (view_of filer.old).disk (view_of filer.old).slots (view_of filer.old).layout
+        (view_of filer.old).runs shapes spaces x
         → shapes id ≡ Some f
-        → OnErr result
-        (MarksFirst id (with_mark mark) x (view_of filer.old).disk (view_of filer.old).slots (view_of filer.new).disk
+        → MatchResult result
+        (λ _.
+        is_shown spaces id leader_page ≡ false
+        → IsMarked id (with_mark mark) x (view_of filer.old).disk (view_of filer.old).slots (view_of filer.old).layout
+        (view_of filer.new).disk (view_of filer.new).slots (view_of filer.new).runs)
+        (λ e.
+        (e ≡ halt.Disk)
+        × MarksFirst id (with_mark mark) x (view_of filer.old).disk (view_of filer.old).slots (view_of filer.new).disk
         (view_of filer.new).slots) }
     ensures makes { WritesMark mark (view_of filer.old).disk (view_of filer.old).slots (view_of filer.new).disk
         (view_of filer.new).slots }
-    ensures cause { IfErr result
+    ensures fails { IfErr result
+        (Fails
         (LeaderHalts (view_of filer.old).layout (kept_by (view_of filer.old)) id (view_of filer.old).disk
-        (view_of filer.old).slots (view_of filer.new).disk) }
-    ensures keeps_to { (o : InitialState) (named : Triples) → Keeps o filer.old named
-        → OnOk result (Keeps o filer.new named) }
-    ensures reasons { (o : InitialState) (named : Triples) → Keeps o filer.old named
-        → IfErr result (ShowsReason o (view_of filer.old).layout (view_of filer.new).disk) }
-    ensures evidence_seen { IfErr result (ShowsEvidence (view_of filer.new).disk) }
-    ensures counted { result ≡ Err halt.Disk → Rose (view_of filer.old).disk.faults (view_of filer.new).disk.faults }
-    ensures root { RootStays (view_of filer.old).disk (view_of filer.new).disk }
-    ensures layout { (view_of filer.new).layout ≡ (view_of filer.old).layout }
+        (view_of filer.old).slots (view_of filer.new).disk)
+        (view_of filer.old) (view_of filer.new)) }
+    ensures accounts { (o : InitialState) (named : Triples) → Keeps o filer.old named
+        → MatchResult result (λ _. Keeps o filer.new named)
+        (ShowsReason o (view_of filer.old).layout (view_of filer.new).disk) }
+    ensures stays { KeepsRoot (view_of filer.old) (view_of filer.new) }
     ensures cost { (view_of filer.new).disk.transfers ≤ (view_of filer.old).disk.transfers + 16 }
-    ensures own { RelabelsOwn id (view_of filer.old).disk (view_of filer.new).disk }
-    ensures around { SyncsLeaders result (view_of filer.old).disk (view_of filer.new).disk }
+    ensures labels { RelabelsAround id result (view_of filer.old).disk (view_of filer.new).disk }
 {
     let sector = match leader_of(filer, id) {
         Ok(Some(sector)) => sector,
@@ -90,40 +85,32 @@ pub fn make_permanent<D: Disk, A: Allocator>(
 ) -> Result<(), Halt>
     requires size { FitsLayout (view_of filer.old) }
     requires client { 16 ≤ id }
-    ensures revealed { (x : List Sector) (shapes : Shapes) (spaces : List Space) (f : Shape)
-        → Books (view_of filer.old).disk (view_of filer.old).slots (view_of filer.old).layout (view_of filer.old).runs
-        shapes spaces x
-        → shapes id ≡ Some f → is_shown spaces id leader_page ≡ false
-        → OnOk result
-        (IsMarked id permanent_label x (view_of filer.old).disk (view_of filer.old).slots (view_of filer.old).layout
-        (view_of filer.new).disk (view_of filer.new).slots (view_of filer.new).runs) }
-    ensures sound { (x : List Sector) (shapes : Shapes) (spaces : List Space) (f : Shape)
-        → Books (view_of filer.old).disk (view_of filer.old).slots (view_of filer.old).layout (view_of filer.old).runs
-        shapes spaces x
-        → shapes id ≡ Some f → IfErr result (λ e. e ≡ halt.Disk) }
-    ensures broken { (x : List Sector) (shapes : Shapes) (spaces : List Space) (f : Shape)
-        → Books (view_of filer.old).disk (view_of filer.old).slots (view_of filer.old).layout (view_of filer.old).runs
-        shapes spaces x
+    ensures revealed { (tables : ℕ) (x : List Sector) (shapes : Shapes) (spaces : List Space) (f : Shape)
+        → BooksUpto tables (view_of filer.old).disk (view_of filer.old).slots (view_of filer.old).layout
+        (view_of filer.old).runs shapes spaces x
         → shapes id ≡ Some f
-        → OnErr result
-        (MarksFirst id permanent_label x (view_of filer.old).disk (view_of filer.old).slots (view_of filer.new).disk
+        → MatchResult result
+        (λ _.
+        is_shown spaces id leader_page ≡ false
+        → IsMarked id permanent_label x (view_of filer.old).disk (view_of filer.old).slots (view_of filer.old).layout
+        (view_of filer.new).disk (view_of filer.new).slots (view_of filer.new).runs)
+        (λ e.
+        (e ≡ halt.Disk)
+        × MarksFirst id permanent_label x (view_of filer.old).disk (view_of filer.old).slots (view_of filer.new).disk
         (view_of filer.new).slots) }
     ensures makes { WritesMark Permanent (view_of filer.old).disk (view_of filer.old).slots (view_of filer.new).disk
         (view_of filer.new).slots }
-    ensures cause { IfErr result
+    ensures fails { IfErr result
+        (Fails
         (LeaderHalts (view_of filer.old).layout (kept_by (view_of filer.old)) id (view_of filer.old).disk
-        (view_of filer.old).slots (view_of filer.new).disk) }
-    ensures keeps_to { (o : InitialState) (named : Triples) → Keeps o filer.old named
-        → OnOk result (Keeps o filer.new named) }
-    ensures reasons { (o : InitialState) (named : Triples) → Keeps o filer.old named
-        → IfErr result (ShowsReason o (view_of filer.old).layout (view_of filer.new).disk) }
-    ensures evidence_seen { IfErr result (ShowsEvidence (view_of filer.new).disk) }
-    ensures counted { result ≡ Err halt.Disk → Rose (view_of filer.old).disk.faults (view_of filer.new).disk.faults }
-    ensures root { RootStays (view_of filer.old).disk (view_of filer.new).disk }
-    ensures layout { (view_of filer.new).layout ≡ (view_of filer.old).layout }
+        (view_of filer.old).slots (view_of filer.new).disk)
+        (view_of filer.old) (view_of filer.new)) }
+    ensures accounts { (o : InitialState) (named : Triples) → Keeps o filer.old named
+        → MatchResult result (λ _. Keeps o filer.new named)
+        (ShowsReason o (view_of filer.old).layout (view_of filer.new).disk) }
+    ensures stays { KeepsRoot (view_of filer.old) (view_of filer.new) }
     ensures cost { (view_of filer.new).disk.transfers ≤ (view_of filer.old).disk.transfers + 16 }
-    ensures own { RelabelsOwn id (view_of filer.old).disk (view_of filer.new).disk }
-    ensures around { SyncsLeaders result (view_of filer.old).disk (view_of filer.new).disk }
+    ensures labels { RelabelsAround id result (view_of filer.old).disk (view_of filer.new).disk }
 {
     match mark(filer, id, Mark::Permanent) {
         Ok(()) => Ok(()),
@@ -138,40 +125,32 @@ pub fn make_immutable<D: Disk, A: Allocator>(
 ) -> Result<(), Halt>
     requires size { FitsLayout (view_of filer.old) }
     requires client { 16 ≤ id }
-    ensures revealed { (x : List Sector) (shapes : Shapes) (spaces : List Space) (f : Shape)
-        → Books (view_of filer.old).disk (view_of filer.old).slots (view_of filer.old).layout (view_of filer.old).runs
-        shapes spaces x
-        → shapes id ≡ Some f → is_shown spaces id leader_page ≡ false
-        → OnOk result
-        (IsMarked id immutable_label x (view_of filer.old).disk (view_of filer.old).slots (view_of filer.old).layout
-        (view_of filer.new).disk (view_of filer.new).slots (view_of filer.new).runs) }
-    ensures sound { (x : List Sector) (shapes : Shapes) (spaces : List Space) (f : Shape)
-        → Books (view_of filer.old).disk (view_of filer.old).slots (view_of filer.old).layout (view_of filer.old).runs
-        shapes spaces x
-        → shapes id ≡ Some f → IfErr result (λ e. e ≡ halt.Disk) }
-    ensures broken { (x : List Sector) (shapes : Shapes) (spaces : List Space) (f : Shape)
-        → Books (view_of filer.old).disk (view_of filer.old).slots (view_of filer.old).layout (view_of filer.old).runs
-        shapes spaces x
+    ensures revealed { (tables : ℕ) (x : List Sector) (shapes : Shapes) (spaces : List Space) (f : Shape)
+        → BooksUpto tables (view_of filer.old).disk (view_of filer.old).slots (view_of filer.old).layout
+        (view_of filer.old).runs shapes spaces x
         → shapes id ≡ Some f
-        → OnErr result
-        (MarksFirst id immutable_label x (view_of filer.old).disk (view_of filer.old).slots (view_of filer.new).disk
+        → MatchResult result
+        (λ _.
+        is_shown spaces id leader_page ≡ false
+        → IsMarked id immutable_label x (view_of filer.old).disk (view_of filer.old).slots (view_of filer.old).layout
+        (view_of filer.new).disk (view_of filer.new).slots (view_of filer.new).runs)
+        (λ e.
+        (e ≡ halt.Disk)
+        × MarksFirst id immutable_label x (view_of filer.old).disk (view_of filer.old).slots (view_of filer.new).disk
         (view_of filer.new).slots) }
     ensures makes { WritesMark Immutable (view_of filer.old).disk (view_of filer.old).slots (view_of filer.new).disk
         (view_of filer.new).slots }
-    ensures cause { IfErr result
+    ensures fails { IfErr result
+        (Fails
         (LeaderHalts (view_of filer.old).layout (kept_by (view_of filer.old)) id (view_of filer.old).disk
-        (view_of filer.old).slots (view_of filer.new).disk) }
-    ensures keeps_to { (o : InitialState) (named : Triples) → Keeps o filer.old named
-        → OnOk result (Keeps o filer.new named) }
-    ensures reasons { (o : InitialState) (named : Triples) → Keeps o filer.old named
-        → IfErr result (ShowsReason o (view_of filer.old).layout (view_of filer.new).disk) }
-    ensures evidence_seen { IfErr result (ShowsEvidence (view_of filer.new).disk) }
-    ensures counted { result ≡ Err halt.Disk → Rose (view_of filer.old).disk.faults (view_of filer.new).disk.faults }
-    ensures root { RootStays (view_of filer.old).disk (view_of filer.new).disk }
-    ensures layout { (view_of filer.new).layout ≡ (view_of filer.old).layout }
+        (view_of filer.old).slots (view_of filer.new).disk)
+        (view_of filer.old) (view_of filer.new)) }
+    ensures accounts { (o : InitialState) (named : Triples) → Keeps o filer.old named
+        → MatchResult result (λ _. Keeps o filer.new named)
+        (ShowsReason o (view_of filer.old).layout (view_of filer.new).disk) }
+    ensures stays { KeepsRoot (view_of filer.old) (view_of filer.new) }
     ensures cost { (view_of filer.new).disk.transfers ≤ (view_of filer.old).disk.transfers + 16 }
-    ensures own { RelabelsOwn id (view_of filer.old).disk (view_of filer.new).disk }
-    ensures around { SyncsLeaders result (view_of filer.old).disk (view_of filer.new).disk }
+    ensures labels { RelabelsAround id result (view_of filer.old).disk (view_of filer.new).disk }
 {
     match mark(filer, id, Mark::Immutable) {
         Ok(()) => Ok(()),

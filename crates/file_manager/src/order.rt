@@ -16,6 +16,8 @@ ghost use Rattle.file_manager.specs.Book.{Books, BringsOwn};
 ghost use Rattle.file_manager.specs.Looking.{Looks};
 ghost use Rattle.file_manager.specs.Reasons.{Keeps, InitialState, ShowsReason};
 ghost use Rattle.filer_kernel.specs.View.{FitsLayout, kept_by, MakesOnly, view_of};
+ghost use Rattle.file_manager.specs.Stays.{LooksAlone};
+ghost use Rattle.filer_kernel.specs.Fails.{Fails};
 
 use crate::growth::frames_of;
 use filer_kernel::Filer;
@@ -31,28 +33,19 @@ pub fn next<D: Disk, A: Allocator>(
     ensures revealed { (x : List Sector) (shapes : Shapes) (spaces : List Space)
         → Books (view_of filer.old).disk (view_of filer.old).slots (view_of filer.old).layout (view_of filer.old).runs
         shapes spaces x
-        → MatchResult result (IsNextFile shapes id) (λ e. e ≡ halt.Disk) }
-    ensures above { IfOk result (λ found. IfSome found (λ next. (id < next) × (16 ≤ next))) }
-    ensures same { (x : List Sector) (shapes : Shapes) (spaces : List Space)
-        → Books (view_of filer.old).disk (view_of filer.old).slots (view_of filer.old).layout (view_of filer.old).runs
-        shapes spaces x
-        → Books (view_of filer.new).disk (view_of filer.new).slots (view_of filer.old).layout (view_of filer.new).runs
+        → MatchResult result (IsNextFile shapes id) (λ e. e ≡ halt.Disk)
+        × Books (view_of filer.new).disk (view_of filer.new).slots (view_of filer.old).layout (view_of filer.new).runs
         shapes spaces x }
-    ensures makes { MakesOnly volume_page [] (view_of filer.old) (view_of filer.new) }
-    ensures looks { Looks (view_of filer.old).layout (view_of filer.old).disk (view_of filer.old).slots
-        (kept_by (view_of filer.old)) (view_of filer.new).disk (view_of filer.new).slots
-        (runs_of (view_of filer.old).layout.sectors (view_of filer.new).runs) }
-    ensures brings { BringsOwn (view_of filer.old).slots (view_of filer.new).slots }
-    ensures cause { IfErr result
+    ensures above { IfOk result (λ found. IfSome found (λ next. (id < next) × (16 ≤ next))) }
+    ensures stays { LooksAlone (view_of filer.old) (view_of filer.new) }
+    ensures fails { IfErr result
+        (Fails
         (MapHalts (view_of filer.old).layout (view_of filer.old).disk (view_of filer.old).slots
-        (view_of filer.new).disk) }
-    ensures keeps_to { (o : InitialState) (named : Triples) → Keeps o filer.old named
-        → OnOk result (Keeps o filer.new named) }
-    ensures reasons { (o : InitialState) (named : Triples) → Keeps o filer.old named
-        → IfErr result (ShowsReason o (view_of filer.old).layout (view_of filer.new).disk) }
-    ensures evidence_seen { IfErr result (ShowsEvidence (view_of filer.new).disk) }
-    ensures counted { result ≡ Err halt.Disk → Rose (view_of filer.old).disk.faults (view_of filer.new).disk.faults }
-    ensures layout { (view_of filer.new).layout ≡ (view_of filer.old).layout }
+        (view_of filer.new).disk)
+        (view_of filer.old) (view_of filer.new)) }
+    ensures accounts { (o : InitialState) (named : Triples) → Keeps o filer.old named
+        → MatchResult result (λ _. Keeps o filer.new named)
+        (ShowsReason o (view_of filer.old).layout (view_of filer.new).disk) }
     ensures cost { (view_of filer.new).disk.transfers ≤ (view_of filer.old).disk.transfers + 36 }
 {
     frames_of(filer);

@@ -1,5 +1,5 @@
 //! Pages of a file that become free: their labels, and their sectors in the allocation map.
-ghost use Rattle.std.specs.Prelude.{◌≡◌, ◌⊎◌, ℕ, ◌+◌, ◌-◌, ◌*◌, ◌^◌, ◌≤◌, ◌<◌, true, List, IfOk, IfErr, OnErr, OnOk, Err, Some};
+ghost use Rattle.std.specs.Prelude.{◌≡◌, ◌⊎◌, ℕ, ◌+◌, ◌-◌, ◌*◌, ◌^◌, ◌≤◌, ◌<◌, true, List, IfOk, IfErr, OnErr, OnOk, Err, Some, MatchResult};
 ghost use Rattle.labelled_disk.specs.declared.evidence.Halt.TheVariants as halt;
 ghost use Rattle.labelled_disk.specs.Calls.{Rose};
 ghost use Rattle.labelled_disk.specs.Runs.{freeing};
@@ -25,6 +25,9 @@ ghost use Rattle.filer_kernel.specs.Evidence.{MayBeMissing, ShowsEvidence};
 ghost use Rattle.file_manager.specs.Freeing.{MayFree, Freed, FreedSome, IsPartOf, NamesAll, MakesFree, MakesSomeFree, run_sectors};
 ghost use Rattle.file_manager.specs.Reasons.{AreReleased, Keeps, MissesNone, LeavesTables, MayLack, InitialState, ShowsReason};
 ghost use Rattle.filer_kernel.specs.View.{FitsLayout, HasMemory, kept_by, view_of};
+ghost use Rattle.file_manager.specs.Outcomes.{FailsIf, RelabelsAround};
+ghost use Rattle.file_manager.specs.Stays.{FramesStay, FindsRuns, MapStays};
+ghost use Rattle.filer_kernel.specs.Fails.{Fails};
 
 use crate::forgetting::discard_run;
 use file_map::Run;
@@ -42,40 +45,34 @@ fn part_of<D: Disk, A: Allocator>(
 ) -> Result<Run, Halt>
     requires size { FitsLayout (view_of filer.old) }
     requires some { 1 ≤ most }
-    ensures cause { IfErr result
+    ensures fails { IfErr result
+        (FailsIf (MayBeMissing id page)
         (FreeHalts (IsUnframed (view_of filer.old).slots id) (view_of filer.old).layout (kept_by (view_of filer.old)) id
-        (λ p. p ≡ page) (view_of filer.old).disk (view_of filer.old).slots (view_of filer.new).disk) }
-    ensures keeps_to { (o : InitialState) (named : Triples) → Keeps o filer.old named
-        → OnOk result (Keeps o filer.new named) }
-    ensures reasons { (o : InitialState) (named : Triples) → Keeps o filer.old named → MayLack named id page
-        → IfErr result (ShowsReason o (view_of filer.old).layout (view_of filer.new).disk) }
-    ensures right { (o : InitialState) (named : Triples) (sector : ℕ) → Keeps o filer.old named
-        → named id page sector ≡ true → IfErr result MissesNone }
-    ensures homes { IfOk result
+        (λ p. p ≡ page) (view_of filer.old).disk (view_of filer.old).slots (view_of filer.new).disk)
+        (view_of filer.old) (view_of filer.new)) }
+    ensures accounts { (o : InitialState) (named : Triples) → Keeps o filer.old named
+        → MatchResult result (λ _. Keeps o filer.new named)
+        (λ e.
+        (MayLack named id page → ShowsReason o (view_of filer.old).layout (view_of filer.new).disk e)
+        × ((sector : ℕ) → named id page sector ≡ true → MissesNone e)) }
+    ensures part { IfOk result
         (λ run.
-        (k : ℕ) → k < run.pages
+        IsPartOf (view_of filer.old).layout.sectors id page (page + most) run
+        × ((k : ℕ) → k < run.pages
         → IsRunHome (view_of filer.old).layout (view_of filer.old).disk (view_of filer.old).slots
-        (kept_by (view_of filer.old)) (home_at (run.sector + k) (record { id = id; page = run.first + k }))) }
+        (kept_by (view_of filer.old)) (home_at (run.sector + k) (record { id = id; page = run.first + k })))) }
     ensures keeps { (id ≡ 3) ⊎ (16 ≤ id)
         → KeepsMap (IsUnframed (view_of filer.old).slots id) (view_of filer.old).layout id (view_of filer.old).disk
         (view_of filer.old).slots (kept_by (view_of filer.old)) (view_of filer.new).disk (view_of filer.new).slots
         (runs_of (view_of filer.old).layout.sectors (view_of filer.new).runs) }
-    ensures evidence_seen { MayBeMissing id page → IfErr result (ShowsEvidence (view_of filer.new).disk) }
-    ensures counted { result ≡ Err halt.Disk → Rose (view_of filer.old).disk.faults (view_of filer.new).disk.faults }
-    ensures form { IfOk result (IsPartOf (view_of filer.old).layout.sectors id page (page + most)) }
     ensures named { (m : List Sector) (named : Triples) → HasMemory (view_of filer.old) m
         → MapIs (view_of filer.old).layout named m → AreOf named (kept_by (view_of filer.old))
-        → IfOk result (NamesAll named) }
-    ensures kept { (m : List Sector) (named : Triples) → HasMemory (view_of filer.old) m
-        → MapIs (view_of filer.old).layout named m → AreOf named (kept_by (view_of filer.old))
-        → AreOf named (runs_of (view_of filer.old).layout.sectors (view_of filer.new).runs) }
+        → IfOk result (NamesAll named)
+        × AreOf named (runs_of (view_of filer.old).layout.sectors (view_of filer.new).runs) }
     ensures sound { (m : List Sector) (named : Triples) (sector : ℕ) → HasMemory (view_of filer.old) m
         → MapIs (view_of filer.old).layout named m → AreNamed m (IsMapHome FileMapPages (view_of filer.old).layout)
         → named id page sector ≡ true → IfErr result (λ e. e ≡ halt.Disk) }
-    ensures same { (m : List Sector) (named : Triples) → HasMemory (view_of filer.old) m
-        → MapIs (view_of filer.old).layout named m → HasMemory (view_of filer.new) m }
-    ensures beside { Beside FileMapPages (view_of filer.old).disk (view_of filer.old).slots (view_of filer.old).layout
-        (view_of filer.new).disk (view_of filer.new).slots (view_of filer.new).layout }
+    ensures stays { FindsRuns (view_of filer.old) (view_of filer.new) }
     ensures cost { (view_of filer.new).disk.transfers ≤ (view_of filer.old).disk.transfers + 14 }
 {
     match filer.find(id, page) {
@@ -99,31 +96,28 @@ fn free_labels<D: Disk, A: Allocator>(filer: &mut Filer<D, A>, run: Run) -> Resu
     requires size { FitsLayout (view_of filer.old) }
     requires data { (view_of filer.old).layout.first ≤ run.sector }
     requires form { IsRun (view_of filer.old).layout.sectors run }
-    ensures freed { OnOk result
-        (RelabelsRun run.sector run.pages (freeing (run_sectors run)) (view_of filer.old).disk (view_of filer.old).slots
-        (view_of filer.new).disk) }
-    ensures stopped { OnErr result
-        (MadeSome (freeing (run_sectors run)) (view_of filer.old).disk (view_of filer.old).slots
+    ensures writes { MatchResult result
+        (λ _.
+        RelabelsRun run.sector run.pages (freeing (run_sectors run)) (view_of filer.old).disk (view_of filer.old).slots
+        (view_of filer.new).disk
+        × ((d : List Sector) → (view_of filer.old).disk.contents ≡ Some d
+        → HaveOnes (λ k. ones_of (record { id = run.id; page = run.first + k })) d run.sector run.pages))
+        (λ _.
+        MadeSome (freeing (run_sectors run)) (view_of filer.old).disk (view_of filer.old).slots
         (view_of filer.new).disk) }
     ensures sound { (m : List Sector) → HasMemory (view_of filer.old) m
         → AreUncovered (view_of filer.old).slots run.sector run.pages
         → HaveOnes (λ k. ones_of (record { id = run.id; page = run.first + k })) m run.sector run.pages
         → IfErr result (λ e. e ≡ halt.Disk) }
-    ensures cause { IfErr result
+    ensures fails { IfErr result
+        (Fails
         (HasCause
         (IsOneNotOf run.sector run.pages (λ k. record { id = run.id; page = run.first + k }) (view_of filer.old).disk)
-        (view_of filer.old).disk (view_of filer.new).disk) }
-    ensures were { OnOk result
-        ((d : List Sector) → (view_of filer.old).disk.contents ≡ Some d
-        → HaveOnes (λ k. ones_of (record { id = run.id; page = run.first + k })) d run.sector run.pages) }
-    ensures evidence_seen { IfErr result (ShowsEvidence (view_of filer.new).disk) }
-    ensures counted { result ≡ Err halt.Disk → Rose (view_of filer.old).disk.faults (view_of filer.new).disk.faults }
-    ensures frames { (view_of filer.new).slots ≡ (view_of filer.old).slots }
-    ensures layout { (view_of filer.new).layout ≡ (view_of filer.old).layout }
-    ensures runs { (view_of filer.new).runs ≡ (view_of filer.old).runs }
+        (view_of filer.old).disk (view_of filer.new).disk)
+        (view_of filer.old) (view_of filer.new)) }
+    ensures stays { FramesStay (view_of filer.old) (view_of filer.new) }
     ensures cost { (view_of filer.new).disk.transfers ≤ (view_of filer.old).disk.transfers + 2 * run.pages }
-    ensures own { RelabelsOwn run.id (view_of filer.old).disk (view_of filer.new).disk }
-    ensures around { SyncsLeaders result (view_of filer.old).disk (view_of filer.new).disk }
+    ensures labels { RelabelsAround run.id result (view_of filer.old).disk (view_of filer.new).disk }
 {
     let swapper = filer.swapper_over();
     match free_pages_up(swapper, run.sector, run.pages, run.id, run.first) {
@@ -146,54 +140,45 @@ pub(crate) fn free_run<D: Disk, A: Allocator>(
     ensures freed { (named : Triples) (spaces : List Space) (m : List Sector)
         → MayFree (view_of filer.old).disk (view_of filer.old).slots (view_of filer.old).layout (view_of filer.old).runs
         named spaces id page (page + most) m
-        → IfOk result
+        → MatchResult result
         (λ pages.
         Freed (view_of filer.old).layout named spaces id page pages (page + most) (view_of filer.old).disk
-        (view_of filer.old).slots (view_of filer.new).disk (view_of filer.new).slots (view_of filer.new).runs) }
-    ensures some { IfOk result (λ pages. (1 ≤ pages) × (pages ≤ most)) }
-    ensures sound { (named : Triples) (spaces : List Space) (m : List Sector)
-        → MayFree (view_of filer.old).disk (view_of filer.old).slots (view_of filer.old).layout (view_of filer.old).runs
-        named spaces id page (page + most) m
-        → IfErr result (λ e. e ≡ halt.Disk) }
-    ensures first { (named : Triples) (spaces : List Space) (m : List Sector)
-        → MayFree (view_of filer.old).disk (view_of filer.old).slots (view_of filer.old).layout (view_of filer.old).runs
-        named spaces id page (page + most) m
-        → OnErr result
-        (FreedSome named id page (page + most) (view_of filer.old).disk (view_of filer.old).slots
+        (view_of filer.old).slots (view_of filer.new).disk (view_of filer.new).slots (view_of filer.new).runs)
+        (λ e.
+        (e ≡ halt.Disk)
+        × FreedSome named id page (page + most) (view_of filer.old).disk (view_of filer.old).slots
         (view_of filer.new).disk (view_of filer.new).slots) }
-    ensures makes { IfOk result
+    ensures some { IfOk result (λ pages. (1 ≤ pages) × (pages ≤ most)) }
+    ensures writes { MatchResult result
         (λ pages.
         MakesFree pages (view_of filer.old).disk (view_of filer.old).slots (view_of filer.new).disk
+        (view_of filer.new).slots)
+        (λ _.
+        MakesSomeFree (view_of filer.old).disk (view_of filer.old).slots (view_of filer.new).disk
         (view_of filer.new).slots) }
-    ensures stopped { OnErr result
-        (MakesSomeFree (view_of filer.old).disk (view_of filer.old).slots (view_of filer.new).disk
-        (view_of filer.new).slots) }
-    ensures cause { IfErr result
+    ensures fails { IfErr result
+        (FailsIf (MayBeMissing id page)
         (FreeHalts (IsUnframed (view_of filer.old).slots id) (view_of filer.old).layout (kept_by (view_of filer.old)) id
-        (λ p. p ≡ page) (view_of filer.old).disk (view_of filer.old).slots (view_of filer.new).disk) }
-    ensures keeps_to { (o : InitialState) (named : Triples) → Keeps o filer.old named → LeavesTables o id
-        → OnOk result (Keeps o filer.new named) }
-    ensures evict { (o : InitialState) (named : Triples) → Keeps o filer.old named → LeavesTables o id
-        → IfOk result (λ pages. AreReleased o (view_of filer.new).disk named id (λ p. (page ≤ p) × (p < page + pages))) }
-    ensures reasons { (o : InitialState) (named : Triples) → Keeps o filer.old named → LeavesTables o id
-        → MayLack named id page → IfErr result (ShowsReason o (view_of filer.old).layout (view_of filer.new).disk) }
-    ensures right { (o : InitialState) (named : Triples) (sector : ℕ) → Keeps o filer.old named
-        → named id page sector ≡ true → IfErr result MissesNone }
-    ensures keeps { OnOk result
-        (KeepsMap (IsUnframed (view_of filer.old).slots id) (view_of filer.old).layout id (view_of filer.old).disk
-        (view_of filer.old).slots (kept_by (view_of filer.old)) (view_of filer.new).disk (view_of filer.new).slots
-        (runs_of (view_of filer.old).layout.sectors (view_of filer.new).runs)) }
-    ensures evidence_seen { MayBeMissing id page → IfErr result (ShowsEvidence (view_of filer.new).disk) }
-    ensures counted { result ≡ Err halt.Disk → Rose (view_of filer.old).disk.faults (view_of filer.new).disk.faults }
-    ensures layout { (view_of filer.new).layout ≡ (view_of filer.old).layout }
-    ensures spent { IfOk result
+        (λ p. p ≡ page) (view_of filer.old).disk (view_of filer.old).slots (view_of filer.new).disk)
+        (view_of filer.old) (view_of filer.new)) }
+    ensures accounts { (o : InitialState) (named : Triples) → Keeps o filer.old named
+        → MatchResult result
+        (λ pages.
+        LeavesTables o id
+        → Keeps o filer.new named
+        × AreReleased o (view_of filer.new).disk named id (λ p. (page ≤ p) × (p < page + pages)))
+        (λ e.
+        (LeavesTables o id → MayLack named id page
+        → ShowsReason o (view_of filer.old).layout (view_of filer.new).disk e)
+        × ((sector : ℕ) → named id page sector ≡ true → MissesNone e)) }
+    ensures stays { MapStays id result (view_of filer.old) (view_of filer.new) }
+    ensures cost { ((view_of filer.new).disk.transfers ≤ (view_of filer.old).disk.transfers
+        + (14 + 2 * most + 4 * (view_of filer.old).layout.vam))
+        × IfOk result
         (λ pages.
         (view_of filer.new).disk.transfers ≤ (view_of filer.old).disk.transfers
         + (14 + 2 * pages + 4 * (view_of filer.old).layout.vam)) }
-    ensures cost { (view_of filer.new).disk.transfers ≤ (view_of filer.old).disk.transfers
-        + (14 + 2 * most + 4 * (view_of filer.old).layout.vam) }
-    ensures own { RelabelsOwn id (view_of filer.old).disk (view_of filer.new).disk }
-    ensures around { SyncsLeaders result (view_of filer.old).disk (view_of filer.new).disk }
+    ensures labels { RelabelsAround id result (view_of filer.old).disk (view_of filer.new).disk }
 {
     let run = match part_of(filer, id, page, most) {
         Ok(run) => run,
@@ -224,49 +209,37 @@ pub(crate) fn free_up<D: Disk, A: Allocator>(
     ensures freed { (named : Triples) (spaces : List Space) (m : List Sector)
         → MayFree (view_of filer.old).disk (view_of filer.old).slots (view_of filer.old).layout (view_of filer.old).runs
         named spaces id from end m
-        → OnOk result
-        (Freed (view_of filer.old).layout named spaces id from (end - from) end (view_of filer.old).disk
-        (view_of filer.old).slots (view_of filer.new).disk (view_of filer.new).slots (view_of filer.new).runs) }
-    ensures sound { (named : Triples) (spaces : List Space) (m : List Sector)
-        → MayFree (view_of filer.old).disk (view_of filer.old).slots (view_of filer.old).layout (view_of filer.old).runs
-        named spaces id from end m
-        → IfErr result (λ e. e ≡ halt.Disk) }
-    ensures first { (named : Triples) (spaces : List Space) (m : List Sector)
-        → MayFree (view_of filer.old).disk (view_of filer.old).slots (view_of filer.old).layout (view_of filer.old).runs
-        named spaces id from end m
-        → OnErr result
-        (FreedSome named id from end (view_of filer.old).disk (view_of filer.old).slots (view_of filer.new).disk
+        → MatchResult result
+        (λ _.
+        Freed (view_of filer.old).layout named spaces id from (end - from) end (view_of filer.old).disk
+        (view_of filer.old).slots (view_of filer.new).disk (view_of filer.new).slots (view_of filer.new).runs)
+        (λ e.
+        (e ≡ halt.Disk)
+        × FreedSome named id from end (view_of filer.old).disk (view_of filer.old).slots (view_of filer.new).disk
         (view_of filer.new).slots) }
-    ensures makes { OnOk result
-        (MakesFree (end - from) (view_of filer.old).disk (view_of filer.old).slots (view_of filer.new).disk
+    ensures writes { MatchResult result
+        (λ _.
+        MakesFree (end - from) (view_of filer.old).disk (view_of filer.old).slots (view_of filer.new).disk
+        (view_of filer.new).slots)
+        (λ _.
+        MakesSomeFree (view_of filer.old).disk (view_of filer.old).slots (view_of filer.new).disk
         (view_of filer.new).slots) }
-    ensures stopped { OnErr result
-        (MakesSomeFree (view_of filer.old).disk (view_of filer.old).slots (view_of filer.new).disk
-        (view_of filer.new).slots) }
-    ensures cause { IfErr result
+    ensures fails { IfErr result
+        (FailsIf (((page : ℕ) → page < end → MayBeMissing id page))
         (FreeHalts (IsUnframed (view_of filer.old).slots id) (view_of filer.old).layout (kept_by (view_of filer.old)) id
-        (λ p. (from ≤ p) × (p < end)) (view_of filer.old).disk (view_of filer.old).slots (view_of filer.new).disk) }
-    ensures keeps_to { (o : InitialState) (named : Triples) → Keeps o filer.old named → LeavesTables o id
-        → OnOk result (Keeps o filer.new named) }
-    ensures evict { (o : InitialState) (named : Triples) → Keeps o filer.old named → LeavesTables o id
-        → OnOk result (AreReleased o (view_of filer.new).disk named id (λ p. (from ≤ p) × (p < end))) }
-    ensures reasons { (o : InitialState) (named : Triples) → Keeps o filer.old named → LeavesTables o id
-        → ((page : ℕ) → page < end → MayLack named id page)
-        → IfErr result (ShowsReason o (view_of filer.old).layout (view_of filer.new).disk) }
-    ensures right { (o : InitialState) (named : Triples) → Keeps o filer.old named → LeavesTables o id
-        → ((page : ℕ) → page < end → (sector : ℕ) × (named id page sector ≡ true)) → IfErr result MissesNone }
-    ensures keeps { OnOk result
-        (KeepsMap (IsUnframed (view_of filer.old).slots id) (view_of filer.old).layout id (view_of filer.old).disk
-        (view_of filer.old).slots (kept_by (view_of filer.old)) (view_of filer.new).disk (view_of filer.new).slots
-        (runs_of (view_of filer.old).layout.sectors (view_of filer.new).runs)) }
-    ensures evidence_seen { ((page : ℕ) → page < end → MayBeMissing id page)
-        → IfErr result (ShowsEvidence (view_of filer.new).disk) }
-    ensures counted { result ≡ Err halt.Disk → Rose (view_of filer.old).disk.faults (view_of filer.new).disk.faults }
-    ensures layout { (view_of filer.new).layout ≡ (view_of filer.old).layout }
+        (λ p. (from ≤ p) × (p < end)) (view_of filer.old).disk (view_of filer.old).slots (view_of filer.new).disk)
+        (view_of filer.old) (view_of filer.new)) }
+    ensures accounts { (o : InitialState) (named : Triples) → Keeps o filer.old named → LeavesTables o id
+        → MatchResult result
+        (λ _. Keeps o filer.new named × AreReleased o (view_of filer.new).disk named id (λ p. (from ≤ p) × (p < end)))
+        (λ e.
+        (((page : ℕ) → page < end → MayLack named id page)
+        → ShowsReason o (view_of filer.old).layout (view_of filer.new).disk e)
+        × (((page : ℕ) → page < end → (sector : ℕ) × (named id page sector ≡ true)) → MissesNone e)) }
+    ensures stays { MapStays id result (view_of filer.old) (view_of filer.new) }
     ensures cost { (view_of filer.new).disk.transfers ≤ (view_of filer.old).disk.transfers + (end - from)
         * (16 + 4 * (view_of filer.old).layout.vam) }
-    ensures own { RelabelsOwn id (view_of filer.old).disk (view_of filer.new).disk }
-    ensures around { SyncsLeaders result (view_of filer.old).disk (view_of filer.new).disk }
+    ensures labels { RelabelsAround id result (view_of filer.old).disk (view_of filer.new).disk }
 {
     let mut page = from;
     while page < end {

@@ -1,5 +1,5 @@
 //! The last pages of a file that become free, the last one first: their labels, and their sectors in the allocation map.
-ghost use Rattle.std.specs.Prelude.{◌≡◌, ◌⊎◌, ℕ, ◌+◌, ◌-◌, ◌*◌, ◌≤◌, ◌<◌, true, List, IfOk, IfErr, OnErr, OnOk, Some};
+ghost use Rattle.std.specs.Prelude.{◌≡◌, ◌⊎◌, ℕ, ◌+◌, ◌-◌, ◌*◌, ◌≤◌, ◌<◌, true, List, IfOk, IfErr, OnErr, OnOk, Some, MatchResult};
 ghost use Rattle.labelled_disk.specs.declared.evidence.Halt.TheVariants as halt;
 ghost use Rattle.labelled_disk.specs.Calls.{Rose};
 ghost use Rattle.labelled_disk.specs.Runs.{freeing};
@@ -25,6 +25,9 @@ ghost use Rattle.file_manager.specs.Freeing.{MayFree, NamesAll, MakesFree, Makes
 ghost use Rattle.file_manager.specs.Shrinking.{IsLastPart, FreedDown, StoppedDown, run_down};
 ghost use Rattle.file_manager.specs.Reasons.{AreReleased, Keeps, MayLack, InitialState, ShowsReason};
 ghost use Rattle.filer_kernel.specs.View.{FitsLayout, HasMemory, kept_by, view_of};
+ghost use Rattle.file_manager.specs.Outcomes.{FailsIf};
+ghost use Rattle.file_manager.specs.Stays.{FramesStay, FindsRuns, MapStays};
+ghost use Rattle.filer_kernel.specs.Fails.{Fails};
 
 use crate::forgetting::discard_run;
 use file_map::Run;
@@ -42,39 +45,32 @@ fn last_part<D: Disk, A: Allocator>(
 ) -> Result<Run, Halt>
     requires size { FitsLayout (view_of filer.old) }
     requires some { from < end }
-    ensures form { IfOk result (IsLastPart (view_of filer.old).layout.sectors id from end) }
+    ensures part { IfOk result
+        (λ run.
+        IsLastPart (view_of filer.old).layout.sectors id from end run
+        × ((k : ℕ) → k < run.pages
+        → IsRunHome (view_of filer.old).layout (view_of filer.old).disk (view_of filer.old).slots
+        (kept_by (view_of filer.old)) (home_at (run.sector + k) (record { id = id; page = run.first + k })))) }
     ensures named { (m : List Sector) (named : Triples) → HasMemory (view_of filer.old) m
         → MapIs (view_of filer.old).layout named m → AreOf named (kept_by (view_of filer.old))
-        → IfOk result (NamesAll named) }
-    ensures kept { (m : List Sector) (named : Triples) → HasMemory (view_of filer.old) m
-        → MapIs (view_of filer.old).layout named m → AreOf named (kept_by (view_of filer.old))
-        → AreOf named (runs_of (view_of filer.old).layout.sectors (view_of filer.new).runs) }
+        → IfOk result (NamesAll named)
+        × AreOf named (runs_of (view_of filer.old).layout.sectors (view_of filer.new).runs) }
     ensures sound { (m : List Sector) (named : Triples) (sector : ℕ) → HasMemory (view_of filer.old) m
         → MapIs (view_of filer.old).layout named m → AreNamed m (IsMapHome FileMapPages (view_of filer.old).layout)
         → named id (end - 1) sector ≡ true → IfErr result (λ e. e ≡ halt.Disk) }
-    ensures cause { IfErr result
+    ensures fails { IfErr result
+        (FailsIf (MayBeMissing id (end - 1))
         (FreeHalts (IsUnframed (view_of filer.old).slots id) (view_of filer.old).layout (kept_by (view_of filer.old)) id
-        (λ p. p ≡ end - 1) (view_of filer.old).disk (view_of filer.old).slots (view_of filer.new).disk) }
-    ensures keeps_to { (o : InitialState) (named : Triples) → Keeps o filer.old named
-        → OnOk result (Keeps o filer.new named) }
-    ensures reasons { (o : InitialState) (named : Triples) → Keeps o filer.old named → MayLack named id (end - 1)
-        → IfErr result (ShowsReason o (view_of filer.old).layout (view_of filer.new).disk) }
-    ensures homes { IfOk result
-        (λ run.
-        (k : ℕ) → k < run.pages
-        → IsRunHome (view_of filer.old).layout (view_of filer.old).disk (view_of filer.old).slots
-        (kept_by (view_of filer.old)) (home_at (run.sector + k) (record { id = id; page = run.first + k }))) }
+        (λ p. p ≡ end - 1) (view_of filer.old).disk (view_of filer.old).slots (view_of filer.new).disk)
+        (view_of filer.old) (view_of filer.new)) }
+    ensures accounts { (o : InitialState) (named : Triples) → Keeps o filer.old named
+        → MatchResult result (λ _. Keeps o filer.new named)
+        (λ e. MayLack named id (end - 1) → ShowsReason o (view_of filer.old).layout (view_of filer.new).disk e) }
     ensures keeps { (id ≡ 3) ⊎ (16 ≤ id)
         → KeepsMap (IsUnframed (view_of filer.old).slots id) (view_of filer.old).layout id (view_of filer.old).disk
         (view_of filer.old).slots (kept_by (view_of filer.old)) (view_of filer.new).disk (view_of filer.new).slots
         (runs_of (view_of filer.old).layout.sectors (view_of filer.new).runs) }
-    ensures evidence_seen { MayBeMissing id (end - 1) → IfErr result (ShowsEvidence (view_of filer.new).disk) }
-    ensures counted { IfErr result
-        (λ e. e ≡ halt.Disk → Rose (view_of filer.old).disk.faults (view_of filer.new).disk.faults) }
-    ensures same { (m : List Sector) (named : Triples) → HasMemory (view_of filer.old) m
-        → MapIs (view_of filer.old).layout named m → HasMemory (view_of filer.new) m }
-    ensures beside { Beside FileMapPages (view_of filer.old).disk (view_of filer.old).slots (view_of filer.old).layout
-        (view_of filer.new).disk (view_of filer.new).slots (view_of filer.new).layout }
+    ensures stays { FindsRuns (view_of filer.old) (view_of filer.new) }
     ensures cost { (view_of filer.new).disk.transfers ≤ (view_of filer.old).disk.transfers + 14 }
 {
     match filer.find(id, end - 1) {
@@ -97,29 +93,25 @@ fn free_labels_down<D: Disk, A: Allocator>(filer: &mut Filer<D, A>, run: Run) ->
     requires size { FitsLayout (view_of filer.old) }
     requires data { (view_of filer.old).layout.first ≤ run.sector }
     requires form { IsRun (view_of filer.old).layout.sectors run }
-    ensures freed { OnOk result
-        (RelabelsRun run.sector run.pages (freeing (run_down run)) (view_of filer.old).disk (view_of filer.old).slots
-        (view_of filer.new).disk) }
-    ensures stopped { OnErr result
-        (MadeSome (freeing (run_down run)) (view_of filer.old).disk (view_of filer.old).slots
-        (view_of filer.new).disk) }
+    ensures writes { MatchResult result
+        (λ _.
+        RelabelsRun run.sector run.pages (freeing (run_down run)) (view_of filer.old).disk (view_of filer.old).slots
+        (view_of filer.new).disk
+        × ((d : List Sector) → (view_of filer.old).disk.contents ≡ Some d
+        → HaveOnes (λ k. ones_of (record { id = run.id; page = run.first + k })) d run.sector run.pages))
+        (λ _.
+        MadeSome (freeing (run_down run)) (view_of filer.old).disk (view_of filer.old).slots (view_of filer.new).disk) }
     ensures sound { (m : List Sector) → HasMemory (view_of filer.old) m
         → AreUncovered (view_of filer.old).slots run.sector run.pages
         → HaveOnes (λ k. ones_of (record { id = run.id; page = run.first + k })) m run.sector run.pages
         → IfErr result (λ e. e ≡ halt.Disk) }
-    ensures cause { IfErr result
+    ensures fails { IfErr result
+        (Fails
         (HasCause
         (IsOneNotOf run.sector run.pages (λ k. record { id = run.id; page = run.first + k }) (view_of filer.old).disk)
-        (view_of filer.old).disk (view_of filer.new).disk) }
-    ensures were { OnOk result
-        ((d : List Sector) → (view_of filer.old).disk.contents ≡ Some d
-        → HaveOnes (λ k. ones_of (record { id = run.id; page = run.first + k })) d run.sector run.pages) }
-    ensures evidence_seen { IfErr result (ShowsEvidence (view_of filer.new).disk) }
-    ensures counted { IfErr result
-        (λ e. e ≡ halt.Disk → Rose (view_of filer.old).disk.faults (view_of filer.new).disk.faults) }
-    ensures frames { (view_of filer.new).slots ≡ (view_of filer.old).slots }
-    ensures layout { (view_of filer.new).layout ≡ (view_of filer.old).layout }
-    ensures runs { (view_of filer.new).runs ≡ (view_of filer.old).runs }
+        (view_of filer.old).disk (view_of filer.new).disk)
+        (view_of filer.old) (view_of filer.new)) }
+    ensures stays { FramesStay (view_of filer.old) (view_of filer.new) }
     ensures cost { (view_of filer.new).disk.transfers ≤ (view_of filer.old).disk.transfers + 2 * run.pages }
     ensures own { RelabelsOwn run.id (view_of filer.old).disk (view_of filer.new).disk }
 {
@@ -144,51 +136,39 @@ fn free_last<D: Disk, A: Allocator>(
     ensures freed { (named : Triples) (spaces : List Space) (m : List Sector)
         → MayFree (view_of filer.old).disk (view_of filer.old).slots (view_of filer.old).layout (view_of filer.old).runs
         named spaces id from end m
-        → IfOk result
+        → MatchResult result
         (λ pages.
         FreedDown (view_of filer.old).layout named spaces id from pages end (view_of filer.old).disk
-        (view_of filer.old).slots (view_of filer.new).disk (view_of filer.new).slots (view_of filer.new).runs) }
-    ensures some { IfOk result (λ pages. (1 ≤ pages) × (pages ≤ end - from)) }
-    ensures sound { (named : Triples) (spaces : List Space) (m : List Sector)
-        → MayFree (view_of filer.old).disk (view_of filer.old).slots (view_of filer.old).layout (view_of filer.old).runs
-        named spaces id from end m
-        → IfErr result (λ e. e ≡ halt.Disk) }
-    ensures cause { IfErr result
-        (FreeHalts (IsUnframed (view_of filer.old).slots id) (view_of filer.old).layout (kept_by (view_of filer.old)) id
-        (λ p. p ≡ end - 1) (view_of filer.old).disk (view_of filer.old).slots (view_of filer.new).disk) }
-    ensures keeps_to { (o : InitialState) (named : Triples) → Keeps o filer.old named
-        → OnOk result (Keeps o filer.new named) }
-    ensures evict { (o : InitialState) (named : Triples) → Keeps o filer.old named
-        → IfOk result (λ pages. AreReleased o (view_of filer.new).disk named id (λ p. (end - pages ≤ p) × (p < end))) }
-    ensures reasons { (o : InitialState) (named : Triples) → Keeps o filer.old named
-        → IfErr result (ShowsReason o (view_of filer.old).layout (view_of filer.new).disk) }
-    ensures keeps { OnOk result
-        (KeepsMap (IsUnframed (view_of filer.old).slots id) (view_of filer.old).layout id (view_of filer.old).disk
-        (view_of filer.old).slots (kept_by (view_of filer.old)) (view_of filer.new).disk (view_of filer.new).slots
-        (runs_of (view_of filer.old).layout.sectors (view_of filer.new).runs)) }
-    ensures evidence_seen { IfErr result (ShowsEvidence (view_of filer.new).disk) }
-    ensures counted { IfErr result
-        (λ e. e ≡ halt.Disk → Rose (view_of filer.old).disk.faults (view_of filer.new).disk.faults) }
-    ensures broken { (named : Triples) (spaces : List Space) (m : List Sector)
-        → MayFree (view_of filer.old).disk (view_of filer.old).slots (view_of filer.old).layout (view_of filer.old).runs
-        named spaces id from end m
-        → OnErr result
-        (StoppedDown named id (end - from) end (view_of filer.old).disk (view_of filer.old).slots
+        (view_of filer.old).slots (view_of filer.new).disk (view_of filer.new).slots (view_of filer.new).runs)
+        (λ e.
+        (e ≡ halt.Disk)
+        × StoppedDown named id (end - from) end (view_of filer.old).disk (view_of filer.old).slots
         (view_of filer.new).disk (view_of filer.new).slots) }
-    ensures makes { IfOk result
+    ensures some { IfOk result (λ pages. (1 ≤ pages) × (pages ≤ end - from)) }
+    ensures fails { IfErr result
+        (Fails
+        (FreeHalts (IsUnframed (view_of filer.old).slots id) (view_of filer.old).layout (kept_by (view_of filer.old)) id
+        (λ p. p ≡ end - 1) (view_of filer.old).disk (view_of filer.old).slots (view_of filer.new).disk)
+        (view_of filer.old) (view_of filer.new)) }
+    ensures accounts { (o : InitialState) (named : Triples) → Keeps o filer.old named
+        → MatchResult result
+        (λ pages.
+        Keeps o filer.new named × AreReleased o (view_of filer.new).disk named id (λ p. (end - pages ≤ p) × (p < end)))
+        (ShowsReason o (view_of filer.old).layout (view_of filer.new).disk) }
+    ensures stays { MapStays id result (view_of filer.old) (view_of filer.new) }
+    ensures writes { MatchResult result
         (λ pages.
         MakesFree pages (view_of filer.old).disk (view_of filer.old).slots (view_of filer.new).disk
+        (view_of filer.new).slots)
+        (λ _.
+        MakesSomeFree (view_of filer.old).disk (view_of filer.old).slots (view_of filer.new).disk
         (view_of filer.new).slots) }
-    ensures stopped { OnErr result
-        (MakesSomeFree (view_of filer.old).disk (view_of filer.old).slots (view_of filer.new).disk
-        (view_of filer.new).slots) }
-    ensures layout { (view_of filer.new).layout ≡ (view_of filer.old).layout }
-    ensures spent { IfOk result
+    ensures cost { ((view_of filer.new).disk.transfers ≤ (view_of filer.old).disk.transfers
+        + (14 + 2 * (end - from) + 4 * (view_of filer.old).layout.vam))
+        × IfOk result
         (λ pages.
         (view_of filer.new).disk.transfers ≤ (view_of filer.old).disk.transfers
         + (14 + 2 * pages + 4 * (view_of filer.old).layout.vam)) }
-    ensures cost { (view_of filer.new).disk.transfers ≤ (view_of filer.old).disk.transfers
-        + (14 + 2 * (end - from) + 4 * (view_of filer.old).layout.vam) }
     ensures own { RelabelsOwn id (view_of filer.old).disk (view_of filer.new).disk }
 {
     let run = match last_part(filer, id, from, end) {
@@ -220,42 +200,31 @@ pub(crate) fn free_down<D: Disk, A: Allocator>(
     ensures freed { (named : Triples) (spaces : List Space) (m : List Sector)
         → MayFree (view_of filer.old).disk (view_of filer.old).slots (view_of filer.old).layout (view_of filer.old).runs
         named spaces id from end m
-        → OnOk result
-        (FreedDown (view_of filer.old).layout named spaces id from (end - from) end (view_of filer.old).disk
-        (view_of filer.old).slots (view_of filer.new).disk (view_of filer.new).slots (view_of filer.new).runs) }
-    ensures sound { (named : Triples) (spaces : List Space) (m : List Sector)
-        → MayFree (view_of filer.old).disk (view_of filer.old).slots (view_of filer.old).layout (view_of filer.old).runs
-        named spaces id from end m
-        → IfErr result (λ e. e ≡ halt.Disk) }
-    ensures cause { IfErr result
-        (FreeHalts (IsUnframed (view_of filer.old).slots id) (view_of filer.old).layout (kept_by (view_of filer.old)) id
-        (λ p. (from ≤ p) × (p < end)) (view_of filer.old).disk (view_of filer.old).slots (view_of filer.new).disk) }
-    ensures keeps_to { (o : InitialState) (named : Triples) → Keeps o filer.old named
-        → OnOk result (Keeps o filer.new named) }
-    ensures evict { (o : InitialState) (named : Triples) → Keeps o filer.old named
-        → OnOk result (AreReleased o (view_of filer.new).disk named id (λ p. (from ≤ p) × (p < end))) }
-    ensures reasons { (o : InitialState) (named : Triples) → Keeps o filer.old named
-        → IfErr result (ShowsReason o (view_of filer.old).layout (view_of filer.new).disk) }
-    ensures keeps { OnOk result
-        (KeepsMap (IsUnframed (view_of filer.old).slots id) (view_of filer.old).layout id (view_of filer.old).disk
-        (view_of filer.old).slots (kept_by (view_of filer.old)) (view_of filer.new).disk (view_of filer.new).slots
-        (runs_of (view_of filer.old).layout.sectors (view_of filer.new).runs)) }
-    ensures evidence_seen { IfErr result (ShowsEvidence (view_of filer.new).disk) }
-    ensures counted { IfErr result
-        (λ e. e ≡ halt.Disk → Rose (view_of filer.old).disk.faults (view_of filer.new).disk.faults) }
-    ensures broken { (named : Triples) (spaces : List Space) (m : List Sector)
-        → MayFree (view_of filer.old).disk (view_of filer.old).slots (view_of filer.old).layout (view_of filer.old).runs
-        named spaces id from end m
-        → OnErr result
-        (StoppedDown named id (end - from) end (view_of filer.old).disk (view_of filer.old).slots
+        → MatchResult result
+        (λ _.
+        FreedDown (view_of filer.old).layout named spaces id from (end - from) end (view_of filer.old).disk
+        (view_of filer.old).slots (view_of filer.new).disk (view_of filer.new).slots (view_of filer.new).runs)
+        (λ e.
+        (e ≡ halt.Disk)
+        × StoppedDown named id (end - from) end (view_of filer.old).disk (view_of filer.old).slots
         (view_of filer.new).disk (view_of filer.new).slots) }
-    ensures makes { OnOk result
-        (MakesFree (end - from) (view_of filer.old).disk (view_of filer.old).slots (view_of filer.new).disk
+    ensures fails { IfErr result
+        (Fails
+        (FreeHalts (IsUnframed (view_of filer.old).slots id) (view_of filer.old).layout (kept_by (view_of filer.old)) id
+        (λ p. (from ≤ p) × (p < end)) (view_of filer.old).disk (view_of filer.old).slots (view_of filer.new).disk)
+        (view_of filer.old) (view_of filer.new)) }
+    ensures accounts { (o : InitialState) (named : Triples) → Keeps o filer.old named
+        → MatchResult result
+        (λ _. Keeps o filer.new named × AreReleased o (view_of filer.new).disk named id (λ p. (from ≤ p) × (p < end)))
+        (ShowsReason o (view_of filer.old).layout (view_of filer.new).disk) }
+    ensures stays { MapStays id result (view_of filer.old) (view_of filer.new) }
+    ensures writes { MatchResult result
+        (λ _.
+        MakesFree (end - from) (view_of filer.old).disk (view_of filer.old).slots (view_of filer.new).disk
+        (view_of filer.new).slots)
+        (λ _.
+        MakesSomeFree (view_of filer.old).disk (view_of filer.old).slots (view_of filer.new).disk
         (view_of filer.new).slots) }
-    ensures stopped { OnErr result
-        (MakesSomeFree (view_of filer.old).disk (view_of filer.old).slots (view_of filer.new).disk
-        (view_of filer.new).slots) }
-    ensures layout { (view_of filer.new).layout ≡ (view_of filer.old).layout }
     ensures cost { (view_of filer.new).disk.transfers ≤ (view_of filer.old).disk.transfers + (end - from)
         * (16 + 4 * (view_of filer.old).layout.vam) }
     ensures own { RelabelsOwn id (view_of filer.old).disk (view_of filer.new).disk }

@@ -7,6 +7,7 @@ ghost use Rattle.file_map.specs.FileMap.{Triples};
 ghost use Rattle.file_manager.specs.Reasons.{Keeps, InitialState};
 ghost use Rattle.file_manager.specs.Synced.{SyncsQuietly};
 ghost use Rattle.filer_kernel.specs.View.{MakesOnly, view_of};
+ghost use Rattle.file_manager.specs.Stays.{ReadsAlone};
 
 use filer_kernel::Filer;
 use label_calls::sync;
@@ -16,14 +17,10 @@ use std::alloc::Allocator;
 // Waits until all that was written is on the medium.
 pub(crate) fn sync_disk<D: Disk, A: Allocator>(filer: &mut Filer<D, A>) -> Result<(), Halt>
     ensures synced { OnOk result (SyncsQuietly (view_of filer.old).disk (view_of filer.new).disk) }
-    ensures same { RevealsSame (view_of filer.old).disk (view_of filer.new).disk }
-    ensures makes { MakesOnly no_page [] (view_of filer.old) (view_of filer.new) }
+    ensures stays { ReadsAlone (view_of filer.old) (view_of filer.new) }
     ensures cause { IfErr result
         (λ e. (e ≡ halt.Disk) × Rose (view_of filer.old).disk.faults (view_of filer.new).disk.faults) }
     ensures keeps_to { (o : InitialState) (named : Triples) → Keeps o filer.old named → Keeps o filer.new named }
-    ensures frames { (view_of filer.new).slots ≡ (view_of filer.old).slots }
-    ensures layout { (view_of filer.new).layout ≡ (view_of filer.old).layout }
-    ensures runs { (view_of filer.new).runs ≡ (view_of filer.old).runs }
     ensures cost { (view_of filer.new).disk.transfers ≤ (view_of filer.old).disk.transfers }
 {
     let swapper = filer.swapper_over();

@@ -1,5 +1,5 @@
 //! The pages of the space tables, which a session makes at its start and frees at its close.
-ghost use Rattle.std.specs.Prelude.{◌≡◌, ℕ, ◌+◌, ◌*◌, ◌≤◌, ◌==◌, not, List, [], length, filter, IfErr, OnErr, OnOk, Err, None, ◌<◌};
+ghost use Rattle.std.specs.Prelude.{◌≡◌, ℕ, ◌+◌, ◌*◌, ◌≤◌, ◌==◌, not, List, [], length, filter, IfErr, OnErr, OnOk, Err, None, ◌<◌, MatchResult};
 ghost use Rattle.labelled_disk.specs.declared.evidence.Halt.TheVariants as halt;
 ghost use Rattle.labelled_disk.specs.Calls.{Rose};
 ghost use Rattle.labelled_disk.specs.Sectors.{Sector, AreSectors};
@@ -22,6 +22,8 @@ ghost use Rattle.file_manager.specs.Roots.{RootStays};
 ghost use Rattle.file_manager.specs.Reasons.{Keeps, KeepsBare, KeepsOn, KeepsRevealed, MissesNone, NamesTables, InitialState, ShowsReason, telling};
 ghost use Rattle.file_manager.specs.Taking.{NamesNoneOf};
 ghost use Rattle.filer_kernel.specs.View.{disk_of, FitsLayout, GoesTo, HasMemory, kept_by, view_of};
+ghost use Rattle.file_manager.specs.Stays.{RunsStay, KeepsRoot, KeepsRootAndRuns};
+ghost use Rattle.filer_kernel.specs.Fails.{Fails};
 
 use crate::growth::{frames_of, make_run};
 use crate::release::free_up;
@@ -36,34 +38,30 @@ fn make_pages<D: Disk, A: Allocator>(filer: &mut Filer<D, A>) -> Result<(), Halt
     ensures made { (x : List Sector) (shapes : Shapes) (spaces : List Space)
         → MayBegin (view_of filer.old).disk (view_of filer.old).slots (view_of filer.old).layout
         (view_of filer.old).runs shapes spaces x
-        → OnOk result
-        (BegunBy (view_of filer.old).disk (view_of filer.old).slots (view_of filer.old).layout (view_of filer.new).disk
-        (view_of filer.new).slots (view_of filer.new).runs) }
-    ensures sound { (x : List Sector) (shapes : Shapes) (spaces : List Space)
-        → MayBegin (view_of filer.old).disk (view_of filer.old).slots (view_of filer.old).layout
-        (view_of filer.old).runs shapes spaces x
-        → IfErr result (λ e. e ≡ halt.Disk) }
-    ensures makes { OnOk result
-        (MakesAll 3 0 0 96 (view_of filer.old).disk (view_of filer.old).slots (view_of filer.new).disk
+        → MatchResult result
+        (λ _.
+        BegunBy (view_of filer.old).disk (view_of filer.old).slots (view_of filer.old).layout (view_of filer.new).disk
+        (view_of filer.new).slots (view_of filer.new).runs)
+        (λ e. e ≡ halt.Disk) }
+    ensures writes { MatchResult result
+        (λ _.
+        MakesAll 3 0 0 96 (view_of filer.old).disk (view_of filer.old).slots (view_of filer.new).disk
+        (view_of filer.new).slots)
+        (λ _.
+        MakesSome 3 0 0 96 (view_of filer.old).disk (view_of filer.old).slots (view_of filer.new).disk
         (view_of filer.new).slots) }
-    ensures stopped { OnErr result
-        (MakesSome 3 0 0 96 (view_of filer.old).disk (view_of filer.old).slots (view_of filer.new).disk
-        (view_of filer.new).slots) }
-    ensures cause { IfErr result
+    ensures fails { IfErr result
+        (Fails
         (MakeHalts (view_of filer.old).layout 3 (λ p. p < 96) (λ p. p < 96) (view_of filer.old).disk
-        (view_of filer.old).slots (view_of filer.new).disk (view_of filer.new).slots) }
-    ensures keeps_to { (o : InitialState) (named : Triples) → Keeps o filer.old named → o.tables ≡ None
-        → NamesNoneOf 3 (λ p. p < 96) named → OnOk result (KeepsOn o filer.new) }
-    ensures reasons { (o : InitialState) (named : Triples) → Keeps o filer.old named → o.tables ≡ None
+        (view_of filer.old).slots (view_of filer.new).disk (view_of filer.new).slots)
+        (view_of filer.old) (view_of filer.new)) }
+    ensures accounts { (o : InitialState) (named : Triples) → Keeps o filer.old named → o.tables ≡ None
         → NamesNoneOf 3 (λ p. p < 96) named
-        → IfErr result (ShowsReason o (view_of filer.old).layout (view_of filer.new).disk) }
+        → MatchResult result (λ _. KeepsOn o filer.new)
+        (ShowsReason o (view_of filer.old).layout (view_of filer.new).disk) }
     ensures tables { (o : InitialState) (named : Triples) → Keeps (telling o []) filer.old named
         → NamesNoneOf 3 (λ p. p < 96) named → OnOk result (KeepsRevealed o filer.new) }
-    ensures evidence_seen { IfErr result (ShowsEvidence (view_of filer.new).disk) }
-    ensures counted { result ≡ Err halt.Disk → Rose (view_of filer.old).disk.faults (view_of filer.new).disk.faults }
-    ensures root { RootStays (view_of filer.old).disk (view_of filer.new).disk }
-    ensures layout { (view_of filer.new).layout ≡ (view_of filer.old).layout }
-    ensures runs { (view_of filer.new).runs ≡ (view_of filer.old).runs }
+    ensures stays { KeepsRootAndRuns (view_of filer.old) (view_of filer.new) }
     ensures cost { (view_of filer.new).disk.transfers ≤ (view_of filer.old).disk.transfers + 96
         * (8 * (view_of filer.old).layout.vam + 100) }
 {
@@ -84,33 +82,30 @@ pub fn make_tables<D: Disk, A: Allocator>(filer: &mut Filer<D, A>) -> Result<(),
     ensures made { (x : List Sector) (shapes : Shapes) (spaces : List Space)
         → MayBegin (view_of filer.old).disk (view_of filer.old).slots (view_of filer.old).layout
         (view_of filer.old).runs shapes spaces x
-        → OnOk result
-        (BegunBy (view_of filer.old).disk (view_of filer.old).slots (view_of filer.old).layout (view_of filer.new).disk
-        (view_of filer.new).slots (view_of filer.new).runs) }
-    ensures sound { (x : List Sector) (shapes : Shapes) (spaces : List Space)
-        → MayBegin (view_of filer.old).disk (view_of filer.old).slots (view_of filer.old).layout
-        (view_of filer.old).runs shapes spaces x
-        → IfErr result (λ e. e ≡ halt.Disk) }
-    ensures makes { OnOk result
-        (MakesAll 3 0 0 96 (view_of filer.old).disk (view_of filer.old).slots (view_of filer.new).disk
+        → MatchResult result
+        (λ _.
+        BegunBy (view_of filer.old).disk (view_of filer.old).slots (view_of filer.old).layout (view_of filer.new).disk
+        (view_of filer.new).slots (view_of filer.new).runs)
+        (λ e. e ≡ halt.Disk) }
+    ensures writes { MatchResult result
+        (λ _.
+        MakesAll 3 0 0 96 (view_of filer.old).disk (view_of filer.old).slots (view_of filer.new).disk
+        (view_of filer.new).slots)
+        (λ _.
+        MakesSome 3 0 0 96 (view_of filer.old).disk (view_of filer.old).slots (view_of filer.new).disk
         (view_of filer.new).slots) }
-    ensures stopped { OnErr result
-        (MakesSome 3 0 0 96 (view_of filer.old).disk (view_of filer.old).slots (view_of filer.new).disk
-        (view_of filer.new).slots) }
-    ensures cause { IfErr result
+    ensures fails { IfErr result
+        (Fails
         (CreateHalts (view_of filer.old).layout 3 (λ p. p < 96) (view_of filer.old).disk (view_of filer.old).slots
-        (view_of filer.new).disk (view_of filer.new).slots) }
-    ensures keeps_to { (o : InitialState) (named : Triples) → Keeps o filer.old named
-        → IsUnframed (view_of filer.old).slots 3 → o.tables ≡ None → OnOk result (KeepsOn o filer.new) }
-    ensures reasons { (o : InitialState) (named : Triples) → Keeps o filer.old named
+        (view_of filer.new).disk (view_of filer.new).slots)
+        (view_of filer.old) (view_of filer.new)) }
+    ensures accounts { (o : InitialState) (named : Triples) → Keeps o filer.old named
         → IsUnframed (view_of filer.old).slots 3 → o.tables ≡ None
-        → IfErr result (ShowsReason o (view_of filer.old).layout (view_of filer.new).disk) }
+        → MatchResult result (λ _. KeepsOn o filer.new)
+        (ShowsReason o (view_of filer.old).layout (view_of filer.new).disk) }
     ensures tables { (o : InitialState) (named : Triples) → Keeps (telling o []) filer.old named
         → IsUnframed (view_of filer.old).slots 3 → OnOk result (KeepsRevealed o filer.new) }
-    ensures evidence_seen { IfErr result (ShowsEvidence (view_of filer.new).disk) }
-    ensures counted { result ≡ Err halt.Disk → Rose (view_of filer.old).disk.faults (view_of filer.new).disk.faults }
-    ensures root { RootStays (view_of filer.old).disk (view_of filer.new).disk }
-    ensures layout { (view_of filer.new).layout ≡ (view_of filer.old).layout }
+    ensures stays { KeepsRoot (view_of filer.old) (view_of filer.new) }
     ensures runs { (n : ℕ)
         → runs_of n (view_of filer.new).runs ≡ filter (λ r. not (r.id == 3)) (runs_of n (view_of filer.old).runs) }
     ensures cost { (view_of filer.new).disk.transfers ≤ (view_of filer.old).disk.transfers
@@ -136,8 +131,7 @@ fn discard_tables<D: Disk, A: Allocator>(filer: &mut Filer<D, A>)
     ensures goes { GoesTo (Differs (of_run 3 0 96)) no_page [] (view_of filer.old) (view_of filer.new) }
     ensures form { (m : List Sector) → HasMemory (view_of filer.new) m → AreSectors m }
     ensures disk { (disk_of filer.new) ≡ (disk_of filer.old) }
-    ensures layout { (view_of filer.new).layout ≡ (view_of filer.old).layout }
-    ensures runs { (view_of filer.new).runs ≡ (view_of filer.old).runs }
+    ensures stays { RunsStay (view_of filer.old) (view_of filer.new) }
 {
     let swapper = filer.swapper_over();
     discard(swapper, TABLES, 0, TABLE_PAGES);
@@ -151,38 +145,30 @@ pub fn free_tables<D: Disk, A: Allocator>(filer: &mut Filer<D, A>) -> Result<(),
     ensures freed { (x : List Sector) (shapes : Shapes) (spaces : List Space)
         → Books (view_of filer.old).disk (view_of filer.old).slots (view_of filer.old).layout (view_of filer.old).runs
         shapes spaces x
-        → OnOk result
-        (EndedBy x (view_of filer.old).disk (view_of filer.old).slots (view_of filer.old).layout
-        (view_of filer.new).disk (view_of filer.new).slots (view_of filer.new).runs) }
-    ensures sound { (x : List Sector) (shapes : Shapes) (spaces : List Space)
-        → Books (view_of filer.old).disk (view_of filer.old).slots (view_of filer.old).layout (view_of filer.old).runs
-        shapes spaces x
-        → IfErr result (λ e. e ≡ halt.Disk) }
-    ensures first { (x : List Sector) (shapes : Shapes) (spaces : List Space)
-        → Books (view_of filer.old).disk (view_of filer.old).slots (view_of filer.old).layout (view_of filer.old).runs
-        shapes spaces x
-        → OnErr result
-        (EndedSome x (view_of filer.old).disk (view_of filer.old).slots (view_of filer.new).disk
+        → MatchResult result
+        (λ _.
+        EndedBy x (view_of filer.old).disk (view_of filer.old).slots (view_of filer.old).layout (view_of filer.new).disk
+        (view_of filer.new).slots (view_of filer.new).runs)
+        (λ e.
+        (e ≡ halt.Disk)
+        × EndedSome x (view_of filer.old).disk (view_of filer.old).slots (view_of filer.new).disk
         (view_of filer.new).slots) }
-    ensures makes { OnOk result
-        (MakesFree 96 (view_of filer.old).disk (view_of filer.old).slots (view_of filer.new).disk
+    ensures writes { MatchResult result
+        (λ _.
+        MakesFree 96 (view_of filer.old).disk (view_of filer.old).slots (view_of filer.new).disk
+        (view_of filer.new).slots)
+        (λ _.
+        MakesSomeFree (view_of filer.old).disk (view_of filer.old).slots (view_of filer.new).disk
         (view_of filer.new).slots) }
-    ensures stopped { OnErr result
-        (MakesSomeFree (view_of filer.old).disk (view_of filer.old).slots (view_of filer.new).disk
-        (view_of filer.new).slots) }
-    ensures cause { IfErr result
+    ensures fails { IfErr result
+        (Fails
         (CutFileHalts (AreTables (view_of filer.old).slots) (view_of filer.old).layout (kept_by (view_of filer.old)) 3 0
-        (λ page. page < 96) (view_of filer.old).disk (view_of filer.old).slots (view_of filer.new).disk) }
-    ensures keeps_to { (o : InitialState) (named : Triples) → Keeps o filer.old named → o.tables ≡ None
-        → OnOk result (KeepsBare o filer.new) }
-    ensures reasons { (o : InitialState) (named : Triples) → Keeps o filer.old named → o.tables ≡ None
-        → NamesTables named → IfErr result (ShowsReason o (view_of filer.old).layout (view_of filer.new).disk) }
-    ensures right { (o : InitialState) (named : Triples) → Keeps o filer.old named → o.tables ≡ None → NamesTables named
-        → IfErr result MissesNone }
-    ensures evidence_seen { IfErr result (ShowsEvidence (view_of filer.new).disk) }
-    ensures counted { result ≡ Err halt.Disk → Rose (view_of filer.old).disk.faults (view_of filer.new).disk.faults }
-    ensures root { RootStays (view_of filer.old).disk (view_of filer.new).disk }
-    ensures layout { (view_of filer.new).layout ≡ (view_of filer.old).layout }
+        (λ page. page < 96) (view_of filer.old).disk (view_of filer.old).slots (view_of filer.new).disk)
+        (view_of filer.old) (view_of filer.new)) }
+    ensures accounts { (o : InitialState) (named : Triples) → Keeps o filer.old named → o.tables ≡ None
+        → MatchResult result (λ _. KeepsBare o filer.new)
+        (λ e. NamesTables named → ShowsReason o (view_of filer.old).layout (view_of filer.new).disk e × MissesNone e) }
+    ensures stays { KeepsRoot (view_of filer.old) (view_of filer.new) }
     ensures cost { (view_of filer.new).disk.transfers ≤ (view_of filer.old).disk.transfers
         + (96 * (16 + 4 * (view_of filer.old).layout.vam) + 2
         * (1 + 51 * most_records (view_of filer.old).layout.sectors)) }

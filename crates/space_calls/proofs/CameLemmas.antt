@@ -13,6 +13,7 @@ use Rattle.swapper_kernel.specs.Goes.{Makes, Pages, no_page}
 use Rattle.swapper_kernel.specs.GoesLaws.{makes_wider}
 use Rattle.swapper_kernel.specs.HaltLaws.{brings_then}
 use Rattle.swapper_kernel.specs.Homes.{IsLayout}
+use Rattle.session_words.specs.CellLaws.{IsTouched, IsTouchedOrOwn}
 use Rattle.session_words.specs.FrameLaws.{BringsKnown}
 use Rattle.session_words.specs.Volume.{volume_page}
 use Rattle.file_manager.specs.declared.volume.Volume.{Volume}
@@ -38,6 +39,9 @@ give_makes h = makes_wider volume_page (λ id page is. elim is [ inl own_page �
 -- and storing in clients' pages
 pub store_makes : {v w : View} → Touches client_page v w → Makes client_or_own [] v.disk v.slots w.disk w.slots
 store_makes h = makes_wider client_or_own (λ id page is. elim is [ inl own_page ↦ inl (tables_own id page own_page) | inr client ↦ inr client ]) h.goes.makes
+
+pub touched_makes : {v w : View} (ss : List Space) (address count : ℕ) → Touches (IsTouched ss address count) v w → Makes (IsTouchedOrOwn ss address count) [] v.disk v.slots w.disk w.slots
+touched_makes ss address count h = makes_wider (IsTouchedOrOwn ss address count) (λ id page is. elim is [ inl own_page ↦ inr (tables_own id page own_page) | inr touched ↦ inl touched ]) h.goes.makes
 
 -- no label was written
 pub wrote_so : {pages : Pages} {old new : DiskState} {before after : Slots} → Makes pages [] old before new after → WroteIn pages old before new after

@@ -135,7 +135,7 @@ module _ {D A : Type 0} {G : Ghosts D} where
   sees_any pages core s = (s.0, s.1.0)
 
   -- last pages that are some that windows showed, all of which were among these, or that are among these anyway
-  later_on : (pages more : Pages) (core : Core D A G) (ss : List Space) → AreOn pages ss → ((id page : ℕ) → more id page → pages id page) → SeesFiles (λ id page. IsShown ss id page ⊎ more id page) core → SeesFiles pages core
+  pub later_on : (pages more : Pages) (core : Core D A G) (ss : List Space) → AreOn pages ss → ((id page : ℕ) → more id page → pages id page) → SeesFiles (λ id page. IsShown ss id page ⊎ more id page) core → SeesFiles pages core
   later_on pages more core ss on too (now, (sees, are)) =
       (now, (sees, on_wider (λ id page. IsShown ss id page ⊎ more id page) pages (λ id page one. elim one [ inl was ↦ shown_files pages ss on id page was | inr new ↦ too id page new ]) now are))
 

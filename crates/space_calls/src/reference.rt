@@ -5,6 +5,7 @@ ghost use Rattle.labelled_disk.specs.Calls.{Rose};
 ghost use Rattle.flat_machine.specs.declared.call.Call.TheVariants as call;
 ghost use Rattle.flat_machine.specs.Machine.{Machine};
 ghost use Rattle.flat_machine.specs.Refusal.{refusal};
+ghost use Rattle.session_words.specs.CellLaws.{IsTouchedOrOwn};
 ghost use Rattle.session_words.specs.Volume.{volume_page};
 ghost use Rattle.file_manager.specs.declared.volume.Volume.{Volume};
 ghost use Rattle.running_words.specs.Running.{Carried, Runs};
@@ -85,6 +86,9 @@ pub fn store<D: Disk, A: Allocator>(
     ensures counted { result ≡ Err halt.Disk → Rose (state core.old).disk.faults (state core.new).disk.faults }
     ensures wrote { WroteIn (client_or_own) (state core.old).disk (state core.old).slots (state core.new).disk
         (state core.new).slots }
+    ensures shown { (ss : List Space) → Sees (state core.old) (kept core.old) core.old.intervals ss
+        → WroteIn (IsTouchedOrOwn ss address (length bytes.now)) (state core.old).disk (state core.old).slots
+        (state core.new).disk (state core.new).slots }
     ensures sees { OnOk result (StillOn core.old core.new) }
     ensures right { SeesOn core.old → IfErr result NeverBlamesTables }
     ensures moves { Moves (state core.old) (state core.new) }

@@ -35,34 +35,35 @@ use Rattle.file_manager.proofs.KeepCut.{tables_left}
 use Rattle.file_manager.proofs.creating.create.Goals as goal
 use Rattle.filer_kernel.specs.View.{accepted, disk_of, swapper_of, view_of}
 
-pub returns-in-Err-clause-sound : goal.returns-in-Err-clause-sound
-returns-in-Err-clause-sound g c = λ x shapes spaces may. c.in-Err.ensures.fault
+pub returns-in-Err-clause-created : goal.returns-in-Err-clause-created
+returns-in-Err-clause-created g c = λ x shapes spaces may. (c.in-Err.ensures.fault.0, rw c.in-Err.ensures.stays.frames (root_broken c.args.volume.now.root c.args.kind c.args.pages x c.in-Err.ensures.writes))
 
-pub returns-in-Err-clause-stopped : goal.returns-in-Err-clause-stopped
-returns-in-Err-clause-stopped g c = rw c.in-Err.ensures.frames (root_stops c.args.volume.now.root c.args.kind c.args.pages c.in-Err.ensures.stopped)
+pub returns-in-Err-clause-writes : goal.returns-in-Err-clause-writes
+returns-in-Err-clause-writes g c = rw c.in-Err.ensures.stays.frames (root_stops c.args.volume.now.root c.args.kind c.args.pages c.in-Err.ensures.writes)
 
 pub write_over-requires-clause-valid : goal.write_over-requires-clause-valid
 write_over-requires-clause-valid g c = counted_valid (view_of c.args.filer.now).layout.sectors c.args.volume.now.root c.requires.valid
 
-pub returns-in-Err-cut-clause-stopped : goal.returns-in-Err-cut-clause-stopped
-returns-in-Err-cut-clause-stopped g c =
-    map_stop c.args.volume.now.root c.args.kind c.args.pages c.in-Ok.ensures.made.makes (rw (c.in-Ok.ensures.frames, c.in-Ok.ensures.layout) at c.in-Err-cut.ensures.beside)
+pub returns-in-Err-cut-clause-writes : goal.returns-in-Err-cut-clause-writes
+returns-in-Err-cut-clause-writes g c =
+    map_stop c.args.volume.now.root c.args.kind c.args.pages c.in-Ok.ensures.writes.makes (rw (c.in-Ok.ensures.stays.frames, c.in-Ok.ensures.stays.layout) at c.in-Err-cut.ensures.beside)
 
 pub write_over-requires-clause-counter : goal.write_over-requires-clause-counter
 write_over-requires-clause-counter g c = let below = c.requires.counter in omega (arith, below)
 
-pub returns-in-Err-cut-clause-sound : goal.returns-in-Err-cut-clause-sound
-returns-in-Err-cut-clause-sound g c = λ x shapes spaces may.
+pub returns-in-Err-cut-clause-created : goal.returns-in-Err-cut-clause-created
+returns-in-Err-cut-clause-created g c = λ x shapes spaces may.
     let layout = (view_of c.args.filer.now).layout in
     let is = (accepted c.args.filer.now) in
     let kept = c.args.filer.now.runs in
     let root = c.args.volume.now.root in
     let page = root_bytes (counted c.args.volume.now.root) in
     let books = may.books in
-    let now = c.in-Ok.ensures.made.memory x books.stands in
-    let stands : Stands (view_of c.write_over.new.filer).disk (view_of c.args.filer.now).slots (slice_set x 0 (root_label, root_bytes (counted c.args.volume.now.root))) = subst (Stands (view_of c.write_over.new.filer).disk (view_of c.args.filer.now).slots) now.2 now.1 in
-    (rw (c.in-Ok.ensures.frames, c.in-Ok.ensures.layout) at c.in-Err-cut.ensures.sound) (slice_set x 0 (root_label, page)) books.booked.named stands
-    (map_rooted layout is kept shapes spaces x _ _ books page) (named_rooted layout is kept shapes spaces x _ _ books page)
+    let now = c.in-Ok.ensures.writes.memory x books.stands in
+    let stands : Stands (view_of c.write_over.new.filer).disk (view_of c.args.filer.now).slots (slice_set x 0 (root_label, root_bytes (counted c.args.volume.now.root))) = subst (Stands (view_of c.write_over.new.filer).disk (view_of c.args.filer.now).slots) now.2 now.1 in (
+      (rw (c.in-Ok.ensures.stays.frames, c.in-Ok.ensures.stays.layout) at c.in-Err-cut.ensures.sound) (slice_set x 0 (root_label, page)) books.booked.named stands (map_rooted layout is kept shapes spaces x _ _ books page) (named_rooted layout is kept shapes spaces x _ _ books page),
+      map_broken c.args.volume.now.root c.args.kind c.args.pages x c.in-Ok.ensures.writes.makes (rw (c.in-Ok.ensures.stays.frames, c.in-Ok.ensures.stays.layout) at c.in-Err-cut.ensures.beside),
+    )
 
 -- The root was written and the file map cut: in the memory then, the file may still be made, and of the labels the root's alone is new.
 after : (g : given.Over) (c : After-frames_of g) (x : List Sector) (shapes : Shapes) (spaces : List Space)
@@ -75,13 +76,13 @@ after g c x shapes spaces may =
     let root = c.args.volume.now.root in
     let page = root_bytes (counted c.args.volume.now.root) in
     let books = may.books in
-    let now = c.in-Ok.ensures.made.memory x books.stands in
+    let now = c.in-Ok.ensures.writes.memory x books.stands in
     let stands : Stands (view_of c.write_over.new.filer).disk (view_of c.args.filer.now).slots (slice_set x 0 (root_label, root_bytes (counted c.args.volume.now.root))) = subst (Stands (view_of c.write_over.new.filer).disk (view_of c.args.filer.now).slots) now.2 now.1 in
     let id : c.next_id-id.result ≡ next_id c.args.volume.now.root = c.next_id-id.ensures.next in
     let high = above_reserved (next_id root) (next_is_file root c.requires.valid.serial c.requires.counter) in
-    let beside = rw (c.in-Ok.ensures.frames, c.in-Ok.ensures.layout) at c.in-Ok-cut.ensures.beside in
-    let cut = (rw (c.in-Ok.ensures.frames, c.in-Ok.ensures.layout, id) at c.in-Ok-cut.ensures.cut) (slice_set x 0 (root_label, page)) books.booked.named stands (map_rooted layout is kept shapes spaces x _ _ books page) in
-    let forgotten = rw (c.in-Ok.ensures.runs, id) at (c.in-Ok-cut.ensures.runs layout.sectors) in
+    let beside = rw (c.in-Ok.ensures.stays.frames, c.in-Ok.ensures.stays.layout) at c.in-Ok-cut.ensures.beside in
+    let cut = (rw (c.in-Ok.ensures.stays.frames, c.in-Ok.ensures.stays.layout, id) at c.in-Ok-cut.ensures.cut) (slice_set x 0 (root_label, page)) books.booked.named stands (map_rooted layout is kept shapes spaces x _ _ books page) in
+    let forgotten = rw (c.in-Ok.ensures.stays.runs, id) at (c.in-Ok-cut.ensures.runs layout.sectors) in
     let in_form : (y : List Sector) → Stands (view_of c.cut.new.self).disk (view_of c.cut.new.self).slots y → AreSectors y =
     λ y stood. memory_in_form _ _ y stood (g.met.D.Disk.in_form (disk_of c.cut.new.self) stood.sectors stood.revealed) c.frames_of.ensures.pages in (
       cut.memory,
@@ -89,18 +90,21 @@ after g c x shapes spaces may =
       may_cut layout is kept shapes spaces x _ _ books page (next_id root) high may.none _ _ _ _ beside c.cut.new.self.runs cut forgotten in_form c.args.pages may,
     )
 
-pub returns-in-Err-make_file-clause-sound : goal.returns-in-Err-make_file-clause-sound
-returns-in-Err-make_file-clause-sound g c = λ x shapes spaces may.
+pub returns-in-Err-make_file-clause-created : goal.returns-in-Err-make_file-clause-created
+returns-in-Err-make_file-clause-created g c = λ x shapes spaces may.
     let id : c.next_id-id.result ≡ next_id c.args.volume.now.root = c.next_id-id.ensures.next in
-    let lay : (view_of c.cut.new.self).layout ≡ (view_of c.args.filer.now).layout = c.in-Ok-cut.ensures.beside.layout ∙ c.in-Ok.ensures.layout in
-    let now = after g (goal.at.returns-in-Err-make_file-clause-sound g c).After-frames_of x shapes spaces may in
-    (rw (c.frames_of.ensures.same, lay, id) at c.in-Err-make_file.ensures.sound) now.0 shapes spaces now.2
+    let lay : (view_of c.cut.new.self).layout ≡ (view_of c.args.filer.now).layout = c.in-Ok-cut.ensures.beside.layout ∙ c.in-Ok.ensures.stays.layout in
+    let now = after g (goal.at.returns-in-Err-make_file-clause-created g c).After-frames_of x shapes spaces may in
+    let beside = rw (c.in-Ok.ensures.stays.frames, c.in-Ok.ensures.stays.layout) at c.in-Ok-cut.ensures.beside in (
+      ((rw (c.frames_of.ensures.same, lay, id) at c.in-Err-make_file.ensures.made) 96 now.0 shapes spaces now.2).0,
+      file_broken c.args.volume.now.root c.args.kind c.args.pages x c.in-Ok.ensures.writes.makes beside now.0 now.1 (((rw (c.frames_of.ensures.same, lay, id) at c.in-Err-make_file.ensures.made) 96 now.0 shapes spaces now.2).1),
+    )
 
-pub returns-in-Err-make_file-clause-stopped : goal.returns-in-Err-make_file-clause-stopped
-returns-in-Err-make_file-clause-stopped g c =
+pub returns-in-Err-make_file-clause-writes : goal.returns-in-Err-make_file-clause-writes
+returns-in-Err-make_file-clause-writes g c =
     let id : c.next_id-id.result ≡ next_id c.args.volume.now.root = c.next_id-id.ensures.next in
-    let beside = rw (c.in-Ok.ensures.frames, c.in-Ok.ensures.layout) at c.in-Ok-cut.ensures.beside in
-    file_stops c.args.volume.now.root c.args.kind c.args.pages c.in-Ok.ensures.made.makes beside (rw (c.frames_of.ensures.same, id) at c.in-Err-make_file.ensures.stopped)
+    let beside = rw (c.in-Ok.ensures.stays.frames, c.in-Ok.ensures.stays.layout) at c.in-Ok-cut.ensures.beside in
+    file_stops c.args.volume.now.root c.args.kind c.args.pages c.in-Ok.ensures.writes.makes beside (rw (c.frames_of.ensures.same, id) at c.in-Err-make_file.ensures.writes)
 
 pub returns-clause-created : goal.returns-clause-created
 returns-clause-created g c = λ x shapes spaces may.
@@ -110,114 +114,115 @@ returns-clause-created g c = λ x shapes spaces may.
     let root = c.args.volume.now.root in
     let page = root_bytes (counted c.args.volume.now.root) in
     let books = may.books in
-    let now = c.in-Ok.ensures.made.memory x books.stands in
+    let now = c.in-Ok.ensures.writes.memory x books.stands in
     let stands : Stands (view_of c.write_over.new.filer).disk (view_of c.args.filer.now).slots (slice_set x 0 (root_label, root_bytes (counted c.args.volume.now.root))) = subst (Stands (view_of c.write_over.new.filer).disk (view_of c.args.filer.now).slots) now.2 now.1 in
     let id : c.next_id-id.result ≡ next_id c.args.volume.now.root = c.next_id-id.ensures.next in
     let high = above_reserved (next_id root) (next_is_file root c.requires.valid.serial c.requires.counter) in
-    let beside = rw (c.in-Ok.ensures.frames, c.in-Ok.ensures.layout) at c.in-Ok-cut.ensures.beside in
-    let cut = (rw (c.in-Ok.ensures.frames, c.in-Ok.ensures.layout, id) at c.in-Ok-cut.ensures.cut) (slice_set x 0 (root_label, page)) books.booked.named stands (map_rooted layout is kept shapes spaces x _ _ books page) in
-    let forgotten = rw (c.in-Ok.ensures.runs, id) at (c.in-Ok-cut.ensures.runs layout.sectors) in
-    let lay : (view_of c.cut.new.self).layout ≡ layout = c.in-Ok-cut.ensures.beside.layout ∙ c.in-Ok.ensures.layout in
+    let beside = rw (c.in-Ok.ensures.stays.frames, c.in-Ok.ensures.stays.layout) at c.in-Ok-cut.ensures.beside in
+    let cut = (rw (c.in-Ok.ensures.stays.frames, c.in-Ok.ensures.stays.layout, id) at c.in-Ok-cut.ensures.cut) (slice_set x 0 (root_label, page)) books.booked.named stands (map_rooted layout is kept shapes spaces x _ _ books page) in
+    let forgotten = rw (c.in-Ok.ensures.stays.runs, id) at (c.in-Ok-cut.ensures.runs layout.sectors) in
+    let lay : (view_of c.cut.new.self).layout ≡ layout = c.in-Ok-cut.ensures.beside.layout ∙ c.in-Ok.ensures.stays.layout in
     let then_may = may_cut layout is kept shapes spaces x _ _ books page (next_id root) high may.none _ _ _ _ beside c.cut.new.self.runs cut forgotten
     (λ y stood. memory_in_form _ _ y stood (g.met.D.Disk.in_form (disk_of c.cut.new.self) stood.sectors stood.revealed) c.frames_of.ensures.pages) c.args.pages may in
-    let made = (rw (c.frames_of.ensures.same, lay, id) at c.in-Ok-make_file.ensures.made) cut.memory shapes spaces then_may in
-    created_as layout is kept shapes spaces x _ _ books root high may.none _ c.in-Ok.ensures.made _ _ _ beside c.cut.new.self.runs cut forgotten
+    let made = (rw (c.frames_of.ensures.same, lay, id) at c.in-Ok-make_file.ensures.made) 96 cut.memory shapes spaces then_may in
+    created_as layout is kept shapes spaces x _ _ books root high may.none _ c.in-Ok.ensures.writes _ _ _ beside c.cut.new.self.runs cut forgotten
     (λ y stood. memory_in_form _ _ y stood (g.met.D.Disk.in_form (disk_of c.cut.new.self) stood.sectors stood.revealed) c.frames_of.ensures.pages)
     (counted_has layout.sectors root c.requires.valid c.next_id-id.ensures.serial c.requires.counter) c.args.kind c.args.pages _ _ _ made
 
-pub returns-clause-makes : goal.returns-clause-makes
-returns-clause-makes g c =
+pub returns-clause-writes : goal.returns-clause-writes
+returns-clause-writes g c =
     let id : c.next_id-id.result ≡ next_id c.args.volume.now.root = c.next_id-id.ensures.next in
-    let beside = rw (c.in-Ok.ensures.frames, c.in-Ok.ensures.layout) at c.in-Ok-cut.ensures.beside in
-    new_made c.args.volume.now.root c.args.kind c.args.pages c.in-Ok.ensures.made.makes beside (rw (c.frames_of.ensures.same, id) at c.in-Ok-make_file.ensures.makes)
+    let beside = rw (c.in-Ok.ensures.stays.frames, c.in-Ok.ensures.stays.layout) at c.in-Ok-cut.ensures.beside in
+    new_made c.args.volume.now.root c.args.kind c.args.pages c.in-Ok.ensures.writes.makes beside (rw (c.frames_of.ensures.same, id) at c.in-Ok-make_file.ensures.writes)
 
-pub returns-in-Err-clause-broken : goal.returns-in-Err-clause-broken
-returns-in-Err-clause-broken g c = λ x shapes spaces may. rw c.in-Err.ensures.frames (root_broken c.args.volume.now.root c.args.kind c.args.pages x c.in-Err.ensures.stopped)
+pub returns-in-Err-clause-fails : goal.returns-in-Err-clause-fails
+returns-in-Err-clause-fails g c = record {
+  cause = subst (λ (e : Halt). CreateHalts (view_of c.args.filer.now).layout (next_id c.args.volume.now.root) (IsNewPage c.args.pages) (view_of c.args.filer.now).disk (view_of c.args.filer.now).slots (view_of c.write_over.new.filer).disk (view_of c.write_over.new.filer).slots e) (sym c.in-Err.ensures.fault.0) c.in-Err.ensures.fault.1;
+  counted = search rules;
+  evidence_seen = fault_shows (view_of c.write_over.new.filer).disk c.in-Err.halt c.in-Err.ensures.fault.0;
+}
 
-pub returns-in-Err-cut-clause-broken : goal.returns-in-Err-cut-clause-broken
-returns-in-Err-cut-clause-broken g c = λ x shapes spaces may.
-    map_broken c.args.volume.now.root c.args.kind c.args.pages x c.in-Ok.ensures.made.makes (rw (c.in-Ok.ensures.frames, c.in-Ok.ensures.layout) at c.in-Err-cut.ensures.beside)
+pub returns-in-Err-cut-clause-fails : goal.returns-in-Err-cut-clause-fails
+returns-in-Err-cut-clause-fails g c = record {
+  cause =
+      let layout = (view_of c.args.filer.now).layout in
+      let root = c.args.volume.now.root in
+      let id : c.next_id-id.result ≡ next_id root = c.next_id-id.ensures.next in
+      let begun = rw (c.in-Ok.ensures.stays.frames, c.in-Ok.ensures.stays.layout, id) at c.in-Err-cut.ensures.begun in
+      let why = rw (c.in-Ok.ensures.stays.frames, c.in-Ok.ensures.stays.layout) at c.in-Err-cut.ensures.cause in
+      create_of_cut layout (accepted c.args.filer.now) (next_id root) c.in-Ok.ensures.writes.makes (root_after (counted root) c.in-Ok.ensures.writes) (IsNewPage c.args.pages) (view_of c.cut.new.self).disk (view_of c.cut.new.self).slots c.in-Err-cut.halt begun why;
+  counted = search rules;
+  evidence_seen = so_of_cut (fits (swapper_of c.write_over.new.filer) (search rules)) c.cut.ensures.beside.goes.makes c.in-Err-cut.halt c.in-Err-cut.ensures.cause;
+}
 
-pub returns-in-Err-make_file-clause-broken : goal.returns-in-Err-make_file-clause-broken
-returns-in-Err-make_file-clause-broken g c = λ x shapes spaces may.
-    let id : c.next_id-id.result ≡ next_id c.args.volume.now.root = c.next_id-id.ensures.next in
-    let lay : (view_of c.cut.new.self).layout ≡ (view_of c.args.filer.now).layout = c.in-Ok-cut.ensures.beside.layout ∙ c.in-Ok.ensures.layout in
-    let beside = rw (c.in-Ok.ensures.frames, c.in-Ok.ensures.layout) at c.in-Ok-cut.ensures.beside in
-    let now = after g (goal.at.returns-in-Err-make_file-clause-broken g c).After-frames_of x shapes spaces may in
-    file_broken c.args.volume.now.root c.args.kind c.args.pages x c.in-Ok.ensures.made.makes beside now.0 now.1 ((rw (c.frames_of.ensures.same, lay, id) at c.in-Err-make_file.ensures.broken) now.0 shapes spaces now.2)
+pub returns-in-Err-make_file-clause-fails : goal.returns-in-Err-make_file-clause-fails
+returns-in-Err-make_file-clause-fails g c = record {
+  cause =
+      let layout = (view_of c.args.filer.now).layout in
+      let root = c.args.volume.now.root in
+      let id : c.next_id-id.result ≡ next_id root = c.next_id-id.ensures.next in
+      let lay : (view_of c.cut.new.self).layout ≡ layout = c.in-Ok-cut.ensures.beside.layout ∙ c.in-Ok.ensures.stays.layout in
+      let beside = rw (c.in-Ok.ensures.stays.frames, c.in-Ok.ensures.stays.layout) at c.in-Ok-cut.ensures.beside in
+      let cut = rw (c.in-Ok.ensures.stays.frames, c.in-Ok.ensures.stays.layout, id) at c.in-Ok-cut.ensures.cut in
+      create_of_make layout (accepted c.args.filer.now) (next_id root) c.in-Ok.ensures.writes.makes (root_after (counted root) c.in-Ok.ensures.writes) (IsNewPage c.args.pages) beside cut every_page (view_of c.make_file.new.filer).disk (view_of c.make_file.new.filer).slots c.in-Err-make_file.halt (rw (c.frames_of.ensures.same, lay, id) at c.in-Err-make_file.ensures.fails.cause);
+  counted = search rules;
+  evidence_seen = search rules;
+}
 
-pub returns-in-Err-clause-evidence_seen : goal.returns-in-Err-clause-evidence_seen
-returns-in-Err-clause-evidence_seen g c = fault_shows (view_of c.write_over.new.filer).disk c.in-Err.halt c.in-Err.ensures.fault
+pub returns-in-Err-clause-stays : goal.returns-in-Err-clause-stays
+returns-in-Err-clause-stays g c = record {
+  root = created_some_root c.args.volume.now.root c.next_id-id.ensures.serial c.requires.valid.serial c.requires.counter (view_of c.args.filer.now).layout (accepted c.args.filer.now) (λ d revealed. g.met.D.Disk.whole (disk_of c.args.filer.now) d revealed ∙ c.requires.size) c.args.kind c.args.pages (returns-in-Err-clause-writes g c);
+  layout = search rules;
+}
 
-pub returns-in-Err-cut-clause-evidence_seen : goal.returns-in-Err-cut-clause-evidence_seen
-returns-in-Err-cut-clause-evidence_seen g c = so_of_cut (fits (swapper_of c.write_over.new.filer) (search rules)) c.cut.ensures.beside.goes.makes c.in-Err-cut.halt c.in-Err-cut.ensures.cause
+pub returns-in-Err-cut-clause-stays : goal.returns-in-Err-cut-clause-stays
+returns-in-Err-cut-clause-stays g c = record {
+  root = created_some_root c.args.volume.now.root c.next_id-id.ensures.serial c.requires.valid.serial c.requires.counter (view_of c.args.filer.now).layout (accepted c.args.filer.now) (λ d revealed. g.met.D.Disk.whole (disk_of c.args.filer.now) d revealed ∙ c.requires.size) c.args.kind c.args.pages (returns-in-Err-cut-clause-writes g c);
+  layout = search rules;
+}
 
-pub returns-in-Err-clause-cause : goal.returns-in-Err-clause-cause
-returns-in-Err-clause-cause g c =
-    subst (λ (e : Halt). CreateHalts (view_of c.args.filer.now).layout (next_id c.args.volume.now.root) (IsNewPage c.args.pages) (view_of c.args.filer.now).disk (view_of c.args.filer.now).slots (view_of c.write_over.new.filer).disk (view_of c.write_over.new.filer).slots e) (sym c.in-Err.ensures.fault) c.in-Err.ensures.counted
+pub returns-in-Err-make_file-clause-stays : goal.returns-in-Err-make_file-clause-stays
+returns-in-Err-make_file-clause-stays g c = record {
+  root = created_some_root c.args.volume.now.root c.next_id-id.ensures.serial c.requires.valid.serial c.requires.counter (view_of c.args.filer.now).layout (accepted c.args.filer.now) (λ d revealed. g.met.D.Disk.whole (disk_of c.args.filer.now) d revealed ∙ c.requires.size) c.args.kind c.args.pages (returns-in-Err-make_file-clause-writes g c);
+  layout = search rules;
+}
 
-pub returns-in-Err-cut-clause-cause : goal.returns-in-Err-cut-clause-cause
-returns-in-Err-cut-clause-cause g c =
-    let layout = (view_of c.args.filer.now).layout in
-    let root = c.args.volume.now.root in
-    let id : c.next_id-id.result ≡ next_id root = c.next_id-id.ensures.next in
-    let begun = rw (c.in-Ok.ensures.frames, c.in-Ok.ensures.layout, id) at c.in-Err-cut.ensures.begun in
-    let why = rw (c.in-Ok.ensures.frames, c.in-Ok.ensures.layout) at c.in-Err-cut.ensures.cause in
-    create_of_cut layout (accepted c.args.filer.now) (next_id root) c.in-Ok.ensures.made.makes (root_after (counted root) c.in-Ok.ensures.made) (IsNewPage c.args.pages) (view_of c.cut.new.self).disk (view_of c.cut.new.self).slots c.in-Err-cut.halt begun why
+pub returns-clause-stays : goal.returns-clause-stays
+returns-clause-stays g c = record {
+  root = created_root c.args.volume.now.root c.next_id-id.ensures.serial c.requires.valid.serial c.requires.counter (view_of c.args.filer.now).layout (accepted c.args.filer.now) (λ d revealed. g.met.D.Disk.whole (disk_of c.args.filer.now) d revealed ∙ c.requires.size) c.args.kind c.args.pages (returns-clause-writes g c);
+  layout = search rules;
+}
 
-pub returns-in-Err-make_file-clause-cause : goal.returns-in-Err-make_file-clause-cause
-returns-in-Err-make_file-clause-cause g c =
-    let layout = (view_of c.args.filer.now).layout in
-    let root = c.args.volume.now.root in
-    let id : c.next_id-id.result ≡ next_id root = c.next_id-id.ensures.next in
-    let lay : (view_of c.cut.new.self).layout ≡ layout = c.in-Ok-cut.ensures.beside.layout ∙ c.in-Ok.ensures.layout in
-    let beside = rw (c.in-Ok.ensures.frames, c.in-Ok.ensures.layout) at c.in-Ok-cut.ensures.beside in
-    let cut = rw (c.in-Ok.ensures.frames, c.in-Ok.ensures.layout, id) at c.in-Ok-cut.ensures.cut in
-    create_of_make layout (accepted c.args.filer.now) (next_id root) c.in-Ok.ensures.made.makes (root_after (counted root) c.in-Ok.ensures.made) (IsNewPage c.args.pages) beside cut every_page (view_of c.make_file.new.filer).disk (view_of c.make_file.new.filer).slots c.in-Err-make_file.halt
-    (rw (c.frames_of.ensures.same, lay, id) at c.in-Err-make_file.ensures.cause)
+pub returns-in-Err-clause-accounts : goal.returns-in-Err-clause-accounts
+returns-in-Err-clause-accounts g c = λ o named h not_older. c.in-Err.ensures.reasons o named h
 
-pub returns-in-Err-clause-root : goal.returns-in-Err-clause-root
-returns-in-Err-clause-root g c = created_some_root c.args.volume.now.root c.next_id-id.ensures.serial c.requires.valid.serial c.requires.counter (view_of c.args.filer.now).layout (accepted c.args.filer.now) (λ d revealed. g.met.D.Disk.whole (disk_of c.args.filer.now) d revealed ∙ c.requires.size) c.args.kind c.args.pages (returns-in-Err-clause-stopped g c)
-
-pub returns-in-Err-cut-clause-root : goal.returns-in-Err-cut-clause-root
-returns-in-Err-cut-clause-root g c = created_some_root c.args.volume.now.root c.next_id-id.ensures.serial c.requires.valid.serial c.requires.counter (view_of c.args.filer.now).layout (accepted c.args.filer.now) (λ d revealed. g.met.D.Disk.whole (disk_of c.args.filer.now) d revealed ∙ c.requires.size) c.args.kind c.args.pages (returns-in-Err-cut-clause-stopped g c)
-
-pub returns-in-Err-make_file-clause-root : goal.returns-in-Err-make_file-clause-root
-returns-in-Err-make_file-clause-root g c = created_some_root c.args.volume.now.root c.next_id-id.ensures.serial c.requires.valid.serial c.requires.counter (view_of c.args.filer.now).layout (accepted c.args.filer.now) (λ d revealed. g.met.D.Disk.whole (disk_of c.args.filer.now) d revealed ∙ c.requires.size) c.args.kind c.args.pages (returns-in-Err-make_file-clause-stopped g c)
-
-pub returns-clause-root : goal.returns-clause-root
-returns-clause-root g c = created_root c.args.volume.now.root c.next_id-id.ensures.serial c.requires.valid.serial c.requires.counter (view_of c.args.filer.now).layout (accepted c.args.filer.now) (λ d revealed. g.met.D.Disk.whole (disk_of c.args.filer.now) d revealed ∙ c.requires.size) c.args.kind c.args.pages (returns-clause-makes g c)
-
-pub returns-in-Err-clause-reasons : goal.returns-in-Err-clause-reasons
-returns-in-Err-clause-reasons g c = λ o named h not_older. c.in-Err.ensures.reasons o named h
-
-pub returns-in-Err-cut-clause-reasons : goal.returns-in-Err-cut-clause-reasons
-returns-in-Err-cut-clause-reasons g c = λ o named h not_older.
+pub returns-in-Err-cut-clause-accounts : goal.returns-in-Err-cut-clause-accounts
+returns-in-Err-cut-clause-accounts g c = λ o named h not_older.
     let new = next_id (counted c.args.volume.now.root) in
     let next = not_older.next in
     let rooted = c.in-Ok.ensures.keeps_to (giving o new) named (giving_more new (omega (arith, next)) h) (omega arith) in
-    rw c.in-Ok.ensures.layout at
+    rw c.in-Ok.ensures.stays.layout at
     (giving_shows o new (view_of c.write_over.new.filer).layout (view_of c.cut.new.self).disk c.in-Err-cut.halt
     (cut_reasons rooted c.cut.ensures.beside.goes.makes c.in-Err-cut.halt c.in-Err-cut.ensures.cause (c.in-Err-cut.ensures.right rooted.memory named rooted.stands rooted.map)))
 
-pub returns-in-Err-make_file-clause-reasons : goal.returns-in-Err-make_file-clause-reasons
-returns-in-Err-make_file-clause-reasons g c = λ o named h not_older.
+pub returns-in-Err-make_file-clause-accounts : goal.returns-in-Err-make_file-clause-accounts
+returns-in-Err-make_file-clause-accounts g c = λ o named h not_older.
     let root = c.args.volume.now.root in
     let new = next_id (counted c.args.volume.now.root) in
     let next = not_older.next in
     let rooted = c.in-Ok.ensures.keeps_to (giving o new) named (giving_more new (omega (arith, next)) h) (omega arith) in
-    let lay : (view_of c.cut.new.self).layout ≡ (view_of c.args.filer.now).layout = c.in-Ok-cut.ensures.beside.layout ∙ c.in-Ok.ensures.layout in
+    let lay : (view_of c.cut.new.self).layout ≡ (view_of c.args.filer.now).layout = c.in-Ok-cut.ensures.beside.layout ∙ c.in-Ok.ensures.stays.layout in
     let id = c.next_id-id.result in
     let given_out : id < new = let of = c.next_id-id.ensures.next in omega (arith, of) in
     let client : 16 ≤ id = let of = c.next_id-id.ensures.next in let serial = c.requires.valid.serial in omega (arith, of, serial) in
     let cut = keeps_at c.cut.new.self.runs c.in-Ok-cut.ensures.beside.layout (whole_cut rooted c.in-Ok-cut.ensures.beside id (c.in-Ok-cut.ensures.runs (view_of c.write_over.new.filer).layout.sectors)
-    (λ home from may same was. root_releases root (accepted c.args.filer.now) (counted_valid (view_of c.args.filer.now).layout.sectors root c.requires.valid) c.next_id-id.ensures.serial c.requires.counter h not_older c.in-Ok.ensures.made.makes home (rw c.in-Ok.ensures.layout at from) may (same ∙ c.next_id-id.ensures.next))
+    (λ home from may same was. root_releases root (accepted c.args.filer.now) (counted_valid (view_of c.args.filer.now).layout.sectors root c.requires.valid) c.next_id-id.ensures.serial c.requires.counter h not_older c.in-Ok.ensures.writes.makes home (rw c.in-Ok.ensures.stays.layout at from) may (same ∙ c.next_id-id.ensures.next))
     (accepted c.write_over.new.filer) (client_leaves (giving o new) id client) (client_untabled id client) c.in-Ok-cut.ensures.cut) in
     giving_shows o new (view_of c.args.filer.now).layout (view_of c.make_file.new.filer).disk c.in-Err-make_file.halt
-    ((rw (c.frames_of.ensures.same, lay) at c.in-Err-make_file.ensures.reasons) (giving o new) (without_from named id 0) (rw lay at cut) (λ many. inl given_out) (none_left named id))
+    ((rw (c.frames_of.ensures.same, lay) at c.in-Err-make_file.ensures.accounts) (giving o new) (without_from named id 0) (rw lay at cut) (λ many. inl given_out) (none_left named id))
 
-pub returns-clause-keeps_to : goal.returns-clause-keeps_to
-returns-clause-keeps_to g c = λ o named h not_older.
+pub returns-clause-accounts : goal.returns-clause-accounts
+returns-clause-accounts g c = λ o named h not_older.
     let root = c.args.volume.now.root in
     let new = next_id (counted c.args.volume.now.root) in
     let next = not_older.next in
@@ -226,7 +231,7 @@ returns-clause-keeps_to g c = λ o named h not_older.
     let given_out : id < new = let of = c.next_id-id.ensures.next in omega (arith, of) in
     let client : 16 ≤ id = let of = c.next_id-id.ensures.next in let serial = c.requires.valid.serial in omega (arith, of, serial) in
     let cut = keeps_at c.cut.new.self.runs c.in-Ok-cut.ensures.beside.layout (whole_cut rooted c.in-Ok-cut.ensures.beside id (c.in-Ok-cut.ensures.runs (view_of c.write_over.new.filer).layout.sectors)
-    (λ home from may same was. root_releases root (accepted c.args.filer.now) (counted_valid (view_of c.args.filer.now).layout.sectors root c.requires.valid) c.next_id-id.ensures.serial c.requires.counter h not_older c.in-Ok.ensures.made.makes home (rw c.in-Ok.ensures.layout at from) may (same ∙ c.next_id-id.ensures.next))
+    (λ home from may same was. root_releases root (accepted c.args.filer.now) (counted_valid (view_of c.args.filer.now).layout.sectors root c.requires.valid) c.next_id-id.ensures.serial c.requires.counter h not_older c.in-Ok.ensures.writes.makes home (rw c.in-Ok.ensures.stays.layout at from) may (same ∙ c.next_id-id.ensures.next))
     (accepted c.write_over.new.filer) (client_leaves (giving o new) id client) (client_untabled id client) c.in-Ok-cut.ensures.cut) in
-    let later = (rw c.frames_of.ensures.same at c.in-Ok-make_file.ensures.keeps_to) (giving o new) (without_from named id 0) cut (λ many. inl given_out) (none_left named id) in
+    let later = (rw c.frames_of.ensures.same at c.in-Ok-make_file.ensures.accounts) (giving o new) (without_from named id 0) cut (λ many. inl given_out) (none_left named id) in
     (later.0, later.1, λ all. later.2 (tables_left named id 0 client all))

@@ -28,218 +28,137 @@ use Rattle.label_calls.specs.SyncedLaws.{around_after, quiet_synced, synced_then
 use Rattle.file_manager.proofs.deleting.delete.Goals as goal
 use Rattle.filer_kernel.specs.View.{accepted, disk_of, swapper_of, view_of}
 
-pub returns-in-Err-clause-sound : goal.returns-in-Err-clause-sound
-returns-in-Err-clause-sound g c = λ x shapes spaces f books found hidden.
+pub returns-in-Err-clause-deleted : goal.returns-in-Err-clause-deleted
+returns-in-Err-clause-deleted g c = λ x shapes spaces f books found.
     let is = (accepted c.args.filer.now) in
     let b = books.booked in
-    c.in-Err.ensures.sound x b.named books.stands (map_is _ _ shapes x is b) (map_named _ x is b.long b.map_labels)
+    let first = c.size.ensures.cost in
+    record {
+      used = tt;
+      cost = omega (arith, first);
+      deleted = λ hidden. (c.in-Err.ensures.sound x b.named books.stands (map_is _ _ shapes x is b) (map_named _ x is b.long b.map_labels), inl (map_makes c.size.ensures.beside));
+      cost_sized = λ hidden. omega (arith, first);
+    }
 
-pub returns-in-Err-clause-first : goal.returns-in-Err-clause-first
-returns-in-Err-clause-first g c = λ x shapes spaces f books found hidden. inl (map_makes c.size.ensures.beside)
-
-pub returns-in-Err-clause-stopped : goal.returns-in-Err-clause-stopped
-returns-in-Err-clause-stopped g c = map_stops c.size.ensures.beside
-
-pub returns-in-Err-free_all-clause-sound : goal.returns-in-Err-free_all-clause-sound
-returns-in-Err-free_all-clause-sound g c = λ x shapes spaces f books found hidden.
+pub returns-in-Err-free_all-clause-deleted : goal.returns-in-Err-free_all-clause-deleted
+returns-in-Err-free_all-clause-deleted g c = λ x shapes spaces f books found.
     let layout = (view_of c.args.filer.now).layout in
     let is = (accepted c.args.filer.now) in
     let b = books.booked in
     let map = map_is _ _ shapes x is b in
     let asked = c.in-Ok.ensures.size x b.named books.stands map in
     let stands = c.size.ensures.same x b.named books.stands map in
-    let may = may_free layout is c.args.filer.now.runs shapes spaces x _ _ books c.args.id c.requires.client f found hidden _ _ _ _ c.size.ensures.runs c.size.ensures.beside stands c.in-Ok.pages asked in
-    (rw (c.size.ensures.beside.layout) at c.in-Err-free_all.ensures.sound) b.named spaces x may
+    let size : c.in-Ok.pages ≡ f.size = size_is _ _ shapes x b c.args.id c.requires.client f found c.in-Ok.pages asked in
+    let two = rw (c.size.ensures.beside.layout) at c.free_all.ensures.cost in
+    record {
+      used = tt;
+      cost = revealed_cost (view_of c.args.filer.now).disk.transfers (view_of c.size.new.self).disk.transfers (view_of c.free_all.new.filer).disk.transfers (view_of c.free_all.new.filer).disk.transfers f.size c.in-Ok.pages (16 + 4 * layout.vam) (2 * (1 + 51 * most_records layout.sectors)) size c.size.ensures.cost two (omega arith);
+      deleted = λ hidden.
+          let may = may_free layout is c.args.filer.now.runs shapes spaces x _ _ books c.args.id c.requires.client f found hidden _ _ _ _ c.size.ensures.runs c.size.ensures.beside stands c.in-Ok.pages asked in
+          let freed = (rw (c.size.ensures.beside.layout) at c.in-Err-free_all.ensures.freed) b.named spaces x may in
+          (freed.0, deletes_first layout is c.args.filer.now.runs shapes spaces x _ _ books c.args.id c.requires.client f found hidden _ _ _ _ c.size.ensures.runs c.size.ensures.beside stands c.in-Ok.pages asked freed.1);
+      cost_sized = λ hidden. sized_cost (view_of c.args.filer.now).disk.transfers (view_of c.size.new.self).disk.transfers (view_of c.free_all.new.filer).disk.transfers (view_of c.free_all.new.filer).disk.transfers f.size c.in-Ok.pages (16 + 4 * layout.vam) size c.size.ensures.cost two (omega arith);
+    }
 
-pub returns-in-Err-free_all-clause-first : goal.returns-in-Err-free_all-clause-first
-returns-in-Err-free_all-clause-first g c = λ x shapes spaces f books found hidden.
+pub returns-in-Err-cut-clause-deleted : goal.returns-in-Err-cut-clause-deleted
+returns-in-Err-cut-clause-deleted g c = λ x shapes spaces f books found.
     let layout = (view_of c.args.filer.now).layout in
     let is = (accepted c.args.filer.now) in
     let b = books.booked in
     let map = map_is _ _ shapes x is b in
     let asked = c.in-Ok.ensures.size x b.named books.stands map in
     let stands = c.size.ensures.same x b.named books.stands map in
-    let may = may_free layout is c.args.filer.now.runs shapes spaces x _ _ books c.args.id c.requires.client f found hidden _ _ _ _ c.size.ensures.runs c.size.ensures.beside stands c.in-Ok.pages asked in
-    deletes_first layout is c.args.filer.now.runs shapes spaces x _ _ books c.args.id c.requires.client f found hidden _ _ _ _ c.size.ensures.runs c.size.ensures.beside stands c.in-Ok.pages asked
-    ((rw (c.size.ensures.beside.layout) at c.in-Err-free_all.ensures.first) b.named spaces x may)
-
-pub returns-in-Err-free_all-clause-stopped : goal.returns-in-Err-free_all-clause-stopped
-returns-in-Err-free_all-clause-stopped g c = free_stops c.size.ensures.beside c.in-Err-free_all.ensures.stopped
-
-pub returns-in-Err-cut-clause-sound : goal.returns-in-Err-cut-clause-sound
-returns-in-Err-cut-clause-sound g c = λ x shapes spaces f books found hidden.
-    let layout = (view_of c.args.filer.now).layout in
-    let is = (accepted c.args.filer.now) in
-    let b = books.booked in
-    let map = map_is _ _ shapes x is b in
-    let asked = c.in-Ok.ensures.size x b.named books.stands map in
-    let stands = c.size.ensures.same x b.named books.stands map in
-    let may = may_free layout is c.args.filer.now.runs shapes spaces x _ _ books c.args.id c.requires.client f found hidden _ _ _ _ c.size.ensures.runs c.size.ensures.beside stands c.in-Ok.pages asked in
-    let freed = (rw (c.size.ensures.beside.layout) at c.in-Ok-free_all.ensures.freed) b.named spaces x may in
-    let lay : (view_of c.free_all.new.filer).layout ≡ layout = c.in-Ok-free_all.ensures.layout ∙ c.size.ensures.beside.layout in
-    (rw lay at c.in-Err-cut.ensures.sound) freed.memory b.named freed.rest.stands freed.rest.map (freed.rest.map_labels FileMap)
-
-pub returns-in-Err-cut-clause-first : goal.returns-in-Err-cut-clause-first
-returns-in-Err-cut-clause-first g c = λ x shapes spaces f books found hidden.
-    let layout = (view_of c.args.filer.now).layout in
-    let is = (accepted c.args.filer.now) in
-    let b = books.booked in
-    let map = map_is _ _ shapes x is b in
-    let asked = c.in-Ok.ensures.size x b.named books.stands map in
-    let stands = c.size.ensures.same x b.named books.stands map in
-    let may = may_free layout is c.args.filer.now.runs shapes spaces x _ _ books c.args.id c.requires.client f found hidden _ _ _ _ c.size.ensures.runs c.size.ensures.beside stands c.in-Ok.pages asked in
-    let freed = (rw (c.size.ensures.beside.layout) at c.in-Ok-free_all.ensures.freed) b.named spaces x may in
-    let lay : (view_of c.free_all.new.filer).layout ≡ layout = c.in-Ok-free_all.ensures.layout ∙ c.size.ensures.beside.layout in
-    deletes_all layout is c.args.filer.now.runs shapes spaces x _ _ books c.args.id c.requires.client f found hidden _ _ _ _ c.size.ensures.runs c.size.ensures.beside stands c.in-Ok.pages asked _ _ _ freed
-    (rw lay at c.in-Err-cut.ensures.beside)
-
-pub returns-in-Err-cut-clause-stopped : goal.returns-in-Err-cut-clause-stopped
-returns-in-Err-cut-clause-stopped g c =
-    let lay = c.in-Ok-free_all.ensures.layout ∙ c.size.ensures.beside.layout in
-    delete_stops c.in-Ok.pages c.size.ensures.beside c.in-Ok-free_all.ensures.makes (rw lay at c.in-Err-cut.ensures.beside)
+    let size : c.in-Ok.pages ≡ f.size = size_is _ _ shapes x b c.args.id c.requires.client f found c.in-Ok.pages asked in
+    let two = rw (c.size.ensures.beside.layout) at c.free_all.ensures.cost in
+    let lay : (view_of c.free_all.new.filer).layout ≡ layout = c.free_all.ensures.stays.layout ∙ c.size.ensures.beside.layout in
+    record {
+      used = tt;
+      cost = revealed_cost (view_of c.args.filer.now).disk.transfers (view_of c.size.new.self).disk.transfers (view_of c.free_all.new.filer).disk.transfers (view_of c.cut.new.self).disk.transfers f.size c.in-Ok.pages (16 + 4 * layout.vam) (2 * (1 + 51 * most_records layout.sectors)) size c.size.ensures.cost two (rw lay at c.cut.ensures.cost);
+      deleted = λ hidden.
+          let freed = (rw (c.size.ensures.beside.layout) at c.in-Ok-free_all.ensures.freed) b.named spaces x (may_free layout is c.args.filer.now.runs shapes spaces x _ _ books c.args.id c.requires.client f found hidden _ _ _ _ c.size.ensures.runs c.size.ensures.beside stands c.in-Ok.pages asked) in (
+            (rw lay at c.in-Err-cut.ensures.sound) freed.memory b.named freed.rest.stands freed.rest.map (freed.rest.map_labels FileMap),
+            deletes_all layout is c.args.filer.now.runs shapes spaces x _ _ books c.args.id c.requires.client f found hidden _ _ _ _ c.size.ensures.runs c.size.ensures.beside stands c.in-Ok.pages asked _ _ _ freed (rw lay at c.in-Err-cut.ensures.beside),
+          );
+      cost_sized = λ hidden.
+          let freed = (rw (c.size.ensures.beside.layout) at c.in-Ok-free_all.ensures.freed) b.named spaces x (may_free layout is c.args.filer.now.runs shapes spaces x _ _ books c.args.id c.requires.client f found hidden _ _ _ _ c.size.ensures.runs c.size.ensures.beside stands c.in-Ok.pages asked) in
+          let three = (rw lay at c.cut.ensures.cost_sized) freed.memory b.named c.in-Ok.pages freed.rest.stands freed.rest.map asked in
+          sized_cost (view_of c.args.filer.now).disk.transfers (view_of c.size.new.self).disk.transfers (view_of c.free_all.new.filer).disk.transfers (view_of c.cut.new.self).disk.transfers f.size c.in-Ok.pages (16 + 4 * layout.vam) size c.size.ensures.cost two three;
+    }
 
 pub returns-clause-deleted : goal.returns-clause-deleted
-returns-clause-deleted g c = λ x shapes spaces f books found hidden.
+returns-clause-deleted g c = λ x shapes spaces f books found.
     let layout = (view_of c.args.filer.now).layout in
     let is = (accepted c.args.filer.now) in
     let b = books.booked in
     let map = map_is _ _ shapes x is b in
     let asked = c.in-Ok.ensures.size x b.named books.stands map in
     let stands = c.size.ensures.same x b.named books.stands map in
-    let may = may_free layout is c.args.filer.now.runs shapes spaces x _ _ books c.args.id c.requires.client f found hidden _ _ _ _ c.size.ensures.runs c.size.ensures.beside stands c.in-Ok.pages asked in
-    let freed = (rw (c.size.ensures.beside.layout) at c.in-Ok-free_all.ensures.freed) b.named spaces x may in
-    let lay : (view_of c.free_all.new.filer).layout ≡ layout = c.in-Ok-free_all.ensures.layout ∙ c.size.ensures.beside.layout in
-    let cut = (rw lay at c.in-Ok-cut.ensures.cut) freed.memory b.named freed.rest.stands freed.rest.map in
-    rw c.frames_of-volume.ensures.same
-    (deleted_by layout is c.args.filer.now.runs shapes spaces x _ _ books c.args.id c.requires.client f found hidden _ _ _ _ c.size.ensures.runs c.size.ensures.beside stands c.in-Ok.pages asked _ _ _ freed
-    _ _ _ c.cut.new.self.runs (rw lay at c.in-Ok-cut.ensures.beside) cut (c.in-Ok-cut.ensures.runs layout.sectors)
-    (λ y stood. memory_in_form _ _ y stood (g.met.D.Disk.in_form (disk_of c.cut.new.self) stood.sectors stood.revealed) c.frames_of-volume.ensures.pages))
-
-pub returns-clause-used : goal.returns-clause-used
-returns-clause-used g c = λ x shapes spaces f books found.
-    let is = (accepted c.args.filer.now) in
-    let b = books.booked in
-    let map = map_is _ _ shapes x is b in
-    let asked = c.in-Ok.ensures.size x b.named books.stands map in
-    let size : c.in-Ok.pages ≡ f.size = size_is _ _ shapes x b c.args.id c.requires.client f found c.in-Ok.pages asked in
-    omega (arith, size)
-
-pub returns-clause-makes : goal.returns-clause-makes
-returns-clause-makes g c =
-    let lay = c.in-Ok-free_all.ensures.layout ∙ c.size.ensures.beside.layout in
-    rw c.frames_of-volume.ensures.same (c.in-Ok.pages, delete_makes c.in-Ok.pages c.size.ensures.beside c.in-Ok-free_all.ensures.makes (rw lay at c.in-Ok-cut.ensures.beside))
-
-pub returns-in-Err-free_all-clause-cost_revealed : goal.returns-in-Err-free_all-clause-cost_revealed
-returns-in-Err-free_all-clause-cost_revealed g c = λ x shapes spaces f books found.
-    let layout = (view_of c.args.filer.now).layout in
-    let is = (accepted c.args.filer.now) in
-    let b = books.booked in
-    let map = map_is _ _ shapes x is b in
-    let asked = c.in-Ok.ensures.size x b.named books.stands map in
     let size : c.in-Ok.pages ≡ f.size = size_is _ _ shapes x b c.args.id c.requires.client f found c.in-Ok.pages asked in
     let two = rw (c.size.ensures.beside.layout) at c.free_all.ensures.cost in
-    revealed_cost (view_of c.args.filer.now).disk.transfers (view_of c.size.new.self).disk.transfers (view_of c.free_all.new.filer).disk.transfers (view_of c.free_all.new.filer).disk.transfers f.size c.in-Ok.pages (16 + 4 * layout.vam) (2 * (1 + 51 * most_records layout.sectors)) size c.size.ensures.cost two (omega arith)
+    let lay : (view_of c.free_all.new.filer).layout ≡ layout = c.free_all.ensures.stays.layout ∙ c.size.ensures.beside.layout in
+    record {
+      used = omega (arith, size);
+      cost = rw c.frames_of-volume.ensures.same (revealed_cost (view_of c.args.filer.now).disk.transfers (view_of c.size.new.self).disk.transfers (view_of c.free_all.new.filer).disk.transfers (view_of c.cut.new.self).disk.transfers f.size c.in-Ok.pages (16 + 4 * layout.vam) (2 * (1 + 51 * most_records layout.sectors)) size c.size.ensures.cost two (rw lay at c.cut.ensures.cost));
+      deleted = λ hidden.
+          let freed = (rw (c.size.ensures.beside.layout) at c.in-Ok-free_all.ensures.freed) b.named spaces x (may_free layout is c.args.filer.now.runs shapes spaces x _ _ books c.args.id c.requires.client f found hidden _ _ _ _ c.size.ensures.runs c.size.ensures.beside stands c.in-Ok.pages asked) in
+          let cut = (rw lay at c.in-Ok-cut.ensures.cut) freed.memory b.named freed.rest.stands freed.rest.map in
+          rw c.frames_of-volume.ensures.same
+          (deleted_by layout is c.args.filer.now.runs shapes spaces x _ _ books c.args.id c.requires.client f found hidden _ _ _ _ c.size.ensures.runs c.size.ensures.beside stands c.in-Ok.pages asked _ _ _ freed _ _ _ c.cut.new.self.runs (rw lay at c.in-Ok-cut.ensures.beside) cut (c.in-Ok-cut.ensures.runs layout.sectors)
+          (λ y stood. memory_in_form _ _ y stood (g.met.D.Disk.in_form (disk_of c.cut.new.self) stood.sectors stood.revealed) c.frames_of-volume.ensures.pages));
+      cost_sized = λ hidden.
+          let freed = (rw (c.size.ensures.beside.layout) at c.in-Ok-free_all.ensures.freed) b.named spaces x (may_free layout is c.args.filer.now.runs shapes spaces x _ _ books c.args.id c.requires.client f found hidden _ _ _ _ c.size.ensures.runs c.size.ensures.beside stands c.in-Ok.pages asked) in
+          let three = (rw lay at c.cut.ensures.cost_sized) freed.memory b.named c.in-Ok.pages freed.rest.stands freed.rest.map asked in
+          rw c.frames_of-volume.ensures.same (sized_cost (view_of c.args.filer.now).disk.transfers (view_of c.size.new.self).disk.transfers (view_of c.free_all.new.filer).disk.transfers (view_of c.cut.new.self).disk.transfers f.size c.in-Ok.pages (16 + 4 * layout.vam) size c.size.ensures.cost two three);
+    }
 
-pub returns-in-Err-cut-clause-cost_revealed : goal.returns-in-Err-cut-clause-cost_revealed
-returns-in-Err-cut-clause-cost_revealed g c = λ x shapes spaces f books found.
-    let layout = (view_of c.args.filer.now).layout in
-    let is = (accepted c.args.filer.now) in
-    let b = books.booked in
-    let map = map_is _ _ shapes x is b in
-    let asked = c.in-Ok.ensures.size x b.named books.stands map in
-    let size : c.in-Ok.pages ≡ f.size = size_is _ _ shapes x b c.args.id c.requires.client f found c.in-Ok.pages asked in
-    let two = rw (c.size.ensures.beside.layout) at c.free_all.ensures.cost in
-    let lay : (view_of c.free_all.new.filer).layout ≡ layout = c.free_all.ensures.layout ∙ c.size.ensures.beside.layout in
-    let three = rw lay at c.cut.ensures.cost in
-    revealed_cost (view_of c.args.filer.now).disk.transfers (view_of c.size.new.self).disk.transfers (view_of c.free_all.new.filer).disk.transfers (view_of c.cut.new.self).disk.transfers f.size c.in-Ok.pages (16 + 4 * layout.vam) (2 * (1 + 51 * most_records layout.sectors)) size c.size.ensures.cost two three
+pub returns-in-Err-clause-writes : goal.returns-in-Err-clause-writes
+returns-in-Err-clause-writes g c = map_stops c.size.ensures.beside
 
-pub returns-clause-cost_revealed : goal.returns-clause-cost_revealed
-returns-clause-cost_revealed g c = λ x shapes spaces f books found.
-    let layout = (view_of c.args.filer.now).layout in
-    let is = (accepted c.args.filer.now) in
-    let b = books.booked in
-    let map = map_is _ _ shapes x is b in
-    let asked = c.in-Ok.ensures.size x b.named books.stands map in
-    let size : c.in-Ok.pages ≡ f.size = size_is _ _ shapes x b c.args.id c.requires.client f found c.in-Ok.pages asked in
-    let two = rw (c.size.ensures.beside.layout) at c.free_all.ensures.cost in
-    let lay : (view_of c.free_all.new.filer).layout ≡ layout = c.free_all.ensures.layout ∙ c.size.ensures.beside.layout in
-    let three = rw lay at c.cut.ensures.cost in
-    rw c.frames_of-volume.ensures.same (revealed_cost (view_of c.args.filer.now).disk.transfers (view_of c.size.new.self).disk.transfers (view_of c.free_all.new.filer).disk.transfers (view_of c.cut.new.self).disk.transfers f.size c.in-Ok.pages (16 + 4 * layout.vam) (2 * (1 + 51 * most_records layout.sectors)) size c.size.ensures.cost two three)
+pub returns-in-Err-free_all-clause-writes : goal.returns-in-Err-free_all-clause-writes
+returns-in-Err-free_all-clause-writes g c = free_stops c.size.ensures.beside c.in-Err-free_all.ensures.writes
 
-pub returns-in-Err-clause-counted : goal.returns-in-Err-clause-counted
-returns-in-Err-clause-counted g c = counted _ _ (view_of c.args.filer.now).disk (view_of c.size.new.self).disk _ (omega arith) c.in-Err.ensures.cause
+pub returns-in-Err-cut-clause-writes : goal.returns-in-Err-cut-clause-writes
+returns-in-Err-cut-clause-writes g c =
+    let lay = c.in-Ok-free_all.ensures.stays.layout ∙ c.size.ensures.beside.layout in
+    delete_stops c.in-Ok.pages c.size.ensures.beside c.in-Ok-free_all.ensures.writes (rw lay at c.in-Err-cut.ensures.beside)
 
-pub returns-in-Err-free_all-clause-counted : goal.returns-in-Err-free_all-clause-counted
-returns-in-Err-free_all-clause-counted g c = counted_then _ _ _ (map_makes c.size.ensures.beside).went.faults c.in-Err-free_all.ensures.counted
+pub returns-clause-writes : goal.returns-clause-writes
+returns-clause-writes g c =
+    let lay = c.in-Ok-free_all.ensures.stays.layout ∙ c.size.ensures.beside.layout in
+    rw c.frames_of-volume.ensures.same (c.in-Ok.pages, delete_makes c.in-Ok.pages c.size.ensures.beside c.in-Ok-free_all.ensures.writes (rw lay at c.in-Ok-cut.ensures.beside))
 
-pub returns-in-Err-cut-clause-counted : goal.returns-in-Err-cut-clause-counted
-returns-in-Err-cut-clause-counted g c =
-    let first = (map_makes c.size.ensures.beside).went.faults in
-    let second = c.in-Ok-free_all.ensures.makes.makes.went.faults in
-    counted _ _ (view_of c.free_all.new.filer).disk (view_of c.cut.new.self).disk _ (omega (arith, first, second)) c.in-Err-cut.ensures.cause
-
-pub returns-in-Err-free_all-clause-cost_sized : goal.returns-in-Err-free_all-clause-cost_sized
-returns-in-Err-free_all-clause-cost_sized g c = λ x shapes spaces f books found hidden.
-    let layout = (view_of c.args.filer.now).layout in
-    let is = (accepted c.args.filer.now) in
-    let b = books.booked in
-    let map = map_is _ _ shapes x is b in
-    let asked = c.in-Ok.ensures.size x b.named books.stands map in
-    let size : c.in-Ok.pages ≡ f.size = size_is _ _ shapes x b c.args.id c.requires.client f found c.in-Ok.pages asked in
-    let two = rw (c.size.ensures.beside.layout) at c.free_all.ensures.cost in
-    sized_cost (view_of c.args.filer.now).disk.transfers (view_of c.size.new.self).disk.transfers (view_of c.free_all.new.filer).disk.transfers (view_of c.free_all.new.filer).disk.transfers f.size c.in-Ok.pages (16 + 4 * layout.vam) size c.size.ensures.cost two (omega arith)
-
-pub returns-in-Err-cut-clause-cost_sized : goal.returns-in-Err-cut-clause-cost_sized
-returns-in-Err-cut-clause-cost_sized g c = λ x shapes spaces f books found hidden.
-    let layout = (view_of c.args.filer.now).layout in
-    let is = (accepted c.args.filer.now) in
-    let b = books.booked in
-    let map = map_is _ _ shapes x is b in
-    let asked = c.in-Ok.ensures.size x b.named books.stands map in
-    let size : c.in-Ok.pages ≡ f.size = size_is _ _ shapes x b c.args.id c.requires.client f found c.in-Ok.pages asked in
-    let two = rw (c.size.ensures.beside.layout) at c.free_all.ensures.cost in
-    let stands = c.size.ensures.same x b.named books.stands map in
-    let may = may_free layout is c.args.filer.now.runs shapes spaces x _ _ books c.args.id c.requires.client f found hidden _ _ _ _ c.size.ensures.runs c.size.ensures.beside stands c.in-Ok.pages asked in
-    let freed = (rw (c.size.ensures.beside.layout) at c.in-Ok-free_all.ensures.freed) b.named spaces x may in
-    let lay : (view_of c.free_all.new.filer).layout ≡ layout = c.in-Ok-free_all.ensures.layout ∙ c.size.ensures.beside.layout in
-    let three = (rw lay at c.cut.ensures.cost_sized) freed.memory b.named c.in-Ok.pages freed.rest.stands freed.rest.map asked in
-    sized_cost (view_of c.args.filer.now).disk.transfers (view_of c.size.new.self).disk.transfers (view_of c.free_all.new.filer).disk.transfers (view_of c.cut.new.self).disk.transfers f.size c.in-Ok.pages (16 + 4 * layout.vam) size c.size.ensures.cost two three
-
-pub returns-clause-cost_sized : goal.returns-clause-cost_sized
-returns-clause-cost_sized g c = λ x shapes spaces f books found hidden.
-    let layout = (view_of c.args.filer.now).layout in
-    let is = (accepted c.args.filer.now) in
-    let b = books.booked in
-    let map = map_is _ _ shapes x is b in
-    let asked = c.in-Ok.ensures.size x b.named books.stands map in
-    let size : c.in-Ok.pages ≡ f.size = size_is _ _ shapes x b c.args.id c.requires.client f found c.in-Ok.pages asked in
-    let two = rw (c.size.ensures.beside.layout) at c.free_all.ensures.cost in
-    let stands = c.size.ensures.same x b.named books.stands map in
-    let may = may_free layout is c.args.filer.now.runs shapes spaces x _ _ books c.args.id c.requires.client f found hidden _ _ _ _ c.size.ensures.runs c.size.ensures.beside stands c.in-Ok.pages asked in
-    let freed = (rw (c.size.ensures.beside.layout) at c.in-Ok-free_all.ensures.freed) b.named spaces x may in
-    let lay : (view_of c.free_all.new.filer).layout ≡ layout = c.in-Ok-free_all.ensures.layout ∙ c.size.ensures.beside.layout in
-    let three = (rw lay at c.cut.ensures.cost_sized) freed.memory b.named c.in-Ok.pages freed.rest.stands freed.rest.map asked in
-    rw c.frames_of-volume.ensures.same (sized_cost (view_of c.args.filer.now).disk.transfers (view_of c.size.new.self).disk.transfers (view_of c.free_all.new.filer).disk.transfers (view_of c.cut.new.self).disk.transfers f.size c.in-Ok.pages (16 + 4 * layout.vam) size c.size.ensures.cost two three)
-
-pub returns-in-Err-clause-evidence_seen : goal.returns-in-Err-clause-evidence_seen
-returns-in-Err-clause-evidence_seen g c = so_of_map (fits (swapper_of c.args.filer.now) c.requires.size) c.size.ensures.beside.goes.makes c.in-Err.halt c.in-Err.ensures.cause
-
-pub returns-in-Err-cut-clause-evidence_seen : goal.returns-in-Err-cut-clause-evidence_seen
-returns-in-Err-cut-clause-evidence_seen g c = so_of_cut (fits (swapper_of c.free_all.new.filer) (search rules)) c.cut.ensures.beside.goes.makes c.in-Err-cut.halt c.in-Err-cut.ensures.cause
-
-pub returns-in-Err-clause-cause : goal.returns-in-Err-clause-cause
-returns-in-Err-clause-cause g c =
+pub returns-in-Err-clause-fails : goal.returns-in-Err-clause-fails
+returns-in-Err-clause-fails g c =
     let layout = (view_of c.args.filer.now).layout in
     let old = (view_of c.args.filer.now).disk in
     let pool = (view_of c.args.filer.now).slots in
     let kept = runs_of layout.sectors c.args.filer.now.runs in
     let pages = IsPageOf layout old pool c.args.id in
     let new = (view_of c.size.new.self).disk in
-    cut_of_free (IsUnframed pool c.args.id) layout kept c.args.id 0 pages old new pool c.in-Err.halt
-    (search_halts_after (keeps_none (IsUnframed pool c.args.id) layout c.args.id old pool kept (λ none. none)) pages new c.in-Err.halt c.in-Err.ensures.cause)
+    record {
+      cause = cut_of_free (IsUnframed pool c.args.id) layout kept c.args.id 0 pages old new pool c.in-Err.halt (search_halts_after (keeps_none (IsUnframed pool c.args.id) layout c.args.id old pool kept (λ none. none)) pages new c.in-Err.halt c.in-Err.ensures.cause);
+      counted = counted _ _ (view_of c.args.filer.now).disk (view_of c.size.new.self).disk _ (omega arith) c.in-Err.ensures.cause;
+      evidence_seen = so_of_map (fits (swapper_of c.args.filer.now) c.requires.size) c.size.ensures.beside.goes.makes c.in-Err.halt c.in-Err.ensures.cause;
+    }
 
-pub returns-in-Err-free_all-clause-cause : goal.returns-in-Err-free_all-clause-cause
-returns-in-Err-free_all-clause-cause g c =
+pub returns-in-Err-free_all-clause-fails : goal.returns-in-Err-free_all-clause-fails
+returns-in-Err-free_all-clause-fails g c = record {
+  cause =
+      let layout = (view_of c.args.filer.now).layout in
+      let old = (view_of c.args.filer.now).disk in
+      let pool = (view_of c.args.filer.now).slots in
+      let kept = runs_of layout.sectors c.args.filer.now.runs in
+      let pages = IsPageOf layout old pool c.args.id in
+      let same : runs_of layout.sectors c.size.new.self.runs ≡ kept = ap (runs_of layout.sectors) c.size.ensures.runs in
+      let keep = keeps_read (inr c.requires.client) c.size.ensures.beside c.size.ensures.same_bytes (λ r one. inl (subst (IsOneOf r) same one)) in
+      let new = (view_of c.free_all.new.filer).disk in
+      cut_of_free (IsUnframed pool c.args.id) layout kept c.args.id 0 pages old new pool c.in-Err-free_all.halt (free_halts_before keep (λ p. (p ≡ leader_page) ⊎ (p < c.in-Ok.pages)) pages (λ p h. elim h [ inl leads ↦ inl leads | inr below ↦ inr (λ m named stands map. (c.in-Ok.pages, c.in-Ok.ensures.size m named stands map, below)) ]) c.requires.size new c.in-Err-free_all.halt (rw c.size.ensures.beside.layout at c.in-Err-free_all.ensures.fails.cause));
+  counted = counted_then _ _ _ (map_makes c.size.ensures.beside).went.faults c.in-Err-free_all.ensures.fails.counted;
+  evidence_seen = search rules;
+}
+
+pub returns-in-Err-cut-clause-fails : goal.returns-in-Err-cut-clause-fails
+returns-in-Err-cut-clause-fails g c =
     let layout = (view_of c.args.filer.now).layout in
     let old = (view_of c.args.filer.now).disk in
     let pool = (view_of c.args.filer.now).slots in
@@ -247,87 +166,75 @@ returns-in-Err-free_all-clause-cause g c =
     let pages = IsPageOf layout old pool c.args.id in
     let same : runs_of layout.sectors c.size.new.self.runs ≡ kept = ap (runs_of layout.sectors) c.size.ensures.runs in
     let keep = keeps_read (inr c.requires.client) c.size.ensures.beside c.size.ensures.same_bytes (λ r one. inl (subst (IsOneOf r) same one)) in
-    let new = (view_of c.free_all.new.filer).disk in
-    cut_of_free (IsUnframed pool c.args.id) layout kept c.args.id 0 pages old new pool c.in-Err-free_all.halt
-    (free_halts_before keep (λ p. (p ≡ leader_page) ⊎ (p < c.in-Ok.pages)) pages (λ p h. elim h [ inl leads ↦ inl leads | inr below ↦ inr (λ m named stands map. (c.in-Ok.pages, c.in-Ok.ensures.size m named stands map, below)) ]) c.requires.size
-    new c.in-Err-free_all.halt (rw c.size.ensures.beside.layout at c.in-Err-free_all.ensures.cause))
+    let lay : (view_of c.free_all.new.filer).layout ≡ layout = c.in-Ok-free_all.ensures.stays.layout ∙ c.size.ensures.beside.layout in
+    let first = (map_makes c.size.ensures.beside).went.faults in
+    let second = c.in-Ok-free_all.ensures.writes.makes.went.faults in
+    record {
+      cause = cut_halts_after (keeps_then keep (rw c.size.ensures.beside.layout at c.in-Ok-free_all.ensures.stays.keeps)) 0 pages (view_of c.cut.new.self).disk (view_of c.cut.new.self).slots c.in-Err-cut.halt (rw lay at c.in-Err-cut.ensures.begun) (rw lay at c.in-Err-cut.ensures.cause);
+      counted = counted _ _ (view_of c.free_all.new.filer).disk (view_of c.cut.new.self).disk _ (omega (arith, first, second)) c.in-Err-cut.ensures.cause;
+      evidence_seen = so_of_cut (fits (swapper_of c.free_all.new.filer) (search rules)) c.cut.ensures.beside.goes.makes c.in-Err-cut.halt c.in-Err-cut.ensures.cause;
+    }
 
-pub returns-in-Err-cut-clause-cause : goal.returns-in-Err-cut-clause-cause
-returns-in-Err-cut-clause-cause g c =
-    let layout = (view_of c.args.filer.now).layout in
-    let old = (view_of c.args.filer.now).disk in
-    let pool = (view_of c.args.filer.now).slots in
-    let kept = runs_of layout.sectors c.args.filer.now.runs in
-    let pages = IsPageOf layout old pool c.args.id in
-    let same : runs_of layout.sectors c.size.new.self.runs ≡ kept = ap (runs_of layout.sectors) c.size.ensures.runs in
-    let keep = keeps_read (inr c.requires.client) c.size.ensures.beside c.size.ensures.same_bytes (λ r one. inl (subst (IsOneOf r) same one)) in
-    let lay : (view_of c.free_all.new.filer).layout ≡ layout = c.in-Ok-free_all.ensures.layout ∙ c.size.ensures.beside.layout in
-    cut_halts_after (keeps_then keep (rw c.size.ensures.beside.layout at c.in-Ok-free_all.ensures.keeps)) 0 pages (view_of c.cut.new.self).disk (view_of c.cut.new.self).slots c.in-Err-cut.halt
-    (rw lay at c.in-Err-cut.ensures.begun) (rw lay at c.in-Err-cut.ensures.cause)
+pub returns-in-Err-clause-labels : goal.returns-in-Err-clause-labels
+returns-in-Err-clause-labels g c = record { own = relabels_own (map_own c.args.id c.size.ensures.beside); around = syncs_around (quiet_synced true c.size.ensures.beside.goes.makes) }
 
-pub returns-in-Err-clause-own : goal.returns-in-Err-clause-own
-returns-in-Err-clause-own g c = relabels_own (map_own c.args.id c.size.ensures.beside)
+pub returns-in-Err-free_all-clause-labels : goal.returns-in-Err-free_all-clause-labels
+returns-in-Err-free_all-clause-labels g c = record {
+  own = own_after (map_own c.args.id c.size.ensures.beside) (some_own c.in-Err-free_all.ensures.writes c.in-Err-free_all.ensures.labels.own);
+  around = around_after (quiet_synced false c.size.ensures.beside.goes.makes) (wrote_synced c.in-Err-free_all.ensures.writes.makes c.in-Err-free_all.ensures.labels.around);
+}
 
-pub returns-in-Err-free_all-clause-own : goal.returns-in-Err-free_all-clause-own
-returns-in-Err-free_all-clause-own g c = own_after (map_own c.args.id c.size.ensures.beside) (some_own c.in-Err-free_all.ensures.stopped c.in-Err-free_all.ensures.own)
+pub returns-in-Err-cut-clause-labels : goal.returns-in-Err-cut-clause-labels
+returns-in-Err-cut-clause-labels g c = record {
+  own = own_after (map_own c.args.id c.size.ensures.beside) (own_then (freed_own c.in-Ok-free_all.ensures.writes c.in-Ok-free_all.ensures.labels.own) (map_own c.args.id c.in-Err-cut.ensures.beside));
+  around = around_after (quiet_synced false c.size.ensures.beside.goes.makes) (synced_then (wrote_synced c.in-Ok-free_all.ensures.writes.makes c.in-Ok-free_all.ensures.labels.around) (quiet_synced true c.in-Err-cut.ensures.beside.goes.makes));
+}
 
-pub returns-in-Err-cut-clause-own : goal.returns-in-Err-cut-clause-own
-returns-in-Err-cut-clause-own g c = own_after (map_own c.args.id c.size.ensures.beside) (own_then (freed_own c.in-Ok-free_all.ensures.makes c.in-Ok-free_all.ensures.own) (map_own c.args.id c.in-Err-cut.ensures.beside))
+pub returns-clause-labels : goal.returns-clause-labels
+returns-clause-labels g c = record {
+  own = rw c.frames_of-volume.ensures.same (own_after (map_own c.args.id c.size.ensures.beside) (own_then (freed_own c.in-Ok-free_all.ensures.writes c.in-Ok-free_all.ensures.labels.own) (map_own c.args.id c.in-Ok-cut.ensures.beside)));
+  around = rw c.frames_of-volume.ensures.same (around_after (quiet_synced false c.size.ensures.beside.goes.makes) (synced_then (wrote_synced c.in-Ok-free_all.ensures.writes.makes c.in-Ok-free_all.ensures.labels.around) (quiet_synced false c.in-Ok-cut.ensures.beside.goes.makes)));
+}
 
-pub returns-clause-own : goal.returns-clause-own
-returns-clause-own g c = rw c.frames_of-volume.ensures.same (own_after (map_own c.args.id c.size.ensures.beside) (own_then (freed_own c.in-Ok-free_all.ensures.makes c.in-Ok-free_all.ensures.own) (map_own c.args.id c.in-Ok-cut.ensures.beside)))
+pub returns-in-Err-clause-stays : goal.returns-in-Err-clause-stays
+returns-in-Err-clause-stays g c = record { root = freed_some_root (returns-in-Err-clause-writes g c); layout = search rules }
 
-pub returns-in-Err-clause-root : goal.returns-in-Err-clause-root
-returns-in-Err-clause-root g c = freed_some_root (returns-in-Err-clause-stopped g c)
+pub returns-in-Err-free_all-clause-stays : goal.returns-in-Err-free_all-clause-stays
+returns-in-Err-free_all-clause-stays g c = record { root = freed_some_root (returns-in-Err-free_all-clause-writes g c); layout = search rules }
 
-pub returns-in-Err-free_all-clause-root : goal.returns-in-Err-free_all-clause-root
-returns-in-Err-free_all-clause-root g c = freed_some_root (returns-in-Err-free_all-clause-stopped g c)
+pub returns-in-Err-cut-clause-stays : goal.returns-in-Err-cut-clause-stays
+returns-in-Err-cut-clause-stays g c = record { root = freed_some_root (returns-in-Err-cut-clause-writes g c); layout = search rules }
 
-pub returns-in-Err-cut-clause-root : goal.returns-in-Err-cut-clause-root
-returns-in-Err-cut-clause-root g c = freed_some_root (returns-in-Err-cut-clause-stopped g c)
-
-pub returns-clause-root : goal.returns-clause-root
-returns-clause-root g c = deleted_root (returns-clause-makes g c)
+pub returns-clause-stays : goal.returns-clause-stays
+returns-clause-stays g c = record { root = deleted_root (returns-clause-writes g c); layout = search rules }
 
 -- ---- What it keeps to, and the reasons of its halts.
 
-pub returns-in-Err-clause-reasons : goal.returns-in-Err-clause-reasons
-returns-in-Err-clause-reasons g c = λ o named k. map_reasons k c.size.ensures.beside.goes.makes (accepted c.args.filer.now) c.in-Err.halt c.in-Err.ensures.cause
+pub returns-in-Err-clause-accounts : goal.returns-in-Err-clause-accounts
+returns-in-Err-clause-accounts g c = λ o named k. map_reasons k c.size.ensures.beside.goes.makes (accepted c.args.filer.now) c.in-Err.halt c.in-Err.ensures.cause
 
-pub returns-in-Err-free_all-clause-reasons : goal.returns-in-Err-free_all-clause-reasons
-returns-in-Err-free_all-clause-reasons g c = λ o named k.
+pub returns-in-Err-free_all-clause-accounts : goal.returns-in-Err-free_all-clause-accounts
+returns-in-Err-free_all-clause-accounts g c = λ o named k.
     subst (λ (l : Layout). ShowsReason o l (view_of c.free_all.new.filer).disk c.in-Err-free_all.halt) c.size.ensures.beside.layout
-    (c.in-Err-free_all.ensures.reasons o named (keeps_asked c.args.filer.now.runs c.size.new.self.runs c.size.ensures.runs k c.size.ensures.beside c.size.ensures.same))
+    (c.in-Err-free_all.ensures.accounts o named (keeps_asked c.args.filer.now.runs c.size.new.self.runs c.size.ensures.runs k c.size.ensures.beside c.size.ensures.same))
 
-pub returns-in-Err-cut-clause-reasons : goal.returns-in-Err-cut-clause-reasons
-returns-in-Err-cut-clause-reasons g c = λ o named k.
-    let now = c.in-Ok-free_all.ensures.keeps_to o named (keeps_asked c.args.filer.now.runs c.size.new.self.runs c.size.ensures.runs k c.size.ensures.beside c.size.ensures.same) in
-    subst (λ (l : Layout). ShowsReason o l (view_of c.cut.new.self).disk c.in-Err-cut.halt) (c.in-Ok-free_all.ensures.layout ∙ c.size.ensures.beside.layout)
+pub returns-in-Err-cut-clause-accounts : goal.returns-in-Err-cut-clause-accounts
+returns-in-Err-cut-clause-accounts g c = λ o named k.
+    let now = (c.in-Ok-free_all.ensures.accounts o named (keeps_asked c.args.filer.now.runs c.size.new.self.runs c.size.ensures.runs k c.size.ensures.beside c.size.ensures.same)).0 in
+    subst (λ (l : Layout). ShowsReason o l (view_of c.cut.new.self).disk c.in-Err-cut.halt) (c.in-Ok-free_all.ensures.stays.layout ∙ c.size.ensures.beside.layout)
     (cut_reasons now c.cut.ensures.beside.goes.makes c.in-Err-cut.halt c.in-Err-cut.ensures.cause (c.in-Err-cut.ensures.right now.memory named now.stands now.map))
 
-pub returns-clause-keeps_to : goal.returns-clause-keeps_to
-returns-clause-keeps_to g c = λ o named k.
+pub returns-clause-accounts : goal.returns-clause-accounts
+returns-clause-accounts g c = λ o named k.
     let asked = keeps_asked c.args.filer.now.runs c.size.new.self.runs c.size.ensures.runs k c.size.ensures.beside c.size.ensures.same in
-    let now = c.in-Ok-free_all.ensures.keeps_to o named asked in
+    let now = (c.in-Ok-free_all.ensures.accounts o named asked).0 in
     let sized = c.in-Ok.ensures.size k.memory named k.stands k.map in
     rw c.frames_of-volume.ensures.same (
       _,
       keeps_at c.cut.new.self.runs c.cut.ensures.beside.layout (keeps_cut now c.cut.ensures.beside c.args.id 0 (c.cut.ensures.runs (view_of c.free_all.new.filer).layout.sectors)
           (accepted c.free_all.new.filer) (client_leaves o c.args.id c.requires.client) (client_untabled c.args.id c.requires.client)
-          (λ page sector may from is. c.in-Ok-free_all.ensures.evict o named asked page sector (all_pages sized k.map page sector is) is) c.in-Ok-cut.ensures.cut),
+          (λ page sector may from is. (c.in-Ok-free_all.ensures.accounts o named asked).1 page sector (all_pages sized k.map page sector is) is) c.in-Ok-cut.ensures.cut),
       tables_left named c.args.id 0 c.requires.client,
     )
 
 -- ---- What is on the medium.
-
-pub returns-in-Err-clause-around : goal.returns-in-Err-clause-around
-returns-in-Err-clause-around g c = syncs_around (quiet_synced true c.size.ensures.beside.goes.makes)
-
-pub returns-in-Err-free_all-clause-around : goal.returns-in-Err-free_all-clause-around
-returns-in-Err-free_all-clause-around g c = around_after (quiet_synced false c.size.ensures.beside.goes.makes) (wrote_synced c.in-Err-free_all.ensures.stopped.makes c.in-Err-free_all.ensures.around)
-
-pub returns-in-Err-cut-clause-around : goal.returns-in-Err-cut-clause-around
-returns-in-Err-cut-clause-around g c = around_after (quiet_synced false c.size.ensures.beside.goes.makes) (synced_then (wrote_synced c.in-Ok-free_all.ensures.makes.makes c.in-Ok-free_all.ensures.around) (quiet_synced true c.in-Err-cut.ensures.beside.goes.makes))
-
-pub returns-clause-around : goal.returns-clause-around
-returns-clause-around g c = rw c.frames_of-volume.ensures.same (around_after (quiet_synced false c.size.ensures.beside.goes.makes) (synced_then (wrote_synced c.in-Ok-free_all.ensures.makes.makes c.in-Ok-free_all.ensures.around) (quiet_synced false c.in-Ok-cut.ensures.beside.goes.makes)))

@@ -1,4 +1,4 @@
-use Rattle.std.proofs.Common.{◌∙◌, arith}
+use Rattle.std.proofs.Common.{◌∙◌, arith, rules}
 use Rattle.file_manager.proofs.Faults.{counted}
 use Rattle.file_manager.proofs.SoLemmas.{so_of_taken}
 use Rattle.file_manager.proofs.growth.label_run.Goals as goal
@@ -7,17 +7,15 @@ use Rattle.filer_kernel.specs.View.{accepted, view_of}
 pub returns-in-Err-clause-sound : goal.returns-in-Err-clause-sound
 returns-in-Err-clause-sound g c = λ m stands free ones. (rw (c.swapper_over-swapper.ensures.value) at c.in-Err.ensures.sound) m stands free ones
 
-pub returns-in-Err-clause-counted : goal.returns-in-Err-clause-counted
-returns-in-Err-clause-counted g c = counted _ _ (view_of c.args.filer.now).disk (g.D.Disk.state c.make_pages.new.swapper.disk) _ (omega arith) (rw (c.swapper_over-swapper.ensures.value) at c.in-Err.ensures.cause)
-
-pub returns-in-Err-clause-evidence_seen : goal.returns-in-Err-clause-evidence_seen
-returns-in-Err-clause-evidence_seen g c =
+pub returns-in-Err-clause-fails : goal.returns-in-Err-clause-fails
+returns-in-Err-clause-fails g c =
     let new = g.D.Disk.state c.make_pages.new.swapper.disk in
     let size = (rw c.swapper_over-swapper.ensures.value at c.in-Err.ensures.stopped).makes.went.sectors ∙ c.requires.size in
-    so_of_taken (view_of c.args.filer.now).layout new (accepted c.args.filer.now) size c.args.run.sector c.args.run.pages c.requires.data c.requires.inside (view_of c.args.filer.now).disk new c.in-Err.halt (rw c.swapper_over-swapper.ensures.value at c.in-Err.ensures.evidence_seen)
+    record {
+      cause = rw c.swapper_over-swapper.ensures.value at c.in-Err.ensures.cause;
+      counted = counted _ _ (view_of c.args.filer.now).disk (g.D.Disk.state c.make_pages.new.swapper.disk) _ (omega arith) (rw (c.swapper_over-swapper.ensures.value) at c.in-Err.ensures.cause);
+      evidence_seen = so_of_taken (view_of c.args.filer.now).layout new (accepted c.args.filer.now) size c.args.run.sector c.args.run.pages c.requires.data c.requires.inside (view_of c.args.filer.now).disk new c.in-Err.halt (rw c.swapper_over-swapper.ensures.value at c.in-Err.ensures.evidence_seen);
+    }
 
-pub returns-in-Err-clause-cause : goal.returns-in-Err-clause-cause
-returns-in-Err-clause-cause g c = rw c.swapper_over-swapper.ensures.value at c.in-Err.ensures.cause
-
-pub returns-in-Err-clause-named : goal.returns-in-Err-clause-named
-returns-in-Err-clause-named g c = rw c.swapper_over-swapper.ensures.value at c.in-Err.ensures.named
+pub returns-in-Err-clause-writes : goal.returns-in-Err-clause-writes
+returns-in-Err-clause-writes g c = (search rules, rw c.swapper_over-swapper.ensures.value at c.in-Err.ensures.named)

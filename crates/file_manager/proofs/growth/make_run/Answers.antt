@@ -26,19 +26,19 @@ use Rattle.file_manager.proofs.TabledRun.{run_tables, run_within, zeros_more}
 use Rattle.file_manager.proofs.growth.make_run.Goals as goal
 use Rattle.filer_kernel.specs.View.{accepted, disk_of, swapper_of, view_of}
 
-pub returns-in-Err-clause-sound : goal.returns-in-Err-clause-sound
-returns-in-Err-clause-sound g c = λ tables x shapes spaces books hidden unowned some.
+pub returns-in-Err-clause-made : goal.returns-in-Err-clause-made
+returns-in-Err-clause-made g c = λ tables x shapes spaces books hidden unowned some.
     let layout = (view_of c.args.filer.now).layout in
     let is = (accepted c.args.filer.now) in
     let runs = runs_of layout.sectors c.args.filer.now.runs in
     let one = one_free layout is runs shapes x books.booked some in
     c.in-Err.ensures.sound x (marks_shown layout is runs shapes x books.booked) one.0 books.stands (bits_shown layout is runs shapes x books.booked) (maps_named layout is runs shapes x books.booked AllocationMap) one.1 one.2 one.3
 
-pub returns-in-Err-clause-stopped : goal.returns-in-Err-clause-stopped
-returns-in-Err-clause-stopped g c = record { sectors = []; few = omega arith; count = 0; makes = map_makes c.in-Err.ensures.kept }
+pub returns-in-Err-clause-writes : goal.returns-in-Err-clause-writes
+returns-in-Err-clause-writes g c = record { sectors = []; few = omega arith; count = 0; makes = map_makes c.in-Err.ensures.stays.kept }
 
-pub returns-in-Err-label_run-clause-sound : goal.returns-in-Err-label_run-clause-sound
-returns-in-Err-label_run-clause-sound g c = λ tables x shapes spaces books hidden unowned some.
+pub returns-in-Err-label_run-clause-made : goal.returns-in-Err-label_run-clause-made
+returns-in-Err-label_run-clause-made g c = λ tables x shapes spaces books hidden unowned some.
     let layout = (view_of c.args.filer.now).layout in
     let is = (accepted c.args.filer.now) in
     let kept = c.args.filer.now.runs in
@@ -49,24 +49,24 @@ returns-in-Err-label_run-clause-sound g c = λ tables x shapes spaces books hidd
     let lowest = c.in-Ok.ensures.lowest x marks books.stands bits in
     let taken = c.in-Ok.ensures.taken x marks books.stands bits in
     c.in-Err-label_run.ensures.sound taken.memory taken.stands
-    (none_over layout is kept shapes spaces x _ _ books hidden run c.args.most _ _ _ c.in-Ok.ensures.kept c.in-Ok.ensures.form lowest taken)
-    (ones_free layout is kept shapes spaces x _ _ books hidden run c.args.most _ _ _ c.in-Ok.ensures.kept c.in-Ok.ensures.form lowest taken)
+    (none_over layout is kept shapes spaces x _ _ books hidden run c.args.most _ _ _ c.in-Ok.ensures.stays.kept c.in-Ok.ensures.form lowest taken)
+    (ones_free layout is kept shapes spaces x _ _ books hidden run c.args.most _ _ _ c.in-Ok.ensures.stays.kept c.in-Ok.ensures.form lowest taken)
 
-pub returns-in-Err-label_run-clause-stopped : goal.returns-in-Err-label_run-clause-stopped
-returns-in-Err-label_run-clause-stopped g c =
-    stopped_labels (record { id = c.args.id; first = c.args.page; pages = c.in-Ok.taken.1; sector = c.in-Ok.taken.0 }) c.args.kind c.in-Ok.ensures.kept c.in-Err-label_run.ensures.frames c.args.most c.in-Ok.ensures.form.few c.in-Err-label_run.ensures.stopped
+pub returns-in-Err-label_run-clause-writes : goal.returns-in-Err-label_run-clause-writes
+returns-in-Err-label_run-clause-writes g c =
+    stopped_labels (record { id = c.args.id; first = c.args.page; pages = c.in-Ok.taken.1; sector = c.in-Ok.taken.0 }) c.args.kind c.in-Ok.ensures.stays.kept c.in-Err-label_run.ensures.stays.frames c.args.most c.in-Ok.ensures.form.few c.in-Err-label_run.ensures.writes.0
 
 pub label_run-requires-clause-of_file : goal.label_run-requires-clause-of_file
 label_run-requires-clause-of_file g c = fewer_of_file c.args.id c.args.kind c.args.page c.args.most c.in-Ok.taken.1 c.in-Ok.ensures.form.few c.requires.of_file
 
 pub add-requires-clause-form : goal.add-requires-clause-form
 add-requires-clause-form g c =
-    let lay = c.in-Ok-label_run.ensures.layout ∙ c.in-Ok.ensures.kept.layout in
+    let lay = c.in-Ok-label_run.ensures.stays.layout ∙ c.in-Ok.ensures.stays.kept.layout in
     subst (λ (l : Layout). IsRun l.sectors (record { id = c.args.id; first = c.args.page; pages = c.in-Ok.taken.1; sector = c.in-Ok.taken.0 })) (sym lay)
-    (run_in_form (view_of c.args.filer.now).layout c.args.id c.args.page c.args.most c.in-Ok.taken (accepted c.args.filer.now) c.in-Ok.ensures.form (above_maps c.args.id c.args.kind c.args.page c.args.most c.requires.of_file) c.ranges.id.fits c.requires.numbers)
+    (run_in_form (view_of c.args.filer.now).layout c.args.id c.args.page c.args.most c.in-Ok.taken (accepted c.args.filer.now) c.in-Ok.ensures.form (above_maps c.args.id c.args.kind c.args.page c.args.most c.requires.of_file) c.ranges.id.fits c.requires.pages.1)
 
-pub returns-in-Err-add-clause-sound : goal.returns-in-Err-add-clause-sound
-returns-in-Err-add-clause-sound g c = λ tables x shapes spaces books hidden unowned some.
+pub returns-in-Err-add-clause-made : goal.returns-in-Err-add-clause-made
+returns-in-Err-add-clause-made g c = λ tables x shapes spaces books hidden unowned some.
     let layout = (view_of c.args.filer.now).layout in
     let is = (accepted c.args.filer.now) in
     let kept = c.args.filer.now.runs in
@@ -76,20 +76,20 @@ returns-in-Err-add-clause-sound g c = λ tables x shapes spaces books hidden uno
     let run = row_run c.args.id c.args.page c.in-Ok.taken.0 c.in-Ok.taken.1 in
     let lowest = c.in-Ok.ensures.lowest x marks books.stands bits in
     let taken = c.in-Ok.ensures.taken x marks books.stands bits in
-    let frames = c.in-Ok-label_run.ensures.frames in
-    let lay : (view_of c.label_run.new.filer).layout ≡ layout = c.in-Ok-label_run.ensures.layout ∙ c.in-Ok.ensures.kept.layout in
-    let made = c.in-Ok-label_run.ensures.made in
-    let mid = labelled layout is kept shapes spaces x _ _ books hidden run c.args.most _ _ _ c.in-Ok.ensures.kept c.in-Ok.ensures.form lowest taken c.args.kind _ made in
+    let frames = c.in-Ok-label_run.ensures.stays.frames in
+    let lay : (view_of c.label_run.new.filer).layout ≡ layout = c.in-Ok-label_run.ensures.stays.layout ∙ c.in-Ok.ensures.stays.kept.layout in
+    let made = c.in-Ok-label_run.ensures.writes.0 in
+    let mid = labelled layout is kept shapes spaces x _ _ books hidden run c.args.most _ _ _ c.in-Ok.ensures.stays.kept c.in-Ok.ensures.form lowest taken c.args.kind _ made in
     let few = c.in-Ok.ensures.form.few in
     (rw (frames, lay) at c.in-Err-add.ensures.sound) mid.0 books.booked.named (is_marked x) mid.1
-    (map_then layout is kept shapes spaces x _ _ books hidden run c.args.most _ _ _ c.in-Ok.ensures.kept c.in-Ok.ensures.form lowest taken c.args.kind _ made)
+    (map_then layout is kept shapes spaces x _ _ books hidden run c.args.most _ _ _ c.in-Ok.ensures.stays.kept c.in-Ok.ensures.form lowest taken c.args.kind _ made)
     (new_run layout is runs shapes x books.booked c.args.id c.args.page c.in-Ok.taken.1 c.in-Ok.taken.0 (λ p above below. unowned p above (omega (arith, below, few))))
-    (named_then layout is kept shapes spaces x _ _ books hidden run c.args.most _ _ _ c.in-Ok.ensures.kept c.in-Ok.ensures.form lowest taken c.args.kind _ made)
+    (named_then layout is kept shapes spaces x _ _ books hidden run c.args.most _ _ _ c.in-Ok.ensures.stays.kept c.in-Ok.ensures.form lowest taken c.args.kind _ made)
     (named_once layout is runs shapes x books.booked) (named_marked layout is runs shapes x books.booked) (room_left layout is runs shapes x books.booked some)
 
-pub returns-in-Err-add-clause-stopped : goal.returns-in-Err-add-clause-stopped
-returns-in-Err-add-clause-stopped g c =
-    stopped_after (record { id = c.args.id; first = c.args.page; pages = c.in-Ok.taken.1; sector = c.in-Ok.taken.0 }) c.args.kind c.in-Ok.ensures.kept c.in-Ok-label_run.ensures.frames c.args.most c.in-Ok.ensures.form.few c.in-Ok-label_run.ensures.made c.in-Err-add.ensures.beside
+pub returns-in-Err-add-clause-writes : goal.returns-in-Err-add-clause-writes
+returns-in-Err-add-clause-writes g c =
+    stopped_after (record { id = c.args.id; first = c.args.page; pages = c.in-Ok.taken.1; sector = c.in-Ok.taken.0 }) c.args.kind c.in-Ok.ensures.stays.kept c.in-Ok-label_run.ensures.stays.frames c.args.most c.in-Ok.ensures.form.few c.in-Ok-label_run.ensures.writes.0 c.in-Err-add.ensures.beside
 
 pub returns-clause-made : goal.returns-clause-made
 returns-clause-made g c = λ tables x shapes spaces books hidden unowned some.
@@ -102,37 +102,49 @@ returns-clause-made g c = λ tables x shapes spaces books hidden unowned some.
     let run = row_run c.args.id c.args.page c.in-Ok.taken.0 c.in-Ok.taken.1 in
     let lowest = c.in-Ok.ensures.lowest x marks books.stands bits in
     let taken = c.in-Ok.ensures.taken x marks books.stands bits in
-    let frames = c.in-Ok-label_run.ensures.frames in
-    let lay : (view_of c.label_run.new.filer).layout ≡ layout = c.in-Ok-label_run.ensures.layout ∙ c.in-Ok.ensures.kept.layout in
-    let made = c.in-Ok-label_run.ensures.made in
-    let mid = labelled layout is kept shapes spaces x _ _ books hidden run c.args.most _ _ _ c.in-Ok.ensures.kept c.in-Ok.ensures.form lowest taken c.args.kind _ made in
+    let frames = c.in-Ok-label_run.ensures.stays.frames in
+    let lay : (view_of c.label_run.new.filer).layout ≡ layout = c.in-Ok-label_run.ensures.stays.layout ∙ c.in-Ok.ensures.stays.kept.layout in
+    let made = c.in-Ok-label_run.ensures.writes.0 in
+    let mid = labelled layout is kept shapes spaces x _ _ books hidden run c.args.most _ _ _ c.in-Ok.ensures.stays.kept c.in-Ok.ensures.form lowest taken c.args.kind _ made in
     let few = c.in-Ok.ensures.form.few in
     let added = (rw (frames, lay) at c.in-Ok-add.ensures.added) mid.0 books.booked.named mid.1
-    (map_then layout is kept shapes spaces x _ _ books hidden run c.args.most _ _ _ c.in-Ok.ensures.kept c.in-Ok.ensures.form lowest taken c.args.kind _ made)
+    (map_then layout is kept shapes spaces x _ _ books hidden run c.args.most _ _ _ c.in-Ok.ensures.stays.kept c.in-Ok.ensures.form lowest taken c.args.kind _ made)
     (new_run layout is runs shapes x books.booked c.args.id c.args.page c.in-Ok.taken.1 c.in-Ok.taken.0 (λ p above below. unowned p above (omega (arith, below, few)))) in
     rw c.frames_of.ensures.same
-    (run_leads layout is kept shapes spaces x _ _ books hidden run c.args.most _ _ _ c.in-Ok.ensures.kept c.in-Ok.ensures.form lowest taken c.args.kind _ made
-    _ _ _ c.add.new.self.runs (c.in-Ok-add.ensures.runs ∙ c.in-Ok-label_run.ensures.runs ∙ c.in-Ok.ensures.runs) (rw (frames, lay) at c.in-Ok-add.ensures.beside) added
+    (run_leads layout is kept shapes spaces x _ _ books hidden run c.args.most _ _ _ c.in-Ok.ensures.stays.kept c.in-Ok.ensures.form lowest taken c.args.kind _ made
+    _ _ _ c.add.new.self.runs (c.in-Ok-add.ensures.runs ∙ c.in-Ok-label_run.ensures.stays.runs ∙ c.in-Ok.ensures.stays.runs) (rw (frames, lay) at c.in-Ok-add.ensures.beside) added
     (λ y stands. memory_in_form _ _ y stands (g.met.D.Disk.in_form (disk_of c.add.new.self) stands.sectors stands.revealed) c.frames_of.ensures.pages))
 
-pub returns-clause-form : goal.returns-clause-form
-returns-clause-form g c = record {
-  form = run_in_form (view_of c.args.filer.now).layout c.args.id c.args.page c.args.most c.in-Ok.taken (accepted c.args.filer.now) c.in-Ok.ensures.form (above_maps c.args.id c.args.kind c.args.page c.args.most c.requires.of_file) c.ranges.id.fits c.requires.numbers;
-  same_id = refl;
-  same_first = refl;
-  few = c.in-Ok.ensures.form.few;
-}
+pub returns-clause-run : goal.returns-clause-run
+returns-clause-run g c =
+    let layout = (view_of c.args.filer.now).layout in
+    let is = (accepted c.args.filer.now) in
+    let run = row_run c.args.id c.args.page c.in-Ok.taken.0 c.in-Ok.taken.1 in
+    let kept = c.in-Ok.ensures.stays.kept in
+    let lay : (view_of c.label_run.new.filer).layout ≡ layout = c.in-Ok-label_run.ensures.stays.layout ∙ kept.layout in
+    let frames = c.in-Ok-label_run.ensures.stays.frames in
+    let beside = rw (frames, lay) at c.in-Ok-add.ensures.beside in
+    let added = rw (frames, lay) at c.in-Ok-add.ensures.added in (
+      record {
+        form = run_in_form (view_of c.args.filer.now).layout c.args.id c.args.page c.args.most c.in-Ok.taken (accepted c.args.filer.now) c.in-Ok.ensures.form (above_maps c.args.id c.args.kind c.args.page c.args.most c.requires.of_file) c.ranges.id.fits c.requires.pages.1;
+        same_id = refl;
+        same_first = refl;
+        few = c.in-Ok.ensures.form.few;
+      },
+      λ few m marks stands bits below. (c.in-Ok.ensures.lowest m marks stands bits).longest few below,
+      rw c.frames_of.ensures.same (made_run is run c.args.kind c.args.most c.in-Ok.ensures.form kept c.in-Ok.ensures.taken c.in-Ok-label_run.ensures.writes.0 c.in-Ok-label_run.ensures.writes.1 beside added),
+    )
 
-pub returns-clause-makes : goal.returns-clause-makes
-returns-clause-makes g c =
+pub returns-clause-writes : goal.returns-clause-writes
+returns-clause-writes g c =
     rw c.frames_of.ensures.same
-    (added_makes (record { id = c.args.id; first = c.args.page; pages = c.in-Ok.taken.1; sector = c.in-Ok.taken.0 }) c.args.kind c.in-Ok.ensures.kept c.in-Ok-label_run.ensures.frames c.in-Ok-label_run.ensures.made c.in-Ok-add.ensures.beside)
+    (added_makes (record { id = c.args.id; first = c.args.page; pages = c.in-Ok.taken.1; sector = c.in-Ok.taken.0 }) c.args.kind c.in-Ok.ensures.stays.kept c.in-Ok-label_run.ensures.stays.frames c.in-Ok-label_run.ensures.writes.0 c.in-Ok-add.ensures.beside)
 
 pub returns-in-Err-clause-broken : goal.returns-in-Err-clause-broken
-returns-in-Err-clause-broken g c = λ x shapes spaces books hidden unowned some. none_grew c.in-Err.ensures.kept
+returns-in-Err-clause-broken g c = λ tables x shapes spaces books hidden unowned some. none_grew c.in-Err.ensures.stays.kept
 
 pub returns-in-Err-label_run-clause-broken : goal.returns-in-Err-label_run-clause-broken
-returns-in-Err-label_run-clause-broken g c = λ x shapes spaces books hidden unowned some.
+returns-in-Err-label_run-clause-broken g c = λ tables x shapes spaces books hidden unowned some.
     let layout = (view_of c.args.filer.now).layout in
     let is = (accepted c.args.filer.now) in
     let kept = c.args.filer.now.runs in
@@ -142,11 +154,11 @@ returns-in-Err-label_run-clause-broken g c = λ x shapes spaces books hidden uno
     let run = row_run c.args.id c.args.page c.in-Ok.taken.0 c.in-Ok.taken.1 in
     let lowest = c.in-Ok.ensures.lowest x marks books.stands bits in
     let taken = c.in-Ok.ensures.taken x marks books.stands bits in
-    labels_grew run c.args.kind c.in-Ok.ensures.kept c.in-Err-label_run.ensures.frames c.in-Ok.ensures.form.few
-    (row_was_free layout is kept shapes spaces x _ _ books hidden run c.args.most _ _ _ c.in-Ok.ensures.kept c.in-Ok.ensures.form lowest taken c.args.kind) c.in-Err-label_run.ensures.stopped
+    labels_grew run c.args.kind c.in-Ok.ensures.stays.kept c.in-Err-label_run.ensures.stays.frames c.in-Ok.ensures.form.few
+    (row_was_free layout is kept shapes spaces x _ _ books hidden run c.args.most _ _ _ c.in-Ok.ensures.stays.kept c.in-Ok.ensures.form lowest taken c.args.kind) c.in-Err-label_run.ensures.writes.0
 
 pub returns-in-Err-add-clause-broken : goal.returns-in-Err-add-clause-broken
-returns-in-Err-add-clause-broken g c = λ x shapes spaces books hidden unowned some.
+returns-in-Err-add-clause-broken g c = λ tables x shapes spaces books hidden unowned some.
     let layout = (view_of c.args.filer.now).layout in
     let is = (accepted c.args.filer.now) in
     let kept = c.args.filer.now.runs in
@@ -156,146 +168,141 @@ returns-in-Err-add-clause-broken g c = λ x shapes spaces books hidden unowned s
     let run = row_run c.args.id c.args.page c.in-Ok.taken.0 c.in-Ok.taken.1 in
     let lowest = c.in-Ok.ensures.lowest x marks books.stands bits in
     let taken = c.in-Ok.ensures.taken x marks books.stands bits in
-    all_grew run c.args.kind c.in-Ok.ensures.kept c.in-Ok-label_run.ensures.frames c.in-Ok.ensures.form.few
-    (row_was_free layout is kept shapes spaces x _ _ books hidden run c.args.most _ _ _ c.in-Ok.ensures.kept c.in-Ok.ensures.form lowest taken c.args.kind) c.in-Ok-label_run.ensures.made c.in-Err-add.ensures.beside
+    all_grew run c.args.kind c.in-Ok.ensures.stays.kept c.in-Ok-label_run.ensures.stays.frames c.in-Ok.ensures.form.few
+    (row_was_free layout is kept shapes spaces x _ _ books hidden run c.args.most _ _ _ c.in-Ok.ensures.stays.kept c.in-Ok.ensures.form lowest taken c.args.kind) c.in-Ok-label_run.ensures.writes.0 c.in-Err-add.ensures.beside
 
-pub returns-in-Err-label_run-clause-counted : goal.returns-in-Err-label_run-clause-counted
-returns-in-Err-label_run-clause-counted g c = counted_then _ _ _ c.in-Ok.ensures.kept.goes.makes.went.faults c.in-Err-label_run.ensures.counted
+pub returns-in-Err-label_run-clause-fails : goal.returns-in-Err-label_run-clause-fails
+returns-in-Err-label_run-clause-fails g c = record {
+  cause =
+      let form = c.in-Ok.ensures.form in
+      let pages = λ (p : ℕ). (c.args.page ≤ p) × (p < c.args.page + c.args.most) in
+      label_halts c.in-Ok.ensures.stays.kept c.in-Ok.taken.0 c.in-Ok.taken.1 form.above form.inside (λ m marks stands bits. (c.in-Ok.ensures.lowest m marks stands bits).free) c.args.id pages pages (view_of c.label_run.new.filer).disk (view_of c.label_run.new.filer).slots c.in-Err-label_run.halt c.in-Err-label_run.ensures.fails.cause;
+  counted = counted_then _ _ _ c.in-Ok.ensures.stays.kept.goes.makes.went.faults c.in-Err-label_run.ensures.fails.counted;
+  evidence_seen = search rules;
+}
 
-pub returns-in-Err-add-clause-counted : goal.returns-in-Err-add-clause-counted
-returns-in-Err-add-clause-counted g c =
-    let first = c.in-Ok.ensures.kept.goes.makes.went.faults in
-    let second = c.in-Ok-label_run.ensures.made.makes.went.faults in
-    counted _ _ (view_of c.label_run.new.filer).disk (view_of c.add.new.self).disk _ (omega (arith, first, second)) c.in-Err-add.ensures.cause
-
-pub returns-in-Err-add-clause-evidence_seen : goal.returns-in-Err-add-clause-evidence_seen
-returns-in-Err-add-clause-evidence_seen g c = so_of_add (fits (swapper_of c.label_run.new.filer) (search rules)) c.add.ensures.beside.goes.makes c.in-Err-add.halt c.in-Err-add.ensures.cause
-
-pub returns-in-Err-clause-cause : goal.returns-in-Err-clause-cause
-returns-in-Err-clause-cause g c =
-    let layout = (view_of c.args.filer.now).layout in
-    let pages = λ (p : ℕ). (c.args.page ≤ p) × (p < c.args.page + c.args.most) in
-    take_halts layout c.args.id pages pages c.args.page (let some = c.requires.some in (omega arith, omega (arith, some))) (view_of c.args.filer.now).disk (view_of c.take_run.new.filer).disk (view_of c.args.filer.now).slots (view_of c.take_run.new.filer).slots c.in-Err.halt c.in-Err.ensures.cause
-
-pub returns-in-Err-label_run-clause-cause : goal.returns-in-Err-label_run-clause-cause
-returns-in-Err-label_run-clause-cause g c =
-    let form = c.in-Ok.ensures.form in
-    let pages = λ (p : ℕ). (c.args.page ≤ p) × (p < c.args.page + c.args.most) in
-    label_halts c.in-Ok.ensures.kept c.in-Ok.taken.0 c.in-Ok.taken.1 form.above form.inside (λ m marks stands bits. (c.in-Ok.ensures.lowest m marks stands bits).free) c.args.id pages pages (view_of c.label_run.new.filer).disk (view_of c.label_run.new.filer).slots
-    c.in-Err-label_run.halt c.in-Err-label_run.ensures.cause
-
-pub returns-in-Err-add-clause-cause : goal.returns-in-Err-add-clause-cause
-returns-in-Err-add-clause-cause g c =
+pub returns-in-Err-add-clause-fails : goal.returns-in-Err-add-clause-fails
+returns-in-Err-add-clause-fails g c =
     let layout = (view_of c.args.filer.now).layout in
     let is = (accepted c.args.filer.now) in
     let run = row_run c.args.id c.args.page c.in-Ok.taken.0 c.in-Ok.taken.1 in
     let pages = λ (p : ℕ). (c.args.page ≤ p) × (p < c.args.page + c.args.most) in
-    let kept = c.in-Ok.ensures.kept in
+    let kept = c.in-Ok.ensures.stays.kept in
     let form = c.in-Ok.ensures.form in
     let fewer = form.few in
-    let lay : (view_of c.label_run.new.filer).layout ≡ layout = c.in-Ok-label_run.ensures.layout ∙ kept.layout in
-    let frames = c.in-Ok-label_run.ensures.frames in
-    let made = c.in-Ok-label_run.ensures.made in
-    let were = c.in-Ok-label_run.ensures.were in
+    let lay : (view_of c.label_run.new.filer).layout ≡ layout = c.in-Ok-label_run.ensures.stays.layout ∙ kept.layout in
+    let frames = c.in-Ok-label_run.ensures.stays.frames in
+    let made = c.in-Ok-label_run.ensures.writes.0 in
+    let were = c.in-Ok-label_run.ensures.writes.1 in
     let beside = rw (frames, lay) at c.add.ensures.beside in
-    added_halts run c.args.kind pages pages form.some (λ p own. let from = own.0 in let below = own.1 in (from, omega (arith, below, fewer))) (maps_come kept) (makes_then (map_makes kept) (labels_there refl made.makes))
-    (added_makes run c.args.kind kept refl made beside) (labelled_so is run c.args.kind c.args.most form kept c.in-Ok.ensures.taken made were) (bytes_revealed is run c.args.kind c.args.most form kept c.in-Ok.ensures.taken made were) beside
-    c.in-Err-add.halt (rw (frames, lay) at c.in-Err-add.ensures.cause) (rw (frames, lay) at c.in-Err-add.ensures.right)
+    let first = c.in-Ok.ensures.stays.kept.goes.makes.went.faults in
+    let second = c.in-Ok-label_run.ensures.writes.0.makes.went.faults in
+    record {
+      cause = added_halts run c.args.kind pages pages form.some (λ p own. let from = own.0 in let below = own.1 in (from, omega (arith, below, fewer))) (maps_come kept) (makes_then (map_makes kept) (labels_there refl made.makes)) (added_makes run c.args.kind kept refl made beside) (labelled_so is run c.args.kind c.args.most form kept c.in-Ok.ensures.taken made were) (bytes_revealed is run c.args.kind c.args.most form kept c.in-Ok.ensures.taken made were) beside c.in-Err-add.halt (rw (frames, lay) at c.in-Err-add.ensures.cause) (rw (frames, lay) at c.in-Err-add.ensures.right);
+      counted = counted _ _ (view_of c.label_run.new.filer).disk (view_of c.add.new.self).disk _ (omega (arith, first, second)) c.in-Err-add.ensures.cause;
+      evidence_seen = so_of_add (fits (swapper_of c.label_run.new.filer) (search rules)) c.add.ensures.beside.goes.makes c.in-Err-add.halt c.in-Err-add.ensures.cause;
+    }
 
-pub returns-clause-longest : goal.returns-clause-longest
-returns-clause-longest g c = λ few m marks stands bits below. (c.in-Ok.ensures.lowest m marks stands bits).longest few below
+pub returns-in-Err-clause-fails : goal.returns-in-Err-clause-fails
+returns-in-Err-clause-fails g c = record {
+  cause =
+      let layout = (view_of c.args.filer.now).layout in
+      let pages = λ (p : ℕ). (c.args.page ≤ p) × (p < c.args.page + c.args.most) in
+      take_halts layout c.args.id pages pages c.args.page (let some = c.requires.pages.0 in (omega arith, omega (arith, some))) (view_of c.args.filer.now).disk (view_of c.take_run.new.filer).disk (view_of c.args.filer.now).slots (view_of c.take_run.new.filer).slots c.in-Err.halt c.in-Err.ensures.fails.cause;
+  counted = search rules;
+  evidence_seen = search rules;
+}
 
-pub returns-clause-takes : goal.returns-clause-takes
-returns-clause-takes g c =
-    let layout = (view_of c.args.filer.now).layout in
-    let is = (accepted c.args.filer.now) in
-    let run = row_run c.args.id c.args.page c.in-Ok.taken.0 c.in-Ok.taken.1 in
-    let kept = c.in-Ok.ensures.kept in
-    let lay : (view_of c.label_run.new.filer).layout ≡ layout = c.in-Ok-label_run.ensures.layout ∙ kept.layout in
-    let frames = c.in-Ok-label_run.ensures.frames in
-    let beside = rw (frames, lay) at c.in-Ok-add.ensures.beside in
-    let added = rw (frames, lay) at c.in-Ok-add.ensures.added in
-    rw c.frames_of.ensures.same (made_run is run c.args.kind c.args.most c.in-Ok.ensures.form kept c.in-Ok.ensures.taken c.in-Ok-label_run.ensures.made c.in-Ok-label_run.ensures.were beside added)
+pub returns-in-Err-clause-stays : goal.returns-in-Err-clause-stays
+returns-in-Err-clause-stays g c = record { come = maps_come c.in-Err.ensures.stays.kept; layout = search rules; runs = search rules }
 
-pub returns-in-Err-clause-come : goal.returns-in-Err-clause-come
-returns-in-Err-clause-come g c = maps_come c.in-Err.ensures.kept
+pub returns-in-Err-label_run-clause-stays : goal.returns-in-Err-label_run-clause-stays
+returns-in-Err-label_run-clause-stays g c = record {
+  come = subst (λ (s : Slots). Brings (IsMapsHome (view_of c.args.filer.now).layout) (view_of c.args.filer.now).slots s) (sym c.in-Err-label_run.ensures.stays.frames) (maps_come c.in-Ok.ensures.stays.kept);
+  layout = search rules;
+  runs = search rules;
+}
 
-pub returns-in-Err-label_run-clause-come : goal.returns-in-Err-label_run-clause-come
-returns-in-Err-label_run-clause-come g c = subst (λ (s : Slots). Brings (IsMapsHome (view_of c.args.filer.now).layout) (view_of c.args.filer.now).slots s) (sym c.in-Err-label_run.ensures.frames) (maps_come c.in-Ok.ensures.kept)
+pub returns-in-Err-add-clause-stays : goal.returns-in-Err-add-clause-stays
+returns-in-Err-add-clause-stays g c = record {
+  come =
+      let layout = (view_of c.args.filer.now).layout in
+      let lay : (view_of c.label_run.new.filer).layout ≡ layout = c.in-Ok-label_run.ensures.stays.layout ∙ c.in-Ok.ensures.stays.kept.layout in
+      brings_then (subst (λ (s : Slots). Brings (IsMapsHome layout) (view_of c.args.filer.now).slots s) (sym c.in-Ok-label_run.ensures.stays.frames) (maps_come c.in-Ok.ensures.stays.kept)) (maps_come (rw lay at c.in-Err-add.ensures.beside));
+  layout = search rules;
+  runs = search rules;
+}
 
-pub returns-in-Err-add-clause-come : goal.returns-in-Err-add-clause-come
-returns-in-Err-add-clause-come g c =
-    let layout = (view_of c.args.filer.now).layout in
-    let lay : (view_of c.label_run.new.filer).layout ≡ layout = c.in-Ok-label_run.ensures.layout ∙ c.in-Ok.ensures.kept.layout in
-    brings_then (subst (λ (s : Slots). Brings (IsMapsHome layout) (view_of c.args.filer.now).slots s) (sym c.in-Ok-label_run.ensures.frames) (maps_come c.in-Ok.ensures.kept)) (maps_come (rw lay at c.in-Err-add.ensures.beside))
+pub returns-clause-stays : goal.returns-clause-stays
+returns-clause-stays g c = record {
+  come =
+      let layout = (view_of c.args.filer.now).layout in
+      let lay : (view_of c.label_run.new.filer).layout ≡ layout = c.in-Ok-label_run.ensures.stays.layout ∙ c.in-Ok.ensures.stays.kept.layout in
+      rw c.frames_of.ensures.same (brings_then (subst (λ (s : Slots). Brings (IsMapsHome layout) (view_of c.args.filer.now).slots s) (sym c.in-Ok-label_run.ensures.stays.frames) (maps_come c.in-Ok.ensures.stays.kept)) (maps_come (rw lay at c.in-Ok-add.ensures.beside)));
+  layout = search rules;
+  runs = search rules;
+}
 
-pub returns-clause-come : goal.returns-clause-come
-returns-clause-come g c =
-    let layout = (view_of c.args.filer.now).layout in
-    let lay : (view_of c.label_run.new.filer).layout ≡ layout = c.in-Ok-label_run.ensures.layout ∙ c.in-Ok.ensures.kept.layout in
-    rw c.frames_of.ensures.same
-    (brings_then (subst (λ (s : Slots). Brings (IsMapsHome layout) (view_of c.args.filer.now).slots s) (sym c.in-Ok-label_run.ensures.frames) (maps_come c.in-Ok.ensures.kept)) (maps_come (rw lay at c.in-Ok-add.ensures.beside)))
+pub returns-in-Err-clause-accounts : goal.returns-in-Err-clause-accounts
+returns-in-Err-clause-accounts g c = λ o named h nothing. c.in-Err.ensures.reasons o named h
 
-pub returns-in-Err-clause-reasons : goal.returns-in-Err-clause-reasons
-returns-in-Err-clause-reasons g c = λ o named h nothing. c.in-Err.ensures.reasons o named h
-
-pub returns-in-Err-label_run-clause-reasons : goal.returns-in-Err-label_run-clause-reasons
-returns-in-Err-label_run-clause-reasons g c = λ o named h nothing.
-    let kept = c.in-Ok.ensures.kept in
+pub returns-in-Err-label_run-clause-accounts : goal.returns-in-Err-label_run-clause-accounts
+returns-in-Err-label_run-clause-accounts g c = λ o named h nothing.
+    let kept = c.in-Ok.ensures.stays.kept in
     let form = c.in-Ok.ensures.form in
     let run = row_run c.args.id c.args.page c.in-Ok.taken.0 c.in-Ok.taken.1 in
-    let some = c.in-Err-label_run.ensures.named in
+    let some = c.in-Err-label_run.ensures.writes.1 in
     label_reasons_taken h kept run c.args.kind some form.above form.inside (λ m marks stands bits. (c.in-Ok.ensures.lowest m marks stands bits).free)
-    (some_labelled run c.args.kind kept c.in-Err-label_run.ensures.frames (record { count = some.count; within = some.within; makes = some.makes }))
-    c.in-Err-label_run.halt c.in-Err-label_run.ensures.cause
+    (some_labelled run c.args.kind kept c.in-Err-label_run.ensures.stays.frames (record { count = some.count; within = some.within; makes = some.makes }))
+    c.in-Err-label_run.halt c.in-Err-label_run.ensures.fails.cause
 
-pub returns-in-Err-add-clause-reasons : goal.returns-in-Err-add-clause-reasons
-returns-in-Err-add-clause-reasons g c = λ o named h nothing.
+pub returns-in-Err-add-clause-accounts : goal.returns-in-Err-add-clause-accounts
+returns-in-Err-add-clause-accounts g c = λ o named h nothing.
     let layout = (view_of c.args.filer.now).layout in
     let is = (accepted c.args.filer.now) in
     let run = row_run c.args.id c.args.page c.in-Ok.taken.0 c.in-Ok.taken.1 in
-    let kept = c.in-Ok.ensures.kept in
+    let kept = c.in-Ok.ensures.stays.kept in
     let form = c.in-Ok.ensures.form in
-    let lay : (view_of c.label_run.new.filer).layout ≡ layout = c.in-Ok-label_run.ensures.layout ∙ kept.layout in
-    let frames = c.in-Ok-label_run.ensures.frames in
-    let made = c.in-Ok-label_run.ensures.made in
+    let lay : (view_of c.label_run.new.filer).layout ≡ layout = c.in-Ok-label_run.ensures.stays.layout ∙ kept.layout in
+    let frames = c.in-Ok-label_run.ensures.stays.frames in
+    let made = c.in-Ok-label_run.ensures.writes.0 in
     let beside = rw (frames, lay) at c.add.ensures.beside in
-    add_reasons h is run c.args.kind c.args.most form kept c.in-Ok.ensures.taken made c.in-Ok-label_run.ensures.were beside (added_makes run c.args.kind kept refl made beside) (few_none run named c.args.most form.few nothing)
+    add_reasons h is run c.args.kind c.args.most form kept c.in-Ok.ensures.taken made c.in-Ok-label_run.ensures.writes.1 beside (added_makes run c.args.kind kept refl made beside) (few_none run named c.args.most form.few nothing)
     c.in-Err-add.halt (rw (frames, lay) at c.in-Err-add.ensures.cause) (rw (frames, lay) at c.in-Err-add.ensures.right)
 
-pub returns-clause-keeps_to : goal.returns-clause-keeps_to
-returns-clause-keeps_to g c = λ o named h may untold nothing.
+pub returns-clause-accounts : goal.returns-clause-accounts
+returns-clause-accounts g c = λ o named h nothing may untold.
     let layout = (view_of c.args.filer.now).layout in
     let is = (accepted c.args.filer.now) in
     let run = row_run c.args.id c.args.page c.in-Ok.taken.0 c.in-Ok.taken.1 in
-    let kept = c.in-Ok.ensures.kept in
+    let kept = c.in-Ok.ensures.stays.kept in
     let form = c.in-Ok.ensures.form in
-    let lay : (view_of c.label_run.new.filer).layout ≡ layout = c.in-Ok-label_run.ensures.layout ∙ kept.layout in
-    let frames = c.in-Ok-label_run.ensures.frames in
-    let made = c.in-Ok-label_run.ensures.made in
+    let lay : (view_of c.label_run.new.filer).layout ≡ layout = c.in-Ok-label_run.ensures.stays.layout ∙ kept.layout in
+    let frames = c.in-Ok-label_run.ensures.stays.frames in
+    let made = c.in-Ok-label_run.ensures.writes.0 in
     let beside = rw (frames, lay) at c.in-Ok-add.ensures.beside in
     let added = rw (frames, lay) at c.in-Ok-add.ensures.added in
-    rw c.frames_of.ensures.same (keeps_as (c.in-Ok-add.ensures.beside.layout ∙ lay) (c.in-Ok-add.ensures.runs ∙ c.in-Ok-label_run.ensures.runs ∙ c.in-Ok.ensures.runs)
-    (run_keeps h is run c.args.kind c.args.most form kept c.in-Ok.ensures.taken made c.in-Ok-label_run.ensures.were beside (added_makes run c.args.kind kept refl made beside) (few_none run named c.args.most form.few nothing) may untold added))
+    rw c.frames_of.ensures.same (keeps_as (c.in-Ok-add.ensures.beside.layout ∙ lay) (c.in-Ok-add.ensures.runs ∙ c.in-Ok-label_run.ensures.stays.runs ∙ c.in-Ok.ensures.stays.runs)
+    (run_keeps h is run c.args.kind c.args.most form kept c.in-Ok.ensures.taken made c.in-Ok-label_run.ensures.writes.1 beside (added_makes run c.args.kind kept refl made beside) (few_none run named c.args.most form.few nothing) may untold added))
 
 pub returns-clause-tables : goal.returns-clause-tables
 returns-clause-tables g c = λ o named b tables fits long h nothing.
     let layout = (view_of c.args.filer.now).layout in
     let is = (accepted c.args.filer.now) in
     let run = row_run c.args.id c.args.page c.in-Ok.taken.0 c.in-Ok.taken.1 in
-    let kept = c.in-Ok.ensures.kept in
+    let kept = c.in-Ok.ensures.stays.kept in
     let form = c.in-Ok.ensures.form in
-    let lay : (view_of c.label_run.new.filer).layout ≡ layout = c.in-Ok-label_run.ensures.layout ∙ kept.layout in
-    let frames = c.in-Ok-label_run.ensures.frames in
-    let made = c.in-Ok-label_run.ensures.made in
+    let lay : (view_of c.label_run.new.filer).layout ≡ layout = c.in-Ok-label_run.ensures.stays.layout ∙ kept.layout in
+    let frames = c.in-Ok-label_run.ensures.stays.frames in
+    let made = c.in-Ok-label_run.ensures.writes.0 in
     let beside = rw (frames, lay) at c.in-Ok-add.ensures.beside in
     let added = rw (frames, lay) at c.in-Ok-add.ensures.added in
     let all = b ++ replicate (512 * run.pages) 0 in
     rw c.frames_of.ensures.same (
       all,
       (
-        keeps_as (c.in-Ok-add.ensures.beside.layout ∙ lay) (c.in-Ok-add.ensures.runs ∙ c.in-Ok-label_run.ensures.runs ∙ c.in-Ok.ensures.runs)
-            (run_tables o b h is run c.args.kind c.args.most form kept c.in-Ok.ensures.taken made c.in-Ok-label_run.ensures.were beside (added_makes run c.args.kind kept refl made beside) (few_none run named c.args.most form.few nothing)
+        keeps_as (c.in-Ok-add.ensures.beside.layout ∙ lay) (c.in-Ok-add.ensures.runs ∙ c.in-Ok-label_run.ensures.stays.runs ∙ c.in-Ok.ensures.stays.runs)
+            (run_tables o b h is run c.args.kind c.args.most form kept c.in-Ok.ensures.taken made c.in-Ok-label_run.ensures.writes.1 beside (added_makes run c.args.kind kept refl made beside) (few_none run named c.args.most form.few nothing)
             tables (run_within c.args.page run.pages c.args.most form.few fits) long added),
         zeros_more b c.args.page run.pages long,
       ),

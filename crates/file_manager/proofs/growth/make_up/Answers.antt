@@ -14,16 +14,18 @@ loop-page-init g c = up_none _ _ _ _ _ _ _ _ c.requires.order c.requires.size
 pub loop-page-preserved : goal.loop-page-preserved
 loop-page-preserved g c =
     let below : c.loop-page.page < c.args.end = search rules in
-    up_more _ _ _ _ c.loop-page.page _ _ _ (accepted c.args.filer.now) _ _ _ _ _ c.loop-page.invariant c.requires.numbers c.in-Ok.run' _ _ _ _ below c.in-Ok.ensures.form c.in-Ok.ensures.makes (c.in-Ok.ensures.made 96) c.in-Ok.ensures.layout c.in-Ok.ensures.runs c.in-Ok.ensures.cost_made c.make_run.ensures.come c.in-Ok.ensures.takes c.in-Ok.ensures.longest c.in-Ok.ensures.keeps_to
+    up_more _ _ _ _ c.loop-page.page _ _ _ (accepted c.args.filer.now) _ _ _ _ _ c.loop-page.invariant c.requires.numbers c.in-Ok.run' _ _ _ _ below c.in-Ok.ensures.run.0 c.in-Ok.ensures.writes c.in-Ok.ensures.made c.in-Ok.ensures.stays.layout c.in-Ok.ensures.stays.runs c.in-Ok.ensures.cost.1 c.make_run.ensures.stays.come c.in-Ok.ensures.run.2 c.in-Ok.ensures.run.1 (λ o named h may untold none. c.in-Ok.ensures.accounts o named h none may untold)
 
-pub returns-in-Err-clause-sound : goal.returns-in-Err-clause-sound
-returns-in-Err-clause-sound g c =
+pub returns-in-Err-clause-made : goal.returns-in-Err-clause-made
+returns-in-Err-clause-made g c =
     let below : c.loop-page.page < c.args.end = search rules in
-    up_sound _ c.args.kind _ _ c.loop-page.page _ _ _ (accepted c.args.filer.now) _ _ _ _ _ c.loop-page.invariant c.requires.numbers c.in-Err.halt below (c.in-Err.ensures.sound 96)
+    let sound = up_sound _ c.args.kind _ _ c.loop-page.page _ _ _ (accepted c.args.filer.now) _ _ _ _ _ c.loop-page.invariant c.requires.numbers c.in-Err.halt below c.in-Err.ensures.made in
+    let broken = up_broken _ c.args.kind _ _ c.loop-page.page _ _ _ (accepted c.args.filer.now) _ _ _ _ _ c.loop-page.invariant c.requires.numbers _ _ below c.in-Err.ensures.broken in
+    λ tables x shapes spaces f may size. (sound tables x shapes spaces f may size, broken tables x shapes spaces f may size)
 
-pub returns-in-Err-clause-stopped : goal.returns-in-Err-clause-stopped
-returns-in-Err-clause-stopped g c =
-    up_stopped _ _ _ _ c.loop-page.page _ _ _ (accepted c.args.filer.now) _ _ _ _ _ c.loop-page.invariant c.requires.numbers _ _ c.loop-page.invariant.below c.in-Err.ensures.stopped
+pub returns-in-Err-clause-writes : goal.returns-in-Err-clause-writes
+returns-in-Err-clause-writes g c =
+    up_stopped _ _ _ _ c.loop-page.page _ _ _ (accepted c.args.filer.now) _ _ _ _ _ c.loop-page.invariant c.requires.numbers _ _ c.loop-page.invariant.below c.in-Err.ensures.writes
 
 pub returns-clause-made : goal.returns-clause-made
 returns-clause-made g c =
@@ -33,37 +35,35 @@ returns-clause-made g c =
 pub returns-in-Err-clause-cost : goal.returns-in-Err-clause-cost
 returns-in-Err-clause-cost g c =
     let below : c.loop-page.page < c.args.end = search rules in
-    up_cost _ c.args.kind _ _ c.loop-page.page _ _ _ (accepted c.args.filer.now) _ _ _ _ _ c.loop-page.invariant c.requires.numbers (view_of c.make_run.new.filer).disk below c.in-Err.ensures.cost
+    up_cost _ c.args.kind _ _ c.loop-page.page _ _ _ (accepted c.args.filer.now) _ _ _ _ _ c.loop-page.invariant c.requires.numbers (view_of c.make_run.new.filer).disk below c.in-Err.ensures.cost.0
 
-pub returns-in-Err-clause-broken : goal.returns-in-Err-clause-broken
-returns-in-Err-clause-broken g c =
-    let below : c.loop-page.page < c.args.end = search rules in
-    up_broken _ c.args.kind _ _ c.loop-page.page _ _ _ (accepted c.args.filer.now) _ _ _ _ _ c.loop-page.invariant c.requires.numbers _ _ below c.in-Err.ensures.broken
+pub returns-in-Err-clause-fails : goal.returns-in-Err-clause-fails
+returns-in-Err-clause-fails g c = record {
+  cause =
+      let below : c.loop-page.page < c.args.end = search rules in
+      up_cause _ c.args.kind _ _ c.loop-page.page _ _ _ (accepted c.args.filer.now) _ _ _ _ _ c.loop-page.invariant c.requires.numbers (λ p. (c.args.from ≤ p) × (p < c.args.end)) (λ p own. own) (view_of c.make_run.new.filer).disk (view_of c.make_run.new.filer).slots c.in-Err.halt below (rw c.loop-page.invariant.same_layout at c.in-Err.ensures.fails.cause);
+  counted = counted_then _ _ _ c.loop-page.invariant.makes.makes.went.faults c.in-Err.ensures.fails.counted;
+  evidence_seen = search rules;
+}
 
-pub returns-in-Err-clause-counted : goal.returns-in-Err-clause-counted
-returns-in-Err-clause-counted g c = counted_then _ _ _ c.loop-page.invariant.makes.makes.went.faults c.in-Err.ensures.counted
+pub returns-in-Err-clause-stays : goal.returns-in-Err-clause-stays
+returns-in-Err-clause-stays g c = record {
+  come = brings_then c.loop-page.invariant.come (rw c.loop-page.invariant.same_layout at c.in-Err.ensures.stays.come);
+  layout = search rules;
+  runs = search rules;
+}
 
-pub returns-in-Err-clause-cause : goal.returns-in-Err-clause-cause
-returns-in-Err-clause-cause g c =
-    let below : c.loop-page.page < c.args.end = search rules in
-    up_cause _ c.args.kind _ _ c.loop-page.page _ _ _ (accepted c.args.filer.now) _ _ _ _ _ c.loop-page.invariant c.requires.numbers (λ p. (c.args.from ≤ p) × (p < c.args.end)) (λ p own. own) (view_of c.make_run.new.filer).disk (view_of c.make_run.new.filer).slots c.in-Err.halt below (rw c.loop-page.invariant.same_layout at c.in-Err.ensures.cause)
+pub returns-clause-stays : goal.returns-clause-stays
+returns-clause-stays g c = record { come = c.loop-page.invariant.come; layout = search rules; runs = search rules }
 
-pub returns-in-Err-clause-come : goal.returns-in-Err-clause-come
-returns-in-Err-clause-come g c = brings_then c.loop-page.invariant.come (rw c.loop-page.invariant.same_layout at c.in-Err.ensures.come)
+pub returns-clause-writes : goal.returns-clause-writes
+returns-clause-writes g c = (search rules, let all : c.loop-page.page ≡ c.args.end = search rules in rw all at c.loop-page.invariant.takes)
 
-pub returns-clause-come : goal.returns-clause-come
-returns-clause-come g c = c.loop-page.invariant.come
+pub returns-clause-accounts : goal.returns-clause-accounts
+returns-clause-accounts g c = λ o named h may none. let now = c.loop-page.invariant.keeps o named h may (file_untold o c.args.id c.requires.of_file) none in (now.0, now.1, tables_still named now.0 now.3)
 
-pub returns-clause-takes : goal.returns-clause-takes
-returns-clause-takes g c =
-    let all : c.loop-page.page ≡ c.args.end = search rules in
-    rw all at c.loop-page.invariant.takes
-
-pub returns-clause-keeps_to : goal.returns-clause-keeps_to
-returns-clause-keeps_to g c = λ o named h may none. let now = c.loop-page.invariant.keeps o named h may (file_untold o c.args.id c.requires.of_file) none in (now.0, now.1, tables_still named now.0 now.3)
-
-pub returns-in-Err-clause-reasons : goal.returns-in-Err-clause-reasons
-returns-in-Err-clause-reasons g c = λ o named h may none.
+pub returns-in-Err-clause-accounts : goal.returns-in-Err-clause-accounts
+returns-in-Err-clause-accounts g c = λ o named h may none.
     let below : c.loop-page.page < c.args.end = search rules in
     let now = c.loop-page.invariant.keeps o named h may (file_untold o c.args.id c.requires.of_file) none in
-    rw c.loop-page.invariant.same_layout at (c.in-Err.ensures.reasons o now.0 now.1 (λ p sector own. let last = own.1 in now.2 p sector (own.0, omega (arith, last, below))))
+    rw c.loop-page.invariant.same_layout at (c.in-Err.ensures.accounts o now.0 now.1 (λ p sector own. let last = own.1 in now.2 p sector (own.0, omega (arith, last, below))))

@@ -19,32 +19,24 @@ returns-in-Err-Mem-clause-sound g c = λ m marks k stands bits named above below
     let cause : IfMem (λ e. e ≡ halt.Disk) c.in-Err-Mem.field-0 = c.in-Err-Mem.ensures.sound m stands named in
     rw (c.in-Err-Mem.field-0-is, c.in-Err-Mem.halt-is) at cause
 
-pub returns-in-Err-NoRoom-clause-counted : goal.returns-in-Err-NoRoom-clause-counted
-returns-in-Err-NoRoom-clause-counted g c = no_fault
-
-pub returns-in-Err-Mem-clause-counted : goal.returns-in-Err-Mem-clause-counted
-returns-in-Err-Mem-clause-counted g c =
-    let cause = c.in-Err-Mem.ensures.cause in
-    counted _ _ (view_of c.args.filer.now).disk (view_of c.take.new.self).disk _ (omega arith) (rw (c.in-Err-Mem.field-0-is, c.in-Err-Mem.halt-is) at cause)
-
-pub returns-in-Err-NoRoom-clause-evidence_seen : goal.returns-in-Err-NoRoom-clause-evidence_seen
-returns-in-Err-NoRoom-clause-evidence_seen g c = inl (refl, omega arith)
-
-pub returns-in-Err-Mem-clause-evidence_seen : goal.returns-in-Err-Mem-clause-evidence_seen
-returns-in-Err-Mem-clause-evidence_seen g c =
-    let cause = c.in-Err-Mem.ensures.cause in
-    so_of_halts (fits (swapper_of c.args.filer.now) c.requires.size) c.take.ensures.kept.goes.makes _ _ (map_homes_placed AllocationMap _) (rw (c.in-Err-Mem.field-0-is, c.in-Err-Mem.halt-is) at cause)
-
-pub returns-in-Err-NoRoom-clause-cause : goal.returns-in-Err-NoRoom-clause-cause
-returns-in-Err-NoRoom-clause-cause g c =
+pub returns-in-Err-NoRoom-clause-fails : goal.returns-in-Err-NoRoom-clause-fails
+returns-in-Err-NoRoom-clause-fails g c =
     let full = rw (c.in-Err-NoRoom.is, c.in-Err-NoRoom.field-0-is) at c.take.ensures.no_room in
     let same = rw (c.in-Err-NoRoom.is, c.in-Err-NoRoom.field-0-is) at c.take.ensures.same in
-    (refl, refl, λ m marks stands bits. (full m marks stands bits refl, same m marks stands bits refl))
+    record {
+      cause = (refl, refl, λ m marks stands bits. (full m marks stands bits refl, same m marks stands bits refl));
+      counted = no_fault;
+      evidence_seen = inl (refl, omega arith);
+    }
 
-pub returns-in-Err-Mem-clause-cause : goal.returns-in-Err-Mem-clause-cause
-returns-in-Err-Mem-clause-cause g c =
+pub returns-in-Err-Mem-clause-fails : goal.returns-in-Err-Mem-clause-fails
+returns-in-Err-Mem-clause-fails g c =
     let cause = c.in-Err-Mem.ensures.cause in
-    taken_halt (view_of c.args.filer.now).layout (view_of c.args.filer.now).disk (view_of c.take.new.self).disk (view_of c.args.filer.now).slots (view_of c.take.new.self).slots _ (rw (c.in-Err-Mem.field-0-is, c.in-Err-Mem.halt-is) at cause)
+    record {
+      cause = taken_halt (view_of c.args.filer.now).layout (view_of c.args.filer.now).disk (view_of c.take.new.self).disk (view_of c.args.filer.now).slots (view_of c.take.new.self).slots _ (rw (c.in-Err-Mem.field-0-is, c.in-Err-Mem.halt-is) at cause);
+      counted = counted _ _ (view_of c.args.filer.now).disk (view_of c.take.new.self).disk _ (omega arith) (rw (c.in-Err-Mem.field-0-is, c.in-Err-Mem.halt-is) at cause);
+      evidence_seen = so_of_halts (fits (swapper_of c.args.filer.now) c.requires.size) c.take.ensures.kept.goes.makes _ _ (map_homes_placed AllocationMap _) (rw (c.in-Err-Mem.field-0-is, c.in-Err-Mem.halt-is) at cause);
+    }
 
 pub returns-in-Err-NoRoom-clause-reasons : goal.returns-in-Err-NoRoom-clause-reasons
 returns-in-Err-NoRoom-clause-reasons g c = λ o named h.

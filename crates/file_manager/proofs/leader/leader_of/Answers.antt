@@ -18,96 +18,107 @@ use Rattle.file_manager.proofs.leader.leader_of.Goals as goal
 use Rattle.filer_kernel.specs.View.{accepted, swapper_of, view_of}
 
 pub returns-in-Ok-Some-clause-revealed : goal.returns-in-Ok-Some-clause-revealed
-returns-in-Ok-Some-clause-revealed g c = λ x shapes spaces books.
+returns-in-Ok-Some-clause-revealed g c = λ tables x shapes spaces books.
     let is : IsLayout (view_of c.args.filer.now).layout = search rules in
     let b = books.booked in
     let here = c.in-Ok-Some.ensures.found x b.named books.stands (map_is _ _ shapes x is b) (kept_are _ _ shapes x is b) in
     let found = subst (IsFound b.named c.args.id leader_page) c.in-Ok-Some.field-0-is here in
-    b.triples.only c.args.id leader_page _ (found.1 leader_page found.0)
+    let map = map_is _ _ shapes x is b in (
+      b.triples.only c.args.id leader_page _ (found.1 leader_page found.0),
+      books_stay _ _ _ _ _ _ _ shapes spaces x books (c.find.ensures.same x b.named books.stands map) (own_maps FileMap (view_of c.args.filer.now).layout _ _ c.find.ensures.beside.brings) (c.find.ensures.runs_are x b.named books.stands map (kept_are _ _ shapes x is b)),
+    )
 
-pub returns-in-Ok-Some-clause-same : goal.returns-in-Ok-Some-clause-same
-returns-in-Ok-Some-clause-same g c = λ x shapes spaces books.
-    let is : IsLayout (view_of c.args.filer.now).layout = search rules in
-    let b = books.booked in
-    let map = map_is _ _ shapes x is b in
-    books_stay _ _ _ _ _ _ _ shapes spaces x books (c.find.ensures.same x b.named books.stands map) (own_maps FileMap (view_of c.args.filer.now).layout _ _ c.find.ensures.beside.brings) (c.find.ensures.runs_are x b.named books.stands map (kept_are _ _ shapes x is b))
-
-pub returns-in-Ok-Some-clause-place : goal.returns-in-Ok-Some-clause-place
-returns-in-Ok-Some-clause-place g c =
+pub returns-in-Ok-Some-clause-found : goal.returns-in-Ok-Some-clause-found
+returns-in-Ok-Some-clause-found g c =
     let is : IsLayout (view_of c.args.filer.now).layout = search rules in
     let form : IsRun (view_of c.args.filer.now).layout.sectors c.in-Ok-Some.run' = subst (λ (o : Option Run). IfSome o (λ run. IsRun (view_of c.args.filer.now).layout.sectors run)) c.in-Ok-Some.field-0-is c.in-Ok-Some.ensures.form in
     let has : holds c.in-Ok-Some.run' c.args.id leader_page ≡ true = subst (λ (o : Option Run). IfSome o (λ run. holds run c.args.id leader_page ≡ true)) c.in-Ok-Some.field-0-is c.in-Ok-Some.ensures.holds in
-    run_place (view_of c.args.filer.now).layout c.in-Ok-Some.run' c.args.id leader_page is form has
+    let layout = (view_of c.args.filer.now).layout in
+    let old = (view_of c.args.filer.now).disk in
+    let kept = runs_of layout.sectors c.args.filer.now.runs in (
+      run_place (view_of c.args.filer.now).layout c.in-Ok-Some.run' c.args.id leader_page is form has,
+      record { run = c.in-Ok-Some.run'; given = subst (λ (o : Option Run). IfSome o (λ run. IsGiven layout old (view_of c.args.filer.now).slots kept run)) c.in-Ok-Some.field-0-is c.in-Ok-Some.ensures.given; form = subst (λ (o : Option Run). IfSome o (λ run. IsRun layout.sectors run)) c.in-Ok-Some.field-0-is c.in-Ok-Some.ensures.form; has = subst (λ (o : Option Run). IfSome o (λ run. holds run c.args.id leader_page ≡ true)) c.in-Ok-Some.field-0-is c.in-Ok-Some.ensures.holds; at = refl },
+    )
 
 pub returns-in-Ok-None-clause-revealed : goal.returns-in-Ok-None-clause-revealed
-returns-in-Ok-None-clause-revealed g c = λ x shapes spaces books.
+returns-in-Ok-None-clause-revealed g c = λ tables x shapes spaces books.
     let is : IsLayout (view_of c.args.filer.now).layout = search rules in
     let b = books.booked in
     let here = c.in-Ok-None.ensures.found x b.named books.stands (map_is _ _ shapes x is b) (kept_are _ _ shapes x is b) in
     let nowhere : IsNowhere b.named c.args.id leader_page = subst (IsFound b.named c.args.id leader_page) c.in-Ok-None.field-0-is here in
-    no_leader _ _ shapes x b c.args.id nowhere
-
-pub returns-in-Ok-None-clause-same : goal.returns-in-Ok-None-clause-same
-returns-in-Ok-None-clause-same g c = λ x shapes spaces books.
-    let is : IsLayout (view_of c.args.filer.now).layout = search rules in
-    let b = books.booked in
-    let map = map_is _ _ shapes x is b in
-    books_stay _ _ _ _ _ _ _ shapes spaces x books (c.find.ensures.same x b.named books.stands map) (own_maps FileMap (view_of c.args.filer.now).layout _ _ c.find.ensures.beside.brings) (c.find.ensures.runs_are x b.named books.stands map (kept_are _ _ shapes x is b))
+    let map = map_is _ _ shapes x is b in (
+      no_leader _ _ shapes x b c.args.id nowhere,
+      books_stay _ _ _ _ _ _ _ shapes spaces x books (c.find.ensures.same x b.named books.stands map) (own_maps FileMap (view_of c.args.filer.now).layout _ _ c.find.ensures.beside.brings) (c.find.ensures.runs_are x b.named books.stands map (kept_are _ _ shapes x is b)),
+    )
 
 pub returns-in-Err-clause-revealed : goal.returns-in-Err-clause-revealed
-returns-in-Err-clause-revealed g c = λ x shapes spaces books.
+returns-in-Err-clause-revealed g c = λ tables x shapes spaces books.
     let is : IsLayout (view_of c.args.filer.now).layout = search rules in
     let b = books.booked in
-    c.in-Err.ensures.sound x b.named books.stands (map_is _ _ shapes x is b) (map_named _ x is b.long b.map_labels)
+    let map = map_is _ _ shapes x is b in (
+      c.in-Err.ensures.sound x b.named books.stands (map_is _ _ shapes x is b) (map_named _ x is b.long b.map_labels),
+      books_stay _ _ _ _ _ _ _ shapes spaces x books (c.find.ensures.same x b.named books.stands map) (own_maps FileMap (view_of c.args.filer.now).layout _ _ c.find.ensures.beside.brings) (c.find.ensures.runs_are x b.named books.stands map (kept_are _ _ shapes x is b)),
+    )
 
-pub returns-in-Err-clause-same : goal.returns-in-Err-clause-same
-returns-in-Err-clause-same g c = λ x shapes spaces books.
-    let is : IsLayout (view_of c.args.filer.now).layout = search rules in
-    let b = books.booked in
-    let map = map_is _ _ shapes x is b in
-    books_stay _ _ _ _ _ _ _ shapes spaces x books (c.find.ensures.same x b.named books.stands map) (own_maps FileMap (view_of c.args.filer.now).layout _ _ c.find.ensures.beside.brings) (c.find.ensures.runs_are x b.named books.stands map (kept_are _ _ shapes x is b))
-
-pub returns-in-Err-clause-counted : goal.returns-in-Err-clause-counted
-returns-in-Err-clause-counted g c = counted _ _ (view_of c.args.filer.now).disk (view_of c.find.new.self).disk _ (omega arith) c.in-Err.ensures.cause
-
-pub returns-in-Ok-Some-clause-given : goal.returns-in-Ok-Some-clause-given
-returns-in-Ok-Some-clause-given g c =
-    let layout = (view_of c.args.filer.now).layout in
-    let old = (view_of c.args.filer.now).disk in
-    let kept = runs_of layout.sectors c.args.filer.now.runs in
-    record {
-      run = c.in-Ok-Some.run';
-      given = subst (λ (o : Option Run). IfSome o (λ run. IsGiven layout old (view_of c.args.filer.now).slots kept run)) c.in-Ok-Some.field-0-is c.in-Ok-Some.ensures.given;
-      form = subst (λ (o : Option Run). IfSome o (λ run. IsRun layout.sectors run)) c.in-Ok-Some.field-0-is c.in-Ok-Some.ensures.form;
-      has = subst (λ (o : Option Run). IfSome o (λ run. holds run c.args.id leader_page ≡ true)) c.in-Ok-Some.field-0-is c.in-Ok-Some.ensures.holds;
-      at = refl;
-    }
+pub returns-in-Err-clause-fails : goal.returns-in-Err-clause-fails
+returns-in-Err-clause-fails g c = record {
+  cause = search rules;
+  counted = counted _ _ (view_of c.args.filer.now).disk (view_of c.find.new.self).disk _ (omega arith) c.in-Err.ensures.cause;
+  evidence_seen = so_of_map (fits (swapper_of c.args.filer.now) c.requires.size) c.find.ensures.beside.goes.makes c.in-Err.halt c.in-Err.ensures.cause;
+}
 
 pub returns-in-Ok-None-clause-missing : goal.returns-in-Ok-None-clause-missing
 returns-in-Ok-None-clause-missing g c = λ is m named stands map. c.find.ensures.nowhere m named stands map (search rules)
 
-pub returns-in-Err-clause-evidence_seen : goal.returns-in-Err-clause-evidence_seen
-returns-in-Err-clause-evidence_seen g c = so_of_map (fits (swapper_of c.args.filer.now) c.requires.size) c.find.ensures.beside.goes.makes c.in-Err.halt c.in-Err.ensures.cause
+pub returns-in-Err-clause-stays : goal.returns-in-Err-clause-stays
+returns-in-Err-clause-stays g c = record {
+  same_bytes = search rules;
+  beside = search rules;
+  looked = search rules;
+  runs_given = search rules;
+  runs_are = search rules;
+  makes = search rules;
+  brings = search rules;
+  keeps = keeps_read (inr c.requires.client) c.find.ensures.beside c.find.ensures.same_bytes c.find.ensures.runs_given;
+  layout = search rules;
+}
 
-pub returns-in-Err-clause-keeps : goal.returns-in-Err-clause-keeps
-returns-in-Err-clause-keeps g c = keeps_read (inr c.requires.client) c.find.ensures.beside c.find.ensures.same_bytes c.find.ensures.runs_given
+pub returns-in-Ok-None-clause-stays : goal.returns-in-Ok-None-clause-stays
+returns-in-Ok-None-clause-stays g c = record {
+  same_bytes = search rules;
+  beside = search rules;
+  looked = search rules;
+  runs_given = search rules;
+  runs_are = search rules;
+  makes = search rules;
+  brings = search rules;
+  keeps = keeps_read (inr c.requires.client) c.find.ensures.beside c.find.ensures.same_bytes c.find.ensures.runs_given;
+  layout = search rules;
+}
 
-pub returns-in-Ok-None-clause-keeps : goal.returns-in-Ok-None-clause-keeps
-returns-in-Ok-None-clause-keeps g c = keeps_read (inr c.requires.client) c.find.ensures.beside c.find.ensures.same_bytes c.find.ensures.runs_given
-
-pub returns-in-Ok-Some-clause-keeps : goal.returns-in-Ok-Some-clause-keeps
-returns-in-Ok-Some-clause-keeps g c = keeps_read (inr c.requires.client) c.find.ensures.beside c.find.ensures.same_bytes c.find.ensures.runs_given
+pub returns-in-Ok-Some-clause-stays : goal.returns-in-Ok-Some-clause-stays
+returns-in-Ok-Some-clause-stays g c = record {
+  same_bytes = search rules;
+  beside = search rules;
+  looked = search rules;
+  runs_given = search rules;
+  runs_are = search rules;
+  makes = search rules;
+  brings = search rules;
+  keeps = keeps_read (inr c.requires.client) c.find.ensures.beside c.find.ensures.same_bytes c.find.ensures.runs_given;
+  layout = search rules;
+}
 
 -- ---- What it keeps to, and the reasons of its halts.
 
-pub returns-in-Ok-Some-clause-keeps_to : goal.returns-in-Ok-Some-clause-keeps_to
-returns-in-Ok-Some-clause-keeps_to g c = λ o named k. found_keeps c.args.filer.now.runs c.find.new.self.runs c.find.ensures.beside c.find.ensures.same c.find.ensures.runs_are k
+pub returns-in-Ok-Some-clause-accounts : goal.returns-in-Ok-Some-clause-accounts
+returns-in-Ok-Some-clause-accounts g c = λ o named k. found_keeps c.args.filer.now.runs c.find.new.self.runs c.find.ensures.beside c.find.ensures.same c.find.ensures.runs_are k
 
-pub returns-in-Ok-None-clause-keeps_to : goal.returns-in-Ok-None-clause-keeps_to
-returns-in-Ok-None-clause-keeps_to g c = λ o named k. found_keeps c.args.filer.now.runs c.find.new.self.runs c.find.ensures.beside c.find.ensures.same c.find.ensures.runs_are k
+pub returns-in-Ok-None-clause-accounts : goal.returns-in-Ok-None-clause-accounts
+returns-in-Ok-None-clause-accounts g c = λ o named k. found_keeps c.args.filer.now.runs c.find.new.self.runs c.find.ensures.beside c.find.ensures.same c.find.ensures.runs_are k
 
-pub returns-in-Err-clause-reasons : goal.returns-in-Err-clause-reasons
-returns-in-Err-clause-reasons g c = λ o named k. map_reasons k c.find.ensures.beside.goes.makes (accepted c.args.filer.now) c.in-Err.halt c.in-Err.ensures.cause
+pub returns-in-Err-clause-accounts : goal.returns-in-Err-clause-accounts
+returns-in-Err-clause-accounts g c = λ o named k. map_reasons k c.find.ensures.beside.goes.makes (accepted c.args.filer.now) c.in-Err.halt c.in-Err.ensures.cause
 
 pub returns-in-Ok-Some-clause-names : goal.returns-in-Ok-Some-clause-names
 returns-in-Ok-Some-clause-names g c = λ m named stands map are.

@@ -17,10 +17,19 @@ use Rattle.file_manager.proofs.shrinking.last_part.Goals as goal
 use Rattle.filer_kernel.specs.View.{accepted, swapper_of, view_of}
 
 pub returns-in-Ok-Some-clause-named : goal.returns-in-Ok-Some-clause-named
-returns-in-Ok-Some-clause-named g c = λ m named stands map kept k below.
-    let found = subst (IsFound named c.args.id (c.args.end - 1)) c.in-Ok-Some.field-0-is (c.in-Ok-Some.ensures.found m named stands map kept) in
-    let from : c.in-Ok-Some.run'.first ≤ c.max-first.result = search rules in
-    last_named named c.args.id c.args.end c.max-first.result c.in-Ok-Some.run' found (let some = c.requires.some in omega (arith, some)) from k below
+returns-in-Ok-Some-clause-named g c = λ m named stands map kept. (
+  λ k below.
+      let found = subst (IsFound named c.args.id (c.args.end - 1)) c.in-Ok-Some.field-0-is (c.in-Ok-Some.ensures.found m named stands map kept) in
+      let from : c.in-Ok-Some.run'.first ≤ c.max-first.result = search rules in
+      last_named named c.args.id c.args.end c.max-first.result c.in-Ok-Some.run' found (let some = c.requires.some in omega (arith, some)) from k below,
+  c.find.ensures.runs_are m named stands map kept,
+)
+
+pub returns-in-Ok-None-clause-named : goal.returns-in-Ok-None-clause-named
+returns-in-Ok-None-clause-named g c = λ m named stands map kept. (tt, c.find.ensures.runs_are m named stands map kept)
+
+pub returns-in-Err-clause-named : goal.returns-in-Err-clause-named
+returns-in-Err-clause-named g c = λ m named stands map kept. (tt, c.find.ensures.runs_are m named stands map kept)
 
 pub returns-in-Ok-None-clause-sound : goal.returns-in-Ok-None-clause-sound
 returns-in-Ok-None-clause-sound g c = λ m named sector stands map labels is.
@@ -30,35 +39,39 @@ returns-in-Ok-None-clause-sound g c = λ m named sector stands map labels is.
 pub returns-in-Err-clause-sound : goal.returns-in-Err-clause-sound
 returns-in-Err-clause-sound g c = λ m named sector stands map labels is. c.in-Err.ensures.sound m named stands map labels
 
-pub returns-in-Err-clause-evidence_seen : goal.returns-in-Err-clause-evidence_seen
-returns-in-Err-clause-evidence_seen g c = λ of_file. so_of_map (fits (swapper_of c.args.filer.now) c.requires.size) c.find.ensures.beside.goes.makes c.in-Err.halt c.in-Err.ensures.cause
+pub returns-in-Err-clause-fails : goal.returns-in-Err-clause-fails
+returns-in-Err-clause-fails g c = record {
+  cause =
+      let layout = (view_of c.args.filer.now).layout in
+      let old = (view_of c.args.filer.now).disk in
+      let pool = (view_of c.args.filer.now).slots in
+      let kept = runs_of layout.sectors c.args.filer.now.runs in
+      let new = (view_of c.find.new.self).disk in
+      search_halts_after (keeps_none (IsUnframed pool c.args.id) layout c.args.id old pool kept (λ none. none)) (λ p. p ≡ (c.args.end - 1)) new c.in-Err.halt c.in-Err.ensures.cause;
+  counted = search rules;
+  evidence_seen = λ of_file. so_of_map (fits (swapper_of c.args.filer.now) c.requires.size) c.find.ensures.beside.goes.makes c.in-Err.halt c.in-Err.ensures.cause;
+}
 
-pub returns-in-Ok-None-clause-evidence_seen : goal.returns-in-Ok-None-clause-evidence_seen
-returns-in-Ok-None-clause-evidence_seen g c = λ of_file. of_file
+pub returns-in-Ok-None-clause-fails : goal.returns-in-Ok-None-clause-fails
+returns-in-Ok-None-clause-fails g c = record {
+  cause = (refl, refl, λ none m named stands map. c.find.ensures.nowhere m named stands map (search rules));
+  counted = search rules;
+  evidence_seen = λ of_file. of_file;
+}
 
-pub returns-in-Err-clause-cause : goal.returns-in-Err-clause-cause
-returns-in-Err-clause-cause g c =
-    let layout = (view_of c.args.filer.now).layout in
-    let old = (view_of c.args.filer.now).disk in
-    let pool = (view_of c.args.filer.now).slots in
-    let kept = runs_of layout.sectors c.args.filer.now.runs in
-    let new = (view_of c.find.new.self).disk in
-    search_halts_after (keeps_none (IsUnframed pool c.args.id) layout c.args.id old pool kept (λ none. none)) (λ p. p ≡ (c.args.end - 1)) new c.in-Err.halt c.in-Err.ensures.cause
-
-pub returns-in-Ok-None-clause-cause : goal.returns-in-Ok-None-clause-cause
-returns-in-Ok-None-clause-cause g c = (refl, refl, λ none m named stands map. c.find.ensures.nowhere m named stands map (search rules))
-
-pub returns-in-Ok-Some-clause-homes : goal.returns-in-Ok-Some-clause-homes
-returns-in-Ok-Some-clause-homes g c =
-    let layout = (view_of c.args.filer.now).layout in
-    let old = (view_of c.args.filer.now).disk in
-    let pool = (view_of c.args.filer.now).slots in
-    let kept = runs_of layout.sectors c.args.filer.now.runs in
-    let is_given = subst (λ (o : Option Run). IfSome o (λ run. IsGiven layout old pool kept run)) c.in-Ok-Some.field-0-is c.in-Ok-Some.ensures.given in
-    let held = subst (λ (o : Option Run). IfSome o (λ run. holds run c.args.id (c.args.end - 1) ≡ true)) c.in-Ok-Some.field-0-is c.in-Ok-Some.ensures.holds in
-    let from : c.in-Ok-Some.run'.first ≤ c.max-first.result = search rules in
-    let form = subst (λ (o : Option Run). IfSome o (λ run. IsRun layout.sectors run)) c.in-Ok-Some.field-0-is c.in-Ok-Some.ensures.form in
-    last_homes layout old pool kept c.in-Ok-Some.run' is_given form c.args.id c.args.end c.max-first.result held (let some = c.requires.some in omega (arith, some)) from
+pub returns-in-Ok-Some-clause-part : goal.returns-in-Ok-Some-clause-part
+returns-in-Ok-Some-clause-part g c = (
+  search rules,
+  let layout = (view_of c.args.filer.now).layout in
+      let old = (view_of c.args.filer.now).disk in
+      let pool = (view_of c.args.filer.now).slots in
+      let kept = runs_of layout.sectors c.args.filer.now.runs in
+      let is_given = subst (λ (o : Option Run). IfSome o (λ run. IsGiven layout old pool kept run)) c.in-Ok-Some.field-0-is c.in-Ok-Some.ensures.given in
+      let held = subst (λ (o : Option Run). IfSome o (λ run. holds run c.args.id (c.args.end - 1) ≡ true)) c.in-Ok-Some.field-0-is c.in-Ok-Some.ensures.holds in
+      let from : c.in-Ok-Some.run'.first ≤ c.max-first.result = search rules in
+      let form = subst (λ (o : Option Run). IfSome o (λ run. IsRun layout.sectors run)) c.in-Ok-Some.field-0-is c.in-Ok-Some.ensures.form in
+      last_homes layout old pool kept c.in-Ok-Some.run' is_given form c.args.id c.args.end c.max-first.result held (let some = c.requires.some in omega (arith, some)) from,
+)
 
 pub returns-in-Err-clause-keeps : goal.returns-in-Err-clause-keeps
 returns-in-Err-clause-keeps g c = λ of_file. keeps_read of_file c.find.ensures.beside c.find.ensures.same_bytes c.find.ensures.runs_given
@@ -69,11 +82,11 @@ returns-in-Ok-None-clause-keeps g c = λ of_file. keeps_read of_file c.find.ensu
 pub returns-in-Ok-Some-clause-keeps : goal.returns-in-Ok-Some-clause-keeps
 returns-in-Ok-Some-clause-keeps g c = λ of_file. keeps_read of_file c.find.ensures.beside c.find.ensures.same_bytes c.find.ensures.runs_given
 
-pub returns-in-Ok-Some-clause-keeps_to : goal.returns-in-Ok-Some-clause-keeps_to
-returns-in-Ok-Some-clause-keeps_to g c = λ o named h. found_keeps c.args.filer.now.runs c.find.new.self.runs c.find.ensures.beside c.find.ensures.same c.find.ensures.runs_are h
+pub returns-in-Ok-Some-clause-accounts : goal.returns-in-Ok-Some-clause-accounts
+returns-in-Ok-Some-clause-accounts g c = λ o named h. found_keeps c.args.filer.now.runs c.find.new.self.runs c.find.ensures.beside c.find.ensures.same c.find.ensures.runs_are h
 
-pub returns-in-Err-clause-reasons : goal.returns-in-Err-clause-reasons
-returns-in-Err-clause-reasons g c = λ o named h may. map_reasons h c.find.ensures.beside.goes.makes (accepted c.args.filer.now) c.in-Err.halt c.in-Err.ensures.cause
+pub returns-in-Err-clause-accounts : goal.returns-in-Err-clause-accounts
+returns-in-Err-clause-accounts g c = λ o named h may. map_reasons h c.find.ensures.beside.goes.makes (accepted c.args.filer.now) c.in-Err.halt c.in-Err.ensures.cause
 
-pub returns-in-Ok-None-clause-reasons : goal.returns-in-Ok-None-clause-reasons
-returns-in-Ok-None-clause-reasons g c = λ o named h may. lack_reason h c.find.ensures.beside.goes.makes c.args.id (c.args.end - 1) may (λ m named stands map. c.find.ensures.nowhere m named stands map (search rules))
+pub returns-in-Ok-None-clause-accounts : goal.returns-in-Ok-None-clause-accounts
+returns-in-Ok-None-clause-accounts g c = λ o named h may. lack_reason h c.find.ensures.beside.goes.makes c.args.id (c.args.end - 1) may (λ m named stands map. c.find.ensures.nowhere m named stands map (search rules))

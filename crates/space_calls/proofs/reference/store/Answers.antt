@@ -8,7 +8,7 @@ use Rattle.fault_core.specs.Moves.{StoresAs, client_page}
 use Rattle.session_words.specs.CellLaws.{IsTouchedOrOwn}
 use Rattle.swapper_kernel.specs.Goes.{Goes}
 use Rattle.running_words.proofs.RunningLemmas.{running_laws}
-use Rattle.space_calls.proofs.CameLemmas.{Came, knows, store_makes, whole_of, wrote_so}
+use Rattle.space_calls.proofs.CameLemmas.{Came, knows, store_makes, touched_makes, whole_of, wrote_so}
 use Rattle.space_calls.proofs.MovedLemmas.{store_runs}
 use Rattle.space_calls.proofs.StoreLemmas.{are_bytes, other_than_done, refused_came, stays_where, store_allowed, store_not_refused, store_stays, store_reveals, store_word}
 use Rattle.filer_kernel.specs.EvidenceLaws.{fits}
@@ -187,3 +187,15 @@ returns-in-Ok-ReadOnly-clause-sees g c = λ ss s. (ss, (c.store.ensures.sees ss 
 
 pub returns-in-Err-clause-right : goal.returns-in-Err-clause-right
 returns-in-Err-clause-right g c = λ s. c.in-Err.ensures.right s.0 s.1
+
+pub returns-in-Ok-Done-clause-shown : goal.returns-in-Ok-Done-clause-shown
+returns-in-Ok-Done-clause-shown g c = λ ss s. wrote_so (touched_makes ss c.args.address (length c.args.bytes.now) (c.store.ensures.shown ss s))
+
+pub returns-in-Ok-NoMap-clause-shown : goal.returns-in-Ok-NoMap-clause-shown
+returns-in-Ok-NoMap-clause-shown g c = λ ss s. wrote_so (touched_makes ss c.args.address (length c.args.bytes.now) (c.store.ensures.shown ss s))
+
+pub returns-in-Ok-ReadOnly-clause-shown : goal.returns-in-Ok-ReadOnly-clause-shown
+returns-in-Ok-ReadOnly-clause-shown g c = λ ss s. wrote_so (touched_makes ss c.args.address (length c.args.bytes.now) (c.store.ensures.shown ss s))
+
+pub returns-in-Err-clause-shown : goal.returns-in-Err-clause-shown
+returns-in-Err-clause-shown g c = λ ss s. wrote_so (touched_makes ss c.args.address (length c.args.bytes.now) (c.store.ensures.shown ss s))
