@@ -1,3 +1,4 @@
+pub mod CountedHalts
 pub mod AskLemmas
 pub mod RefusalLemmas
 pub mod RoomLemmas
@@ -57,3 +58,4 @@ pub mod ReferLemmas
 pub mod SparingLemmas
 pub mod SparedCalls
 pub mod SparedFiles
+pub mod WindowLemmas

@@ -1,6 +1,6 @@
 -- What the core says of a load or a store, said of the machine that a session stands for, and of what a halt means.
-use Rattle.std.proofs.Common.{◌≡◌, ◌≢◌, ◌≤◌, ℕ, Bool, true, List, [], length, Result, Ok, Err, refl, subst}
-use Rattle.std.specs.Prelude.{IfErr, IfOk, OnErr, OnOk, false, is_ok}
+use Rattle.std.proofs.Common.{◌≡◌, ◌≢◌, ◌≤◌, ℕ, true, List, [], length, Result, Ok, Err, refl, subst}
+use Rattle.std.specs.Prelude.{IfErr, IfOk, OnErr, OnOk, false}
 use Rattle.labelled_disk.specs.Sectors.{Sector}
 use Rattle.labelled_disk.specs.declared.evidence.Halt.{Halt}
 use Rattle.file_map.specs.FileMap.{Triples}
@@ -54,11 +54,6 @@ ok_of (Err e) P Q R f p q = tt
 pub ok_always : {T E : Type 0} (r : Result T E) (P : Type 0) → P → OnOk r P
 ok_always (Ok x) P p = p
 ok_always (Err e) P p = tt
-
--- whether it is an Ok
-pub ok_is_ok : {T E : Type 0} (r : Result T E) (b : Bool) → b ≡ is_ok r → OnOk r (b ≡ true) × OnErr r (b ≡ false)
-ok_is_ok (Ok x) b is = (is, tt)
-ok_is_ok (Err e) b is = (tt, is)
 
 -- ---- Halts.
 

@@ -39,8 +39,12 @@ module _ (o : InitialState) (v : View) (is : IsLayout v.layout) (k : ViewKeepsOn
   pub seen_still : (w : View) → ((b : List ℕ) → KeepsWith o b v k.0 → KeepsWith o b w k.0) → FilesStay o v.disk w.disk → {kept : List Interval} {count : ℕ} → AreHome o v kept count → AreHome o w kept count
   seen_still w call stay {kept = kept} {count = count} (ss, (sees, on)) = (ss, (sees_kept o v k.0 is k.1 w k.0 call kept count ss sees, on_wider (WasBelow o v.disk) (WasBelow o w.disk) (below_later o v.disk w.disk stay) ss on))
 
-  -- the same spaces are seen, where the file map may name others after the call
-  same_from : (w : View) → ((b : List ℕ) → KeepsWith o b v k.0 → (later : Triples) × KeepsWith o b w later × (NamesTables k.0 → NamesTables later))
+  -- the same spaces are seen
+  pub same_still : (w : View) → ((b : List ℕ) → KeepsWith o b v k.0 → KeepsWith o b w k.0) → {kept : List Interval} {count : ℕ} (ss : List Space) → Sees v kept count ss → Sees w kept count ss
+  same_still w call {kept = kept} {count = count} ss sees = sees_kept o v k.0 is k.1 w k.0 call kept count ss sees
+
+  -- also where the file map may name others after the call
+  pub same_from : (w : View) → ((b : List ℕ) → KeepsWith o b v k.0 → (later : Triples) × KeepsWith o b w later × (NamesTables k.0 → NamesTables later))
       → {kept : List Interval} {count : ℕ} (ss : List Space) → Sees v kept count ss → Sees w kept count ss
   same_from w call ss sees =
       let from = call sees.bytes (keeps_telling is v.runs sees.bytes sees.revealed k.1.0) in

@@ -16,3 +16,4 @@ pub mod Rest
 pub mod Referring
 pub mod Calls
 pub mod Sparing
+pub mod Showing

@@ -23,6 +23,7 @@ use Rattle.pilot_engine.specs.declared.session.Session.{Session}
 use Rattle.pilot_engine.specs.Advised.{IsAdvised}
 use Rattle.pilot_engine.specs.Calls.{Stays}
 use Rattle.pilot_engine.specs.Labels.{WritesPagesAlone}
+use Rattle.pilot_engine.specs.Showing.{DirtiesShown}
 use Rattle.pilot_engine.specs.Stepping.{IsResident, StepHalts, missing_page}
 
 -- so many bytes are loaded or stored at once
@@ -58,6 +59,7 @@ module _ {D A : Type 0} {G : Ghosts D} where
         → IfErr result (MissesPage (missing_page call ss))
     pub wrote : WroteIn (may_dirty call) (state old.core).disk (state old.core).slots
         (state new.core).disk (state new.core).slots
+    pub shown : DirtiesShown call old new
     pub unlabelled : WritesPagesAlone (state old.core).disk (state new.core).disk
     pub ready : IfOk result (λ a. a ≡ access.Done
         → (ss : List Space) → IsAdvised ss call (kept new.core) (state new.core).slots)

@@ -21,6 +21,8 @@ ghost use Rattle.flat_machine.specs.declared.space.Space.{Space};
 ghost use Rattle.pilot_engine.specs.Stepping.{missing_page};
 ghost use Rattle.filer_kernel.specs.View.{FitsLayout};
 ghost use Rattle.pilot_engine.specs.Calls.{Accounts, Answers, Stays};
+ghost use Rattle.pilot_engine.specs.Showing.{ShowsMapped};
+ghost use Rattle.space_calls.specs.Sees.{StillOn};
 
 use crate::Session;
 use flat_machine::Reply;
@@ -45,6 +47,8 @@ impl<D: Disk, A: Allocator> Session<D, A> {
         ensures missing { (ss : List Space) → Sees (state self.old.core) (kept self.old.core) self.old.core.intervals ss
             → IfErr result (MissesPage (missing_page (call.Unmap space) ss)) }
         ensures accounts { (o : InitialState) → KeepsOn o self.old.core.filer → Accounts o o self.old self.new result }
+        ensures windows { (o : InitialState) → KeepsOn o self.old.core.filer
+            → OnOk result (StillOn self.old.core self.new.core) }
         ensures evidence_seen { IfErr result (ShowsEvidence (state self.new.core).disk) }
         ensures wrote { Wrote (state self.old.core).disk (state self.old.core).slots (state self.new.core).disk
             (state self.new.core).slots }
@@ -83,6 +87,7 @@ impl<D: Disk, A: Allocator> Session<D, A> {
             (state self.new.core)) }
         ensures accounts { (o : InitialState) → KeepsOn o self.old.core.filer → IsNotOlder o self.old.volume.root
             → Accounts o (giving o (next_id self.new.volume.root)) self.old self.new result }
+        ensures windows { ShowsMapped (call.MapAnonymous space) self.old self.new result }
         ensures evidence_seen { IfErr result (ShowsEvidence (state self.new.core).disk) }
         ensures wrote { Wrote (state self.old.core).disk (state self.old.core).slots (state self.new.core).disk
             (state self.new.core).slots }

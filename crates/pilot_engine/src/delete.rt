@@ -24,6 +24,7 @@ ghost use Rattle.file_manager.specs.Reasons.{KeepsOn, InitialState, ShowsReason}
 ghost use Rattle.file_manager.specs.Creating.{next_id};
 ghost use Rattle.pilot_engine.specs.Reasons.{SeesHome, IsBlameless};
 ghost use Rattle.filer_kernel.specs.View.{FitsLayout};
+ghost use Rattle.pilot_engine.specs.Showing.{KeepsWindows};
 ghost use Rattle.pilot_engine.specs.Calls.{Accounts, Answers, Stays};
 
 use crate::Session;
@@ -70,6 +71,7 @@ impl<D: Disk, A: Allocator> Session<D, A> {
             → Rose (state self.old.core).disk.faults (state self.new.core).disk.faults }
         ensures cause { IfErr result (OnFileHalts id (RemoveHalts id) (state self.old.core) (state self.new.core)) }
         ensures accounts { (o : InitialState) → KeepsOn o self.old.core.filer → Accounts o o self.old self.new result }
+        ensures windows { KeepsWindows self.old self.new result }
         ensures evidence_seen { IfErr result (ShowsEvidence (state self.new.core).disk) }
         ensures wrote { Wrote (state self.old.core).disk (state self.old.core).slots (state self.new.core).disk
             (state self.new.core).slots }
@@ -114,6 +116,7 @@ impl<D: Disk, A: Allocator> Session<D, A> {
         ensures cause { IfErr result
             (OnNamedHalts id self.old.core.intervals (RemoveHalts id) (state self.old.core) (state self.new.core)) }
         ensures accounts { (o : InitialState) → KeepsOn o self.old.core.filer → Accounts o o self.old self.new result }
+        ensures windows { KeepsWindows self.old self.new result }
         ensures evidence_seen { IfErr result (ShowsEvidence (state self.new.core).disk) }
         ensures wrote { Wrote (state self.old.core).disk (state self.old.core).slots (state self.new.core).disk
             (state self.new.core).slots }

@@ -19,6 +19,7 @@ ghost use Rattle.file_manager.specs.Reasons.{KeepsOn, InitialState, ShowsReason}
 ghost use Rattle.file_manager.specs.Creating.{next_id};
 ghost use Rattle.pilot_engine.specs.Reasons.{SeesHome, IsBlameless};
 ghost use Rattle.filer_kernel.specs.View.{FitsLayout, MakesOnly};
+ghost use Rattle.pilot_engine.specs.Showing.{KeepsWindows};
 ghost use Rattle.pilot_engine.specs.Calls.{Accounts, Answers, Stays};
 ghost use Rattle.pilot_engine.specs.Labels.{WritesPagesAlone};
 
@@ -47,6 +48,7 @@ impl<D: Disk, A: Allocator> Session<D, A> {
             → Rose (state self.old.core).disk.faults (state self.new.core).disk.faults }
         ensures cause { IfErr result (TurnHalts self.old.core.intervals (state self.old.core) (state self.new.core)) }
         ensures accounts { (o : InitialState) → KeepsOn o self.old.core.filer → Accounts o o self.old self.new result }
+        ensures windows { KeepsWindows self.old self.new result }
         ensures evidence_seen { IfErr result (ShowsEvidence (state self.new.core).disk) }
         ensures reaches { Reaches (state self.old.core) (state self.new.core) }
         ensures makes { MakesOnly volume_page [] (state self.old.core) (state self.new.core) }
@@ -78,6 +80,7 @@ impl<D: Disk, A: Allocator> Session<D, A> {
             → Rose (state self.old.core).disk.faults (state self.new.core).disk.faults }
         ensures cause { IfErr result (NextHalts self.old.core.intervals (state self.old.core) (state self.new.core)) }
         ensures accounts { (o : InitialState) → KeepsOn o self.old.core.filer → Accounts o o self.old self.new result }
+        ensures windows { KeepsWindows self.old self.new result }
         ensures evidence_seen { IfErr result (ShowsEvidence (state self.new.core).disk) }
         ensures wrote { Wrote (state self.old.core).disk (state self.old.core).slots (state self.new.core).disk
             (state self.new.core).slots }

@@ -28,9 +28,13 @@ impl<D: Disk, A: Allocator> Session<D, A> {
         ensures unmoved { IfOk result (λ a. a ≢ access.Done → into.new ≡ into.old) }
         ensures intact { address % 512 + length into.old ≤ 512 → OnErr result (into.new ≡ into.old) }
     {
-        let answer = self.core.load(address, into);
-        self.running = answer.is_ok();
-        answer
+        match self.core.load(address, into) {
+            Ok(access) => Ok(access),
+            Err(halt) => {
+                self.running = false;
+                Err(halt)
+            }
+        }
     }
 
     /// Stores 1 to 512 bytes from an address on. All pages of the reference are tested before the first byte is moved:
@@ -43,8 +47,12 @@ impl<D: Disk, A: Allocator> Session<D, A> {
         ensures since { (o : InitialState) → KeepsOn o self.old.core.filer → Accounts o o self.old self.new result }
         ensures refers { Refers (call.Store address bytes.now) self.old result self.new }
     {
-        let answer = self.core.store(address, bytes);
-        self.running = answer.is_ok();
-        answer
+        match self.core.store(address, bytes) {
+            Ok(access) => Ok(access),
+            Err(halt) => {
+                self.running = false;
+                Err(halt)
+            }
+        }
     }
 }

@@ -14,6 +14,7 @@ ghost use Rattle.fault_core.specs.Reach.{Reaches};
 ghost use Rattle.file_manager.specs.Reasons.{KeepsOn, InitialState, ShowsReason};
 ghost use Rattle.pilot_engine.specs.Reasons.{SeesHome, IsBlameless};
 ghost use Rattle.filer_kernel.specs.View.{FitsLayout, MakesOnly};
+ghost use Rattle.pilot_engine.specs.Showing.{KeepsWindows};
 ghost use Rattle.pilot_engine.specs.Calls.{Accounts};
 
 use crate::Session;
@@ -41,6 +42,7 @@ impl<D: Disk, A: Allocator> Session<D, A> {
             → Rose (state self.old.core).disk.faults (state self.new.core).disk.faults }
         ensures cause { IfErr result (SightHalts self.old.core.intervals (state self.old.core) (state self.new.core)) }
         ensures accounts { (o : InitialState) → KeepsOn o self.old.core.filer → Accounts o o self.old self.new result }
+        ensures windows { KeepsWindows self.old self.new result }
         ensures evidence_seen { IfErr result (ShowsEvidence (state self.new.core).disk) }
         ensures reaches { Reaches (state self.old.core) (state self.new.core) }
         ensures makes { MakesOnly volume_page [] (state self.old.core) (state self.new.core) }

@@ -22,6 +22,7 @@ ghost use Rattle.fault_core.specs.Lack.{MissesPage, Sees};
 ghost use Rattle.flat_machine.specs.declared.space.Space.{Space};
 ghost use Rattle.filer_kernel.specs.View.{FitsLayout};
 ghost use Rattle.pilot_engine.specs.Calls.{Accounts, Answers, SparesOthers, Stays};
+ghost use Rattle.pilot_engine.specs.Showing.{DirtiesShown, ShowsMapped};
 ghost use Rattle.filer_kernel.specs.Fails.{Fails};
 
 use crate::Session;
@@ -55,8 +56,10 @@ impl<D: Disk, A: Allocator> Session<D, A> {
             → IfErr result (MissesPage (missing_page call.now ss)) }
         ensures accounts { (o : InitialState) → KeepsOn o self.old.core.filer → IsNotOlder o self.old.volume.root
             → Accounts o (giving o (next_id self.new.volume.root)) self.old self.new result }
+        ensures windows { ShowsMapped call.now self.old self.new result }
         ensures wrote { WroteIn (may_dirty call.now) (state self.old.core).disk (state self.old.core).slots
             (state self.new.core).disk (state self.new.core).slots }
+        ensures shown { DirtiesShown call.now self.old self.new }
         ensures stays { Stays self.old self.new }
         ensures running { self.new.running ≡ self.old.running }
         ensures reference { is_reference call.now ≡ true

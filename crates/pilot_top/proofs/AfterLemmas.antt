@@ -192,6 +192,7 @@ module _ {D : Type 0} (state : D → DiskState) (x y : D) (same : x ≡ y) where
       appended = record { contents = on.appended.contents; revealed = on.appended.revealed };
       labels = on.labels;
       sectors = on.sectors;
+      hidden = on.hidden;
     })
 
     -- where a run stopped

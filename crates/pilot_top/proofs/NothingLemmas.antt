@@ -55,6 +55,7 @@ none_spared id lines d disk = record {
   appended = appended_none (record { contents = refl; writes = refl });
   labels = same_labels_still id d;
   sectors = λ none. same_sectors_still id d;
+  hidden = λ named map none. same_sectors_still id d;
 }
 
 module _ (w : World) where

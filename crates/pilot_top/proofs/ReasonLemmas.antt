@@ -40,7 +40,7 @@ monotone_then : (r q p : Root) → IsMonotone r q → IsMonotone q p → IsMonot
 monotone_then r q p first second = let low = first.0 in let high = second.0 in (omega (arith, low, high), second.1 ∙ first.1)
 
 -- a root that is later than one that is ahead is so too, whatever it has given out
-not_older_then : (o : InitialState) (q p : Root) → IsNotOlder o q → IsMonotone q p → IsNotOlder (giving o (next_id p)) p
+pub not_older_then : (o : InitialState) (q p : Root) → IsNotOlder o q → IsMonotone q p → IsNotOlder (giving o (next_id p)) p
 not_older_then o q p not_older on = record { monotone = monotone_then o.root q p not_older.monotone on; next = omega arith }
 
 -- The later session keeps to each initial state to which the first one kept, and its root is ahead of what was given out; it sees the space

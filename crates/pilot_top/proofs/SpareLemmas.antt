@@ -26,8 +26,10 @@ use Rattle.flat_machine.specs.declared.call.Call.{Call}
 use Rattle.flat_machine.specs.declared.call.Call.TheVariants as call
 use Rattle.flat_machine.specs.After.{TraceLine}
 use Rattle.swapper_kernel.specs.DiffersLaws.{names_id}
-use Rattle.swapper_kernel.specs.Goes.{IsDirty, Makes, Went, Wrote}
-use Rattle.swapper_kernel.specs.GoesLaws.{makes_nothing, makes_then}
+use Rattle.file_map.specs.FileMap.{Triples}
+use Rattle.file_map.specs.InSectors.{MapNames}
+use Rattle.swapper_kernel.specs.Goes.{IsDirty, Makes, Pages, Went, Wrote}
+use Rattle.swapper_kernel.specs.GoesLaws.{makes_nothing, makes_then, makes_wider}
 use Rattle.session_words.specs.Volume.{volume_page}
 use Rattle.trace_io.specs.Course.{HasRead}
 use Rattle.trace_io.specs.Lines.{TakesLine}
@@ -46,7 +48,7 @@ use Rattle.pilot_engine.specs.Stepping.{relabels}
 use Rattle.pilot_engine.proofs.SparedCalls.{for_growth, for_take, spares_all, spares_with, with_growth, with_take}
 use Rattle.pilot_engine.proofs.SparingLemmas.{no_label, own_label, same_labels, spares_same, spares_still, spares_then}
 use Rattle.pilot_top.specs.Parts.{LineWrote}
-use Rattle.pilot_top.specs.Sparing.{HasSameSectors, IsPermanentFile, LineDone, RunSpares, Spared, names_file, sector_for, stores}
+use Rattle.pilot_top.specs.Sparing.{HasSameSectors, IsPermanentFile, LineDone, RunSpares, Spared, maps_file, names_file, other_file, sector_for, stores}
 use Rattle.pilot_top.proofs.PrefixLemmas.{read_prefix}
 
 -- ---- Lines.
@@ -67,40 +69,45 @@ quiet_call c none wrote = (wrote.labels, wrote.makes)
 unnamed : (id : ℕ) (c : Call) → names_file id (Some c) ≡ false → relabels c ≢ Some id
 unnamed id c none is = true≢false (sym (ap (λ (o : Option ℕ). option_map_or (λ (n : ℕ). n == id) o false) is ∙ eq-eqb id id refl) ∙ none)
 
-pub call_done : (root : Root) (c : Call) {a b : DiskState} {s t : Slots} → LineWrote (Some c) a b → WroteIn (may_dirty c) a s b t
-    → ((id : ℕ) → 16 ≤ id → relabels c ≢ Some id → next_id root ≢ id → Spares id a b) → LineDone root (Some c) a s b t
-call_done root c line wrote spares = record {
+pub call_done : (root : Root) (c : Call) {a b : DiskState} {s t : Slots} {hid hides : ℕ → Type 0} → LineWrote (Some c) a b → WroteIn (may_dirty c) a s b t
+    → ((id : ℕ) → 16 ≤ id → relabels c ≢ Some id → next_id root ≢ id → Spares id a b)
+    → ((id : ℕ) → 16 ≤ id → next_id root ≢ id → maps_file id (Some c) ≡ false → hid id → hides id × ((run : List DiskWrite) × Makes (other_file id) run a s b t)) → LineDone root (Some c) a s b t hid hides
+call_done root c line wrote spares apart = record {
   wrote = line;
   spares = λ id client other none. spares id client (unnamed id c none) other;
   quiet = λ none. quiet_call c none wrote;
+  apart = apart;
 }
 
-pub bad_done : (root : Root) (a : DiskState) (s : Slots) → LineWrote None a a → LineDone root None a s a s
-bad_done root a s line = record {
+pub bad_done : (root : Root) (a : DiskState) (s : Slots) {hid hides : ℕ → Type 0} → LineWrote None a a → ((id : ℕ) → hid id → hides id) → LineDone root None a s a s hid hides
+bad_done root a s line still = record {
   wrote = line;
   spares = λ id client other none. spares_same id (record { contents = refl; writes = refl });
   quiet = λ none. ([], makes_nothing volume_page a s);
+  apart = λ id client other none hid. (still id hid, ([], makes_nothing (other_file id) a s));
 }
 
 -- ---- Lines in a row.
 
 -- These lines were read, and so much was written in them.
-pub record SparedLines (a c : Option (List ℕ)) (q : Progress) (root : Root) (old : DiskState) (before : Slots) (new : DiskState) (after : Slots) : Type 0 where
+pub record SparedLines (a c : Option (List ℕ)) (q : Progress) (root : Root) (old : DiskState) (before : Slots) (new : DiskState) (after : Slots) (hid hides : ℕ → Type 0) : Type 0 where
   pub lines : List TraceLine
   pub read : HasRead a c q lines
   pub spares : (id : ℕ) → 16 ≤ id → id < next_id root → list_any (names_file id) lines ≡ false → Spares id old new
   pub quiet : list_any stores lines ≡ false → (run : List DiskWrite) × Makes volume_page run old before new after
+  pub apart : (id : ℕ) → 16 ≤ id → id < next_id root → list_any (maps_file id) lines ≡ false → hid id → hides id × ((run : List DiskWrite) × Makes (other_file id) run old before new after)
 
-pub lines_none : (a : Option (List ℕ)) (p : Progress) (root : Root) (disk : DiskState) (slots : Slots) → HasRead a a p [] → SparedLines a a p root disk slots disk slots
-lines_none a p root disk slots read = record {
+pub lines_none : (a : Option (List ℕ)) (p : Progress) (root : Root) (disk : DiskState) (slots : Slots) (hid : ℕ → Type 0) → HasRead a a p [] → SparedLines a a p root disk slots disk slots hid hid
+lines_none a p root disk slots hid read = record {
   lines = [];
   read = read;
   spares = λ id client low none. spares_same id (record { contents = refl; writes = refl });
   quiet = λ none. ([], makes_nothing volume_page disk slots);
+  apart = λ id client low none is. (is, ([], makes_nothing (other_file id) disk slots));
 }
 
-pub lines_more : {a b c : Option (List ℕ)} {p q : Progress} {root now : Root} {line : TraceLine} {old mid new : DiskState} {s t u : Slots} → SparedLines a b p root old s mid t
-    → p.stopped ≡ None → TakesLine line b c p q → is_last line ≡ false → IsMonotone root now → LineDone now line mid t new u → SparedLines a c q root old s new u
+pub lines_more : {a b c : Option (List ℕ)} {p q : Progress} {root now : Root} {line : TraceLine} {old mid new : DiskState} {s t u : Slots} {hid mids hides : ℕ → Type 0} → SparedLines a b p root old s mid t hid mids
+    → p.stopped ≡ None → TakesLine line b c p q → is_last line ≡ false → IsMonotone root now → LineDone now line mid t new u mids hides → SparedLines a c q root old s new u hid hides
 lines_more {a = a} {b = b} {c = c} {p = p} {q = q} {root = root} {now = now} {line = line} on none takes goes later done = record {
   lines = on.lines ++ line ∷ [];
   read = HasRead-line a b c p q on.lines line on.read none takes goes;
@@ -112,31 +119,56 @@ lines_more {a = a} {b = b} {c = c} {p = p} {q = q} {root = root} {now = now} {li
       let first = on.quiet parts.0 in
       let next = done.quiet parts.1 in
       (first.0 ++ next.0, makes_then first.1 next.1);
+  apart = λ id client low free is.
+      let parts = none_last (maps_file id) on.lines line free in
+      let first = on.apart id client low parts.0 is in
+      let next = done.apart id client (λ same. let up = later.0 in omega (arith, low, up, same)) parts.1 first.0 in
+      (next.0, (first.1.0 ++ next.1.0, makes_then first.1.1 next.1.1));
+}
+
+-- where what was hidden is said otherwise
+pub lines_hide : {a c : Option (List ℕ)} {q : Progress} {root : Root} {old new : DiskState} {s t : Slots} {hid some hides : ℕ → Type 0} → ((id : ℕ) → some id → hides id)
+    → SparedLines a c q root old s new t hid some → SparedLines a c q root old s new t hid hides
+lines_hide too on = record {
+  lines = on.lines;
+  read = on.read;
+  spares = on.spares;
+  quiet = on.quiet;
+  apart = λ id client low free is. let all = on.apart id client low free is in (too id all.0, all.1);
 }
 
 -- the same session under another name
-pub lines_same : {S : Type 0} (disk : S → DiskState) (slots : S → Slots) {s r : S} {a c : Option (List ℕ)} {q : Progress} {root : Root} {old : DiskState} {before : Slots} → r ≡ s
-    → SparedLines a c q root old before (disk s) (slots s) → SparedLines a c q root old before (disk r) (slots r)
-lines_same disk slots {a = a} {c = c} {q = q} {root = root} {old = old} {before = before} same on = subst (λ z. SparedLines a c q root old before (disk z) (slots z)) (sym same) on
+pub lines_same : {S : Type 0} (disk : S → DiskState) (slots : S → Slots) (hides : S → ℕ → Type 0) {s r : S} {a c : Option (List ℕ)} {q : Progress} {root : Root} {old : DiskState} {before : Slots} {hid : ℕ → Type 0} → r ≡ s
+    → SparedLines a c q root old before (disk s) (slots s) hid (hides s) → SparedLines a c q root old before (disk r) (slots r) hid (hides r)
+lines_same disk slots hides {a = a} {c = c} {q = q} {root = root} {old = old} {before = before} {hid = hid} same on = subst (λ z. SparedLines a c q root old before (disk z) (slots z) hid (hides z)) (sym same) on
 
-pub lines_source : {a c : Option (List ℕ)} {q : Progress} {root : Root} {old new : DiskState} {s t : Slots} {x : List ℕ} → a ≡ Some x → SparedLines a c q root old s new t → SparedLines (Some x) c q root old s new t
-lines_source {c = c} {q = q} {root = root} {old = old} {new = new} {s = s} {t = t} source on = subst (λ r. SparedLines r c q root old s new t) source on
+pub lines_source : {a c : Option (List ℕ)} {q : Progress} {root : Root} {old new : DiskState} {s t : Slots} {hid hides : ℕ → Type 0} {x : List ℕ} → a ≡ Some x → SparedLines a c q root old s new t hid hides
+    → SparedLines (Some x) c q root old s new t hid hides
+lines_source {c = c} {q = q} {root = root} {old = old} {new = new} {s = s} {t = t} {hid = hid} {hides = hides} source on = subst (λ r. SparedLines r c q root old s new t hid hides) source on
 
 -- of all lines of the trace
-pub lines_run : {x : List ℕ} {c : Option (List ℕ)} {q : Progress} {root : Root} {old new : DiskState} {s t : Slots} → SparedLines (Some x) c q root old s new t → RunSpares root (reading x) old s new
+pub lines_run : {x : List ℕ} {c : Option (List ℕ)} {q : Progress} {root : Root} {old new : DiskState} {s t : Slots} {hid hides : ℕ → Type 0} → SparedLines (Some x) c q root old s new t hid hides → RunSpares root (reading x) old s new hid
 lines_run {x = x} {c = c} {q = q} on =
     let prefix = read_prefix x c q on.lines on.read in
     record {
       spares = λ id client low none. on.spares id client low (none_of (names_file id) on.lines prefix.0 (sym (ap (list_any (names_file id)) prefix.1) ∙ none)).0;
       quiet = λ none. let all = on.quiet (none_of stores on.lines prefix.0 (sym (ap (list_any stores) prefix.1) ∙ none)).0 in (all.0, all.1.wrote);
+      apart = λ id client low none is.
+          let all = on.apart id client low (none_of (maps_file id) on.lines prefix.0 (sym (ap (list_any (maps_file id)) prefix.1) ∙ none)).0 is in
+          (all.1.0, all.1.1.wrote);
     }
 
 -- writes of an end, as a call that leaves the frames alone
 end_makes : {a b : DiskState} {s : Slots} (wrote : WroteOn s a b) → Makes volume_page wrote.labels a s b s
 end_makes wrote = record { went = wrote.went; dirty = λ id page is. inl is; wrote = wrote.wrote; count = refl }
 
+-- pages of the volume's own are other files'
+own_other : (id : ℕ) → 16 ≤ id → (file page : ℕ) → volume_page file page → other_file id file page
+own_other id client file page own = λ is. omega (arith, own, client, is)
+
 -- and then the session ended
-pub lines_end : {x : List ℕ} {c : Option (List ℕ)} {q : Progress} {root : Root} {old mid new : DiskState} {s t : Slots} → SparedLines (Some x) c q root old s mid t → SparesAll mid new → WroteOn t mid new → RunSpares root (reading x) old s new
+pub lines_end : {x : List ℕ} {c : Option (List ℕ)} {q : Progress} {root : Root} {old mid new : DiskState} {s t : Slots} {hid hides : ℕ → Type 0} → SparedLines (Some x) c q root old s mid t hid hides → SparesAll mid new → WroteOn t mid new
+    → RunSpares root (reading x) old s new hid
 lines_end {x = x} {c = c} {q = q} on all wrote =
     let prefix = read_prefix x c q on.lines on.read in
     record {
@@ -144,24 +176,27 @@ lines_end {x = x} {c = c} {q = q} on all wrote =
       quiet = λ none.
           let first = on.quiet (none_of stores on.lines prefix.0 (sym (ap (list_any stores) prefix.1) ∙ none)).0 in
           (first.0 ++ wrote.labels, (makes_then first.1 (end_makes wrote)).wrote);
+      apart = λ id client low none is.
+          let first = (on.apart id client low (none_of (maps_file id) on.lines prefix.0 (sym (ap (list_any (maps_file id)) prefix.1) ∙ none)).0 is).1 in
+          (first.0 ++ wrote.labels, (makes_then first.1 (makes_wider (other_file id) (own_other id client) (end_makes wrote))).wrote);
     }
 
 -- and then nothing was written
-pub run_still : {root : Root} {lines : List TraceLine} {old mid new : DiskState} {s : Slots} → RunSpares root lines old s mid → RevealsSame mid new → RunSpares root lines old s new
+wrote_still : {pages : Pages} {run : List DiskWrite} {old mid new : DiskState} {s : Slots} → Wrote pages run old s mid → RevealsSame mid new → Wrote pages run old s new
+wrote_still wrote same = record {
+  writes = wrote.writes;
+  appended = appended_no_more wrote.writes wrote.appended same;
+  form = wrote.form;
+  permitted = wrote.permitted;
+  labels = wrote.labels;
+  of_dirty = wrote.of_dirty;
+}
+
+pub run_still : {root : Root} {lines : List TraceLine} {old mid new : DiskState} {s : Slots} {hid : ℕ → Type 0} → RunSpares root lines old s mid hid → RevealsSame mid new → RunSpares root lines old s new hid
 run_still on same = record {
   spares = λ id client low none. spares_still (on.spares id client low none) same;
-  quiet = λ none.
-      let all = on.quiet none in (
-        all.0,
-        record {
-          writes = all.1.writes;
-          appended = appended_no_more all.1.writes all.1.appended same;
-          form = all.1.form;
-          permitted = all.1.permitted;
-          labels = all.1.labels;
-          of_dirty = all.1.of_dirty;
-        },
-      );
+  quiet = λ none. let all = on.quiet none in (all.0, wrote_still all.1 same);
+  apart = λ id client low none is. let all = on.apart id client low none is in (all.0, wrote_still all.1 same);
 }
 
 -- ---- The bytes.
@@ -267,13 +302,13 @@ row_same id client d (w ∷ ws) each labels (suc k) =
 
 -- ---- A whole run.
 
--- no page of a client's is written
-other_pages : (id : ℕ) → 16 ≤ id → {run : List DiskWrite} {a b : DiskState} {s : Slots} (wrote : Wrote volume_page run a s b) → ((page : ℕ) → IsDirty s id page → ⊥) → (k : ℕ) (w : DiskWrite) → slice_get wrote.writes k ≡ Some w → IsOtherPage id w
-other_pages id client wrote clean k (write.Whole sector label page) at = tt
-other_pages id client wrote clean k (write.LabelOnly sector label) at = tt
-other_pages id client {s = s} wrote clean k (write.Page sector wanted page) at = λ is. elim (wrote.of_dirty k sector wanted page at) [
+-- pages of other files alone are written
+other_pages : (id : ℕ) {pages : Pages} → ((file page : ℕ) → pages file page → other_file id file page) → {run : List DiskWrite} {a b : DiskState} {s : Slots} (wrote : Wrote pages run a s b) → ((page : ℕ) → IsDirty s id page → ⊥) → (k : ℕ) (w : DiskWrite) → slice_get wrote.writes k ≡ Some w → IsOtherPage id w
+other_pages id others wrote clean k (write.Whole sector label page) at = tt
+other_pages id others wrote clean k (write.LabelOnly sector label) at = tt
+other_pages id others {s = s} wrote clean k (write.Page sector wanted page) at = λ is. elim (wrote.of_dirty k sector wanted page at) [
   | inl dirty ↦ clean wanted.page (subst (λ (n : ℕ). IsDirty s n wanted.page) is dirty)
-  | inr own ↦ omega (arith, own, client, is)
+  | inr own ↦ others wanted.id wanted.page own is
 ]
 
 same_list : {a b : DiskState} (earlier one other : List DiskWrite) → a.writes ≡ Some earlier → Appended one a b → Appended other a b → one ≡ other
@@ -281,12 +316,13 @@ same_list earlier one other made first second =
     append_cancel_left earlier one other (same_Some (earlier ++ one) (earlier ++ other)
     (sym (first.revealed ∙ ap (option_map (λ (l : List DiskWrite). l ++ one)) made) ∙ (second.revealed ∙ ap (option_map (λ (l : List DiskWrite). l ++ other)) made)))
 
-same_bytes : (id : ℕ) → 16 ≤ id → (d : List Sector) (earlier : List DiskWrite) {run : List DiskWrite} {a c : DiskState} {s : Slots} (all : Spares id a c) (wrote : Wrote volume_page run a s c) → ((page : ℕ) → IsDirty s id page → ⊥)
+same_bytes : (id : ℕ) → 16 ≤ id → {pages : Pages} → ((file page : ℕ) → pages file page → other_file id file page) → (d : List Sector) (earlier : List DiskWrite) {run : List DiskWrite} {a c : DiskState} {s : Slots} (all : Spares id a c)
+    (wrote : Wrote pages run a s c) → ((page : ℕ) → IsDirty s id page → ⊥)
     → a.contents ≡ Some d → a.writes ≡ Some earlier → IsLasting id d → (k : ℕ) → HasSameSectors id d (crash_state d all.writes k)
-same_bytes id client d earlier all wrote clean revealed made lasting =
+same_bytes id client others d earlier all wrote clean revealed made lasting =
     let same = same_list earlier wrote.writes all.writes made wrote.appended all.appended in
     subst (λ (ws : List DiskWrite). (k : ℕ) → HasSameSectors id d (crash_state d ws k)) same
-    (row_same id client d wrote.writes (λ k w at. (wrote.permitted d k w revealed at, other_pages id client wrote clean k w at))
+    (row_same id client d wrote.writes (λ k w at. (wrote.permitted d k w revealed at, other_pages id others wrote clean k w at))
     (subst (λ (ws : List DiskWrite). (k : ℕ) → HasSameLabels id d (crash_state d ws k)) (sym same) (all.same d earlier revealed made lasting)))
 
 start_spares : {a b : DiskState} → WroteFirst a b → SparesAll a b
@@ -324,13 +360,14 @@ start_spared id lines d earlier wrote file revealed made =
       writes = all.writes;
       appended = all.appended;
       labels = all.same d earlier revealed made file.lasting;
-      sectors = λ none. same_bytes id file.client d earlier all wrote.wrote (none_dirty id) revealed made file.lasting;
+      sectors = λ none. same_bytes id file.client (own_other id file.client) d earlier all wrote.wrote (none_dirty id) revealed made file.lasting;
+      hidden = λ named map none. same_bytes id file.client (own_other id file.client) d earlier all wrote.wrote (none_dirty id) revealed made file.lasting;
     }
 
 -- a session started, with this root, and was ended or stopped
-pub run_spared : (id : ℕ) (lines : List TraceLine) (d : List Sector) (earlier : List DiskWrite) (root : Root) (s : Slots) {a b c : DiskState} → WroteFirst a b → ((i page : ℕ) → IsDirty s i page → volume_page i page) → Went b c → RunSpares root lines b s c
-    → IsMonotone (root_in (root_page d)) root → IsPermanentFile id d → list_any (names_file id) lines ≡ false → a.contents ≡ Some d → a.writes ≡ Some earlier → Spared id lines d a c
-run_spared id lines d earlier root s wrote clean went run later file untouched revealed made =
+pub run_spared : (id : ℕ) (lines : List TraceLine) (d : List Sector) (earlier : List DiskWrite) (root : Root) (s : Slots) {a b c : DiskState} {hid : ℕ → Type 0} → WroteFirst a b → ((i page : ℕ) → IsDirty s i page → volume_page i page) → Went b c
+    → RunSpares root lines b s c hid → ((named : Triples) → MapNames d named → hid id) → IsMonotone (root_in (root_page d)) root → IsPermanentFile id d → list_any (names_file id) lines ≡ false → a.contents ≡ Some d → a.writes ≡ Some earlier → Spared id lines d a c
+run_spared id lines d earlier root s wrote clean went run hid later file untouched revealed made =
     let low = file.given in
     let up = later.0 in
     let all = spares_then (start_spares wrote id file.client) (run.spares id file.client (omega (arith, low, up)) untouched) in
@@ -341,8 +378,13 @@ run_spared id lines d earlier root s wrote clean went run later file untouched r
       sectors = λ none.
           let rest = run.quiet none in
           let client = file.client in
-          same_bytes id file.client d earlier all (makes_then (start_makes s wrote) (rest_makes went rest.1)).wrote (λ page dirty. let own = clean id page dirty in omega (arith, own, client)) revealed made file.lasting;
+          same_bytes id file.client (own_other id file.client) d earlier all (makes_then (start_makes s wrote) (rest_makes went rest.1)).wrote (λ page dirty. let own = clean id page dirty in omega (arith, own, client)) revealed made file.lasting;
+      hidden = λ named map none.
+          let client = file.client in
+          let rest = run.apart id client (omega (arith, low, up)) none (hid named map) in
+          same_bytes id client (λ i page other. other) d earlier all (makes_then (makes_wider (other_file id) (own_other id client) (start_makes s wrote)) (rest_makes went rest.1)).wrote
+          (λ page dirty. let own = clean id page dirty in omega (arith, own, client)) revealed made file.lasting;
     }
   where
-    rest_makes : {run : List DiskWrite} {x y : DiskState} {t : Slots} → Went x y → Wrote volume_page run x t y → Makes volume_page run x t y t
+    rest_makes : {pages : Pages} {run : List DiskWrite} {x y : DiskState} {t : Slots} → Went x y → Wrote pages run x t y → Makes pages run x t y t
     rest_makes gone made_so = record { went = gone; dirty = λ i page is. inl is; wrote = made_so; count = refl }

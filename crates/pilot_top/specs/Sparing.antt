@@ -2,6 +2,7 @@
 use Rattle.std.specs.Prelude.{◌≡◌, ◌≢◌, ◌==◌, ◌<◌, ◌≤◌, ℕ, Bool, true, false, if◌then◌else◌, List, Option, Some, None, slice_get}
 use Rattle.std.specs.List.{list_any}
 use Rattle.std.specs.Option.{option_map_or}
+use Rattle.labelled_disk.specs.declared.disk.Disk.{Ghosts}
 use Rattle.labelled_disk.specs.declared.disk.DiskWrite.{DiskWrite}
 use Rattle.labelled_disk.specs.CrashState.{crash_state}
 use Rattle.labelled_disk.specs.Root.{root_page}
@@ -9,15 +10,20 @@ use Rattle.labelled_disk.specs.Sectors.{Sector}
 use Rattle.labelled_disk.specs.State.{DiskState}
 use Rattle.labelled_disk.specs.WriteRuns.{Appended}
 use Rattle.frame_pool.specs.Frames.{Slots}
-use Rattle.flat_machine.specs.declared.call.Call.TheVariants.{Store}
+use Rattle.flat_machine.specs.declared.call.Call.TheVariants.{Map, Store}
 use Rattle.flat_machine.specs.After.{TraceLine}
-use Rattle.swapper_kernel.specs.Goes.{Makes, Wrote}
+use Rattle.file_map.specs.FileMap.{Triples}
+use Rattle.file_map.specs.InSectors.{MapNames}
+use Rattle.swapper_kernel.specs.Goes.{Makes, Pages, Wrote}
 use Rattle.session_words.specs.Volume.{volume_page}
 use Rattle.volume_root.specs.declared.root.Root.{Root}
 use Rattle.volume_root.specs.RootPage.{root_in}
 use Rattle.file_manager.specs.Creating.{next_id}
+use Rattle.file_manager.specs.Reasons.{InitialState, IsNotOlder, KeepsOn}
+use Rattle.space_calls.specs.Sees.{SeesFiles}
 use Rattle.pilot_engine.specs.Sparing.{HasSameLabels, IsLasting, Spares}
 use Rattle.pilot_engine.specs.Stepping.{relabels}
+use Rattle.pilot_engine.specs.declared.session.Session.{Session}
 use Rattle.pilot_top.specs.Parts.{LineWrote}
 
 -- the line deletes this file, gives it another size, or marks it
@@ -30,6 +36,12 @@ abbrev pub stores : TraceLine → Bool
 stores None = false
 stores (Some (Store address bytes)) = true
 stores (Some other) = false
+
+-- the line shows this file in a window
+abbrev pub maps_file : ℕ → TraceLine → Bool
+maps_file id None = false
+maps_file id (Some (Map space file page writable)) = file == id
+maps_file id (Some other) = false
 
 -- a client's file: the volume gave its identifier out, and no leader of it is a temporary one's
 pub record IsPermanentFile (id : ℕ) (d : List Sector) : Type 0 where
@@ -47,21 +59,38 @@ abbrev pub HasSameSectors : ℕ → List Sector → List Sector → Type 0
 HasSameSectors id d e = (i : ℕ) → 0 < i → sector_for id (slice_get e i) ≡ sector_for id (slice_get d i)
 
 -- Writes were made, and in each crash state of them the file has the labels that it had on these sectors: none is lost, and no other sector
--- has one. Where no line of the trace stores bytes, it has its bytes too.
+-- has one. It has its bytes too where no line of the trace stores any; and where the file map was in form, and no line shows the file in a
+-- window.
 pub record Spared (id : ℕ) (lines : List TraceLine) (d : List Sector) (old new : DiskState) : Type 0 where
   pub writes : List DiskWrite
   pub appended : Appended writes old new
   pub labels : (k : ℕ) → HasSameLabels id d (crash_state d writes k)
   pub sectors : list_any stores lines ≡ false → (k : ℕ) → HasSameSectors id d (crash_state d writes k)
+  pub hidden : (named : Triples) → MapNames d named → list_any (maps_file id) lines ≡ false → (k : ℕ) → HasSameSectors id d (crash_state d writes k)
+
+-- a page of another file
+abbrev pub other_file : ℕ → Pages
+other_file id file page = file ≢ id
+
+module _ {D A : Type 0} {G : Ghosts D} where
+  -- The session keeps to an initial state, whose file map was in form; it sees the space tables, and no window shows the file.
+  pub record Hides (s : Session D A G) (id : ℕ) : Type 0 where
+    pub initial_state : InitialState
+    pub keeps : KeepsOn initial_state s.core.filer
+    pub not_older : IsNotOlder initial_state s.volume.root
+    pub hidden : SeesFiles (other_file id) s.core
 
 -- What a line wrote, in a session whose volume has this root: it spares the files that it does not name, unless it gives a new file their
--- identifier; and one that stores nothing makes no page of a client's dirty.
-pub record LineDone (root : Root) (line : TraceLine) (old : DiskState) (before : Slots) (new : DiskState) (after : Slots) : Type 0 where
+-- identifier; and one that stores nothing makes no page of a client's dirty. A file that was hidden before it, and that it does not show in a
+-- window, is hidden after it, and no page of that became dirty.
+pub record LineDone (root : Root) (line : TraceLine) (old : DiskState) (before : Slots) (new : DiskState) (after : Slots) (hid hides : ℕ → Type 0) : Type 0 where
   pub wrote : LineWrote line old new
   pub spares : (id : ℕ) → 16 ≤ id → next_id root ≢ id → names_file id line ≡ false → Spares id old new
   pub quiet : stores line ≡ false → (run : List DiskWrite) × Makes volume_page run old before new after
+  pub apart : (id : ℕ) → 16 ≤ id → next_id root ≢ id → maps_file id line ≡ false → hid id → hides id × ((run : List DiskWrite) × Makes (other_file id) run old before new after)
 
 -- so it is of all lines of a trace, from a session's start to its end
-pub record RunSpares (root : Root) (lines : List TraceLine) (old : DiskState) (before : Slots) (new : DiskState) : Type 0 where
+pub record RunSpares (root : Root) (lines : List TraceLine) (old : DiskState) (before : Slots) (new : DiskState) (hid : ℕ → Type 0) : Type 0 where
   pub spares : (id : ℕ) → 16 ≤ id → id < next_id root → list_any (names_file id) lines ≡ false → Spares id old new
   pub quiet : list_any stores lines ≡ false → (run : List DiskWrite) × Wrote volume_page run old before new
+  pub apart : (id : ℕ) → 16 ≤ id → id < next_id root → list_any (maps_file id) lines ≡ false → hid id → (run : List DiskWrite) × Wrote (other_file id) run old before new

@@ -62,7 +62,8 @@ impl Counts {
 
     // The first words of the line.
     fn prefix(&self, calls: u32) -> ArrayVec<u8, 64>
-        ensures text { result.items ≡ codes "trial calls " ++ decimal calls ++ codes " errors " ++ decimal self.now.errors ++ codes " loaded " }
+        ensures text { result.items ≡ codes "trial calls " ++ decimal calls ++ codes " errors " ++ decimal
+            self.now.errors ++ codes " loaded " }
         ensures short { length result.items ≤ 48 }
     {
         let mut line = ArrayVec::new();

@@ -70,7 +70,8 @@ pub(crate) fn end_long<D: RunDisk, K: Sink>(disk: D, sink: &mut K) -> (Status, D
     ensures went { Went (D.state disk) (D.state result.1) }
     ensures transfers { (D.state result.1).transfers ≡ (D.state disk).transfers }
     ensures line { result.0 ≡ Status.Long
-        → Puts (Rose (K.faults sink.old) (K.faults sink.new)) (K.took sink.old) (K.took sink.new) (last_line Cause.Long) }
+        → Puts (Rose (K.faults sink.old) (K.faults sink.new)) (K.took sink.old) (K.took sink.new)
+        (last_line Cause.Long) }
     ensures disk_fault { result.0 ≡ Status.DiskFault
         → (D.shown result.1 ≡ None) × Rose (D.state disk).faults (D.state result.1).faults
         × Puts (Rose (K.faults sink.old) (K.faults sink.new)) (K.took sink.old) (K.took sink.new)

@@ -24,7 +24,7 @@ ghost use Rattle.pilot_top.specs.InitialState.{FromEachInitialState, FromInitial
 ghost use Rattle.pilot_top.specs.Parts.{InParts, PartMay, Stops};
 ghost use Rattle.pilot_top.specs.Queued.{RepliesChange, WroteChange};
 ghost use Rattle.pilot_top.specs.Replied.{Replied};
-ghost use Rattle.pilot_top.specs.Sparing.{IsPermanentFile, RunSpares, Spared, names_file};
+ghost use Rattle.pilot_top.specs.Sparing.{Hides, IsPermanentFile, RunSpares, Spared, names_file};
 ghost use Rattle.labelled_disk.specs.declared.disk.DiskWrite.{DiskWrite};
 ghost use Rattle.std.specs.List.{list_any};
 ghost use Rattle.filer_kernel.specs.View.{FitsLayout};
@@ -106,7 +106,7 @@ pub(crate) fn answer_lines<D: RunDisk, A: Allocator, S: Source, K: Sink>(
         (λ k. InParts (PartMay (reading b)) k (state session.core).disk (D.state result.1)) }
     ensures spares { (b : List ℕ) → S.left source.old ≡ Some b
         → RunSpares session.volume.root (reading b) (state session.core).disk (state session.core).slots
-        (D.state result.1) }
+        (D.state result.1) (Hides session) }
     ensures same_disk { Went (state session.core).disk (D.state result.1) }
     ensures disk_cause { result.0 ≡ Status.DiskFault → (D.shown result.1 ≡ None)
         × Rose (state session.core).disk.faults (D.state result.1).faults }

@@ -11,7 +11,7 @@ ghost use Rattle.running_words.specs.Stages.{client_or_own};
 ghost use Rattle.running_words.specs.Running.{Runs};
 ghost use Rattle.pilot_top.specs.Headline.{CostsLine};
 ghost use Rattle.pilot_top.specs.CrashStates.{LineCrashStates};
-ghost use Rattle.pilot_top.specs.Sparing.{LineDone};
+ghost use Rattle.pilot_top.specs.Sparing.{Hides, LineDone};
 ghost use Rattle.pilot_top.specs.Turn.{EndsAt, IsGoing, IsIdle, Turns};
 ghost use Rattle.pilot_engine.specs.Reasons.{IsBlameless, SeesHome};
 ghost use Rattle.filer_kernel.specs.View.{FitsLayout};
@@ -74,7 +74,8 @@ pub(crate) fn take_turn<D: Disk, A: Allocator, S: Source>(
         × CostsLine line (state session.old.core).disk (state session.new.core).disk)
         (λ line.
         LineDone session.old.volume.root line (state session.old.core).disk (state session.old.core).slots
-        (state session.new.core).disk (state session.new.core).slots) }
+        (state session.new.core).disk (state session.new.core).slots (Hides session.old)
+        (λ id. IsGoing result → Hides session.new id)) }
     ensures bound { lines.new.taken ≤ lines.new.limit }
     ensures idle { IsIdle result → session.new ≡ session.old }
     ensures going { IsGoing result → session.new.running ≡ true }

@@ -75,11 +75,11 @@ returns-in-Err-make_tables-clause-sound g c = λ d revealed sound same.
     let lay : (view_of c.free_count.new.self).layout ≡ layout = c.in-Ok-free_count.ensures.kept.layout ∙ c.in-Ok.ensures.layout in
     let runs : c.free_count.new.self.runs ≡ kept = c.in-Ok-free_count.ensures.runs ∙ c.in-Ok.ensures.runs in
     let may = may_begin d sectors sound layout is long c.args.root same slots c.requires.bare kept none d1 form made _ _ _ beside still in
-    (rw (lay, runs) at c.in-Err-make_tables.ensures.sound) x (shapes_of (files_on d)) (root ∷ []) may
+    (rw (lay, runs) at c.in-Err-make_tables.ensures.made) x (shapes_of (files_on d)) (root ∷ []) may
 
 pub returns-in-Err-make_tables-clause-starts : goal.returns-in-Err-make_tables-clause-starts
 returns-in-Err-make_tables-clause-starts g c =
-    tables_some c.args.root _ _ c.requires.bare (rw c.in_use-root.ensures.root at c.in-Ok.ensures.made).makes c.in-Ok.ensures.synced (rw (c.in-Ok.ensures.frames, c.in-Ok.ensures.layout) at c.in-Ok-free_count.ensures.kept) c.in-Err-make_tables.ensures.stopped
+    tables_some c.args.root _ _ c.requires.bare (rw c.in_use-root.ensures.root at c.in-Ok.ensures.made).makes c.in-Ok.ensures.synced (rw (c.in-Ok.ensures.frames, c.in-Ok.ensures.layout) at c.in-Ok-free_count.ensures.kept) c.in-Err-make_tables.ensures.writes
 
 pub returns-clause-begun : goal.returns-clause-begun
 returns-clause-begun g c = λ d revealed sound same.
@@ -103,7 +103,7 @@ returns-clause-begun g c = λ d revealed sound same.
     let begun = (rw (lay, runs) at c.in-Ok-make_tables.ensures.made) x (shapes_of (files_on d)) (root ∷ []) may in
     let free = (rw (c.in-Ok.ensures.frames, c.in-Ok.ensures.layout) at c.in-Ok-free_count.ensures.count) x (marks d sectors sound layout is long c.args.root same slots c.requires.bare kept none d1 form made) now (bits d sectors sound layout is long c.args.root same slots c.requires.bare kept none d1 form made) in
     let volume : Volume = record { layout = c.args.layout; root = c.in_use-root.result; used = c.used_of.result } in
-    let session = session_begun d sectors sound layout is long c.args.root same slots c.requires.bare kept none d1 form made _ _ _ beside still _ _ _ begun volume (view_of c.make_tables.new.filer).layout (c.in-Ok-make_tables.ensures.layout ∙ lay) c.in_use-root.ensures.root
+    let session = session_begun d sectors sound layout is long c.args.root same slots c.requires.bare kept none d1 form made _ _ _ beside still _ _ _ begun volume (view_of c.make_tables.new.filer).layout (c.in-Ok-make_tables.ensures.stays.layout ∙ lay) c.in_use-root.ensures.root
     c.in-Ok-free_count.free (free_are d sectors sound layout is long c.args.root same slots c.requires.bare kept none d1 form made c.in-Ok-free_count.free free) (rw c.requires.same_layout at c.used_of.ensures) in
     c.in-Ok-write_tables.ensures.runs d volume session
 
@@ -129,17 +129,17 @@ returns-in-Err-write_tables-clause-sound g c = λ d revealed sound same.
     let begun = (rw (lay, runs) at c.in-Ok-make_tables.ensures.made) x (shapes_of (files_on d)) (root ∷ []) may in
     let free = (rw (c.in-Ok.ensures.frames, c.in-Ok.ensures.layout) at c.in-Ok-free_count.ensures.count) x (marks d sectors sound layout is long c.args.root same slots c.requires.bare kept none d1 form made) now (bits d sectors sound layout is long c.args.root same slots c.requires.bare kept none d1 form made) in
     let volume : Volume = record { layout = c.args.layout; root = c.in_use-root.result; used = min ((layout.sectors - layout.first) - c.in-Ok-free_count.free) layout.capacity } in
-    let session = session_begun d sectors sound layout is long c.args.root same slots c.requires.bare kept none d1 form made _ _ _ beside still _ _ _ begun volume (view_of c.make_tables.new.filer).layout (c.in-Ok-make_tables.ensures.layout ∙ lay) c.in_use-root.ensures.root
+    let session = session_begun d sectors sound layout is long c.args.root same slots c.requires.bare kept none d1 form made _ _ _ beside still _ _ _ begun volume (view_of c.make_tables.new.filer).layout (c.in-Ok-make_tables.ensures.stays.layout ∙ lay) c.in_use-root.ensures.root
     c.in-Ok-free_count.free (free_are d sectors sound layout is long c.args.root same slots c.requires.bare kept none d1 form made c.in-Ok-free_count.free free) refl in
     c.in-Err-write_tables.ensures.sound d volume session
 
 pub returns-clause-starts : goal.returns-clause-starts
 returns-clause-starts g c =
-    tables_all c.args.root _ _ c.requires.bare (rw c.in_use-root.ensures.root at c.in-Ok.ensures.made).makes c.in-Ok.ensures.synced (rw (c.in-Ok.ensures.frames, c.in-Ok.ensures.layout) at c.in-Ok-free_count.ensures.kept) c.in-Ok-make_tables.ensures.makes c.write_tables.ensures.makes
+    tables_all c.args.root _ _ c.requires.bare (rw c.in_use-root.ensures.root at c.in-Ok.ensures.made).makes c.in-Ok.ensures.synced (rw (c.in-Ok.ensures.frames, c.in-Ok.ensures.layout) at c.in-Ok-free_count.ensures.kept) c.in-Ok-make_tables.ensures.writes c.write_tables.ensures.makes
 
 pub returns-in-Err-write_tables-clause-starts : goal.returns-in-Err-write_tables-clause-starts
 returns-in-Err-write_tables-clause-starts g c =
-    tables_all c.args.root _ _ c.requires.bare (rw c.in_use-root.ensures.root at c.in-Ok.ensures.made).makes c.in-Ok.ensures.synced (rw (c.in-Ok.ensures.frames, c.in-Ok.ensures.layout) at c.in-Ok-free_count.ensures.kept) c.in-Ok-make_tables.ensures.makes c.write_tables.ensures.makes
+    tables_all c.args.root _ _ c.requires.bare (rw c.in_use-root.ensures.root at c.in-Ok.ensures.made).makes c.in-Ok.ensures.synced (rw (c.in-Ok.ensures.frames, c.in-Ok.ensures.layout) at c.in-Ok-free_count.ensures.kept) c.in-Ok-make_tables.ensures.writes c.write_tables.ensures.makes
 
 -- what evidence says is so
 pub returns-in-Err-clause-evidence_seen : goal.returns-in-Err-clause-evidence_seen
@@ -162,26 +162,26 @@ pub returns-in-Err-make_tables-clause-left_open : goal.returns-in-Err-make_table
 returns-in-Err-make_tables-clause-left_open g c =
     let made = (rw c.in_use-root.ensures.root at c.in-Ok.ensures.made).makes in
     let begun = unset_root c.args.root _ _ (first_made c.args.root _ _ c.requires.bare made) in
-    let some = c.in-Err-make_tables.ensures.stopped in
+    let some = c.in-Err-make_tables.ensures.writes in
     leaves_open (view_of c.make_tables.new.filer).disk (unset_open (unset_open begun (map_makes c.in-Ok-free_count.ensures.kept).wrote tt) some.makes.wrote (take_open some.count (growth 3 0 0 some.sectors) (growth_open 3 0 0 some.sectors))) c.in-Err-make_tables.halt
 
 pub returns-in-Err-write_tables-clause-left_open : goal.returns-in-Err-write_tables-clause-left_open
 returns-in-Err-write_tables-clause-left_open g c =
     let made = (rw c.in_use-root.ensures.root at c.in-Ok.ensures.made).makes in
     let begun = unset_root c.args.root _ _ (first_made c.args.root _ _ c.requires.bare made) in
-    let all = c.in-Ok-make_tables.ensures.makes in
+    let all = c.in-Ok-make_tables.ensures.writes in
     leaves_open (view_of c.write_tables.new.filer).disk (unset_open (unset_open (unset_open begun (map_makes c.in-Ok-free_count.ensures.kept).wrote tt) all.makes.wrote (growth_open 3 0 0 all.sectors)) c.write_tables.ensures.makes.wrote tt) c.in-Err-write_tables.halt
 
 pub returns-clause-left_open : goal.returns-clause-left_open
 returns-clause-left_open g c =
     let made = (rw c.in_use-root.ensures.root at c.in-Ok.ensures.made).makes in
     let begun = unset_root c.args.root _ _ (first_made c.args.root _ _ c.requires.bare made) in
-    let all = c.in-Ok-make_tables.ensures.makes in
+    let all = c.in-Ok-make_tables.ensures.writes in
     unset_open (unset_open (unset_open begun (map_makes c.in-Ok-free_count.ensures.kept).wrote tt) all.makes.wrote (growth_open 3 0 0 all.sectors)) c.write_tables.ensures.makes.wrote tt
 
 pub returns-clause-synced : goal.returns-clause-synced
 returns-clause-synced g c = λ writes is.
-    has_sync_later (length writes + 1) (went_then (map_makes c.in-Ok-free_count.ensures.kept).went (went_then c.in-Ok-make_tables.ensures.makes.makes.went c.write_tables.ensures.makes.went)) (c.in-Ok.ensures.synced writes is)
+    has_sync_later (length writes + 1) (went_then (map_makes c.in-Ok-free_count.ensures.kept).went (went_then c.in-Ok-make_tables.ensures.writes.makes.went c.write_tables.ensures.makes.went)) (c.in-Ok.ensures.synced writes is)
 
 -- ---- Why it failed.
 
@@ -198,14 +198,14 @@ pub returns-in-Err-make_tables-clause-cause : goal.returns-in-Err-make_tables-cl
 returns-in-Err-make_tables-clause-cause g c =
     let u = view_of c.put_in_use.new.filer in
     let begun = rooted c.args.root c.in_use-root.result (view_of c.args.filer.now) u c.in_use-root.ensures.root c.in-Ok.ensures.made c.in-Ok.ensures.frames c.in-Ok.ensures.layout in
-    inr (u, begun, inr (view_of c.free_count.new.self, c.in-Ok-free_count.ensures.kept, inl c.in-Err-make_tables.ensures.cause))
+    inr (u, begun, inr (view_of c.free_count.new.self, c.in-Ok-free_count.ensures.kept, inl c.in-Err-make_tables.ensures.fails.cause))
 
 pub returns-in-Err-write_tables-clause-cause : goal.returns-in-Err-write_tables-clause-cause
 returns-in-Err-write_tables-clause-cause g c =
     let u = view_of c.put_in_use.new.filer in
     let begun = rooted c.args.root c.in_use-root.result (view_of c.args.filer.now) u c.in_use-root.ensures.root c.in-Ok.ensures.made c.in-Ok.ensures.frames c.in-Ok.ensures.layout in
     let made = c.in-Ok-make_tables.ensures in
-    inr (u, begun, inr (view_of c.free_count.new.self, c.in-Ok-free_count.ensures.kept, inr (view_of c.make_tables.new.filer, (made.makes, made.layout), c.in-Err-write_tables.ensures.cause)))
+    inr (u, begun, inr (view_of c.free_count.new.self, c.in-Ok-free_count.ensures.kept, inr (view_of c.make_tables.new.filer, (made.writes, made.stays.layout), c.in-Err-write_tables.ensures.cause)))
 
 -- ---- What began is a reason.
 
@@ -242,7 +242,7 @@ returns-in-Err-make_tables-clause-reasons g c = λ d named ws begun.
     let rooted_keeps = rooted_at d named ws root next (view_of c.put_in_use.new.filer) (accepted c.put_in_use.new.filer) bare written (c.in-Ok.ensures.keeps_to (giving (initial_state d named ws) next) named first least) in
     let counted = keeps_counted o (view_of c.put_in_use.new.filer) (view_of c.free_count.new.self) named rooted_keeps c.in-Ok-free_count.ensures.kept c.in-Ok-free_count.ensures.same c.in-Ok-free_count.ensures.runs in
     subst (λ (l : Layout). ShowsReason o l (view_of c.make_tables.new.filer).disk c.in-Err-make_tables.halt) (c.in-Ok-free_count.ensures.kept.layout ∙ c.in-Ok.ensures.layout)
-    (c.in-Err-make_tables.ensures.reasons o named counted (counted_unframed bare c.in-Ok-free_count.ensures.kept) refl)
+    (c.in-Err-make_tables.ensures.accounts o named counted (counted_unframed bare c.in-Ok-free_count.ensures.kept) refl)
 
 pub returns-in-Err-write_tables-clause-reasons : goal.returns-in-Err-write_tables-clause-reasons
 returns-in-Err-write_tables-clause-reasons g c = λ d named ws begun.
@@ -258,8 +258,8 @@ returns-in-Err-write_tables-clause-reasons g c = λ d named ws begun.
     let rooted_keeps = rooted_at d named ws root next (view_of c.put_in_use.new.filer) (accepted c.put_in_use.new.filer) bare written (c.in-Ok.ensures.keeps_to (giving (initial_state d named ws) next) named first least) in
     let counted = keeps_counted o (view_of c.put_in_use.new.filer) (view_of c.free_count.new.self) named rooted_keeps c.in-Ok-free_count.ensures.kept c.in-Ok-free_count.ensures.same c.in-Ok-free_count.ensures.runs in
     let none = counted_unframed bare c.in-Ok-free_count.ensures.kept in
-    let made = c.in-Ok-make_tables.ensures.keeps_to o named counted none refl in
-    subst (λ (l : Layout). ShowsReason o l (view_of c.write_tables.new.filer).disk c.in-Err-write_tables.halt) (c.in-Ok-make_tables.ensures.layout ∙ c.in-Ok-free_count.ensures.kept.layout ∙ c.in-Ok.ensures.layout)
+    let made = c.in-Ok-make_tables.ensures.accounts o named counted none refl in
+    subst (λ (l : Layout). ShowsReason o l (view_of c.write_tables.new.filer).disk c.in-Err-write_tables.halt) (c.in-Ok-make_tables.ensures.stays.layout ∙ c.in-Ok-free_count.ensures.kept.layout ∙ c.in-Ok.ensures.layout)
     (c.in-Err-write_tables.ensures.reasons o made)
 
 pub returns-clause-keeps_to : goal.returns-clause-keeps_to
@@ -276,7 +276,7 @@ returns-clause-keeps_to g c = λ d named ws begun.
     let rooted_keeps = rooted_at d named ws root next (view_of c.put_in_use.new.filer) (accepted c.put_in_use.new.filer) bare written (c.in-Ok.ensures.keeps_to (giving (initial_state d named ws) next) named first least) in
     let counted = keeps_counted o (view_of c.put_in_use.new.filer) (view_of c.free_count.new.self) named rooted_keeps c.in-Ok-free_count.ensures.kept c.in-Ok-free_count.ensures.same c.in-Ok-free_count.ensures.runs in
     let none = counted_unframed bare c.in-Ok-free_count.ensures.kept in
-    let made = c.in-Ok-make_tables.ensures.keeps_to o named counted none refl in
+    let made = c.in-Ok-make_tables.ensures.accounts o named counted none refl in
     c.in-Ok-write_tables.ensures.keeps_to o made
 
 -- ---- What is seen of the space tables.
@@ -298,8 +298,8 @@ pub returns-in-Err-make_tables-clause-sees : goal.returns-in-Err-make_tables-cla
 returns-in-Err-make_tables-clause-sees g c = λ d named ws begun.
     let v = view_of c.free_count.new.self in
     let w = view_of c.make_tables.new.filer in (
-      create_form v.layout 3 (λ page. page < 96) v.disk v.slots w.disk w.slots c.in-Err-make_tables.halt c.in-Err-make_tables.ensures.cause,
-      new_misses no_page 3 (λ page. page < 96) v w c.in-Err-make_tables.halt c.in-Err-make_tables.ensures.cause,
+      create_form v.layout 3 (λ page. page < 96) v.disk v.slots w.disk w.slots c.in-Err-make_tables.halt c.in-Err-make_tables.ensures.fails.cause,
+      new_misses no_page 3 (λ page. page < 96) v w c.in-Err-make_tables.halt c.in-Err-make_tables.ensures.fails.cause,
     )
 
 pub returns-in-Err-write_tables-clause-sees : goal.returns-in-Err-write_tables-clause-sees

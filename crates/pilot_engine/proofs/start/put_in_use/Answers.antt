@@ -19,7 +19,7 @@ returns-in-Ok-sync-clause-made g c =
     let filer = c.args.filer.now in
     let syncs : Syncs (view_of c.write_over.new.filer).disk c.sync.result (g.D.Disk.state c.sync.new.self) = search rules in
     let write = root_write c.args.root in
-    goes_swapping (λ m n. n ≡ written write m) no_page (write ∷ []) (swaps_itself (view_of filer).disk (view_of filer).slots) c.in-Ok.ensures.made
+    goes_swapping (λ m n. n ≡ written write m) no_page (write ∷ []) (swaps_itself (view_of filer).disk (view_of filer).slots) c.in-Ok.ensures.writes
     (synced_swaps (view_of c.write_over.new.filer).disk (g.D.Disk.state c.sync.new.self) c.sync.result (view_of filer).slots syncs)
 
 pub returns-in-Err-sync-clause-stopped : goal.returns-in-Err-sync-clause-stopped
@@ -27,7 +27,7 @@ returns-in-Err-sync-clause-stopped g c =
     let filer = c.args.filer.now in
     let syncs : Syncs (view_of c.write_over.new.filer).disk c.sync.result (g.D.Disk.state c.sync.new.self) = search rules in
     let write = root_write c.args.root in
-    inr (goes_swapping (λ m n. n ≡ written write m) no_page (write ∷ []) (swaps_itself (view_of filer).disk (view_of filer).slots) c.in-Ok.ensures.made
+    inr (goes_swapping (λ m n. n ≡ written write m) no_page (write ∷ []) (swaps_itself (view_of filer).disk (view_of filer).slots) c.in-Ok.ensures.writes
     (synced_swaps (view_of c.write_over.new.filer).disk (g.D.Disk.state c.sync.new.self) c.sync.result (view_of filer).slots syncs)).makes
 
 pub returns-in-Ok-sync-clause-synced : goal.returns-in-Ok-sync-clause-synced
@@ -35,7 +35,7 @@ returns-in-Ok-sync-clause-synced g c = λ writes is.
     let filer = c.args.filer.now in
     let syncs : Syncs (view_of c.write_over.new.filer).disk c.sync.result (g.D.Disk.state c.sync.new.self) = search rules in
     let write = root_write c.args.root in
-    let made = c.in-Ok.ensures.made.makes in
+    let made = c.in-Ok.ensures.writes.makes in
     let appended = subst (λ (ws : List DiskWrite). Appended ws (view_of filer).disk (view_of c.write_over.new.filer).disk) (alone c.args.root (view_of filer).disk (view_of filer).slots c.requires.bare made) made.wrote.appended in
     let now : (g.D.Disk.state c.sync.new.self).writes ≡ Some (writes ++ write ∷ []) = syncs.same.writes ∙ appended.revealed ∙ ap (option_map (λ (earlier : List DiskWrite). earlier ++ write ∷ [])) is in
     let synced : (g.D.Disk.state c.sync.new.self).synced ≡ true = search rules in

@@ -41,7 +41,8 @@ use Rattle.pilot_top.proofs.PartLemmas.{parts_still}
 use Rattle.pilot_top.proofs.PlaceLemmas.{stop_revealed}
 use Rattle.pilot_top.proofs.ReasonLemmas.{damage_same, goes_nowhere, goes_then, reason_before, reason_halted}
 use Rattle.pilot_top.proofs.RepliedLemmas.{Replied-changed, Replied-end, Replied-halted, Replied-long, Replied-read_fault, Replied-write_fault}
-use Rattle.pilot_top.proofs.SpareLemmas.{lines_end, lines_more, lines_none, lines_run, lines_same, lines_source, run_still}
+use Rattle.pilot_top.specs.Sparing.{Hides}
+use Rattle.pilot_top.proofs.SpareLemmas.{lines_end, lines_hide, lines_more, lines_none, lines_run, lines_same, lines_source, run_still}
 use Rattle.pilot_top.proofs.StagedLemmas.{from_rest, stands_revealed}
 use Rattle.pilot_top.proofs.StatusLemmas.{halt_disk, halt_ends, trace_ends}
 use Rattle.pilot_top.proofs.StopParts.{Stops-end, Stops-halted, Stops-long, Stops-read_fault, Stops-write_fault, end_parts}
@@ -64,6 +65,9 @@ session_disk g s = (state s.core).disk
 
 abbrev session_slots : (g : given.Over) → Sessions g → Slots
 session_slots g s = (state s.core).slots
+
+abbrev hides_of : (g : given.Over) → Sessions g → ℕ → Type 0
+hides_of g s = Hides s
 
 abbrev stands_of : (g : given.Over) → Sessions g → Machine → Type 0
 stands_of g s m = Runs s.core s.volume m
@@ -91,7 +95,7 @@ turns-init g c =
       turned = Turned-start _ _ c.with_limit-lines.result _ _ (ap (λ p. p.taken) made) stopped
           (λ m is. from_rest m [] is (λ d revealed. g.met.D.Disk.in_form (disk_of c.args.session.core.filer) d revealed))
           (openly_none (record { contents = refl; writes = refl }));
-      spared = lines_none _ c.with_limit-lines.result c.args.session.volume.root (session_disk g c.args.session) (session_slots g c.args.session)
+      spared = lines_none _ c.with_limit-lines.result c.args.session.volume.root (session_disk g c.args.session) (session_slots g c.args.session) (Hides c.args.session)
           (HasRead-none _ c.with_limit-lines.result (ap (λ p. p.taken) made) stopped);
       same_disk = went_itself (state c.args.session.core).disk;
       goes_on = inl stopped;
@@ -124,7 +128,7 @@ turns-preserved g c =
     record {
       turned = Turned-reply i.turned i.same_disk.sectors turn.0 turn.2 turn.3 turn.4 turn.5 turn.6.wrote
           (called_openly c.take_turn.ensures.wrote) c.in-Ok.ensures.ok;
-      spared = lines_more i.spared turn.0 turn.2 turn.4 i.goes.monotone turn.6;
+      spared = lines_hide (λ id still. still tt) (lines_more i.spared turn.0 turn.2 turn.4 i.goes.monotone turn.6);
       same_disk = went_then i.same_disk went;
       goes_on = elim turn.2.ends [ inl fed ↦ inl fed.1 | inr ended ↦ inr ended.3 ];
       limit = turn.2.limit ∙ i.limit;
@@ -227,7 +231,7 @@ returns-in-ReadFault g c =
           rw c.into_disk-in-ReadFault.ensures
           (Stops-read_fault b t turned.going (Unit {0}) (λ k. InParts (PartMay (reading b)) k (session_disk g c.args.session) (session_disk g c.take_turn.new.session)) (g.S.Source.left c.take_turn.new.source) None c.take_turn.new.lines turn.0 turn.1
           (still_parts turned (length turned.going.lines) (omega arith)));
-      spares = λ b source. rw c.into_disk-in-ReadFault.ensures (lines_run (lines_source source (lines_same {S = Sessions g} (session_disk g) (session_slots g) same i.spared)));
+      spares = λ b source. rw c.into_disk-in-ReadFault.ensures (lines_run (lines_source source (lines_same {S = Sessions g} (session_disk g) (session_slots g) (hides_of g) same i.spared)));
       same_disk = rw c.into_disk-in-ReadFault.ensures went;
       disk_cause = λ is. absurd (cc is);
       stream_cause = λ is. inl rose;
@@ -321,7 +325,7 @@ returns-in-Long g c =
                 Stops-halted b t turned.going _ wrote c.end_long.result.0 (halt.Damaged line.0) (g.S.Source.left c.take_turn.new.source) _ damaged
                 (Puts-later _ _ _ _ _ (rose_later _ _ _ i.sink) line.2) (at (suc (length turned.going.lines)) (omega arith))
           ];
-      spares = λ b source. run_still (lines_run (lines_source source (lines_same {S = Sessions g} (session_disk g) (session_slots g) same i.spared))) there;
+      spares = λ b source. run_still (lines_run (lines_source source (lines_same {S = Sessions g} (session_disk g) (session_slots g) (hides_of g) same i.spared))) there;
       same_disk = went_then before later;
       disk_cause = λ is.
           let failed = e.disk_fault is in
@@ -499,7 +503,7 @@ returns-in-Ends g c =
           (λ is. Puts-later _ _ _ _ _ (rose_later _ _ _ i.sink) (e.disk_fault is).2)
           (λ is. let line = e.damage is in (line.0, Puts-later _ _ _ _ _ (rose_later _ _ _ i.sink) line.2))
           (end_parts b turned.going c.in-Ends.end (g.S.Source.left c.take_turn.new.source) c.take_turn.new.lines ended e.halted turned.parts e.wrote);
-      spares = λ b source. lines_end (lines_source source (lines_same {S = Sessions g} (session_disk g) (session_slots g) same i.spared)) e.spares e.wrote;
+      spares = λ b source. lines_end (lines_source source (lines_same {S = Sessions g} (session_disk g) (session_slots g) (hides_of g) same i.spared)) e.spares e.wrote;
       same_disk = went_then went e.wrote.went;
       disk_cause = λ is. let failed = e.disk_fault is in (failed.0, rose_later _ _ _ went.faults failed.1);
       stream_cause = λ is. inr (rose_later _ _ _ i.sink (e.stream_cause is).0);

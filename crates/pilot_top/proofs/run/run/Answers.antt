@@ -10,6 +10,7 @@ use Rattle.pilot_top.specs.Parts.{InParts, PartMay}
 use Rattle.pilot_top.proofs.AfterLemmas.{Stops-less}
 use Rattle.pilot_top.proofs.CostLemmas.{run_spends, start_spends}
 use Rattle.pilot_top.proofs.CutLemmas.{ran_honest, started_honest}
+use Rattle.pilot_top.proofs.HiddenLemmas.{hidden_first}
 use Rattle.pilot_top.proofs.LineParts.{parts_refused, parts_started}
 use Rattle.pilot_top.proofs.StopParts.{Stops-refused}
 use Rattle.pilot_top.proofs.PermittedRuns.{ran_lawfully, started_lawfully}
@@ -195,6 +196,7 @@ pub returns-in-Ok-clause-spares : goal.returns-in-Ok-clause-spares
 returns-in-Ok-clause-spares g c d earlier b id revealed made source file untouched =
     let session = c.in-Ok.session in
     run_spared id (reading b) d earlier session.volume.root (state session.core).slots c.in-Ok.ensures.wrote c.in-Ok.ensures.clean c.answer_lines.ensures.same_disk (c.answer_lines.ensures.spares b source)
+    (λ named map. hidden_first session (g.D.Disk.state c.args.disk) c.in-Ok.ensures.keeps_to c.in-Ok.ensures.sees c.in-Ok.ensures.monotone d named earlier (record { contents = revealed; writes = made; map = map }) id)
     (c.in-Ok.ensures.monotone d revealed) file untouched revealed made
 
 pub returns-in-Err-clause-spares : goal.returns-in-Err-clause-spares

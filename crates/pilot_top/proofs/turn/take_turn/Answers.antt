@@ -9,6 +9,7 @@ use Rattle.trace_io.specs.Reading.{is_last}
 use Rattle.running_words.specs.Running.{Runs}
 use Rattle.pilot_engine.specs.Reasons.{IsBlameless}
 use Rattle.pilot_top.proofs.CostLemmas.{bad_costs, call_costs}
+use Rattle.pilot_top.proofs.HiddenLemmas.{hidden_makes, hidden_still}
 use Rattle.pilot_top.proofs.LineParts.{line_wrote}
 use Rattle.pilot_top.proofs.PartLemmas.{written_none}
 use Rattle.pilot_top.proofs.SpareLemmas.{bad_done, call_done}
@@ -62,7 +63,12 @@ returns-in-Ok-clause-turns g c =
         line_step m c.in-Call.call ((c.step.ensures.answers m is).passes),
         call_costs c.in-Call.call (state c.args.session.now.core).disk (state c.step.new.self.core).disk c.step.ensures.reference ((c.step.ensures.answers m is).cost),
       ),
-      call_done c.args.session.now.volume.root c.in-Call.call (line_wrote c.in-Call.call more c.step.ensures.wrote c.step.ensures.unlabelled c.step.ensures.own) c.step.ensures.wrote c.step.ensures.spares,
+      call_done c.args.session.now.volume.root c.in-Call.call (line_wrote c.in-Call.call more c.step.ensures.wrote c.step.ensures.unlabelled c.step.ensures.own) c.step.ensures.wrote c.step.ensures.spares
+          (λ id client other free is. (
+            λ going. hidden_still c.args.session.now c.step.new.self c.in-Call.call id client is other free (c.step.ensures.stays.monotone, c.step.ensures.stays.serial)
+                (λ o keeps not_older. (c.in-Ok.ensures.accounts o keeps not_older).keeps_to) c.in-Ok.ensures.windows,
+            hidden_makes c.args.session.now c.step.new.self c.in-Call.call id client is c.step.ensures.shown,
+          )),
     )
 
 pub returns-in-Err-clause-turns : goal.returns-in-Err-clause-turns
@@ -77,7 +83,8 @@ returns-in-Err-clause-turns g c =
         line_step m c.in-Call.call ((c.step.ensures.answers m is).passes),
         call_costs c.in-Call.call (state c.args.session.now.core).disk (state c.step.new.self.core).disk c.step.ensures.reference ((c.step.ensures.answers m is).cost),
       ),
-      call_done c.args.session.now.volume.root c.in-Call.call (line_wrote c.in-Call.call more c.step.ensures.wrote c.step.ensures.unlabelled c.step.ensures.own) c.step.ensures.wrote c.step.ensures.spares,
+      call_done c.args.session.now.volume.root c.in-Call.call (line_wrote c.in-Call.call more c.step.ensures.wrote c.step.ensures.unlabelled c.step.ensures.own) c.step.ensures.wrote c.step.ensures.spares
+          (λ id client other free is. (λ going. absurd going, hidden_makes c.args.session.now c.step.new.self c.in-Call.call id client is c.step.ensures.shown)),
     )
 
 pub returns-in-Err-clause-sound : goal.returns-in-Err-clause-sound
@@ -95,7 +102,7 @@ returns-in-Bad-clause-turns g c =
         line_rest m is (g.met.D.Disk.in_form (disk_of c.args.session.now.core.filer)),
         bad_costs (state c.args.session.now.core).disk,
       ),
-      bad_done c.args.session.now.volume.root (state c.args.session.now.core).disk (state c.args.session.now.core).slots (written_none _ (record { contents = refl; writes = refl })),
+      bad_done c.args.session.now.volume.root (state c.args.session.now.core).disk (state c.args.session.now.core).slots (written_none _ (record { contents = refl; writes = refl })) (λ id is going. is),
     )
 
 pub returns-in-Err-clause-evidence_seen : goal.returns-in-Err-clause-evidence_seen

@@ -20,6 +20,11 @@ use Rattle.pilot_engine.proofs.LackLemmas.{fails_missing_page, mark_misses, name
 use Rattle.pilot_engine.proofs.ReasonSteps.{not_older_on}
 use Rattle.pilot_engine.proofs.SpaceMisses.{next_misses}
 use Rattle.pilot_engine.proofs.SparedCalls.{spares_alone}
+use Rattle.labelled_disk.specs.declared.evidence.Halt.{Halt}
+use Rattle.space_calls.specs.Sees.{SeesOn}
+use Rattle.pilot_engine.specs.Reasons.{IsBlameless}
+use Rattle.pilot_engine.specs.Showing.{mapped_by}
+use Rattle.pilot_engine.proofs.WindowLemmas.{if_ok, sees_or_more}
 use Rattle.pilot_engine.proofs.session.Session.answer.Goals as goal
 use Rattle.filer_kernel.specs.FailsLaws.{if_fails}
 
@@ -424,3 +429,59 @@ returns-in-Volume-clause-around g c = around_other c.args.call.now (ap writes_le
 
 pub returns-in_default-clause-around : goal.returns-in_default-clause-around
 returns-in_default-clause-around g c = around_other c.args.call.now (no_leader c.args.call.now (on_spaces c.args.call.now c.requires.more c.in_default.not-Create c.in_default.not-Delete c.in_default.not-Attributes c.in_default.not-SetSize c.in_default.not-MakePermanent c.in_default.not-MakeImmutable c.in_default.not-Next c.in_default.not-Volume))
+
+-- ---- Which windows are seen.
+
+pub returns-in-Create-clause-windows : goal.returns-in-Create-clause-windows
+returns-in-Create-clause-windows g c = λ o k n.
+    let old = c.args.self.now.core in
+    let new = c.create.new.self.core in
+    sees_or_more (mapped_by (next_id c.args.self.now.volume.root) c.args.call.now) c.create.result old new
+    (if_ok c.create.result old new (λ (e : Halt). SeesOn old → IsBlameless o (state new).disk e) (c.create.ensures.sees o k n))
+
+pub returns-in-Delete-clause-windows : goal.returns-in-Delete-clause-windows
+returns-in-Delete-clause-windows g c = λ o k n. sees_or_more (mapped_by (next_id c.args.self.now.volume.root) c.args.call.now) c.delete.result c.args.self.now.core c.delete.new.self.core (c.delete.ensures.windows o k)
+
+pub returns-in-Attributes-clause-windows : goal.returns-in-Attributes-clause-windows
+returns-in-Attributes-clause-windows g c = λ o k n. sees_or_more (mapped_by (next_id c.args.self.now.volume.root) c.args.call.now) c.attributes.result c.args.self.now.core c.attributes.new.self.core (c.attributes.ensures.windows o k)
+
+pub returns-in-SetSize-clause-windows : goal.returns-in-SetSize-clause-windows
+returns-in-SetSize-clause-windows g c = λ o k n. sees_or_more (mapped_by (next_id c.args.self.now.volume.root) c.args.call.now) c.set_size.result c.args.self.now.core c.set_size.new.self.core (c.set_size.ensures.windows o k)
+
+pub returns-in-MakePermanent-clause-windows : goal.returns-in-MakePermanent-clause-windows
+returns-in-MakePermanent-clause-windows g c = λ o k n. sees_or_more (mapped_by (next_id c.args.self.now.volume.root) c.args.call.now) c.make_permanent.result c.args.self.now.core c.make_permanent.new.self.core (c.make_permanent.ensures.windows o k)
+
+pub returns-in-MakeImmutable-clause-windows : goal.returns-in-MakeImmutable-clause-windows
+returns-in-MakeImmutable-clause-windows g c = λ o k n. sees_or_more (mapped_by (next_id c.args.self.now.volume.root) c.args.call.now) c.make_immutable.result c.args.self.now.core c.make_immutable.new.self.core (c.make_immutable.ensures.windows o k)
+
+pub returns-in-Next-clause-windows : goal.returns-in-Next-clause-windows
+returns-in-Next-clause-windows g c = λ o k n. sees_or_more (mapped_by (next_id c.args.self.now.volume.root) c.args.call.now) c.next.result c.args.self.now.core c.next.new.self.core (c.next.ensures.windows o k)
+
+pub returns-in-Volume-clause-windows : goal.returns-in-Volume-clause-windows
+returns-in-Volume-clause-windows g c = λ o k n. sees_or_more (mapped_by (next_id c.args.self.now.volume.root) c.args.call.now) c.volume.result c.args.self.now.core c.volume.new.self.core (c.volume.ensures.windows o k)
+
+-- ---- Which pages it may make dirty.
+
+pub returns-in-Create-clause-shown : goal.returns-in-Create-clause-shown
+returns-in-Create-clause-shown g c = λ ss s. rw c.in-Create.is c.create.ensures.wrote
+
+pub returns-in-Delete-clause-shown : goal.returns-in-Delete-clause-shown
+returns-in-Delete-clause-shown g c = λ ss s. rw c.in-Delete.is c.delete.ensures.wrote
+
+pub returns-in-Attributes-clause-shown : goal.returns-in-Attributes-clause-shown
+returns-in-Attributes-clause-shown g c = λ ss s. rw c.in-Attributes.is c.attributes.ensures.wrote
+
+pub returns-in-SetSize-clause-shown : goal.returns-in-SetSize-clause-shown
+returns-in-SetSize-clause-shown g c = λ ss s. rw c.in-SetSize.is c.set_size.ensures.wrote
+
+pub returns-in-MakePermanent-clause-shown : goal.returns-in-MakePermanent-clause-shown
+returns-in-MakePermanent-clause-shown g c = λ ss s. rw c.in-MakePermanent.is c.make_permanent.ensures.wrote
+
+pub returns-in-MakeImmutable-clause-shown : goal.returns-in-MakeImmutable-clause-shown
+returns-in-MakeImmutable-clause-shown g c = λ ss s. rw c.in-MakeImmutable.is c.make_immutable.ensures.wrote
+
+pub returns-in-Next-clause-shown : goal.returns-in-Next-clause-shown
+returns-in-Next-clause-shown g c = λ ss s. rw c.in-Next.is c.next.ensures.wrote
+
+pub returns-in-Volume-clause-shown : goal.returns-in-Volume-clause-shown
+returns-in-Volume-clause-shown g c = λ ss s. rw c.in-Volume.is c.volume.ensures.wrote

@@ -1,4 +1,4 @@
-use Rattle.std.proofs.Common.{ap, arith, length, List, refl, rules, subst, sym, ℕ, ◌∙◌, ◌≡◌, ◌≤◌}
+use Rattle.std.proofs.Common.{ap, arith, length, List, Some, refl, rules, subst, sym, ℕ, ◌∙◌, ◌≡◌, ◌≤◌}
 use Rattle.std.proofs.lemmas.Bool.{true≢false}
 use Rattle.flat_machine.specs.References.{is_reference}
 use Rattle.pilot_engine.specs.Labels.{keeps_labels}
@@ -40,6 +40,10 @@ use Rattle.pilot_engine.proofs.LackLemmas.{fails_missing_page}
 use Rattle.pilot_engine.proofs.ReasonSteps.{not_older_on, moving_ahead, moving_reasons, reaching_reasons, touching_reasons}
 use Rattle.pilot_engine.proofs.SpaceMisses.{change_misses, make_space_misses, map_file_misses, map_new_misses, place_misses, protect_misses, range_misses, remove_space_misses}
 use Rattle.pilot_engine.proofs.SparedCalls.{spares_quiet}
+use Rattle.session_words.specs.CellLaws.{IsTouchedOrOwn}
+use Rattle.running_words.specs.Session.{WroteIn}
+use Rattle.pilot_engine.specs.Showing.{mapped_by, maps}
+use Rattle.pilot_engine.proofs.WindowLemmas.{map_or_more, on_or_more}
 use Rattle.pilot_engine.proofs.session.Session.answer_on_spaces.Goals as goal
 use Rattle.filer_kernel.specs.View.{accepted}
 use Rattle.filer_kernel.specs.FailsLaws.{if_fails}
@@ -855,3 +859,96 @@ returns-in-MapAnonymous-clause-spares g c = λ id client other new. c.map_anonym
 
 pub returns-in-Unmap-clause-spares : goal.returns-in-Unmap-clause-spares
 returns-in-Unmap-clause-spares g c = λ id client other new. c.unmap.ensures.spares id client
+
+-- ---- Which windows are seen.
+
+pub returns-in-MakeSpace-clause-windows : goal.returns-in-MakeSpace-clause-windows
+returns-in-MakeSpace-clause-windows g c = λ o k n. on_or_more (mapped_by (next_id c.args.self.now.volume.root) c.args.call.now) c.make_space.result c.args.self.now.core c.make_space.new.core c.make_space.ensures.sees
+
+pub returns-in-RemoveSpace-clause-windows : goal.returns-in-RemoveSpace-clause-windows
+returns-in-RemoveSpace-clause-windows g c = λ o k n. on_or_more (mapped_by (next_id c.args.self.now.volume.root) c.args.call.now) c.remove_space.result c.args.self.now.core c.remove_space.new.core c.remove_space.ensures.sees
+
+pub returns-in-Place-clause-windows : goal.returns-in-Place-clause-windows
+returns-in-Place-clause-windows g c = λ o k n. on_or_more (mapped_by (next_id c.args.self.now.volume.root) c.args.call.now) c.place.result c.args.self.now.core c.place.new.core c.place.ensures.sees
+
+pub returns-in-Units-clause-windows : goal.returns-in-Units-clause-windows
+returns-in-Units-clause-windows g c = λ o k n. on_or_more (mapped_by (next_id c.args.self.now.volume.root) c.args.call.now) c.set_units.result c.args.self.now.core c.set_units.new.core c.set_units.ensures.sees
+
+pub returns-in-Map-clause-windows : goal.returns-in-Map-clause-windows
+returns-in-Map-clause-windows g c = λ o k n.
+    map_or_more (mapped_by (next_id c.args.self.now.volume.root) c.args.call.now) c.in-Map.space c.in-Map.id c.in-Map.page c.map.result c.args.self.now.core c.map.new.core c.map.ensures.sees
+    (λ ss file last same. ap (maps (next_id c.args.self.now.volume.root)) c.in-Map.is ∙ ap (λ (i : ℕ). Some i) (sym same))
+
+pub returns-in-MapAnonymous-clause-windows : goal.returns-in-MapAnonymous-clause-windows
+returns-in-MapAnonymous-clause-windows g c = λ o k n. rw c.in-MapAnonymous.is (c.map_anonymous.ensures.windows o k n)
+
+pub returns-in-Unmap-clause-windows : goal.returns-in-Unmap-clause-windows
+returns-in-Unmap-clause-windows g c = λ o k n. on_or_more (mapped_by (next_id c.args.self.now.volume.root) c.args.call.now) c.unmap.result c.args.self.now.core c.unmap.new.self.core (c.unmap.ensures.windows o k)
+
+pub returns-in-Protect-clause-windows : goal.returns-in-Protect-clause-windows
+returns-in-Protect-clause-windows g c = λ o k n. on_or_more (mapped_by (next_id c.args.self.now.volume.root) c.args.call.now) c.protect.result c.args.self.now.core c.protect.new.core c.protect.ensures.sees
+
+pub returns-in-Load-clause-windows : goal.returns-in-Load-clause-windows
+returns-in-Load-clause-windows g c = λ o k n. on_or_more (mapped_by (next_id c.args.self.now.volume.root) c.args.call.now) c.load.result c.args.self.now.core c.load.new.core c.load.ensures.sees
+
+pub returns-in-Store-clause-windows : goal.returns-in-Store-clause-windows
+returns-in-Store-clause-windows g c = λ o k n. on_or_more (mapped_by (next_id c.args.self.now.volume.root) c.args.call.now) c.store.result c.args.self.now.core c.store.new.core c.store.ensures.sees
+
+pub returns-in-Activate-clause-windows : goal.returns-in-Activate-clause-windows
+returns-in-Activate-clause-windows g c = λ o k n. on_or_more (mapped_by (next_id c.args.self.now.volume.root) c.args.call.now) c.activate.result c.args.self.now.core c.activate.new.core c.activate.ensures.sees
+
+pub returns-in-Deactivate-clause-windows : goal.returns-in-Deactivate-clause-windows
+returns-in-Deactivate-clause-windows g c = λ o k n. on_or_more (mapped_by (next_id c.args.self.now.volume.root) c.args.call.now) c.deactivate.result c.args.self.now.core c.deactivate.new.core c.deactivate.ensures.sees
+
+pub returns-in-Kill-clause-windows : goal.returns-in-Kill-clause-windows
+returns-in-Kill-clause-windows g c = λ o k n. on_or_more (mapped_by (next_id c.args.self.now.volume.root) c.args.call.now) c.kill.result c.args.self.now.core c.kill.new.core c.kill.ensures.sees
+
+pub returns-in-ForceOut-clause-windows : goal.returns-in-ForceOut-clause-windows
+returns-in-ForceOut-clause-windows g c = λ o k n. on_or_more (mapped_by (next_id c.args.self.now.volume.root) c.args.call.now) c.force_out.result c.args.self.now.core c.force_out.new.core c.force_out.ensures.sees
+
+-- ---- Which pages it may make dirty.
+
+pub returns-in-MakeSpace-clause-shown : goal.returns-in-MakeSpace-clause-shown
+returns-in-MakeSpace-clause-shown g c = λ ss s. rw c.in-MakeSpace.is c.make_space.ensures.wrote
+
+pub returns-in-RemoveSpace-clause-shown : goal.returns-in-RemoveSpace-clause-shown
+returns-in-RemoveSpace-clause-shown g c = λ ss s. rw c.in-RemoveSpace.is c.remove_space.ensures.wrote
+
+pub returns-in-Place-clause-shown : goal.returns-in-Place-clause-shown
+returns-in-Place-clause-shown g c = λ ss s. rw c.in-Place.is c.place.ensures.wrote
+
+pub returns-in-Units-clause-shown : goal.returns-in-Units-clause-shown
+returns-in-Units-clause-shown g c = λ ss s. rw c.in-Units.is c.set_units.ensures.wrote
+
+pub returns-in-Map-clause-shown : goal.returns-in-Map-clause-shown
+returns-in-Map-clause-shown g c = λ ss s. rw c.in-Map.is c.map.ensures.wrote
+
+pub returns-in-MapAnonymous-clause-shown : goal.returns-in-MapAnonymous-clause-shown
+returns-in-MapAnonymous-clause-shown g c = λ ss s. rw c.in-MapAnonymous.is c.map_anonymous.ensures.wrote
+
+pub returns-in-Unmap-clause-shown : goal.returns-in-Unmap-clause-shown
+returns-in-Unmap-clause-shown g c = λ ss s. rw c.in-Unmap.is c.unmap.ensures.wrote
+
+pub returns-in-Protect-clause-shown : goal.returns-in-Protect-clause-shown
+returns-in-Protect-clause-shown g c = λ ss s. rw c.in-Protect.is c.protect.ensures.wrote
+
+pub returns-in-Load-clause-shown : goal.returns-in-Load-clause-shown
+returns-in-Load-clause-shown g c = λ ss s. rw c.in-Load.is c.load.ensures.wrote
+
+pub returns-in-Store-clause-shown : goal.returns-in-Store-clause-shown
+returns-in-Store-clause-shown g c = λ ss s.
+    let old = state c.args.self.now.core in
+    let new = state c.store.new.core in
+    rw c.in-Store.is (subst (λ (bs : List ℕ). WroteIn (IsTouchedOrOwn ss c.in-Store.address (length bs)) old.disk old.slots new.disk new.slots) c.as_slice.ensures.bytes (c.store.ensures.shown ss s))
+
+pub returns-in-Activate-clause-shown : goal.returns-in-Activate-clause-shown
+returns-in-Activate-clause-shown g c = λ ss s. rw c.in-Activate.is c.activate.ensures.wrote
+
+pub returns-in-Deactivate-clause-shown : goal.returns-in-Deactivate-clause-shown
+returns-in-Deactivate-clause-shown g c = λ ss s. rw c.in-Deactivate.is c.deactivate.ensures.wrote
+
+pub returns-in-Kill-clause-shown : goal.returns-in-Kill-clause-shown
+returns-in-Kill-clause-shown g c = λ ss s. rw c.in-Kill.is c.kill.ensures.wrote
+
+pub returns-in-ForceOut-clause-shown : goal.returns-in-ForceOut-clause-shown
+returns-in-ForceOut-clause-shown g c = λ ss s. rw c.in-ForceOut.is c.force_out.ensures.wrote

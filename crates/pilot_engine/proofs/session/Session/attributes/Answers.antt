@@ -92,3 +92,11 @@ returns-in-Err-clause-unlabelled g c = pages_alone c.named_file.ensures.looks.ma
 
 pub returns-clause-unlabelled : goal.returns-clause-unlabelled
 returns-clause-unlabelled g c = pages_alone c.named_file.ensures.looks.makes
+
+-- ---- Which windows are seen.
+
+pub returns-clause-windows : goal.returns-clause-windows
+returns-clause-windows g c = λ o k. c.named_file.ensures.looks.still
+
+pub returns-in-Ok-None-clause-windows : goal.returns-in-Ok-None-clause-windows
+returns-in-Ok-None-clause-windows g c = λ o k. c.named_file.ensures.looks.still

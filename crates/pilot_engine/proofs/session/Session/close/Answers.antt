@@ -1,6 +1,6 @@
 use Rattle.std.proofs.Common.{subst, sym, ◌∙◌, arith, inl, inr}
 use Rattle.file_manager.specs.declared.volume.Volume.{Volume}
-use Rattle.file_manager.proofs.Faults.{counted_then}
+use Rattle.pilot_engine.proofs.CountedHalts.{counted_then}
 use Rattle.space_calls.proofs.RunLemmas.{reached_makes}
 use Rattle.pilot_engine.specs.Closing.{IsOpenStop, IsReady, IsStop}
 use Rattle.pilot_engine.specs.Opening.{root_alone}

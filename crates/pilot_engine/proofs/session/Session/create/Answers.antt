@@ -60,22 +60,22 @@ returns-in-Ok-clause-carried g c = λ spaces_of m s.
     let free = create_there m c.args.pages c.args.kind (omega (arith, under, left, s.same_used)) (omega (arith, other, s.same_counter)) in
     let small = c.ranges.kind.fits in
     subst (λ (id : ℕ). Carries spaces_of m (call.Create c.args.pages c.args.kind) (reply.File id) (view_of c.create.new.filer).disk (view_of c.create.new.filer).slots (view_of c.create.new.filer).layout c.create.new.filer.runs c.create.new.volume)
-    (sym c.in-Ok.ensures.next)
+    (sym c.in-Ok.ensures.volume.0)
     (carries_at spaces_of m (call.Create c.args.pages c.args.kind) _ _ _ _ _ _ _
-    (create_done spaces_of _ _ _ _ _ m s is c.args.pages c.args.kind small _ _ _ _ free c.in-Ok.ensures.new_volume made) c.create.ensures.layout)
+    (create_done spaces_of _ _ _ _ _ m s is c.args.pages c.args.kind small _ _ _ _ free c.in-Ok.ensures.volume.1 made) c.create.ensures.stays.layout)
 
 pub returns-in-Ok-clause-wrote : goal.returns-in-Ok-clause-wrote
-returns-in-Ok-clause-wrote g c = wrote_file c.args.self.now.volume.root c.args.kind c.args.pages c.in-Ok.ensures.makes
+returns-in-Ok-clause-wrote g c = wrote_file c.args.self.now.volume.root c.args.kind c.args.pages c.in-Ok.ensures.writes
 
 pub returns-in-Err-clause-sound : goal.returns-in-Err-clause-sound
 returns-in-Err-clause-sound g c = λ spaces_of m s.
     let is = (accepted c.args.self.now.core.filer) in
     let same_room : c.args.self.now.volume.layout.capacity ≡ (state c.args.self.now.core).layout.capacity = ap (λ l. l.capacity) c.requires.opened.same_layout in
     let under = c.if-pages-free.false in
-    c.in-Err.ensures.sound s.stands.memory (shapes_of m.files) m.spaces (may_create spaces_of _ _ _ _ _ m s is c.args.pages (omega (arith, under, same_room)))
+    (c.in-Err.ensures.created s.stands.memory (shapes_of m.files) m.spaces (may_create spaces_of _ _ _ _ _ m s is c.args.pages (omega (arith, under, same_room)))).0
 
 pub returns-in-Err-clause-wrote : goal.returns-in-Err-clause-wrote
-returns-in-Err-clause-wrote g c = wrote_some c.args.self.now.volume.root c.args.kind c.args.pages c.in-Err.ensures.stopped
+returns-in-Err-clause-wrote g c = wrote_some c.args.self.now.volume.root c.args.kind c.args.pages c.in-Err.ensures.writes
 
 pub returns-then-pages-free-clause-passes : goal.returns-then-pages-free-clause-passes
 returns-then-pages-free-clause-passes g c = λ spaces_of m s.
@@ -104,7 +104,7 @@ returns-in-Err-clause-passes g c = λ spaces_of m s.
     let under = c.if-pages-free.false in
     let other : c.args.self.now.volume.root.counter < 4294967295 = search rules in
     let small : c.args.pages < 4294967295 = search rules in
-    let some = c.in-Err.ensures.broken s.stands.memory (shapes_of m.files) m.spaces (may_create spaces_of _ _ _ _ _ m s is c.args.pages (omega (arith, under, same_room))) in
+    let some = (c.in-Err.ensures.created s.stands.memory (shapes_of m.files) m.spaces (may_create spaces_of _ _ _ _ _ m s is c.args.pages (omega (arith, under, same_room)))).1 in
     let left = room_is spaces_of _ _ _ _ _ m s is c.requires.opened.same_layout in
     let free = create_there m c.args.pages c.args.kind (omega (arith, under, left, s.same_used)) (omega (arith, other, s.same_counter)) in
     create_broken spaces_of _ _ _ _ _ m s (g.met.D.Disk.in_form (disk_of c.args.self.now.core.filer)) c.requires.opened.valid other c.args.kind c.args.pages _ _ small free some
@@ -134,7 +134,7 @@ pub returns-then-self-clause-next : goal.returns-then-self-clause-next
 returns-then-self-clause-next g c = λ id is. absurd (none_named why.Ids id is)
 
 pub returns-in-Ok-clause-next : goal.returns-in-Ok-clause-next
-returns-in-Ok-clause-next g c = λ id is. sym (one_named c.in-Ok.id id is) ∙ c.in-Ok.ensures.next
+returns-in-Ok-clause-next g c = λ id is. sym (one_named c.in-Ok.id id is) ∙ c.in-Ok.ensures.volume.0
 
 -- each of its pages was given a sector
 pub returns-then-pages-free-clause-home : goal.returns-then-pages-free-clause-home
@@ -147,8 +147,8 @@ pub returns-in-Ok-clause-home : goal.returns-in-Ok-clause-home
 returns-in-Ok-clause-home g c =
     let small : c.args.pages < 2 ^ 32 = search rules in
     λ o k id is page below.
-    let same : id ≡ next_id c.args.self.now.volume.root = sym (one_named c.in-Ok.id id is) ∙ c.in-Ok.ensures.next in
-    subst (λ (n : ℕ). WasBelow o (view_of c.create.new.filer).disk n page) (sym same) (new_file o c.args.self.now.volume.root c.args.kind c.args.pages k.1.0.since c.in-Ok.ensures.makes small page below)
+    let same : id ≡ next_id c.args.self.now.volume.root = sym (one_named c.in-Ok.id id is) ∙ c.in-Ok.ensures.volume.0 in
+    subst (λ (n : ℕ). WasBelow o (view_of c.create.new.filer).disk n page) (sym same) (new_file o c.args.self.now.volume.root c.args.kind c.args.pages k.1.0.since c.in-Ok.ensures.writes small page below)
 
 -- ---- The initial state.
 
@@ -159,10 +159,10 @@ pub returns-then-self-clause-keeps_to : goal.returns-then-self-clause-keeps_to
 returns-then-self-clause-keeps_to g c = λ o k up. given_on o (state c.args.self.now.core) (next_id c.args.self.now.volume.root) up.next k
 
 pub returns-in-Ok-clause-keeps_to : goal.returns-in-Ok-clause-keeps_to
-returns-in-Ok-clause-keeps_to g c = λ o k up. let from = c.in-Ok.ensures.keeps_to o k.0 k.1.0 up in (from.0, (from.1, (from.2 k.1.1.0, k.1.1.1)))
+returns-in-Ok-clause-keeps_to g c = λ o k up. let from = c.in-Ok.ensures.accounts o k.0 k.1.0 up in (from.0, (from.1, (from.2 k.1.1.0, k.1.1.1)))
 
 pub returns-in-Err-clause-reasons : goal.returns-in-Err-clause-reasons
-returns-in-Err-clause-reasons g c = λ o k up. c.in-Err.ensures.reasons o k.0 k.1.0 up
+returns-in-Err-clause-reasons g c = λ o k up. c.in-Err.ensures.accounts o k.0 k.1.0 up
 
 -- ---- What is seen of the space tables.
 
@@ -176,30 +176,30 @@ pub returns-in-Ok-clause-sees : goal.returns-in-Ok-clause-sees
 returns-in-Ok-clause-sees g c = λ o k up.
     let old = c.args.self.now.core in
     same_given o (giving o (next_id c.create.new.volume.root)) (state old) (view_of c.create.new.filer) (accepted old.filer) k
-    (λ b h. c.in-Ok.ensures.keeps_to (telling o b) k.0 h (record { monotone = up.monotone; next = up.next }))
+    (λ b h. c.in-Ok.ensures.accounts (telling o b) k.0 h (record { monotone = up.monotone; next = up.next }))
 
 pub returns-in-Err-clause-sees : goal.returns-in-Err-clause-sees
 returns-in-Err-clause-sees g c = λ o k up seen.
     let old = c.args.self.now.core in
     let disk = (view_of c.create.new.filer).disk in
-    seen_blameless o (state old) (accepted old.filer) k (state old).layout disk c.in-Err.halt (λ b h. c.in-Err.ensures.reasons (telling o b) k.0 h (record { monotone = up.monotone; next = up.next }))
-    (new_misses (file_pages o disk) (next_id c.args.self.now.volume.root) (IsNewPage c.args.pages) (state old) (view_of c.create.new.filer) c.in-Err.halt c.in-Err.ensures.cause) seen
+    seen_blameless o (state old) (accepted old.filer) k (state old).layout disk c.in-Err.halt (λ b h. c.in-Err.ensures.accounts (telling o b) k.0 h (record { monotone = up.monotone; next = up.next }))
+    (new_misses (file_pages o disk) (next_id c.args.self.now.volume.root) (IsNewPage c.args.pages) (state old) (view_of c.create.new.filer) c.in-Err.halt c.in-Err.ensures.fails.cause) seen
 
 -- ---- The next identifier.
 
 pub returns-in-Ok-clause-stays : goal.returns-in-Ok-clause-stays
 returns-in-Ok-clause-stays g c = record {
   open_still = (search rules);
-  monotone = (counted_next c.args.self.now.volume.root c.create.new.volume.root (ap (λ (v : Volume). v.root) c.in-Ok.ensures.new_volume));
-  serial = (ap (λ (v : Volume). v.root.serial) c.in-Ok.ensures.new_volume);
+  monotone = (counted_next c.args.self.now.volume.root c.create.new.volume.root (ap (λ (v : Volume). v.root) c.in-Ok.ensures.volume.1));
+  serial = (ap (λ (v : Volume). v.root.serial) c.in-Ok.ensures.volume.1);
   layout = (search rules);
 }
 
 pub returns-in-Err-clause-stays : goal.returns-in-Err-clause-stays
 returns-in-Err-clause-stays g c = record {
   open_still = (search rules);
-  monotone = (same_next c.args.self.now.volume.root c.create.new.volume.root (ap (λ (v : Volume). v.root) c.in-Err.ensures.same_volume));
-  serial = (ap (λ (v : Volume). v.root.serial) c.in-Err.ensures.same_volume);
+  monotone = (same_next c.args.self.now.volume.root c.create.new.volume.root (ap (λ (v : Volume). v.root) c.in-Err.ensures.volume));
+  serial = (ap (λ (v : Volume). v.root.serial) c.in-Err.ensures.volume);
   layout = (search rules);
 }
 
@@ -212,7 +212,7 @@ pub returns-then-self-clause-spares : goal.returns-then-self-clause-spares
 returns-then-self-clause-spares g c = all_but (spares_itself (state c.args.self.now.core).disk)
 
 pub returns-in-Ok-clause-spares : goal.returns-in-Ok-clause-spares
-returns-in-Ok-clause-spares g c = spares_made c.args.self.now.volume.root c.args.kind c.args.pages c.in-Ok.ensures.makes
+returns-in-Ok-clause-spares g c = spares_made c.args.self.now.volume.root c.args.kind c.args.pages c.in-Ok.ensures.writes
 
 pub returns-in-Err-clause-spares : goal.returns-in-Err-clause-spares
-returns-in-Err-clause-spares g c = spares_making c.args.self.now.volume.root c.args.kind c.args.pages c.in-Err.ensures.stopped
+returns-in-Err-clause-spares g c = spares_making c.args.self.now.volume.root c.args.kind c.args.pages c.in-Err.ensures.writes

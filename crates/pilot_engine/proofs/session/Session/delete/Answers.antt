@@ -24,6 +24,7 @@ use Rattle.pilot_engine.proofs.SeesLemmas.{then_next}
 use Rattle.pilot_engine.proofs.SparedCalls.{all_but, but_then, spares_quiet}
 use Rattle.label_calls.specs.SyncedLaws.{quiet_synced, syncs_around}
 use Rattle.pilot_engine.proofs.OwnLemmas.{around_of}
+use Rattle.pilot_engine.proofs.WindowLemmas.{still_then}
 use Rattle.pilot_engine.proofs.session.Session.delete.Goals as goal
 use Rattle.filer_kernel.specs.View.{disk_of}
 
@@ -173,3 +174,14 @@ returns-in-Some-clause-around g c = syncs_around (quiet_synced false c.sight.ens
 
 pub returns-clause-around : goal.returns-clause-around
 returns-clause-around g c = around_of c.delete_unseen.result (quiet_synced false c.sight.ensures.makes) c.delete_unseen.ensures.wrote.makes c.delete_unseen.ensures.around
+
+-- ---- Which windows are seen.
+
+pub returns-clause-windows : goal.returns-clause-windows
+returns-clause-windows g c = λ o k. still_then c.delete_unseen.result c.args.self.now.core c.sight.new.self.core c.delete_unseen.new.self.core (c.in-Ok-By.ensures.windows o k) (c.delete_unseen.ensures.windows o ((c.in-Ok-By.ensures.accounts o k).keeps_to))
+
+pub returns-in-Ok-Hidden-clause-windows : goal.returns-in-Ok-Hidden-clause-windows
+returns-in-Ok-Hidden-clause-windows g c = λ o k. c.in-Ok-Hidden.ensures.windows o k
+
+pub returns-in-Some-clause-windows : goal.returns-in-Some-clause-windows
+returns-in-Some-clause-windows g c = λ o k. c.in-Ok-By.ensures.windows o k

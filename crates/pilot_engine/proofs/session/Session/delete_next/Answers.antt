@@ -9,7 +9,7 @@ use Rattle.pilot_engine.proofs.ShedLemmas.{asked_alone, shed_last, shed_next}
 use Rattle.pilot_engine.proofs.WroteLemmas.{wrote_by, wrote_then}
 use Rattle.pilot_engine.specs.Closing.{IsOpenStop}
 use Rattle.pilot_engine.proofs.StopLemmas.{stops_quiet, throughout_then}
-use Rattle.file_manager.proofs.Faults.{counted_then}
+use Rattle.pilot_engine.proofs.CountedHalts.{counted_then}
 use Rattle.fault_core.specs.Core.{state}
 use Rattle.space_calls.proofs.HaltLemmas.{look_reaches}
 use Rattle.labelled_disk.specs.declared.layout.Layout.{Layout}
@@ -26,60 +26,60 @@ pub returns-in-Ok-None-clause-shed : goal.returns-in-Ok-None-clause-shed
 returns-in-Ok-None-clause-shed g c = λ spaces_of m s.
     let books = session_books spaces_of _ _ _ _ _ m s.session in
     let f = c.next.ensures in
-    let now = asked_alone spaces_of _ _ _ _ _ _ _ _ m s f.makes f.brings (f.same s.session.stands.memory (shapes_of m.files) m.spaces books) _ f.layout in
-    shed_last spaces_of _ _ _ _ _ m c.args.cursor (subst (IsNextFile (shapes_of m.files) c.args.cursor) c.in-Ok-None.field-0-is (c.in-Ok-None.ensures.revealed s.session.stands.memory (shapes_of m.files) m.spaces books)) now
+    let now = asked_alone spaces_of _ _ _ _ _ _ _ _ m s f.stays.makes f.stays.brings ((f.revealed s.session.stands.memory (shapes_of m.files) m.spaces books).1) _ f.stays.layout in
+    shed_last spaces_of _ _ _ _ _ m c.args.cursor (subst (IsNextFile (shapes_of m.files) c.args.cursor) c.in-Ok-None.field-0-is ((c.in-Ok-None.ensures.revealed s.session.stands.memory (shapes_of m.files) m.spaces books).0)) now
 
 pub returns-in-Err-clause-sound : goal.returns-in-Err-clause-sound
-returns-in-Err-clause-sound g c = λ spaces_of m s. c.in-Err.ensures.revealed s.session.stands.memory (shapes_of m.files) m.spaces (session_books spaces_of _ _ _ _ _ m s.session)
+returns-in-Err-clause-sound g c = λ spaces_of m s. (c.in-Err.ensures.revealed s.session.stands.memory (shapes_of m.files) m.spaces (session_books spaces_of _ _ _ _ _ m s.session)).0
 
 pub returns-in-Ok-clause-shed : goal.returns-in-Ok-clause-shed
 returns-in-Ok-clause-shed g c = λ spaces_of m s.
     let books = session_books spaces_of _ _ _ _ _ m s.session in
     let f = c.next.ensures in
-    let now = asked_alone spaces_of _ _ _ _ _ _ _ _ m s f.makes f.brings (f.same s.session.stands.memory (shapes_of m.files) m.spaces books) _ f.layout in
-    shed_next spaces_of _ _ _ _ _ m c.args.cursor _ (subst (IsNextFile (shapes_of m.files) c.args.cursor) c.in-Ok-Some.field-0-is (c.in-Ok-Some.ensures.revealed s.session.stands.memory (shapes_of m.files) m.spaces books)) (c.in-Ok.ensures.shed spaces_of m now)
+    let now = asked_alone spaces_of _ _ _ _ _ _ _ _ m s f.stays.makes f.stays.brings ((f.revealed s.session.stands.memory (shapes_of m.files) m.spaces books).1) _ f.stays.layout in
+    shed_next spaces_of _ _ _ _ _ m c.args.cursor _ (subst (IsNextFile (shapes_of m.files) c.args.cursor) c.in-Ok-Some.field-0-is ((c.in-Ok-Some.ensures.revealed s.session.stands.memory (shapes_of m.files) m.spaces books).0)) (c.in-Ok.ensures.shed spaces_of m now)
 
 pub returns-in-Ok-clause-wrote : goal.returns-in-Ok-clause-wrote
-returns-in-Ok-clause-wrote g c = wrote_then (wrote_by c.next.ensures.makes tt) c.delete_unless_permanent.ensures.wrote
+returns-in-Ok-clause-wrote g c = wrote_then (wrote_by c.next.ensures.stays.makes tt) c.delete_unless_permanent.ensures.wrote
 
 pub returns-in-Err-delete_unless_permanent-clause-sound : goal.returns-in-Err-delete_unless_permanent-clause-sound
 returns-in-Err-delete_unless_permanent-clause-sound g c = λ spaces_of m s.
     let books = session_books spaces_of _ _ _ _ _ m s.session in
     let f = c.next.ensures in
-    c.in-Err-delete_unless_permanent.ensures.sound spaces_of m (asked_alone spaces_of _ _ _ _ _ _ _ _ m s f.makes f.brings (f.same s.session.stands.memory (shapes_of m.files) m.spaces books) _ f.layout)
+    c.in-Err-delete_unless_permanent.ensures.sound spaces_of m (asked_alone spaces_of _ _ _ _ _ _ _ _ m s f.stays.makes f.stays.brings ((f.revealed s.session.stands.memory (shapes_of m.files) m.spaces books).1) _ f.stays.layout)
 
 pub returns-in-Err-delete_unless_permanent-clause-wrote : goal.returns-in-Err-delete_unless_permanent-clause-wrote
-returns-in-Err-delete_unless_permanent-clause-wrote g c = wrote_then (wrote_by c.next.ensures.makes tt) c.delete_unless_permanent.ensures.wrote
+returns-in-Err-delete_unless_permanent-clause-wrote g c = wrote_then (wrote_by c.next.ensures.stays.makes tt) c.delete_unless_permanent.ensures.wrote
 
 pub returns-in-Ok-None-clause-stops : goal.returns-in-Ok-None-clause-stops
-returns-in-Ok-None-clause-stops g c = λ spaces_of m s. stops_quiet spaces_of _ _ _ _ m s.session.stands (g.met.D.Disk.in_form (disk_of c.args.self.now.core.filer)) c.next.ensures.makes
+returns-in-Ok-None-clause-stops g c = λ spaces_of m s. stops_quiet spaces_of _ _ _ _ m s.session.stands (g.met.D.Disk.in_form (disk_of c.args.self.now.core.filer)) c.next.ensures.stays.makes
 
 pub returns-in-Err-clause-stops : goal.returns-in-Err-clause-stops
-returns-in-Err-clause-stops g c = λ spaces_of m s. stops_quiet spaces_of _ _ _ _ m s.session.stands (g.met.D.Disk.in_form (disk_of c.args.self.now.core.filer)) c.next.ensures.makes
+returns-in-Err-clause-stops g c = λ spaces_of m s. stops_quiet spaces_of _ _ _ _ m s.session.stands (g.met.D.Disk.in_form (disk_of c.args.self.now.core.filer)) c.next.ensures.stays.makes
 
 pub returns-in-Ok-clause-stops : goal.returns-in-Ok-clause-stops
 returns-in-Ok-clause-stops g c = λ spaces_of m s.
     let books = session_books spaces_of _ _ _ _ _ m s.session in
     let f = c.next.ensures in
-    let now = asked_alone spaces_of _ _ _ _ _ _ _ _ m s f.makes f.brings (f.same s.session.stands.memory (shapes_of m.files) m.spaces books) _ f.layout in
-    throughout_then (IsOpenStop m) (stops_quiet spaces_of _ _ _ _ m s.session.stands (g.met.D.Disk.in_form (disk_of c.args.self.now.core.filer)) c.next.ensures.makes) (c.delete_unless_permanent.ensures.stops spaces_of m now)
+    let now = asked_alone spaces_of _ _ _ _ _ _ _ _ m s f.stays.makes f.stays.brings ((f.revealed s.session.stands.memory (shapes_of m.files) m.spaces books).1) _ f.stays.layout in
+    throughout_then (IsOpenStop m) (stops_quiet spaces_of _ _ _ _ m s.session.stands (g.met.D.Disk.in_form (disk_of c.args.self.now.core.filer)) c.next.ensures.stays.makes) (c.delete_unless_permanent.ensures.stops spaces_of m now)
 
 pub returns-in-Err-delete_unless_permanent-clause-stops : goal.returns-in-Err-delete_unless_permanent-clause-stops
 returns-in-Err-delete_unless_permanent-clause-stops g c = λ spaces_of m s.
     let books = session_books spaces_of _ _ _ _ _ m s.session in
     let f = c.next.ensures in
-    let now = asked_alone spaces_of _ _ _ _ _ _ _ _ m s f.makes f.brings (f.same s.session.stands.memory (shapes_of m.files) m.spaces books) _ f.layout in
-    throughout_then (IsOpenStop m) (stops_quiet spaces_of _ _ _ _ m s.session.stands (g.met.D.Disk.in_form (disk_of c.args.self.now.core.filer)) c.next.ensures.makes) (c.delete_unless_permanent.ensures.stops spaces_of m now)
+    let now = asked_alone spaces_of _ _ _ _ _ _ _ _ m s f.stays.makes f.stays.brings ((f.revealed s.session.stands.memory (shapes_of m.files) m.spaces books).1) _ f.stays.layout in
+    throughout_then (IsOpenStop m) (stops_quiet spaces_of _ _ _ _ m s.session.stands (g.met.D.Disk.in_form (disk_of c.args.self.now.core.filer)) c.next.ensures.stays.makes) (c.delete_unless_permanent.ensures.stops spaces_of m now)
 
 pub returns-in-Err-delete_unless_permanent-clause-counted : goal.returns-in-Err-delete_unless_permanent-clause-counted
-returns-in-Err-delete_unless_permanent-clause-counted g c = counted_then _ _ _ c.next.ensures.makes.went.faults c.in-Err-delete_unless_permanent.ensures.counted
+returns-in-Err-delete_unless_permanent-clause-counted g c = counted_then _ _ _ c.next.ensures.stays.makes.went.faults c.in-Err-delete_unless_permanent.ensures.counted
 
 pub returns-in-Ok-clause-paid : goal.returns-in-Ok-clause-paid
 returns-in-Ok-clause-paid g c = λ spaces_of m s.
     let books = session_books spaces_of _ _ _ _ _ m s.session in
     let f = c.next.ensures in
-    let now = asked_alone spaces_of _ _ _ _ _ _ _ _ m s f.makes f.brings (f.same s.session.stands.memory (shapes_of m.files) m.spaces books) _ f.layout in
-    let revealed = subst (IsNextFile (shapes_of m.files) c.args.cursor) c.in-Ok-Some.field-0-is (c.in-Ok-Some.ensures.revealed s.session.stands.memory (shapes_of m.files) m.spaces books) in
+    let now = asked_alone spaces_of _ _ _ _ _ _ _ _ m s f.stays.makes f.stays.brings ((f.revealed s.session.stands.memory (shapes_of m.files) m.spaces books).1) _ f.stays.layout in
+    let revealed = subst (IsNextFile (shapes_of m.files) c.args.cursor) c.in-Ok-Some.field-0-is ((c.in-Ok-Some.ensures.revealed s.session.stands.memory (shapes_of m.files) m.spaces books).0) in
     let there = next_there m c.args.cursor c.in-Ok-Some.id revealed in
     let step = room_step m.files c.args.cursor c.in-Ok-Some.id there.0 revealed.0 there.1 in
     let all = visited (state c.args.self.now.core).disk.transfers (view_of c.next.new.filer).disk.transfers (state c.delete_unless_permanent.new.self.core).disk.transfers (room_above c.args.cursor m.files) (room_above c.in-Ok-Some.id m.files) there.0 step f.cost
@@ -91,8 +91,8 @@ pub returns-in-Ok-clause-cost : goal.returns-in-Ok-clause-cost
 returns-in-Ok-clause-cost g c = λ spaces_of m s.
     let books = session_books spaces_of _ _ _ _ _ m s.session in
     let f = c.next.ensures in
-    let now = asked_alone spaces_of _ _ _ _ _ _ _ _ m s f.makes f.brings (f.same s.session.stands.memory (shapes_of m.files) m.spaces books) _ f.layout in
-    let revealed = subst (IsNextFile (shapes_of m.files) c.args.cursor) c.in-Ok-Some.field-0-is (c.in-Ok-Some.ensures.revealed s.session.stands.memory (shapes_of m.files) m.spaces books) in
+    let now = asked_alone spaces_of _ _ _ _ _ _ _ _ m s f.stays.makes f.stays.brings ((f.revealed s.session.stands.memory (shapes_of m.files) m.spaces books).1) _ f.stays.layout in
+    let revealed = subst (IsNextFile (shapes_of m.files) c.args.cursor) c.in-Ok-Some.field-0-is ((c.in-Ok-Some.ensures.revealed s.session.stands.memory (shapes_of m.files) m.spaces books).0) in
     let there = next_there m c.args.cursor c.in-Ok-Some.id revealed in
     let step = room_step m.files c.args.cursor c.in-Ok-Some.id there.0 revealed.0 there.1 in
     let all = visited (state c.args.self.now.core).disk.transfers (view_of c.next.new.filer).disk.transfers (state c.delete_unless_permanent.new.self.core).disk.transfers (room_above c.args.cursor m.files) (room_above c.in-Ok-Some.id m.files) there.0 step f.cost
@@ -104,8 +104,8 @@ pub returns-in-Err-delete_unless_permanent-clause-cost : goal.returns-in-Err-del
 returns-in-Err-delete_unless_permanent-clause-cost g c = λ spaces_of m s.
     let books = session_books spaces_of _ _ _ _ _ m s.session in
     let f = c.next.ensures in
-    let now = asked_alone spaces_of _ _ _ _ _ _ _ _ m s f.makes f.brings (f.same s.session.stands.memory (shapes_of m.files) m.spaces books) _ f.layout in
-    let revealed = subst (IsNextFile (shapes_of m.files) c.args.cursor) c.in-Ok-Some.field-0-is (c.in-Ok-Some.ensures.revealed s.session.stands.memory (shapes_of m.files) m.spaces books) in
+    let now = asked_alone spaces_of _ _ _ _ _ _ _ _ m s f.stays.makes f.stays.brings ((f.revealed s.session.stands.memory (shapes_of m.files) m.spaces books).1) _ f.stays.layout in
+    let revealed = subst (IsNextFile (shapes_of m.files) c.args.cursor) c.in-Ok-Some.field-0-is ((c.in-Ok-Some.ensures.revealed s.session.stands.memory (shapes_of m.files) m.spaces books).0) in
     let there = next_there m c.args.cursor c.in-Ok-Some.id revealed in
     let step = room_step m.files c.args.cursor c.in-Ok-Some.id there.0 revealed.0 there.1 in
     let all = visited (state c.args.self.now.core).disk.transfers (view_of c.next.new.filer).disk.transfers (state c.delete_unless_permanent.new.self.core).disk.transfers (room_above c.args.cursor m.files) (room_above c.in-Ok-Some.id m.files) there.0 step f.cost
@@ -125,49 +125,49 @@ returns-in-Ok-clause-above g c = (subst (λ (o : Option ℕ). IfSome o (λ id. (
 -- ---- Why it failed.
 
 pub returns-in-Err-clause-cause : goal.returns-in-Err-clause-cause
-returns-in-Err-clause-cause g c = inl c.in-Err.ensures.cause
+returns-in-Err-clause-cause g c = inl c.in-Err.ensures.fails.cause
 
 pub returns-in-Err-delete_unless_permanent-clause-cause : goal.returns-in-Err-delete_unless_permanent-clause-cause
-returns-in-Err-delete_unless_permanent-clause-cause g c = inr (state (record c.args.self.now.core { filer = c.next.new.filer }), look_reaches (state c.args.self.now.core) (state (record c.args.self.now.core { filer = c.next.new.filer })) c.next.ensures.looks c.next.ensures.layout, (c.in-Ok-Some.id, c.in-Err-delete_unless_permanent.ensures.cause))
+returns-in-Err-delete_unless_permanent-clause-cause g c = inr (state (record c.args.self.now.core { filer = c.next.new.filer }), look_reaches (state c.args.self.now.core) (state (record c.args.self.now.core { filer = c.next.new.filer })) c.next.ensures.stays.looks c.next.ensures.stays.layout, (c.in-Ok-Some.id, c.in-Err-delete_unless_permanent.ensures.cause))
 
 -- ---- What began stays a reason.
 
 pub returns-in-Ok-None-clause-accounts : goal.returns-in-Ok-None-clause-accounts
 returns-in-Ok-None-clause-accounts g c = λ o k. record {
-  keeps_to = ((k.0, (c.in-Ok-None.ensures.keeps_to o k.0 k.1.0, k.1.1)));
+  keeps_to = ((k.0, (c.in-Ok-None.ensures.accounts o k.0 k.1.0, k.1.1)));
   reasons = tt;
   sees = (λ seen. let old = c.args.self.now.core in
-      seen_still o (state old) (accepted old.filer) k (view_of c.next.new.filer) (λ b. c.in-Ok-None.ensures.keeps_to (telling o b) k.0) (file_later o c.next.ensures.makes) seen);
+      seen_still o (state old) (accepted old.filer) k (view_of c.next.new.filer) (λ b. c.in-Ok-None.ensures.accounts (telling o b) k.0) (file_later o c.next.ensures.stays.makes) seen);
 }
 
 pub returns-in-Err-clause-accounts : goal.returns-in-Err-clause-accounts
 returns-in-Err-clause-accounts g c = λ o k. record {
   keeps_to = tt;
-  reasons = (c.in-Err.ensures.reasons o k.0 k.1.0);
+  reasons = (c.in-Err.ensures.accounts o k.0 k.1.0);
   sees = (λ seen. let old = c.args.self.now.core in
       let disk = (view_of c.next.new.filer).disk in
-      end_blameless o disk c.in-Err.halt (seen_blameless o (state old) (accepted old.filer) k (state old).layout disk c.in-Err.halt (λ b. c.in-Err.ensures.reasons (telling o b) k.0)
-      (search_misses (file_pages o disk) (state old).layout (state old).disk (state old).slots disk c.in-Err.halt c.in-Err.ensures.cause) (seen.0, seen.1.0))
-      (search_no_table (state old).layout (state old).disk (state old).slots disk c.in-Err.halt c.in-Err.ensures.cause));
+      end_blameless o disk c.in-Err.halt (seen_blameless o (state old) (accepted old.filer) k (state old).layout disk c.in-Err.halt (λ b. c.in-Err.ensures.accounts (telling o b) k.0)
+      (search_misses (file_pages o disk) (state old).layout (state old).disk (state old).slots disk c.in-Err.halt c.in-Err.ensures.fails.cause) (seen.0, seen.1.0))
+      (search_no_table (state old).layout (state old).disk (state old).slots disk c.in-Err.halt c.in-Err.ensures.fails.cause));
 }
 
 pub returns-in-Ok-clause-accounts : goal.returns-in-Ok-clause-accounts
 returns-in-Ok-clause-accounts g c = λ o k. record {
-  keeps_to = ((c.in-Ok.ensures.accounts o (k.0, (c.in-Ok-Some.ensures.keeps_to o k.0 k.1.0, k.1.1))).keeps_to);
+  keeps_to = ((c.in-Ok.ensures.accounts o (k.0, (c.in-Ok-Some.ensures.accounts o k.0 k.1.0, k.1.1))).keeps_to);
   reasons = tt;
   sees = (λ seen. let old = c.args.self.now.core in
-      (c.in-Ok.ensures.accounts o (k.0, (c.in-Ok-Some.ensures.keeps_to o k.0 k.1.0, k.1.1))).sees
-      (seen_still o (state old) (accepted old.filer) k (view_of c.next.new.filer) (λ b. c.in-Ok-Some.ensures.keeps_to (telling o b) k.0) (file_later o c.next.ensures.makes) seen));
+      (c.in-Ok.ensures.accounts o (k.0, (c.in-Ok-Some.ensures.accounts o k.0 k.1.0, k.1.1))).sees
+      (seen_still o (state old) (accepted old.filer) k (view_of c.next.new.filer) (λ b. c.in-Ok-Some.ensures.accounts (telling o b) k.0) (file_later o c.next.ensures.stays.makes) seen));
 }
 
 pub returns-in-Err-delete_unless_permanent-clause-accounts : goal.returns-in-Err-delete_unless_permanent-clause-accounts
 returns-in-Err-delete_unless_permanent-clause-accounts g c = λ o k. record {
   keeps_to = tt;
-  reasons = (subst (λ (l : Layout). ShowsReason o l (state c.delete_unless_permanent.new.self.core).disk c.in-Err-delete_unless_permanent.halt) c.next.ensures.layout
-      ((c.in-Err-delete_unless_permanent.ensures.accounts o (k.0, (c.in-Ok-Some.ensures.keeps_to o k.0 k.1.0, k.1.1))).reasons));
+  reasons = (subst (λ (l : Layout). ShowsReason o l (state c.delete_unless_permanent.new.self.core).disk c.in-Err-delete_unless_permanent.halt) c.next.ensures.stays.layout
+      ((c.in-Err-delete_unless_permanent.ensures.accounts o (k.0, (c.in-Ok-Some.ensures.accounts o k.0 k.1.0, k.1.1))).reasons));
   sees = (λ seen. let old = c.args.self.now.core in
-      (c.in-Err-delete_unless_permanent.ensures.accounts o (k.0, (c.in-Ok-Some.ensures.keeps_to o k.0 k.1.0, k.1.1))).sees
-      (seen_still o (state old) (accepted old.filer) k (view_of c.next.new.filer) (λ b. c.in-Ok-Some.ensures.keeps_to (telling o b) k.0) (file_later o c.next.ensures.makes) seen));
+      (c.in-Err-delete_unless_permanent.ensures.accounts o (k.0, (c.in-Ok-Some.ensures.accounts o k.0 k.1.0, k.1.1))).sees
+      (seen_still o (state old) (accepted old.filer) k (view_of c.next.new.filer) (λ b. c.in-Ok-Some.ensures.accounts (telling o b) k.0) (file_later o c.next.ensures.stays.makes) seen));
 }
 
 -- ---- What is seen of the space tables, and which page is reported as missing.
@@ -175,13 +175,13 @@ returns-in-Err-delete_unless_permanent-clause-accounts g c = λ o k. record {
 -- ---- Which files are spared.
 
 pub returns-in-Ok-None-clause-spares : goal.returns-in-Ok-None-clause-spares
-returns-in-Ok-None-clause-spares g c = spares_quiet c.next.ensures.makes
+returns-in-Ok-None-clause-spares g c = spares_quiet c.next.ensures.stays.makes
 
 pub returns-in-Err-clause-spares : goal.returns-in-Err-clause-spares
-returns-in-Err-clause-spares g c = spares_quiet c.next.ensures.makes
+returns-in-Err-clause-spares g c = spares_quiet c.next.ensures.stays.makes
 
 pub returns-in-Ok-clause-spares : goal.returns-in-Ok-clause-spares
-returns-in-Ok-clause-spares g c = all_then (spares_quiet c.next.ensures.makes) c.delete_unless_permanent.ensures.spares
+returns-in-Ok-clause-spares g c = all_then (spares_quiet c.next.ensures.stays.makes) c.delete_unless_permanent.ensures.spares
 
 pub returns-in-Err-delete_unless_permanent-clause-spares : goal.returns-in-Err-delete_unless_permanent-clause-spares
-returns-in-Err-delete_unless_permanent-clause-spares g c = all_then (spares_quiet c.next.ensures.makes) c.delete_unless_permanent.ensures.spares
+returns-in-Err-delete_unless_permanent-clause-spares g c = all_then (spares_quiet c.next.ensures.stays.makes) c.delete_unless_permanent.ensures.spares

@@ -2,7 +2,7 @@ use Rattle.std.proofs.Common.{rules, ℕ, Option, subst, ◌<◌, ◌∙◌, ◌
 use Rattle.std.specs.Prelude.{IfSome}
 use Rattle.pilot_engine.proofs.ClearedUpTo.{cleared_all, cleared_more, cleared_none, cleared_paid, cleared_sound, cleared_stops}
 use Rattle.pilot_engine.proofs.WroteLemmas.{wrote_then}
-use Rattle.file_manager.proofs.Faults.{counted_then}
+use Rattle.pilot_engine.proofs.CountedHalts.{counted_then}
 use Rattle.fault_core.specs.Core.{state}
 use Rattle.labelled_disk.specs.declared.layout.Layout.{Layout}
 use Rattle.file_manager.specs.Reasons.{ShowsReason}

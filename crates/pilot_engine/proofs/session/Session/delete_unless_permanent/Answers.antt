@@ -11,7 +11,7 @@ use Rattle.running_words.proofs.SessionLemmas.{session_books}
 use Rattle.pilot_engine.proofs.ShedLemmas.{shed_missing, shed_permanent, shed_deleted, books_now}
 use Rattle.pilot_engine.proofs.WroteLemmas.{wrote_by, wrote_then}
 use Rattle.pilot_engine.proofs.StopLemmas.{stops_deleted, stops_quiet}
-use Rattle.file_manager.proofs.Faults.{counted_then}
+use Rattle.pilot_engine.proofs.CountedHalts.{counted_after}
 use Rattle.fault_core.specs.Core.{state}
 use Rattle.space_calls.proofs.HaltLemmas.{look_reaches}
 use Rattle.labelled_disk.specs.declared.layout.Layout.{Layout}
@@ -30,16 +30,16 @@ pub returns-in-Ok-None-clause-shed : goal.returns-in-Ok-None-clause-shed
 returns-in-Ok-None-clause-shed g c = λ spaces_of m s.
     let books = session_books spaces_of _ _ _ _ _ m s.session in
     let f = c.attributes_of.ensures in
-    shed_missing spaces_of _ _ _ _ _ _ _ _ _ m s f.makes f.brings (f.same s.session.stands.memory (shapes_of m.files) m.spaces books) f.layout c.args.id (subst (IsAttributesOf (shapes_of m.files c.args.id)) c.in-Ok-None.field-0-is (c.in-Ok-None.ensures.revealed s.session.stands.memory (shapes_of m.files) m.spaces books))
+    shed_missing spaces_of _ _ _ _ _ _ _ _ _ m s f.stays.makes f.stays.brings ((f.revealed 96 s.session.stands.memory (shapes_of m.files) m.spaces books).1) f.stays.layout c.args.id (subst (IsAttributesOf (shapes_of m.files c.args.id)) c.in-Ok-None.field-0-is ((c.in-Ok-None.ensures.revealed 96 s.session.stands.memory (shapes_of m.files) m.spaces books).0))
 
 pub returns-in-Err-clause-sound : goal.returns-in-Err-clause-sound
-returns-in-Err-clause-sound g c = λ spaces_of m s. c.in-Err.ensures.revealed s.session.stands.memory (shapes_of m.files) m.spaces (session_books spaces_of _ _ _ _ _ m s.session)
+returns-in-Err-clause-sound g c = λ spaces_of m s. (c.in-Err.ensures.revealed 96 s.session.stands.memory (shapes_of m.files) m.spaces (session_books spaces_of _ _ _ _ _ m s.session)).0
 
 pub returns-then-found-clause-shed : goal.returns-then-found-clause-shed
 returns-then-found-clause-shed g c = λ spaces_of m s.
     let books = session_books spaces_of _ _ _ _ _ m s.session in
     let f = c.attributes_of.ensures in
-    shed_permanent spaces_of _ _ _ _ _ _ _ _ _ m s f.makes f.brings (f.same s.session.stands.memory (shapes_of m.files) m.spaces books) f.layout c.args.id _ (subst (IsAttributesOf (shapes_of m.files c.args.id)) c.in-Ok-Some.field-0-is (c.in-Ok-Some.ensures.revealed s.session.stands.memory (shapes_of m.files) m.spaces books)) c.if-found.true
+    shed_permanent spaces_of _ _ _ _ _ _ _ _ _ m s f.stays.makes f.stays.brings ((f.revealed 96 s.session.stands.memory (shapes_of m.files) m.spaces books).1) f.stays.layout c.args.id _ (subst (IsAttributesOf (shapes_of m.files c.args.id)) c.in-Ok-Some.field-0-is ((c.in-Ok-Some.ensures.revealed 96 s.session.stands.memory (shapes_of m.files) m.spaces books).0)) c.if-found.true
 
 pub returns-in-Ok-clause-shed : goal.returns-in-Ok-clause-shed
 returns-in-Ok-clause-shed g c = λ spaces_of m s.
@@ -47,59 +47,59 @@ returns-in-Ok-clause-shed g c = λ spaces_of m s.
     let books = session_books spaces_of _ _ _ _ _ m s.session in
     let f = c.attributes_of.ensures in
     let d = c.in-Ok.ensures in
-    let revealed = subst (IsAttributesOf (shapes_of m.files c.args.id)) c.in-Ok-Some.field-0-is (c.in-Ok-Some.ensures.revealed x (shapes_of m.files) m.spaces books) in
-    let now = books_now spaces_of _ _ _ _ _ _ _ _ _ m s f.makes f.brings (f.same x (shapes_of m.files) m.spaces books) f.layout c.args.id _ revealed in
+    let revealed = subst (IsAttributesOf (shapes_of m.files c.args.id)) c.in-Ok-Some.field-0-is ((c.in-Ok-Some.ensures.revealed 96 x (shapes_of m.files) m.spaces books).0) in
+    let now = books_now spaces_of _ _ _ _ _ _ _ _ _ m s f.stays.makes f.stays.brings ((f.revealed 96 x (shapes_of m.files) m.spaces books).1) f.stays.layout c.args.id _ revealed in
     let hidden = none_shown m.spaces s.alone c.args.id in
-    shed_deleted spaces_of _ _ _ _ _ _ _ _ _ m s f.makes f.brings (f.same x (shapes_of m.files) m.spaces books) f.layout c.args.id _ revealed _ _ _ _ _ c.if-found.false c.delete.ensures.rest_of_volume
-    (d.used x (shapes_of m.files) m.spaces _ now revealed) c.delete.ensures.layout (d.deleted x (shapes_of m.files) m.spaces _ now revealed hidden)
+    shed_deleted spaces_of _ _ _ _ _ _ _ _ _ m s f.stays.makes f.stays.brings ((f.revealed 96 x (shapes_of m.files) m.spaces books).1) f.stays.layout c.args.id _ revealed _ _ _ _ _ c.if-found.false c.delete.ensures.volume.rest_of_volume
+    (d.deleted x (shapes_of m.files) m.spaces _ now revealed).used c.delete.ensures.stays.layout ((d.deleted x (shapes_of m.files) m.spaces _ now revealed).deleted hidden)
 
 pub returns-in-Ok-clause-wrote : goal.returns-in-Ok-clause-wrote
-returns-in-Ok-clause-wrote g c = wrote_then (wrote_by c.attributes_of.ensures.makes tt) (wrote_by c.in-Ok.ensures.makes.1.makes (freeing_open c.in-Ok.ensures.makes.1.sectors))
+returns-in-Ok-clause-wrote g c = wrote_then (wrote_by c.attributes_of.ensures.stays.makes tt) (wrote_by c.in-Ok.ensures.writes.1.makes (freeing_open c.in-Ok.ensures.writes.1.sectors))
 
 pub returns-in-Err-delete-clause-sound : goal.returns-in-Err-delete-clause-sound
 returns-in-Err-delete-clause-sound g c = λ spaces_of m s.
     let x = s.session.stands.memory in
     let books = session_books spaces_of _ _ _ _ _ m s.session in
     let f = c.attributes_of.ensures in
-    let revealed = subst (IsAttributesOf (shapes_of m.files c.args.id)) c.in-Ok-Some.field-0-is (c.in-Ok-Some.ensures.revealed x (shapes_of m.files) m.spaces books) in
-    let now = books_now spaces_of _ _ _ _ _ _ _ _ _ m s f.makes f.brings (f.same x (shapes_of m.files) m.spaces books) f.layout c.args.id _ revealed in
-    c.in-Err-delete.ensures.sound x (shapes_of m.files) m.spaces _ now revealed (none_shown m.spaces s.alone c.args.id)
+    let revealed = subst (IsAttributesOf (shapes_of m.files c.args.id)) c.in-Ok-Some.field-0-is ((c.in-Ok-Some.ensures.revealed 96 x (shapes_of m.files) m.spaces books).0) in
+    let now = books_now spaces_of _ _ _ _ _ _ _ _ _ m s f.stays.makes f.stays.brings ((f.revealed 96 x (shapes_of m.files) m.spaces books).1) f.stays.layout c.args.id _ revealed in
+    ((c.in-Err-delete.ensures.deleted x (shapes_of m.files) m.spaces _ now revealed).deleted (none_shown m.spaces s.alone c.args.id)).0
 
 pub returns-in-Err-delete-clause-wrote : goal.returns-in-Err-delete-clause-wrote
-returns-in-Err-delete-clause-wrote g c = wrote_then (wrote_by c.attributes_of.ensures.makes tt) (wrote_by c.in-Err-delete.ensures.stopped.makes (freeing_open c.in-Err-delete.ensures.stopped.sectors))
+returns-in-Err-delete-clause-wrote g c = wrote_then (wrote_by c.attributes_of.ensures.stays.makes tt) (wrote_by c.in-Err-delete.ensures.writes.makes (freeing_open c.in-Err-delete.ensures.writes.sectors))
 
 pub returns-in-Ok-None-clause-stops : goal.returns-in-Ok-None-clause-stops
-returns-in-Ok-None-clause-stops g c = λ spaces_of m s. stops_quiet spaces_of _ _ _ _ m s.session.stands (g.met.D.Disk.in_form (disk_of c.args.self.now.core.filer)) c.attributes_of.ensures.makes
+returns-in-Ok-None-clause-stops g c = λ spaces_of m s. stops_quiet spaces_of _ _ _ _ m s.session.stands (g.met.D.Disk.in_form (disk_of c.args.self.now.core.filer)) c.attributes_of.ensures.stays.makes
 
 pub returns-in-Err-clause-stops : goal.returns-in-Err-clause-stops
-returns-in-Err-clause-stops g c = λ spaces_of m s. stops_quiet spaces_of _ _ _ _ m s.session.stands (g.met.D.Disk.in_form (disk_of c.args.self.now.core.filer)) c.attributes_of.ensures.makes
+returns-in-Err-clause-stops g c = λ spaces_of m s. stops_quiet spaces_of _ _ _ _ m s.session.stands (g.met.D.Disk.in_form (disk_of c.args.self.now.core.filer)) c.attributes_of.ensures.stays.makes
 
 pub returns-then-found-clause-stops : goal.returns-then-found-clause-stops
-returns-then-found-clause-stops g c = λ spaces_of m s. stops_quiet spaces_of _ _ _ _ m s.session.stands (g.met.D.Disk.in_form (disk_of c.args.self.now.core.filer)) c.attributes_of.ensures.makes
+returns-then-found-clause-stops g c = λ spaces_of m s. stops_quiet spaces_of _ _ _ _ m s.session.stands (g.met.D.Disk.in_form (disk_of c.args.self.now.core.filer)) c.attributes_of.ensures.stays.makes
 
 pub returns-in-Ok-clause-stops : goal.returns-in-Ok-clause-stops
 returns-in-Ok-clause-stops g c = λ spaces_of m s.
     let x = s.session.stands.memory in
     let books = session_books spaces_of _ _ _ _ _ m s.session in
     let f = c.attributes_of.ensures in
-    let revealed = subst (IsAttributesOf (shapes_of m.files c.args.id)) c.in-Ok-Some.field-0-is (c.in-Ok-Some.ensures.revealed x (shapes_of m.files) m.spaces books) in
-    let now = books_now spaces_of _ _ _ _ _ _ _ _ _ m s f.makes f.brings (f.same x (shapes_of m.files) m.spaces books) f.layout c.args.id _ revealed in
+    let revealed = subst (IsAttributesOf (shapes_of m.files c.args.id)) c.in-Ok-Some.field-0-is ((c.in-Ok-Some.ensures.revealed 96 x (shapes_of m.files) m.spaces books).0) in
+    let now = books_now spaces_of _ _ _ _ _ _ _ _ _ m s f.stays.makes f.stays.brings ((f.revealed 96 x (shapes_of m.files) m.spaces books).1) f.stays.layout c.args.id _ revealed in
     let hidden = none_shown m.spaces s.alone c.args.id in
-    let d = c.in-Ok.ensures.deleted x (shapes_of m.files) m.spaces _ now revealed hidden in
-    stops_deleted spaces_of _ _ _ _ m s.session.stands (g.met.D.Disk.in_form (disk_of c.args.self.now.core.filer)) _ _ c.args.id _ s.alone revealed c.if-found.false f.makes (inr (record { leader = d.leader; sectors = d.sectors; makes = d.leads.goes.makes; stops = d.stops }))
+    let d = (c.in-Ok.ensures.deleted x (shapes_of m.files) m.spaces _ now revealed).deleted hidden in
+    stops_deleted spaces_of _ _ _ _ m s.session.stands (g.met.D.Disk.in_form (disk_of c.args.self.now.core.filer)) _ _ c.args.id _ s.alone revealed c.if-found.false f.stays.makes (inr (record { leader = d.leader; sectors = d.sectors; makes = d.leads.goes.makes; stops = d.stops }))
 
 pub returns-in-Err-delete-clause-stops : goal.returns-in-Err-delete-clause-stops
 returns-in-Err-delete-clause-stops g c = λ spaces_of m s.
     let x = s.session.stands.memory in
     let books = session_books spaces_of _ _ _ _ _ m s.session in
     let f = c.attributes_of.ensures in
-    let revealed = subst (IsAttributesOf (shapes_of m.files c.args.id)) c.in-Ok-Some.field-0-is (c.in-Ok-Some.ensures.revealed x (shapes_of m.files) m.spaces books) in
-    let now = books_now spaces_of _ _ _ _ _ _ _ _ _ m s f.makes f.brings (f.same x (shapes_of m.files) m.spaces books) f.layout c.args.id _ revealed in
+    let revealed = subst (IsAttributesOf (shapes_of m.files c.args.id)) c.in-Ok-Some.field-0-is ((c.in-Ok-Some.ensures.revealed 96 x (shapes_of m.files) m.spaces books).0) in
+    let now = books_now spaces_of _ _ _ _ _ _ _ _ _ m s f.stays.makes f.stays.brings ((f.revealed 96 x (shapes_of m.files) m.spaces books).1) f.stays.layout c.args.id _ revealed in
     let hidden = none_shown m.spaces s.alone c.args.id in
-    stops_deleted spaces_of _ _ _ _ m s.session.stands (g.met.D.Disk.in_form (disk_of c.args.self.now.core.filer)) _ _ c.args.id _ s.alone revealed c.if-found.false f.makes (c.in-Err-delete.ensures.first x (shapes_of m.files) m.spaces _ now revealed hidden)
+    stops_deleted spaces_of _ _ _ _ m s.session.stands (g.met.D.Disk.in_form (disk_of c.args.self.now.core.filer)) _ _ c.args.id _ s.alone revealed c.if-found.false f.stays.makes (((c.in-Err-delete.ensures.deleted x (shapes_of m.files) m.spaces _ now revealed).deleted hidden).1)
 
 pub returns-in-Err-delete-clause-counted : goal.returns-in-Err-delete-clause-counted
-returns-in-Err-delete-clause-counted g c = counted_then _ _ _ c.attributes_of.ensures.makes.went.faults c.in-Err-delete.ensures.counted
+returns-in-Err-delete-clause-counted g c = counted_after _ _ _ c.attributes_of.ensures.stays.makes.went.faults c.in-Err-delete.ensures.fails.counted
 
 pub returns-in-Ok-None-clause-cost : goal.returns-in-Ok-None-clause-cost
 returns-in-Ok-None-clause-cost g c = λ spaces_of m f s found. looked_cost (state c.args.self.now.core).disk.transfers (view_of c.attributes_of.new.filer).disk.transfers f c.attributes_of.ensures.cost
@@ -115,81 +115,81 @@ returns-in-Ok-clause-cost g c = λ spaces_of m f s found.
     let x = s.session.stands.memory in
     let books = session_books spaces_of _ _ _ _ _ m s.session in
     let look = c.attributes_of.ensures in
-    let revealed = subst (IsAttributesOf (shapes_of m.files c.args.id)) c.in-Ok-Some.field-0-is (c.in-Ok-Some.ensures.revealed x (shapes_of m.files) m.spaces books) in
-    let now = books_now spaces_of _ _ _ _ _ _ _ _ _ m s look.makes look.brings (look.same x (shapes_of m.files) m.spaces books) look.layout c.args.id _ revealed in
+    let revealed = subst (IsAttributesOf (shapes_of m.files c.args.id)) c.in-Ok-Some.field-0-is ((c.in-Ok-Some.ensures.revealed 96 x (shapes_of m.files) m.spaces books).0) in
+    let now = books_now spaces_of _ _ _ _ _ _ _ _ _ m s look.stays.makes look.stays.brings ((look.revealed 96 x (shapes_of m.files) m.spaces books).1) look.stays.layout c.args.id _ revealed in
     let hidden = none_shown m.spaces s.alone c.args.id in
-    deleted_cost (state c.args.self.now.core).layout (view_of c.attributes_of.new.filer).layout (accepted c.args.self.now.core.filer) look.layout (state c.args.self.now.core).disk.transfers (view_of c.attributes_of.new.filer).disk.transfers (view_of c.delete.new.filer).disk.transfers
-    c.in-Ok-Some.found.pages f (pages_revealed m c.args.id f c.in-Ok-Some.found found revealed) look.cost (c.delete.ensures.cost_sized x (shapes_of m.files) m.spaces _ now revealed hidden)
+    deleted_cost (state c.args.self.now.core).layout (view_of c.attributes_of.new.filer).layout (accepted c.args.self.now.core.filer) look.stays.layout (state c.args.self.now.core).disk.transfers (view_of c.attributes_of.new.filer).disk.transfers (view_of c.delete.new.filer).disk.transfers
+    c.in-Ok-Some.found.pages f (pages_revealed m c.args.id f c.in-Ok-Some.found found revealed) look.cost ((c.delete.ensures.deleted x (shapes_of m.files) m.spaces _ now revealed).cost_sized hidden)
 
 pub returns-in-Err-delete-clause-cost : goal.returns-in-Err-delete-clause-cost
 returns-in-Err-delete-clause-cost g c = λ spaces_of m f s found.
     let x = s.session.stands.memory in
     let books = session_books spaces_of _ _ _ _ _ m s.session in
     let look = c.attributes_of.ensures in
-    let revealed = subst (IsAttributesOf (shapes_of m.files c.args.id)) c.in-Ok-Some.field-0-is (c.in-Ok-Some.ensures.revealed x (shapes_of m.files) m.spaces books) in
-    let now = books_now spaces_of _ _ _ _ _ _ _ _ _ m s look.makes look.brings (look.same x (shapes_of m.files) m.spaces books) look.layout c.args.id _ revealed in
+    let revealed = subst (IsAttributesOf (shapes_of m.files c.args.id)) c.in-Ok-Some.field-0-is ((c.in-Ok-Some.ensures.revealed 96 x (shapes_of m.files) m.spaces books).0) in
+    let now = books_now spaces_of _ _ _ _ _ _ _ _ _ m s look.stays.makes look.stays.brings ((look.revealed 96 x (shapes_of m.files) m.spaces books).1) look.stays.layout c.args.id _ revealed in
     let hidden = none_shown m.spaces s.alone c.args.id in
-    deleted_cost (state c.args.self.now.core).layout (view_of c.attributes_of.new.filer).layout (accepted c.args.self.now.core.filer) look.layout (state c.args.self.now.core).disk.transfers (view_of c.attributes_of.new.filer).disk.transfers (view_of c.delete.new.filer).disk.transfers
-    c.in-Ok-Some.found.pages f (pages_revealed m c.args.id f c.in-Ok-Some.found found revealed) look.cost (c.delete.ensures.cost_sized x (shapes_of m.files) m.spaces _ now revealed hidden)
+    deleted_cost (state c.args.self.now.core).layout (view_of c.attributes_of.new.filer).layout (accepted c.args.self.now.core.filer) look.stays.layout (state c.args.self.now.core).disk.transfers (view_of c.attributes_of.new.filer).disk.transfers (view_of c.delete.new.filer).disk.transfers
+    c.in-Ok-Some.found.pages f (pages_revealed m c.args.id f c.in-Ok-Some.found found revealed) look.cost ((c.delete.ensures.deleted x (shapes_of m.files) m.spaces _ now revealed).cost_sized hidden)
 
 -- ---- Why it failed.
 
 pub returns-in-Err-clause-cause : goal.returns-in-Err-clause-cause
-returns-in-Err-clause-cause g c = inl c.in-Err.ensures.cause
+returns-in-Err-clause-cause g c = inl c.in-Err.ensures.fails.cause
 
 pub returns-in-Err-delete-clause-cause : goal.returns-in-Err-delete-clause-cause
-returns-in-Err-delete-clause-cause g c = inr (state (record c.args.self.now.core { filer = c.attributes_of.new.filer }), look_reaches (state c.args.self.now.core) (state (record c.args.self.now.core { filer = c.attributes_of.new.filer })) c.attributes_of.ensures.looks c.attributes_of.ensures.layout, c.in-Err-delete.ensures.cause)
+returns-in-Err-delete-clause-cause g c = inr (state (record c.args.self.now.core { filer = c.attributes_of.new.filer }), look_reaches (state c.args.self.now.core) (state (record c.args.self.now.core { filer = c.attributes_of.new.filer })) c.attributes_of.ensures.stays.looks c.attributes_of.ensures.stays.layout, c.in-Err-delete.ensures.fails.cause)
 
 -- ---- What began stays a reason.
 
 pub returns-in-Ok-None-clause-accounts : goal.returns-in-Ok-None-clause-accounts
 returns-in-Ok-None-clause-accounts g c = λ o k. record {
-  keeps_to = ((k.0, (c.in-Ok-None.ensures.keeps_to o k.0 k.1.0, k.1.1)));
+  keeps_to = ((k.0, (c.in-Ok-None.ensures.accounts o k.0 k.1.0, k.1.1)));
   reasons = tt;
   sees = (λ seen. let old = c.args.self.now.core in
-      seen_still o (state old) (accepted old.filer) k (view_of c.attributes_of.new.filer) (λ b. c.in-Ok-None.ensures.keeps_to (telling o b) k.0) (file_later o c.attributes_of.ensures.makes) seen);
+      seen_still o (state old) (accepted old.filer) k (view_of c.attributes_of.new.filer) (λ b. c.in-Ok-None.ensures.accounts (telling o b) k.0) (file_later o c.attributes_of.ensures.stays.makes) seen);
 }
 
 pub returns-then-found-clause-accounts : goal.returns-then-found-clause-accounts
 returns-then-found-clause-accounts g c = λ o k. record {
-  keeps_to = ((k.0, (c.in-Ok-Some.ensures.keeps_to o k.0 k.1.0, k.1.1)));
+  keeps_to = ((k.0, (c.in-Ok-Some.ensures.accounts o k.0 k.1.0, k.1.1)));
   reasons = tt;
   sees = (λ seen. let old = c.args.self.now.core in
-      seen_still o (state old) (accepted old.filer) k (view_of c.attributes_of.new.filer) (λ b. c.in-Ok-Some.ensures.keeps_to (telling o b) k.0) (file_later o c.attributes_of.ensures.makes) seen);
+      seen_still o (state old) (accepted old.filer) k (view_of c.attributes_of.new.filer) (λ b. c.in-Ok-Some.ensures.accounts (telling o b) k.0) (file_later o c.attributes_of.ensures.stays.makes) seen);
 }
 
 pub returns-in-Err-clause-accounts : goal.returns-in-Err-clause-accounts
 returns-in-Err-clause-accounts g c = λ o k. record {
   keeps_to = tt;
-  reasons = (c.in-Err.ensures.reasons o k.0 k.1.0);
+  reasons = (c.in-Err.ensures.accounts o k.0 k.1.0);
   sees = (λ seen. let old = c.args.self.now.core in
       let disk = (view_of c.attributes_of.new.filer).disk in
-      end_blameless o disk c.in-Err.halt (seen_blameless o (state old) (accepted old.filer) k (state old).layout disk c.in-Err.halt (λ b. c.in-Err.ensures.reasons (telling o b) k.0)
-      (look_misses (file_pages o disk) c.args.id (state old) (view_of c.attributes_of.new.filer) c.in-Err.halt c.in-Err.ensures.cause) (seen.0, seen.1.0))
-      (look_no_table c.args.id (state old) (view_of c.attributes_of.new.filer) c.in-Err.halt c.in-Err.ensures.cause));
+      end_blameless o disk c.in-Err.halt (seen_blameless o (state old) (accepted old.filer) k (state old).layout disk c.in-Err.halt (λ b. c.in-Err.ensures.accounts (telling o b) k.0)
+      (look_misses (file_pages o disk) c.args.id (state old) (view_of c.attributes_of.new.filer) c.in-Err.halt c.in-Err.ensures.fails.cause) (seen.0, seen.1.0))
+      (look_no_table c.args.id (state old) (view_of c.attributes_of.new.filer) c.in-Err.halt c.in-Err.ensures.fails.cause));
 }
 
 pub returns-in-Ok-clause-accounts : goal.returns-in-Ok-clause-accounts
 returns-in-Ok-clause-accounts g c = λ o k. record {
-  keeps_to = (let from = c.in-Ok.ensures.keeps_to o k.0 (c.in-Ok-Some.ensures.keeps_to o k.0 k.1.0) in (from.0, (from.1, (from.2 k.1.1.0, k.1.1.1))));
+  keeps_to = (let from = c.in-Ok.ensures.accounts o k.0 (c.in-Ok-Some.ensures.accounts o k.0 k.1.0) in (from.0, (from.1, (from.2 k.1.1.0, k.1.1.1))));
   reasons = tt;
   sees = (λ seen. let old = c.args.self.now.core in
-      seen_from o (state old) (accepted old.filer) k (view_of c.delete.new.filer) (λ b h. c.in-Ok.ensures.keeps_to (telling o b) k.0 (c.in-Ok-Some.ensures.keeps_to (telling o b) k.0 h))
+      seen_from o (state old) (accepted old.filer) k (view_of c.delete.new.filer) (λ b h. c.in-Ok.ensures.accounts (telling o b) k.0 (c.in-Ok-Some.ensures.accounts (telling o b) k.0 h))
       (file_after o (returns-in-Ok-clause-wrote g c)) seen);
 }
 
 pub returns-in-Err-delete-clause-accounts : goal.returns-in-Err-delete-clause-accounts
 returns-in-Err-delete-clause-accounts g c = λ o k. record {
   keeps_to = tt;
-  reasons = (subst (λ (l : Layout). ShowsReason o l (view_of c.delete.new.filer).disk c.in-Err-delete.halt) c.attributes_of.ensures.layout
-      (c.in-Err-delete.ensures.reasons o k.0 (c.in-Ok-Some.ensures.keeps_to o k.0 k.1.0)));
+  reasons = (subst (λ (l : Layout). ShowsReason o l (view_of c.delete.new.filer).disk c.in-Err-delete.halt) c.attributes_of.ensures.stays.layout
+      (c.in-Err-delete.ensures.accounts o k.0 (c.in-Ok-Some.ensures.accounts o k.0 k.1.0)));
   sees = (λ seen. let old = c.args.self.now.core in
       let disk = (view_of c.delete.new.filer).disk in
-      let was = found_file k.1.0 c.args.id _ _ c.in-Ok-Some.field-0-is c.in-Ok-Some.ensures.leader in
-      end_blameless o disk c.in-Err-delete.halt (seen_blameless o (state old) (accepted old.filer) k (view_of c.attributes_of.new.filer).layout disk c.in-Err-delete.halt (λ b h. c.in-Err-delete.ensures.reasons (telling o b) k.0 (c.in-Ok-Some.ensures.keeps_to (telling o b) k.0 h))
-      (misses_file (c.in-Ok-Some.ensures.keeps_to o k.0 k.1.0) disk (file_later o c.in-Err-delete.ensures.stopped.makes) c.args.id (file_after o (returns-in-Err-delete-clause-wrote g c) c.args.id leader_page was) c.in-Err-delete.halt
-      (remove_misses_own c.args.id (view_of c.attributes_of.new.filer) (view_of c.delete.new.filer) c.in-Err-delete.halt c.in-Err-delete.ensures.cause)) (seen.0, seen.1.0))
-      (remove_no_table c.args.id c.requires.client (view_of c.attributes_of.new.filer) (view_of c.delete.new.filer) c.in-Err-delete.halt c.in-Err-delete.ensures.cause));
+      let was = found_file k.1.0 c.args.id _ _ c.in-Ok-Some.field-0-is (λ z0 z1 z2 z3. (c.in-Ok-Some.ensures.named z0 z1 z2 z3).1) in
+      end_blameless o disk c.in-Err-delete.halt (seen_blameless o (state old) (accepted old.filer) k (view_of c.attributes_of.new.filer).layout disk c.in-Err-delete.halt (λ b h. c.in-Err-delete.ensures.accounts (telling o b) k.0 (c.in-Ok-Some.ensures.accounts (telling o b) k.0 h))
+      (misses_file (c.in-Ok-Some.ensures.accounts o k.0 k.1.0) disk (file_later o c.in-Err-delete.ensures.writes.makes) c.args.id (file_after o (returns-in-Err-delete-clause-wrote g c) c.args.id leader_page was) c.in-Err-delete.halt
+      (remove_misses_own c.args.id (view_of c.attributes_of.new.filer) (view_of c.delete.new.filer) c.in-Err-delete.halt c.in-Err-delete.ensures.fails.cause)) (seen.0, seen.1.0))
+      (remove_no_table c.args.id c.requires.client (view_of c.attributes_of.new.filer) (view_of c.delete.new.filer) c.in-Err-delete.halt c.in-Err-delete.ensures.fails.cause));
 }
 
 -- ---- What is seen of the space tables, and which page is reported as missing.
@@ -197,18 +197,18 @@ returns-in-Err-delete-clause-accounts g c = λ o k. record {
 -- ---- Which files are spared.
 
 pub returns-in-Ok-None-clause-spares : goal.returns-in-Ok-None-clause-spares
-returns-in-Ok-None-clause-spares g c = spares_quiet c.attributes_of.ensures.makes
+returns-in-Ok-None-clause-spares g c = spares_quiet c.attributes_of.ensures.stays.makes
 
 pub returns-in-Err-clause-spares : goal.returns-in-Err-clause-spares
-returns-in-Err-clause-spares g c = spares_quiet c.attributes_of.ensures.makes
+returns-in-Err-clause-spares g c = spares_quiet c.attributes_of.ensures.stays.makes
 
 pub returns-then-found-clause-spares : goal.returns-then-found-clause-spares
-returns-then-found-clause-spares g c = spares_quiet c.attributes_of.ensures.makes
+returns-then-found-clause-spares g c = spares_quiet c.attributes_of.ensures.stays.makes
 
 pub returns-in-Ok-clause-spares : goal.returns-in-Ok-clause-spares
 returns-in-Ok-clause-spares g c =
-    all_then (spares_quiet c.attributes_of.ensures.makes) (spares_gone c.args.id (found_temporary (view_of c.attributes_of.new.filer).disk c.args.id c.in-Ok-Some.found.permanent (subst (λ (o : Option Attributes). IfSome o (λ a. HasLeader (view_of c.attributes_of.new.filer).disk c.args.id a.permanent)) c.in-Ok-Some.field-0-is c.in-Ok-Some.ensures.marked) c.if-found.false) c.in-Ok.ensures.makes.1 c.in-Ok.ensures.own)
+    all_then (spares_quiet c.attributes_of.ensures.stays.makes) (spares_gone c.args.id (found_temporary (view_of c.attributes_of.new.filer).disk c.args.id c.in-Ok-Some.found.permanent (subst (λ (o : Option Attributes). IfSome o (λ a. HasLeader (view_of c.attributes_of.new.filer).disk c.args.id a.permanent)) c.in-Ok-Some.field-0-is c.in-Ok-Some.ensures.marked) c.if-found.false) c.in-Ok.ensures.writes.1 c.in-Ok.ensures.labels.own)
 
 pub returns-in-Err-delete-clause-spares : goal.returns-in-Err-delete-clause-spares
 returns-in-Err-delete-clause-spares g c =
-    all_then (spares_quiet c.attributes_of.ensures.makes) (spares_going c.args.id (found_temporary (view_of c.attributes_of.new.filer).disk c.args.id c.in-Ok-Some.found.permanent (subst (λ (o : Option Attributes). IfSome o (λ a. HasLeader (view_of c.attributes_of.new.filer).disk c.args.id a.permanent)) c.in-Ok-Some.field-0-is c.in-Ok-Some.ensures.marked) c.if-found.false) c.in-Err-delete.ensures.stopped c.in-Err-delete.ensures.own)
+    all_then (spares_quiet c.attributes_of.ensures.stays.makes) (spares_going c.args.id (found_temporary (view_of c.attributes_of.new.filer).disk c.args.id c.in-Ok-Some.found.permanent (subst (λ (o : Option Attributes). IfSome o (λ a. HasLeader (view_of c.attributes_of.new.filer).disk c.args.id a.permanent)) c.in-Ok-Some.field-0-is c.in-Ok-Some.ensures.marked) c.if-found.false) c.in-Err-delete.ensures.writes c.in-Err-delete.ensures.labels.own)

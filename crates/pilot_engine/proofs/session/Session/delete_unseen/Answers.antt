@@ -26,67 +26,68 @@ use Rattle.pilot_engine.proofs.SparedCalls.{all_but, all_then, but_then, spares_
 use Rattle.pilot_engine.proofs.SparedFiles.{found_temporary, kept_hidden, not_kept, spares_freed, spares_going, spares_gone, spares_some}
 use Rattle.file_manager.specs.Attributes.{HasLeader}
 use Rattle.label_calls.specs.SyncedLaws.{around_after, quiet_synced, syncs_around, wrote_synced}
+use Rattle.pilot_engine.proofs.SeesLemmas.{same_from, same_still}
 use Rattle.pilot_engine.proofs.session.Session.delete_unseen.Goals as goal
 
 pub returns-in-Ok-None-clause-carried : goal.returns-in-Ok-None-clause-carried
 returns-in-Ok-None-clause-carried g c = λ spaces_of m s unseen temporary.
     let books = session_books spaces_of _ _ _ _ _ m s in
-    let revealed = subst (λ (o : Option Attributes). IsAttributesOf (shapes_of m.files c.args.id) o) c.in-Ok-None.field-0-is (c.in-Ok-None.ensures.revealed s.stands.memory (shapes_of m.files) m.spaces books) in
-    missing_after spaces_of _ _ _ _ _ _ _ _ _ m s c.attributes_of.ensures.makes c.attributes_of.ensures.brings (c.attributes_of.ensures.same s.stands.memory (shapes_of m.files) m.spaces books) c.attributes_of.ensures.layout
+    let revealed = subst (λ (o : Option Attributes). IsAttributesOf (shapes_of m.files c.args.id) o) c.in-Ok-None.field-0-is ((c.in-Ok-None.ensures.revealed 96 s.stands.memory (shapes_of m.files) m.spaces books).0) in
+    missing_after spaces_of _ _ _ _ _ _ _ _ _ m s c.attributes_of.ensures.stays.makes c.attributes_of.ensures.stays.brings ((c.attributes_of.ensures.revealed 96 s.stands.memory (shapes_of m.files) m.spaces books).1) c.attributes_of.ensures.stays.layout
     c.args.id revealed (call.Delete c.args.id) (λ none. delete_gone m c.args.id (no_file_missing m c.args.id none))
 
 pub returns-in-Ok-None-clause-passes : goal.returns-in-Ok-None-clause-passes
-returns-in-Ok-None-clause-passes g c = λ spaces_of m s unseen temporary. no_step spaces_of _ _ _ _ m (call.Delete c.args.id) s.stands c.attributes_of.ensures.makes (g.met.D.Disk.in_form (disk_of c.args.self.now.core.filer))
+returns-in-Ok-None-clause-passes g c = λ spaces_of m s unseen temporary. no_step spaces_of _ _ _ _ m (call.Delete c.args.id) s.stands c.attributes_of.ensures.stays.makes (g.met.D.Disk.in_form (disk_of c.args.self.now.core.filer))
 
 pub returns-in-Err-clause-sound : goal.returns-in-Err-clause-sound
-returns-in-Err-clause-sound g c = λ spaces_of m s unseen temporary. c.in-Err.ensures.revealed s.stands.memory (shapes_of m.files) m.spaces (session_books spaces_of _ _ _ _ _ m s)
+returns-in-Err-clause-sound g c = λ spaces_of m s unseen temporary. (c.in-Err.ensures.revealed 96 s.stands.memory (shapes_of m.files) m.spaces (session_books spaces_of _ _ _ _ _ m s)).0
 
 pub returns-in-Err-clause-passes : goal.returns-in-Err-clause-passes
-returns-in-Err-clause-passes g c = λ spaces_of m s unseen temporary. no_step spaces_of _ _ _ _ m (call.Delete c.args.id) s.stands c.attributes_of.ensures.makes (g.met.D.Disk.in_form (disk_of c.args.self.now.core.filer))
+returns-in-Err-clause-passes g c = λ spaces_of m s unseen temporary. no_step spaces_of _ _ _ _ m (call.Delete c.args.id) s.stands c.attributes_of.ensures.stays.makes (g.met.D.Disk.in_form (disk_of c.args.self.now.core.filer))
 
 pub returns-in-Ok-clause-carried : goal.returns-in-Ok-clause-carried
 returns-in-Ok-clause-carried g c = λ spaces_of m s unseen temporary.
     let books = session_books spaces_of _ _ _ _ _ m s in
-    let revealed = subst (λ (o : Option Attributes). IsAttributesOf (shapes_of m.files c.args.id) o) c.in-Ok-Some.field-0-is (c.in-Ok-Some.ensures.revealed s.stands.memory (shapes_of m.files) m.spaces books) in
-    let mid = c.attributes_of.ensures.same s.stands.memory (shapes_of m.files) m.spaces books in
-    let at = books_at _ _ _ _ _ _ _ _ mid c.attributes_of.ensures.layout in
-    let deleted = c.in-Ok.ensures.deleted s.stands.memory (shapes_of m.files) m.spaces _ at revealed (unseen_pages m c.args.id unseen) in
-    let less = c.in-Ok.ensures.used s.stands.memory (shapes_of m.files) m.spaces _ at revealed in
+    let revealed = subst (λ (o : Option Attributes). IsAttributesOf (shapes_of m.files c.args.id) o) c.in-Ok-Some.field-0-is ((c.in-Ok-Some.ensures.revealed 96 s.stands.memory (shapes_of m.files) m.spaces books).0) in
+    let mid = (c.attributes_of.ensures.revealed 96 s.stands.memory (shapes_of m.files) m.spaces books).1 in
+    let at = books_at _ _ _ _ _ _ _ _ mid c.attributes_of.ensures.stays.layout in
+    let deleted = (c.in-Ok.ensures.deleted s.stands.memory (shapes_of m.files) m.spaces _ at revealed).deleted (unseen_pages m c.args.id unseen) in
+    let less = (c.in-Ok.ensures.deleted s.stands.memory (shapes_of m.files) m.spaces _ at revealed).used in
     carries_at spaces_of m (call.Delete c.args.id) _ _ _ _ _ _ _
-    (delete_done spaces_of _ _ _ _ _ _ _ _ _ m s c.attributes_of.ensures.makes c.attributes_of.ensures.brings mid c.attributes_of.ensures.layout _ _ _ _ c.args.id _ revealed (let f = file_revealed m c.args.id _ revealed in delete_free m c.args.id f.0 f.1 (unseen_named m c.args.id unseen) unseen)
-    (ap (λ (v : Volume). v.root.serial) c.delete.ensures.rest_of_volume) (ap (λ (v : Volume). v.root.counter) c.delete.ensures.rest_of_volume) less deleted) c.delete.ensures.layout
+    (delete_done spaces_of _ _ _ _ _ _ _ _ _ m s c.attributes_of.ensures.stays.makes c.attributes_of.ensures.stays.brings mid c.attributes_of.ensures.stays.layout _ _ _ _ c.args.id _ revealed (let f = file_revealed m c.args.id _ revealed in delete_free m c.args.id f.0 f.1 (unseen_named m c.args.id unseen) unseen)
+    (ap (λ (v : Volume). v.root.serial) c.delete.ensures.volume.rest_of_volume) (ap (λ (v : Volume). v.root.counter) c.delete.ensures.volume.rest_of_volume) less deleted) c.delete.ensures.stays.layout
 
 pub returns-in-Ok-clause-passes : goal.returns-in-Ok-clause-passes
 returns-in-Ok-clause-passes g c = λ spaces_of m s unseen temporary.
     let books = session_books spaces_of _ _ _ _ _ m s in
-    let revealed = subst (λ (o : Option Attributes). IsAttributesOf (shapes_of m.files c.args.id) o) c.in-Ok-Some.field-0-is (c.in-Ok-Some.ensures.revealed s.stands.memory (shapes_of m.files) m.spaces books) in
-    let mid = c.attributes_of.ensures.same s.stands.memory (shapes_of m.files) m.spaces books in
-    let at = books_at _ _ _ _ _ _ _ _ mid c.attributes_of.ensures.layout in
-    let deleted = c.in-Ok.ensures.deleted s.stands.memory (shapes_of m.files) m.spaces _ at revealed (unseen_pages m c.args.id unseen) in
-    delete_passed spaces_of _ _ _ _ _ _ _ _ _ m s c.attributes_of.ensures.makes c.attributes_of.ensures.brings mid c.attributes_of.ensures.layout _ _ _ c.args.self.now.volume c.args.id _ revealed (let f = file_revealed m c.args.id _ revealed in delete_free m c.args.id f.0 f.1 (unseen_named m c.args.id unseen) unseen)
+    let revealed = subst (λ (o : Option Attributes). IsAttributesOf (shapes_of m.files c.args.id) o) c.in-Ok-Some.field-0-is ((c.in-Ok-Some.ensures.revealed 96 s.stands.memory (shapes_of m.files) m.spaces books).0) in
+    let mid = (c.attributes_of.ensures.revealed 96 s.stands.memory (shapes_of m.files) m.spaces books).1 in
+    let at = books_at _ _ _ _ _ _ _ _ mid c.attributes_of.ensures.stays.layout in
+    let deleted = (c.in-Ok.ensures.deleted s.stands.memory (shapes_of m.files) m.spaces _ at revealed).deleted (unseen_pages m c.args.id unseen) in
+    delete_passed spaces_of _ _ _ _ _ _ _ _ _ m s c.attributes_of.ensures.stays.makes c.attributes_of.ensures.stays.brings mid c.attributes_of.ensures.stays.layout _ _ _ c.args.self.now.volume c.args.id _ revealed (let f = file_revealed m c.args.id _ revealed in delete_free m c.args.id f.0 f.1 (unseen_named m c.args.id unseen) unseen)
     (g.met.D.Disk.in_form (disk_of c.args.self.now.core.filer)) deleted
 
 pub returns-in-Ok-clause-wrote : goal.returns-in-Ok-clause-wrote
-returns-in-Ok-clause-wrote g c = freed_wrote c.attributes_of.ensures.makes c.in-Ok.ensures.makes
+returns-in-Ok-clause-wrote g c = freed_wrote c.attributes_of.ensures.stays.makes c.in-Ok.ensures.writes
 
 pub returns-in-Err-delete-clause-sound : goal.returns-in-Err-delete-clause-sound
 returns-in-Err-delete-clause-sound g c = λ spaces_of m s unseen temporary.
     let books = session_books spaces_of _ _ _ _ _ m s in
-    let revealed = subst (λ (o : Option Attributes). IsAttributesOf (shapes_of m.files c.args.id) o) c.in-Ok-Some.field-0-is (c.in-Ok-Some.ensures.revealed s.stands.memory (shapes_of m.files) m.spaces books) in
-    let mid = c.attributes_of.ensures.same s.stands.memory (shapes_of m.files) m.spaces books in
-    c.in-Err-delete.ensures.sound s.stands.memory (shapes_of m.files) m.spaces _ (books_at _ _ _ _ _ _ _ _ mid c.attributes_of.ensures.layout) revealed (unseen_pages m c.args.id unseen)
+    let revealed = subst (λ (o : Option Attributes). IsAttributesOf (shapes_of m.files c.args.id) o) c.in-Ok-Some.field-0-is ((c.in-Ok-Some.ensures.revealed 96 s.stands.memory (shapes_of m.files) m.spaces books).0) in
+    let mid = (c.attributes_of.ensures.revealed 96 s.stands.memory (shapes_of m.files) m.spaces books).1 in
+    ((c.in-Err-delete.ensures.deleted s.stands.memory (shapes_of m.files) m.spaces _ (books_at _ _ _ _ _ _ _ _ mid c.attributes_of.ensures.stays.layout) revealed).deleted (unseen_pages m c.args.id unseen)).0
 
 pub returns-in-Err-delete-clause-passes : goal.returns-in-Err-delete-clause-passes
 returns-in-Err-delete-clause-passes g c = λ spaces_of m s unseen temporary.
     let books = session_books spaces_of _ _ _ _ _ m s in
-    let revealed = subst (λ (o : Option Attributes). IsAttributesOf (shapes_of m.files c.args.id) o) c.in-Ok-Some.field-0-is (c.in-Ok-Some.ensures.revealed s.stands.memory (shapes_of m.files) m.spaces books) in
-    let mid = c.attributes_of.ensures.same s.stands.memory (shapes_of m.files) m.spaces books in
-    let first = c.in-Err-delete.ensures.first s.stands.memory (shapes_of m.files) m.spaces _ (books_at _ _ _ _ _ _ _ _ mid c.attributes_of.ensures.layout) revealed (unseen_pages m c.args.id unseen) in
-    delete_broken spaces_of _ _ _ _ _ _ _ _ _ m s c.attributes_of.ensures.makes c.attributes_of.ensures.brings mid c.attributes_of.ensures.layout _ _ c.args.self.now.core.filer.runs c.args.self.now.volume c.args.id _ revealed (let f = file_revealed m c.args.id _ revealed in delete_free m c.args.id f.0 f.1 (unseen_named m c.args.id unseen) unseen)
+    let revealed = subst (λ (o : Option Attributes). IsAttributesOf (shapes_of m.files c.args.id) o) c.in-Ok-Some.field-0-is ((c.in-Ok-Some.ensures.revealed 96 s.stands.memory (shapes_of m.files) m.spaces books).0) in
+    let mid = (c.attributes_of.ensures.revealed 96 s.stands.memory (shapes_of m.files) m.spaces books).1 in
+    let first = ((c.in-Err-delete.ensures.deleted s.stands.memory (shapes_of m.files) m.spaces _ (books_at _ _ _ _ _ _ _ _ mid c.attributes_of.ensures.stays.layout) revealed).deleted (unseen_pages m c.args.id unseen)).1 in
+    delete_broken spaces_of _ _ _ _ _ _ _ _ _ m s c.attributes_of.ensures.stays.makes c.attributes_of.ensures.stays.brings mid c.attributes_of.ensures.stays.layout _ _ c.args.self.now.core.filer.runs c.args.self.now.volume c.args.id _ revealed (let f = file_revealed m c.args.id _ revealed in delete_free m c.args.id f.0 f.1 (unseen_named m c.args.id unseen) unseen)
     (g.met.D.Disk.in_form (disk_of c.args.self.now.core.filer)) first
 
 pub returns-in-Err-delete-clause-wrote : goal.returns-in-Err-delete-clause-wrote
-returns-in-Err-delete-clause-wrote g c = some_freed_wrote c.attributes_of.ensures.makes c.in-Err-delete.ensures.stopped
+returns-in-Err-delete-clause-wrote g c = some_freed_wrote c.attributes_of.ensures.stays.makes c.in-Err-delete.ensures.writes
 
 pub returns-in-Ok-None-clause-bounded : goal.returns-in-Ok-None-clause-bounded
 returns-in-Ok-None-clause-bounded g c = λ spaces_of m s. inside_layout (state c.args.self.now.core).layout (state c.args.self.now.core).disk (view_of c.attributes_of.new.filer).disk c.requires.size (inside _ _ _ 29 (omega arith) c.attributes_of.ensures.cost)
@@ -98,84 +99,84 @@ pub returns-in-Ok-clause-bounded : goal.returns-in-Ok-clause-bounded
 returns-in-Ok-clause-bounded g c = λ spaces_of m s.
     let layout = (state c.args.self.now.core).layout in
     let books = session_books spaces_of _ _ _ _ _ m s in
-    let revealed = subst (λ (o : Option Attributes). IsAttributesOf (shapes_of m.files c.args.id) o) c.in-Ok-Some.field-0-is (c.in-Ok-Some.ensures.revealed s.stands.memory (shapes_of m.files) m.spaces books) in
-    let mid = c.attributes_of.ensures.same s.stands.memory (shapes_of m.files) m.spaces books in
-    let at = books_at _ _ _ _ _ _ _ _ mid c.attributes_of.ensures.layout in
-    let paid = c.delete.ensures.cost_revealed s.stands.memory (shapes_of m.files) m.spaces _ at revealed in
-    delete_revealed spaces_of (state c.args.self.now.core).disk _ layout _ _ m s c.requires.opened (accepted c.args.self.now.core.filer) (view_of c.attributes_of.new.filer).layout c.attributes_of.ensures.layout
+    let revealed = subst (λ (o : Option Attributes). IsAttributesOf (shapes_of m.files c.args.id) o) c.in-Ok-Some.field-0-is ((c.in-Ok-Some.ensures.revealed 96 s.stands.memory (shapes_of m.files) m.spaces books).0) in
+    let mid = (c.attributes_of.ensures.revealed 96 s.stands.memory (shapes_of m.files) m.spaces books).1 in
+    let at = books_at _ _ _ _ _ _ _ _ mid c.attributes_of.ensures.stays.layout in
+    let paid = (c.delete.ensures.deleted s.stands.memory (shapes_of m.files) m.spaces _ at revealed).cost in
+    delete_revealed spaces_of (state c.args.self.now.core).disk _ layout _ _ m s c.requires.opened (accepted c.args.self.now.core.filer) (view_of c.attributes_of.new.filer).layout c.attributes_of.ensures.stays.layout
     (view_of c.attributes_of.new.filer).disk (view_of c.delete.new.filer).disk c.args.id _ revealed c.requires.size c.attributes_of.ensures.cost paid
 
 pub returns-in-Err-delete-clause-bounded : goal.returns-in-Err-delete-clause-bounded
 returns-in-Err-delete-clause-bounded g c = λ spaces_of m s.
     let layout = (state c.args.self.now.core).layout in
     let books = session_books spaces_of _ _ _ _ _ m s in
-    let revealed = subst (λ (o : Option Attributes). IsAttributesOf (shapes_of m.files c.args.id) o) c.in-Ok-Some.field-0-is (c.in-Ok-Some.ensures.revealed s.stands.memory (shapes_of m.files) m.spaces books) in
-    let mid = c.attributes_of.ensures.same s.stands.memory (shapes_of m.files) m.spaces books in
-    let at = books_at _ _ _ _ _ _ _ _ mid c.attributes_of.ensures.layout in
-    let paid = c.delete.ensures.cost_revealed s.stands.memory (shapes_of m.files) m.spaces _ at revealed in
-    delete_revealed spaces_of (state c.args.self.now.core).disk _ layout _ _ m s c.requires.opened (accepted c.args.self.now.core.filer) (view_of c.attributes_of.new.filer).layout c.attributes_of.ensures.layout
+    let revealed = subst (λ (o : Option Attributes). IsAttributesOf (shapes_of m.files c.args.id) o) c.in-Ok-Some.field-0-is ((c.in-Ok-Some.ensures.revealed 96 s.stands.memory (shapes_of m.files) m.spaces books).0) in
+    let mid = (c.attributes_of.ensures.revealed 96 s.stands.memory (shapes_of m.files) m.spaces books).1 in
+    let at = books_at _ _ _ _ _ _ _ _ mid c.attributes_of.ensures.stays.layout in
+    let paid = (c.delete.ensures.deleted s.stands.memory (shapes_of m.files) m.spaces _ at revealed).cost in
+    delete_revealed spaces_of (state c.args.self.now.core).disk _ layout _ _ m s c.requires.opened (accepted c.args.self.now.core.filer) (view_of c.attributes_of.new.filer).layout c.attributes_of.ensures.stays.layout
     (view_of c.attributes_of.new.filer).disk (view_of c.delete.new.filer).disk c.args.id _ revealed c.requires.size c.attributes_of.ensures.cost paid
 
 pub returns-in-Ok-None-clause-own : goal.returns-in-Ok-None-clause-own
-returns-in-Ok-None-clause-own g c = relabels_own (quiet_own c.args.id c.attributes_of.ensures.makes)
+returns-in-Ok-None-clause-own g c = relabels_own (quiet_own c.args.id c.attributes_of.ensures.stays.makes)
 
 pub returns-in-Err-clause-own : goal.returns-in-Err-clause-own
-returns-in-Err-clause-own g c = relabels_own (quiet_own c.args.id c.attributes_of.ensures.makes)
+returns-in-Err-clause-own g c = relabels_own (quiet_own c.args.id c.attributes_of.ensures.stays.makes)
 
 pub returns-in-Ok-clause-own : goal.returns-in-Ok-clause-own
-returns-in-Ok-clause-own g c = own_after (quiet_own c.args.id c.attributes_of.ensures.makes) (freed_own c.in-Ok.ensures.makes.1 c.in-Ok.ensures.own)
+returns-in-Ok-clause-own g c = own_after (quiet_own c.args.id c.attributes_of.ensures.stays.makes) (freed_own c.in-Ok.ensures.writes.1 c.in-Ok.ensures.labels.own)
 
 pub returns-in-Err-delete-clause-own : goal.returns-in-Err-delete-clause-own
-returns-in-Err-delete-clause-own g c = own_after (quiet_own c.args.id c.attributes_of.ensures.makes) (some_own c.in-Err-delete.ensures.stopped c.in-Err-delete.ensures.own)
+returns-in-Err-delete-clause-own g c = own_after (quiet_own c.args.id c.attributes_of.ensures.stays.makes) (some_own c.in-Err-delete.ensures.writes c.in-Err-delete.ensures.labels.own)
 
 -- ---- Why it failed.
 
 pub returns-in-Err-clause-cause : goal.returns-in-Err-clause-cause
-returns-in-Err-clause-cause g c = inl c.in-Err.ensures.cause
+returns-in-Err-clause-cause g c = inl c.in-Err.ensures.fails.cause
 
 pub returns-in-Err-delete-clause-cause : goal.returns-in-Err-delete-clause-cause
-returns-in-Err-delete-clause-cause g c = inr (state (record c.args.self.now.core { filer = c.attributes_of.new.filer }), look_reaches (state c.args.self.now.core) (state (record c.args.self.now.core { filer = c.attributes_of.new.filer })) c.attributes_of.ensures.looks c.attributes_of.ensures.layout, c.in-Err-delete.ensures.cause)
+returns-in-Err-delete-clause-cause g c = inr (state (record c.args.self.now.core { filer = c.attributes_of.new.filer }), look_reaches (state c.args.self.now.core) (state (record c.args.self.now.core { filer = c.attributes_of.new.filer })) c.attributes_of.ensures.stays.looks c.attributes_of.ensures.stays.layout, c.in-Err-delete.ensures.fails.cause)
 
 -- ---- The initial state.
 
 pub returns-in-Ok-None-clause-accounts : goal.returns-in-Ok-None-clause-accounts
 returns-in-Ok-None-clause-accounts g c = λ o k. record {
-  keeps_to = ((k.0, (c.in-Ok-None.ensures.keeps_to o k.0 k.1.0, k.1.1)));
+  keeps_to = ((k.0, (c.in-Ok-None.ensures.accounts o k.0 k.1.0, k.1.1)));
   reasons = tt;
   sees = (λ seen. let old = c.args.self.now.core in
-      seen_still o (state old) (accepted old.filer) k (view_of c.attributes_of.new.filer) (λ b. c.in-Ok-None.ensures.keeps_to (telling o b) k.0) (file_later o c.attributes_of.ensures.makes) seen);
+      seen_still o (state old) (accepted old.filer) k (view_of c.attributes_of.new.filer) (λ b. c.in-Ok-None.ensures.accounts (telling o b) k.0) (file_later o c.attributes_of.ensures.stays.makes) seen);
 }
 
 pub returns-in-Ok-clause-accounts : goal.returns-in-Ok-clause-accounts
 returns-in-Ok-clause-accounts g c = λ o k. record {
-  keeps_to = (let from = c.in-Ok.ensures.keeps_to o k.0 (c.in-Ok-Some.ensures.keeps_to o k.0 k.1.0) in (from.0, (from.1, (from.2 k.1.1.0, k.1.1.1))));
+  keeps_to = (let from = c.in-Ok.ensures.accounts o k.0 (c.in-Ok-Some.ensures.accounts o k.0 k.1.0) in (from.0, (from.1, (from.2 k.1.1.0, k.1.1.1))));
   reasons = tt;
   sees = (λ seen. let old = c.args.self.now.core in
-      seen_from o (state old) (accepted old.filer) k (view_of c.delete.new.filer) (λ b h. c.in-Ok.ensures.keeps_to (telling o b) k.0 (c.in-Ok-Some.ensures.keeps_to (telling o b) k.0 h))
+      seen_from o (state old) (accepted old.filer) k (view_of c.delete.new.filer) (λ b h. c.in-Ok.ensures.accounts (telling o b) k.0 (c.in-Ok-Some.ensures.accounts (telling o b) k.0 h))
       (file_after o (returns-in-Ok-clause-wrote g c)) seen);
 }
 
 pub returns-in-Err-clause-accounts : goal.returns-in-Err-clause-accounts
 returns-in-Err-clause-accounts g c = λ o k. record {
   keeps_to = tt;
-  reasons = (c.in-Err.ensures.reasons o k.0 k.1.0);
+  reasons = (c.in-Err.ensures.accounts o k.0 k.1.0);
   sees = (λ seen. let old = c.args.self.now.core in
       let disk = (view_of c.attributes_of.new.filer).disk in
-      seen_blameless o (state old) (accepted old.filer) k (state old).layout disk c.in-Err.halt (λ b. c.in-Err.ensures.reasons (telling o b) k.0)
-      (look_misses (file_pages o disk) c.args.id (state old) (view_of c.attributes_of.new.filer) c.in-Err.halt c.in-Err.ensures.cause) (seen.0, seen.1.0));
+      seen_blameless o (state old) (accepted old.filer) k (state old).layout disk c.in-Err.halt (λ b. c.in-Err.ensures.accounts (telling o b) k.0)
+      (look_misses (file_pages o disk) c.args.id (state old) (view_of c.attributes_of.new.filer) c.in-Err.halt c.in-Err.ensures.fails.cause) (seen.0, seen.1.0));
 }
 
 pub returns-in-Err-delete-clause-accounts : goal.returns-in-Err-delete-clause-accounts
 returns-in-Err-delete-clause-accounts g c = λ o k. record {
   keeps_to = tt;
-  reasons = (shows_since o (view_of c.delete.new.filer).disk c.in-Err-delete.halt c.attributes_of.ensures.layout
-      (c.in-Err-delete.ensures.reasons o k.0 (c.in-Ok-Some.ensures.keeps_to o k.0 k.1.0)));
+  reasons = (shows_since o (view_of c.delete.new.filer).disk c.in-Err-delete.halt c.attributes_of.ensures.stays.layout
+      (c.in-Err-delete.ensures.accounts o k.0 (c.in-Ok-Some.ensures.accounts o k.0 k.1.0)));
   sees = (λ seen. let old = c.args.self.now.core in
       let disk = (view_of c.delete.new.filer).disk in
-      let was = found_file k.1.0 c.args.id _ _ c.in-Ok-Some.field-0-is c.in-Ok-Some.ensures.leader in
-      seen_blameless o (state old) (accepted old.filer) k (view_of c.attributes_of.new.filer).layout disk c.in-Err-delete.halt (λ b h. c.in-Err-delete.ensures.reasons (telling o b) k.0 (c.in-Ok-Some.ensures.keeps_to (telling o b) k.0 h))
-      (misses_file (c.in-Ok-Some.ensures.keeps_to o k.0 k.1.0) disk (file_later o c.in-Err-delete.ensures.stopped.makes) c.args.id (file_after o (returns-in-Err-delete-clause-wrote g c) c.args.id leader_page was) c.in-Err-delete.halt
-      (remove_misses_own c.args.id (view_of c.attributes_of.new.filer) (view_of c.delete.new.filer) c.in-Err-delete.halt c.in-Err-delete.ensures.cause)) (seen.0, seen.1.0));
+      let was = found_file k.1.0 c.args.id _ _ c.in-Ok-Some.field-0-is (λ z0 z1 z2 z3. (c.in-Ok-Some.ensures.named z0 z1 z2 z3).1) in
+      seen_blameless o (state old) (accepted old.filer) k (view_of c.attributes_of.new.filer).layout disk c.in-Err-delete.halt (λ b h. c.in-Err-delete.ensures.accounts (telling o b) k.0 (c.in-Ok-Some.ensures.accounts (telling o b) k.0 h))
+      (misses_file (c.in-Ok-Some.ensures.accounts o k.0 k.1.0) disk (file_later o c.in-Err-delete.ensures.writes.makes) c.args.id (file_after o (returns-in-Err-delete-clause-wrote g c) c.args.id leader_page was) c.in-Err-delete.halt
+      (remove_misses_own c.args.id (view_of c.attributes_of.new.filer) (view_of c.delete.new.filer) c.in-Err-delete.halt c.in-Err-delete.ensures.fails.cause)) (seen.0, seen.1.0));
 }
 
 -- ---- What is seen of the space tables, and which page is reported as missing.
@@ -185,89 +186,101 @@ returns-in-Err-delete-clause-accounts g c = λ o k. record {
 pub returns-in-Ok-clause-stays : goal.returns-in-Ok-clause-stays
 returns-in-Ok-clause-stays g c = record {
   open_still = (search rules);
-  monotone = (same_next c.args.self.now.volume.root c.delete.new.volume.root (ap (λ (v : Volume). v.root) c.delete.ensures.rest_of_volume));
-  serial = (ap (λ (v : Volume). v.root.serial) c.delete.ensures.rest_of_volume);
+  monotone = (same_next c.args.self.now.volume.root c.delete.new.volume.root (ap (λ (v : Volume). v.root) c.delete.ensures.volume.rest_of_volume));
+  serial = (ap (λ (v : Volume). v.root.serial) c.delete.ensures.volume.rest_of_volume);
   layout = (search rules);
 }
 
 pub returns-in-Err-delete-clause-stays : goal.returns-in-Err-delete-clause-stays
 returns-in-Err-delete-clause-stays g c = record {
   open_still = (search rules);
-  monotone = (same_next c.args.self.now.volume.root c.delete.new.volume.root (ap (λ (v : Volume). v.root) c.delete.ensures.rest_of_volume));
-  serial = (ap (λ (v : Volume). v.root.serial) c.delete.ensures.rest_of_volume);
+  monotone = (same_next c.args.self.now.volume.root c.delete.new.volume.root (ap (λ (v : Volume). v.root) c.delete.ensures.volume.rest_of_volume));
+  serial = (ap (λ (v : Volume). v.root.serial) c.delete.ensures.volume.rest_of_volume);
   layout = (search rules);
 }
 
 -- ---- Which files are spared.
 
 pub returns-in-Ok-None-clause-spares : goal.returns-in-Ok-None-clause-spares
-returns-in-Ok-None-clause-spares g c = all_but (spares_quiet c.attributes_of.ensures.makes)
+returns-in-Ok-None-clause-spares g c = all_but (spares_quiet c.attributes_of.ensures.stays.makes)
 
 pub returns-in-Err-clause-spares : goal.returns-in-Err-clause-spares
-returns-in-Err-clause-spares g c = all_but (spares_quiet c.attributes_of.ensures.makes)
+returns-in-Err-clause-spares g c = all_but (spares_quiet c.attributes_of.ensures.stays.makes)
 
 pub returns-then-is_kept-clause-spares : goal.returns-then-is_kept-clause-spares
-returns-then-is_kept-clause-spares g c = all_but (spares_quiet c.attributes_of.ensures.makes)
+returns-then-is_kept-clause-spares g c = all_but (spares_quiet c.attributes_of.ensures.stays.makes)
 
 pub returns-in-Ok-clause-spares : goal.returns-in-Ok-clause-spares
-returns-in-Ok-clause-spares g c = but_then (all_but (spares_quiet c.attributes_of.ensures.makes)) (spares_freed c.args.id c.in-Ok.ensures.makes.1 c.in-Ok.ensures.own)
+returns-in-Ok-clause-spares g c = but_then (all_but (spares_quiet c.attributes_of.ensures.stays.makes)) (spares_freed c.args.id c.in-Ok.ensures.writes.1 c.in-Ok.ensures.labels.own)
 
 pub returns-in-Err-delete-clause-spares : goal.returns-in-Err-delete-clause-spares
-returns-in-Err-delete-clause-spares g c = but_then (all_but (spares_quiet c.attributes_of.ensures.makes)) (spares_some c.args.id c.in-Err-delete.ensures.stopped c.in-Err-delete.ensures.own)
+returns-in-Err-delete-clause-spares g c = but_then (all_but (spares_quiet c.attributes_of.ensures.stays.makes)) (spares_some c.args.id c.in-Err-delete.ensures.writes c.in-Err-delete.ensures.labels.own)
 
 pub returns-in-Ok-None-clause-lasting : goal.returns-in-Ok-None-clause-lasting
-returns-in-Ok-None-clause-lasting g c = λ is. spares_quiet c.attributes_of.ensures.makes
+returns-in-Ok-None-clause-lasting g c = λ is. spares_quiet c.attributes_of.ensures.stays.makes
 
 pub returns-in-Err-clause-lasting : goal.returns-in-Err-clause-lasting
-returns-in-Err-clause-lasting g c = λ is. spares_quiet c.attributes_of.ensures.makes
+returns-in-Err-clause-lasting g c = λ is. spares_quiet c.attributes_of.ensures.stays.makes
 
 pub returns-then-is_kept-clause-lasting : goal.returns-then-is_kept-clause-lasting
-returns-then-is_kept-clause-lasting g c = λ is. spares_quiet c.attributes_of.ensures.makes
+returns-then-is_kept-clause-lasting g c = λ is. spares_quiet c.attributes_of.ensures.stays.makes
 
 pub returns-in-Ok-clause-lasting : goal.returns-in-Ok-clause-lasting
 returns-in-Ok-clause-lasting g c = λ is.
-    all_then (spares_quiet c.attributes_of.ensures.makes) (spares_gone c.args.id (found_temporary (view_of c.attributes_of.new.filer).disk c.args.id c.in-Ok-Some.found.permanent (subst (λ (o : Option Attributes). IfSome o (λ a. HasLeader (view_of c.attributes_of.new.filer).disk c.args.id a.permanent)) c.in-Ok-Some.field-0-is c.in-Ok-Some.ensures.marked) (not_kept c.args.anonymous c.in-Ok-Some.found.permanent is (sym c.is_kept.ensures ∙ c.if-is_kept.false))) c.in-Ok.ensures.makes.1 c.in-Ok.ensures.own)
+    all_then (spares_quiet c.attributes_of.ensures.stays.makes) (spares_gone c.args.id (found_temporary (view_of c.attributes_of.new.filer).disk c.args.id c.in-Ok-Some.found.permanent (subst (λ (o : Option Attributes). IfSome o (λ a. HasLeader (view_of c.attributes_of.new.filer).disk c.args.id a.permanent)) c.in-Ok-Some.field-0-is c.in-Ok-Some.ensures.marked) (not_kept c.args.anonymous c.in-Ok-Some.found.permanent is (sym c.is_kept.ensures ∙ c.if-is_kept.false))) c.in-Ok.ensures.writes.1 c.in-Ok.ensures.labels.own)
 
 pub returns-in-Err-delete-clause-lasting : goal.returns-in-Err-delete-clause-lasting
 returns-in-Err-delete-clause-lasting g c = λ is.
-    all_then (spares_quiet c.attributes_of.ensures.makes) (spares_going c.args.id (found_temporary (view_of c.attributes_of.new.filer).disk c.args.id c.in-Ok-Some.found.permanent (subst (λ (o : Option Attributes). IfSome o (λ a. HasLeader (view_of c.attributes_of.new.filer).disk c.args.id a.permanent)) c.in-Ok-Some.field-0-is c.in-Ok-Some.ensures.marked) (not_kept c.args.anonymous c.in-Ok-Some.found.permanent is (sym c.is_kept.ensures ∙ c.if-is_kept.false))) c.in-Err-delete.ensures.stopped c.in-Err-delete.ensures.own)
+    all_then (spares_quiet c.attributes_of.ensures.stays.makes) (spares_going c.args.id (found_temporary (view_of c.attributes_of.new.filer).disk c.args.id c.in-Ok-Some.found.permanent (subst (λ (o : Option Attributes). IfSome o (λ a. HasLeader (view_of c.attributes_of.new.filer).disk c.args.id a.permanent)) c.in-Ok-Some.field-0-is c.in-Ok-Some.ensures.marked) (not_kept c.args.anonymous c.in-Ok-Some.found.permanent is (sym c.is_kept.ensures ∙ c.if-is_kept.false))) c.in-Err-delete.ensures.writes c.in-Err-delete.ensures.labels.own)
 
 pub returns-then-is_kept-clause-carried : goal.returns-then-is_kept-clause-carried
 returns-then-is_kept-clause-carried g c = λ spaces_of m s unseen temporary.
     let books = session_books spaces_of _ _ _ _ _ m s in
-    let revealed = subst (λ (o : Option Attributes). IsAttributesOf (shapes_of m.files c.args.id) o) c.in-Ok-Some.field-0-is (c.in-Ok-Some.ensures.revealed s.stands.memory (shapes_of m.files) m.spaces books) in
+    let revealed = subst (λ (o : Option Attributes). IsAttributesOf (shapes_of m.files c.args.id) o) c.in-Ok-Some.field-0-is ((c.in-Ok-Some.ensures.revealed 96 s.stands.memory (shapes_of m.files) m.spaces books).0) in
     absurd (kept_hidden m c.args.id c.in-Ok-Some.found c.args.anonymous revealed temporary (sym c.is_kept.ensures ∙ c.if-is_kept.true))
 
 pub returns-then-is_kept-clause-passes : goal.returns-then-is_kept-clause-passes
-returns-then-is_kept-clause-passes g c = λ spaces_of m s unseen temporary. no_step spaces_of _ _ _ _ m (call.Delete c.args.id) s.stands c.attributes_of.ensures.makes (g.met.D.Disk.in_form (disk_of c.args.self.now.core.filer))
+returns-then-is_kept-clause-passes g c = λ spaces_of m s unseen temporary. no_step spaces_of _ _ _ _ m (call.Delete c.args.id) s.stands c.attributes_of.ensures.stays.makes (g.met.D.Disk.in_form (disk_of c.args.self.now.core.filer))
 
 pub returns-then-is_kept-clause-bounded : goal.returns-then-is_kept-clause-bounded
 returns-then-is_kept-clause-bounded g c = λ spaces_of m s. inside_layout (state c.args.self.now.core).layout (state c.args.self.now.core).disk (view_of c.attributes_of.new.filer).disk c.requires.size (inside _ _ _ 29 (omega arith) c.attributes_of.ensures.cost)
 
 pub returns-then-is_kept-clause-own : goal.returns-then-is_kept-clause-own
-returns-then-is_kept-clause-own g c = relabels_own (quiet_own c.args.id c.attributes_of.ensures.makes)
+returns-then-is_kept-clause-own g c = relabels_own (quiet_own c.args.id c.attributes_of.ensures.stays.makes)
 
 pub returns-then-is_kept-clause-accounts : goal.returns-then-is_kept-clause-accounts
 returns-then-is_kept-clause-accounts g c = λ o k. record {
-  keeps_to = ((k.0, (c.in-Ok-Some.ensures.keeps_to o k.0 k.1.0, k.1.1)));
+  keeps_to = ((k.0, (c.in-Ok-Some.ensures.accounts o k.0 k.1.0, k.1.1)));
   reasons = tt;
   sees = (λ seen. let old = c.args.self.now.core in
-      seen_still o (state old) (accepted old.filer) k (view_of c.attributes_of.new.filer) (λ b. c.in-Ok-Some.ensures.keeps_to (telling o b) k.0) (file_later o c.attributes_of.ensures.makes) seen);
+      seen_still o (state old) (accepted old.filer) k (view_of c.attributes_of.new.filer) (λ b. c.in-Ok-Some.ensures.accounts (telling o b) k.0) (file_later o c.attributes_of.ensures.stays.makes) seen);
 }
 
 -- ---- The syncs around leaders.
 
 pub returns-in-Ok-None-clause-around : goal.returns-in-Ok-None-clause-around
-returns-in-Ok-None-clause-around g c = syncs_around (quiet_synced false c.attributes_of.ensures.makes)
+returns-in-Ok-None-clause-around g c = syncs_around (quiet_synced false c.attributes_of.ensures.stays.makes)
 
 pub returns-in-Err-clause-around : goal.returns-in-Err-clause-around
-returns-in-Err-clause-around g c = syncs_around (quiet_synced true c.attributes_of.ensures.makes)
+returns-in-Err-clause-around g c = syncs_around (quiet_synced true c.attributes_of.ensures.stays.makes)
 
 pub returns-then-is_kept-clause-around : goal.returns-then-is_kept-clause-around
-returns-then-is_kept-clause-around g c = syncs_around (quiet_synced false c.attributes_of.ensures.makes)
+returns-then-is_kept-clause-around g c = syncs_around (quiet_synced false c.attributes_of.ensures.stays.makes)
 
 pub returns-in-Ok-clause-around : goal.returns-in-Ok-clause-around
-returns-in-Ok-clause-around g c = around_after (quiet_synced false c.attributes_of.ensures.makes) (wrote_synced c.in-Ok.ensures.makes.1.makes c.in-Ok.ensures.around)
+returns-in-Ok-clause-around g c = around_after (quiet_synced false c.attributes_of.ensures.stays.makes) (wrote_synced c.in-Ok.ensures.writes.1.makes c.in-Ok.ensures.labels.around)
 
 pub returns-in-Err-delete-clause-around : goal.returns-in-Err-delete-clause-around
-returns-in-Err-delete-clause-around g c = around_after (quiet_synced false c.attributes_of.ensures.makes) (wrote_synced c.in-Err-delete.ensures.stopped.makes c.in-Err-delete.ensures.around)
+returns-in-Err-delete-clause-around g c = around_after (quiet_synced false c.attributes_of.ensures.stays.makes) (wrote_synced c.in-Err-delete.ensures.writes.makes c.in-Err-delete.ensures.labels.around)
+
+-- ---- Which windows are seen.
+
+pub returns-in-Ok-None-clause-windows : goal.returns-in-Ok-None-clause-windows
+returns-in-Ok-None-clause-windows g c = λ o k. let old = c.args.self.now.core in same_still o (state old) (accepted old.filer) k (view_of c.attributes_of.new.filer) (λ b. c.in-Ok-None.ensures.accounts (telling o b) k.0)
+
+pub returns-then-is_kept-clause-windows : goal.returns-then-is_kept-clause-windows
+returns-then-is_kept-clause-windows g c = λ o k. let old = c.args.self.now.core in same_still o (state old) (accepted old.filer) k (view_of c.attributes_of.new.filer) (λ b. c.in-Ok-Some.ensures.accounts (telling o b) k.0)
+
+pub returns-in-Ok-clause-windows : goal.returns-in-Ok-clause-windows
+returns-in-Ok-clause-windows g c = λ o k. let old = c.args.self.now.core in
+    same_from o (state old) (accepted old.filer) k (view_of c.delete.new.filer) (λ b h. c.in-Ok.ensures.accounts (telling o b) k.0 (c.in-Ok-Some.ensures.accounts (telling o b) k.0 h))

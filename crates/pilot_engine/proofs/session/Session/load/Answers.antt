@@ -1,8 +1,10 @@
-use Rattle.std.proofs.Common.{arith, length, refl}
+use Rattle.std.proofs.Common.{Err, Ok, arith, length, refl}
+use Rattle.std.specs.Prelude.{Result}
+use Rattle.labelled_disk.specs.declared.evidence.Halt.{Halt}
 use Rattle.filer_kernel.specs.EvidenceLaws.{fits}
-use Rattle.filer_kernel.proofs.Outcomes.{ok_wider}
 use Rattle.flat_machine.specs.declared.call.Call.TheVariants as call
 use Rattle.file_manager.specs.Reasons.{WasBelow}
+use Rattle.fault_core.specs.declared.reference.Access.{Access}
 use Rattle.fault_core.specs.Access.{BreaksFor}
 use Rattle.fault_core.specs.Core.{kept, state}
 use Rattle.fault_core.specs.Lack.{shown_units}
@@ -17,16 +19,16 @@ use Rattle.pilot_engine.proofs.HomeSteps.{still_or_blameless}
 use Rattle.pilot_engine.proofs.LabelLemmas.{pages_alone}
 use Rattle.pilot_engine.proofs.LiftLemmas.{still_open}
 use Rattle.pilot_engine.proofs.ReasonSteps.{moving_keeps, touching_reasons}
-use Rattle.pilot_engine.proofs.ReferLemmas.{fails_of, load_answered, ok_always, ok_is_ok}
+use Rattle.pilot_engine.proofs.ReferLemmas.{fails_of, load_answered, ok_always}
 use Rattle.pilot_engine.proofs.session.Session.load.Goals as goal
 use Rattle.filer_kernel.specs.View.{accepted, disk_of, swapper_of}
 
-pub returns : goal.returns
-returns g c =
+pub returns-in-Ok : goal.returns-in-Ok
+returns-in-Ok g c =
     let old = c.args.self.now.core in
-    let new = c.load-answer.new.self in
-    let result = c.load-answer.result in
-    let did = c.load-answer.ensures in
+    let new = c.load.new.self in
+    let result : Result Access Halt = Ok c.in-Ok.access in
+    let did = c.in-Ok.ensures in
     let address = c.args.address in
     let n = length c.args.into.now in
     let whole = whole_of old c.requires.taken.size in
@@ -36,8 +38,9 @@ returns g c =
     record { reaches = did.reaches; brings = did.came; known = did.same; same_count = did.intervals } in
     record {
       machine = λ m r. record {
-        carried = ok_wider result _ _ (λ a p. record { allowed = p.0; runs = p.1 })
-            (load_answered whole r address n c.load-answer.new.into result did.width came did.access did.bytes);
+        carried =
+            let p = load_answered whole r address n c.load.new.into result did.width came did.access did.bytes in
+            record { allowed = p.0; runs = p.1 };
         sound = did.sound r.session.stands.memory r.session.stands.is.named m.spaces (running_laws.known (state old) (kept old) old.intervals c.args.self.now.volume m whole r);
         passes = still_reveals running_laws whole r (state new) (λ d revealed. g.met.D.Disk.in_form (disk_of old.filer) d revealed) (call.Load address n) makes;
         idle = λ ready.
@@ -56,13 +59,62 @@ returns g c =
         fails = fails_of result (BreaksFor (state old) old.intervals address n) (state old) (state new) (fits (swapper_of old.filer) c.requires.taken.size) did.reaches.goes.makes did.cause;
         missing = did.missing;
         wrote = wrote_so makes;
+        shown = λ ss s. wrote_so makes;
         unlabelled = pages_alone moves.goes.makes;
-        ready = ok_wider result _ _ (λ a there done ss. there done) did.ready;
+        ready = λ done ss. did.ready done;
         few = did.cost;
         stays = record { open_still = still_open _ _ _ _ c.requires.taken.opened did.reaches.layout refl; monotone = omega arith; serial = refl; layout = did.reaches.layout };
         same_volume = refl;
-        goes_on = (ok_is_ok result _ c.is_ok-self.ensures.value).0;
-        halted = (ok_is_ok result _ c.is_ok-self.ensures.value).1;
+        goes_on = c.requires.taken.running;
+        halted = tt;
+      };
+      width = did.width;
+      unmoved = did.refused;
+      intact = did.intact;
+    }
+
+pub returns-in-Err : goal.returns-in-Err
+returns-in-Err g c =
+    let old = c.args.self.now.core in
+    let new = c.load.new.self in
+    let result : Result Access Halt = Err c.in-Err.halt in
+    let did = c.in-Err.ensures in
+    let address = c.args.address in
+    let n = length c.args.into.now in
+    let whole = whole_of old c.requires.taken.size in
+    let moves = moves_of_reaches (state old) (state new) did.reaches in
+    let makes = reached_makes did.reaches in
+    let came : Came (state old) (state new) (kept old) (kept new) old.intervals new.intervals =
+    record { reaches = did.reaches; brings = did.came; known = did.same; same_count = did.intervals } in
+    record {
+      machine = λ m r. record {
+        carried = tt;
+        sound = did.sound r.session.stands.memory r.session.stands.is.named m.spaces (running_laws.known (state old) (kept old) old.intervals c.args.self.now.volume m whole r);
+        passes = still_reveals running_laws whole r (state new) (λ d revealed. g.met.D.Disk.in_form (disk_of old.filer) d revealed) (call.Load address n) makes;
+        idle = λ ready.
+            let two = did.idle ready.0 ready.1 (running_laws.apart (state old) (kept old) old.intervals c.args.self.now.volume m r) in
+            (two.0, rw two.1 refl);
+      };
+      since = λ o k. record {
+        keeps_to = moving_keeps (state old) (state new) result (accepted old.filer) moves o k;
+        reasons = touching_reasons (λ v. BreaksFor v old.intervals address n) (state old) (state new) result (accepted old.filer) moves did.cause o k;
+        sees = λ seen.
+            still_or_blameless o old new moves.goes.makes result (ok_always result (StillOn old new) (λ ss s. (ss, (did.sees ss s, shown_here ss)))) (λ s. did.right s.0 s.1)
+            (shown_units seen.0 address n) (did.missing seen.0 seen.1.0)
+            (units_on (WasBelow o (state old).disk) (have_lower o (state old).disk) seen.0 seen.1.1 address n) seen;
+      };
+      refers = record {
+        fails = fails_of result (BreaksFor (state old) old.intervals address n) (state old) (state new) (fits (swapper_of old.filer) c.requires.taken.size) did.reaches.goes.makes did.cause;
+        missing = did.missing;
+        wrote = wrote_so makes;
+        shown = λ ss s. wrote_so makes;
+        unlabelled = pages_alone moves.goes.makes;
+        ready = tt;
+        few = did.cost;
+        stays = record { open_still = still_open _ _ _ _ c.requires.taken.opened did.reaches.layout refl; monotone = omega arith; serial = refl; layout = did.reaches.layout };
+        same_volume = refl;
+        goes_on = tt;
+        halted = refl;
       };
       width = did.width;
       unmoved = did.refused;

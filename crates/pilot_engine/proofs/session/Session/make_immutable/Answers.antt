@@ -32,6 +32,7 @@ use Rattle.pilot_engine.proofs.SeesLemmas.{then_next}
 use Rattle.pilot_engine.proofs.SparedCalls.{all_but, but_then, spares_quiet}
 use Rattle.label_calls.specs.SyncedLaws.{around_after, quiet_synced, synced_then, syncs_around}
 use Rattle.pilot_engine.proofs.OwnLemmas.{around_of}
+use Rattle.pilot_engine.proofs.WindowLemmas.{still_then}
 use Rattle.pilot_engine.proofs.session.Session.make_immutable.Goals as goal
 use Rattle.filer_kernel.specs.View.{accepted, disk_of}
 
@@ -236,3 +237,18 @@ returns-in-Err-window_on-clause-around g c = around_after (quiet_synced false c.
 
 pub returns-clause-around : goal.returns-clause-around
 returns-clause-around g c = around_of c.mark_immutable.result (synced_then (quiet_synced false c.sight.ensures.makes) (quiet_synced false c.window_on.ensures.looks.makes)) c.mark_immutable.ensures.wrote.makes c.mark_immutable.ensures.around
+
+-- ---- Which windows are seen.
+
+pub returns-in-Ok-Some-clause-windows : goal.returns-in-Ok-Some-clause-windows
+returns-in-Ok-Some-clause-windows g c = λ o k ss s. c.window_on.ensures.looks.still ss (c.in-Ok-By.ensures.windows o k ss s)
+
+pub returns-clause-windows : goal.returns-clause-windows
+returns-clause-windows g c = λ o k.
+    let u = c.sight.new.self.core in
+    let w = c.window_on.new.core in
+    let looked = reached_on o (state u) (state w) (accepted u.filer) c.window_on.ensures.looks.reaches ((c.in-Ok-By.ensures.accounts o k).keeps_to) in
+    still_then c.mark_immutable.result c.args.self.now.core w c.mark_immutable.new.self.core (λ ss s. c.window_on.ensures.looks.still ss (c.in-Ok-By.ensures.windows o k ss s)) (c.mark_immutable.ensures.windows o looked)
+
+pub returns-in-Ok-Hidden-clause-windows : goal.returns-in-Ok-Hidden-clause-windows
+returns-in-Ok-Hidden-clause-windows g c = λ o k. c.in-Ok-Hidden.ensures.windows o k

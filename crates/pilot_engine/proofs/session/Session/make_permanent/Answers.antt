@@ -20,6 +20,7 @@ use Rattle.pilot_engine.proofs.SeesLemmas.{then_next}
 use Rattle.pilot_engine.proofs.SparedCalls.{all_but, but_then, spares_quiet}
 use Rattle.label_calls.specs.SyncedLaws.{quiet_synced, syncs_around}
 use Rattle.pilot_engine.proofs.OwnLemmas.{around_of}
+use Rattle.pilot_engine.proofs.WindowLemmas.{still_then}
 use Rattle.pilot_engine.proofs.session.Session.make_permanent.Goals as goal
 use Rattle.filer_kernel.specs.View.{disk_of}
 
@@ -142,3 +143,11 @@ returns-in-Err-clause-around g c = syncs_around (quiet_synced true c.sight.ensur
 
 pub returns-in-Ok-By-clause-around : goal.returns-in-Ok-By-clause-around
 returns-in-Ok-By-clause-around g c = around_of c.mark_permanent.result (quiet_synced false c.sight.ensures.makes) c.mark_permanent.ensures.wrote.makes c.mark_permanent.ensures.around
+
+-- ---- Which windows are seen.
+
+pub returns-in-Ok-By-clause-windows : goal.returns-in-Ok-By-clause-windows
+returns-in-Ok-By-clause-windows g c = λ o k. still_then c.mark_permanent.result c.args.self.now.core c.sight.new.self.core c.mark_permanent.new.self.core (c.in-Ok-By.ensures.windows o k) (c.mark_permanent.ensures.windows o ((c.in-Ok-By.ensures.accounts o k).keeps_to))
+
+pub returns-in-Ok-Hidden-clause-windows : goal.returns-in-Ok-Hidden-clause-windows
+returns-in-Ok-Hidden-clause-windows g c = λ o k. c.in-Ok-Hidden.ensures.windows o k

@@ -1,4 +1,4 @@
-use Rattle.std.proofs.Common.{rules, ℕ, ◌≡◌, ◌^◌, ◌<◌, ◌≤◌, Result, Ok, Some, refl, sym, ap, subst, ◌∙◌, arith, inl, inr}
+use Rattle.std.proofs.Common.{rules, List, ℕ, ◌≡◌, ◌⊎◌, ◌^◌, ◌<◌, ◌≤◌, Result, Ok, Some, refl, sym, ap, subst, ◌∙◌, arith, inl, inr}
 use Rattle.labelled_disk.specs.declared.layout.Layout.{Layout}
 use Rattle.flat_machine.specs.declared.call.Call.TheVariants as call
 use Rattle.flat_machine.specs.declared.call.Reply.{Reply}
@@ -29,8 +29,8 @@ use Rattle.pilot_engine.specs.Halting.{MapNewHalts}
 use Rattle.space_calls.specs.ReasonLaws.{change_reasons, path_reasons}
 use Rattle.pilot_engine.proofs.ReasonSteps.{given_on, given_reasons, moving_keeps, moving_reasons, reached_on, reasons_since, shows_after, shows_since}
 use Rattle.running_words.specs.BlamelessLaws.{never_blames_form}
-use Rattle.space_calls.specs.FilesLaws.{given_for_files}
-use Rattle.swapper_kernel.specs.Goes.{no_page}
+use Rattle.space_calls.specs.FilesLaws.{given_for_files, shown_or}
+use Rattle.swapper_kernel.specs.Goes.{Pages, no_page}
 use Rattle.file_manager.specs.Reasons.{WasBelow, giving}
 use Rattle.space_calls.proofs.SeesLemmas.{are_seen, free_may, handle_so}
 use Rattle.space_calls.proofs.TableAnswers.{map_revealed}
@@ -39,6 +39,9 @@ use Rattle.pilot_engine.proofs.HomeSteps.{last_within, on_or_blameless}
 use Rattle.pilot_engine.proofs.LackLemmas.{fails_missing_page}
 use Rattle.pilot_engine.proofs.SpaceMisses.{change_misses, path_misses}
 use Rattle.pilot_engine.proofs.SparedCalls.{all_but, but_then, spares_quiet}
+use Rattle.space_calls.specs.Sees.{IsShown}
+use Rattle.pilot_engine.specs.Showing.{mapped_by}
+use Rattle.pilot_engine.proofs.WindowLemmas.{ok_for_each, sees_or}
 use Rattle.pilot_engine.proofs.session.Session.map_anonymous.Goals as goal
 use Rattle.filer_kernel.specs.View.{accepted, disk_of, swapper_of, view_of}
 
@@ -284,3 +287,36 @@ returns-in_default-clause-spares g c = but_then (all_but (spares_quiet (reached_
 
 pub returns-clause-spares : goal.returns-clause-spares
 returns-clause-spares g c = but_then (all_but (spares_quiet (reached_makes c.can_map.ensures.asked.reaches))) (but_then c.create.ensures.spares (all_but (spares_quiet c.give_window.ensures.makes)))
+
+-- ---- Which windows are seen.
+
+pub returns-in-Ok-Err-clause-windows : goal.returns-in-Ok-Err-clause-windows
+returns-in-Ok-Err-clause-windows g c = λ o k n. sees_or (mapped_by (next_id c.args.self.now.volume.root) (call.MapAnonymous c.args.space)) c.args.self.now.core c.can_map.new.core c.can_map.ensures.sees
+
+pub returns-in_default-clause-windows : goal.returns-in_default-clause-windows
+returns-in_default-clause-windows g c = λ o k n.
+    let old = c.args.self.now.core in
+    let u = c.can_map.new.core in
+    let keeps = reached_on o (state old) (state u) (accepted old.filer) c.can_map.ensures.asked.reaches k in
+    sees_or (mapped_by (next_id c.args.self.now.volume.root) (call.MapAnonymous c.args.space)) old c.create.new.self.core (λ ss s. c.in-Ok.ensures.sees o keeps n ss (c.can_map.ensures.sees ss s))
+
+pub returns-clause-windows : goal.returns-clause-windows
+returns-clause-windows g c =
+    let few : c.in-Ok-Ok.run'.1 < 2 ^ 32 = search rules in
+    let small : c.in-File.id < 2 ^ 64 = search rules in
+    let serial = c.requires.opened.valid.serial in
+    let same_id : c.in-File.id ≡ next_id c.args.self.now.volume.root = c.in-Ok.ensures.next c.in-File.id c.in-File.is in
+    λ o k n.
+    let old = c.args.self.now.core in
+    let u = c.can_map.new.core in
+    let keeps = reached_on o (state old) (state u) (accepted old.filer) c.can_map.ensures.asked.reaches k in
+    let more : List Space → Pages = mapped_by (next_id c.args.self.now.volume.root) (call.MapAnonymous c.args.space) in
+    ok_for_each more c.give_window.result old c.give_window.new.core (λ ss sees.
+    let can = map_revealed ss c.args.space c.in-Ok-Ok.field-0 c.in-Ok-Ok.run' c.in-Ok-Ok.field-0-is (c.in-Ok-Ok.ensures.seen ss sees) in
+    let s : Space = can.1.0 in
+    let long : c.in-Ok-Ok.run'.1 ≡ s.pages = ap (λ (run : ℕ × ℕ). run.1) can.1.2 in
+    let made = c.in-Ok.ensures.sees o keeps n ss (c.can_map.ensures.sees ss sees) in
+    let given = c.give_window.ensures.sees ss s made (free_may ss c.args.space (are_seen sees) s can.1.1 can.0) (handle_so ss c.args.space (are_seen sees) s can.1.1)
+    (record { above_reserved = omega (arith, serial, same_id); small = small; pages_fit = omega (arith, few, long) }) in
+    given_for_files c.give_window.new.core c.args.space c.in-File.id 0 c.give_window.result ss given (λ id page. IsShown ss id page ⊎ more ss id page) (shown_or (more ss) ss)
+    (λ last at. inr (ap (λ (i : ℕ). Some i) (sym same_id))))

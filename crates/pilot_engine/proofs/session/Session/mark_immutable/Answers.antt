@@ -25,126 +25,127 @@ use Rattle.pilot_engine.proofs.SparedCalls.{all_but, but_then, spares_quiet}
 use Rattle.pilot_engine.proofs.SparedFiles.{spares_marked}
 use Rattle.label_calls.specs.SyncedLaws.{around_after, quiet_synced, syncs_around}
 use Rattle.pilot_engine.proofs.OwnLemmas.{marked_synced}
+use Rattle.pilot_engine.proofs.SeesLemmas.{same_still}
 use Rattle.pilot_engine.proofs.session.Session.mark_immutable.Goals as goal
 
 pub returns-in-Ok-None-clause-carried : goal.returns-in-Ok-None-clause-carried
 returns-in-Ok-None-clause-carried g c = λ spaces_of m s named unwritten.
     let books = session_books spaces_of _ _ _ _ _ m s in
-    let revealed = subst (λ (o : Option Attributes). IsAttributesOf (shapes_of m.files c.args.id) o) c.in-Ok-None.field-0-is (c.in-Ok-None.ensures.revealed s.stands.memory (shapes_of m.files) m.spaces books) in
-    missing_after spaces_of _ _ _ _ _ _ _ _ _ m s c.attributes_of.ensures.makes c.attributes_of.ensures.brings (c.attributes_of.ensures.same s.stands.memory (shapes_of m.files) m.spaces books) c.attributes_of.ensures.layout
+    let revealed = subst (λ (o : Option Attributes). IsAttributesOf (shapes_of m.files c.args.id) o) c.in-Ok-None.field-0-is ((c.in-Ok-None.ensures.revealed 96 s.stands.memory (shapes_of m.files) m.spaces books).0) in
+    missing_after spaces_of _ _ _ _ _ _ _ _ _ m s c.attributes_of.ensures.stays.makes c.attributes_of.ensures.stays.brings ((c.attributes_of.ensures.revealed 96 s.stands.memory (shapes_of m.files) m.spaces books).1) c.attributes_of.ensures.stays.layout
     c.args.id revealed (call.MakeImmutable c.args.id) (λ none. immutable_gone m c.args.id (no_file_missing m c.args.id none))
 
 pub returns-in-Ok-None-clause-passes : goal.returns-in-Ok-None-clause-passes
-returns-in-Ok-None-clause-passes g c = λ spaces_of m s named unwritten. no_step spaces_of _ _ _ _ m (call.MakeImmutable c.args.id) s.stands c.attributes_of.ensures.makes (g.met.D.Disk.in_form (disk_of c.args.self.now.core.filer))
+returns-in-Ok-None-clause-passes g c = λ spaces_of m s named unwritten. no_step spaces_of _ _ _ _ m (call.MakeImmutable c.args.id) s.stands c.attributes_of.ensures.stays.makes (g.met.D.Disk.in_form (disk_of c.args.self.now.core.filer))
 
 pub returns-in-Err-clause-sound : goal.returns-in-Err-clause-sound
-returns-in-Err-clause-sound g c = λ spaces_of m s. c.in-Err.ensures.revealed s.stands.memory (shapes_of m.files) m.spaces (session_books spaces_of _ _ _ _ _ m s)
+returns-in-Err-clause-sound g c = λ spaces_of m s. (c.in-Err.ensures.revealed 96 s.stands.memory (shapes_of m.files) m.spaces (session_books spaces_of _ _ _ _ _ m s)).0
 
 pub returns-in-Err-clause-passes : goal.returns-in-Err-clause-passes
-returns-in-Err-clause-passes g c = λ spaces_of m s named unwritten. no_step spaces_of _ _ _ _ m (call.MakeImmutable c.args.id) s.stands c.attributes_of.ensures.makes (g.met.D.Disk.in_form (disk_of c.args.self.now.core.filer))
+returns-in-Err-clause-passes g c = λ spaces_of m s named unwritten. no_step spaces_of _ _ _ _ m (call.MakeImmutable c.args.id) s.stands c.attributes_of.ensures.stays.makes (g.met.D.Disk.in_form (disk_of c.args.self.now.core.filer))
 
 pub returns-in-Ok-clause-carried : goal.returns-in-Ok-clause-carried
 returns-in-Ok-clause-carried g c = λ spaces_of m s named unwritten.
     let books = session_books spaces_of _ _ _ _ _ m s in
-    let revealed = subst (λ (o : Option Attributes). IsAttributesOf (shapes_of m.files c.args.id) o) c.in-Ok-Some.field-0-is (c.in-Ok-Some.ensures.revealed s.stands.memory (shapes_of m.files) m.spaces books) in
-    let mid = c.attributes_of.ensures.same s.stands.memory (shapes_of m.files) m.spaces books in
-    let marked = c.in-Ok.ensures.revealed s.stands.memory (shapes_of m.files) m.spaces _ (books_at _ _ _ _ _ _ _ _ mid c.attributes_of.ensures.layout) revealed (leader_hidden spaces_of _ _ m s.stands c.args.id) in
+    let revealed = subst (λ (o : Option Attributes). IsAttributesOf (shapes_of m.files c.args.id) o) c.in-Ok-Some.field-0-is ((c.in-Ok-Some.ensures.revealed 96 s.stands.memory (shapes_of m.files) m.spaces books).0) in
+    let mid = (c.attributes_of.ensures.revealed 96 s.stands.memory (shapes_of m.files) m.spaces books).1 in
+    let marked = c.in-Ok.ensures.revealed 96 s.stands.memory (shapes_of m.files) m.spaces _ (books_at _ _ _ _ _ _ _ _ mid c.attributes_of.ensures.stays.layout) revealed (leader_hidden spaces_of _ _ m s.stands c.args.id) in
     carries_at spaces_of m (call.MakeImmutable c.args.id) _ _ _ _ _ _ _
-    (immutable_done spaces_of _ _ _ _ _ _ _ _ _ m s c.attributes_of.ensures.makes c.attributes_of.ensures.brings mid c.attributes_of.ensures.layout _ _ _ _ refl c.args.id _ revealed (let f = file_revealed m c.args.id _ revealed in immutable_free m c.args.id f.0 f.1 named unwritten) marked) c.make_immutable.ensures.layout
+    (immutable_done spaces_of _ _ _ _ _ _ _ _ _ m s c.attributes_of.ensures.stays.makes c.attributes_of.ensures.stays.brings mid c.attributes_of.ensures.stays.layout _ _ _ _ refl c.args.id _ revealed (let f = file_revealed m c.args.id _ revealed in immutable_free m c.args.id f.0 f.1 named unwritten) marked) c.make_immutable.ensures.stays.layout
 
 pub returns-in-Ok-clause-passes : goal.returns-in-Ok-clause-passes
 returns-in-Ok-clause-passes g c = λ spaces_of m s named unwritten.
     let books = session_books spaces_of _ _ _ _ _ m s in
-    let revealed = subst (λ (o : Option Attributes). IsAttributesOf (shapes_of m.files c.args.id) o) c.in-Ok-Some.field-0-is (c.in-Ok-Some.ensures.revealed s.stands.memory (shapes_of m.files) m.spaces books) in
-    let mid = c.attributes_of.ensures.same s.stands.memory (shapes_of m.files) m.spaces books in
-    let marked = c.in-Ok.ensures.revealed s.stands.memory (shapes_of m.files) m.spaces _ (books_at _ _ _ _ _ _ _ _ mid c.attributes_of.ensures.layout) revealed (leader_hidden spaces_of _ _ m s.stands c.args.id) in
-    immutable_passed spaces_of _ _ _ _ _ _ _ _ c.args.self.now.volume m s c.attributes_of.ensures.makes c.attributes_of.ensures.brings mid c.attributes_of.ensures.layout _ _ _ c.args.self.now.volume refl c.args.id _ revealed (let f = file_revealed m c.args.id _ revealed in immutable_free m c.args.id f.0 f.1 named unwritten)
+    let revealed = subst (λ (o : Option Attributes). IsAttributesOf (shapes_of m.files c.args.id) o) c.in-Ok-Some.field-0-is ((c.in-Ok-Some.ensures.revealed 96 s.stands.memory (shapes_of m.files) m.spaces books).0) in
+    let mid = (c.attributes_of.ensures.revealed 96 s.stands.memory (shapes_of m.files) m.spaces books).1 in
+    let marked = c.in-Ok.ensures.revealed 96 s.stands.memory (shapes_of m.files) m.spaces _ (books_at _ _ _ _ _ _ _ _ mid c.attributes_of.ensures.stays.layout) revealed (leader_hidden spaces_of _ _ m s.stands c.args.id) in
+    immutable_passed spaces_of _ _ _ _ _ _ _ _ c.args.self.now.volume m s c.attributes_of.ensures.stays.makes c.attributes_of.ensures.stays.brings mid c.attributes_of.ensures.stays.layout _ _ _ c.args.self.now.volume refl c.args.id _ revealed (let f = file_revealed m c.args.id _ revealed in immutable_free m c.args.id f.0 f.1 named unwritten)
     (g.met.D.Disk.in_form (disk_of c.args.self.now.core.filer)) marked
 
 pub returns-in-Ok-clause-wrote : goal.returns-in-Ok-clause-wrote
-returns-in-Ok-clause-wrote g c = mark_wrote Immutable c.attributes_of.ensures.makes c.make_immutable.ensures.makes
+returns-in-Ok-clause-wrote g c = mark_wrote Immutable c.attributes_of.ensures.stays.makes c.make_immutable.ensures.makes
 
 pub returns-in-Err-make_immutable-clause-sound : goal.returns-in-Err-make_immutable-clause-sound
 returns-in-Err-make_immutable-clause-sound g c = λ spaces_of m s.
     let books = session_books spaces_of _ _ _ _ _ m s in
-    let revealed = subst (λ (o : Option Attributes). IsAttributesOf (shapes_of m.files c.args.id) o) c.in-Ok-Some.field-0-is (c.in-Ok-Some.ensures.revealed s.stands.memory (shapes_of m.files) m.spaces books) in
-    let mid = c.attributes_of.ensures.same s.stands.memory (shapes_of m.files) m.spaces books in
-    c.in-Err-make_immutable.ensures.sound s.stands.memory (shapes_of m.files) m.spaces _ (books_at _ _ _ _ _ _ _ _ mid c.attributes_of.ensures.layout) revealed
+    let revealed = subst (λ (o : Option Attributes). IsAttributesOf (shapes_of m.files c.args.id) o) c.in-Ok-Some.field-0-is ((c.in-Ok-Some.ensures.revealed 96 s.stands.memory (shapes_of m.files) m.spaces books).0) in
+    let mid = (c.attributes_of.ensures.revealed 96 s.stands.memory (shapes_of m.files) m.spaces books).1 in
+    (c.in-Err-make_immutable.ensures.revealed 96 s.stands.memory (shapes_of m.files) m.spaces _ (books_at _ _ _ _ _ _ _ _ mid c.attributes_of.ensures.stays.layout) revealed).0
 
 pub returns-in-Err-make_immutable-clause-wrote : goal.returns-in-Err-make_immutable-clause-wrote
-returns-in-Err-make_immutable-clause-wrote g c = mark_wrote Immutable c.attributes_of.ensures.makes c.make_immutable.ensures.makes
+returns-in-Err-make_immutable-clause-wrote g c = mark_wrote Immutable c.attributes_of.ensures.stays.makes c.make_immutable.ensures.makes
 
 pub returns-in-Err-make_immutable-clause-passes : goal.returns-in-Err-make_immutable-clause-passes
 returns-in-Err-make_immutable-clause-passes g c = λ spaces_of m s named unwritten.
     let books = session_books spaces_of _ _ _ _ _ m s in
-    let revealed = subst (λ (o : Option Attributes). IsAttributesOf (shapes_of m.files c.args.id) o) c.in-Ok-Some.field-0-is (c.in-Ok-Some.ensures.revealed s.stands.memory (shapes_of m.files) m.spaces books) in
-    let mid = c.attributes_of.ensures.same s.stands.memory (shapes_of m.files) m.spaces books in
-    let broken = c.in-Err-make_immutable.ensures.broken s.stands.memory (shapes_of m.files) m.spaces _ (books_at _ _ _ _ _ _ _ _ mid c.attributes_of.ensures.layout) revealed in
-    immutable_broken spaces_of _ _ _ _ _ _ _ _ c.args.self.now.volume m s c.attributes_of.ensures.makes c.attributes_of.ensures.brings mid c.attributes_of.ensures.layout _ _ c.args.self.now.core.filer.runs c.args.self.now.volume refl c.args.id _ revealed (let f = file_revealed m c.args.id _ revealed in immutable_free m c.args.id f.0 f.1 named unwritten)
+    let revealed = subst (λ (o : Option Attributes). IsAttributesOf (shapes_of m.files c.args.id) o) c.in-Ok-Some.field-0-is ((c.in-Ok-Some.ensures.revealed 96 s.stands.memory (shapes_of m.files) m.spaces books).0) in
+    let mid = (c.attributes_of.ensures.revealed 96 s.stands.memory (shapes_of m.files) m.spaces books).1 in
+    let broken = (c.in-Err-make_immutable.ensures.revealed 96 s.stands.memory (shapes_of m.files) m.spaces _ (books_at _ _ _ _ _ _ _ _ mid c.attributes_of.ensures.stays.layout) revealed).1 in
+    immutable_broken spaces_of _ _ _ _ _ _ _ _ c.args.self.now.volume m s c.attributes_of.ensures.stays.makes c.attributes_of.ensures.stays.brings mid c.attributes_of.ensures.stays.layout _ _ c.args.self.now.core.filer.runs c.args.self.now.volume refl c.args.id _ revealed (let f = file_revealed m c.args.id _ revealed in immutable_free m c.args.id f.0 f.1 named unwritten)
     (g.met.D.Disk.in_form (disk_of c.args.self.now.core.filer)) broken
 
 pub returns-in-Ok-None-clause-own : goal.returns-in-Ok-None-clause-own
-returns-in-Ok-None-clause-own g c = relabels_own (quiet_own c.args.id c.attributes_of.ensures.makes)
+returns-in-Ok-None-clause-own g c = relabels_own (quiet_own c.args.id c.attributes_of.ensures.stays.makes)
 
 pub returns-in-Err-clause-own : goal.returns-in-Err-clause-own
-returns-in-Err-clause-own g c = relabels_own (quiet_own c.args.id c.attributes_of.ensures.makes)
+returns-in-Err-clause-own g c = relabels_own (quiet_own c.args.id c.attributes_of.ensures.stays.makes)
 
 pub returns-in-Ok-clause-own : goal.returns-in-Ok-clause-own
-returns-in-Ok-clause-own g c = own_after (quiet_own c.args.id c.attributes_of.ensures.makes) (marked_own Immutable c.make_immutable.ensures.makes c.make_immutable.ensures.own)
+returns-in-Ok-clause-own g c = own_after (quiet_own c.args.id c.attributes_of.ensures.stays.makes) (marked_own Immutable c.make_immutable.ensures.makes c.make_immutable.ensures.labels.own)
 
 pub returns-in-Err-make_immutable-clause-own : goal.returns-in-Err-make_immutable-clause-own
-returns-in-Err-make_immutable-clause-own g c = own_after (quiet_own c.args.id c.attributes_of.ensures.makes) (marked_own Immutable c.make_immutable.ensures.makes c.make_immutable.ensures.own)
+returns-in-Err-make_immutable-clause-own g c = own_after (quiet_own c.args.id c.attributes_of.ensures.stays.makes) (marked_own Immutable c.make_immutable.ensures.makes c.make_immutable.ensures.labels.own)
 
 -- ---- Why it failed.
 
 pub returns-in-Err-clause-cause : goal.returns-in-Err-clause-cause
-returns-in-Err-clause-cause g c = inl c.in-Err.ensures.cause
+returns-in-Err-clause-cause g c = inl c.in-Err.ensures.fails.cause
 
 pub returns-in-Err-make_immutable-clause-cause : goal.returns-in-Err-make_immutable-clause-cause
-returns-in-Err-make_immutable-clause-cause g c = inr (state (record c.args.self.now.core { filer = c.attributes_of.new.filer }), look_reaches (state c.args.self.now.core) (state (record c.args.self.now.core { filer = c.attributes_of.new.filer })) c.attributes_of.ensures.looks c.attributes_of.ensures.layout, c.in-Err-make_immutable.ensures.cause)
+returns-in-Err-make_immutable-clause-cause g c = inr (state (record c.args.self.now.core { filer = c.attributes_of.new.filer }), look_reaches (state c.args.self.now.core) (state (record c.args.self.now.core { filer = c.attributes_of.new.filer })) c.attributes_of.ensures.stays.looks c.attributes_of.ensures.stays.layout, c.in-Err-make_immutable.ensures.fails.cause)
 
 -- ---- The initial state.
 
 pub returns-in-Ok-None-clause-accounts : goal.returns-in-Ok-None-clause-accounts
 returns-in-Ok-None-clause-accounts g c = λ o k. record {
-  keeps_to = ((k.0, (c.in-Ok-None.ensures.keeps_to o k.0 k.1.0, k.1.1)));
+  keeps_to = ((k.0, (c.in-Ok-None.ensures.accounts o k.0 k.1.0, k.1.1)));
   reasons = tt;
   sees = (λ seen. let old = c.args.self.now.core in
-      seen_still o (state old) (accepted old.filer) k (view_of c.attributes_of.new.filer) (λ b. c.in-Ok-None.ensures.keeps_to (telling o b) k.0) (file_later o c.attributes_of.ensures.makes) seen);
+      seen_still o (state old) (accepted old.filer) k (view_of c.attributes_of.new.filer) (λ b. c.in-Ok-None.ensures.accounts (telling o b) k.0) (file_later o c.attributes_of.ensures.stays.makes) seen);
 }
 
 pub returns-in-Ok-clause-accounts : goal.returns-in-Ok-clause-accounts
 returns-in-Ok-clause-accounts g c = λ o k. record {
-  keeps_to = ((k.0, (c.in-Ok.ensures.keeps_to o k.0 (c.in-Ok-Some.ensures.keeps_to o k.0 k.1.0), k.1.1)));
+  keeps_to = ((k.0, (c.in-Ok.ensures.accounts o k.0 (c.in-Ok-Some.ensures.accounts o k.0 k.1.0), k.1.1)));
   reasons = tt;
   sees = (λ seen. let old = c.args.self.now.core in
-      seen_still o (state old) (accepted old.filer) k (view_of c.make_immutable.new.filer) (λ b h. c.in-Ok.ensures.keeps_to (telling o b) k.0 (c.in-Ok-Some.ensures.keeps_to (telling o b) k.0 h))
+      seen_still o (state old) (accepted old.filer) k (view_of c.make_immutable.new.filer) (λ b h. c.in-Ok.ensures.accounts (telling o b) k.0 (c.in-Ok-Some.ensures.accounts (telling o b) k.0 h))
       (file_after o (returns-in-Ok-clause-wrote g c)) seen);
 }
 
 pub returns-in-Err-clause-accounts : goal.returns-in-Err-clause-accounts
 returns-in-Err-clause-accounts g c = λ o k. record {
   keeps_to = tt;
-  reasons = (c.in-Err.ensures.reasons o k.0 k.1.0);
+  reasons = (c.in-Err.ensures.accounts o k.0 k.1.0);
   sees = (λ seen. let old = c.args.self.now.core in
       let disk = (view_of c.attributes_of.new.filer).disk in
-      seen_blameless o (state old) (accepted old.filer) k (state old).layout disk c.in-Err.halt (λ b. c.in-Err.ensures.reasons (telling o b) k.0)
-      (look_misses (file_pages o disk) c.args.id (state old) (view_of c.attributes_of.new.filer) c.in-Err.halt c.in-Err.ensures.cause) (seen.0, seen.1.0));
+      seen_blameless o (state old) (accepted old.filer) k (state old).layout disk c.in-Err.halt (λ b. c.in-Err.ensures.accounts (telling o b) k.0)
+      (look_misses (file_pages o disk) c.args.id (state old) (view_of c.attributes_of.new.filer) c.in-Err.halt c.in-Err.ensures.fails.cause) (seen.0, seen.1.0));
 }
 
 pub returns-in-Err-make_immutable-clause-accounts : goal.returns-in-Err-make_immutable-clause-accounts
 returns-in-Err-make_immutable-clause-accounts g c = λ o k. record {
   keeps_to = tt;
-  reasons = (shows_since o (view_of c.make_immutable.new.filer).disk c.in-Err-make_immutable.halt c.attributes_of.ensures.layout
-      (c.in-Err-make_immutable.ensures.reasons o k.0 (c.in-Ok-Some.ensures.keeps_to o k.0 k.1.0)));
+  reasons = (shows_since o (view_of c.make_immutable.new.filer).disk c.in-Err-make_immutable.halt c.attributes_of.ensures.stays.layout
+      (c.in-Err-make_immutable.ensures.accounts o k.0 (c.in-Ok-Some.ensures.accounts o k.0 k.1.0)));
   sees = (λ seen. let old = c.args.self.now.core in
       let disk = (view_of c.make_immutable.new.filer).disk in
-      let was = found_file k.1.0 c.args.id _ _ c.in-Ok-Some.field-0-is c.in-Ok-Some.ensures.leader in
-      seen_blameless o (state old) (accepted old.filer) k (view_of c.attributes_of.new.filer).layout disk c.in-Err-make_immutable.halt (λ b h. c.in-Err-make_immutable.ensures.reasons (telling o b) k.0 (c.in-Ok-Some.ensures.keeps_to (telling o b) k.0 h))
-      (misses_file (c.in-Ok-Some.ensures.keeps_to o k.0 k.1.0) disk
+      let was = found_file k.1.0 c.args.id _ _ c.in-Ok-Some.field-0-is (λ z0 z1 z2 z3. (c.in-Ok-Some.ensures.named z0 z1 z2 z3).1) in
+      seen_blameless o (state old) (accepted old.filer) k (view_of c.attributes_of.new.filer).layout disk c.in-Err-make_immutable.halt (λ b h. c.in-Err-make_immutable.ensures.accounts (telling o b) k.0 (c.in-Ok-Some.ensures.accounts (telling o b) k.0 h))
+      (misses_file (c.in-Ok-Some.ensures.accounts o k.0 k.1.0) disk
       (file_after o (mark_wrote Immutable (makes_nothing volume_page (view_of c.attributes_of.new.filer).disk (view_of c.attributes_of.new.filer).slots) c.make_immutable.ensures.makes)) c.args.id
       (file_after o (returns-in-Err-make_immutable-clause-wrote g c) c.args.id leader_page was) c.in-Err-make_immutable.halt
-      (mark_misses_own c.args.id (view_of c.attributes_of.new.filer) (view_of c.make_immutable.new.filer) c.in-Err-make_immutable.halt c.in-Err-make_immutable.ensures.cause)) (seen.0, seen.1.0));
+      (mark_misses_own c.args.id (view_of c.attributes_of.new.filer) (view_of c.make_immutable.new.filer) c.in-Err-make_immutable.halt c.in-Err-make_immutable.ensures.fails.cause)) (seen.0, seen.1.0));
 }
 
 -- ---- What is seen of the space tables, and which page is reported as missing.
@@ -152,27 +153,36 @@ returns-in-Err-make_immutable-clause-accounts g c = λ o k. record {
 -- ---- Which files are spared.
 
 pub returns-in-Ok-None-clause-spares : goal.returns-in-Ok-None-clause-spares
-returns-in-Ok-None-clause-spares g c = all_but (spares_quiet c.attributes_of.ensures.makes)
+returns-in-Ok-None-clause-spares g c = all_but (spares_quiet c.attributes_of.ensures.stays.makes)
 
 pub returns-in-Err-clause-spares : goal.returns-in-Err-clause-spares
-returns-in-Err-clause-spares g c = all_but (spares_quiet c.attributes_of.ensures.makes)
+returns-in-Err-clause-spares g c = all_but (spares_quiet c.attributes_of.ensures.stays.makes)
 
 pub returns-in-Ok-clause-spares : goal.returns-in-Ok-clause-spares
-returns-in-Ok-clause-spares g c = but_then (all_but (spares_quiet c.attributes_of.ensures.makes)) (spares_marked c.args.id Immutable c.make_immutable.ensures.makes c.make_immutable.ensures.own)
+returns-in-Ok-clause-spares g c = but_then (all_but (spares_quiet c.attributes_of.ensures.stays.makes)) (spares_marked c.args.id Immutable c.make_immutable.ensures.makes c.make_immutable.ensures.labels.own)
 
 pub returns-in-Err-make_immutable-clause-spares : goal.returns-in-Err-make_immutable-clause-spares
-returns-in-Err-make_immutable-clause-spares g c = but_then (all_but (spares_quiet c.attributes_of.ensures.makes)) (spares_marked c.args.id Immutable c.make_immutable.ensures.makes c.make_immutable.ensures.own)
+returns-in-Err-make_immutable-clause-spares g c = but_then (all_but (spares_quiet c.attributes_of.ensures.stays.makes)) (spares_marked c.args.id Immutable c.make_immutable.ensures.makes c.make_immutable.ensures.labels.own)
 
 -- ---- The syncs around leaders.
 
 pub returns-in-Ok-None-clause-around : goal.returns-in-Ok-None-clause-around
-returns-in-Ok-None-clause-around g c = syncs_around (quiet_synced false c.attributes_of.ensures.makes)
+returns-in-Ok-None-clause-around g c = syncs_around (quiet_synced false c.attributes_of.ensures.stays.makes)
 
 pub returns-in-Err-clause-around : goal.returns-in-Err-clause-around
-returns-in-Err-clause-around g c = syncs_around (quiet_synced true c.attributes_of.ensures.makes)
+returns-in-Err-clause-around g c = syncs_around (quiet_synced true c.attributes_of.ensures.stays.makes)
 
 pub returns-in-Ok-clause-around : goal.returns-in-Ok-clause-around
-returns-in-Ok-clause-around g c = around_after (quiet_synced false c.attributes_of.ensures.makes) (marked_synced Immutable c.make_immutable.ensures.makes c.in-Ok.ensures.around)
+returns-in-Ok-clause-around g c = around_after (quiet_synced false c.attributes_of.ensures.stays.makes) (marked_synced Immutable c.make_immutable.ensures.makes c.in-Ok.ensures.labels.around)
 
 pub returns-in-Err-make_immutable-clause-around : goal.returns-in-Err-make_immutable-clause-around
-returns-in-Err-make_immutable-clause-around g c = around_after (quiet_synced false c.attributes_of.ensures.makes) (marked_synced Immutable c.make_immutable.ensures.makes c.in-Err-make_immutable.ensures.around)
+returns-in-Err-make_immutable-clause-around g c = around_after (quiet_synced false c.attributes_of.ensures.stays.makes) (marked_synced Immutable c.make_immutable.ensures.makes c.in-Err-make_immutable.ensures.labels.around)
+
+-- ---- Which windows are seen.
+
+pub returns-in-Ok-None-clause-windows : goal.returns-in-Ok-None-clause-windows
+returns-in-Ok-None-clause-windows g c = λ o k. let old = c.args.self.now.core in same_still o (state old) (accepted old.filer) k (view_of c.attributes_of.new.filer) (λ b. c.in-Ok-None.ensures.accounts (telling o b) k.0)
+
+pub returns-in-Ok-clause-windows : goal.returns-in-Ok-clause-windows
+returns-in-Ok-clause-windows g c = λ o k. let old = c.args.self.now.core in
+    same_still o (state old) (accepted old.filer) k (view_of c.make_immutable.new.filer) (λ b h. c.in-Ok.ensures.accounts (telling o b) k.0 (c.in-Ok-Some.ensures.accounts (telling o b) k.0 h))

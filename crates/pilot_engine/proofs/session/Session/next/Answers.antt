@@ -1,7 +1,7 @@
 use Rattle.std.proofs.Common.{rules, ℕ, ◌<◌, ◌^◌, ◌∙◌, Option, ap, refl, subst, arith}
 use Rattle.std.specs.Prelude.{IfSome}
 use Rattle.flat_machine.specs.declared.call.Call.TheVariants as call
-use Rattle.file_manager.proofs.Faults.{counted_then}
+use Rattle.pilot_engine.proofs.CountedHalts.{counted_then}
 use Rattle.swapper_kernel.specs.GoesLaws.{makes_then}
 use Rattle.pilot_engine.specs.declared.order.Passed.{Passed}
 use Rattle.pilot_engine.proofs.BoundLemmas.{turns_bounded}
@@ -20,7 +20,7 @@ use Rattle.filer_kernel.specs.View.{accepted, disk_of}
 use Rattle.pilot_engine.proofs.LabelLemmas.{pages_alone}
 
 pub files-init : goal.files-init
-files-init g c = (up_to_none c.args.id _ _ _ _ _ _ c.requires.size, reaches_itself (state c.args.self.now.core), refl, λ o k seen. seen)
+files-init g c = (up_to_none c.args.id _ _ _ _ _ _ c.requires.size, reaches_itself (state c.args.self.now.core), refl, λ o k seen. seen, λ o k ss s. s)
 
 pub files-smaller : goal.files-smaller
 files-smaller g c =
@@ -34,6 +34,7 @@ files-preserved g c = (
   reaches_then (state c.args.self.now.core) (state c.files.self.core) (accepted c.args.self.now.core.filer) c.files.invariant.1 (state c.next_passed.new.self.core) c.next_passed.ensures.reaches,
   c.next_passed.ensures.intervals ∙ c.files.invariant.2,
   λ o k seen. (c.in-Ok-Some.ensures.accounts o (reached_on o (state c.args.self.now.core) (state c.files.self.core) (accepted c.args.self.now.core.filer) c.files.invariant.1 k)).sees (c.files.invariant.3 o k seen),
+  λ o k ss s. c.in-Ok-Some.ensures.windows o (reached_on o (state c.args.self.now.core) (state c.files.self.core) (accepted c.args.self.now.core.filer) c.files.invariant.1 k) ss (c.files.invariant.4 o k ss s),
 )
 
 pub returns-then-passed-clause-answers : goal.returns-then-passed-clause-answers
@@ -152,3 +153,11 @@ returns-in-Ok-None-clause-unlabelled g c = pages_alone (makes_then c.files.invar
 
 pub returns-in-Err-clause-unlabelled : goal.returns-in-Err-clause-unlabelled
 returns-in-Err-clause-unlabelled g c = pages_alone (makes_then c.files.invariant.0.makes c.next_passed.ensures.makes)
+
+-- ---- Which windows are seen.
+
+pub returns-then-passed-clause-windows : goal.returns-then-passed-clause-windows
+returns-then-passed-clause-windows g c = λ o k ss s. c.in-Ok-Some.ensures.windows o (reached_on o (state c.args.self.now.core) (state c.files.self.core) (accepted c.args.self.now.core.filer) c.files.invariant.1 k) ss (c.files.invariant.4 o k ss s)
+
+pub returns-in-Ok-None-clause-windows : goal.returns-in-Ok-None-clause-windows
+returns-in-Ok-None-clause-windows g c = λ o k ss s. c.in-Ok-None.ensures.windows o (reached_on o (state c.args.self.now.core) (state c.files.self.core) (accepted c.args.self.now.core.filer) c.files.invariant.1 k) ss (c.files.invariant.4 o k ss s)

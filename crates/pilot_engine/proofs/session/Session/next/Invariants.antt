@@ -3,6 +3,7 @@ use Rattle.fault_core.specs.Core.{state}
 use Rattle.running_words.specs.Running.{Runs}
 use Rattle.fault_core.specs.Reach.{Reaches}
 use Rattle.file_manager.specs.Reasons.{KeepsOn, InitialState}
+use Rattle.space_calls.specs.Sees.{StillSees}
 use Rattle.pilot_engine.specs.Reasons.{SeesHome}
 use Rattle.pilot_engine.proofs.NextUpTo.{NextUpTo}
 use Rattle.pilot_engine.proofs.session.Session.next.Given as goal
@@ -14,6 +15,7 @@ invariant-files g l =
     (state l.self.core).disk (state l.self.core).slots (state l.self.core).layout l.self.volume l.self.running
     × Reaches (state l.fn.self.core) (state l.self.core) × (l.self.core.intervals ≡ l.fn.self.core.intervals)
     × ((o : InitialState) → KeepsOn o l.fn.self.core.filer → SeesHome o l.fn.self.core → SeesHome o l.self.core)
+    × ((o : InitialState) → KeepsOn o l.fn.self.core.filer → StillSees l.fn.self.core l.self.core)
 
 abbrev pub decreases-files : goal.decreases-files
 decreases-files g l = 2 ^ 64 - l.cursor

@@ -28,6 +28,7 @@ use Rattle.pilot_engine.proofs.LackLemmas.{look_misses, size_misses_own}
 use Rattle.pilot_engine.proofs.SeesLemmas.{same_next, seen_from, seen_blameless, seen_still}
 use Rattle.pilot_engine.proofs.SparedCalls.{all_but, but_then, spares_itself, spares_quiet}
 use Rattle.pilot_engine.proofs.SparedFiles.{spares_resized, spares_resizing}
+use Rattle.pilot_engine.proofs.SeesLemmas.{same_from, same_still}
 use Rattle.pilot_engine.proofs.session.Session.resize.Goals as goal
 
 pub returns-then-not-may_be_file-clause-carried : goal.returns-then-not-may_be_file-clause-carried
@@ -44,73 +45,73 @@ returns-then-not-may_be_file-clause-wrote g c = wrote_nothing _ _
 pub returns-in-Ok-None-clause-carried : goal.returns-in-Ok-None-clause-carried
 returns-in-Ok-None-clause-carried g c = λ spaces_of m s by.
     let books = session_books spaces_of _ _ _ _ _ m s in
-    let revealed = subst (λ (o : Option Attributes). IsAttributesOf (shapes_of m.files c.args.id) o) c.in-Ok-None.field-0-is (c.in-Ok-None.ensures.revealed s.stands.memory (shapes_of m.files) m.spaces books) in
-    missing_after spaces_of _ _ _ _ _ _ _ _ _ m s c.attributes_of.ensures.makes c.attributes_of.ensures.brings (c.attributes_of.ensures.same s.stands.memory (shapes_of m.files) m.spaces books) c.attributes_of.ensures.layout
+    let revealed = subst (λ (o : Option Attributes). IsAttributesOf (shapes_of m.files c.args.id) o) c.in-Ok-None.field-0-is ((c.in-Ok-None.ensures.revealed 96 s.stands.memory (shapes_of m.files) m.spaces books).0) in
+    missing_after spaces_of _ _ _ _ _ _ _ _ _ m s c.attributes_of.ensures.stays.makes c.attributes_of.ensures.stays.brings ((c.attributes_of.ensures.revealed 96 s.stands.memory (shapes_of m.files) m.spaces books).1) c.attributes_of.ensures.stays.layout
     c.args.id revealed (call.SetSize c.args.id c.args.pages) (λ none. size_gone m c.args.id (no_file_missing m c.args.id none) c.args.pages)
 
 pub returns-in-Ok-None-clause-passes : goal.returns-in-Ok-None-clause-passes
-returns-in-Ok-None-clause-passes g c = λ spaces_of m s by. no_step spaces_of _ _ _ _ m (call.SetSize c.args.id c.args.pages) s.stands c.attributes_of.ensures.makes (g.met.D.Disk.in_form (disk_of c.args.self.now.core.filer))
+returns-in-Ok-None-clause-passes g c = λ spaces_of m s by. no_step spaces_of _ _ _ _ m (call.SetSize c.args.id c.args.pages) s.stands c.attributes_of.ensures.stays.makes (g.met.D.Disk.in_form (disk_of c.args.self.now.core.filer))
 
 pub returns-in-Err-clause-sound : goal.returns-in-Err-clause-sound
-returns-in-Err-clause-sound g c = λ spaces_of m s by. c.in-Err.ensures.revealed s.stands.memory (shapes_of m.files) m.spaces (session_books spaces_of _ _ _ _ _ m s)
+returns-in-Err-clause-sound g c = λ spaces_of m s by. (c.in-Err.ensures.revealed 96 s.stands.memory (shapes_of m.files) m.spaces (session_books spaces_of _ _ _ _ _ m s)).0
 
 pub returns-in-Err-clause-passes : goal.returns-in-Err-clause-passes
-returns-in-Err-clause-passes g c = λ spaces_of m s by. no_step spaces_of _ _ _ _ m (call.SetSize c.args.id c.args.pages) s.stands c.attributes_of.ensures.makes (g.met.D.Disk.in_form (disk_of c.args.self.now.core.filer))
+returns-in-Err-clause-passes g c = λ spaces_of m s by. no_step spaces_of _ _ _ _ m (call.SetSize c.args.id c.args.pages) s.stands c.attributes_of.ensures.stays.makes (g.met.D.Disk.in_form (disk_of c.args.self.now.core.filer))
 
 pub returns-then-found-clause-carried : goal.returns-then-found-clause-carried
 returns-then-found-clause-carried g c = λ spaces_of m s by.
     let books = session_books spaces_of _ _ _ _ _ m s in
-    let revealed = subst (λ (o : Option Attributes). IsAttributesOf (shapes_of m.files c.args.id) o) c.in-Ok-Some.field-0-is (c.in-Ok-Some.ensures.revealed s.stands.memory (shapes_of m.files) m.spaces books) in
-    let mid = c.attributes_of.ensures.same s.stands.memory (shapes_of m.files) m.spaces books in
-    immutable_refused spaces_of _ _ _ _ _ m s _ _ _ _ c.attributes_of.ensures.makes c.attributes_of.ensures.brings mid c.attributes_of.ensures.layout c.args.id c.args.pages c.args.seen by c.in-Ok-Some.found revealed c.if-found.true
+    let revealed = subst (λ (o : Option Attributes). IsAttributesOf (shapes_of m.files c.args.id) o) c.in-Ok-Some.field-0-is ((c.in-Ok-Some.ensures.revealed 96 s.stands.memory (shapes_of m.files) m.spaces books).0) in
+    let mid = (c.attributes_of.ensures.revealed 96 s.stands.memory (shapes_of m.files) m.spaces books).1 in
+    immutable_refused spaces_of _ _ _ _ _ m s _ _ _ _ c.attributes_of.ensures.stays.makes c.attributes_of.ensures.stays.brings mid c.attributes_of.ensures.stays.layout c.args.id c.args.pages c.args.seen by c.in-Ok-Some.found revealed c.if-found.true
 
 pub returns-then-found-clause-passes : goal.returns-then-found-clause-passes
-returns-then-found-clause-passes g c = λ spaces_of m s by. no_step spaces_of _ _ _ _ m (call.SetSize c.args.id c.args.pages) s.stands c.attributes_of.ensures.makes (g.met.D.Disk.in_form (disk_of c.args.self.now.core.filer))
+returns-then-found-clause-passes g c = λ spaces_of m s by. no_step spaces_of _ _ _ _ m (call.SetSize c.args.id c.args.pages) s.stands c.attributes_of.ensures.stays.makes (g.met.D.Disk.in_form (disk_of c.args.self.now.core.filer))
 
 pub returns-then-not-has_room-clause-carried : goal.returns-then-not-has_room-clause-carried
 returns-then-not-has_room-clause-carried g c = λ spaces_of m s by.
     let books = session_books spaces_of _ _ _ _ _ m s in
-    let revealed = subst (λ (o : Option Attributes). IsAttributesOf (shapes_of m.files c.args.id) o) c.in-Ok-Some.field-0-is (c.in-Ok-Some.ensures.revealed s.stands.memory (shapes_of m.files) m.spaces books) in
-    let mid = c.attributes_of.ensures.same s.stands.memory (shapes_of m.files) m.spaces books in
-    full_refused spaces_of _ _ _ _ _ m s _ _ _ _ c.attributes_of.ensures.makes c.attributes_of.ensures.brings mid c.attributes_of.ensures.layout c.args.id c.args.pages c.args.seen by c.in-Ok-Some.found revealed c.if-found.false (accepted c.args.self.now.core.filer) c.requires.opened.same_layout (λ fewer. sym (c.held.ensures.cut fewer) ∙ c.in-None.is) c.has_room.result c.has_room.ensures c.if-not-has_room.true
+    let revealed = subst (λ (o : Option Attributes). IsAttributesOf (shapes_of m.files c.args.id) o) c.in-Ok-Some.field-0-is ((c.in-Ok-Some.ensures.revealed 96 s.stands.memory (shapes_of m.files) m.spaces books).0) in
+    let mid = (c.attributes_of.ensures.revealed 96 s.stands.memory (shapes_of m.files) m.spaces books).1 in
+    full_refused spaces_of _ _ _ _ _ m s _ _ _ _ c.attributes_of.ensures.stays.makes c.attributes_of.ensures.stays.brings mid c.attributes_of.ensures.stays.layout c.args.id c.args.pages c.args.seen by c.in-Ok-Some.found revealed c.if-found.false (accepted c.args.self.now.core.filer) c.requires.opened.same_layout (λ fewer. sym (c.held.ensures.cut fewer) ∙ c.in-None.is) c.has_room.result c.has_room.ensures c.if-not-has_room.true
 
 pub returns-then-not-has_room-clause-passes : goal.returns-then-not-has_room-clause-passes
-returns-then-not-has_room-clause-passes g c = λ spaces_of m s by. no_step spaces_of _ _ _ _ m (call.SetSize c.args.id c.args.pages) s.stands c.attributes_of.ensures.makes (g.met.D.Disk.in_form (disk_of c.args.self.now.core.filer))
+returns-then-not-has_room-clause-passes g c = λ spaces_of m s by. no_step spaces_of _ _ _ _ m (call.SetSize c.args.id c.args.pages) s.stands c.attributes_of.ensures.stays.makes (g.met.D.Disk.in_form (disk_of c.args.self.now.core.filer))
 
 pub returns-in-Ok-clause-carried : goal.returns-in-Ok-clause-carried
 returns-in-Ok-clause-carried g c = λ spaces_of m s by.
     let books = session_books spaces_of _ _ _ _ _ m s in
-    let revealed = subst (λ (o : Option Attributes). IsAttributesOf (shapes_of m.files c.args.id) o) c.in-Ok-Some.field-0-is (c.in-Ok-Some.ensures.revealed s.stands.memory (shapes_of m.files) m.spaces books) in
-    let mid = c.attributes_of.ensures.same s.stands.memory (shapes_of m.files) m.spaces books in
+    let revealed = subst (λ (o : Option Attributes). IsAttributesOf (shapes_of m.files c.args.id) o) c.in-Ok-Some.field-0-is ((c.in-Ok-Some.ensures.revealed 96 s.stands.memory (shapes_of m.files) m.spaces books).0) in
+    let mid = (c.attributes_of.ensures.revealed 96 s.stands.memory (shapes_of m.files) m.spaces books).1 in
     carries_at spaces_of m (call.SetSize c.args.id c.args.pages) _ _ _ _ _ _ _
-    (size_done spaces_of _ _ _ _ _ m s _ _ _ _ c.attributes_of.ensures.makes c.attributes_of.ensures.brings mid c.attributes_of.ensures.layout c.args.id c.args.pages c.args.seen by c.in-Ok-Some.found revealed c.if-found.false (accepted c.args.self.now.core.filer) c.requires.opened.same_layout (λ fewer. sym (c.held.ensures.cut fewer) ∙ c.in-None.is) c.has_room.result c.has_room.ensures c.if-not-has_room.false _ _ _ _ c.set_size.ensures.same_numbers.0 c.in-Ok.ensures.grown c.in-Ok.ensures.used_grown c.in-Ok.ensures.shrunk c.in-Ok.ensures.used_shrunk) c.set_size.ensures.layout
+    (size_done spaces_of _ _ _ _ _ m s _ _ _ _ c.attributes_of.ensures.stays.makes c.attributes_of.ensures.stays.brings mid c.attributes_of.ensures.stays.layout c.args.id c.args.pages c.args.seen by c.in-Ok-Some.found revealed c.if-found.false (accepted c.args.self.now.core.filer) c.requires.opened.same_layout (λ fewer. sym (c.held.ensures.cut fewer) ∙ c.in-None.is) c.has_room.result c.has_room.ensures c.if-not-has_room.false _ _ _ _ c.set_size.ensures.volume.same_numbers.0 (λ x shapes spaces f may few. ((c.in-Ok.ensures.resized x shapes spaces f may.books may.found).grown may few).0) (λ x shapes spaces f may few. ((c.in-Ok.ensures.resized x shapes spaces f may.books may.found).grown may few).1) (λ x shapes spaces f may. ((c.in-Ok.ensures.resized x shapes spaces f may.books may.found).shrunk may).0) (λ x shapes spaces f may. ((c.in-Ok.ensures.resized x shapes spaces f may.books may.found).shrunk may).1)) c.set_size.ensures.stays.layout
 
 pub returns-in-Ok-clause-passes : goal.returns-in-Ok-clause-passes
 returns-in-Ok-clause-passes g c = λ spaces_of m s by.
     let books = session_books spaces_of _ _ _ _ _ m s in
-    let revealed = subst (λ (o : Option Attributes). IsAttributesOf (shapes_of m.files c.args.id) o) c.in-Ok-Some.field-0-is (c.in-Ok-Some.ensures.revealed s.stands.memory (shapes_of m.files) m.spaces books) in
-    let mid = c.attributes_of.ensures.same s.stands.memory (shapes_of m.files) m.spaces books in
-    size_passed spaces_of _ _ _ _ _ m s _ _ _ _ c.attributes_of.ensures.makes c.attributes_of.ensures.brings mid c.attributes_of.ensures.layout c.args.id c.args.pages c.args.seen by c.in-Ok-Some.found revealed c.if-found.false (accepted c.args.self.now.core.filer) c.requires.opened.same_layout (λ fewer. sym (c.held.ensures.cut fewer) ∙ c.in-None.is) c.has_room.result c.has_room.ensures c.if-not-has_room.false _ _ c.set_size.new.filer.runs (g.met.D.Disk.in_form (disk_of c.args.self.now.core.filer)) c.in-Ok.ensures.grown c.in-Ok.ensures.shrunk
+    let revealed = subst (λ (o : Option Attributes). IsAttributesOf (shapes_of m.files c.args.id) o) c.in-Ok-Some.field-0-is ((c.in-Ok-Some.ensures.revealed 96 s.stands.memory (shapes_of m.files) m.spaces books).0) in
+    let mid = (c.attributes_of.ensures.revealed 96 s.stands.memory (shapes_of m.files) m.spaces books).1 in
+    size_passed spaces_of _ _ _ _ _ m s _ _ _ _ c.attributes_of.ensures.stays.makes c.attributes_of.ensures.stays.brings mid c.attributes_of.ensures.stays.layout c.args.id c.args.pages c.args.seen by c.in-Ok-Some.found revealed c.if-found.false (accepted c.args.self.now.core.filer) c.requires.opened.same_layout (λ fewer. sym (c.held.ensures.cut fewer) ∙ c.in-None.is) c.has_room.result c.has_room.ensures c.if-not-has_room.false _ _ c.set_size.new.filer.runs (g.met.D.Disk.in_form (disk_of c.args.self.now.core.filer)) (λ x shapes spaces f may few. ((c.in-Ok.ensures.resized x shapes spaces f may.books may.found).grown may few).0) (λ x shapes spaces f may. ((c.in-Ok.ensures.resized x shapes spaces f may.books may.found).shrunk may).0)
 
 pub returns-in-Ok-clause-wrote : goal.returns-in-Ok-clause-wrote
-returns-in-Ok-clause-wrote g c = resized_wrote c.args.id c.args.pages c.attributes_of.ensures.makes c.in-Ok.ensures.makes
+returns-in-Ok-clause-wrote g c = resized_wrote c.args.id c.args.pages c.attributes_of.ensures.stays.makes c.in-Ok.ensures.writes
 
 pub returns-in-Err-set_size-clause-sound : goal.returns-in-Err-set_size-clause-sound
 returns-in-Err-set_size-clause-sound g c = λ spaces_of m s by.
     let books = session_books spaces_of _ _ _ _ _ m s in
-    let revealed = subst (λ (o : Option Attributes). IsAttributesOf (shapes_of m.files c.args.id) o) c.in-Ok-Some.field-0-is (c.in-Ok-Some.ensures.revealed s.stands.memory (shapes_of m.files) m.spaces books) in
-    let mid = c.attributes_of.ensures.same s.stands.memory (shapes_of m.files) m.spaces books in
-    size_sound spaces_of _ _ _ _ _ m s _ _ _ _ c.attributes_of.ensures.makes c.attributes_of.ensures.brings mid c.attributes_of.ensures.layout c.args.id c.args.pages c.args.seen by c.in-Ok-Some.found revealed c.if-found.false (accepted c.args.self.now.core.filer) c.requires.opened.same_layout (λ fewer. sym (c.held.ensures.cut fewer) ∙ c.in-None.is) c.has_room.result c.has_room.ensures c.if-not-has_room.false _ c.in-Err-set_size.ensures.sound_grown c.in-Err-set_size.ensures.sound_shrunk
+    let revealed = subst (λ (o : Option Attributes). IsAttributesOf (shapes_of m.files c.args.id) o) c.in-Ok-Some.field-0-is ((c.in-Ok-Some.ensures.revealed 96 s.stands.memory (shapes_of m.files) m.spaces books).0) in
+    let mid = (c.attributes_of.ensures.revealed 96 s.stands.memory (shapes_of m.files) m.spaces books).1 in
+    size_sound spaces_of _ _ _ _ _ m s _ _ _ _ c.attributes_of.ensures.stays.makes c.attributes_of.ensures.stays.brings mid c.attributes_of.ensures.stays.layout c.args.id c.args.pages c.args.seen by c.in-Ok-Some.found revealed c.if-found.false (accepted c.args.self.now.core.filer) c.requires.opened.same_layout (λ fewer. sym (c.held.ensures.cut fewer) ∙ c.in-None.is) c.has_room.result c.has_room.ensures c.if-not-has_room.false _ (λ x shapes spaces f may few. ((c.in-Err-set_size.ensures.resized x shapes spaces f may.books may.found).grown may few).0) (λ x shapes spaces f may. ((c.in-Err-set_size.ensures.resized x shapes spaces f may.books may.found).shrunk may).0)
 
 pub returns-in-Err-set_size-clause-passes : goal.returns-in-Err-set_size-clause-passes
 returns-in-Err-set_size-clause-passes g c = λ spaces_of m s by.
     let books = session_books spaces_of _ _ _ _ _ m s in
-    let revealed = subst (λ (o : Option Attributes). IsAttributesOf (shapes_of m.files c.args.id) o) c.in-Ok-Some.field-0-is (c.in-Ok-Some.ensures.revealed s.stands.memory (shapes_of m.files) m.spaces books) in
-    let mid = c.attributes_of.ensures.same s.stands.memory (shapes_of m.files) m.spaces books in
-    size_broken spaces_of _ _ _ _ _ m s _ _ _ _ c.attributes_of.ensures.makes c.attributes_of.ensures.brings mid c.attributes_of.ensures.layout c.args.id c.args.pages c.args.seen by c.in-Ok-Some.found revealed c.if-found.false (accepted c.args.self.now.core.filer) c.requires.opened.same_layout (λ fewer. sym (c.held.ensures.cut fewer) ∙ c.in-None.is) c.has_room.result c.has_room.ensures c.if-not-has_room.false _ _ c.args.self.now.core.filer.runs (g.met.D.Disk.in_form (disk_of c.args.self.now.core.filer)) c.in-Err-set_size.ensures.broken_grown c.in-Err-set_size.ensures.broken_shrunk
+    let revealed = subst (λ (o : Option Attributes). IsAttributesOf (shapes_of m.files c.args.id) o) c.in-Ok-Some.field-0-is ((c.in-Ok-Some.ensures.revealed 96 s.stands.memory (shapes_of m.files) m.spaces books).0) in
+    let mid = (c.attributes_of.ensures.revealed 96 s.stands.memory (shapes_of m.files) m.spaces books).1 in
+    size_broken spaces_of _ _ _ _ _ m s _ _ _ _ c.attributes_of.ensures.stays.makes c.attributes_of.ensures.stays.brings mid c.attributes_of.ensures.stays.layout c.args.id c.args.pages c.args.seen by c.in-Ok-Some.found revealed c.if-found.false (accepted c.args.self.now.core.filer) c.requires.opened.same_layout (λ fewer. sym (c.held.ensures.cut fewer) ∙ c.in-None.is) c.has_room.result c.has_room.ensures c.if-not-has_room.false _ _ c.args.self.now.core.filer.runs (g.met.D.Disk.in_form (disk_of c.args.self.now.core.filer)) (λ x shapes spaces f may few. ((c.in-Err-set_size.ensures.resized x shapes spaces f may.books may.found).grown may few).1) (λ x shapes spaces f may. ((c.in-Err-set_size.ensures.resized x shapes spaces f may.books may.found).shrunk may).1)
 
 pub returns-in-Err-set_size-clause-wrote : goal.returns-in-Err-set_size-clause-wrote
-returns-in-Err-set_size-clause-wrote g c = some_resized_wrote c.args.id c.args.pages c.attributes_of.ensures.makes c.in-Err-set_size.ensures.stopped
+returns-in-Err-set_size-clause-wrote g c = some_resized_wrote c.args.id c.args.pages c.attributes_of.ensures.stays.makes c.in-Err-set_size.ensures.writes
 
 pub returns-then-not-may_be_file-clause-bounded : goal.returns-then-not-may_be_file-clause-bounded
 returns-then-not-may_be_file-clause-bounded g c = λ spaces_of m s. inside_layout (state c.args.self.now.core).layout (state c.args.self.now.core).disk (state c.args.self.now.core).disk c.requires.size (inside _ _ _ 0 (omega arith) (omega arith))
@@ -131,36 +132,36 @@ pub returns-in-Ok-clause-bounded : goal.returns-in-Ok-clause-bounded
 returns-in-Ok-clause-bounded g c = λ spaces_of m s.
     let layout = (state c.args.self.now.core).layout in
     let books = session_books spaces_of _ _ _ _ _ m s in
-    let revealed = subst (λ (o : Option Attributes). IsAttributesOf (shapes_of m.files c.args.id) o) c.in-Ok-Some.field-0-is (c.in-Ok-Some.ensures.revealed s.stands.memory (shapes_of m.files) m.spaces books) in
-    let mid = c.attributes_of.ensures.same s.stands.memory (shapes_of m.files) m.spaces books in
-    let at = books_at _ _ _ _ _ _ _ _ mid c.attributes_of.ensures.layout in
-    let paid = c.set_size.ensures.cost_revealed s.stands.memory (shapes_of m.files) m.spaces _ at revealed in
+    let revealed = subst (λ (o : Option Attributes). IsAttributesOf (shapes_of m.files c.args.id) o) c.in-Ok-Some.field-0-is ((c.in-Ok-Some.ensures.revealed 96 s.stands.memory (shapes_of m.files) m.spaces books).0) in
+    let mid = (c.attributes_of.ensures.revealed 96 s.stands.memory (shapes_of m.files) m.spaces books).1 in
+    let at = books_at _ _ _ _ _ _ _ _ mid c.attributes_of.ensures.stays.layout in
+    let paid = (c.set_size.ensures.resized s.stands.memory (shapes_of m.files) m.spaces _ at revealed).cost in
     let within = within_room layout c.args.self.now.volume c.requires.opened.same_layout c.in-Ok-Some.found.pages c.args.pages c.has_room.result c.has_room.ensures c.if-not-has_room.false in
-    resize_revealed spaces_of (state c.args.self.now.core).disk _ layout _ _ m s c.requires.opened (accepted c.args.self.now.core.filer) (view_of c.attributes_of.new.filer).layout c.attributes_of.ensures.layout
+    resize_revealed spaces_of (state c.args.self.now.core).disk _ layout _ _ m s c.requires.opened (accepted c.args.self.now.core.filer) (view_of c.attributes_of.new.filer).layout c.attributes_of.ensures.stays.layout
     (view_of c.attributes_of.new.filer).disk (view_of c.set_size.new.filer).disk c.args.id _ revealed c.args.pages within c.requires.size c.attributes_of.ensures.cost paid
 
 pub returns-in-Err-set_size-clause-bounded : goal.returns-in-Err-set_size-clause-bounded
 returns-in-Err-set_size-clause-bounded g c = λ spaces_of m s.
     let layout = (state c.args.self.now.core).layout in
     let books = session_books spaces_of _ _ _ _ _ m s in
-    let revealed = subst (λ (o : Option Attributes). IsAttributesOf (shapes_of m.files c.args.id) o) c.in-Ok-Some.field-0-is (c.in-Ok-Some.ensures.revealed s.stands.memory (shapes_of m.files) m.spaces books) in
-    let mid = c.attributes_of.ensures.same s.stands.memory (shapes_of m.files) m.spaces books in
-    let at = books_at _ _ _ _ _ _ _ _ mid c.attributes_of.ensures.layout in
-    let paid = c.set_size.ensures.cost_revealed s.stands.memory (shapes_of m.files) m.spaces _ at revealed in
+    let revealed = subst (λ (o : Option Attributes). IsAttributesOf (shapes_of m.files c.args.id) o) c.in-Ok-Some.field-0-is ((c.in-Ok-Some.ensures.revealed 96 s.stands.memory (shapes_of m.files) m.spaces books).0) in
+    let mid = (c.attributes_of.ensures.revealed 96 s.stands.memory (shapes_of m.files) m.spaces books).1 in
+    let at = books_at _ _ _ _ _ _ _ _ mid c.attributes_of.ensures.stays.layout in
+    let paid = (c.set_size.ensures.resized s.stands.memory (shapes_of m.files) m.spaces _ at revealed).cost in
     let within = within_room layout c.args.self.now.volume c.requires.opened.same_layout c.in-Ok-Some.found.pages c.args.pages c.has_room.result c.has_room.ensures c.if-not-has_room.false in
-    resize_revealed spaces_of (state c.args.self.now.core).disk _ layout _ _ m s c.requires.opened (accepted c.args.self.now.core.filer) (view_of c.attributes_of.new.filer).layout c.attributes_of.ensures.layout
+    resize_revealed spaces_of (state c.args.self.now.core).disk _ layout _ _ m s c.requires.opened (accepted c.args.self.now.core.filer) (view_of c.attributes_of.new.filer).layout c.attributes_of.ensures.stays.layout
     (view_of c.attributes_of.new.filer).disk (view_of c.set_size.new.filer).disk c.args.id _ revealed c.args.pages within c.requires.size c.attributes_of.ensures.cost paid
 
 pub returns-in-Some-clause-carried : goal.returns-in-Some-clause-carried
 returns-in-Some-clause-carried g c = λ spaces_of m s by.
     let books = session_books spaces_of _ _ _ _ _ m s in
-    let revealed = subst (λ (o : Option Attributes). IsAttributesOf (shapes_of m.files c.args.id) o) c.in-Ok-Some.field-0-is (c.in-Ok-Some.ensures.revealed s.stands.memory (shapes_of m.files) m.spaces books) in
-    let mid = c.attributes_of.ensures.same s.stands.memory (shapes_of m.files) m.spaces books in
+    let revealed = subst (λ (o : Option Attributes). IsAttributesOf (shapes_of m.files c.args.id) o) c.in-Ok-Some.field-0-is ((c.in-Ok-Some.ensures.revealed 96 s.stands.memory (shapes_of m.files) m.spaces books).0) in
+    let mid = (c.attributes_of.ensures.revealed 96 s.stands.memory (shapes_of m.files) m.spaces books).1 in
     let cut = cut_held c.in-Ok-Some.found.pages c.args.pages c.held.result c.args.seen _ c.held.ensures.cut c.held.ensures.grown c.in-Some.is in
-    cut_refused spaces_of _ _ _ _ _ m s _ _ _ _ c.attributes_of.ensures.makes c.attributes_of.ensures.brings mid c.attributes_of.ensures.layout c.args.id c.args.pages c.args.seen by c.in-Ok-Some.found revealed c.if-found.false cut.0 _ cut.1
+    cut_refused spaces_of _ _ _ _ _ m s _ _ _ _ c.attributes_of.ensures.stays.makes c.attributes_of.ensures.stays.brings mid c.attributes_of.ensures.stays.layout c.args.id c.args.pages c.args.seen by c.in-Ok-Some.found revealed c.if-found.false cut.0 _ cut.1
 
 pub returns-in-Some-clause-passes : goal.returns-in-Some-clause-passes
-returns-in-Some-clause-passes g c = λ spaces_of m s by. no_step spaces_of _ _ _ _ m (call.SetSize c.args.id c.args.pages) s.stands c.attributes_of.ensures.makes (g.met.D.Disk.in_form (disk_of c.args.self.now.core.filer))
+returns-in-Some-clause-passes g c = λ spaces_of m s by. no_step spaces_of _ _ _ _ m (call.SetSize c.args.id c.args.pages) s.stands c.attributes_of.ensures.stays.makes (g.met.D.Disk.in_form (disk_of c.args.self.now.core.filer))
 
 pub returns-in-Some-clause-bounded : goal.returns-in-Some-clause-bounded
 returns-in-Some-clause-bounded g c = λ spaces_of m s. inside_layout (state c.args.self.now.core).layout (state c.args.self.now.core).disk (view_of c.attributes_of.new.filer).disk c.requires.size (inside _ _ _ 29 (omega arith) c.attributes_of.ensures.cost)
@@ -169,100 +170,100 @@ pub returns-then-not-may_be_file-clause-own : goal.returns-then-not-may_be_file-
 returns-then-not-may_be_file-clause-own g c = relabels_own (same_own c.args.id (record { contents = refl; writes = refl }))
 
 pub returns-in-Ok-None-clause-own : goal.returns-in-Ok-None-clause-own
-returns-in-Ok-None-clause-own g c = relabels_own (quiet_own c.args.id c.attributes_of.ensures.makes)
+returns-in-Ok-None-clause-own g c = relabels_own (quiet_own c.args.id c.attributes_of.ensures.stays.makes)
 
 pub returns-in-Err-clause-own : goal.returns-in-Err-clause-own
-returns-in-Err-clause-own g c = relabels_own (quiet_own c.args.id c.attributes_of.ensures.makes)
+returns-in-Err-clause-own g c = relabels_own (quiet_own c.args.id c.attributes_of.ensures.stays.makes)
 
 pub returns-then-found-clause-own : goal.returns-then-found-clause-own
-returns-then-found-clause-own g c = relabels_own (quiet_own c.args.id c.attributes_of.ensures.makes)
+returns-then-found-clause-own g c = relabels_own (quiet_own c.args.id c.attributes_of.ensures.stays.makes)
 
 pub returns-in-Some-clause-own : goal.returns-in-Some-clause-own
-returns-in-Some-clause-own g c = relabels_own (quiet_own c.args.id c.attributes_of.ensures.makes)
+returns-in-Some-clause-own g c = relabels_own (quiet_own c.args.id c.attributes_of.ensures.stays.makes)
 
 pub returns-then-not-has_room-clause-own : goal.returns-then-not-has_room-clause-own
-returns-then-not-has_room-clause-own g c = relabels_own (quiet_own c.args.id c.attributes_of.ensures.makes)
+returns-then-not-has_room-clause-own g c = relabels_own (quiet_own c.args.id c.attributes_of.ensures.stays.makes)
 
 pub returns-in-Ok-clause-own : goal.returns-in-Ok-clause-own
-returns-in-Ok-clause-own g c = own_after (quiet_own c.args.id c.attributes_of.ensures.makes) (resized_own c.in-Ok.ensures.makes c.in-Ok.ensures.own)
+returns-in-Ok-clause-own g c = own_after (quiet_own c.args.id c.attributes_of.ensures.stays.makes) (resized_own c.in-Ok.ensures.writes c.in-Ok.ensures.own)
 
 pub returns-in-Err-set_size-clause-own : goal.returns-in-Err-set_size-clause-own
-returns-in-Err-set_size-clause-own g c = own_after (quiet_own c.args.id c.attributes_of.ensures.makes) (resizing_own c.args.pages c.in-Err-set_size.ensures.stopped c.in-Err-set_size.ensures.own)
+returns-in-Err-set_size-clause-own g c = own_after (quiet_own c.args.id c.attributes_of.ensures.stays.makes) (resizing_own c.args.pages c.in-Err-set_size.ensures.writes c.in-Err-set_size.ensures.own)
 
 -- ---- Why it failed.
 
 pub returns-in-Err-clause-cause : goal.returns-in-Err-clause-cause
-returns-in-Err-clause-cause g c = inl c.in-Err.ensures.cause
+returns-in-Err-clause-cause g c = inl c.in-Err.ensures.fails.cause
 
 pub returns-in-Err-set_size-clause-cause : goal.returns-in-Err-set_size-clause-cause
-returns-in-Err-set_size-clause-cause g c = inr (state (record c.args.self.now.core { filer = c.attributes_of.new.filer }), look_reaches (state c.args.self.now.core) (state (record c.args.self.now.core { filer = c.attributes_of.new.filer })) c.attributes_of.ensures.looks c.attributes_of.ensures.layout, c.in-Err-set_size.ensures.cause)
+returns-in-Err-set_size-clause-cause g c = inr (state (record c.args.self.now.core { filer = c.attributes_of.new.filer }), look_reaches (state c.args.self.now.core) (state (record c.args.self.now.core { filer = c.attributes_of.new.filer })) c.attributes_of.ensures.stays.looks c.attributes_of.ensures.stays.layout, c.in-Err-set_size.ensures.fails.cause)
 
 -- ---- The initial state.
 
 pub returns-in-Ok-None-clause-accounts : goal.returns-in-Ok-None-clause-accounts
 returns-in-Ok-None-clause-accounts g c = λ o k. record {
-  keeps_to = ((k.0, (c.in-Ok-None.ensures.keeps_to o k.0 k.1.0, k.1.1)));
+  keeps_to = ((k.0, (c.in-Ok-None.ensures.accounts o k.0 k.1.0, k.1.1)));
   reasons = tt;
   sees = (λ seen. let old = c.args.self.now.core in
-      seen_still o (state old) (accepted old.filer) k (view_of c.attributes_of.new.filer) (λ b. c.in-Ok-None.ensures.keeps_to (telling o b) k.0) (file_later o c.attributes_of.ensures.makes) seen);
+      seen_still o (state old) (accepted old.filer) k (view_of c.attributes_of.new.filer) (λ b. c.in-Ok-None.ensures.accounts (telling o b) k.0) (file_later o c.attributes_of.ensures.stays.makes) seen);
 }
 
 pub returns-then-found-clause-accounts : goal.returns-then-found-clause-accounts
 returns-then-found-clause-accounts g c = λ o k. record {
-  keeps_to = ((k.0, (c.in-Ok-Some.ensures.keeps_to o k.0 k.1.0, k.1.1)));
+  keeps_to = ((k.0, (c.in-Ok-Some.ensures.accounts o k.0 k.1.0, k.1.1)));
   reasons = tt;
   sees = (λ seen. let old = c.args.self.now.core in
-      seen_still o (state old) (accepted old.filer) k (view_of c.attributes_of.new.filer) (λ b. c.in-Ok-Some.ensures.keeps_to (telling o b) k.0) (file_later o c.attributes_of.ensures.makes) seen);
+      seen_still o (state old) (accepted old.filer) k (view_of c.attributes_of.new.filer) (λ b. c.in-Ok-Some.ensures.accounts (telling o b) k.0) (file_later o c.attributes_of.ensures.stays.makes) seen);
 }
 
 pub returns-in-Some-clause-accounts : goal.returns-in-Some-clause-accounts
 returns-in-Some-clause-accounts g c = λ o k. record {
-  keeps_to = ((k.0, (c.in-Ok-Some.ensures.keeps_to o k.0 k.1.0, k.1.1)));
+  keeps_to = ((k.0, (c.in-Ok-Some.ensures.accounts o k.0 k.1.0, k.1.1)));
   reasons = tt;
   sees = (λ seen. let old = c.args.self.now.core in
-      seen_still o (state old) (accepted old.filer) k (view_of c.attributes_of.new.filer) (λ b. c.in-Ok-Some.ensures.keeps_to (telling o b) k.0) (file_later o c.attributes_of.ensures.makes) seen);
+      seen_still o (state old) (accepted old.filer) k (view_of c.attributes_of.new.filer) (λ b. c.in-Ok-Some.ensures.accounts (telling o b) k.0) (file_later o c.attributes_of.ensures.stays.makes) seen);
 }
 
 pub returns-then-not-has_room-clause-accounts : goal.returns-then-not-has_room-clause-accounts
 returns-then-not-has_room-clause-accounts g c = λ o k. record {
-  keeps_to = ((k.0, (c.in-Ok-Some.ensures.keeps_to o k.0 k.1.0, k.1.1)));
+  keeps_to = ((k.0, (c.in-Ok-Some.ensures.accounts o k.0 k.1.0, k.1.1)));
   reasons = tt;
   sees = (λ seen. let old = c.args.self.now.core in
-      seen_still o (state old) (accepted old.filer) k (view_of c.attributes_of.new.filer) (λ b. c.in-Ok-Some.ensures.keeps_to (telling o b) k.0) (file_later o c.attributes_of.ensures.makes) seen);
+      seen_still o (state old) (accepted old.filer) k (view_of c.attributes_of.new.filer) (λ b. c.in-Ok-Some.ensures.accounts (telling o b) k.0) (file_later o c.attributes_of.ensures.stays.makes) seen);
 }
 
 pub returns-in-Ok-clause-accounts : goal.returns-in-Ok-clause-accounts
 returns-in-Ok-clause-accounts g c = λ o k. record {
-  keeps_to = (let from = c.in-Ok.ensures.keeps_to o k.0 (c.in-Ok-Some.ensures.keeps_to o k.0 k.1.0) in (from.0, (from.1, (from.2 k.1.1.0, k.1.1.1))));
+  keeps_to = (let from = c.in-Ok.ensures.accounts o k.0 (c.in-Ok-Some.ensures.accounts o k.0 k.1.0) in (from.0, (from.1, (from.2 k.1.1.0, k.1.1.1))));
   reasons = tt;
   sees = (λ seen. let old = c.args.self.now.core in
-      seen_from o (state old) (accepted old.filer) k (view_of c.set_size.new.filer) (λ b h. c.in-Ok.ensures.keeps_to (telling o b) k.0 (c.in-Ok-Some.ensures.keeps_to (telling o b) k.0 h))
+      seen_from o (state old) (accepted old.filer) k (view_of c.set_size.new.filer) (λ b h. c.in-Ok.ensures.accounts (telling o b) k.0 (c.in-Ok-Some.ensures.accounts (telling o b) k.0 h))
       (file_after o (returns-in-Ok-clause-wrote g c)) seen);
 }
 
 pub returns-in-Err-clause-accounts : goal.returns-in-Err-clause-accounts
 returns-in-Err-clause-accounts g c = λ o k. record {
   keeps_to = tt;
-  reasons = (c.in-Err.ensures.reasons o k.0 k.1.0);
+  reasons = (c.in-Err.ensures.accounts o k.0 k.1.0);
   sees = (λ seen. let old = c.args.self.now.core in
       let disk = (view_of c.attributes_of.new.filer).disk in
-      seen_blameless o (state old) (accepted old.filer) k (state old).layout disk c.in-Err.halt (λ b. c.in-Err.ensures.reasons (telling o b) k.0)
-      (look_misses (file_pages o disk) c.args.id (state old) (view_of c.attributes_of.new.filer) c.in-Err.halt c.in-Err.ensures.cause) (seen.0, seen.1.0));
+      seen_blameless o (state old) (accepted old.filer) k (state old).layout disk c.in-Err.halt (λ b. c.in-Err.ensures.accounts (telling o b) k.0)
+      (look_misses (file_pages o disk) c.args.id (state old) (view_of c.attributes_of.new.filer) c.in-Err.halt c.in-Err.ensures.fails.cause) (seen.0, seen.1.0));
 }
 
 pub returns-in-Err-set_size-clause-accounts : goal.returns-in-Err-set_size-clause-accounts
 returns-in-Err-set_size-clause-accounts g c = λ o k. record {
   keeps_to = tt;
-  reasons = (shows_since o (view_of c.set_size.new.filer).disk c.in-Err-set_size.halt c.attributes_of.ensures.layout
-      (c.in-Err-set_size.ensures.reasons o k.0 (c.in-Ok-Some.ensures.keeps_to o k.0 k.1.0)));
+  reasons = (shows_since o (view_of c.set_size.new.filer).disk c.in-Err-set_size.halt c.attributes_of.ensures.stays.layout
+      (c.in-Err-set_size.ensures.accounts o k.0 (c.in-Ok-Some.ensures.accounts o k.0 k.1.0)));
   sees = (λ seen. let old = c.args.self.now.core in
       let disk = (view_of c.set_size.new.filer).disk in
-      let was = found_file k.1.0 c.args.id _ _ c.in-Ok-Some.field-0-is c.in-Ok-Some.ensures.leader in
-      seen_blameless o (state old) (accepted old.filer) k (view_of c.attributes_of.new.filer).layout disk c.in-Err-set_size.halt (λ b h. c.in-Err-set_size.ensures.reasons (telling o b) k.0 (c.in-Ok-Some.ensures.keeps_to (telling o b) k.0 h))
-      (misses_file (c.in-Ok-Some.ensures.keeps_to o k.0 k.1.0) disk
-      (file_after o (some_resized_wrote c.args.id c.args.pages (makes_nothing volume_page (view_of c.attributes_of.new.filer).disk (view_of c.attributes_of.new.filer).slots) c.in-Err-set_size.ensures.stopped)) c.args.id
+      let was = found_file k.1.0 c.args.id _ _ c.in-Ok-Some.field-0-is (λ z0 z1 z2 z3. (c.in-Ok-Some.ensures.named z0 z1 z2 z3).1) in
+      seen_blameless o (state old) (accepted old.filer) k (view_of c.attributes_of.new.filer).layout disk c.in-Err-set_size.halt (λ b h. c.in-Err-set_size.ensures.accounts (telling o b) k.0 (c.in-Ok-Some.ensures.accounts (telling o b) k.0 h))
+      (misses_file (c.in-Ok-Some.ensures.accounts o k.0 k.1.0) disk
+      (file_after o (some_resized_wrote c.args.id c.args.pages (makes_nothing volume_page (view_of c.attributes_of.new.filer).disk (view_of c.attributes_of.new.filer).slots) c.in-Err-set_size.ensures.writes)) c.args.id
       (file_after o (returns-in-Err-set_size-clause-wrote g c) c.args.id leader_page was) c.in-Err-set_size.halt
-      (size_misses_own c.args.id c.args.pages (view_of c.attributes_of.new.filer) (view_of c.set_size.new.filer) c.in-Err-set_size.halt c.in-Err-set_size.ensures.cause)) (seen.0, seen.1.0));
+      (size_misses_own c.args.id c.args.pages (view_of c.attributes_of.new.filer) (view_of c.set_size.new.filer) c.in-Err-set_size.halt c.in-Err-set_size.ensures.fails.cause)) (seen.0, seen.1.0));
 }
 
 -- ---- What is seen of the space tables, and which page is reported as missing.
@@ -272,16 +273,16 @@ returns-in-Err-set_size-clause-accounts g c = λ o k. record {
 pub returns-in-Ok-clause-stays : goal.returns-in-Ok-clause-stays
 returns-in-Ok-clause-stays g c = record {
   open_still = (search rules);
-  monotone = (same_next c.args.self.now.volume.root c.set_size.new.volume.root c.set_size.ensures.same_numbers.0);
-  serial = (ap (λ (r : Root). r.serial) c.set_size.ensures.same_numbers.0);
+  monotone = (same_next c.args.self.now.volume.root c.set_size.new.volume.root c.set_size.ensures.volume.same_numbers.0);
+  serial = (ap (λ (r : Root). r.serial) c.set_size.ensures.volume.same_numbers.0);
   layout = (search rules);
 }
 
 pub returns-in-Err-set_size-clause-stays : goal.returns-in-Err-set_size-clause-stays
 returns-in-Err-set_size-clause-stays g c = record {
   open_still = (search rules);
-  monotone = (same_next c.args.self.now.volume.root c.set_size.new.volume.root c.set_size.ensures.same_numbers.0);
-  serial = (ap (λ (r : Root). r.serial) c.set_size.ensures.same_numbers.0);
+  monotone = (same_next c.args.self.now.volume.root c.set_size.new.volume.root c.set_size.ensures.volume.same_numbers.0);
+  serial = (ap (λ (r : Root). r.serial) c.set_size.ensures.volume.same_numbers.0);
   layout = (search rules);
 }
 
@@ -291,22 +292,43 @@ pub returns-then-not-may_be_file-clause-spares : goal.returns-then-not-may_be_fi
 returns-then-not-may_be_file-clause-spares g c = all_but (spares_itself (state c.args.self.now.core).disk)
 
 pub returns-in-Ok-None-clause-spares : goal.returns-in-Ok-None-clause-spares
-returns-in-Ok-None-clause-spares g c = all_but (spares_quiet c.attributes_of.ensures.makes)
+returns-in-Ok-None-clause-spares g c = all_but (spares_quiet c.attributes_of.ensures.stays.makes)
 
 pub returns-in-Err-clause-spares : goal.returns-in-Err-clause-spares
-returns-in-Err-clause-spares g c = all_but (spares_quiet c.attributes_of.ensures.makes)
+returns-in-Err-clause-spares g c = all_but (spares_quiet c.attributes_of.ensures.stays.makes)
 
 pub returns-then-found-clause-spares : goal.returns-then-found-clause-spares
-returns-then-found-clause-spares g c = all_but (spares_quiet c.attributes_of.ensures.makes)
+returns-then-found-clause-spares g c = all_but (spares_quiet c.attributes_of.ensures.stays.makes)
 
 pub returns-in-Some-clause-spares : goal.returns-in-Some-clause-spares
-returns-in-Some-clause-spares g c = all_but (spares_quiet c.attributes_of.ensures.makes)
+returns-in-Some-clause-spares g c = all_but (spares_quiet c.attributes_of.ensures.stays.makes)
 
 pub returns-then-not-has_room-clause-spares : goal.returns-then-not-has_room-clause-spares
-returns-then-not-has_room-clause-spares g c = all_but (spares_quiet c.attributes_of.ensures.makes)
+returns-then-not-has_room-clause-spares g c = all_but (spares_quiet c.attributes_of.ensures.stays.makes)
 
 pub returns-in-Ok-clause-spares : goal.returns-in-Ok-clause-spares
-returns-in-Ok-clause-spares g c = but_then (all_but (spares_quiet c.attributes_of.ensures.makes)) (spares_resized c.args.id c.args.pages c.in-Ok.ensures.makes c.in-Ok.ensures.own)
+returns-in-Ok-clause-spares g c = but_then (all_but (spares_quiet c.attributes_of.ensures.stays.makes)) (spares_resized c.args.id c.args.pages c.in-Ok.ensures.writes c.in-Ok.ensures.own)
 
 pub returns-in-Err-set_size-clause-spares : goal.returns-in-Err-set_size-clause-spares
-returns-in-Err-set_size-clause-spares g c = but_then (all_but (spares_quiet c.attributes_of.ensures.makes)) (spares_resizing c.args.id c.args.pages c.in-Err-set_size.ensures.stopped c.in-Err-set_size.ensures.own)
+returns-in-Err-set_size-clause-spares g c = but_then (all_but (spares_quiet c.attributes_of.ensures.stays.makes)) (spares_resizing c.args.id c.args.pages c.in-Err-set_size.ensures.writes c.in-Err-set_size.ensures.own)
+
+-- ---- Which windows are seen.
+
+pub returns-in-Ok-None-clause-windows : goal.returns-in-Ok-None-clause-windows
+returns-in-Ok-None-clause-windows g c = λ o k. let old = c.args.self.now.core in same_still o (state old) (accepted old.filer) k (view_of c.attributes_of.new.filer) (λ b. c.in-Ok-None.ensures.accounts (telling o b) k.0)
+
+pub returns-then-found-clause-windows : goal.returns-then-found-clause-windows
+returns-then-found-clause-windows g c = λ o k. let old = c.args.self.now.core in same_still o (state old) (accepted old.filer) k (view_of c.attributes_of.new.filer) (λ b. c.in-Ok-Some.ensures.accounts (telling o b) k.0)
+
+pub returns-in-Some-clause-windows : goal.returns-in-Some-clause-windows
+returns-in-Some-clause-windows g c = λ o k. let old = c.args.self.now.core in same_still o (state old) (accepted old.filer) k (view_of c.attributes_of.new.filer) (λ b. c.in-Ok-Some.ensures.accounts (telling o b) k.0)
+
+pub returns-then-not-has_room-clause-windows : goal.returns-then-not-has_room-clause-windows
+returns-then-not-has_room-clause-windows g c = λ o k. let old = c.args.self.now.core in same_still o (state old) (accepted old.filer) k (view_of c.attributes_of.new.filer) (λ b. c.in-Ok-Some.ensures.accounts (telling o b) k.0)
+
+pub returns-then-not-may_be_file-clause-windows : goal.returns-then-not-may_be_file-clause-windows
+returns-then-not-may_be_file-clause-windows g c = λ o k ss s. s
+
+pub returns-in-Ok-clause-windows : goal.returns-in-Ok-clause-windows
+returns-in-Ok-clause-windows g c = λ o k. let old = c.args.self.now.core in
+    same_from o (state old) (accepted old.filer) k (view_of c.set_size.new.filer) (λ b h. c.in-Ok.ensures.accounts (telling o b) k.0 (c.in-Ok-Some.ensures.accounts (telling o b) k.0 h))

@@ -18,6 +18,7 @@ use Rattle.pilot_engine.proofs.ReasonSteps.{reasons_since}
 use Rattle.file_manager.specs.declared.volume.Volume.{Volume}
 use Rattle.pilot_engine.proofs.SeesLemmas.{then_next}
 use Rattle.pilot_engine.proofs.SparedCalls.{all_but, but_then, spares_quiet}
+use Rattle.pilot_engine.proofs.WindowLemmas.{still_then}
 use Rattle.pilot_engine.proofs.session.Session.set_size.Goals as goal
 use Rattle.filer_kernel.specs.View.{disk_of}
 
@@ -129,3 +130,11 @@ returns-in-Err-clause-spares g c = all_but (spares_quiet c.sight.ensures.makes)
 
 pub returns-in-Ok-By-clause-spares : goal.returns-in-Ok-By-clause-spares
 returns-in-Ok-By-clause-spares g c = but_then (all_but (spares_quiet c.sight.ensures.makes)) c.resize.ensures.spares
+
+-- ---- Which windows are seen.
+
+pub returns-in-Ok-By-clause-windows : goal.returns-in-Ok-By-clause-windows
+returns-in-Ok-By-clause-windows g c = λ o k. still_then c.resize.result c.args.self.now.core c.sight.new.self.core c.resize.new.self.core (c.in-Ok-By.ensures.windows o k) (c.resize.ensures.windows o ((c.in-Ok-By.ensures.accounts o k).keeps_to))
+
+pub returns-in-Ok-Hidden-clause-windows : goal.returns-in-Ok-Hidden-clause-windows
+returns-in-Ok-Hidden-clause-windows g c = λ o k. c.in-Ok-Hidden.ensures.windows o k

@@ -75,3 +75,14 @@ returns-in-Err-clause-accounts g c = λ o k. record {
 }
 
 -- ---- What is seen of the space tables, and which page is reported as missing.
+
+-- ---- Which windows are seen.
+
+pub returns-then-shown-clause-windows : goal.returns-then-shown-clause-windows
+returns-then-shown-clause-windows g c = λ o k. c.window_on.ensures.looks.still
+
+pub returns-else-shown-clause-windows : goal.returns-else-shown-clause-windows
+returns-else-shown-clause-windows g c = λ o k. c.window_on.ensures.looks.still
+
+pub returns-in-Ok-None-clause-windows : goal.returns-in-Ok-None-clause-windows
+returns-in-Ok-None-clause-windows g c = λ o k. c.window_on.ensures.looks.still

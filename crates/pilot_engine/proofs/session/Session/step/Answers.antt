@@ -76,3 +76,17 @@ returns-then-is_err-clause-around g c = c.answer-answer.ensures.around
 
 pub returns-else-is_err-clause-around : goal.returns-else-is_err-clause-around
 returns-else-is_err-clause-around g c = c.answer-answer.ensures.around
+
+-- ---- Which windows are seen.
+
+pub returns-then-is_err-clause-windows : goal.returns-then-is_err-clause-windows
+returns-then-is_err-clause-windows g c = λ o k n. c.answer-answer.ensures.windows o k n
+
+pub returns-then-is_err-clause-shown : goal.returns-then-is_err-clause-shown
+returns-then-is_err-clause-shown g c = λ ss s. c.answer-answer.ensures.shown ss s
+
+pub returns-else-is_err-clause-windows : goal.returns-else-is_err-clause-windows
+returns-else-is_err-clause-windows g c = λ o k n. c.answer-answer.ensures.windows o k n
+
+pub returns-else-is_err-clause-shown : goal.returns-else-is_err-clause-shown
+returns-else-is_err-clause-shown g c = λ ss s. c.answer-answer.ensures.shown ss s

@@ -3,7 +3,7 @@ use Rattle.labelled_disk.specs.declared.layout.Layout.{Layout}
 use Rattle.frame_pool.specs.Frames.{Slots}
 use Rattle.fault_core.specs.Core.{state}
 use Rattle.swapper_kernel.specs.GoesLaws.{swaps_then}
-use Rattle.file_manager.proofs.Faults.{counted_then}
+use Rattle.pilot_engine.proofs.CountedHalts.{counted_then}
 use Rattle.space_calls.proofs.RunLemmas.{reached_makes}
 use Rattle.file_manager.specs.Reasons.{ShowsReason}
 use Rattle.pilot_engine.specs.Closing.{AreWritten}

@@ -29,6 +29,7 @@ use Rattle.pilot_engine.proofs.HomeLemmas.{home_on, home_still, none_blameless}
 use Rattle.pilot_engine.proofs.HomeSteps.{fault_blameless}
 use Rattle.pilot_engine.proofs.SpaceMisses.{fault_misses, take_window_misses, unmap_misses}
 use Rattle.pilot_engine.proofs.SparedCalls.{all_then, spares_quiet}
+use Rattle.pilot_engine.proofs.WindowLemmas.{on_then}
 use Rattle.pilot_engine.proofs.session.Session.unmap.Goals as goal
 use Rattle.filer_kernel.specs.View.{accepted, disk_of, view_of}
 
@@ -310,3 +311,19 @@ returns-in-Ok-sync-clause-spares g c = all_then (all_then (spares_quiet c.take_w
 
 pub returns-in-Err-sync-clause-spares : goal.returns-in-Err-sync-clause-spares
 returns-in-Err-sync-clause-spares g c = all_then (all_then (spares_quiet c.take_window.ensures.makes) (c.delete_unseen.ensures.lasting refl)) (spares_quiet (reached_makes c.sync.ensures.reaches))
+
+-- ---- Which windows are seen.
+
+pub returns-in-Ok-Err-clause-windows : goal.returns-in-Ok-Err-clause-windows
+returns-in-Ok-Err-clause-windows g c = λ o k. c.in-Ok-Err.ensures.sees
+
+pub returns-then-not-shown-clause-windows : goal.returns-then-not-shown-clause-windows
+returns-then-not-shown-clause-windows g c = λ o k. c.in-Ok-Ok.ensures.sees
+
+pub returns-in-Ok-sync-clause-windows : goal.returns-in-Ok-sync-clause-windows
+returns-in-Ok-sync-clause-windows g c = λ o k.
+    let old = c.args.self.now.core in
+    let u = c.take_window.new.core in
+    let w = c.delete_unseen.new.self.core in
+    let taken = reshaped_on o (state old) (state u) (accepted old.filer) c.take_window.ensures.reshapes k in
+    on_then old u c.sync.new.core c.in-Ok-Ok.ensures.sees (λ ss s. c.sync.ensures.still ss (c.in-Ok.ensures.windows o taken ss s))

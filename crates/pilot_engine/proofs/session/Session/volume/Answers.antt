@@ -24,3 +24,8 @@ returns-clause-wrote g c = record { labels = []; makes = (goes_itself Same volum
 
 pub returns-clause-unlabelled : goal.returns-clause-unlabelled
 returns-clause-unlabelled g c = pages_alone (goes_itself Same volume_page (state c.args.self.now.core).disk (state c.args.self.now.core).slots (λ x. refl)).makes
+
+-- ---- Which windows are seen.
+
+pub returns-clause-windows : goal.returns-clause-windows
+returns-clause-windows g c = λ o k ss s. s
