@@ -44,7 +44,7 @@ abbrev pub next_pair : Pair → PairCall → Pair
 next_pair p (Copy id) = option_map_or (λ w. p) (pair_refusal p (Copy id)) (with_copy p id)
 next_pair p (Compare id) = p
 
--- this is the lowest page that one of them lacks, or that has other cells in the other
+-- this is the lowest page that one of them misses, or that has other cells in the other
 pub record IsFirstDifference (f g : File) (page : ℕ) : Type 0 where
   pub differs : slice_get f.pages page ≢ slice_get g.pages page
   pub below : (k : ℕ) → k < page → slice_get f.pages k ≡ slice_get g.pages k

@@ -16,7 +16,7 @@ pub enum PairCall {
 pub enum PairRefusal {
     /// The line is no call.
     Syntax,
-    /// A volume that should have the file lacks it.
+    /// A volume that should have the file misses it.
     File,
     /// The file may change yet.
     Mutable,
@@ -33,7 +33,7 @@ pub enum PairRefusal {
 pub enum PairReply {
     Done,
     Same,
-    /// The lowest page that one of the files lacks, or whose bytes differ.
+    /// The lowest page that one of the files misses, or whose bytes differ.
     Differs(u32),
     Refused(PairRefusal),
 }

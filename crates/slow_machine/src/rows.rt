@@ -92,7 +92,7 @@ impl<A: Allocator + Clone> SlowMachine<A> {
     }
 
     /// The word of the first test of the call that holds.
-    pub(crate) fn refusal(&self, call: &Call) -> Option<Refusal>
+    pub fn refusal(&self, call: &Call) -> Option<Refusal>
         requires { IsInForm call.now }
         ensures { result ≡ refusal self.now call.now }
     {
