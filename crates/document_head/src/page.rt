@@ -11,8 +11,8 @@ const MAGIC: &[u8; 8] = b"PilotDoc";
 // Writes bytes at a place.
 fn put(page: &mut [u8; PAGE_BYTES], place: usize, bytes: &[u8])
     requires { place + length bytes.now ≤ 512 }
-    ensures { (front : List ℕ) → length front ≡ place → page.old ≡ front ++ replicate (512 - place) 0
-        → page.new ≡ (front ++ bytes.now) ++ replicate (512 - (place + length bytes.now)) 0 }
+    ensures { (prefix : List ℕ) → length prefix ≡ place → page.old ≡ prefix ++ replicate (512 - place) 0
+        → page.new ≡ (prefix ++ bytes.now) ++ replicate (512 - (place + length bytes.now)) 0 }
 {
     page[place..place + bytes.len()].copy_from_slice(bytes);
 }

@@ -8,7 +8,7 @@ use Rattle.std.proofs.lemmas.Option.{none-some}
 use Rattle.labelled_disk.specs.declared.disk.Disk.{Ghosts}
 use Rattle.document_head.specs.Head.{head_page, pages_of}
 use Rattle.document_head.specs.declared.head.Head.{Head}
-use Rattle.flat_machine.specs.File.{File, file_at}
+use Rattle.flat_machine.specs.File.{File, file_at, size}
 use Rattle.flat_machine.specs.Machine.{Machine}
 use Rattle.embedded.specs.declared.engine.Engine.{Engine}
 use Rattle.embedded.specs.Engine.{StandsFor}
@@ -88,3 +88,21 @@ module _ {D A : Type 0} {G : Ghosts D} where
         sent = sent.sent;
         still = (sent.still.0, (λ test none. sent.still.1 test (h.still.1 test none)), sent.still.2);
       }
+
+  its_pages : (m : Machine) (id pages kind : ℕ) (found : Option Head) (e : Engine D A G) (f : File) → IsListed m id pages kind found e → file_at m.files id ≡ Some f
+      → pages ≡ size f
+  its_pages m id pages kind found e f h there =
+      let same : h.file ≡ f = cc (h.there, there) in
+      h.same_size ∙ ap (λ (x : File). size x) same
+
+  -- all pages of a file are those that it has
+  pub pages_fit : (m : Machine) (id pages kind count : ℕ) (found : Option Head) (e : Engine D A G) (f : File) → IsListed m id pages kind found e → file_at m.files id ≡ Some f
+      → count ≡ pages → count * 512 ≤ 512 * size f
+  pages_fit m id pages kind count found e f h there is = omega (arith, its_pages m id pages kind found e f h there, is)
+
+  -- and a document's bytes fit into them
+  pub bytes_fit : (m : Machine) (id pages kind : ℕ) (found : Option Head) (head : Head) (e : Engine D A G) (f : File) → IsListed m id pages kind found e → file_at m.files id ≡ Some f
+      → found ≡ Some head → IfSome found (λ x. pages ≡ pages_of x.bytes) → head.bytes ≤ 512 * size f
+  bytes_fit m id pages kind found head e f h there is long =
+      let its_size = subst (λ (o : Option Head). IfSome o (λ x. pages ≡ pages_of x.bytes)) is long in
+      omega (arith, its_pages m id pages kind found e f h there, its_size)

@@ -13,10 +13,10 @@ use Rattle.documents.specs.Laws.{WhatIsPutIsGot}
 use Rattle.documents.specs.Stands.{IsGot}
 
 -- lists of one length that agree at each place
-abbrev Agree : List ℕ → List ℕ → Type 0
+abbrev pub Agree : List ℕ → List ℕ → Type 0
 Agree xs ys = (k b c : ℕ) → slice_get xs k ≡ Some b → slice_get ys k ≡ Some c → b ≡ c
 
-same_lists : (xs ys : List ℕ) → length xs ≡ length ys → Agree xs ys → xs ≡ ys
+pub same_lists : (xs ys : List ℕ) → length xs ≡ length ys → Agree xs ys → xs ≡ ys
 same_lists [] [] long agree = refl
 same_lists [] (y ∷ ys) long agree = absurd (omega (arith, long))
 same_lists (x ∷ xs) [] long agree = absurd (omega (arith, long))
@@ -26,7 +26,7 @@ same_lists (x ∷ xs) (y ∷ ys) long agree =
     λ i. first i ∷ rest i
 
 -- what a file holds is what is read of it
-read_agrees : (f : File) (from : ℕ) (read held : List ℕ) → Reads f from read → Holds f from held → Agree read held
+pub read_agrees : (f : File) (from : ℕ) (read held : List ℕ) → Reads f from read → Holds f from held → Agree read held
 read_agrees f from read held reads holds k b c p q =
     subst (λ (x : Cell). MatchOption x (b < 256) (λ d. b ≡ d)) (holds k c q) (reads k b p)
 
@@ -34,7 +34,7 @@ before_long : (bytes count : ℕ) → length (before_name bytes count) ≡ 17
 unfolding before_name
 before_long bytes count = refl
 
-page_long : (bytes : ℕ) (name : List ℕ) → length (head_page bytes name) ≡ 17 + length name + (512 - (17 + length name))
+pub page_long : (bytes : ℕ) (name : List ℕ) → length (head_page bytes name) ≡ 17 + length name + (512 - (17 + length name))
 page_long bytes name =
     let zeros : List ℕ = replicate (512 - (17 + length name)) 0 in
     omega (

@@ -22,3 +22,11 @@ pub mod TakenLemmas
 pub mod StoppedLemmas
 pub mod BesideLemmas
 pub mod NextLemmas
+pub mod CauseLemmas
+pub mod SpentLemmas
+pub mod LooksLemmas
+pub mod ShownLooks
+pub mod UnseenLemmas
+pub mod WholeLemmas
+pub mod GoneLemmas
+pub mod RefusedLemmas

@@ -34,7 +34,7 @@ unchanged None m = refl
 unchanged (Some word) m = refl
 
 -- the file is there, and these are its attributes
-there : (m : Machine) (id : ℕ) (got : Reply) → refusal m (call.Attributes id) ≡ None → got ≡ option_map_or attributes_of (nameable m id) reply.Nothing
+pub there : (m : Machine) (id : ℕ) (got : Reply) → refusal m (call.Attributes id) ≡ None → got ≡ option_map_or attributes_of (nameable m id) reply.Nothing
     → (f : File) × (file_at m.files id ≡ Some f) × (got ≡ attributes_of f)
 there m id got free is =
     let at = file_there m id (one_none (no_file m id) free) in

@@ -15,7 +15,7 @@ Holds f from bytes = (k b : ℕ) → slice_get bytes k ≡ Some b → cell_in f.
 abbrev pub Reads : File → ℕ → List ℕ → Type 0
 Reads f from bytes = (k b : ℕ) → slice_get bytes k ≡ Some b → MatchOption (cell_in f.pages (from + k)) (b < 256) (λ c. b ≡ c)
 
--- the file is a document of this name: it has these bytes, behind a head that says so, and zeros up to the end of its last page
+-- the file is a document of this name: it has these bytes, after a head that says so, and zeros up to the end of its last page
 pub record IsDocument (name bytes : List ℕ) (f : File) : Type 0 where
   pub kind : f.kind ≡ 17475
   pub permanent : f.permanent ≡ true

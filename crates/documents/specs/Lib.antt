@@ -6,3 +6,6 @@ pub mod Ends
 pub mod Stands
 pub mod Laws
 pub mod Beside
+pub mod Spent
+pub mod Stops
+pub mod Refusals

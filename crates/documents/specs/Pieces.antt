@@ -22,7 +22,7 @@ written from bytes f = record f { pages = put_cells from bytes f.pages }
 abbrev pub grown : ℕ → List Page → List Page
 grown n pages = take n pages ++ replicate (n - length pages) zero_page
 
--- a file of so many pages that was made longer, and then got these bytes behind its old pages
+-- a file of so many pages that was made longer, and then got these bytes after its old pages
 abbrev pub appended : ℕ → ℕ → List ℕ → File → File
 appended all pages bytes f = written (512 * pages) bytes (record f { pages = grown all f.pages })
 

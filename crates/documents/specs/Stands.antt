@@ -112,7 +112,7 @@ pub record IsFresh (m : Machine) (id : ℕ) : Type 0 where
   pub not_anonymous : is_anonymous m.spaces id ≡ false
   pub nothing_unforced : list_any (λ u. u.file == id) m.unforced ≡ false
 
--- another file of the same name, type and marks, whose pages are whole: so many bytes lie behind its first page, and then zeros
+-- another file of the same name, type and marks, whose pages are whole: so many bytes lie after its first page, and then zeros
 pub record IsFilled (f : File) (bytes : List ℕ) (g : File) : Type 0 where
   pub same : g ≡ record f { pages = g.pages }
   pub whole : AllByRecursion (λ page. length page ≡ 512) g.pages
@@ -129,7 +129,7 @@ module _ {D A : Type 0} {G : Ghosts D} where
   abbrev pub IsAsBefore : Machine → Engine D A G → Type 0
   IsAsBefore m e = (counter : ℕ) × (m.counter ≤ counter) × StandsFor e (record m { counter = counter })
 
-  -- so many bytes that the source had left were put behind the first page of a new file
+  -- so many bytes that the source had left were put after the first page of a new file
   pub record HasFilled (m : Machine) (count : ℕ) (old new : Option (List ℕ)) (e : Engine D A G) : Type 0 where
     pub bytes : List ℕ
     pub taken : Consumes old new bytes
@@ -140,7 +140,7 @@ module _ {D A : Type 0} {G : Ghosts D} where
     pub stands : StandsFor e (adding file m)
 
   -- A document was put: it stands for the machine with one file more, which is a document of this name, and has exactly the
-  -- bytes that the source had left, where that tells them.
+  -- bytes that the source had left, where that reveals them.
   pub record IsPut (m : Machine) (id : ℕ) (name : List ℕ) (left : Option (List ℕ)) (e : Engine D A G) : Type 0 where
     pub bytes : List ℕ
     pub all : IfSome left (λ xs. bytes ≡ xs)

@@ -1,12 +1,16 @@
 //! A document is got: its head is read, and then its bytes go to a sink.
-ghost use Rattle.std.specs.Prelude.{◌≡◌, ◌≢◌, ◌⊎◌, ◌≤◌, ◌<◌, ◌+◌, ◌*◌, ◌^◌, length, Err, Some, None, IfOk, IfErr, OnOk, MatchResult};
+ghost use Rattle.std.specs.Prelude.{◌≡◌, ◌≢◌, ◌⊎◌, ◌≤◌, ◌<◌, ◌+◌, ◌*◌, ◌^◌, ℕ, length, Err, Some, None, IfOk, IfErr, OnOk, MatchResult};
+ghost use Rattle.std.specs.Int.{div_ceil};
 ghost use Rattle.trace_io.specs.Stream.{HasCause, Rose};
 ghost use Rattle.embedded.specs.Called.{HasStopped};
-ghost use Rattle.flat_machine.specs.File.{File, file_at};
+ghost use Rattle.flat_machine.specs.File.{File, file_at, size};
 ghost use Rattle.flat_machine.specs.Machine.{Machine};
 ghost use Rattle.embedded.specs.Engine.{IsClosed, StandsFor};
+ghost use Rattle.embedded.specs.Spending.{HasFailed, Spends};
 ghost use Rattle.documents.specs.Course.{Led, is_look};
 ghost use Rattle.documents.specs.Ends.{TookSoMany};
+ghost use Rattle.documents.specs.Spent.{windows};
+ghost use Rattle.documents.specs.Refusals.{IsNoDocument};
 ghost use Rattle.documents.specs.Stands.{HasGot, HasGotPages, HasSent, StillFor, is_failure};
 
 use crate::window::load_pages;
@@ -36,12 +40,15 @@ fn copy_piece<D: Disk + Drop, A: Allocator, S: Sink>(
     ensures later { S.faults sink.old ≤ S.faults sink.new }
     ensures width { length piece.new ≡ length piece.old }
     ensures other { result ≢ Err Fault.NoDocument }
+    ensures long { result ≢ Err Fault.LongName }
     ensures sent { (m : Machine) (f : File) → StandsFor engine.old m → file_at m.files id ≡ Some f → MatchResult result
         (λ done. HasSent m f (512 * page) (length piece.old) (S.took sink.old) (S.took sink.new) engine.new)
         (λ e. (e ≡ Fault.Call is_failure) ⊎ StillFor m engine.new) }
     ensures led { OnOk result (Led is_look engine.old engine.new) }
     ensures output { result ≡ Err Fault.Output → Rose (S.faults sink.old) (S.faults sink.new) }
     ensures stopped { (why : Halt) → result ≡ Err (Fault.Call (Code.Halted why)) → HasStopped why engine.new }
+    ensures cause { result ≡ Err (Fault.Call is_failure) → HasFailed engine.old engine.new }
+    ensures spends { Spends 4 (div_ceil (length piece.old) 512) engine.old engine.new }
 {
     match load_pages(engine, id, page, piece) {
         Ok(()) => {}
@@ -64,6 +71,7 @@ fn copy<D: Disk + Drop, A: Allocator, S: Sink, P: Progress>(
     requires { 512 * part.page + part.bytes < 2 ^ 41 }
     ensures taken { OnOk result (TookSoMany part.bytes (S.took sink.old) (S.took sink.new)) }
     ensures other { result ≢ Err Fault.NoDocument }
+    ensures long { result ≢ Err Fault.LongName }
     ensures sent { (m : Machine) (f : File) → StandsFor engine.old m → file_at m.files part.id ≡ Some f
         → MatchResult result
         (λ done. HasSent m f (512 * part.page) part.bytes (S.took sink.old) (S.took sink.new) engine.new)
@@ -71,6 +79,9 @@ fn copy<D: Disk + Drop, A: Allocator, S: Sink, P: Progress>(
     ensures led { OnOk result (Led is_look engine.old engine.new) }
     ensures output { result ≡ Err Fault.Output → Rose (S.faults sink.old) (S.faults sink.new) }
     ensures stopped { (why : Halt) → result ≡ Err (Fault.Call (Code.Halted why)) → HasStopped why engine.new }
+    ensures cause { result ≡ Err (Fault.Call is_failure) → HasFailed engine.old engine.new }
+    ensures spends { (most : ℕ) → part.bytes ≤ most
+        → Spends (4 * windows (length buffer.old) most) (div_ceil most 512) engine.old engine.new }
 {
     let room = buffer.len() - buffer.len() % 512;
     if room == 0 {
@@ -108,12 +119,17 @@ pub fn get<D: Disk + Drop, A: Allocator, S: Sink, P: Progress>(
         (λ e. (e ≡ Fault.Call is_failure) ⊎ StillFor m engine.new) }
     ensures taken { IfOk result (λ head. TookSoMany head.bytes (S.took sink.old) (S.took sink.new)) }
     ensures nothing { result ≡ Err Fault.NoDocument → sink.new ≡ sink.old }
+    ensures refused { (m : Machine) → StandsFor engine.old m → result ≡ Err Fault.NoDocument → IsNoDocument m id }
+    ensures long { result ≢ Err Fault.LongName }
     ensures absent { (m : Machine) → StandsFor engine.old m → file_at m.files id ≡ None → sink.new ≡ sink.old }
     ensures closed { IsClosed engine.old
         → (result ≡ Err (Fault.Call Code.Closed)) × (engine.new ≡ engine.old) × (sink.new ≡ sink.old) }
     ensures led { OnOk result (Led is_look engine.old engine.new) }
     ensures output { result ≡ Err Fault.Output → Rose (S.faults sink.old) (S.faults sink.new) }
     ensures stopped { (why : Halt) → result ≡ Err (Fault.Call (Code.Halted why)) → HasStopped why engine.new }
+    ensures cause { result ≡ Err (Fault.Call is_failure) → HasFailed engine.old engine.new }
+    ensures spends { (m : Machine) (f : File) → StandsFor engine.old m → file_at m.files id ≡ Some f
+        → Spends (5 + 4 * windows (length buffer.old) (512 * size f)) (1 + size f) engine.old engine.new }
 {
     let head = match describe(engine, id) {
         Ok(
@@ -154,6 +170,9 @@ pub fn get_pages<D: Disk + Drop, A: Allocator, S: Sink, P: Progress>(
     ensures led { OnOk result (Led is_look engine.old engine.new) }
     ensures output { result ≡ Err Fault.Output → Rose (S.faults sink.old) (S.faults sink.new) }
     ensures stopped { (why : Halt) → result ≡ Err (Fault.Call (Code.Halted why)) → HasStopped why engine.new }
+    ensures cause { result ≡ Err (Fault.Call is_failure) → HasFailed engine.old engine.new }
+    ensures spends { (m : Machine) (f : File) → StandsFor engine.old m → file_at m.files id ≡ Some f
+        → Spends (5 + 4 * windows (length buffer.old) (512 * size f)) (1 + size f) engine.old engine.new }
 {
     let pages = match describe(engine, id) {
         Ok(file) => file.pages,

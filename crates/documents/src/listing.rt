@@ -5,7 +5,11 @@ ghost use Rattle.flat_machine.specs.Allows.{next_file};
 ghost use Rattle.flat_machine.specs.Machine.{Machine};
 ghost use Rattle.embedded.specs.Called.{HasStopped};
 ghost use Rattle.embedded.specs.Engine.{IsClosed, StandsFor};
+ghost use Rattle.embedded.specs.Spending.{HasFailed, Spends};
+ghost use Rattle.session_words.specs.StandsFor.{RevealsSettled};
+ghost use Rattle.embedded.specs.Stops.{Leaves};
 ghost use Rattle.documents.specs.Course.{Led, is_look};
+ghost use Rattle.documents.specs.Refusals.{HasNoHead, IsNoDocument};
 ghost use Rattle.documents.specs.Stands.{HasRead, IsListed, StillFor, is_failure};
 
 use crate::window::load_pages;
@@ -31,12 +35,17 @@ fn head_in<D: Disk + Drop, A: Allocator>(
     pages: u32,
 ) -> Result<Option<Head>, Code>
     ensures pages { IfOk result (λ found. IfSome found (λ head. pages ≡ pages_of head.bytes)) }
+    ensures headless { (m : Machine) → StandsFor engine.old m
+        → IfOk result (λ found. found ≡ None → HasNoHead m id pages) }
     ensures read { (m : Machine) → StandsFor engine.old m → MatchResult result
         (λ found. IfSome found (λ head. HasRead m id 0 (head_page head.bytes head.name.bytes) engine.new)
         × StillFor m engine.new)
         (λ e. (e ≡ is_failure) ⊎ StillFor m engine.new) }
+    ensures stops { (m : Machine) → StandsFor engine.old m → Leaves (λ d. RevealsSettled d m) engine.old engine.new }
     ensures led { OnOk result (Led is_look engine.old engine.new) }
     ensures stopped { (why : Halt) → result ≡ Err (Code.Halted why) → HasStopped why engine.new }
+    ensures cause { result ≡ Err is_failure → HasFailed engine.old engine.new }
+    ensures spends { Spends 4 1 engine.old engine.new }
 {
     let mut page = [0; 512];
     match load_pages(engine, id, 0, &mut page) {
@@ -51,13 +60,18 @@ pub fn describe<D: Disk + Drop, A: Allocator>(
     id: FileId,
 ) -> Result<Listed, Code>
     ensures id { IfOk result (λ file. file.id ≡ id) }
+    ensures headless { (m : Machine) → StandsFor engine.old m
+        → IfOk result (λ file. file.head ≡ None → IsNoDocument m id) }
     ensures pages { IfOk result (λ file. IfSome file.head (λ head. file.pages ≡ pages_of head.bytes)) }
     ensures listed { (m : Machine) → StandsFor engine.old m → MatchResult result
         (λ file. IsListed m id file.pages file.kind file.head engine.new)
         (λ e. (e ≡ is_failure) ⊎ StillFor m engine.new) }
+    ensures stops { (m : Machine) → StandsFor engine.old m → Leaves (λ d. RevealsSettled d m) engine.old engine.new }
     ensures led { OnOk result (Led is_look engine.old engine.new) }
     ensures closed { IsClosed engine.old → (result ≡ Err Code.Closed) × (engine.new ≡ engine.old) }
     ensures stopped { (why : Halt) → result ≡ Err (Code.Halted why) → HasStopped why engine.new }
+    ensures cause { result ≡ Err is_failure → HasFailed engine.old engine.new }
+    ensures spends { Spends 5 1 engine.old engine.new }
 {
     let (pages, kind) = match engine.attributes(id) {
         Ok(Reply::Attributes { pages, kind, .. }) => (pages, kind),
@@ -96,6 +110,8 @@ pub fn next_listed<D: Disk + Drop, A: Allocator>(
     ensures led { IfOk result (λ found. OnSome found (Led is_look engine.old engine.new)) }
     ensures closed { IsClosed engine.old → (result ≡ Err Code.Closed) × (engine.new ≡ engine.old) }
     ensures stopped { (why : Halt) → result ≡ Err (Code.Halted why) → HasStopped why engine.new }
+    ensures cause { result ≡ Err is_failure → HasFailed engine.old engine.new }
+    ensures spends { Spends 6 1 engine.old engine.new }
 {
     let id = match engine.next(cursor) {
         Ok(Reply::File(id)) => id,

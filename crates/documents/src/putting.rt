@@ -1,5 +1,5 @@
 //! A document is put: its bytes, then its head, and last the mark that lets it outlast the session.
-ghost use Rattle.std.specs.Prelude.{◌≡◌, ◌⊎◌, ◌≤◌, ◌<◌, ◌+◌, ◌*◌, ◌^◌, ℕ, length, Ok, Err, IfOk, IfErr, OnOk, MatchResult};
+ghost use Rattle.std.specs.Prelude.{◌≡◌, ◌⊎◌, ◌≤◌, ◌<◌, ◌+◌, ◌*◌, ◌^◌, ℕ, List, length, Some, Ok, Err, IfOk, IfErr, OnOk, MatchResult, ◌≢◌, false};
 ghost use Rattle.std.specs.Int.{div_ceil};
 ghost use Rattle.std.specs.Io.KnownBytes.{IsAtEnd};
 ghost use Rattle.trace_io.specs.Stream.{Rose};
@@ -8,11 +8,16 @@ ghost use Rattle.document_head.specs.Head.{head_page};
 ghost use Rattle.flat_machine.specs.File.{File, size};
 ghost use Rattle.flat_machine.specs.Machine.{Machine};
 ghost use Rattle.flat_machine.specs.Next.{new_id};
-ghost use Rattle.embedded.specs.Engine.{IsClosed, StandsFor};
+ghost use Rattle.embedded.specs.Engine.{IsClosed, StandsFor, disk_of};
+ghost use Rattle.embedded.specs.Spending.{HasFailed, IsLater, Spends};
 ghost use Rattle.documents.specs.Course.{Led, is_quiet};
 ghost use Rattle.documents.specs.Pieces.{adding, appended, marked, written};
 ghost use Rattle.documents.specs.Stands.{HasFilled, HasOther, IsAsBefore, IsFresh, IsPut, blank, is_failure};
 ghost use Rattle.documents.specs.Ends.{EndsWith, IsUndone, Marked};
+ghost use Rattle.documents.specs.Spent.{PutsWithin, windows};
+ghost use Rattle.embedded.specs.Stops.{Leaves};
+ghost use Rattle.flat_machine.specs.IsMachine.{IsMachine};
+ghost use Rattle.documents.specs.Stops.{Marks, StaysUnseen, WholeOrAbsent, WithOrWithout};
 
 use crate::streams::fill;
 use crate::window::store_pages;
@@ -48,7 +53,10 @@ fn new_file<D: Disk + Drop, A: Allocator>(engine: &mut Engine<D, A>) -> Result<F
         (λ id. (id ≡ new_id m) × StandsFor engine.new (adding (blank m) m))
         (λ e. (e ≡ is_failure) ⊎ StandsFor engine.new m) }
     ensures closed { IsClosed engine.old → (result ≡ Err Code.Closed) × (engine.new ≡ engine.old) }
+    ensures stops { (id : ℕ) → StaysUnseen id engine.old engine.new }
     ensures stopped { (why : Halt) → result ≡ Err (Code.Halted why) → HasStopped why engine.new }
+    ensures cause { result ≡ Err is_failure → HasFailed engine.old engine.new }
+    ensures spends { Spends 1 0 engine.old engine.new }
 {
     let made = engine.create(1, KIND);
     file_of(made)
@@ -68,7 +76,10 @@ fn append<D: Disk + Drop, A: Allocator>(
         → MatchResult result (λ all. StandsFor engine.new (adding (appended all pages bytes.now f) m))
         (λ e. (e ≡ is_failure) ⊎ HasOther m id engine.new) }
     ensures led { OnOk result (Led is_quiet engine.old engine.new) }
+    ensures stops { StaysUnseen id engine.old engine.new }
     ensures stopped { (why : Halt) → result ≡ Err (Code.Halted why) → HasStopped why engine.new }
+    ensures cause { result ≡ Err is_failure → HasFailed engine.old engine.new }
+    ensures spends { Spends 5 (div_ceil (length bytes.now) 512) engine.old engine.new }
 {
     let Ok(more) = u32::try_from(bytes.len().div_ceil(512)) else {
         return Err(FULL);
@@ -99,8 +110,15 @@ fn append_all<D: Disk + Drop, A: Allocator, S: Source, P: Progress>(
     ensures filled { (m : Machine) → IsFresh m id → id ≡ new_id m → StandsFor engine.old (adding (blank m) m)
         → MatchResult result (λ count. HasFilled m count (S.left source.old) (S.left source.new) engine.new)
         (λ e. (e ≡ Fault.Call is_failure) ⊎ HasOther m id engine.new) }
+    ensures stops { StaysUnseen id engine.old engine.new }
+    ensures other { result ≢ Err Fault.NoDocument }
+    ensures long { result ≢ Err Fault.LongName }
     ensures input { result ≡ Err Fault.Input → Rose (S.faults source.old) (S.faults source.new) }
     ensures stopped { (why : Halt) → result ≡ Err (Fault.Call (Code.Halted why)) → HasStopped why engine.new }
+    ensures cause { result ≡ Err (Fault.Call is_failure) → HasFailed engine.old engine.new }
+    ensures later { IsLater (disk_of engine.old) (disk_of engine.new) }
+    ensures spends { (xs : List ℕ) → S.left source.old ≡ Some xs
+        → Spends (5 * windows (length buffer.old) (length xs)) (div_ceil (length xs) 512) engine.old engine.new }
 {
     let room = buffer.len() - buffer.len() % 512;
     if room == 0 {
@@ -140,8 +158,14 @@ fn seal<D: Disk + Drop, A: Allocator>(
         → MatchResult result
         (λ done. StandsFor engine.new (adding (marked (written 0 (head_page head.now.bytes head.now.name.bytes) f)) m))
         (λ e. (e ≡ is_failure) ⊎ HasOther m id engine.new) }
+    ensures stops { (m : Machine) (f : File) → IsMachine m → IsFresh m id → f.id ≡ id → f.permanent ≡ false
+        → StandsFor engine.old (adding f m)
+        → Marks (WithOrWithout m (marked (written 0 (head_page head.now.bytes head.now.name.bytes) f))) m id engine.old
+        result engine.new }
     ensures wide { length (head_page head.now.bytes head.now.name.bytes) ≡ 512 }
     ensures stopped { (why : Halt) → result ≡ Err (Code.Halted why) → HasStopped why engine.new }
+    ensures cause { result ≡ Err is_failure → HasFailed engine.old engine.new }
+    ensures spends { Spends 5 1 engine.old engine.new }
 {
     match store_pages(engine, id, 0, &head.to_page()) {
         Ok(()) => {}
@@ -167,8 +191,17 @@ fn fill_file<D: Disk + Drop, A: Allocator, S: Source, P: Progress>(
     ensures document { (m : Machine) → IsFresh m id → id ≡ new_id m → StandsFor engine.old (adding (blank m) m)
         → MatchResult result (λ done. IsPut m id name.bytes (S.left source.old) engine.new)
         (λ e. (e ≡ Fault.Call is_failure) ⊎ HasOther m id engine.new) }
+    ensures stops { (m : Machine) → IsMachine m → IsFresh m id → id ≡ new_id m
+        → StandsFor engine.old (adding (blank m) m)
+        → Marks (WholeOrAbsent m name.bytes (S.left source.old)) m id engine.old result engine.new }
+    ensures other { result ≢ Err Fault.NoDocument }
+    ensures long { result ≢ Err Fault.LongName }
     ensures input { result ≡ Err Fault.Input → Rose (S.faults source.old) (S.faults source.new) }
     ensures stopped { (why : Halt) → result ≡ Err (Fault.Call (Code.Halted why)) → HasStopped why engine.new }
+    ensures cause { result ≡ Err (Fault.Call is_failure) → HasFailed engine.old engine.new }
+    ensures later { IsLater (disk_of engine.old) (disk_of engine.new) }
+    ensures spends { (xs : List ℕ) → S.left source.old ≡ Some xs
+        → PutsWithin 5 1 (length buffer.old) (length xs) engine.old engine.new }
 {
     let bytes = match append_all(engine, buffer, id, source, progress) {
         Ok(bytes) => bytes,
@@ -210,9 +243,17 @@ pub fn put<D: Disk + Drop, A: Allocator, S: Source, P: Progress>(
         → IfOk result (λ id. IsPut m id name.now (S.left source.old) engine.new) }
     ensures kept { (m : Machine) → StandsFor engine.old m
         → IfErr result (λ e. (e ≡ Fault.Call is_failure) ⊎ IsAsBefore m engine.new) }
+    ensures stops { (m : Machine) → StandsFor engine.old m
+        → Leaves (WholeOrAbsent m name.now (S.left source.old)) engine.old engine.new }
     ensures ended { OnOk result (IsAtEnd (S.left source.new)) }
+    ensures other { result ≢ Err Fault.NoDocument }
+    ensures long { result ≡ Err Fault.LongName → 255 < length name.now }
     ensures input { result ≡ Err Fault.Input → Rose (S.faults source.old) (S.faults source.new) }
     ensures stopped { (why : Halt) → result ≡ Err (Fault.Call (Code.Halted why)) → HasStopped why engine.new }
+    ensures cause { result ≡ Err (Fault.Call is_failure) → HasFailed engine.old engine.new }
+    ensures later { IsLater (disk_of engine.old) (disk_of engine.new) }
+    ensures spends { (xs : List ℕ) → S.left source.old ≡ Some xs
+        → PutsWithin 7 1 (length buffer.old) (length xs) engine.old engine.new }
 {
     let Ok(name) = Name::from(name) else {
         return Err(Fault::LongName);

@@ -1,12 +1,16 @@
 //! A run of pages of a file, shown in a space for as long as its bytes are loaded or stored.
-ghost use Rattle.std.specs.Prelude.{◌≡◌, ◌⊎◌, ◌≤◌, ◌<◌, ◌*◌, ◌^◌, ◌-◌, ℕ, false, length, Ok, Err, IsOk, OnOk, IfOk, IfErr, MatchResult};
+ghost use Rattle.std.specs.Prelude.{◌≡◌, ◌⊎◌, ◌≤◌, ◌<◌, ◌*◌, ◌^◌, ◌-◌, ◌%◌, ℕ, false, length, Ok, Err, IsOk, OnOk, IfOk, IfErr, MatchResult};
 ghost use Rattle.std.specs.Int.{div_ceil};
 ghost use Rattle.flat_machine.specs.Machine.{Machine};
 ghost use Rattle.embedded.specs.Called.{HasStopped};
 ghost use Rattle.embedded.specs.Engine.{IsClosed, StandsFor};
+ghost use Rattle.embedded.specs.Spending.{HasFailed, Spends};
 ghost use Rattle.documents.specs.Course.{Led, is_look, is_quiet};
 ghost use Rattle.documents.specs.Pieces.{after_store};
 ghost use Rattle.documents.specs.Stands.{HasRead, StillFor, StoredPart, is_failure};
+ghost use Rattle.session_words.specs.StandsFor.{RevealsSettled};
+ghost use Rattle.embedded.specs.Stops.{Leaves};
+ghost use Rattle.documents.specs.Stops.{StaysUnseen};
 ghost use Rattle.documents.specs.Windows.{IsHidden, IsShown, showing};
 
 use embedded::{Code, Engine};
@@ -69,6 +73,12 @@ fn show<D: Disk + Drop, A: Allocator>(
     ensures kept { (m : Machine) → StandsFor engine.old m
         → IfErr result (λ e. (e ≡ is_failure) ⊎ StandsFor engine.new m) }
     ensures stopped { (why : Halt) → result ≡ Err (Code.Halted why) → HasStopped why engine.new }
+    ensures cause { result ≡ Err is_failure → HasFailed engine.old engine.new }
+    ensures even { IfOk result (λ w. w.address % 512 ≡ 0) }
+    ensures spends { MatchResult result (λ w. Spends 2 0 engine.old engine.new)
+        (λ e. Spends 3 0 engine.old engine.new) }
+    ensures closed { IsClosed engine.old → result ≡ Err Code.Closed }
+    ensures stops { (id : ℕ) → StaysUnseen id engine.old engine.new }
 {
     let made = engine.make_space(0, run.pages, None);
     let (space, first) = match space_of(made) {
@@ -92,6 +102,9 @@ fn hide<D: Disk + Drop, A: Allocator>(engine: &mut Engine<D, A>, window: Window)
     ensures closed { IsClosed engine.old → result ≡ Err Code.Closed }
     ensures hidden { (m last : Machine) → StandsFor engine.old m → IsHidden m window.space last
         → MatchResult result (λ done. StandsFor engine.new last) (λ e. e ≡ is_failure) }
+    ensures cause { result ≡ Err is_failure → HasFailed engine.old engine.new }
+    ensures spends { Spends 2 0 engine.old engine.new }
+    ensures stops { (id : ℕ) → StaysUnseen id engine.old engine.new }
 {
     match engine.unmap(window.space) {
         Ok(_) => {}
@@ -114,7 +127,10 @@ fn end<D: Disk + Drop, A: Allocator>(
     ensures hidden { (m last : Machine) → StandsFor engine.old m → IsHidden m window.space last
         → MatchResult result (λ done. StandsFor engine.new last) (λ e. (e ≡ is_failure) ⊎ StandsFor engine.new last) }
     ensures failed { moved ≡ Err is_failure → result ≡ Err is_failure }
+    ensures stops { (id : ℕ) → StaysUnseen id engine.old engine.new }
     ensures stopped { (why : Halt) → result ≡ Err (Code.Halted why) → HasStopped why engine.new }
+    ensures cause { result ≡ Err is_failure → (moved ≡ Err is_failure) ⊎ HasFailed engine.old engine.new }
+    ensures spends { Spends 2 0 engine.old engine.new }
 {
     let hidden = hide(engine, window);
     match moved {
@@ -142,7 +158,10 @@ pub(crate) fn load_pages<D: Disk + Drop, A: Allocator>(
     ensures read { (m : Machine) → StandsFor engine.old m
         → MatchResult result (λ done. HasRead m id page into.new engine.new)
         (λ e. (e ≡ is_failure) ⊎ StillFor m engine.new) }
+    ensures stops { (m : Machine) → StandsFor engine.old m → Leaves (λ d. RevealsSettled d m) engine.old engine.new }
     ensures stopped { (why : Halt) → result ≡ Err (Code.Halted why) → HasStopped why engine.new }
+    ensures cause { result ≡ Err is_failure → HasFailed engine.old engine.new }
+    ensures spends { Spends 4 (div_ceil (length into.old) 512) engine.old engine.new }
 {
     let pages = pages_for(into.len());
     let window = match show(engine, Run { id, page, pages }, false) {
@@ -165,7 +184,10 @@ pub(crate) fn store_pages<D: Disk + Drop, A: Allocator>(
         → MatchResult result
         (λ done. StandsFor engine.new (after_store id page (div_ceil (length bytes.now) 512) bytes.now m))
         (λ e. StoredPart m id page bytes.now e engine.new) }
+    ensures stops { StaysUnseen id engine.old engine.new }
     ensures stopped { (why : Halt) → result ≡ Err (Code.Halted why) → HasStopped why engine.new }
+    ensures cause { result ≡ Err is_failure → HasFailed engine.old engine.new }
+    ensures spends { Spends 4 (div_ceil (length bytes.now) 512) engine.old engine.new }
 {
     let pages = pages_for(bytes.len());
     let window = match show(engine, Run { id, page, pages }, true) {

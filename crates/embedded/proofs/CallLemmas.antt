@@ -20,7 +20,9 @@ use Rattle.embedded.specs.declared.live.Live.{Live}
 use Rattle.embedded.specs.Answers.{answer_to}
 use Rattle.embedded.specs.Called.{Called, HasStopped}
 use Rattle.embedded.specs.Engine.{IsClosed, IsIn, OfBoth, StandsFor, disk_of, is_running}
+use Rattle.embedded.specs.Spending.{IsLater, MovedFew}
 use Rattle.embedded.specs.Stepped.{Stepped}
+use Rattle.embedded.proofs.SpendLemmas.{few_of_call, few_of_piece, later_itself, moved_none}
 use Rattle.fault_core.specs.Core.{state}
 
 -- where each reply has it, so has each answer that is a reply
@@ -50,6 +52,9 @@ module _ {D A : Type 0} {G : Ghosts D} where
     closed = λ is. (refl, refl);
     stopped = λ why is. absurd (cc is);
     cause = λ is. absurd (cc is);
+    later = later_itself (disk_of e);
+    cost = λ m stands. moved_none 1 0 (disk_of e);
+    few = λ is. moved_none 0 1 (disk_of e);
   }
 
   -- the session replied
@@ -67,6 +72,9 @@ module _ {D A : Type 0} {G : Ghosts D} where
     closed = λ closed. absurd (cc (running, closed));
     stopped = λ other is. absurd (not_halted r is);
     cause = λ is. absurd (not_halted r is);
+    later = s.later;
+    cost = λ m stands. few_of_call (state a.session.core).disk (state b.session.core).disk (s.cost m stands.1);
+    few = λ is. few_of_piece (state a.session.core).disk (state b.session.core).disk (s.few is);
   }
 
   -- the session stopped, and the engine let it go
@@ -92,6 +100,9 @@ module _ {D A : Type 0} {G : Ghosts D} where
             let same : h ≡ halt.Disk = cc is in
             subst (λ (o : Option DiskState). OfBoth (λ x y. Rose x.faults y.faults) (Some before) o) (sym disk)
             (s.counted (ap (λ (x : Halt). Err x) same));
+        later = subst (λ (o : Option DiskState). IsLater (Some before) o) (sym disk) s.later;
+        cost = λ m stands. subst (λ (o : Option DiskState). MovedFew 1 0 (Some before) o) (sym disk) (few_of_call before (state b.session.core).disk (s.cost m stands.1));
+        few = λ is. subst (λ (o : Option DiskState). MovedFew 0 1 (Some before) o) (sym disk) (few_of_piece before (state b.session.core).disk (s.few is));
       }
 
   -- the same of any engine with such a session

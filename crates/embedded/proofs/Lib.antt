@@ -5,3 +5,4 @@ mod PieceLemmas
 mod FaultLemmas
 mod PutLemmas
 mod StopLemmas
+pub mod SpendLemmas

@@ -1,5 +1,5 @@
 -- From a load or a store that answers without a reply to a call that replies.
-use Rattle.std.proofs.Common.{◌≡◌, ◌∙◌, ℕ, List, false, true, sym, ap, subst, refl, Result, Ok, Err}
+use Rattle.std.proofs.Common.{◌≡◌, ◌∙◌, ◌*◌, ℕ, List, false, true, sym, ap, subst, refl, Result, Ok, Err}
 use Rattle.std.proofs.lemmas.Bool.{true≢false}
 use Rattle.labelled_disk.specs.declared.disk.Disk.{Ghosts}
 use Rattle.labelled_disk.specs.declared.evidence.Halt.{Halt}
@@ -8,6 +8,7 @@ use Rattle.flat_machine.specs.declared.call.Call.TheVariants as call
 use Rattle.flat_machine.specs.declared.call.Reply.{Reply}
 use Rattle.flat_machine.specs.declared.call.Reply.TheVariants as reply
 use Rattle.flat_machine.specs.Machine.{Machine}
+use Rattle.fault_core.specs.Core.{state}
 use Rattle.fault_core.specs.declared.reference.Access.{Access}
 use Rattle.fault_core.specs.declared.reference.Access.TheVariants as access
 use Rattle.fault_core.specs.ReferenceLaws.{reply_to}
@@ -23,6 +24,7 @@ use Rattle.embedded.specs.Engine.{StandsFor}
 use Rattle.embedded.specs.References.{AreAt}
 use Rattle.embedded.specs.Stepped.{Stepped}
 use Rattle.embedded.proofs.ReferenceLemmas.{load_ok}
+use Rattle.embedded.proofs.SpendLemmas.{coarsely}
 
 -- what a reference came to is answered as its reply is
 pub same_answer : (plain : Reply) (a : Access) (r : Result (Unit {0}) Code) → answer_to plain ≡ Ok plain → r ≡ answer_of a → replied plain r ≡ answer_to (reply_to plain a)
@@ -45,6 +47,10 @@ module _ {D A : Type 0} {G : Ghosts D} (call : Call) (plain : Reply) (old new : 
     counted = λ is. absurd (cc is);
     evidence_seen = tt;
     goes_on = refers.goes_on;
+    later = record { sectors = refers.wrote.makes.went.sectors; faults = refers.wrote.makes.went.faults };
+    cost = λ m r. coarsely (state old.core).disk.transfers (state new.core).disk.transfers
+        (64 * (state old.core).disk.sectors * (state old.core).disk.sectors) refers.few;
+    few = λ is. refers.few;
   }
 
   -- one that did is as after a call that halted
@@ -58,6 +64,10 @@ module _ {D A : Type 0} {G : Ghosts D} (call : Call) (plain : Reply) (old new : 
     counted = λ is. refers.fails.counted (cc is);
     evidence_seen = refers.fails.evidence_seen;
     goes_on = tt;
+    later = record { sectors = refers.wrote.makes.went.sectors; faults = refers.wrote.makes.went.faults };
+    cost = λ m r. coarsely (state old.core).disk.transfers (state new.core).disk.transfers
+        (64 * (state old.core).disk.sectors * (state old.core).disk.sectors) refers.few;
+    few = λ is. refers.few;
   }
 
 module _ {D A : Type 0} {G : Ghosts D} where

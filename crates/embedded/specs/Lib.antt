@@ -1,6 +1,8 @@
 pub mod Once
 pub mod Answers
 pub mod Engine
+pub mod Later
+pub mod Spending
 pub mod Called
 pub mod Stepped
 pub mod Opened

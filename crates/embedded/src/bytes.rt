@@ -1,5 +1,5 @@
 //! Bytes of any length, loaded and stored page by page.
-ghost use Rattle.std.specs.Prelude.{◌≡◌, ◌⊎◌, ℕ, ◌+◌, ◌-◌, ◌≤◌, ◌<◌, ◌^◌, length, slice_get, Ok, Err, None, Some, IfOk, IfErr, OnOk, OnErr, MatchOption};
+ghost use Rattle.std.specs.Prelude.{◌≡◌, ◌⊎◌, ℕ, ◌+◌, ◌-◌, ◌%◌, ◌≤◌, ◌<◌, ◌^◌, length, slice_get, Ok, Err, None, Some, IfOk, IfErr, OnOk, OnErr, MatchOption};
 ghost use Rattle.labelled_disk.specs.Calls.{Rose};
 ghost use Rattle.labelled_disk.specs.declared.evidence.Halt.TheVariants as halt;
 ghost use Rattle.flat_machine.specs.Machine.{Machine};
@@ -7,6 +7,7 @@ ghost use Rattle.session_words.specs.StandsFor.{RevealsSettled};
 ghost use Rattle.pilot_engine.specs.Referring.{IsAtOnce};
 ghost use Rattle.embedded.specs.Called.{HasStopped};
 ghost use Rattle.embedded.specs.Engine.{Between, IsClosed, LosesNoFault, StandsFor};
+ghost use Rattle.embedded.specs.Spending.{Spends, SpendsOn};
 ghost use Rattle.embedded.specs.References.{AreAt, IsPiece, StopsAfter, StopsLoad, Stored};
 ghost use Rattle.embedded.specs.Stops.{Leaves, RevealsPart};
 
@@ -26,6 +27,7 @@ fn in_piece(address: u32, count: usize) -> usize
     requires { 1 ≤ count }
     ensures some { IsAtOnce result }
     ensures piece { IsPiece address count result }
+    ensures ends { result < count → (address + result) % 512 ≡ 0 }
 {
     count.min((PIECE - address % PIECE) as usize)
 }
@@ -60,6 +62,8 @@ impl<D: Disk + Drop, A: Allocator> Engine<D, A> {
             → Between (λ before after. Rose before.faults after.faults) self.old self.new }
         ensures leaves { (m : Machine) → StandsFor self.old m → Leaves (λ d. RevealsSettled d m) self.old self.new }
         ensures faults { OnOk result (LosesNoFault self.old self.new) }
+        ensures ends { IfOk result (λ n. done + n < length into.old → (address + done + n) % 512 ≡ 0) }
+        ensures spends { Spends 0 1 self.old self.new }
     {
         let Some(at) = address_after(address, done) else {
             return Err(PAST_END);
@@ -89,6 +93,8 @@ impl<D: Disk + Drop, A: Allocator> Engine<D, A> {
         ensures leaves { (m : Machine) → Stored m address done bytes.now self.old
             → Leaves (RevealsPart m address bytes.now) self.old self.new }
         ensures faults { OnOk result (LosesNoFault self.old self.new) }
+        ensures ends { IfOk result (λ n. done + n < length bytes.now → (address + done + n) % 512 ≡ 0) }
+        ensures spends { Spends 0 1 self.old self.new }
     {
         let Some(at) = address_after(address, done) else {
             return Err(PAST_END);
@@ -117,6 +123,7 @@ impl<D: Disk + Drop, A: Allocator> Engine<D, A> {
         ensures cause { result.1 ≡ Err (Code.Halted halt.Disk)
             → Between (λ before after. Rose before.faults after.faults) self.old self.new }
         ensures leaves { (m : Machine) → StandsFor self.old m → Leaves (λ d. RevealsSettled d m) self.old self.new }
+        ensures spends { SpendsOn (address % 512 + length into.old) self.old self.new }
     {
         let mut done = 0;
         'pieces: while done < into.len() {
@@ -144,6 +151,7 @@ impl<D: Disk + Drop, A: Allocator> Engine<D, A> {
             → Between (λ before after. Rose before.faults after.faults) self.old self.new }
         ensures leaves { (m : Machine) → StandsFor self.old m
             → Leaves (RevealsPart m address bytes.now) self.old self.new }
+        ensures spends { SpendsOn (address % 512 + length bytes.now) self.old self.new }
     {
         let mut done = 0;
         'pieces: while done < bytes.len() {

@@ -24,7 +24,7 @@ remove    removes documents
 replace   puts a file into a new document, removes the document that had the
           other identifier, and then writes the new one
 --restore restores a volume that was not closed, before all else
---frames  how many pages are kept in memory, 24 to 4096, by default 1024
+--frames  how many pages are kept in memory, 24 to 4096, by default 512
 --quiet   no line that says how far a document has come
 exit      0 done, 1 refused by the volume, 2 usage, 3 disk fault, 4 stream
           fault, 5 volume refused, 7 no memory, 8 volume damaged

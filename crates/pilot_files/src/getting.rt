@@ -1,10 +1,12 @@
 //! Documents are got out of the volume.
 
+use crate::buffer::buffer_for;
 use crate::host::{Beside, NoFile, old_file};
 use crate::meter::Meter;
 use crate::status::Status;
 use crate::volume::{Volume, document_line};
-use documents::{Fault, get, get_pages};
+use documents::{Fault, Listed, describe, get, get_pages};
+use embedded::Code;
 use labelled_disk::FileId;
 use std::fs::exists;
 use std::io;
@@ -17,17 +19,34 @@ pub(crate) struct Getting {
     pub(crate) force: bool,
     pub(crate) pages: bool,
     pub(crate) quiet: bool,
+    /// How many bytes at a time.
+    pub(crate) window: usize,
+}
+
+/// How many bytes are got of a file, where it is one to get.
+fn bytes_of(file: &Listed, pages: bool) -> Option<u64> {
+    if pages {
+        return Some(u64::from(file.pages) * 512);
+    }
+    file.head.as_ref().map(|head| head.bytes)
 }
 
 /// Writes a document, or the pages of a file, to a sink.
 fn got<S: Sink>(
     rt: &HostRuntime,
     volume: &mut Volume,
-    buffer: &mut [u8],
     sink: &mut S,
     getting: Getting,
 ) -> Result<(), Fault> {
-    let mut meter = Meter::new(rt, "get", getting.quiet);
+    let all = match describe(volume, getting.id) {
+        Ok(file) => bytes_of(&file, getting.pages),
+        Err(code) => return Err(Fault::Call(code)),
+    };
+    let Ok(mut buffer) = buffer_for(rt, all, getting.window) else {
+        return Err(Fault::Call(Code::NoMemory));
+    };
+    let buffer = buffer.as_mut_slice();
+    let mut meter = Meter::new(rt, "get", all, getting.quiet);
     let answer = if getting.pages {
         get_pages(volume, buffer, getting.id, sink, &mut meter).map(|_| ())
     } else {
@@ -53,14 +72,9 @@ fn not_got(
 }
 
 /// Writes a document to standard output.
-pub(crate) fn get_to_output(
-    rt: &HostRuntime,
-    volume: &mut Volume,
-    buffer: &mut [u8],
-    getting: Getting,
-) -> Status {
+pub(crate) fn get_to_output(rt: &HostRuntime, volume: &mut Volume, getting: Getting) -> Status {
     let mut sink = WriterSink::over(io::writer(rt));
-    match got(rt, volume, buffer, &mut sink, getting) {
+    match got(rt, volume, &mut sink, getting) {
         Ok(()) => Status::Done,
         Err(fault) => not_got(rt, volume, getting.id, fault, sink.trouble()),
     }
@@ -84,7 +98,6 @@ fn is_free(rt: &HostRuntime, path: &str, force: bool) -> Result<(), NoFile> {
 pub(crate) fn get_to_file(
     rt: &HostRuntime,
     volume: &mut Volume,
-    buffer: &mut [u8],
     path: &str,
     getting: Getting,
 ) -> Status {
@@ -105,7 +118,7 @@ pub(crate) fn get_to_file(
             return no_file(rt, path, why);
         }
     };
-    match got(rt, volume, buffer, &mut sink, getting) {
+    match got(rt, volume, &mut sink, getting) {
         Ok(()) => match beside.finish(rt, getting.force) {
             Ok(()) => Status::Done,
             Err(why) => no_file(rt, path, why),

@@ -20,6 +20,16 @@ pub(crate) enum NoFile {
     NoMemory,
 }
 
+impl NoFile {
+    /// Why a file does not get its name: there may be one of that name by then.
+    fn of_naming(why: io::Error) -> NoFile {
+        match why.kind() {
+            io::ErrorKind::AlreadyExists => NoFile::Taken(why),
+            _ => NoFile::System(why),
+        }
+    }
+}
+
 /// The last part of a path.
 pub(crate) fn last_part(path: &str) -> &str {
     match path.rsplit_once('/') {
@@ -76,7 +86,7 @@ impl<'a> Beside<'a> {
         if !force || named.is_err() {
             let _ = remove_file(rt, self.beside);
         }
-        named.map_err(NoFile::System)
+        named.map_err(NoFile::of_naming)
     }
 
     /// Removes the file.

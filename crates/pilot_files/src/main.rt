@@ -2,6 +2,7 @@
 #![tactic(auto)]
 
 mod about;
+mod buffer;
 mod getting;
 mod host;
 mod listing;
@@ -50,13 +51,16 @@ fn reveal(rt: &HostRuntime, text: &str) -> Status {
     }
 }
 
-/// Writes on standard error that the words ask for nothing, and how the program is called.
+/// Writes on standard error that the words ask for nothing, and how the program is called, or where that stands.
 fn usage(rt: &HostRuntime, why: NoRequest<'_>, words: &[String]) -> Status {
     let _ = match (&why, words) {
         (NoRequest::Usage, [_, ..]) => eprintln!(rt; "pilot_files: {why}: {words:?}"),
         _ => eprintln!(rt; "pilot_files: {why}"),
     };
-    let _ = eprint!(rt; "{}", about::HELP);
+    let _ = match (&why, words) {
+        (NoRequest::Usage, []) => eprint!(rt; "{}", about::HELP),
+        _ => eprintln!(rt; "pilot_files: --help alone says how it is called"),
+    };
     match why {
         NoRequest::NoMemory => Status::NoMemory,
         _ => Status::Usage,

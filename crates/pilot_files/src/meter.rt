@@ -15,14 +15,22 @@ const PAUSE: u64 = 100;
 pub(crate) struct Meter<'a> {
     rt: &'a HostRuntime,
     what: &'a str,
-    /// When the next line is due; none is, where nobody is to learn of it.
+    /// How many bytes there are in all, where that is known.
+    all: Option<u64>,
+    /// Since when it goes on; no line is written where nobody is to learn of it.
     start: Option<Instant>,
     last: Duration,
     shown: bool,
 }
 
 impl<'a> Meter<'a> {
-    pub(crate) fn new(rt: &'a HostRuntime, what: &'a str, quiet: bool) -> Meter<'a> {
+    /// Of so many bytes, where that is known.
+    pub(crate) fn new(
+        rt: &'a HostRuntime,
+        what: &'a str,
+        all: Option<u64>,
+        quiet: bool,
+    ) -> Meter<'a> {
         let start = if quiet || !rt.stderr().is_terminal() {
             None
         } else {
@@ -31,6 +39,7 @@ impl<'a> Meter<'a> {
         Meter {
             rt,
             what,
+            all,
             start,
             last: Duration::ZERO,
             shown: false,
@@ -68,7 +77,10 @@ impl Progress for Meter<'_> {
         if self.is_due() {
             self.shown = true;
             let what = self.what;
-            let _ = eprint!(self.rt; "\r\x1b[K{what:?}: {bytes} bytes");
+            let _ = match self.all {
+                Some(all) => eprint!(self.rt; "\r\x1b[K{what:?}: {bytes} of {all} bytes"),
+                None => eprint!(self.rt; "\r\x1b[K{what:?}: {bytes} bytes"),
+            };
         }
     }
 }

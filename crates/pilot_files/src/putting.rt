@@ -1,20 +1,24 @@
 //! Documents are put into the volume.
 
+use crate::buffer::{WINDOW, buffer_for};
 use crate::host::{last_part, old_file};
 use crate::meter::Meter;
 use crate::status::Status;
-use crate::volume::{Volume, document_line, fault_line};
+use crate::volume::{Volume, document_line, fault_line, is_too_long};
 use documents::{Fault, put, replace};
 use embedded::Code;
 use flat_machine::Refusal;
 use labelled_disk::FileId;
+use std::fs::File;
 use std::io::{self, Read};
 use trace_io::{ReaderSource, Source};
 
-/// What a document is put with: the name that was given, and which document it replaces.
+/// What a document is put with: the name that was given, how many bytes it has, where that is known, and which document it
+/// replaces.
 #[derive(Clone, Copy)]
 pub(crate) struct Placing<'a> {
     pub(crate) name: Option<&'a str>,
+    pub(crate) bytes: Option<u64>,
     pub(crate) instead: Option<FileId>,
     pub(crate) quiet: bool,
 }
@@ -71,13 +75,16 @@ fn not_put(
 fn put_source<R: Read>(
     rt: &HostRuntime,
     volume: &mut Volume,
-    buffer: &mut [u8],
     source: &mut ReaderSource<R>,
     path: &str,
     placing: Placing<'_>,
 ) -> Status {
+    let Ok(mut buffer) = buffer_for(rt, placing.bytes, WINDOW) else {
+        return fault_line(rt, volume, path, Fault::Call(Code::NoMemory));
+    };
+    let buffer = buffer.as_mut_slice();
     let name = placing.name.unwrap_or(last_part(path));
-    let mut meter = Meter::new(rt, path, placing.quiet);
+    let mut meter = Meter::new(rt, path, placing.bytes, placing.quiet);
     let answer = placed(volume, buffer, source, name, &mut meter, placing.instead);
     meter.finish();
     match answer {
@@ -95,26 +102,38 @@ fn put_source<R: Read>(
     }
 }
 
+/// How many bytes a file has, where it is one that has so many.
+fn length_of(file: &File) -> Option<u64> {
+    match file.metadata() {
+        Ok(about) if about.is_file() => Some(about.len()),
+        _ => None,
+    }
+}
+
 /// Puts the file of a path, or standard input for `-`.
 pub(crate) fn put_path(
     rt: &HostRuntime,
     volume: &mut Volume,
-    buffer: &mut [u8],
     path: &str,
     placing: Placing<'_>,
 ) -> Status {
     if path == "-" {
         let mut source = ReaderSource::over(rt.reader());
-        return put_source(rt, volume, buffer, &mut source, path, placing);
+        return put_source(rt, volume, &mut source, path, placing);
     }
-    match old_file(rt, path) {
-        Ok(file) => {
-            let mut source = ReaderSource::over(file);
-            put_source(rt, volume, buffer, &mut source, path, placing)
-        }
+    let file = match old_file(rt, path) {
+        Ok(file) => file,
         Err(why) => {
             let _ = eprintln!(rt; "pilot_files: {path:?}: {why}");
-            Status::StreamFault
+            return Status::StreamFault;
+        }
+    };
+    match length_of(&file) {
+        Some(bytes) if is_too_long(rt, volume, path, bytes) => Status::Refused,
+        bytes => {
+            let placing = Placing { bytes, ..placing };
+            let mut source = ReaderSource::over(file);
+            put_source(rt, volume, &mut source, path, placing)
         }
     }
 }

@@ -1,5 +1,6 @@
 //! A task is carried out in a session on the volume.
 
+use crate::buffer::WINDOW;
 use crate::getting::{Getting, get_to_file, get_to_output};
 use crate::listing::list;
 use crate::putting::{Placing, put_path};
@@ -9,19 +10,16 @@ use crate::words::{Request, Task};
 use documents::remove;
 use labelled_disk::FileId;
 
-/// How many bytes are moved at a time.
-const WINDOW: usize = 1 << 20;
+/// As many bytes as are got at a time with so many frames. Half of these hold them, and the rest what was changed, so that a
+/// `get` writes nothing.
+fn got_at_once(frames: u32) -> usize {
+    WINDOW.min((frames / 2).saturating_mul(512) as usize)
+}
 
 /// Puts documents one after the other, up to the first that is not put.
-fn put_all(
-    rt: &HostRuntime,
-    volume: &mut Volume,
-    buffer: &mut [u8],
-    files: &[&str],
-    placing: Placing<'_>,
-) -> Status {
+fn put_all(rt: &HostRuntime, volume: &mut Volume, files: &[&str], placing: Placing<'_>) -> Status {
     for path in files {
-        let status = put_path(rt, volume, buffer, path, placing);
+        let status = put_path(rt, volume, path, placing);
         if status != Status::Done {
             return status;
         }
@@ -42,27 +40,24 @@ fn remove_all(rt: &HostRuntime, volume: &mut Volume, ids: &[FileId]) -> Status {
 /// Carries out a task.
 pub(crate) fn carry_out(rt: &HostRuntime, volume: &mut Volume, request: &Request<'_>) -> Status {
     let quiet = request.options.quiet;
-    let Ok(mut buffer) = Vec::from_elem(rt.alloc(), 0u8, WINDOW) else {
-        let _ = eprintln!(rt; "pilot_files: there is no memory left");
-        return Status::NoMemory;
-    };
-    let buffer = buffer.as_mut_slice();
     match &request.task {
         Task::Put { files, name } => {
             let placing = Placing {
                 name: *name,
+                bytes: None,
                 instead: None,
                 quiet,
             };
-            put_all(rt, volume, buffer, files.as_slice(), placing)
+            put_all(rt, volume, files.as_slice(), placing)
         }
         Task::Replace { id, file, name } => {
             let placing = Placing {
                 name: *name,
+                bytes: None,
                 instead: Some(*id),
                 quiet,
             };
-            put_path(rt, volume, buffer, file, placing)
+            put_path(rt, volume, file, placing)
         }
         Task::Get {
             id,
@@ -75,10 +70,11 @@ pub(crate) fn carry_out(rt: &HostRuntime, volume: &mut Volume, request: &Request
                 force: *force,
                 pages: *pages,
                 quiet,
+                window: got_at_once(request.options.frames),
             };
             match file {
-                Some(path) => get_to_file(rt, volume, buffer, path, getting),
-                None => get_to_output(rt, volume, buffer, getting),
+                Some(path) => get_to_file(rt, volume, path, getting),
+                None => get_to_output(rt, volume, getting),
             }
         }
         Task::List { json } => list(rt, volume, *json),

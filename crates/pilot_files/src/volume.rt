@@ -78,6 +78,32 @@ fn free_pages(volume: &mut Volume) -> Option<u32> {
     }
 }
 
+/// As many pages as the file of a document of so many bytes takes: those of the bytes, the head, and the one that each
+/// file has.
+fn wanted_pages(bytes: u64) -> u64 {
+    bytes.div_ceil(512).saturating_add(2)
+}
+
+/// How many pages are free and how many are wanted for a document of so many bytes, where these are more.
+fn missing(volume: &mut Volume, bytes: u64) -> Option<(u32, u64)> {
+    let wanted = wanted_pages(bytes);
+    match free_pages(volume) {
+        Some(free) if u64::from(free) < wanted => Some((free, wanted)),
+        _ => None,
+    }
+}
+
+/// Says on standard error that a file of so many bytes does not fit into the volume, where that is so.
+pub(crate) fn is_too_long(rt: &HostRuntime, volume: &mut Volume, path: &str, bytes: u64) -> bool {
+    let Some((free, wanted)) = missing(volume, bytes) else {
+        return false;
+    };
+    let _ = eprintln!(rt;
+        "pilot_files: {path:?}: the volume is full: {free} pages are free, {wanted} are wanted"
+    );
+    true
+}
+
 /// A line on standard error: what was asked, and why it was not done.
 pub(crate) fn fault_line(
     rt: &HostRuntime,

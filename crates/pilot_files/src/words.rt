@@ -60,6 +60,8 @@ pub(crate) enum NoRequest<'a> {
     /// There are several files for one name.
     #[error("--name takes one file")]
     OneName,
+    #[error("--frames takes a number from 24 to 4096")]
+    Frames,
     #[error("{0:?}: an identifier is 1 to 16 hexadecimal digits")]
     Identifier(&'a str),
     #[error("there is no memory left")]
@@ -76,6 +78,7 @@ impl From<clap::Error> for NoRequest<'_> {
     fn from(error: clap::Error) -> Self {
         match error.kind() {
             clap::error::ErrorKind::OutOfMemory => NoRequest::NoMemory,
+            clap::error::ErrorKind::ValueValidation => NoRequest::Frames,
             _ => NoRequest::Usage,
         }
     }
@@ -118,7 +121,7 @@ fn read<'a>(
 ) -> Result<(ArgMatches<'a>, Options), NoRequest<'a>> {
     let matches = verb.try_get_matches_from(words)?;
     let options = Options {
-        frames: matches.get_one("frames").unwrap_or(1024),
+        frames: matches.get_one("frames").unwrap_or(512),
         restore: matches.get_flag("restore"),
         quiet: matches.get_flag("quiet"),
     };

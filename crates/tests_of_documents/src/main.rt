@@ -2,7 +2,9 @@
 #![tactic(auto)]
 
 mod bytes;
+mod failing;
 mod heads;
+mod lying;
 mod numbers;
 mod rounds;
 mod slow;
@@ -20,6 +22,8 @@ fn answer(rt: &HostRuntime, command: &str) -> Result<String> {
         "changed" => heads::changed(rt.alloc(), rest),
         "round" => rounds::all(rt.alloc(), rest),
         "slow" => slow::all(rt.alloc(), rest),
+        "failing" => failing::each(rt.alloc(), rest),
+        "lie" => lying::changed_on_disk(rt.alloc(), rest),
         _ => stops::answer(rt.alloc(), verb, rest),
     }
 }

@@ -30,7 +30,11 @@ fn state(alloc: Global, volume: &mut Volume) -> Result<String> {
 }
 
 /// What was answered, and the state after it.
-fn outcome(alloc: Global, answer: Result<(), Fault>, volume: &mut Volume) -> Result<String> {
+pub(crate) fn outcome(
+    alloc: Global,
+    answer: Result<(), Fault>,
+    volume: &mut Volume,
+) -> Result<String> {
     let state = state(alloc, volume)?;
     Ok(match answer {
         Ok(()) => format!(in alloc; "done{state}")?,

@@ -3,6 +3,7 @@ use Rattle.std.proofs.Common.{◌≡◌, ◌⊎◌, inl, inr, ap, rules}
 use Rattle.embedded.specs.declared.code.Code.{Code}
 use Rattle.documents.specs.declared.fault.Fault.TheVariants as fault
 use Rattle.documents.proofs.GotLemmas.{sent_one}
+use Rattle.documents.proofs.CauseLemmas.{blamed_code}
 use Rattle.documents.proofs.getting.copy_piece.Goals as goal
 
 pub returns-in-Err-clause-stopped : goal.returns-in-Err-clause-stopped
@@ -22,3 +23,7 @@ returns-in-Err-clause-sent g c = λ m f stands there. elim (c.in-Err.ensures.rea
   | inl bad ↦ inl (ap (λ (x : Code). fault.Call x) bad)
   | inr st ↦ inr st
 ]
+
+pub returns-in-Err-clause-cause : goal.returns-in-Err-clause-cause
+returns-in-Err-clause-cause g c = λ is.
+    blamed_code _ c.in-Err.code c.args.engine.now c.load_pages.new.engine c.load_pages.ensures.cause c.in-Err.is (cc is)

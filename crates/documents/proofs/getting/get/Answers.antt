@@ -6,6 +6,13 @@ use Rattle.documents.proofs.GotLemmas.{got_is}
 use Rattle.documents.proofs.ListLemmas.{still_then}
 use Rattle.embedded.specs.declared.code.Code.{Code}
 use Rattle.documents.specs.declared.fault.Fault.TheVariants as fault
+use Rattle.std.specs.Int.{div_ceil}
+use Rattle.flat_machine.specs.File.{size}
+use Rattle.documents.proofs.GotLemmas.{bytes_fit}
+use Rattle.documents.proofs.CauseLemmas.{blamed_code, fault_since}
+use Rattle.embedded.proofs.SpendLemmas.{spends_then, spends_within}
+use Rattle.documents.specs.Spent.{windows}
+use Rattle.std.proofs.Common.{◌*◌, arith, length}
 use Rattle.documents.proofs.getting.get.Goals as goal
 
 pub returns-in-Ok-copy-clause-led : goal.returns-in-Ok-copy-clause-led
@@ -46,3 +53,35 @@ returns-in-Ok-copy-clause-absent g c = λ m stands none.
 pub returns-in-Err-copy-clause-absent : goal.returns-in-Err-copy-clause-absent
 returns-in-Err-copy-clause-absent g c = λ m stands none.
     absurd (cc (none, (c.in-Ok-Some.ensures.listed m stands).there))
+
+-- five calls for the head, and the windows
+
+pub returns-in-Ok-copy-clause-spends : goal.returns-in-Ok-copy-clause-spends
+returns-in-Ok-copy-clause-spends g c = λ m f stands there.
+    spends_then 5 1 (4 * windows (length c.args.buffer.now) (512 * size f)) (div_ceil (512 * size f) 512) _ _ c.args.engine.now c.describe.new.engine c.copy.new.engine
+    (omega arith) (omega arith) c.describe.ensures.spends
+    (c.copy.ensures.spends (512 * size f) (bytes_fit m c.args.id _ _ _ c.in-Ok-Some.head c.describe.new.engine f (c.in-Ok-Some.ensures.listed m stands) there (search rules) c.in-Ok-Some.ensures.pages))
+
+pub returns-in-Err-copy-clause-spends : goal.returns-in-Err-copy-clause-spends
+returns-in-Err-copy-clause-spends g c = λ m f stands there.
+    spends_then 5 1 (4 * windows (length c.args.buffer.now) (512 * size f)) (div_ceil (512 * size f) 512) _ _ c.args.engine.now c.describe.new.engine c.copy.new.engine
+    (omega arith) (omega arith) c.describe.ensures.spends
+    (c.copy.ensures.spends (512 * size f) (bytes_fit m c.args.id _ _ _ c.in-Ok-Some.head c.describe.new.engine f (c.in-Ok-Some.ensures.listed m stands) there (search rules) c.in-Ok-Some.ensures.pages))
+
+pub returns-in-Err-clause-spends : goal.returns-in-Err-clause-spends
+returns-in-Err-clause-spends g c = λ m f stands there.
+    spends_within 5 1 _ _ c.args.engine.now c.describe.new.engine (omega arith) (omega arith) c.describe.ensures.spends
+
+pub returns-in-Ok-clause-spends : goal.returns-in-Ok-clause-spends
+returns-in-Ok-clause-spends g c = λ m f stands there.
+    spends_within 5 1 _ _ c.args.engine.now c.describe.new.engine (omega arith) (omega arith) c.describe.ensures.spends
+
+-- the disk is blamed where the one or the other blames it
+pub returns-in-Err-clause-cause : goal.returns-in-Err-clause-cause
+returns-in-Err-clause-cause g c = λ is.
+    blamed_code _ c.in-Err.code c.args.engine.now c.describe.new.engine c.describe.ensures.cause c.in-Err.is (cc is)
+
+pub returns-in-Err-copy-clause-cause : goal.returns-in-Err-copy-clause-cause
+returns-in-Err-copy-clause-cause g c = λ is.
+    fault_since _ c.in-Err-copy.fault c.args.engine.now c.describe.new.engine c.copy.new.engine c.describe.ensures.spends.later c.copy.ensures.cause
+    c.in-Err-copy.is (cc is)

@@ -5,6 +5,13 @@ use Rattle.std.proofs.Common.{◌≡◌, ◌∙◌, ◌⊎◌, inl, inr, ◌*◌
 use Rattle.embedded.specs.declared.code.Code.{Code}
 use Rattle.documents.proofs.ListLemmas.{still_then}
 use Rattle.documents.specs.declared.fault.Fault.TheVariants as fault
+use Rattle.std.specs.Int.{div_ceil}
+use Rattle.flat_machine.specs.File.{size}
+use Rattle.documents.proofs.GotLemmas.{pages_fit}
+use Rattle.documents.proofs.CauseLemmas.{blamed_code, fault_since}
+use Rattle.embedded.proofs.SpendLemmas.{spends_then, spends_within}
+use Rattle.documents.specs.Spent.{windows}
+use Rattle.std.proofs.Common.{length}
 use Rattle.documents.proofs.getting.get_pages.Goals as goal
 
 pub returns-in-Ok-copy-clause-led : goal.returns-in-Ok-copy-clause-led
@@ -51,3 +58,31 @@ returns-in-Ok-copy-clause-absent g c = λ m stands none.
 pub returns-in-Err-copy-clause-absent : goal.returns-in-Err-copy-clause-absent
 returns-in-Err-copy-clause-absent g c = λ m stands none.
     absurd (cc (none, (c.in-Ok.ensures.listed m stands).there))
+
+-- five calls for the head, and the windows
+
+pub returns-in-Ok-copy-clause-spends : goal.returns-in-Ok-copy-clause-spends
+returns-in-Ok-copy-clause-spends g c = λ m f stands there.
+    spends_then 5 1 (4 * windows (length c.args.buffer.now) (512 * size f)) (div_ceil (512 * size f) 512) _ _ c.args.engine.now c.describe.new.engine c.copy.new.engine
+    (omega arith) (omega arith) c.describe.ensures.spends
+    (c.copy.ensures.spends (512 * size f) (pages_fit m c.args.id _ _ c.from.result _ c.describe.new.engine f (c.in-Ok.ensures.listed m stands) there c.from.ensures))
+
+pub returns-in-Err-copy-clause-spends : goal.returns-in-Err-copy-clause-spends
+returns-in-Err-copy-clause-spends g c = λ m f stands there.
+    spends_then 5 1 (4 * windows (length c.args.buffer.now) (512 * size f)) (div_ceil (512 * size f) 512) _ _ c.args.engine.now c.describe.new.engine c.copy.new.engine
+    (omega arith) (omega arith) c.describe.ensures.spends
+    (c.copy.ensures.spends (512 * size f) (pages_fit m c.args.id _ _ c.from.result _ c.describe.new.engine f (c.in-Ok.ensures.listed m stands) there c.from.ensures))
+
+pub returns-in-Err-clause-spends : goal.returns-in-Err-clause-spends
+returns-in-Err-clause-spends g c = λ m f stands there.
+    spends_within 5 1 _ _ c.args.engine.now c.describe.new.engine (omega arith) (omega arith) c.describe.ensures.spends
+
+-- the disk is blamed where the one or the other blames it
+pub returns-in-Err-clause-cause : goal.returns-in-Err-clause-cause
+returns-in-Err-clause-cause g c = λ is.
+    blamed_code _ c.in-Err.code c.args.engine.now c.describe.new.engine c.describe.ensures.cause c.in-Err.is (cc is)
+
+pub returns-in-Err-copy-clause-cause : goal.returns-in-Err-copy-clause-cause
+returns-in-Err-copy-clause-cause g c = λ is.
+    fault_since _ c.in-Err-copy.fault c.args.engine.now c.describe.new.engine c.copy.new.engine c.describe.ensures.spends.later c.copy.ensures.cause
+    c.in-Err-copy.is (cc is)

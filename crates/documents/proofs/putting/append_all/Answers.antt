@@ -1,4 +1,4 @@
-use Rattle.std.proofs.Common.{◌≡◌, ◌⊎◌, ◌+◌, inl, inr, ap, refl, arith, length, take, rules}
+use Rattle.std.proofs.Common.{◌≡◌, ◌⊎◌, ◌+◌, ◌-◌, ◌%◌, ℕ, inl, inr, ap, refl, subst, arith, length, take, rules}
 use Rattle.std.proofs.lemmas.List.{length-take-le}
 use Rattle.embedded.specs.declared.code.Code.{Code}
 use Rattle.documents.specs.declared.fault.Fault.TheVariants as fault
@@ -7,6 +7,12 @@ use Rattle.documents.proofs.FillLemmas.{as_many, filled_last, filled_now, full_t
 use Rattle.documents.proofs.CourseLemmas.{led_then}
 use Rattle.documents.specs.Course.{is_quiet}
 use Rattle.documents.proofs.StoppedLemmas.{stopped_code}
+use Rattle.std.specs.Int.{div_ceil}
+use Rattle.embedded.specs.Spending.{Spends}
+use Rattle.embedded.proofs.SpendLemmas.{later_itself, later_then, spends_none}
+use Rattle.documents.proofs.CauseLemmas.{blamed_since}
+use Rattle.documents.proofs.SpentLemmas.{appended_end, appended_first, appended_stop, appended_then}
+use Rattle.documents.proofs.UnseenLemmas.{stays_itself, stays_then}
 use Rattle.documents.proofs.putting.append_all.Goals as goal
 
 pub returns-then-count-room-clause-led : goal.returns-then-count-room-clause-led
@@ -37,8 +43,19 @@ windows-preserved g c = record {
       (omega (arith, c.in-Ok-fill.ensures.within, c.fill-in-windows.ensures.width)) c.in-Ok-fill.ensures.bytes);
   led = led_then is_quiet c.args.engine.now c.windows.engine c.append.new.engine
       c.windows.invariant.led c.in-Ok-append.ensures.led;
+  stops = stays_then c.args.id c.args.engine.now c.windows.engine c.append.new.engine
+      c.windows.invariant.stops c.append.ensures.stops;
   ended = search rules;
   later = search rules;
+  same_disk = later_then _ _ _ c.windows.invariant.same_disk c.append.ensures.spends.later;
+  spent = appended_then (length c.args.buffer.now - length c.args.buffer.now % 512) c.windows.bytes c.windows.count c.in-Ok-fill.next (g.S.Source.left c.args.source.now) (g.S.Source.left c.windows.source) (g.S.Source.left c.fill-in-windows.new.source) (take c.in-Ok-fill.next c.fill-in-windows.new.room)
+      c.args.engine.now c.windows.engine c.append.new.engine (omega arith) (omega (arith, c.windows-test.true))
+      (omega (arith, c.windows.invariant.within, c.if-count-room.false))
+      (length-take-le c.in-Ok-fill.next c.fill-in-windows.new.room (omega (arith, c.in-Ok-fill.ensures.within, c.fill-in-windows.ensures.width)))
+      c.windows.invariant.spent
+      (subst (λ (n : ℕ). Spends 5 (div_ceil n 512) c.windows.engine c.append.new.engine)
+      (length-take-le c.windows.count c.windows.buffer (omega (arith, c.windows.invariant.within, c.windows.invariant.room))) c.append.ensures.spends)
+      c.in-Ok-fill.ensures.bytes;
 }
 
 pub returns-in-Err-clause-stopped : goal.returns-in-Err-clause-stopped
@@ -57,8 +74,12 @@ windows-init g c = record {
       (taken_in (g.S.Source.left c.args.source.now) (g.S.Source.left c.fill.new.source) c.in-Ok.count c.fill.new.room _
       (omega (arith, c.in-Ok.ensures.within, c.fill.ensures.width)) c.in-Ok.ensures.bytes);
   led = search rules;
+  stops = stays_itself c.args.id c.args.engine.now;
   ended = search rules;
   later = search rules;
+  same_disk = later_itself _;
+  spent = appended_first (length c.args.buffer.now - length c.args.buffer.now % 512) c.in-Ok.count (g.S.Source.left c.args.source.now) (g.S.Source.left c.fill.new.source) (take c.in-Ok.count c.fill.new.room) c.args.engine.now (search rules)
+      (length-take-le c.in-Ok.count c.fill.new.room (omega (arith, c.in-Ok.ensures.within, c.fill.ensures.width))) c.in-Ok.ensures.bytes;
 }
 
 pub returns-then-count-room-clause-filled : goal.returns-then-count-room-clause-filled
@@ -94,3 +115,74 @@ returns-in-Err-fill-clause-filled g c = λ m is_fresh new stands.
       named,
       c.in-Ok-append.ensures.grown m s.file is_fresh named s.wide s.stands,
     )
+
+-- so much was spent on the windows
+pub returns-then-room-eq0-clause-spends : goal.returns-then-room-eq0-clause-spends
+returns-then-room-eq0-clause-spends g c = λ xs told. spends_none _ _ c.args.engine.now
+
+pub returns-in_default-clause-spends : goal.returns-in_default-clause-spends
+returns-in_default-clause-spends g c = λ xs told. spends_none _ _ c.args.engine.now
+
+pub returns-clause-spends : goal.returns-clause-spends
+returns-clause-spends g c =
+    appended_end (length c.args.buffer.now - length c.args.buffer.now % 512) c.windows.bytes c.windows.count (g.S.Source.left c.args.source.now) (g.S.Source.left c.windows.source) c.args.engine.now c.windows.engine
+    (search rules) c.windows.invariant.spent
+
+pub returns-then-count-room-clause-spends : goal.returns-then-count-room-clause-spends
+returns-then-count-room-clause-spends g c =
+    appended_stop (length c.args.buffer.now - length c.args.buffer.now % 512) c.windows.bytes c.windows.count (g.S.Source.left c.args.source.now) (g.S.Source.left c.windows.source) c.args.engine.now c.windows.engine c.append.new.engine
+    (search rules) (omega (arith, c.windows-test.true)) c.windows.invariant.spent
+    (subst (λ (n : ℕ). Spends 5 (div_ceil n 512) c.windows.engine c.append.new.engine)
+    (length-take-le c.windows.count c.windows.buffer (omega (arith, c.windows.invariant.within, c.windows.invariant.room))) c.append.ensures.spends)
+
+pub returns-then-count-room-clause-later : goal.returns-then-count-room-clause-later
+returns-then-count-room-clause-later g c = later_then _ _ _ c.windows.invariant.same_disk c.append.ensures.spends.later
+
+pub returns-in-Err-clause-spends : goal.returns-in-Err-clause-spends
+returns-in-Err-clause-spends g c =
+    appended_stop (length c.args.buffer.now - length c.args.buffer.now % 512) c.windows.bytes c.windows.count (g.S.Source.left c.args.source.now) (g.S.Source.left c.windows.source) c.args.engine.now c.windows.engine c.append.new.engine
+    (search rules) (omega (arith, c.windows-test.true)) c.windows.invariant.spent
+    (subst (λ (n : ℕ). Spends 5 (div_ceil n 512) c.windows.engine c.append.new.engine)
+    (length-take-le c.windows.count c.windows.buffer (omega (arith, c.windows.invariant.within, c.windows.invariant.room))) c.append.ensures.spends)
+
+pub returns-in-Err-clause-later : goal.returns-in-Err-clause-later
+returns-in-Err-clause-later g c = later_then _ _ _ c.windows.invariant.same_disk c.append.ensures.spends.later
+
+pub returns-in-Err-fill-clause-spends : goal.returns-in-Err-fill-clause-spends
+returns-in-Err-fill-clause-spends g c =
+    appended_stop (length c.args.buffer.now - length c.args.buffer.now % 512) c.windows.bytes c.windows.count (g.S.Source.left c.args.source.now) (g.S.Source.left c.windows.source) c.args.engine.now c.windows.engine c.append.new.engine
+    (search rules) (omega (arith, c.windows-test.true)) c.windows.invariant.spent
+    (subst (λ (n : ℕ). Spends 5 (div_ceil n 512) c.windows.engine c.append.new.engine)
+    (length-take-le c.windows.count c.windows.buffer (omega (arith, c.windows.invariant.within, c.windows.invariant.room))) c.append.ensures.spends)
+
+pub returns-in-Err-fill-clause-later : goal.returns-in-Err-fill-clause-later
+returns-in-Err-fill-clause-later g c = later_then _ _ _ c.windows.invariant.same_disk c.append.ensures.spends.later
+
+pub returns-then-room-eq0-clause-later : goal.returns-then-room-eq0-clause-later
+returns-then-room-eq0-clause-later g c = later_itself _
+
+pub returns-in_default-clause-later : goal.returns-in_default-clause-later
+returns-in_default-clause-later g c = later_itself _
+
+-- the disk is blamed where a window blames it
+pub returns-in-Err-clause-cause : goal.returns-in-Err-clause-cause
+returns-in-Err-clause-cause g c = λ is.
+    blamed_since _ c.in-Err.code c.args.engine.now c.windows.engine c.append.new.engine c.windows.invariant.same_disk c.append.ensures.cause c.in-Err.is (cc is)
+
+pub returns-then-count-room-clause-stops : goal.returns-then-count-room-clause-stops
+returns-then-count-room-clause-stops g c =
+    stays_then c.args.id c.args.engine.now c.windows.engine c.append.new.engine
+    c.windows.invariant.stops c.append.ensures.stops
+
+pub returns-in-Err-clause-stops : goal.returns-in-Err-clause-stops
+returns-in-Err-clause-stops g c =
+    stays_then c.args.id c.args.engine.now c.windows.engine c.append.new.engine
+    c.windows.invariant.stops c.append.ensures.stops
+
+pub returns-in-Err-fill-clause-stops : goal.returns-in-Err-fill-clause-stops
+returns-in-Err-fill-clause-stops g c =
+    stays_then c.args.id c.args.engine.now c.windows.engine c.append.new.engine
+    c.windows.invariant.stops c.append.ensures.stops
+
+pub returns-clause-stops : goal.returns-clause-stops
+returns-clause-stops g c = c.windows.invariant.stops

@@ -1,12 +1,15 @@
-use Rattle.std.proofs.Common.{◌≡◌, ◌≤◌, ◌<◌, ◌+◌, ◌-◌, ◌*◌, ◌^◌, length}
+use Rattle.std.proofs.Common.{◌≡◌, ◌≤◌, ◌<◌, ◌+◌, ◌-◌, ◌*◌, ◌%◌, ◌^◌, length}
 use Rattle.flat_machine.specs.Machine.{Machine}
 use Rattle.flat_machine.specs.Next.{new_id}
-use Rattle.embedded.specs.Engine.{StandsFor}
+use Rattle.embedded.specs.Engine.{StandsFor, disk_of}
+use Rattle.embedded.specs.Spending.{IsLater}
+use Rattle.documents.proofs.SpentLemmas.{AppendedSoFar}
 use Rattle.documents.specs.Pieces.{adding}
 use Rattle.documents.specs.Stands.{IsFresh, blank}
 use Rattle.documents.proofs.FillLemmas.{IsSoFar}
 use Rattle.std.specs.Io.KnownBytes.{IsAtEnd}
 use Rattle.documents.specs.Course.{Led, is_quiet}
+use Rattle.documents.specs.Stops.{StaysUnseen}
 use Rattle.documents.proofs.putting.append_all.Given as goal
 
 -- the bytes fit the pages, and where fewer were taken than there is room for, the source has ended
@@ -20,8 +23,11 @@ invariant-windows g l = record {
   filled : (m : Machine) → IsFresh m l.fn.id → l.fn.id ≡ new_id m → StandsFor l.fn.engine (adding (blank m) m)
       → IsSoFar m l.bytes l.pages l.count l.buffer (g.S.Source.left l.fn.source) (g.S.Source.left l.source) l.engine;
   led : Led is_quiet l.fn.engine l.engine;
+  stops : StaysUnseen l.fn.id l.fn.engine l.engine;
   ended : l.count < l.room → IsAtEnd (g.S.Source.left l.source);
   later : g.S.Source.faults l.fn.source ≤ g.S.Source.faults l.source;
+  same_disk : IsLater (disk_of l.fn.engine) (disk_of l.engine);
+  spent : AppendedSoFar (length l.fn.buffer - length l.fn.buffer % 512) l.bytes l.count (g.S.Source.left l.fn.source) (g.S.Source.left l.source) l.fn.engine l.engine;
 }
 
 abbrev pub decreases-windows : goal.decreases-windows

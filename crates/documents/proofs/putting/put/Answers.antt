@@ -10,6 +10,22 @@ use Rattle.documents.specs.Stands.{IsFresh, IsPut}
 use Rattle.documents.proofs.AddingLemmas.{fresh}
 use Rattle.documents.proofs.MachineLemmas.{machine_of}
 use Rattle.documents.proofs.PutLemmas.{undone_by}
+use Rattle.std.specs.Int.{div_ceil}
+use Rattle.documents.proofs.CauseLemmas.{blamed_code, blamed_undone, fault_since}
+use Rattle.embedded.proofs.SpendLemmas.{later_itself, later_then, spends_called, spends_none, spends_then, spends_within}
+use Rattle.documents.specs.Spent.{windows}
+use Rattle.std.proofs.Common.{◌+◌, ◌*◌, length, Err}
+use Rattle.labelled_disk.specs.Sectors.{Sector}
+use Rattle.flat_machine.specs.Next.{new_id}
+use Rattle.flat_machine.proofs.KeepNew.{none_new}
+use Rattle.embedded.specs.Stops.{Leaves}
+use Rattle.session_words.specs.StandsFor.{RevealsSettled}
+use Rattle.documents.specs.Stops.{WholeOrAbsent}
+use Rattle.documents.proofs.LooksLemmas.{looks_itself}
+use Rattle.documents.proofs.UnseenLemmas.{leaves_less}
+use Rattle.documents.proofs.WholeLemmas.{marks_err, marks_ok, undone_leaves}
+use Rattle.documents.specs.declared.fault.Fault.{Fault}
+use Rattle.documents.proofs.RefusedLemmas.{kept_other}
 use Rattle.documents.proofs.putting.put.Goals as goal
 
 pub returns-in-Err-clause-undone : goal.returns-in-Err-clause-undone
@@ -59,3 +75,91 @@ returns-in-Err-fill_file-clause-kept g c = λ m stands.
 
 pub returns-in_default-clause-kept : goal.returns-in_default-clause-kept
 returns-in_default-clause-kept g c = λ m stands. inr (m.counter, omega arith, stands)
+
+-- one call, the windows, and five calls; or one more
+pub returns-in_default-clause-spends : goal.returns-in_default-clause-spends
+returns-in_default-clause-spends g c = λ xs told. spends_none _ _ c.args.engine.now
+
+pub returns-in-Err-clause-spends : goal.returns-in-Err-clause-spends
+returns-in-Err-clause-spends g c = λ xs told.
+    spends_within 1 0 _ _ c.args.engine.now c.new_file.new.engine (omega arith) (omega arith) c.new_file.ensures.spends
+
+pub returns-in-Ok-fill_file-clause-spends : goal.returns-in-Ok-fill_file-clause-spends
+returns-in-Ok-fill_file-clause-spends g c = λ xs told.
+    spends_then 1 0 (5 + 5 * windows (length c.args.buffer.now) (length xs)) (1 + div_ceil (length xs) 512) _ _ c.args.engine.now c.new_file.new.engine c.fill_file.new.engine
+    (omega arith) (omega arith) c.new_file.ensures.spends (c.fill_file.ensures.spends xs told)
+
+pub returns-in-Err-fill_file-clause-spends : goal.returns-in-Err-fill_file-clause-spends
+returns-in-Err-fill_file-clause-spends g c = λ xs told.
+    let count = windows (length c.args.buffer.now) (length xs) in
+    let pages = div_ceil (length xs) 512 in
+    spends_then (6 + 5 * count) (1 + pages) 1 0 _ _ c.args.engine.now c.fill_file.new.engine c.delete.new.self (omega arith) (omega arith)
+    (spends_then 1 0 (5 + 5 * count) (1 + pages) (6 + 5 * count) (1 + pages) c.args.engine.now c.new_file.new.engine c.fill_file.new.engine
+    (omega arith) (omega arith) c.new_file.ensures.spends (c.fill_file.ensures.spends xs told))
+    (spends_called _ c.fill_file.new.engine c.delete.new.self _ c.delete.ensures)
+
+pub returns-in_default-clause-later : goal.returns-in_default-clause-later
+returns-in_default-clause-later g c = later_itself _
+
+pub returns-in-Err-clause-later : goal.returns-in-Err-clause-later
+returns-in-Err-clause-later g c = c.new_file.ensures.spends.later
+
+pub returns-in-Ok-fill_file-clause-later : goal.returns-in-Ok-fill_file-clause-later
+returns-in-Ok-fill_file-clause-later g c = later_then _ _ _ c.new_file.ensures.spends.later c.fill_file.ensures.later
+
+pub returns-in-Err-fill_file-clause-later : goal.returns-in-Err-fill_file-clause-later
+returns-in-Err-fill_file-clause-later g c =
+    later_then _ _ _ (later_then _ _ _ c.new_file.ensures.spends.later c.fill_file.ensures.later) c.delete.ensures.later
+
+-- the disk is blamed where one of them blames it
+pub returns-in-Err-clause-cause : goal.returns-in-Err-clause-cause
+returns-in-Err-clause-cause g c = λ is.
+    blamed_code _ c.in-Err.code c.args.engine.now c.new_file.new.engine c.new_file.ensures.cause c.in-Err.is (cc is)
+
+pub returns-in-Err-fill_file-clause-cause : goal.returns-in-Err-fill_file-clause-cause
+returns-in-Err-fill_file-clause-cause g c = λ is.
+    blamed_undone c.in-Err-fill_file.fault c.fault_after.result c.delete.result c.args.engine.now c.fill_file.new.engine c.delete.new.self
+    (fault_since _ c.in-Err-fill_file.fault c.args.engine.now c.new_file.new.engine c.fill_file.new.engine c.new_file.ensures.spends.later c.fill_file.ensures.cause
+    c.in-Err-fill_file.is)
+    (later_then _ _ _ c.new_file.ensures.spends.later c.fill_file.ensures.later) c.delete.ensures.later c.delete.ensures.cause c.fault_after.ensures.which (cc is)
+
+pub returns-in-Err-clause-stops : goal.returns-in-Err-clause-stops
+returns-in-Err-clause-stops g c = λ m stands.
+    let h = machine_of c.args.engine.now m stands in
+    let unseen = c.new_file.ensures.stops (new_id m) m (inr (m, looks_itself m (new_id m) h (none_new m h), stands)) in
+    leaves_less (λ d. RevealsSettled d m) (WholeOrAbsent m c.args.name.now (g.S.Source.left c.args.source.now)) (λ d r. inl r) c.args.engine.now c.new_file.new.engine unseen.leaves
+
+pub returns-in-Ok-fill_file-clause-stops : goal.returns-in-Ok-fill_file-clause-stops
+returns-in-Ok-fill_file-clause-stops g c = λ m stands.
+    let h = machine_of c.args.engine.now m stands in
+    let id = c.in-Ok-new_file.id in
+    let left = g.S.Source.left c.args.source.now in
+    let made = c.in-Ok-new_file.ensures.made m stands in
+    let is_fresh = subst (λ (id : ℕ). IsFresh m id) (sym made.0) (fresh m h) in
+    let unseen = c.new_file.ensures.stops id m (inr (m, looks_itself m id h is_fresh.none, stands)) in
+    let marks = subst (λ (name : List ℕ). Leaves (WholeOrAbsent m name left) c.new_file.new.engine c.fill_file.new.engine) c.in-Ok.ensures.ok
+    (c.in-Ok-fill_file.ensures.stops m h is_fresh made.0 made.1) in
+    marks_ok (WholeOrAbsent m c.args.name.now left) m id c.args.engine.now c.new_file.new.engine c.fill_file.new.engine (λ d r. inl r) unseen marks
+
+pub returns-in-Err-fill_file-clause-stops : goal.returns-in-Err-fill_file-clause-stops
+returns-in-Err-fill_file-clause-stops g c = λ m stands.
+    let h = machine_of c.args.engine.now m stands in
+    let id = c.in-Ok-new_file.id in
+    let left = g.S.Source.left c.args.source.now in
+    let made = c.in-Ok-new_file.ensures.made m stands in
+    let is_fresh = subst (λ (id : ℕ). IsFresh m id) (sym made.0) (fresh m h) in
+    let unseen = c.new_file.ensures.stops id m (inr (m, looks_itself m id h is_fresh.none, stands)) in
+    let fails = marks_err (WholeOrAbsent m c.in-Ok.name.bytes left) m id c.args.engine.now c.new_file.new.engine c.fill_file.new.engine (λ d r. inl r) unseen
+    (c.in-Err-fill_file.ensures.stops m h is_fresh made.0 made.1) in
+    subst (λ (name : List ℕ). Leaves (WholeOrAbsent m name left) c.args.engine.now c.delete.new.self) c.in-Ok.ensures.ok
+    (undone_leaves (WholeOrAbsent m c.in-Ok.name.bytes left) m id c.args.engine.now c.fill_file.new.engine c.delete.new.self _ (λ d r. inl r) fails c.delete.ensures)
+
+pub returns-in-Err-fill_file-clause-other : goal.returns-in-Err-fill_file-clause-other
+returns-in-Err-fill_file-clause-other g c = λ is.
+    kept_other fault.NoDocument c.in-Err-fill_file.fault c.fault_after.result c.delete.result (λ k e. cc e)
+    (λ e. c.fill_file.ensures.other (c.in-Err-fill_file.is ∙ ap (λ (x : Fault). Err x) e)) c.fault_after.ensures.which (cc is)
+
+pub returns-in-Err-fill_file-clause-long : goal.returns-in-Err-fill_file-clause-long
+returns-in-Err-fill_file-clause-long g c = λ is.
+    absurd (kept_other fault.LongName c.in-Err-fill_file.fault c.fault_after.result c.delete.result (λ k e. cc e)
+    (λ e. c.fill_file.ensures.long (c.in-Err-fill_file.is ∙ ap (λ (x : Fault). Err x) e)) c.fault_after.ensures.which (cc is))

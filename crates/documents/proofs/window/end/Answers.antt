@@ -3,6 +3,8 @@ use Rattle.labelled_disk.specs.declared.evidence.Halt.TheVariants as halt
 use Rattle.std.proofs.Common.{ap, inl, Err}
 use Rattle.embedded.specs.declared.code.Code.{Code}
 use Rattle.documents.proofs.MoveLemmas.{end_err, end_failed, match_weaker}
+use Rattle.documents.proofs.CauseLemmas.{ended_by}
+use Rattle.std.proofs.Common.{inr}
 use Rattle.documents.proofs.window.end.Goals as goal
 
 pub returns-in-Err-clause-stopped : goal.returns-in-Err-clause-stopped
@@ -29,3 +31,11 @@ returns-in-Err-clause-failed g c = λ bad.
     (end_failed c.args.engine.now c.answer_of.result c.in-Err.code c.hide-hidden.result
     (λ is. stopped_code halt.Disk _ c.in-Err.code c.args.engine.now c.requires.halted c.in-Err.is is)
     c.hide-hidden.ensures.closed c.answer_of.ensures.which (cc (c.in-Err.is, bad)))
+
+pub returns-in-Ok-clause-cause : goal.returns-in-Ok-clause-cause
+returns-in-Ok-clause-cause g c = λ is. inr (c.hide-hidden.ensures.cause is)
+
+pub returns-in-Err-clause-cause : goal.returns-in-Err-clause-cause
+returns-in-Err-clause-cause g c = λ is.
+    ended_by _ c.in-Err.code c.answer_of.result c.hide-hidden.result c.args.engine.now c.hide-hidden.new.engine c.hide-hidden.ensures.cause
+    c.in-Err.is c.answer_of.ensures.which (cc is)

@@ -8,6 +8,7 @@ use Rattle.embedded.proofs.PieceLemmas.{loaded_at}
 use Rattle.embedded.proofs.ReferenceLemmas.{load_err, load_stops, placed}
 use Rattle.embedded.proofs.StopLemmas.{load_leaves}
 use borrow.Rule.Slice.PartMut.{mid_of, put_mid, put_same}
+use Rattle.embedded.proofs.SpendLemmas.{spends_none, spends_piece}
 use Rattle.embedded.proofs.engine.Engine.load_next.Goals as goal
 
 pub returns-in-Ok-clause-loaded : goal.returns-in-Ok-clause-loaded
@@ -77,3 +78,17 @@ returns-in-Ok-clause-leaves g c = λ m stands. load_leaves m _ _ c.args.self.now
 
 pub returns-in-Err-clause-leaves : goal.returns-in-Err-clause-leaves
 returns-in-Err-clause-leaves g c = λ m stands. load_leaves m _ _ c.args.self.now c.load_piece.new.self _ c.in-Err.ensures.called stands
+
+-- the piece goes up to the end of its page, unless it is the last one
+pub returns-in-Ok-clause-ends : goal.returns-in-Ok-clause-ends
+returns-in-Ok-clause-ends g c = λ more. omega (arith, c.in-Some.ensures, c.in_piece-count.ensures.ends (omega (arith, more)))
+
+-- what is spent is spent on the piece
+pub returns-in_default-clause-spends : goal.returns-in_default-clause-spends
+returns-in_default-clause-spends g c = spends_none 0 1 c.args.self.now
+
+pub returns-in-Ok-clause-spends : goal.returns-in-Ok-clause-spends
+returns-in-Ok-clause-spends g c = spends_piece _ c.args.self.now c.load_piece.new.self _ refl c.in-Ok.ensures.called
+
+pub returns-in-Err-clause-spends : goal.returns-in-Err-clause-spends
+returns-in-Err-clause-spends g c = spends_piece _ c.args.self.now c.load_piece.new.self _ refl c.in-Err.ensures.called

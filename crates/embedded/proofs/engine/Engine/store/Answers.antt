@@ -1,10 +1,11 @@
-use Rattle.std.proofs.Common.{◌≡◌, ◌∙◌, ap, Err, rules}
+use Rattle.std.proofs.Common.{◌≡◌, ◌∙◌, ◌%◌, ap, arith, length, refl, Err, rules}
 use Rattle.labelled_disk.specs.declared.evidence.Halt.TheVariants as halt
 use Rattle.embedded.specs.declared.code.Code.{Code}
 use Rattle.embedded.specs.declared.code.Code.TheVariants as code
 use Rattle.embedded.specs.Stops.{RevealsPart}
 use Rattle.embedded.proofs.FaultLemmas.{rose_since}
 use Rattle.embedded.proofs.StopLemmas.{leaves_then}
+use Rattle.embedded.proofs.SpendLemmas.{so_far_ends, so_far_none, so_far_stops, so_far_then}
 use Rattle.embedded.proofs.engine.Engine.store.Goals as goal
 
 -- a halt is the piece's
@@ -32,6 +33,8 @@ pieces-preserved g c = record {
   leaves = λ m stands.
       leaves_then (RevealsPart m c.args.address c.args.bytes.now) c.args.self.now c.pieces.self c.store_next.new.self (c.pieces.invariant.leaves m stands)
       (c.store_next.ensures.leaves m (c.pieces.invariant.stored m stands));
+  spent = so_far_then c.args.address (c.args.address % 512) c.pieces.done c.in-Ok.count (length c.args.bytes.now) c.args.self.now c.pieces.self c.store_next.new.self
+      refl (omega (arith, c.pieces-test.true)) c.in-Ok.ensures.more.0 (c.in-Ok.ensures.ends) c.pieces.invariant.spent c.store_next.ensures.spends;
   closed = search rules;
 }
 
@@ -39,3 +42,24 @@ pub returns-in-Err-clause-leaves : goal.returns-in-Err-clause-leaves
 returns-in-Err-clause-leaves g c = λ m stands.
     leaves_then (RevealsPart m c.args.address c.args.bytes.now) c.args.self.now c.pieces.self c.store_next.new.self (c.pieces.invariant.leaves m stands)
     (c.store_next.ensures.leaves m (c.pieces.invariant.stored m stands))
+
+pub pieces-init : goal.pieces-init
+pieces-init g c = record {
+  within = search rules;
+  stored = search rules;
+  faults = search rules;
+  leaves = search rules;
+  spent = so_far_none (c.args.address % 512) (length c.args.bytes.now) c.args.self.now;
+  closed = search rules;
+}
+
+-- what was spent was spent on the pieces
+pub returns-clause-spends : goal.returns-clause-spends
+returns-clause-spends g c =
+    so_far_ends (c.args.address % 512) c.pieces.done (length c.args.bytes.now) c.args.self.now c.pieces.self
+    (c.pieces.invariant.within) c.pieces.invariant.spent
+
+pub returns-in-Err-clause-spends : goal.returns-in-Err-clause-spends
+returns-in-Err-clause-spends g c =
+    so_far_stops (c.args.address % 512) c.pieces.done (length c.args.bytes.now) c.args.self.now c.pieces.self c.store_next.new.self
+    (omega (arith, c.pieces-test.true)) c.pieces.invariant.spent c.store_next.ensures.spends

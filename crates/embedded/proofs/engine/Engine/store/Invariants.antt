@@ -1,8 +1,9 @@
-use Rattle.std.proofs.Common.{◌≡◌, ◌≤◌, ◌-◌, length}
+use Rattle.std.proofs.Common.{◌≡◌, ◌≤◌, ◌-◌, ◌%◌, length}
 use Rattle.flat_machine.specs.Machine.{Machine}
 use Rattle.embedded.specs.Engine.{IsClosed, LosesNoFault, StandsFor}
 use Rattle.embedded.specs.References.{Stored}
 use Rattle.embedded.specs.Stops.{Leaves, RevealsPart}
+use Rattle.embedded.proofs.SpendLemmas.{SpentSoFar}
 use Rattle.embedded.proofs.engine.Engine.store.Given as goal
 
 -- so many bytes were stored, and none where there is no session
@@ -12,6 +13,7 @@ invariant-pieces g l = record {
   stored : (m : Machine) → StandsFor l.fn.self m → Stored m l.address l.done l.bytes l.self;
   faults : LosesNoFault l.fn.self l.self;
   leaves : (m : Machine) → StandsFor l.fn.self m → Leaves (RevealsPart m l.address l.bytes) l.fn.self l.self;
+  spent : SpentSoFar (l.address % 512) l.done (length l.bytes) l.fn.self l.self;
   closed : IsClosed l.fn.self → (l.done ≡ 0) × (l.self ≡ l.fn.self);
 }
 

@@ -9,6 +9,7 @@ use Rattle.embedded.specs.Called.{Called}
 use Rattle.embedded.specs.References.{IsPiece, StoredPiece}
 use Rattle.embedded.proofs.ReferenceLemmas.{store_err, store_ok, store_stops, stored_still, stored_then}
 use Rattle.embedded.proofs.StopLemmas.{store_leaves}
+use Rattle.embedded.proofs.SpendLemmas.{spends_none, spends_piece}
 use Rattle.embedded.proofs.engine.Engine.store_next.Goals as goal
 
 pub returns-in-Ok-clause-stored : goal.returns-in-Ok-clause-stored
@@ -71,3 +72,17 @@ returns-in-Err-clause-leaves g c = λ m s.
     store_leaves m c.args.address done n bytes c.args.self.now c.store_piece.new.self (Err c.in-Err.code) (omega (arith, c.requires)) s
     (subst (λ (a : ℕ). IsPiece a (length bytes - done) n) c.in-Some.ensures c.in_piece-count.ensures.piece)
     (subst (λ (a : ℕ). Called (call.Store a (slice_range bytes done (done + n))) c.args.self.now (Err c.in-Err.code) c.store_piece.new.self) c.in-Some.ensures c.in-Err.ensures.called)
+
+-- the piece goes up to the end of its page, unless it is the last one
+pub returns-in-Ok-clause-ends : goal.returns-in-Ok-clause-ends
+returns-in-Ok-clause-ends g c = λ more. omega (arith, c.in-Some.ensures, c.in_piece-count.ensures.ends (omega (arith, more)))
+
+-- what is spent is spent on the piece
+pub returns-in_default-clause-spends : goal.returns-in_default-clause-spends
+returns-in_default-clause-spends g c = spends_none 0 1 c.args.self.now
+
+pub returns-in-Ok-clause-spends : goal.returns-in-Ok-clause-spends
+returns-in-Ok-clause-spends g c = spends_piece _ c.args.self.now c.store_piece.new.self _ refl c.in-Ok.ensures.called
+
+pub returns-in-Err-clause-spends : goal.returns-in-Err-clause-spends
+returns-in-Err-clause-spends g c = spends_piece _ c.args.self.now c.store_piece.new.self _ refl c.in-Err.ensures.called

@@ -12,4 +12,7 @@ returns g c = record {
   counted = (counted_in _ _ _ c.step.result c.step.ensures.fails);
   evidence_seen = (evidence_seen_in _ _ _ c.step.result c.step.ensures.fails);
   goes_on = c.step.ensures.goes_on;
+  later = record { sectors = c.step.ensures.wrote.makes.went.sectors; faults = c.step.ensures.wrote.makes.went.faults };
+  cost = λ m r. (c.step.ensures.answers m r).cost;
+  few = c.step.ensures.reference;
 }
