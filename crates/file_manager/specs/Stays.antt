@@ -21,34 +21,34 @@ use Rattle.file_manager.specs.Grounds.{IsMapsHome, IsUnframed, KeepsMap}
 use Rattle.file_manager.specs.Looking.{Looks}
 use Rattle.file_manager.specs.Roots.{RootStays, RootCounts}
 
--- frames, layout and the runs that are kept are those of before
+-- Frames, layout and the runs that are kept are those of before.
 pub record FramesStay (v w : View) : Type 0 where
   pub frames : w.slots ≡ v.slots
   pub layout : w.layout ≡ v.layout
   pub runs : w.runs ≡ v.runs
 
--- layout and the runs that are kept are
+-- Layout and the runs that are kept are those of before.
 pub record RunsStay (v w : View) : Type 0 where
   pub layout : w.layout ≡ v.layout
   pub runs : w.runs ≡ v.runs
 
--- the layout is, and the sector of the root in each crash state
+-- The layout is that of before, and so is the sector of the root in each crash state.
 pub record KeepsRoot (v w : View) : Type 0 where
   pub root : RootStays v.disk w.disk
   pub layout : w.layout ≡ v.layout
 
--- so are the runs that are kept
+-- Layout, the runs that are kept, and the sector of the root in each crash state are those of before.
 pub record KeepsRootAndRuns (v w : View) : Type 0 where
   pub root : RootStays v.disk w.disk
   pub layout : w.layout ≡ v.layout
   pub runs : w.runs ≡ v.runs
 
--- the layout is, and the root's counter is raised once
+-- The layout is that of before, and the root's counter is raised once.
 pub record CountsInRoot (was : Root) (v w : View) : Type 0 where
   pub root : RootCounts was v.disk w.disk
   pub layout : w.layout ≡ v.layout
 
--- the disk reveals what it did, nothing but pages of frames was written, and all else is as it was
+-- The disk reveals what it did, nothing but pages of frames was written, and all else is as it was.
 pub record ReadsAlone (v w : View) : Type 0 where
   pub same : RevealsSame v.disk w.disk
   pub makes : MakesOnly no_page [] v w
@@ -56,7 +56,7 @@ pub record ReadsAlone (v w : View) : Type 0 where
   pub layout : w.layout ≡ v.layout
   pub runs : w.runs ≡ v.runs
 
--- no label was written, and pages of the maps alone came into frames
+-- No label was written, and pages of the maps alone came into frames.
 pub record LooksAlone (v w : View) : Type 0 where
   pub makes : MakesOnly volume_page [] v w
   pub looks : Looks v.layout v.disk v.slots (kept_by v) w.disk w.slots (runs_of v.layout.sectors w.runs)

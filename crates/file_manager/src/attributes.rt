@@ -1,25 +1,18 @@
 //! What a client may ask of a file.
-ghost use Rattle.std.specs.Prelude.{◌≡◌, ◌⊎◌, ℕ, ◌+◌, ◌≤◌, ◌<◌, true, List, [], Ok, Err, None, IfOk, IfSome, IfErr, OnOk, MatchResult};
-ghost use Rattle.labelled_disk.specs.Calls.{Rose};
+ghost use Rattle.std.specs.Prelude.{◌≡◌, ◌⊎◌, ℕ, ◌+◌, ◌≤◌, ◌<◌, true, List, Ok, Err, None, IfOk, IfSome, IfErr, MatchResult};
 ghost use Rattle.labelled_disk.specs.Label.{leader_page};
 ghost use Rattle.labelled_disk.specs.Sectors.{Sector};
 ghost use Rattle.labelled_disk.specs.declared.evidence.Halt.TheVariants as halt;
 ghost use Rattle.file_map.specs.FileMap.{IsSize, Triples};
 ghost use Rattle.flat_machine.specs.declared.space.Space.{Space};
-ghost use Rattle.swapper_kernel.specs.Goes.{Makes};
-ghost use Rattle.swapper_kernel.specs.Stands.{Stands};
 ghost use Rattle.session_words.specs.Parts.{Shapes};
-ghost use Rattle.session_words.specs.Volume.{volume_page};
-ghost use Rattle.filer_kernel.specs.Cached.{runs_of};
-ghost use Rattle.filer_kernel.specs.Evidence.{ShowsEvidence};
 ghost use Rattle.filer_kernel.specs.Triples.{AreOf, MapIs};
 ghost use Rattle.file_manager.specs.Attributes.{HasLeader, IsAttributesOf};
-ghost use Rattle.file_manager.specs.Book.{BooksUpto, BringsOwn};
+ghost use Rattle.file_manager.specs.Book.{BooksUpto};
 ghost use Rattle.file_manager.specs.Causes.{NamesNone};
 ghost use Rattle.file_manager.specs.Finding.{FileHalts};
-ghost use Rattle.file_manager.specs.Looking.{Looks};
 ghost use Rattle.file_manager.specs.Reasons.{Keeps, InitialState, ShowsReason};
-ghost use Rattle.filer_kernel.specs.View.{FitsLayout, HasMemory, kept_by, MakesOnly, view_of};
+ghost use Rattle.filer_kernel.specs.View.{FitsLayout, HasMemory, kept_by, view_of};
 ghost use Rattle.file_manager.specs.Stays.{LooksAlone};
 ghost use Rattle.filer_kernel.specs.Fails.{Fails};
 

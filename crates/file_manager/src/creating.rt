@@ -1,5 +1,5 @@
 //! Files that are created.
-ghost use Rattle.std.specs.Prelude.{◌≡◌, ℕ, ◌+◌, ◌*◌, ◌^◌, ◌≤◌, ◌<◌, List, [], ◌∷◌, IfOk, IfErr, OnErr, OnOk, MatchResult};
+ghost use Rattle.std.specs.Prelude.{◌≡◌, ◌+◌, ◌*◌, ◌^◌, ◌≤◌, ◌<◌, List, [], ◌∷◌, IfErr, OnOk, MatchResult};
 ghost use Rattle.labelled_disk.specs.declared.evidence.Halt.TheVariants as halt;
 ghost use Rattle.labelled_disk.specs.CrashState.{written};
 ghost use Rattle.labelled_disk.specs.Calls.{Rose};
@@ -11,11 +11,9 @@ ghost use Rattle.session_words.specs.Parts.{Shapes};
 ghost use Rattle.swapper_kernel.specs.Goes.{Goes, no_page};
 ghost use Rattle.volume_root.specs.RootPage.{IsValidRoot, root_write};
 ghost use Rattle.file_manager.specs.Grounds.{CreateHalts, IsNewPage};
-ghost use Rattle.filer_kernel.specs.Evidence.{ShowsEvidence};
 ghost use Rattle.file_manager.specs.CreateBroken.{CreatedSome};
 ghost use Rattle.file_manager.specs.Creating.{next_id, counted, CreatedAs, NewMade, NewSome};
 ghost use Rattle.file_manager.specs.Making.{MayCreate};
-ghost use Rattle.file_manager.specs.Roots.{RootCounts};
 ghost use Rattle.file_manager.specs.Reasons.{giving, IsNotOlder, Keeps, KeepsFrom, InitialState, ShowsReason};
 ghost use Rattle.filer_kernel.specs.View.{FitsLayout, view_of};
 ghost use Rattle.file_manager.specs.Stays.{FramesStay, CountsInRoot};

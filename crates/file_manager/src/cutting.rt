@@ -1,6 +1,5 @@
 //! Files that get fewer pages: pages are freed, and the file map has them no more.
-ghost use Rattle.std.specs.Prelude.{◌≡◌, ◌⊎◌, ℕ, ◌+◌, ◌-◌, ◌*◌, ◌≤◌, ◌<◌, ◌==◌, true, not, List, [], filter, IfErr, OnErr, OnOk, MatchResult};
-ghost use Rattle.labelled_disk.specs.Calls.{Rose};
+ghost use Rattle.std.specs.Prelude.{◌≡◌, ◌⊎◌, ◌+◌, ◌-◌, ◌*◌, ◌≤◌, ◌<◌, true, List, IfErr, OnOk, MatchResult};
 ghost use Rattle.labelled_disk.specs.Label.{leader_page, is_permanent};
 ghost use Rattle.labelled_disk.specs.Sectors.{Sector, AreSectors};
 ghost use Rattle.labelled_disk.specs.declared.evidence.Halt.TheVariants as halt;
@@ -12,14 +11,11 @@ ghost use Rattle.label_calls.specs.Own.{RelabelsOwn};
 ghost use Rattle.swapper_kernel.specs.declared.manager.Manager.TheVariants.{FileMap as FileMapPages};
 ghost use Rattle.swapper_kernel.specs.Maps.{IsMapHome};
 ghost use Rattle.swapper_kernel.specs.Homes.{AreNamed};
-ghost use Rattle.swapper_kernel.specs.Stands.{Stands, labels_of};
-ghost use Rattle.swapper_kernel.specs.Window.{Beside};
+ghost use Rattle.swapper_kernel.specs.Stands.{labels_of};
 ghost use Rattle.filer_kernel.specs.Becomes.{Becomes};
-ghost use Rattle.filer_kernel.specs.Cached.{runs_of};
 ghost use Rattle.filer_kernel.specs.Causes.{MapShows, MapHalts, CutHalts, IsFaultOrMismatch};
 ghost use Rattle.filer_kernel.specs.Triples.{MapIs};
 ghost use Rattle.file_manager.specs.Grounds.{ShrinkHalts, IsUnframed};
-ghost use Rattle.filer_kernel.specs.Evidence.{ShowsEvidence};
 ghost use Rattle.session_words.specs.Parts.{Shape, Shapes, IsTriple};
 ghost use Rattle.file_manager.specs.Freeing.{MakesFree, MakesSomeFree};
 ghost use Rattle.file_manager.specs.Shrinking.{MayShrink, ShrunkBy, ShrunkSome, IsLeaderAlone, cut_triples};

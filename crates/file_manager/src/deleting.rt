@@ -1,21 +1,14 @@
 //! Files that are deleted.
-ghost use Rattle.std.specs.Prelude.{◌≡◌, ℕ, ◌+◌, ◌-◌, ◌*◌, ◌^◌, ◌≤◌, false, List, Some, IfErr, OnErr, OnOk, Err, MatchResult};
+ghost use Rattle.std.specs.Prelude.{◌≡◌, ◌+◌, ◌-◌, ◌*◌, ◌^◌, ◌≤◌, List, Some, IfErr, Err, MatchResult};
 ghost use Rattle.labelled_disk.specs.declared.evidence.Halt.TheVariants as halt;
-ghost use Rattle.labelled_disk.specs.Calls.{Rose};
 ghost use Rattle.labelled_disk.specs.Sectors.{Sector};
 ghost use Rattle.file_map.specs.FileMap.{Triples, most_records};
 ghost use Rattle.flat_machine.specs.declared.space.Space.{Space};
-ghost use Rattle.label_calls.specs.Own.{RelabelsOwn};
-ghost use Rattle.label_calls.specs.Synced.{SyncsLeaders};
-ghost use Rattle.session_words.specs.FrameLaws.{is_shown};
 ghost use Rattle.session_words.specs.Parts.{Shape, Shapes};
 ghost use Rattle.file_manager.specs.Grounds.{DeleteHalts};
-ghost use Rattle.filer_kernel.specs.Cached.{runs_of};
-ghost use Rattle.filer_kernel.specs.Evidence.{ShowsEvidence};
 ghost use Rattle.file_manager.specs.Book.{Books};
-ghost use Rattle.file_manager.specs.Deleting.{DeletedBy, DeletesFirst, MakesOneFree};
+ghost use Rattle.file_manager.specs.Deleting.{MakesOneFree};
 ghost use Rattle.file_manager.specs.Freeing.{MakesSomeFree};
-ghost use Rattle.file_manager.specs.Roots.{RootStays};
 ghost use Rattle.file_manager.specs.Reasons.{Keeps, KeepsFrom, InitialState, ShowsReason};
 ghost use Rattle.filer_kernel.specs.View.{FitsLayout, kept_by, view_of};
 ghost use Rattle.file_manager.specs.Outcomes.{RelabelsAround, Deletes};

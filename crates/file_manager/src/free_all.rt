@@ -1,16 +1,11 @@
 //! All pages of a file that become free, its leader first.
-ghost use Rattle.std.specs.Prelude.{◌≡◌, ℕ, ◌+◌, ◌*◌, ◌≤◌, List, IfErr, OnErr, OnOk, Err, ◌<◌, ◌⊎◌, MatchResult};
+ghost use Rattle.std.specs.Prelude.{◌≡◌, ◌+◌, ◌*◌, ◌≤◌, List, IfErr, Err, ◌<◌, ◌⊎◌, MatchResult};
 ghost use Rattle.labelled_disk.specs.declared.evidence.Halt.TheVariants as halt;
-ghost use Rattle.labelled_disk.specs.Calls.{Rose};
 ghost use Rattle.labelled_disk.specs.Sectors.{Sector};
 ghost use Rattle.file_map.specs.FileMap.{Triples};
 ghost use Rattle.flat_machine.specs.declared.space.Space.{Space};
-ghost use Rattle.file_manager.specs.Grounds.{FreeHalts, IsUnframed, KeepsMap};
-ghost use Rattle.filer_kernel.specs.Cached.{runs_of};
+ghost use Rattle.file_manager.specs.Grounds.{FreeHalts, IsUnframed};
 ghost use Rattle.labelled_disk.specs.Label.{leader_page};
-ghost use Rattle.filer_kernel.specs.Evidence.{ShowsEvidence};
-ghost use Rattle.label_calls.specs.Own.{RelabelsOwn};
-ghost use Rattle.label_calls.specs.Synced.{SyncsLeaders};
 ghost use Rattle.file_manager.specs.Freeing.{MayFreeAll, FreedAll, FreedFirst, MakesFree, MakesSomeFree};
 ghost use Rattle.file_manager.specs.Reasons.{AreReleased, Keeps, InitialState, ShowsReason};
 ghost use Rattle.filer_kernel.specs.View.{FitsLayout, kept_by, view_of};

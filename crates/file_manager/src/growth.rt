@@ -1,7 +1,6 @@
 //! Pages of a file that are made: free sectors are taken, labelled, and put into the file map.
-ghost use Rattle.std.specs.Prelude.{◌≡◌, ℕ, ◌+◌, ◌-◌, ◌*◌, ◌^◌, ◌≤◌, ◌<◌, true, false, List, length, Some, IfOk, IfErr, OnErr, OnOk, Err, None, MatchResult};
+ghost use Rattle.std.specs.Prelude.{◌≡◌, ℕ, ◌+◌, ◌-◌, ◌*◌, ◌^◌, ◌≤◌, ◌<◌, true, false, List, length, Some, IfOk, IfErr, OnErr, Err, None, MatchResult};
 ghost use Rattle.labelled_disk.specs.declared.evidence.Halt.TheVariants as halt;
-ghost use Rattle.labelled_disk.specs.Calls.{Rose};
 ghost use Rattle.labelled_disk.specs.Label.{is_file_id};
 ghost use Rattle.labelled_disk.specs.Runs.{growth};
 ghost use Rattle.labelled_disk.specs.Sectors.{Sector};
@@ -10,17 +9,13 @@ ghost use Rattle.file_map.specs.FileMap.{Triples, with_run};
 ghost use Rattle.flat_machine.specs.declared.space.Space.{Space};
 ghost use Rattle.swapper_kernel.specs.declared.manager.Manager.TheVariants.{AllocationMap};
 ghost use Rattle.swapper_kernel.specs.Maps.{IsMapHome};
-ghost use Rattle.swapper_kernel.specs.Homes.{AreNamed, Brings};
-ghost use Rattle.swapper_kernel.specs.Goes.{Makes};
-ghost use Rattle.swapper_kernel.specs.Stands.{Stands};
-ghost use Rattle.swapper_kernel.specs.Window.{Beside};
+ghost use Rattle.swapper_kernel.specs.Homes.{AreNamed};
 ghost use Rattle.label_calls.specs.Labels.{free_ones};
 ghost use Rattle.label_calls.specs.Runs.{AreOfFile, AreUncovered, HaveOnes, RelabelsRun, MadeSome, IsOneTaken, NamedSome};
 ghost use Rattle.filer_kernel.specs.Becomes.{Becomes};
 ghost use Rattle.filer_kernel.specs.Marks.{Marks, BitsAre, marked, IsLowestRun};
-ghost use Rattle.file_manager.specs.Grounds.{IsMapsHome, RangeHalts, TakeHalts, MakesFor};
+ghost use Rattle.file_manager.specs.Grounds.{RangeHalts, TakeHalts, MakesFor};
 ghost use Rattle.swapper_kernel.specs.Halts.{HasCause};
-ghost use Rattle.filer_kernel.specs.Evidence.{ShowsEvidence};
 ghost use Rattle.session_words.specs.Parts.{Shape, Shapes};
 ghost use Rattle.session_words.specs.GrowLaws.{Grows};
 ghost use Rattle.session_words.specs.Volume.{volume_page};

@@ -1,5 +1,5 @@
 //! What the words say, as the contracts of functions that do nothing.
-ghost use Rattle.std.specs.Prelude.{ℕ, List};
+ghost use Rattle.std.specs.Prelude.{List};
 ghost use Rattle.labelled_disk.specs.declared.layout.Layout.{Layout};
 ghost use Rattle.labelled_disk.specs.Sectors.{Sector, AreSectors};
 ghost use Rattle.file_map.specs.declared.run.Run.{Run};

@@ -1,29 +1,20 @@
 //! Where the leader of a file stands.
-ghost use Rattle.std.specs.Prelude.{◌≡◌, ℕ, ◌+◌, ◌≤◌, ◌<◌, true, List, [], IfOk, IfErr, IfSome, MatchResult, OnOk, Ok, Err, None};
-ghost use Rattle.labelled_disk.specs.Calls.{Rose};
+ghost use Rattle.std.specs.Prelude.{◌≡◌, ℕ, ◌+◌, ◌≤◌, ◌<◌, true, List, IfOk, IfErr, IfSome, MatchResult, Ok, Err, None};
 ghost use Rattle.labelled_disk.specs.Label.{leader_page};
 ghost use Rattle.labelled_disk.specs.Sectors.{Sector};
 ghost use Rattle.labelled_disk.specs.declared.evidence.Halt.TheVariants as halt;
 ghost use Rattle.flat_machine.specs.declared.space.Space.{Space};
-ghost use Rattle.swapper_kernel.specs.declared.manager.Manager.TheVariants.{FileMap as FileMapPages};
-ghost use Rattle.swapper_kernel.specs.Goes.{Makes};
 ghost use Rattle.swapper_kernel.specs.Homes.{home_at};
-ghost use Rattle.swapper_kernel.specs.Stands.{Stands, labels_of};
-ghost use Rattle.swapper_kernel.specs.Window.{Reveals, Beside, Looked};
+ghost use Rattle.swapper_kernel.specs.Stands.{labels_of};
 ghost use Rattle.session_words.specs.Parts.{Shapes};
-ghost use Rattle.session_words.specs.Volume.{volume_page};
-ghost use Rattle.filer_kernel.specs.Cached.{runs_of};
-ghost use Rattle.filer_kernel.specs.Causes.{MapHalts, IsGiven, IsRunHome};
-ghost use Rattle.filer_kernel.specs.Triples.{MapIs, AreOf, IsOneOf};
-ghost use Rattle.file_map.specs.declared.run.Run.{Run as RunIs};
+ghost use Rattle.filer_kernel.specs.Causes.{MapHalts, IsRunHome};
+ghost use Rattle.filer_kernel.specs.Triples.{MapIs, AreOf};
 ghost use Rattle.file_map.specs.FileMap.{Triples};
-ghost use Rattle.file_manager.specs.Grounds.{KeepsMap, IsUnframed};
-ghost use Rattle.filer_kernel.specs.Evidence.{ShowsEvidence};
 ghost use Rattle.file_manager.specs.Answer.{IsLeaderOf};
-ghost use Rattle.file_manager.specs.Book.{BooksUpto, BringsOwn};
+ghost use Rattle.file_manager.specs.Book.{BooksUpto};
 ghost use Rattle.file_manager.specs.Causes.{NamesNone};
 ghost use Rattle.file_manager.specs.Reasons.{Keeps, InitialState, ShowsReason};
-ghost use Rattle.filer_kernel.specs.View.{FitsLayout, HasMemory, kept_by, MakesOnly, view_of};
+ghost use Rattle.filer_kernel.specs.View.{FitsLayout, HasMemory, kept_by, view_of};
 ghost use Rattle.file_manager.specs.Stays.{Searches};
 ghost use Rattle.filer_kernel.specs.Fails.{Fails};
 

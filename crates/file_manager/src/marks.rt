@@ -1,7 +1,6 @@
 //! Marks that a file gets for good.
-ghost use Rattle.std.specs.Prelude.{◌≡◌, ℕ, ◌+◌, ◌≤◌, false, List, Some, IfErr, OnErr, OnOk, Err, MatchResult};
+ghost use Rattle.std.specs.Prelude.{◌≡◌, ℕ, ◌+◌, ◌≤◌, false, List, Some, IfErr, Err, MatchResult};
 ghost use Rattle.labelled_disk.specs.declared.evidence.Halt.TheVariants as halt;
-ghost use Rattle.labelled_disk.specs.Calls.{Rose};
 ghost use Rattle.labelled_disk.specs.Label.{leader_page};
 ghost use Rattle.labelled_disk.specs.Sectors.{Sector};
 ghost use Rattle.file_map.specs.FileMap.{Triples};
@@ -9,17 +8,12 @@ ghost use Rattle.flat_machine.specs.declared.space.Space.{Space};
 ghost use Rattle.session_words.specs.FrameLaws.{is_shown};
 ghost use Rattle.session_words.specs.Parts.{Shape, Shapes};
 ghost use Rattle.label_calls.specs.Labels.{with_mark};
-ghost use Rattle.label_calls.specs.Own.{RelabelsOwn};
-ghost use Rattle.label_calls.specs.Synced.{SyncsLeaders};
 ghost use Rattle.label_laws.specs.Marks.{permanent_label, immutable_label};
 ghost use Rattle.label_calls.specs.declared.page.Mark.TheVariants.{Permanent, Immutable};
 ghost use Rattle.file_manager.specs.Answer.{IsMarked, WritesMark};
 ghost use Rattle.file_manager.specs.Book.{BooksUpto};
 ghost use Rattle.file_manager.specs.Broken.{MarksFirst};
 ghost use Rattle.file_manager.specs.Causes.{LeaderHalts};
-ghost use Rattle.filer_kernel.specs.Cached.{runs_of};
-ghost use Rattle.filer_kernel.specs.Evidence.{ShowsEvidence};
-ghost use Rattle.file_manager.specs.Roots.{RootStays};
 ghost use Rattle.file_manager.specs.Reasons.{Keeps, InitialState, ShowsReason};
 ghost use Rattle.filer_kernel.specs.View.{FitsLayout, kept_by, view_of};
 ghost use Rattle.file_manager.specs.Outcomes.{RelabelsAround};

@@ -1,21 +1,15 @@
 //! The files in the order of their identifiers.
-ghost use Rattle.std.specs.Prelude.{◌≡◌, ◌+◌, ◌<◌, ◌≤◌, List, [], IfOk, IfErr, OnOk, IfSome, MatchResult, Err};
-ghost use Rattle.labelled_disk.specs.Calls.{Rose};
+ghost use Rattle.std.specs.Prelude.{◌≡◌, ◌+◌, ◌<◌, ◌≤◌, List, IfOk, IfErr, IfSome, MatchResult, Err};
 ghost use Rattle.labelled_disk.specs.Sectors.{Sector};
 ghost use Rattle.labelled_disk.specs.declared.evidence.Halt.TheVariants as halt;
 ghost use Rattle.file_map.specs.FileMap.{Triples};
 ghost use Rattle.flat_machine.specs.declared.space.Space.{Space};
-ghost use Rattle.swapper_kernel.specs.Goes.{Makes};
 ghost use Rattle.session_words.specs.Parts.{Shapes};
-ghost use Rattle.session_words.specs.Volume.{volume_page};
-ghost use Rattle.filer_kernel.specs.Cached.{runs_of};
 ghost use Rattle.filer_kernel.specs.Causes.{MapHalts};
-ghost use Rattle.filer_kernel.specs.Evidence.{ShowsEvidence};
 ghost use Rattle.file_manager.specs.Answer.{IsNextFile};
-ghost use Rattle.file_manager.specs.Book.{Books, BringsOwn};
-ghost use Rattle.file_manager.specs.Looking.{Looks};
+ghost use Rattle.file_manager.specs.Book.{Books};
 ghost use Rattle.file_manager.specs.Reasons.{Keeps, InitialState, ShowsReason};
-ghost use Rattle.filer_kernel.specs.View.{FitsLayout, kept_by, MakesOnly, view_of};
+ghost use Rattle.filer_kernel.specs.View.{FitsLayout, view_of};
 ghost use Rattle.file_manager.specs.Stays.{LooksAlone};
 ghost use Rattle.filer_kernel.specs.Fails.{Fails};
 

@@ -1,7 +1,6 @@
 //! Files that get another size.
-ghost use Rattle.std.specs.Prelude.{◌≡◌, ◌+◌, ◌-◌, ◌*◌, ◌≤◌, ◌<◌, true, List, IfErr, OnErr, OnOk, min, Err, Some, MatchResult};
+ghost use Rattle.std.specs.Prelude.{◌≡◌, ◌+◌, ◌-◌, ◌*◌, ◌≤◌, ◌<◌, true, List, IfErr, Err, Some, MatchResult};
 ghost use Rattle.labelled_disk.specs.declared.evidence.Halt.TheVariants as halt;
-ghost use Rattle.labelled_disk.specs.Calls.{Rose};
 ghost use Rattle.labelled_disk.specs.Label.{is_file_id};
 ghost use Rattle.labelled_disk.specs.Sectors.{Sector};
 ghost use Rattle.file_map.specs.FileMap.{Triples, most_records};
@@ -9,16 +8,9 @@ ghost use Rattle.flat_machine.specs.declared.space.Space.{Space};
 ghost use Rattle.label_calls.specs.Own.{RelabelsOwn};
 ghost use Rattle.session_words.specs.Parts.{Shape, Shapes};
 ghost use Rattle.file_manager.specs.Grounds.{ResizeHalts};
-ghost use Rattle.filer_kernel.specs.Cached.{runs_of};
-ghost use Rattle.filer_kernel.specs.Evidence.{ShowsEvidence};
 ghost use Rattle.file_manager.specs.Book.{Books};
-ghost use Rattle.file_manager.specs.Broken.{GrewSome};
-ghost use Rattle.file_manager.specs.Making.{MayGrow, GrownBy};
 ghost use Rattle.file_manager.specs.Resizing.{Resizes, ResizesSome};
-ghost use Rattle.file_manager.specs.Shrinking.{MayShrink, ShrunkBy, ShrunkSome};
-ghost use Rattle.file_manager.specs.Roots.{RootStays};
 ghost use Rattle.file_manager.specs.Reasons.{Keeps, KeepsFrom, InitialState, ShowsReason};
-ghost use Rattle.file_manager.specs.Synced.{LabelsAfterSync, LabelsAreSynced};
 ghost use Rattle.filer_kernel.specs.View.{FitsLayout, kept_by, view_of};
 ghost use Rattle.file_manager.specs.Outcomes.{ResizesFile};
 ghost use Rattle.file_manager.specs.Stays.{KeepsRoot, UsesWithin};

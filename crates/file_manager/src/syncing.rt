@@ -1,12 +1,11 @@
 //! What was written is on the medium.
-ghost use Rattle.std.specs.Prelude.{◌≡◌, ◌≤◌, List, [], IfErr, OnOk};
+ghost use Rattle.std.specs.Prelude.{◌≡◌, ◌≤◌, IfErr, OnOk};
 ghost use Rattle.labelled_disk.specs.declared.evidence.Halt.TheVariants as halt;
-ghost use Rattle.labelled_disk.specs.Calls.{Rose, RevealsSame};
-ghost use Rattle.swapper_kernel.specs.Goes.{no_page};
+ghost use Rattle.labelled_disk.specs.Calls.{Rose};
 ghost use Rattle.file_map.specs.FileMap.{Triples};
 ghost use Rattle.file_manager.specs.Reasons.{Keeps, InitialState};
 ghost use Rattle.file_manager.specs.Synced.{SyncsQuietly};
-ghost use Rattle.filer_kernel.specs.View.{MakesOnly, view_of};
+ghost use Rattle.filer_kernel.specs.View.{view_of};
 ghost use Rattle.file_manager.specs.Stays.{ReadsAlone};
 
 use filer_kernel::Filer;

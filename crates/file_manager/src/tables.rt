@@ -1,24 +1,20 @@
 //! The pages of the space tables, which a session makes at its start and frees at its close.
-ghost use Rattle.std.specs.Prelude.{◌≡◌, ℕ, ◌+◌, ◌*◌, ◌≤◌, ◌==◌, not, List, [], length, filter, IfErr, OnErr, OnOk, Err, None, ◌<◌, MatchResult};
+ghost use Rattle.std.specs.Prelude.{◌≡◌, ℕ, ◌+◌, ◌*◌, ◌≤◌, ◌==◌, not, List, [], filter, IfErr, OnOk, Err, None, ◌<◌, MatchResult};
 ghost use Rattle.labelled_disk.specs.declared.evidence.Halt.TheVariants as halt;
-ghost use Rattle.labelled_disk.specs.Calls.{Rose};
 ghost use Rattle.labelled_disk.specs.Sectors.{Sector, AreSectors};
 ghost use Rattle.frame_pool.specs.Frames.{Frame, Has, IsWithin};
 ghost use Rattle.file_map.specs.FileMap.{Triples, most_records};
 ghost use Rattle.flat_machine.specs.declared.space.Space.{Space};
 ghost use Rattle.label_calls.specs.Own.{RelabelsOwn};
 ghost use Rattle.swapper_kernel.specs.Differs.{Differs, of_run};
-ghost use Rattle.swapper_kernel.specs.Goes.{Goes, no_page};
-ghost use Rattle.swapper_kernel.specs.Stands.{Stands};
+ghost use Rattle.swapper_kernel.specs.Goes.{no_page};
 ghost use Rattle.session_words.specs.Parts.{Shapes};
 ghost use Rattle.file_manager.specs.Grounds.{AreTables, CreateHalts, CutFileHalts, IsUnframed, MakeHalts};
 ghost use Rattle.filer_kernel.specs.Cached.{runs_of};
-ghost use Rattle.filer_kernel.specs.Evidence.{ShowsEvidence};
 ghost use Rattle.file_manager.specs.Book.{Books};
 ghost use Rattle.file_manager.specs.Freeing.{MakesFree, MakesSomeFree};
 ghost use Rattle.file_manager.specs.Making.{MakesAll, MakesSome};
 ghost use Rattle.file_manager.specs.Tables.{MayBegin, BegunBy, EndedBy, EndedSome};
-ghost use Rattle.file_manager.specs.Roots.{RootStays};
 ghost use Rattle.file_manager.specs.Reasons.{Keeps, KeepsBare, KeepsOn, KeepsRevealed, MissesNone, NamesTables, InitialState, ShowsReason, telling};
 ghost use Rattle.file_manager.specs.Taking.{NamesNoneOf};
 ghost use Rattle.filer_kernel.specs.View.{disk_of, FitsLayout, GoesTo, HasMemory, kept_by, view_of};

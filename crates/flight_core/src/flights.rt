@@ -1,15 +1,16 @@
 //! Clients that ask, and flights that are done.
-ghost use Rattle.std.specs.Prelude.{◌≡◌, ◌<◌, ◌≤◌, ◌+◌, ◌^◌, ℕ, [], false, true, IfOk, IfErr, OnOk, Ok, None, Some, IsSome};
+ghost use Rattle.std.specs.Prelude.{◌≡◌, ◌<◌, ◌≤◌, ◌+◌, ◌^◌, [], ◌∷◌, false, IfOk, IfErr, OnOk, Ok, None, Some, IsSome};
 ghost use Rattle.labelled_disk.specs.declared.evidence.Halt.{Halt};
 ghost use Rattle.labelled_disk.specs.declared.evidence.Halt.TheVariants as halt;
 ghost use Rattle.flat_machine.specs.After.{ends_trace};
 ghost use Rattle.flat_machine.specs.Form.{IsInForm};
 ghost use Rattle.flat_machine.specs.Machine.{Machine};
-ghost use Rattle.flat_machine.specs.References.{is_reference};
 ghost use Rattle.flight_core.specs.declared.answers.Revealed.TheVariants as revealed;
 ghost use Rattle.flight_core.specs.declared.answers.Landed.TheVariants as landed;
 ghost use Rattle.flight_core.specs.Pending.{AreInOrder, IsClient, IsKept, times};
 ghost use Rattle.flight_core.specs.Crowd.{alone, flight_for, begun_for, with_waiting, of_flight, Gets, Asks, Completes};
+ghost use Rattle.flight_core.specs.Carrying.{Tries, LedByFirst};
+ghost use Rattle.flight_core.specs.LandingCalls.{landing_calls};
 ghost use Rattle.flight_core.specs.Tried.{ComesBy};
 
 use crate::pending::{self, Pending, entry_for, entry_of, reference};
@@ -89,8 +90,11 @@ impl<S: Stepped> Flights<S> {
             (S.resident self.new.stepped (after_revealed m call.now t))) }
         ensures sound { (m : Machine) → S.stands self.old.stepped m → IfErr result (λ e. e ≡ halt.Disk) }
         ensures cause { IfErr result (S.accounted self.old.stepped self.new.stepped) }
+        ensures later { (s : S) (e : Halt)
+            → OnOk result (S.accounted self.new.stepped s e → S.accounted self.old.stepped s e) }
         ensures goes_on { OnOk result (S.runs self.new.stepped) }
         ensures few { self.new.begun ≤ self.old.begun + 1 }
+        ensures led { LedByFirst S.led self.old.stepped (Tries call.now ∷ []) self.new.stepped }
     {
         if self.waiting(client).is_some() {
             return Ok(Revealed::Busy);
@@ -110,8 +114,12 @@ impl<S: Stepped> Flights<S> {
             (self.new ≡ self.old) }
         ensures sound { (m : Machine) → S.stands self.old.stepped m → IfErr result (λ e. e ≡ halt.Disk) }
         ensures cause { IfErr result (S.accounted self.old.stepped self.new.stepped) }
+        ensures later { (s : S) (e : Halt)
+            → OnOk result (S.accounted self.new.stepped s e → S.accounted self.old.stepped s e) }
         ensures goes_on { OnOk result (S.runs self.new.stepped) }
         ensures few { self.new.begun ≤ self.old.begun + 16 }
+        ensures led { LedByFirst S.led self.old.stepped (landing_calls (of_flight self.old.waiting.items flight))
+            self.new.stepped }
     {
         let landing = pending::of_flight(&self.waiting, flight);
         let Some((owner, others)) = landing.split_first() else {
@@ -144,11 +152,12 @@ impl<S: Stepped> Flights<S> {
             (S.resident self.new.stepped (after_revealed m call.now t))) }
         ensures sound { (m : Machine) → S.stands self.old.stepped m → IfErr result (λ e. e ≡ halt.Disk) }
         ensures cause { IfErr result (S.accounted self.old.stepped self.new.stepped) }
-        ensures later { (s : S) (e : Halt) → is_reference call.now ≡ true
+        ensures later { (s : S) (e : Halt)
             → OnOk result (S.accounted self.new.stepped s e → S.accounted self.old.stepped s e) }
         ensures goes_on { OnOk result (S.runs self.new.stepped) }
         ensures never_blames { ¬ (result ≡ Ok revealed.Busy)
             × NeverBlames client self.old.begun self.old.waiting.items self.new.begun self.new.waiting.items }
+        ensures led { S.led self.old.stepped (Tries call.now) self.new.stepped }
     {
         match self.stepped.try_step(call)? {
             Tried::Reply(reply) => Ok(Revealed::Answered(reply)),

@@ -6,6 +6,8 @@ ghost use Rattle.labelled_disk.specs.declared.evidence.Halt.TheVariants as halt;
 ghost use Rattle.flat_machine.specs.Machine.{Machine};
 ghost use Rattle.flight_core.specs.Pending.{IsClient, IsKept};
 ghost use Rattle.flight_core.specs.Crowd.{entry_of, by_client, of_client, TriesEach};
+ghost use Rattle.flight_core.specs.Carrying.{LedByFirst, LedInARow};
+ghost use Rattle.flight_core.specs.LandingCalls.{tries_of};
 ghost use Rattle.flight_core.specs.Landing.{IsFree, HasTried, answer_of, reply_of};
 
 use crate::pending::{Pending, entry_of};
@@ -28,8 +30,11 @@ impl<S: Stepped> Flights<S> {
             (HasTried (crowd_of m self.old) (by_client others.now) owner a.items)) }
         ensures sound { (m : Machine) → S.stands self.old.stepped m → IfErr result (λ e. e ≡ halt.Disk) }
         ensures cause { IfErr result (S.accounted self.old.stepped self.new.stepped) }
+        ensures later { (s : S) (e : Halt)
+            → OnOk result (S.accounted self.new.stepped s e → S.accounted self.old.stepped s e) }
         ensures goes_on { OnOk result (S.runs self.new.stepped) }
         ensures few { self.new.begun ≤ self.old.begun + 16 }
+        ensures led { LedByFirst S.led self.old.stepped (tries_of (by_client others.now)) self.new.stepped }
     {
         let mut answers = Answers::new();
         answers.push(owner);
@@ -59,6 +64,7 @@ impl<S: Stepped> Flights<S> {
         ensures goes_on { OnOk result (S.runs self.new.stepped) }
         ensures never_blames { NeverBlames client self.old.begun self.old.waiting.items self.new.begun
             self.new.waiting.items }
+        ensures led { LedInARow S.led self.old.stepped (tries_of (of_client others.now client)) self.new.stepped }
     {
         let Some(pending) = entry_of(others, client) else {
             return Ok(None);

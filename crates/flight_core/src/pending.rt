@@ -1,5 +1,5 @@
 //! Clients that wait, and searches among them.
-ghost use Rattle.std.specs.Prelude.{◌≡◌, ◌==◌, ◌≤◌, length, filter, find, option_copied};
+ghost use Rattle.std.specs.Prelude.{◌≡◌, ◌==◌, ◌≤◌, length, find, option_copied};
 ghost use Rattle.std.specs.List.{All};
 ghost use Rattle.flight_core.specs.Pending.{IsKept};
 ghost use Rattle.flight_core.specs.Crowd.{entry_of, entry_for, of_flight};

@@ -1,11 +1,11 @@
 //! A machine that is stepped, and can say that a page has to be brought in first.
-ghost use Rattle.std.specs.Prelude.{◌≡◌, ◌⊎◌, ℕ, false, true, IfOk, IfErr, OnOk};
+ghost use Rattle.std.specs.Prelude.{◌≡◌, ℕ, false, IfOk, IfErr, OnOk};
 ghost use Rattle.labelled_disk.specs.declared.evidence.Halt.{Halt};
 ghost use Rattle.labelled_disk.specs.declared.evidence.Halt.TheVariants as halt;
 ghost use Rattle.flat_machine.specs.After.{ends_trace};
 ghost use Rattle.flat_machine.specs.Form.{IsInForm};
 ghost use Rattle.flat_machine.specs.Machine.{Machine};
-ghost use Rattle.flat_machine.specs.References.{is_reference};
+ghost use Rattle.flight_core.specs.Carrying.{Carried, Tries, Steps};
 ghost use Rattle.flight_core.specs.Tried.{IsAnswered, IsTried, MayBeTried, ComesBy, after_tried};
 
 use flat_machine::{Call, Reply};
@@ -34,6 +34,9 @@ pub trait Stepped {
     /// This halt is accounted for between two states.
     ghost accounted: { Self → Self → Halt → Type 0 };
 
+    /// This call, tried or carried out, may lead from the first state to the second, whether or not it halts.
+    ghost led: { Self → Carried → Self → Type 0 };
+
     /// Carries out a call, unless a page has to be brought in for it first.
     fn try_step(&mut self, call: &Call) -> Result<Tried, Halt>
         requires runs { runs self.old }
@@ -47,9 +50,9 @@ pub trait Stepped {
             (resident self.new (after_tried m call.now t))) }
         ensures sound { (m : Machine) → stands self.old m → IfErr result (λ e. e ≡ halt.Disk) }
         ensures cause { IfErr result (accounted self.old self.new) }
-        ensures later { (s : Self) (e : Halt) → is_reference call.now ≡ true
-            → OnOk result (accounted self.new s e → accounted self.old s e) }
-        ensures goes_on { OnOk result (runs self.new) };
+        ensures later { (s : Self) (e : Halt) → OnOk result (accounted self.new s e → accounted self.old s e) }
+        ensures goes_on { OnOk result (runs self.new) }
+        ensures led { led self.old (Tries call.now) self.new };
 
     /// Carries out a call, and brings in what it needs.
     fn step(&mut self, call: &Call) -> Result<Reply, Halt>
@@ -60,7 +63,7 @@ pub trait Stepped {
             → IfOk result (λ r. IsAnswered m call.now r (stands self.new)) }
         ensures sound { (m : Machine) → stands self.old m → IfErr result (λ e. e ≡ halt.Disk) }
         ensures cause { IfErr result (accounted self.old self.new) }
-        ensures later { (s : Self) (e : Halt) → is_reference call.now ≡ true
-            → OnOk result (accounted self.new s e → accounted self.old s e) }
-        ensures goes_on { OnOk result (runs self.new) };
+        ensures later { (s : Self) (e : Halt) → OnOk result (accounted self.new s e → accounted self.old s e) }
+        ensures goes_on { OnOk result (runs self.new) }
+        ensures led { led self.old (Steps call.now) self.new };
 }

@@ -59,3 +59,9 @@ pub mod SparingLemmas
 pub mod SparedCalls
 pub mod SparedFiles
 pub mod WindowLemmas
+mod CameOwn
+mod ShownBefore
+mod QuietLemmas
+mod TryLemmas
+mod TriedLemmas
+mod SteppedLemmas

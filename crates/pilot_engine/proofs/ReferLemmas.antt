@@ -1,5 +1,5 @@
 -- What the core says of a load or a store, said of the machine that a session stands for, and of what a halt means.
-use Rattle.std.proofs.Common.{◌≡◌, ◌≢◌, ◌≤◌, ℕ, true, List, [], length, Result, Ok, Err, refl, subst}
+use Rattle.std.proofs.Common.{◌≡◌, ◌≢◌, ◌+◌, ◌<◌, ◌≤◌, ℕ, true, List, [], ◌∷◌, length, Result, Ok, Err, refl, subst}
 use Rattle.std.specs.Prelude.{IfErr, IfOk, OnErr, OnOk, false}
 use Rattle.labelled_disk.specs.Sectors.{Sector}
 use Rattle.labelled_disk.specs.declared.evidence.Halt.{Halt}
@@ -28,6 +28,7 @@ use Rattle.fault_core.specs.declared.reference.Access.TheVariants.{Done, NoMap, 
 use Rattle.fault_core.specs.Access.{access_of}
 use Rattle.fault_core.specs.Moves.{Loads, StoresAs, StoresSome}
 use Rattle.fault_core.specs.Reach.{Reaches, TouchHalts}
+use Rattle.fault_core.specs.Ready.{AreLoaded}
 use Rattle.fault_core.specs.ReferenceLaws.{reply_to}
 use Rattle.fault_core.specs.Revealed.{Revealed}
 use Rattle.filer_kernel.specs.View.{View}
@@ -38,6 +39,7 @@ use Rattle.running_words.specs.RunningLaws.{IsWhole}
 use Rattle.running_words.specs.Session.{AreInForm}
 use Rattle.running_words.specs.Stages.{Passes}
 use Rattle.running_words.proofs.RunningLemmas.{running_laws}
+use Rattle.pilot_engine.specs.Referring.{AreReplied}
 use Rattle.space_calls.proofs.CameLemmas.{Came, knows, still_runs}
 use Rattle.space_calls.proofs.LoadLemmas.{load_allowed, load_stays}
 use Rattle.space_calls.proofs.MovedLemmas.{store_runs}
@@ -65,6 +67,18 @@ fails_of {X = X} r breaks v w is_fit makes halts =
     (err_wider r (TouchHalts breaks v w) (ShowsEvidence w.disk) (λ e one. touch_so breaks v w is_fit makes e one) halts)
 
 -- ---- Machines.
+
+module _ {v : View} {kept : List Interval} {count : ℕ} (whole : IsWhole v) {volume : Volume} {m : Machine} (r : IsRunning v kept count volume m) where
+  -- the machine allows each byte of a page that was ready
+  pub bytes_answered : (address n : ℕ) (bytes : List ℕ)
+      → ((x : List Sector) (named : Triples) (ss : List Space) → Revealed v kept count x named ss → (k : ℕ) → k < n → Done ≡ access_of ss false (address + k) 1)
+      → ((x : List Sector) (named : Triples) (ss : List Space) → Revealed v kept count x named ss → AreLoaded ss address n bytes x)
+      → AreReplied m address n bytes
+  bytes_answered address n bytes access loads k b below got =
+      let x = r.session.stands.memory in
+      let named = r.session.stands.is.named in
+      let revealed = knows running_laws whole r in
+      load_allowed (exactly r.pages m.spaces) x m (address + k) 1 (b ∷ []) Done r.session.stands.is refl (access x named m.spaces revealed k below) (λ done. loads x named m.spaces revealed k b below got)
 
 module _ {v w : View} {kept later : List Interval} {count now : ℕ} (whole : IsWhole v) {volume : Volume} {m : Machine} (r : IsRunning v kept count volume m) where
   -- the machine allows what a load came to, and stays as it is

@@ -28,7 +28,7 @@ fault_misses pages e is = subst (MissesPage pages) (sym is) tt
 
 -- ---- Pages of the tables alone are looked for.
 
-reached_misses : (breaks : View → ℕ → Type 0) (pages : Pages) → Misses (λ v w e. ReachHalts (breaks v) v w e) pages
+pub reached_misses : (breaks : View → ℕ → Type 0) (pages : Pages) → Misses (λ v w e. ReachHalts (breaks v) v w e) pages
 reached_misses breaks pages v w e h = reach_misses (breaks v) v w pages e h
 
 pub make_space_misses : (parent size : ℕ) (first : Option ℕ) (count : ℕ) (pages : Pages) → Misses (MakeSpaceHalts parent size first count) pages

@@ -1,5 +1,5 @@
 -- What every call of a client does to a session, whatever the call.
-use Rattle.std.specs.Prelude.{◌≡◌, ◌≢◌, ◌≤◌, ℕ, Some, IfOk, IfErr, OnOk, MatchResult, Result}
+use Rattle.std.specs.Prelude.{◌≡◌, ◌≢◌, ◌≤◌, ℕ, false, Some, IfOk, IfErr, OnOk, MatchResult, Result}
 use Rattle.labelled_disk.specs.declared.disk.Disk.{Ghosts}
 use Rattle.labelled_disk.specs.declared.evidence.Halt.{Halt}
 use Rattle.labelled_disk.specs.declared.evidence.Halt.TheVariants as halt
@@ -7,6 +7,7 @@ use Rattle.flat_machine.specs.declared.call.Call.{Call}
 use Rattle.flat_machine.specs.declared.call.Reply.{Reply}
 use Rattle.flat_machine.specs.Machine.{Machine}
 use Rattle.fault_core.specs.Core.{state}
+use Rattle.fault_core.specs.Reach.{BringsOwn}
 use Rattle.file_manager.specs.Creating.{next_id}
 use Rattle.file_manager.specs.Reasons.{InitialState, KeepsOn, ShowsReason}
 use Rattle.running_words.specs.Bound.{CostsOther}
@@ -15,16 +16,18 @@ use Rattle.running_words.specs.Session.{IsOpen}
 use Rattle.running_words.specs.Stages.{Passes}
 use Rattle.pilot_engine.specs.declared.session.Session.{Session}
 use Rattle.pilot_engine.specs.Sparing.{Spares}
-use Rattle.pilot_engine.specs.Stepping.{relabels}
+use Rattle.pilot_engine.specs.Stepping.{brings_clients, relabels}
 use Rattle.pilot_engine.specs.Reasons.{IsBlameless, NeverBlamesEnd, SeesHome}
 
 module _ {D A : Type 0} {G : Ghosts D} where
   -- The session stood for the machine: the reply is allowed, and the session stands for the machine after the call; the one halt
-  -- is a fault of the disk; each crash state between is one of the call; and the transfers are bounded.
+  -- is a fault of the disk; each crash state between is one of the call; no page of a client's file came into a frame by a call that
+  -- goes on, but by one that brings such pages in; and the transfers are bounded.
   pub record Answers (m : Machine) (call : Call) (old new : Session D A G) (result : Result Reply Halt) : Type 0 where
     pub carried : IfOk result (Carried m call new.core new.volume)
     pub sound : IfErr result (λ e. e ≡ halt.Disk)
     pub passes : Passes m call (state old.core).disk (state new.core).disk
+    pub came : brings_clients call ≡ false → OnOk result (BringsOwn (state old.core).slots (state new.core).slots)
     pub cost : CostsOther (state old.core).disk (state new.core).disk
 
   -- The session is open with the layout and the serial that it had, and gives no identifier out again.

@@ -6,6 +6,8 @@ pub mod Seen
 pub mod Order
 pub mod Halting
 pub mod Stepping
+pub mod Trying
+pub mod Leading
 pub mod Labels
 pub mod Advised
 pub mod Beginning

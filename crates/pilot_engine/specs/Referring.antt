@@ -1,5 +1,5 @@
 -- What a load or a store of up to a page does to a session that carries it out in place, without a reply.
-use Rattle.std.specs.Prelude.{◌≡◌, ◌+◌, ◌≤◌, ℕ, true, false, List, Result}
+use Rattle.std.specs.Prelude.{◌≡◌, ◌+◌, ◌<◌, ◌≤◌, ℕ, true, false, List, [], ◌∷◌, Some, Result, slice_get}
 use Rattle.std.specs.Prelude.{IfOk, IfErr, IsOk, OnOk, OnErr}
 use Rattle.labelled_disk.specs.declared.disk.Disk.{Ghosts}
 use Rattle.labelled_disk.specs.declared.evidence.Halt.{Halt}
@@ -7,7 +7,10 @@ use Rattle.labelled_disk.specs.declared.evidence.Halt.TheVariants as halt
 use Rattle.filer_kernel.specs.Fails.{Fails}
 use Rattle.filer_kernel.specs.View.{FitsLayout}
 use Rattle.flat_machine.specs.declared.call.Call.{Call}
+use Rattle.flat_machine.specs.declared.call.Call.TheVariants as call
 use Rattle.flat_machine.specs.declared.call.Reply.{Reply}
+use Rattle.flat_machine.specs.declared.call.Reply.TheVariants as reply
+use Rattle.flat_machine.specs.Allows.{Allows}
 use Rattle.flat_machine.specs.declared.space.Space.{Space}
 use Rattle.flat_machine.specs.Machine.{Machine}
 use Rattle.file_manager.specs.Creating.{next_id}
@@ -29,6 +32,11 @@ use Rattle.pilot_engine.specs.Stepping.{IsResident, StepHalts, missing_page}
 -- so many bytes are loaded or stored at once
 abbrev pub IsAtOnce : ℕ → Type 0
 IsAtOnce count = (1 ≤ count) × (count ≤ 512)
+
+-- the machine allows each of the first bytes, so many, as the reply to a load of one byte from the address on
+abbrev pub AreReplied : Machine → ℕ → ℕ → List ℕ → Type 0
+AreReplied m address count bytes = (k b : ℕ) → k < count → slice_get bytes k ≡ Some b
+    → Allows m (call.Load (address + k) 1) (reply.Bytes (b ∷ []))
 
 module _ {D A : Type 0} {G : Ghosts D} where
   -- the disk has as many sectors as its layout, its root may be written, and no call has stopped the session

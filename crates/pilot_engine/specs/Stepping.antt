@@ -44,6 +44,13 @@ waits (call.Protect space writable) = not writable
 waits (call.ForceOut space) = true
 waits other = false
 
+-- a call that may bring in pages of clients' files
+abbrev pub brings_clients : Call → Bool
+brings_clients (call.Load address count) = true
+brings_clients (call.Store address bytes) = true
+brings_clients (call.Activate space) = true
+brings_clients other = false
+
 -- the file that a call frees sectors of, or marks: over labels of it alone the call may write others without their pages
 abbrev pub relabels : Call → Option ℕ
 relabels (call.Delete id) = Some id

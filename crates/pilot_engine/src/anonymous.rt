@@ -1,21 +1,18 @@
 //! Windows that show a file which no call names: it comes with its window, and goes with it.
-ghost use Rattle.std.specs.Prelude.{◌≡◌, true, IfOk, IfErr, OnOk, Err, MatchResult, ◌≤◌, List};
+ghost use Rattle.std.specs.Prelude.{◌≡◌, true, IfOk, IfErr, OnOk, Err, List};
 ghost use Rattle.labelled_disk.specs.Calls.{Rose};
 ghost use Rattle.labelled_disk.specs.declared.evidence.Halt.TheVariants as halt;
 ghost use Rattle.filer_kernel.specs.Evidence.{ShowsEvidence};
 ghost use Rattle.flat_machine.specs.declared.call.Call.TheVariants as call;
 ghost use Rattle.flat_machine.specs.declared.call.Reply.TheVariants as reply;
 ghost use Rattle.flat_machine.specs.Machine.{Machine};
-ghost use Rattle.running_words.specs.Bound.{CostsOther};
-ghost use Rattle.running_words.specs.Running.{Carried, Runs};
+ghost use Rattle.running_words.specs.Running.{Runs};
 ghost use Rattle.running_words.specs.Session.{IsOpen, Wrote};
-ghost use Rattle.running_words.specs.Stages.{Passes};
 ghost use Rattle.fault_core.specs.Core.{kept, state};
 ghost use Rattle.pilot_engine.specs.Sparing.{SparesAll, SparesBut};
 ghost use Rattle.pilot_engine.specs.Halting.{MapNewHalts, UnmapHalts};
 ghost use Rattle.file_manager.specs.Creating.{next_id};
-ghost use Rattle.file_manager.specs.Reasons.{KeepsOn, InitialState, ShowsReason, IsNotOlder, giving};
-ghost use Rattle.pilot_engine.specs.Reasons.{SeesHome, IsBlameless};
+ghost use Rattle.file_manager.specs.Reasons.{KeepsOn, InitialState, IsNotOlder, giving};
 ghost use Rattle.fault_core.specs.Lack.{MissesPage, Sees};
 ghost use Rattle.flat_machine.specs.declared.space.Space.{Space};
 ghost use Rattle.pilot_engine.specs.Stepping.{missing_page};

@@ -1,5 +1,5 @@
 //! Calls that ask, and change nothing.
-ghost use Rattle.std.specs.Prelude.{◌≡◌, ◌+◌, ◌≤◌, IfOk, IfErr, OnOk, Err, MatchResult};
+ghost use Rattle.std.specs.Prelude.{◌≡◌, ◌+◌, ◌≤◌, IfOk, IfErr, Err};
 ghost use Rattle.labelled_disk.specs.Calls.{Rose};
 ghost use Rattle.labelled_disk.specs.declared.evidence.Halt.TheVariants as halt;
 ghost use Rattle.filer_kernel.specs.Evidence.{ShowsEvidence};
@@ -9,12 +9,10 @@ ghost use Rattle.session_words.specs.Parts.{TablesMeaning};
 ghost use Rattle.running_words.specs.Session.{IsOpen, IsSession, Carries, Wrote};
 ghost use Rattle.running_words.specs.Stages.{Passes};
 ghost use Rattle.fault_core.specs.Core.{kept, state};
-ghost use Rattle.running_words.specs.Bound.{CostsOther};
-ghost use Rattle.running_words.specs.Running.{Carried, Runs};
+ghost use Rattle.fault_core.specs.Reach.{BringsOwn};
+ghost use Rattle.running_words.specs.Running.{Runs};
 ghost use Rattle.space_calls.specs.Halts.{NamedHalts};
-ghost use Rattle.file_manager.specs.Reasons.{KeepsOn, InitialState, ShowsReason};
-ghost use Rattle.file_manager.specs.Creating.{next_id};
-ghost use Rattle.pilot_engine.specs.Reasons.{SeesHome, IsBlameless};
+ghost use Rattle.file_manager.specs.Reasons.{KeepsOn, InitialState};
 ghost use Rattle.filer_kernel.specs.View.{FitsLayout};
 ghost use Rattle.pilot_engine.specs.Showing.{KeepsWindows};
 ghost use Rattle.pilot_engine.specs.Calls.{Accounts, Answers, Stays};
@@ -47,6 +45,7 @@ impl<D: Disk, A: Allocator> Session<D, A> {
             → IsSession spaces_of (state self.old.core).disk (state self.old.core).slots (state self.old.core).layout
             (state self.old.core).runs self.old.volume m
             → Passes m (call.Volume) (state self.old.core).disk (state self.new.core).disk }
+        ensures came { BringsOwn (state self.old.core).slots (state self.new.core).slots }
         ensures counted { result ≡ Err halt.Disk
             → Rose (state self.old.core).disk.faults (state self.new.core).disk.faults }
         ensures cause { IfErr result (λ e. ⊥) }

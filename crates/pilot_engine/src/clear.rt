@@ -1,5 +1,5 @@
 //! The temporary files of a session go, at its end.
-ghost use Rattle.std.specs.Prelude.{◌≡◌, ◌+◌, ◌*◌, ◌<◌, ◌≤◌, IfOk, IfErr, IfSome, OnOk, Err, Some, MatchResult};
+ghost use Rattle.std.specs.Prelude.{◌≡◌, ◌+◌, ◌*◌, ◌<◌, ◌≤◌, IfOk, IfErr, IfSome, OnOk, Err, Some};
 ghost use Rattle.labelled_disk.specs.declared.evidence.Halt.TheVariants as halt;
 ghost use Rattle.labelled_disk.specs.Calls.{Rose};
 ghost use Rattle.labelled_disk.specs.File.{File, file_at, room_of};
@@ -13,8 +13,7 @@ ghost use Rattle.fault_core.specs.Core.{state};
 ghost use Rattle.pilot_engine.specs.Sparing.{SparesAll};
 ghost use Rattle.space_calls.specs.Halts.{After, OnFileHalts};
 ghost use Rattle.pilot_engine.specs.Halting.{ClearHalts, Made, RemoveHalts};
-ghost use Rattle.file_manager.specs.Reasons.{KeepsOn, InitialState, ShowsReason};
-ghost use Rattle.pilot_engine.specs.Reasons.{SeesHome, NeverBlamesEnd};
+ghost use Rattle.file_manager.specs.Reasons.{KeepsOn, InitialState};
 ghost use Rattle.filer_kernel.specs.View.{FitsLayout};
 ghost use Rattle.pilot_engine.specs.Calls.{AccountsEnd};
 

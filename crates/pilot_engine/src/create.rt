@@ -8,6 +8,7 @@ ghost use Rattle.flat_machine.specs.declared.call.Reply.TheVariants as reply;
 ghost use Rattle.file_map.specs.FileMap.{most_records};
 ghost use Rattle.flat_machine.specs.Machine.{Machine};
 ghost use Rattle.session_words.specs.Parts.{TablesMeaning};
+ghost use Rattle.fault_core.specs.Reach.{BringsOwn};
 ghost use Rattle.fault_core.specs.Core.{kept, state};
 ghost use Rattle.pilot_engine.specs.Sparing.{SparesBut};
 ghost use Rattle.running_words.specs.Session.{IsOpen, IsSession, Carries, Wrote};
@@ -47,6 +48,10 @@ impl<D: Disk, A: Allocator> Session<D, A> {
             → IsSession spaces_of (state self.old.core).disk (state self.old.core).slots (state self.old.core).layout
             (state self.old.core).runs self.old.volume m
             → Passes m (call.Create pages kind) (state self.old.core).disk (state self.new.core).disk }
+        ensures came { (spaces_of : TablesMeaning) (m : Machine)
+            → IsSession spaces_of (state self.old.core).disk (state self.old.core).slots (state self.old.core).layout
+            (state self.old.core).runs self.old.volume m
+            → OnOk result (BringsOwn (state self.old.core).slots (state self.new.core).slots) }
         ensures counted { result ≡ Err halt.Disk
             → Rose (state self.old.core).disk.faults (state self.new.core).disk.faults }
         ensures cause { IfErr result

@@ -1,5 +1,5 @@
 //! Files that are deleted.
-ghost use Rattle.std.specs.Prelude.{◌≡◌, ◌+◌, ◌*◌, ◌^◌, ◌≤◌, true, ◌&&◌, IfOk, IfErr, IfSome, IsFalse, OnOk, Err, None, MatchResult};
+ghost use Rattle.std.specs.Prelude.{◌≡◌, ◌+◌, ◌*◌, ◌^◌, ◌≤◌, true, ◌&&◌, IfOk, IfErr, IfSome, IsFalse, Err, None, OnOk};
 ghost use Rattle.labelled_disk.specs.Calls.{Rose};
 ghost use Rattle.labelled_disk.specs.File.{file_at};
 ghost use Rattle.labelled_disk.specs.declared.evidence.Halt.TheVariants as halt;
@@ -11,18 +11,16 @@ ghost use Rattle.label_calls.specs.Own.{RelabelsOwn};
 ghost use Rattle.pilot_engine.specs.Sparing.{SparesAll, SparesBut};
 ghost use Rattle.label_calls.specs.Synced.{SyncsLeaders};
 ghost use Rattle.session_words.specs.Parts.{TablesMeaning};
-ghost use Rattle.running_words.specs.Bound.{CostsOther};
 ghost use Rattle.running_words.specs.Session.{IsOpen, IsSession, Carries, Wrote};
 ghost use Rattle.running_words.specs.Stages.{Passes};
 ghost use Rattle.flat_machine.specs.Refusal.{file_mapped};
+ghost use Rattle.fault_core.specs.Reach.{BringsOwn};
 ghost use Rattle.fault_core.specs.Core.{kept, state};
-ghost use Rattle.running_words.specs.Running.{Carried, Runs};
+ghost use Rattle.running_words.specs.Running.{Runs};
 ghost use Rattle.pilot_engine.specs.Seen.{CostsInside};
 ghost use Rattle.space_calls.specs.Halts.{OnFileHalts, OnNamedHalts};
 ghost use Rattle.pilot_engine.specs.Halting.{RemoveHalts};
-ghost use Rattle.file_manager.specs.Reasons.{KeepsOn, InitialState, ShowsReason};
-ghost use Rattle.file_manager.specs.Creating.{next_id};
-ghost use Rattle.pilot_engine.specs.Reasons.{SeesHome, IsBlameless};
+ghost use Rattle.file_manager.specs.Reasons.{KeepsOn, InitialState};
 ghost use Rattle.filer_kernel.specs.View.{FitsLayout};
 ghost use Rattle.pilot_engine.specs.Showing.{KeepsWindows};
 ghost use Rattle.pilot_engine.specs.Calls.{Accounts, Answers, Stays};
@@ -67,6 +65,12 @@ impl<D: Disk, A: Allocator> Session<D, A> {
             → file_mapped m id (λ w. true) ≡ None
             → (anonymous ≡ true → IfSome (file_at m.files id) (λ f. IsFalse f.permanent))
             → Passes m (call.Delete id) (state self.old.core).disk (state self.new.core).disk }
+        ensures came { (spaces_of : TablesMeaning) (m : Machine)
+            → IsSession spaces_of (state self.old.core).disk (state self.old.core).slots (state self.old.core).layout
+            (state self.old.core).runs self.old.volume m
+            → file_mapped m id (λ w. true) ≡ None
+            → (anonymous ≡ true → IfSome (file_at m.files id) (λ f. IsFalse f.permanent))
+            → OnOk result (BringsOwn (state self.old.core).slots (state self.new.core).slots) }
         ensures counted { result ≡ Err halt.Disk
             → Rose (state self.old.core).disk.faults (state self.new.core).disk.faults }
         ensures cause { IfErr result (OnFileHalts id (RemoveHalts id) (state self.old.core) (state self.new.core)) }

@@ -4,8 +4,10 @@
 mod anonymous;
 mod ask;
 mod clear;
+mod closing;
 mod create;
 mod delete;
+mod emptying;
 mod fault;
 mod finish;
 mod frames;
@@ -21,6 +23,8 @@ mod sight;
 mod spaces;
 mod start;
 mod step;
+mod stepped;
+mod trying;
 
 pub use fault::StartFault;
 pub use fault_core::Access;

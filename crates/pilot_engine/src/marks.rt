@@ -1,5 +1,5 @@
 //! Marks that a file gets for good.
-ghost use Rattle.std.specs.Prelude.{◌≡◌, ◌+◌, ◌≤◌, false, IfOk, IfErr, OnOk, Err, None, MatchResult};
+ghost use Rattle.std.specs.Prelude.{◌≡◌, ◌+◌, ◌≤◌, false, IfOk, IfErr, Err, None, OnOk};
 ghost use Rattle.labelled_disk.specs.Calls.{Rose};
 ghost use Rattle.labelled_disk.specs.declared.evidence.Halt.TheVariants as halt;
 ghost use Rattle.filer_kernel.specs.Evidence.{ShowsEvidence};
@@ -12,14 +12,12 @@ ghost use Rattle.session_words.specs.Parts.{TablesMeaning};
 ghost use Rattle.running_words.specs.Session.{IsOpen, IsSession, Carries, Wrote};
 ghost use Rattle.running_words.specs.Stages.{Passes};
 ghost use Rattle.flat_machine.specs.Refusal.{file_mapped};
+ghost use Rattle.fault_core.specs.Reach.{BringsOwn};
 ghost use Rattle.fault_core.specs.Core.{kept, state};
-ghost use Rattle.running_words.specs.Bound.{CostsOther};
-ghost use Rattle.running_words.specs.Running.{Carried, Runs};
+ghost use Rattle.running_words.specs.Running.{Runs};
 ghost use Rattle.space_calls.specs.Halts.{OnFileHalts, OnNamedHalts};
 ghost use Rattle.pilot_engine.specs.Halting.{MarkHalts};
-ghost use Rattle.file_manager.specs.Reasons.{KeepsOn, InitialState, ShowsReason};
-ghost use Rattle.file_manager.specs.Creating.{next_id};
-ghost use Rattle.pilot_engine.specs.Reasons.{SeesHome, IsBlameless};
+ghost use Rattle.file_manager.specs.Reasons.{KeepsOn, InitialState};
 ghost use Rattle.filer_kernel.specs.View.{FitsLayout};
 ghost use Rattle.pilot_engine.specs.Showing.{KeepsWindows};
 ghost use Rattle.pilot_engine.specs.Calls.{Accounts, Answers, Stays};
@@ -54,6 +52,11 @@ impl<D: Disk, A: Allocator> Session<D, A> {
             (state self.old.core).runs self.old.volume m
             → is_anonymous m.spaces id ≡ false
             → Passes m (call.MakePermanent id) (state self.old.core).disk (state self.new.core).disk }
+        ensures came { (spaces_of : TablesMeaning) (m : Machine)
+            → IsSession spaces_of (state self.old.core).disk (state self.old.core).slots (state self.old.core).layout
+            (state self.old.core).runs self.old.volume m
+            → is_anonymous m.spaces id ≡ false
+            → OnOk result (BringsOwn (state self.old.core).slots (state self.new.core).slots) }
         ensures counted { result ≡ Err halt.Disk
             → Rose (state self.old.core).disk.faults (state self.new.core).disk.faults }
         ensures cause { IfErr result (OnFileHalts id (MarkHalts id) (state self.old.core) (state self.new.core)) }
@@ -103,6 +106,11 @@ impl<D: Disk, A: Allocator> Session<D, A> {
             (state self.old.core).runs self.old.volume m
             → is_anonymous m.spaces id ≡ false → file_mapped m id (λ w. w.writable) ≡ None
             → Passes m (call.MakeImmutable id) (state self.old.core).disk (state self.new.core).disk }
+        ensures came { (spaces_of : TablesMeaning) (m : Machine)
+            → IsSession spaces_of (state self.old.core).disk (state self.old.core).slots (state self.old.core).layout
+            (state self.old.core).runs self.old.volume m
+            → is_anonymous m.spaces id ≡ false → file_mapped m id (λ w. w.writable) ≡ None
+            → OnOk result (BringsOwn (state self.old.core).slots (state self.new.core).slots) }
         ensures counted { result ≡ Err halt.Disk
             → Rose (state self.old.core).disk.faults (state self.new.core).disk.faults }
         ensures cause { IfErr result (OnFileHalts id (MarkHalts id) (state self.old.core) (state self.new.core)) }

@@ -1,23 +1,18 @@
 //! The files that a client may name, in the order of their identifiers.
-ghost use Rattle.std.specs.Prelude.{◌≡◌, ◌+◌, ◌*◌, ◌<◌, ◌≤◌, [], IfOk, IfErr, IfSome, OnOk, Err, None, MatchResult};
+ghost use Rattle.std.specs.Prelude.{◌≡◌, ◌+◌, ◌<◌, ◌≤◌, [], IfOk, IfErr, IfSome, Err, None};
 ghost use Rattle.labelled_disk.specs.Calls.{Rose};
 ghost use Rattle.labelled_disk.specs.declared.evidence.Halt.TheVariants as halt;
 ghost use Rattle.filer_kernel.specs.Evidence.{ShowsEvidence};
 ghost use Rattle.flat_machine.specs.declared.call.Call.TheVariants as call;
 ghost use Rattle.flat_machine.specs.Machine.{Machine};
-ghost use Rattle.swapper_kernel.specs.Goes.{Makes};
 ghost use Rattle.session_words.specs.Volume.{volume_page};
-ghost use Rattle.running_words.specs.Bound.{CostsOther, room_above};
-ghost use Rattle.running_words.specs.Running.{Carried, Runs};
+ghost use Rattle.running_words.specs.Running.{Runs};
 ghost use Rattle.running_words.specs.Session.{IsOpen, Wrote};
-ghost use Rattle.running_words.specs.Stages.{Passes};
 ghost use Rattle.pilot_engine.specs.Order.{IsTurn, turn_cost};
 ghost use Rattle.fault_core.specs.Core.{state};
-ghost use Rattle.fault_core.specs.Reach.{Reaches};
+ghost use Rattle.fault_core.specs.Reach.{BringsOwn, Reaches};
 ghost use Rattle.pilot_engine.specs.Halting.{NextHalts, TurnHalts};
-ghost use Rattle.file_manager.specs.Reasons.{KeepsOn, InitialState, ShowsReason};
-ghost use Rattle.file_manager.specs.Creating.{next_id};
-ghost use Rattle.pilot_engine.specs.Reasons.{SeesHome, IsBlameless};
+ghost use Rattle.file_manager.specs.Reasons.{KeepsOn, InitialState};
 ghost use Rattle.filer_kernel.specs.View.{FitsLayout, MakesOnly};
 ghost use Rattle.pilot_engine.specs.Showing.{KeepsWindows};
 ghost use Rattle.pilot_engine.specs.Calls.{Accounts, Answers, Stays};
@@ -51,6 +46,7 @@ impl<D: Disk, A: Allocator> Session<D, A> {
         ensures windows { KeepsWindows self.old self.new result }
         ensures evidence_seen { IfErr result (ShowsEvidence (state self.new.core).disk) }
         ensures reaches { Reaches (state self.old.core) (state self.new.core) }
+        ensures came { BringsOwn (state self.old.core).slots (state self.new.core).slots }
         ensures makes { MakesOnly volume_page [] (state self.old.core) (state self.new.core) }
         ensures layout { (state self.new.core).layout ≡ (state self.old.core).layout }
         ensures volume { self.new.volume ≡ self.old.volume }

@@ -1,5 +1,5 @@
 //! Bytes that are loaded and stored in place, up to a page at once.
-ghost use Rattle.std.specs.Prelude.{◌≡◌, ◌≢◌, ◌+◌, ◌%◌, ◌≤◌, length, IfOk, OnErr};
+ghost use Rattle.std.specs.Prelude.{◌≡◌, ◌≢◌, ℕ, ◌+◌, ◌%◌, ◌<◌, ◌≤◌, length, slice_get, IfOk, OnErr};
 ghost use Rattle.flat_machine.specs.declared.call.Call.TheVariants as call;
 ghost use Rattle.flat_machine.specs.declared.call.Reply.TheVariants as reply;
 ghost use Rattle.flat_machine.specs.Machine.{Machine};
@@ -7,7 +7,7 @@ ghost use Rattle.file_manager.specs.Reasons.{InitialState, KeepsOn};
 ghost use Rattle.fault_core.specs.declared.reference.Access.TheVariants as access;
 ghost use Rattle.running_words.specs.Running.{Runs};
 ghost use Rattle.pilot_engine.specs.Calls.{Accounts};
-ghost use Rattle.pilot_engine.specs.Referring.{IsAtOnce, Refers, RefersIn, TakesCalls};
+ghost use Rattle.pilot_engine.specs.Referring.{AreReplied, IsAtOnce, Refers, RefersIn, TakesCalls};
 
 use crate::Session;
 use fault_core::Access;
@@ -35,6 +35,21 @@ impl<D: Disk, A: Allocator> Session<D, A> {
                 Err(halt)
             }
         }
+    }
+
+    /// Loads the first of these bytes, page by page, as far as their pages are ready and in the swap unit of the first one,
+    /// and says how many. Nothing but these bytes changes.
+    pub fn load_ready(&mut self, address: u32, into: &mut [u8]) -> usize
+        requires taken { TakesCalls self.old }
+        ensures machine { (m : Machine) → Runs self.old.core self.old.volume m
+            → AreReplied m address result into.new }
+        ensures part { result ≤ length into.old }
+        ensures ends { 1 ≤ result → result < length into.old → (address + result) % 512 ≡ 0 }
+        ensures rest { (k : ℕ) → result ≤ k → slice_get into.new k ≡ slice_get into.old k }
+        ensures width { length into.new ≡ length into.old }
+        ensures same { self.new ≡ self.old }
+    {
+        self.core.load_ready(address, into)
     }
 
     /// Stores 1 to 512 bytes from an address on. All pages of the reference are tested before the first byte is moved:

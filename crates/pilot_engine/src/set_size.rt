@@ -1,5 +1,5 @@
 //! Files that get another size.
-ghost use Rattle.std.specs.Prelude.{◌≡◌, ◌+◌, ◌-◌, ◌*◌, ◌<◌, ◌≤◌, ◌&&◌, nat_le, IfOk, IfErr, OnOk, Err, None, MatchResult};
+ghost use Rattle.std.specs.Prelude.{◌≡◌, ◌+◌, ◌-◌, ◌*◌, ◌<◌, ◌≤◌, ◌&&◌, nat_le, IfOk, IfErr, Err, None, OnOk};
 ghost use Rattle.labelled_disk.specs.Calls.{Rose};
 ghost use Rattle.labelled_disk.specs.Label.{is_file_id};
 ghost use Rattle.labelled_disk.specs.declared.evidence.Halt.TheVariants as halt;
@@ -10,17 +10,15 @@ ghost use Rattle.flat_machine.specs.Machine.{Machine};
 ghost use Rattle.label_calls.specs.Own.{RelabelsOwn};
 ghost use Rattle.pilot_engine.specs.Sparing.{SparesBut};
 ghost use Rattle.session_words.specs.Parts.{TablesMeaning};
-ghost use Rattle.running_words.specs.Bound.{CostsOther};
 ghost use Rattle.running_words.specs.Session.{IsOpen, IsSession, Carries, Wrote};
 ghost use Rattle.running_words.specs.Stages.{Passes};
+ghost use Rattle.fault_core.specs.Reach.{BringsOwn};
 ghost use Rattle.fault_core.specs.Core.{kept, state};
-ghost use Rattle.running_words.specs.Running.{Carried, Runs};
+ghost use Rattle.running_words.specs.Running.{Runs};
 ghost use Rattle.pilot_engine.specs.Seen.{CostsInside, IsSeenBy};
 ghost use Rattle.space_calls.specs.Halts.{OnFileHalts, OnNamedHalts};
 ghost use Rattle.pilot_engine.specs.Halting.{SizeHalts};
-ghost use Rattle.file_manager.specs.Reasons.{KeepsOn, InitialState, ShowsReason};
-ghost use Rattle.file_manager.specs.Creating.{next_id};
-ghost use Rattle.pilot_engine.specs.Reasons.{SeesHome, IsBlameless};
+ghost use Rattle.file_manager.specs.Reasons.{KeepsOn, InitialState};
 ghost use Rattle.filer_kernel.specs.View.{FitsLayout};
 ghost use Rattle.pilot_engine.specs.Showing.{KeepsWindows};
 ghost use Rattle.pilot_engine.specs.Calls.{Accounts, Answers, Stays};
@@ -80,6 +78,11 @@ impl<D: Disk, A: Allocator> Session<D, A> {
             (state self.old.core).runs self.old.volume m
             → IsSeenBy m id seen
             → Passes m (call.SetSize id pages) (state self.old.core).disk (state self.new.core).disk }
+        ensures came { (spaces_of : TablesMeaning) (m : Machine)
+            → IsSession spaces_of (state self.old.core).disk (state self.old.core).slots (state self.old.core).layout
+            (state self.old.core).runs self.old.volume m
+            → IsSeenBy m id seen
+            → OnOk result (BringsOwn (state self.old.core).slots (state self.new.core).slots) }
         ensures counted { result ≡ Err halt.Disk
             → Rose (state self.old.core).disk.faults (state self.new.core).disk.faults }
         ensures cause { IfErr result (OnFileHalts id (SizeHalts id pages) (state self.old.core) (state self.new.core)) }

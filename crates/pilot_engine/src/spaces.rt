@@ -1,23 +1,19 @@
 //! One call of a client on spaces.
-ghost use Rattle.std.specs.Prelude.{◌≡◌, ◌+◌, ◌≤◌, true, IfOk, IfErr, IsOk, OnOk, Err, None, MatchResult, List};
-ghost use Rattle.labelled_disk.specs.Calls.{Rose};
+ghost use Rattle.std.specs.Prelude.{◌≡◌, ◌+◌, ◌≤◌, true, IfErr, IsOk, OnOk, None, List};
 ghost use Rattle.labelled_disk.specs.declared.evidence.Halt.TheVariants as halt;
-ghost use Rattle.filer_kernel.specs.Evidence.{ShowsEvidence};
 ghost use Rattle.flat_machine.specs.Form.{IsInForm};
 ghost use Rattle.flat_machine.specs.Machine.{Machine};
 ghost use Rattle.flat_machine.specs.References.{is_reference};
 ghost use Rattle.flat_machine.specs.Refusal.{refusal};
-ghost use Rattle.running_words.specs.Bound.{CostsOther};
-ghost use Rattle.running_words.specs.Running.{Carried, Runs};
+ghost use Rattle.running_words.specs.Running.{Runs};
 ghost use Rattle.running_words.specs.Session.{IsOpen, WroteIn};
-ghost use Rattle.running_words.specs.Stages.{Passes, may_dirty};
+ghost use Rattle.running_words.specs.Stages.{may_dirty};
 ghost use Rattle.fault_core.specs.Core.{kept, state};
 ghost use Rattle.pilot_engine.specs.Advised.{IsAdvised};
 ghost use Rattle.pilot_engine.specs.Labels.{WritesPagesAlone, keeps_labels};
 ghost use Rattle.pilot_engine.specs.Stepping.{IsResident, StepHalts, is_on_spaces, waits, missing_page};
 ghost use Rattle.file_manager.specs.Creating.{next_id};
-ghost use Rattle.file_manager.specs.Reasons.{KeepsOn, InitialState, ShowsReason, IsNotOlder, giving};
-ghost use Rattle.pilot_engine.specs.Reasons.{SeesHome, IsBlameless};
+ghost use Rattle.file_manager.specs.Reasons.{KeepsOn, InitialState, IsNotOlder, giving};
 ghost use Rattle.fault_core.specs.Lack.{MissesPage, Sees};
 ghost use Rattle.flat_machine.specs.declared.space.Space.{Space};
 ghost use Rattle.filer_kernel.specs.View.{FitsLayout};

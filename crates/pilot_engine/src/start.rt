@@ -12,7 +12,7 @@ ghost use Rattle.filer_kernel.specs.Evidence.{ShowsEvidence};
 ghost use Rattle.filer_kernel.specs.View.{FitsLayout, MakesOnly, TablesAre, view_of};
 ghost use Rattle.filer_kernel.specs.Cached.{runs_of};
 ghost use Rattle.flat_machine.specs.Start.{start};
-ghost use Rattle.swapper_kernel.specs.Goes.{Goes, IsDirty, Makes, no_page};
+ghost use Rattle.swapper_kernel.specs.Goes.{Goes, IsDirty, no_page};
 ghost use Rattle.label_calls.specs.Labels.{MayHaveWritten};
 ghost use Rattle.labelled_disk.specs.CrashState.{written};
 ghost use Rattle.session_words.specs.Volume.{volume_page};

@@ -1,8 +1,6 @@
 //! One call of a client.
-ghost use Rattle.std.specs.Prelude.{◌≡◌, ℕ, ◌+◌, ◌≤◌, true, false, IfOk, IfErr, IsOk, OnOk, OnErr, Err, Some, None, MatchResult, List};
-ghost use Rattle.labelled_disk.specs.Calls.{Rose};
+ghost use Rattle.std.specs.Prelude.{◌≡◌, ℕ, ◌+◌, ◌≤◌, true, false, IfErr, IsOk, OnOk, OnErr, Some, None, List};
 ghost use Rattle.labelled_disk.specs.declared.evidence.Halt.TheVariants as halt;
-ghost use Rattle.filer_kernel.specs.Evidence.{ShowsEvidence};
 ghost use Rattle.flat_machine.specs.After.{ends_trace};
 ghost use Rattle.flat_machine.specs.Form.{IsInForm};
 ghost use Rattle.flat_machine.specs.Machine.{Machine};
@@ -10,17 +8,15 @@ ghost use Rattle.label_calls.specs.Own.{RelabelsOwn};
 ghost use Rattle.label_calls.specs.Synced.{SyncsLeaders};
 ghost use Rattle.flat_machine.specs.References.{is_reference};
 ghost use Rattle.flat_machine.specs.Refusal.{refusal};
-ghost use Rattle.running_words.specs.Bound.{CostsOther};
-ghost use Rattle.running_words.specs.Running.{Carried, Runs};
+ghost use Rattle.running_words.specs.Running.{Runs};
 ghost use Rattle.running_words.specs.Session.{IsOpen, WroteIn};
-ghost use Rattle.running_words.specs.Stages.{Passes, may_dirty};
+ghost use Rattle.running_words.specs.Stages.{may_dirty};
 ghost use Rattle.fault_core.specs.Core.{kept, state};
 ghost use Rattle.pilot_engine.specs.Advised.{IsAdvised};
 ghost use Rattle.pilot_engine.specs.Labels.{WritesPagesAlone, keeps_labels};
 ghost use Rattle.pilot_engine.specs.Stepping.{IsResident, StepHalts, relabels, waits, missing_page, writes_leader};
 ghost use Rattle.file_manager.specs.Creating.{next_id};
-ghost use Rattle.file_manager.specs.Reasons.{KeepsOn, InitialState, ShowsReason, IsNotOlder, giving};
-ghost use Rattle.pilot_engine.specs.Reasons.{SeesHome, IsBlameless};
+ghost use Rattle.file_manager.specs.Reasons.{KeepsOn, InitialState, IsNotOlder, giving};
 ghost use Rattle.fault_core.specs.Lack.{MissesPage, Sees};
 ghost use Rattle.flat_machine.specs.declared.space.Space.{Space};
 ghost use Rattle.filer_kernel.specs.View.{FitsLayout};
@@ -91,7 +87,7 @@ impl<D: Disk, A: Allocator> Session<D, A> {
         answer
     }
 
-    fn answer(&mut self, call: &Call) -> Result<Reply, Halt>
+    pub(crate) fn answer(&mut self, call: &Call) -> Result<Reply, Halt>
         requires size { FitsLayout (state self.old.core) }
         requires opened { IsOpen (state self.old.core).layout self.old.volume }
         requires more { ends_trace call.now ≡ false }

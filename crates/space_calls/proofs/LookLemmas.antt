@@ -1,10 +1,11 @@
 -- A core after calls that only look.
-use Rattle.std.proofs.Common.{◌≡◌, List, refl, sym, subst, ◌∙◌}
+use Rattle.std.proofs.Common.{◌≡◌, List, inl, refl, sym, subst, ◌∙◌}
 use Rattle.labelled_disk.specs.declared.disk.Disk.{Ghosts}
 use Rattle.labelled_disk.specs.Sectors.{Sector}
 use Rattle.file_map.specs.FileMap.{Triples}
 use Rattle.flat_machine.specs.declared.space.Space.{Space}
 use Rattle.swapper_kernel.specs.GoesLaws.{makes_then}
+use Rattle.swapper_kernel.specs.HaltLaws.{brings_then}
 use Rattle.filer_kernel.specs.View.{FitsLayout, accepted}
 use Rattle.fault_core.specs.declared.core_over.Core.{Core}
 use Rattle.fault_core.specs.Core.{Knows, state}
@@ -21,6 +22,7 @@ module _ {D A : Type 0} {G : Ghosts D} where
     runs = λ volume m r. r;
     still = λ ss sees. sees;
     reaches = reaches_itself (state core);
+    came = record { homes = λ home held. inl held };
     makes = reached_makes (reaches_itself (state core));
     layout = refl;
     intervals = refl;
@@ -33,6 +35,7 @@ module _ {D A : Type 0} {G : Ghosts D} where
     runs = λ volume m r. reached_runs old (accepted old.filer) size new volume m r reaches came intervals (same _ _ m.spaces (knows old (accepted old.filer) size volume m r));
     still = still;
     reaches = reaches;
+    came = came;
     makes = reached_makes reaches;
     layout = reaches.layout;
     intervals = intervals;
@@ -53,6 +56,7 @@ module _ {D A : Type 0} {G : Ghosts D} where
     runs = λ volume m r. second.runs volume m (first.runs volume m r);
     still = λ ss sees. second.still ss (first.still ss sees);
     reaches = reaches_then (state a) (state b) (accepted a.filer) first.reaches (state c) second.reaches;
+    came = brings_then first.came second.came;
     makes = makes_then first.makes second.makes;
     layout = second.layout ∙ first.layout;
     intervals = second.intervals ∙ first.intervals;

@@ -10,7 +10,7 @@ use Rattle.session_words.specs.Volume.{volume_page}
 use Rattle.filer_kernel.specs.View.{MakesOnly}
 use Rattle.fault_core.specs.declared.core_over.Core.{Core}
 use Rattle.fault_core.specs.Core.{state}
-use Rattle.fault_core.specs.Reach.{Reaches}
+use Rattle.fault_core.specs.Reach.{BringsOwn, Reaches}
 use Rattle.file_manager.specs.declared.volume.Volume.{Volume}
 use Rattle.running_words.specs.Running.{Carried, Runs}
 use Rattle.running_words.specs.Stages.{Passes}
@@ -24,11 +24,13 @@ module _ {D A : Type 0} {G : Ghosts D} where
     pub sound : IfErr result (λ e. e ≡ halt.Disk)
     pub passes : Passes m call (state old).disk (state new).disk
 
-  -- The call only looked: the core stands for what it stood for and sees what it saw, pages came and went, and nothing else.
+  -- The call only looked: the core stands for what it stood for and sees what it saw, pages came and went, and nothing else. Those that came
+  -- are of the maps and of the space tables.
   pub record Looks (old new : Core D A G) : Type 0 where
     pub runs : (volume : Volume) (m : Machine) → Runs old volume m → Runs new volume m
     pub still : StillSees old new
     pub reaches : Reaches (state old) (state new)
+    pub came : BringsOwn (state old).slots (state new).slots
     pub makes : MakesOnly volume_page [] (state old) (state new)
     pub layout : (state new).layout ≡ (state old).layout
     pub intervals : new.intervals ≡ old.intervals

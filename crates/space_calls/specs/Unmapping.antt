@@ -10,7 +10,7 @@ use Rattle.swapper_kernel.specs.Goes.{Goes}
 use Rattle.filer_kernel.specs.Causes.{IsGiven}
 use Rattle.filer_kernel.specs.Tables.{in_tables, table_pages}
 use Rattle.filer_kernel.specs.Triples.{MapIs, AreOf, IsOneOf}
-use Rattle.fault_core.specs.Reach.{IsReached}
+use Rattle.fault_core.specs.Reach.{BringsOwn, IsReached}
 use Rattle.filer_kernel.specs.View.{View, kept_by}
 use Rattle.flat_machine.specs.declared.call.Refusal.{Refusal}
 use Rattle.flat_machine.specs.declared.space.Space.{Space}
@@ -20,12 +20,14 @@ use Rattle.flat_machine.specs.Space.{space_at}
 use Rattle.space_tables.specs.declared.shown.Shown.{Shown}
 use Rattle.space_tables.specs.Shows.{window_of}
 
--- Pages of the space tables were found, brought in and changed: each frame's home was there before or was found so. Only
--- pages of the space tables and of the file map may have become dirty, and the bytes of the space tables alone may differ.
+-- Pages of the space tables were found, brought in and changed: each frame's home was there before or was found so, and none
+-- is of a client's file that was not there. Only pages of the space tables and of the file map may have become dirty, and the
+-- bytes of the space tables alone may differ.
 -- Runs that are kept were kept before or were read from the map, and are the map's afterwards where they were before.
 pub record Reshapes (v w : View) : Type 0 where
   pub goes : Goes (Differs (in_tables v.layout)) table_pages [] v.disk v.slots w.disk w.slots
   pub brings : Brings (IsReached v) v.slots w.slots
+  pub came : BringsOwn v.slots w.slots
   pub layout : w.layout ≡ v.layout
   pub given : (r : Run) → IsOneOf r (kept_by w) → IsGiven v.layout v.disk v.slots (kept_by v) r
   pub runs_are : (m : List Sector) (named : Triples) → Stands v.disk v.slots m → MapIs v.layout named m → AreOf named (kept_by v) → AreOf named (kept_by w)

@@ -1,5 +1,5 @@
 //! Pages of a space that are brought in before they are asked for.
-ghost use Rattle.std.specs.Prelude.{◌≡◌, ◌+◌, ◌/◌, ℕ, length, Some, Err, IfOk, IfErr, OnOk, List};
+ghost use Rattle.std.specs.Prelude.{◌≡◌, ◌≤◌, ◌+◌, ◌/◌, ℕ, length, Some, Err, IfErr, OnOk, List};
 ghost use Rattle.labelled_disk.specs.declared.evidence.Halt.TheVariants as halt;
 ghost use Rattle.labelled_disk.specs.Calls.{Rose};
 ghost use Rattle.flat_machine.specs.declared.call.Call.TheVariants as call;
@@ -10,11 +10,10 @@ ghost use Rattle.session_words.specs.Volume.{volume_page};
 ghost use Rattle.file_manager.specs.declared.volume.Volume.{Volume};
 ghost use Rattle.fault_core.specs.Activate.{AreBrought, IsActive};
 ghost use Rattle.fault_core.specs.Core.{kept, state};
-ghost use Rattle.fault_core.specs.Reach.{TouchHalts};
+ghost use Rattle.fault_core.specs.Reach.{BringsOwn, ReachHalts, TouchHalts};
 ghost use Rattle.running_words.specs.Bound.{CostsOther};
-ghost use Rattle.running_words.specs.Running.{Carried, Runs};
+ghost use Rattle.running_words.specs.Running.{Runs};
 ghost use Rattle.running_words.specs.Session.{WroteIn};
-ghost use Rattle.running_words.specs.Stages.{Passes};
 ghost use Rattle.filer_kernel.specs.Evidence.{ShowsEvidence};
 ghost use Rattle.space_calls.specs.Ranges.{BreaksRange, space_units};
 ghost use Rattle.running_words.specs.Moving.{Moves};
@@ -65,6 +64,31 @@ pub fn activate<D: Disk, A: Allocator>(core: &mut Core<D, A>, space: u32) -> Res
     };
     match core.activate(first, pages) {
         Ok(_units) => Ok(Reply::Done),
+        Err(halt) => Err(halt),
+    }
+}
+
+/// Answers as bringing in the pages of a space does, and brings in none: it looks up the space alone.
+pub fn try_activate<D: Disk, A: Allocator>(core: &mut Core<D, A>, space: u32) -> Result<Reply, Halt>
+    requires size { FitsLayout (state core.old) }
+    ensures answers { (volume : Volume) (m : Machine) → Runs core.old volume m
+        → Answers m (call.Activate space) core.old core.new volume result }
+    ensures counted { result ≡ Err halt.Disk → Rose (state core.old).disk.faults (state core.new).disk.faults }
+    ensures cause { IfErr result
+        (ReachHalts (BreaksRange (state core.old) core.old.intervals space) (state core.old) (state core.new)) }
+    ensures evidence_seen { IfErr result (ShowsEvidence (state core.new).disk) }
+    ensures wrote { WroteIn (volume_page) (state core.old).disk (state core.old).slots (state core.new).disk
+        (state core.new).slots }
+    ensures sees { OnOk result (StillOn core.old core.new) }
+    ensures right { SeesOn core.old → IfErr result NeverBlamesTables }
+    ensures came { BringsOwn (state core.old).slots (state core.new).slots }
+    ensures moves { Moves (state core.old) (state core.new) }
+    ensures layout { (state core.new).layout ≡ (state core.old).layout }
+    ensures cost { (state core.new).disk.transfers ≤ (state core.old).disk.transfers + 28 }
+{
+    match bounds(core, space) {
+        Ok(Ok(_run)) => Ok(Reply::Done),
+        Ok(Err(word)) => Ok(Reply::Refused(word)),
         Err(halt) => Err(halt),
     }
 }

@@ -1,22 +1,19 @@
 //! Whether no space is mapped, where that is cheap to reveal.
 ghost use Rattle.std.specs.Prelude.{◌≡◌, ◌≤◌, ◌+◌, true, false, Err, IfOk, IfErr};
-ghost use Rattle.std.specs.Prelude.{[]};
 ghost use Rattle.std.specs.List.{list_any};
 ghost use Rattle.labelled_disk.specs.declared.evidence.Halt.TheVariants as halt;
 ghost use Rattle.labelled_disk.specs.Calls.{Rose};
 ghost use Rattle.flat_machine.specs.Machine.{Machine};
 ghost use Rattle.flat_machine.specs.Space.{is_mapped};
-ghost use Rattle.session_words.specs.Volume.{volume_page};
-ghost use Rattle.swapper_kernel.specs.Goes.{Makes};
 ghost use Rattle.file_manager.specs.declared.volume.Volume.{Volume};
 ghost use Rattle.running_words.specs.Running.{Runs};
 ghost use Rattle.filer_kernel.specs.Evidence.{ShowsEvidence};
 ghost use Rattle.fault_core.specs.Core.{state};
-ghost use Rattle.fault_core.specs.Reach.{Reaches, ReachHalts};
+ghost use Rattle.fault_core.specs.Reach.{ReachHalts};
 ghost use Rattle.fault_core.specs.Revealed.{BreaksTables};
 ghost use Rattle.fault_core.specs.NeverBlames.{NeverBlamesTables};
-ghost use Rattle.space_calls.specs.Sees.{SeesOn, StillSees};
-ghost use Rattle.filer_kernel.specs.View.{FitsLayout, MakesOnly};
+ghost use Rattle.space_calls.specs.Sees.{SeesOn};
+ghost use Rattle.filer_kernel.specs.View.{FitsLayout};
 ghost use Rattle.space_calls.specs.Calls.{Looks};
 
 use fault_core::Core;

@@ -13,7 +13,7 @@ mod syncing;
 mod unmapping;
 mod windows;
 
-pub use advice::activate;
+pub use advice::{activate, try_activate};
 pub use mapping::{give_window, map};
 pub use naming::{named_file, window_on};
 pub use range::{deactivate, force_out, kill};

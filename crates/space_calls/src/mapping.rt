@@ -1,5 +1,5 @@
 //! Windows that spaces get.
-ghost use Rattle.std.specs.Prelude.{◌≡◌, ◌⊎◌, ◌≤◌, ◌+◌, ℕ, true, length, List, Some, None, Ok, Err, IfOk, IfErr};
+ghost use Rattle.std.specs.Prelude.{◌≡◌, ◌⊎◌, ◌≤◌, ◌+◌, List, Some, None, Ok, Err, IfOk, IfErr};
 ghost use Rattle.labelled_disk.specs.declared.evidence.Halt.TheVariants as halt;
 ghost use Rattle.labelled_disk.specs.Calls.{Rose};
 ghost use Rattle.flat_machine.specs.declared.call.Call.TheVariants as call;
@@ -9,30 +9,27 @@ ghost use Rattle.flat_machine.specs.Refusal.{refusal};
 ghost use Rattle.session_words.specs.Volume.{volume_page};
 ghost use Rattle.file_manager.specs.declared.volume.Volume.{Volume};
 ghost use Rattle.running_words.specs.Bound.{CostsOther};
-ghost use Rattle.running_words.specs.Running.{Carried, Runs};
+ghost use Rattle.running_words.specs.Running.{Runs};
 ghost use Rattle.running_words.specs.Session.{WroteIn};
-ghost use Rattle.running_words.specs.Stages.{Passes};
-ghost use Rattle.std.specs.Prelude.{[], option_map};
+ghost use Rattle.std.specs.Prelude.{[]};
 ghost use Rattle.flat_machine.specs.IsMachine.{IsMachine};
 ghost use Rattle.flat_machine.specs.Next.{set_window};
 ghost use Rattle.projection_laws.specs.Laws.{WindowFits};
 ghost use Rattle.projection_laws.specs.Spaces.{MayHaveWindow};
 ghost use Rattle.space_tables.specs.Shows.{window_of};
-ghost use Rattle.swapper_kernel.specs.Goes.{Makes};
 ghost use Rattle.flat_machine.specs.declared.call.Reply.TheVariants as answer;
 ghost use Rattle.table_calls.specs.Answers.{Reveals, IfGiven};
 ghost use Rattle.space_calls.specs.Mapping.{IsInReach, MayShow, IsLastFrom, ReachesOver};
 ghost use Rattle.filer_kernel.specs.Evidence.{ShowsEvidence};
 ghost use Rattle.fault_core.specs.Core.{state, kept};
-ghost use Rattle.fault_core.specs.Reach.{Reaches};
 ghost use Rattle.space_calls.specs.Halts.{ChangeHalts, MapFileHalts};
 ghost use Rattle.running_words.specs.Moving.{Moves};
 ghost use Rattle.fault_core.specs.NeverBlames.{NeverBlamesTables};
-ghost use Rattle.space_calls.specs.Sees.{SeesOn, StillSees, SeesFiles, IsShown, StillOnOr};
+ghost use Rattle.fault_core.specs.Reach.{BringsOwn};
+ghost use Rattle.space_calls.specs.Sees.{SeesOn, SeesFiles, IsShown, StillOnOr};
 ghost use Rattle.fault_core.specs.Lack.{Sees};
 ghost use Rattle.labelled_disk.specs.Sectors.{Sector};
 ghost use Rattle.file_map.specs.FileMap.{Triples};
-ghost use Rattle.swapper_kernel.specs.Stands.{Stands};
 ghost use Rattle.filer_kernel.specs.Triples.{AreOf, MapIs};
 ghost use Rattle.filer_kernel.specs.View.{FitsLayout, HasMemory, kept_by, MakesOnly};
 ghost use Rattle.space_calls.specs.Calls.{Answers, Looks};
@@ -76,6 +73,7 @@ pub fn give_window<D: Disk, A: Allocator>(
         × SeesFiles (λ file last. IsShown ss file last ⊎ ((file ≡ shown.id) × IsLastFrom ss space shown.page last))
         core.new) }
     ensures right { SeesOn core.old → IfErr result NeverBlamesTables }
+    ensures came { BringsOwn (state core.old).slots (state core.new).slots }
     ensures moves { Moves (state core.old) (state core.new) }
     ensures layout { (state core.new).layout ≡ (state core.old).layout }
     ensures cost { (state core.new).disk.transfers ≤ (state core.old).disk.transfers + 57344 }
@@ -175,6 +173,7 @@ pub fn map<D: Disk, A: Allocator>(
         → MapIs (state core.old).layout named m → AreOf named (kept_by (state core.old))
         → IfOk result (λ reply. reply ≡ answer.Done → ReachesOver ss space id page named) }
     ensures right { SeesOn core.old → IfErr result NeverBlamesTables }
+    ensures came { BringsOwn (state core.old).slots (state core.new).slots }
     ensures moves { Moves (state core.old) (state core.new) }
     ensures layout { (state core.new).layout ≡ (state core.old).layout }
     ensures cost { CostsOther (state core.old).disk (state core.new).disk }

@@ -1,33 +1,23 @@
 //! Files that calls may name.
-ghost use Rattle.std.specs.Prelude.{◌≡◌, ◌≤◌, ◌+◌, ℕ, true, length, List, Some, None, Ok, Err, IfOk, IfErr, IfSome};
+ghost use Rattle.std.specs.Prelude.{◌≡◌, ◌≤◌, ◌+◌, true, List, Some, None, Ok, Err, IfOk, IfErr, IfSome};
 ghost use Rattle.labelled_disk.specs.declared.evidence.Halt.TheVariants as halt;
 ghost use Rattle.labelled_disk.specs.Calls.{Rose};
 ghost use Rattle.flat_machine.specs.declared.call.Call.TheVariants as call;
-ghost use Rattle.flat_machine.specs.declared.space.Space.{Space};
 ghost use Rattle.flat_machine.specs.Machine.{Machine};
-ghost use Rattle.flat_machine.specs.Refusal.{refusal};
-ghost use Rattle.session_words.specs.Volume.{volume_page};
 ghost use Rattle.file_manager.specs.declared.volume.Volume.{Volume};
-ghost use Rattle.running_words.specs.Bound.{CostsOther};
-ghost use Rattle.running_words.specs.Running.{Carried, Runs};
-ghost use Rattle.running_words.specs.Session.{WroteIn};
-ghost use Rattle.running_words.specs.Stages.{Passes};
-ghost use Rattle.std.specs.Prelude.{[]};
+ghost use Rattle.running_words.specs.Running.{Runs};
 ghost use Rattle.flat_machine.specs.Machine.{nameable};
-ghost use Rattle.swapper_kernel.specs.Goes.{Makes};
 ghost use Rattle.space_tables.specs.Shows.{IsFirstWith, shows};
 ghost use Rattle.space_calls.specs.Naming.{IsNameable, IsSeen};
 ghost use Rattle.filer_kernel.specs.Evidence.{ShowsEvidence};
 ghost use Rattle.fault_core.specs.Core.{state};
-ghost use Rattle.fault_core.specs.Reach.{Reaches};
 ghost use Rattle.space_calls.specs.Halts.{NamedHalts, SightHalts};
 ghost use Rattle.fault_core.specs.NeverBlames.{NeverBlamesTables};
-ghost use Rattle.space_calls.specs.Sees.{SeesOn, StillSees};
+ghost use Rattle.space_calls.specs.Sees.{SeesOn};
 ghost use Rattle.labelled_disk.specs.Sectors.{Sector};
 ghost use Rattle.file_map.specs.FileMap.{Triples, IsSize};
-ghost use Rattle.swapper_kernel.specs.Stands.{Stands};
 ghost use Rattle.filer_kernel.specs.Triples.{AreOf, MapIs};
-ghost use Rattle.filer_kernel.specs.View.{FitsLayout, HasMemory, kept_by, MakesOnly};
+ghost use Rattle.filer_kernel.specs.View.{FitsLayout, HasMemory, kept_by};
 ghost use Rattle.space_calls.specs.Calls.{Looks};
 
 use crate::bare::shows_nothing;

@@ -1,5 +1,5 @@
 //! Ranges of pages whose frames are written out, or given up.
-ghost use Rattle.std.specs.Prelude.{◌≡◌, ◌≤◌, ◌+◌, ◌*◌, ℕ, true, length, List, Some, None, Ok, Err, IfOk, IfErr, OnOk};
+ghost use Rattle.std.specs.Prelude.{◌≡◌, ◌≤◌, ◌+◌, ◌*◌, true, length, List, Some, None, Ok, Err, IfOk, IfErr, OnOk};
 ghost use Rattle.labelled_disk.specs.declared.evidence.Halt.TheVariants as halt;
 ghost use Rattle.labelled_disk.specs.Calls.{Rose};
 ghost use Rattle.flat_machine.specs.declared.call.Call.TheVariants as call;
@@ -9,15 +9,14 @@ ghost use Rattle.flat_machine.specs.Refusal.{refusal};
 ghost use Rattle.session_words.specs.Volume.{volume_page};
 ghost use Rattle.file_manager.specs.declared.volume.Volume.{Volume};
 ghost use Rattle.running_words.specs.Bound.{CostsOther};
-ghost use Rattle.running_words.specs.Running.{Carried, Runs};
+ghost use Rattle.running_words.specs.Running.{Runs};
 ghost use Rattle.running_words.specs.Session.{WroteIn};
-ghost use Rattle.running_words.specs.Stages.{Passes};
 ghost use Rattle.flat_machine.specs.Space.{space_at};
 ghost use Rattle.fault_core.specs.Kill.{AreWritableSo, is_absent};
 ghost use Rattle.fault_core.specs.Range.{AreClean, AreGone};
 ghost use Rattle.fault_core.specs.Core.{kept, state, Knows};
 ghost use Rattle.fault_core.specs.Kept.{AreFound};
-ghost use Rattle.fault_core.specs.Reach.{ReachHalts, StayOrYield};
+ghost use Rattle.fault_core.specs.Reach.{BringsOwn, ReachHalts, StayOrYield};
 ghost use Rattle.flat_machine.specs.declared.call.Reply.TheVariants as reply;
 ghost use Rattle.space_tables.specs.Form.{BreaksSlot};
 ghost use Rattle.space_tables.specs.Shows.{IsRunAt};
@@ -78,6 +77,7 @@ pub fn deactivate<D: Disk, A: Allocator>(core: &mut Core<D, A>, space: u32) -> R
         (state core.new).slots }
     ensures sees { OnOk result (StillOn core.old core.new) }
     ensures right { SeesOn core.old → IfErr result NeverBlamesTables }
+    ensures came { BringsOwn (state core.old).slots (state core.new).slots }
     ensures moves { Moves (state core.old) (state core.new) }
     ensures layout { (state core.new).layout ≡ (state core.old).layout }
     ensures cost { CostsOther (state core.old).disk (state core.new).disk }
@@ -111,6 +111,7 @@ pub fn kill<D: Disk, A: Allocator>(core: &mut Core<D, A>, space: u32) -> Result<
         (state core.new).slots }
     ensures sees { OnOk result (StillOn core.old core.new) }
     ensures right { SeesOn core.old → IfErr result NeverBlamesTables }
+    ensures came { BringsOwn (state core.old).slots (state core.new).slots }
     ensures moves { Moves (state core.old) (state core.new) }
     ensures layout { (state core.new).layout ≡ (state core.old).layout }
     ensures cost { CostsOther (state core.old).disk (state core.new).disk }
@@ -149,6 +150,7 @@ pub fn force_out<D: Disk, A: Allocator>(core: &mut Core<D, A>, space: u32) -> Re
         (state core.new).slots }
     ensures sees { OnOk result (StillOn core.old core.new) }
     ensures right { SeesOn core.old → IfErr result NeverBlamesTables }
+    ensures came { BringsOwn (state core.old).slots (state core.new).slots }
     ensures moves { Moves (state core.old) (state core.new) }
     ensures layout { (state core.new).layout ≡ (state core.old).layout }
     ensures cost { CostsOther (state core.old).disk (state core.new).disk }

@@ -1,5 +1,5 @@
 //! Bytes that are loaded and stored.
-ghost use Rattle.std.specs.Prelude.{◌≡◌, ◌≤◌, ◌+◌, ◌/◌, length, None, Err, IfOk, IfErr, IsOk, OnOk, List};
+ghost use Rattle.std.specs.Prelude.{◌≡◌, ◌≤◌, ◌+◌, ◌/◌, length, None, Err, IfErr, IsOk, OnOk, List};
 ghost use Rattle.labelled_disk.specs.declared.evidence.Halt.TheVariants as halt;
 ghost use Rattle.labelled_disk.specs.Calls.{Rose};
 ghost use Rattle.flat_machine.specs.declared.call.Call.TheVariants as call;
@@ -8,9 +8,8 @@ ghost use Rattle.flat_machine.specs.Refusal.{refusal};
 ghost use Rattle.session_words.specs.CellLaws.{IsTouchedOrOwn};
 ghost use Rattle.session_words.specs.Volume.{volume_page};
 ghost use Rattle.file_manager.specs.declared.volume.Volume.{Volume};
-ghost use Rattle.running_words.specs.Running.{Carried, Runs};
+ghost use Rattle.running_words.specs.Running.{Runs};
 ghost use Rattle.running_words.specs.Session.{WroteIn};
-ghost use Rattle.running_words.specs.Stages.{Passes};
 ghost use Rattle.fault_core.specs.Access.{BreaksFor, last_page};
 ghost use Rattle.fault_core.specs.Core.{kept, state};
 ghost use Rattle.fault_core.specs.Reach.{TouchHalts};

@@ -1,11 +1,10 @@
 //! Spaces that are made, removed and looked at.
-ghost use Rattle.std.specs.Prelude.{◌≡◌, ◌≤◌, ◌+◌, ℕ, true, length, List, Some, None, Ok, Err, IfOk, IfErr, OnOk};
+ghost use Rattle.std.specs.Prelude.{◌≡◌, Ok, Err, IfOk, IfErr, OnOk};
 ghost use Rattle.labelled_disk.specs.declared.evidence.Halt.TheVariants as halt;
 ghost use Rattle.labelled_disk.specs.Calls.{Rose};
 ghost use Rattle.flat_machine.specs.declared.call.Call.TheVariants as call;
 ghost use Rattle.flat_machine.specs.declared.space.Space.{Space};
 ghost use Rattle.flat_machine.specs.Machine.{Machine};
-ghost use Rattle.flat_machine.specs.Refusal.{refusal};
 ghost use Rattle.session_words.specs.Volume.{volume_page};
 ghost use Rattle.file_manager.specs.declared.volume.Volume.{Volume};
 ghost use Rattle.running_words.specs.Bound.{CostsOther};
@@ -17,6 +16,7 @@ ghost use Rattle.fault_core.specs.Core.{state};
 ghost use Rattle.space_calls.specs.Halts.{ChangeHalts, MakeSpaceHalts, PlaceHalts, RemoveSpaceHalts};
 ghost use Rattle.running_words.specs.Moving.{Moves};
 ghost use Rattle.fault_core.specs.NeverBlames.{NeverBlamesTables};
+ghost use Rattle.fault_core.specs.Reach.{BringsOwn};
 ghost use Rattle.space_calls.specs.Sees.{SeesOn, StillOn};
 ghost use Rattle.filer_kernel.specs.View.{FitsLayout};
 ghost use Rattle.space_calls.specs.Calls.{Answers};
@@ -49,6 +49,7 @@ pub fn make_space<D: Disk, A: Allocator>(
         (state core.new).slots }
     ensures sees { OnOk result (StillOn core.old core.new) }
     ensures right { SeesOn core.old → IfErr result NeverBlamesTables }
+    ensures came { BringsOwn (state core.old).slots (state core.new).slots }
     ensures moves { Moves (state core.old) (state core.new) }
     ensures layout { (state core.new).layout ≡ (state core.old).layout }
     ensures cost { CostsOther (state core.old).disk (state core.new).disk }
@@ -79,6 +80,7 @@ pub fn remove_space<D: Disk, A: Allocator>(core: &mut Core<D, A>, space: u32) ->
         (state core.new).slots }
     ensures sees { OnOk result (StillOn core.old core.new) }
     ensures right { SeesOn core.old → IfErr result NeverBlamesTables }
+    ensures came { BringsOwn (state core.old).slots (state core.new).slots }
     ensures moves { Moves (state core.old) (state core.new) }
     ensures layout { (state core.new).layout ≡ (state core.old).layout }
     ensures cost { CostsOther (state core.old).disk (state core.new).disk }
@@ -106,6 +108,7 @@ pub fn place<D: Disk, A: Allocator>(core: &mut Core<D, A>, page: u32) -> Result<
         (state core.new).slots }
     ensures sees { OnOk result (StillOn core.old core.new) }
     ensures right { SeesOn core.old → IfErr result NeverBlamesTables }
+    ensures came { BringsOwn (state core.old).slots (state core.new).slots }
     ensures moves { Moves (state core.old) (state core.new) }
     ensures layout { (state core.new).layout ≡ (state core.old).layout }
     ensures cost { CostsOther (state core.old).disk (state core.new).disk }
@@ -140,6 +143,7 @@ pub fn set_units<D: Disk, A: Allocator>(
         (state core.new).slots }
     ensures sees { OnOk result (StillOn core.old core.new) }
     ensures right { SeesOn core.old → IfErr result NeverBlamesTables }
+    ensures came { BringsOwn (state core.old).slots (state core.new).slots }
     ensures moves { Moves (state core.old) (state core.new) }
     ensures layout { (state core.new).layout ≡ (state core.old).layout }
     ensures cost { CostsOther (state core.old).disk (state core.new).disk }

@@ -1,5 +1,5 @@
 //! Windows that are taken away, or get another mode.
-ghost use Rattle.std.specs.Prelude.{◌≡◌, ◌≤◌, ◌+◌, ◌^◌, ℕ, true, length, List, Some, None, Ok, Err, IfOk, IfErr, OnOk};
+ghost use Rattle.std.specs.Prelude.{◌≡◌, ◌≤◌, ◌+◌, ◌^◌, true, List, Some, None, Ok, Err, IfOk, IfErr, OnOk};
 ghost use Rattle.labelled_disk.specs.declared.evidence.Halt.TheVariants as halt;
 ghost use Rattle.labelled_disk.specs.Calls.{Rose};
 ghost use Rattle.flat_machine.specs.declared.call.Call.TheVariants as call;
@@ -11,20 +11,18 @@ ghost use Rattle.file_manager.specs.declared.volume.Volume.{Volume};
 ghost use Rattle.running_words.specs.Bound.{CostsOther};
 ghost use Rattle.running_words.specs.Running.{Carried, Runs};
 ghost use Rattle.running_words.specs.Session.{WroteIn};
-ghost use Rattle.running_words.specs.Stages.{Passes};
 ghost use Rattle.std.specs.Prelude.{[], false};
 ghost use Rattle.flat_machine.specs.Refusal.{first_of};
 ghost use Rattle.flat_machine.specs.Space.{space_at};
 ghost use Rattle.space_tables.specs.Shows.{window_of, IsShownAt};
 ghost use Rattle.projection_laws.specs.Tests.{window_row};
-ghost use Rattle.swapper_kernel.specs.Goes.{Makes};
 ghost use Rattle.table_calls.specs.Answers.{IfGiven, TablesSay, Reveals};
 ghost use Rattle.flat_machine.specs.declared.call.Reply.TheVariants as reply;
 ghost use Rattle.space_calls.specs.Halts.{ProtectHalts, TakeWindowHalts, WritableHalts};
 ghost use Rattle.space_calls.specs.Unmapping.{IsGivenUp, IsRefused, IsTaken, Reshapes, ShowsIn};
 ghost use Rattle.filer_kernel.specs.Evidence.{ShowsEvidence};
 ghost use Rattle.fault_core.specs.Core.{state, kept};
-ghost use Rattle.fault_core.specs.Reach.{ReachHalts};
+ghost use Rattle.fault_core.specs.Reach.{BringsOwn, ReachHalts};
 ghost use Rattle.space_calls.specs.Ranges.{BreaksPart};
 ghost use Rattle.running_words.specs.Moving.{Moves};
 ghost use Rattle.fault_core.specs.NeverBlames.{NeverBlamesTables};
@@ -106,6 +104,7 @@ fn protect_writable<D: Disk, A: Allocator>(
         → space_at ss space ≡ Some s → s.window ≡ Some (window_of shown)
         → OnOk result (SeesFiles (IsShown ss) core.new) }
     ensures right { SeesOn core.old → IfErr result NeverBlamesTables }
+    ensures came { BringsOwn (state core.old).slots (state core.new).slots }
     ensures moves { Moves (state core.old) (state core.new) }
     ensures layout { (state core.new).layout ≡ (state core.old).layout }
     ensures cost { (state core.new).disk.transfers ≤ (state core.old).disk.transfers + 57373 }
@@ -155,6 +154,7 @@ fn protect_read_only<D: Disk, A: Allocator>(
         → space_at ss space ≡ Some s → s.window ≡ Some (window_of shown)
         → OnOk result (SeesFiles (IsShown ss) core.new) }
     ensures right { SeesOn core.old → IfErr result NeverBlamesTables }
+    ensures came { BringsOwn (state core.old).slots (state core.new).slots }
     ensures moves { Moves (state core.old) (state core.new) }
     ensures layout { (state core.new).layout ≡ (state core.old).layout }
     ensures cost { (state core.new).disk.transfers ≤ (state core.old).disk.transfers + 4452352 }
@@ -194,6 +194,7 @@ pub fn protect<D: Disk, A: Allocator>(
         (state core.new).slots }
     ensures sees { OnOk result (StillOn core.old core.new) }
     ensures right { SeesOn core.old → IfErr result NeverBlamesTables }
+    ensures came { BringsOwn (state core.old).slots (state core.new).slots }
     ensures moves { Moves (state core.old) (state core.new) }
     ensures layout { (state core.new).layout ≡ (state core.old).layout }
     ensures cost { CostsOther (state core.old).disk (state core.new).disk }

@@ -10,7 +10,7 @@ ghost use Rattle.projection_laws.specs.Tests.{add_row, made, remove_row};
 ghost use Rattle.space_tables.specs.Form.{first_in_slot, BreaksHierarchy, BreaksFor, BreaksAt, MakesTooMany};
 ghost use Rattle.space_tables.specs.Answer.{IfMem, IfMalformed, Answers};
 ghost use Rattle.space_tables.specs.Stored.{RevealSpaces};
-ghost use Rattle.filer_kernel.specs.Tables.{BesideTables, IsTableAccounted};
+ghost use Rattle.filer_kernel.specs.Tables.{IsTableAccounted};
 ghost use Rattle.filer_kernel.specs.View.{FitsLayout, TablesAre, TablesBeside, view_of};
 ghost use Rattle.fault_core.specs.Reach.{ReachHalts};
 ghost use Rattle.fault_core.specs.Lack.{Sees};

@@ -11,7 +11,7 @@ ghost use Rattle.space_tables.specs.Form.{lies_in_root, BreaksSlot, BreaksHierar
 ghost use Rattle.space_tables.specs.Shows.{IsRunAt};
 ghost use Rattle.space_tables.specs.Answer.{IfMem, IfMalformed, Replies};
 ghost use Rattle.space_tables.specs.Stored.{RevealSpaces};
-ghost use Rattle.filer_kernel.specs.Tables.{BesideTables, IsTableAccounted};
+ghost use Rattle.filer_kernel.specs.Tables.{IsTableAccounted};
 ghost use Rattle.filer_kernel.specs.View.{FitsLayout, TablesAre, TablesBeside, view_of};
 ghost use Rattle.fault_core.specs.Reach.{ReachHalts};
 ghost use Rattle.fault_core.specs.Lack.{Sees};

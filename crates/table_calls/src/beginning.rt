@@ -6,7 +6,7 @@ ghost use Rattle.file_map.specs.FileMap.{Triples};
 ghost use Rattle.flat_machine.specs.Space.{root};
 ghost use Rattle.space_tables.specs.Answer.{FromMemory, IfMem};
 ghost use Rattle.space_tables.specs.Stored.{RevealSpaces};
-ghost use Rattle.filer_kernel.specs.Tables.{BesideTables, IsTableAccounted};
+ghost use Rattle.filer_kernel.specs.Tables.{IsTableAccounted};
 ghost use Rattle.fault_core.specs.Reach.{ReachHalts, BringsOwn};
 ghost use Rattle.fault_core.specs.Lack.{Sees};
 ghost use Rattle.fault_core.specs.NeverBlames.{NeverBlamesTables};

@@ -13,7 +13,7 @@ ghost use Rattle.space_tables.specs.Form.{Breaks};
 ghost use Rattle.space_tables.specs.Shows.{window_of};
 ghost use Rattle.space_tables.specs.Answer.{FromMemory, IfMem, IfMalformed, Answers};
 ghost use Rattle.space_tables.specs.Stored.{RevealSpaces};
-ghost use Rattle.filer_kernel.specs.Tables.{BesideTables, IsTableAccounted};
+ghost use Rattle.filer_kernel.specs.Tables.{IsTableAccounted};
 ghost use Rattle.filer_kernel.specs.View.{FitsLayout, TablesAre, TablesBeside, view_of};
 ghost use Rattle.fault_core.specs.Reach.{ReachHalts};
 ghost use Rattle.fault_core.specs.Lack.{Sees};

@@ -61,3 +61,14 @@ returns-in-Err-answer-clause-sees g c = λ ss x s may named fits. absurd (not_re
 
 pub returns-in-Err-clause-right : goal.returns-in-Err-clause-right
 returns-in-Err-clause-right g c = λ s. c.in-Err.ensures.right s.0 s.1
+
+-- ---- Which pages came.
+
+pub returns-in-Err-clause-came : goal.returns-in-Err-clause-came
+returns-in-Err-clause-came g c = c.set_window.ensures.retabled.came
+
+pub returns-in-Ok-answer-clause-came : goal.returns-in-Ok-answer-clause-came
+returns-in-Ok-answer-clause-came g c = rw c.frame_count-frames.ensures.same c.set_window.ensures.retabled.came
+
+pub returns-in-Err-answer-clause-came : goal.returns-in-Err-answer-clause-came
+returns-in-Err-answer-clause-came g c = rw c.frame_count-frames.ensures.same c.set_window.ensures.retabled.came

@@ -17,6 +17,7 @@ use Rattle.space_calls.proofs.RangeLemmas.{given_so}
 use Rattle.space_calls.specs.FilesLaws.{shown_or}
 use Rattle.space_calls.proofs.OnLemmas.{given_still_on}
 use Rattle.space_calls.proofs.SizeLemmas.{where_done}
+use Rattle.swapper_kernel.specs.HaltLaws.{brings_then}
 use Rattle.space_calls.proofs.mapping.map.Goals as goal
 use Rattle.filer_kernel.specs.View.{accepted, disk_of}
 
@@ -90,3 +91,14 @@ pub returns-clause-found : goal.returns-clause-found
 returns-clause-found g c = λ ss m named s stands map are.
     where_done c.give_window.result (ReachesOver ss c.args.space c.args.id c.args.page named)
     (given_so (λ u. ReachesOver ss c.args.space c.args.id c.args.page named) c.in-Ok-Ok.field-0-0 c.in-Ok-Ok.field-0 c.in-Ok-Ok.field-0-is (c.in-Ok-Ok.ensures.found ss m named s stands map are))
+
+-- ---- Which pages came.
+
+pub returns-in-Ok-Err-clause-came : goal.returns-in-Ok-Err-clause-came
+returns-in-Ok-Err-clause-came g c = c.may_map.ensures.looks.came
+
+pub returns-in-Err-clause-came : goal.returns-in-Err-clause-came
+returns-in-Err-clause-came g c = c.may_map.ensures.looks.came
+
+pub returns-clause-came : goal.returns-clause-came
+returns-clause-came g c = brings_then c.may_map.ensures.looks.came c.give_window.ensures.came

@@ -4,6 +4,7 @@ use Rattle.std.proofs.lemmas.Result.{IfOk-weaker}
 use Rattle.filer_kernel.specs.FailsLaws.{cause_in, counted_in, evidence_seen_in}
 use Rattle.session_words.specs.Parts.{shapes_of}
 use Rattle.swapper_kernel.specs.GoesLaws.{makes_then}
+use Rattle.swapper_kernel.specs.HaltLaws.{brings_then}
 use Rattle.space_calls.proofs.NameLemmas.{seen_not, seen_revealed}
 use Rattle.space_calls.proofs.RunLemmas.{books_of, if_failed, if_revealed, looked_runs}
 use Rattle.fault_core.specs.Core.{state}
@@ -40,6 +41,7 @@ returns-clause-looks g c = record {
       let u = c.may_be_named.new.core in
       let w = state (record u { filer = c.attributes_of.new.filer }) in
       reaches_then (state old) (state u) (accepted old.filer) c.may_be_named.ensures.looks.reaches w (look_reaches (state u) w c.attributes_of.ensures.stays.looks c.attributes_of.ensures.stays.layout));
+  came = brings_then c.may_be_named.ensures.looks.came c.attributes_of.ensures.stays.brings;
   makes = (makes_then c.may_be_named.ensures.looks.makes c.attributes_of.ensures.stays.makes);
   layout = (c.attributes_of.ensures.stays.layout ∙ c.may_be_named.ensures.looks.layout);
   intervals = c.may_be_named.ensures.looks.intervals;

@@ -19,6 +19,7 @@ use Rattle.fault_core.proofs.EvidenceLemmas.{shows_evidence}
 use Rattle.running_words.specs.MovingLaws.{moves_of_reaches}
 use Rattle.space_calls.proofs.MovesLemmas.{moves_twice}
 use Rattle.space_calls.specs.FilesLaws.{shown_here}
+use Rattle.swapper_kernel.specs.HaltLaws.{brings_then}
 use Rattle.space_calls.proofs.range.deactivate.Goals as goal
 use Rattle.filer_kernel.specs.View.{accepted, disk_of, swapper_of}
 
@@ -150,3 +151,17 @@ returns-in-Err-evict-clause-right g c = λ s. c.in-Err-evict.ensures.right s.0 (
 
 pub returns-clause-sees : goal.returns-clause-sees
 returns-clause-sees g c = λ ss s. (ss, (c.evict.ensures.sees ss (c.range_of.ensures.still ss s), shown_here ss))
+
+-- ---- Which pages came.
+
+pub returns-in-Ok-Err-clause-came : goal.returns-in-Ok-Err-clause-came
+returns-in-Ok-Err-clause-came g c = c.range_of.ensures.asked.came
+
+pub returns-in-Err-clause-came : goal.returns-in-Err-clause-came
+returns-in-Err-clause-came g c = c.range_of.ensures.asked.came
+
+pub returns-in-Err-evict-clause-came : goal.returns-in-Err-evict-clause-came
+returns-in-Err-evict-clause-came g c = brings_then c.range_of.ensures.asked.came c.evict.ensures.came
+
+pub returns-clause-came : goal.returns-clause-came
+returns-clause-came g c = brings_then c.range_of.ensures.asked.came c.evict.ensures.came

@@ -24,6 +24,7 @@ use Rattle.fault_core.proofs.YieldLemmas.{yield_same, yield_then}
 use Rattle.running_words.specs.MovingLaws.{moves_of_reaches}
 use Rattle.space_calls.proofs.MovesLemmas.{moves_twice, moves_before}
 use Rattle.space_calls.specs.FilesLaws.{shown_here}
+use Rattle.swapper_kernel.specs.HaltLaws.{brings_then}
 use Rattle.space_calls.proofs.range.force_out.Goals as goal
 use Rattle.filer_kernel.specs.View.{accepted, disk_of, swapper_of}
 
@@ -209,3 +210,20 @@ returns-in-Ok-sync-clause-sees g c = λ ss s. (ss, (c.sync.ensures.still ss (c.f
 
 pub returns-in-Err-sync-clause-right : goal.returns-in-Err-sync-clause-right
 returns-in-Err-sync-clause-right g c = λ s. c.in-Err-sync.ensures.right (s.0, c.flush.ensures.sees s.0 (c.range_of.ensures.still s.0 s.1))
+
+-- ---- Which pages came.
+
+pub returns-in-Ok-Err-clause-came : goal.returns-in-Ok-Err-clause-came
+returns-in-Ok-Err-clause-came g c = c.range_of.ensures.asked.came
+
+pub returns-in-Err-clause-came : goal.returns-in-Err-clause-came
+returns-in-Err-clause-came g c = c.range_of.ensures.asked.came
+
+pub returns-in-Err-flush-clause-came : goal.returns-in-Err-flush-clause-came
+returns-in-Err-flush-clause-came g c = brings_then c.range_of.ensures.asked.came c.flush.ensures.came
+
+pub returns-in-Err-sync-clause-came : goal.returns-in-Err-sync-clause-came
+returns-in-Err-sync-clause-came g c = rw c.sync.ensures.frames (brings_then c.range_of.ensures.asked.came c.flush.ensures.came)
+
+pub returns-in-Ok-sync-clause-came : goal.returns-in-Ok-sync-clause-came
+returns-in-Ok-sync-clause-came g c = rw c.sync.ensures.frames (brings_then c.range_of.ensures.asked.came c.flush.ensures.came)

@@ -23,6 +23,7 @@ use Rattle.running_words.specs.MovingLaws.{moves_of_reaches, moves_of_touches}
 use Rattle.space_calls.proofs.MovesLemmas.{moves_after}
 use Rattle.swapper_kernel.specs.Goes.{no_page}
 use Rattle.space_calls.specs.FilesLaws.{shown_here}
+use Rattle.swapper_kernel.specs.HaltLaws.{brings_then}
 use Rattle.space_calls.proofs.range.kill.Goals as goal
 use Rattle.filer_kernel.specs.View.{accepted, disk_of, swapper_of}
 
@@ -192,3 +193,17 @@ returns-in-Err-kill-clause-right g c = λ s. c.in-Err-kill.ensures.right s.0 (c.
 
 pub returns-clause-sees : goal.returns-clause-sees
 returns-clause-sees g c = λ ss s. (ss, (c.kill.ensures.sees ss (c.range_of.ensures.still ss s), shown_here ss))
+
+-- ---- Which pages came.
+
+pub returns-in-Ok-Err-clause-came : goal.returns-in-Ok-Err-clause-came
+returns-in-Ok-Err-clause-came g c = c.range_of.ensures.asked.came
+
+pub returns-in-Err-clause-came : goal.returns-in-Err-clause-came
+returns-in-Err-clause-came g c = c.range_of.ensures.asked.came
+
+pub returns-in-Err-kill-clause-came : goal.returns-in-Err-kill-clause-came
+returns-in-Err-kill-clause-came g c = brings_then c.range_of.ensures.asked.came c.kill.ensures.came
+
+pub returns-clause-came : goal.returns-clause-came
+returns-clause-came g c = brings_then c.range_of.ensures.asked.came c.kill.ensures.came

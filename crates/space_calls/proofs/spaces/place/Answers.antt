@@ -68,3 +68,14 @@ returns-in-Ok-Err-clause-sees g c = λ ss s. (ss, (c.place.ensures.sees ss s, sh
 
 pub returns-in-Err-clause-right : goal.returns-in-Err-clause-right
 returns-in-Err-clause-right g c = λ s. c.in-Err.ensures.right s.0 s.1
+
+-- ---- Which pages came.
+
+pub returns-in-Ok-Ok-clause-came : goal.returns-in-Ok-Ok-clause-came
+returns-in-Ok-Ok-clause-came g c = c.place.ensures.asked.came
+
+pub returns-in-Ok-Err-clause-came : goal.returns-in-Ok-Err-clause-came
+returns-in-Ok-Err-clause-came g c = c.place.ensures.asked.came
+
+pub returns-in-Err-clause-came : goal.returns-in-Err-clause-came
+returns-in-Err-clause-came g c = c.place.ensures.asked.came

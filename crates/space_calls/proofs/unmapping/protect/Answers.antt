@@ -22,6 +22,7 @@ use Rattle.running_words.specs.MovingLaws.{moves_of_reaches}
 use Rattle.space_calls.proofs.MovesLemmas.{moves_after}
 use Rattle.space_calls.specs.FilesLaws.{shown_here}
 use Rattle.space_calls.proofs.OnLemmas.{each_still_on}
+use Rattle.swapper_kernel.specs.HaltLaws.{brings_then}
 use Rattle.space_calls.proofs.unmapping.protect.Goals as goal
 use Rattle.filer_kernel.specs.View.{accepted, disk_of}
 
@@ -146,3 +147,17 @@ returns-then-writable-clause-right g c = λ s. c.protect_writable.ensures.right 
 
 pub returns-clause-right : goal.returns-clause-right
 returns-clause-right g c = λ s. c.protect_read_only.ensures.right (s.0, c.find_window.ensures.looks.still s.0 s.1)
+
+-- ---- Which pages came.
+
+pub returns-in-Ok-Err-clause-came : goal.returns-in-Ok-Err-clause-came
+returns-in-Ok-Err-clause-came g c = c.find_window.ensures.looks.came
+
+pub returns-in-Err-clause-came : goal.returns-in-Err-clause-came
+returns-in-Err-clause-came g c = c.find_window.ensures.looks.came
+
+pub returns-then-writable-clause-came : goal.returns-then-writable-clause-came
+returns-then-writable-clause-came g c = brings_then c.find_window.ensures.looks.came c.protect_writable.ensures.came
+
+pub returns-clause-came : goal.returns-clause-came
+returns-clause-came g c = brings_then c.find_window.ensures.looks.came c.protect_read_only.ensures.came

@@ -14,6 +14,7 @@ use Rattle.space_calls.specs.ReasonLaws.{moves_of_reshapes}
 use Rattle.space_tables.specs.Shows.{window_of}
 use Rattle.space_calls.proofs.SeesLemmas.{are_seen, fault_never_blames, handle_so, shown_fits, shown_may, windows_seen}
 use Rattle.space_calls.proofs.OnLemmas.{mode_on}
+use Rattle.swapper_kernel.specs.HaltLaws.{brings_then}
 use Rattle.space_calls.proofs.unmapping.protect_read_only.Goals as goal
 use Rattle.filer_kernel.specs.View.{accepted}
 
@@ -122,3 +123,20 @@ returns-in-Err-change_window-clause-right g c = λ s. c.in-Err-change_window.ens
 
 pub returns-in-Err-sync-clause-right : goal.returns-in-Err-sync-clause-right
 returns-in-Err-sync-clause-right g c = λ s. fault_never_blames c.in-Err-sync.halt c.in-Err-sync.ensures.fault
+
+-- ---- Which pages came.
+
+pub returns-in-Err-clause-came : goal.returns-in-Err-clause-came
+returns-in-Err-clause-came g c = c.flush_range.ensures.looks.came
+
+pub returns-in-Ok-Err-clause-came : goal.returns-in-Ok-Err-clause-came
+returns-in-Ok-Err-clause-came g c = brings_then c.flush_range.ensures.looks.came c.change_window.ensures.reshapes.came
+
+pub returns-in-Err-change_window-clause-came : goal.returns-in-Err-change_window-clause-came
+returns-in-Err-change_window-clause-came g c = brings_then c.flush_range.ensures.looks.came c.change_window.ensures.reshapes.came
+
+pub returns-in-Ok-sync-clause-came : goal.returns-in-Ok-sync-clause-came
+returns-in-Ok-sync-clause-came g c = rw c.sync.ensures.frames (brings_then c.flush_range.ensures.looks.came c.change_window.ensures.reshapes.came)
+
+pub returns-in-Err-sync-clause-came : goal.returns-in-Err-sync-clause-came
+returns-in-Err-sync-clause-came g c = rw c.sync.ensures.frames (brings_then c.flush_range.ensures.looks.came c.change_window.ensures.reshapes.came)

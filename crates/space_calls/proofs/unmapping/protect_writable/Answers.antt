@@ -16,6 +16,7 @@ use Rattle.space_tables.specs.Shows.{window_of}
 use Rattle.space_calls.proofs.SeesLemmas.{are_seen, handle_so, shown_fits, shown_may, windows_seen}
 use Rattle.space_calls.specs.FilesLaws.{shown_here}
 use Rattle.space_calls.proofs.OnLemmas.{mode_on}
+use Rattle.swapper_kernel.specs.HaltLaws.{brings_then}
 use Rattle.space_calls.proofs.unmapping.protect_writable.Goals as goal
 use Rattle.filer_kernel.specs.View.{accepted}
 
@@ -113,3 +114,20 @@ returns-in-Ok-Err-clause-sees g c = λ ss x s at has.
 
 pub returns-in-Err-change_window-clause-right : goal.returns-in-Err-change_window-clause-right
 returns-in-Err-change_window-clause-right g c = λ s. c.in-Err-change_window.ensures.right (s.0, c.shows_immutable.ensures.looks.still s.0 s.1)
+
+-- ---- Which pages came.
+
+pub returns-in-Ok-true-clause-came : goal.returns-in-Ok-true-clause-came
+returns-in-Ok-true-clause-came g c = c.shows_immutable.ensures.looks.came
+
+pub returns-in-Err-clause-came : goal.returns-in-Err-clause-came
+returns-in-Err-clause-came g c = c.shows_immutable.ensures.looks.came
+
+pub returns-in-Ok-Ok-clause-came : goal.returns-in-Ok-Ok-clause-came
+returns-in-Ok-Ok-clause-came g c = brings_then c.shows_immutable.ensures.looks.came c.change_window.ensures.reshapes.came
+
+pub returns-in-Ok-Err-clause-came : goal.returns-in-Ok-Err-clause-came
+returns-in-Ok-Err-clause-came g c = brings_then c.shows_immutable.ensures.looks.came c.change_window.ensures.reshapes.came
+
+pub returns-in-Err-change_window-clause-came : goal.returns-in-Err-change_window-clause-came
+returns-in-Err-change_window-clause-came g c = brings_then c.shows_immutable.ensures.looks.came c.change_window.ensures.reshapes.came

@@ -20,6 +20,7 @@ use Rattle.space_calls.specs.Sees.{IsShown}
 use Rattle.space_calls.proofs.SeesLemmas.{are_seen, fault_never_blames, handle_so, shown_may}
 use Rattle.space_calls.specs.FilesLaws.{shown_here}
 use Rattle.space_calls.proofs.OnLemmas.{window_set_on}
+use Rattle.swapper_kernel.specs.HaltLaws.{brings_then}
 use Rattle.space_calls.proofs.unmapping.take_window.Goals as goal
 use Rattle.filer_kernel.specs.View.{accepted}
 
@@ -146,14 +147,15 @@ returns-in-Err-sync-clause-cause g c =
 -- ---- What the change leaves.
 
 pub returns-in-Ok-Err-clause-reshapes : goal.returns-in-Ok-Err-clause-reshapes
-returns-in-Ok-Err-clause-reshapes g c = reshapes_reached c.find_window.ensures.looks.reaches
+returns-in-Ok-Err-clause-reshapes g c = reshapes_reached c.find_window.ensures.looks.reaches c.find_window.ensures.looks.came
 
 pub returns-in-Err-clause-reshapes : goal.returns-in-Err-clause-reshapes
-returns-in-Err-clause-reshapes g c = reshapes_reached c.find_window.ensures.looks.reaches
+returns-in-Err-clause-reshapes g c = reshapes_reached c.find_window.ensures.looks.reaches c.find_window.ensures.looks.came
 
 pub returns-in-Err-evict_range-clause-reshapes : goal.returns-in-Err-evict_range-clause-reshapes
 returns-in-Err-evict_range-clause-reshapes g c =
     reshapes_reached (reaches_then (state c.args.core.now) (state c.find_window.new.core) (accepted c.args.core.now.filer) c.find_window.ensures.looks.reaches (state c.evict_range.new.core) c.evict_range.ensures.looks.reaches)
+    (brings_then c.find_window.ensures.looks.came c.evict_range.ensures.looks.came)
 
 pub returns-in-Ok-Err-change_window-clause-reshapes : goal.returns-in-Ok-Err-change_window-clause-reshapes
 returns-in-Ok-Err-change_window-clause-reshapes g c =
@@ -161,7 +163,8 @@ returns-in-Ok-Err-change_window-clause-reshapes g c =
     let w = state c.evict_range.new.core in
     let is = (accepted c.args.core.now.filer) in
     let found = reaches_then v (state c.find_window.new.core) is c.find_window.ensures.looks.reaches w c.evict_range.ensures.looks.reaches in
-    reshapes_after v w (state c.change_window.new.core) is found c.change_window.ensures.reshapes
+    let came = brings_then c.find_window.ensures.looks.came c.evict_range.ensures.looks.came in
+    reshapes_after v w (state c.change_window.new.core) is found came c.change_window.ensures.reshapes
 
 pub returns-in-Err-change_window-clause-reshapes : goal.returns-in-Err-change_window-clause-reshapes
 returns-in-Err-change_window-clause-reshapes g c =
@@ -169,7 +172,8 @@ returns-in-Err-change_window-clause-reshapes g c =
     let w = state c.evict_range.new.core in
     let is = (accepted c.args.core.now.filer) in
     let found = reaches_then v (state c.find_window.new.core) is c.find_window.ensures.looks.reaches w c.evict_range.ensures.looks.reaches in
-    reshapes_after v w (state c.change_window.new.core) is found c.change_window.ensures.reshapes
+    let came = brings_then c.find_window.ensures.looks.came c.evict_range.ensures.looks.came in
+    reshapes_after v w (state c.change_window.new.core) is found came c.change_window.ensures.reshapes
 
 pub returns-in-Ok-sync-clause-reshapes : goal.returns-in-Ok-sync-clause-reshapes
 returns-in-Ok-sync-clause-reshapes g c =
@@ -179,7 +183,8 @@ returns-in-Ok-sync-clause-reshapes g c =
     let is = (accepted c.args.core.now.filer) in
     let settled = c.sync.ensures in
     let found = reaches_then v (state c.find_window.new.core) is c.find_window.ensures.looks.reaches w c.evict_range.ensures.looks.reaches in
-    reshapes_settled v x (state c.sync.new.core) (reshapes_after v w x is found c.change_window.ensures.reshapes) settled.reaches settled.frames settled.layout settled.runs
+    let came = brings_then c.find_window.ensures.looks.came c.evict_range.ensures.looks.came in
+    reshapes_settled v x (state c.sync.new.core) (reshapes_after v w x is found came c.change_window.ensures.reshapes) settled.reaches settled.frames settled.layout settled.runs
 
 pub returns-in-Err-sync-clause-reshapes : goal.returns-in-Err-sync-clause-reshapes
 returns-in-Err-sync-clause-reshapes g c =
@@ -189,7 +194,8 @@ returns-in-Err-sync-clause-reshapes g c =
     let is = (accepted c.args.core.now.filer) in
     let settled = c.sync.ensures in
     let found = reaches_then v (state c.find_window.new.core) is c.find_window.ensures.looks.reaches w c.evict_range.ensures.looks.reaches in
-    reshapes_settled v x (state c.sync.new.core) (reshapes_after v w x is found c.change_window.ensures.reshapes) settled.reaches settled.frames settled.layout settled.runs
+    let came = brings_then c.find_window.ensures.looks.came c.evict_range.ensures.looks.came in
+    reshapes_settled v x (state c.sync.new.core) (reshapes_after v w x is found came c.change_window.ensures.reshapes) settled.reaches settled.frames settled.layout settled.runs
 
 -- ---- The tables are revealed.
 

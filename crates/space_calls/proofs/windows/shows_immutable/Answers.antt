@@ -21,6 +21,7 @@ returns-in-Ok-Some-clause-looks g c = record {
   runs = (λ volume m r. looked_runs r c.attributes_of.ensures.stays.makes c.attributes_of.ensures.stays.brings ((c.attributes_of.ensures.revealed 96 _ (shapes_of m.files) m.spaces (books_of r)).1) c.attributes_of.ensures.stays.layout);
   still = (λ ss s. reached_sees (look_reaches (state c.args.core.now) (state (record c.args.core.now { filer = c.attributes_of.new.filer })) c.attributes_of.ensures.stays.looks c.attributes_of.ensures.stays.layout) refl refl s);
   reaches = (look_reaches (state c.args.core.now) (state (record c.args.core.now { filer = c.attributes_of.new.filer })) c.attributes_of.ensures.stays.looks c.attributes_of.ensures.stays.layout);
+  came = c.attributes_of.ensures.stays.brings;
   makes = c.attributes_of.ensures.stays.makes;
   layout = c.attributes_of.ensures.stays.layout;
   intervals = refl;
@@ -31,6 +32,7 @@ returns-in-Ok-None-clause-looks g c = record {
   runs = (λ volume m r. looked_runs r c.attributes_of.ensures.stays.makes c.attributes_of.ensures.stays.brings ((c.attributes_of.ensures.revealed 96 _ (shapes_of m.files) m.spaces (books_of r)).1) c.attributes_of.ensures.stays.layout);
   still = (λ ss s. reached_sees (look_reaches (state c.args.core.now) (state (record c.args.core.now { filer = c.attributes_of.new.filer })) c.attributes_of.ensures.stays.looks c.attributes_of.ensures.stays.layout) refl refl s);
   reaches = (look_reaches (state c.args.core.now) (state (record c.args.core.now { filer = c.attributes_of.new.filer })) c.attributes_of.ensures.stays.looks c.attributes_of.ensures.stays.layout);
+  came = c.attributes_of.ensures.stays.brings;
   makes = c.attributes_of.ensures.stays.makes;
   layout = c.attributes_of.ensures.stays.layout;
   intervals = refl;
@@ -41,6 +43,7 @@ returns-in-Err-clause-looks g c = record {
   runs = (λ volume m r. looked_runs r c.attributes_of.ensures.stays.makes c.attributes_of.ensures.stays.brings ((c.attributes_of.ensures.revealed 96 _ (shapes_of m.files) m.spaces (books_of r)).1) c.attributes_of.ensures.stays.layout);
   still = (λ ss s. reached_sees (look_reaches (state c.args.core.now) (state (record c.args.core.now { filer = c.attributes_of.new.filer })) c.attributes_of.ensures.stays.looks c.attributes_of.ensures.stays.layout) refl refl s);
   reaches = (look_reaches (state c.args.core.now) (state (record c.args.core.now { filer = c.attributes_of.new.filer })) c.attributes_of.ensures.stays.looks c.attributes_of.ensures.stays.layout);
+  came = c.attributes_of.ensures.stays.brings;
   makes = c.attributes_of.ensures.stays.makes;
   layout = c.attributes_of.ensures.stays.layout;
   intervals = refl;

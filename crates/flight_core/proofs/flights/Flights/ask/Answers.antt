@@ -2,6 +2,7 @@ use Rattle.std.proofs.Common.{◌≡◌, false, sym, ◌∙◌, rules}
 use Rattle.std.specs.Prelude.{is_some}
 use Rattle.std.proofs.lemmas.Bool.{true≢false}
 use Rattle.flight_core.specs.Flights.{flight_of}
+use Rattle.flight_core.proofs.CarryingLemmas.{led_one}
 use Rattle.flight_core.proofs.TimesLemmas.{not_waiting}
 use Rattle.flight_core.proofs.flights.Flights.ask.Goals as goal
 
@@ -17,3 +18,6 @@ returns-clause-busy g c =
       where_caused = (λ busy. absurd (c.attempt.ensures.never_blames.0 busy), λ waits. absurd (true≢false (sym waits ∙ fails)));
       unchanged = λ busy. absurd (c.attempt.ensures.never_blames.0 busy);
     }
+
+pub returns-clause-led : goal.returns-clause-led
+returns-clause-led g c = led_one g.S.Stepped.led c.args.self.now.stepped c.attempt.new.self.stepped _ c.attempt.ensures.led

@@ -2,6 +2,7 @@ use Rattle.std.proofs.Common.{List, Option, sym, ◌∙◌, ap, subst, refl}
 use Rattle.std.specs.Prelude.{option_map}
 use Rattle.flight_core.specs.declared.pending.Pending.{Pending}
 use Rattle.flight_core.specs.Tried.{IsFirstAway}
+use Rattle.flight_core.specs.Carrying.{Tries}
 use Rattle.flight_core.specs.Crowd.{entry_of}
 use Rattle.flight_core.specs.Flights.{page_of}
 use Rattle.flight_core.proofs.OrderLemmas.{newcomer}
@@ -16,3 +17,6 @@ returns-in-Absent-clause-waits g c = λ m stands.
     let waits = ap (λ (ps : List Pending). page_of ps c.args.client) c.join.ensures.waiting
     ∙ ap (λ (o : Option Pending). option_map (λ p. p.page) o) (entry_push s.waiting.items new c.args.client refl c.requires.free) in
     (t.0, t.1, (c.in-Absent.page, waits, subst (λ stepped. IsFirstAway (g.S.Stepped.resident stepped m) c.args.call.now c.in-Absent.page) (sym c.join.ensures.stepped) t.3))
+
+pub returns-in-Absent-clause-led : goal.returns-in-Absent-clause-led
+returns-in-Absent-clause-led g c = subst (λ stepped. g.S.Stepped.led c.args.self.now.stepped (Tries c.args.call.now) stepped) (sym c.join.ensures.stepped) c.try_step.ensures.led

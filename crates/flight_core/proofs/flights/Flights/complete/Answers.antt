@@ -6,6 +6,7 @@ use Rattle.flight_core.specs.declared.pending.Pending.{Pending}
 use Rattle.flight_core.specs.Pending.{AreInOrder}
 use Rattle.flight_core.specs.Crowd.{of_flight}
 use Rattle.flight_core.specs.Flights.{crowd_of}
+use Rattle.flight_core.proofs.CarryingLemmas.{landing_led, led_nothing, owner_led}
 use Rattle.flight_core.proofs.OrderLemmas.{goes_on, in_form, some_in_order, owner_pending, others_kept}
 use Rattle.flight_core.proofs.TimesLemmas.{owner_alone, each_free}
 use Rattle.flight_core.proofs.TryLemmas.{lands}
@@ -63,13 +64,11 @@ try_others-requires-clause-free g c =
 
 pub returns-in_err-try_others-clause-cause : goal.returns-in_err-try_others-clause-cause
 returns-in_err-try_others-clause-cause g c =
-    let s = c.args.self.now in
-    let all =
-    sym (ap (λ (ps : List Pending). of_flight ps c.args.flight) c.deref.ensures.0)
-    ∙ sym c.of_flight-landing.ensures ∙ sym c.deref-2.ensures.0 ∙ c.in-Some.ensures.cases.0 in
     let same : c.from_residual-in_err-try_others.result ≡ Err c.in_err-try_others.field-0.0 = search rules in
-    rw same
-    (c.in_ok-reply.ensures.later c.try_others.new.self.stepped c.in_err-try_others.field-0.0 (owner_pending s.begun s.waiting.items s.in_order (in_it c.args.flight) c.in-Some.owner.now c.in-Some.others.now all).kept.reference c.in_err-try_others.ensures.cause)
+    rw same (c.in_ok-reply.ensures.later c.try_others.new.self.stepped c.in_err-try_others.field-0.0 c.in_err-try_others.ensures.cause)
+
+pub returns-clause-later : goal.returns-clause-later
+returns-clause-later g c = λ s e is. c.in_ok-reply.ensures.later s e (c.in_ok-try_others.ensures.later s e is)
 
 pub returns-clause-completed : goal.returns-clause-completed
 returns-clause-completed g c = λ m stands.
@@ -85,3 +84,30 @@ returns-clause-completed g c = λ m stands.
           (crowd_of tried.0 c.try_others.new.self) all left answered.allowed tried.1,
       tried.2,
     )
+
+pub returns-in_default-clause-led : goal.returns-in_default-clause-led
+returns-in_default-clause-led g c = led_nothing g.S.Stepped.led c.args.self.now.stepped _
+
+pub returns-in_err-reply-clause-led : goal.returns-in_err-reply-clause-led
+returns-in_err-reply-clause-led g c =
+    let s = c.args.self.now in
+    let all =
+    sym (ap (λ (ps : List Pending). of_flight ps c.args.flight) c.deref.ensures.0)
+    ∙ sym c.of_flight-landing.ensures ∙ sym c.deref-2.ensures.0 ∙ c.in-Some.ensures.cases.0 in
+    owner_led g.S.Stepped.led s.stepped c.step.new.self (of_flight s.waiting.items c.args.flight) c.in-Some.owner.now c.in-Some.others.now all c.step.ensures.led
+
+pub returns-in_err-try_others-clause-led : goal.returns-in_err-try_others-clause-led
+returns-in_err-try_others-clause-led g c =
+    let s = c.args.self.now in
+    let all =
+    sym (ap (λ (ps : List Pending). of_flight ps c.args.flight) c.deref.ensures.0)
+    ∙ sym c.of_flight-landing.ensures ∙ sym c.deref-2.ensures.0 ∙ c.in-Some.ensures.cases.0 in
+    landing_led g.S.Stepped.led s.stepped c.step.new.self (of_flight s.waiting.items c.args.flight) c.in-Some.owner.now c.in-Some.others.now all c.step.ensures.led c.try_others.new.self.stepped c.try_others.ensures.led
+
+pub returns-clause-led : goal.returns-clause-led
+returns-clause-led g c =
+    let s = c.args.self.now in
+    let all =
+    sym (ap (λ (ps : List Pending). of_flight ps c.args.flight) c.deref.ensures.0)
+    ∙ sym c.of_flight-landing.ensures ∙ sym c.deref-2.ensures.0 ∙ c.in-Some.ensures.cases.0 in
+    landing_led g.S.Stepped.led s.stepped c.step.new.self (of_flight s.waiting.items c.args.flight) c.in-Some.owner.now c.in-Some.others.now all c.step.ensures.led c.try_others.new.self.stepped c.try_others.ensures.led

@@ -1,6 +1,7 @@
 use Rattle.std.proofs.Common.{sym, arith}
 use Rattle.flight_core.specs.Crowd.{entry_of}
 use Rattle.flight_core.specs.Flights.{crowd_of}
+use Rattle.flight_core.proofs.CarryingLemmas.{tried_client, tried_nobody}
 use Rattle.flight_core.proofs.OrderLemmas.{goes_on, in_form, kept_of}
 use Rattle.flight_core.proofs.TimesLemmas.{entry_counts, copied_none}
 use Rattle.flight_core.proofs.TryLemmas.{tries_revealed, tries_none}
@@ -32,5 +33,17 @@ returns-clause-tried g c = λ m stands.
     (t.0, rw c.reply_of.ensures tried, t.2)
 
 pub returns-clause-later : goal.returns-clause-later
-returns-clause-later g c = λ s e.
-    c.in_ok-attempt.ensures.later s e (kept_of c.args.others.now c.args.client c.in-Some.pending.now c.requires.kept (sym c.in-Some.ensures)).reference
+returns-clause-later g c = λ s e. c.in_ok-attempt.ensures.later s e
+
+pub returns-in_default-clause-led : goal.returns-in_default-clause-led
+returns-in_default-clause-led g c =
+    let none = copied_none c.entry_of.result (entry_of c.args.others.now c.args.client) c.entry_of.ensures c.in_default.not-Some in
+    tried_nobody g.S.Stepped.led c.args.self.now.stepped c.args.client c.args.others.now none
+
+pub returns-in_err-attempt-clause-led : goal.returns-in_err-attempt-clause-led
+returns-in_err-attempt-clause-led g c =
+    tried_client g.S.Stepped.led c.args.self.now.stepped c.attempt.new.self.stepped c.args.client c.args.others.now c.in-Some.pending.now (omega (arith, c.requires.free)) (sym c.in-Some.ensures) c.attempt.ensures.led
+
+pub returns-clause-led : goal.returns-clause-led
+returns-clause-led g c =
+    tried_client g.S.Stepped.led c.args.self.now.stepped c.attempt.new.self.stepped c.args.client c.args.others.now c.in-Some.pending.now (omega (arith, c.requires.free)) (sym c.in-Some.ensures) c.attempt.ensures.led

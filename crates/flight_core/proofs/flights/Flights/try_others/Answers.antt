@@ -1,4 +1,4 @@
-use Rattle.std.proofs.Common.{◌≡◌, ℕ, ◌+◌, ◌≤◌, List, [], ◌∷◌, ◌++◌, length, sym, ◌∙◌, ap, subst, arith, length-append}
+use Rattle.std.proofs.Common.{◌≡◌, ℕ, ◌+◌, ◌≤◌, List, [], ◌∷◌, ◌++◌, length, refl, sym, ◌∙◌, ap, subst, arith, length-append}
 use Rattle.flight_core.specs.declared.pending.Pending.{Pending}
 use Rattle.flight_core.specs.declared.answers.Answer.{Answer}
 use Rattle.flight_core.specs.Pending.{times}
@@ -6,6 +6,7 @@ use Rattle.flight_core.specs.Crowd.{of_client}
 use Rattle.flight_core.specs.Flights.{crowd_of}
 use Rattle.flight_core.specs.Landing.{HasTried, answer_of}
 use Rattle.flight_core.proofs.TryLemmas.{below, below_more, HasRoom, keeps_room, tried_none, tried_then}
+use Rattle.flight_core.proofs.CarryingLemmas.{tried_first, tried_more}
 use Rattle.flight_core.proofs.flights.Flights.try_others.Goals as goal
 
 pub loop-client-init : goal.loop-client-init
@@ -24,6 +25,7 @@ loop-client-init g c =
         subst (λ (xs : List Answer). HasTried (crowd_of m c.args.self.now) [] owner xs (crowd_of m c.args.self.now)) (sym is) (tried_none (crowd_of m c.args.self.now) owner),
         stands,
       );
+      led = refl;
     }
 
 pub loop-client-preserved : goal.loop-client-preserved
@@ -55,6 +57,7 @@ loop-client-preserved g c =
                 (subst (λ (xs : List Answer). HasTried start (below others client ++ of_client others client) owner xs new) (sym c.add.ensures) both),
             u.2,
           );
+      led = tried_more g.S.Stepped.led c.args.self.now.stepped c.loop-client.self.stepped c.try_client.new.self.stepped client others c.loop-client.auto.client c.loop-client.invariant.led c.in_ok-reply.ensures.led;
     }
 
 pub returns-clause-tried : goal.returns-clause-tried
@@ -65,3 +68,21 @@ returns-clause-tried g c = λ m stands.
       subst (λ (k : ℕ). HasTried (crowd_of m c.args.self.now) (below c.args.others.now k) c.args.owner c.loop-client.answers.items (crowd_of t.0 c.loop-client.self)) last t.1,
       t.2,
     )
+
+pub returns-in_err-reply-clause-led : goal.returns-in_err-reply-clause-led
+returns-in_err-reply-clause-led g c =
+    let led = g.S.Stepped.led in
+    let client = c.loop-client.client in
+    let others = c.args.others.now in
+    let old = c.args.self.now.stepped in
+    let new = c.try_client.new.self.stepped in
+    tried_first led old new (client + 1) others (omega arith) (omega (arith, c.loop-client-test.true))
+    (tried_more led old c.loop-client.self.stepped new client others c.loop-client.auto.client c.loop-client.invariant.led c.in_err-reply.ensures.led)
+
+pub returns-clause-led : goal.returns-clause-led
+returns-clause-led g c =
+    let last : c.loop-client.client ≤ 17 = omega (arith, c.loop-client-test.false, c.loop-client.auto.client-end (omega arith)) in
+    tried_first g.S.Stepped.led c.args.self.now.stepped c.loop-client.self.stepped c.loop-client.client c.args.others.now c.loop-client.auto.client last c.loop-client.invariant.led
+
+pub returns-clause-later : goal.returns-clause-later
+returns-clause-later g c = λ s e. c.loop-client.invariant.later s e

@@ -2,6 +2,8 @@ use Rattle.std.proofs.Common.{ℕ, ◌+◌, ◌≤◌, length}
 use Rattle.labelled_disk.specs.declared.evidence.Halt.{Halt}
 use Rattle.flat_machine.specs.Machine.{Machine}
 use Rattle.flight_core.specs.Flights.{crowd_of, LeadsTo}
+use Rattle.flight_core.specs.Carrying.{LedInARow}
+use Rattle.flight_core.specs.LandingCalls.{tries_of}
 use Rattle.flight_core.specs.Landing.{IsFree, HasTried}
 use Rattle.flight_core.proofs.TryLemmas.{below, HasRoom}
 use Rattle.flight_core.proofs.flights.Flights.try_others.Given as goal
@@ -15,4 +17,5 @@ invariant-loop-client g l = record {
   room : HasRoom (length l.answers.items) l.client l.fn.owner.client;
   tried : (m : Machine) → g.S.Stepped.stands l.fn.self.stepped m → LeadsTo (λ n. crowd_of n l.self) (g.S.Stepped.stands l.self.stepped)
       (HasTried (crowd_of m l.fn.self) (below l.others l.client) l.fn.owner l.answers.items);
+  led : LedInARow g.S.Stepped.led l.fn.self.stepped (tries_of (below l.others l.client)) l.self.stepped;
 }

@@ -25,6 +25,7 @@ use Rattle.space_calls.specs.Sees.{SeesOn}
 use Rattle.pilot_engine.specs.Reasons.{IsBlameless}
 use Rattle.pilot_engine.specs.Showing.{mapped_by}
 use Rattle.pilot_engine.proofs.WindowLemmas.{if_ok, sees_or_more}
+use Rattle.pilot_engine.proofs.ReferLemmas.{ok_always}
 use Rattle.pilot_engine.proofs.session.Session.answer.Goals as goal
 use Rattle.filer_kernel.specs.FailsLaws.{if_fails}
 
@@ -34,6 +35,7 @@ returns-in-Create-clause-answers g c = λ m r. record {
       (carried_out c.args.self.now.core c.create.new.self.core c.args.self.now.volume c.create.new.self.volume m (call.Create c.in-Create.pages c.in-Create.kind) c.create.ensures.kept c.create.ensures.intervals refl r c.create.result (λ spaces_of s. c.create.ensures.carried spaces_of m s)));
   sound = (c.create.ensures.sound _ m r.session);
   passes = (rw c.in-Create.is (c.create.ensures.passes _ m r.session));
+  came = λ quiet. c.create.ensures.came _ m r.session;
   cost = (spent_inside (state c.args.self.now.core).disk (state c.create.new.self.core).disk c.create.ensures.bounded);
 }
 
@@ -145,6 +147,7 @@ returns-in-Volume-clause-answers g c = λ m r. record {
       (carried_out c.args.self.now.core c.volume.new.self.core c.args.self.now.volume c.volume.new.self.volume m call.Volume c.volume.ensures.kept c.volume.ensures.intervals refl r c.volume.result (λ spaces_of s. c.volume.ensures.carried spaces_of m s)));
   sound = (c.volume.ensures.sound _ m r.session);
   passes = (rw c.in-Volume.is (c.volume.ensures.passes _ m r.session));
+  came = λ quiet. ok_always c.volume.result _ c.volume.ensures.came;
   cost = (asked_inside (state c.args.self.now.core).disk (state c.volume.new.self.core).disk 0 (omega arith) c.volume.ensures.cost);
 }
 

@@ -2,7 +2,7 @@ use Rattle.std.proofs.Common.{ap, arith, length, List, Some, refl, rules, subst,
 use Rattle.std.proofs.lemmas.Bool.{true≢false}
 use Rattle.flat_machine.specs.References.{is_reference}
 use Rattle.pilot_engine.specs.Labels.{keeps_labels}
-use Rattle.pilot_engine.specs.Stepping.{IsResident, StepHalts, waits}
+use Rattle.pilot_engine.specs.Stepping.{IsResident, StepHalts, brings_clients, waits}
 use Rattle.pilot_engine.proofs.BoundLemmas.{asked_inside}
 use Rattle.pilot_engine.proofs.LabelLemmas.{pages_alone}
 use Rattle.pilot_engine.proofs.LiftLemmas.{still_open}
@@ -44,6 +44,7 @@ use Rattle.session_words.specs.CellLaws.{IsTouchedOrOwn}
 use Rattle.running_words.specs.Session.{WroteIn}
 use Rattle.pilot_engine.specs.Showing.{mapped_by, maps}
 use Rattle.pilot_engine.proofs.WindowLemmas.{map_or_more, on_or_more}
+use Rattle.pilot_engine.proofs.ReferLemmas.{ok_always}
 use Rattle.pilot_engine.proofs.session.Session.answer_on_spaces.Goals as goal
 use Rattle.filer_kernel.specs.View.{accepted}
 use Rattle.filer_kernel.specs.FailsLaws.{if_fails}
@@ -53,6 +54,7 @@ returns-in-MakeSpace-clause-answers g c = λ m r. record {
   carried = (rw c.in-MakeSpace.is (c.make_space.ensures.carried c.args.self.now.volume m r));
   sound = (c.make_space.ensures.sound c.args.self.now.volume m r);
   passes = (rw c.in-MakeSpace.is (c.make_space.ensures.passes c.args.self.now.volume m r));
+  came = λ quiet. ok_always c.make_space.result _ c.make_space.ensures.came;
   cost = c.make_space.ensures.cost;
 }
 
@@ -81,6 +83,7 @@ returns-in-RemoveSpace-clause-answers g c = λ m r. record {
   carried = (rw c.in-RemoveSpace.is (c.remove_space.ensures.carried c.args.self.now.volume m r));
   sound = (c.remove_space.ensures.sound c.args.self.now.volume m r);
   passes = (rw c.in-RemoveSpace.is (c.remove_space.ensures.passes c.args.self.now.volume m r));
+  came = λ quiet. ok_always c.remove_space.result _ c.remove_space.ensures.came;
   cost = c.remove_space.ensures.cost;
 }
 
@@ -109,6 +112,7 @@ returns-in-Place-clause-answers g c = λ m r. record {
   carried = (rw c.in-Place.is ((c.place.ensures.answers c.args.self.now.volume m r).carried));
   sound = ((c.place.ensures.answers c.args.self.now.volume m r).sound);
   passes = (rw c.in-Place.is ((c.place.ensures.answers c.args.self.now.volume m r).passes));
+  came = λ quiet. ok_always c.place.result _ c.place.ensures.came;
   cost = c.place.ensures.cost;
 }
 
@@ -137,6 +141,7 @@ returns-in-Units-clause-answers g c = λ m r. record {
   carried = (rw c.in-Units.is (c.set_units.ensures.carried c.args.self.now.volume m r));
   sound = (c.set_units.ensures.sound c.args.self.now.volume m r);
   passes = (rw c.in-Units.is (c.set_units.ensures.passes c.args.self.now.volume m r));
+  came = λ quiet. ok_always c.set_units.result _ c.set_units.ensures.came;
   cost = c.set_units.ensures.cost;
 }
 
@@ -165,6 +170,7 @@ returns-in-Map-clause-answers g c = λ m r. record {
   carried = (rw c.in-Map.is ((c.map.ensures.answers c.args.self.now.volume m r).carried));
   sound = ((c.map.ensures.answers c.args.self.now.volume m r).sound);
   passes = (rw c.in-Map.is ((c.map.ensures.answers c.args.self.now.volume m r).passes));
+  came = λ quiet. ok_always c.map.result _ c.map.ensures.came;
   cost = c.map.ensures.cost;
 }
 
@@ -223,6 +229,7 @@ returns-in-Protect-clause-answers g c = λ m r. record {
   carried = (rw c.in-Protect.is ((c.protect.ensures.answers c.args.self.now.volume m r).carried));
   sound = ((c.protect.ensures.answers c.args.self.now.volume m r).sound);
   passes = (rw c.in-Protect.is ((c.protect.ensures.answers c.args.self.now.volume m r).passes));
+  came = λ quiet. ok_always c.protect.result _ c.protect.ensures.came;
   cost = c.protect.ensures.cost;
 }
 
@@ -251,6 +258,7 @@ returns-in-Load-clause-answers g c = λ m r. record {
   carried = (rw c.in-Load.is ((c.load.ensures.answers c.args.self.now.volume m r).carried));
   sound = ((c.load.ensures.answers c.args.self.now.volume m r).sound);
   passes = (rw c.in-Load.is ((c.load.ensures.answers c.args.self.now.volume m r).passes));
+  came = λ quiet. absurd (true≢false (sym (ap brings_clients c.in-Load.is) ∙ quiet));
   cost = (asked_inside (state c.args.self.now.core).disk (state c.load.new.core).disk 1680 (omega arith) c.load.ensures.cost);
 }
 
@@ -278,6 +286,7 @@ returns-in-Store-clause-answers g c = λ m r. record {
   sound = ((c.store.ensures.answers c.args.self.now.volume m r).sound);
   passes = (rw c.in-Store.is
       (subst (λ (bs : List ℕ). Passes m (call.Store c.in-Store.address bs) (state c.args.self.now.core).disk (state c.store.new.core).disk) c.as_slice.ensures.bytes ((c.store.ensures.answers c.args.self.now.volume m r).passes)));
+  came = λ quiet. absurd (true≢false (sym (ap brings_clients c.in-Store.is) ∙ quiet));
   cost = (asked_inside (state c.args.self.now.core).disk (state c.store.new.core).disk 1680 (omega arith) c.store.ensures.cost);
 }
 
@@ -306,6 +315,7 @@ returns-in-Activate-clause-answers g c = λ m r. record {
   carried = (rw c.in-Activate.is ((c.activate.ensures.answers c.args.self.now.volume m r).carried));
   sound = ((c.activate.ensures.answers c.args.self.now.volume m r).sound);
   passes = (rw c.in-Activate.is ((c.activate.ensures.answers c.args.self.now.volume m r).passes));
+  came = λ quiet. absurd (true≢false (sym (ap brings_clients c.in-Activate.is) ∙ quiet));
   cost = c.activate.ensures.cost;
 }
 
@@ -334,6 +344,7 @@ returns-in-Deactivate-clause-answers g c = λ m r. record {
   carried = (rw c.in-Deactivate.is ((c.deactivate.ensures.answers c.args.self.now.volume m r).carried));
   sound = ((c.deactivate.ensures.answers c.args.self.now.volume m r).sound);
   passes = (rw c.in-Deactivate.is ((c.deactivate.ensures.answers c.args.self.now.volume m r).passes));
+  came = λ quiet. ok_always c.deactivate.result _ c.deactivate.ensures.came;
   cost = c.deactivate.ensures.cost;
 }
 
@@ -362,6 +373,7 @@ returns-in-Kill-clause-answers g c = λ m r. record {
   carried = (rw c.in-Kill.is ((c.kill.ensures.answers c.args.self.now.volume m r).carried));
   sound = ((c.kill.ensures.answers c.args.self.now.volume m r).sound);
   passes = (rw c.in-Kill.is ((c.kill.ensures.answers c.args.self.now.volume m r).passes));
+  came = λ quiet. ok_always c.kill.result _ c.kill.ensures.came;
   cost = c.kill.ensures.cost;
 }
 
@@ -390,6 +402,7 @@ returns-in-ForceOut-clause-answers g c = λ m r. record {
   carried = (rw c.in-ForceOut.is ((c.force_out.ensures.answers c.args.self.now.volume m r).carried));
   sound = ((c.force_out.ensures.answers c.args.self.now.volume m r).sound);
   passes = (rw c.in-ForceOut.is ((c.force_out.ensures.answers c.args.self.now.volume m r).passes));
+  came = λ quiet. ok_always c.force_out.result _ c.force_out.ensures.came;
   cost = c.force_out.ensures.cost;
 }
 

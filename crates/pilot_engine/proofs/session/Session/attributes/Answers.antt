@@ -23,6 +23,7 @@ returns-in-Ok-None-clause-answers g c = λ m r. record {
   carried = (nameless_running _ _ m c.args.id (c.named_file.ensures.looks.runs c.args.self.now.volume m r) (subst (λ (o : Option Attributes). IsNameable (nameable m c.args.id) o) c.in-Ok-None.field-0-is (c.in-Ok-None.ensures.answer c.args.self.now.volume m r)));
   sound = tt;
   passes = (asked_passes c.args.self.now.core c.args.self.now.volume m (call.Attributes c.args.id) r (g.met.D.Disk.in_form (disk_of c.args.self.now.core.filer)) c.named_file.ensures.looks.makes);
+  came = λ quiet. c.named_file.ensures.looks.came;
   cost = (asked_inside (state c.args.self.now.core).disk (state c.named_file.new.core).disk 14561 (omega arith) c.named_file.ensures.cost);
 }
 
@@ -34,6 +35,7 @@ returns-in-Err-clause-answers g c = λ m r. record {
   carried = tt;
   sound = (c.in-Err.ensures.sound c.args.self.now.volume m r);
   passes = (asked_passes c.args.self.now.core c.args.self.now.volume m (call.Attributes c.args.id) r (g.met.D.Disk.in_form (disk_of c.args.self.now.core.filer)) c.named_file.ensures.looks.makes);
+  came = λ quiet. tt;
   cost = (asked_inside (state c.args.self.now.core).disk (state c.named_file.new.core).disk 14561 (omega arith) c.named_file.ensures.cost);
 }
 
@@ -45,6 +47,7 @@ returns-clause-answers g c = λ m r. record {
   carried = (attributes_running _ _ m c.args.id _ (c.named_file.ensures.looks.runs c.args.self.now.volume m r) (subst (λ (o : Option Attributes). IsNameable (nameable m c.args.id) o) c.in-Ok-Some.field-0-is (c.in-Ok-Some.ensures.answer c.args.self.now.volume m r)));
   sound = tt;
   passes = (asked_passes c.args.self.now.core c.args.self.now.volume m (call.Attributes c.args.id) r (g.met.D.Disk.in_form (disk_of c.args.self.now.core.filer)) c.named_file.ensures.looks.makes);
+  came = λ quiet. c.named_file.ensures.looks.came;
   cost = (asked_inside (state c.args.self.now.core).disk (state c.named_file.new.core).disk 14561 (omega arith) c.named_file.ensures.cost);
 }
 

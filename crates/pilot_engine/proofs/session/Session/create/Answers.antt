@@ -29,6 +29,7 @@ use Rattle.pilot_engine.proofs.ReasonSteps.{given_on}
 use Rattle.pilot_engine.proofs.SeesLemmas.{counted_next, same_next, seen_blameless}
 use Rattle.pilot_engine.proofs.SparedCalls.{all_but, spares_itself}
 use Rattle.pilot_engine.proofs.SparedFiles.{spares_made, spares_making}
+use Rattle.pilot_engine.proofs.CameOwn.{own_itself}
 use Rattle.pilot_engine.proofs.session.Session.create.Goals as goal
 
 pub returns-then-pages-free-clause-carried : goal.returns-then-pages-free-clause-carried
@@ -216,3 +217,21 @@ returns-in-Ok-clause-spares g c = spares_made c.args.self.now.volume.root c.args
 
 pub returns-in-Err-clause-spares : goal.returns-in-Err-clause-spares
 returns-in-Err-clause-spares g c = spares_making c.args.self.now.volume.root c.args.kind c.args.pages c.in-Err.ensures.writes
+
+-- ---- Which pages came.
+
+pub returns-then-pages-free-clause-came : goal.returns-then-pages-free-clause-came
+returns-then-pages-free-clause-came g c = λ spaces_of m s. own_itself (state c.args.self.now.core).slots
+
+pub returns-then-self-clause-came : goal.returns-then-self-clause-came
+returns-then-self-clause-came g c = λ spaces_of m s. own_itself (state c.args.self.now.core).slots
+
+pub returns-in-Err-clause-came : goal.returns-in-Err-clause-came
+returns-in-Err-clause-came g c = λ spaces_of m s. tt
+
+pub returns-in-Ok-clause-came : goal.returns-in-Ok-clause-came
+returns-in-Ok-clause-came g c = λ spaces_of m s.
+    let is = (accepted c.args.self.now.core.filer) in
+    let same_room : c.args.self.now.volume.layout.capacity ≡ (state c.args.self.now.core).layout.capacity = ap (λ l. l.capacity) c.requires.opened.same_layout in
+    let under = c.if-pages-free.false in
+    (c.in-Ok.ensures.created s.stands.memory (shapes_of m.files) m.spaces (may_create spaces_of _ _ _ _ _ m s is c.args.pages (omega (arith, under, same_room)))).leads.brings

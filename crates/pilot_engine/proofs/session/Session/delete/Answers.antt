@@ -25,6 +25,7 @@ use Rattle.pilot_engine.proofs.SparedCalls.{all_but, but_then, spares_quiet}
 use Rattle.label_calls.specs.SyncedLaws.{quiet_synced, syncs_around}
 use Rattle.pilot_engine.proofs.OwnLemmas.{around_of}
 use Rattle.pilot_engine.proofs.WindowLemmas.{still_then}
+use Rattle.pilot_engine.proofs.CameOwn.{brought_then}
 use Rattle.pilot_engine.proofs.session.Session.delete.Goals as goal
 use Rattle.filer_kernel.specs.View.{disk_of}
 
@@ -33,6 +34,7 @@ returns-in-Ok-Hidden-clause-answers g c = λ m r. record {
   carried = (refused_running _ _ m (call.Delete c.args.id) why.File (c.sight.ensures.runs m r) (delete_gone m c.args.id (no_file_hidden m c.args.id (subst (λ (x : Sight). IsSight m c.args.id x) c.in-Ok-Hidden.field-0-is (c.in-Ok-Hidden.ensures.answer m r)))));
   sound = tt;
   passes = (asked_passes c.args.self.now.core c.args.self.now.volume m (call.Delete c.args.id) r (g.met.D.Disk.in_form (disk_of c.args.self.now.core.filer)) c.sight.ensures.makes);
+  came = λ quiet. c.sight.ensures.came;
   cost = (asked_inside (state c.args.self.now.core).disk (state c.sight.new.self.core).disk 14532 (omega arith) c.sight.ensures.cost);
 }
 
@@ -44,6 +46,7 @@ returns-in-Some-clause-answers g c = λ m r. record {
   carried = (refused_running _ _ m (call.Delete c.args.id) _ (c.sight.ensures.runs m r) (delete_seen m r.session.stands.is.by.machine c.args.id _ (subst (λ (o : Option ℕ). IsSeenBy m c.args.id o) c.in-Some.is (subst (λ (x : Sight). IsSight m c.args.id x) c.in-Ok-By.field-0-is (c.in-Ok-By.ensures.answer m r)))));
   sound = tt;
   passes = (asked_passes c.args.self.now.core c.args.self.now.volume m (call.Delete c.args.id) r (g.met.D.Disk.in_form (disk_of c.args.self.now.core.filer)) c.sight.ensures.makes);
+  came = λ quiet. c.sight.ensures.came;
   cost = (asked_inside (state c.args.self.now.core).disk (state c.sight.new.self.core).disk 14532 (omega arith) c.sight.ensures.cost);
 }
 
@@ -55,6 +58,7 @@ returns-in-Err-clause-answers g c = λ m r. record {
   carried = tt;
   sound = (c.in-Err.ensures.sound m r);
   passes = (asked_passes c.args.self.now.core c.args.self.now.volume m (call.Delete c.args.id) r (g.met.D.Disk.in_form (disk_of c.args.self.now.core.filer)) c.sight.ensures.makes);
+  came = λ quiet. tt;
   cost = (asked_inside (state c.args.self.now.core).disk (state c.sight.new.self.core).disk 14532 (omega arith) c.sight.ensures.cost);
 }
 
@@ -75,6 +79,7 @@ returns-clause-answers g c = λ m r.
           (λ spaces_of s. c.delete_unseen.ensures.carried spaces_of m s ((subst (λ (x : Sight). IsSight m c.args.id x) c.in-Ok-By.field-0-is (c.in-Ok-By.ensures.answer m r)).mapped ∙ ap (option_map why.FileMapped) c.in-None.is) (λ set. absurd (true≢false (sym set)))));
       sound = (c.delete_unseen.ensures.sound _ m now.session ((subst (λ (x : Sight). IsSight m c.args.id x) c.in-Ok-By.field-0-is (c.in-Ok-By.ensures.answer m r)).mapped ∙ ap (option_map why.FileMapped) c.in-None.is) (λ set. absurd (true≢false (sym set))));
       passes = (asked_then m (call.Delete c.args.id) (asked_passes c.args.self.now.core c.args.self.now.volume m call.Volume r (g.met.D.Disk.in_form (disk_of c.args.self.now.core.filer)) c.sight.ensures.makes) (c.delete_unseen.ensures.passes _ m now.session ((subst (λ (x : Sight). IsSight m c.args.id x) c.in-Ok-By.field-0-is (c.in-Ok-By.ensures.answer m r)).mapped ∙ ap (option_map why.FileMapped) c.in-None.is) (λ set. absurd (true≢false (sym set)))));
+      came = λ quiet. brought_then c.delete_unseen.result (state c.delete_unseen.new.self.core).slots c.sight.ensures.came (c.delete_unseen.ensures.came _ m now.session ((subst (λ (x : Sight). IsSight m c.args.id x) c.in-Ok-By.field-0-is (c.in-Ok-By.ensures.answer m r)).mapped ∙ ap (option_map why.FileMapped) c.in-None.is) (λ set. absurd (true≢false (sym set))));
       cost = (spent_besides (state c.args.self.now.core).disk (state c.sight.new.self.core).disk (state c.delete_unseen.new.self.core).disk c.sight.ensures.makes.went.sectors (let few = c.sight.ensures.cost in omega (arith, few)) (c.delete_unseen.ensures.bounded _ m now.session));
     }
 

@@ -27,6 +27,7 @@ use Rattle.pilot_engine.proofs.SparedFiles.{found_temporary, kept_hidden, not_ke
 use Rattle.file_manager.specs.Attributes.{HasLeader}
 use Rattle.label_calls.specs.SyncedLaws.{around_after, quiet_synced, syncs_around, wrote_synced}
 use Rattle.pilot_engine.proofs.SeesLemmas.{same_from, same_still}
+use Rattle.swapper_kernel.specs.HaltLaws.{brings_then}
 use Rattle.pilot_engine.proofs.session.Session.delete_unseen.Goals as goal
 
 pub returns-in-Ok-None-clause-carried : goal.returns-in-Ok-None-clause-carried
@@ -284,3 +285,25 @@ returns-then-is_kept-clause-windows g c = λ o k. let old = c.args.self.now.core
 pub returns-in-Ok-clause-windows : goal.returns-in-Ok-clause-windows
 returns-in-Ok-clause-windows g c = λ o k. let old = c.args.self.now.core in
     same_from o (state old) (accepted old.filer) k (view_of c.delete.new.filer) (λ b h. c.in-Ok.ensures.accounts (telling o b) k.0 (c.in-Ok-Some.ensures.accounts (telling o b) k.0 h))
+
+-- ---- Which pages came.
+
+pub returns-in-Ok-None-clause-came : goal.returns-in-Ok-None-clause-came
+returns-in-Ok-None-clause-came g c = λ spaces_of m s unseen temporary. c.attributes_of.ensures.stays.brings
+
+pub returns-in-Err-clause-came : goal.returns-in-Err-clause-came
+returns-in-Err-clause-came g c = λ spaces_of m s unseen temporary. tt
+
+pub returns-then-is_kept-clause-came : goal.returns-then-is_kept-clause-came
+returns-then-is_kept-clause-came g c = λ spaces_of m s unseen temporary. c.attributes_of.ensures.stays.brings
+
+pub returns-in-Err-delete-clause-came : goal.returns-in-Err-delete-clause-came
+returns-in-Err-delete-clause-came g c = λ spaces_of m s unseen temporary. tt
+
+pub returns-in-Ok-clause-came : goal.returns-in-Ok-clause-came
+returns-in-Ok-clause-came g c = λ spaces_of m s unseen temporary.
+    let books = session_books spaces_of _ _ _ _ _ m s in
+    let revealed = subst (λ (o : Option Attributes). IsAttributesOf (shapes_of m.files c.args.id) o) c.in-Ok-Some.field-0-is ((c.in-Ok-Some.ensures.revealed 96 s.stands.memory (shapes_of m.files) m.spaces books).0) in
+    let mid = (c.attributes_of.ensures.revealed 96 s.stands.memory (shapes_of m.files) m.spaces books).1 in
+    let at = books_at _ _ _ _ _ _ _ _ mid c.attributes_of.ensures.stays.layout in
+    brings_then c.attributes_of.ensures.stays.brings ((c.in-Ok.ensures.deleted s.stands.memory (shapes_of m.files) m.spaces _ at revealed).deleted (unseen_pages m c.args.id unseen)).leads.brings

@@ -33,6 +33,8 @@ use Rattle.pilot_engine.proofs.SparedCalls.{all_but, but_then, spares_quiet}
 use Rattle.label_calls.specs.SyncedLaws.{around_after, quiet_synced, synced_then, syncs_around}
 use Rattle.pilot_engine.proofs.OwnLemmas.{around_of}
 use Rattle.pilot_engine.proofs.WindowLemmas.{still_then}
+use Rattle.swapper_kernel.specs.HaltLaws.{brings_then}
+use Rattle.pilot_engine.proofs.CameOwn.{brought_then}
 use Rattle.pilot_engine.proofs.session.Session.make_immutable.Goals as goal
 use Rattle.filer_kernel.specs.View.{accepted, disk_of}
 
@@ -41,6 +43,7 @@ returns-in-Ok-Hidden-clause-answers g c = λ m r. record {
   carried = (refused_running _ _ m (call.MakeImmutable c.args.id) why.File (c.sight.ensures.runs m r) (immutable_gone m c.args.id (no_file_hidden m c.args.id (subst (λ (x : Sight). IsSight m c.args.id x) c.in-Ok-Hidden.field-0-is (c.in-Ok-Hidden.ensures.answer m r)))));
   sound = tt;
   passes = (asked_passes c.args.self.now.core c.args.self.now.volume m (call.MakeImmutable c.args.id) r (g.met.D.Disk.in_form (disk_of c.args.self.now.core.filer)) c.sight.ensures.makes);
+  came = λ quiet. c.sight.ensures.came;
   cost = (asked_inside (state c.args.self.now.core).disk (state c.sight.new.self.core).disk 14532 (omega arith) c.sight.ensures.cost);
 }
 
@@ -52,6 +55,7 @@ returns-in-Err-clause-answers g c = λ m r. record {
   carried = tt;
   sound = (c.in-Err.ensures.sound m r);
   passes = (asked_passes c.args.self.now.core c.args.self.now.volume m (call.MakeImmutable c.args.id) r (g.met.D.Disk.in_form (disk_of c.args.self.now.core.filer)) c.sight.ensures.makes);
+  came = λ quiet. tt;
   cost = (asked_inside (state c.args.self.now.core).disk (state c.sight.new.self.core).disk 14532 (omega arith) c.sight.ensures.cost);
 }
 
@@ -65,6 +69,7 @@ returns-in-Ok-Some-clause-answers g c = λ m r. record {
       refused_running _ _ m (call.MakeImmutable c.args.id) _ (c.window_on.ensures.looks.runs c.sight.new.self.volume m now) (immutable_seen m now.session.stands.is.by.machine c.args.id _ _ (subst (λ (x : Sight). IsSight m c.args.id x) c.in-Ok-By.field-0-is (c.in-Ok-By.ensures.answer m r)).named first));
   sound = tt;
   passes = (asked_passes c.args.self.now.core c.args.self.now.volume m (call.MakeImmutable c.args.id) r (g.met.D.Disk.in_form (disk_of c.args.self.now.core.filer)) (makes_then c.sight.ensures.makes c.window_on.ensures.looks.makes));
+  came = λ quiet. brings_then c.sight.ensures.came c.window_on.ensures.looks.came;
   cost = (asked_inside (state c.args.self.now.core).disk (state c.window_on.new.core).disk 29064 (omega arith) (let first = c.sight.ensures.cost in let later = c.window_on.ensures.cost in omega (arith, first, later)));
 }
 
@@ -76,6 +81,7 @@ returns-in-Err-window_on-clause-answers g c = λ m r. record {
   carried = tt;
   sound = (c.in-Err-window_on.ensures.sound c.sight.new.self.volume m (c.sight.ensures.runs m r));
   passes = (asked_passes c.args.self.now.core c.args.self.now.volume m (call.MakeImmutable c.args.id) r (g.met.D.Disk.in_form (disk_of c.args.self.now.core.filer)) (makes_then c.sight.ensures.makes c.window_on.ensures.looks.makes));
+  came = λ quiet. tt;
   cost = (asked_inside (state c.args.self.now.core).disk (state c.window_on.new.core).disk 29064 (omega arith) (let first = c.sight.ensures.cost in let later = c.window_on.ensures.cost in omega (arith, first, later)));
 }
 
@@ -98,6 +104,9 @@ returns-clause-answers g c = λ m r. record {
       let last = c.window_on.ensures.looks.runs c.sight.new.self.volume m now in
       asked_then m (call.MakeImmutable c.args.id) (asked_passes c.args.self.now.core c.args.self.now.volume m call.Volume r (g.met.D.Disk.in_form (disk_of c.args.self.now.core.filer)) (makes_then c.sight.ensures.makes c.window_on.ensures.looks.makes))
       (c.mark_immutable.ensures.passes _ m last.session (subst (λ (x : Sight). IsSight m c.args.id x) c.in-Ok-By.field-0-is (c.in-Ok-By.ensures.answer m r)).named (written_by_none m c.args.id (subst (λ (o : Option (ℕ × Shown)). IsFirstWith (shows c.args.id true) m.spaces o) c.in-Ok-None.field-0-is (c.in-Ok-None.ensures.answer c.sight.new.self.volume m now)))));
+  came = λ quiet. let now = c.sight.ensures.runs m r in
+      let last = c.window_on.ensures.looks.runs c.sight.new.self.volume m now in
+      brought_then c.mark_immutable.result (state c.mark_immutable.new.self.core).slots (brings_then c.sight.ensures.came c.window_on.ensures.looks.came) (c.mark_immutable.ensures.came _ m last.session (subst (λ (x : Sight). IsSight m c.args.id x) c.in-Ok-By.field-0-is (c.in-Ok-By.ensures.answer m r)).named (written_by_none m c.args.id (subst (λ (o : Option (ℕ × Shown)). IsFirstWith (shows c.args.id true) m.spaces o) c.in-Ok-None.field-0-is (c.in-Ok-None.ensures.answer c.sight.new.self.volume m now))));
   cost = (asked_inside (state c.args.self.now.core).disk (state c.mark_immutable.new.self.core).disk 29109 (omega arith) (let first = c.sight.ensures.cost in let later = c.window_on.ensures.cost in let last = c.mark_immutable.ensures.cost in omega (arith, first, later, last)));
 }
 

@@ -21,6 +21,7 @@ use Rattle.pilot_engine.proofs.SparedCalls.{all_but, but_then, spares_quiet}
 use Rattle.label_calls.specs.SyncedLaws.{quiet_synced, syncs_around}
 use Rattle.pilot_engine.proofs.OwnLemmas.{around_of}
 use Rattle.pilot_engine.proofs.WindowLemmas.{still_then}
+use Rattle.pilot_engine.proofs.CameOwn.{brought_then}
 use Rattle.pilot_engine.proofs.session.Session.make_permanent.Goals as goal
 use Rattle.filer_kernel.specs.View.{disk_of}
 
@@ -29,6 +30,7 @@ returns-in-Ok-Hidden-clause-answers g c = λ m r. record {
   carried = (refused_running _ _ m (call.MakePermanent c.args.id) why.File (c.sight.ensures.runs m r) (permanent_gone m c.args.id (no_file_hidden m c.args.id (subst (λ (x : Sight). IsSight m c.args.id x) c.in-Ok-Hidden.field-0-is (c.in-Ok-Hidden.ensures.answer m r)))));
   sound = tt;
   passes = (asked_passes c.args.self.now.core c.args.self.now.volume m (call.MakePermanent c.args.id) r (g.met.D.Disk.in_form (disk_of c.args.self.now.core.filer)) c.sight.ensures.makes);
+  came = λ quiet. c.sight.ensures.came;
   cost = (asked_inside (state c.args.self.now.core).disk (state c.sight.new.self.core).disk 14532 (omega arith) c.sight.ensures.cost);
 }
 
@@ -40,6 +42,7 @@ returns-in-Err-clause-answers g c = λ m r. record {
   carried = tt;
   sound = (c.in-Err.ensures.sound m r);
   passes = (asked_passes c.args.self.now.core c.args.self.now.volume m (call.MakePermanent c.args.id) r (g.met.D.Disk.in_form (disk_of c.args.self.now.core.filer)) c.sight.ensures.makes);
+  came = λ quiet. tt;
   cost = (asked_inside (state c.args.self.now.core).disk (state c.sight.new.self.core).disk 14532 (omega arith) c.sight.ensures.cost);
 }
 
@@ -60,6 +63,7 @@ returns-in-Ok-By-clause-answers g c = λ m r.
           (λ spaces_of s. c.mark_permanent.ensures.carried spaces_of m s (subst (λ (x : Sight). IsSight m c.args.id x) c.in-Ok-By.field-0-is (c.in-Ok-By.ensures.answer m r)).named));
       sound = (c.mark_permanent.ensures.sound _ m now.session);
       passes = (asked_then m (call.MakePermanent c.args.id) (asked_passes c.args.self.now.core c.args.self.now.volume m call.Volume r (g.met.D.Disk.in_form (disk_of c.args.self.now.core.filer)) c.sight.ensures.makes) (c.mark_permanent.ensures.passes _ m now.session (subst (λ (x : Sight). IsSight m c.args.id x) c.in-Ok-By.field-0-is (c.in-Ok-By.ensures.answer m r)).named));
+      came = λ quiet. brought_then c.mark_permanent.result (state c.mark_permanent.new.self.core).slots c.sight.ensures.came (c.mark_permanent.ensures.came _ m now.session (subst (λ (x : Sight). IsSight m c.args.id x) c.in-Ok-By.field-0-is (c.in-Ok-By.ensures.answer m r)).named);
       cost = (asked_inside (state c.args.self.now.core).disk (state c.mark_permanent.new.self.core).disk 14577 (omega arith) (let first = c.sight.ensures.cost in let later = c.mark_permanent.ensures.cost in omega (arith, first, later)));
     }
 

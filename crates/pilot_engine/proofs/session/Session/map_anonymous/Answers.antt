@@ -42,6 +42,8 @@ use Rattle.pilot_engine.proofs.SparedCalls.{all_but, but_then, spares_quiet}
 use Rattle.space_calls.specs.Sees.{IsShown}
 use Rattle.pilot_engine.specs.Showing.{mapped_by}
 use Rattle.pilot_engine.proofs.WindowLemmas.{ok_for_each, sees_or}
+use Rattle.swapper_kernel.specs.HaltLaws.{brings_then}
+use Rattle.pilot_engine.proofs.ReferLemmas.{ok_always}
 use Rattle.pilot_engine.proofs.session.Session.map_anonymous.Goals as goal
 use Rattle.filer_kernel.specs.View.{accepted, disk_of, swapper_of, view_of}
 
@@ -50,6 +52,7 @@ returns-in-Ok-Err-clause-answers g c = λ m r. record {
   carried = (refused_running _ _ m (call.MapAnonymous c.args.space) _ (asked_runs c.args.self.now.core (accepted c.args.self.now.core.filer) c.requires.size c.can_map.new.core c.args.self.now.volume m c.can_map.ensures.asked r) (map_refused m c.args.space _ (λ at. (s : Space) × (space_at m.spaces c.args.space ≡ Some s) × (at ≡ (s.first, s.pages))) (subst (λ (x : Result (ℕ × ℕ) Refusal). Reveals (first_of (map_row m.spaces c.args.space)) (λ at. (s : Space) × (space_at m.spaces c.args.space ≡ Some s) × (at ≡ (s.first, s.pages))) x) c.in-Ok-Err.field-0-is (c.in-Ok-Err.ensures.answer _ _ m.spaces (knows c.args.self.now.core (accepted c.args.self.now.core.filer) c.requires.size c.args.self.now.volume m r)))));
   sound = tt;
   passes = (asked_passes c.args.self.now.core c.args.self.now.volume m (call.MapAnonymous c.args.space) r (g.met.D.Disk.in_form (disk_of c.args.self.now.core.filer)) (reached_makes c.can_map.ensures.asked.reaches));
+  came = λ quiet. c.can_map.ensures.asked.came;
   cost = (asked_inside (state c.args.self.now.core).disk (state c.can_map.new.core).disk 14364 (omega arith) c.can_map.ensures.cost);
 }
 
@@ -69,6 +72,7 @@ returns-in-Err-clause-answers g c = λ m r. record {
   carried = tt;
   sound = (c.in-Err.ensures.sound _ _ m.spaces (knows c.args.self.now.core (accepted c.args.self.now.core.filer) c.requires.size c.args.self.now.volume m r));
   passes = (asked_passes c.args.self.now.core c.args.self.now.volume m (call.MapAnonymous c.args.space) r (g.met.D.Disk.in_form (disk_of c.args.self.now.core.filer)) (reached_makes c.can_map.ensures.asked.reaches));
+  came = λ quiet. tt;
   cost = (asked_inside (state c.args.self.now.core).disk (state c.can_map.new.core).disk 14364 (omega arith) c.can_map.ensures.cost);
 }
 
@@ -95,6 +99,7 @@ returns-in-Err-create-clause-answers g c = λ m r. record {
   sound = (c.in-Err-create.ensures.sound _ m (asked_runs c.args.self.now.core (accepted c.args.self.now.core.filer) c.requires.size c.can_map.new.core c.args.self.now.volume m c.can_map.ensures.asked r).session);
   passes = (let can = can_be_mapped m c.args.space c.in-Ok-Ok.run' (subst (λ (x : Result (ℕ × ℕ) Refusal). Reveals (first_of (map_row m.spaces c.args.space)) (λ at. (s : Space) × (space_at m.spaces c.args.space ≡ Some s) × (at ≡ (s.first, s.pages))) x) c.in-Ok-Ok.field-0-is (c.in-Ok-Ok.ensures.answer _ _ m.spaces (knows c.args.self.now.core (accepted c.args.self.now.core.filer) c.requires.size c.args.self.now.volume m r))) in
       quiet_then m m (call.MapAnonymous c.args.space) (call.Create c.in-Ok-Ok.run'.1 0) (asked_passes c.args.self.now.core c.args.self.now.volume m call.Volume r (g.met.D.Disk.in_form (disk_of c.args.self.now.core.filer)) (reached_makes c.can_map.ensures.asked.reaches)) (c.create.ensures.passes _ m (asked_runs c.args.self.now.core (accepted c.args.self.now.core.filer) c.requires.size c.can_map.new.core c.args.self.now.volume m c.can_map.ensures.asked r).session) (omega arith) (created_alike m r.session.stands.is.by.machine c.args.space c.in-Ok-Ok.run' can) (created_numbers m r.session.stands.is.by.machine c.args.space c.in-Ok-Ok.run' can));
+  came = λ quiet. tt;
   cost = (spent_around (state c.args.self.now.core).disk (state c.can_map.new.core).disk (state c.create.new.self.core).disk (state c.create.new.self.core).disk (reached_makes c.can_map.ensures.asked.reaches).went.sectors (let few = c.can_map.ensures.cost in omega (arith, few)) c.create.ensures.bounded (omega arith));
 }
 
@@ -119,6 +124,7 @@ returns-in_default-clause-answers g c = λ m r.
       carried = (not_created m r.session.stands.is.by.machine c.args.space c.in-Ok-Ok.run' can c.create.new.self.core c.create.new.self.volume _ (carried_out c.can_map.new.core c.create.new.self.core c.args.self.now.volume c.create.new.self.volume m (call.Create c.in-Ok-Ok.run'.1 0) c.create.ensures.kept c.create.ensures.intervals refl (asked_runs c.args.self.now.core (accepted c.args.self.now.core.filer) c.requires.size c.can_map.new.core c.args.self.now.volume m c.can_map.ensures.asked r) (Ok c.in-Ok.made) (λ spaces_of s. c.in-Ok.ensures.carried spaces_of m s)) c.in_default.not-File);
       sound = tt;
       passes = (quiet_then m m (call.MapAnonymous c.args.space) (call.Create c.in-Ok-Ok.run'.1 0) (asked_passes c.args.self.now.core c.args.self.now.volume m call.Volume r (g.met.D.Disk.in_form (disk_of c.args.self.now.core.filer)) (reached_makes c.can_map.ensures.asked.reaches)) (c.create.ensures.passes _ m (asked_runs c.args.self.now.core (accepted c.args.self.now.core.filer) c.requires.size c.can_map.new.core c.args.self.now.volume m c.can_map.ensures.asked r).session) (omega arith) (created_alike m r.session.stands.is.by.machine c.args.space c.in-Ok-Ok.run' can) (created_numbers m r.session.stands.is.by.machine c.args.space c.in-Ok-Ok.run' can));
+      came = λ quiet. brings_then c.can_map.ensures.asked.came (c.in-Ok.ensures.came _ m (asked_runs c.args.self.now.core (accepted c.args.self.now.core.filer) c.requires.size c.can_map.new.core c.args.self.now.volume m c.can_map.ensures.asked r).session);
       cost = (spent_around (state c.args.self.now.core).disk (state c.can_map.new.core).disk (state c.create.new.self.core).disk (state c.create.new.self.core).disk (reached_makes c.can_map.ensures.asked.reaches).went.sectors (let few = c.can_map.ensures.cost in omega (arith, few)) c.create.ensures.bounded (omega arith));
     }
 
@@ -152,6 +158,7 @@ returns-clause-answers g c = λ m r. record {
       (then_quiet m _ (call.Create c.in-Ok-Ok.run'.1 0) (call.MapAnonymous c.args.space) (c.create.ensures.passes _ m (asked_runs c.args.self.now.core (accepted c.args.self.now.core.filer) c.requires.size c.can_map.new.core c.args.self.now.volume m c.can_map.ensures.asked r).session)
       (asked_passes c.create.new.self.core c.create.new.self.volume _ call.Volume made.runs (g.met.D.Disk.in_form (disk_of c.create.new.self.core.filer)) c.give_window.ensures.makes) refl refl (created_alike m r.session.stands.is.by.machine c.args.space c.in-Ok-Ok.run' can) (mapped_alike m r.session.stands.is.by.machine c.args.space c.in-Ok-Ok.run' can made.free)
       (created_numbers m r.session.stands.is.by.machine c.args.space c.in-Ok-Ok.run' can) (mapped_numbers m r.session.stands.is.by.machine c.args.space c.in-Ok-Ok.run' can made.free)));
+  came = λ quiet. ok_always c.give_window.result _ (brings_then (brings_then c.can_map.ensures.asked.came (c.in-Ok.ensures.came _ m (asked_runs c.args.self.now.core (accepted c.args.self.now.core.filer) c.requires.size c.can_map.new.core c.args.self.now.volume m c.can_map.ensures.asked r).session)) c.give_window.ensures.came);
   cost = (spent_around (state c.args.self.now.core).disk (state c.can_map.new.core).disk (state c.create.new.self.core).disk (state c.give_window.new.core).disk (reached_makes c.can_map.ensures.asked.reaches).went.sectors (let few = c.can_map.ensures.cost in omega (arith, few)) c.create.ensures.bounded (let few = c.give_window.ensures.cost in omega (arith, few)));
 }
 

@@ -26,6 +26,7 @@ use Rattle.pilot_engine.proofs.SparedFiles.{spares_marked}
 use Rattle.label_calls.specs.SyncedLaws.{around_after, quiet_synced, syncs_around}
 use Rattle.pilot_engine.proofs.OwnLemmas.{marked_synced}
 use Rattle.pilot_engine.proofs.SeesLemmas.{same_still}
+use Rattle.swapper_kernel.specs.HaltLaws.{brings_then}
 use Rattle.pilot_engine.proofs.session.Session.mark_immutable.Goals as goal
 
 pub returns-in-Ok-None-clause-carried : goal.returns-in-Ok-None-clause-carried
@@ -186,3 +187,21 @@ returns-in-Ok-None-clause-windows g c = λ o k. let old = c.args.self.now.core i
 pub returns-in-Ok-clause-windows : goal.returns-in-Ok-clause-windows
 returns-in-Ok-clause-windows g c = λ o k. let old = c.args.self.now.core in
     same_still o (state old) (accepted old.filer) k (view_of c.make_immutable.new.filer) (λ b h. c.in-Ok.ensures.accounts (telling o b) k.0 (c.in-Ok-Some.ensures.accounts (telling o b) k.0 h))
+
+-- ---- Which pages came.
+
+pub returns-in-Ok-None-clause-came : goal.returns-in-Ok-None-clause-came
+returns-in-Ok-None-clause-came g c = λ spaces_of m s named unwritten. c.attributes_of.ensures.stays.brings
+
+pub returns-in-Err-clause-came : goal.returns-in-Err-clause-came
+returns-in-Err-clause-came g c = λ spaces_of m s named unwritten. tt
+
+pub returns-in-Err-make_immutable-clause-came : goal.returns-in-Err-make_immutable-clause-came
+returns-in-Err-make_immutable-clause-came g c = λ spaces_of m s named unwritten. tt
+
+pub returns-in-Ok-clause-came : goal.returns-in-Ok-clause-came
+returns-in-Ok-clause-came g c = λ spaces_of m s named unwritten.
+    let books = session_books spaces_of _ _ _ _ _ m s in
+    let revealed = subst (λ (o : Option Attributes). IsAttributesOf (shapes_of m.files c.args.id) o) c.in-Ok-Some.field-0-is ((c.in-Ok-Some.ensures.revealed 96 s.stands.memory (shapes_of m.files) m.spaces books).0) in
+    let mid = (c.attributes_of.ensures.revealed 96 s.stands.memory (shapes_of m.files) m.spaces books).1 in
+    brings_then c.attributes_of.ensures.stays.brings (c.in-Ok.ensures.revealed 96 s.stands.memory (shapes_of m.files) m.spaces _ (books_at _ _ _ _ _ _ _ _ mid c.attributes_of.ensures.stays.layout) revealed (leader_hidden spaces_of _ _ m s.stands c.args.id)).leads.brings

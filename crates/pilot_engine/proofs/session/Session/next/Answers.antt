@@ -15,12 +15,14 @@ use Rattle.pilot_engine.specs.Halting.{TurnHalts}
 use Rattle.pilot_engine.proofs.ReasonSteps.{reached_on, shows_since}
 use Rattle.file_manager.specs.declared.volume.Volume.{Volume}
 use Rattle.pilot_engine.proofs.SeesLemmas.{same_next}
+use Rattle.swapper_kernel.specs.HaltLaws.{brings_then}
+use Rattle.pilot_engine.proofs.CameOwn.{own_itself}
 use Rattle.pilot_engine.proofs.session.Session.next.Goals as goal
 use Rattle.filer_kernel.specs.View.{accepted, disk_of}
 use Rattle.pilot_engine.proofs.LabelLemmas.{pages_alone}
 
 pub files-init : goal.files-init
-files-init g c = (up_to_none c.args.id _ _ _ _ _ _ c.requires.size, reaches_itself (state c.args.self.now.core), refl, λ o k seen. seen, λ o k ss s. s)
+files-init g c = (up_to_none c.args.id _ _ _ _ _ _ c.requires.size, reaches_itself (state c.args.self.now.core), refl, λ o k seen. seen, λ o k ss s. s, own_itself (state c.args.self.now.core).slots)
 
 pub files-smaller : goal.files-smaller
 files-smaller g c =
@@ -35,6 +37,7 @@ files-preserved g c = (
   c.next_passed.ensures.intervals ∙ c.files.invariant.2,
   λ o k seen. (c.in-Ok-Some.ensures.accounts o (reached_on o (state c.args.self.now.core) (state c.files.self.core) (accepted c.args.self.now.core.filer) c.files.invariant.1 k)).sees (c.files.invariant.3 o k seen),
   λ o k ss s. c.in-Ok-Some.ensures.windows o (reached_on o (state c.args.self.now.core) (state c.files.self.core) (accepted c.args.self.now.core.filer) c.files.invariant.1 k) ss (c.files.invariant.4 o k ss s),
+  brings_then c.files.invariant.5 c.next_passed.ensures.came,
 )
 
 pub returns-then-passed-clause-answers : goal.returns-then-passed-clause-answers
@@ -42,6 +45,7 @@ returns-then-passed-clause-answers g c = λ m r. record {
   carried = (replied_running _ _ m (call.Next c.args.id) _ (c.next_passed.ensures.runs m (c.files.invariant.0.runs m r)) refl (next_replied m c.args.id _ (up_to_found _ _ _ _ _ _ _ _ _ _ _ _ _ _ c.files.invariant.0 (λ m r. r.session.stands.is.by.machine) _ _ c.in-Ok-Some.field-0-is c.in-Ok-Some.ensures.turned c.if-passed.true m r)) refl);
   sound = tt;
   passes = (asked_passes c.args.self.now.core c.args.self.now.volume m (call.Next c.args.id) r (g.met.D.Disk.in_form (disk_of c.args.self.now.core.filer)) (makes_then c.files.invariant.0.makes c.next_passed.ensures.makes));
+  came = λ quiet. brings_then c.files.invariant.5 c.next_passed.ensures.came;
   cost = (turns_bounded (state c.args.self.now.core).disk (state c.next_passed.new.self.core).disk (state c.args.self.now.core).layout (accepted c.args.self.now.core.filer) c.requires.size m (let fits = c.requires.opened.room in let same = r.session.same_used in omega (arith, fits, same)) (up_to_paid _ _ _ _ _ _ _ _ _ _ _ _ _ _ c.files.invariant.0 (λ m r. r.session.stands.is.by.machine) _ c.next_passed.ensures.cost m r));
 }
 
@@ -64,6 +68,7 @@ returns-in-Ok-None-clause-answers g c = λ m r. record {
   carried = (replied_running _ _ m (call.Next c.args.id) _ (c.next_passed.ensures.runs m (c.files.invariant.0.runs m r)) refl (nothing_replied m c.args.id (up_to_end _ _ _ _ _ _ _ _ _ _ _ _ _ _ c.files.invariant.0 (λ m r. r.session.stands.is.by.machine) _ c.in-Ok-None.field-0-is c.in-Ok-None.ensures.turned m r)) refl);
   sound = tt;
   passes = (asked_passes c.args.self.now.core c.args.self.now.volume m (call.Next c.args.id) r (g.met.D.Disk.in_form (disk_of c.args.self.now.core.filer)) (makes_then c.files.invariant.0.makes c.next_passed.ensures.makes));
+  came = λ quiet. brings_then c.files.invariant.5 c.next_passed.ensures.came;
   cost = (turns_bounded (state c.args.self.now.core).disk (state c.next_passed.new.self.core).disk (state c.args.self.now.core).layout (accepted c.args.self.now.core.filer) c.requires.size m (let fits = c.requires.opened.room in let same = r.session.same_used in omega (arith, fits, same)) (up_to_paid _ _ _ _ _ _ _ _ _ _ _ _ _ _ c.files.invariant.0 (λ m r. r.session.stands.is.by.machine) _ c.next_passed.ensures.cost m r));
 }
 
@@ -86,6 +91,7 @@ returns-in-Err-clause-answers g c = λ m r. record {
   carried = tt;
   sound = (c.in-Err.ensures.sound m (c.files.invariant.0.runs m r));
   passes = (asked_passes c.args.self.now.core c.args.self.now.volume m (call.Next c.args.id) r (g.met.D.Disk.in_form (disk_of c.args.self.now.core.filer)) (makes_then c.files.invariant.0.makes c.next_passed.ensures.makes));
+  came = λ quiet. tt;
   cost = (turns_bounded (state c.args.self.now.core).disk (state c.next_passed.new.self.core).disk (state c.args.self.now.core).layout (accepted c.args.self.now.core.filer) c.requires.size m (let fits = c.requires.opened.room in let same = r.session.same_used in omega (arith, fits, same)) (up_to_paid _ _ _ _ _ _ _ _ _ _ _ _ _ _ c.files.invariant.0 (λ m r. r.session.stands.is.by.machine) _ c.next_passed.ensures.cost m r));
 }
 

@@ -1,7 +1,7 @@
 use Rattle.std.proofs.Common.{◌≡◌, ◌-◌, ◌^◌}
 use Rattle.fault_core.specs.Core.{state}
 use Rattle.running_words.specs.Running.{Runs}
-use Rattle.fault_core.specs.Reach.{Reaches}
+use Rattle.fault_core.specs.Reach.{BringsOwn, Reaches}
 use Rattle.file_manager.specs.Reasons.{KeepsOn, InitialState}
 use Rattle.space_calls.specs.Sees.{StillSees}
 use Rattle.pilot_engine.specs.Reasons.{SeesHome}
@@ -16,6 +16,7 @@ invariant-files g l =
     × Reaches (state l.fn.self.core) (state l.self.core) × (l.self.core.intervals ≡ l.fn.self.core.intervals)
     × ((o : InitialState) → KeepsOn o l.fn.self.core.filer → SeesHome o l.fn.self.core → SeesHome o l.self.core)
     × ((o : InitialState) → KeepsOn o l.fn.self.core.filer → StillSees l.fn.self.core l.self.core)
+    × BringsOwn (state l.fn.self.core).slots (state l.self.core).slots
 
 abbrev pub decreases-files : goal.decreases-files
 decreases-files g l = 2 ^ 64 - l.cursor

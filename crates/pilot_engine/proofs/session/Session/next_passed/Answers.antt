@@ -18,6 +18,7 @@ use Rattle.pilot_engine.proofs.HomeLemmas.{file_later, file_pages}
 use Rattle.pilot_engine.proofs.LackLemmas.{search_misses}
 use Rattle.pilot_engine.proofs.SeesLemmas.{seen_blameless, seen_still}
 use Rattle.pilot_engine.proofs.SeesLemmas.{same_still}
+use Rattle.swapper_kernel.specs.HaltLaws.{brings_then}
 use Rattle.pilot_engine.proofs.session.Session.next_passed.Goals as goal
 
 pub returns-in-Ok-None-clause-runs : goal.returns-in-Ok-None-clause-runs
@@ -186,3 +187,20 @@ returns-in-Ok-Hidden-clause-windows g c = λ o k ss s. let old = c.args.self.now
 pub returns-in-Ok-By-clause-windows : goal.returns-in-Ok-By-clause-windows
 returns-in-Ok-By-clause-windows g c = λ o k ss s. let old = c.args.self.now.core in
     c.in-Ok-By.ensures.windows o (k.0, (c.in-Ok-Some.ensures.accounts o k.0 k.1.0, k.1.1)) ss (same_still o (state old) (accepted old.filer) k (view_of c.next.new.filer) (λ b. c.in-Ok-Some.ensures.accounts (telling o b) k.0) ss s)
+
+-- ---- Which pages came.
+
+pub returns-in-Ok-None-clause-came : goal.returns-in-Ok-None-clause-came
+returns-in-Ok-None-clause-came g c = c.next.ensures.stays.brings
+
+pub returns-in-Err-clause-came : goal.returns-in-Err-clause-came
+returns-in-Err-clause-came g c = c.next.ensures.stays.brings
+
+pub returns-in-Ok-Hidden-clause-came : goal.returns-in-Ok-Hidden-clause-came
+returns-in-Ok-Hidden-clause-came g c = brings_then c.next.ensures.stays.brings c.sight.ensures.came
+
+pub returns-in-Ok-By-clause-came : goal.returns-in-Ok-By-clause-came
+returns-in-Ok-By-clause-came g c = brings_then c.next.ensures.stays.brings c.sight.ensures.came
+
+pub returns-in-Err-sight-clause-came : goal.returns-in-Err-sight-clause-came
+returns-in-Err-sight-clause-came g c = brings_then c.next.ensures.stays.brings c.sight.ensures.came

@@ -29,6 +29,8 @@ use Rattle.pilot_engine.proofs.SeesLemmas.{same_next, seen_from, seen_blameless,
 use Rattle.pilot_engine.proofs.SparedCalls.{all_but, but_then, spares_itself, spares_quiet}
 use Rattle.pilot_engine.proofs.SparedFiles.{spares_resized, spares_resizing}
 use Rattle.pilot_engine.proofs.SeesLemmas.{same_from, same_still}
+use Rattle.swapper_kernel.specs.HaltLaws.{brings_then}
+use Rattle.pilot_engine.proofs.CameOwn.{own_itself}
 use Rattle.pilot_engine.proofs.session.Session.resize.Goals as goal
 
 pub returns-then-not-may_be_file-clause-carried : goal.returns-then-not-may_be_file-clause-carried
@@ -332,3 +334,35 @@ returns-then-not-may_be_file-clause-windows g c = λ o k ss s. s
 pub returns-in-Ok-clause-windows : goal.returns-in-Ok-clause-windows
 returns-in-Ok-clause-windows g c = λ o k. let old = c.args.self.now.core in
     same_from o (state old) (accepted old.filer) k (view_of c.set_size.new.filer) (λ b h. c.in-Ok.ensures.accounts (telling o b) k.0 (c.in-Ok-Some.ensures.accounts (telling o b) k.0 h))
+
+-- ---- Which pages came.
+
+pub returns-then-not-may_be_file-clause-came : goal.returns-then-not-may_be_file-clause-came
+returns-then-not-may_be_file-clause-came g c = λ spaces_of m s by. own_itself (state c.args.self.now.core).slots
+
+pub returns-in-Ok-None-clause-came : goal.returns-in-Ok-None-clause-came
+returns-in-Ok-None-clause-came g c = λ spaces_of m s by. c.attributes_of.ensures.stays.brings
+
+pub returns-in-Err-clause-came : goal.returns-in-Err-clause-came
+returns-in-Err-clause-came g c = λ spaces_of m s by. tt
+
+pub returns-then-found-clause-came : goal.returns-then-found-clause-came
+returns-then-found-clause-came g c = λ spaces_of m s by. c.attributes_of.ensures.stays.brings
+
+pub returns-in-Some-clause-came : goal.returns-in-Some-clause-came
+returns-in-Some-clause-came g c = λ spaces_of m s by. c.attributes_of.ensures.stays.brings
+
+pub returns-then-not-has_room-clause-came : goal.returns-then-not-has_room-clause-came
+returns-then-not-has_room-clause-came g c = λ spaces_of m s by. c.attributes_of.ensures.stays.brings
+
+pub returns-in-Err-set_size-clause-came : goal.returns-in-Err-set_size-clause-came
+returns-in-Err-set_size-clause-came g c = λ spaces_of m s by. tt
+
+pub returns-in-Ok-clause-came : goal.returns-in-Ok-clause-came
+returns-in-Ok-clause-came g c = λ spaces_of m s by.
+    let books = session_books spaces_of _ _ _ _ _ m s in
+    let revealed = subst (λ (o : Option Attributes). IsAttributesOf (shapes_of m.files c.args.id) o) c.in-Ok-Some.field-0-is ((c.in-Ok-Some.ensures.revealed 96 s.stands.memory (shapes_of m.files) m.spaces books).0) in
+    let mid = (c.attributes_of.ensures.revealed 96 s.stands.memory (shapes_of m.files) m.spaces books).1 in
+    size_sound spaces_of _ _ _ _ _ m s _ _ _ _ c.attributes_of.ensures.stays.makes c.attributes_of.ensures.stays.brings mid c.attributes_of.ensures.stays.layout c.args.id c.args.pages c.args.seen by c.in-Ok-Some.found revealed c.if-found.false (accepted c.args.self.now.core.filer) c.requires.opened.same_layout (λ fewer. sym (c.held.ensures.cut fewer) ∙ c.in-None.is) c.has_room.result c.has_room.ensures c.if-not-has_room.false _
+    (λ x shapes spaces f may few. brings_then c.attributes_of.ensures.stays.brings ((c.in-Ok.ensures.resized x shapes spaces f may.books may.found).grown may few).0.leads.brings)
+    (λ x shapes spaces f may. brings_then c.attributes_of.ensures.stays.brings ((c.in-Ok.ensures.resized x shapes spaces f may.books may.found).shrunk may).0.leads.brings)

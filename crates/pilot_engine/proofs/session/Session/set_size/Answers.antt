@@ -19,6 +19,7 @@ use Rattle.file_manager.specs.declared.volume.Volume.{Volume}
 use Rattle.pilot_engine.proofs.SeesLemmas.{then_next}
 use Rattle.pilot_engine.proofs.SparedCalls.{all_but, but_then, spares_quiet}
 use Rattle.pilot_engine.proofs.WindowLemmas.{still_then}
+use Rattle.pilot_engine.proofs.CameOwn.{brought_then}
 use Rattle.pilot_engine.proofs.session.Session.set_size.Goals as goal
 use Rattle.filer_kernel.specs.View.{disk_of}
 
@@ -27,6 +28,7 @@ returns-in-Ok-Hidden-clause-answers g c = λ m r. record {
   carried = (refused_running _ _ m (call.SetSize c.args.id c.args.pages) why.File (c.sight.ensures.runs m r) (size_gone m c.args.id (no_file_hidden m c.args.id (subst (λ (x : Sight). IsSight m c.args.id x) c.in-Ok-Hidden.field-0-is (c.in-Ok-Hidden.ensures.answer m r))) c.args.pages));
   sound = tt;
   passes = (asked_passes c.args.self.now.core c.args.self.now.volume m (call.SetSize c.args.id c.args.pages) r (g.met.D.Disk.in_form (disk_of c.args.self.now.core.filer)) c.sight.ensures.makes);
+  came = λ quiet. c.sight.ensures.came;
   cost = (asked_inside (state c.args.self.now.core).disk (state c.sight.new.self.core).disk 14532 (omega arith) c.sight.ensures.cost);
 }
 
@@ -38,6 +40,7 @@ returns-in-Err-clause-answers g c = λ m r. record {
   carried = tt;
   sound = (c.in-Err.ensures.sound m r);
   passes = (asked_passes c.args.self.now.core c.args.self.now.volume m (call.SetSize c.args.id c.args.pages) r (g.met.D.Disk.in_form (disk_of c.args.self.now.core.filer)) c.sight.ensures.makes);
+  came = λ quiet. tt;
   cost = (asked_inside (state c.args.self.now.core).disk (state c.sight.new.self.core).disk 14532 (omega arith) c.sight.ensures.cost);
 }
 
@@ -58,6 +61,7 @@ returns-in-Ok-By-clause-answers g c = λ m r.
           (λ spaces_of s. c.resize.ensures.carried spaces_of m s (subst (λ (x : Sight). IsSight m c.args.id x) c.in-Ok-By.field-0-is (c.in-Ok-By.ensures.answer m r))));
       sound = (c.resize.ensures.sound _ m now.session (subst (λ (x : Sight). IsSight m c.args.id x) c.in-Ok-By.field-0-is (c.in-Ok-By.ensures.answer m r)));
       passes = (asked_then m (call.SetSize c.args.id c.args.pages) (asked_passes c.args.self.now.core c.args.self.now.volume m call.Volume r (g.met.D.Disk.in_form (disk_of c.args.self.now.core.filer)) c.sight.ensures.makes) (c.resize.ensures.passes _ m now.session (subst (λ (x : Sight). IsSight m c.args.id x) c.in-Ok-By.field-0-is (c.in-Ok-By.ensures.answer m r))));
+      came = λ quiet. brought_then c.resize.result (state c.resize.new.self.core).slots c.sight.ensures.came (c.resize.ensures.came _ m now.session (subst (λ (x : Sight). IsSight m c.args.id x) c.in-Ok-By.field-0-is (c.in-Ok-By.ensures.answer m r)));
       cost = (spent_besides (state c.args.self.now.core).disk (state c.sight.new.self.core).disk (state c.resize.new.self.core).disk c.sight.ensures.makes.went.sectors (let few = c.sight.ensures.cost in omega (arith, few)) (c.resize.ensures.bounded _ m now.session));
     }
 

@@ -86,3 +86,17 @@ returns-else-shown-clause-windows g c = λ o k. c.window_on.ensures.looks.still
 
 pub returns-in-Ok-None-clause-windows : goal.returns-in-Ok-None-clause-windows
 returns-in-Ok-None-clause-windows g c = λ o k. c.window_on.ensures.looks.still
+
+-- ---- Which pages came.
+
+pub returns-then-shown-clause-came : goal.returns-then-shown-clause-came
+returns-then-shown-clause-came g c = c.window_on.ensures.looks.came
+
+pub returns-else-shown-clause-came : goal.returns-else-shown-clause-came
+returns-else-shown-clause-came g c = c.window_on.ensures.looks.came
+
+pub returns-in-Ok-None-clause-came : goal.returns-in-Ok-None-clause-came
+returns-in-Ok-None-clause-came g c = c.window_on.ensures.looks.came
+
+pub returns-in-Err-clause-came : goal.returns-in-Err-clause-came
+returns-in-Err-clause-came g c = c.window_on.ensures.looks.came

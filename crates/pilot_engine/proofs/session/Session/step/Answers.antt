@@ -6,6 +6,7 @@ returns-then-is_err-clause-answers g c = λ m r. record {
   carried = ((c.answer-answer.ensures.answers m r).carried);
   sound = ((c.answer-answer.ensures.answers m r).sound);
   passes = ((c.answer-answer.ensures.answers m r).passes);
+  came = ((c.answer-answer.ensures.answers m r).came);
   cost = ((c.answer-answer.ensures.answers m r).cost);
 }
 
@@ -20,6 +21,7 @@ returns-else-is_err-clause-answers g c = λ m r. record {
   carried = ((c.answer-answer.ensures.answers m r).carried);
   sound = ((c.answer-answer.ensures.answers m r).sound);
   passes = ((c.answer-answer.ensures.answers m r).passes);
+  came = ((c.answer-answer.ensures.answers m r).came);
   cost = ((c.answer-answer.ensures.answers m r).cost);
 }
 

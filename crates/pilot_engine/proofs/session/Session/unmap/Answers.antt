@@ -30,6 +30,7 @@ use Rattle.pilot_engine.proofs.HomeSteps.{fault_blameless}
 use Rattle.pilot_engine.proofs.SpaceMisses.{fault_misses, take_window_misses, unmap_misses}
 use Rattle.pilot_engine.proofs.SparedCalls.{all_then, spares_quiet}
 use Rattle.pilot_engine.proofs.WindowLemmas.{on_then}
+use Rattle.swapper_kernel.specs.HaltLaws.{brings_then}
 use Rattle.pilot_engine.proofs.session.Session.unmap.Goals as goal
 use Rattle.filer_kernel.specs.View.{accepted, disk_of, view_of}
 
@@ -39,6 +40,7 @@ returns-in-Ok-Err-clause-answers g c = λ m r. record {
       (not_taken m c.args.space _ (λ n. Runs c.take_window.new.core c.args.self.now.volume n) (subst (λ (x : Result Shown Refusal). Reveals (first_of (window_row m.spaces c.args.space)) (IsTaken m c.args.space (λ n. Runs c.take_window.new.core c.args.self.now.volume n)) x) c.in-Ok-Err.field-0-is (c.in-Ok-Err.ensures.taken c.args.self.now.volume m r))));
   sound = tt;
   passes = (asked_passes c.args.self.now.core c.args.self.now.volume m (call.Unmap c.args.space) r (g.met.D.Disk.in_form (disk_of c.args.self.now.core.filer)) c.take_window.ensures.makes);
+  came = λ quiet. c.take_window.ensures.reshapes.came;
   cost = (asked_inside (state c.args.self.now.core).disk (state c.take_window.new.core).disk (2 ^ 23) (omega arith) c.take_window.ensures.cost);
 }
 
@@ -58,6 +60,7 @@ returns-in-Err-clause-answers g c = λ m r. record {
   carried = tt;
   sound = (c.in-Err.ensures.sound c.args.self.now.volume m r);
   passes = (asked_passes c.args.self.now.core c.args.self.now.volume m (call.Unmap c.args.space) r (g.met.D.Disk.in_form (disk_of c.args.self.now.core.filer)) c.take_window.ensures.makes);
+  came = λ quiet. tt;
   cost = (asked_inside (state c.args.self.now.core).disk (state c.take_window.new.core).disk (2 ^ 23) (omega arith) c.take_window.ensures.cost);
 }
 
@@ -78,6 +81,7 @@ returns-then-not-shown-clause-answers g c = λ m r. record {
       plain_carried m r.session.stands.is.by.machine c.args.space t.s t.here c.in-Ok-Ok.shown t.window t.free c.take_window.new.core c.args.self.now.volume (unset _ c.if-not-shown.true) t.left);
   sound = tt;
   passes = (asked_passes c.args.self.now.core c.args.self.now.volume m (call.Unmap c.args.space) r (g.met.D.Disk.in_form (disk_of c.args.self.now.core.filer)) c.take_window.ensures.makes);
+  came = λ quiet. c.take_window.ensures.reshapes.came;
   cost = (asked_inside (state c.args.self.now.core).disk (state c.take_window.new.core).disk (2 ^ 23) (omega arith) c.take_window.ensures.cost);
 }
 
@@ -106,6 +110,7 @@ returns-in-Err-delete_unseen-clause-answers g c = λ m r.
       sound = (c.in-Err-delete_unseen.ensures.sound _ _ t.left.session (left_unseen m r.session.stands.is.by.machine c.args.space t.s t.here c.in-Ok-Ok.shown t.window t.free (is_set _ c.if-not-shown.false)) (λ set. left_temporary m r.session.stands.is.by.machine c.args.space t.s t.here c.in-Ok-Ok.shown t.window t.free (is_set _ c.if-not-shown.false)));
       passes = (quiet_then m _ (call.Unmap c.args.space) (call.Delete c.in-Ok-Ok.shown.id) (asked_passes c.args.self.now.core c.args.self.now.volume m call.Volume r (g.met.D.Disk.in_form (disk_of c.args.self.now.core.filer)) c.take_window.ensures.makes)
           (c.delete_unseen.ensures.passes _ _ t.left.session (left_unseen m r.session.stands.is.by.machine c.args.space t.s t.here c.in-Ok-Ok.shown t.window t.free (is_set _ c.if-not-shown.false)) (λ set. left_temporary m r.session.stands.is.by.machine c.args.space t.s t.here c.in-Ok-Ok.shown t.window t.free (is_set _ c.if-not-shown.false))) (omega arith) (hidden_alike m r.session.stands.is.by.machine c.args.space t.s t.here c.in-Ok-Ok.shown t.window t.free (is_set _ c.if-not-shown.false)) (hidden_numbers m r.session.stands.is.by.machine c.args.space t.s t.here c.in-Ok-Ok.shown t.window t.free (is_set _ c.if-not-shown.false)));
+      came = λ quiet. tt;
       cost = (spent_besides (state c.args.self.now.core).disk (state c.take_window.new.core).disk (state c.delete_unseen.new.self.core).disk c.take_window.ensures.makes.went.sectors (let few = c.take_window.ensures.cost in omega (arith, few)) (c.delete_unseen.ensures.bounded _ _ t.left.session));
     }
 
@@ -134,6 +139,7 @@ returns-in-Ok-sync-clause-answers g c = λ m r.
           (quiet_then m _ (call.Unmap c.args.space) (call.Delete c.in-Ok-Ok.shown.id) (asked_passes c.args.self.now.core c.args.self.now.volume m call.Volume r (g.met.D.Disk.in_form (disk_of c.args.self.now.core.filer)) c.take_window.ensures.makes)
           (c.delete_unseen.ensures.passes _ _ t.left.session (left_unseen m r.session.stands.is.by.machine c.args.space t.s t.here c.in-Ok-Ok.shown t.window t.free (is_set _ c.if-not-shown.false)) (λ set. left_temporary m r.session.stands.is.by.machine c.args.space t.s t.here c.in-Ok-Ok.shown t.window t.free (is_set _ c.if-not-shown.false))) (omega arith) (hidden_alike m r.session.stands.is.by.machine c.args.space t.s t.here c.in-Ok-Ok.shown t.window t.free (is_set _ c.if-not-shown.false)) (hidden_numbers m r.session.stands.is.by.machine c.args.space t.s t.here c.in-Ok-Ok.shown t.window t.free (is_set _ c.if-not-shown.false)))
           c.sync.ensures.same);
+      came = λ quiet. rw c.sync.ensures.frames (brings_then c.take_window.ensures.reshapes.came (c.in-Ok.ensures.came _ _ t.left.session (left_unseen m r.session.stands.is.by.machine c.args.space t.s t.here c.in-Ok-Ok.shown t.window t.free (is_set _ c.if-not-shown.false)) (λ set. left_temporary m r.session.stands.is.by.machine c.args.space t.s t.here c.in-Ok-Ok.shown t.window t.free (is_set _ c.if-not-shown.false))));
       cost = (spent_around (state c.args.self.now.core).disk (state c.take_window.new.core).disk (state c.delete_unseen.new.self.core).disk (state c.sync.new.core).disk c.take_window.ensures.makes.went.sectors (let few = c.take_window.ensures.cost in omega (arith, few))
           (c.delete_unseen.ensures.bounded _ _ t.left.session) (let few = c.sync.ensures.cost in omega (arith, few)));
     }
@@ -159,6 +165,7 @@ returns-in-Err-sync-clause-answers g c = λ m r.
           (quiet_then m _ (call.Unmap c.args.space) (call.Delete c.in-Ok-Ok.shown.id) (asked_passes c.args.self.now.core c.args.self.now.volume m call.Volume r (g.met.D.Disk.in_form (disk_of c.args.self.now.core.filer)) c.take_window.ensures.makes)
           (c.delete_unseen.ensures.passes _ _ t.left.session (left_unseen m r.session.stands.is.by.machine c.args.space t.s t.here c.in-Ok-Ok.shown t.window t.free (is_set _ c.if-not-shown.false)) (λ set. left_temporary m r.session.stands.is.by.machine c.args.space t.s t.here c.in-Ok-Ok.shown t.window t.free (is_set _ c.if-not-shown.false))) (omega arith) (hidden_alike m r.session.stands.is.by.machine c.args.space t.s t.here c.in-Ok-Ok.shown t.window t.free (is_set _ c.if-not-shown.false)) (hidden_numbers m r.session.stands.is.by.machine c.args.space t.s t.here c.in-Ok-Ok.shown t.window t.free (is_set _ c.if-not-shown.false)))
           c.sync.ensures.same);
+      came = λ quiet. tt;
       cost = (spent_around (state c.args.self.now.core).disk (state c.take_window.new.core).disk (state c.delete_unseen.new.self.core).disk (state c.sync.new.core).disk c.take_window.ensures.makes.went.sectors (let few = c.take_window.ensures.cost in omega (arith, few))
           (c.delete_unseen.ensures.bounded _ _ t.left.session) (let few = c.sync.ensures.cost in omega (arith, few)));
     }

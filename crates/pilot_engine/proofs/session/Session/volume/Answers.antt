@@ -4,6 +4,7 @@ use Rattle.session_words.specs.Volume.{volume_page}
 use Rattle.swapper_kernel.specs.Goes.{Same}
 use Rattle.swapper_kernel.specs.GoesLaws.{goes_itself}
 use Rattle.pilot_engine.proofs.AskLemmas.{volume_replied}
+use Rattle.pilot_engine.proofs.CameOwn.{own_itself}
 use Rattle.running_words.proofs.SessionLemmas.{room_is}
 use Rattle.running_words.proofs.StageLemmas.{no_step}
 use Rattle.pilot_engine.proofs.session.Session.volume.Goals as goal
@@ -29,3 +30,8 @@ returns-clause-unlabelled g c = pages_alone (goes_itself Same volume_page (state
 
 pub returns-clause-windows : goal.returns-clause-windows
 returns-clause-windows g c = λ o k ss s. s
+
+-- ---- Which pages came.
+
+pub returns-clause-came : goal.returns-clause-came
+returns-clause-came g c = own_itself (state c.args.self.now.core).slots
