@@ -4,7 +4,8 @@ use Rattle.std.specs.List.{list_any}
 use Rattle.flat_machine.specs.declared.call.Call.{Call}
 use Rattle.flat_machine.specs.Machine.{Machine}
 use Rattle.flat_machine.specs.Refusal.{refusal}
-use Rattle.flat_machine.specs.References.{touched}
+use Rattle.flat_machine.specs.References.{is_reference, touched}
+use Rattle.flight_core.specs.Carrying.{Carried, Tries, Steps}
 
 -- the page is one of them
 abbrev pub is_among : List ℕ → ℕ → Bool
@@ -21,3 +22,8 @@ absent m pages call = if is_some (refusal m call) then None else first_away page
 -- each page now is one from before
 abbrev pub AreFewer : List ℕ → List ℕ → Type 0
 AreFewer before now = (page : ℕ) → is_among now page ≡ true → is_among before page ≡ true
+
+-- a reference that is tried leaves the same pages
+abbrev pub LeavesPages : Carried → List ℕ → List ℕ → Type 0
+LeavesPages (Tries call) before now = is_reference call ≡ true → now ≡ before
+LeavesPages (Steps call) before now = Unit {0}

@@ -1,6 +1,7 @@
 //! Events of clients that share a plain machine, beside the lines that they get.
 #![tactic(auto)]
 
+mod answered;
 mod drawn;
 mod happen;
 mod paged;

@@ -1,12 +1,12 @@
 //! The plain machine with a set of resident pages, as a machine that is stepped.
-ghost use Rattle.std.specs.Prelude.{◌≡◌, ◌≤◌, ◌/◌, ◌+◌, ◌-◌, ℕ, false, true, IfOk, IfErr, is_err};
+ghost use Rattle.std.specs.Prelude.{◌≡◌, ◌≤◌, ◌/◌, ◌+◌, ◌-◌, false, true, IfOk, IfErr, is_err};
 ghost use Rattle.labelled_disk.specs.declared.evidence.Halt.TheVariants as halt;
 ghost use Rattle.flat_machine.specs.Allows.{reply_of};
 ghost use Rattle.flat_machine.specs.At.{pages_of};
 ghost use Rattle.flat_machine.specs.Form.{IsInForm};
 ghost use Rattle.flat_machine.specs.Next.{next};
 ghost use Rattle.flat_machine.specs.References.{is_reference};
-ghost use Rattle.tests_of_the_flights.specs.Paged.{is_among, first_away, absent, AreFewer};
+ghost use Rattle.tests_of_the_flights.specs.Paged.{is_among, first_away, absent, AreFewer, LeavesPages};
 
 use arrayvec::ArrayVec;
 use flat_machine::{Call, Reply};
@@ -143,6 +143,8 @@ impl<A: Allocator + Clone> Stepped for PagedMachine<A> {
     ghost resident = { λ p m page. is_among p.resident.items page ≡ true };
 
     ghost accounted = { λ before after e. (after.halted ≡ true) × (e ≡ halt.Disk) };
+
+    ghost led = { λ before call after. LeavesPages call before.resident.items after.resident.items };
 
     fn try_step(&mut self, call: &Call) -> Result<Tried, Halt> {
         if let Some(page) = self.absent(call) {

@@ -1,8 +1,9 @@
 //! Rows of an event and the line that clients get.
-ghost use Rattle.std.specs.Prelude.{◌≡◌, ◌++◌, ◌∷◌, [], IfOk, IfSome, OnOk};
+ghost use Rattle.std.specs.Prelude.{[], IfOk, IfSome};
 ghost use Rattle.std.specs.List.{All};
 ghost use Rattle.tests_of_the_flights.specs.Happening.{MayHappen};
 
+use crate::answered::answered;
 use crate::happen::{Event, Outcome, Stop, happen_in_a_row};
 use crate::paged::PagedMachine;
 use anyhow::{Context, Result};
@@ -133,8 +134,12 @@ pub(crate) fn report(alloc: Global, head: &str, rows: &str) -> Result<String> {
     let machine = SlowMachine::new(&heap, serial.parse()?, 1, capacity.parse()?)?;
     let events = events_of(alloc, rows)?;
     let found = found(alloc, machine, &events, rows.contains("close|"))?;
-    if found == wanted(alloc, rows)? {
+    let heap = LocalHeap::new(alloc, bytes.parse()?)?;
+    let machine = SlowMachine::new(&heap, serial.parse()?, 1, capacity.parse()?)?;
+    let answered = answered(alloc, machine, rows)?;
+    let wanted = wanted(alloc, rows)?;
+    if found == wanted && answered == wanted {
         return Ok(format!(in alloc; "{title}: as it says")?);
     }
-    Ok(format!(in alloc; "{title}: and not {found}")?)
+    Ok(format!(in alloc; "{title}: and not {found}, {answered}")?)
 }
