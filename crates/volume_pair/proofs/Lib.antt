@@ -1,0 +1,17 @@
+pub mod ReplyLemmas
+pub mod SideLemmas
+pub mod PageLemmas
+pub mod WriteLemmas
+pub mod CompareLemmas
+pub mod EndLemmas
+pub mod StartLemmas
+pub mod CopyLemmas
+pub mod AskLemmas
+pub mod MadeLemmas
+pub mod MarkedLemmas
+pub mod PutLemmas
+pub mod CopyingLemmas
+pub mod CopiedLemmas
+pub mod StepLemmas
+pub mod DoneLemmas
+pub mod CostLemmas

@@ -1,0 +1,145 @@
+use Rattle.std.proofs.Common.{◌≡◌, ◌∙◌, None, subst, sym, rules}
+use Rattle.filer_kernel.specs.View.{view_of}
+use Rattle.volume_pair.specs.Copying.{IsOriginal}
+use Rattle.volume_pair.specs.Costs.{making, size_in}
+use Rattle.volume_pair.proofs.CostLemmas.{copy_spends, spends_little, stays_little}
+use Rattle.volume_pair.proofs.CopyLemmas.{judged_refused, keeps_numbers, paired_then, replies_done, replies_refused, room_refused}
+use Rattle.volume_pair.proofs.DoneLemmas.{none_there}
+use Rattle.volume_pair.proofs.ReplyLemmas.{refused_not_done}
+use Rattle.volume_pair.proofs.SideLemmas.{fits_still, looked_nothing, looked_then}
+use Rattle.volume_pair.proofs.WriteLemmas.{copied_after, looked_written, written_then}
+use Rattle.volume_pair.proofs.copying.copy.Goals as goal
+
+-- ---- The first volume has no such file, or one that may still change.
+
+pub returns-in-Ok-Err-clause-replies : goal.returns-in-Ok-Err-clause-replies
+returns-in-Ok-Err-clause-replies g c = λ p h.
+    let first = c.in-Ok-Err.ensures.known p.from h.first h.from_is in
+    replies_refused p c.args.id _ _ _ c.args.volume.now (judged_refused p c.args.id _ (subst (IsOriginal p.from c.args.id) c.in-Ok-Err.field-0-is first.1)) (paired_then c.args.volume.now p _ _ h first.0 h.to_is)
+
+pub returns-in-Ok-Err-clause-to_writes : goal.returns-in-Ok-Err-clause-to_writes
+returns-in-Ok-Err-clause-to_writes g c = looked_written c.args.id (looked_nothing (view_of c.args.to.now))
+
+pub returns-in-Ok-Err-clause-volume : goal.returns-in-Ok-Err-clause-volume
+returns-in-Ok-Err-clause-volume g c = keeps_numbers c.args.volume.now
+
+pub returns-in-Err-clause-to_writes : goal.returns-in-Err-clause-to_writes
+returns-in-Err-clause-to_writes g c = looked_written c.args.id (looked_nothing (view_of c.args.to.now))
+
+pub returns-in-Err-clause-volume : goal.returns-in-Err-clause-volume
+returns-in-Err-clause-volume g c = keeps_numbers c.args.volume.now
+
+-- ---- The second takes no such file.
+
+pub returns-in-Err-refusal-clause-to_writes : goal.returns-in-Err-refusal-clause-to_writes
+returns-in-Err-refusal-clause-to_writes g c = looked_written c.args.id c.refusal.ensures.looks
+
+pub returns-in-Err-refusal-clause-volume : goal.returns-in-Err-refusal-clause-volume
+returns-in-Err-refusal-clause-volume g c = keeps_numbers c.args.volume.now
+
+pub returns-in-Some-clause-replies : goal.returns-in-Some-clause-replies
+returns-in-Some-clause-replies g c = λ p h.
+    let first = c.in-Ok-Ok.ensures.known p.from h.first h.from_is in
+    let original = subst (IsOriginal p.from c.args.id) c.in-Ok-Ok.field-0-is first.1 in
+    let second = c.in-Ok.ensures.known p.to h.second h.to_is in
+    replies_refused p c.args.id _ _ _ c.args.volume.now (room_refused p c.args.id c.in-Ok-Ok.file original c.args.volume.now h ∙ sym second.1 ∙ c.in-Some.is) (paired_then c.args.volume.now p _ _ h first.0 second.0)
+
+pub returns-in-Some-clause-to_writes : goal.returns-in-Some-clause-to_writes
+returns-in-Some-clause-to_writes g c = looked_written c.args.id c.refusal.ensures.looks
+
+pub returns-in-Some-clause-volume : goal.returns-in-Some-clause-volume
+returns-in-Some-clause-volume g c = keeps_numbers c.args.volume.now
+
+-- ---- A copy is made.
+
+pub make_copy-requires-clause-from_size : goal.make_copy-requires-clause-from_size
+make_copy-requires-clause-from_size g c = fits_still c.original.ensures.looks c.requires.from_size
+
+pub make_copy-requires-clause-to_size : goal.make_copy-requires-clause-to_size
+make_copy-requires-clause-to_size g c = fits_still c.refusal.ensures.looks c.requires.to_size
+
+pub returns-in-Ok-make_copy-clause-replies : goal.returns-in-Ok-make_copy-clause-replies
+returns-in-Ok-make_copy-clause-replies g c = λ p h.
+    let first = c.in-Ok-Ok.ensures.known p.from h.first h.from_is in
+    let original = subst (IsOriginal p.from c.args.id) c.in-Ok-Ok.field-0-is first.1 in
+    let second = c.in-Ok.ensures.known p.to h.second h.to_is in
+    let none : c.in-Ok.refused ≡ None = search rules in
+    let taken = sym second.1 ∙ none in
+    replies_done p c.args.id _ _ c.make_copy.new.volume (room_refused p c.args.id c.in-Ok-Ok.file original c.args.volume.now h ∙ taken)
+    (c.in-Ok-make_copy.ensures.copies p (paired_then c.args.volume.now p _ _ h first.0 second.0) original (none_there p.to c.args.volume.now c.args.id c.in-Ok-Ok.file.pages taken))
+
+pub returns-in-Err-make_copy-clause-replies : goal.returns-in-Err-make_copy-clause-replies
+returns-in-Err-make_copy-clause-replies g c = λ p h.
+    let first = c.in-Ok-Ok.ensures.known p.from h.first h.from_is in
+    let original = subst (IsOriginal p.from c.args.id) c.in-Ok-Ok.field-0-is first.1 in
+    let second = c.in-Ok.ensures.known p.to h.second h.to_is in
+    let none : c.in-Ok.refused ≡ None = search rules in
+    c.in-Err-make_copy.ensures.copies p (paired_then c.args.volume.now p _ _ h first.0 second.0) original (none_there p.to c.args.volume.now c.args.id c.in-Ok-Ok.file.pages (sym second.1 ∙ none))
+
+pub returns-in-Err-clause-replies : goal.returns-in-Err-clause-replies
+returns-in-Err-clause-replies g c = λ p h. (c.in-Err.ensures.known p.from h.first h.from_is).1
+
+pub returns-in-Err-refusal-clause-replies : goal.returns-in-Err-refusal-clause-replies
+returns-in-Err-refusal-clause-replies g c = λ p h. (c.in-Err-refusal.ensures.known p.to h.second h.to_is).1
+
+pub returns-in-Ok-make_copy-clause-from_looks : goal.returns-in-Ok-make_copy-clause-from_looks
+returns-in-Ok-make_copy-clause-from_looks g c = looked_then c.original.ensures.looks c.make_copy.ensures.from_looks
+
+pub returns-in-Ok-make_copy-clause-to_writes : goal.returns-in-Ok-make_copy-clause-to_writes
+returns-in-Ok-make_copy-clause-to_writes g c = written_then (looked_written c.args.id c.refusal.ensures.looks) c.make_copy.ensures.to_writes
+
+pub returns-in-Err-make_copy-clause-from_looks : goal.returns-in-Err-make_copy-clause-from_looks
+returns-in-Err-make_copy-clause-from_looks g c = looked_then c.original.ensures.looks c.make_copy.ensures.from_looks
+
+pub returns-in-Err-make_copy-clause-to_writes : goal.returns-in-Err-make_copy-clause-to_writes
+returns-in-Err-make_copy-clause-to_writes g c = written_then (looked_written c.args.id c.refusal.ensures.looks) c.make_copy.ensures.to_writes
+
+pub returns-in-Err-make_copy-clause-why : goal.returns-in-Err-make_copy-clause-why
+returns-in-Err-make_copy-clause-why g c = copied_after _ _ c.original.ensures.looks (looked_written c.args.id c.refusal.ensures.looks) c.in-Err-make_copy.halt c.in-Err-make_copy.ensures.why
+
+-- ---- What is answered is on the medium.
+
+pub returns-in-Ok-Err-clause-synced : goal.returns-in-Ok-Err-clause-synced
+returns-in-Ok-Err-clause-synced g c = λ is. absurd (refused_not_done c.in-Ok-Err.why is)
+
+pub returns-in-Some-clause-synced : goal.returns-in-Some-clause-synced
+returns-in-Some-clause-synced g c = λ is. absurd (refused_not_done c.in-Some.why is)
+
+pub returns-in-Ok-make_copy-clause-synced : goal.returns-in-Ok-make_copy-clause-synced
+returns-in-Ok-make_copy-clause-synced g c = λ is. c.in-Ok-make_copy.ensures.synced
+
+-- ---- What it costs.
+
+pub returns-in-Ok-Err-clause-cost : goal.returns-in-Ok-Err-clause-cost
+returns-in-Ok-Err-clause-cost g c = λ p h.
+    let to = view_of c.args.to.now in
+    spends_little (size_in p.from c.args.id) (making to.layout (size_in p.from c.args.id)) (view_of c.args.from.now) to (view_of c.original.new.from) to c.original.ensures.cost (stays_little to.disk.transfers)
+
+pub returns-in-Err-clause-cost : goal.returns-in-Err-clause-cost
+returns-in-Err-clause-cost g c = λ p h.
+    let to = view_of c.args.to.now in
+    spends_little (size_in p.from c.args.id) (making to.layout (size_in p.from c.args.id)) (view_of c.args.from.now) to (view_of c.original.new.from) to c.original.ensures.cost (stays_little to.disk.transfers)
+
+pub returns-in-Err-refusal-clause-cost : goal.returns-in-Err-refusal-clause-cost
+returns-in-Err-refusal-clause-cost g c = λ p h.
+    let to = view_of c.args.to.now in
+    spends_little (size_in p.from c.args.id) (making to.layout (size_in p.from c.args.id)) (view_of c.args.from.now) to (view_of c.original.new.from) (view_of c.refusal.new.to) c.original.ensures.cost c.refusal.ensures.cost
+
+pub returns-in-Some-clause-cost : goal.returns-in-Some-clause-cost
+returns-in-Some-clause-cost g c = λ p h.
+    let to = view_of c.args.to.now in
+    spends_little (size_in p.from c.args.id) (making to.layout (size_in p.from c.args.id)) (view_of c.args.from.now) to (view_of c.original.new.from) (view_of c.refusal.new.to) c.original.ensures.cost c.refusal.ensures.cost
+
+pub returns-in-Ok-make_copy-clause-cost : goal.returns-in-Ok-make_copy-clause-cost
+returns-in-Ok-make_copy-clause-cost g c = λ p h.
+    let first = c.in-Ok-Ok.ensures.known p.from h.first h.from_is in
+    let original = subst (IsOriginal p.from c.args.id) c.in-Ok-Ok.field-0-is first.1 in
+    copy_spends p c.args.id c.in-Ok-Ok.file original (view_of c.args.from.now) (view_of c.args.to.now) (view_of c.original.new.from) (view_of c.refusal.new.to) (view_of c.make_copy.new.from) (view_of c.make_copy.new.to) c.refusal.ensures.looks.layout
+    c.original.ensures.cost c.refusal.ensures.cost c.make_copy.ensures.from_cost c.make_copy.ensures.to_cost
+
+pub returns-in-Err-make_copy-clause-cost : goal.returns-in-Err-make_copy-clause-cost
+returns-in-Err-make_copy-clause-cost g c = λ p h.
+    let first = c.in-Ok-Ok.ensures.known p.from h.first h.from_is in
+    let original = subst (IsOriginal p.from c.args.id) c.in-Ok-Ok.field-0-is first.1 in
+    copy_spends p c.args.id c.in-Ok-Ok.file original (view_of c.args.from.now) (view_of c.args.to.now) (view_of c.original.new.from) (view_of c.refusal.new.to) (view_of c.make_copy.new.from) (view_of c.make_copy.new.to) c.refusal.ensures.looks.layout
+    c.original.ensures.cost c.refusal.ensures.cost c.make_copy.ensures.from_cost c.make_copy.ensures.to_cost
