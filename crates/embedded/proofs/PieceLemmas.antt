@@ -1,6 +1,7 @@
 -- From a load or a store that answers without a reply to a call that replies.
 use Rattle.std.proofs.Common.{◌≡◌, ◌∙◌, ◌*◌, ℕ, List, false, true, sym, ap, subst, refl, Result, Ok, Err}
 use Rattle.std.proofs.lemmas.Bool.{true≢false}
+use Rattle.std.proofs.Math.Nat.{ℕ_set}
 use Rattle.labelled_disk.specs.declared.disk.Disk.{Ghosts}
 use Rattle.labelled_disk.specs.declared.evidence.Halt.{Halt}
 use Rattle.flat_machine.specs.declared.call.Call.{Call}
@@ -12,12 +13,16 @@ use Rattle.fault_core.specs.Core.{state}
 use Rattle.fault_core.specs.declared.reference.Access.{Access}
 use Rattle.fault_core.specs.declared.reference.Access.TheVariants as access
 use Rattle.fault_core.specs.ReferenceLaws.{reply_to}
+use Rattle.filer_kernel.specs.View.{FitsLayout}
 use Rattle.running_words.specs.Running.{Runs}
+use Rattle.running_words.specs.Session.{IsOpen}
 use Rattle.pilot_engine.specs.declared.session.Session.{Session}
 use Rattle.pilot_engine.specs.Referring.{Refers, RefersIn}
 use Rattle.pilot_engine.specs.Stepping.{waits}
 use Rattle.embedded.specs.declared.code.Code.{Code}
 use Rattle.embedded.specs.declared.engine.Engine.{Engine}
+use Rattle.embedded.specs.declared.live.Live.{Live}
+use Rattle.embedded.specs.Once.{is_open_once}
 use Rattle.embedded.specs.Answers.{answer_of, answer_to, replied}
 use Rattle.embedded.specs.Called.{Called}
 use Rattle.embedded.specs.Engine.{StandsFor}
@@ -34,6 +39,18 @@ same_answer plain a r itself is = ap (replied plain) is ∙ by a
     by access.Done = sym itself
     by (access.NoMap page) = refl
     by (access.ReadOnly page) = refl
+
+-- a session with what its calls require is that session alone
+pub live_facts : {D A : Type 0} {G : Ghosts D} (s : Session D A G) (a b : FitsLayout (state s.core)) (c d : IsOpen (state s.core).layout s.volume)
+    → ◌≡◌ {A = Live D A G} (record { session = s; size = a; opened = c }) (record { session = s; size = b; opened = d })
+live_facts s a b c d i = record { session = s; size = ℕ_set _ _ a b i; opened = is_open_once (state s.core).layout s.volume c d i }
+
+pub live_same : {D A : Type 0} {G : Ghosts D} (s t : Session D A G) → s ≡ t → (a : FitsLayout (state s.core)) (b : FitsLayout (state t.core)) (c : IsOpen (state s.core).layout s.volume) (d : IsOpen (state t.core).layout t.volume)
+    → ◌≡◌ {A = Live D A G} (record { session = s; size = a; opened = c }) (record { session = t; size = b; opened = d })
+live_same {D} {A} {G} s t is a b c d =
+    subst (λ (u : Session D A G). (f : FitsLayout (state u.core)) (o : IsOpen (state u.core).layout u.volume)
+    → ◌≡◌ {A = Live D A G} (record { session = s; size = a; opened = c }) (record { session = u; size = f; opened = o })) is
+    (λ f o. live_facts s a f c o) b d
 
 module _ {D A : Type 0} {G : Ghosts D} (call : Call) (plain : Reply) (old new : Session D A G) (moves_on : waits call ≡ false) where
   -- a session that did not halt replied

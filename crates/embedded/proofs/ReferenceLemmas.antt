@@ -18,6 +18,7 @@ use Rattle.flat_machine.specs.At.{cells_at}
 use Rattle.flat_machine.specs.Machine.{Machine}
 use Rattle.flat_machine.specs.Next.{next, change}
 use Rattle.flat_machine.specs.Refusal.{refusal}
+use Rattle.pilot_engine.specs.Referring.{AreReplied}
 use Rattle.embedded.specs.declared.code.Code.{Code}
 use Rattle.embedded.specs.declared.code.Code.TheVariants as code
 use Rattle.embedded.specs.declared.engine.Engine.{Engine}
@@ -83,6 +84,17 @@ placed m address done n old new piece had more rest put k b below got = elim (ca
       subst (λ (a : ℕ). IsAt m a b) at
       (more (k - done) b within (sym (put (k - done) within) ∙ (subst (λ (i : ℕ). slice_get new i ≡ Some b) (sym there) got)))
 ]
+
+-- bytes that loads of one byte each reply are those of the addresses
+pub replied_at : (m : Machine) (address n : ℕ) (bytes : List ℕ) → AreReplied m address n bytes → AreAt m address n bytes
+replied_at m address n bytes replied k b below got =
+    let one = call.Load (address + k) 1 in
+    let r = reply.Bytes (b ∷ []) in
+    let p = unrefused {x = r} (refusal m one) (Answers m one r) r (replied k b below got) refl in
+    let same : b ∷ [] ≡ p.1.0 = cc p.1.1 in
+    let first : slice_get p.1.0 0 ≡ Some b = subst (λ (l : List ℕ). slice_get l 0 ≡ Some b) same refl in
+    let at : (address + k) + 0 ≡ address + k = omega arith in
+    subst (λ (a : ℕ). IsAt m a b) at (agreed m (address + k) 1 p.1.0 p.1.2 0 b (omega arith) first)
 
 -- and they are as many
 agreed_long : (m : Machine) (address count : ℕ) (bytes : List ℕ) → AgreesWithCells (cells_at m address count) bytes → length bytes ≡ count

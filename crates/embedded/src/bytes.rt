@@ -43,8 +43,26 @@ fn address_after(address: u32, done: usize) -> Option<u32>
 }
 
 impl<D: Disk + Drop, A: Allocator> Engine<D, A> {
-    // Loads the piece after the first bytes, and says how long it is.
-    fn load_next(&mut self, address: u32, into: &mut [u8], done: usize) -> Result<usize, Code>
+    // Loads those of the bytes after the first ones whose pages are ready, and says how many.
+    fn load_at_hand(&mut self, address: u32, into: &mut [u8], done: usize) -> usize
+        requires { done < length into.old }
+        ensures part { done + result ≤ length into.old }
+        ensures loaded { (m : Machine) → StandsFor self.old m → AreAt m address done into.old
+            → AreAt m address (done + result) into.new }
+        ensures rest { (k : ℕ) → done + result ≤ k → slice_get into.new k ≡ slice_get into.old k }
+        ensures left { result ≡ 0 → into.new ≡ into.old }
+        ensures ends { 1 ≤ result → done + result < length into.old → (address + done + result) % 512 ≡ 0 }
+        ensures closed { IsClosed self.old → result ≡ 0 }
+        ensures same { self.new ≡ self.old }
+    {
+        let Some(at) = address_after(address, done) else {
+            return 0;
+        };
+        self.load_ready(at, &mut into[done..])
+    }
+
+    // Loads the piece after the first bytes, which need not be ready, and says how long it is.
+    fn fetch_next(&mut self, address: u32, into: &mut [u8], done: usize) -> Result<usize, Code>
         requires { done < length into.old }
         ensures more { IfOk result (λ n. (1 ≤ n) × (done + n ≤ length into.old)) }
         ensures loaded { (m : Machine) → StandsFor self.old m → AreAt m address done into.old
@@ -73,6 +91,35 @@ impl<D: Disk + Drop, A: Allocator> Engine<D, A> {
             Ok(()) => Ok(count),
             Err(code) => Err(code),
         }
+    }
+
+    // Loads bytes after the first ones, and says how many: those that are ready, or else one piece.
+    fn load_next(&mut self, address: u32, into: &mut [u8], done: usize) -> Result<usize, Code>
+        requires { done < length into.old }
+        ensures more { IfOk result (λ n. (1 ≤ n) × (done + n ≤ length into.old)) }
+        ensures loaded { (m : Machine) → StandsFor self.old m → AreAt m address done into.old
+            → IfOk result (λ n. AreAt m address (done + n) into.new) }
+        ensures still { (m : Machine) → StandsFor self.old m
+            → StandsFor self.new m ⊎ (result ≡ Err (Code.Halted halt.Disk)) }
+        ensures rest { IfOk result (λ n. (k : ℕ) → done + n ≤ k → slice_get into.new k ≡ slice_get into.old k) }
+        ensures other { OnErr result (into.new ≡ into.old) }
+        ensures stops { (m : Machine) → StandsFor self.old m → address + done < 2 ^ 32
+            → IfErr result (StopsLoad m (address + done) (length into.old - done)) }
+        ensures closed { IsClosed self.old → address + done < 2 ^ 32
+            → (result ≡ Err Code.Closed) × (self.new ≡ self.old) }
+        ensures stopped { (why : Halt) → result ≡ Err (Code.Halted why) → HasStopped why self.new }
+        ensures cause { result ≡ Err (Code.Halted halt.Disk)
+            → Between (λ before after. Rose before.faults after.faults) self.old self.new }
+        ensures leaves { (m : Machine) → StandsFor self.old m → Leaves (λ d. RevealsSettled d m) self.old self.new }
+        ensures faults { OnOk result (LosesNoFault self.old self.new) }
+        ensures ends { IfOk result (λ n. done + n < length into.old → (address + done + n) % 512 ≡ 0) }
+        ensures spends { Spends 0 1 self.old self.new }
+    {
+        let ready = self.load_at_hand(address, into, done);
+        if ready > 0 {
+            return Ok(ready);
+        }
+        self.fetch_next(address, into, done)
     }
 
     // Stores the piece after the first bytes, and says how long it is.

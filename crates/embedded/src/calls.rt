@@ -1,5 +1,4 @@
 //! The calls of a client, one function each.
-ghost use Rattle.std.specs.Prelude.{Some, None};
 ghost use Rattle.embedded.specs.Called.{Called};
 
 use crate::{Code, Engine};

@@ -1,5 +1,5 @@
 //! A session, or none, over a disk.
-ghost use Rattle.std.specs.Prelude.{◌≡◌, ℕ, ◌≤◌, true, false, None, Some, Err, IsSome, OnOk, OnErr, IfErr};
+ghost use Rattle.std.specs.Prelude.{◌≡◌, false, None, Some, Err, IfErr};
 
 use crate::Code;
 use crate::held::Held;

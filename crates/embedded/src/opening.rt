@@ -1,5 +1,5 @@
 //! A session begins and ends.
-ghost use Rattle.std.specs.Prelude.{◌≡◌, ◌⊎◌, ℕ, ◌≤◌, true, None, Some, List, Err, OnOk, OnErr, IfOk, IfErr, IfSome, MatchOption};
+ghost use Rattle.std.specs.Prelude.{◌≡◌, ◌⊎◌, true, None, Some, List, Err, OnOk, OnErr, IfOk, IfErr, IfSome, MatchOption};
 ghost use Rattle.labelled_disk.specs.Sectors.{Sector};
 ghost use Rattle.labelled_disk.specs.declared.evidence.Halt.TheVariants as halt;
 ghost use Rattle.labelled_disk.specs.declared.layout.RootFault.TheVariants as fault;
@@ -12,7 +12,7 @@ ghost use Rattle.volume_root.specs.Sound.{Sound};
 ghost use Rattle.pilot_engine.specs.Closing.{HasShut, IsStop, Throughout};
 ghost use Rattle.pilot_engine.specs.Opening.{KeepsFiles};
 ghost use Rattle.embedded.specs.Called.{HasStopped};
-ghost use Rattle.embedded.specs.Engine.{Between, IsClosed, OfDisk, StandsFor, disk_of};
+ghost use Rattle.embedded.specs.Engine.{Between, IsClosed, OfDisk, StandsFor};
 ghost use Rattle.embedded.specs.Opened.{IsFrames, Reveals, code_of};
 
 use crate::held::Held;

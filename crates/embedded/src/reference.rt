@@ -1,11 +1,13 @@
 //! One load or store of up to a page, answered by why it was not carried out.
-ghost use Rattle.std.specs.Prelude.{◌≡◌, ◌+◌, ◌%◌, ◌≤◌, length, OnErr, OnOk};
+ghost use Rattle.std.specs.Prelude.{◌≡◌, ℕ, ◌+◌, ◌%◌, ◌<◌, ◌≤◌, length, slice_get, OnErr, OnOk};
 ghost use Rattle.flat_machine.specs.declared.call.Call.TheVariants as call;
 ghost use Rattle.flat_machine.specs.declared.call.Reply.TheVariants as reply;
+ghost use Rattle.flat_machine.specs.Machine.{Machine};
 ghost use Rattle.pilot_engine.specs.Referring.{IsAtOnce};
 ghost use Rattle.embedded.specs.Answers.{answer_of, replied};
 ghost use Rattle.embedded.specs.Called.{Called};
-ghost use Rattle.embedded.specs.Engine.{LosesNoFault};
+ghost use Rattle.embedded.specs.Engine.{IsClosed, LosesNoFault, StandsFor};
+ghost use Rattle.embedded.specs.References.{AreAt};
 
 use crate::held::Held;
 use crate::{Code, Engine};
@@ -45,6 +47,25 @@ impl<D: Disk + Drop, A: Allocator> Engine<D, A> {
             Ok(access) => answer_of(access),
             Err(halt) => Err(self.stop(halt)),
         }
+    }
+
+    // Loads the first of these bytes whose pages are ready, and says how many.
+    pub(crate) fn load_ready(&mut self, address: u32, into: &mut [u8]) -> usize
+        ensures loaded { (m : Machine) → StandsFor self.old m → AreAt m address result into.new }
+        ensures part { result ≤ length into.old }
+        ensures ends { 1 ≤ result → result < length into.old → (address + result) % 512 ≡ 0 }
+        ensures rest { (k : ℕ) → result ≤ k → slice_get into.new k ≡ slice_get into.old k }
+        ensures width { length into.new ≡ length into.old }
+        ensures closed { IsClosed self.old → result ≡ 0 }
+        ensures same { self.new ≡ self.old }
+    {
+        let Held::Session(live) = &mut self.held else {
+            return 0;
+        };
+        if !live.running() {
+            return 0;
+        }
+        live.load_ready(address, into)
     }
 
     // Stores 1 to 512 bytes.

@@ -1,11 +1,11 @@
 //! One load or store in a session that has what it requires.
-ghost use Rattle.std.specs.Prelude.{◌≡◌, ◌≢◌, ◌+◌, ◌%◌, ◌≤◌, length, true, IfOk, OnErr};
+ghost use Rattle.std.specs.Prelude.{◌≡◌, ◌≢◌, ℕ, ◌+◌, ◌%◌, ◌<◌, ◌≤◌, length, slice_get, true, IfOk, OnErr};
 ghost use Rattle.flat_machine.specs.declared.call.Call.TheVariants as call;
 ghost use Rattle.flat_machine.specs.declared.call.Reply.TheVariants as reply;
 ghost use Rattle.flat_machine.specs.Machine.{Machine};
 ghost use Rattle.fault_core.specs.declared.reference.Access.TheVariants as access;
 ghost use Rattle.running_words.specs.Running.{Runs};
-ghost use Rattle.pilot_engine.specs.Referring.{IsAtOnce, Refers, RefersIn};
+ghost use Rattle.pilot_engine.specs.Referring.{AreReplied, IsAtOnce, Refers, RefersIn};
 
 use crate::live::Live;
 use labelled_disk::{Disk, Halt};
@@ -26,6 +26,20 @@ impl<D: Disk, A: Allocator> Live<D, A> {
         ensures intact { address % 512 + length into.old ≤ 512 → OnErr result (into.new ≡ into.old) }
     {
         self.session.load(address, into)
+    }
+
+    /// Loads the first of these bytes whose pages are ready, and says how many.
+    pub(crate) fn load_ready(&mut self, address: u32, into: &mut [u8]) -> usize
+        requires running { self.old.session.running ≡ true }
+        ensures machine { (m : Machine) → Runs self.old.session.core self.old.session.volume m
+            → AreReplied m address result into.new }
+        ensures part { result ≤ length into.old }
+        ensures ends { 1 ≤ result → result < length into.old → (address + result) % 512 ≡ 0 }
+        ensures rest { (k : ℕ) → result ≤ k → slice_get into.new k ≡ slice_get into.old k }
+        ensures width { length into.new ≡ length into.old }
+        ensures same { self.new ≡ self.old }
+    {
+        self.session.load_ready(address, into)
     }
 
     /// Stores 1 to 512 bytes from an address on.

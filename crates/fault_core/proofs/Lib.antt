@@ -30,6 +30,8 @@ mod ActivateLemmas
 mod RoomLemmas
 mod AttemptLemmas
 mod ReadyLemmas
+pub mod PutLemmas
+mod RowLemmas
 mod MovedLemmas
 pub mod LackLemmas
 pub mod NeverBlamesLemmas

@@ -1,17 +1,17 @@
 -- While a slot is empty no page leaves the frames.
-use Rattle.std.proofs.Common.{◌≡◌, ◌≢◌, ◌⊎◌, inl, inr, ℕ, ◌<◌, List, [], ◌∷◌, length, Some, sym, ◌∙◌, ap, subst}
-use Rattle.std.specs.Prelude.{slice_get, slice_set, None}
+use Rattle.std.proofs.Common.{◌≡◌, ◌≢◌, ◌⊎◌, inl, inr, ℕ, ◌<◌, ◌≤◌, List, [], ◌∷◌, length, Option, Some, refl, sym, ◌∙◌, ap, subst, arith}
+use Rattle.std.specs.Prelude.{get_or, slice_get, slice_set, None}
 use Rattle.std.proofs.lemmas.Bool.{cases_eq}
-use Rattle.std.proofs.lemmas.Option.{same_Some, none-some}
+use Rattle.std.proofs.lemmas.Option.{same_Some, none-some, slice_get_cases}
 use Rattle.labelled_disk.specs.State.{DiskState}
 use Rattle.frame_pool.specs.declared.home.Home.{Home}
 use Rattle.frame_pool.specs.Frames.{Frame, Slots, Has, IsEmpty}
 use Rattle.frame_pool.specs.FrameLaws.{has_below}
-use Rattle.frame_pool.specs.ListLaws.{get_same, get_other}
+use Rattle.frame_pool.specs.ListLaws.{below_of, get_same, get_other}
 use Rattle.swapper_kernel.specs.Homes.{Homes}
 use Rattle.swapper_kernel.specs.Steps.{Step, Steps, IsStep, IsCourse, fills, writes_out, alters}
 use Rattle.fault_core.specs.Unit.{KeepsResident}
-use Rattle.fault_core.specs.Room.{KeepsWhileEmpty}
+use Rattle.fault_core.specs.Room.{KeepsSlots, KeepsWhileEmpty}
 
 pub room_itself : (s : Slots) → KeepsWhileEmpty s s
 room_itself s = record { empty = λ slot empty. empty; resident = λ slot empty id page there. there }
@@ -70,3 +70,15 @@ module _ (come change : Homes) where
 -- whatever steps a call takes
 pub steps_room : {come change : Homes} {a b : DiskState} {s t : Slots} → Steps come change a s b t → KeepsWhileEmpty s t
 steps_room {come = come} {change = change} {a = a} {b = b} {s = s} {t = t} h = course_room come change h.steps a s b t h.course
+
+-- pages that all stay in their slots
+pub keeps_room : (s t : Slots) → KeepsSlots s t → length t ≡ length s → KeepsWhileEmpty s t
+keeps_room s t keeps same = record {
+  empty = λ i none. by i none (slice_get_cases s i).1;
+  resident = λ slot none id page there. (there.0, keeps there.0 id page there.1);
+}
+  where
+    by : (i : ℕ) → IsEmpty t i → ((x : Option Frame) × (i < length s) × (slice_get s i ≡ Some x) × (get_or s i x ≡ x)) ⊎ ((length s ≤ i) × (slice_get s i ≡ None)) → IsEmpty s i
+    by i none (inl (None, below, here, own)) = here
+    by i none (inl (Some f, below, here, own)) = let after = keeps i f.home.id f.home.page (f, record { is = here }, (refl, refl)) in absurd (filled_not t i after.0 after.1.is none)
+    by i none (inr (past, end)) = let below = below_of t i None none in absurd (omega (arith, below, past, same))

@@ -16,6 +16,7 @@ use Rattle.swapper_kernel.specs.Homes.{Homes}
 use Rattle.swapper_kernel.specs.Steps.{Step, Steps, IsStep, IsCourse, fills, writes_out, alters}
 use Rattle.filer_kernel.specs.Tables.{BesideTables, IsComing, IsChanging}
 use Rattle.fault_core.specs.Reach.{IsManagersPage, StayOrYield}
+use Rattle.fault_core.specs.Room.{KeepsSlots, PagesStayOrYield}
 use Rattle.filer_kernel.specs.View.{View, kept_by}
 
 pub yield_itself : (s : Slots) → StayOrYield s s
@@ -86,3 +87,21 @@ tables_yield v w beside =
 
 pub map_yields : {a b : DiskState} {s t : Slots} (layout : Layout) → Steps (IsMapHome FileMap layout) (IsMapHome FileMap layout) a s b t → StayOrYield s t
 map_yields layout steps = steps_yield (IsMapHome FileMap layout) (IsMapHome FileMap layout) (map_own layout) (map_own layout) steps
+
+-- of pages, which stay where their frames do
+pub pages_yield : {s t : Slots} → StayOrYield s t → PagesStayOrYield s t
+pages_yield stays i id page (f, has, (same_id, same_page)) =
+    let after = stays i f has in
+    elim after.2 [
+      | inl same ↦ inl (after.0, after.1, (ap (λ h. h.id) same.0 ∙ same_id, ap (λ h. h.page) same.0 ∙ same_page))
+      | inr own ↦ inr (after.0, after.1, own)
+    ]
+
+-- and then all stay in their slots
+pub pages_kept : {s t u : Slots} → PagesStayOrYield s t → KeepsSlots t u → PagesStayOrYield s u
+pages_kept stays keeps i id page there = elim (stays i id page there) [
+  | inl still ↦ inl (keeps i id page still)
+  | inr (g, has, own) ↦
+      let after = keeps i g.home.id g.home.page (g, has, (refl, refl)) in
+      inr (after.0, after.1, elim own [ inl map ↦ inl (after.2.0 ∙ map) | inr table ↦ inr (after.2.0 ∙ table) ])
+]

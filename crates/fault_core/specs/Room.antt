@@ -1,6 +1,7 @@
 -- Pages that stay in the frames.
-use Rattle.std.specs.Prelude.{ℕ}
-use Rattle.frame_pool.specs.Frames.{Slots, HasPage, IsEmpty}
+use Rattle.std.specs.Prelude.{◌⊎◌, ℕ}
+use Rattle.frame_pool.specs.Frames.{Frame, Slots, Has, HasPage, IsEmpty}
+use Rattle.fault_core.specs.Reach.{IsManagersPage}
 use Rattle.fault_core.specs.Unit.{KeepsResident}
 
 -- each page that is resident stays in its slot
@@ -12,3 +13,7 @@ KeepsSlots before after = (i id page : ℕ) → HasPage before i id page → Has
 pub record KeepsWhileEmpty (before after : Slots) : Type 0 where
   pub empty : (slot : ℕ) → IsEmpty after slot → IsEmpty before slot
   pub resident : (slot : ℕ) → IsEmpty after slot → KeepsResident before after
+
+-- each page stays in its slot, or that slot has a page of the file map or of the space tables afterwards
+abbrev pub PagesStayOrYield : Slots → Slots → Type 0
+PagesStayOrYield before after = (i id page : ℕ) → HasPage before i id page → HasPage after i id page ⊎ ((g : Frame) × Has after i g × IsManagersPage g.home)

@@ -1,5 +1,5 @@
 //! A reference that brings in no page of a client: its pages are described, and then looked for in the frames.
-ghost use Rattle.std.specs.Prelude.{◌≡◌, ◌≢◌, ◌≤◌, ◌<◌, ◌+◌, ◌/◌, List, length, None, IfOk, IfErr, IfSome, IsOk};
+ghost use Rattle.std.specs.Prelude.{◌≡◌, ◌≢◌, ◌≤◌, ◌<◌, ◌+◌, ◌/◌, List, None, IfOk, IfErr, IfSome, IsOk};
 ghost use Rattle.labelled_disk.specs.declared.evidence.Halt.TheVariants as halt;
 ghost use Rattle.labelled_disk.specs.Sectors.{Sector};
 ghost use Rattle.file_map.specs.FileMap.{Triples};
@@ -10,7 +10,8 @@ ghost use Rattle.fault_core.specs.Access.{BreaksFor, Shows, access_of, last_page
 ghost use Rattle.fault_core.specs.Attempt.{HasClient, IfAbsent, IfAccess, IfReady, IfSettled, IsAbsent, IsHere, IsReferred, IsUnfound, moved};
 ghost use Rattle.fault_core.specs.Kept.{AreApart};
 ghost use Rattle.fault_core.specs.Kill.{is_absent};
-ghost use Rattle.fault_core.specs.Reach.{BringsOwn, Reaches, ReachHalts};
+ghost use Rattle.fault_core.specs.Reach.{BringsOwn, Reaches, ReachHalts, StayOrYield};
+ghost use Rattle.fault_core.specs.Room.{KeepsWhileEmpty};
 ghost use Rattle.fault_core.specs.Unit.{IsReady, IsSlotOf, file_page};
 ghost use Rattle.fault_core.specs.Lack.{Sees};
 ghost use Rattle.filer_kernel.specs.View.{FitsLayout, view_of};
@@ -132,6 +133,8 @@ impl<D: Disk, A: Allocator> Core<D, A> {
             → Knows self.new m named ss }
         ensures reaches { Reaches (state self.old) (state self.new) }
         ensures came { BringsOwn (state self.old).slots (state self.new).slots }
+        ensures room { KeepsWhileEmpty (state self.old).slots (state self.new).slots }
+        ensures stay { StayOrYield (state self.old).slots (state self.new).slots }
         ensures intervals { self.new.intervals ≡ self.old.intervals }
         ensures present { IsReady (kept self.old) (state self.old).slots (address / 512)
             → IsReady (kept self.old) (state self.old).slots (last_page address count) → AreApart (kept self.old)

@@ -1,5 +1,5 @@
 //! The interval of the projection that holds a page.
-ghost use Rattle.std.specs.Prelude.{◌≡◌, ◌↔◌, ◌≤◌, ◌+◌, ◌*◌, ℕ, List, Ok, Some, None, IfOk, IfErr, IfSome, find};
+ghost use Rattle.std.specs.Prelude.{◌≡◌, ◌↔◌, ◌≤◌, ◌+◌, ℕ, List, Ok, Some, None, IfOk, IfErr, IfSome, find};
 ghost use Rattle.labelled_disk.specs.declared.evidence.Halt.TheVariants as halt;
 ghost use Rattle.labelled_disk.specs.Sectors.{Sector};
 ghost use Rattle.file_map.specs.FileMap.{Triples};
@@ -11,7 +11,7 @@ ghost use Rattle.space_tables.specs.Answer.{IfMem, IfMalformed, NotRefused, From
 ghost use Rattle.space_tables.specs.Form.{BreaksLookUp};
 ghost use Rattle.space_tables.specs.SpaceTables.{IsIntervalAt};
 ghost use Rattle.space_tables.specs.Stored.{RevealSpaces};
-ghost use Rattle.filer_kernel.specs.Tables.{BesideTables, IsTableAccounted};
+ghost use Rattle.filer_kernel.specs.Tables.{IsTableAccounted};
 ghost use Rattle.fault_core.specs.Kept.{IsFormed, IsKept};
 ghost use Rattle.filer_kernel.specs.View.{FitsLayout, TablesAre, TablesBeside, view_of};
 ghost use Rattle.fault_core.specs.Reach.{Reaches, ReachHalts, BringsOwn, StayOrYield};

@@ -1,13 +1,12 @@
 //! Pages of a range that may be stored to are given up without a write: their bytes are those of the disk again.
-ghost use Rattle.std.specs.Prelude.{◌≡◌, ◌≤◌, ◌<◌, ◌+◌, ◌*◌, ℕ, false, List, [], Some, IfOk, IfErr, IsOk, OnOk, find};
+ghost use Rattle.std.specs.Prelude.{◌≡◌, ◌≤◌, ◌<◌, ◌+◌, ◌*◌, ℕ, List, [], Some, IfOk, IfErr, IsOk, OnOk, find};
 ghost use Rattle.labelled_disk.specs.declared.evidence.Halt.TheVariants as halt;
 ghost use Rattle.labelled_disk.specs.Sectors.{Sector};
 ghost use Rattle.file_map.specs.FileMap.{Triples};
 ghost use Rattle.flat_machine.specs.declared.space.Space.{Space};
 ghost use Rattle.flat_machine.specs.Space.{root_pages};
 ghost use Rattle.swapper_kernel.specs.Differs.{Differs};
-ghost use Rattle.swapper_kernel.specs.Goes.{Goes, no_page};
-ghost use Rattle.swapper_kernel.specs.Stands.{Stands};
+ghost use Rattle.swapper_kernel.specs.Goes.{no_page};
 ghost use Rattle.session_words.specs.CellLaws.{Kills, is_killed};
 ghost use Rattle.session_words.specs.Volume.{volume_page};
 ghost use Rattle.swap_units.specs.declared.interval.Interval.{Interval as IntervalIs};

@@ -1,5 +1,5 @@
 //! Bytes are loaded from the pages that windows show.
-ghost use Rattle.std.specs.Prelude.{◌≡◌, ◌≢◌, ◌≤◌, ◌+◌, ◌/◌, ◌%◌, ℕ, false, List, length, Ok, IfOk, IfErr, IsOk, OnOk, OnErr};
+ghost use Rattle.std.specs.Prelude.{◌≡◌, ◌≢◌, ◌≤◌, ◌<◌, ◌+◌, ◌/◌, ◌%◌, ℕ, false, List, length, slice_get, Ok, IfOk, IfErr, IsOk, OnOk, OnErr};
 ghost use Rattle.labelled_disk.specs.declared.evidence.Halt.TheVariants as halt;
 ghost use Rattle.labelled_disk.specs.Sectors.{Sector};
 ghost use Rattle.file_map.specs.FileMap.{Triples};
@@ -10,8 +10,10 @@ ghost use Rattle.fault_core.specs.Access.{BreaksFor, Shows, access_of, last_page
 ghost use Rattle.fault_core.specs.Attempt.{ArePresent, IfAbsent, IfAccess, IsAbsent, IsHere, IsReferred, moved};
 ghost use Rattle.fault_core.specs.Kept.{AreApart};
 ghost use Rattle.fault_core.specs.Moves.{AreSeen, HasBytes, Loads};
+ghost use Rattle.fault_core.specs.Ready.{AreLoaded};
 ghost use Rattle.filer_kernel.specs.View.{FitsLayout, view_of};
-ghost use Rattle.fault_core.specs.Reach.{BringsOwn, Reaches, ReachHalts, TouchHalts, no_break};
+ghost use Rattle.fault_core.specs.Reach.{BringsOwn, Reaches, ReachHalts, StayOrYield, TouchHalts, no_break};
+ghost use Rattle.fault_core.specs.Room.{KeepsWhileEmpty};
 ghost use Rattle.fault_core.specs.Revealed.{Known};
 ghost use Rattle.fault_core.specs.Unit.{AreShownStored, BringsBoth, BringsShown, IsReady, IsWhole, file_page};
 ghost use Rattle.fault_core.specs.Lack.{MissesPage, Sees, both_units, shown_units, unit_pages};
@@ -20,7 +22,7 @@ ghost use Rattle.fault_core.specs.NeverBlames.{NeverBlamesTables};
 use crate::Core;
 use crate::attempt::{Attempt, Prospect};
 use crate::frames::{copy_out, copy_pages};
-use crate::ready::load_at_hand;
+use crate::ready::{load_at_hand, load_unit};
 use crate::reference::{Access, Reference};
 use crate::touch::touch;
 use filer_kernel::Filer;
@@ -158,6 +160,22 @@ impl<D: Disk, A: Allocator> Core<D, A> {
         }
     }
 
+    /// Loads the first of these bytes, page by page, as far as their pages are ready and in the swap unit of the first one,
+    /// and says how many. No table is asked, no page comes in, and nothing but these bytes changes.
+    pub fn load_ready(&mut self, address: u32, into: &mut [u8]) -> usize
+        ensures part { result ≤ length into.old }
+        ensures ends { 1 ≤ result → result < length into.old → (address + result) % 512 ≡ 0 }
+        ensures access { (m : List Sector) (named : Triples) (ss : List Space) → Knows self.old m named ss
+            → (k : ℕ) → k < result → access.Done ≡ access_of ss false (address + k) 1 }
+        ensures bytes { (m : List Sector) (named : Triples) (ss : List Space) → Knows self.old m named ss
+            → AreLoaded ss address result into.new m }
+        ensures rest { (k : ℕ) → result ≤ k → slice_get into.new k ≡ slice_get into.old k }
+        ensures width { length into.new ≡ length into.old }
+        ensures same { self.new ≡ self.old }
+    {
+        load_unit(&mut self.filer, &self.descriptors, address, into)
+    }
+
     /// Loads 1 to 512 bytes from an address on. All pages of the reference are tested before the first byte is moved. After
     /// `Done` the last page is ready. One that halts, and is on one page, moves no byte.
     pub fn load(&mut self, address: u32, into: &mut [u8]) -> Result<Access, Halt>
@@ -235,6 +253,8 @@ impl<D: Disk, A: Allocator> Core<D, A> {
             → Knows self.new m named ss }
         ensures reaches { Reaches (state self.old) (state self.new) }
         ensures came { BringsOwn (state self.old).slots (state self.new).slots }
+        ensures room { KeepsWhileEmpty (state self.old).slots (state self.new).slots }
+        ensures stay { StayOrYield (state self.old).slots (state self.new).slots }
         ensures intervals { self.new.intervals ≡ self.old.intervals }
         ensures ready { IsReady (kept self.old) (state self.old).slots (address / 512)
             → IsReady (kept self.old) (state self.old).slots (last_page address (length into.old))

@@ -1,5 +1,5 @@
-//! A reference on one page that is ready: a kept interval shows it, and its whole swap unit is resident. No table is asked.
-ghost use Rattle.std.specs.Prelude.{◌≡◌, ◌≢◌, ◌≤◌, ◌/◌, ℕ, true, false, List, length, None, IfSome};
+//! A reference on pages that are ready: a kept interval shows them, and their whole swap unit is resident. No table is asked.
+ghost use Rattle.std.specs.Prelude.{◌≡◌, ◌≢◌, ◌≤◌, ◌<◌, ◌+◌, ◌-◌, ◌*◌, ◌/◌, ◌%◌, ◌^◌, ℕ, true, false, List, length, slice_get, None, IfSome};
 ghost use Rattle.labelled_disk.specs.Sectors.{Sector};
 ghost use Rattle.descriptor_cache.specs.Cache.{kept_in};
 ghost use Rattle.file_map.specs.FileMap.{Triples};
@@ -8,15 +8,15 @@ ghost use Rattle.frame_pool.specs.Frames.{HasPage};
 ghost use Rattle.swap_units.specs.Mode.{is_mapped};
 ghost use Rattle.filer_kernel.specs.View.{view_of};
 ghost use Rattle.fault_core.specs.Access.{Shows, is_load_only};
-ghost use Rattle.fault_core.specs.Kept.{AreFormed};
-ghost use Rattle.fault_core.specs.Moves.{Loads};
-ghost use Rattle.fault_core.specs.Ready.{IsAtHand, IsChanged};
-ghost use Rattle.fault_core.specs.Revealed.{Revealed};
+ghost use Rattle.fault_core.specs.Kept.{AreFormed, IsFormed};
+ghost use Rattle.fault_core.specs.Moves.{AreSeen, Loads};
+ghost use Rattle.fault_core.specs.Ready.{AreHere, AreLoaded, IsAtHand, IsChanged};
+ghost use Rattle.fault_core.specs.Revealed.{Known, Revealed};
 ghost use Rattle.fault_core.specs.Unit.{IsWhole, file_page};
 
 use crate::attempt::slot_at;
 use crate::frames::{change_in, copy_out};
-use crate::unit::{is_there, unit_run};
+use crate::unit::{is_there, slot_of, unit_run};
 use descriptor_cache::DescriptorCache;
 use filer_kernel::Filer;
 use labelled_disk::{Disk, PAGE_BYTES};
@@ -98,6 +98,111 @@ pub(crate) fn load_at_hand<D: Disk, A: Allocator>(
     };
     copy_out(filer, slot, (address % PAGE_BYTES as u32) as usize, into);
     true
+}
+
+// Loads those of so many bytes from an address on that come after the first ones and are on one page, and says how many.
+fn load_part<D: Disk, A: Allocator>(
+    filer: &mut Filer<D, A>,
+    x: &Interval,
+    address: u32,
+    into: &mut [u8],
+    done: usize,
+    count: usize,
+) -> usize
+    requires formed { IsFormed x.now }
+    requires mapped { is_mapped x.now.mode ≡ true }
+    requires here { AreHere (view_of filer.old).slots x.now address count }
+    requires below { address + count ≤ 2 ^ 32 }
+    requires within { count ≤ length into.old }
+    requires more { done < count }
+    ensures some { 1 ≤ result }
+    ensures fits { done + result ≤ count }
+    ensures bytes { (m : List Sector) (named : Triples) (b : List ℕ) (ss : List Space)
+        → Known (view_of filer.old) m named b → AreSeen ss named m x.now
+        → AreLoaded ss address done into.old m → AreLoaded ss address (done + result) into.new m }
+    ensures rest { (k : ℕ) → done + result ≤ k → slice_get into.new k ≡ slice_get into.old k }
+    ensures width { length into.new ≡ length into.old }
+    ensures same { filer.new ≡ filer.old }
+{
+    let at = address + done as u32;
+    let page = at / PAGE_BYTES as u32;
+    let from = (at % PAGE_BYTES as u32) as usize;
+    let part = (count - done).min(PAGE_BYTES - from);
+    let slot = slot_of(filer, x.id, x.page + (page - x.first));
+    copy_out(filer, slot, from, &mut into[done..done + part]);
+    part
+}
+
+// Loads the first of these bytes, so many, page by page.
+fn load_parts<D: Disk, A: Allocator>(
+    filer: &mut Filer<D, A>,
+    x: &Interval,
+    address: u32,
+    into: &mut [u8],
+    count: usize,
+)
+    requires formed { IsFormed x.now }
+    requires mapped { is_mapped x.now.mode ≡ true }
+    requires here { AreHere (view_of filer.old).slots x.now address count }
+    requires below { address + count ≤ 2 ^ 32 }
+    requires within { count ≤ length into.old }
+    ensures bytes { (m : List Sector) (named : Triples) (b : List ℕ) (ss : List Space)
+        → Known (view_of filer.old) m named b → AreSeen ss named m x.now → AreLoaded ss address count into.new m }
+    ensures rest { (k : ℕ) → count ≤ k → slice_get into.new k ≡ slice_get into.old k }
+    ensures width { length into.new ≡ length into.old }
+    ensures same { filer.new ≡ filer.old }
+{
+    let mut done = 0;
+    'parts: while done < count {
+        done += load_part(filer, x, address, into, done, count);
+    }
+}
+
+// How many bytes there are from an address up to the end of a run of pages, of which the address is on the given one.
+fn bytes_left(run: (u32, u32), page: u32, address: u32) -> usize
+    requires among { (run.0 ≤ page) × (page < run.0 + run.1) }
+    requires few { run.1 ≤ 16 }
+    ensures { result + address % 512 ≡ (run.0 + run.1 - page) * 512 }
+{
+    let pages = run.1 - (page - run.0);
+    pages as usize * PAGE_BYTES - (address % PAGE_BYTES as u32) as usize
+}
+
+/// Loads the first of these bytes, page by page, as far as they are ready and in the swap unit of the first page, and says
+/// how many.
+pub(crate) fn load_unit<D: Disk, A: Allocator>(
+    filer: &mut Filer<D, A>,
+    kept: &DescriptorCache,
+    address: u32,
+    into: &mut [u8],
+) -> usize
+    requires formed { AreFormed (kept_in kept.now) }
+    ensures part { result ≤ length into.old }
+    ensures ends { 1 ≤ result → result < length into.old → (address + result) % 512 ≡ 0 }
+    ensures hand { (k : ℕ) → k < result → (slot : ℕ)
+        × IsAtHand (kept_in kept.now) (view_of filer.old).slots false (address + k) 1 slot }
+    ensures bytes { (n : ℕ) (m : List Sector) (named : Triples) (ss : List Space)
+        → Revealed (view_of filer.old) (kept_in kept.now) n m named ss → AreLoaded ss address result into.new m }
+    ensures rest { (k : ℕ) → result ≤ k → slice_get into.new k ≡ slice_get into.old k }
+    ensures width { length into.new ≡ length into.old }
+    ensures same { filer.new ≡ filer.old }
+{
+    let page = address / PAGE_BYTES as u32;
+    let Some(x) = kept.look(page) else {
+        return 0;
+    };
+    if !lets(&x, false) {
+        return 0;
+    }
+    let run = unit_run(&x, page);
+    if !is_there(filer, x.id, run.0, run.1) {
+        return 0;
+    }
+    let count = into
+        .len()
+        .min(bytes_left(run, x.page + (page - x.first), address));
+    load_parts(filer, &x, address, into, count);
+    count
 }
 
 /// Stores bytes to a page that is ready, and says whether it did. The frame is dirty then.

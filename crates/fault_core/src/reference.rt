@@ -8,7 +8,8 @@ ghost use Rattle.flat_machine.specs.At.{shown_at};
 ghost use Rattle.space_tables.specs.SpaceTables.{IsIntervalAt};
 ghost use Rattle.fault_core.specs.Access.{BreaksFor, IfShown, Shows, access_of, is_load_only, last_page, outcome, refused_by};
 ghost use Rattle.fault_core.specs.Kept.{IsKept, AreApart};
-ghost use Rattle.fault_core.specs.Reach.{Reaches, ReachHalts, BringsOwn};
+ghost use Rattle.fault_core.specs.Reach.{Reaches, ReachHalts, BringsOwn, StayOrYield};
+ghost use Rattle.fault_core.specs.Room.{KeepsWhileEmpty};
 ghost use Rattle.fault_core.specs.Revealed.{BreaksTables};
 ghost use Rattle.fault_core.specs.Unit.{IsReady, IsWhole};
 ghost use Rattle.fault_core.specs.Lack.{Sees};
@@ -101,6 +102,8 @@ impl<D: Disk, A: Allocator> Core<D, A> {
             → Knows self.new m named ss }
         ensures reaches { Reaches (state self.old) (state self.new) }
         ensures came { BringsOwn (state self.old).slots (state self.new).slots }
+        ensures room { KeepsWhileEmpty (state self.old).slots (state self.new).slots }
+        ensures stay { StayOrYield (state self.old).slots (state self.new).slots }
         ensures intervals { self.new.intervals ≡ self.old.intervals }
         ensures idle { IsReady (kept self.old) (state self.old).slots last → AreApart (kept self.old)
             → IfOk result (λ o. IfSome o (λ y. IsWhole (state self.old).slots y last) × (o ≢ None)) × IsOk result
@@ -146,6 +149,8 @@ impl<D: Disk, A: Allocator> Core<D, A> {
             → Knows self.new m named ss }
         ensures reaches { Reaches (state self.old) (state self.new) }
         ensures came { BringsOwn (state self.old).slots (state self.new).slots }
+        ensures room { KeepsWhileEmpty (state self.old).slots (state self.new).slots }
+        ensures stay { StayOrYield (state self.old).slots (state self.new).slots }
         ensures intervals { self.new.intervals ≡ self.old.intervals }
         ensures idle { IsReady (kept self.old) (state self.old).slots (address / 512)
             → IsReady (kept self.old) (state self.old).slots (last_page address count) → AreApart (kept self.old)

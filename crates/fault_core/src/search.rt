@@ -1,5 +1,5 @@
 //! Where pages in a row of one file stand, by the file map.
-ghost use Rattle.std.specs.Prelude.{◌≡◌, ◌≤◌, ◌<◌, ◌+◌, ◌*◌, ◌^◌, ℕ, true, List, length, Ok, None, IfOk, IfErr, IfSome};
+ghost use Rattle.std.specs.Prelude.{◌≡◌, ◌≤◌, ◌<◌, ◌+◌, ◌*◌, ◌^◌, ℕ, true, List, Ok, None, IfOk, IfErr, IfSome};
 ghost use Rattle.labelled_disk.specs.declared.evidence.Halt.TheVariants as halt;
 ghost use Rattle.labelled_disk.specs.Sectors.{Sector};
 ghost use Rattle.file_map.specs.FileMap.{Triples, IsFound, IsNowhere};
@@ -9,7 +9,6 @@ ghost use Rattle.filer_kernel.specs.Triples.{MapIs};
 ghost use Rattle.frame_pool.specs.Frames.{ArePages};
 ghost use Rattle.frame_pool.specs.declared.home.Home.{Home as HomeIs};
 ghost use Rattle.swapper_kernel.specs.Homes.{IsAmong};
-ghost use Rattle.swapper_kernel.specs.Stands.{Stands};
 ghost use Rattle.filer_kernel.specs.View.{FitsLayout, HasMemory, kept_by, view_of};
 ghost use Rattle.fault_core.specs.Reach.{IsReachedHome, Reaches, ReachHalts, StayOrYield, TouchHalts, BringsOwn, no_break};
 ghost use Rattle.fault_core.specs.Revealed.{Known};

@@ -4,8 +4,7 @@ ghost use Rattle.labelled_disk.specs.declared.evidence.Halt.TheVariants as halt;
 ghost use Rattle.labelled_disk.specs.Sectors.{Sector};
 ghost use Rattle.file_map.specs.FileMap.{Triples};
 ghost use Rattle.flat_machine.specs.declared.space.Space.{Space};
-ghost use Rattle.swapper_kernel.specs.Goes.{Goes, IsDirty, Same, this_page};
-ghost use Rattle.swapper_kernel.specs.Stands.{Stands};
+ghost use Rattle.swapper_kernel.specs.Goes.{IsDirty, Same, this_page};
 ghost use Rattle.session_words.specs.CellLaws.{IsTouched, IsTouchedOrOwn, Stores, StoresAt};
 ghost use Rattle.fault_core.specs.declared.reference.Access.TheVariants as access;
 ghost use Rattle.session_words.specs.FrameLaws.{BringsKnown};
@@ -15,6 +14,7 @@ ghost use Rattle.fault_core.specs.Kept.{AreApart};
 ghost use Rattle.fault_core.specs.Moves.{AreSeen, Leaves, StoresAs, StoresSome, client_page, of_reference};
 ghost use Rattle.filer_kernel.specs.View.{FitsLayout, GoesTo, HasMemory, view_of};
 ghost use Rattle.fault_core.specs.Reach.{BringsOwn, Reaches, ReachHalts, TouchHalts, no_break};
+ghost use Rattle.fault_core.specs.Room.{KeepsWhileEmpty, PagesStayOrYield};
 ghost use Rattle.fault_core.specs.Revealed.{Known};
 ghost use Rattle.fault_core.specs.Touch.{Touches};
 ghost use Rattle.fault_core.specs.Unit.{AreShownStored, BringsBoth, BringsShown, IsReady, IsShownDirty, IsWhole, KeepsResident, file_page};
@@ -276,6 +276,8 @@ impl<D: Disk, A: Allocator> Core<D, A> {
             → IfErr result (λ e. e ≡ halt.Disk) }
         ensures touches { Touches client_page (state self.old) (state self.new) }
         ensures came { BringsOwn (state self.old).slots (state self.new).slots }
+        ensures room { KeepsWhileEmpty (state self.old).slots (state self.new).slots }
+        ensures stay { PagesStayOrYield (state self.old).slots (state self.new).slots }
         ensures intervals { self.new.intervals ≡ self.old.intervals }
         ensures ready { IsReady (kept self.old) (state self.old).slots (address / 512)
             → IsReady (kept self.old) (state self.old).slots (last_page address (length bytes.now))

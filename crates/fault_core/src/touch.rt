@@ -1,5 +1,5 @@
 //! A page that a window shows is made resident, and its whole swap unit with it.
-ghost use Rattle.std.specs.Prelude.{◌≡◌, ◌≢◌, ◌↔◌, ◌≤◌, ◌<◌, ◌+◌, ℕ, List, length, None, IfOk, IfErr, IfSome, IsOk, OnOk};
+ghost use Rattle.std.specs.Prelude.{◌≡◌, ◌↔◌, ◌≤◌, ◌<◌, ◌+◌, ℕ, List, length, None, IfOk, IfErr, IfSome, IsOk, OnOk};
 ghost use Rattle.labelled_disk.specs.declared.evidence.Halt.TheVariants as halt;
 ghost use Rattle.labelled_disk.specs.Sectors.{Sector};
 ghost use Rattle.file_map.specs.FileMap.{Triples};

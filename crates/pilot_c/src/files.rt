@@ -1,5 +1,4 @@
 //! Calls on files and the volume.
-ghost use Rattle.std.specs.Prelude.{Some, None};
 ghost use Rattle.pilot_c.specs.Answers.{HasNumber, HasNumbers};
 
 use crate::answers::{number, reply_with};

@@ -133,3 +133,8 @@ returns-clause-idle g c = λ first last apart.
 
 pub returns-clause-sees : goal.returns-clause-sees
 returns-clause-sees g c = λ ss s. rw c.look_for.ensures.same (c.in-Ok-Shown.ensures.sees ss s)
+
+-- ---- Which pages stay.
+
+pub returns-clause-stay : goal.returns-clause-stay
+returns-clause-stay g c = rw c.look_for.ensures.same c.refer.ensures.stay

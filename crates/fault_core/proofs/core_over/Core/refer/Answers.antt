@@ -14,6 +14,8 @@ use Rattle.fault_core.proofs.ReachLemmas.{reaches_itself, reaches_then, halts_be
 use Rattle.fault_core.proofs.ShowLemmas.{shown_is}
 use Rattle.fault_core.proofs.RevealedLemmas.{interval_of}
 use Rattle.fault_core.proofs.LackLemmas.{seen_at}
+use Rattle.fault_core.proofs.RoomLemmas.{room_then}
+use Rattle.fault_core.proofs.YieldLemmas.{yield_then}
 use Rattle.fault_core.proofs.core_over.Core.refer.Goals as goal
 use Rattle.filer_kernel.specs.View.{accepted}
 
@@ -163,3 +165,35 @@ returns-clause-seen g c = λ ss s.
     let x_at = seen_at mid x (c.args.address / 512) x_kept x_shows in
     let y_at = seen_at after y last y_kept y_shows in
     shown_some (λ x y. IsIntervalAt ss (c.args.address / 512) x × IsIntervalAt ss (last_page c.args.address c.args.count) y) c.allowed.result x y c.allowed.ensures.shown (x_at, rw (← c.last_page-last.ensures) y_at)
+
+-- ---- Which pages stay.
+
+pub returns-in-Ok-None-clause-room : goal.returns-in-Ok-None-clause-room
+returns-in-Ok-None-clause-room g c = c.shown.ensures.room
+
+pub returns-in-Ok-None-clause-stay : goal.returns-in-Ok-None-clause-stay
+returns-in-Ok-None-clause-stay g c = c.shown.ensures.stay
+
+pub returns-in-Err-clause-room : goal.returns-in-Err-clause-room
+returns-in-Err-clause-room g c = c.shown.ensures.room
+
+pub returns-in-Err-clause-stay : goal.returns-in-Err-clause-stay
+returns-in-Err-clause-stay g c = c.shown.ensures.stay
+
+pub returns-in-Ok-None-shown_last-clause-room : goal.returns-in-Ok-None-shown_last-clause-room
+returns-in-Ok-None-shown_last-clause-room g c = room_then c.shown.ensures.room c.shown_last.ensures.room
+
+pub returns-in-Ok-None-shown_last-clause-stay : goal.returns-in-Ok-None-shown_last-clause-stay
+returns-in-Ok-None-shown_last-clause-stay g c = yield_then c.shown.ensures.stay c.shown_last.ensures.stay
+
+pub returns-in-Err-shown_last-clause-room : goal.returns-in-Err-shown_last-clause-room
+returns-in-Err-shown_last-clause-room g c = room_then c.shown.ensures.room c.shown_last.ensures.room
+
+pub returns-in-Err-shown_last-clause-stay : goal.returns-in-Err-shown_last-clause-stay
+returns-in-Err-shown_last-clause-stay g c = yield_then c.shown.ensures.stay c.shown_last.ensures.stay
+
+pub returns-clause-room : goal.returns-clause-room
+returns-clause-room g c = room_then c.shown.ensures.room c.shown_last.ensures.room
+
+pub returns-clause-stay : goal.returns-clause-stay
+returns-clause-stay g c = yield_then c.shown.ensures.stay c.shown_last.ensures.stay

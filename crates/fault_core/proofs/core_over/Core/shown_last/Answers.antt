@@ -8,6 +8,8 @@ use Rattle.fault_core.proofs.ReachLemmas.{reaches_itself}
 use Rattle.fault_core.proofs.ShowLemmas.{shown_is}
 use Rattle.fault_core.proofs.RevealedLemmas.{interval_at}
 use Rattle.fault_core.proofs.core_over.Core.shown_last.Given as given
+use Rattle.fault_core.proofs.RoomLemmas.{room_itself}
+use Rattle.fault_core.proofs.YieldLemmas.{yield_itself}
 use Rattle.fault_core.proofs.core_over.Core.shown_last.Goals as goal
 use Rattle.fault_core.specs.Core.{state}
 
@@ -30,3 +32,17 @@ pub returns-then-last-first-clause-idle : goal.returns-then-last-first-clause-id
 returns-then-last-first-clause-idle g c = λ ready apart.
     let same = apart ready.interval c.args.x c.args.last ready.is_kept c.requires.is_kept ready.holds (held g c) in
     ((subst (λ (x : Interval). IsWhole (state c.args.self.now).slots x c.args.last) same ready.whole, λ none. absurd (none-some c.args.x (sym none))), refl, refl, refl)
+
+-- ---- Which pages stay.
+
+pub returns-then-last-first-clause-room : goal.returns-then-last-first-clause-room
+returns-then-last-first-clause-room g c = room_itself (state c.args.self.now).slots
+
+pub returns-then-last-first-clause-stay : goal.returns-then-last-first-clause-stay
+returns-then-last-first-clause-stay g c = yield_itself (state c.args.self.now).slots
+
+pub returns-clause-room : goal.returns-clause-room
+returns-clause-room g c = c.shown.ensures.room
+
+pub returns-clause-stay : goal.returns-clause-stay
+returns-clause-stay g c = c.shown.ensures.stay

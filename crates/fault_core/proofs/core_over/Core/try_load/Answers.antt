@@ -98,3 +98,8 @@ returns-in-Err-clause-right g c = λ ss s.
     let w = state c.look_ahead.new.self in
     let n = length c.args.into.now in
     reference_never_blames s c.args.self.now.some w c.in-Err.halt c.args.address n (touch_of_reach (BreaksFor v c.args.self.now.intervals c.args.address n) v w c.in-Err.halt c.in-Err.ensures.cause)
+
+-- ---- Which pages stay.
+
+pub returns-clause-stay : goal.returns-clause-stay
+returns-clause-stay g c = rw c.copy_pages.ensures.same c.look_ahead.ensures.stay

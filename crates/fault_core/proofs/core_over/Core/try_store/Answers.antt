@@ -14,6 +14,8 @@ use Rattle.fault_core.proofs.BeforeLemmas.{touches_of, touches_then, touches_wid
 use Rattle.fault_core.proofs.LeaveLemmas.{goes_refused, goes_revealed, revealed_leaves, revealed_stands}
 use Rattle.fault_core.proofs.MovedLemmas.{either_client, either_touched, of_a_client}
 use Rattle.fault_core.proofs.NeverBlamesLemmas.{reference_never_blames, sees_touched}
+use Rattle.fault_core.proofs.RoomLemmas.{keeps_room, room_then}
+use Rattle.fault_core.proofs.YieldLemmas.{pages_kept, pages_yield}
 use Rattle.fault_core.proofs.core_over.Core.try_store.Goals as goal
 
 -- ---- No byte is moved.
@@ -173,3 +175,23 @@ returns-in-Err-clause-right g c = λ ss s.
     let w = state c.look_ahead.new.self in
     let n = length c.args.bytes.now in
     reference_never_blames s c.args.self.now.some w c.in-Err.halt c.args.address n (touch_of_reach (BreaksFor v c.args.self.now.intervals c.args.address n) v w c.in-Err.halt c.in-Err.ensures.cause)
+
+-- ---- Which pages stay.
+
+pub returns-in-Ok-Settled-clause-stay : goal.returns-in-Ok-Settled-clause-stay
+returns-in-Ok-Settled-clause-stay g c = pages_yield c.look_ahead.ensures.stay
+
+pub returns-in-Err-clause-stay : goal.returns-in-Err-clause-stay
+returns-in-Err-clause-stay g c = pages_yield c.look_ahead.ensures.stay
+
+pub returns-clause-room : goal.returns-clause-room
+returns-clause-room g c =
+    let pool = (state c.look_ahead.new.self).slots in
+    let own = at_ready (λ i j. HasClient pool i × HasClient pool j) c.in-Ok-Ready.field-0 c.in-Ok-Ready.first c.in-Ok-Ready.last c.in-Ok-Ready.field-0-is c.in-Ok-Ready.ensures.clients in
+    let s = own.0 in
+    let t = own.1 in
+    room_then c.look_ahead.ensures.room
+    (keeps_room pool (view_of c.change_pages.new.filer).slots c.change_pages.ensures.slots (c.change_pages.ensures.touches s.id s.page t.id t.page s.has t.has s.client t.client).goes.makes.count)
+
+pub returns-clause-stay : goal.returns-clause-stay
+returns-clause-stay g c = pages_kept (pages_yield c.look_ahead.ensures.stay) c.change_pages.ensures.slots
