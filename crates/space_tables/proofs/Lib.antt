@@ -14,3 +14,8 @@ pub mod Pieces
 pub mod Rejoined
 pub mod Removes
 mod Pages
+mod FirstLemmas
+mod PageLemmas
+mod HandleLemmas
+mod WithinLemmas
+mod NamedLemmas

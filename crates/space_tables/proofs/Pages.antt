@@ -9,7 +9,7 @@ use Rattle.record_table.specs.Field.{field}
 use Rattle.flat_machine.specs.declared.space.Space.{Space}
 use Rattle.projection_laws.specs.Stored.{slot_in}
 use Rattle.projection_laws.specs.Sight.{Interval}
-use Rattle.space_tables.specs.Form.{slot_record, slot_page, is_slot_record}
+use Rattle.space_tables.specs.Form.{slot_record, slot_page, interval_record, interval_page, is_slot_record}
 use Rattle.space_tables.specs.Stored.{AreTables, AreReadable}
 use Rattle.space_tables.proofs.ReadBack.{get_or_at, slot_read}
 
@@ -19,6 +19,18 @@ record_on b h page is =
     let inside : h % 16 * 32 + 32 ≤ 512 = omega arith in
     let at : 512 * (h / 16) + h % 16 * 32 ≡ 32 * h = omega arith in
     ap (λ (p : List ℕ). part p (h % 16 * 32) 32) is ∙ part-part b (512 * (h / 16)) 512 (h % 16 * 32) 32 inside ∙ ap (λ (n : ℕ). part b n 32) at
+
+-- the record of an interval stands in the page that has it
+pub interval_on_page : (b : List ℕ) (k : ℕ) (page : List ℕ) → page ≡ interval_page b k → part page (k % 16 * 32) 32 ≡ interval_record b k
+interval_on_page b k page is =
+    let inside : k % 16 * 32 + 32 ≤ 512 = omega arith in
+    let at : 512 * (32 + k / 16) + k % 16 * 32 ≡ 32 * (512 + k) = omega arith in
+    ap (λ (p : List ℕ). part p (k % 16 * 32) 32) is ∙ part-part b (512 * (32 + k / 16)) 512 (k % 16 * 32) 32 inside ∙ ap (λ (n : ℕ). part b n 32) at
+
+-- indices of one page have that page
+pub same_interval_page : (b : List ℕ) (from end k : ℕ) (page : List ℕ) → page ≡ interval_page b from → from ≤ k → k < end → end ≤ 16 * (from / 16) + 16 → page ≡ interval_page b k
+same_interval_page b from end k page is above below whole =
+    let same : from / 16 ≡ k / 16 = omega (arith, above, below, whole) in is ∙ ap (λ (n : ℕ). part b (512 * (32 + n)) 512) same
 
 first_of : (page : List ℕ) (at : ℕ) → get_or (part page at 32) 0 0 ≡ get_or page at 0
 first_of [] zero = refl

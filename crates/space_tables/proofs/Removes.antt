@@ -1,22 +1,26 @@
 -- The tables with a space fewer.
-use Rattle.std.proofs.Common.{◌≡◌, ℕ, ◌+◌, ◌<◌, ◌≤◌, Bool, true, false, ◌==◌, List, length, Option, Some, None, sym, ◌∙◌, ap, subst, arith}
+use Rattle.std.proofs.Common.{◌≡◌, ℕ, ◌+◌, ◌<◌, ◌≤◌, Bool, true, false, not, ◌==◌, List, length, Option, Some, None, refl, sym, ◌∙◌, ap, subst, arith}
 use Rattle.std.specs.Prelude.{slice_get, slice_set, option_and_then, is_some, find, nat_le, if◌then◌else◌}
 use Rattle.std.proofs.lemmas.Option.{same_Some, none-some}
 use Rattle.record_table.specs.Field.{field}
 use Rattle.projection_laws.specs.Stored.{slot_in, space_in}
 use Rattle.space_tables.specs.Form.{slot_record, first_in_slot, lies_in_root, space_in_form}
 use Rattle.std.specs.Bool.{then_some}
-use Rattle.std.proofs.lemmas.Bool.{and_parts}
+use Rattle.std.proofs.lemmas.Bool.{and_parts, eqb-true}
 use Rattle.std.proofs.lemmas.Bool.Decides.{nat_tests}
 use Rattle.flat_machine.specs.declared.call.Refusal.{Refusal}
 use Rattle.flat_machine.specs.declared.call.Refusal.TheVariants as why
 use Rattle.flat_machine.specs.declared.space.Space.{Space}
 use Rattle.flat_machine.specs.declared.space.Window.{Window}
-use Rattle.flat_machine.specs.Space.{root_pages, space_at, is_child_of, is_mapped}
+use Rattle.flat_machine.specs.Space.{root_pages, end, space_at, is_child_of, is_mapped}
 use Rattle.flat_machine.specs.Refusal.{first_of}
 use Rattle.flat_machine.specs.Next.{without_space}
-use Rattle.flat_machine.proofs.Lists.{find_in, not_found, in_any, any_not}
-use Rattle.projection_laws.specs.Sight.{Interval, end_of}
+use Rattle.flat_machine.proofs.Lists.{In, all_in, looked_up, find_in, not_found, in_any, any_not}
+use Rattle.flat_machine.specs.Machine.{IsSpace}
+use Rattle.flat_machine.proofs.SpaceLemmas.{parent_at}
+use Rattle.projection_laws.proofs.Inside.{same, inner_found, holds_by}
+use Rattle.projection_laws.proofs.RevealLemmas.{intervals_reveal}
+use Rattle.projection_laws.specs.Sight.{Interval, AreIntervals, end_of}
 use Rattle.projection_laws.specs.Slots.{listed}
 use Rattle.projection_laws.specs.Spaces.{AreSpaces, MayBeRemoved}
 use Rattle.projection_laws.specs.Tests.{has_children, self_mapped, remove_row}
@@ -39,6 +43,30 @@ children_there ss h s e =
 
 pub no_children : (ss : List Space) (h : ℕ) → None ≡ find (is_child_of h) ss → has_children ss h ≡ None
 no_children ss h e = ap (λ (b : Bool). then_some b why.Children) (any_not (is_child_of h) ss (not_found (is_child_of h) ss (sym e)))
+
+-- a space whose pages are one interval of its own has no child
+pub childless : (ss : List Space) (xs : List Interval) (k : ℕ) (x : Interval) (s : Space) → AreSpaces ss → AreIntervals ss xs → slice_get xs k ≡ Some x → space_at ss s.handle ≡ Some s
+    → x.first ≡ s.first → x.pages ≡ s.pages → x.space ≡ s.handle → find (is_child_of s.handle) ss ≡ None
+childless ss xs k x s spaces are e at first pages own = by (find (is_child_of s.handle) ss) refl
+  where
+    none : (t : Space) → In t ss → is_child_of s.handle t ≡ true → ⊥
+    none t i child =
+        let form = all_in (IsSpace ss) ss spaces.whole t i in
+        let p = parent_at ss t form in
+        let found = looked_up (λ (r : Space). r.handle) ss s.handle s at in
+        let parent : t.parent ≡ s.handle = eqb-true t.parent s.handle (and_parts (not (t.handle == 0)) (t.parent == s.handle) child).1 in
+        let above : p.0 ≡ s = same ss spaces p.0 s p.1.there found.0 (p.1.parent ∙ parent) in
+        let low : s.first ≤ t.first = subst (λ (r : Space). r.first ≤ t.first) above p.1.first in
+        let high : end t ≤ end s = subst (λ (r : Space). end t ≤ end r) above p.1.last in
+        let some = form.not_empty in
+        let inner = (intervals_reveal ss xs k t.first x spaces are e (omega (arith, first, low), omega (arith, first, pages, high, some))).innermost_is in
+        let is = inner_found ss t.first inner.0 inner.1 in
+        let one : inner.0 ≡ s = same ss spaces inner.0 s is.there found.0 (sym inner.2 ∙ own) in
+        is.no_child t i (ap (λ (r : Space). is_child_of r.handle t) one ∙ child) (holds_by t t.first (omega arith) (omega (arith, some)))
+
+    by : (o : Option Space) → find (is_child_of s.handle) ss ≡ o → find (is_child_of s.handle) ss ≡ None
+    by None f = f
+    by (Some t) f = let r = find_in (is_child_of s.handle) ss t f in absurd (none t r.0 r.1)
 
 pub own_test : (ss : List Space) (h : ℕ) (s : Space) (o : Option Window) → space_at ss h ≡ Some s → s.window ≡ o → self_mapped ss h ≡ then_some (is_some o) (why.Mapped h)
 own_test ss h s o e f =

@@ -1,27 +1,26 @@
 -- What holds of right tables.
-use Rattle.std.proofs.Common.{◌≡◌, ℕ, ◌+◌, ◌^◌, ◌<◌, ◌≤◌, Bool, true, false, not, List, length, map, Option, Some, None, refl, sym, ◌∙◌, ap, subst, arith, ◌==◌}
-use Rattle.std.specs.Prelude.{slice_get, IfSome, IsSomeAnd, option_and_then, nat_le, nat_lt, ◌||◌}
+use Rattle.std.proofs.Common.{◌≡◌, ℕ, ◌+◌, ◌^◌, ◌<◌, ◌≤◌, Bool, true, false, not, List, length, Option, Some, None, refl, sym, ◌∙◌, ap, subst, arith, ◌==◌}
+use Rattle.std.specs.Prelude.{slice_get, IfSome, option_and_then, nat_le, nat_lt, ◌||◌}
 use Rattle.std.specs.Int.{w32, to_be_bytes}
-use Rattle.std.proofs.lemmas.Option.{same_Some, none-some}
+use Rattle.std.proofs.lemmas.Option.{same_Some}
 use Rattle.std.proofs.lemmas.Bool.{and_from, true≢false}
 use Rattle.std.proofs.lemmas.Bool.Decides.{nat_tests}
 use Rattle.byteorder.specs.Endian.{big_bytes}
-use Rattle.flat_mem.specs.Order.{entry_at}
 use Rattle.flat_mem.specs.Memory.{part}
 use Rattle.record_table.specs.Table.{entries}
 use Rattle.record_table.specs.Look.{IsAnswer}
-use Rattle.record_table.specs.declared.look.Look.TheVariants.{Entry, Before, Count}
+use Rattle.record_table.specs.declared.look.Look.TheVariants.{Entry, Before}
 use Rattle.flat_machine.specs.declared.space.Space.{Space}
 use Rattle.flat_machine.specs.declared.space.Window.{Window}
-use Rattle.flat_machine.specs.Space.{root_pages, end, space_at}
+use Rattle.flat_machine.specs.Space.{root_pages, space_at}
 use Rattle.flat_machine.specs.Machine.{IsSpace}
 use Rattle.flat_machine.proofs.Lists.{In, all_in, find_in}
 use Rattle.flat_machine.proofs.SpaceLemmas.{parent_at}
 use Rattle.projection_laws.specs.Spaces.{AreSpaces}
 use Rattle.projection_laws.specs.Slots.{listed}
-use Rattle.projection_laws.specs.Sight.{Interval, end_of}
+use Rattle.projection_laws.specs.Sight.{Interval, AreIntervals, end_of}
 use Rattle.projection_laws.specs.Laws.{WindowFits, ShowsInForm, IsFormed}
-use Rattle.projection_laws.specs.Stored.{bytes_of, IsTyped, IsTypedSpace}
+use Rattle.projection_laws.specs.Stored.{IsTyped, IsTypedSpace, HoldsAt}
 use Rattle.projection_laws.proofs.SlotLemmas.{slot_found}
 use Rattle.projection_laws.proofs.Forms.{intervals_are_formed}
 use Rattle.projection_laws.proofs.Windows.{windows_are_formed}
@@ -30,7 +29,7 @@ use Rattle.projection_laws.proofs.Inside.{in_the_root}
 use Rattle.swap_units.specs.Mode.{is_mapped}
 use Rattle.space_tables.specs.Form.{lies_in_root, is_unit, may_be_shown, in_form, window_in_form, space_in_form, interval_record}
 use Rattle.swap_units.specs.Unit.{has_page}
-use Rattle.space_tables.specs.Stored.{AreTables, HoldTables, AreReadable, AreRight}
+use Rattle.space_tables.specs.Stored.{AreTables, AreReadable, AreRight}
 use Rattle.space_tables.proofs.Entries.{entries_are, entry_of, record_is}
 
 le : (a b : ℕ) → a ≤ b → nat_le a b ≡ true
@@ -146,3 +145,16 @@ module _ (b : List ℕ) (slots : List (Option Space)) (xs : List Interval) (are 
   some_found into answer =
       let same = entries_are b slots xs count are long (omega (arith, few)) in
       some_is_looked_up (listed slots) xs page r.intervals inside ((rw same at answer.1) (entries_rise (listed slots) xs r.intervals))
+
+module _ (b : List ℕ) (slots : List (Option Space)) (xs : List Interval) (are : AreTables b slots xs) (ss : List Space) (r : AreIntervals ss xs) (count page : ℕ) (few : count ≤ 1023) (long : length xs ≡ count) (inside : page < root_pages) where
+  -- the entry that was found is an interval that holds the page, whatever stands at the handles
+  pub found_holds : (into : List ℕ) (i : ℕ) → IsAnswer 4 (entries 32 (part b 16384 32768) count) count (to_be_bytes w32 page) into (Entry i) → HoldsAt xs i page
+  found_holds into i answer =
+      let same = entries_are b slots xs count are long (omega (arith, few)) in
+      looked_up_holds ss xs page i r inside ((rw same at answer.3) (entries_rise ss xs r))
+
+  -- and there is one
+  pub one_found : (into : List ℕ) → IsAnswer 4 (entries 32 (part b 16384 32768) count) count (to_be_bytes w32 page) into Before → ⊥
+  one_found into answer =
+      let same = entries_are b slots xs count are long (omega (arith, few)) in
+      some_is_looked_up ss xs page r inside ((rw same at answer.1) (entries_rise ss xs r))

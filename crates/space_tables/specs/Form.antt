@@ -26,6 +26,10 @@ slot_page b h = part b (512 * (h / 16)) 512
 abbrev pub interval_record : List ℕ → ℕ → List ℕ
 interval_record b k = part b (32 * (512 + k)) 32
 
+-- the page of the projection that has record k
+abbrev pub interval_page : List ℕ → ℕ → List ℕ
+interval_page b k = part b (512 * (32 + k / 16)) 512
+
 -- the first page of the space in the record of a handle
 abbrev pub first_in_slot : List ℕ → ℕ → ℕ
 first_in_slot b h = (space_in h (slot_record b h)).first

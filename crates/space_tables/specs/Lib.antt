@@ -6,3 +6,4 @@ pub mod SpaceTables
 pub mod Shows
 pub mod Change
 pub mod Begin
+pub mod Handles

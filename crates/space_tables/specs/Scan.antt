@@ -1,13 +1,14 @@
 -- What a pass over the tables finds.
-use Rattle.std.specs.Prelude.{◌≡◌, ◌≢◌, ℕ, ◌+◌, ◌-◌, ◌%◌, nat_le, ◌≤◌, ◌<◌, Bool, not, ◌&&◌, ◌||◌, ◌==◌, List, Option, Some, None, slice_get, find, drop, if◌then◌else◌}
-use Rattle.projection_laws.specs.Slots.{listed}
+use Rattle.std.specs.Prelude.{◌≡◌, ◌≢◌, ℕ, ◌+◌, ◌-◌, ◌%◌, nat_le, ◌≤◌, ◌<◌, Bool, true, false, not, ◌&&◌, ◌||◌, ◌==◌, List, Option, Some, None, slice_get, find, if◌then◌else◌}
 use Rattle.projection_laws.specs.Laws.{is_gap}
 use Rattle.projection_laws.specs.Sight.{Interval, end_of}
 use Rattle.flat_machine.specs.declared.space.Space.{Space}
 use Rattle.flat_machine.specs.Space.{overlap, is_child_of, is_mapped, has_window}
+use Rattle.space_tables.specs.declared.handles.Handles.{Handles}
 use Rattle.space_tables.specs.declared.rooms.Room.{Room}
 use Rattle.space_tables.specs.declared.scan.Test.{Test}
 use Rattle.space_tables.specs.declared.scan.Test.TheVariants.{ChildOf, OnPath, Shows}
+use Rattle.space_tables.specs.Handles.{IsOneOf}
 
 -- the space is one that is looked for
 abbrev pub passes : Test → Space → Bool
@@ -20,10 +21,18 @@ abbrev pub kept : (Space → Bool) → Option Space → Option Space
 kept test None = None
 kept test (Some s) = if test s then Some s else None
 
--- a space that was found is the first one that is looked for, from a handle on; else there is none among the next 16 handles
-abbrev pub IsFirstOn : (Space → Bool) → List (Option Space) → ℕ → Option Space → Type 0
-IsFirstOn test slots first (Some s) = Some s ≡ find test (listed (drop first slots))
-IsFirstOn test slots first None = find test (listed (drop first slots)) ≡ find test (listed (drop (first + 16) slots))
+-- no space from a handle on, before another, is one that is looked for
+abbrev pub NonePasses : (Space → Bool) → List (Option Space) → ℕ → ℕ → Type 0
+NonePasses test slots from end = (h : ℕ) (s : Space) → from ≤ h → h < end → slice_get slots h ≡ Some (Some s) → test s ≡ false
+
+-- a space that was found is the first one that is looked for, from a handle on; else there is none before another handle
+abbrev pub IsFirstFrom : (Space → Bool) → List (Option Space) → ℕ → ℕ → Option Space → Type 0
+IsFirstFrom test slots from end (Some s) = (slice_get slots s.handle ≡ Some (Some s)) × (test s ≡ true) × NonePasses test slots from s.handle
+IsFirstFrom test slots from end None = NonePasses test slots from end
+
+-- the handles of all spaces that are looked for are among these
+abbrev pub HaveAll : (Space → Bool) → List (Option Space) → Handles → Type 0
+HaveAll test slots handles = (h : ℕ) (s : Space) → slice_get slots h ≡ Some (Some s) → test s ≡ true → IsOneOf handles h
 
 -- the handle after those whose records stand in one page with this one's
 abbrev pub end_on : ℕ → ℕ

@@ -1,5 +1,5 @@
 //! What is asked of the tables: they stay as they are.
-ghost use Rattle.std.specs.Prelude.{◌≡◌, ℕ, ◌+◌, ◌*◌, ◌<◌, ◌≤◌, true, List, [], ◌∷◌, Option, Some, IfOk, IfErr};
+ghost use Rattle.std.specs.Prelude.{◌≡◌, ℕ, ◌+◌, ◌*◌, ◌<◌, ◌≤◌, true, List, [], ◌∷◌, Some, IfOk, IfErr};
 ghost use Rattle.flat_machine.specs.declared.space.Space.{Space};
 ghost use Rattle.flat_machine.specs.Space.{space_at, innermost};
 ghost use Rattle.flat_machine.specs.Refusal.{first_of, past_root};
@@ -9,6 +9,7 @@ ghost use Rattle.space_tables.specs.Form.{slot_record, space_in_form, BreaksSlot
 ghost use Rattle.space_tables.specs.Answer.{IfMem, IfMalformed, Replies};
 ghost use Rattle.space_tables.specs.Stored.{RevealSpaces};
 
+use crate::handles::{Sought, named_handles};
 use crate::records::slot;
 use crate::scan::{Test, find_space};
 use crate::{SpaceError, projection};
@@ -64,9 +65,15 @@ pub fn place<M: FlatMem>(mem: &mut M, count: u32, page: u32) -> Result<Space, Sp
 }
 
 /// The space of a handle, where it can be mapped.
-pub fn unmapped<M: FlatMem>(mem: &mut M, handle: u32) -> Result<Space, SpaceError<M::Error>>
+pub fn unmapped<M: FlatMem>(
+    mem: &mut M,
+    count: u32,
+    handle: u32,
+) -> Result<Space, SpaceError<M::Error>>
     requires size { 49152 ≤ M.size mem.old }
-    ensures answer { (count : ℕ) (ss : List Space) → RevealSpaces (M.reveals mem.old) count ss
+    requires some { 1 ≤ count }
+    requires few { count ≤ 1023 }
+    ensures answer { (ss : List Space) → RevealSpaces (M.reveals mem.old) count ss
         → Replies (first_of (map_row ss handle)) (λ s. space_at ss handle ≡ Some s) result }
     ensures read { (b : List ℕ) → M.reveals mem.old b
         → IfOk result (λ s. slot_in handle (slot_record b handle) ≡ Some s) }
@@ -82,7 +89,9 @@ pub fn unmapped<M: FlatMem>(mem: &mut M, handle: u32) -> Result<Space, SpaceErro
     if handle == 0 {
         return Err(SpaceError::Refused(Refusal::Root));
     }
-    match find_space(mem, &Test::OnPath(space))? {
+    let (from, end) = projection::within(mem, count, &space)?;
+    let handles = named_handles(mem, from, end, &Sought::Mapped)?;
+    match find_space(mem, &handles, &Test::OnPath(space))? {
         Some(mapped) => Err(SpaceError::Refused(Refusal::Mapped(mapped.handle))),
         None => Ok(space),
     }

@@ -1,5 +1,5 @@
 //! The tables of the root alone.
-ghost use Rattle.std.specs.Prelude.{◌≡◌, ℕ, ◌+◌, ◌*◌, ◌≤◌, List, [], ◌∷◌, IfErr, OnOk};
+ghost use Rattle.std.specs.Prelude.{ℕ, ◌+◌, ◌*◌, ◌≤◌, List, [], ◌∷◌, IfErr, OnOk};
 ghost use Rattle.flat_machine.specs.Space.{root};
 ghost use Rattle.space_tables.specs.Answer.{FromMemory, IfMem};
 ghost use Rattle.space_tables.specs.Stored.{HoldTables, RevealSpaces};

@@ -7,6 +7,7 @@ mod begin;
 mod change;
 mod code;
 mod error;
+mod handles;
 mod join;
 mod projection;
 mod records;

@@ -5,20 +5,22 @@ ghost use Rattle.flat_machine.specs.declared.space.Space.{Space};
 ghost use Rattle.flat_machine.specs.Space.{root_pages};
 ghost use Rattle.flat_mem.specs.Memory.{part};
 ghost use Rattle.flat_mem.specs.Order.{at_most};
-ghost use Rattle.record_table.specs.Table.{entries, pages_of};
+ghost use Rattle.record_table.specs.Table.{entries};
 ghost use Rattle.record_table.specs.Look.{IsAnswer, IsWithin, TurnsAt};
 ghost use Rattle.record_table.specs.declared.look.Count.TheVariants.{Given};
 ghost use Rattle.record_table.specs.declared.look.Look.TheVariants.{Before};
 ghost use Rattle.record_table.specs.Edits.{IfMem as IfTableMem};
-ghost use Rattle.projection_laws.specs.Sight.{Interval};
-ghost use Rattle.projection_laws.specs.Stored.{bytes_of, interval_in};
-ghost use Rattle.space_tables.specs.Form.{interval_record, in_form, BreaksLookUp};
+ghost use Rattle.projection_laws.specs.Sight.{Interval, AreIntervals};
+ghost use Rattle.projection_laws.specs.Stored.{bytes_of, interval_in, HoldsAt};
+ghost use Rattle.space_tables.specs.Form.{interval_record, in_form, space_in_form, BreaksLookUp};
 ghost use Rattle.swap_units.specs.Unit.{has_page};
 ghost use Rattle.space_tables.specs.Answer.{FromMemory, NotRefused, IfMem, IfMalformed};
+ghost use Rattle.space_tables.specs.Handles.{AreWithin};
 ghost use Rattle.space_tables.specs.Stored.{HoldTables, AreRight};
 
 use crate::SpaceError;
 use crate::code::{Record, interval_bytes, read_interval};
+use flat_machine::Space;
 use flat_mem::{FlatMem, Part, TableError};
 use record_table::{Count, Look, RecordTable, look_up};
 use swap_units::Interval;
@@ -86,6 +88,61 @@ pub fn find<M: FlatMem>(
             page: 32 + index / 16,
         }),
     }
+}
+
+// The index of the last interval that begins at or before a page, or 0.
+fn index_of<M: FlatMem>(mem: &mut M, count: u32, page: u32) -> Result<u32, SpaceError<M::Error>>
+    requires size { 49152 ≤ M.size mem.old }
+    requires some { 1 ≤ count }
+    requires few { count ≤ 1023 }
+    ensures found { (slots : List (Option Space)) (xs : List Interval) (ss : List Space)
+        → HoldTables (M.reveals mem.old) slots xs → AreIntervals ss xs → length xs ≡ count → page < root_pages
+        → MatchResult result (λ k. HoldsAt xs k page) FromMemory }
+    ensures form { IfOk result (λ k. k < count) }
+    ensures memory { IfErr result FromMemory }
+    ensures unchanged { (b : List ℕ) → M.reveals mem.old b → M.reveals mem.new b }
+    ensures kept { M.beside mem.old mem.new }
+    ensures looked { M.only_reads mem.old mem.new }
+    ensures cause { IfErr result (IfMem (M.accounted mem.old mem.new)) }
+    ensures cost { M.spent mem.new ≤ M.spent mem.old + 7 * M.cost }
+{
+    let mut bytes = [0; 32];
+    match look_up_record(mem, count, page, &mut bytes) {
+        Ok(Look::Entry(index)) => Ok(index),
+        Ok(Look::Before) => Ok(0),
+        Ok(Look::Count(_)) => unreachable!(),
+        Err(error) => Err(SpaceError::Mem(error)),
+    }
+}
+
+/// Where the intervals that share a page with a space stand: the index of the first one, and the index after the last.
+pub fn within<M: FlatMem>(
+    mem: &mut M,
+    count: u32,
+    space: &Space,
+) -> Result<(u32, u32), SpaceError<M::Error>>
+    requires size { 49152 ≤ M.size mem.old }
+    requires some { 1 ≤ count }
+    requires few { count ≤ 1023 }
+    requires in_form { space_in_form space.now ≡ true }
+    ensures found { (slots : List (Option Space)) (xs : List Interval) (ss : List Space)
+        → HoldTables (M.reveals mem.old) slots xs → AreIntervals ss xs → length xs ≡ count
+        → MatchResult result (AreWithin xs space.now) FromMemory }
+    ensures form { IfOk result (λ at. (at.0 < at.1) × (at.1 ≤ count)) }
+    ensures memory { IfErr result FromMemory }
+    ensures unchanged { (b : List ℕ) → M.reveals mem.old b → M.reveals mem.new b }
+    ensures kept { M.beside mem.old mem.new }
+    ensures looked { M.only_reads mem.old mem.new }
+    ensures cause { IfErr result (IfMem (M.accounted mem.old mem.new)) }
+    ensures cost { M.spent mem.new ≤ M.spent mem.old + 14 * M.cost }
+{
+    // A few intervals are passed sooner than two are looked up.
+    if count <= 8 {
+        return Ok((0, count));
+    }
+    let from = index_of(mem, count, space.first)?;
+    let last = index_of(mem, count, space.first + (space.pages - 1))?;
+    Ok((from, if last < from { from } else { last } + 1))
 }
 
 // Puts a record at an index, and moves those from there on one place up.

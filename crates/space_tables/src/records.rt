@@ -1,10 +1,10 @@
 //! Records of the tables in a memory, read and written by their index.
-ghost use Rattle.std.specs.Prelude.{◌≡◌, ℕ, ◌+◌, ◌*◌, ◌-◌, if◌then◌else◌, ◌<◌, ◌≤◌, ◌↔◌, true, false, List, length, Option, Some, None, IfOk, IfErr, IfSome, OnOk, OnErr, MatchResult, slice_get, slice_set, insert, remove};
+ghost use Rattle.std.specs.Prelude.{◌≡◌, ℕ, ◌+◌, ◌*◌, ◌-◌, if◌then◌else◌, ◌<◌, ◌≤◌, ◌↔◌, ◌⊎◌, true, false, List, length, Option, Some, None, IfOk, IfErr, IfSome, OnOk, OnErr, MatchResult, slice_get, slice_set};
 ghost use Rattle.flat_machine.specs.declared.space.Space.{Space};
 ghost use Rattle.flat_mem.specs.Memory.{part, overwritten};
 ghost use Rattle.projection_laws.specs.Sight.{Interval};
 ghost use Rattle.projection_laws.specs.Stored.{interval_in, slot_bytes, slot_in};
-ghost use Rattle.space_tables.specs.Form.{slot_record, slot_page, interval_record, is_slot_record, in_form, space_in_form, BreaksSlot, BreaksInterval};
+ghost use Rattle.space_tables.specs.Form.{slot_record, slot_page, interval_record, interval_page, is_slot_record, is_interval_record, in_form, space_in_form, BreaksSlot, BreaksInterval};
 ghost use Rattle.space_tables.specs.Answer.{FromMemory, NotRefused, IfMem, IfMalformed};
 ghost use Rattle.space_tables.specs.Stored.{AreTables, HoldTables, AreReadable, IsReadable, RevealsRest};
 
@@ -79,15 +79,15 @@ pub fn slot<M: FlatMem>(mem: &mut M, handle: u32) -> Result<Option<Space>, Space
     }
 }
 
-/// Reads the page of the hierarchy that has the record of this handle.
+/// Reads a page of the tables: the hierarchy has those below 32, and the projection those from there on.
 pub fn load_page<M: FlatMem>(
     mem: &mut M,
-    handle: u32,
+    number: u32,
     page: &mut Page,
 ) -> Result<(), SpaceError<M::Error>>
     requires size { 49152 ≤ M.size mem.old }
-    requires inside { handle < 512 }
-    ensures read { (b : List ℕ) → M.reveals mem.old b → OnOk result (page.new ≡ slot_page b handle) }
+    requires inside { number < 96 }
+    ensures read { (b : List ℕ) → M.reveals mem.old b → OnOk result (page.new ≡ part b (512 * number) 512) }
     ensures memory { IfErr result FromMemory }
     ensures refused { IfErr result NotRefused }
     ensures unchanged { (b : List ℕ) → M.reveals mem.old b → M.reveals mem.new b }
@@ -96,10 +96,20 @@ pub fn load_page<M: FlatMem>(
     ensures cause { IfErr result (IfMem (M.accounted mem.old mem.new)) }
     ensures cost { M.spent mem.new ≤ M.spent mem.old + M.cost }
 {
-    match mem.read(PAGE_BYTES as u64 * u64::from(handle / 16), page) {
+    match mem.read(PAGE_BYTES as u64 * u64::from(number), page) {
         Ok(()) => Ok(()),
         Err(error) => Err(SpaceError::Mem(error)),
     }
+}
+
+/// The index after the last one before an end whose record stands in this page, counted from the page with index 0.
+pub fn page_end(number: u32, end: u32) -> u32
+    requires few { number < 64 }
+    ensures within { (result ≤ end) × (result ≤ 16 * number + 16) }
+    ensures last { (result ≡ end) ⊎ (result ≡ 16 * number + 16) }
+{
+    let last = 16 * number + 16;
+    if end < last { end } else { last }
 }
 
 /// The space of a handle, or none there, by the page that has its record. The outer None means that the record breaks its
@@ -127,6 +137,20 @@ pub fn has_space_on(page: &Page, handle: u32) -> bool
         → AreTables b slots xs → (result ≡ false) ↔ (slice_get slots handle ≡ Some None) }
 {
     page[(handle % 16 * 32) as usize] != 0
+}
+
+/// The interval at an index, by the page that has its record. None means that the record breaks its form.
+pub fn interval_on(page: &Page, index: u32) -> Option<Interval>
+    requires inside { index < 1024 }
+    ensures interval { (b : List ℕ) → page.now ≡ interval_page b index
+        → result
+        ≡ (if is_interval_record (interval_record b index) then Some (interval_in (interval_record b index)) else
+        None) }
+{
+    let at = (index % 16 * 32) as usize;
+    let mut bytes = [0; 32];
+    bytes.copy_from_slice(&page[at..at + 32]);
+    read_interval(&bytes)
 }
 
 /// The interval at an index.

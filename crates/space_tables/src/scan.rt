@@ -7,10 +7,11 @@ ghost use Rattle.projection_laws.specs.Stored.{slot_in};
 ghost use Rattle.space_tables.specs.Form.{slot_record, slot_page, space_in_form, BreaksSlot, BreaksHierarchy};
 ghost use Rattle.space_tables.specs.Answer.{FromMemory, NotRefused, IfMem, IfMalformed};
 ghost use Rattle.space_tables.specs.Stored.{AreTables, HoldTables, AreReadable};
-ghost use Rattle.space_tables.specs.Scan.{passes, kept, end_on, IsFirstOn, IsLowestFrom, IsLowestFree};
+ghost use Rattle.space_tables.specs.Scan.{passes, kept, end_on, IsFirstFrom, HaveAll, IsLowestFrom, IsLowestFree};
 
 use crate::SpaceError;
-use crate::records::{has_space_on, load_page, slot_on};
+use crate::handles::Handles;
+use crate::records::{has_space_on, load_page, page_end, slot_on};
 use flat_machine::{Space, Window};
 use flat_mem::{FlatMem, Page};
 use labelled_disk::{FileId, PAGE_BYTES};
@@ -65,22 +66,22 @@ fn passing(page: &Page, handle: u32, test: &Test) -> Option<Option<Space>>
     }
 }
 
-// The first space that passes the test among the 16 handles from `first` on, by the page that has their records. The outer
-// None means that a record breaks its form.
-fn first_on(page: &Page, first: u32, test: &Test) -> Option<Option<Space>>
-    requires whole { first % 16 ≡ 0 }
-    requires inside { first < 512 }
-    ensures found { (b : List ℕ) (slots : List (Option Space)) (xs : List Interval) → page.now ≡ slot_page b first
+// The first space that passes the test among the handles from one on, before another, by the page that has their records. The
+// outer None means that a record breaks its form.
+fn first_on(page: &Page, from: u32, end: u32, test: &Test) -> Option<Option<Space>>
+    requires inside { end ≤ 512 }
+    requires page { end ≤ 16 * (from / 16) + 16 }
+    ensures found { (b : List ℕ) (slots : List (Option Space)) (xs : List Interval) → page.now ≡ slot_page b from
         → AreTables b slots xs → AreReadable slots xs
-        → (o : Option Space) × (result ≡ Some o) × IsFirstOn (passes test.now) slots first o }
-    ensures read { (b : List ℕ) → page.now ≡ slot_page b first
+        → (o : Option Space) × (result ≡ Some o) × IsFirstFrom (passes test.now) slots from end o }
+    ensures read { (b : List ℕ) → page.now ≡ slot_page b from
         → IfSome result (λ o. IfSome o (λ s. slot_in s.handle (slot_record b s.handle) ≡ Some s)) }
     ensures form { IfSome result
         (λ o. IfSome o (λ s. (space_in_form s ≡ true) × (passes test.now s ≡ true) × (s.handle < 512))) }
-    ensures malformed { (b : List ℕ) → page.now ≡ slot_page b first → result ≡ None → BreaksHierarchy b (first / 16) }
+    ensures malformed { (b : List ℕ) → page.now ≡ slot_page b from → result ≡ None → BreaksHierarchy b (from / 16) }
 {
-    let mut handle = first;
-    'scan: while handle < first + 16 {
+    let mut handle = from;
+    'scan: while handle < end {
         if !has_space_on(page, handle) {
             handle += 1;
             continue 'scan;
@@ -93,14 +94,17 @@ fn first_on(page: &Page, first: u32, test: &Test) -> Option<Option<Space>>
     Some(None)
 }
 
-/// The first space, in ascending handles, that passes the test.
+/// The first space, in ascending handles, that passes the test; the handles of all that pass are given, and maybe others.
 pub fn find_space<M: FlatMem>(
     mem: &mut M,
+    handles: &Handles,
     test: &Test,
 ) -> Result<Option<Space>, SpaceError<M::Error>>
     requires size { 49152 ≤ M.size mem.old }
+    requires inside { handles.now.end ≤ 512 }
     ensures found { (slots : List (Option Space)) (xs : List Interval) → HoldTables (M.reveals mem.old) slots xs
-        → AreReadable slots xs → MatchResult result (λ o. o ≡ find (passes test.now) (listed slots)) FromMemory }
+        → AreReadable slots xs → HaveAll (passes test.now) slots handles.now
+        → MatchResult result (λ o. o ≡ find (passes test.now) (listed slots)) FromMemory }
     ensures read { (b : List ℕ) → M.reveals mem.old b
         → IfOk result (λ o. IfSome o (λ s. slot_in s.handle (slot_record b s.handle) ≡ Some s)) }
     ensures form { IfOk result
@@ -111,19 +115,22 @@ pub fn find_space<M: FlatMem>(
     ensures kept { M.beside mem.old mem.new }
     ensures looked { M.only_reads mem.old mem.new }
     ensures cause { IfErr result (IfMem (M.accounted mem.old mem.new)) }
-    ensures cost { M.spent mem.new ≤ M.spent mem.old + 512 * M.cost }
+    ensures cost { M.spent mem.new ≤ M.spent mem.old + 32 * M.cost }
 {
     let mut page = [0; PAGE_BYTES];
-    let mut first = 0;
-    'scan: while first < 512 {
-        load_page(mem, first, &mut page)?;
-        let Some(found) = first_on(&page, first, test) else {
-            return Err(SpaceError::Malformed { page: first / 16 });
+    let mut from = handles.low;
+    let mut number = from / 16;
+    'scan: while from < handles.end {
+        load_page(mem, number, &mut page)?;
+        let end = page_end(number, handles.end);
+        let Some(found) = first_on(&page, from, end, test) else {
+            return Err(SpaceError::Malformed { page: number });
         };
         if let Some(space) = found {
             return Ok(Some(space));
         }
-        first += 16;
+        from = end;
+        number += 1;
     }
     Ok(None)
 }
@@ -163,7 +170,7 @@ pub fn free_handle<M: FlatMem>(mem: &mut M) -> Result<Option<u32>, SpaceError<M:
     let mut page = [0; PAGE_BYTES];
     let mut from = 1;
     'scan: while from < 512 {
-        load_page(mem, from, &mut page)?;
+        load_page(mem, from / 16, &mut page)?;
         if let Some(handle) = free_on(&page, from) {
             return Ok(Some(handle));
         }

@@ -26,6 +26,7 @@ pub fn set_unit<M: FlatMem>(
     unit: u32,
 ) -> Result<(), SpaceError<M::Error>>
     requires size { 49152 ≤ M.size mem.old }
+    requires some { 1 ≤ count }
     requires few { count ≤ 1023 }
     ensures answer { (ss : List Space) → RevealSpaces (M.reveals mem.old) count ss
         → Answers (first_of (unit_row ss handle unit))
@@ -45,7 +46,7 @@ pub fn set_unit<M: FlatMem>(
     }
     let unit = unit as u8;
     put_slot(mem, handle, &space_bytes(&Space { unit, ..found }))?;
-    rewrite(mem, count, &Change::Unit(handle, unit))
+    rewrite(mem, count, &found, &Change::Unit(handle, unit))
 }
 
 /// Gives a space another window, or none.
@@ -56,6 +57,7 @@ pub fn set_window<M: FlatMem>(
     window: Option<Window>,
 ) -> Result<(), SpaceError<M::Error>>
     requires size { 49152 ≤ M.size mem.old }
+    requires some { 1 ≤ count }
     requires few { count ≤ 1023 }
     ensures done { (ss : List Space) (x : Space) → RevealSpaces (M.reveals mem.old) count ss → MayHaveWindow ss x
         → x.handle ≡ handle → IfSome window (WindowFits x.pages)
@@ -67,5 +69,5 @@ pub fn set_window<M: FlatMem>(
 {
     let found = existing(mem, handle)?;
     put_slot(mem, handle, &space_bytes(&Space { window, ..found }))?;
-    rewrite(mem, count, &Change::Window(found, window))
+    rewrite(mem, count, &found, &Change::Window(found, window))
 }

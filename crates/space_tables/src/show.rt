@@ -3,10 +3,11 @@ ghost use Rattle.std.specs.Prelude.{◌≡◌, ℕ, ◌+◌, ◌*◌, ◌≤◌,
 ghost use Rattle.flat_machine.specs.declared.space.Space.{Space};
 ghost use Rattle.space_tables.specs.Form.{BreaksHierarchy};
 ghost use Rattle.space_tables.specs.Answer.{FromMemory, NotRefused, IfMem, IfMalformed};
-ghost use Rattle.space_tables.specs.Shows.{window_of, shows, IsFirstWith, IsShownAt};
+ghost use Rattle.space_tables.specs.Shows.{shows, IsFirstWith, IsShownAt};
 ghost use Rattle.space_tables.specs.Stored.{RevealSpaces};
 
 use crate::SpaceError;
+use crate::handles::{Sought, named_handles};
 use crate::scan::{Test, find_space};
 use crate::shown::{Shown, shown_in};
 use flat_mem::FlatMem;
@@ -15,13 +16,15 @@ use labelled_disk::FileId;
 /// The first space that shows a file, by its handle, and what it shows.
 pub fn showing<M: FlatMem>(
     mem: &mut M,
+    count: u32,
     id: FileId,
     writable_only: bool,
 ) -> Result<Option<(u32, Shown)>, SpaceError<M::Error>>
     requires size { 49152 ≤ M.size mem.old }
-    ensures answer { (count : ℕ) (ss : List Space) → RevealSpaces (M.reveals mem.old) count ss
+    requires few { count ≤ 1023 }
+    ensures answer { (ss : List Space) → RevealSpaces (M.reveals mem.old) count ss
         → IfOk result (IsFirstWith (shows id writable_only) ss) }
-    ensures right { (count : ℕ) (ss : List Space) → RevealSpaces (M.reveals mem.old) count ss
+    ensures right { (ss : List Space) → RevealSpaces (M.reveals mem.old) count ss
         → IfErr result FromMemory }
     ensures form { IfOk result
         (λ o. IfSome o (λ at. (16 ≤ at.1.id) × (at.1.id ≡ id) × (writable_only ≡ true → at.1.writable ≡ true))) }
@@ -34,7 +37,8 @@ pub fn showing<M: FlatMem>(
     ensures cause { IfErr result (IfMem (M.accounted mem.old mem.new)) }
     ensures cost { M.spent mem.new ≤ M.spent mem.old + 512 * M.cost }
 {
-    let Some(found) = find_space(mem, &Test::Shows(id, writable_only))? else {
+    let handles = named_handles(mem, 0, count, &Sought::Showing(id))?;
+    let Some(found) = find_space(mem, &handles, &Test::Shows(id, writable_only))? else {
         return Ok(None);
     };
     match found.window {

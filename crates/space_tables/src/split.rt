@@ -1,5 +1,5 @@
 //! An interval is split where a space comes into it.
-ghost use Rattle.std.specs.Prelude.{◌≡◌, ◌≢◌, ℕ, ◌+◌, ◌*◌, ◌<◌, ◌≤◌, true, List, length, Option, Some, IfOk, IfErr, slice_get};
+ghost use Rattle.std.specs.Prelude.{◌≡◌, ◌≢◌, ◌+◌, ◌*◌, ◌<◌, ◌≤◌, true, List, length, Option, Some, IfOk, IfErr, slice_get};
 ghost use Rattle.flat_machine.specs.declared.space.Space.{Space};
 ghost use Rattle.flat_machine.specs.Space.{end};
 ghost use Rattle.projection_laws.specs.Edits.{cut, inside, some_pages, pieces, replaced};

@@ -171,7 +171,7 @@ impl<M: FlatMem> SpaceTables<M> {
         ensures looked { M.only_reads (tables_memory self.old) (tables_memory self.new) }
         ensures cost { M.spent (tables_memory self.new) ≤ M.spent (tables_memory self.old) + 513 * M.cost }
     {
-        let found = unmapped(&mut self.mem, space)?;
+        let found = unmapped(&mut self.mem, self.intervals, space)?;
         Ok((found.first, found.pages))
     }
 
@@ -220,7 +220,7 @@ impl<M: FlatMem> SpaceTables<M> {
         ensures looked { M.only_reads (tables_memory self.old) (tables_memory self.new) }
         ensures cost { M.spent (tables_memory self.new) ≤ M.spent (tables_memory self.old) + 512 * M.cost }
     {
-        showing(&mut self.mem, id, writable_only)
+        showing(&mut self.mem, self.intervals, id, writable_only)
     }
 
     /// Adds a space of so many pages inside a parent, at the given first page or in the lowest gap that is long enough.

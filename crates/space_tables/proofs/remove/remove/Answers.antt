@@ -1,5 +1,5 @@
-use Rattle.std.proofs.Common.{rules, ◌≡◌, ℕ, ◌<◌, List, length, Option, Some, None, inl, inr, refl, sym, ◌∙◌, ap, subst}
-use Rattle.std.specs.Prelude.{slice_get, slice_set}
+use Rattle.std.proofs.Common.{rules, ◌≡◌, ℕ, Some, None, inl, inr, refl, sym, ◌∙◌, ap, subst}
+use Rattle.std.specs.Prelude.{slice_get}
 use Rattle.std.proofs.lemmas.Option.{same_Some}
 use Rattle.flat_machine.specs.declared.space.Space.{Space}
 use Rattle.flat_machine.specs.Refusal.{first_of}
@@ -20,13 +20,13 @@ use Rattle.space_tables.proofs.remove.remove.Goals as goal
 pub returns-in_err-space-clause-answer : goal.returns-in_err-space-clause-answer
 returns-in_err-space-clause-answer g c = λ ss t.
     let now = still_reveal g.M.FlatMem.reveals c.args.mem.now c.removable.new.mem c.removable.ensures.unchanged c.args.count ss t in
-    let k = refuses_and (RevealSpaces (g.M.FlatMem.reveals c.removable.new.mem) c.args.count ss) now (first_of (remove_row ss c.args.handle)) _ (c.in_err-space.ensures.answer c.args.count ss t) in search (rules, k)
+    let k = refuses_and (RevealSpaces (g.M.FlatMem.reveals c.removable.new.mem) c.args.count ss) now (first_of (remove_row ss c.args.handle)) _ (c.in_err-space.ensures.answer ss t) in search (rules, k)
 
 pub returns-in_err-parent-clause-answer : goal.returns-in_err-parent-clause-answer
 returns-in_err-parent-clause-answer g c = λ ss t.
     let now = still_reveal g.M.FlatMem.reveals c.args.mem.now c.removable.new.mem c.removable.ensures.unchanged c.args.count ss t in
     let x = c.in_ok-space.space in
-    let m = c.in_ok-space.ensures.answer c.args.count ss t in
+    let m = c.in_ok-space.ensures.answer ss t in
     let may = may_be ss c.args.handle x (subst AreSpaces t.spaces t.right.spaces) m.0 m.1 in
     let e = memory_alone (no_space ss x.parent) _ (space_is ss x.parent may.0 may.1.parent) (c.in_err-parent.ensures.answer c.args.count ss now) in
     let k = from_memory (RevealSpaces (g.M.FlatMem.reveals c.existing.new.mem) c.args.count ss) (first_of (remove_row ss c.args.handle)) _ e in search (rules, k)
@@ -57,7 +57,7 @@ returns-clause-answer g c = λ ss t.
     let p = c.in_ok-parent.parent in
     let k = c.in_ok-index.index in
     let i = c.in_ok-index.interval in
-    let m = c.in_ok-space.ensures.answer c.args.count ss t in
+    let m = c.in_ok-space.ensures.answer ss t in
     let may = may_be ss c.args.handle x (subst AreSpaces t.spaces t.right.spaces) m.0 m.1 in
     let above : p ≡ may.0 = same_Some p may.0 (sym (c.in_ok-parent.ensures.answer c.args.count ss now).1 ∙ may.1.parent) in
     let at : slice_get t.xs k ≡ Some i = c.in_ok-index.ensures.found t.slots t.xs hold2 t.right t.counted (first_inside x c.in_ok-space.ensures.form.0) in

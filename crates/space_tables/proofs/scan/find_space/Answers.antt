@@ -1,19 +1,23 @@
-use Rattle.std.proofs.Common.{◌≡◌, ℕ, List, Option, refl, sym, ◌∙◌, subst, arith}
+use Rattle.std.proofs.Common.{◌≡◌, ℕ, ◌+◌, ◌-◌, ◌*◌, ◌/◌, ◌<◌, ◌≤◌, List, Option, refl, sym, ◌∙◌, ap, subst, arith}
 use Rattle.std.proofs.lemmas.Nat.{mul-le}
 use Rattle.std.proofs.lemmas.Option.{same_Some, none-some}
 use Rattle.flat_machine.specs.declared.space.Space.{Space}
-use Rattle.space_tables.specs.Form.{slot_page}
-use Rattle.space_tables.specs.Scan.{passes, IsFirstOn}
-use Rattle.space_tables.proofs.Passes.{none_left, paid_page, paid_all}
+use Rattle.flat_mem.specs.Memory.{part}
+use Rattle.space_tables.specs.Form.{slot_page, BreaksHierarchy}
+use Rattle.space_tables.specs.Scan.{passes, IsFirstFrom}
+use Rattle.space_tables.proofs.Passes.{paid_all}
+use Rattle.space_tables.proofs.PageLemmas.{goes_on, page_paid}
+use Rattle.space_tables.proofs.FirstLemmas.{first_listed, none_listed, none_of_both, none_below, none_above}
 use Rattle.space_tables.proofs.scan.find_space.Given as given
 use Rattle.space_tables.proofs.scan.find_space.Goals as goal
 use Rattle.space_tables.proofs.scan.find_space.Goals.{In_ok-load_page}
 
 pub scan-init : goal.scan-init
 scan-init g c = record {
-  within = omega arith;
-  whole = refl;
-  rest = λ slots xs h ok. refl;
+  of_page = λ some. refl;
+  first = omega arith;
+  few = omega arith;
+  none = λ slots xs h ok all. none_below (passes c.args.test.now) slots c.args.handles.now all;
   unchanged = λ b h. h;
   kept = g.met.M.FlatMem.beside_itself c.args.mem.now;
   looked = g.met.M.FlatMem.only_reads_itself c.args.mem.now;
@@ -21,14 +25,27 @@ scan-init g c = record {
 }
 
 -- the page that was read is that of the handles
-at_hand : (g : given.Over) (c : In_ok-load_page g) (b : List ℕ) → g.M.FlatMem.reveals c.args.mem.now b → c.load_page.new.page ≡ slot_page b c.scan.first
-at_hand g c b revealed = c.in_ok-load_page.ensures.read b (c.scan.invariant.unchanged b revealed)
+at_hand : (g : given.Over) (c : In_ok-load_page g) (b : List ℕ) → g.M.FlatMem.reveals c.args.mem.now b → c.load_page.new.page ≡ slot_page b c.scan.from
+at_hand g c b revealed = c.in_ok-load_page.ensures.read b (c.scan.invariant.unchanged b revealed) ∙ ap (λ (n : ℕ). part b (512 * n) 512) (sym (c.scan.invariant.of_page c.scan-test.true))
+
+few_pages : (from end number low : ℕ) → from < end → from / 16 ≡ number → end ≤ 512 → number - low + 1 ≤ 32
+few_pages from end number low some page inside = omega (arith, some, page, inside)
+
+pub load_page-requires-clause-inside : goal.load_page-requires-clause-inside
+load_page-requires-clause-inside g c = omega (arith, c.scan-test.true, c.scan.invariant.of_page c.scan-test.true, c.requires.inside)
+
+pub first_on-requires-clause-inside : goal.first_on-requires-clause-inside
+first_on-requires-clause-inside g c = omega (arith, c.page_end-end.ensures.within.0, c.requires.inside)
+
+pub first_on-requires-clause-page : goal.first_on-requires-clause-page
+first_on-requires-clause-page g c = omega (arith, c.page_end-end.ensures.within.1, c.scan.invariant.of_page c.scan-test.true)
 
 pub returns-in_err-load_page-clause-cost : goal.returns-in_err-load_page-clause-cost
-returns-in_err-load_page-clause-cost g c = paid_all c.scan.first 512 g.M.FlatMem.cost _ _ _ c.scan.invariant.cost c.load_page.ensures.cost (omega (arith, c.scan-test.true))
+returns-in_err-load_page-clause-cost g c = paid_all (c.scan.number - c.args.handles.now.low / 16) 32 g.M.FlatMem.cost _ _ _ c.scan.invariant.cost c.load_page.ensures.cost
+    (few_pages c.scan.from c.args.handles.now.end c.scan.number (c.args.handles.now.low / 16) c.scan-test.true (c.scan.invariant.of_page c.scan-test.true) c.requires.inside)
 
 pub returns-in_default-clause-found : goal.returns-in_default-clause-found
-returns-in_default-clause-found g c = λ slots xs h ok.
+returns-in_default-clause-found g c = λ slots xs h ok all.
     let page = at_hand g (goal.at.returns-in_default-clause-found g c).In_ok-load_page h.bytes h.revealed in
     let at = c.first_on.ensures.found h.bytes slots xs page h.are ok in
     none-some _ (sym c.in_default.is ∙ at.1)
@@ -36,39 +53,46 @@ returns-in_default-clause-found g c = λ slots xs h ok.
 pub returns-in_default-clause-malformed : goal.returns-in_default-clause-malformed
 returns-in_default-clause-malformed g c = λ b revealed.
     let page = at_hand g (goal.at.returns-in_default-clause-malformed g c).In_ok-load_page b revealed in
-    c.first_on.ensures.malformed b page c.in_default.is
+    subst (BreaksHierarchy b) (c.scan.invariant.of_page c.scan-test.true) (c.first_on.ensures.malformed b page c.in_default.is)
 
 pub returns-in_default-clause-cost : goal.returns-in_default-clause-cost
-returns-in_default-clause-cost g c = paid_all c.scan.first 512 g.M.FlatMem.cost _ _ _ c.scan.invariant.cost c.load_page.ensures.cost (omega (arith, c.scan-test.true))
+returns-in_default-clause-cost g c = paid_all (c.scan.number - c.args.handles.now.low / 16) 32 g.M.FlatMem.cost _ _ _ c.scan.invariant.cost c.load_page.ensures.cost
+    (few_pages c.scan.from c.args.handles.now.end c.scan.number (c.args.handles.now.low / 16) c.scan-test.true (c.scan.invariant.of_page c.scan-test.true) c.requires.inside)
 
 pub returns-in-Some-found-clause-found : goal.returns-in-Some-found-clause-found
-returns-in-Some-found-clause-found g c = λ slots xs h ok.
+returns-in-Some-found-clause-found g c = λ slots xs h ok all.
     let page = at_hand g (goal.at.returns-in-Some-found-clause-found g c).In_ok-load_page h.bytes h.revealed in
     let at = c.first_on.ensures.found h.bytes slots xs page h.are ok in
-    let first = subst (λ (o : Option Space). IsFirstOn (passes c.args.test.now) slots c.scan.first o) (sym (same_Some _ _ (sym c.in-Some.is ∙ at.1)) ∙ c.in-Some-found.is) at.2 in
-    first ∙ sym (c.scan.invariant.rest slots xs h ok)
+    let first = subst (λ (o : Option Space). IsFirstFrom (passes c.args.test.now) slots c.scan.from c.page_end-end.result o) (sym (same_Some _ _ (sym c.in-Some.is ∙ at.1)) ∙ c.in-Some-found.is) at.2 in
+    let space = c.in-Some-found.space in
+    first_listed (passes c.args.test.now) slots space.handle space first.0 first.1
+    (none_of_both (passes c.args.test.now) slots 0 c.scan.from space.handle (c.scan.invariant.none slots xs h ok all) first.2)
 
 pub returns-in-Some-found-clause-cost : goal.returns-in-Some-found-clause-cost
-returns-in-Some-found-clause-cost g c = paid_all c.scan.first 512 g.M.FlatMem.cost _ _ _ c.scan.invariant.cost c.load_page.ensures.cost (omega (arith, c.scan-test.true))
+returns-in-Some-found-clause-cost g c = paid_all (c.scan.number - c.args.handles.now.low / 16) 32 g.M.FlatMem.cost _ _ _ c.scan.invariant.cost c.load_page.ensures.cost
+    (few_pages c.scan.from c.args.handles.now.end c.scan.number (c.args.handles.now.low / 16) c.scan-test.true (c.scan.invariant.of_page c.scan-test.true) c.requires.inside)
 
 pub scan-preserved : goal.scan-preserved
 scan-preserved g c = record {
-  within = omega (arith, c.scan-test.true, c.scan.invariant.whole);
-  whole = omega (arith, c.scan.invariant.whole);
-  rest = λ slots xs h ok.
+  of_page = λ below. goes_on c.args.handles.now.end c.scan.number c.page_end-end.result c.page_end-end.ensures.last below;
+  first = omega (arith, c.scan.invariant.first);
+  few = omega (arith, few_pages c.scan.from c.args.handles.now.end c.scan.number (c.args.handles.now.low / 16) c.scan-test.true (c.scan.invariant.of_page c.scan-test.true) c.requires.inside);
+  none = λ slots xs h ok all.
       let page = at_hand g (goal.at.scan-preserved g c).In_ok-load_page h.bytes h.revealed in
       let at = c.first_on.ensures.found h.bytes slots xs page h.are ok in
-      let none = subst (λ (o : Option Space). IsFirstOn (passes c.args.test.now) slots c.scan.first o) (sym (same_Some _ _ (sym c.in-Some.is ∙ at.1)) ∙ c.in_default-found.is) at.2 in
-      c.scan.invariant.rest slots xs h ok ∙ none;
+      let none = subst (λ (o : Option Space). IsFirstFrom (passes c.args.test.now) slots c.scan.from c.page_end-end.result o) (sym (same_Some _ _ (sym c.in-Some.is ∙ at.1)) ∙ c.in_default-found.is) at.2 in
+      none_of_both (passes c.args.test.now) slots 0 c.scan.from c.page_end-end.result (c.scan.invariant.none slots xs h ok all) none;
   unchanged = λ b h. c.load_page.ensures.unchanged b (c.scan.invariant.unchanged b h);
   kept = g.met.M.FlatMem.beside_through _ _ _ c.scan.invariant.kept c.load_page.ensures.kept;
   looked = g.met.M.FlatMem.only_reads_through _ _ _ c.scan.invariant.looked c.load_page.ensures.looked;
-  cost = paid_page c.scan.first g.M.FlatMem.cost _ _ _ c.scan.invariant.cost c.load_page.ensures.cost;
+  cost = page_paid c.scan.number (c.args.handles.now.low / 16) g.M.FlatMem.cost _ _ _ c.scan.invariant.first c.scan.invariant.cost c.load_page.ensures.cost;
 }
 
 pub returns-clause-found : goal.returns-clause-found
-returns-clause-found g c = λ slots xs h ok.
-    sym (c.scan.invariant.rest slots xs h ok ∙ none_left (passes c.args.test.now) slots c.scan.first (omega (arith, h.are.handles, c.scan-test.false)))
+returns-clause-found g c = λ slots xs h ok all.
+    sym (none_listed (passes c.args.test.now) slots 512
+    (none_of_both (passes c.args.test.now) slots 0 c.scan.from 512 (c.scan.invariant.none slots xs h ok all)
+    (none_above (passes c.args.test.now) slots c.args.handles.now all c.scan.from 512 (omega (arith, c.scan-test.false)))) (omega (arith, h.are.handles)))
 
 pub returns-clause-cost : goal.returns-clause-cost
-returns-clause-cost g c = omega (arith, c.scan.invariant.cost, mul-le c.scan.first g.M.FlatMem.cost 512 g.M.FlatMem.cost c.scan.invariant.within (omega arith))
+returns-clause-cost g c = let p = mul-le (c.scan.number - c.args.handles.now.low / 16) g.M.FlatMem.cost 32 g.M.FlatMem.cost c.scan.invariant.few (omega arith) in omega (arith, p, c.scan.invariant.cost)

@@ -1,14 +1,16 @@
-use Rattle.std.proofs.Common.{rules, ◌≡◌, ◌≢◌, ◌≤◌, ℕ, List, [], ◌∷◌, map, Some, None, inl, inr, sym, ◌∙◌, ap, arith}
+use Rattle.std.proofs.Common.{rules, ◌≡◌, ◌≢◌, ◌≤◌, [], ◌∷◌, map, Some, inl, inr, ◌∙◌, arith}
 use Rattle.std.specs.Prelude.{slice_set}
 use Rattle.flat_machine.specs.declared.space.Space.{Space}
 use Rattle.flat_machine.specs.Refusal.{first_of, is_root, no_unit}
 use Rattle.flat_machine.specs.Next.{change_space}
 use Rattle.projection_laws.specs.Edits.{refitted}
+use Rattle.projection_laws.specs.Slots.{listed}
 use Rattle.projection_laws.specs.Tests.{no_space, unit_row}
 use Rattle.space_tables.specs.Stored.{HoldTables, RevealSpaces}
 use Rattle.space_tables.proofs.Right.{right_reads}
 use Rattle.space_tables.proofs.Passes.{still_hold}
-use Rattle.space_tables.proofs.Asks.{broken_before, still_reveal, refuses_with, answers_from, passed, stopped, space_is, not_root, bad_unit, good_unit}
+use Rattle.space_tables.proofs.Asks.{broken_before, still_reveal, refuses_with, answers_from, passed, stopped, not_root, bad_unit, good_unit}
+use Rattle.space_tables.proofs.NamedLemmas.{unit_inside}
 use Rattle.space_tables.proofs.Sets.{unit_set}
 use Rattle.space_tables.proofs.set.set_unit.Goals as goal
 use Rattle.space_tables.proofs.set.set_unit.Goals.{then-unit-eq0-via-then-unit-eq0, then-unit-eq0-via-else-unit-eq0+then-unit-gt16}
@@ -38,7 +40,7 @@ returns-clause-answer g c = λ ss t.
     let few : c.args.unit ≤ 16 = omega (arith, c.if-unit-gt16.false) in
     let s = c.in_ok-found.found in
     let hold = c.in_ok-put_slot.ensures.written t.slots t.xs (Some (record s { unit = c.args.unit })) (still_hold g.M.FlatMem.reveals c.args.mem.now c.existing.new.mem c.existing.ensures.unchanged t.slots t.xs t.hold) c.space_bytes.ensures in
-    let done = c.rewrite.ensures.changed (slice_set t.slots c.args.handle (Some (record s { unit = c.args.unit }))) t.xs hold t.counted (right_reads t.slots t.xs t.right).intervals tt tt in
+    let done = c.rewrite.ensures.changed (slice_set t.slots c.args.handle (Some (record s { unit = c.args.unit }))) t.xs (listed t.slots) hold t.right.intervals t.counted (right_reads t.slots t.xs t.right).intervals tt tt (unit_inside (listed t.slots) t.xs c.args.handle c.args.unit s t.right.spaces t.right.intervals (rw (← t.spaces) at m.1)) in
     answers_from c.rewrite.result (HoldTables (g.M.FlatMem.reveals c.rewrite.new.mem) (slice_set t.slots c.args.handle (Some (record s { unit = c.args.unit }))) (map (refitted c.args.handle c.args.unit) t.xs))
     (RevealSpaces (g.M.FlatMem.reveals c.rewrite.new.mem) c.args.count (change_space c.args.handle (λ (s : Space). record s { unit = c.args.unit }) ss)) _
     (first_of (unit_row ss c.args.handle c.args.unit)) (passed _ _ m.0 ∙ passed _ _ (not_root c.args.handle apart) ∙ passed _ [] (good_unit c.args.unit some few))

@@ -1,13 +1,15 @@
-use Rattle.std.proofs.Common.{rules, ◌≡◌, ◌≤◌, ℕ, List, map, Some, sym, ◌∙◌, ap, subst, arith}
+use Rattle.std.proofs.Common.{rules, ◌≡◌, ◌≤◌, map, Some, subst, arith}
 use Rattle.std.specs.Prelude.{slice_set}
 use Rattle.flat_machine.specs.declared.space.Space.{Space}
 use Rattle.flat_machine.specs.Next.{set_window}
 use Rattle.projection_laws.specs.Edits.{reshown_in, through}
+use Rattle.projection_laws.specs.Slots.{listed}
 use Rattle.projection_laws.specs.Tests.{no_space}
 use Rattle.space_tables.specs.Stored.{HoldTables, RevealSpaces}
 use Rattle.space_tables.proofs.Right.{right_reads}
 use Rattle.space_tables.proofs.Passes.{still_hold}
 use Rattle.space_tables.proofs.Asks.{broken_before, memory_alone, matches_from, space_is}
+use Rattle.space_tables.proofs.NamedLemmas.{window_inside}
 use Rattle.space_tables.proofs.Sets.{window_set_at, counts, same_space}
 use Rattle.space_tables.proofs.set.set_window.Goals as goal
 
@@ -24,7 +26,7 @@ returns-clause-done g c = λ ss x t may own fits.
     let same : s ≡ x = same_space ss c.args.handle s x m.1 may.there own in
     let few : s.handle ≤ 511 = omega (arith, c.in_ok-found.ensures.form.1, c.in_ok-found.ensures.form.2) in
     let hold = c.in_ok-put_slot.ensures.written t.slots t.xs (Some (record s { window = w })) (still_hold g.M.FlatMem.reveals c.args.mem.now c.existing.new.mem c.existing.ensures.unchanged t.slots t.xs t.hold) c.space_bytes.ensures in
-    let done = c.rewrite.ensures.changed (slice_set t.slots c.args.handle (Some (record s { window = w }))) t.xs hold t.counted (right_reads t.slots t.xs t.right).intervals (counts s w (rw same fits)) few in
+    let done = c.rewrite.ensures.changed (slice_set t.slots c.args.handle (Some (record s { window = w }))) t.xs (listed t.slots) hold t.right.intervals t.counted (right_reads t.slots t.xs t.right).intervals (counts s w (rw same fits)) few (window_inside t.xs s w) in
     matches_from c.rewrite.result (HoldTables (g.M.FlatMem.reveals c.rewrite.new.mem) (slice_set t.slots c.args.handle (Some (record s { window = w }))) (map (reshown_in s (through s w)) t.xs))
     (RevealSpaces (g.M.FlatMem.reveals c.rewrite.new.mem) c.args.count (set_window c.args.handle w ss))
     (λ h. window_set_at (g.M.FlatMem.reveals c.args.mem.now) (g.M.FlatMem.reveals c.rewrite.new.mem) c.args.count ss t x w c.args.handle own may fits
