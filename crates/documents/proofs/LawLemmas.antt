@@ -1,14 +1,15 @@
 -- What was put is what is got.
-use Rattle.std.proofs.Common.{◌≡◌, ◌∙◌, ℕ, zero, suc, ◌+◌, ◌-◌, ◌<◌, ◌^◌, refl, sym, ap, subst, arith, List, [], ◌∷◌, ◌++◌, length, length-append, replicate, Some}
+use Rattle.std.proofs.Common.{◌≡◌, ◌∙◌, ℕ, suc, ◌+◌, ◌-◌, ◌<◌, ◌^◌, refl, sym, ap, subst, arith, List, [], ◌∷◌, ◌++◌, length, length-append, replicate, Some}
 use Rattle.std.proofs.lemmas.List.{length-replicate}
 use Rattle.std.specs.Prelude.{slice_get, MatchOption}
 use borrow.Rule.Slice.PartMut.{mid_of}
 use Rattle.byteorder.specs.Endian.{big_number}
 use Rattle.document_head.specs.Head.{before_name, head_page}
+use Rattle.document_head.specs.Says.{Says}
 use Rattle.document_head.specs.declared.head.Head.{Head}
 use Rattle.document_head.proofs.PageLemmas.{bytes_found, name_found}
-use Rattle.flat_machine.specs.File.{File, Cell, byte}
-use Rattle.documents.specs.Contents.{Holds, IsDocument, Reads, cell_in}
+use Rattle.flat_machine.specs.File.{File, Cell}
+use Rattle.documents.specs.Contents.{Holds, Reads}
 use Rattle.documents.specs.Laws.{WhatIsPutIsGot}
 use Rattle.documents.specs.Stands.{IsGot}
 
@@ -60,8 +61,14 @@ one_head a b xs ys a_fits b_fits agree =
       sym (name_found a xs) ∙ (λ i. mid_of 17 (17 + long i - 17) (same i)) ∙ name_found b ys,
     )
 
+-- what is got of a file that holds the head and the bytes of a document
+pub what_is_held_is_got : (f : File) (name bytes got : List ℕ) (head : Head) → length bytes < 2 ^ 64 → head.bytes < 2 ^ 64
+    → Holds f 0 (head_page (length bytes) name) → Holds f 512 bytes → IsGot f head got → (got ≡ bytes) × Says (length bytes) name head
+what_is_held_is_got f name bytes got head fits head_fits first body is =
+    let one = one_head head.bytes (length bytes) head.name.bytes name head_fits fits
+    (read_agrees f 0 (head_page head.bytes head.name.bytes) (head_page (length bytes) name) is.head_read first) in
+    (same_lists got bytes (is.count ∙ one.0) (read_agrees f 512 got bytes is.body body), one)
+
 pub what_is_put_is_got : WhatIsPutIsGot
 what_is_put_is_got f name bytes got head fits head_fits document is =
-    let one = one_head head.bytes (length bytes) head.name.bytes name head_fits fits
-    (read_agrees f 0 (head_page head.bytes head.name.bytes) (head_page (length bytes) name) is.head_read document.head) in
-    (same_lists got bytes (is.count ∙ one.0) (read_agrees f 512 got bytes is.body document.body), one)
+    what_is_held_is_got f name bytes got head fits head_fits document.head document.body is

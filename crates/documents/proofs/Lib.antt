@@ -16,6 +16,7 @@ pub mod StreamLemmas
 pub mod GotLemmas
 pub mod ListLemmas
 pub mod LawLemmas
+pub mod KeptLemmas
 pub mod StaysLemmas
 pub mod CourseLemmas
 pub mod TakenLemmas
@@ -30,3 +31,5 @@ pub mod UnseenLemmas
 pub mod WholeLemmas
 pub mod GoneLemmas
 pub mod RefusedLemmas
+pub mod RoomLemmas
+pub mod LastsLemmas

@@ -1,23 +1,21 @@
 -- What was put outlasts a stop, and the end of its volume.
-use Rattle.std.proofs.Common.{◌≡◌, ◌≢◌, ◌∙◌, ℕ, ◌+◌, Bool, true, false, not, ◌&&◌, ◌||◌, cond, refl, sym, ap, subst, List, [], ◌∷◌, map, filter, Option, Some, None}
-use Rattle.std.specs.Prelude.{find, option_and_then, ◌==◌, if◌then◌else◌}
+use Rattle.std.proofs.Common.{◌≡◌, ◌∙◌, ℕ, ◌+◌, Bool, true, false, ◌&&◌, ◌||◌, cond, refl, sym, ap, subst, List, [], ◌∷◌, map, filter, Option, Some}
+use Rattle.std.specs.Prelude.{option_and_then, ◌==◌, if◌then◌else◌}
 use Rattle.std.specs.List.{enumerate_from, list_any}
 use Rattle.std.specs.Bool.{then_some}
 use Rattle.std.proofs.lemmas.Bool.{eqb-false, ne_eqb, true≢false}
 use Rattle.std.proofs.lemmas.Option.{none-some, same_Some}
 use Rattle.flat_machine.specs.declared.space.FilePage.{FilePage}
 use Rattle.flat_machine.specs.File.{File, Page, any_page, file_at, put_file}
-use Rattle.flat_machine.specs.Machine.{Machine}
-use Rattle.flat_machine.specs.IsMachine.{IsMachine}
-use Rattle.flat_machine.specs.Next.{is_same_page, new_id, with_any}
-use Rattle.flat_machine.specs.Settled.{is_unforced, settled, settled_file}
+use Rattle.flat_machine.specs.Next.{new_id}
+use Rattle.flat_machine.specs.Settled.{is_unforced, settled_file}
 use Rattle.flat_machine.proofs.SettledLemmas.{settled_by_identifier}
 use Rattle.documents.specs.Laws.{WhatIsPutStays}
 use Rattle.documents.specs.Pieces.{adding}
 use Rattle.documents.proofs.AddingLemmas.{at_adding, fresh}
 
 -- pages of which none is any
-none_any : (test : ℕ → Bool) (n : ℕ) (ps : List Page) → ((k : ℕ) → test k ≡ false) → map (λ e. if test e.0 then any_page else e.1) (enumerate_from n ps) ≡ ps
+pub none_any : (test : ℕ → Bool) (n : ℕ) (ps : List Page) → ((k : ℕ) → test k ≡ false) → map (λ e. if test e.0 then any_page else e.1) (enumerate_from n ps) ≡ ps
 none_any test n [] fails = refl
 none_any test n (p ∷ ps) fails =
     let rest = none_any test (n + 1) ps fails in
@@ -25,7 +23,7 @@ none_any test n (p ∷ ps) fails =
     λ i. first i ∷ rest i
 
 -- of a file without unforced pages no page is unforced
-loose_none : (us : List FilePage) (id page : ℕ) → list_any (λ u. u.file == id) us ≡ false → is_unforced us id page ≡ false
+pub loose_none : (us : List FilePage) (id page : ℕ) → list_any (λ u. u.file == id) us ≡ false → is_unforced us id page ≡ false
 loose_none [] id page none = refl
 loose_none (u ∷ us) id page none = either (u.file == id) refl none (loose_none us id page)
   where

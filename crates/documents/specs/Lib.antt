@@ -8,4 +8,5 @@ pub mod Laws
 pub mod Beside
 pub mod Spent
 pub mod Stops
+pub mod Room
 pub mod Refusals

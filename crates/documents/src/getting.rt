@@ -1,7 +1,7 @@
 //! A document is got: its head is read, and then its bytes go to a sink.
-ghost use Rattle.std.specs.Prelude.{◌≡◌, ◌≢◌, ◌⊎◌, ◌≤◌, ◌<◌, ◌+◌, ◌*◌, ◌^◌, ℕ, length, Err, Some, None, IfOk, IfErr, OnOk, MatchResult};
+ghost use Rattle.std.specs.Prelude.{◌≡◌, ◌≢◌, ◌⊎◌, ◌≤◌, ◌<◌, ◌+◌, ◌*◌, ◌^◌, ℕ, length, Err, Some, None, IfOk, OnOk, MatchResult};
 ghost use Rattle.std.specs.Int.{div_ceil};
-ghost use Rattle.trace_io.specs.Stream.{HasCause, Rose};
+ghost use Rattle.trace_io.specs.Stream.{Rose};
 ghost use Rattle.embedded.specs.Called.{HasStopped};
 ghost use Rattle.flat_machine.specs.File.{File, file_at, size};
 ghost use Rattle.flat_machine.specs.Machine.{Machine};

@@ -15,7 +15,8 @@ pub use document_head::{Head, KIND, NAME_MOST, Name};
 pub use fault::Fault;
 pub use getting::{get, get_pages};
 pub use laws::{
-    what_is_put_is_found, what_is_put_is_got, what_is_put_stays, what_is_temporary_is_unseen,
+    what_is_kept_is_got, what_is_put_is_found, what_is_put_is_got, what_is_put_lasts,
+    what_is_put_stays, what_is_temporary_is_unseen,
 };
 pub use listing::{Listed, describe, next_listed};
 pub use progress::{Progress, Silent};

@@ -1,5 +1,5 @@
 //! A document is put: its bytes, then its head, and last the mark that lets it outlast the session.
-ghost use Rattle.std.specs.Prelude.{◌≡◌, ◌⊎◌, ◌≤◌, ◌<◌, ◌+◌, ◌*◌, ◌^◌, ℕ, List, length, Some, Ok, Err, IfOk, IfErr, OnOk, MatchResult, ◌≢◌, false};
+ghost use Rattle.std.specs.Prelude.{◌≡◌, ◌⊎◌, ◌≤◌, ◌<◌, ◌+◌, ◌*◌, ℕ, List, length, Some, Ok, Err, IfOk, IfErr, OnOk, MatchResult, ◌≢◌, false};
 ghost use Rattle.std.specs.Int.{div_ceil};
 ghost use Rattle.std.specs.Io.KnownBytes.{IsAtEnd};
 ghost use Rattle.trace_io.specs.Stream.{Rose};
@@ -15,9 +15,12 @@ ghost use Rattle.documents.specs.Pieces.{adding, appended, marked, written};
 ghost use Rattle.documents.specs.Stands.{HasFilled, HasOther, IsAsBefore, IsFresh, IsPut, blank, is_failure};
 ghost use Rattle.documents.specs.Ends.{EndsWith, IsUndone, Marked};
 ghost use Rattle.documents.specs.Spent.{PutsWithin, windows};
+ghost use Rattle.documents.specs.Room.{HasNoRoom, MissesRoom, is_full};
+ghost use Rattle.embedded.specs.Opened.{Reveals};
 ghost use Rattle.embedded.specs.Stops.{Leaves};
+ghost use Rattle.labelled_disk.specs.Sectors.{Sector};
 ghost use Rattle.flat_machine.specs.IsMachine.{IsMachine};
-ghost use Rattle.documents.specs.Stops.{Marks, StaysUnseen, WholeOrAbsent, WithOrWithout};
+ghost use Rattle.documents.specs.Stops.{HasWhole, Marks, StaysUnseen, WholeOrAbsent, WithOrWithout};
 
 use crate::streams::fill;
 use crate::window::store_pages;
@@ -52,6 +55,7 @@ fn new_file<D: Disk + Drop, A: Allocator>(engine: &mut Engine<D, A>) -> Result<F
     ensures made { (m : Machine) → StandsFor engine.old m → MatchResult result
         (λ id. (id ≡ new_id m) × StandsFor engine.new (adding (blank m) m))
         (λ e. (e ≡ is_failure) ⊎ StandsFor engine.new m) }
+    ensures full { (m : Machine) → StandsFor engine.old m → result ≡ Err is_full → MissesRoom m 1 }
     ensures closed { IsClosed engine.old → (result ≡ Err Code.Closed) × (engine.new ≡ engine.old) }
     ensures stops { (id : ℕ) → StaysUnseen id engine.old engine.new }
     ensures stopped { (why : Halt) → result ≡ Err (Code.Halted why) → HasStopped why engine.new }
@@ -75,6 +79,9 @@ fn append<D: Disk + Drop, A: Allocator>(
         → StandsFor engine.old (adding f m)
         → MatchResult result (λ all. StandsFor engine.new (adding (appended all pages bytes.now f) m))
         (λ e. (e ≡ is_failure) ⊎ HasOther m id engine.new) }
+    ensures full { (m : Machine) (f : File) → IsMachine m → IsFresh m id → f.id ≡ id → size f ≡ pages
+        → StandsFor engine.old (adding f m) → result ≡ Err is_full
+        → MissesRoom m (pages + div_ceil (length bytes.now) 512) }
     ensures led { OnOk result (Led is_quiet engine.old engine.new) }
     ensures stops { StaysUnseen id engine.old engine.new }
     ensures stopped { (why : Halt) → result ≡ Err (Code.Halted why) → HasStopped why engine.new }
@@ -110,6 +117,9 @@ fn append_all<D: Disk + Drop, A: Allocator, S: Source, P: Progress>(
     ensures filled { (m : Machine) → IsFresh m id → id ≡ new_id m → StandsFor engine.old (adding (blank m) m)
         → MatchResult result (λ count. HasFilled m count (S.left source.old) (S.left source.new) engine.new)
         (λ e. (e ≡ Fault.Call is_failure) ⊎ HasOther m id engine.new) }
+    ensures full { (m : Machine) → IsMachine m → IsFresh m id → id ≡ new_id m
+        → StandsFor engine.old (adding (blank m) m) → result ≡ Err (Fault.Call is_full)
+        → HasNoRoom m (S.left source.old) (S.left source.new) }
     ensures stops { StaysUnseen id engine.old engine.new }
     ensures other { result ≢ Err Fault.NoDocument }
     ensures long { result ≢ Err Fault.LongName }
@@ -162,6 +172,7 @@ fn seal<D: Disk + Drop, A: Allocator>(
         → StandsFor engine.old (adding f m)
         → Marks (WithOrWithout m (marked (written 0 (head_page head.now.bytes head.now.name.bytes) f))) m id engine.old
         result engine.new }
+    ensures room { (m : Machine) → StandsFor engine.old m → result ≢ Err is_full }
     ensures wide { length (head_page head.now.bytes head.now.name.bytes) ≡ 512 }
     ensures stopped { (why : Halt) → result ≡ Err (Code.Halted why) → HasStopped why engine.new }
     ensures cause { result ≡ Err is_failure → HasFailed engine.old engine.new }
@@ -191,6 +202,9 @@ fn fill_file<D: Disk + Drop, A: Allocator, S: Source, P: Progress>(
     ensures document { (m : Machine) → IsFresh m id → id ≡ new_id m → StandsFor engine.old (adding (blank m) m)
         → MatchResult result (λ done. IsPut m id name.bytes (S.left source.old) engine.new)
         (λ e. (e ≡ Fault.Call is_failure) ⊎ HasOther m id engine.new) }
+    ensures full { (m : Machine) → IsMachine m → IsFresh m id → id ≡ new_id m
+        → StandsFor engine.old (adding (blank m) m) → result ≡ Err (Fault.Call is_full)
+        → HasNoRoom m (S.left source.old) (S.left source.new) }
     ensures stops { (m : Machine) → IsMachine m → IsFresh m id → id ≡ new_id m
         → StandsFor engine.old (adding (blank m) m)
         → Marks (WholeOrAbsent m name.bytes (S.left source.old)) m id engine.old result engine.new }
@@ -243,8 +257,12 @@ pub fn put<D: Disk + Drop, A: Allocator, S: Source, P: Progress>(
         → IfOk result (λ id. IsPut m id name.now (S.left source.old) engine.new) }
     ensures kept { (m : Machine) → StandsFor engine.old m
         → IfErr result (λ e. (e ≡ Fault.Call is_failure) ⊎ IsAsBefore m engine.new) }
+    ensures full { (m : Machine) → StandsFor engine.old m → result ≡ Err (Fault.Call is_full)
+        → HasNoRoom m (S.left source.old) (S.left source.new) }
     ensures stops { (m : Machine) → StandsFor engine.old m
         → Leaves (WholeOrAbsent m name.now (S.left source.old)) engine.old engine.new }
+    ensures lasts { (m : Machine) (d : List Sector) → StandsFor engine.old m → Reveals d engine.new
+        → OnOk result (HasWhole m name.now (S.left source.old) d) }
     ensures ended { OnOk result (IsAtEnd (S.left source.new)) }
     ensures other { result ≢ Err Fault.NoDocument }
     ensures long { result ≡ Err Fault.LongName → 255 < length name.now }

@@ -1,5 +1,5 @@
 //! A run of pages of a file, shown in a space for as long as its bytes are loaded or stored.
-ghost use Rattle.std.specs.Prelude.{◌≡◌, ◌⊎◌, ◌≤◌, ◌<◌, ◌*◌, ◌^◌, ◌-◌, ◌%◌, ℕ, false, length, Ok, Err, IsOk, OnOk, IfOk, IfErr, MatchResult};
+ghost use Rattle.std.specs.Prelude.{◌≡◌, ◌⊎◌, ◌<◌, ◌^◌, ◌-◌, ◌%◌, ℕ, false, length, Ok, Err, IsOk, OnOk, IfOk, IfErr, MatchResult, ◌≢◌};
 ghost use Rattle.std.specs.Int.{div_ceil};
 ghost use Rattle.flat_machine.specs.Machine.{Machine};
 ghost use Rattle.embedded.specs.Called.{HasStopped};
@@ -10,6 +10,7 @@ ghost use Rattle.documents.specs.Pieces.{after_store};
 ghost use Rattle.documents.specs.Stands.{HasRead, StillFor, StoredPart, is_failure};
 ghost use Rattle.session_words.specs.StandsFor.{RevealsSettled};
 ghost use Rattle.embedded.specs.Stops.{Leaves};
+ghost use Rattle.documents.specs.Room.{is_full};
 ghost use Rattle.documents.specs.Stops.{StaysUnseen};
 ghost use Rattle.documents.specs.Windows.{IsHidden, IsShown, showing};
 
@@ -72,6 +73,7 @@ fn show<D: Disk + Drop, A: Allocator>(
         × StandsFor engine.new (showing m run.id run.page run.pages writable)) }
     ensures kept { (m : Machine) → StandsFor engine.old m
         → IfErr result (λ e. (e ≡ is_failure) ⊎ StandsFor engine.new m) }
+    ensures room { (m : Machine) → StandsFor engine.old m → result ≢ Err is_full }
     ensures stopped { (why : Halt) → result ≡ Err (Code.Halted why) → HasStopped why engine.new }
     ensures cause { result ≡ Err is_failure → HasFailed engine.old engine.new }
     ensures even { IfOk result (λ w. w.address % 512 ≡ 0) }
@@ -127,6 +129,8 @@ fn end<D: Disk + Drop, A: Allocator>(
     ensures hidden { (m last : Machine) → StandsFor engine.old m → IsHidden m window.space last
         → MatchResult result (λ done. StandsFor engine.new last) (λ e. (e ≡ is_failure) ⊎ StandsFor engine.new last) }
     ensures failed { moved ≡ Err is_failure → result ≡ Err is_failure }
+    ensures room { (m last : Machine) → StandsFor engine.old m → IsHidden m window.space last
+        → result ≡ Err is_full → moved ≡ Err is_full }
     ensures stops { (id : ℕ) → StaysUnseen id engine.old engine.new }
     ensures stopped { (why : Halt) → result ≡ Err (Code.Halted why) → HasStopped why engine.new }
     ensures cause { result ≡ Err is_failure → (moved ≡ Err is_failure) ⊎ HasFailed engine.old engine.new }
@@ -184,6 +188,7 @@ pub(crate) fn store_pages<D: Disk + Drop, A: Allocator>(
         → MatchResult result
         (λ done. StandsFor engine.new (after_store id page (div_ceil (length bytes.now) 512) bytes.now m))
         (λ e. StoredPart m id page bytes.now e engine.new) }
+    ensures room { (m : Machine) → StandsFor engine.old m → result ≢ Err is_full }
     ensures stops { StaysUnseen id engine.old engine.new }
     ensures stopped { (why : Halt) → result ≡ Err (Code.Halted why) → HasStopped why engine.new }
     ensures cause { result ≡ Err is_failure → HasFailed engine.old engine.new }

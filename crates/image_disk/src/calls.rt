@@ -35,15 +35,12 @@ impl<F: FileExt + OpenFile> Disk for ImageDisk<F> {
         ensures counts { Counts result (image_state self.old) (image_state self.new) }
     {
         self.count_transfer();
-        if let Err(trouble) = self.write_out() {
-            return Err(self.fault(trouble));
-        }
         match self.get_sector(sector, page) {
             Ok(label) => {
                 self.labels.keep(sector, label);
                 Ok(label)
             }
-            Err(error) => Err(self.fault(Trouble::Sector { sector, error })),
+            Err(trouble) => Err(self.fault(trouble)),
         }
     }
 
@@ -58,7 +55,8 @@ impl<F: FileExt + OpenFile> Disk for ImageDisk<F> {
         let bytes = joined(label, page);
         match self.put_sector(sector, &bytes) {
             Ok(()) => {
-                self.remember_sector(sector, *label, &bytes);
+                self.last.keep(sector, bytes);
+                self.labels.keep(sector, *label);
                 Ok(())
             }
             Err(trouble) => Err(self.fault(trouble)),
@@ -95,12 +93,9 @@ impl<F: FileExt + OpenFile> Disk for ImageDisk<F> {
         ensures synced { (image_state self.new).synced ≡ false }
     {
         self.count_write();
-        if let Err(trouble) = self.write_out() {
-            return Err(self.fault(trouble));
-        }
         let found = match self.get_label(sector) {
             Ok(found) => found,
-            Err(error) => return Err(self.fault(Trouble::Sector { sector, error })),
+            Err(trouble) => return Err(self.fault(trouble)),
         };
         if !found.names(wanted) {
             return Err(DiskError::Wrong { found });
@@ -110,7 +105,7 @@ impl<F: FileExt + OpenFile> Disk for ImageDisk<F> {
                 self.last.put_page(sector, page);
                 Ok(())
             }
-            Err(error) => Err(self.fault(Trouble::Sector { sector, error })),
+            Err(trouble) => Err(self.fault(trouble)),
         }
     }
 

@@ -45,7 +45,7 @@ pub struct ImageDisk<F: FileExt + OpenFile> {
     pub(crate) faults: u64,
     pub(crate) synced: bool,
     trouble: Option<Trouble>,
-    // Sectors and labels as they stand in the file.
+    // Sectors and labels as they stand in the file once what waits is written.
     pub(crate) last: Remembered<[u8; 528]>,
     pub(crate) labels: Remembered<Label>,
     // Neighbouring sectors that wait to be written in one call of the system, where writes are joined.
@@ -123,13 +123,17 @@ impl<F: FileExt + OpenFile> ImageDisk<F> {
         self.labels = Remembered::with_places(alloc, LABEL_PLACES);
     }
 
-    /// From now on, up to 32 sectors that are written one after the other, each whole, are written
-    /// in one call of the system: when the next call of another kind, or on another place, comes, or
-    /// `write_out`. Where there is no memory for them each is written by itself.
+    /// From now on, up to 32 sectors that are written one after the other are written in one call of
+    /// the system: before the next write on another place or of a label alone, before a sector is read
+    /// that may be one of them, before a sync, and at `write_out`. A page is written with the label
+    /// that it was found to have. Where there is no memory for them each is written by itself. Where
+    /// there is no file, or writes are joined already, nothing changes.
     pub fn join_writes(&mut self, alloc: Global)
         ensures same { image_state self.new ≡ image_state self.old }
     {
-        self.waiting = Neighbours::with_room(alloc).ok();
+        if self.file.is_some() && self.waiting.is_none() {
+            self.waiting = Neighbours::with_room(alloc).ok();
+        }
     }
 
     /// Writes what waits.

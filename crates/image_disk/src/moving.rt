@@ -2,7 +2,7 @@
 ghost use Rattle.std.specs.Prelude.{◌≡◌, ◌<◌, true};
 ghost use Rattle.labelled_disk.specs.Label.{names};
 
-use crate::bytes::{label_at, label_in, page_at, parted};
+use crate::bytes::{joined, label_at, label_in, page_at, parted};
 use crate::neighbours::{MOST, read_labels, read_neighbours};
 use crate::{ImageDisk, Trouble};
 use labelled_disk::{Label, Page, Wanted};
@@ -13,23 +13,38 @@ use std::os::unix::fs::FileExt;
 impl<F: FileExt + OpenFile> ImageDisk<F> {
     ghost use Rattle.image_disk.specs.Image.{image_state};
 
-    // Reads as many bytes as there are to fill, from this byte of the file on.
-    pub(crate) fn get(&self, at: u64, bytes: &mut [u8]) -> io::Result<()> {
-        match &self.file {
-            Some(file) => file.read_exact_at(bytes, at),
+    // Reads as many bytes as there are to fill, from the begin of this sector on.
+    fn get(&self, sector: u32, bytes: &mut [u8]) -> Result<(), Trouble> {
+        let read = match &self.file {
+            Some(file) => file.read_exact_at(bytes, label_at(sector)),
             None => Err(io::ErrorKind::NotFound.into()),
+        };
+        match read {
+            Ok(()) => Ok(()),
+            Err(error) => Err(Trouble::Sector { sector, error }),
+        }
+    }
+
+    // Writes what waits where it may be among the sectors that are read from this one on.
+    fn write_out_from(&mut self, sector: u32) -> Result<(), Trouble>
+        ensures same { image_state self.new ≡ image_state self.old }
+    {
+        match &self.waiting {
+            Some(waiting) if waiting.may_lie_from(sector) => self.write_out(),
+            _ => Ok(()),
         }
     }
 
     // The label of a sector, which is remembered or read; its page is put in `page`. Where the sector
     // before it was read lately, those after it are read as well.
-    pub(crate) fn get_sector(&mut self, sector: u32, page: &mut Page) -> io::Result<Label>
+    pub(crate) fn get_sector(&mut self, sector: u32, page: &mut Page) -> Result<Label, Trouble>
         requires { sector < (image_state self.old).sectors }
         ensures same { image_state self.new ≡ image_state self.old }
     {
         if let Some(bytes) = self.last.get(sector) {
             return Ok(parted(bytes, page));
         }
+        self.write_out_from(sector)?;
         if sector > 0 && self.last.has(sector - 1) {
             self.get_neighbours(sector);
             if let Some(bytes) = self.last.get(sector) {
@@ -37,7 +52,7 @@ impl<F: FileExt + OpenFile> ImageDisk<F> {
             }
         }
         let mut bytes = [0; 528];
-        self.get(label_at(sector), &mut bytes)?;
+        self.get(sector, &mut bytes)?;
         self.last.keep(sector, bytes);
         Ok(parted(&bytes, page))
     }
@@ -55,13 +70,14 @@ impl<F: FileExt + OpenFile> ImageDisk<F> {
 
     // The label of a sector, which is remembered or read. Where that of the sector before it is
     // remembered, those of the ones after it are read as well.
-    pub(crate) fn get_label(&mut self, sector: u32) -> io::Result<Label>
+    pub(crate) fn get_label(&mut self, sector: u32) -> Result<Label, Trouble>
         requires { sector < (image_state self.old).sectors }
         ensures same { image_state self.new ≡ image_state self.old }
     {
         if let Some(label) = self.known_label(sector) {
             return Ok(label);
         }
+        self.write_out_from(sector)?;
         if sector > 0 && self.labels.has(sector - 1) {
             self.get_labels(sector);
             if let Some(label) = self.known_label(sector) {
@@ -69,7 +85,7 @@ impl<F: FileExt + OpenFile> ImageDisk<F> {
             }
         }
         let mut bytes = [0; 16];
-        self.get(label_at(sector), &mut bytes)?;
+        self.get(sector, &mut bytes)?;
         let label = Label::from_bytes(&bytes);
         self.labels.keep(sector, label);
         Ok(label)
@@ -111,19 +127,6 @@ impl<F: FileExt + OpenFile> ImageDisk<F> {
         }
     }
 
-    // Remembers a sector that was written, unless it may wait still.
-    pub(crate) fn remember_sector(&mut self, sector: u32, label: Label, bytes: &[u8; 528])
-        ensures same { image_state self.new ≡ image_state self.old }
-    {
-        if self.waiting.is_some() {
-            self.last.discard(sector);
-            self.labels.discard(sector);
-            return;
-        }
-        self.last.keep(sector, *bytes);
-        self.labels.keep(sector, label);
-    }
-
     // Lets a sector wait, where writes are joined and it comes next after those that wait.
     fn lets_wait(&mut self, sector: u32, bytes: &[u8; 528]) -> bool
         ensures same { image_state self.new ≡ image_state self.old }
@@ -142,17 +145,25 @@ impl<F: FileExt + OpenFile> ImageDisk<F> {
         }
     }
 
-    // Writes the page of a sector whose label was found to name it.
+    // Writes the page of a sector whose label was found to name it: with that label where writes are
+    // joined, and else alone.
     pub(crate) fn put_page(
-        &self,
+        &mut self,
         sector: u32,
-        _found: Label,
+        found: Label,
         _wanted: Wanted,
         page: &Page,
-    ) -> io::Result<()>
-        requires { names _found _wanted ≡ true }
+    ) -> Result<(), Trouble>
+        requires { names found _wanted ≡ true }
+        ensures same { image_state self.new ≡ image_state self.old }
     {
-        self.put(page_at(sector), page.as_slice())
+        if self.waiting.is_some() {
+            return self.put_sector(sector, &joined(&found, page));
+        }
+        match self.put(page_at(sector), page.as_slice()) {
+            Ok(()) => Ok(()),
+            Err(error) => Err(Trouble::Sector { sector, error }),
+        }
     }
 
     // Waits until what was written to the file is on the medium.

@@ -68,6 +68,13 @@ impl Neighbours {
         self.first
     }
 
+    /// Whether one of these may be among the sectors that are read at once from this one on.
+    pub(crate) fn may_lie_from(&self, sector: u32) -> bool {
+        let count = self.sectors.len() as u64;
+        u64::from(sector) < u64::from(self.first).saturating_add(count)
+            && u64::from(self.first) < u64::from(sector) + u64::from(MOST)
+    }
+
     /// Takes a sector in that comes next after these, while there is room.
     pub(crate) fn push(&mut self, sector: u32, bytes: &[u8; 528]) -> bool {
         let count = self.sectors.len() as u64;

@@ -76,12 +76,6 @@ impl<T: Copy> Remembered<T> {
         }
     }
 
-    pub(crate) fn discard(&mut self, sector: u32) {
-        if let Some(places) = &mut self.places {
-            discard(places, sector);
-        }
-    }
-
     pub(crate) fn clear(&mut self) {
         if let Some(places) = &mut self.places {
             for place in places.iter_mut() {
@@ -114,14 +108,5 @@ fn keep<T: Copy>(places: &mut [Place<T>], sector: u32, value: T) {
         && place < places.len()
     {
         places[place].keep(sector, value);
-    }
-}
-
-// Nothing is kept any more of the sectors that share a place with this one.
-fn discard<T: Copy>(places: &mut [Place<T>], sector: u32) {
-    if let Some(place) = (sector as usize).checked_rem(places.len())
-        && place < places.len()
-    {
-        places[place] = Place::empty();
     }
 }

@@ -7,6 +7,7 @@ use embedded::{Code, Engine};
 use flat_machine::{Refusal, Reply};
 use image_disk::{ImageDisk, open_image};
 use labelled_disk::{FileId, RootFault};
+use scavenger::Lost;
 use std::alloc::Global;
 use std::fs::File;
 
@@ -23,9 +24,25 @@ fn not_opened(rt: &HostRuntime, path: &str, code: Code) -> Status {
     Status::of_code(code)
 }
 
+/// Says which page of which file a sector was that was freed, though that file stays.
+fn say_lost(rt: &HostRuntime, path: &str, lost: &Lost) {
+    let Lost { sector, id, page } = *lost;
+    let _ = match page {
+        u32::MAX => eprintln!(rt;
+            "pilot_files: {path:?}: lost: sector {sector}, a leader of the file {id:016x}"
+        ),
+        _ => eprintln!(rt;
+            "pilot_files: {path:?}: lost: sector {sector}, page {page} of the file {id:016x}"
+        ),
+    };
+}
+
 /// Restores a volume that was not closed, and says what was lost.
 fn restore(rt: &HostRuntime, volume: &mut Volume, path: &str) -> Result<(), Code> {
     let report = volume.scavenge(rt.alloc())?;
+    for lost in report.lost() {
+        say_lost(rt, path, lost);
+    }
     let (freed, lost) = (report.freed, report.lost().len());
     let _ = eprintln!(rt;
         "pilot_files: {path:?}: restored: {freed} sectors were freed, {lost} were lost"
@@ -47,7 +64,10 @@ fn start(rt: &HostRuntime, volume: &mut Volume, path: &str, options: Options) ->
 /// The volume in the file of this path, with a session on it.
 pub(crate) fn opened(rt: &HostRuntime, path: &str, options: Options) -> Result<Volume, Status> {
     let mut volume = match open_image(rt, path) {
-        Ok(disk) => Engine::over(disk),
+        Ok(mut disk) => {
+            disk.join_writes(rt.alloc());
+            Engine::over(disk)
+        }
         Err(why) => {
             let _ = eprintln!(rt; "pilot_files: {path:?}: {why}");
             return Err(Status::NotOpened);
@@ -120,6 +140,9 @@ pub(crate) fn fault_line(
         },
         Fault::Call(Code::Refused(Refusal::File)) => {
             eprintln!(rt; "pilot_files: {what:?}: there is no such document")
+        }
+        Fault::Call(Code::Refused(Refusal::Ids)) => {
+            eprintln!(rt; "pilot_files: {what:?}: all identifiers of the volume are given out")
         }
         _ => eprintln!(rt; "pilot_files: {what:?}: {fault}"),
     };

@@ -1,11 +1,12 @@
-//! A source that has one byte at hand, and a sink that takes none but the first pieces.
+//! A source that has one byte at hand, and a writer that takes one byte a call.
 use crate::bytes::drawn;
 use crate::numbers::numbers_of;
 use crate::volume::opened;
 use anyhow::Result;
 use documents::{Silent, get, put};
 use std::alloc::Global;
-use trace_io::{MemorySink, MemorySource, Source, SourceFault};
+use std::io::{self, Write};
+use trace_io::{MemorySource, Source, SourceFault, WriterSink};
 
 /// Gives the bytes of another source one at a time.
 #[derive(Drop)]
@@ -23,7 +24,26 @@ impl<S: Source> Source for Slow<S> {
     }
 }
 
-/// Puts a document of each length between two from such a source, and answers the lengths that do not come back.
+/// Takes one byte a call.
+#[derive(Drop)]
+struct Narrow {
+    bytes: Vec<u8>,
+}
+
+impl Write for Narrow {
+    fn write(&mut self, buf: &[u8]) -> io::Result<usize> {
+        let count = buf.len().min(1);
+        self.bytes.extend_from_slice(&buf[..count])?;
+        Ok(count)
+    }
+
+    fn flush(&mut self) -> io::Result<()> {
+        Ok(())
+    }
+}
+
+/// Puts a document of each length between two from such a source, gets it into such a writer, and answers the first length that
+/// does not come back.
 pub(crate) fn all(alloc: Global, words: &str) -> Result<String> {
     let [least, most, room]: [u32; 3] = numbers_of(words)?;
     let mut buffer = Vec::from_elem(alloc, 0u8, room as usize)?;
@@ -34,10 +54,14 @@ pub(crate) fn all(alloc: Global, words: &str) -> Result<String> {
         let mut source = Slow {
             source: MemorySource::new(alloc, bytes.as_slice(), &[])?,
         };
-        let mut sink = MemorySink::new(alloc, 10_000, &[])?;
+        let mut narrow = Narrow {
+            bytes: Vec::new(alloc),
+        };
         let id = put(&mut volume, buffer, &mut source, "", &mut Silent)?;
+        let mut sink = WriterSink::over(&mut narrow);
         get(&mut volume, buffer, id, &mut sink, &mut Silent)?;
-        if sink.taken() != bytes.as_slice() {
+        drop(sink);
+        if narrow.bytes.as_slice() != bytes.as_slice() {
             return Ok(format!(in alloc; "{length}")?);
         }
     }

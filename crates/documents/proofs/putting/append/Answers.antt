@@ -4,12 +4,15 @@ use Rattle.documents.specs.Course.{is_quiet}
 use Rattle.documents.proofs.StoppedLemmas.{stopped_code}
 use Rattle.documents.proofs.PutLemmas.{set_err, set_ok, stored_err, stored_ok}
 use Rattle.documents.specs.Pieces.{adding, grown}
-use Rattle.std.proofs.Common.{inr}
 use Rattle.std.specs.Int.{div_ceil}
 use Rattle.documents.proofs.CauseLemmas.{blamed_code, blamed_since}
 use Rattle.embedded.proofs.SpendLemmas.{spends_called, spends_none, spends_then, spends_within}
 use Rattle.std.proofs.Common.{arith, length}
 use Rattle.documents.proofs.UnseenLemmas.{stays_size, stays_then}
+use Rattle.std.proofs.Common.{◌≡◌, ◌+◌, ◌∙◌, ap, subst, ℕ, Err, rules}
+use Rattle.embedded.specs.declared.code.Code.{Code}
+use Rattle.documents.specs.Room.{MissesRoom}
+use Rattle.documents.proofs.RoomLemmas.{few_pages, sized_by}
 use Rattle.documents.proofs.putting.append.Goals as goal
 
 pub returns-in-Ok-store_pages-clause-led : goal.returns-in-Ok-store_pages-clause-led
@@ -89,3 +92,25 @@ returns-in-Err-store_pages-clause-stops g c =
     stays_then c.args.id c.args.engine.now c.set_size.new.self c.store_pages.new.engine
     (stays_size c.args.id _ c.args.engine.now c.set_size.new.self _ c.set_size.ensures)
     c.store_pages.ensures.stops
+
+-- it is full where it has no room
+pub returns-in-Err-clause-full : goal.returns-in-Err-clause-full
+returns-in-Err-clause-full g c = λ m f h is_fresh named long stands is.
+    subst (λ (n : ℕ). MissesRoom m n) (let z : c.in-Some.all ≡ c.args.pages + div_ceil (length c.args.bytes.now) 512 = search rules in z)
+    (sized_by m f c.args.id c.in-Some.all c.args.engine.now c.set_size.new.self _ c.in-Err.code h is_fresh named c.set_size.ensures c.in-Err.is stands (cc is))
+
+pub returns-in-Err-store_pages-clause-full : goal.returns-in-Err-store_pages-clause-full
+returns-in-Err-store_pages-clause-full g c = λ m f h is_fresh named long stands is.
+    let longer = set_ok m f c.args.id is_fresh named c.in-Some.all c.args.engine.now c.set_size.new.self _ _ c.set_size.ensures c.in-Ok-set_size.is stands in
+    absurd (c.store_pages.ensures.room (adding (record f { pages = grown c.in-Some.all f.pages }) m) longer
+    (c.in-Err-store_pages.is ∙ ap (λ (x : Code). Err x) (cc is)))
+
+pub returns-in_default-clause-full : goal.returns-in_default-clause-full
+returns-in_default-clause-full g c = λ m f h is_fresh named long stands is.
+    let few = few_pages c.args.engine.now (adding f m) stands in
+    omega (arith, few)
+
+pub returns-in_default-checked_add-clause-full : goal.returns-in_default-checked_add-clause-full
+returns-in_default-checked_add-clause-full g c = λ m f h is_fresh named long stands is.
+    let few = few_pages c.args.engine.now (adding f m) stands in
+    omega (arith, few)

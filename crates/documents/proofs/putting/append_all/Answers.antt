@@ -1,4 +1,4 @@
-use Rattle.std.proofs.Common.{◌≡◌, ◌⊎◌, ◌+◌, ◌-◌, ◌%◌, ℕ, inl, inr, ap, refl, subst, arith, length, take, rules}
+use Rattle.std.proofs.Common.{◌+◌, ◌-◌, ◌%◌, ℕ, inl, inr, ap, refl, subst, arith, length, take, rules}
 use Rattle.std.proofs.lemmas.List.{length-take-le}
 use Rattle.embedded.specs.declared.code.Code.{Code}
 use Rattle.documents.specs.declared.fault.Fault.TheVariants as fault
@@ -13,6 +13,8 @@ use Rattle.embedded.proofs.SpendLemmas.{later_itself, later_then, spends_none}
 use Rattle.documents.proofs.CauseLemmas.{blamed_since}
 use Rattle.documents.proofs.SpentLemmas.{appended_end, appended_first, appended_stop, appended_then}
 use Rattle.documents.proofs.UnseenLemmas.{stays_itself, stays_then}
+use Rattle.std.proofs.Common.{◌∙◌, ◌++◌, Err}
+use Rattle.documents.proofs.RoomLemmas.{misses_now}
 use Rattle.documents.proofs.putting.append_all.Goals as goal
 
 pub returns-then-count-room-clause-led : goal.returns-then-count-room-clause-led
@@ -186,3 +188,18 @@ returns-in-Err-fill-clause-stops g c =
 
 pub returns-clause-stops : goal.returns-clause-stops
 returns-clause-stops g c = c.windows.invariant.stops
+
+-- it is full where what was read of the source is more than there is room for
+pub returns-in-Err-clause-full : goal.returns-in-Err-clause-full
+returns-in-Err-clause-full g c = λ m h is_fresh new stands is.
+    let s = c.windows.invariant.filled m is_fresh new stands in
+    let piece = take c.windows.count c.windows.buffer in
+    let width = length-take-le c.windows.count c.windows.buffer (omega (arith, c.windows.invariant.within, c.windows.invariant.room)) in
+    let named = named_so_far m c.args.id _ _ _ _ _ _ _ s new in
+    record {
+      bytes = s.bytes ++ piece;
+      read = s.taken;
+      misses = misses_now m c.windows.bytes c.windows.pages c.windows.count s.bytes piece
+          (c.append.ensures.full m s.file h is_fresh named s.wide s.stands (c.in-Err.is ∙ ap (λ (x : Code). Err x) (cc is)))
+          s.long width c.windows.invariant.full;
+    }

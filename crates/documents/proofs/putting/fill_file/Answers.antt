@@ -1,6 +1,6 @@
 use Rattle.documents.proofs.CourseLemmas.{marked_after}
 use Rattle.documents.proofs.StoppedLemmas.{stopped_code, stopped_fault}
-use Rattle.std.proofs.Common.{◌≡◌, ◌∙◌, ◌⊎◌, inl, inr, ap, sym, rules}
+use Rattle.std.proofs.Common.{◌∙◌, inl, inr, ap, sym, rules}
 use Rattle.flat_machine.specs.File.{File}
 use Rattle.embedded.specs.declared.code.Code.{Code}
 use Rattle.documents.specs.declared.fault.Fault.TheVariants as fault
@@ -9,15 +9,14 @@ use Rattle.std.specs.Int.{div_ceil}
 use Rattle.documents.proofs.CauseLemmas.{blamed_fault, blamed_since}
 use Rattle.embedded.proofs.SpendLemmas.{later_then, spends_then, spends_within}
 use Rattle.documents.specs.Spent.{windows}
-use Rattle.std.proofs.Common.{◌*◌, arith, length, List, refl}
-use Rattle.labelled_disk.specs.Sectors.{Sector}
-use Rattle.document_head.specs.Head.{head_page}
-use Rattle.session_words.specs.StandsFor.{RevealsSettled}
-use Rattle.documents.specs.Pieces.{adding, marked, written}
+use Rattle.std.proofs.Common.{◌*◌, arith, length, refl}
+use Rattle.documents.specs.Pieces.{adding}
 use Rattle.documents.specs.Stands.{blank}
-use Rattle.documents.specs.Stops.{WholeOrAbsent, WithOrWithout}
+use Rattle.documents.specs.Stops.{WholeOrAbsent}
 use Rattle.documents.proofs.UnseenLemmas.{leaves_less}
 use Rattle.documents.proofs.WholeLemmas.{adding_looks, marks_err, marks_ok, whole_such}
+use Rattle.std.proofs.Common.{Err}
+use Rattle.documents.specs.declared.fault.Fault.{Fault}
 use Rattle.documents.proofs.putting.fill_file.Goals as goal
 
 pub returns-in-Ok-seal-clause-marked : goal.returns-in-Ok-seal-clause-marked
@@ -118,3 +117,13 @@ returns-in-Err-seal-clause-stops g c = λ m h is_fresh new stands.
 pub returns-in-Err-clause-stops : goal.returns-in-Err-clause-stops
 returns-in-Err-clause-stops g c = λ m h is_fresh new stands.
     inl (c.append_all.ensures.stops m (inr (adding (blank m) m, adding_looks m (blank m) c.args.id h is_fresh (sym new) refl, stands)))
+
+-- it is full where the bytes have no room
+pub returns-in-Err-clause-full : goal.returns-in-Err-clause-full
+returns-in-Err-clause-full g c = λ m h is_fresh new stands is.
+    c.append_all.ensures.full m h is_fresh new stands (c.in-Err.is ∙ ap (λ (x : Fault). Err x) (cc is))
+
+pub returns-in-Err-seal-clause-full : goal.returns-in-Err-seal-clause-full
+returns-in-Err-seal-clause-full g c = λ m h is_fresh new stands is.
+    let filled = c.in-Ok.ensures.filled m is_fresh new stands in
+    absurd (c.seal.ensures.room (adding filled.file m) filled.stands (c.in-Err-seal.is ∙ ap (λ (x : Code). Err x) (cc is)))

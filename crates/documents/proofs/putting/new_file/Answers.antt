@@ -3,6 +3,7 @@ use Rattle.documents.proofs.CourseLemmas.{led_made}
 use Rattle.documents.proofs.PutLemmas.{made_by}
 use Rattle.embedded.proofs.SpendLemmas.{spends_called}
 use Rattle.documents.proofs.UnseenLemmas.{stays_create}
+use Rattle.documents.proofs.RoomLemmas.{made_full}
 use Rattle.documents.proofs.putting.new_file.Goals as goal
 
 pub returns-clause-led : goal.returns-clause-led
@@ -30,3 +31,8 @@ returns-clause-cause g c = λ is. c.create-made.ensures.cause (c.file_of.ensures
 pub returns-clause-stops : goal.returns-clause-stops
 returns-clause-stops g c = λ id.
     stays_create id _ _ c.args.engine.now c.create-made.new.self _ c.create-made.ensures
+
+pub returns-clause-full : goal.returns-clause-full
+returns-clause-full g c = λ m stands is.
+    made_full m c.args.engine.now c.create-made.new.self c.create-made.result c.file_of.result c.create-made.ensures
+    c.file_of.ensures.file c.file_of.ensures.code stands is

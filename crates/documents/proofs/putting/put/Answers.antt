@@ -2,7 +2,7 @@ use Rattle.std.proofs.Common.{arith, inl, inr}
 use Rattle.documents.proofs.CourseLemmas.{marked_after}
 use Rattle.documents.proofs.CourseLemmas.{stays_stopped}
 use Rattle.documents.proofs.StoppedLemmas.{stopped_code, stopped_fault, stopped_undone}
-use Rattle.std.proofs.Common.{◌≡◌, ◌∙◌, ◌⊎◌, ap, subst, sym, ℕ, List}
+use Rattle.std.proofs.Common.{◌∙◌, ap, subst, sym, ℕ, List}
 use Rattle.labelled_disk.specs.declared.evidence.Halt.TheVariants as halt
 use Rattle.embedded.specs.declared.code.Code.{Code}
 use Rattle.documents.specs.declared.fault.Fault.TheVariants as fault
@@ -15,7 +15,6 @@ use Rattle.documents.proofs.CauseLemmas.{blamed_code, blamed_undone, fault_since
 use Rattle.embedded.proofs.SpendLemmas.{later_itself, later_then, spends_called, spends_none, spends_then, spends_within}
 use Rattle.documents.specs.Spent.{windows}
 use Rattle.std.proofs.Common.{◌+◌, ◌*◌, length, Err}
-use Rattle.labelled_disk.specs.Sectors.{Sector}
 use Rattle.flat_machine.specs.Next.{new_id}
 use Rattle.flat_machine.proofs.KeepNew.{none_new}
 use Rattle.embedded.specs.Stops.{Leaves}
@@ -26,6 +25,10 @@ use Rattle.documents.proofs.UnseenLemmas.{leaves_less}
 use Rattle.documents.proofs.WholeLemmas.{marks_err, marks_ok, undone_leaves}
 use Rattle.documents.specs.declared.fault.Fault.{Fault}
 use Rattle.documents.proofs.RefusedLemmas.{kept_other}
+use Rattle.std.proofs.Common.{[]}
+use Rattle.std.proofs.KnownBytes.{Consumes-nil}
+use Rattle.documents.proofs.LastsLemmas.{whole_now}
+use Rattle.documents.proofs.RoomLemmas.{back_fault}
 use Rattle.documents.proofs.putting.put.Goals as goal
 
 pub returns-in-Err-clause-undone : goal.returns-in-Err-clause-undone
@@ -163,3 +166,28 @@ pub returns-in-Err-fill_file-clause-long : goal.returns-in-Err-fill_file-clause-
 returns-in-Err-fill_file-clause-long g c = λ is.
     absurd (kept_other fault.LongName c.in-Err-fill_file.fault c.fault_after.result c.delete.result (λ k e. cc e)
     (λ e. c.fill_file.ensures.long (c.in-Err-fill_file.is ∙ ap (λ (x : Fault). Err x) e)) c.fault_after.ensures.which (cc is))
+
+-- it is full where what was read of the source has no room
+pub returns-in-Err-clause-full : goal.returns-in-Err-clause-full
+returns-in-Err-clause-full g c = λ m stands is. record {
+  bytes = [];
+  read = Consumes-nil (g.S.Source.left c.args.source.now);
+  misses = c.new_file.ensures.full m stands (c.in-Err.is ∙ ap (λ (x : Code). Err x) (cc is));
+}
+
+pub returns-in-Err-fill_file-clause-full : goal.returns-in-Err-fill_file-clause-full
+returns-in-Err-fill_file-clause-full g c = λ m stands is.
+    let h = machine_of c.args.engine.now m stands in
+    let made = c.in-Ok-new_file.ensures.made m stands in
+    let is_fresh = subst (λ (id : ℕ). IsFresh m id) (sym made.0) (fresh m h) in
+    c.fill_file.ensures.full m h is_fresh made.0 made.1
+    (c.in-Err-fill_file.is ∙ ap (λ (x : Fault). Err x) (back_fault c.in-Err-fill_file.fault c.fault_after.result c.delete.result c.fault_after.ensures.which (cc is)))
+
+-- the disk has the document by now
+pub returns-in-Ok-fill_file-clause-lasts : goal.returns-in-Ok-fill_file-clause-lasts
+returns-in-Ok-fill_file-clause-lasts g c = λ m d stands reveals.
+    let made = c.in-Ok-new_file.ensures.made m stands in
+    let is_fresh = subst (λ (id : ℕ). IsFresh m id) (sym made.0) (fresh m (machine_of c.args.engine.now m stands)) in
+    whole_now g.met.D.Disk.in_form m c.in-Ok-new_file.id c.args.name.now (g.S.Source.left c.args.source.now) c.fill_file.new.engine d
+    (subst (λ (name : List ℕ). IsPut m c.in-Ok-new_file.id name (g.S.Source.left c.args.source.now) c.fill_file.new.engine) c.in-Ok.ensures.ok
+    (c.in-Ok-fill_file.ensures.document m is_fresh made.0 made.1)) reveals

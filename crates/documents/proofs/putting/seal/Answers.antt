@@ -1,5 +1,5 @@
 use Rattle.documents.proofs.StoppedLemmas.{stopped_code}
-use Rattle.std.proofs.Common.{ℕ, List, ◌≡◌, subst}
+use Rattle.std.proofs.Common.{ℕ, List, subst}
 use Rattle.document_head.specs.Head.{head_page}
 use Rattle.embedded.specs.Engine.{StandsFor}
 use Rattle.documents.specs.Pieces.{adding, written}
@@ -8,6 +8,9 @@ use Rattle.documents.proofs.CauseLemmas.{blamed_code, blamed_since}
 use Rattle.embedded.proofs.SpendLemmas.{spends_called, spends_then, spends_within}
 use Rattle.std.proofs.Common.{arith, rules, inl, inr}
 use Rattle.documents.proofs.WholeLemmas.{adding_looks, mark_fails, mark_leaves}
+use Rattle.std.proofs.Common.{◌∙◌, ap, Err}
+use Rattle.embedded.specs.declared.code.Code.{Code}
+use Rattle.documents.proofs.RoomLemmas.{mark_not_full}
 use Rattle.documents.proofs.putting.seal.Goals as goal
 
 pub returns-in-Err-make_permanent-clause-stopped : goal.returns-in-Err-make_permanent-clause-stopped
@@ -80,3 +83,13 @@ returns-in-Err-make_permanent-clause-stops g c = λ m f h is_fresh named tempora
 pub returns-in-Err-clause-stops : goal.returns-in-Err-clause-stops
 returns-in-Err-clause-stops g c = λ m f h is_fresh named temporary stands.
     inl (c.store_pages.ensures.stops m (inr (adding f m, adding_looks m f c.args.id h is_fresh named temporary, stands)))
+
+-- it takes no room
+pub returns-in-Err-clause-room : goal.returns-in-Err-clause-room
+returns-in-Err-clause-room g c = λ m stands is.
+    c.store_pages.ensures.room m stands (c.in-Err.is ∙ ap (λ (x : Code). Err x) (cc is))
+
+pub returns-in-Err-make_permanent-clause-room : goal.returns-in-Err-make_permanent-clause-room
+returns-in-Err-make_permanent-clause-room g c = λ m stands is.
+    mark_not_full _ c.args.id c.store_pages.new.engine c.make_permanent.new.self _ c.in-Err-make_permanent.code c.make_permanent.ensures
+    c.in-Err-make_permanent.is (c.in-Ok.ensures.stored m stands) (cc is)

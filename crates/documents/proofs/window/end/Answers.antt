@@ -5,6 +5,8 @@ use Rattle.embedded.specs.declared.code.Code.{Code}
 use Rattle.documents.proofs.MoveLemmas.{end_err, end_failed, match_weaker}
 use Rattle.documents.proofs.CauseLemmas.{ended_by}
 use Rattle.std.proofs.Common.{inr}
+use Rattle.std.proofs.Common.{◌∙◌}
+use Rattle.documents.proofs.RoomLemmas.{back_full, never_full}
 use Rattle.documents.proofs.window.end.Goals as goal
 
 pub returns-in-Err-clause-stopped : goal.returns-in-Err-clause-stopped
@@ -39,3 +41,11 @@ pub returns-in-Err-clause-cause : goal.returns-in-Err-clause-cause
 returns-in-Err-clause-cause g c = λ is.
     ended_by _ c.in-Err.code c.answer_of.result c.hide-hidden.result c.args.engine.now c.hide-hidden.new.engine c.hide-hidden.ensures.cause
     c.in-Err.is c.answer_of.ensures.which (cc is)
+
+pub returns-in-Ok-clause-room : goal.returns-in-Ok-clause-room
+returns-in-Ok-clause-room g c = λ m last stands h is.
+    absurd (never_full _ c.hide-hidden.result (c.hide-hidden.ensures.hidden m last stands h) is)
+
+pub returns-in-Err-clause-room : goal.returns-in-Err-clause-room
+returns-in-Err-clause-room g c = λ m last stands h is.
+    c.in-Err.is ∙ ap (λ (x : Code). Err x) (back_full c.in-Err.code c.answer_of.result c.hide-hidden.result c.answer_of.ensures.which (cc is))

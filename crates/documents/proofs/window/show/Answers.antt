@@ -14,6 +14,7 @@ use Rattle.std.proofs.Common.{arith, ◌≡◌, Err}
 use Rattle.embedded.specs.declared.code.Code.{Code}
 use Rattle.embedded.specs.declared.code.Code.TheVariants as code
 use Rattle.documents.proofs.UnseenLemmas.{stays_make_space, stays_map, stays_remove_space, stays_then}
+use Rattle.documents.proofs.RoomLemmas.{back_full, map_not_full, space_not_full}
 use Rattle.documents.proofs.window.show.Goals as goal
 
 pub returns-in-Ok-map-clause-led : goal.returns-in-Ok-map-clause-led
@@ -128,3 +129,16 @@ returns-in-Ok-map-clause-closed g c = λ shut. absurd (cc (c.in-Ok.ensures.ok, (
 
 pub returns-in-Err-map-clause-closed : goal.returns-in-Err-map-clause-closed
 returns-in-Err-map-clause-closed g c = λ shut. absurd (cc (c.in-Ok.ensures.ok, (c.make_space-made.ensures.closed shut).0))
+
+-- it takes no room
+pub returns-in-Err-clause-room : goal.returns-in-Err-clause-room
+returns-in-Err-clause-room g c = λ m stands is.
+    space_not_full m c.args.run.pages c.args.engine.now c.make_space-made.new.self c.make_space-made.result c.space_of.result c.in-Err.code
+    c.make_space-made.ensures c.space_of.ensures.space c.space_of.ensures.code c.in-Err.is stands (cc is)
+
+pub returns-in-Err-map-clause-room : goal.returns-in-Err-map-clause-room
+returns-in-Err-map-clause-room g c = λ m stands is.
+    map_not_full m c.args.run.id c.args.run.page c.args.run.pages c.args.writable c.args.engine.now c.make_space-made.new.self c.map.new.self
+    _ _ c.in-Ok.place.0 c.in-Ok.place.1 c.in-Err-map.code
+    c.make_space-made.ensures c.in-Ok.ensures.ok c.map.ensures c.in-Err-map.is stands
+    (back_full c.in-Err-map.code c.answer_of.result c.remove_space.result c.answer_of.ensures.which (cc is))

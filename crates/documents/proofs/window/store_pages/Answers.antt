@@ -12,6 +12,9 @@ use Rattle.documents.proofs.SpentLemmas.{window_spends}
 use Rattle.std.proofs.Common.{arith, length}
 use Rattle.documents.proofs.MoveLemmas.{pages_are, pages_fill}
 use Rattle.documents.proofs.UnseenLemmas.{stored_unseen, unseen_then}
+use Rattle.std.proofs.Common.{◌∙◌, ap, Err}
+use Rattle.embedded.specs.declared.code.Code.{Code}
+use Rattle.documents.proofs.RoomLemmas.{store_not_full}
 use Rattle.documents.proofs.window.store_pages.Goals as goal
 
 pub returns-clause-led : goal.returns-clause-led
@@ -83,3 +86,18 @@ returns-clause-stops g c = λ m like. let first = c.show.ensures.stops c.args.id
 
 pub returns-in-Err-clause-stops : goal.returns-in-Err-clause-stops
 returns-in-Err-clause-stops g c = c.show.ensures.stops c.args.id
+
+-- it takes no room
+pub returns-in-Err-clause-room : goal.returns-in-Err-clause-room
+returns-in-Err-clause-room g c = λ m stands is.
+    c.show.ensures.room m stands (c.in-Err.is ∙ ap (λ (x : Code). Err x) (cc is))
+
+pub returns-clause-room : goal.returns-clause-room
+returns-clause-room g c = λ m stands.
+    let shown = c.in-Ok.ensures.shown m stands in
+    store_not_full m c.args.id c.args.page c.pages_for-pages.result c.in-Ok.window.space c.in-Ok.window.address c.store-moved.result.0
+    c.args.bytes.now c.store-moved.result.1 c.store-moved.new.self c.end.new.engine
+    (machine_of c.args.engine.now m stands) shown.0 c.pages_for-pages.ensures c.end.result
+    (c.store-moved.ensures.stored (showing m c.args.id c.args.page c.pages_for-pages.result true) shown.1)
+    c.store-moved.ensures.part (c.store-moved.ensures.stops (showing m c.args.id c.args.page c.pages_for-pages.result true) shown.1)
+    c.end.ensures.room c.end.ensures.failed
