@@ -58,6 +58,7 @@ module _ (parser : Parser) (m : ArgMatches) (texts : List Text) (name : Text) (o
 -- commands with one name are one to `clap`
 same_parser : (c d : Command) → name_of c ≡ name_of d → parser_of c ≡ parser_of d
 same_parser (command.Run n q) (command.Run m r) e = refl
+same_parser (command.Processes n) (command.Processes m) e = refl
 same_parser (command.Format s k) (command.Format t l) e = refl
 same_parser command.Scavenge command.Scavenge e = refl
 same_parser command.Convert command.Convert e = refl

@@ -1,11 +1,11 @@
 //! The options of each command, as `clap` reads them.
-ghost use Rattle.std.specs.Prelude.{◌≡◌, ◌≤◌, ◌∷◌, [], ℕ, Some, true, false, map, codes, IfOk, Err};
+ghost use Rattle.std.specs.Prelude.{◌≡◌, ◌∷◌, [], Some, true, false, map, codes, IfOk, Err};
 ghost use Rattle.std.specs.String.{string_bytes};
 ghost use Rattle.std.specs.Option.{option_map_or};
 ghost use Rattle.clap.specs.Words.{HasMatchesOf, IsParsedFrom, Text, app_of, fault_of, found_of, is_simple_and_free, one_text, rule_of, takes};
 ghost use Rattle.clap.specs.Values.{IsUnsignedIn};
 ghost use Rattle.command_words.specs.Meaning.{number_of};
-ghost use Rattle.command_words.specs.Options.{NumberOption, calls, counter, frames, option_rule, parser_with, queue, rule_for, seed, serial};
+ghost use Rattle.command_words.specs.Options.{calls, counter, frames, option_rule, parser_with, queue, rule_for, seed, serial};
 
 use crate::refusal::{Refused, refusal_of};
 use clap::builder::ValueParser;
@@ -38,6 +38,15 @@ pub(crate) fn run_parser<'a>(alloc: Global) -> Result<Command<'a>, AllocError>
         .disable_help_flag(true)
         .arg(frames_option(alloc))?
         .arg(number_option(alloc, "queue", 0, 256))
+}
+
+/// The options of `processes`.
+pub(crate) fn processes_parser<'a>(alloc: Global) -> Result<Command<'a>, AllocError>
+    ensures { IfOk result (λ c. app_of c ≡ parser_with (codes "processes") (frames ∷ [])) }
+{
+    Command::new(alloc, "processes")
+        .disable_help_flag(true)
+        .arg(frames_option(alloc))
 }
 
 /// The options of `format`.

@@ -1,12 +1,13 @@
 //! The command that words mean.
-ghost use Rattle.std.specs.Prelude.{◌≡◌, ◌⊎◌, ◌∷◌, ℕ, Ok, Err, IfOk, map, codes, List};
+ghost use Rattle.std.specs.Prelude.{◌≡◌, ◌∷◌, Ok, Err, IfOk, map, codes, List};
 ghost use Rattle.std.specs.String.{string_bytes};
 ghost use Rattle.clap.specs.Words.{Text};
 ghost use Rattle.command_words.specs.Meaning.{IsNoCommand, Means, Names};
 ghost use Rattle.command_words.specs.Options.{IsInRange};
 
 use crate::parsers::{
-    convert_parser, format_parser, number_or, read, run_parser, scavenge_parser, trial_parser,
+    convert_parser, format_parser, number_or, processes_parser, read, run_parser, scavenge_parser,
+    trial_parser,
 };
 use crate::refusal::Refused;
 use std::alloc::Global;
@@ -16,6 +17,8 @@ use std::alloc::Global;
 pub enum Command {
     /// Answers a trace on a volume.
     Run { frames: u32, queue: u32 },
+    /// Answers the events of up to 16 clients on a volume.
+    Processes { frames: u32 },
     /// Makes a volume.
     Format { serial: u32, counter: u32 },
     /// Restores a volume from its labels.
@@ -38,6 +41,19 @@ fn run_of(alloc: Global, words: &[String]) -> Result<Command, Refused>
     let frames = number_or(&matches, "frames", 64);
     let queue = number_or(&matches, "queue", 0);
     Ok(Command::Run { frames, queue })
+}
+
+// The command `processes` with these words.
+fn processes_of(alloc: Global, words: &[String]) -> Result<Command, Refused>
+    requires named { (rest : List Text) × (map string_bytes words.now ≡ codes "processes" ∷ rest) }
+    ensures meant { IfOk result (Means words.now) }
+    ensures range { IfOk result IsInRange }
+    ensures refused { result ≡ Err Refused.Usage → IsNoCommand words.now }
+{
+    let parser = processes_parser(alloc)?;
+    let matches = read(parser, words)?;
+    let frames = number_or(&matches, "frames", 64);
+    Ok(Command::Processes { frames })
 }
 
 // The command `format` with these words.
@@ -110,6 +126,7 @@ pub fn command_of(machine: Global, words: &[String]) -> Result<Command, Refused>
     };
     match word.as_str() {
         "run" => run_of(machine, words),
+        "processes" => processes_of(machine, words),
         "format" => format_of(machine, words),
         "scavenge" => scavenge_of(machine, words),
         "convert" => convert_of(machine, words),

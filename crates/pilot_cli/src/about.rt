@@ -21,6 +21,11 @@ commands  format   makes an empty volume of the whole disk; what was there is
                    by default 64: how many pages are kept in memory, and
                    --queue n, 0 to 256, by default 0: how many pages may wait
                    before the disk, and are written in ascending sectors
+          processes
+                   opens the volume, reads events of up to 16 clients from
+                   standard input, a line each, and writes what each client
+                   gets; a load or a store may wait for its page, and other
+                   clients go on meanwhile; option --frames n, as for run
           scavenge restores the volume from its labels, and writes a line for
                    each lost sector and the counts
           convert  brings a volume of version 1 or 2 to version 3, with the same

@@ -13,7 +13,7 @@ use volume_root::{read_old_root, read_root};
 /// What is said where a command stands in the place of the image.
 fn order(image: &str) -> &'static str {
     match image {
-        "format" | "run" | "scavenge" | "convert" | "trial" => {
+        "format" | "run" | "processes" | "scavenge" | "convert" | "trial" => {
             "; the image comes first: pilot IMAGE COMMAND"
         }
         _ => "",
@@ -99,7 +99,9 @@ pub(crate) fn stream_failed(rt: &HostRuntime, source: Option<io::Error>, sink: O
 /// What a command takes memory for.
 fn what_takes_memory(meant: Command) -> &'static str {
     match meant {
-        Command::Run { queue: 0, .. } | Command::Trial { .. } => "the frames",
+        Command::Run { queue: 0, .. } | Command::Processes { .. } | Command::Trial { .. } => {
+            "the frames"
+        }
         Command::Run { .. } => "the frames and the queue",
         Command::Scavenge | Command::Convert => "labels and maps",
         _ => "the words",

@@ -1,5 +1,5 @@
 -- A command is one command.
-use Rattle.std.proofs.Common.{◌≡◌, List, Result, Ok, IfOk, ap, length, map, string_bytes, subst}
+use Rattle.std.proofs.Common.{◌≡◌, ℕ, List, Result, Ok, IfOk, ap, length, map, string_bytes, subst}
 use Rattle.std.specs.Prelude.{String}
 use Rattle.std.specs.declared.alloc.Global.{Global}
 use Rattle.command_words.proofs.MeaningLemmas.{one_meaning}
@@ -7,6 +7,11 @@ use Rattle.command_words.specs.Meaning.{Means}
 use Rattle.command_words.specs.Options.{IsInRange, name_of}
 use Rattle.command_words.specs.declared.refusal.Refused.{Refused}
 use Rattle.command_words.specs.declared.words.Command.{Command}
+use Rattle.command_words.specs.declared.words.Command.TheVariants as command
+
+-- words that mean `processes` mean no `run`
+pub no_run : (words : List (String Global)) (frames n queue : ℕ) → Means words (command.Processes frames) → Means words (command.Run n queue) → ⊥
+no_run words frames n queue means other = let e = one_meaning (map string_bytes words) (command.Processes frames) (command.Run n queue) means other in cc e
 
 module _ (words : List (String Global)) (result : Result Command Refused) (c : Command) (is : result ≡ Ok c) where
   -- the command is in range

@@ -217,8 +217,9 @@ module _ (result : Result Converted ConvertFault) (old new : DiskState) (all : I
         stream = λ e. absurd (cc e);
         not_opened = λ e. (reads, f, put);
         count = λ some none. inr (refl, names_count (λ count. none (is_count count)) put);
-        long = λ b source e. absurd (cc e);
-        long_run = λ e. absurd (cc e);
+        long = λ frames queue b other source e. absurd (cc e);
+        long_events = λ frames b other source e. absurd (cc e);
+        long_read = λ e. absurd (cc e);
         memory = λ e. absurd (cc e);
         damaged = λ e. absurd (cc e);
         unfit = λ e. absurd (cc e);
@@ -269,8 +270,9 @@ module _ (result : Result Converted ConvertFault) (old new : DiskState) (all : I
         stream = λ e. absurd (cc e);
         not_opened = λ e. absurd (cc e);
         count = λ some none. absurd (let e = sym is ∙ all.root.count (λ count. none (is_count count)) in cc e);
-        long = λ b source e. absurd (cc e);
-        long_run = λ e. absurd (cc e);
+        long = λ frames queue b other source e. absurd (cc e);
+        long_events = λ frames b other source e. absurd (cc e);
+        long_read = λ e. absurd (cc e);
         memory = λ e. absurd (cc e);
         damaged = λ e. absurd (cc e);
         unfit = λ e.

@@ -2,9 +2,9 @@
 use Rattle.std.proofs.Common.{◌≡◌, ◌⊎◌, inl, inr, ℕ, zero, suc, ◌+◌, ◌<◌, ◌≤◌, List, [], ◌∷◌, ◌++◌, length, Some, refl, sym, ◌∙◌, ap, subst, arith, append-nil, length-append}
 use Rattle.std.specs.Prelude.{Contains, option_map, slice_get}
 use Rattle.std.proofs.lemmas.List.{append_cancel_left}
-use Rattle.std.proofs.lemmas.Option.{none-some, same_Some}
+use Rattle.std.proofs.lemmas.Option.{same_Some}
 use Rattle.labelled_disk.specs.declared.disk.DiskWrite.{DiskWrite}
-use Rattle.labelled_disk.specs.CrashState.{crash_state, written}
+use Rattle.labelled_disk.specs.CrashState.{crash_state}
 use Rattle.labelled_disk.specs.Label.{root_label}
 use Rattle.labelled_disk.specs.Permitted.{Permitted}
 use Rattle.labelled_disk.specs.Root.{IsRoot, counter_of, root_page, serial_of, short_at}
@@ -20,14 +20,13 @@ use Rattle.flat_machine.specs.After.{TraceLine}
 use Rattle.flat_machine.specs.Start.{start}
 use Rattle.swapper_kernel.specs.Goes.{Went}
 use Rattle.swapper_kernel.specs.SyncLaws.{HasSync, has_sync_later}
-use Rattle.volume_root.specs.declared.root.Root.{Root}
 use Rattle.volume_root.specs.RootPage.{root_bytes, root_write}
 use Rattle.volume_root.specs.Sound.{Sound}
 use Rattle.running_words.specs.Session.{AreOpen}
 use Rattle.running_words.proofs.FlagLemmas.{rows_flag}
 use Rattle.pilot_engine.specs.Closing.{ShutAfterSync, ShutsBySync, closed_root}
 use Rattle.pilot_engine.specs.Opening.{IsUnset, KeepsFiles, SyncsFirst, WroteFirst, in_use}
-use Rattle.pilot_top.specs.CrashStates.{CrashStates, IsCrashState, Lawfully, ShutsLast}
+use Rattle.pilot_top.specs.CrashStates.{CrashStates, Lawfully, ShutsLast}
 use Rattle.pilot_top.specs.Cuts.{HonestCuts}
 use Rattle.pilot_top.proofs.PermittedRuns.{first_flag}
 

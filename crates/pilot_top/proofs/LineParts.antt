@@ -1,16 +1,12 @@
 -- What the parts of a run write: a start, lines, and an end.
 use Rattle.std.proofs.Common.{◌≡◌, ◌⊎◌, inl, inr, ℕ, zero, suc, ◌+◌, ◌<◌, ◌≤◌, Bool, true, false, List, [], ◌∷◌, ◌++◌, length, take, Option, Some, None, refl, sym, ◌∙◌, ap, subst, arith, length-append}
 use Rattle.std.specs.Prelude.{filter, not, option_map, slice_get}
-use Rattle.std.specs.List.{list_any}
 use Rattle.std.proofs.lemmas.Bool.{true≢false}
 use Rattle.std.proofs.lemmas.Option.{none-some, same_Some}
 use Rattle.labelled_disk.specs.declared.disk.DiskWrite.{DiskWrite}
 use Rattle.labelled_disk.specs.declared.disk.DiskWrite.TheVariants as write
 use Rattle.labelled_disk.specs.declared.label.Label.{Label}
-use Rattle.labelled_disk.specs.declared.label.Wanted.{Wanted}
-use Rattle.labelled_disk.specs.Calls.{RevealsSame}
 use Rattle.labelled_disk.specs.CrashState.{crash_state}
-use Rattle.labelled_disk.specs.Permitted.{Permitted}
 use Rattle.labelled_disk.specs.Runs.{growth}
 use Rattle.labelled_disk.specs.Sectors.{Sector}
 use Rattle.labelled_disk.specs.State.{DiskState}
@@ -19,8 +15,7 @@ use Rattle.flat_machine.specs.declared.call.Call.{Call}
 use Rattle.flat_machine.specs.declared.call.Call.TheVariants as call
 use Rattle.flat_machine.specs.After.{TraceLine}
 use Rattle.label_calls.specs.Own.{RelabelsOwn}
-use Rattle.swapper_kernel.specs.Goes.{IsDirty, Pages, is_page_write}
-use Rattle.session_words.specs.Volume.{volume_page}
+use Rattle.swapper_kernel.specs.Goes.{Pages, is_page_write}
 use Rattle.trace_io.specs.Reading.{is_last}
 use Rattle.volume_root.specs.RootPage.{root_write}
 use Rattle.running_words.specs.Session.{WroteIn}

@@ -17,6 +17,7 @@ use Rattle.scavenger.specs.Restored.{Survives}
 use Rattle.volume_convert.specs.Leaves.{IsOldOrConverted, StaysConvertible}
 use Rattle.pilot_top.specs.Converting.{ConvertedBy}
 use Rattle.pilot_top.specs.Making.{Formatted}
+use Rattle.pilot_top.specs.Processing.{Processed}
 use Rattle.pilot_top.specs.Restoring.{Scavenged}
 use Rattle.pilot_top.specs.Running.{Ran}
 use Rattle.pilot_top.specs.Sparing.{HasSameSectors, Spared}
@@ -25,10 +26,12 @@ use Rattle.flat_machine.specs.After.{TraceLine}
 use Rattle.pilot_top.specs.Trying.{Tried}
 use Rattle.pilot_top.specs.World.{World}
 use Rattle.pilot_top.specs.declared.status.Status.TheVariants as status
+use Rattle.pilot_top.proofs.CostLemmas.{nothing_spent}
 use Rattle.pilot_top.proofs.CutLemmas.{nothing_honest}
 use Rattle.pilot_top.specs.Parts.{PartMay}
 use Rattle.pilot_top.proofs.PartLemmas.{parts_none}
 use Rattle.pilot_top.proofs.PermittedRuns.{lawfully_none}
+use Rattle.pilot_top.proofs.ProcessingLemmas.{costs_refused}
 use Rattle.pilot_top.proofs.StagedLemmas.{from_nothing, crash_states_before}
 
 -- a disk to which nothing was written
@@ -76,6 +79,22 @@ module _ (w : World) where
     transfers = λ d b revealed sound source. omega arith;
     permitted = lawfully_none (record { contents = refl; writes = refl });
     damage = λ t sink is. absurd (cc is);
+    sound = λ d revealed sound. (λ is. cc is, λ is. cc is);
+    not_opened = λ d revealed is. absurd (cc is);
+    refused = λ d why revealed refused. inr (inr refl);
+    refused_unwritten = λ d why revealed refused. only_reads_itself w.disk;
+    complete = λ d b revealed sound source short disk_held source_held sink_held. inr refl;
+    short = λ b source done. absurd (cc done);
+  }
+
+  pub processed_nothing : Processed status.NoMemory w w
+  processed_nothing = record {
+    answers = λ d b t revealed sound source sink. (source, sink);
+    replied = λ b t source sink. (source, sink);
+    transfers = λ d b t revealed sound source sink. costs_refused b w.disk w.disk (nothing_spent w.disk);
+    permitted = lawfully_none (record { contents = refl; writes = refl });
+    left_open = λ is. absurd (elim is [ inl long ↦ cc long | inr damaged ↦ cc damaged ]);
+    damage = λ is. absurd (cc is);
     sound = λ d revealed sound. (λ is. cc is, λ is. cc is);
     not_opened = λ d revealed is. absurd (cc is);
     refused = λ d why revealed refused. inr (inr refl);

@@ -1,5 +1,5 @@
 -- What a run with a queue did through a reference it did to the disk.
-use Rattle.std.proofs.Common.{◌≡◌, inl, inr, ℕ, List, Option, sym, subst}
+use Rattle.std.proofs.Common.{◌≡◌, inl, inr, ℕ, List, Option}
 use Rattle.labelled_disk.specs.Sectors.{Sector}
 use Rattle.labelled_disk.specs.State.{DiskState, lent_state}
 use Rattle.trace_io.specs.Reading.{reading}

@@ -1,5 +1,5 @@
 -- A run with a queue: what is so of the queue, as a disk, is so of the disk beneath.
-use Rattle.std.proofs.Common.{◌≡◌, ◌≢◌, ◌⊎◌, inl, inr, ℕ, ◌+◌, ◌*◌, ◌<◌, ◌≤◌, true, List, [], ◌∷◌, ◌++◌, length, Option, Some, None, refl, sym, ap, ◌∙◌, subst, arith, append-nil}
+use Rattle.std.proofs.Common.{◌≡◌, ◌≢◌, ◌⊎◌, inl, inr, ℕ, ◌<◌, true, List, [], ◌∷◌, ◌++◌, length, Option, Some, None, refl, sym, ap, ◌∙◌, subst, arith, append-nil}
 use Rattle.std.specs.List.{list_any}
 use Rattle.std.proofs.lemmas.Option.{none-some}
 use Rattle.labelled_disk.specs.declared.evidence.Evidence.{Evidence}
@@ -22,7 +22,7 @@ use Rattle.pilot_engine.specs.Closing.{HasShut}
 use Rattle.pilot_engine.specs.Opening.{IsDiskFault, IsOutside}
 use Rattle.pilot_top.specs.Headline.{Answering, HasFilesAt, LeadsTo, HasWritten, RevealsDamage}
 use Rattle.pilot_top.specs.Last.{last_line, Puts}
-use Rattle.pilot_top.specs.Queued.{HasSettledAt, RepliedQueued, RepliesChange, RevealsSeen, RunQueued, WroteChange}
+use Rattle.pilot_top.specs.Queued.{RepliedQueued, RepliesChange, RevealsSeen, RunQueued, WroteChange}
 use Rattle.pilot_top.specs.Replied.{Replied}
 use Rattle.pilot_top.specs.RunDisk.{IsChange, fault_on, shown_of}
 use Rattle.pilot_top.specs.Stopping.{StopsAs}

@@ -1,5 +1,5 @@
 -- A run with a queue that ended before its session began, and what lies beneath one.
-use Rattle.std.proofs.Common.{◌≡◌, ◌≢◌, ◌⊎◌, inl, inr, ℕ, ◌+◌, ◌*◌, ◌^◌, ◌≤◌, true, List, [], ◌∷◌, length, Option, Some, None, Result, Ok, Err, refl, sym, ap, ◌∙◌, subst, arith}
+use Rattle.std.proofs.Common.{◌≡◌, ◌≢◌, ◌⊎◌, inl, inr, ℕ, ◌+◌, ◌*◌, ◌^◌, ◌≤◌, true, List, length, Option, Some, None, Result, Ok, Err, refl, sym, ◌∙◌, subst, arith}
 use Rattle.std.specs.Prelude.{slice_get, sum_by}
 use Rattle.labelled_disk.specs.declared.evidence.Evidence.{Evidence}
 use Rattle.labelled_disk.specs.declared.label.Label.{Label}
@@ -10,14 +10,12 @@ use Rattle.labelled_disk.specs.Layout.{IsCount}
 use Rattle.labelled_disk.specs.Sectors.{AreSectors, Sector}
 use Rattle.labelled_disk.specs.State.{DiskState, HasLabel}
 use Rattle.flat_machine.specs.After.{TraceLine}
-use Rattle.flat_machine.specs.Start.{start}
-use Rattle.trace_io.specs.Reading.{IsShort, reading}
+use Rattle.trace_io.specs.Reading.{reading}
 use Rattle.volume_root.specs.declared.root.Root.{Root}
 use Rattle.volume_root.specs.Flag.{IsRefused}
 use Rattle.volume_root.specs.RootPage.{IsUnlessFault, judged}
 use Rattle.volume_root.specs.Sound.{Sound}
 use Rattle.pilot_engine.proofs.StartFaults.{early_outside}
-use Rattle.pilot_engine.specs.declared.fault.StartFault.{StartFault}
 use Rattle.pilot_engine.specs.declared.fault.StartFault.TheVariants as start_fault
 use Rattle.pilot_top.specs.Headline.{RevealsDamage, line_bound, run_bound}
 use Rattle.pilot_top.specs.Last.{last_line, Puts}

@@ -1,7 +1,6 @@
 -- A disk that reveals the same as another.
-use Rattle.std.proofs.Common.{◌≡◌, ℕ, List, sym, ◌∙◌}
+use Rattle.std.proofs.Common.{ℕ, List, sym, ◌∙◌}
 use Rattle.labelled_disk.specs.Calls.{RevealsSame}
-use Rattle.labelled_disk.specs.Sectors.{Sector}
 use Rattle.labelled_disk.specs.State.{DiskState}
 use Rattle.labelled_disk.specs.WriteRuns.{Appended}
 use Rattle.labelled_disk.specs.declared.disk.DiskWrite.{DiskWrite}

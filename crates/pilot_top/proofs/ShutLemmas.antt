@@ -1,5 +1,5 @@
 -- Calls of a session, and then an end that sets the clean flag after a sync, or no end.
-use Rattle.std.proofs.Common.{◌≡◌, ◌⊎◌, inl, inr, ℕ, ◌+◌, List, [], ◌∷◌, ◌++◌, length, Some, refl, sym, ◌∙◌, ap, subst, arith, append_assoc, length-append}
+use Rattle.std.proofs.Common.{◌≡◌, inl, inr, ◌+◌, List, [], ◌∷◌, ◌++◌, length, sym, ◌∙◌, ap, subst, arith, append_assoc, length-append}
 use Rattle.std.specs.Prelude.{option_map}
 use Rattle.labelled_disk.specs.declared.disk.DiskWrite.{DiskWrite}
 use Rattle.labelled_disk.specs.Calls.{RevealsSame}
@@ -11,7 +11,6 @@ use Rattle.labelled_disk.specs.WriteRuns.{after_writes}
 use Rattle.labelled_disk.proofs.WriteRunLemmas.{after_writes-append, appended_none, appended_then}
 use Rattle.swapper_kernel.specs.SyncLaws.{HasSync}
 use Rattle.volume_root.specs.RootPage.{root_write}
-use Rattle.running_words.specs.Session.{AreOpen}
 use Rattle.running_words.proofs.FlagLemmas.{append_open}
 use Rattle.pilot_engine.specs.Closing.{ShutAfterSync, ShutsBySync, closed_root}
 use Rattle.pilot_top.specs.CrashStates.{Openly}

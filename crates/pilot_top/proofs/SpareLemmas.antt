@@ -1,5 +1,5 @@
 -- What spares a file, line by line, from the start of a run to its end.
-use Rattle.std.proofs.Common.{◌≡◌, ◌≢◌, ◌⊎◌, inl, inr, ℕ, zero, suc, ◌+◌, ◌<◌, ◌≤◌, Bool, true, false, ◌||◌, List, [], ◌∷◌, ◌++◌, length, take, Option, Some, None, refl, sym, ◌∙◌, ap, subst, arith}
+use Rattle.std.proofs.Common.{◌≡◌, ◌≢◌, inl, inr, ℕ, zero, suc, ◌<◌, ◌≤◌, Bool, true, false, List, [], ◌∷◌, ◌++◌, take, Option, Some, None, refl, sym, ◌∙◌, ap, subst, arith}
 use Rattle.std.specs.Prelude.{◌==◌, option_map, slice_get, slice_set, if◌then◌else◌}
 use Rattle.std.specs.List.{list_any}
 use Rattle.std.specs.Option.{option_map_or}
@@ -19,8 +19,8 @@ use Rattle.labelled_disk.specs.Root.{root_page}
 use Rattle.labelled_disk.specs.Runs.{growth}
 use Rattle.labelled_disk.specs.Sectors.{Sector}
 use Rattle.labelled_disk.specs.State.{DiskState}
-use Rattle.labelled_disk.specs.WriteRuns.{Appended, after_writes}
-use Rattle.labelled_disk.proofs.WriteRunLemmas.{appended_no_more, appended_none}
+use Rattle.labelled_disk.specs.WriteRuns.{Appended}
+use Rattle.labelled_disk.proofs.WriteRunLemmas.{appended_no_more}
 use Rattle.frame_pool.specs.Frames.{Slots}
 use Rattle.flat_machine.specs.declared.call.Call.{Call}
 use Rattle.flat_machine.specs.declared.call.Call.TheVariants as call
@@ -46,7 +46,7 @@ use Rattle.pilot_engine.specs.Opening.{WroteFirst, in_use}
 use Rattle.pilot_engine.specs.Sparing.{HasSameLabels, IsLasting, Spares, SparesAll, label_for}
 use Rattle.pilot_engine.specs.Stepping.{relabels}
 use Rattle.pilot_engine.proofs.SparedCalls.{for_growth, for_take, spares_all, spares_with, with_growth, with_take}
-use Rattle.pilot_engine.proofs.SparingLemmas.{no_label, own_label, same_labels, spares_same, spares_still, spares_then}
+use Rattle.pilot_engine.proofs.SparingLemmas.{no_label, own_label, spares_same, spares_still, spares_then}
 use Rattle.pilot_top.specs.Parts.{LineWrote}
 use Rattle.pilot_top.specs.Sparing.{HasSameSectors, IsPermanentFile, LineDone, RunSpares, Spared, maps_file, names_file, other_file, sector_for, stores}
 use Rattle.pilot_top.proofs.PrefixLemmas.{read_prefix}

@@ -1,5 +1,5 @@
 -- In which part of a run its last write is, by its status, whatever the disk holds.
-use Rattle.std.proofs.Common.{◌≡◌, ◌≢◌, ◌⊎◌, inl, inr, ℕ, suc, ◌+◌, ◌≤◌, Bool, true, false, List, [], ◌∷◌, ◌++◌, length, Option, Some, None, refl, sym, ◌∙◌, ap, subst, arith, append-nil, length-append}
+use Rattle.std.proofs.Common.{◌≡◌, ◌≢◌, ◌⊎◌, inl, inr, ℕ, suc, Bool, true, false, List, [], ◌∷◌, ◌++◌, length, Option, Some, None, refl, sym, ◌∙◌, ap, subst, arith, append-nil, length-append}
 use Rattle.std.specs.Prelude.{flat_map, if◌then◌else◌, slice_get}
 use Rattle.std.specs.List.{list_any}
 use Rattle.std.specs.Io.KnownBytes.{Appends}
@@ -19,7 +19,7 @@ use Rattle.flat_machine.specs.Machine.{Machine}
 use Rattle.flat_machine.specs.Text.{text}
 use Rattle.trace_io.specs.Lines.{TakesLine, TakesPart}
 use Rattle.trace_io.specs.Progress.{Progress}
-use Rattle.trace_io.specs.Reading.{is_last, reading, whole_reading}
+use Rattle.trace_io.specs.Reading.{is_last, reading}
 use Rattle.trace_io.specs.declared.progress.Stop.TheVariants as stop
 use Rattle.trace_io.proofs.CourseLemmas.{HasRead-end, HasRead-item, HasRead-last, HasRead-part}
 use Rattle.pilot_engine.specs.Closing.{WroteOn}

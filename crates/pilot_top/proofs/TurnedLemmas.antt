@@ -24,7 +24,7 @@ use Rattle.pilot_top.proofs.PartLemmas.{parts_none}
 use Rattle.pilot_top.proofs.PrefixLemmas.{read_prefix}
 use Rattle.pilot_top.proofs.PermittedRuns.{openly_then}
 use Rattle.pilot_top.proofs.PlaceLemmas.{leads_after, leads_before}
-use Rattle.pilot_top.proofs.StagedLemmas.{from_end, crash_states_before, crash_states_then, from_prefix, line_whole}
+use Rattle.pilot_top.proofs.StagedLemmas.{from_end, crash_states_before, crash_states_then, line_whole}
 use Rattle.pilot_top.proofs.TopLemmas.{Going, Going-start, Going-reply, last_of, reply_lines}
 
 -- what one line has written, and what it cost

@@ -10,6 +10,7 @@ use Rattle.command_words.specs.declared.words.Command.{Command}
 use Rattle.command_words.specs.declared.words.Command.TheVariants as command
 use Rattle.trace_io.specs.Reading.{IsShort}
 use Rattle.volume_root.specs.Flag.{IsRefused}
+use Rattle.pilot_top.specs.Processing.{IsShortText}
 use Rattle.pilot_top.specs.World.{World, Holds, Gives, DiskFailed, SourceFailed, SinkFailed, StaysUnwritten, WritesLast}
 use Rattle.pilot_top.specs.declared.last.Cause.TheVariants as cause
 use Rattle.pilot_top.specs.declared.status.Status.{Status}
@@ -22,6 +23,10 @@ pub record Understands (words : List (String Global)) (s : Status) (before after
   pub unknown : ((c : Command) → ¬ Names words c) → s ≡ status.Usage
   pub line : s ≡ status.Usage → WritesLast before after cause.Usage
 
+-- the command is one that reads the source: a `run` or a `processes`
+abbrev pub ReadsText : List (String Global) → Type 0
+ReadsText words = ((frames : ℕ) × (queue : ℕ) × Means words (command.Run frames queue)) ⊎ ((frames : ℕ) × Means words (command.Processes frames))
+
 -- Each status but `Done` and `Usage` has its cause.
 pub record HasReason (words : List (String Global)) (s : Status) (before after : World) : Type 0 where
   pub disk : s ≡ status.DiskFault → DiskFailed before after
@@ -30,20 +35,21 @@ pub record HasReason (words : List (String Global)) (s : Status) (before after :
   pub not_opened : s ≡ status.NotOpened → StaysUnwritten before after × (why : RootFault) × WritesLast before after (cause.Root why)
   pub count : ¬ IsNoCommand words → ¬ IsCount before.disk.sectors
       → (s ≡ status.NoMemory) ⊎ ((s ≡ status.NotOpened) × WritesLast before after (cause.Root (fault.BadCount before.disk.sectors)))
-  -- only a trace that is too long ends so, and it is read by `run` alone
-  pub long : (b : List ℕ) → Gives before b → s ≡ status.Long → ¬ IsShort (2 ^ 32) b
-  pub long_run : s ≡ status.Long → (frames queue : ℕ) × Means words (command.Run frames queue)
+  -- only a text that is too long ends so: of calls, which `run` reads alone, or of events, which `processes` reads alone
+  pub long : (frames queue : ℕ) (b : List ℕ) → Means words (command.Run frames queue) → Gives before b → s ≡ status.Long → ¬ IsShort (2 ^ 32) b
+  pub long_events : (frames : ℕ) (b : List ℕ) → Means words (command.Processes frames) → Gives before b → s ≡ status.Long → ¬ IsShortText b
+  pub long_read : s ≡ status.Long → ReadsText words
   -- nothing was written, and the first word is a command
   pub memory : s ≡ status.NoMemory → StaysUnwritten before after × (c : Command) × Names words c
-  -- only a `run` ends so, and a `trial` on a disk that does not reveal what it holds
+  -- only a `run` or a `processes` ends so, and a `trial` on a disk that does not reveal what it holds
   pub damaged : s ≡ status.Damaged
-      → ((frames queue : ℕ) × Means words (command.Run frames queue)) ⊎ ((seed : ℕ) × (calls : ℕ) × (frames : ℕ) × Means words (command.Trial seed calls frames) × ((d : List Sector) → ¬ Holds before d))
+      → ReadsText words ⊎ ((seed : ℕ) × (calls : ℕ) × (frames : ℕ) × Means words (command.Trial seed calls frames) × ((d : List Sector) → ¬ Holds before d))
   -- only a `convert` ends so: nothing was written, and the line has how many sectors are wanted, and that there are fewer
   pub unfit : s ≡ status.Unfit
       → StaysUnwritten before after × Means words command.Convert × (wanted : ℕ) × (capacity before.disk.sectors < wanted) × WritesLast before after (cause.Unfit wanted (capacity before.disk.sectors))
 
--- nothing is taken from the source: the command is another than `run`, or it was not begun, or the volume is refused
+-- nothing is taken from the source: the command is one that reads none, or it was not begun, or the volume is refused
 abbrev pub TakesNothing : List (String Global) → Status → World → Type 0
 TakesNothing words s before =
-    ((frames queue : ℕ) → ¬ Means words (command.Run frames queue)) ⊎ (s ≡ status.Usage) ⊎ (s ≡ status.NotOpened) ⊎ (s ≡ status.NoMemory)
+    ¬ ReadsText words ⊎ (s ≡ status.Usage) ⊎ (s ≡ status.NotOpened) ⊎ (s ≡ status.NoMemory)
     ⊎ ((d : List Sector) × (why : RootFault) × Holds before d × IsRefused d why)

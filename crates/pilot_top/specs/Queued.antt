@@ -1,7 +1,7 @@
 -- What `run` does with a queue, by its status, over the disk beneath.
 use Rattle.std.specs.Prelude.{◌≡◌, ◌≢◌, ◌⊎◌, ◌+◌, ◌*◌, ◌^◌, ◌≤◌, true, false, ℕ, List, ◌++◌, flat_map, Option, Some, None}
 use Rattle.labelled_disk.specs.Sectors.{Sector}
-use Rattle.labelled_disk.specs.State.{DiskState, HasLabel}
+use Rattle.labelled_disk.specs.State.{DiskState}
 use Rattle.labelled_disk.specs.declared.evidence.Evidence.{Evidence}
 use Rattle.labelled_disk.specs.declared.layout.RootFault.{RootFault}
 use Rattle.filer_kernel.specs.Evidence.{IsEvident}

@@ -1,5 +1,5 @@
 //! A run is stopped, or what waits before its disk is brought to the medium.
-ghost use Rattle.std.specs.Prelude.{◌≡◌, ◌≢◌, ◌⊎◌, ℕ, List, ◌≤◌, Some, None, true};
+ghost use Rattle.std.specs.Prelude.{◌≡◌, ◌≢◌, ◌⊎◌, ◌≤◌, Some, None, true};
 ghost use Rattle.labelled_disk.specs.declared.evidence.Evidence.{Evidence};
 ghost use Rattle.labelled_disk.specs.Calls.{RevealsSame, Rose};
 ghost use Rattle.flat_machine.specs.Machine.{Machine};

@@ -50,7 +50,8 @@ fn push_line(text: &mut String, line: &str) -> Result<(), AllocError> {
 }
 
 impl Part {
-    /// A command, `EXIT WORDS`. A run without an option has so many frames; elsewhere the word `?` stands for their number.
+    /// A command, `EXIT WORDS`. A `run` or `processes` without an option has so many frames; elsewhere the word
+    /// `?` stands for their number.
     pub(crate) fn of_words(alloc: Global, frames: &str, text: &str) -> Result<Part> {
         let (exit, given) = match text.split_once(' ') {
             Some((exit, given)) => (exit, Some(given)),
@@ -62,7 +63,7 @@ impl Part {
                 let word = if word == "?" { frames } else { word };
                 words.push(String::from_str(alloc, word)?)?;
             }
-            if given == "run" {
+            if matches!(given, "run" | "processes") {
                 words.push(String::from_str(alloc, "--frames")?)?;
                 words.push(String::from_str(alloc, frames)?)?;
             }

@@ -9,6 +9,13 @@ pub returns-in-run-clause-unknown : goal.returns-in-run-clause-unknown
 returns-in-run-clause-unknown c none =
     absurd (none (command.Run 64 0) (first_named c.args.words.now c.first.result c.in-Some.word c.as_str.result.now _ c.first.ensures.value c.in-Some.is c.as_str.ensures.value c.in-run.is))
 
+pub processes_of-requires : goal.processes_of-requires
+processes_of-requires c = record { named = first_named c.args.words.now c.first.result c.in-Some.word c.as_str.result.now _ c.first.ensures.value c.in-Some.is c.as_str.ensures.value c.in-processes.is }
+
+pub returns-in-processes-clause-unknown : goal.returns-in-processes-clause-unknown
+returns-in-processes-clause-unknown c none =
+    absurd (none (command.Processes 64) (first_named c.args.words.now c.first.result c.in-Some.word c.as_str.result.now _ c.first.ensures.value c.in-Some.is c.as_str.ensures.value c.in-processes.is))
+
 pub format_of-requires : goal.format_of-requires
 format_of-requires c = record { named = first_named c.args.words.now c.first.result c.in-Some.word c.as_str.result.now _ c.first.ensures.value c.in-Some.is c.as_str.ensures.value c.in-format.is }
 
@@ -39,6 +46,9 @@ returns-in-trial-clause-unknown c none =
 
 pub returns-in-run-clause-memory : goal.returns-in-run-clause-memory
 returns-in-run-clause-memory c is = (command.Run 64 0, first_named c.args.words.now c.first.result c.in-Some.word c.as_str.result.now _ c.first.ensures.value c.in-Some.is c.as_str.ensures.value c.in-run.is)
+
+pub returns-in-processes-clause-memory : goal.returns-in-processes-clause-memory
+returns-in-processes-clause-memory c is = (command.Processes 64, first_named c.args.words.now c.first.result c.in-Some.word c.as_str.result.now _ c.first.ensures.value c.in-Some.is c.as_str.ensures.value c.in-processes.is)
 
 pub returns-in-format-clause-memory : goal.returns-in-format-clause-memory
 returns-in-format-clause-memory c is = (command.Format 1 1, first_named c.args.words.now c.first.result c.in-Some.word c.as_str.result.now _ c.first.ensures.value c.in-Some.is c.as_str.ensures.value c.in-format.is)

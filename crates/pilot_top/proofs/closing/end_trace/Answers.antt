@@ -1,7 +1,6 @@
 use Rattle.std.proofs.Common.{rules, ◌≡◌, Option, Some, None, [], sym, ◌∙◌, ap, subst}
 use denote.Enum.Bare.{same_true}
 use Rattle.labelled_disk.specs.Calls.{RevealsSame}
-use Rattle.labelled_disk.specs.State.{DiskState}
 use Rattle.labelled_disk.proofs.WriteRunLemmas.{appended_none}
 use Rattle.swapper_kernel.specs.Goes.{Went}
 use Rattle.pilot_top.proofs.ShutLemmas.{none_shuts}

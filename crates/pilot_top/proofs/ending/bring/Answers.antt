@@ -1,4 +1,4 @@
-use Rattle.std.proofs.Common.{◌≡◌, inl, inr, ap, Some, refl}
+use Rattle.std.proofs.Common.{inl, inr, ap, Some, refl}
 use Rattle.labelled_disk.specs.declared.evidence.Halt.TheVariants as halt
 use Rattle.pilot_top.specs.declared.status.Status.{Status}
 use Rattle.pilot_top.proofs.ShownLemmas.{on_change, on_disk, on_ends, some_of}

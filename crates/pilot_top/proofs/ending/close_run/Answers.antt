@@ -1,6 +1,4 @@
-use Rattle.std.proofs.Common.{◌≡◌, inl, inr, ap, Some, OnOk, IfErr, Err, List, refl, sym, ◌∙◌, subst, true}
-use Rattle.labelled_disk.specs.Calls.{Rose}
-use Rattle.labelled_disk.specs.Sectors.{Sector}
+use Rattle.std.proofs.Common.{◌≡◌, inl, inr, ap, Some, OnOk, IfErr, Err, refl, ◌∙◌, subst, true}
 use Rattle.labelled_disk.specs.declared.evidence.Halt.{Halt}
 use Rattle.labelled_disk.specs.declared.evidence.Halt.TheVariants as halt
 use Rattle.filer_kernel.specs.Evidence.{ShowsEvidence}

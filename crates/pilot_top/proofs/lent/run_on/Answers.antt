@@ -8,6 +8,7 @@ use Rattle.pilot_top.specs.Headline.{at_end, run_bound}
 use Rattle.pilot_top.specs.InitialState.{FromInitialState}
 use Rattle.pilot_top.specs.Parts.{PartMay}
 use Rattle.pilot_top.proofs.AfterLemmas.{none_rose_after, rose_after, shut_after, open_after, spent_after, run_after, reads_after, crash_states_after, cuts_after, lawfully_after, spared_after, stops_after, damage_after, replied_after, from_after}
+use Rattle.pilot_top.proofs.CommandLemmas.{no_run}
 use Rattle.pilot_top.proofs.ReasonLemmas.{replied_reasoned}
 use Rattle.pilot_top.proofs.StatusLemmas.{is_done, with_memory}
 use Rattle.pilot_top.proofs.lent.run_on.Given as given
@@ -58,14 +59,15 @@ returns g c = record {
     stream = e.stream_cause;
     not_opened = λ is. let line = e.refused_line is in (reads_after g.D.Disk.state _ c.run-status.result.1.now (after g c) (g.D.Disk.state c.args.disk.now) _ _ (e.unwritten is).0, line.0, line.1);
     count = λ some none. inr (e.count none);
-    long = e.long;
-    long_run = λ is. (c.args.frames, 0, meant);
+    long = λ frames queue b other. e.long b;
+    long_events = λ frames b other source is short. no_run words frames c.args.frames 0 other meant;
+    long_read = λ is. inl (c.args.frames, 0, meant);
     memory = λ is. (reads_after g.D.Disk.state _ c.run-status.result.1.now (after g c) (g.D.Disk.state c.args.disk.now) _ _ (e.memory is).0, command.Run c.args.frames 0, meant.named);
-    damaged = λ is. inl (c.args.frames, 0, meant);
+    damaged = λ is. inl (inl (c.args.frames, 0, meant));
     unfit = λ is. absurd (e.no_other.1 is);
   };
   keeps_source = λ words meant takes. elim takes [
-    | inl none ↦ absurd (none c.args.frames 0 (meant))
+    | inl none ↦ absurd (none (inl (c.args.frames, 0, meant)))
     | inr (inl usage) ↦ absurd (c.run-status.ensures.no_other.0 usage)
     | inr (inr (inl opened)) ↦ (c.run-status.ensures.unwritten opened).1
     | inr (inr (inr (inl memory))) ↦ (c.run-status.ensures.memory memory).1

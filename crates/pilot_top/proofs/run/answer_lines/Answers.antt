@@ -44,7 +44,7 @@ use Rattle.pilot_top.proofs.RepliedLemmas.{Replied-changed, Replied-end, Replied
 use Rattle.pilot_top.specs.Sparing.{Hides}
 use Rattle.pilot_top.proofs.SpareLemmas.{lines_end, lines_hide, lines_more, lines_none, lines_run, lines_same, lines_source, run_still}
 use Rattle.pilot_top.proofs.StagedLemmas.{from_rest, stands_revealed}
-use Rattle.pilot_top.proofs.StatusLemmas.{halt_disk, halt_ends, trace_ends}
+use Rattle.pilot_top.proofs.StatusLemmas.{halt_ends, trace_ends}
 use Rattle.pilot_top.proofs.StopParts.{Stops-end, Stops-halted, Stops-long, Stops-read_fault, Stops-write_fault, end_parts}
 use Rattle.pilot_top.proofs.TopLemmas.{change_revealed, last_of, Run-disk, Run-long, Run-read_fault, Run-write_fault, not_short, rose_later, Puts-later, damage_revealed, revealed_prefix, Going-sink, Going-revealed}
 use Rattle.pilot_top.proofs.TurnedLemmas.{line_parts, more_crash_states, ended_crash_states, still_parts, Turned-start, Turned-reply, Turned-source, Turned-revealed, Turned-same}

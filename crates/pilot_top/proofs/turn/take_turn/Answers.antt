@@ -1,4 +1,4 @@
-use Rattle.std.proofs.Common.{◌≡◌, [], ◌∷◌, false, Some, None, refl, sym, ◌∙◌, subst, arith}
+use Rattle.std.proofs.Common.{◌≡◌, false, Some, None, refl, sym, ◌∙◌, subst, arith}
 use Rattle.labelled_disk.specs.declared.evidence.Halt.{Halt}
 use Rattle.filer_kernel.specs.Evidence.{ShowsEvidence}
 use Rattle.file_manager.specs.Creating.{next_id}
