@@ -1,5 +1,5 @@
 //! The sectors of one page of the map, a bit each, the highest bit of a byte first.
-ghost use Rattle.std.specs.Prelude.{◌≡◌, ℕ, ◌+◌, ◌-◌, ◌*◌, ◌%◌, ◌^◌, ◌≤◌, ◌<◌, Bool, true, false, not, List};
+ghost use Rattle.std.specs.Prelude.{◌≡◌, ◌+◌, ◌-◌, ◌%◌, ◌^◌, ◌≤◌, ◌<◌, true, false, not};
 ghost use Rattle.alloc_map.specs.Bits.{is_used as is_used_in, AreAll, IsMarked, free_in};
 
 use flat_mem::{PAGE_BYTES, Page};

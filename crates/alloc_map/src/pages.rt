@@ -1,5 +1,5 @@
 //! The sectors of the whole map, page by page.
-ghost use Rattle.std.specs.Prelude.{◌≡◌, ℕ, ◌+◌, ◌-◌, ◌*◌, ◌/◌, ◌≤◌, ◌<◌, Bool, true, false, not, List, IfOk, IfErr, OnOk, OnErr};
+ghost use Rattle.std.specs.Prelude.{◌≡◌, ℕ, ◌+◌, ◌-◌, ◌*◌, ◌/◌, ◌≤◌, ◌<◌, not, List, IfOk, IfErr, OnOk, OnErr};
 ghost use Rattle.alloc_map.specs.Bits.{is_used, AreAll, free_in, RevealsMarked, RevealsOthers};
 ghost use Rattle.alloc_map.specs.Pages.{first_sector_after, pages_to, pages_between};
 

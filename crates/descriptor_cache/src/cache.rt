@@ -1,5 +1,5 @@
 //! The cache.
-ghost use Rattle.std.specs.Prelude.{◌≡◌, ℕ, ◌<◌, ◌≤◌, List, [], ◌∷◌, ◌++◌, length, drop, find};
+ghost use Rattle.std.specs.Prelude.{◌≡◌, ◌<◌, ◌≤◌, [], ◌∷◌, ◌++◌, length, drop, find};
 ghost use Rattle.swap_units.specs.Unit.{has_page};
 
 use arrayvec::ArrayVec;

@@ -1,5 +1,5 @@
 //! A run is added to the map.
-ghost use Rattle.std.specs.Prelude.{◌≡◌, ℕ, ◌+◌, ◌<◌, ◌≤◌, true, false, List, map, IfOk, IfErr, IfSome, MatchResult};
+ghost use Rattle.std.specs.Prelude.{◌≡◌, ℕ, ◌+◌, ◌<◌, ◌≤◌, true, false, List, IfOk, IfErr, IfSome, MatchResult};
 ghost use Rattle.labelled_disk.specs.Layout.{IsCount};
 ghost use Rattle.file_map.specs.Run.{IsRun};
 ghost use Rattle.file_map.specs.FileMap.{AreNamed, Triples, IsNew, with_run, most_records};

@@ -1,5 +1,5 @@
 //! The pages of a file from one on are cut off.
-ghost use Rattle.std.specs.Prelude.{◌≡◌, ◌⊎◌, ℕ, ◌+◌, ◌*◌, ◌<◌, ◌≤◌, true, false, List, map, IfOk, IfErr, IfSome, MatchResult};
+ghost use Rattle.std.specs.Prelude.{◌≡◌, ◌⊎◌, ℕ, ◌+◌, ◌*◌, ◌<◌, ◌≤◌, true, false, IfOk, IfErr, MatchResult};
 ghost use Rattle.labelled_disk.specs.Layout.{IsCount};
 ghost use Rattle.file_map.specs.FileMap.{AreNamed, IsSize, Triples, without_from, most_records};
 ghost use Rattle.file_map.specs.Edits.{IsStep};

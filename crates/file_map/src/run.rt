@@ -1,5 +1,5 @@
 //! Runs of pages in sectors in a row, and their records of 24 bytes.
-ghost use Rattle.std.specs.Prelude.{◌≡◌, ◌↔◌, ℕ, ◌+◌, ◌<◌, ◌≤◌, true, false, None, IfSome, List, [], ◌∷◌, length, drop};
+ghost use Rattle.std.specs.Prelude.{◌≡◌, ◌+◌, ◌<◌, ◌≤◌, true, false, None, IfSome, [], ◌∷◌, length, drop};
 ghost use Rattle.file_map.specs.Run.{IsRun, IsRecord, holds, key_bytes, run_bytes, run_in};
 ghost use Rattle.labelled_disk.specs.Layout.{first_data};
 

@@ -1,5 +1,5 @@
 //! Searches for the run that a page may be in.
-ghost use Rattle.std.specs.Prelude.{◌≡◌, ℕ, ◌+◌, ◌≤◌, List, map, IfOk, IfErr, IfSome, MatchResult};
+ghost use Rattle.std.specs.Prelude.{ℕ, ◌+◌, ◌≤◌, List, map, IfOk, IfErr, IfSome, MatchResult};
 ghost use Rattle.file_map.specs.Run.{IsRun, run_bytes};
 ghost use Rattle.file_map.specs.FileMap.{AreRuns};
 ghost use Rattle.file_map.specs.Searches.{IsLastRun, IsFirstRun};

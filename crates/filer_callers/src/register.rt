@@ -3,7 +3,7 @@ ghost use Rattle.std.specs.Prelude.{◌≡◌, ◌≤◌, ◌+◌, ◌*◌, ◌�
 ghost use Rattle.flat_mem.specs.Order.{IsFound, IsInKeyOrder};
 ghost use Rattle.record_table.specs.Edits.{IfMem};
 ghost use Rattle.record_table.specs.InPart.{IsInsertedIn, entries_in};
-ghost use Rattle.filer_kernel.specs.Tables.{BesideTables, IsTableAccounted, TablesReveal};
+ghost use Rattle.filer_kernel.specs.Tables.{IsTableAccounted, TablesReveal};
 ghost use Rattle.filer_kernel.specs.View.{FitsLayout, TablesBeside, view_of};
 
 use filer_kernel::{Filer, TableMemory};

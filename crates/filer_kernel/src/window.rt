@@ -1,5 +1,5 @@
 //! The pages of the space tables as a flat memory.
-ghost use Rattle.std.specs.Prelude.{◌≡◌, ℕ, ◌+◌, ◌≤◌, ◌<◌, List, IsSome, length};
+ghost use Rattle.std.specs.Prelude.{◌≡◌, ◌+◌, ◌≤◌, ◌<◌, IsSome, length};
 ghost use Rattle.frame_pool.specs.Frames.{Frame, Has, frame_at};
 ghost use Rattle.flat_mem.specs.Memory.{part};
 ghost use Rattle.filer_kernel.specs.Tables.{tables_size};
@@ -51,7 +51,7 @@ impl<D: Disk, A: Allocator> Filer<D, A> {
 }
 
 impl<'s, D: Disk, A: Allocator> FlatMem for TableMemory<'s, D, A> {
-    ghost use Rattle.std.specs.Prelude.{◌≡◌, ℕ, ◌+◌, ◌≤◌, List};
+    ghost use Rattle.std.specs.Prelude.{◌≡◌, ◌+◌, ◌≤◌};
     ghost use Rattle.filer_kernel.specs.Tables.{TablesReveal, BesideTables, LookedTables, IsTableAccounted, tables_size};
     ghost use Rattle.filer_kernel.specs.TableLaws.{beside_tables_itself, beside_tables_then, looked_tables_itself, looked_tables_then, looked_tables_beside, tables_accounted_then, revealed_tables_size, same_tables_size};
     ghost use Rattle.filer_kernel.specs.TableOnce.{tables_reveal_once};

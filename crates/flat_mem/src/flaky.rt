@@ -1,5 +1,5 @@
 //! A memory each of whose accesses counts, costs and may fail.
-ghost use Rattle.std.specs.Prelude.{◌≡◌, ℕ, ◌+◌, ◌≤◌, ◌*◌, length, OnErr, IfOk, replicate};
+ghost use Rattle.std.specs.Prelude.{◌≡◌, ◌+◌, ◌≤◌, ◌*◌, length, OnErr, IfOk, replicate};
 ghost use Rattle.flat_mem.specs.Rises.{Rose};
 
 use crate::{FlatMem, NoPages, PAGE_BYTES};
@@ -61,7 +61,7 @@ fn count(period: u64, accesses: &mut u64, faults: &mut u64) -> Result<(), Failed
 }
 
 impl<A: Allocator> FlatMem for FlakyMem<A> {
-    ghost use Rattle.std.specs.Prelude.{◌≡◌, ℕ, ◌≤◌, length};
+    ghost use Rattle.std.specs.Prelude.{◌≡◌, ◌≤◌, length};
     ghost use Rattle.std.proofs.Common.{sym, ◌∙◌};
     ghost use Rattle.flat_mem.specs.Rises.{Rose};
     ghost use Rattle.flat_mem.specs.Flaky.{IsLater};

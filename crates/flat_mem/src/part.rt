@@ -1,5 +1,5 @@
 //! A run of pages of a memory.
-ghost use Rattle.std.specs.Prelude.{◌≡◌, ℕ, ◌*◌, ◌+◌, ◌≤◌, List, length};
+ghost use Rattle.std.specs.Prelude.{◌*◌, ◌+◌, ◌≤◌};
 
 use crate::{FlatMem, PAGE_BYTES};
 

@@ -1,5 +1,5 @@
 //! A memory in a vector.
-ghost use Rattle.std.specs.Prelude.{◌≡◌, ℕ, ◌*◌, length, IfOk, replicate};
+ghost use Rattle.std.specs.Prelude.{◌≡◌, ◌*◌, length, IfOk, replicate};
 
 use crate::{FlatMem, PAGE_BYTES};
 use std::alloc::Allocator;

@@ -1,5 +1,5 @@
 //! The index: the slots whose pages are in one bucket, as a chain of falling numbers.
-ghost use Rattle.std.specs.Prelude.{◌≡◌, ◌≢◌, ◌<◌, ◌≤◌, ◌+◌, ◌^◌, ◌↔◌, ℕ, length, true, false, IfSome, Option, Some, None};
+ghost use Rattle.std.specs.Prelude.{◌≡◌, ◌<◌, ◌≤◌, ◌+◌, ◌^◌, ◌↔◌, ℕ, length, true, false, IfSome, Option, Some, None};
 ghost use Rattle.frame_pool.specs.Frames.{frame_at, is_of};
 ghost use Rattle.frame_pool.specs.Lists.{IsSized};
 ghost use Rattle.frame_pool.specs.Index.{bucket_of, bucket_at, IsIndex, IsFirstAbove, Puts, KeepsButChains};

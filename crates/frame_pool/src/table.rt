@@ -1,5 +1,5 @@
 //! The pool's one piece of memory: for each slot its frame, and a share of the index and of the order of the slots.
-ghost use Rattle.std.specs.Prelude.{◌≡◌, ◌<◌, ◌≤◌, ◌+◌, ◌^◌, ◌↔◌, length, true, false, IfOk, IfSome, IsTrue, IsSome, Some, None, slice_index_or, slice_set, option_map};
+ghost use Rattle.std.specs.Prelude.{◌≡◌, ◌<◌, ◌≤◌, ◌+◌, length, true, false, IfOk, IfSome, IsSome, Some, None, slice_index_or, slice_set, option_map};
 ghost use Rattle.frame_pool.specs.Table.{lists_of};
 ghost use Rattle.frame_pool.specs.Frames.{frame_at, new_frame, clean, changed, shown, is_of, is_kept, IsPageBytes};
 ghost use Rattle.flat_mem.specs.Memory.{overwritten};

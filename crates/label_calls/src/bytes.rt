@@ -7,7 +7,7 @@ ghost use Rattle.swapper_kernel.specs.Goes.{Makes, no_page};
 ghost use Rattle.swapper_kernel.specs.Halts.{HasCause};
 ghost use Rattle.swapper_kernel.specs.Stands.{Stands};
 ghost use Rattle.label_calls.specs.Bytes.{MayWritePage, ReadsPage, WritesPage};
-ghost use Rattle.label_calls.specs.Labels.{HasOne, IsNotOf, IsUncovered, ones_of};
+ghost use Rattle.label_calls.specs.Labels.{HasOne, IsNotOf, ones_of};
 
 use labelled_disk::{Disk, DiskError, Evidence, Halt, Page, Wanted};
 use std::alloc::Allocator;

@@ -1,5 +1,5 @@
 //! How a function says that it writes as permitted.
-ghost use Rattle.std.specs.Prelude.{◌≡◌, ◌<◌, ◌≤◌, ◌+◌, length};
+ghost use Rattle.std.specs.Prelude.{◌<◌, ◌≤◌, ◌+◌, length};
 ghost use Rattle.label_laws.specs.PermittedRuns.{LawfullyLater};
 
 use labelled_disk::{Disk, DiskError, Page, Wanted};

@@ -1,5 +1,5 @@
 //! The counter of a volume.
-ghost use Rattle.std.specs.Prelude.{◌≡◌, List};
+ghost use Rattle.std.specs.Prelude.{List};
 ghost use Rattle.labelled_disk.specs.Sectors.{Sector};
 ghost use Rattle.label_survey.specs.Counter.{IsRaised};
 ghost use Rattle.label_survey.specs.Triples.{AreNeeded};

@@ -1,5 +1,5 @@
 //! The labels of files, in the order of a survey.
-ghost use Rattle.std.specs.Prelude.{◌≡◌, ◌<◌, ◌^◌, length, IfOk, OnOk};
+ghost use Rattle.std.specs.Prelude.{◌≡◌, ◌<◌, ◌^◌, length, IfOk};
 ghost use Rattle.std.specs.List.Sorted.{IsPermutation};
 ghost use Rattle.label_survey.specs.Entries.{place_of, entries_from, AreInOrder, AreOf};
 

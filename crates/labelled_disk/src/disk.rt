@@ -1,5 +1,5 @@
 //! A disk as the code above it sees it: sectors, each with a label and a page, and calls that may fail.
-ghost use Rattle.std.specs.Prelude.{◌≡◌, ℕ, ◌<◌, ◌^◌, List, length, Some};
+ghost use Rattle.std.specs.Prelude.{◌≡◌, ◌<◌, ◌^◌, List, length, Some};
 ghost use Rattle.labelled_disk.specs.State.{DiskState, lent_state};
 ghost use Rattle.labelled_disk.specs.Sectors.{Sector, AreSectors};
 ghost use Rattle.labelled_disk.specs.Calls.{Reads, Writes, WritesData, Syncs};

@@ -1,5 +1,5 @@
 //! What a disk in memory keeps of its writes and syncs.
-ghost use Rattle.std.specs.Prelude.{◌≡◌, ℕ, ◌<◌, ◌≤◌, ◌↔◌, true, false, List, [], ◌++◌, ◌∷◌, length, vec_capacity, IfOk, option_map};
+ghost use Rattle.std.specs.Prelude.{◌≡◌, ◌<◌, ◌≤◌, ◌↔◌, true, false, [], ◌++◌, ◌∷◌, length, vec_capacity, IfOk, option_map};
 ghost use Rattle.labelled_disk.specs.Memory.{FillsRoom, kept_writes, kept_room};
 ghost use Rattle.labelled_disk.specs.Syncing.{is_last};
 

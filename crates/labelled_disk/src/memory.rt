@@ -1,7 +1,7 @@
 //! A disk in memory, for tests. It can be made to fail at given calls, and to keep its writes.
-ghost use Rattle.std.specs.Prelude.{◌≡◌, ℕ, ◌<◌, ◌≤◌, ◌^◌, ◌⊎◌, ◌↔◌, ◌+◌, ◌-◌, min, refl, true, false, IsTrue, if◌then◌else◌};
-ghost use Rattle.std.specs.Prelude.{List, [], ◌++◌, ◌∷◌, length, replicate, slice_get, slice_set, Contains, vec_capacity};
-ghost use Rattle.std.specs.Prelude.{Some, None, IfOk, IfErr, OnOk, OnErr, IsErr, is_ok, unwrap_or, option_map};
+ghost use Rattle.std.specs.Prelude.{◌≡◌, ◌<◌, ◌≤◌, ◌^◌, ◌⊎◌, ◌↔◌, ◌+◌, ◌-◌, min, refl, true, false, IsTrue};
+ghost use Rattle.std.specs.Prelude.{[], ◌++◌, ◌∷◌, length, replicate, slice_set, vec_capacity};
+ghost use Rattle.std.specs.Prelude.{Some, None, IfOk, OnOk, OnErr, IsErr, unwrap_or, option_map};
 ghost use Rattle.labelled_disk.specs.Sectors.{zero_sector, AreSectors};
 ghost use Rattle.labelled_disk.specs.Syncing.{AreSyncs};
 ghost use Rattle.labelled_disk.specs.Calls.{Rose, RevealsSame, Moves, FailsWith, Reads, Writes, WritesData, Syncs};

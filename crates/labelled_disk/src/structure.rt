@@ -1,5 +1,5 @@
 //! The structures of a volume whose pages have a form.
-ghost use Rattle.std.specs.Prelude.{◌≡◌, ◌≢◌, Some, None, IfSome};
+ghost use Rattle.std.specs.Prelude.{◌≡◌, Some, None, IfSome};
 ghost use Rattle.labelled_disk.specs.Structure.{structure_number};
 
 use std::fmt::{self, Display, Formatter, Write};

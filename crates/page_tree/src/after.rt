@@ -1,6 +1,6 @@
 // The record after a key.
 ghost use Rattle.std.specs.Prelude.{◌≡◌, ℕ, ◌+◌, ◌*◌, ◌/◌, ◌^◌, ◌<◌, ◌≤◌, List, IfOk, IfErr, IfSome, MatchResult, is_some};
-ghost use Rattle.page_tree.specs.Page.{IsWidths, filled, leaf_room, record_at};
+ghost use Rattle.page_tree.specs.Page.{IsWidths, leaf_room, record_at};
 ghost use Rattle.page_tree.specs.Tree.{IsTree};
 ghost use Rattle.page_tree.specs.Answer.{IsNextEntry, FromMemory, IfMemNotFull};
 ghost use Rattle.page_tree.specs.Broken.{Breaks, IfMalformed};

@@ -1,5 +1,5 @@
 // The record of an index.
-ghost use Rattle.std.specs.Prelude.{◌≡◌, ℕ, ◌+◌, ◌*◌, ◌/◌, ◌^◌, ◌<◌, ◌≤◌, ◌⊎◌, List, [], length, get_or, IfOk, IfErr, OnOk, MatchResult};
+ghost use Rattle.std.specs.Prelude.{◌≡◌, ℕ, ◌+◌, ◌*◌, ◌/◌, ◌^◌, ◌<◌, ◌≤◌, ◌⊎◌, List, [], length, get_or, IfOk, IfErr, MatchResult};
 ghost use Rattle.flat_mem.specs.Order.{entry_at};
 ghost use Rattle.page_tree.specs.Page.{IsWidths, page_at, filled, count_in};
 ghost use Rattle.page_tree.specs.Tree.{Node, IsRooted, IsTree};

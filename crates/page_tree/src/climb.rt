@@ -1,9 +1,8 @@
 // An insertion on its way up.
 ghost use Rattle.std.specs.Prelude.{◌≡◌, ◌≢◌, ℕ, ◌+◌, ◌-◌, ◌*◌, ◌/◌, ◌^◌, ◌<◌, ◌≤◌, List, length, get_or, true, false, IfOk, IfErr, MatchResult};
-ghost use Rattle.flat_mem.specs.Memory.{overwritten};
 ghost use Rattle.page_tree.specs.Answer.{FromMemory, IfMemNotFull};
-ghost use Rattle.page_tree.specs.Open.{IsTaken, CanTake};
-ghost use Rattle.page_tree.specs.Climb.{IsClimb, IsClosed, IsStep, IsStoredAs, RevealsClosed};
+ghost use Rattle.page_tree.specs.Open.{CanTake};
+ghost use Rattle.page_tree.specs.Climb.{IsClimb, IsStep, IsStoredAs, RevealsClosed};
 ghost use Rattle.page_tree.specs.Page.{IsWidths, kind_of};
 ghost use Rattle.page_tree.specs.Broken.{Meets, StopsInsertion, IfMalformed};
 ghost use Rattle.page_tree.specs.Met.{IsMetPath};

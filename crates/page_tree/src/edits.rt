@@ -1,5 +1,5 @@
 // What a removal changes in the bytes of a page.
-ghost use Rattle.std.specs.Prelude.{length, ◌≡◌, ℕ, ◌+◌, ◌-◌, ◌*◌, ◌<◌, ◌≤◌};
+ghost use Rattle.std.specs.Prelude.{length, ◌≡◌, ◌+◌, ◌-◌, ◌*◌, ◌<◌, ◌≤◌};
 ghost use Rattle.flat_mem.specs.Memory.{overwritten};
 ghost use Rattle.page_tree.specs.Page.{key_room, leaf_room, record_at};
 ghost use Rattle.page_tree.specs.Copied.{copy_cells, leaf_without, leaf_joined, inner_without, inner_joined, with_free};

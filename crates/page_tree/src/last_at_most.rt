@@ -1,5 +1,5 @@
 // The last record whose key is at most a given one, by its index.
-ghost use Rattle.std.specs.Prelude.{◌≡◌, ℕ, ◌+◌, ◌*◌, ◌/◌, ◌^◌, ◌<◌, ◌≤◌, List, length, IfErr, MatchResult};
+ghost use Rattle.std.specs.Prelude.{ℕ, ◌+◌, ◌*◌, ◌/◌, ◌^◌, ◌<◌, ◌≤◌, List, IfErr, MatchResult};
 ghost use Rattle.flat_mem.specs.Order.{IsFound};
 ghost use Rattle.page_tree.specs.Page.{IsWidths, page_at};
 ghost use Rattle.page_tree.specs.Tree.{IsTree};

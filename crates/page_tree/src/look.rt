@@ -1,6 +1,5 @@
 // Searches from the root down.
-ghost use Rattle.std.specs.Prelude.{◌≡◌, ℕ, ◌+◌, ◌-◌, ◌*◌, ◌/◌, ◌^◌, ◌<◌, ◌≤◌, List, length, get_or, true, false, IfOk, IfErr, IfSome, OnOk, slice_index, MatchResult, is_some};
-ghost use Rattle.flat_mem.specs.Memory.{part};
+ghost use Rattle.std.specs.Prelude.{◌≡◌, ℕ, ◌+◌, ◌-◌, ◌*◌, ◌/◌, ◌^◌, ◌<◌, ◌≤◌, List, length, get_or, true, false, IfOk, IfErr, IfSome, OnOk, MatchResult, is_some};
 ghost use Rattle.page_tree.specs.Page.{IsWidths, page_at, kind_of, filled, leaf_room, count_in, root_in, top_in, free_in, levels_in};
 ghost use Rattle.page_tree.specs.Tree.{Node, IsRooted, IsTree};
 ghost use Rattle.page_tree.specs.Path.{IsReached};

@@ -1,9 +1,8 @@
 // Reading a page of the tree, and the steps of a search in it.
-ghost use Rattle.std.specs.Prelude.{◌≡◌, ℕ, ◌+◌, ◌-◌, ◌*◌, ◌<◌, ◌≤◌, List, length, take, true, false, IfOk, IfErr, OnOk, slice_index};
-ghost use Rattle.byteorder.specs.Endian.{big_number};
+ghost use Rattle.std.specs.Prelude.{◌≡◌, ℕ, ◌+◌, ◌-◌, ◌*◌, ◌<◌, ◌≤◌, List, length, true, false, IfErr, OnOk};
 ghost use Rattle.flat_mem.specs.Memory.{part, overwritten};
 ghost use Rattle.flat_mem.specs.Order.{at_most};
-ghost use Rattle.page_tree.specs.Page.{page_at, kind_of, filled, key_room, leaf_room, links_at, link_at, key_at, count_in, root_in, levels_in, top_in, free_in};
+ghost use Rattle.page_tree.specs.Page.{page_at, filled, key_room, leaf_room, link_at, key_at};
 ghost use Rattle.page_tree.specs.Answer.{FromMemory, IfMemNotFull};
 ghost use Rattle.page_tree.specs.Change.{with_record, with_cell, with_count, with_child, with_root, with_leaf, from_cell, leaf_from, inner_from};
 

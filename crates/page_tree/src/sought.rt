@@ -1,5 +1,5 @@
 // The place of a key in its leaf.
-ghost use Rattle.std.specs.Prelude.{◌≡◌, ℕ, ◌≤◌};
+ghost use Rattle.std.specs.Prelude.{◌≡◌, ◌≤◌};
 ghost use Rattle.std.specs.Str.{bytes_eq};
 ghost use Rattle.page_tree.specs.Page.{IsWidths, filled, leaf_room};
 ghost use Rattle.page_tree.specs.Removed.{IsSought};

@@ -1,5 +1,5 @@
 // A record is taken out of its leaf and out of the levels.
-ghost use Rattle.std.specs.Prelude.{◌≡◌, ℕ, ◌+◌, ◌*◌, ◌/◌, ◌^◌, ◌<◌, ◌≤◌, ◌⊎◌, List, get_or, remove, IfErr, MatchResult};
+ghost use Rattle.std.specs.Prelude.{◌≡◌, ℕ, ◌+◌, ◌*◌, ◌/◌, ◌^◌, ◌<◌, ◌≤◌, List, get_or, remove, IfErr, MatchResult};
 ghost use Rattle.page_tree.specs.Page.{IsWidths, page_at, filled, leaf_room, levels_in};
 ghost use Rattle.page_tree.specs.Tree.{node_at, before};
 ghost use Rattle.page_tree.specs.Path.{IsPath};

@@ -1,6 +1,6 @@
 // The way from one leaf to the next.
 ghost use Rattle.std.specs.Prelude.{◌≡◌, ℕ, ◌+◌, ◌-◌, ◌*◌, ◌/◌, ◌^◌, ◌<◌, ◌≤◌, List, length, get_or, IfOk, IfErr, IfSome, OnOk, MatchResult};
-ghost use Rattle.page_tree.specs.Page.{IsWidths, page_at, filled, record_at, leaf_room};
+ghost use Rattle.page_tree.specs.Page.{IsWidths, page_at, filled};
 ghost use Rattle.page_tree.specs.Tree.{Node, node_at, IsRooted};
 ghost use Rattle.page_tree.specs.Path.{IsPath, IsLed, IsLedOn, Turns, leaf_under};
 ghost use Rattle.page_tree.specs.Answer.{FromMemory, IfMemNotFull};

@@ -1,5 +1,5 @@
 //! The allocation map of a volume, made from what its data sectors are.
-ghost use Rattle.std.specs.Prelude.{◌≡◌, ℕ, ◌+◌, ◌*◌, ◌-◌, ◌≤◌, ◌<◌, true, List, length, replicate, false, IfOk};
+ghost use Rattle.std.specs.Prelude.{◌≡◌, ℕ, ◌+◌, ◌*◌, ◌-◌, ◌≤◌, ◌<◌, true, length, replicate, false, IfOk};
 ghost use Rattle.flat_mem.specs.Vec.{vec_mem_bytes};
 ghost use Rattle.labelled_disk.specs.Layout.{IsCount, layout_of, first_data, vam};
 ghost use Rattle.alloc_map.specs.Bits.{is_used, IsMarked};

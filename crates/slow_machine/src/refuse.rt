@@ -57,7 +57,7 @@ pub fn past_root(page: u32) -> Option<Refusal>
 }
 
 impl<A: Allocator + Clone> SlowMachine<A> {
-    ghost use Rattle.std.specs.Prelude.{length, ◌≡◌, ◌≤◌, ◌^◌, true};
+    ghost use Rattle.std.specs.Prelude.{◌≡◌, ◌≤◌, ◌^◌, true};
     ghost use Rattle.flat_machine.specs.Refusal.{no_room, no_ids, no_file, is_immutable, no_room_as, file_mapped, cut_while_mapped, no_space, no_spaces, no_gap, out_of_range, no_place, has_children, self_mapped, path_mapped, not_mapped, past_end, shows_immutable, no_room_for_space, no_map, read_only};
 
     pub(crate) fn no_room(&self, wanted: u64) -> Option<Refusal>

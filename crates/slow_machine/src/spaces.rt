@@ -1,6 +1,6 @@
 //! Changes of the list of spaces.
 
-ghost use Rattle.std.specs.Prelude.{◌≡◌, ◌≤◌, ◌==◌, [], ◌∷◌, false, OnOk, OnErr, nat_lt, not, position, length, filter, Some, option_map, if◌then◌else◌};
+ghost use Rattle.std.specs.Prelude.{◌≡◌, ◌≤◌, ◌==◌, [], ◌∷◌, false, OnOk, OnErr, nat_lt, position, length, Some, option_map, if◌then◌else◌};
 ghost use Rattle.std.specs.List.{position_or_len};
 ghost use Rattle.flat_machine.specs.Next as after;
 ghost use Rattle.flat_machine.specs.Space as of_space;

@@ -1,8 +1,8 @@
 //! Pages of files, brought into frames, changed there, and written out to their homes.
-ghost use Rattle.std.specs.Prelude.{◌≡◌, ◌≢◌, ◌<◌, ◌≤◌, ◌+◌, ◌*◌, ℕ, false, List, [], length, Ok, Err, Some, None, IfOk, IfErr, OnOk, OnErr, IsSome, slice_get, slice_set};
+ghost use Rattle.std.specs.Prelude.{◌≡◌, ◌≢◌, ◌<◌, ◌≤◌, ◌+◌, ◌*◌, ℕ, false, List, [], length, Ok, Err, Some, None, IfOk, IfErr, OnOk, OnErr, IsSome, slice_set};
 ghost use Rattle.labelled_disk.specs.declared.evidence.Halt.TheVariants as halt;
 ghost use Rattle.labelled_disk.specs.Sectors.{Sector};
-ghost use Rattle.frame_pool.specs.Frames.{Frame, Has, HasDistinct, HasPage, IsEmpty, IsNowhere, changed, cleaned_at, frame_at};
+ghost use Rattle.frame_pool.specs.Frames.{Frame, Has, HasPage, IsEmpty, IsNowhere, changed, cleaned_at, frame_at};
 ghost use Rattle.swapper_kernel.specs.Maps.{id_of, map_home, pages_of};
 ghost use Rattle.swapper_kernel.specs.Homes.{AreFileHomes, AreNamed, Brings, IsAmong, IsNamed, IsPlaced, IsRow, no_home};
 ghost use Rattle.swapper_kernel.specs.Bring.{AreThere, IsShown, KeepsRun};

@@ -1,7 +1,7 @@
 //! The two maps of a volume.
 ghost use Rattle.std.specs.Prelude.{◌≡◌, ◌<◌, ◌+◌};
 ghost use Rattle.swapper_kernel.specs.Homes.{IsLayout};
-ghost use Rattle.swapper_kernel.specs.Maps.{id_of, pages_of, start_of, map_home};
+ghost use Rattle.swapper_kernel.specs.Maps.{id_of, pages_of, map_home};
 
 use frame_pool::Home;
 use labelled_disk::{FileId, Layout};

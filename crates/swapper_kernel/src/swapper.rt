@@ -1,6 +1,5 @@
 //! Frames over a disk, and who holds the disk.
-ghost use Rattle.std.specs.Prelude.{◌≡◌, ◌==◌, ◌≤◌, ◌+◌, ◌<◌, ◌*◌, ◌^◌, ◌↔◌, ℕ, true, IfOk, IfErr, IsSome, None, length, replicate, slice_set, Some};
-ghost use Rattle.frame_pool.specs.Frames.{Has, IsEmpty, IsNowhere, HasDistinct, HasPage, frame_at};
+ghost use Rattle.std.specs.Prelude.{◌≡◌, ◌==◌, ◌≤◌, ◌+◌, ◌<◌, ◌*◌, ◌^◌, ◌↔◌, true, IfOk, IfErr, None, length, replicate};
 ghost use Rattle.frame_pool.specs.Runs.{HasRun};
 ghost use Rattle.swapper_kernel.specs.Homes.{IsLayout, ArePlaced};
 

@@ -1,5 +1,5 @@
 //! The pages of a map as a flat memory.
-ghost use Rattle.std.specs.Prelude.{◌≡◌, ℕ, ◌+◌, ◌*◌, ◌/◌, ◌≤◌, ◌<◌, List, IsSome, length};
+ghost use Rattle.std.specs.Prelude.{◌≡◌, ◌+◌, ◌*◌, ◌/◌, ◌≤◌, ◌<◌, IsSome, length};
 ghost use Rattle.frame_pool.specs.Frames.{Frame, Has, frame_at};
 ghost use Rattle.flat_mem.specs.Memory.{part};
 ghost use Rattle.swapper_kernel.specs.Window.{size_in};
@@ -56,8 +56,7 @@ impl<D: Disk, A: Allocator> Swapper<D, A> {
 }
 
 impl<'s, D: Disk, A: Allocator> FlatMem for MapMemory<'s, D, A> {
-    ghost use Rattle.std.specs.Prelude.{◌≡◌, ℕ, ◌+◌, ◌*◌, ◌/◌, ◌≤◌, List};
-    ghost use Rattle.std.proofs.Common.{ap};
+    ghost use Rattle.std.specs.Prelude.{◌≡◌, ◌+◌, ◌*◌, ◌/◌, ◌≤◌};
     ghost use Rattle.swapper_kernel.specs.Window.{Reveals, Beside, Looked, IsAccounted, size_in};
     ghost use Rattle.swapper_kernel.specs.WindowLaws.{beside_itself, beside_then, looked_itself, looked_then, looked_beside, looked_revealed, accounted_then, revealed_size, same_size_in};
     ghost use Rattle.swapper_kernel.specs.OnceLaws.{reveals_once};

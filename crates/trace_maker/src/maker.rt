@@ -2,7 +2,7 @@
 ghost use Rattle.std.specs.Prelude.{◌≡◌, ◌<◌, ◌+◌, ◌^◌, ℕ, suc, false};
 ghost use Rattle.flat_machine.specs.Form.{IsInForm};
 ghost use Rattle.flat_machine.specs.After.{ends_trace};
-ghost use Rattle.trace_maker.specs.Drawn.{number, number_after, value_of};
+ghost use Rattle.trace_maker.specs.Drawn.{number_after, value_of};
 ghost use Rattle.trace_maker.specs.Calls.{bytes_by, call_by, call_of};
 
 use crate::drawn::{number_after, value_of};

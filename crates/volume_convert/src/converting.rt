@@ -1,16 +1,14 @@
 //! An old volume is brought to the version of today.
-ghost use Rattle.std.specs.Prelude.{◌≡◌, ◌≢◌, ◌⊎◌, ◌-◌, ◌≤◌, ◌<◌, ℕ, List, Some, Err, true, length, slice_get, IfOk, IfErr, OnOk};
+ghost use Rattle.std.specs.Prelude.{◌≡◌, ◌≢◌, ◌⊎◌, ◌-◌, ◌<◌, ℕ, List, Some, Err, true, IfOk, IfErr, OnOk};
 ghost use Rattle.labelled_disk.specs.Calls.{OnlyReads, ReadsAtMost, Rose};
-ghost use Rattle.labelled_disk.specs.File.{total_room};
-ghost use Rattle.labelled_disk.specs.Layout.{layout_of, first_data, capacity};
+ghost use Rattle.labelled_disk.specs.Layout.{layout_of, first_data};
 ghost use Rattle.labelled_disk.specs.Root.{root_page};
 ghost use Rattle.labelled_disk.specs.Sectors.{Sector};
 ghost use Rattle.volume_root.specs.Later.{IsLater};
-ghost use Rattle.volume_root.specs.OldRoot.{IsOldCount, IsValidOldRoot, judged_old};
+ghost use Rattle.volume_root.specs.OldRoot.{IsValidOldRoot};
 ghost use Rattle.volume_root.specs.RootPage.{root_in};
 ghost use Rattle.scavenger.specs.Carries.{Carries};
-ghost use Rattle.old_files.specs.OldFiles.{files_old};
-ghost use Rattle.volume_convert.specs.Answers.{AccordsOld, JudgesRoom, JudgesRoot, LeavesOthers};
+ghost use Rattle.volume_convert.specs.Answers.{JudgesRoom, JudgesRoot, LeavesOthers};
 ghost use Rattle.volume_convert.specs.Leaves.{AreMade, ArePartMade, CostsAtMost, IsConverted, IsRevealed, StaysConvertible};
 ghost use Rattle.volume_convert.specs.Planned.{all_writes, IsFit, IsPlannedFor};
 

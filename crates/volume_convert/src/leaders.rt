@@ -1,5 +1,5 @@
 //! The leaders are written.
-ghost use Rattle.std.specs.Prelude.{◌≡◌, ◌+◌, ◌≤◌, length};
+ghost use Rattle.std.specs.Prelude.{◌+◌, ◌≤◌, length};
 ghost use Rattle.label_survey.specs.Survey.{places_by};
 ghost use Rattle.scavenger.specs.Carries.{Carries};
 ghost use Rattle.convert_laws.specs.Orders.{leader_writes};

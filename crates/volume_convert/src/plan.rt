@@ -1,5 +1,5 @@
 //! What is to be written, made in memory before the first write.
-ghost use Rattle.std.specs.Prelude.{◌≡◌, ◌≢◌, ◌⊎◌, ◌+◌, ◌*◌, ◌-◌, ◌≤◌, ◌<◌, ◌^◌, ℕ, List, Err, length, IfOk, IfErr};
+ghost use Rattle.std.specs.Prelude.{◌≡◌, ◌⊎◌, ◌+◌, ◌*◌, ◌-◌, ◌≤◌, ◌<◌, ◌^◌, ℕ, List, Err, length, IfOk, IfErr};
 ghost use Rattle.labelled_disk.specs.File.{total_room};
 ghost use Rattle.labelled_disk.specs.Layout.{layout_of, first_data, capacity};
 ghost use Rattle.labelled_disk.specs.Root.{root_page};

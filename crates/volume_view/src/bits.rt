@@ -3,7 +3,7 @@ ghost use Rattle.std.specs.Prelude.{◌≡◌, ◌≢◌, ◌*◌, ◌<◌, ℕ,
 ghost use Rattle.flat_mem.specs.Vec.{vec_mem_bytes};
 ghost use Rattle.alloc_map.specs.Bits.{is_used as is_used_in};
 ghost use Rattle.labelled_disk.specs.Calls.{ReadsAtMost, Rose};
-ghost use Rattle.labelled_disk.specs.Layout.{IsCount, layout_of, data_sectors, first_data, vam};
+ghost use Rattle.labelled_disk.specs.Layout.{IsCount, layout_of, data_sectors, vam};
 ghost use Rattle.labelled_disk.specs.Sectors.{Sector};
 ghost use Rattle.volume_view.specs.BitRuns.{AreCompared};
 ghost use Rattle.volume_view.specs.Bits.{taken, AreWrongBits};

@@ -1,5 +1,5 @@
 //! Whether the file map is in form as a whole.
-ghost use Rattle.std.specs.Prelude.{◌≡◌, ◌*◌, ◌≤◌, true, false, Ok, length};
+ghost use Rattle.std.specs.Prelude.{◌≡◌, ◌*◌, true, false, Ok, length};
 ghost use Rattle.flat_mem.specs.Vec.{vec_mem_bytes};
 ghost use Rattle.labelled_disk.specs.Layout.{IsCount, layout_of, vfm};
 ghost use Rattle.volume_view.specs.Form.{HasForm, AreCounted};

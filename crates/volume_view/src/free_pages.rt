@@ -1,5 +1,5 @@
 //! The list of free pages of the file map's tree.
-ghost use Rattle.std.specs.Prelude.{◌≡◌, ◌≢◌, ℕ, ◌+◌, ◌*◌, ◌<◌, ◌≤◌, ◌++◌, true, false, List, None, Ok, length, IfSome};
+ghost use Rattle.std.specs.Prelude.{◌≡◌, ◌≢◌, ℕ, ◌+◌, ◌*◌, ◌<◌, ◌++◌, true, false, List, None, Ok, length, IfSome};
 ghost use Rattle.flat_mem.specs.Vec.{vec_mem_bytes};
 ghost use Rattle.page_tree.specs.Page.{page_at, kind_of, next_in};
 ghost use Rattle.volume_view.specs.Form.{IsFreeList};

@@ -2,7 +2,7 @@
 ghost use Rattle.std.specs.Prelude.{◌≡◌, ◌+◌, ◌*◌, ◌≤◌, ◌<◌, List, Some, Err, length, IfOk, IfErr};
 ghost use Rattle.flat_mem.specs.Memory.{overwritten};
 ghost use Rattle.flat_mem.specs.Vec.{vec_mem_bytes};
-ghost use Rattle.labelled_disk.specs.Calls.{OnlyReads, ReadsAtMost, Rose};
+ghost use Rattle.labelled_disk.specs.Calls.{ReadsAtMost, Rose};
 ghost use Rattle.labelled_disk.specs.Sectors.{Sector};
 ghost use Rattle.label_survey.specs.Runs.{triples_of, all_triples};
 ghost use Rattle.volume_view.specs.Pages.{IsDiskOrMemory, bytes_of, HasPage, SaysNamed};

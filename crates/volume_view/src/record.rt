@@ -1,7 +1,6 @@
 //! A record of the file map, as it is read.
-ghost use Rattle.std.specs.Prelude.{◌≡◌, ◌+◌, ◌≤◌, true, false, None, IfSome, List, [], ◌∷◌, length, drop};
+ghost use Rattle.std.specs.Prelude.{◌≡◌, ◌+◌, true, false, None, IfSome, [], ◌∷◌, length, drop};
 ghost use Rattle.file_map.specs.Run.{IsRun, IsRecord, key_bytes, run_bytes, run_in};
-ghost use Rattle.file_map.specs.declared.run.Run.{Run as MapRun};
 ghost use Rattle.labelled_disk.specs.Layout.{first_data};
 ghost use Rattle.volume_view.specs.Records.{Follows};
 

@@ -2,7 +2,7 @@
 ghost use Rattle.std.specs.Prelude.{◌≡◌, ◌*◌, ◌+◌, ◌<◌, ◌≤◌, true, false, [], None, length, IfOk, IfSome, MatchResult};
 ghost use Rattle.flat_mem.specs.Vec.{vec_mem_bytes};
 ghost use Rattle.labelled_disk.specs.Label.{is_free};
-ghost use Rattle.labelled_disk.specs.Layout.{IsCount, layout_of, vfm};
+ghost use Rattle.labelled_disk.specs.Layout.{IsCount, vfm};
 ghost use Rattle.file_map.specs.FileMap.{Triples};
 ghost use Rattle.volume_view.specs.Names.{labelled, NamesIn, IsUnmapped, IsDifferenceAt};
 ghost use Rattle.volume_view.specs.Recorded.{IsRecorded, AreRecorded};
