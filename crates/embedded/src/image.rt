@@ -30,8 +30,8 @@ impl ImageEngine {
         }
     }
 
-    /// As `open` of the engine, over a disk that remembers what it read or wrote last, where there is
-    /// memory for that.
+    /// As `open` of the engine, over a disk that remembers what it read or wrote last, and joins pages
+    /// that are written one after the other, where there is memory for that.
     pub fn open(&mut self, alloc: Global, frames: u32) -> Result<(), Code>
         ensures argument { ¬ IsFrames frames → (result ≡ Err Code.Argument) × (self.new ≡ self.old) }
         ensures other { (result ≡ Err Code.Closed) ⊎ (result ≡ Err Code.Open)
@@ -61,7 +61,7 @@ impl ImageEngine {
 }
 
 impl Engine<ImageDisk<File>, Global> {
-    // From now on the disk remembers what it read or wrote last, if there is no session.
+    // From now on the disk remembers what it read or wrote last, and joins pages, if there is no session.
     fn remember(&mut self, alloc: Global)
         ensures disk { disk_of self.new ≡ disk_of self.old }
         ensures halt { self.new.halt ≡ self.old.halt }
@@ -69,6 +69,7 @@ impl Engine<ImageDisk<File>, Global> {
         self.held = match replace(&mut self.held, Held::Nothing) {
             Held::Disk(mut disk) => {
                 disk.remember(alloc);
+                disk.join_pages(alloc);
                 Held::Disk(disk)
             }
             held => held,

@@ -50,6 +50,8 @@ pub struct ImageDisk<F: FileExt + OpenFile> {
     pub(crate) labels: Remembered<Label>,
     // Neighbouring sectors that wait to be written in one call of the system, where writes are joined.
     pub(crate) waiting: Option<Neighbours>,
+    // Whether sectors that are written whole are joined too, and not pages alone.
+    pub(crate) joins_sectors: bool,
     ghost few: { sectors < 2 ^ 32 },
     ghost few_transfers: { transfers < 2 ^ 64 },
 }
@@ -82,6 +84,7 @@ impl<F: FileExt + OpenFile> ImageDisk<F> {
             last: Remembered::none(),
             labels: Remembered::none(),
             waiting: None,
+            joins_sectors: false,
         }
     }
 
@@ -111,6 +114,7 @@ impl<F: FileExt + OpenFile> ImageDisk<F> {
             last: Remembered::none(),
             labels: Remembered::none(),
             waiting: None,
+            joins_sectors: false,
         }
     }
 
@@ -126,9 +130,17 @@ impl<F: FileExt + OpenFile> ImageDisk<F> {
     /// From now on, up to 32 sectors that are written one after the other are written in one call of
     /// the system: before the next write on another place or of a label alone, before a sector is read
     /// that may be one of them, before a sync, and at `write_out`. A page is written with the label
-    /// that it was found to have. Where there is no memory for them each is written by itself. Where
-    /// there is no file, or writes are joined already, nothing changes.
+    /// that it was found to have. Where there is no memory for them, or no file, each is written by itself.
     pub fn join_writes(&mut self, alloc: Global)
+        ensures same { image_state self.new ≡ image_state self.old }
+    {
+        self.join_pages(alloc);
+        self.joins_sectors = true;
+    }
+
+    /// From now on, pages that are written over labels which stay are joined as by `join_writes`. A
+    /// sector that is written whole, and a label alone, is written at once, after what waits.
+    pub fn join_pages(&mut self, alloc: Global)
         ensures same { image_state self.new ≡ image_state self.old }
     {
         if self.file.is_some() && self.waiting.is_none() {

@@ -110,8 +110,22 @@ impl<F: FileExt + OpenFile> ImageDisk<F> {
         }
     }
 
-    // Writes a sector, or lets it wait until its neighbours are written too.
+    // Writes a sector after what waits, or lets it wait too, where sectors are joined.
     pub(crate) fn put_sector(&mut self, sector: u32, bytes: &[u8; 528]) -> Result<(), Trouble>
+        ensures same { image_state self.new ≡ image_state self.old }
+    {
+        if self.joins_sectors {
+            return self.join_sector(sector, bytes);
+        }
+        self.write_out()?;
+        match self.put(label_at(sector), bytes) {
+            Ok(()) => Ok(()),
+            Err(error) => Err(Trouble::Sector { sector, error }),
+        }
+    }
+
+    // Lets a sector wait until its neighbours are written too, where there is memory for that.
+    fn join_sector(&mut self, sector: u32, bytes: &[u8; 528]) -> Result<(), Trouble>
         ensures same { image_state self.new ≡ image_state self.old }
     {
         if self.lets_wait(sector, bytes) {
@@ -158,7 +172,7 @@ impl<F: FileExt + OpenFile> ImageDisk<F> {
         ensures same { image_state self.new ≡ image_state self.old }
     {
         if self.waiting.is_some() {
-            return self.put_sector(sector, &joined(&found, page));
+            return self.join_sector(sector, &joined(&found, page));
         }
         match self.put(page_at(sector), page.as_slice()) {
             Ok(()) => Ok(()),

@@ -61,14 +61,16 @@ fn other_sectors<D: Disk, E: Disk>(disk: &mut D, plain: &mut E) -> u32 {
     others
 }
 
-/// So many calls over a new image of 4,100 sectors, whose writes may be joined; and over what is in the
-/// file in the end.
+/// So many calls over a new image of 4,100 sectors, whose writes may be joined, all or those of pages
+/// alone; and over what is in the file in the end.
 pub(crate) fn answer_all(rt: &HostRuntime, name: &str, words: &str) -> Result<String> {
     let (turns, joins) = words.split_once(' ').unwrap_or((words, ""));
     let mut plain = MemoryDisk::new(rt.alloc(), 4100)?;
     let mut disk = new_image(rt, 4100, name)?;
-    if !joins.is_empty() {
-        disk.join_writes(rt.alloc());
+    match joins {
+        "j" => disk.join_writes(rt.alloc()),
+        "g" => disk.join_pages(rt.alloc()),
+        _ => (),
     }
     let difference = first_difference(&mut disk, &mut plain, turns.parse()?);
     disk.sync()?;

@@ -62,7 +62,7 @@ fn call<D: Disk>(rt: &HostRuntime, disk: &mut D, number: usize, word: &str) -> R
     }
 }
 
-/// Calls on one opened image; `j` has writes joined from then on.
+/// Calls on one opened image; `j` has writes joined from then on, and `g` pages alone.
 pub(crate) fn calls<F: FileExt + OpenFile>(
     rt: &HostRuntime,
     disk: &mut ImageDisk<F>,
@@ -72,6 +72,8 @@ pub(crate) fn calls<F: FileExt + OpenFile>(
     for (number, word) in words.split(' ').enumerate() {
         if word == "j" {
             disk.join_writes(rt.alloc());
+        } else if word == "g" {
+            disk.join_pages(rt.alloc());
         } else {
             text.push_str(&call(rt, disk, number, word)?)?;
         }
