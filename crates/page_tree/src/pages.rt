@@ -10,11 +10,21 @@ use crate::error::TreeError;
 use byteorder::{BigEndian, ByteOrder};
 use flat_mem::{FlatMem, PAGE_BYTES, Page};
 
+/// Whether one key is at most another, compared as bytes: the first eight of both as one number, where there are so many.
 #[tactic(auto, unfolding(flat_mem::specs::Order::at_most))]
 pub fn is_at_most(key: &[u8], other: &[u8]) -> bool
     ensures { result ≡ at_most key.now other.now }
 {
-    key.cmp(&other).is_le()
+    if key.len() < 8 || other.len() < 8 {
+        return key.cmp(&other).is_le();
+    }
+    let first = BigEndian::read_u64(key);
+    let limit = BigEndian::read_u64(other);
+    if first == limit {
+        let rest = &key[8..];
+        return rest.cmp(&&other[8..]).is_le();
+    }
+    first < limit
 }
 
 /// Reads page `index` for a call of the tree.

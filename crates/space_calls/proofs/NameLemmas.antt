@@ -122,3 +122,11 @@ seen_revealed m id seen revealed is sees same = revealed_nameable m id revealed 
 
 pub seen_not : (m : Machine) (id : ℕ) (seen : Bool) → seen ≡ false → IsSeen m id seen → IsNameable (nameable m id) None
 seen_not m id seen is sees = hidden_nameable m id (subst (λ (b : Bool). IsSeen m id b) is sees)
+
+-- the file is not there
+pub gone_revealed : (m : Machine) (id : ℕ) (revealed : Option Attributes) → revealed ≡ None → IsAttributesOf (shapes_of m.files id) revealed → IsNameable (nameable m id) None
+gone_revealed m id revealed gone same = by (is_anonymous m.spaces id) refl
+  where
+    by : (b : Bool) → is_anonymous m.spaces id ≡ b → IsNameable (nameable m id) None
+    by true is = hidden_nameable m id (rw is refl)
+    by false is = revealed_nameable m id None (named_where m id is) (subst (λ (o : Option Attributes). IsAttributesOf (shapes_of m.files id) o) gone same)

@@ -1,5 +1,5 @@
 //! Files that calls may name.
-ghost use Rattle.std.specs.Prelude.{◌≡◌, ◌≤◌, ◌+◌, true, List, Some, None, Ok, Err, IfOk, IfErr, IfSome};
+ghost use Rattle.std.specs.Prelude.{◌≡◌, ◌≤◌, ◌+◌, true, List, Some, None, Ok, Err, IfOk, IfErr, IfSome, MatchResult};
 ghost use Rattle.labelled_disk.specs.declared.evidence.Halt.TheVariants as halt;
 ghost use Rattle.labelled_disk.specs.Calls.{Rose};
 ghost use Rattle.flat_machine.specs.declared.call.Call.TheVariants as call;
@@ -11,7 +11,10 @@ ghost use Rattle.space_tables.specs.Shows.{IsFirstWith, shows};
 ghost use Rattle.space_calls.specs.Naming.{IsNameable, IsSeen};
 ghost use Rattle.filer_kernel.specs.Evidence.{ShowsEvidence};
 ghost use Rattle.fault_core.specs.Core.{state};
-ghost use Rattle.space_calls.specs.Halts.{NamedHalts, SightHalts};
+ghost use Rattle.space_calls.specs.Halts.{LookHalts, NamedHalts, SightHalts};
+ghost use Rattle.filer_kernel.specs.Fails.{Fails};
+ghost use Rattle.file_manager.specs.Attributes.{IsAttributesOf};
+ghost use Rattle.session_words.specs.Parts.{shapes_of};
 ghost use Rattle.fault_core.specs.NeverBlames.{NeverBlamesTables};
 ghost use Rattle.space_calls.specs.Sees.{SeesOn};
 ghost use Rattle.labelled_disk.specs.Sectors.{Sector};
@@ -72,7 +75,28 @@ fn may_be_named<D: Disk, A: Allocator>(core: &mut Core<D, A>, id: FileId) -> Res
     }
 }
 
-/// Size, type and marks of the file that has this identifier and may be named: no anonymous window shows it.
+// Size, type and marks of the file that has this identifier, if it is there.
+fn found_file<D: Disk, A: Allocator>(
+    core: &mut Core<D, A>,
+    id: FileId,
+) -> Result<Option<Attributes>, Halt>
+    requires size { FitsLayout (state core.old) }
+    ensures answer { (volume : Volume) (m : Machine) → Runs core.old volume m
+        → MatchResult result (IsAttributesOf (shapes_of m.files id)) (λ e. e ≡ halt.Disk) }
+    ensures looks { Looks core.old core.new }
+    ensures fails { IfErr result
+        (Fails (LookHalts id (state core.old) (state core.new)) (state core.old) (state core.new)) }
+    ensures client { IfOk result (λ o. IfSome o (λ _. 16 ≤ id)) }
+    ensures size { (m : List Sector) (named : Triples) → HasMemory (state core.old) m
+        → MapIs (state core.old).layout named m → AreOf named (kept_by (state core.old))
+        → IfOk result (λ o. IfSome o (λ found. IsSize named id found.pages)) }
+    ensures cost { (state core.new).disk.transfers ≤ (state core.old).disk.transfers + 29 }
+{
+    attributes_of(&mut core.filer, id)
+}
+
+/// Size, type and marks of the file that has this identifier and may be named: no anonymous window shows it. Of a file that is
+/// not there no window is looked for.
 pub fn named_file<D: Disk, A: Allocator>(
     core: &mut Core<D, A>,
     id: FileId,
@@ -92,10 +116,14 @@ pub fn named_file<D: Disk, A: Allocator>(
     ensures right { SeesOn core.old → IfErr result NeverBlamesTables }
     ensures cost { (state core.new).disk.transfers ≤ (state core.old).disk.transfers + 14561 }
 {
-    match may_be_named(core, id) {
-        Ok(true) => (),
-        Ok(false) => return Ok(None),
+    let found = match found_file(core, id) {
+        Ok(Some(found)) => found,
+        Ok(None) => return Ok(None),
         Err(halt) => return Err(halt),
+    };
+    match may_be_named(core, id) {
+        Ok(true) => Ok(Some(found)),
+        Ok(false) => Ok(None),
+        Err(halt) => Err(halt),
     }
-    attributes_of(&mut core.filer, id)
 }

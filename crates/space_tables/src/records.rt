@@ -146,6 +146,7 @@ pub fn interval_on(page: &Page, index: u32) -> Option<Interval>
         → result
         ≡ (if is_interval_record (interval_record b index) then Some (interval_in (interval_record b index)) else
         None) }
+    ensures form { IfSome result (λ x. in_form x ≡ true) }
 {
     let at = (index % 16 * 32) as usize;
     let mut bytes = [0; 32];

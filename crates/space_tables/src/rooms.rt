@@ -1,5 +1,5 @@
 //! Where a new space has room.
-ghost use Rattle.std.specs.Prelude.{◌≡◌, ℕ, ◌+◌, ◌*◌, ◌<◌, ◌≤◌, true, List, length, Option, Some, None, IfOk, IfErr, IfSome, MatchResult, slice_get, find};
+ghost use Rattle.std.specs.Prelude.{◌≡◌, ℕ, ◌+◌, ◌*◌, ◌/◌, ◌<◌, ◌≤◌, true, false, List, length, Option, Some, None, IfOk, IfErr, IfSome, MatchResult, slice_get, find};
 ghost use Rattle.std.specs.Option.{option_map_or};
 ghost use Rattle.flat_machine.specs.declared.space.Space.{Space};
 ghost use Rattle.flat_machine.specs.Space.{space_at};
@@ -9,15 +9,18 @@ ghost use Rattle.projection_laws.specs.Sight.{Interval, end_of};
 ghost use Rattle.projection_laws.specs.Slots.{listed};
 ghost use Rattle.projection_laws.specs.Stored.{interval_in};
 ghost use Rattle.projection_laws.specs.Tests.{no_place};
-ghost use Rattle.space_tables.specs.Form.{interval_record, in_form, BreaksProjection, BreaksLookUp, BreaksAt};
+ghost use Rattle.space_tables.specs.Form.{interval_record, interval_page, in_form, BreaksProjection, BreaksLookUp, BreaksAt};
 ghost use Rattle.space_tables.specs.Answer.{FromMemory, NotRefused, IfMem, IfMalformed, Replies};
 ghost use Rattle.space_tables.specs.Stored.{HoldTables, AreRight, IsReadable};
 ghost use Rattle.space_tables.specs.Scan.{ends_in, IsFirstGap};
 
-use crate::records::interval;
+use crate::code::Record;
+use crate::records::{interval_on, load_page, page_end};
 use crate::{SpaceError, projection};
+use byteorder::{BigEndian, ByteOrder};
 use flat_machine::Refusal;
-use flat_mem::FlatMem;
+use flat_mem::{FlatMem, PAGE_BYTES, Page};
+use record_table::field;
 use swap_units::{Interval, ROOT_PAGES};
 
 /// The interval that a new space lies in, with its index, and the first page of the space.
@@ -32,6 +35,68 @@ fn is_gap(parent: u32, pages: u32, x: &Interval) -> bool
     ensures { result ≡ is_gap parent pages x.now }
 {
     u32::from(x.space) == parent && pages <= x.pages
+}
+
+// Whether the record of an interval says that it is one of the space, and of so many pages.
+fn gap_in(bytes: &Record, parent: u32, pages: u32) -> bool
+    ensures { result ≡ is_gap parent pages (interval_in bytes.now) }
+{
+    u32::from(field!(u16, bytes, 8)) == parent && pages <= field!(u32, bytes, 4)
+}
+
+// The same, by the page that has the record.
+fn gap_at(page: &Page, index: u32, parent: u32, pages: u32) -> bool
+    requires inside { index < 1024 }
+    ensures gap { (b : List ℕ) → page.now ≡ interval_page b index
+        → result ≡ is_gap parent pages (interval_in (interval_record b index)) }
+{
+    let at = (index % 16 * 32) as usize;
+    let mut bytes = [0; 32];
+    bytes.copy_from_slice(&page[at..at + 32]);
+    gap_in(&bytes, parent, pages)
+}
+
+// Room for so many pages of a space in its first interval that has them, from an index on, before another, by the page that has
+// their records. The outer None means that its record breaks its form.
+fn gap_on(page: &Page, from: u32, end: u32, parent: u32, pages: u32) -> Option<Option<Room>>
+    requires inside { end ≤ 1024 }
+    requires page { end ≤ 16 * (from / 16) + 16 }
+    ensures room { (b : List ℕ) → page.now ≡ interval_page b from
+        → IfSome result
+        (λ o.
+        IfSome o
+        (λ r.
+        (from ≤ r.index) × (r.interval ≡ interval_in (interval_record b r.index))
+        × ((k : ℕ) → from ≤ k → k < r.index → is_gap parent pages (interval_in (interval_record b k)) ≡ false))) }
+    ensures none { (b : List ℕ) → page.now ≡ interval_page b from → result ≡ Some None
+        → (k : ℕ) → from ≤ k → k < end → is_gap parent pages (interval_in (interval_record b k)) ≡ false }
+    ensures form { IfSome result
+        (λ o.
+        IfSome o
+        (λ r.
+        (r.index < end) × (in_form r.interval ≡ true) × (is_gap parent pages r.interval ≡ true)
+        × (r.first ≡ r.interval.first))) }
+    ensures malformed { (b : List ℕ) (count : ℕ) → page.now ≡ interval_page b from → end ≤ count → result ≡ None
+        → BreaksProjection count b (32 + from / 16) }
+{
+    let mut index = from;
+    'scan: while index < end {
+        if !gap_at(page, index, parent, pages) {
+            index += 1;
+            continue 'scan;
+        }
+        let interval = interval_on(page, index)?;
+        if is_gap(parent, pages, &interval) {
+            let first = interval.first;
+            return Some(Some(Room {
+                index,
+                interval,
+                first,
+            }));
+        }
+        index += 1;
+    }
+    Some(None)
 }
 
 // Room for so many pages of a space in its first interval that has them.
@@ -62,17 +127,20 @@ fn find_gap<M: FlatMem>(
     ensures cause { IfErr result (IfMem (M.accounted mem.old mem.new)) }
     ensures cost { M.spent mem.new ≤ M.spent mem.old + 1023 * M.cost }
 {
+    let mut page = [0; PAGE_BYTES];
     let mut index = 0;
+    let mut number = 0;
     'scan: while index < count {
-        let x = interval(mem, index)?;
-        if is_gap(parent, pages, &x) {
-            return Ok(Some(Room {
-                index,
-                interval: x,
-                first: x.first,
-            }));
+        load_page(mem, 32 + number, &mut page)?;
+        let end = page_end(number, count);
+        let Some(found) = gap_on(&page, index, end, parent, pages) else {
+            return Err(SpaceError::Malformed { page: 32 + number });
+        };
+        if let Some(room) = found {
+            return Ok(Some(room));
         }
-        index += 1;
+        index = end;
+        number += 1;
     }
     Ok(None)
 }
