@@ -5,8 +5,8 @@ use Rattle.flight_core.specs.Run.{Happening, Runs}
 use Rattle.flight_core.specs.Run as run
 use Rattle.trace_io.specs.EventGrammar.{Ask, Done}
 use Rattle.client_events.specs.Answers.{Item, Suits, AreTo, Answers, AnswersGrow, AnswersAreRuns, AnswersSuit, happening_of, outcome_of}
-use Rattle.client_events.specs.declared.outcome.Outcome.{Outcome}
-use Rattle.client_events.specs.declared.outcome.Outcome.TheVariants as outcome
+use Rattle.client_events.specs.Outcome.{Outcome}
+use Rattle.client_events.specs.Outcome as outcome
 
 -- one line more
 pub grow : AnswersGrow

@@ -16,12 +16,11 @@ use Rattle.trace_io.specs.Stream.{IsPrefixOf}
 use Rattle.trace_io.specs.Taken.{TakesPart}
 use Rattle.trace_io.specs.declared.progress.Stop.{Stop}
 use Rattle.trace_io.proofs.ItemCourseLemmas.{HasItems-last, HasItems-end, HasItems-part, HasItems-long}
-use Rattle.client_events.specs.Outcome.{outcome_lines}
+use Rattle.client_events.specs.Outcome.{Outcome, outcome_lines}
 use Rattle.client_events.specs.Answers.{Item}
 use Rattle.client_events.specs.Carrying.{CarriesOut, CarriesOutEach}
 use Rattle.client_events.specs.Ending.{Ended, HasLines, IsGoing, IfHalted, TakesWhole}
 use Rattle.client_events.specs.Turn.{EndsSo}
-use Rattle.client_events.specs.declared.outcome.Outcome.{Outcome}
 use Rattle.client_events.specs.declared.ending.Ending.{Ending}
 use Rattle.client_events.specs.declared.ending.Ending.TheVariants as ending
 use Rattle.client_events.proofs.CarryingLemmas.{carries_more}

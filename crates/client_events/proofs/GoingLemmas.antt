@@ -16,11 +16,10 @@ use Rattle.trace_io.specs.Progress.{Progress}
 use Rattle.trace_io.specs.declared.progress.Stop.{Stop}
 use Rattle.trace_io.specs.declared.progress.Stop.TheVariants as stop
 use Rattle.trace_io.proofs.ItemCourseLemmas.{HasItems-none, HasItems-line, HasItems-item}
-use Rattle.client_events.specs.Outcome.{outcome_lines}
+use Rattle.client_events.specs.Outcome.{Outcome, outcome_lines}
 use Rattle.client_events.specs.Answers.{Item, Suits, AreTo}
 use Rattle.client_events.specs.Ending.{HasTaken, TakesToLast, Leads}
 use Rattle.client_events.specs.Turn.{Steps}
-use Rattle.client_events.specs.declared.outcome.Outcome.{Outcome}
 use Rattle.client_events.proofs.AnswerLemmas.{grow, to_more}
 
 -- So many lines are answered, and this holds of them.
@@ -58,6 +57,10 @@ module _ {a b t u : Option (List ℕ)} {p : Progress} {holds : List Item → Lis
   -- these very lines
   pub Going-tied : Going a b t u p (λ items os. holds items os × (items ≡ going.items))
   Going-tied = record { items = going.items; outcomes = going.outcomes; read = going.read; wrote = going.wrote; suit = going.suit; are = (going.are, refl) }
+
+  -- the sink took nothing since
+  pub Going-silent : {v : Option (List ℕ)} → v ≡ u → Going a b t v p holds
+  Going-silent silent = subst (λ (w : Option (List ℕ)). Going a b t w p holds) (sym silent) going
 
   -- where source and sink reveal their bytes
   pub Going-revealed : {x y : List ℕ} → a ≡ Some x → t ≡ Some y → Going (Some x) b (Some y) u p holds

@@ -5,8 +5,8 @@ use Rattle.flight_core.specs.Crowd.{Crowd}
 use Rattle.flight_core.specs.Run.{Happens, Runs, Happening}
 use Rattle.flight_core.specs.Run as run
 use Rattle.trace_io.specs.EventGrammar.{EventLine, Ask, Done}
-use Rattle.client_events.specs.declared.outcome.Outcome.{Outcome}
-use Rattle.client_events.specs.declared.outcome.Outcome.TheVariants as outcome
+use Rattle.client_events.specs.Outcome.{Outcome}
+use Rattle.client_events.specs.Outcome as outcome
 
 -- a line says an event, or none where it is bad
 abbrev pub Item : Type 0

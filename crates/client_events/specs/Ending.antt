@@ -11,9 +11,8 @@ use Rattle.trace_io.specs.EventGrammar as event
 use Rattle.trace_io.specs.EventReading.{event_reading, whole_event_reading, rest_of_events}
 use Rattle.trace_io.specs.Items.{FitsIn}
 use Rattle.trace_io.specs.Stream.{IsPrefixOf, Rose}
-use Rattle.client_events.specs.Outcome.{outcome_lines}
+use Rattle.client_events.specs.Outcome.{Outcome, outcome_lines}
 use Rattle.client_events.specs.Answers.{Item, AnswersEach}
-use Rattle.client_events.specs.declared.outcome.Outcome.{Outcome}
 use Rattle.client_events.specs.declared.ending.Ending.{Ending}
 use Rattle.client_events.specs.declared.ending.Ending.TheVariants as ending
 

@@ -7,7 +7,6 @@ ghost use Rattle.client_events.specs.Carrying.{CarriesOutLines};
 ghost use Rattle.client_events.specs.Ending.{AccountsFor, Ended, HasReason, IfHalted, IsGoing, Leads, LeadsToHalt};
 
 use crate::Ending;
-use crate::outcome::write_outcome;
 use crate::turn::{Turn, take_turn};
 use flight_core::{Flights, Stepped};
 use trace_io::{Events, Sink, Source};
@@ -40,12 +39,9 @@ pub fn answer_events<T: Stepped, S: Source, K: Sink>(
 {
     let mut events = Events::with_limit(LIMIT);
     'turns: loop {
-        match take_turn(flights, &mut events, source) {
-            Turn::Comes(outcome) => {
-                let Ok(()) = write_outcome(sink, outcome) else {
-                    return Ending::SinkFault;
-                };
-            }
+        match take_turn(flights, &mut events, source, sink) {
+            Turn::Written => {}
+            Turn::CutShort => return Ending::SinkFault,
             Turn::Ends(ending) => return ending,
         }
     }

@@ -12,4 +12,3 @@ pub use answering::answer_events;
 pub use dropped::{Clients, waiting_clients, write_dropped, write_dropped_clients};
 pub use ending::Ending;
 pub use laws::{answers_are_runs, answers_grow};
-pub use outcome::Outcome;

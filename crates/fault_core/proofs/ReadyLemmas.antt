@@ -13,6 +13,7 @@ use Rattle.swap_units.specs.declared.mode.Mode.TheVariants.{Unmapped, Mapped}
 use Rattle.swap_units.specs.Mode.{is_mapped, is_read_only, is_writable}
 use Rattle.fault_core.specs.declared.reference.Access.TheVariants as access
 use Rattle.fault_core.specs.Access.{Shows, access_of, is_load_only, last_page, refused_by}
+use Rattle.fault_core.specs.Attempt.{ArePresent, IsHere}
 use Rattle.fault_core.specs.Kept.{IsKept}
 use Rattle.swapper_kernel.specs.Goes.{IsDirty, this_page}
 use Rattle.session_words.specs.CellLaws.{IsTouched, IsTouchedOrOwn, Stores}
@@ -21,9 +22,10 @@ use Rattle.fault_core.specs.Moves.{AreSeen, Leaves, StoresAs, client_page, of_re
 use Rattle.fault_core.specs.Ready.{IsAtHand, IsChanged}
 use Rattle.fault_core.specs.Revealed.{Revealed}
 use Rattle.fault_core.specs.Touch.{Touches}
-use Rattle.fault_core.specs.Unit.{IsReady, IsShownDirty, IsWhole, file_page}
+use Rattle.fault_core.specs.Unit.{IsReady, IsResident, IsShownDirty, IsSlotOf, IsWhole, file_page}
 use Rattle.filer_kernel.specs.View.{GoesTo, HasMemory, View}
 use Rattle.fault_core.proofs.AccessLemmas.{access_shown, first_touched}
+use Rattle.fault_core.proofs.AttemptLemmas.{all_present, here_stays, slot_shown, slot_stays}
 use Rattle.fault_core.proofs.BeforeLemmas.{touches_wider}
 use Rattle.fault_core.proofs.LeaveLemmas.{goes_revealed, revealed_leaves, revealed_stands, stored_on_one, touched_or_own}
 use Rattle.fault_core.proofs.NeverBlamesLemmas.{sees_touched}
@@ -77,6 +79,20 @@ module _ {kept : List Interval} {slots : Slots} {writes : Bool} {address count s
       whole = subst (IsWhole slots h.interval) hand_last h.whole;
     }
 
+    pub hand_here : IsHere kept slots (last_page address count)
+    hand_here = record {
+      interval = h.interval;
+      is_kept = h.is_kept;
+      holds = shows_last.holds;
+      mapped = h.shows.mapped;
+      resident = subst (λ (page : ℕ). IsResident slots h.interval.id (file_page h.interval page)) hand_last (slot, h.has);
+    }
+
+    pub hand_present : {v : View} {n : ℕ} {m : List Sector} {named : Triples} {ss : List Space} → Revealed v kept n m named ss → ArePresent ss slots address count
+    hand_present {ss = ss} r =
+        let own = slot_shown slots h.interval (address / 512) (hand_seen r) h.shows slot h.has in
+        all_present ss slots address count slot slot own (subst (λ (page : ℕ). IsSlotOf ss slots page slot) hand_last own)
+
     not_refused : (w : Bool) → (w ≡ true → is_load_only h.interval ≡ false)
         → access.Done ≡ refused_by None (if w then (if is_load_only h.interval then Some (address / 512) else (if is_load_only h.interval then Some (last_page address count) else None)) else None)
     not_refused false allowed = refl
@@ -128,6 +144,12 @@ module _ {kept : List Interval} {address : ℕ} {bytes : List ℕ} {v w : View} 
           mapped = ready.mapped;
           whole = λ other own. let there = ready.whole other own in (there.0, h.slots there.0 ready.interval.id (file_page ready.interval other) there.1);
         }
+
+    pub changed_here : IsHere kept w.slots (last_page address (length bytes))
+    changed_here = here_stays h.slots (hand_here h.hand some)
+
+    pub changed_present : {n : ℕ} {m : List Sector} {named : Triples} {ss : List Space} → Revealed v kept n m named ss → ArePresent ss w.slots address (length bytes)
+    changed_present r = λ k page here. let own = hand_present h.hand some r k page here in (own.0, slot_stays h.slots own.1)
 
     module _ {n : ℕ} {m : List Sector} {named : Triples} {ss : List Space} (r : Revealed v kept n m named ss) where
       pub changed_dirty : IsShownDirty ss w.slots (last_page address (length bytes))

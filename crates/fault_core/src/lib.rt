@@ -14,6 +14,7 @@ mod plan;
 mod range;
 mod ready;
 mod reference;
+mod resident;
 mod search;
 mod shown;
 mod store;

@@ -20,8 +20,8 @@ ghost use Rattle.fault_core.specs.Lack.{MissesPage, Sees, both_units, shown_unit
 ghost use Rattle.fault_core.specs.NeverBlames.{NeverBlamesTables};
 
 use crate::Core;
-use crate::attempt::{Attempt, Prospect};
-use crate::frames::{copy_out, copy_pages};
+use crate::attempt::Attempt;
+use crate::frames::copy_out;
 use crate::ready::{load_at_hand, load_unit};
 use crate::reference::{Access, Reference};
 use crate::touch::touch;
@@ -265,12 +265,9 @@ impl<D: Disk, A: Allocator> Core<D, A> {
             → IsOk result × (self.new.filer ≡ self.old.filer) × (kept self.new ≡ kept self.old) }
         ensures cost { (state self.new).disk.transfers ≤ (state self.old).disk.transfers + 392 }
     {
-        let (first, last) = match self.look_ahead(address, into.len() as u32, false) {
-            Ok(Prospect::Ready { first, last }) => (first, last),
-            Ok(Prospect::Settled(attempt)) => return Ok(attempt),
-            Err(halt) => return Err(halt),
-        };
-        copy_pages(&mut self.filer, first, last, address, into);
-        Ok(Attempt::Access(Access::Done))
+        if load_at_hand(&mut self.filer, &self.descriptors, address, into) {
+            return Ok(Attempt::Access(Access::Done));
+        }
+        self.look_and_load(address, into)
     }
 }

@@ -22,8 +22,8 @@ ghost use Rattle.fault_core.specs.Lack.{MissesPage, Sees, both_units, shown_unit
 ghost use Rattle.fault_core.specs.NeverBlames.{NeverBlamesTables};
 
 use crate::Core;
-use crate::attempt::{Attempt, Prospect};
-use crate::frames::{change_in, change_pages};
+use crate::attempt::Attempt;
+use crate::frames::change_in;
 use crate::ready::store_at_hand;
 use crate::reference::{Access, Reference};
 use crate::touch::touch;
@@ -288,12 +288,9 @@ impl<D: Disk, A: Allocator> Core<D, A> {
             → IsOk result × ((state self.new).disk ≡ (state self.old).disk) × (kept self.new ≡ kept self.old) }
         ensures cost { (state self.new).disk.transfers ≤ (state self.old).disk.transfers + 392 }
     {
-        let (first, last) = match self.look_ahead(address, bytes.len() as u32, true) {
-            Ok(Prospect::Ready { first, last }) => (first, last),
-            Ok(Prospect::Settled(attempt)) => return Ok(attempt),
-            Err(halt) => return Err(halt),
-        };
-        change_pages(&mut self.filer, first, last, address, bytes);
-        Ok(Attempt::Access(Access::Done))
+        if store_at_hand(&mut self.filer, &self.descriptors, address, bytes) {
+            return Ok(Attempt::Access(Access::Done));
+        }
+        self.look_and_store(address, bytes)
     }
 }

@@ -113,3 +113,13 @@ event_of-short line short = let fits : nat_le (length line) 255 ≡ true = grind
 pub event_of-long : (line : List ℕ) → 255 < length line → None ≡ event_of line
 unfolding event_of
 event_of-long line long = let past : nat_le (length line) 255 ≡ false = grind arith in rw past refl
+
+-- a line that begins with `on` and a space
+pub event_of-asked : (line text : List ℕ) → length line ≤ 255 → words_of line ≡ codes "on" ∷ words_of text → event_of line ≡ asked (words_of text)
+unfolding event_of_words
+event_of-asked line text short words = event_of-short line short ∙ ap event_of_words words
+
+-- a line of the word `on` alone
+pub event_of-alone : (line word : List ℕ) → words_of line ≡ word ∷ [] → bytes_eq word (codes "on") ≡ true → None ≡ event_of_words (words_of line)
+unfolding event_of_words client_and_call
+event_of-alone line word words test = rw (words, test) refl

@@ -1,11 +1,11 @@
 //! What a line of events says.
-ghost use Rattle.std.specs.Prelude.{◌≡◌, ◌≤◌, length};
+ghost use Rattle.std.specs.Prelude.{◌≡◌, ◌≤◌, ◌∷◌, IfSome, codes, length};
 ghost use Rattle.trace_io.specs.Grammar.{words_of};
 ghost use Rattle.trace_io.specs.EventGrammar.{event_of, event_of_words, asked, landed, closed, halted};
 ghost use Rattle.trace_io.specs.Events.{event_at};
 ghost use Rattle.trace_io.specs.Words.{rest_words};
 
-use crate::event_fields::{client_and_call, only_flight};
+use crate::event_fields::{client_and_line, only_flight, unending};
 use crate::fields::nothing;
 use crate::words::cut;
 use flat_machine::Call;
@@ -32,11 +32,15 @@ pub enum Event {
     Long,
 }
 
-fn ask_in(rest: Option<&[u8]>) -> Event
-    ensures { result ≡ event_at (asked (rest_words rest.entry)) }
+// What a client asks for, by what stands after `on` and a space.
+fn ask_in(text: &[u8]) -> Event
+    ensures { result ≡ event_at (asked (words_of text.now)) }
 {
-    match client_and_call(rest) {
-        Some((client, call)) => Event::Ask { client, call },
+    let Some((client, line)) = client_and_line(text) else {
+        return Event::Bad;
+    };
+    match unending(line) {
+        Some(call) => Event::Ask { client, call },
         None => Event::Bad,
     }
 }
@@ -75,7 +79,10 @@ fn event_by_words(line: &[u8]) -> Event
 {
     let (word, rest) = cut(line);
     if word == b"on".as_slice() {
-        return ask_in(rest);
+        return match rest {
+            Some(text) => ask_in(text),
+            None => Event::Bad,
+        };
     }
     if word == b"done".as_slice() {
         return done_in(rest);
@@ -89,10 +96,23 @@ fn event_by_words(line: &[u8]) -> Event
     Event::Bad
 }
 
-// What a line says that is not too long.
+// What stands after `on` and a space, where a line begins so.
+fn text_of_asking(line: &[u8]) -> Option<&[u8]>
+    ensures { IfSome result (λ rest. words_of line.now ≡ codes "on" ∷ words_of rest.now) }
+{
+    if line.len() > 2 && line[0] == b'o' && line[1] == b'n' && line[2] == b' ' {
+        return Some(&line[3..]);
+    }
+    None
+}
+
+// What a line says that is not too long. Where it begins with `on` and a space, no word is cut for that.
 pub(crate) fn event_in(line: &[u8]) -> Event
     requires { length line.now ≤ 255 }
     ensures { result ≡ event_at (event_of line.now) }
 {
-    event_by_words(line)
+    match text_of_asking(line) {
+        Some(text) => ask_in(text),
+        None => event_by_words(line),
+    }
 }

@@ -1,8 +1,8 @@
 //! The fields of an event, by the words after the first.
-ghost use Rattle.std.specs.Prelude.{◌≡◌, if◌then◌else◌, None};
+ghost use Rattle.std.specs.Prelude.{◌≡◌, if◌then◌else◌, IfNone, IfSome, None, Some};
 ghost use Rattle.std.specs.List.{list_all};
 ghost use Rattle.std.specs.Char.{is_ascii_digit};
-ghost use Rattle.trace_io.specs.Grammar.{words_of};
+ghost use Rattle.trace_io.specs.Grammar.{both, words_of};
 ghost use Rattle.trace_io.specs.EventGrammar.{wide_value_of, flight_of, client_of, unending_of, client_and_call, only_flight};
 ghost use Rattle.trace_io.specs.Words.{rest_words};
 
@@ -50,7 +50,7 @@ fn client(word: &[u8]) -> Option<u8>
 
 // The call of a line, if it does not end the session.
 #[tactic(auto, unfolding(crate::specs::EventGrammar::unending_of))]
-fn unending(line: &[u8]) -> Option<Call>
+pub(crate) fn unending(line: &[u8]) -> Option<Call>
     ensures { result ≡ unending_of (words_of line.now) }
 {
     let call = call_of(line)?;
@@ -60,12 +60,32 @@ fn unending(line: &[u8]) -> Option<Call>
     Some(call)
 }
 
-#[tactic(auto, unfolding(crate::specs::EventGrammar::client_and_call))]
-pub(crate) fn client_and_call(rest: Option<&[u8]>) -> Option<(u8, Call)>
-    ensures { result ≡ client_and_call (rest_words rest.entry) }
+// A client and the line of its call, where a text begins with a client and a space.
+fn plain_client(text: &[u8]) -> Option<(u8, &[u8])>
+    ensures { IfSome result
+        (λ p. client_and_call (words_of text.now) ≡ both (Some p.0) (unending_of (words_of p.1.now))) }
 {
-    let (first, line) = split_word(rest?)?;
-    Some((client(first)?, unending(line)?))
+    if text.len() > 1 && text[1] == b' ' && text[0] >= b'1' && text[0] <= b'9' {
+        return Some((text[0] - b'0', &text[2..]));
+    }
+    if text.len() > 2 && text[2] == b' ' && text[0] == b'1' && text[1] >= b'0' && text[1] <= b'6' {
+        return Some((10 + (text[1] - b'0'), &text[3..]));
+    }
+    None
+}
+
+// A client and the line of its call. A client is looked for where one must stand, before words are cut.
+#[tactic(auto, unfolding(crate::specs::EventGrammar::client_and_call))]
+pub(crate) fn client_and_line(text: &[u8]) -> Option<(u8, &[u8])>
+    ensures some { IfSome result
+        (λ p. client_and_call (words_of text.now) ≡ both (Some p.0) (unending_of (words_of p.1.now))) }
+    ensures none { IfNone result (client_and_call (words_of text.now) ≡ None) }
+{
+    if let Some(found) = plain_client(text) {
+        return Some(found);
+    }
+    let (first, line) = split_word(text)?;
+    Some((client(first)?, line))
 }
 
 #[tactic(auto, unfolding(crate::specs::EventGrammar::only_flight))]

@@ -1,5 +1,5 @@
 //! The lines of replies.
-ghost use Rattle.std.specs.Prelude.{◌≡◌, ◌≤◌, [], ◌++◌, length, OnOk, OnErr, codes};
+ghost use Rattle.std.specs.Prelude.{◌≡◌, ◌≤◌, ◌+◌, ◌++◌, length, OnOk, OnErr, codes};
 ghost use Rattle.std.specs.Io.KnownBytes.{Appends};
 ghost use Rattle.trace_io.specs.Stream.{HasCause, AppendsPrefix};
 ghost use Rattle.flat_machine.specs.Text.{reply_text, refusal_text, text};
@@ -8,11 +8,11 @@ use crate::text::Text;
 use crate::{Sink, SinkFault};
 use flat_machine::{Refusal, Reply};
 
-// Puts the text of a reply into a line that has no byte yet.
-fn put_reply(line: &mut Text, reply: &Reply)
-    requires { line.old ≡ [] }
-    ensures text { line.new ≡ reply_text reply.now }
-    ensures short { length line.new ≤ 160 }
+// Puts the text of a reply after what the line has.
+pub(crate) fn put_reply(line: &mut Text, reply: &Reply)
+    requires { length line.old ≤ 31 }
+    ensures text { line.new ≡ line.old ++ reply_text reply.now }
+    ensures short { length line.new ≤ length line.old + 160 }
 {
     match reply {
         Reply::Done => line.put(b"ok"),
@@ -70,11 +70,11 @@ fn put_reply(line: &mut Text, reply: &Reply)
     }
 }
 
-// Puts the text of a refusal into a line that has no byte yet.
+// Puts the text of a refusal after what the line has.
 fn put_refusal(line: &mut Text, why: Refusal)
-    requires { line.old ≡ [] }
-    ensures text { line.new ≡ codes "error " ++ refusal_text why }
-    ensures short { length line.new ≤ 160 }
+    requires { length line.old ≤ 31 }
+    ensures text { line.new ≡ line.old ++ (codes "error " ++ refusal_text why) }
+    ensures short { length line.new ≤ length line.old + 160 }
 {
     match why {
         Refusal::Syntax => line.put(b"error syntax"),
@@ -110,16 +110,6 @@ fn put_refusal(line: &mut Text, why: Refusal)
     }
 }
 
-// The text of a reply.
-pub(crate) fn replied(reply: &Reply) -> Text
-    ensures text { result ≡ reply_text reply.now }
-    ensures short { length result ≤ 160 }
-{
-    let mut line = Text::new();
-    put_reply(&mut line, reply);
-    line
-}
-
 /// Writes the line of a reply, or at an error a prefix of it.
 #[tactic(auto, unfolding(flat_machine::specs::Text::text))]
 pub fn write_reply<K: Sink>(sink: &mut K, reply: &Reply) -> Result<(), SinkFault>
@@ -127,7 +117,8 @@ pub fn write_reply<K: Sink>(sink: &mut K, reply: &Reply) -> Result<(), SinkFault
     ensures err { OnErr result (AppendsPrefix (K.took sink.old) (K.took sink.new) (text reply.now)) }
     ensures cause { HasCause (K.faults sink.old) (K.faults sink.new) result }
 {
-    let mut line = replied(reply);
+    let mut line = Text::new();
+    put_reply(&mut line, reply);
     line.put(b"\n");
     sink.put(line.as_slice())
 }

@@ -1,5 +1,5 @@
 //! A line that is being put together.
-ghost use Rattle.std.specs.Prelude.{◌≡◌, ◌≤◌, ◌+◌, ◌*◌, [], ◌++◌, ◌∷◌, length};
+ghost use Rattle.std.specs.Prelude.{◌≡◌, ◌≤◌, ◌+◌, ◌*◌, [], ◌++◌, ◌∷◌, codes, length};
 ghost use Rattle.std.specs.Fmt.{decimal};
 ghost use Rattle.hex.specs.Hex.{encode_lower};
 ghost use Rattle.flat_machine.specs.Text.{id_text};
@@ -48,6 +48,36 @@ impl Text {
         ensures size { length self.new ≤ length self.old + 10 }
     {
         self.put(Buffer::new().format(n).as_bytes());
+    }
+
+    // A number of one byte. One of up to two digits, as clients have, is put without a division loop.
+    #[tactic(auto, using(crate::proofs::DecimalLemmas::decimal_one, crate::proofs::DecimalLemmas::decimal_two))]
+    pub(crate) fn put_small(&mut self, n: u8)
+        requires { length self.old + 10 ≤ 192 }
+        ensures text { self.new ≡ self.old ++ decimal n }
+        ensures size { length self.new ≤ length self.old + 10 }
+    {
+        if n < 10 {
+            self.put(&[b'0' + n]);
+        } else if n < 100 {
+            self.put(&[b'0' + n / 10, b'0' + n % 10]);
+        } else {
+            self.put_number(u32::from(n));
+        }
+    }
+
+    // A client's number and a space, in one step where it has one digit.
+    pub(crate) fn put_client(&mut self, n: u8)
+        requires { length self.old + 11 ≤ 192 }
+        ensures text { self.new ≡ self.old ++ decimal n ++ codes " " }
+        ensures size { length self.new ≤ length self.old + 11 }
+    {
+        if n < 10 {
+            self.put(&[b'0' + n, b' ']);
+        } else {
+            self.put_small(n);
+            self.put(b" ");
+        }
     }
 
     pub(crate) fn put_wide(&mut self, n: u64)

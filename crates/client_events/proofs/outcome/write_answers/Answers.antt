@@ -20,17 +20,17 @@ loop-answer-preserved g c =
     let steps : l.answer-iterator ≡ c.in-Some.answer ∷ c.next.new.self = c.in-Some.ensures.steps in
     record {
       all = append_assoc l.yielded (c.in-Some.answer ∷ []) c.next.new.self ∙ ap (λ (rest : List Answer). l.yielded ++ rest) (sym steps) ∙ l.invariant.all;
-      put = lines_put answer_line _ _ _ l.yielded c.in-Some.answer l.invariant.put c.in_ok-write_client_line.ensures.ok;
-      faults = omega (arith, l.invariant.faults, c.in_ok-write_client_line.ensures.cause.later);
+      put = lines_put answer_line _ _ _ l.yielded c.in-Some.answer l.invariant.put c.in_ok-write_answer.ensures.ok;
+      faults = omega (arith, l.invariant.faults, c.in_ok-write_answer.ensures.cause.later);
     }
 
-pub returns-in_err-write_client_line-clause-err : goal.returns-in_err-write_client_line-clause-err
-returns-in_err-write_client_line-clause-err g c =
+pub returns-in_err-write_answer-clause-err : goal.returns-in_err-write_answer-clause-err
+returns-in_err-write_answer-clause-err g c =
     let l = c.loop-answer in
     let steps : l.answer-iterator ≡ c.in-Some.answer ∷ c.next.new.self = c.in-Some.ensures.steps in
-    let same : c.from_residual.result ≡ Err c.in_err-write_client_line.field-0.0 = search rules in
+    let same : c.from_residual.result ≡ Err c.in_err-write_answer.field-0.0 = search rules in
     rw same
-    (lines_begun answer_line _ _ _ l.yielded c.in-Some.answer c.next.new.self c.args.answers.items (ap (λ (rest : List Answer). l.yielded ++ rest) (sym steps) ∙ l.invariant.all) l.invariant.put c.in_err-write_client_line.ensures.err)
+    (lines_begun answer_line _ _ _ l.yielded c.in-Some.answer c.next.new.self c.args.answers.items (ap (λ (rest : List Answer). l.yielded ++ rest) (sym steps) ∙ l.invariant.all) l.invariant.put c.in_err-write_answer.ensures.err)
 
 pub returns-clause-ok : goal.returns-clause-ok
 returns-clause-ok g c =

@@ -1,105 +1,111 @@
-use Rattle.std.proofs.Common.{◌≡◌, ◌≢◌, ◌∙◌, ◌/◌, false, length, refl}
-use Rattle.fault_core.specs.declared.reference.Access.TheVariants as access
-use Rattle.fault_core.specs.Access.{access_of, last_page, BreaksFor}
-use Rattle.fault_core.specs.Attempt.{HasClient, IfAbsent, IfAccess, IsAbsent, IsHere, IsReferred, moved}
-use Rattle.fault_core.specs.Core.{kept, state}
-use Rattle.fault_core.specs.ReachLaws.{touch_of_reach}
-use Rattle.fault_core.specs.Unit.{IsSlotOf}
-use Rattle.fault_core.proofs.AttemptLemmas.{all_present, at_ready, at_settled}
-use Rattle.fault_core.proofs.NeverBlamesLemmas.{reference_never_blames}
+use Rattle.std.proofs.Common.{◌≤◌, refl}
+use Rattle.swapper_kernel.specs.HaltLaws.{brings_itself}
+use Rattle.fault_core.specs.Core.{state}
+use Rattle.fault_core.proofs.ReachLemmas.{reaches_itself}
+use Rattle.fault_core.proofs.ReadyLemmas.{hand_granted, hand_here, hand_present}
+use Rattle.fault_core.proofs.RoomLemmas.{room_itself}
+use Rattle.fault_core.proofs.YieldLemmas.{yield_itself}
 use Rattle.fault_core.proofs.core_over.Core.try_load.Goals as goal
 
--- ---- No byte is moved.
+-- ---- The page is at hand.
 
-pub returns-in-Ok-Settled-clause-access : goal.returns-in-Ok-Settled-clause-access
-returns-in-Ok-Settled-clause-access g c = λ m named ss knows.
-    at_settled (IfAccess (λ a. a ≡ access_of ss false c.args.address (length c.args.into.now))) c.in-Ok-Settled.field-0 c.in-Ok-Settled.attempt c.in-Ok-Settled.field-0-is (c.in-Ok-Settled.ensures.access m named ss knows)
+pub returns-then-load_at_hand-clause-access : goal.returns-then-load_at_hand-clause-access
+returns-then-load_at_hand-clause-access g c = λ m named ss knows. hand_granted (c.load_at_hand.ensures.ready c.if-load_at_hand.true).1 c.requires.some knows
 
-pub returns-in-Ok-Settled-clause-absent : goal.returns-in-Ok-Settled-clause-absent
-returns-in-Ok-Settled-clause-absent g c = λ m named ss knows.
-    at_settled (IfAbsent (IsAbsent ss (state c.look_ahead.new.self).slots false c.args.address (length c.args.into.now))) c.in-Ok-Settled.field-0 c.in-Ok-Settled.attempt c.in-Ok-Settled.field-0-is (c.in-Ok-Settled.ensures.absent m named ss knows)
+pub returns-then-load_at_hand-clause-present : goal.returns-then-load_at_hand-clause-present
+returns-then-load_at_hand-clause-present g c = λ m named ss knows done. rw c.load_at_hand.ensures.same (hand_present (c.load_at_hand.ensures.ready c.if-load_at_hand.true).1 c.requires.some knows)
 
-pub returns-in-Ok-Settled-clause-present : goal.returns-in-Ok-Settled-clause-present
-returns-in-Ok-Settled-clause-present g c = λ m named ss knows done.
-    absurd (at_settled (λ t. t ≢ moved) c.in-Ok-Settled.field-0 c.in-Ok-Settled.attempt c.in-Ok-Settled.field-0-is c.in-Ok-Settled.ensures.unmoved done)
+pub returns-then-load_at_hand-clause-bytes : goal.returns-then-load_at_hand-clause-bytes
+returns-then-load_at_hand-clause-bytes g c = λ m named ss knows done. c.load_at_hand.ensures.bytes c.args.self.now.intervals m named ss c.if-load_at_hand.true knows
 
-pub returns-in-Ok-Settled-clause-bytes : goal.returns-in-Ok-Settled-clause-bytes
-returns-in-Ok-Settled-clause-bytes g c = λ m named ss knows done.
-    absurd (at_settled (λ t. t ≢ moved) c.in-Ok-Settled.field-0 c.in-Ok-Settled.attempt c.in-Ok-Settled.field-0-is c.in-Ok-Settled.ensures.unmoved done)
+pub returns-then-load_at_hand-clause-unmoved : goal.returns-then-load_at_hand-clause-unmoved
+returns-then-load_at_hand-clause-unmoved g c = λ other. absurd (other refl)
 
-pub returns-in-Ok-Settled-clause-referred : goal.returns-in-Ok-Settled-clause-referred
-returns-in-Ok-Settled-clause-referred g c =
-    at_settled (IfAbsent (IsReferred c.args.address (length c.args.into.now))) c.in-Ok-Settled.field-0 c.in-Ok-Settled.attempt c.in-Ok-Settled.field-0-is c.in-Ok-Settled.ensures.referred
+pub returns-then-load_at_hand-clause-here : goal.returns-then-load_at_hand-clause-here
+returns-then-load_at_hand-clause-here g c = λ done. rw c.load_at_hand.ensures.same (hand_here (c.load_at_hand.ensures.ready c.if-load_at_hand.true).1 c.requires.some)
 
-pub returns-in-Ok-Settled-clause-here : goal.returns-in-Ok-Settled-clause-here
-returns-in-Ok-Settled-clause-here g c = λ done.
-    absurd (at_settled (λ t. t ≢ moved) c.in-Ok-Settled.field-0 c.in-Ok-Settled.attempt c.in-Ok-Settled.field-0-is c.in-Ok-Settled.ensures.unmoved done)
+pub returns-then-load_at_hand-clause-sees : goal.returns-then-load_at_hand-clause-sees
+returns-then-load_at_hand-clause-sees g c = λ ss s. rw c.load_at_hand.ensures.same s
 
-pub returns-in-Ok-Settled-clause-ready : goal.returns-in-Ok-Settled-clause-ready
-returns-in-Ok-Settled-clause-ready g c = λ first last apart.
-    at_settled (IfAbsent (λ page. ⊥)) c.in-Ok-Settled.field-0 c.in-Ok-Settled.attempt c.in-Ok-Settled.field-0-is (c.in-Ok-Settled.ensures.present first last apart)
+pub returns-then-load_at_hand-clause-same : goal.returns-then-load_at_hand-clause-same
+returns-then-load_at_hand-clause-same g c = λ m named ss knows. rw c.load_at_hand.ensures.same knows
 
--- ---- All bytes are.
+pub returns-then-load_at_hand-clause-reaches : goal.returns-then-load_at_hand-clause-reaches
+returns-then-load_at_hand-clause-reaches g c = rw c.load_at_hand.ensures.same (reaches_itself (state c.args.self.now))
 
-pub copy_pages-requires-clause-first : goal.copy_pages-requires-clause-first
-copy_pages-requires-clause-first g c =
-    (at_ready (λ i j. HasClient (state c.look_ahead.new.self).slots i × HasClient (state c.look_ahead.new.self).slots j) c.in-Ok-Ready.field-0 c.in-Ok-Ready.first c.in-Ok-Ready.last c.in-Ok-Ready.field-0-is c.in-Ok-Ready.ensures.clients).0
+pub returns-then-load_at_hand-clause-came : goal.returns-then-load_at_hand-clause-came
+returns-then-load_at_hand-clause-came g c = rw c.load_at_hand.ensures.same (brings_itself (λ home. (1 ≤ home.id) × (home.id ≤ 3)) (state c.args.self.now).slots)
 
-pub copy_pages-requires-clause-last : goal.copy_pages-requires-clause-last
-copy_pages-requires-clause-last g c =
-    (at_ready (λ i j. HasClient (state c.look_ahead.new.self).slots i × HasClient (state c.look_ahead.new.self).slots j) c.in-Ok-Ready.field-0 c.in-Ok-Ready.first c.in-Ok-Ready.last c.in-Ok-Ready.field-0-is c.in-Ok-Ready.ensures.clients).1
+pub returns-then-load_at_hand-clause-room : goal.returns-then-load_at_hand-clause-room
+returns-then-load_at_hand-clause-room g c = rw c.load_at_hand.ensures.same (room_itself (state c.args.self.now).slots)
+
+pub returns-then-load_at_hand-clause-stay : goal.returns-then-load_at_hand-clause-stay
+returns-then-load_at_hand-clause-stay g c = rw c.load_at_hand.ensures.same (yield_itself (state c.args.self.now).slots)
+
+pub returns-then-load_at_hand-clause-idle : goal.returns-then-load_at_hand-clause-idle
+returns-then-load_at_hand-clause-idle g c = λ first last apart. (refl, c.load_at_hand.ensures.same, refl)
+
+-- ---- The pages are described.
 
 pub returns-clause-access : goal.returns-clause-access
-returns-clause-access g c = λ m named ss knows.
-    at_ready (λ i j. access.Done ≡ access_of ss false c.args.address (length c.args.into.now)) c.in-Ok-Ready.field-0 c.in-Ok-Ready.first c.in-Ok-Ready.last c.in-Ok-Ready.field-0-is (c.in-Ok-Ready.ensures.granted m named ss knows)
+returns-clause-access g c = rw (c.load_at_hand.ensures.same, c.load_at_hand.ensures.left c.if-load_at_hand.false) at c.look_and_load.ensures.access
+
+pub returns-clause-absent : goal.returns-clause-absent
+returns-clause-absent g c = rw (c.load_at_hand.ensures.same, c.load_at_hand.ensures.left c.if-load_at_hand.false) at c.look_and_load.ensures.absent
 
 pub returns-clause-present : goal.returns-clause-present
-returns-clause-present g c = λ m named ss knows done.
-    let pool = (state c.look_ahead.new.self).slots in
-    let a = c.args.address in
-    let n = length c.args.into.now in
-    let slots = at_ready (λ i j. IsSlotOf ss pool (a / 512) i × IsSlotOf ss pool (last_page a n) j) c.in-Ok-Ready.field-0 c.in-Ok-Ready.first c.in-Ok-Ready.last c.in-Ok-Ready.field-0-is (c.in-Ok-Ready.ensures.slots m named ss knows) in
-    rw c.copy_pages.ensures.same (all_present ss pool a n c.in-Ok-Ready.first c.in-Ok-Ready.last slots.0 slots.1)
+returns-clause-present g c = rw (c.load_at_hand.ensures.same, c.load_at_hand.ensures.left c.if-load_at_hand.false) at c.look_and_load.ensures.present
 
 pub returns-clause-bytes : goal.returns-clause-bytes
-returns-clause-bytes g c = λ m named ss knows done.
-    let pool = (state c.look_ahead.new.self).slots in
-    let a = c.args.address in
-    let n = length c.args.into.now in
-    let after = c.in-Ok-Ready.ensures.same m named ss knows in
-    let slots = at_ready (λ i j. IsSlotOf ss pool (a / 512) i × IsSlotOf ss pool (last_page a n) j) c.in-Ok-Ready.field-0 c.in-Ok-Ready.first c.in-Ok-Ready.last c.in-Ok-Ready.field-0-is (c.in-Ok-Ready.ensures.slots m named ss knows) in
-    c.copy_pages.ensures.bytes m named after.bytes ss after.known after.stored slots.0 slots.1
+returns-clause-bytes g c = rw c.load_at_hand.ensures.same at c.look_and_load.ensures.bytes
+
+pub returns-clause-width : goal.returns-clause-width
+returns-clause-width g c = rw (c.load_at_hand.ensures.left c.if-load_at_hand.false) at c.look_and_load.ensures.width
 
 pub returns-clause-unmoved : goal.returns-clause-unmoved
-returns-clause-unmoved g c = λ other. absurd (other refl)
+returns-clause-unmoved g c = rw (c.load_at_hand.ensures.left c.if-load_at_hand.false) at c.look_and_load.ensures.unmoved
+
+pub returns-clause-referred : goal.returns-clause-referred
+returns-clause-referred g c = rw (c.load_at_hand.ensures.left c.if-load_at_hand.false) at c.look_and_load.ensures.referred
 
 pub returns-clause-here : goal.returns-clause-here
-returns-clause-here g c = λ done.
-    let self = c.look_ahead.new.self in
-    let here = at_ready (λ i j. IsHere (kept self) (state self).slots (last_page c.args.address (length c.args.into.now))) c.in-Ok-Ready.field-0 c.in-Ok-Ready.first c.in-Ok-Ready.last c.in-Ok-Ready.field-0-is c.in-Ok-Ready.ensures.here in
-    rw c.copy_pages.ensures.same here
+returns-clause-here g c = rw (c.load_at_hand.ensures.left c.if-load_at_hand.false) at c.look_and_load.ensures.here
 
-pub returns-clause-same : goal.returns-clause-same
-returns-clause-same g c = λ m named ss knows. rw c.copy_pages.ensures.same (c.in-Ok-Ready.ensures.same m named ss knows)
-
-pub returns-clause-idle : goal.returns-clause-idle
-returns-clause-idle g c = λ first last apart.
-    let one = c.in-Ok-Ready.ensures.idle first last apart in
-    (refl, c.copy_pages.ensures.same ∙ one.1, one.2)
-
--- ---- The tables are revealed.
+pub returns-clause-cause : goal.returns-clause-cause
+returns-clause-cause g c = rw (c.load_at_hand.ensures.same, c.load_at_hand.ensures.left c.if-load_at_hand.false) at c.look_and_load.ensures.cause
 
 pub returns-clause-sees : goal.returns-clause-sees
-returns-clause-sees g c = λ ss s. rw c.copy_pages.ensures.same (c.in-Ok-Ready.ensures.sees ss s)
+returns-clause-sees g c = rw c.load_at_hand.ensures.same at c.look_and_load.ensures.sees
 
-pub returns-in-Err-clause-right : goal.returns-in-Err-clause-right
-returns-in-Err-clause-right g c = λ ss s.
-    let v = state c.args.self.now in
-    let w = state c.look_ahead.new.self in
-    let n = length c.args.into.now in
-    reference_never_blames s c.args.self.now.some w c.in-Err.halt c.args.address n (touch_of_reach (BreaksFor v c.args.self.now.intervals c.args.address n) v w c.in-Err.halt c.in-Err.ensures.cause)
+pub returns-clause-right : goal.returns-clause-right
+returns-clause-right g c = rw c.load_at_hand.ensures.same at c.look_and_load.ensures.right
 
--- ---- Which pages stay.
+pub returns-clause-sound : goal.returns-clause-sound
+returns-clause-sound g c = rw c.load_at_hand.ensures.same at c.look_and_load.ensures.sound
+
+pub returns-clause-same : goal.returns-clause-same
+returns-clause-same g c = rw c.load_at_hand.ensures.same at c.look_and_load.ensures.same
+
+pub returns-clause-reaches : goal.returns-clause-reaches
+returns-clause-reaches g c = rw c.load_at_hand.ensures.same at c.look_and_load.ensures.reaches
+
+pub returns-clause-came : goal.returns-clause-came
+returns-clause-came g c = rw c.load_at_hand.ensures.same at c.look_and_load.ensures.came
+
+pub returns-clause-room : goal.returns-clause-room
+returns-clause-room g c = rw c.load_at_hand.ensures.same at c.look_and_load.ensures.room
 
 pub returns-clause-stay : goal.returns-clause-stay
-returns-clause-stay g c = rw c.copy_pages.ensures.same c.look_ahead.ensures.stay
+returns-clause-stay g c = rw c.load_at_hand.ensures.same at c.look_and_load.ensures.stay
+
+pub returns-clause-intervals : goal.returns-clause-intervals
+returns-clause-intervals g c = c.look_and_load.ensures.intervals
+
+pub returns-clause-ready : goal.returns-clause-ready
+returns-clause-ready g c = rw (c.load_at_hand.ensures.same, c.load_at_hand.ensures.left c.if-load_at_hand.false) at c.look_and_load.ensures.ready
+
+pub returns-clause-idle : goal.returns-clause-idle
+returns-clause-idle g c = rw (c.load_at_hand.ensures.same, c.load_at_hand.ensures.left c.if-load_at_hand.false) at c.look_and_load.ensures.idle
+
+pub returns-clause-cost : goal.returns-clause-cost
+returns-clause-cost g c = rw c.load_at_hand.ensures.same at c.look_and_load.ensures.cost
