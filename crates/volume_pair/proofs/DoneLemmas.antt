@@ -1,12 +1,12 @@
 -- A copy begins where there is room, and both volumes stand for the lists with it once it is done.
-use Rattle.std.proofs.Common.{◌≡◌, ℕ, ◌+◌, ◌/◌, ◌^◌, ◌≤◌, true, false, List, [], length, Option, Some, None, Ok, refl, sym, ◌∙◌, ap, subst, arith}
+use Rattle.std.proofs.Common.{◌≡◌, ℕ, zero, suc, ◌+◌, ◌/◌, ◌^◌, ◌<◌, ◌≤◌, true, false, List, [], length, Option, Some, None, Ok, refl, sym, ◌∙◌, ap, subst, arith}
 use Rattle.std.specs.Prelude.{slice_get, option_map}
 use Rattle.std.specs.Option.{option_map_or}
 use Rattle.std.proofs.lemmas.Option.{none-some}
 use Rattle.labelled_disk.specs.declared.layout.Layout.{Layout}
 use Rattle.labelled_disk.specs.File.{File, file_at, room_of, size, total_room}
 use Rattle.labelled_disk.specs.FilesOn.{files_on, put_file}
-use Rattle.labelled_disk.specs.Label.{is_file_id}
+use Rattle.labelled_disk.specs.Label.{is_file_id, leader_page}
 use Rattle.labelled_disk.specs.Layout.{capacity}
 use Rattle.labelled_disk.specs.Root.{counter_of, serial_of}
 use Rattle.labelled_disk.specs.Sectors.{Sector}
@@ -27,11 +27,13 @@ use Rattle.file_manager.specs.declared.attributes.Attributes.{Attributes}
 use Rattle.file_manager.specs.declared.volume.Volume.{Volume}
 use Rattle.file_manager.specs.Book.{IsBookedUpto}
 use Rattle.file_manager.specs.Making.{CreatedBy, MayCreateUpto, free_count}
-use Rattle.volume_pair.specs.Copied.{IsCopying, shape_with}
+use Rattle.volume_pair.specs.Copied.{HasCopy, IsCopying, IsSealing, shape_with}
 use Rattle.volume_pair.specs.Copying.{IsOriginal, Takes, refusal_in, room_refusal}
+use Rattle.volume_pair.specs.CrashStates.{HasFilesInUse, KeepsVolume, list_after}
 use Rattle.volume_pair.specs.Pairs.{IsPaired}
 use Rattle.volume_pair.specs.Sides.{IsSide}
 use Rattle.volume_pair.proofs.CopiedLemmas.{files_have_bytes, files_permanent, files_put, opens_put}
+use Rattle.volume_pair.proofs.KeepLemmas.{keeps_in_use, loose_keeps, volume_then}
 use Rattle.volume_pair.proofs.SideLemmas.{side_books}
 use Rattle.volume_pair.proofs.StepLemmas.{made_copying}
 use Rattle.volume_pair.proofs.StartLemmas.{free_and_files, parts}
@@ -68,6 +70,10 @@ module _ (from to : View) (volume : Volume) (p : Pair) (h : IsPaired from to vol
       let least = h.root.has_room in
       let own : capacity (length h.second) ≡ to.layout.capacity = ap capacity h.to_is.long ∙ sym (ap (λ (l : Layout). l.capacity) is.1) in
       omega (arith, all, first, size, used, files, room, same, least, own)
+
+  -- a disk that keeps the second volume has its list
+  pub kept_in_use : (e : List Sector) → KeepsVolume h.second e → HasFilesInUse p.to volume.root.serial volume.root.counter e
+  kept_in_use e k = keeps_in_use h.second e p.to (length h.second) volume.root.serial volume.root.counter p.capacity h.to_is.files_are h.root k
 
   pub may_create : (is : IsLayout to.layout) (id pages : ℕ) → Takes volume id pages → file_at p.to id ≡ None → MayCreateUpto 0 to.disk to.slots to.layout to.runs (shapes_of p.to) [] id pages h.second
   may_create is id pages takes none =
@@ -133,6 +139,38 @@ module _ (from to : View) (volume : Volume) (p : Pair) (h : IsPaired from to vol
         (subst (λ (i : ℕ). CreatedBy i original.0.kind (size original.0) to.disk to.slots to.layout w.disk w.slots w.runs) (sym same_id)
         (subst (λ (k : ℕ). CreatedBy id k (size original.0) to.disk to.slots to.layout w.disk w.slots w.runs) (sym original.4)
         (subst (λ (n : ℕ). CreatedBy id file.kind n to.disk to.slots to.layout w.disk w.slots w.runs) (sym original.3) created)))
+
+    sealed_shape : shape_with original.0 true true ≡ shape_of original.0
+    sealed_shape = λ i. record { kind = original.0.kind; permanent = sym lasting i; immutable = sym original.2 i; size = size original.0 }
+
+    copied : with_copy p id ≡ record p { to = put_file original.0 p.to }
+    copied = ap (λ (o : Option File). option_map_or (λ g. record p { to = put_file g p.to }) o p) original.1
+
+    -- a disk that has the copy has the list with it
+    pub copy_in_use : (layout : Layout) (e : List Sector) → HasCopy h.second p.to original.0 layout e → HasFilesInUse (with_copy p id).to volume.root.serial volume.root.counter e
+    copy_in_use layout e copy =
+        let booked : IsBookedUpto 0 layout [] (with_shape (shapes_of (files_on h.second)) original.0.id (shape_of original.0)) copy.memory =
+        subst (λ (s : Shape). IsBookedUpto 0 layout [] (with_shape (shapes_of (files_on h.second)) original.0.id s) copy.memory) sealed_shape
+        (subst (λ (gs : List File). IsBookedUpto 0 layout [] (with_shape (shapes_of gs) original.0.id (shape_with original.0 true true)) copy.memory) (sym h.to_is.files_are) copy.booked) in
+        let long = sym copy.keeps.long ∙ copy.booked.long in
+        let files = files_put h.second h.to_is.can_open layout long unset original.0 lasting form bytes given none_second room copy.memory booked copy.keeps copy.cells ∙ ap (put_file original.0) h.to_is.files_are in
+        let opens = opens_put h.second h.to_is.can_open layout long unset original.0 lasting form bytes given none_second room copy.memory booked copy.keeps copy.cells in
+        let root : HasRoot (length copy.memory) (slice_get copy.memory 0) volume.root.serial volume.root.counter p.capacity =
+        subst (λ (n : ℕ). HasRoot n (slice_get copy.memory 0) volume.root.serial volume.root.counter p.capacity) (sym copy.keeps.long)
+        (subst (λ (q : Option Sector). HasRoot (length h.second) q volume.root.serial volume.root.counter p.capacity) (sym copy.keeps.root) h.root) in
+        subst (λ (q : Pair). HasFilesInUse q.to volume.root.serial volume.root.counter e) (sym copied)
+        (keeps_in_use copy.memory e (put_file original.0 p.to) (length copy.memory) volume.root.serial volume.root.counter p.capacity files root (loose_keeps copy.memory e copy.differs opens.right))
+
+    -- so has one that gets its marks, before and after
+    pub sealing_in_use : (layout : Layout) (d e : List Sector) (k : ℕ) → KeepsVolume h.second d → IsSealing h.second p.to original.0 layout d k e → HasFilesInUse (list_after p.to (with_copy p id).to k) volume.root.serial volume.root.counter e
+    sealing_in_use layout d e zero below keeps = kept_in_use e (volume_then below keeps)
+    sealing_in_use layout d e (suc k) below copy = copy_in_use layout e copy
+
+    -- its pages are few
+    pub few_pages : file.pages < leader_page
+    few_pages =
+        let from_books = side_books from p.from h.first h.from_is in
+        subst (λ (n : ℕ). n < leader_page) original.3 (from_books.booked.files.short id (shape_of original.0) (ap (λ (o : Option File). option_map shape_of o) original.1))
 
     module _ (v w : View) (first : IsSide v p.from h.first) (c : IsCopying w h.second p.to original.0 true true (size original.0)) where
       shape_is : shape_with original.0 true true ≡ shape_of original.0

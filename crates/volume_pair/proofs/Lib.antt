@@ -15,3 +15,9 @@ pub mod CopiedLemmas
 pub mod StepLemmas
 pub mod DoneLemmas
 pub mod CostLemmas
+pub mod CrashStateLemmas
+pub mod KeepLemmas
+pub mod CreateStateLemmas
+pub mod SealLemmas
+pub mod CopyStateLemmas
+pub mod EndStateLemmas

@@ -199,7 +199,7 @@ nothing_written (write.Whole sector label bytes ∷ ws) none pages = absurd (non
 nothing_written (write.LabelOnly sector label ∷ ws) none pages = absurd (none-some (write.LabelOnly sector label) (sym (ap (λ (l : List DiskWrite). slice_get l 0) none)))
 nothing_written (write.Page sector wanted bytes ∷ ws) none pages = absurd (pages 0 sector wanted bytes refl)
 
-appended_nothing : {a b : DiskState} → Appended [] a b → RevealsSame a b
+pub appended_nothing : {a b : DiskState} → Appended [] a b → RevealsSame a b
 appended_nothing {a = a} h = record { contents = h.contents ∙ contents_same a.contents; writes = h.revealed ∙ writes_same a.writes }
   where
     contents_same : (o : Option (List Sector)) → option_map (after_writes []) o ≡ o

@@ -59,7 +59,7 @@ use Rattle.file_manager.proofs.OpenedBooks.{opened_is_booked}
 use Rattle.file_manager.proofs.RunStages.{all_counted, bits_shown, count_more, in_bits, maps_named, mark_is, marks_shown, there_is}
 use Rattle.file_manager.proofs.UpLemmas.{count_same}
 use Rattle.file_manager.specs.declared.volume.Volume.{Volume}
-use Rattle.volume_pair.specs.Ends.{IsBare, IsEarly, IsOutside, IsRightRefusal, IsStarted, IsWritten, IsWrittenOwn, in_use, pair_of}
+use Rattle.volume_pair.specs.Ends.{IsAccepted, IsBare, IsEarly, IsOutside, IsRightRefusal, IsStarted, IsWritten, IsWrittenOwn, in_use, pair_of}
 use Rattle.volume_pair.specs.declared.fault.PairStart.{PairStart}
 use Rattle.volume_pair.specs.declared.fault.PairStart.TheVariants as start
 use Rattle.volume_pair.specs.Pairs.{IsPaired}
@@ -149,6 +149,20 @@ module _ (d : List Sector) (n : ℕ) (long : length d ≡ n) (result : Result Ro
       either : (s : Sector) (root : Root) (t : Test) → Ok root ≡ option_map_or (λ (why : RootFault). Err why) t (Ok (root_in s.1)) → root ≡ root_in s.1
       either s root None e = cc e
       either s root (Some why) e = absurd (cc e)
+
+  -- and the volume is not refused
+  pub accepted_there : (root : Root) → result ≡ Ok root → IsCount n → IsAccepted d
+  accepted_there root is count why refused =
+      let first = there_is d 0 (let c = count.0 in omega (arith, long, c)) in
+      let answer : Ok root ≡ judged true (length d) first.0 = subst (λ (r : Result Root RootFault). IsUnlessFault r (judged true (length d) first.0)) is (given count first.0 first.1) in
+      either first.0 first.1 answer refused
+    where
+      either : (s : Sector) → slice_get d 0 ≡ Some s → Ok root ≡ judged true (length d) s → IsRefused d why → ⊥
+      either s here answer (inl bad) = bad.0 (subst IsCount (sym long) count)
+      either s here answer (inr (fits, t, at, other)) =
+          let same : t ≡ s = same_Some t s (sym at ∙ here) in
+          let both : ◌≡◌ {A = Result Root RootFault} (Ok root) (Err why) = answer ∙ ap (judged true (length d)) (sym same) ∙ other in
+          absurd (cc both)
 
 -- ---- As many data sectors are marked as the files have.
 

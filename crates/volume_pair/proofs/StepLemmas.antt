@@ -22,6 +22,7 @@ use Rattle.filer_kernel.specs.declared.cached.CachedRuns.{CachedRuns}
 use Rattle.filer_kernel.specs.Cached.{runs_of}
 use Rattle.filer_kernel.specs.View.{View}
 use Rattle.session_words.specs.FrameLaws.{HasFrames}
+use Rattle.session_words.specs.MarkLaws.{Marks}
 use Rattle.session_words.specs.Parts.{IsLeader, IsTriple, Shape, Shapes, shapes_of}
 use Rattle.session_words.specs.PlaceLaws.{sized, with_shape}
 use Rattle.session_words.proofs.FoundLemmas.{above_reserved, file_label}
@@ -34,7 +35,7 @@ use Rattle.file_manager.specs.Making.{CreatedBy, LedAndGrown}
 use Rattle.file_manager.specs.Stays.{FramesStay}
 use Rattle.file_manager.proofs.BookLemmas.{known_after, label_in}
 use Rattle.volume_pair.specs.Copied.{IsCopying, KeepsOthers, PutsInFile, shape_with}
-use Rattle.volume_pair.specs.Sides.{HasBooks}
+use Rattle.volume_pair.specs.Sides.{HasBooks, HasPageBytes}
 use Rattle.volume_pair.proofs.CopyingLemmas.{cells_marked, cells_put, keeps_grown, keeps_marked, keeps_put, keeps_then}
 use Rattle.volume_pair.proofs.MadeLemmas.{grown_booked, led_booked, led_shape}
 use Rattle.volume_pair.proofs.MarkedLemmas.{marked_booked}
@@ -185,6 +186,25 @@ marked_copying v w fs x f mark change is p q r s same layout c made =
       keeps = keeps_then c.keeps (keeps_marked c.memory z f.id mark change is given after.2 root.0 root.1 (λ e. omega (arith, e, four, high)));
       cells = λ page bytes there below. c.cells page bytes (cells_marked c.memory z f.id mark change is given after.2 page bytes (λ e. omega (arith, e, below, short)) there) below;
     }
+
+-- the memory with the permanent mark too
+pub permanent_memory : (layout : Layout) (fs : List File) (x : List Sector) (f : File) (m n : List Sector) {runs : List Run} → IsBookedUpto 0 layout runs (with_shape (shapes_of fs) f.id (shape_with f false true)) m → KeepsOthers f.id x m
+    → ((page : ℕ) (bytes : List ℕ) → HasPageBytes m f.id page bytes → page < size f → slice_get f.pages page ≡ Some (map byte bytes)) → Marks f.id permanent_label m n
+    → IsBookedUpto 0 layout [] (with_shape (shapes_of fs) f.id (shape_with f true true)) n × KeepsOthers f.id x n × ((page : ℕ) (bytes : List ℕ) → HasPageBytes n f.id page bytes → page < size f → slice_get f.pages page ≡ Some (map byte bytes))
+permanent_memory layout fs x f m n b keeps cells made =
+    let change : File → File = λ g. record g { permanent = true } in
+    let found = with_here (shapes_of fs) f.id (shape_with f false true) in
+    let given = b.files.given f.id (shape_with f false true) found in
+    let short = b.files.short f.id (shape_with f false true) found in
+    let high = above_reserved f.id given in
+    let root = label_in (slice_get (labels_of m) 0) (λ l. IsTrue (names l (record { id = 4; page = 0 }))) b.root_label in
+    let four = names_id root.0 (record { id = 4; page = 0 }) root.2 in
+    let now = marked_booked layout (with_shape (shapes_of fs) f.id (shape_with f false true)) m n b f.id permanent_label change is_permanent_mark given (shape_with f false true) (shape_with f true true) found refl
+    (shape_leads permanent_label change is_permanent_mark (shape_with f false true) (shape_with f true true) (λ g kind permanent immutable. (kind, refl, immutable))) made {later = []} (λ k r here. absurd (none-some r here)) in (
+      subst (λ (t : Shapes). IsBookedUpto 0 layout [] t n) (with_twice (shapes_of fs) f.id (shape_with f false true) (shape_with f true true)) now,
+      keeps_then keeps (keeps_marked m n f.id permanent_label change is_permanent_mark given made root.0 root.1 (λ e. omega (arith, e, four, high))),
+      λ page bytes there below. cells page bytes (cells_marked m n f.id permanent_label change is_permanent_mark given made page bytes (λ e. omega (arith, e, below, short)) there) below,
+    )
 
 pub immutable_copying : (v w : View) (fs : List File) (x : List Sector) (f : File) → w.layout ≡ v.layout → (c : IsCopying v x fs f false false (size f)) → IsMarked f.id immutable_label c.memory v.disk v.slots v.layout w.disk w.slots w.runs → IsCopying w x fs f false true (size f)
 immutable_copying v w fs x f layout c made = marked_copying v w fs x f immutable_label (λ g. record g { immutable = true }) is_immutable_mark false false false true (λ g kind permanent immutable. (kind, permanent, refl)) layout c made

@@ -13,7 +13,7 @@ use Rattle.file_manager.specs.Answer.{WritesMark}
 use Rattle.volume_pair.specs.declared.fault.PairHalt.{PairHalt}
 use Rattle.volume_pair.specs.declared.fault.PairHalt.TheVariants as on
 use Rattle.volume_pair.specs.Pairs.{ShowsSide}
-use Rattle.volume_pair.specs.Sides.{IsLookedAt, IsWrittenFor, with_own}
+use Rattle.volume_pair.specs.Sides.{IsLookedAt, IsWrittenFor, WritesPages, with_own}
 use Rattle.volume_pair.proofs.SideLemmas.{why_after}
 
 pub written_then : {file : ℕ} {u v w : View} → IsWrittenFor file u v → IsWrittenFor file v w → IsWrittenFor file u w
@@ -25,22 +25,30 @@ looked_written file h = record { labels = []; makes = makes_wider (with_own file
 pub own_written : (file : ℕ) (labels : List DiskWrite) (v w : View) → MakesOnly volume_page labels v w → w.layout ≡ v.layout → IsWrittenFor file v w
 own_written file labels v w makes layout = record { labels = labels; makes = makes_wider (with_own file) (λ id page own. inl own) makes; layout = layout }
 
+-- no label was written
+pub pages_written : {file : ℕ} {v w : View} → WritesPages file v w → IsWrittenFor file v w
+pages_written h = record { labels = []; makes = h.makes; layout = h.layout }
+
+pub pages_then : {file : ℕ} {u v w : View} → WritesPages file u v → WritesPages file v w → WritesPages file u w
+pages_then h k = record { makes = makes_then h.makes k.makes; layout = k.layout ∙ h.layout }
+
+pub looked_pages : (file : ℕ) {v w : View} → IsLookedAt v w → WritesPages file v w
+looked_pages file h = record { makes = makes_wider (with_own file) (λ id page none. absurd none) h.makes; layout = h.layout }
+
 -- the frames are those of before
 module _ (file : ℕ) {page sector : ℕ} {bytes : List ℕ} {v w : View} where
-  pub page_written : WritesPage sector (record { id = file; page = page }) bytes v.disk v.slots w.disk → w.slots ≡ v.slots → w.layout ≡ v.layout → IsWrittenFor file v w
+  pub page_written : WritesPage sector (record { id = file; page = page }) bytes v.disk v.slots w.disk → w.slots ≡ v.slots → w.layout ≡ v.layout → WritesPages file v w
   page_written h frames layout = record {
-    labels = [];
     makes = subst (λ (s : Slots). Makes (with_own file) [] v.disk v.slots w.disk s) (sym frames) (makes_wider (with_own file) (λ id p own. inr own.0) h.makes);
     layout = layout;
   }
 
-  pub may_written : MayWritePage sector (record { id = file; page = page }) bytes v.disk v.slots w.disk → Moves v.disk w.disk → w.slots ≡ v.slots → w.layout ≡ v.layout → IsWrittenFor file v w
+  pub may_written : MayWritePage sector (record { id = file; page = page }) bytes v.disk v.slots w.disk → Moves v.disk w.disk → w.slots ≡ v.slots → w.layout ≡ v.layout → WritesPages file v w
   may_written (inr h) moves frames layout = page_written h frames layout
   may_written (inl same) moves frames layout = record {
-    labels = [];
     makes = subst (λ (s : Slots). Makes (with_own file) [] v.disk v.slots w.disk s) (sym frames) (record {
       went = record { sectors = moves.sectors; lent = moves.lent; syncs = same_syncs v.disk w.disk moves.syncs; faults = moves.faults; transfers = moves.transfers.later };
-      dirty = λ id p is. inl is;
+      dirty = λ id page is. inl is;
       wrote = wrote_none (with_own file) v.slots same;
       count = refl;
     });

@@ -2,7 +2,6 @@
 use Rattle.std.specs.Prelude.{◌≡◌, ◌≢◌, ◌⊎◌, ◌+◌, ◌/◌, ◌^◌, ◌≤◌, ◌==◌, nat_lt, if◌then◌else◌, ℕ, true, false, List, Option, Some, None, Result, Ok, Err}
 use Rattle.std.specs.Option.{option_map_or}
 use Rattle.labelled_disk.specs.File.{File, file_at, size}
-use Rattle.labelled_disk.specs.State.{DiskState}
 use Rattle.filer_kernel.specs.View.{View}
 use Rattle.file_manager.specs.declared.attributes.Attributes.{Attributes}
 use Rattle.file_manager.specs.declared.volume.Volume.{Volume}
@@ -14,6 +13,7 @@ use Rattle.pair_machine.specs.declared.call.PairReply.{PairReply}
 use Rattle.pair_machine.specs.declared.call.PairReply.TheVariants as reply
 use Rattle.pair_machine.specs.Pair.{AllowsPair, Pair, next_pair}
 use Rattle.volume_pair.specs.Pairs.{IsPaired}
+use Rattle.volume_pair.specs.Sides.{IsLookedAt}
 
 -- the list has the file, which is immutable and of this size and type; or why it is not copied
 abbrev pub IsOriginal : List File → ℕ → Result Attributes PairRefusal → Type 0
@@ -50,9 +50,11 @@ abbrev pub id_of : PairCall → ℕ
 id_of (Copy id) = id
 id_of (Compare id) = id
 
--- once it is answered that a copy was made, all that was written is on the medium
-abbrev pub IsOnMedium : DiskState → PairReply → Type 0
-IsOnMedium disk r = r ≡ reply.Done → disk.synced ≡ true
+-- Once it is answered that a copy was made, all that was written is on the medium. Where it is answered that none was, the volume
+-- was only looked at.
+pub record LeavesSecond (v w : View) (r : PairReply) : Type 0 where
+  pub on_medium : r ≡ reply.Done → w.disk.synced ≡ true
+  pub looked : r ≢ reply.Done → IsLookedAt v w
 
 -- The reply is one that the pair allows, and both sides stand for the two lists after the call.
 pub record RepliesPair (p : Pair) (call : PairCall) (new_from new_to : View) (volume : Volume) (r : PairReply) : Type 0 where

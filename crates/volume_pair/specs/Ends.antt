@@ -3,6 +3,7 @@ use Rattle.std.specs.Prelude.{◌≡◌, ◌⊎◌, ℕ, false, true, List, leng
 use Rattle.labelled_disk.specs.declared.disk.DiskWrite.{DiskWrite}
 use Rattle.labelled_disk.specs.declared.evidence.Halt.TheVariants as halt
 use Rattle.labelled_disk.specs.declared.layout.Layout.{Layout}
+use Rattle.labelled_disk.specs.declared.layout.RootFault.{RootFault}
 use Rattle.labelled_disk.specs.declared.layout.RootFault.TheVariants as fault
 use Rattle.labelled_disk.specs.Calls.{Rose}
 use Rattle.labelled_disk.specs.File.{total_room}
@@ -57,6 +58,10 @@ pub record IsWritten (before : Slots) (old new : DiskState) : Type 0 where
 pub record IsWrittenOwn (v w : View) : Type 0 where
   pub labels : List DiskWrite
   pub makes : MakesOnly volume_page labels v w
+
+-- the volume of these sectors is not refused
+abbrev pub IsAccepted : List Sector → Type 0
+IsAccepted d = (why : RootFault) → ¬ IsRefused d why
 
 -- where one of the volumes was refused, this is why, or its disk failed
 abbrev pub IsRightRefusal : List Sector → List Sector → PairStart → Type 0

@@ -5,3 +5,5 @@ pub mod Copying
 pub mod Ends
 pub mod Copied
 pub mod Costs
+pub mod Kept
+pub mod CrashStates

@@ -31,6 +31,12 @@ pub record IsLookedAt (v w : View) : Type 0 where
 abbrev pub with_own : ℕ → Pages
 with_own file id page = (id < 4) ⊎ (id ≡ file)
 
+-- Over any contents: bytes were written, to pages of this file and of the volume's own alone, but for pages of frames that were
+-- dirty; no label was.
+pub record WritesPages (file : ℕ) (v w : View) : Type 0 where
+  pub makes : MakesOnly (with_own file) [] v w
+  pub layout : w.layout ≡ v.layout
+
 -- Over any contents: writes were made, each permitted where it is made. Bytes were written to pages of this file and of the
 -- volume's own alone, but for pages of frames that were dirty.
 pub record IsWrittenFor (file : ℕ) (v w : View) : Type 0 where

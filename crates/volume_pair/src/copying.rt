@@ -2,17 +2,20 @@
 ghost use Rattle.std.specs.Prelude.{◌≡◌, ◌≤◌, ◌<◌, ◌+◌, ◌*◌, true, false, List, Some, None, Ok, IfErr, IfOk, MatchResult};
 ghost use Rattle.labelled_disk.specs.declared.evidence.Halt.TheVariants as halt;
 ghost use Rattle.labelled_disk.specs.File.{File, file_at, size};
+ghost use Rattle.labelled_disk.specs.FilesOn.{files_on};
 ghost use Rattle.labelled_disk.specs.Label.{is_file_id};
+ghost use Rattle.labelled_disk.specs.Root.{LabelsRight};
 ghost use Rattle.labelled_disk.specs.Sectors.{Sector};
 ghost use Rattle.filer_kernel.specs.View.{FitsLayout, view_of};
 ghost use Rattle.pair_machine.specs.Pair as machine;
-ghost use Rattle.pair_machine.specs.Pair.{with_copy};
+ghost use Rattle.pair_machine.specs.Pair.{next_pair, with_copy};
 ghost use Rattle.pair_machine.specs.declared.call.PairCall.TheVariants as call;
-ghost use Rattle.volume_pair.specs.Copied.{IsCopying};
-ghost use Rattle.volume_pair.specs.Copying.{IsOnMedium, IsOriginal, KeepsNumbers, RepliesPair, Takes, judged, refusal_in, room_refusal};
+ghost use Rattle.volume_pair.specs.Copied.{IsCopying, IsSealing};
+ghost use Rattle.volume_pair.specs.Copying.{IsOriginal, KeepsNumbers, LeavesSecond, RepliesPair, Takes, judged, refusal_in, room_refusal};
 ghost use Rattle.volume_pair.specs.Costs.{SpendsOnFile, making};
+ghost use Rattle.volume_pair.specs.CrashStates.{ChangesFiles, CrashStatesOf};
 ghost use Rattle.volume_pair.specs.Pairs.{IsFaultOfDisk, IsPaired, ShowsSide};
-ghost use Rattle.volume_pair.specs.Sides.{IsLookedAt, IsSide, IsWrittenFor, ShowsWhy};
+ghost use Rattle.volume_pair.specs.Sides.{IsLookedAt, IsSide, IsWrittenFor, ShowsWhy, WritesPages};
 
 use crate::PairHalt;
 use crate::comparing::size_of;
@@ -118,7 +121,7 @@ fn copy_pages<D: Disk, E: Disk, A: Allocator>(
         → IsSide (view_of from.new) fs x
         × MatchResult result (λ _. IsCopying (view_of to.new) y gs f false false pages) IsFaultOfDisk }
     ensures from_looks { IsLookedAt (view_of from.old) (view_of from.new) }
-    ensures to_writes { IsWrittenFor id (view_of to.old) (view_of to.new) }
+    ensures to_writes { WritesPages id (view_of to.old) (view_of to.new) }
     ensures from_cost { (view_of from.new).disk.transfers ≤ (view_of from.old).disk.transfers + 15 * pages }
     ensures to_cost { (view_of to.new).disk.transfers ≤ (view_of to.old).disk.transfers + 15 * pages }
     ensures why { IfErr result
@@ -147,7 +150,7 @@ fn copy_page<D: Disk, E: Disk, A: Allocator>(
         → IsSide (view_of from.new) fs x
         × MatchResult result (λ _. IsCopying (view_of to.new) y gs f false false (page + 1)) IsFaultOfDisk }
     ensures from_looks { IsLookedAt (view_of from.old) (view_of from.new) }
-    ensures to_writes { IsWrittenFor id (view_of to.old) (view_of to.new) }
+    ensures to_writes { WritesPages id (view_of to.old) (view_of to.new) }
     ensures from_cost { (view_of from.new).disk.transfers ≤ (view_of from.old).disk.transfers + 15 }
     ensures to_cost { (view_of to.new).disk.transfers ≤ (view_of to.old).disk.transfers + 15 }
     ensures why { IfErr result
@@ -171,6 +174,10 @@ fn seal<E: Disk, A: Allocator>(to: &mut Filer<E, A>, id: FileId) -> Result<(), H
     ensures seals { (gs : List File) (y : List Sector) (f : File) → f.id ≡ id
         → IsCopying (view_of to.old) y gs f false false (size f)
         → MatchResult result (λ _. IsCopying (view_of to.new) y gs f true true (size f)) (λ e. e ≡ halt.Disk) }
+    ensures crash_states { (gs : List File) (y d : List Sector) (f : File) → f.id ≡ id
+        → IsCopying (view_of to.old) y gs f false false (size f) → (view_of to.old).disk.contents ≡ Some d
+        → LabelsRight d → file_at (files_on d) id ≡ None
+        → CrashStatesOf (IsSealing y gs f (view_of to.old).layout d) 1 (view_of to.old).disk (view_of to.new).disk }
     ensures writes { IsWrittenFor id (view_of to.old) (view_of to.new) }
     ensures synced { IfOk result (λ _. (view_of to.new).disk.synced ≡ true) }
     ensures cost { (view_of to.new).disk.transfers ≤ (view_of to.old).disk.transfers + 32 }
@@ -209,7 +216,8 @@ fn make_copy<D: Disk, E: Disk, A: Allocator>(
     ensures copies { (p : machine.Pair) (h : IsPaired (view_of from.old) (view_of to.old) volume.old p)
         → IsOriginal p.from id (Ok file) → file_at p.to id ≡ None
         → MatchResult result
-        (λ _. IsPaired (view_of from.new) (view_of to.new) volume.new (with_copy p id)) IsFaultOfDisk }
+        (λ _. IsPaired (view_of from.new) (view_of to.new) volume.new (with_copy p id)) IsFaultOfDisk
+        × ChangesFiles p.to (with_copy p id).to volume.old.root (view_of to.old).disk (view_of to.new).disk }
     ensures from_looks { IsLookedAt (view_of from.old) (view_of from.new) }
     ensures to_writes { IsWrittenFor id (view_of to.old) (view_of to.new) }
     ensures synced { IfOk result (λ _. (view_of to.new).disk.synced ≡ true) }
@@ -246,9 +254,12 @@ pub(crate) fn copy<D: Disk, E: Disk, A: Allocator>(
     ensures replies { (p : machine.Pair) → IsPaired (view_of from.old) (view_of to.old) volume.old p
         → MatchResult result (RepliesPair p (call.Copy id) (view_of from.new) (view_of to.new) volume.new)
         IsFaultOfDisk }
+    ensures crash_states { (p : machine.Pair) → IsPaired (view_of from.old) (view_of to.old) volume.old p
+        → ChangesFiles p.to (next_pair p (call.Copy id)).to volume.old.root (view_of to.old).disk
+        (view_of to.new).disk }
     ensures from_looks { IsLookedAt (view_of from.old) (view_of from.new) }
     ensures to_writes { IsWrittenFor id (view_of to.old) (view_of to.new) }
-    ensures synced { IfOk result (IsOnMedium (view_of to.new).disk) }
+    ensures leaves { IfOk result (LeavesSecond (view_of to.old) (view_of to.new)) }
     ensures cost { (p : machine.Pair) → IsPaired (view_of from.old) (view_of to.old) volume.old p
         → SpendsOnFile p id (view_of from.old) (view_of to.old) (view_of from.new) (view_of to.new) }
     ensures volume { KeepsNumbers volume.old volume.new }

@@ -1,7 +1,7 @@
 //! The second volume is closed.
-ghost use Rattle.std.specs.Prelude.{◌≡◌, ◌^◌, ◌<◌, ℕ, true, List, length, slice_get, IfErr, MatchResult, OnOk};
+ghost use Rattle.std.specs.Prelude.{◌≡◌, ◌⊎◌, ◌^◌, ◌<◌, ℕ, true, List, length, slice_get, IfErr, MatchResult, OnOk};
 ghost use Rattle.labelled_disk.specs.declared.evidence.Halt.TheVariants as halt;
-ghost use Rattle.labelled_disk.specs.Calls.{RevealsWrite};
+ghost use Rattle.labelled_disk.specs.Calls.{RevealsSame, RevealsWrite};
 ghost use Rattle.labelled_disk.specs.Sectors.{Sector};
 ghost use Rattle.swapper_kernel.specs.Goes.{IsDirty};
 ghost use Rattle.swapper_kernel.specs.Maps.{id_of};
@@ -9,6 +9,7 @@ ghost use Rattle.filer_kernel.specs.View.{FitsLayout, HasMemory, SwapsOnly, disk
 ghost use Rattle.session_words.specs.Parts.{HasRoot};
 ghost use Rattle.volume_root.specs.RootPage.{IsValidRoot, root_write};
 ghost use Rattle.pair_machine.specs.Pair as machine;
+ghost use Rattle.volume_pair.specs.CrashStates.{KeepsFiles};
 ghost use Rattle.volume_pair.specs.Ends.{AreWritten, HasClosed, IsWritten, IsWrittenOwn, closed_root};
 ghost use Rattle.volume_pair.specs.Pairs.{IsFaultOfDisk, IsInUse, IsOfSecond, IsPaired};
 ghost use Rattle.volume_pair.specs.Sides.{IsSide, ShowsWhy};
@@ -80,8 +81,10 @@ fn sync_maps<D: Disk, A: Allocator>(filer: &mut Filer<D, A>) -> Result<(), Halt>
 fn write_closed<D: Disk, A: Allocator>(filer: &mut Filer<D, A>, root: Root) -> Result<(), Halt>
     requires size { FitsLayout (view_of filer.old) }
     requires valid { IsValidRoot (view_of filer.old).layout.sectors root }
-    ensures made { OnOk result
-        (RevealsWrite (root_write (closed_root root)) (view_of filer.old).disk (view_of filer.new).disk) }
+    ensures made { MatchResult result
+        (λ _. RevealsWrite (root_write (closed_root root)) (view_of filer.old).disk (view_of filer.new).disk)
+        (λ _. RevealsSame (view_of filer.old).disk (view_of filer.new).disk
+        ⊎ RevealsWrite (root_write (closed_root root)) (view_of filer.old).disk (view_of filer.new).disk) }
     ensures fault { IfErr result (λ e. e ≡ halt.Disk) }
     ensures writes { IsWrittenOwn (view_of filer.old) (view_of filer.new) }
     ensures why { IfErr result (ShowsWhy (view_of filer.old) (view_of filer.new)) }
@@ -100,6 +103,9 @@ fn close<D: Disk, A: Allocator>(filer: &mut Filer<D, A>, root: Root) -> Result<(
     ensures closed { (p : machine.Pair) (y : List Sector) → IsSide (view_of filer.old) p.to y
         → HasRoot (length y) (slice_get y 0) root.serial root.counter p.capacity
         → MatchResult result (λ _. HasClosed p root (view_of filer.new).disk) (λ e. e ≡ halt.Disk) }
+    ensures crash_states { (p : machine.Pair) (y : List Sector) → IsSide (view_of filer.old) p.to y
+        → HasRoot (length y) (slice_get y 0) root.serial root.counter p.capacity
+        → KeepsFiles p.to root.serial root.counter (view_of filer.old).disk (view_of filer.new).disk }
     ensures writes { IsWrittenOwn (view_of filer.old) (view_of filer.new) }
     ensures why { IfErr result (ShowsWhy (view_of filer.old) (view_of filer.new)) }
 {
@@ -124,6 +130,9 @@ fn close_second<E: Disk, A: Allocator>(to: &mut Filer<E, A>, root: Root) -> Resu
     ensures closed { (p : machine.Pair) (y : List Sector) → IsSide (view_of to.old) p.to y
         → HasRoot (length y) (slice_get y 0) root.serial root.counter p.capacity
         → MatchResult result (λ _. HasClosed p root (view_of to.new).disk) IsFaultOfDisk }
+    ensures crash_states { (p : machine.Pair) (y : List Sector) → IsSide (view_of to.old) p.to y
+        → HasRoot (length y) (slice_get y 0) root.serial root.counter p.capacity
+        → KeepsFiles p.to root.serial root.counter (view_of to.old).disk (view_of to.new).disk }
     ensures writes { IsWrittenOwn (view_of to.old) (view_of to.new) }
     ensures why { IfErr result (IsOfSecond (view_of to.old).disk (view_of to.new).disk) }
 {
@@ -156,6 +165,9 @@ impl<D: Disk, E: Disk, A: Allocator> Pair<D, E, A> {
         requires running { self.running ≡ true }
         ensures closed { (p : machine.Pair) → IsPaired (view_of self.from) (view_of self.to) self.volume p
             → MatchResult result.0 (λ _. HasClosed p self.volume.root (E.state result.2)) IsFaultOfDisk }
+        ensures crash_states { (p : machine.Pair) → IsPaired (view_of self.from) (view_of self.to) self.volume p
+            → KeepsFiles p.to self.volume.root.serial self.volume.root.counter (view_of self.to).disk
+            (E.state result.2) }
         ensures from { result.1 ≡ disk_of self.from }
         ensures to { IsWritten (view_of self.to).slots (view_of self.to).disk (E.state result.2) }
         ensures why { IfErr result.0 (IsOfSecond (view_of self.to).disk (E.state result.2)) }

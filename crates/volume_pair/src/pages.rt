@@ -6,7 +6,7 @@ ghost use Rattle.swapper_kernel.specs.Stands.{labels_of};
 ghost use Rattle.filer_kernel.specs.View.{FitsLayout, view_of};
 ghost use Rattle.session_words.specs.Parts.{Shape, Shapes, IsTriple};
 ghost use Rattle.volume_pair.specs.Copied.{PutsInFile};
-ghost use Rattle.volume_pair.specs.Sides.{HasBooks, HasPageBytes, IsLookedAt, IsWrittenFor, ShowsWhy};
+ghost use Rattle.volume_pair.specs.Sides.{HasBooks, HasPageBytes, IsLookedAt, ShowsWhy, WritesPages};
 
 use filer_kernel::Filer;
 use label_calls::{read_page, write_page};
@@ -81,7 +81,7 @@ pub(crate) fn write_file_page<D: Disk, A: Allocator>(
         → MatchResult result
         (λ _. (n : List Sector) × HasBooks (view_of filer.new) shapes n × PutsInFile id page bytes.now x n)
         (λ e. e ≡ halt.Disk) }
-    ensures writes { IsWrittenFor id (view_of filer.old) (view_of filer.new) }
+    ensures writes { WritesPages id (view_of filer.old) (view_of filer.new) }
     ensures why { IfErr result (ShowsWhy (view_of filer.old) (view_of filer.new)) }
     ensures cost { (view_of filer.new).disk.transfers ≤ (view_of filer.old).disk.transfers + 15 }
 {

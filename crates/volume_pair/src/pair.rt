@@ -1,12 +1,12 @@
 //! What a pair holds, and its calls.
 ghost use Rattle.std.specs.Prelude.{◌≡◌, true, IfErr, IfOk, MatchResult, is_ok};
-ghost use Rattle.labelled_disk.specs.Calls.{RevealsSame};
 ghost use Rattle.filer_kernel.specs.View.{view_of};
 ghost use Rattle.pair_machine.specs.Pair as machine;
-ghost use Rattle.volume_pair.specs.Copying.{IsOnMedium, RepliesPair, id_of};
+ghost use Rattle.volume_pair.specs.Copying.{LeavesSecond, RepliesPair, id_of};
 ghost use Rattle.volume_pair.specs.Costs.{SpendsOnFile};
+ghost use Rattle.volume_pair.specs.CrashStates.{WritesSecond};
+ghost use Rattle.volume_pair.specs.Kept.{IsOnlyRead, IsStillInUse};
 ghost use Rattle.volume_pair.specs.Pairs.{IsFaultOfDisk, IsInUse, IsPaired, ShowsSide};
-ghost use Rattle.volume_pair.specs.Sides.{IsWrittenFor};
 
 use crate::PairHalt;
 use crate::comparing::compare;
@@ -39,10 +39,10 @@ fn ask<D: Disk, E: Disk, A: Allocator>(
     requires in_use { IsInUse (view_of from.old) (view_of to.old) volume.old }
     ensures replies { (p : machine.Pair) → IsPaired (view_of from.old) (view_of to.old) volume.old p
         → MatchResult result (RepliesPair p call.now (view_of from.new) (view_of to.new) volume.new) IsFaultOfDisk }
-    ensures in_use { IsInUse (view_of from.new) (view_of to.new) volume.new }
-    ensures from { RevealsSame (view_of from.old).disk (view_of from.new).disk }
-    ensures to { IsWrittenFor (id_of call.now) (view_of to.old) (view_of to.new) }
-    ensures synced { IfOk result (IsOnMedium (view_of to.new).disk) }
+    ensures in_use { IsStillInUse (view_of from.new) (view_of to.new) volume.old volume.new }
+    ensures from { IsOnlyRead (view_of from.old).disk (view_of from.new).disk }
+    ensures to { WritesSecond call.now (view_of from.old) (view_of to.old) volume.old (view_of to.new) }
+    ensures leaves { IfOk result (LeavesSecond (view_of to.old) (view_of to.new)) }
     ensures cost { (p : machine.Pair) → IsPaired (view_of from.old) (view_of to.old) volume.old p
         → SpendsOnFile p (id_of call.now) (view_of from.old) (view_of to.old) (view_of from.new) (view_of to.new) }
     ensures why { IfErr result
@@ -70,10 +70,11 @@ impl<D: Disk, E: Disk, A: Allocator> Pair<D, E, A> {
             → IsPaired (view_of self.old.from) (view_of self.old.to) self.old.volume p
             → MatchResult result
             (RepliesPair p call.now (view_of self.new.from) (view_of self.new.to) self.new.volume) IsFaultOfDisk }
-        ensures in_use { IsInUse (view_of self.new.from) (view_of self.new.to) self.new.volume }
-        ensures from { RevealsSame (view_of self.old.from).disk (view_of self.new.from).disk }
-        ensures to { IsWrittenFor (id_of call.now) (view_of self.old.to) (view_of self.new.to) }
-        ensures synced { IfOk result (IsOnMedium (view_of self.new.to).disk) }
+        ensures in_use { IsStillInUse (view_of self.new.from) (view_of self.new.to) self.old.volume self.new.volume }
+        ensures from { IsOnlyRead (view_of self.old.from).disk (view_of self.new.from).disk }
+        ensures to { WritesSecond call.now (view_of self.old.from) (view_of self.old.to) self.old.volume
+            (view_of self.new.to) }
+        ensures leaves { IfOk result (LeavesSecond (view_of self.old.to) (view_of self.new.to)) }
         ensures cost { (p : machine.Pair)
             → IsPaired (view_of self.old.from) (view_of self.old.to) self.old.volume p
             → SpendsOnFile p (id_of call.now) (view_of self.old.from) (view_of self.old.to) (view_of self.new.from)

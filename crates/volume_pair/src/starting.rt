@@ -1,10 +1,11 @@
 //! A pair is started on two volumes that were closed.
-ghost use Rattle.std.specs.Prelude.{◌≡◌, ◌⊎◌, ◌-◌, ◌^◌, ◌<◌, ◌≤◌, min, ℕ, true, List, [], ◌∷◌, Some, IfErr, IfOk, MatchResult, OnOk};
+ghost use Rattle.std.specs.Prelude.{◌≡◌, ◌⊎◌, ◌-◌, ◌^◌, ◌<◌, ◌≤◌, min, ℕ, true, List, [], ◌∷◌, Some, IfErr, IfOk, MatchResult};
 ghost use Rattle.labelled_disk.specs.declared.evidence.Halt.TheVariants as halt;
 ghost use Rattle.labelled_disk.specs.declared.layout.RootFault.TheVariants as fault;
 ghost use Rattle.labelled_disk.specs.Calls.{ReadsAtMost, Rose};
 ghost use Rattle.labelled_disk.specs.CrashState.{written};
-ghost use Rattle.labelled_disk.specs.Root.{root_page};
+ghost use Rattle.labelled_disk.specs.FilesOn.{files_on};
+ghost use Rattle.labelled_disk.specs.Root.{counter_of, root_page, serial_of};
 ghost use Rattle.labelled_disk.specs.Sectors.{Sector};
 ghost use Rattle.filer_kernel.specs.Cached.{runs_of};
 ghost use Rattle.filer_kernel.specs.View.{FitsLayout, disk_of, view_of};
@@ -14,7 +15,10 @@ ghost use Rattle.swapper_kernel.specs.Homes.{IsLayout};
 ghost use Rattle.volume_root.specs.Flag.{IsRefused};
 ghost use Rattle.volume_root.specs.RootPage.{IsValidRoot, root_in, root_write};
 ghost use Rattle.volume_root.specs.Sound.{Sound};
-ghost use Rattle.volume_pair.specs.Ends.{IsBare, IsCounted, IsEarly, IsLaid, IsOutside, IsRightRefusal, IsStarted, IsWritten, IsWrittenOwn, in_use, pair_of};
+ghost use Rattle.label_calls.specs.Labels.{MayHaveWritten};
+ghost use Rattle.volume_pair.specs.CrashStates.{KeepsFiles};
+ghost use Rattle.volume_pair.specs.Ends.{IsAccepted, IsBare, IsCounted, IsEarly, IsLaid, IsOutside, IsRightRefusal, IsStarted, IsWrittenOwn, in_use, pair_of};
+ghost use Rattle.volume_pair.specs.Kept.{IsRootOf, StartMade, StartWrote};
 ghost use Rattle.volume_pair.specs.Pairs.{IsInUse, IsPaired};
 ghost use Rattle.volume_pair.specs.Sides.{ShowsWhy};
 
@@ -54,7 +58,8 @@ fn opened<D: Disk>(disk: &mut D) -> Result<(Root, Layout), RootFault>
     ensures valid { IfOk result (λ r. IsValidRoot (D.state disk.old).sectors r.0) }
     ensures laid { IfOk result (λ r. IsLayout r.1 × (r.1.sectors ≡ (D.state disk.old).sectors)) }
     ensures read { (d : List Sector) → (D.state disk.old).contents ≡ Some d
-        → MatchResult result (λ r. r.0 ≡ root_in (root_page d)) (λ w. (w ≡ fault.Disk) ⊎ IsRefused d w) }
+        → MatchResult result (λ r. (r.0 ≡ root_in (root_page d)) × IsAccepted d)
+        (λ w. (w ≡ fault.Disk) ⊎ IsRefused d w) }
     ensures counted { IfErr result (λ w. w ≡ fault.Disk → Rose (D.state disk.old).faults (D.state disk.new).faults) }
     ensures reads { ReadsAtMost 1 (D.state disk.old) (D.state disk.new) }
 {
@@ -74,9 +79,12 @@ fn write_in_use<D: Disk, A: Allocator>(filer: &mut Filer<D, A>, root: Root) -> R
     requires valid { IsValidRoot (view_of filer.old).layout.sectors root }
     requires serial { root.serial < 2 ^ 32 }
     requires counter { root.counter < 2 ^ 32 }
-    ensures made { OnOk result
-        (Goes (λ m n. n ≡ written (root_write root) m) no_page (root_write root ∷ []) (view_of filer.old).disk
-        (view_of filer.old).slots (view_of filer.new).disk (view_of filer.old).slots) }
+    ensures made { MatchResult result
+        (λ _.
+        Goes (λ m n. n ≡ written (root_write root) m) no_page (root_write root ∷ []) (view_of filer.old).disk
+        (view_of filer.old).slots (view_of filer.new).disk (view_of filer.old).slots)
+        (λ _.
+        MayHaveWritten (root_write root) (view_of filer.old).disk (view_of filer.old).slots (view_of filer.new).disk) }
     ensures fault { IfErr result (λ e. e ≡ halt.Disk) }
     ensures writes { IsWrittenOwn (view_of filer.old) (view_of filer.new) }
     ensures stays { FramesStay (view_of filer.old) (view_of filer.new) }
@@ -106,6 +114,9 @@ fn put_in_use<D: Disk, A: Allocator>(
     ensures started { (d : List Sector) → (view_of filer.old).disk.contents ≡ Some d → Sound d
         → root ≡ root_in (root_page d)
         → MatchResult result (IsStarted d (view_of filer.new)) (λ e. e ≡ halt.Disk) }
+    ensures crash_states { (d : List Sector) → (view_of filer.old).disk.contents ≡ Some d → Sound d
+        → root ≡ root_in (root_page d)
+        → KeepsFiles (files_on d) (serial_of d) (counter_of d) (view_of filer.old).disk (view_of filer.new).disk }
     ensures volume { IfOk result (λ v. (v.layout ≡ layout) × (v.root ≡ in_use root)) }
     ensures writes { IsWrittenOwn (view_of filer.old) (view_of filer.new) }
     ensures why { IfErr result (ShowsWhy (view_of filer.old) (view_of filer.new)) }
@@ -131,7 +142,9 @@ fn roots<D: Disk, E: Disk>(from: &mut D, to: &mut E) -> Result<(Layout, Layout, 
     ensures laid { IfOk result (λ r. IsLaid (D.state from.old) r.0 × IsLaid (E.state to.old) r.1) }
     ensures valid { IfOk result (λ r. IsValidRoot (E.state to.old).sectors r.2) }
     ensures read { (d e : List Sector) → (D.state from.old).contents ≡ Some d → (E.state to.old).contents ≡ Some e
-        → MatchResult result (λ r. r.2 ≡ root_in (root_page e)) (IsRightRefusal d e) }
+        → MatchResult result (λ r. (r.2 ≡ root_in (root_page e)) × IsAccepted d × IsAccepted e) (IsRightRefusal d e) }
+    ensures root { (e : List Sector) → (E.state to.old).contents ≡ Some e
+        → IfOk result (λ r. r.2 ≡ root_in (root_page e)) }
     ensures early { IfErr result IsEarly }
     ensures counted { IfErr result
         (IsCounted (D.state from.old) (E.state to.old) (D.state from.new) (E.state to.new)) }
@@ -183,10 +196,12 @@ impl<D: Disk, E: Disk, A: Allocator + Clone> Pair<D, E, A> {
         ensures running { IfOk result (λ s. s.running ≡ true) }
         ensures from { MatchResult result (λ s. ReadsAtMost 1 (D.state from) (view_of s.from).disk)
             (λ f. ReadsAtMost 1 (D.state from) (D.state f.1)) }
-        ensures to { MatchResult result (λ s. IsWritten [] (E.state to) (view_of s.to).disk)
-            (λ f. IsWritten [] (E.state to) (E.state f.2)) }
+        ensures to { MatchResult result (λ s. StartMade (E.state to) (view_of s.to).disk)
+            (λ f. StartWrote f.0 (E.state to) (E.state f.2)) }
+        ensures root { (d e : List Sector) → (D.state from).contents ≡ Some d → (E.state to).contents ≡ Some e
+            → IfOk result (λ s. IsRootOf e s.volume.root) }
         ensures refused { (d e : List Sector) → (D.state from).contents ≡ Some d → (E.state to).contents ≡ Some e
-            → IfErr result (λ f. IsRightRefusal d e f.0) }
+            → MatchResult result (λ _. IsAccepted d × IsAccepted e) (λ f. IsRightRefusal d e f.0) }
         ensures counted { IfErr result
             (λ f. IsCounted (D.state from) (E.state to) (D.state f.1) (E.state f.2) f.0) }
     {

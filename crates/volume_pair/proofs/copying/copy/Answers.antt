@@ -1,8 +1,9 @@
-use Rattle.std.proofs.Common.{◌≡◌, ◌∙◌, None, subst, sym, rules}
+use Rattle.std.proofs.Common.{◌≡◌, ◌∙◌, None, refl, subst, sym, rules}
 use Rattle.filer_kernel.specs.View.{view_of}
 use Rattle.volume_pair.specs.Copying.{IsOriginal}
 use Rattle.volume_pair.specs.Costs.{making, size_in}
 use Rattle.volume_pair.proofs.CostLemmas.{copy_spends, spends_little, stays_little}
+use Rattle.volume_pair.proofs.CopyStateLemmas.{asked_states, asked_then, copy_states, untouched_states}
 use Rattle.volume_pair.proofs.CopyLemmas.{judged_refused, keeps_numbers, paired_then, replies_done, replies_refused, room_refused}
 use Rattle.volume_pair.proofs.DoneLemmas.{none_there}
 use Rattle.volume_pair.proofs.ReplyLemmas.{refused_not_done}
@@ -66,7 +67,7 @@ returns-in-Ok-make_copy-clause-replies g c = λ p h.
     let none : c.in-Ok.refused ≡ None = search rules in
     let taken = sym second.1 ∙ none in
     replies_done p c.args.id _ _ c.make_copy.new.volume (room_refused p c.args.id c.in-Ok-Ok.file original c.args.volume.now h ∙ taken)
-    (c.in-Ok-make_copy.ensures.copies p (paired_then c.args.volume.now p _ _ h first.0 second.0) original (none_there p.to c.args.volume.now c.args.id c.in-Ok-Ok.file.pages taken))
+    (c.in-Ok-make_copy.ensures.copies p (paired_then c.args.volume.now p _ _ h first.0 second.0) original (none_there p.to c.args.volume.now c.args.id c.in-Ok-Ok.file.pages taken)).0
 
 pub returns-in-Err-make_copy-clause-replies : goal.returns-in-Err-make_copy-clause-replies
 returns-in-Err-make_copy-clause-replies g c = λ p h.
@@ -74,7 +75,7 @@ returns-in-Err-make_copy-clause-replies g c = λ p h.
     let original = subst (IsOriginal p.from c.args.id) c.in-Ok-Ok.field-0-is first.1 in
     let second = c.in-Ok.ensures.known p.to h.second h.to_is in
     let none : c.in-Ok.refused ≡ None = search rules in
-    c.in-Err-make_copy.ensures.copies p (paired_then c.args.volume.now p _ _ h first.0 second.0) original (none_there p.to c.args.volume.now c.args.id c.in-Ok-Ok.file.pages (sym second.1 ∙ none))
+    (c.in-Err-make_copy.ensures.copies p (paired_then c.args.volume.now p _ _ h first.0 second.0) original (none_there p.to c.args.volume.now c.args.id c.in-Ok-Ok.file.pages (sym second.1 ∙ none))).0
 
 pub returns-in-Err-clause-replies : goal.returns-in-Err-clause-replies
 returns-in-Err-clause-replies g c = λ p h. (c.in-Err.ensures.known p.from h.first h.from_is).1
@@ -97,16 +98,52 @@ returns-in-Err-make_copy-clause-to_writes g c = written_then (looked_written c.a
 pub returns-in-Err-make_copy-clause-why : goal.returns-in-Err-make_copy-clause-why
 returns-in-Err-make_copy-clause-why g c = copied_after _ _ c.original.ensures.looks (looked_written c.args.id c.refusal.ensures.looks) c.in-Err-make_copy.halt c.in-Err-make_copy.ensures.why
 
+-- ---- In each crash state.
+
+pub returns-in-Ok-Err-clause-crash_states : goal.returns-in-Ok-Err-clause-crash_states
+returns-in-Ok-Err-clause-crash_states g c = λ p h. untouched_states (view_of c.args.from.now) (view_of c.args.to.now) c.args.volume.now p h _
+
+pub returns-in-Err-clause-crash_states : goal.returns-in-Err-clause-crash_states
+returns-in-Err-clause-crash_states g c = λ p h. untouched_states (view_of c.args.from.now) (view_of c.args.to.now) c.args.volume.now p h _
+
+pub returns-in-Err-refusal-clause-crash_states : goal.returns-in-Err-refusal-clause-crash_states
+returns-in-Err-refusal-clause-crash_states g c = λ p h. asked_states (view_of c.args.from.now) (view_of c.args.to.now) c.args.volume.now p h (view_of c.refusal.new.to) _ c.refusal.ensures.looks
+
+pub returns-in-Some-clause-crash_states : goal.returns-in-Some-clause-crash_states
+returns-in-Some-clause-crash_states g c = λ p h. asked_states (view_of c.args.from.now) (view_of c.args.to.now) c.args.volume.now p h (view_of c.refusal.new.to) _ c.refusal.ensures.looks
+
+pub returns-in-Ok-make_copy-clause-crash_states : goal.returns-in-Ok-make_copy-clause-crash_states
+returns-in-Ok-make_copy-clause-crash_states g c = λ p h.
+    let first = c.in-Ok-Ok.ensures.known p.from h.first h.from_is in
+    let original = subst (IsOriginal p.from c.args.id) c.in-Ok-Ok.field-0-is first.1 in
+    let second = c.in-Ok.ensures.known p.to h.second h.to_is in
+    let none : c.in-Ok.refused ≡ None = search rules in
+    let taken = sym second.1 ∙ none in
+    copy_states p c.args.id c.args.volume.now.root _ _ (room_refused p c.args.id c.in-Ok-Ok.file original c.args.volume.now h ∙ taken)
+    (asked_then (view_of c.args.from.now) (view_of c.args.to.now) c.args.volume.now p h (view_of c.refusal.new.to) (view_of c.make_copy.new.to) _ c.refusal.ensures.looks
+    (c.make_copy.ensures.copies p (paired_then c.args.volume.now p _ _ h first.0 second.0) original (none_there p.to c.args.volume.now c.args.id c.in-Ok-Ok.file.pages taken)).1)
+
+pub returns-in-Err-make_copy-clause-crash_states : goal.returns-in-Err-make_copy-clause-crash_states
+returns-in-Err-make_copy-clause-crash_states g c = λ p h.
+    let first = c.in-Ok-Ok.ensures.known p.from h.first h.from_is in
+    let original = subst (IsOriginal p.from c.args.id) c.in-Ok-Ok.field-0-is first.1 in
+    let second = c.in-Ok.ensures.known p.to h.second h.to_is in
+    let none : c.in-Ok.refused ≡ None = search rules in
+    let taken = sym second.1 ∙ none in
+    copy_states p c.args.id c.args.volume.now.root _ _ (room_refused p c.args.id c.in-Ok-Ok.file original c.args.volume.now h ∙ taken)
+    (asked_then (view_of c.args.from.now) (view_of c.args.to.now) c.args.volume.now p h (view_of c.refusal.new.to) (view_of c.make_copy.new.to) _ c.refusal.ensures.looks
+    (c.make_copy.ensures.copies p (paired_then c.args.volume.now p _ _ h first.0 second.0) original (none_there p.to c.args.volume.now c.args.id c.in-Ok-Ok.file.pages taken)).1)
+
 -- ---- What is answered is on the medium.
 
-pub returns-in-Ok-Err-clause-synced : goal.returns-in-Ok-Err-clause-synced
-returns-in-Ok-Err-clause-synced g c = λ is. absurd (refused_not_done c.in-Ok-Err.why is)
+pub returns-in-Ok-Err-clause-leaves : goal.returns-in-Ok-Err-clause-leaves
+returns-in-Ok-Err-clause-leaves g c = record { on_medium = λ is. absurd (refused_not_done c.in-Ok-Err.why is); looked = λ none. looked_nothing (view_of c.args.to.now) }
 
-pub returns-in-Some-clause-synced : goal.returns-in-Some-clause-synced
-returns-in-Some-clause-synced g c = λ is. absurd (refused_not_done c.in-Some.why is)
+pub returns-in-Some-clause-leaves : goal.returns-in-Some-clause-leaves
+returns-in-Some-clause-leaves g c = record { on_medium = λ is. absurd (refused_not_done c.in-Some.why is); looked = λ none. c.refusal.ensures.looks }
 
-pub returns-in-Ok-make_copy-clause-synced : goal.returns-in-Ok-make_copy-clause-synced
-returns-in-Ok-make_copy-clause-synced g c = λ is. c.in-Ok-make_copy.ensures.synced
+pub returns-in-Ok-make_copy-clause-leaves : goal.returns-in-Ok-make_copy-clause-leaves
+returns-in-Ok-make_copy-clause-leaves g c = record { on_medium = λ is. c.in-Ok-make_copy.ensures.synced; looked = λ other. absurd (other refl) }
 
 -- ---- What it costs.
 

@@ -8,7 +8,7 @@ use Rattle.session_words.specs.PlaceLaws.{with_shape}
 use Rattle.volume_pair.specs.Copied.{shape_with}
 use Rattle.volume_pair.proofs.SideLemmas.{looked_nothing, shape_of_file, side_books, side_cells, side_then}
 use Rattle.volume_pair.proofs.StepLemmas.{copied_here, page_copied}
-use Rattle.volume_pair.proofs.WriteLemmas.{looked_written}
+use Rattle.volume_pair.proofs.WriteLemmas.{looked_pages}
 use Rattle.volume_pair.proofs.copying.copy_page.Goals as goal
 
 pub returns-in-Err-clause-copies : goal.returns-in-Err-clause-copies
@@ -35,4 +35,4 @@ returns-in-Err-write_file_page-clause-copies g c = λ fs gs x y f from found bel
     (side_then _ _ fs x from read.0, halts)
 
 pub returns-in-Err-clause-to_writes : goal.returns-in-Err-clause-to_writes
-returns-in-Err-clause-to_writes g c = looked_written c.args.id (looked_nothing (view_of c.args.to.now))
+returns-in-Err-clause-to_writes g c = looked_pages c.args.id (looked_nothing (view_of c.args.to.now))

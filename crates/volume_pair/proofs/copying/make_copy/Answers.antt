@@ -6,9 +6,10 @@ use Rattle.session_words.specs.Parts.{shapes_of}
 use Rattle.volume_pair.specs.Copied.{IsCopying}
 use Rattle.volume_pair.proofs.CostLemmas.{filled_spends, made_spends, sealed_spends}
 use Rattle.volume_pair.proofs.CopyLemmas.{written_fits}
+use Rattle.volume_pair.proofs.CopyStateLemmas.{all_states, filled_broken, made_broken}
 use Rattle.volume_pair.proofs.DoneLemmas.{begun, copy_done, may_create, same_id}
 use Rattle.volume_pair.proofs.SideLemmas.{looked_nothing, why_after, why_of}
-use Rattle.volume_pair.proofs.WriteLemmas.{copied_after, own_written, written_then}
+use Rattle.volume_pair.proofs.WriteLemmas.{copied_after, own_written, pages_written, written_then}
 use Rattle.volume_pair.proofs.copying.make_copy.Goals as goal
 
 pub returns-in-Err-clause-from_looks : goal.returns-in-Err-clause-from_looks
@@ -24,16 +25,16 @@ pub copy_pages-requires-clause-to_size : goal.copy_pages-requires-clause-to_size
 copy_pages-requires-clause-to_size g c = written_fits (own_written c.args.id _ (view_of c.args.to.now) (view_of c.create_as.new.filer) c.in-Ok.ensures.writes.makes c.create_as.ensures.stays.layout) c.requires.to_size
 
 pub returns-in-Err-copy_pages-clause-to_writes : goal.returns-in-Err-copy_pages-clause-to_writes
-returns-in-Err-copy_pages-clause-to_writes g c = written_then (own_written c.args.id _ (view_of c.args.to.now) (view_of c.create_as.new.filer) c.in-Ok.ensures.writes.makes c.create_as.ensures.stays.layout) c.copy_pages.ensures.to_writes
+returns-in-Err-copy_pages-clause-to_writes g c = written_then (own_written c.args.id _ (view_of c.args.to.now) (view_of c.create_as.new.filer) c.in-Ok.ensures.writes.makes c.create_as.ensures.stays.layout) (pages_written c.copy_pages.ensures.to_writes)
 
 pub returns-in-Err-copy_pages-clause-why : goal.returns-in-Err-copy_pages-clause-why
 returns-in-Err-copy_pages-clause-why g c = copied_after _ _ (looked_nothing (view_of c.args.from.now)) (own_written c.args.id _ (view_of c.args.to.now) (view_of c.create_as.new.filer) c.in-Ok.ensures.writes.makes c.create_as.ensures.stays.layout) c.in-Err-copy_pages.halt c.in-Err-copy_pages.ensures.why
 
 pub seal-requires-clause-size : goal.seal-requires-clause-size
-seal-requires-clause-size g c = written_fits (written_then (own_written c.args.id _ (view_of c.args.to.now) (view_of c.create_as.new.filer) c.in-Ok.ensures.writes.makes c.create_as.ensures.stays.layout) c.copy_pages.ensures.to_writes) c.requires.to_size
+seal-requires-clause-size g c = written_fits (written_then (own_written c.args.id _ (view_of c.args.to.now) (view_of c.create_as.new.filer) c.in-Ok.ensures.writes.makes c.create_as.ensures.stays.layout) (pages_written c.copy_pages.ensures.to_writes)) c.requires.to_size
 
 pub returns-in-Ok-seal-clause-to_writes : goal.returns-in-Ok-seal-clause-to_writes
-returns-in-Ok-seal-clause-to_writes g c = written_then (written_then (own_written c.args.id _ (view_of c.args.to.now) (view_of c.create_as.new.filer) c.in-Ok.ensures.writes.makes c.create_as.ensures.stays.layout) c.copy_pages.ensures.to_writes) c.seal.ensures.writes
+returns-in-Ok-seal-clause-to_writes g c = written_then (written_then (own_written c.args.id _ (view_of c.args.to.now) (view_of c.create_as.new.filer) c.in-Ok.ensures.writes.makes c.create_as.ensures.stays.layout) (pages_written c.copy_pages.ensures.to_writes)) c.seal.ensures.writes
 
 pub returns-in-Ok-seal-clause-volume : goal.returns-in-Ok-seal-clause-volume
 returns-in-Ok-seal-clause-volume g c = record { root = ap (λ (v : Volume). v.root) c.in-Ok.ensures.volume; layout = ap (λ (v : Volume). v.layout) c.in-Ok.ensures.volume }
@@ -48,11 +49,11 @@ pub returns-in-Err-clause-volume : goal.returns-in-Err-clause-volume
 returns-in-Err-clause-volume g c = record { root = ap (λ (v : Volume). v.root) c.in-Err.ensures.volume; layout = ap (λ (v : Volume). v.layout) c.in-Err.ensures.volume }
 
 pub returns-in-Err-seal-clause-to_writes : goal.returns-in-Err-seal-clause-to_writes
-returns-in-Err-seal-clause-to_writes g c = written_then (written_then (own_written c.args.id _ (view_of c.args.to.now) (view_of c.create_as.new.filer) c.in-Ok.ensures.writes.makes c.create_as.ensures.stays.layout) c.copy_pages.ensures.to_writes) c.seal.ensures.writes
+returns-in-Err-seal-clause-to_writes g c = written_then (written_then (own_written c.args.id _ (view_of c.args.to.now) (view_of c.create_as.new.filer) c.in-Ok.ensures.writes.makes c.create_as.ensures.stays.layout) (pages_written c.copy_pages.ensures.to_writes)) c.seal.ensures.writes
 
 pub returns-in-Err-seal-clause-why : goal.returns-in-Err-seal-clause-why
 returns-in-Err-seal-clause-why g c =
-    why_after (written_then (own_written c.args.id _ (view_of c.args.to.now) (view_of c.create_as.new.filer) c.in-Ok.ensures.writes.makes c.create_as.ensures.stays.layout) c.copy_pages.ensures.to_writes).makes.went.faults c.in-Err-seal.ensures.why
+    why_after (written_then (own_written c.args.id _ (view_of c.args.to.now) (view_of c.create_as.new.filer) c.in-Ok.ensures.writes.makes c.create_as.ensures.stays.layout) (pages_written c.copy_pages.ensures.to_writes)).makes.went.faults c.in-Err-seal.ensures.why
 
 pub create_as-requires-clause-other : goal.create_as-requires-clause-other
 create_as-requires-clause-other g c = c.requires.takes.other
@@ -72,15 +73,18 @@ pub returns-in-Err-clause-copies : goal.returns-in-Err-clause-copies
 returns-in-Err-clause-copies g c = λ p h original none.
     let is = accepted c.args.to.now in
     let may = may_create (view_of c.args.from.now) (view_of c.args.to.now) c.args.volume.now p h is c.args.id c.args.file.pages c.requires.takes none in
-    (c.in-Err.ensures.created 0 h.second (shapes_of p.to) [] may).0
+    let created = c.in-Err.ensures.created 0 h.second (shapes_of p.to) [] may in
+    (created.0, made_broken (view_of c.args.from.now) (view_of c.args.to.now) c.args.volume.now p h c.args.id c.args.file original none c.requires.takes c.requires.of_file (view_of c.create_as.new.filer) created.1)
 
 pub returns-in-Err-copy_pages-clause-copies : goal.returns-in-Err-copy_pages-clause-copies
 returns-in-Err-copy_pages-clause-copies g c = λ p h original none.
     let is = accepted c.args.to.now in
     let may = may_create (view_of c.args.from.now) (view_of c.args.to.now) c.args.volume.now p h is c.args.id c.args.file.pages c.requires.takes none in
     let created = c.in-Ok.ensures.created 0 h.second (shapes_of p.to) [] may in
-    let zero = begun (view_of c.args.from.now) (view_of c.args.to.now) c.args.volume.now p h c.args.id c.args.file original none c.requires.takes (view_of c.create_as.new.filer) is c.create_as.ensures.stays.layout c.requires.of_file created in
-    (c.in-Err-copy_pages.ensures.copies p.from p.to h.first h.second original.0 h.from_is original.1 (sym original.3) zero).1
+    let zero = begun (view_of c.args.from.now) (view_of c.args.to.now) c.args.volume.now p h c.args.id c.args.file original none c.requires.takes (view_of c.create_as.new.filer) is c.create_as.ensures.stays.layout c.requires.of_file created in (
+      (c.in-Err-copy_pages.ensures.copies p.from p.to h.first h.second original.0 h.from_is original.1 (sym original.3) zero).1,
+      filled_broken (view_of c.args.from.now) (view_of c.args.to.now) c.args.volume.now p h c.args.id c.args.file original none c.requires.takes c.requires.of_file (view_of c.create_as.new.filer) created zero (view_of c.copy_pages.new.to) c.copy_pages.ensures.to_writes,
+    )
 
 pub returns-in-Err-seal-clause-copies : goal.returns-in-Err-seal-clause-copies
 returns-in-Err-seal-clause-copies g c = λ p h original none.
@@ -90,8 +94,11 @@ returns-in-Err-seal-clause-copies g c = λ p h original none.
     let zero = begun (view_of c.args.from.now) (view_of c.args.to.now) c.args.volume.now p h c.args.id c.args.file original none c.requires.takes (view_of c.create_as.new.filer) is c.create_as.ensures.stays.layout c.requires.of_file created in
     let all = c.in-Ok-copy_pages.ensures.copies p.from p.to h.first h.second original.0 h.from_is original.1 (sym original.3) zero in
     let whole = subst (λ (n : ℕ). IsCopying (view_of c.copy_pages.new.to) h.second p.to original.0 false false n) (sym original.3) all.1 in
-    let same = same_id (view_of c.args.from.now) (view_of c.args.to.now) c.args.volume.now p h c.args.id c.args.file original none c.requires.takes in
-    c.in-Err-seal.ensures.seals p.to h.second original.0 same whole
+    let same = same_id (view_of c.args.from.now) (view_of c.args.to.now) c.args.volume.now p h c.args.id c.args.file original none c.requires.takes in (
+      c.in-Err-seal.ensures.seals p.to h.second original.0 same whole,
+      all_states (view_of c.args.from.now) (view_of c.args.to.now) c.args.volume.now p h c.args.id c.args.file original none c.requires.takes c.requires.of_file (view_of c.create_as.new.filer) created zero (view_of c.copy_pages.new.to) c.copy_pages.ensures.to_writes
+          (view_of c.seal.new.to) (λ d revealed right none. c.seal.ensures.crash_states p.to h.second d original.0 same whole revealed right none),
+    )
 
 pub returns-in-Ok-seal-clause-copies : goal.returns-in-Ok-seal-clause-copies
 returns-in-Ok-seal-clause-copies g c = λ p h original none.
@@ -102,8 +109,11 @@ returns-in-Ok-seal-clause-copies g c = λ p h original none.
     let all = c.in-Ok-copy_pages.ensures.copies p.from p.to h.first h.second original.0 h.from_is original.1 (sym original.3) zero in
     let whole = subst (λ (n : ℕ). IsCopying (view_of c.copy_pages.new.to) h.second p.to original.0 false false n) (sym original.3) all.1 in
     let same = same_id (view_of c.args.from.now) (view_of c.args.to.now) c.args.volume.now p h c.args.id c.args.file original none c.requires.takes in
-    let sealed = c.in-Ok-seal.ensures.seals p.to h.second original.0 same whole in
-    copy_done (view_of c.args.from.now) (view_of c.args.to.now) c.args.volume.now p h c.args.id c.args.file original none c.requires.takes (view_of c.copy_pages.new.from) (view_of c.seal.new.to) all.0 sealed c.create_as.new.volume c.in-Ok.ensures.volume
+    let sealed = c.in-Ok-seal.ensures.seals p.to h.second original.0 same whole in (
+      copy_done (view_of c.args.from.now) (view_of c.args.to.now) c.args.volume.now p h c.args.id c.args.file original none c.requires.takes (view_of c.copy_pages.new.from) (view_of c.seal.new.to) all.0 sealed c.create_as.new.volume c.in-Ok.ensures.volume,
+      all_states (view_of c.args.from.now) (view_of c.args.to.now) c.args.volume.now p h c.args.id c.args.file original none c.requires.takes c.requires.of_file (view_of c.create_as.new.filer) created zero (view_of c.copy_pages.new.to) c.copy_pages.ensures.to_writes
+          (view_of c.seal.new.to) (λ d revealed right none. c.seal.ensures.crash_states p.to h.second d original.0 same whole revealed right none),
+    )
 
 pub returns-in-Ok-seal-clause-synced : goal.returns-in-Ok-seal-clause-synced
 returns-in-Ok-seal-clause-synced g c = c.in-Ok-seal.ensures.synced

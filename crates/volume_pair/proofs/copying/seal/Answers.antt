@@ -1,10 +1,12 @@
-use Rattle.std.proofs.Common.{[], false, refl, true}
+use Rattle.std.proofs.Common.{[], ◌∙◌, false, refl, true}
 use Rattle.labelled_disk.specs.File.{size}
 use Rattle.label_calls.specs.declared.page.Mark.TheVariants.{Immutable, Permanent}
 use Rattle.session_words.specs.Parts.{shapes_of}
 use Rattle.session_words.specs.PlaceLaws.{with_shape}
 use Rattle.volume_pair.specs.Copied.{shape_with}
 use Rattle.volume_pair.proofs.CopyLemmas.{written_fits}
+use Rattle.volume_pair.proofs.CrashStateLemmas.{same_then}
+use Rattle.volume_pair.proofs.SealLemmas.{immutable_sealed, marked_first, none_sealed, permanent_sealed, synced_copying}
 use Rattle.volume_pair.proofs.StepLemmas.{copied_here, immutable_made, permanent_made, swapped_copying}
 use Rattle.filer_kernel.specs.View.{view_of}
 use Rattle.volume_pair.proofs.SideLemmas.{why_after, why_of}
@@ -83,3 +85,38 @@ returns-in-Err-sync_disk-clause-seals g c = λ gs y f same copying. c.in-Err-syn
 
 pub returns-in-Ok-sync_disk-clause-synced : goal.returns-in-Ok-sync_disk-clause-synced
 returns-in-Ok-sync_disk-clause-synced g c = c.in-Ok-sync_disk.ensures.synced
+
+-- ---- In each crash state.
+
+pub returns-in-Err-clause-crash_states : goal.returns-in-Err-clause-crash_states
+returns-in-Err-clause-crash_states g c = λ gs y d f same copying revealed right none. none_sealed (view_of c.args.to.now) gs y f c.args.id same copying d revealed right none (view_of c.sync_disk.new.filer) c.sync_disk.ensures.same c.sync_disk.ensures.stays
+
+pub returns-in-Err-make_immutable-clause-crash_states : goal.returns-in-Err-make_immutable-clause-crash_states
+returns-in-Err-make_immutable-clause-crash_states g c = λ gs y d f same copying revealed right none.
+    let one = synced_copying (view_of c.args.to.now) gs y f c.args.id same copying d revealed right none (view_of c.sync_disk.new.filer) c.sync_disk.ensures.same c.sync_disk.ensures.stays in
+    let broken = (c.in-Err-make_immutable.ensures.revealed 0 one.memory (with_shape (shapes_of gs) f.id (shape_with f false false)) [] (shape_with f false false) one.books (copied_here gs f c.args.id false false same)).1 in
+    immutable_sealed (view_of c.args.to.now) gs y f c.args.id same copying d revealed right none (view_of c.sync_disk.new.filer) c.sync_disk.ensures.same c.sync_disk.ensures.stays (view_of c.make_immutable.new.filer) broken
+
+pub returns-in-Err-make_permanent-clause-crash_states : goal.returns-in-Err-make_permanent-clause-crash_states
+returns-in-Err-make_permanent-clause-crash_states g c = λ gs y d f same copying revealed right none.
+    let one = synced_copying (view_of c.args.to.now) gs y f c.args.id same copying d revealed right none (view_of c.sync_disk.new.filer) c.sync_disk.ensures.same c.sync_disk.ensures.stays in
+    let made = c.in-Ok-make_immutable.ensures.revealed 0 one.memory (with_shape (shapes_of gs) f.id (shape_with f false false)) [] (shape_with f false false) one.books (copied_here gs f c.args.id false false same) in
+    let two = immutable_made (view_of c.sync_disk.new.filer) (view_of c.make_immutable.new.filer) gs y f c.args.id same c.make_immutable.ensures.stays.layout one (made refl) in
+    let broken = (c.in-Err-make_permanent.ensures.revealed 0 two.memory (with_shape (shapes_of gs) f.id (shape_with f false true)) [] (shape_with f false true) two.books (copied_here gs f c.args.id false true same)).1 in
+    permanent_sealed (view_of c.args.to.now) gs y f c.args.id same copying d revealed right none (view_of c.sync_disk.new.filer) c.sync_disk.ensures.same c.sync_disk.ensures.stays (view_of c.make_immutable.new.filer) (marked_first (made refl)) (c.make_immutable.ensures.stays.layout ∙ c.sync_disk.ensures.stays.layout) two (view_of c.make_permanent.new.filer) broken
+
+pub returns-in-Ok-sync_disk-clause-crash_states : goal.returns-in-Ok-sync_disk-clause-crash_states
+returns-in-Ok-sync_disk-clause-crash_states g c = λ gs y d f same copying revealed right none.
+    let one = synced_copying (view_of c.args.to.now) gs y f c.args.id same copying d revealed right none (view_of c.sync_disk.new.filer) c.sync_disk.ensures.same c.sync_disk.ensures.stays in
+    let made = c.in-Ok-make_immutable.ensures.revealed 0 one.memory (with_shape (shapes_of gs) f.id (shape_with f false false)) [] (shape_with f false false) one.books (copied_here gs f c.args.id false false same) in
+    let two = immutable_made (view_of c.sync_disk.new.filer) (view_of c.make_immutable.new.filer) gs y f c.args.id same c.make_immutable.ensures.stays.layout one (made refl) in
+    let marked = c.in-Ok-make_permanent.ensures.revealed 0 two.memory (with_shape (shapes_of gs) f.id (shape_with f false true)) [] (shape_with f false true) two.books (copied_here gs f c.args.id false true same) in
+    same_then (permanent_sealed (view_of c.args.to.now) gs y f c.args.id same copying d revealed right none (view_of c.sync_disk.new.filer) c.sync_disk.ensures.same c.sync_disk.ensures.stays (view_of c.make_immutable.new.filer) (marked_first (made refl)) (c.make_immutable.ensures.stays.layout ∙ c.sync_disk.ensures.stays.layout) two (view_of c.make_permanent.new.filer) (marked_first (marked refl))) c.sync_disk-2.ensures.same
+
+pub returns-in-Err-sync_disk-clause-crash_states : goal.returns-in-Err-sync_disk-clause-crash_states
+returns-in-Err-sync_disk-clause-crash_states g c = λ gs y d f same copying revealed right none.
+    let one = synced_copying (view_of c.args.to.now) gs y f c.args.id same copying d revealed right none (view_of c.sync_disk.new.filer) c.sync_disk.ensures.same c.sync_disk.ensures.stays in
+    let made = c.in-Ok-make_immutable.ensures.revealed 0 one.memory (with_shape (shapes_of gs) f.id (shape_with f false false)) [] (shape_with f false false) one.books (copied_here gs f c.args.id false false same) in
+    let two = immutable_made (view_of c.sync_disk.new.filer) (view_of c.make_immutable.new.filer) gs y f c.args.id same c.make_immutable.ensures.stays.layout one (made refl) in
+    let marked = c.in-Ok-make_permanent.ensures.revealed 0 two.memory (with_shape (shapes_of gs) f.id (shape_with f false true)) [] (shape_with f false true) two.books (copied_here gs f c.args.id false true same) in
+    same_then (permanent_sealed (view_of c.args.to.now) gs y f c.args.id same copying d revealed right none (view_of c.sync_disk.new.filer) c.sync_disk.ensures.same c.sync_disk.ensures.stays (view_of c.make_immutable.new.filer) (marked_first (made refl)) (c.make_immutable.ensures.stays.layout ∙ c.sync_disk.ensures.stays.layout) two (view_of c.make_permanent.new.filer) (marked_first (marked refl))) c.sync_disk-2.ensures.same

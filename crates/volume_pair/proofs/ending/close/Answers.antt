@@ -1,5 +1,7 @@
-use Rattle.std.proofs.Common.{◌∙◌}
+use Rattle.std.proofs.Common.{inr, ◌∙◌}
 use Rattle.filer_kernel.specs.View.{accepted, disk_of, placed, view_of}
+use Rattle.volume_pair.proofs.CrashStateLemmas.{quiet_then, same_then}
+use Rattle.volume_pair.proofs.EndStateLemmas.{map_states, root_states}
 use Rattle.volume_pair.proofs.EndLemmas.{has_closed, no_tables, own_then, swaps_own, valid_at, volume_written}
 use Rattle.volume_pair.proofs.SideLemmas.{why_after}
 use Rattle.volume_pair.proofs.ending.close.Goals as goal
@@ -38,3 +40,39 @@ returns-in-Err-sync_disk-clause-writes g c = own_then (own_then (swaps_own (view
 
 pub returns-in-Err-sync_disk-clause-why : goal.returns-in-Err-sync_disk-clause-why
 returns-in-Err-sync_disk-clause-why g c = why_after (own_then (swaps_own (view_of c.args.filer.now) (view_of c.sync_maps.new.filer) c.sync_maps.ensures.swaps) c.write_closed.ensures.writes).makes.went.faults c.in-Err-sync_disk.ensures.why
+
+-- ---- In each crash state.
+
+pub returns-in-Err-clause-crash_states : goal.returns-in-Err-clause-crash_states
+returns-in-Err-clause-crash_states g c = λ p y side root.
+    map_states (view_of c.args.filer.now) (view_of c.sync_maps.new.filer) p c.args.root y side root (record { makes = c.sync_maps.ensures.swaps.makes; layout = c.sync_maps.ensures.layout })
+
+pub returns-in-Err-write_closed-clause-crash_states : goal.returns-in-Err-write_closed-clause-crash_states
+returns-in-Err-write_closed-clause-crash_states g c = λ p y side root.
+    let v = view_of c.args.filer.now in
+    let w = view_of c.sync_maps.new.filer in
+    let first = map_states v w p c.args.root y side root (record { makes = c.sync_maps.ensures.swaps.makes; layout = c.sync_maps.ensures.layout }) in
+    let ready = volume_written v w p c.args.root y side root c.sync_maps.ensures.swaps c.in-Ok.ensures.clean (no_tables v p.to y side (placed c.args.filer.now) (accepted c.args.filer.now)) in
+    let long = g.met.D.Disk.whole (disk_of c.sync_maps.new.filer) ready.sectors ready.revealed ∙ c.sync_maps.ensures.swaps.makes.went.sectors ∙ c.requires.size in
+    let second = root_states p c.args.root w.disk ready (valid_at _ _ c.args.root long c.requires.valid) (view_of c.write_closed.new.filer).disk c.in-Err-write_closed.ensures.made in
+    quiet_then first second (λ i e is. is) (λ i e is. is)
+
+pub returns-in-Ok-sync_disk-clause-crash_states : goal.returns-in-Ok-sync_disk-clause-crash_states
+returns-in-Ok-sync_disk-clause-crash_states g c = λ p y side root.
+    let v = view_of c.args.filer.now in
+    let w = view_of c.sync_maps.new.filer in
+    let first = map_states v w p c.args.root y side root (record { makes = c.sync_maps.ensures.swaps.makes; layout = c.sync_maps.ensures.layout }) in
+    let ready = volume_written v w p c.args.root y side root c.sync_maps.ensures.swaps c.in-Ok.ensures.clean (no_tables v p.to y side (placed c.args.filer.now) (accepted c.args.filer.now)) in
+    let long = g.met.D.Disk.whole (disk_of c.sync_maps.new.filer) ready.sectors ready.revealed ∙ c.sync_maps.ensures.swaps.makes.went.sectors ∙ c.requires.size in
+    let second = root_states p c.args.root w.disk ready (valid_at _ _ c.args.root long c.requires.valid) (view_of c.write_closed.new.filer).disk (inr c.in-Ok-write_closed.ensures.made) in
+    same_then (quiet_then first second (λ i e is. is) (λ i e is. is)) c.sync_disk.ensures.same
+
+pub returns-in-Err-sync_disk-clause-crash_states : goal.returns-in-Err-sync_disk-clause-crash_states
+returns-in-Err-sync_disk-clause-crash_states g c = λ p y side root.
+    let v = view_of c.args.filer.now in
+    let w = view_of c.sync_maps.new.filer in
+    let first = map_states v w p c.args.root y side root (record { makes = c.sync_maps.ensures.swaps.makes; layout = c.sync_maps.ensures.layout }) in
+    let ready = volume_written v w p c.args.root y side root c.sync_maps.ensures.swaps c.in-Ok.ensures.clean (no_tables v p.to y side (placed c.args.filer.now) (accepted c.args.filer.now)) in
+    let long = g.met.D.Disk.whole (disk_of c.sync_maps.new.filer) ready.sectors ready.revealed ∙ c.sync_maps.ensures.swaps.makes.went.sectors ∙ c.requires.size in
+    let second = root_states p c.args.root w.disk ready (valid_at _ _ c.args.root long c.requires.valid) (view_of c.write_closed.new.filer).disk (inr c.in-Ok-write_closed.ensures.made) in
+    same_then (quiet_then first second (λ i e is. is) (λ i e is. is)) c.sync_disk.ensures.same

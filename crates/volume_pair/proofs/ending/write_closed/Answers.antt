@@ -38,3 +38,10 @@ returns-in-Err-clause-writes g c =
     let both = root_either old new (view_of filer).slots (view_of filer).layout.sectors r (closed_valid _ r c.requires.valid) c.closed.ensures.serial c.closed.ensures.counter
     (λ d revealed. g.met.D.Disk.whole (disk_of filer) d revealed ∙ c.requires.size) moves either in
     record { labels = both.0; makes = both.1 }
+
+pub returns-in-Err-clause-made : goal.returns-in-Err-clause-made
+returns-in-Err-clause-made g c =
+    let old = (view_of c.args.filer.now).disk in
+    let new = g.D.Disk.state c.write_root.new.disk in
+    let wrote : RevealsSame old new ⊎ RevealsWrite (root_write c.closed.result) old new = search rules in
+    subst (λ (w : Root). RevealsSame old new ⊎ RevealsWrite (root_write w) old new) c.closed.ensures.root wrote

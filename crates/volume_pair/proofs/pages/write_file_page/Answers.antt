@@ -6,7 +6,7 @@ use Rattle.filer_kernel.specs.View.{View, accepted, view_of}
 use Rattle.label_calls.proofs.BytesLemmas.{page_form}
 use Rattle.file_manager.proofs.Faults.{counted}
 use Rattle.file_manager.proofs.SoLemmas.{file_may, so_of_other}
-use Rattle.volume_pair.proofs.WriteLemmas.{looked_written, may_written, page_written, written_then}
+use Rattle.volume_pair.proofs.WriteLemmas.{looked_pages, may_written, page_written, pages_then}
 use Rattle.volume_pair.proofs.PageLemmas.{has_one}
 use Rattle.volume_pair.proofs.StepLemmas.{put_after}
 use Rattle.volume_pair.proofs.pages.write_file_page.Goals as goal
@@ -30,16 +30,16 @@ returns-in-Err-write_page-clause-puts g c = λ x shapes f books found below.
     sound x has.0.stands (has_one u shapes x has.0 c.args.id c.args.page c.in-Ok.sector c.requires.client (has.1 f found below))
 
 pub returns-in-Err-clause-writes : goal.returns-in-Err-clause-writes
-returns-in-Err-clause-writes g c = looked_written c.args.id c.sector_of.ensures.looks
+returns-in-Err-clause-writes g c = looked_pages c.args.id c.sector_of.ensures.looks
 
 pub returns-in-Ok-write_page-clause-writes : goal.returns-in-Ok-write_page-clause-writes
 returns-in-Ok-write_page-clause-writes g c =
-    written_then (looked_written c.args.id c.sector_of.ensures.looks)
+    pages_then (looked_pages c.args.id c.sector_of.ensures.looks)
     (page_written c.args.id (rw c.swapper_over-swapper.ensures.value at c.in-Ok-write_page.ensures.written) (rw c.swapper_over-swapper.ensures.value at c.write_page.ensures.frames) (rw c.swapper_over-swapper.ensures.value at c.write_page.ensures.layout))
 
 pub returns-in-Err-write_page-clause-writes : goal.returns-in-Err-write_page-clause-writes
 returns-in-Err-write_page-clause-writes g c =
-    written_then (looked_written c.args.id c.sector_of.ensures.looks)
+    pages_then (looked_pages c.args.id c.sector_of.ensures.looks)
     (may_written c.args.id (rw c.swapper_over-swapper.ensures.value at c.in-Err-write_page.ensures.stopped) (rw c.swapper_over-swapper.ensures.value at c.write_page.ensures.moves) (rw c.swapper_over-swapper.ensures.value at c.write_page.ensures.frames)
     (rw c.swapper_over-swapper.ensures.value at c.write_page.ensures.layout))
 

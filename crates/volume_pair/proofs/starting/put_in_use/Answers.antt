@@ -1,4 +1,4 @@
-use Rattle.std.proofs.Common.{◌∙◌, rules, arith}
+use Rattle.std.proofs.Common.{◌∙◌, rules, subst, sym, arith}
 use Rattle.swapper_kernel.proofs.PlacedLemmas.{parts}
 use Rattle.swapper_kernel.specs.declared.manager.Manager.TheVariants.{AllocationMap}
 use Rattle.swapper_kernel.specs.Maps.{IsMapHome}
@@ -6,9 +6,12 @@ use Rattle.filer_kernel.specs.EvidenceLaws.{fits, map_homes_placed, so_of_halts}
 use Rattle.filer_kernel.specs.View.{accepted, disk_of, swapper_of, view_of}
 use Rattle.file_manager.proofs.Faults.{counted}
 use Rattle.volume_pair.specs.Ends.{in_use}
+use Rattle.volume_pair.specs.Sides.{AreClean}
+use Rattle.volume_pair.proofs.CrashStateLemmas.{same_then}
 use Rattle.volume_pair.proofs.EndLemmas.{own_then, swaps_own}
-use Rattle.volume_pair.proofs.SideLemmas.{why_after}
-use Rattle.volume_pair.proofs.StartLemmas.{bits, is_started, made_in_use, map_named, marks, opened, opened_stands}
+use Rattle.volume_pair.proofs.EndStateLemmas.{may_made_states, root_made_states}
+use Rattle.volume_pair.proofs.SideLemmas.{looked_same, why_after}
+use Rattle.volume_pair.proofs.StartLemmas.{bare_clean, bits, is_started, made_in_use, map_named, marks, opened, opened_stands}
 use Rattle.volume_pair.proofs.starting.put_in_use.Goals as goal
 
 pub used_of-requires-clause-first : goal.used_of-requires-clause-first
@@ -63,3 +66,29 @@ returns-in-Ok-free_count-clause-started g c = λ d revealed sound same.
 
 pub returns-in-Ok-free_count-clause-writes : goal.returns-in-Ok-free_count-clause-writes
 returns-in-Ok-free_count-clause-writes g c = own_then c.write_in_use.ensures.writes (swaps_own (view_of c.write_in_use.new.filer) (view_of c.free_count.new.self) c.free_count.ensures.looked.swaps)
+
+-- ---- In each crash state.
+
+pub returns-in-Err-clause-crash_states : goal.returns-in-Err-clause-crash_states
+returns-in-Err-clause-crash_states g c = λ d revealed sound same.
+    let v = view_of c.args.filer.now in
+    let sectors = g.met.D.Disk.in_form (disk_of c.args.filer.now) d revealed in
+    may_made_states d sectors sound c.args.root same v.disk (view_of c.write_in_use.new.filer).disk v.slots revealed c.requires.bare (rw c.in_use-root.ensures.root at c.in-Err.ensures.made)
+
+pub returns-in-Err-free_count-clause-crash_states : goal.returns-in-Err-free_count-clause-crash_states
+returns-in-Err-free_count-clause-crash_states g c = λ d revealed sound same.
+    let v = view_of c.args.filer.now in
+    let u = view_of c.write_in_use.new.filer in
+    let sectors = g.met.D.Disk.in_form (disk_of c.args.filer.now) d revealed in
+    let made = root_made_states d sectors sound c.args.root same v.disk u.disk v.slots v.slots revealed c.requires.bare (rw c.in_use-root.ensures.root at c.in-Ok.ensures.made).makes in
+    let still : AreClean u.slots = subst AreClean (sym c.write_in_use.ensures.stays.frames) (bare_clean v.slots c.requires.bare) in
+    same_then made (looked_same {v = u} {w = view_of c.free_count.new.self} still (record { makes = c.free_count.ensures.looked.swaps.makes; layout = c.free_count.ensures.looked.layout }))
+
+pub returns-in-Ok-free_count-clause-crash_states : goal.returns-in-Ok-free_count-clause-crash_states
+returns-in-Ok-free_count-clause-crash_states g c = λ d revealed sound same.
+    let v = view_of c.args.filer.now in
+    let u = view_of c.write_in_use.new.filer in
+    let sectors = g.met.D.Disk.in_form (disk_of c.args.filer.now) d revealed in
+    let made = root_made_states d sectors sound c.args.root same v.disk u.disk v.slots v.slots revealed c.requires.bare (rw c.in_use-root.ensures.root at c.in-Ok.ensures.made).makes in
+    let still : AreClean u.slots = subst AreClean (sym c.write_in_use.ensures.stays.frames) (bare_clean v.slots c.requires.bare) in
+    same_then made (looked_same {v = u} {w = view_of c.free_count.new.self} still (record { makes = c.free_count.ensures.looked.swaps.makes; layout = c.free_count.ensures.looked.layout }))

@@ -1,4 +1,4 @@
-use Rattle.std.proofs.Common.{◌≡◌, ◌∙◌, [], ◌∷◌}
+use Rattle.std.proofs.Common.{◌≡◌, ◌∙◌, inr, [], ◌∷◌}
 use Rattle.labelled_disk.specs.CrashState.{written}
 use Rattle.volume_root.specs.RootPage.{root_write}
 use Rattle.filer_kernel.specs.View.{view_of}
@@ -39,3 +39,7 @@ returns-in-Err-sync_disk-clause-stays g c = record {
 
 pub returns-in-Err-sync_disk-clause-why : goal.returns-in-Err-sync_disk-clause-why
 returns-in-Err-sync_disk-clause-why g c = why_after c.in-Ok.ensures.writes.makes.went.faults c.in-Err-sync_disk.ensures.why
+
+pub returns-in-Err-sync_disk-clause-made : goal.returns-in-Err-sync_disk-clause-made
+returns-in-Err-sync_disk-clause-made g c =
+    inr (goes_synced (λ m n. n ≡ written (root_write c.args.root) m) (root_write c.args.root ∷ []) c.in-Ok.ensures.writes c.sync_disk.ensures.swaps c.write_over.ensures.stays.frames (c.sync_disk.ensures.stays.frames ∙ c.write_over.ensures.stays.frames)).makes

@@ -6,3 +6,6 @@ returns-clause-closed g c = λ p h. rw c.into_disks-from.ensures.to (c.close_sec
 
 pub returns-clause-to : goal.returns-clause-to
 returns-clause-to g c = rw c.into_disks-from.ensures.to (written_on c.close_second-ended.ensures.writes.makes)
+
+pub returns-clause-crash_states : goal.returns-clause-crash_states
+returns-clause-crash_states g c = λ p h. rw c.into_disks-from.ensures.to (c.close_second-ended.ensures.crash_states p h.second h.to_is h.root)

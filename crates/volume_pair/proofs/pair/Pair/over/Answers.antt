@@ -4,7 +4,10 @@ use Rattle.labelled_disk.specs.Calls.{ReadsAtMost}
 use Rattle.filer_kernel.specs.View.{view_of}
 use Rattle.volume_root.specs.declared.root.Root.{Root}
 use Rattle.volume_root.specs.RootPage.{IsValidRoot}
-use Rattle.volume_pair.proofs.StartLemmas.{bare_clean, early_outside, first_side, in_use_valid, paired, read_then, reads_written}
+use Rattle.volume_pair.specs.Ends.{in_use}
+use Rattle.volume_pair.specs.declared.fault.PairStart.TheVariants.{NoMemory}
+use Rattle.volume_pair.proofs.EndStateLemmas.{reads_early, started_states}
+use Rattle.volume_pair.proofs.StartLemmas.{bare_clean, early_outside, first_side, in_use_valid, paired, read_then}
 use Rattle.volume_pair.proofs.pair.Pair.over.Goals as goal
 
 pub returns-in-Err-clause-stands : goal.returns-in-Err-clause-stands
@@ -12,21 +15,21 @@ returns-in-Err-clause-stands g c = λ d e first second sound also.
     early_outside d e (g.met.D.Disk.in_form c.args.from d first) (g.met.E.Disk.in_form c.args.to e second) sound also c.in-Err.why c.in-Err.ensures.early (c.in-Err.ensures.read d e first second)
 
 pub returns-in-Err-clause-to : goal.returns-in-Err-clause-to
-returns-in-Err-clause-to g c = reads_written c.roots.ensures.to_reads
+returns-in-Err-clause-to g c = reads_early _ c.roots.ensures.to_reads
 
 pub returns-in_default-clause-to : goal.returns-in_default-clause-to
-returns-in_default-clause-to g c = reads_written c.roots.ensures.to_reads
+returns-in_default-clause-to g c = reads_early _ c.roots.ensures.to_reads
 
 pub returns-in-Err-frames_over-clause-to : goal.returns-in-Err-frames_over-clause-to
-returns-in-Err-frames_over-clause-to g c = reads_written c.roots.ensures.to_reads
+returns-in-Err-frames_over-clause-to g c = reads_early _ c.roots.ensures.to_reads
 
 pub returns-in-Err-frames_over-2-clause-to : goal.returns-in-Err-frames_over-2-clause-to
-returns-in-Err-frames_over-2-clause-to g c = rw c.in-Err-frames_over-2.ensures.disk (reads_written c.roots.ensures.to_reads)
+returns-in-Err-frames_over-2-clause-to g c = rw c.in-Err-frames_over-2.ensures.disk (reads_early NoMemory c.roots.ensures.to_reads)
 
 pub returns-in-Ok-put_in_use-clause-stands : goal.returns-in-Ok-put_in_use-clause-stands
 returns-in-Ok-put_in_use-clause-stands g c = λ d e first second sound also.
     let v = view_of c.in-Ok-frames_over.filer in
-    let root = c.in-Ok.ensures.read d e first second in
+    let root = (c.in-Ok.ensures.read d e first second).0 in
     let started = c.in-Ok-put_in_use.ensures.started e (ap (λ x. (g.E.Disk.state x).contents) c.in-Ok-frames_over-2.ensures.disk ∙ c.roots.ensures.to_reads.only.contents ∙ second) also root in
     let long = g.met.D.Disk.whole c.args.from d first ∙ sym c.in-Ok.ensures.laid.0.1 ∙ ap (λ (l : Layout). l.sectors) (sym c.in-Ok-frames_over.ensures.layout) in
     let side = first_side v d (g.met.D.Disk.in_form c.args.from d first) sound long c.in-Ok-frames_over.ensures.bare (c.in-Ok-frames_over.ensures.no_runs v.layout.sectors)
@@ -50,14 +53,31 @@ returns-in-Ok-put_in_use-clause-in_use g c =
 
 pub returns-in-Ok-put_in_use-clause-to : goal.returns-in-Ok-put_in_use-clause-to
 returns-in-Ok-put_in_use-clause-to g c =
-    read_then (view_of c.in-Ok-frames_over-2.filer) (view_of c.put_in_use.new.filer) (subst (λ x. ReadsAtMost 1 (g.E.Disk.state c.args.to) (g.E.Disk.state x)) (sym c.in-Ok-frames_over-2.ensures.disk) c.roots.ensures.to_reads) c.in-Ok-frames_over-2.ensures.bare
-    c.put_in_use.ensures.writes
+    let reads = subst (λ x. ReadsAtMost 1 (g.E.Disk.state c.args.to) (g.E.Disk.state x)) (sym c.in-Ok-frames_over-2.ensures.disk) c.roots.ensures.to_reads in
+    let all = read_then (view_of c.in-Ok-frames_over-2.filer) (view_of c.put_in_use.new.filer) reads c.in-Ok-frames_over-2.ensures.bare c.put_in_use.ensures.writes in
+    record {
+      labels = all.labels;
+      went = all.went;
+      wrote = all.wrote;
+      crash_states = λ e revealed sound. started_states reads (λ d here also. c.put_in_use.ensures.crash_states d here also (c.in-Ok.ensures.root d (sym reads.only.contents ∙ here))) e revealed sound;
+    }
 
 pub returns-in-Err-put_in_use-clause-stands : goal.returns-in-Err-put_in_use-clause-stands
 returns-in-Err-put_in_use-clause-stands g c = λ d e first second sound also.
-    c.in-Err-put_in_use.ensures.started e (ap (λ x. (g.E.Disk.state x).contents) c.in-Ok-frames_over-2.ensures.disk ∙ c.roots.ensures.to_reads.only.contents ∙ second) also (c.in-Ok.ensures.read d e first second)
+    c.in-Err-put_in_use.ensures.started e (ap (λ x. (g.E.Disk.state x).contents) c.in-Ok-frames_over-2.ensures.disk ∙ c.roots.ensures.to_reads.only.contents ∙ second) also (c.in-Ok.ensures.read d e first second).0
 
 pub returns-in-Err-put_in_use-clause-to : goal.returns-in-Err-put_in_use-clause-to
 returns-in-Err-put_in_use-clause-to g c =
-    rw c.into_disk-in-Err-put_in_use-2.ensures (read_then (view_of c.in-Ok-frames_over-2.filer) (view_of c.put_in_use.new.filer) (subst (λ x. ReadsAtMost 1 (g.E.Disk.state c.args.to) (g.E.Disk.state x)) (sym c.in-Ok-frames_over-2.ensures.disk) c.roots.ensures.to_reads) c.in-Ok-frames_over-2.ensures.bare
-    c.put_in_use.ensures.writes)
+    let reads = subst (λ x. ReadsAtMost 1 (g.E.Disk.state c.args.to) (g.E.Disk.state x)) (sym c.in-Ok-frames_over-2.ensures.disk) c.roots.ensures.to_reads in
+    rw c.into_disk-in-Err-put_in_use-2.ensures (record {
+      written = read_then (view_of c.in-Ok-frames_over-2.filer) (view_of c.put_in_use.new.filer) reads c.in-Ok-frames_over-2.ensures.bare
+          c.put_in_use.ensures.writes;
+      early = λ none. absurd none;
+      crash_states = λ e revealed sound. started_states reads (λ d here also. c.put_in_use.ensures.crash_states d here also (c.in-Ok.ensures.root d (sym reads.only.contents ∙ here))) e revealed sound;
+    })
+
+pub returns-in-Ok-put_in_use-clause-root : goal.returns-in-Ok-put_in_use-clause-root
+returns-in-Ok-put_in_use-clause-root g c = λ d e first second. c.in-Ok-put_in_use.ensures.volume.1 ∙ ap in_use (c.in-Ok.ensures.read d e first second).0
+
+pub returns-in-Ok-put_in_use-clause-refused : goal.returns-in-Ok-put_in_use-clause-refused
+returns-in-Ok-put_in_use-clause-refused g c = λ d e first second. let read = c.in-Ok.ensures.read d e first second in (read.1, read.2)
