@@ -1,0 +1,11 @@
+pub mod LineLemmas
+pub mod GoingLemmas
+pub mod TurnLemmas
+pub mod EndLemmas
+pub mod WroteLemmas
+pub mod LeftLemmas
+pub mod StateLemmas
+pub mod ClosingLemmas
+pub mod CarryLemmas
+pub mod LeaveLemmas
+pub mod ReplicationLemmas

@@ -1,0 +1,9 @@
+pub mod Lines
+pub mod Ended
+pub mod Second
+pub mod Causes
+pub mod Pairs
+pub mod Turn
+pub mod Ending
+pub mod Closing
+pub mod Replicated

@@ -1,0 +1,64 @@
+-- What a replication does, of disks and streams together.
+use Rattle.std.specs.Prelude.{◌≡◌, ◌≤◌, ◌+◌, ℕ, List, ◌++◌, length, Option, Some}
+use Rattle.labelled_disk.specs.Sectors.{Sector}
+use Rattle.labelled_disk.specs.State.{DiskState}
+use Rattle.pair_machine.specs.Pair.{Pair}
+use Rattle.pair_machine.specs.declared.call.PairReply.{PairReply}
+use Rattle.trace_io.specs.PairReading.{pair_reading}
+use Rattle.volume_pair.specs.CrashStates.{CrashStatesOf}
+use Rattle.volume_pair.specs.Kept.{IsOnlyRead, IsRootOf}
+use Rattle.volume_root.specs.Sound.{Sound}
+use Rattle.pair_session.specs.Causes.{HasReason, IfHalted, IsJudged, IsPermitted, IsShown, ShowsHalt, WroteSecond}
+use Rattle.pair_session.specs.Ended.{Ended}
+use Rattle.pair_session.specs.Lines.{Answers, AreTo, Item}
+use Rattle.pair_session.specs.Pairs.{PairView, StandsFor}
+use Rattle.pair_session.specs.Second.{EndsAfter, IsAfter, Leaves, Replicates, begun}
+use Rattle.pair_session.specs.declared.outcome.Outcome.{Outcome}
+use Rattle.pair_session.specs.declared.outcome.Outcome.TheVariants as outcome
+
+-- what source and sink reveal, and how often each failed
+pub record Streams : Type 0 where
+  pub left : Option (List ℕ)
+  pub source_faults : ℕ
+  pub took : Option (List ℕ)
+  pub sink_faults : ℕ
+
+abbrev pub streams : Option (List ℕ) → ℕ → Option (List ℕ) → ℕ → Streams
+streams left source_faults took sink_faults = record { left = left; source_faults = source_faults; took = took; sink_faults = sink_faults }
+
+abbrev pub reasons : Outcome → Streams → Streams → Type 0
+reasons how before after = HasReason how before.left before.source_faults after.source_faults before.sink_faults after.sink_faults
+
+-- a pair was started
+abbrev pub IsStarted : Outcome → Type 0
+IsStarted (outcome.NotStarted why) = ⊥
+IsStarted how = Unit {0}
+
+-- A pair that may be asked answered lines, whatever source and sink reveal, and was ended.
+pub record Carries (how : Outcome) (v : PairView) (before after : Streams) (from to : DiskState) : Type 0 where
+  pub items : List Item
+  pub replies : List PairReply
+  pub suit : AreTo items replies
+  pub lines : List Item
+  pub few : length lines ≤ length items + begun how
+  pub leads : (p : Pair) → StandsFor v p → Answers p items replies × ((d : List Sector) → IsRootOf d v.volume.root → Leaves how d p items to)
+  pub crash_states : (p : Pair) → StandsFor v p → (d : List Sector) → IsRootOf d v.volume.root → CrashStatesOf (IsAfter d p lines) (length lines) v.to.disk to
+  pub halts : (p : Pair) → StandsFor v p → (d : List Sector) → IsRootOf d v.volume.root → IfHalted how (λ why. EndsAfter d p lines (length items) (length lines) to)
+  pub text : (b t : List ℕ) → before.left ≡ Some b → before.took ≡ Some t → (more : List Item) × (pair_reading b ≡ lines ++ more)
+  pub ended : (b t : List ℕ) → before.left ≡ Some b → before.took ≡ Some t → Ended how b after.left t after.took (λ is rs. (is ≡ items) × (rs ≡ replies))
+  pub first : IsOnlyRead v.from.disk from
+  pub second : IsPermitted v.to.disk to
+  pub halted : IfHalted how (ShowsHalt v.from.disk v.to.disk from to)
+  pub reason : reasons how before after
+  pub started : IsStarted how
+
+-- A replication over both disks and both streams.
+pub record Replicated (how : Outcome) (from to : DiskState) (before : Streams) (new_from new_to : DiskState) (after : Streams) : Type 0 where
+  pub replies : (d e : List Sector) (b t : List ℕ) → from.contents ≡ Some d → to.contents ≡ Some e → Sound d → Sound e → before.left ≡ Some b → before.took ≡ Some t
+      → Ended how b after.left t after.took (Replicates how d e (pair_reading b) to new_to)
+  pub texts : (b t : List ℕ) → before.left ≡ Some b → before.took ≡ Some t → Ended how b after.left t after.took AreTo
+  pub judged : (d e : List Sector) → from.contents ≡ Some d → to.contents ≡ Some e → IsJudged how d e
+  pub first : IsOnlyRead from new_from
+  pub second : WroteSecond how to new_to
+  pub seen : IsShown how from to new_from new_to
+  pub reason : reasons how before after
