@@ -7,7 +7,7 @@ use Rattle.command_words.specs.Plain.{ArePlain, flat, said}
 use Rattle.command_words.specs.declared.words.Command.{Command}
 use Rattle.command_words.specs.declared.words.Command.TheVariants as command
 use Rattle.command_words.proofs.FoundLemmas.{number_bounded, taken_bounded}
-use Rattle.command_words.proofs.OptionLemmas.{IsOf, calls_of_trial, counter_of_format, frames_of_processes, frames_of_run, frames_of_trial, has_options, queue_of_run, seed_of_trial, serial_of_format}
+use Rattle.command_words.proofs.OptionLemmas.{IsOf, calls_of_trial, counter_of_format, frames_alone, frames_of_run, frames_of_trial, has_options, queue_of_run, seed_of_trial, serial_of_format}
 use Rattle.command_words.proofs.PlainLemmas.{number_said, pairs_taken}
 use Rattle.command_words.proofs.Walks.{IsPlainApp}
 
@@ -32,10 +32,18 @@ plain_means texts c plain =
 pub same_name : (texts : List Text) (first second : Text) (rest other : List Text) → texts ≡ first ∷ rest → texts ≡ second ∷ other → first ≡ second
 same_name texts first second rest other is also = ap (λ (l : List Text). get_or l 0 []) (sym is ∙ also)
 
+-- names that differ in their first letter are not both the name that texts begin with
+other_first : {A : Type 0} (texts : List Text) (first second : Text) (rest other : List Text) → texts ≡ first ∷ rest → texts ≡ second ∷ other
+    → ¬ get_or first 0 0 ≡ get_or second 0 0 → A
+other_first texts first second rest other is also apart = absurd (apart (ap (λ (t : Text). get_or t 0 0) (same_name texts first second rest other is also)))
+
 -- texts mean one command
 pub one_meaning : (texts : List Text) (c d : Command) → AreMeant texts c → AreMeant texts d → c ≡ d
 one_meaning texts (command.Run n q) (command.Run m r) a b = let e : n ∷ q ∷ [] ≡ m ∷ r ∷ [] = a.numbers ∙ sym b.numbers in cc
 one_meaning texts (command.Processes n) (command.Processes m) a b = let e : n ∷ [] ≡ m ∷ [] = a.numbers ∙ sym b.numbers in cc
+one_meaning texts (command.Replicate n) (command.Replicate m) a b = let e : n ∷ [] ≡ m ∷ [] = a.numbers ∙ sym b.numbers in cc
+one_meaning texts (command.Processes n) (command.Replicate m) a b = other_first texts _ _ a.named.0 b.named.0 a.named.1 b.named.1 (λ e. omega (arith, e))
+one_meaning texts (command.Replicate n) (command.Processes m) a b = other_first texts _ _ a.named.0 b.named.0 a.named.1 b.named.1 (λ e. omega (arith, e))
 one_meaning texts (command.Format s k) (command.Format t l) a b = let e : s ∷ k ∷ [] ≡ t ∷ l ∷ [] = a.numbers ∙ sym b.numbers in cc
 one_meaning texts command.Scavenge command.Scavenge a b = refl
 one_meaning texts command.Convert command.Convert a b = refl
@@ -57,7 +65,11 @@ meant_in_range texts (command.Run n q) meant =
     subst (AreInRange (frames ∷ queue ∷ [])) (sym meant.numbers) (a.0, a.1, (b.0, b.1, tt))
 meant_in_range texts (command.Processes n) meant =
     let app = (has_options (command.Processes n)).plain in
-    let a = number_in_range (codes "processes") (frames ∷ []) frames app frames_of_processes texts meant.taken in
+    let a = number_in_range (codes "processes") (frames ∷ []) frames app frames_alone texts meant.taken in
+    subst (AreInRange (frames ∷ [])) (sym meant.numbers) (a.0, a.1, tt)
+meant_in_range texts (command.Replicate n) meant =
+    let app = (has_options (command.Replicate n)).plain in
+    let a = number_in_range (codes "replicate") (frames ∷ []) frames app frames_alone texts meant.taken in
     subst (AreInRange (frames ∷ [])) (sym meant.numbers) (a.0, a.1, tt)
 meant_in_range texts (command.Format s k) meant =
     let app = (has_options (command.Format s k)).plain in

@@ -39,6 +39,18 @@ processes_frames : IsOption (built (parser_with (codes "processes") (frames ∷ 
 unfolding clap_on_literals
 processes_frames = record { by_long = refl; by_id = refl; id = refl; values = refl; most = refl; least = refl; set = refl; reading = refl; word = refl; dashes = refl }
 
+replicate_is_free : is_simple_and_free (parser_with (codes "replicate") (frames ∷ [])) ≡ true
+unfolding clap_on_literals
+replicate_is_free = refl
+
+replicate_is_plain : IsPlainApp (parser_with (codes "replicate") (frames ∷ []))
+unfolding clap_on_literals
+replicate_is_plain = record { simple = refl; leaf = refl; named = refl; defaults_pass = refl; no_defaults = refl; valid = λ rows. refl }
+
+replicate_frames : IsOption (built (parser_with (codes "replicate") (frames ∷ []))).top (codes "frames") (rule_named (frames ∷ []) (codes "frames"))
+unfolding clap_on_literals
+replicate_frames = record { by_long = refl; by_id = refl; id = refl; values = refl; most = refl; least = refl; set = refl; reading = refl; word = refl; dashes = refl }
+
 format_is_free : is_simple_and_free (parser_with (codes "format") (serial ∷ counter ∷ [])) ≡ true
 unfolding clap_on_literals
 format_is_free = refl
@@ -95,6 +107,7 @@ trial_frames = record { by_long = refl; by_id = refl; id = refl; values = refl; 
 pub has_options : (c : Command) → HasOptions (name_of c) (options_of c)
 has_options (command.Run n q) = record { plain = run_is_plain; free = run_is_free; each = (run_frames, lit< tt, (run_queue, lit< tt, tt)) }
 has_options (command.Processes n) = record { plain = processes_is_plain; free = processes_is_free; each = (processes_frames, lit< tt, tt) }
+has_options (command.Replicate n) = record { plain = replicate_is_plain; free = replicate_is_free; each = (replicate_frames, lit< tt, tt) }
 has_options (command.Format s k) = record { plain = format_is_plain; free = format_is_free; each = (format_serial, lit< tt, (format_counter, lit< tt, tt)) }
 has_options command.Scavenge = record { plain = scavenge_is_plain; free = scavenge_is_free; each = tt }
 has_options command.Convert = record { plain = convert_is_plain; free = convert_is_free; each = tt }
@@ -133,8 +146,8 @@ queue_of_run = record {
   small = omega arith;
 }
 
-pub frames_of_processes : IsOf (frames ∷ []) frames
-frames_of_processes = record { one = ((λ e. (refl, refl)), tt); own = own_frames; low = omega arith; high = omega arith; small = omega arith }
+pub frames_alone : IsOf (frames ∷ []) frames
+frames_alone = record { one = ((λ e. (refl, refl)), tt); own = own_frames; low = omega arith; high = omega arith; small = omega arith }
 
 pub serial_of_format : IsOf (serial ∷ counter ∷ []) serial
 serial_of_format = record {

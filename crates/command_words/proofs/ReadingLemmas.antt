@@ -1,5 +1,5 @@
 -- What a parse makes of words.
-use Rattle.std.proofs.Common.{◌≡◌, ◌∙◌, ◌≤◌, ap, sym, subst, refl, ℕ, true, false, List, [], Option, Some, None, arith, length}
+use Rattle.std.proofs.Common.{◌≡◌, ◌∙◌, ◌≤◌, ap, sym, subst, refl, ℕ, true, false, List, [], Option, Some, None, arith, length, get_or}
 use Rattle.std.specs.Option.{option_map_or}
 use Rattle.clap.proofs.WalkLemmas.{one_text-rows}
 use Rattle.clap.specs.Built.{IsParsedFrom}
@@ -59,6 +59,9 @@ module _ (parser : Parser) (m : ArgMatches) (texts : List Text) (name : Text) (o
 same_parser : (c d : Command) → name_of c ≡ name_of d → parser_of c ≡ parser_of d
 same_parser (command.Run n q) (command.Run m r) e = refl
 same_parser (command.Processes n) (command.Processes m) e = refl
+same_parser (command.Replicate n) (command.Replicate m) e = refl
+same_parser (command.Processes n) (command.Replicate m) e = let l = ap (λ (t : Text). get_or t 0 0) e in absurd (omega (arith, l))
+same_parser (command.Replicate n) (command.Processes m) e = let l = ap (λ (t : Text). get_or t 0 0) e in absurd (omega (arith, l))
 same_parser (command.Format s k) (command.Format t l) e = refl
 same_parser command.Scavenge command.Scavenge e = refl
 same_parser command.Convert command.Convert e = refl

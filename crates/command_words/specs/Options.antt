@@ -43,6 +43,7 @@ calls = record { name = codes "calls"; least = 0; most = 1000000; otherwise = 10
 abbrev pub name_of : Command → Text
 name_of (command.Run n q) = codes "run"
 name_of (command.Processes n) = codes "processes"
+name_of (command.Replicate n) = codes "replicate"
 name_of (command.Format s c) = codes "format"
 name_of command.Scavenge = codes "scavenge"
 name_of command.Convert = codes "convert"
@@ -52,6 +53,7 @@ name_of (command.Trial s n f) = codes "trial"
 abbrev pub options_of : Command → List NumberOption
 options_of (command.Run n q) = frames ∷ queue ∷ []
 options_of (command.Processes n) = frames ∷ []
+options_of (command.Replicate n) = frames ∷ []
 options_of (command.Format s c) = serial ∷ counter ∷ []
 options_of command.Scavenge = []
 options_of command.Convert = []
@@ -61,6 +63,7 @@ options_of (command.Trial s n f) = seed ∷ calls ∷ frames ∷ []
 abbrev pub numbers_of : Command → List ℕ
 numbers_of (command.Run n q) = n ∷ q ∷ []
 numbers_of (command.Processes n) = n ∷ []
+numbers_of (command.Replicate n) = n ∷ []
 numbers_of (command.Format s c) = s ∷ c ∷ []
 numbers_of command.Scavenge = []
 numbers_of command.Convert = []

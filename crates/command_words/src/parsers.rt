@@ -49,6 +49,15 @@ pub(crate) fn processes_parser<'a>(alloc: Global) -> Result<Command<'a>, AllocEr
         .arg(frames_option(alloc))
 }
 
+/// The options of `replicate`.
+pub(crate) fn replicate_parser<'a>(alloc: Global) -> Result<Command<'a>, AllocError>
+    ensures { IfOk result (λ c. app_of c ≡ parser_with (codes "replicate") (frames ∷ [])) }
+{
+    Command::new(alloc, "replicate")
+        .disable_help_flag(true)
+        .arg(frames_option(alloc))
+}
+
 /// The options of `format`.
 pub(crate) fn format_parser<'a>(alloc: Global) -> Result<Command<'a>, AllocError>
     ensures { IfOk result (λ c. app_of c ≡ parser_with (codes "format") (serial ∷ counter ∷ [])) }

@@ -6,8 +6,8 @@ ghost use Rattle.command_words.specs.Meaning.{IsNoCommand, Means, Names};
 ghost use Rattle.command_words.specs.Options.{IsInRange};
 
 use crate::parsers::{
-    convert_parser, format_parser, number_or, processes_parser, read, run_parser, scavenge_parser,
-    trial_parser,
+    convert_parser, format_parser, number_or, processes_parser, read, replicate_parser, run_parser,
+    scavenge_parser, trial_parser,
 };
 use crate::refusal::Refused;
 use std::alloc::Global;
@@ -19,6 +19,8 @@ pub enum Command {
     Run { frames: u32, queue: u32 },
     /// Answers the events of up to 16 clients on a volume.
     Processes { frames: u32 },
+    /// Copies immutable files to a second volume.
+    Replicate { frames: u32 },
     /// Makes a volume.
     Format { serial: u32, counter: u32 },
     /// Restores a volume from its labels.
@@ -54,6 +56,19 @@ fn processes_of(alloc: Global, words: &[String]) -> Result<Command, Refused>
     let matches = read(parser, words)?;
     let frames = number_or(&matches, "frames", 64);
     Ok(Command::Processes { frames })
+}
+
+// The command `replicate` with these words.
+fn replicate_of(alloc: Global, words: &[String]) -> Result<Command, Refused>
+    requires named { (rest : List Text) × (map string_bytes words.now ≡ codes "replicate" ∷ rest) }
+    ensures meant { IfOk result (Means words.now) }
+    ensures range { IfOk result IsInRange }
+    ensures refused { result ≡ Err Refused.Usage → IsNoCommand words.now }
+{
+    let parser = replicate_parser(alloc)?;
+    let matches = read(parser, words)?;
+    let frames = number_or(&matches, "frames", 64);
+    Ok(Command::Replicate { frames })
 }
 
 // The command `format` with these words.
@@ -127,6 +142,7 @@ pub fn command_of(machine: Global, words: &[String]) -> Result<Command, Refused>
     match word.as_str() {
         "run" => run_of(machine, words),
         "processes" => processes_of(machine, words),
+        "replicate" => replicate_of(machine, words),
         "format" => format_of(machine, words),
         "scavenge" => scavenge_of(machine, words),
         "convert" => convert_of(machine, words),

@@ -26,6 +26,12 @@ commands  format   makes an empty volume of the whole disk; what was there is
                    standard input, a line each, and writes what each client
                    gets; a load or a store may wait for its page, and other
                    clients go on meanwhile; option --frames n, as for run
+          replicate OTHER
+                   opens the volume, and that of the image OTHER, to which it
+                   copies immutable files, as lines of standard input say:
+                   copy ID, compare ID and close; it writes a reply to each,
+                   and nothing to the first image; option --frames n, as for
+                   run, for each of the two
           scavenge restores the volume from its labels, and writes a line for
                    each lost sector and the counts
           convert  brings a volume of version 1 or 2 to version 3, with the same

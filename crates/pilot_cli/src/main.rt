@@ -6,6 +6,7 @@ ghost use Rattle.std.specs.Process.{exit_status};
 ghost use Rattle.pilot_top.specs.Status.{exit_of};
 
 mod about;
+mod beside;
 mod images;
 mod reasons;
 
@@ -42,10 +43,14 @@ fn words_of(rt: &HostRuntime) -> Result<Vec<String>, Status> {
         .map_err(|_| Status::NoMemory)
 }
 
-/// Carries out a command on a disk, over the standard streams. Where one of these failed, standard
-/// error gets a line that says which and why.
-fn command<D: Disk>(rt: &HostRuntime, disk: &mut D, words: &[String]) -> Status {
-    let mut other = ImageDisk::<File>::absent();
+/// Carries out a command on a disk and a second one, over the standard streams. Where one of these
+/// failed, standard error gets a line that says which and why.
+fn command<D: Disk, E: Disk>(
+    rt: &HostRuntime,
+    disk: &mut D,
+    other: &mut E,
+    words: &[String],
+) -> Status {
     let mut source = ReaderSource::over(rt.reader());
     let mut sink = WriterSink::over(io::writer(rt));
     let status = pilot(
@@ -53,7 +58,7 @@ fn command<D: Disk>(rt: &HostRuntime, disk: &mut D, words: &[String]) -> Status 
         rt.alloc(),
         words,
         disk,
-        &mut other,
+        other,
         &mut source,
         &mut sink,
     );
@@ -61,6 +66,18 @@ fn command<D: Disk>(rt: &HostRuntime, disk: &mut D, words: &[String]) -> Status 
         reasons::stream_failed(rt, source.trouble(), sink.trouble());
     }
     status
+}
+
+/// The word after `replicate`, where it is the command, is taken out: the image of the second volume.
+fn other_image(words: &mut Vec<String>) -> Option<String> {
+    match words.get(1) {
+        Some(command) if command.as_str() == "replicate" => (),
+        _ => return None,
+    }
+    if words.len() <= 2 {
+        return None;
+    }
+    Some(words.remove(2))
 }
 
 /// Writes a text of the program's own.
@@ -79,7 +96,7 @@ fn asks_for_help(word: &str) -> bool {
 }
 
 fn run(rt: &HostRuntime, held: io::Result<()>) -> Status {
-    let words = match words_of(rt) {
+    let mut words = match words_of(rt) {
         Ok(words) => words,
         Err(Status::Usage) => {
             let _ = reveal(rt, "stopped usage\n");
@@ -91,11 +108,13 @@ fn run(rt: &HostRuntime, held: io::Result<()>) -> Status {
             return status;
         }
     };
+    let other = other_image(&mut words);
+    let other = other.as_ref().map(|word| word.as_str());
     match words.as_slice() {
         [word] if asks_for_help(word.as_str()) => reveal(rt, about::HELP),
         [word] if word.as_str() == "--version" => reveal(rt, about::VERSION),
-        [] => no_command(rt, "", &[]),
-        [image, rest @ ..] => on_image(rt, held, image.as_str(), rest),
+        [] => no_command(rt, "", &[], None),
+        [image, rest @ ..] => on_image(rt, held, image.as_str(), rest, other),
     }
 }
 

@@ -1,19 +1,20 @@
 //! Why a command did not do its work: a line on standard error, for whoever sits there.
 
+use crate::about;
+use crate::beside::beside_none;
 use crate::images::Task;
-use crate::{about, command};
 use command_words::Command;
 use image_disk::{ImageDisk, NoImage};
 use labelled_disk::{Layout, RootFault};
 use pilot_top::Status;
 use std::fs::File;
 use std::io;
-use volume_root::{read_old_root, read_root};
+use volume_root::{Root, read_old_root, read_root};
 
 /// What is said where a command stands in the place of the image.
 fn order(image: &str) -> &'static str {
     match image {
-        "format" | "run" | "processes" | "scavenge" | "convert" | "trial" => {
+        "format" | "run" | "processes" | "replicate" | "scavenge" | "convert" | "trial" => {
             "; the image comes first: pilot IMAGE COMMAND"
         }
         _ => "",
@@ -21,12 +22,20 @@ fn order(image: &str) -> &'static str {
 }
 
 /// The words after the image word mean no command: which words, and how the program is called.
-pub(crate) fn no_command(rt: &HostRuntime, image: &str, words: &[String]) -> Status {
-    let status = command(rt, &mut ImageDisk::<File>::absent(), words);
+pub(crate) fn no_command(
+    rt: &HostRuntime,
+    image: &str,
+    words: &[String],
+    other: Option<&str>,
+) -> Status {
+    let status = beside_none(rt, &mut ImageDisk::<File>::absent(), words);
     let order = order(image);
-    let _ = match words {
-        [] => eprintln!(rt; "pilot: no command"),
-        [_, ..] => eprintln!(rt; "pilot: no command: {words:?}{order}"),
+    let _ = match (words, other) {
+        ([], _) => eprintln!(rt; "pilot: no command"),
+        (_, None) => eprintln!(rt; "pilot: no command: {words:?}{order}"),
+        (_, Some(other)) => eprintln!(rt;
+            "pilot: no command: {words:?}, with the second image {other:?}"
+        ),
     };
     let _ = eprint!(rt; "{}", about::HELP);
     status
@@ -102,15 +111,20 @@ fn what_takes_memory(meant: Command) -> &'static str {
         Command::Run { queue: 0, .. } | Command::Processes { .. } | Command::Trial { .. } => {
             "the frames"
         }
+        Command::Replicate { .. } => "the frames of both",
         Command::Run { .. } => "the frames and the queue",
         Command::Scavenge | Command::Convert => "labels and maps",
         _ => "the words",
     }
 }
 
-fn too_long(rt: &HostRuntime) {
+fn too_long(rt: &HostRuntime, meant: Command) {
+    let last = match meant {
+        Command::Replicate { .. } => "close",
+        _ => "close or halt",
+    };
     let _ = eprintln!(rt;
-        "pilot: standard input: 4294967296 bytes, and no line close or halt whole in them"
+        "pilot: standard input: 4294967296 bytes, and no line {last} whole in them"
     );
 }
 
@@ -124,17 +138,20 @@ fn beside(fault: RootFault) -> &'static str {
     }
 }
 
+/// A disk in memory of so many sectors has no volume.
+pub(crate) fn not_in_memory(rt: &HostRuntime, sectors: u32) {
+    let _ = match Layout::of(sectors) {
+        Err(fault) => eprintln!(rt; "pilot: {fault}{}", beside(fault)),
+        Ok(_) => eprintln!(rt; "pilot: a disk in memory has no volume until it is formatted"),
+    };
+}
+
 /// A command on a disk in memory of so many sectors did not do its work.
 pub(crate) fn memory_stopped(rt: &HostRuntime, status: Status, sectors: u32, meant: Command) {
-    match (status, Layout::of(sectors)) {
-        (Status::NotOpened, Err(fault)) => {
-            let _ = eprintln!(rt; "pilot: {fault}{}", beside(fault));
-        }
-        (Status::NotOpened, Ok(_)) => {
-            let _ = eprintln!(rt; "pilot: a disk in memory has no volume until it is formatted");
-        }
-        (Status::NoMemory, _) => no_memory(rt, what_takes_memory(meant)),
-        (Status::Long, _) => too_long(rt),
+    match status {
+        Status::NotOpened => not_in_memory(rt, sectors),
+        Status::NoMemory => no_memory(rt, what_takes_memory(meant)),
+        Status::Long => too_long(rt, meant),
         _ => {}
     }
 }
@@ -151,29 +168,32 @@ fn renewal(rt: &HostRuntime, path: &str, version: u16) {
     );
 }
 
-/// The volume was refused: its root is read once more, and the first test of it that fails is revealed.
-fn not_opened(rt: &HostRuntime, task: Task<'_>, disk: &mut ImageDisk<File>) {
-    let root = match task.meant {
-        Command::Convert => read_old_root(disk),
-        _ => read_root(disk, true),
-    };
+/// The volume was refused: its root was read once more, and the first test of it that fails is revealed.
+pub(crate) fn not_opened(rt: &HostRuntime, path: &str, root: Result<Root, RootFault>) {
     match root {
-        Err(RootFault::Unclean) => remedy(rt, task.path, "the volume was not closed"),
-        Err(RootFault::Version(version @ (1 | 2))) => renewal(rt, task.path, version),
+        Err(RootFault::Unclean) => remedy(rt, path, "the volume was not closed"),
+        Err(RootFault::Version(version @ (1 | 2))) => renewal(rt, path, version),
         Err(RootFault::BadCount(sectors)) if Layout::of(sectors).is_ok() => {
             let _ = eprintln!(rt;
-                "pilot: {:?}: an old volume has 256 to 65536 sectors; this disk has {sectors}",
-                task.path
+                "pilot: {path:?}: an old volume has 256 to 65536 sectors; this disk has {sectors}"
             );
         }
         Err(fault) => {
-            let _ = eprintln!(rt; "pilot: {:?}: {fault}{}", task.path, beside(fault));
+            let _ = eprintln!(rt; "pilot: {path:?}: {fault}{}", beside(fault));
         }
         Ok(_) => {}
     }
 }
 
-/// A standard stream failed: whether the volume was left open, and what restores it.
+/// The root by which a command opens a volume.
+fn root_for(meant: Command, disk: &mut ImageDisk<File>) -> Result<Root, RootFault> {
+    match meant {
+        Command::Convert => read_old_root(disk),
+        _ => read_root(disk, true),
+    }
+}
+
+/// Whether the volume was left open, and what restores it.
 fn left_open(rt: &HostRuntime, path: &str, disk: &mut ImageDisk<File>) {
     if let Err(RootFault::Unclean) = read_root(disk, true) {
         remedy(rt, path, "the volume was left open");
@@ -187,6 +207,32 @@ fn unfit(rt: &HostRuntime, path: &str) {
     );
 }
 
+/// The volume is damaged; or the second one is, as the last line then says.
+fn damaged(rt: &HostRuntime, task: Task<'_>) {
+    let path = task.path;
+    if task.other.is_none() {
+        return remedy(rt, path, "the volume is damaged");
+    }
+    let _ = eprintln!(rt;
+        "pilot: {path:?}: the volume is damaged, unless the last line begins with \"stopped other\""
+    );
+}
+
+/// A command did not do its work on a second image file: what failed there, and whether its volume was left open.
+pub(crate) fn other_stopped(
+    rt: &HostRuntime,
+    status: Status,
+    path: &str,
+    disk: &mut ImageDisk<File>,
+) {
+    if let (Status::DiskFault, Some(trouble)) = (status, disk.trouble()) {
+        let _ = eprintln!(rt; "pilot: {path:?}: {trouble}");
+    }
+    if status != Status::Done {
+        left_open(rt, path, disk);
+    }
+}
+
 /// A command on an image file did not do its work.
 pub(crate) fn image_stopped(
     rt: &HostRuntime,
@@ -198,11 +244,11 @@ pub(crate) fn image_stopped(
         (Status::DiskFault, Some(trouble)) => {
             let _ = eprintln!(rt; "pilot: {:?}: {trouble}", task.path);
         }
-        (Status::NotOpened, _) => not_opened(rt, task, disk),
+        (Status::NotOpened, _) => not_opened(rt, task.path, root_for(task.meant, disk)),
         (Status::StreamFault, _) => left_open(rt, task.path, disk),
         (Status::NoMemory, _) => no_memory(rt, what_takes_memory(task.meant)),
-        (Status::Long, _) => too_long(rt),
-        (Status::Damaged, _) => remedy(rt, task.path, "the volume is damaged"),
+        (Status::Long, _) => too_long(rt, task.meant),
+        (Status::Damaged, _) => damaged(rt, task),
         (Status::Unfit, _) => unfit(rt, task.path),
         _ => {}
     }

@@ -330,3 +330,17 @@ module _ (result : Result Converted ConvertFault) (old new : DiskState) (all : I
       no_room_unwritten = λ d revealed none. all.unwritten why.NoMemory is (λ e. cc e);
       complete = λ d revealed volume room disk_held sink_held. inr refl;
     }
+
+    pub reason_without : result ≡ Err why.NoMemory → (words : List (String Global)) → Means words command.Convert → HasReason words status.NoMemory before after
+    reason_without is words means = record {
+      disk = λ e. absurd (cc e);
+      stream = λ e. absurd (cc e);
+      not_opened = λ e. absurd (cc e);
+      count = λ some none. inl refl;
+      long = λ frames queue b other source e. absurd (cc e);
+      long_events = λ frames b other source e. absurd (cc e);
+      long_read = λ e. absurd (cc e);
+      memory = λ e. (all.unwritten why.NoMemory is (λ e. cc e), command.Convert, means.named);
+      damaged = λ e. absurd (cc e);
+      unfit = λ e. absurd (cc e);
+    }

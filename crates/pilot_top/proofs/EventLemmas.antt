@@ -16,7 +16,7 @@ use Rattle.flight_core.specs.declared.flights.Flights.{Flights}
 use Rattle.flight_core.specs.declared.stepped.Stepped.{Ghosts}
 use Rattle.client_events.specs.Answers.{AnswersEach, Item}
 use Rattle.client_events.specs.Ending.{Ended, IsGoing, Leads, LeadsToHalt}
-use Rattle.client_events.specs.declared.outcome.Outcome.{Outcome}
+use Rattle.client_events.specs.Outcome.{Outcome}
 use Rattle.client_events.specs.declared.ending.Ending.{Ending}
 use Rattle.client_events.specs.declared.ending.Ending.TheVariants as ending
 use Rattle.pilot_top.specs.Clients.{Follows, StoppedBy, end_lines, end_of}

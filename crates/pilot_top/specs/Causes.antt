@@ -23,11 +23,16 @@ pub record Understands (words : List (String Global)) (s : Status) (before after
   pub unknown : ((c : Command) → ¬ Names words c) → s ≡ status.Usage
   pub line : s ≡ status.Usage → WritesLast before after cause.Usage
 
--- the command is one that reads the source: a `run` or a `processes`
-abbrev pub ReadsText : List (String Global) → Type 0
-ReadsText words = ((frames : ℕ) × (queue : ℕ) × Means words (command.Run frames queue)) ⊎ ((frames : ℕ) × Means words (command.Processes frames))
+-- the command is a `replicate`, which works on two disks
+abbrev pub AsksForTwo : List (String Global) → Type 0
+AsksForTwo words = (frames : ℕ) × Means words (command.Replicate frames)
 
--- Each status but `Done` and `Usage` has its cause.
+-- the command is one that reads the source: a `run`, a `processes` or a `replicate`
+abbrev pub ReadsText : List (String Global) → Type 0
+ReadsText words =
+    ((frames : ℕ) × (queue : ℕ) × Means words (command.Run frames queue)) ⊎ ((frames : ℕ) × Means words (command.Processes frames)) ⊎ AsksForTwo words
+
+-- Each status but `Done` and `Usage` has its cause, of a command that works on one disk.
 pub record HasReason (words : List (String Global)) (s : Status) (before after : World) : Type 0 where
   pub disk : s ≡ status.DiskFault → DiskFailed before after
   pub stream : s ≡ status.StreamFault → SourceFailed before after ⊎ SinkFailed before after
@@ -48,7 +53,7 @@ pub record HasReason (words : List (String Global)) (s : Status) (before after :
   pub unfit : s ≡ status.Unfit
       → StaysUnwritten before after × Means words command.Convert × (wanted : ℕ) × (capacity before.disk.sectors < wanted) × WritesLast before after (cause.Unfit wanted (capacity before.disk.sectors))
 
--- nothing is taken from the source: the command is one that reads none, or it was not begun, or the volume is refused
+-- nothing is taken from the source: the command is one that reads none, or it was not begun, or the first volume is refused
 abbrev pub TakesNothing : List (String Global) → Status → World → Type 0
 TakesNothing words s before =
     ¬ ReadsText words ⊎ (s ≡ status.Usage) ⊎ (s ≡ status.NotOpened) ⊎ (s ≡ status.NoMemory)

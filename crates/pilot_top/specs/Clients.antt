@@ -18,7 +18,7 @@ use Rattle.client_events.specs.Answers.{Item, AnswersEach, AreTo}
 use Rattle.client_events.specs.Carrying.{MayCarryEach}
 use Rattle.client_events.specs.Dropped.{dropped_line, waiting_clients}
 use Rattle.client_events.specs.Ending.{Ended}
-use Rattle.client_events.specs.declared.outcome.Outcome.{Outcome}
+use Rattle.client_events.specs.Outcome.{Outcome}
 use Rattle.client_events.specs.declared.ending.Ending.{Ending}
 use Rattle.client_events.specs.declared.ending.Ending.TheVariants as ending
 use Rattle.session_words.specs.StandsFor.{RevealsSettled}

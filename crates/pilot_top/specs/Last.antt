@@ -13,6 +13,8 @@ use Rattle.flat_machine.specs.Text.{id_text}
 use Rattle.trace_io.specs.Stream.{IsPrefixOf}
 use Rattle.pilot_top.specs.declared.last.Cause.{Cause}
 use Rattle.pilot_top.specs.declared.last.Cause.TheVariants as cause
+use Rattle.pilot_top.specs.declared.last.OtherCause.{OtherCause}
+use Rattle.pilot_top.specs.declared.last.OtherCause.TheVariants as other
 
 -- the word for what differs from a root
 abbrev pub difference_word : Difference → List ℕ
@@ -39,6 +41,12 @@ evidence_words (evidence.Mismatch sector wanted found) =
 evidence_words (evidence.Malformed structure page) = codes "record " ++ decimal (structure_number structure) ++ codes " " ++ decimal page
 evidence_words (evidence.Missing id page) = codes "missing " ++ id_text id ++ codes " " ++ decimal page
 
+-- what stands after `stopped other `: why it stopped on the second volume
+abbrev pub other_words : OtherCause → List ℕ
+other_words other.DiskFault = codes "disk"
+other_words (other.Damaged e) = codes "damaged " ++ evidence_words e
+other_words (other.Root why) = root_words why
+
 -- the line that says why it stopped
 abbrev pub last_line : Cause → List ℕ
 last_line cause.Usage = codes "stopped usage\n"
@@ -47,6 +55,7 @@ last_line cause.Long = codes "stopped long\n"
 last_line (cause.Damaged e) = codes "stopped damaged " ++ evidence_words e ++ codes "\n"
 last_line (cause.Unfit wanted room) = codes "stopped unfit " ++ decimal wanted ++ codes " " ++ decimal room ++ codes "\n"
 last_line (cause.Root why) = codes "stopped " ++ root_words why ++ codes "\n"
+last_line (cause.Other why) = codes "stopped other " ++ other_words why ++ codes "\n"
 
 -- a sink took the text, or it failed, and took a prefix of it
 abbrev pub Puts : Type 0 → Option (List ℕ) → Option (List ℕ) → List ℕ → Type 0

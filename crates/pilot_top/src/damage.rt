@@ -61,7 +61,8 @@ fn missing_words(id: FileId, page: u32) -> ArrayVec<u8, 80>
     words
 }
 
-fn evidence_words(evidence: Evidence) -> ArrayVec<u8, 80>
+/// What stands after `damaged `: what was read, and where.
+pub(crate) fn evidence_words(evidence: Evidence) -> ArrayVec<u8, 80>
     ensures text { result.items ≡ evidence_words evidence }
     ensures short { length result.items ≤ 72 }
 {

@@ -1,19 +1,22 @@
 //! Carries out scripts over volumes, and writes for each of their sections whether all was as it says.
 #![tactic(auto)]
 
+mod copies;
 mod fickle;
 mod part;
 mod rows;
 mod sector;
 mod stops;
 
+use crate::rows::Disks;
 use anyhow::{Context, Result};
 use std::{env, fs};
 
-/// A section of a script: how many sectors its disk has, what it shows, and its blocks.
+/// A section of a script: how many sectors its disk and the second one have, what it shows, and its blocks.
 #[derive(Clone, Copy)]
 struct Section<'a> {
     sectors: u32,
+    others: u32,
     title: &'a str,
     blocks: &'a str,
 }
@@ -21,8 +24,10 @@ struct Section<'a> {
 fn section_of(text: &str) -> Option<Section<'_>> {
     let (head, blocks) = text.split_once("\n\n")?;
     let (sectors, title) = head.split_once(' ')?;
+    let (sectors, others) = sectors.split_once('+').unwrap_or((sectors, "0"));
     Some(Section {
         sectors: sectors.parse().ok()?,
+        others: others.parse().ok()?,
         title,
         blocks: blocks.trim_end(),
     })
@@ -32,9 +37,14 @@ fn section_of(text: &str) -> Option<Section<'_>> {
 fn wrong_of(rt: &HostRuntime, section: &Section<'_>) -> Result<String> {
     let Section {
         sectors,
+        others,
         blocks,
         ..
     } = *section;
+    let disks = Disks { sectors, others };
+    if let Some((steps, look)) = blocks.split_once("\n\n?&") {
+        return copies::wrong(rt.alloc(), disks, steps, look);
+    }
     if let Some((steps, look)) = blocks.split_once("\n\n?") {
         return stops::wrong(rt.alloc(), sectors, steps, look);
     }
@@ -45,14 +55,14 @@ fn wrong_of(rt: &HostRuntime, section: &Section<'_>) -> Result<String> {
         Some(blocks) => (blocks, true),
         None => (blocks, false),
     };
-    let wrong = rows::wrong_in_memory(rt.alloc(), sectors, blocks, fewer)?;
+    let wrong = rows::wrong_in_memory(rt.alloc(), disks, blocks, fewer)?;
     if !wrong.is_empty() {
         return Ok(wrong);
     }
     if sectors == 0 {
         return Ok(String::new(rt.alloc()));
     }
-    rows::wrong_in_a_file(rt, sectors, blocks)
+    rows::wrong_in_a_file(rt, disks, blocks)
 }
 
 /// Carries out the sections of a script. Each begins with `# `.

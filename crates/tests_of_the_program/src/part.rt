@@ -9,8 +9,8 @@ use std::alloc::{AllocError, Global};
 use std::str::from_utf8;
 use trace_io::{MemorySink, MemorySource, Source};
 
-/// Room for 4,096 frames, and for a restoration of as many sectors.
-const ROOM: u64 = 2_400_000;
+/// Room for 4,096 frames on each of two disks, and for a restoration of as many sectors.
+const ROOM: u64 = 4_800_000;
 
 /// Room for 24 frames, and for such a restoration.
 const LITTLE_ROOM: u64 = 500_000;
@@ -50,7 +50,7 @@ fn push_line(text: &mut String, line: &str) -> Result<(), AllocError> {
 }
 
 impl Part {
-    /// A command, `EXIT WORDS`. A `run` or `processes` without an option has so many frames; elsewhere the word
+    /// A command, `EXIT WORDS`. A `run`, `processes` or `replicate` without an option has so many frames; elsewhere the word
     /// `?` stands for their number.
     pub(crate) fn of_words(alloc: Global, frames: &str, text: &str) -> Result<Part> {
         let (exit, given) = match text.split_once(' ') {
@@ -63,7 +63,7 @@ impl Part {
                 let word = if word == "?" { frames } else { word };
                 words.push(String::from_str(alloc, word)?)?;
             }
-            if matches!(given, "run" | "processes") {
+            if matches!(given, "run" | "processes" | "replicate") {
                 words.push(String::from_str(alloc, "--frames")?)?;
                 words.push(String::from_str(alloc, frames)?)?;
             }
@@ -159,15 +159,25 @@ impl Part {
         Ok(())
     }
 
-    /// Carries the command out.
+    /// Carries the command out on a disk, beside a second one of no sector.
     pub(crate) fn carry_out<D: Disk>(
         &self,
         alloc: Global,
         disk: &mut D,
         fails: Fails,
     ) -> Result<Ended> {
+        self.carry_out_beside(alloc, disk, &mut MemoryDisk::new(alloc, 0)?, fails)
+    }
+
+    /// Carries the command out on a disk, beside a second one.
+    pub(crate) fn carry_out_beside<D: Disk, E: Disk>(
+        &self,
+        alloc: Global,
+        disk: &mut D,
+        other: &mut E,
+        fails: Fails,
+    ) -> Result<Ended> {
         let heap = LocalHeap::new(alloc, self.room as usize)?;
-        let mut other = MemoryDisk::new(alloc, 0)?;
         let mut source = MemorySource::new(alloc, self.trace.as_bytes(), &[fails.source])?;
         let mut sink = MemorySink::new(alloc, 1_000_000, &[fails.sink])?;
         let status = pilot(
@@ -175,7 +185,7 @@ impl Part {
             &heap,
             &self.words,
             disk,
-            &mut other,
+            other,
             &mut source,
             &mut sink,
         );
@@ -198,16 +208,21 @@ impl Part {
     }
 
     /// Carries the command out as its rows say.
-    fn end<D: Disk>(&self, alloc: Global, disk: &mut D) -> Result<Ended> {
+    fn end<D: Disk, E: Disk>(&self, alloc: Global, disk: &mut D, other: &mut E) -> Result<Ended> {
         match self.fickle {
             Some(fickle) => self.carry_out(alloc, &mut FickleDisk { disk, fickle }, self.fails),
-            None => self.carry_out(alloc, disk, self.fails),
+            None => self.carry_out_beside(alloc, disk, other, self.fails),
         }
     }
 
     /// What the command did where it did not do what its rows say; else no text.
-    pub(crate) fn wrong<D: Disk>(&self, alloc: Global, disk: &mut D) -> Result<String> {
-        let ended = self.end(alloc, disk)?;
+    pub(crate) fn wrong<D: Disk, E: Disk>(
+        &self,
+        alloc: Global,
+        disk: &mut D,
+        other: &mut E,
+    ) -> Result<String> {
+        let ended = self.end(alloc, disk, other)?;
         if self.is(&ended) {
             return Ok(String::new(alloc));
         }

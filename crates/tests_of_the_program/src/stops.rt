@@ -57,7 +57,7 @@ struct Reached {
     wrong: String,
 }
 
-fn lines_of(text: &str) -> usize {
+pub(crate) fn lines_of(text: &str) -> usize {
     text.lines().count()
 }
 
@@ -102,7 +102,11 @@ fn carry_out(
 
 /// Restores a volume twice, and gives what a run then answers, each line ended by a bar; or what the second restoration writes where
 /// it frees a sector.
-fn restored(alloc: Global, disk: &mut MemoryDisk<Global>, look: &Part) -> Result<String> {
+pub(crate) fn restored(
+    alloc: Global,
+    disk: &mut MemoryDisk<Global>,
+    look: &Part,
+) -> Result<String> {
     let none = Fails { source: 0, sink: 0 };
     let scavenge = Part::of_words(alloc, "24", "0 scavenge")?;
     let _ = scavenge.carry_out(alloc, disk, none)?;
@@ -121,7 +125,7 @@ fn restored(alloc: Global, disk: &mut MemoryDisk<Global>, look: &Part) -> Result
 }
 
 /// Whether the answer, `LEAST MOST TEXT`, is this one, and so many lines may have been answered before it.
-fn is_answer(answer: &str, lines: usize, text: &str) -> Result<bool> {
+pub(crate) fn is_answer(answer: &str, lines: usize, text: &str) -> Result<bool> {
     let (least, rest) = answer.split_once(' ').context("no least number")?;
     let (most, wanted) = rest.split_once(' ').context("no greatest number")?;
     Ok(least.parse::<usize>()? <= lines && lines <= most.parse()? && wanted == text)

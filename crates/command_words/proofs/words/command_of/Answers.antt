@@ -12,9 +12,16 @@ returns-in-run-clause-unknown c none =
 pub processes_of-requires : goal.processes_of-requires
 processes_of-requires c = record { named = first_named c.args.words.now c.first.result c.in-Some.word c.as_str.result.now _ c.first.ensures.value c.in-Some.is c.as_str.ensures.value c.in-processes.is }
 
+pub replicate_of-requires : goal.replicate_of-requires
+replicate_of-requires c = record { named = first_named c.args.words.now c.first.result c.in-Some.word c.as_str.result.now _ c.first.ensures.value c.in-Some.is c.as_str.ensures.value c.in-replicate.is }
+
 pub returns-in-processes-clause-unknown : goal.returns-in-processes-clause-unknown
 returns-in-processes-clause-unknown c none =
     absurd (none (command.Processes 64) (first_named c.args.words.now c.first.result c.in-Some.word c.as_str.result.now _ c.first.ensures.value c.in-Some.is c.as_str.ensures.value c.in-processes.is))
+
+pub returns-in-replicate-clause-unknown : goal.returns-in-replicate-clause-unknown
+returns-in-replicate-clause-unknown c none =
+    absurd (none (command.Replicate 64) (first_named c.args.words.now c.first.result c.in-Some.word c.as_str.result.now _ c.first.ensures.value c.in-Some.is c.as_str.ensures.value c.in-replicate.is))
 
 pub format_of-requires : goal.format_of-requires
 format_of-requires c = record { named = first_named c.args.words.now c.first.result c.in-Some.word c.as_str.result.now _ c.first.ensures.value c.in-Some.is c.as_str.ensures.value c.in-format.is }
@@ -49,6 +56,9 @@ returns-in-run-clause-memory c is = (command.Run 64 0, first_named c.args.words.
 
 pub returns-in-processes-clause-memory : goal.returns-in-processes-clause-memory
 returns-in-processes-clause-memory c is = (command.Processes 64, first_named c.args.words.now c.first.result c.in-Some.word c.as_str.result.now _ c.first.ensures.value c.in-Some.is c.as_str.ensures.value c.in-processes.is)
+
+pub returns-in-replicate-clause-memory : goal.returns-in-replicate-clause-memory
+returns-in-replicate-clause-memory c is = (command.Replicate 64, first_named c.args.words.now c.first.result c.in-Some.word c.as_str.result.now _ c.first.ensures.value c.in-Some.is c.as_str.ensures.value c.in-replicate.is)
 
 pub returns-in-format-clause-memory : goal.returns-in-format-clause-memory
 returns-in-format-clause-memory c is = (command.Format 1 1, first_named c.args.words.now c.first.result c.in-Some.word c.as_str.result.now _ c.first.ensures.value c.in-Some.is c.as_str.ensures.value c.in-format.is)

@@ -1,6 +1,6 @@
 use Rattle.std.proofs.Common.{◌∙◌, ap, Err}
 use Rattle.volume_convert.specs.declared.fault.ConvertFault.{ConvertFault}
-use Rattle.pilot_top.proofs.ConvertingLemmas.{converted_done, converted_unheard, converted_failed, converted_refused, converted_unfit, converted_without, reason_refused, reason_unfit}
+use Rattle.pilot_top.proofs.ConvertingLemmas.{converted_done, converted_unheard, converted_failed, converted_refused, converted_unfit, converted_without, reason_refused, reason_unfit, reason_without}
 use Rattle.pilot_top.proofs.converting.convert_volume.Goals as goal
 
 pub returns-in-Ok-put-clause-converts : goal.returns-in-Ok-put-clause-converts
@@ -35,3 +35,7 @@ returns-in-Disk-clause-converts g c left faults =
 pub returns-in-NoMemory-clause-converts : goal.returns-in-NoMemory-clause-converts
 returns-in-NoMemory-clause-converts g c left faults =
     converted_without c.convert.result (g.D.Disk.state c.args.disk.now) (g.D.Disk.state c.convert.new.disk) c.convert.ensures (g.met.D.Disk.whole c.args.disk.now) left faults _ _ _ _ (c.in-Err.is ∙ ap (λ (x : ConvertFault). Err x) c.in-NoMemory.is)
+
+pub returns-in-NoMemory-clause-cause : goal.returns-in-NoMemory-clause-cause
+returns-in-NoMemory-clause-cause g c words means left faults =
+    reason_without c.convert.result (g.D.Disk.state c.args.disk.now) (g.D.Disk.state c.convert.new.disk) c.convert.ensures (g.met.D.Disk.whole c.args.disk.now) left faults _ _ _ _ (c.in-Err.is ∙ ap (λ (x : ConvertFault). Err x) c.in-NoMemory.is) words means

@@ -17,3 +17,8 @@ pub returns-in-Unfit-clause-put : goal.returns-in-Unfit-clause-put
 returns-in-Unfit-clause-put g c =
     let put = c.put-in-Unfit.ensures in
     puts c.put-in-Unfit.result _ _ _ c.deref-in-Unfit.result.now (last_line c.args.cause) (c.deref-in-Unfit.ensures.0 ∙ c.unfit_line.ensures ∙ ap last_line (sym c.in-Unfit.is)) put.ok put.err put.cause.cause
+
+pub returns-in-Other-clause-put : goal.returns-in-Other-clause-put
+returns-in-Other-clause-put g c =
+    let put = c.put-in-Other.ensures in
+    puts c.put-in-Other.result _ _ _ c.deref-in-Other.result.now (last_line c.args.cause) (c.deref-in-Other.ensures.0 ∙ c.other_line.ensures ∙ ap last_line (sym c.in-Other.is)) put.ok put.err put.cause.cause

@@ -50,13 +50,13 @@ returns g c = record {
     count = λ some none. inr (e.count none);
     long = λ frames queue b other source is short. no_run words c.args.frames frames queue meant other;
     long_events = λ frames b other. e.long b;
-    long_read = λ is. inr (c.args.frames, meant);
+    long_read = λ is. inr (inl (c.args.frames, meant));
     memory = λ is. (reads_after g.D.Disk.state _ c.process-status.result.1.now (after g c) (g.D.Disk.state c.args.disk.now) _ _ (e.memory is).0, command.Processes c.args.frames, meant.named);
-    damaged = λ is. inl (inr (c.args.frames, meant));
+    damaged = λ is. inl (inr (inl (c.args.frames, meant)));
     unfit = λ is. absurd (e.no_other.1 is);
   };
   keeps_source = λ words meant takes. elim takes [
-    | inl none ↦ absurd (none (inr (c.args.frames, meant)))
+    | inl none ↦ absurd (none (inr (inl (c.args.frames, meant))))
     | inr (inl usage) ↦ absurd (c.process-status.ensures.no_other.0 usage)
     | inr (inr (inl opened)) ↦ (c.process-status.ensures.unwritten opened).1
     | inr (inr (inr (inl memory))) ↦ (c.process-status.ensures.memory memory).1
