@@ -179,6 +179,19 @@ module _ (n : ℕ) (lists : List (List ℕ) → Type 0) (named : Triples) (map_i
           }
       removed_step counts counted key is same after count count_is false answer = absurd (none_of_last key is answer.0)
 
+      -- where it began at the page from which on is cut, no page is left to cut
+      pub removed_all : (key : List ℕ) → key ≡ key_bytes r.id r.first → r.id ≡ file → r.first ≡ from → IsTakenOut 12 now (map run_bytes map_is.runs) key true → AreNamed n now (without_from named file from)
+      removed_all key is same here (i, meant, listed) =
+          renamed n now (names_triple (remove map_is.runs last.0)) (without_from named file from) (removed_named key is i meant listed)
+          (λ id page sector. sym (removed_same same (omega (arith, here)) id page sector)
+          ∙ none_to_cut (names_triple (remove map_is.runs last.0)) file from (λ page sector low h. let before = others_before same page sector h in omega (arith, before, low, here)) id page sector)
+
+      pub taken_step : (counts : ℕ → Type 0) → ((xs : List (List ℕ)) → now xs → counts (length xs)) → (key : List ℕ) → key ≡ key_bytes r.id r.first → r.id ≡ file → from ≤ r.first → (count : ℕ) → count ≡ length (map run_bytes map_is.runs)
+          → (taken more : Bool) → (more ≡ true → taken ≡ true) → (more ≡ false → taken ≡ true → r.first ≤ from) → IsTakenOut 12 now (map run_bytes map_is.runs) key taken → IsStep n now counts named file from count more
+      taken_step counts counted key is same after count count_is true true gone ends answer = removed_step counts counted key is same after count count_is true answer
+      taken_step counts counted key is same after count count_is true false gone ends answer = let end = ends refl refl in removed_all key is same (omega (arith, after, end)) answer
+      taken_step counts counted key is same after count count_is false more gone ends answer = absurd (none_of_last key is answer.0)
+
       module _ (short : Run) (short_id : short.id ≡ file) (short_first : short.first ≡ r.first) (short_pages : short.pages ≡ from - r.first) (short_sector : short.sector ≡ r.sector) (same : r.id ≡ file) (early : r.first < from) (late : from < r.first + r.pages) where
         short_form : IsRun n short
         short_form = record {

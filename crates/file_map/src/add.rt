@@ -12,6 +12,7 @@ use crate::entries::SortedEntries;
 use crate::error::MapError;
 use crate::run::Run;
 use crate::search::last_run;
+use labelled_disk::LEADER;
 
 // A run together with the one before it, where they touch in page and in sector.
 fn join(before: Run, run: Run, sectors: u32) -> Option<Run>
@@ -67,6 +68,11 @@ fn extend<T: SortedEntries>(
     Ok(done)
 }
 
+// Whether the run may begin where another of its file ends. A leader stands apart.
+fn may_join(run: Run) -> bool {
+    run.first > 0 && run.first < LEADER
+}
+
 // Adds a run, where there is room for one more record.
 fn put<T: SortedEntries>(entries: &mut T, sectors: u32, run: Run) -> Result<(), MapError<T::Error>>
     requires few { sectors ≤ 1048576 }
@@ -80,6 +86,10 @@ fn put<T: SortedEntries>(entries: &mut T, sectors: u32, run: Run) -> Result<(), 
         (T.accounted entries.old entries.new)) }
     ensures cost { T.spent entries.new ≤ T.spent entries.old + T.look_cost + T.replace_cost + T.insert_cost }
 {
+    if !may_join(run) {
+        entries.insert(&run.to_bytes())?;
+        return Ok(());
+    }
     if extend(entries, sectors, run)? {
         return Ok(());
     }

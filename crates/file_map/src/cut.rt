@@ -12,6 +12,14 @@ use crate::run::{Run, key_of};
 use crate::search::last_run;
 use labelled_disk::{FileId, LEADER};
 
+// Whether the file may have pages from `from` on left, once its last run, which begins at page `first`, was taken out.
+fn may_have_more(taken: bool, first: u32, from: u32) -> bool
+    ensures yes { result ≡ true → taken ≡ true }
+    ensures no { result ≡ false → taken ≡ true → first ≤ from }
+{
+    taken && first > from
+}
+
 // Takes the last run of the file out where it begins at `from` or after it; true says that there may be more. Else the
 // last run is shortened where it ends after `from`.
 fn cut_last<T: CutEntries>(
@@ -36,8 +44,8 @@ fn cut_last<T: CutEntries>(
         return Ok(false);
     }
     if run.first >= from {
-        let more = entries.remove_key(&key_of(id, run.first))?;
-        return Ok(more);
+        let taken = entries.remove_key(&key_of(id, run.first))?;
+        return Ok(may_have_more(taken, run.first, from));
     }
     let short = Run {
         id,

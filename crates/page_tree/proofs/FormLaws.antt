@@ -1,5 +1,9 @@
 -- A well-formed tree has a header in form.
-use Rattle.std.proofs.Common.{◌≡◌, ℕ, ◌/◌, ◌<◌, ◌≤◌, List, [], ◌∷◌, length, arith, refl, sym, subst}
+use Rattle.std.proofs.Common.{◌≡◌, ℕ, ◌+◌, ◌/◌, ◌<◌, ◌≤◌, List, [], ◌∷◌, length, drop, arith, refl, sym, ◌∙◌, ap, subst}
+use Rattle.std.proofs.lemmas.List.{get_or-take}
+use Rattle.byteorder.specs.Endian.{big_number}
+use Rattle.flat_mem.specs.Memory.{part}
+use Rattle.flat_mem.specs.Parts.{part-part}
 use Rattle.page_tree.specs.Page.{page_at, count_in, root_in, top_in, free_in, levels_in}
 use Rattle.page_tree.specs.Tree.{node_at, frees, IsChain, IsTree}
 use Rattle.page_tree.specs.Climb.{IsHead}
@@ -40,3 +44,16 @@ root_met k b size levels root long begins some is named = Meets.root levels root
 pub header_numbers : (page b : List ℕ) (count root top free levels : ℕ) → page ≡ page_at b 0 → count ≡ count_in page → root ≡ root_in page → top ≡ top_in page → free ≡ free_in page → levels ≡ levels_in page → IsHead (page_at b 0) count root top free levels
 header_numbers page b count root top free levels read count_is root_is top_is free_is levels_is = subst (λ (x : List ℕ). IsHead x count root top free levels) read
     (record { count_is = sym count_is; root_is = sym root_is; top_is = sym top_is; free_is = sym free_is; levels_is = sym levels_is })
+
+-- the same by the first 20 bytes of the memory
+pub numbers_read : (bytes b : List ℕ) (count root top free levels : ℕ) → bytes ≡ part b 0 20 → count ≡ count_in bytes → root ≡ root_in bytes → top ≡ top_in bytes → free ≡ free_in bytes → levels ≡ levels_in bytes → IsHead (page_at b 0) count root top free levels
+numbers_read bytes b count root top free levels read count_is root_is top_is free_is levels_is = record {
+  count_is = same 0 (omega arith) ∙ sym count_is;
+  root_is = same 4 (omega arith) ∙ sym root_is;
+  top_is = same 8 (omega arith) ∙ sym top_is;
+  free_is = same 12 (omega arith) ∙ sym free_is;
+  levels_is = get_or-take 512 (drop 0 b) 16 0 (omega arith) ∙ sym (get_or-take 20 (drop 0 b) 16 0 (omega arith)) ∙ ap levels_in (sym read) ∙ sym levels_is;
+}
+  where
+    same : (at : ℕ) → at + 4 ≤ 20 → big_number 4 (part (page_at b 0) at 4) ≡ big_number 4 (part bytes at 4)
+    same at low = ap (big_number 4) (part-part b 0 512 at 4 (omega (arith, low)) ∙ sym (part-part b 0 20 at 4 low) ∙ ap (λ (x : List ℕ). part x at 4) (sym read))

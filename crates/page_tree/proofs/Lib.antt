@@ -68,3 +68,4 @@ mod TakenOut
 mod NamedFirst
 mod FirstOut
 mod Single
+mod Compared

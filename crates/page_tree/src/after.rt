@@ -7,7 +7,7 @@ ghost use Rattle.page_tree.specs.Broken.{Breaks, IfMalformed};
 ghost use Rattle.page_tree.specs.Reveals.{StandsIn};
 
 use crate::error::TreeError;
-use crate::look::{Path, descend, read_header};
+use crate::look::{Path, descend, read_numbers};
 use crate::pages::{count_at_most, filled_of};
 use crate::walk::next_leaf;
 use flat_mem::{FlatMem, PAGE_BYTES, Page};
@@ -48,7 +48,7 @@ pub fn look_after<M: FlatMem, const E: usize, const K: usize>(
         pages: [0; 7],
         index: [0; 7],
     };
-    let header = match read_header::<M, E, K>(mem, &mut page) {
+    let header = match read_numbers::<M, E, K>(mem) {
         Ok(header) => header,
         Err(error) => return Err(error),
     };

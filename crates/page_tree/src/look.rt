@@ -24,19 +24,21 @@ pub struct Header {
     pub levels: u32,
 }
 
-fn header_of(page: &Page) -> Header
-    ensures count { result.count ≡ count_in page.now }
-    ensures root { result.root ≡ root_in page.now }
-    ensures top { result.top ≡ top_in page.now }
-    ensures free { result.free ≡ free_in page.now }
-    ensures levels { result.levels ≡ levels_in page.now }
+// The numbers of a header, which stand in its first 17 bytes.
+fn header_of(bytes: &[u8]) -> Header
+    requires { 17 ≤ length bytes.now }
+    ensures count { result.count ≡ count_in bytes.now }
+    ensures root { result.root ≡ root_in bytes.now }
+    ensures top { result.top ≡ top_in bytes.now }
+    ensures free { result.free ≡ free_in bytes.now }
+    ensures levels { result.levels ≡ levels_in bytes.now }
 {
     Header {
-        count: BigEndian::read_u32(&page[0..4]),
-        root: BigEndian::read_u32(&page[4..8]),
-        top: BigEndian::read_u32(&page[8..12]),
-        free: BigEndian::read_u32(&page[12..16]),
-        levels: page[16] as u32,
+        count: BigEndian::read_u32(&bytes[0..4]),
+        root: BigEndian::read_u32(&bytes[4..8]),
+        top: BigEndian::read_u32(&bytes[8..12]),
+        free: BigEndian::read_u32(&bytes[12..16]),
+        levels: bytes[16] as u32,
     }
 }
 
@@ -196,6 +198,41 @@ pub fn read_header<M: FlatMem, const E: usize, const K: usize>(
     Ok(header)
 }
 
+/// Reads the numbers of the header, and no more of its page.
+pub fn read_numbers<M: FlatMem, const E: usize, const K: usize>(
+    mem: &mut M,
+) -> Result<Header, TreeError<M::Error>>
+    requires widths { IsWidths E K }
+    requires small { M.size mem.old ≤ 2 ^ 27 }
+    requires some_pages { 9 * 512 ≤ M.size mem.old }
+    ensures header { (b : List ℕ) → M.reveals mem.old b
+        → IfOk result (λ h. (h.levels ≡ levels_in (page_at b 0)) × (h.root ≡ root_in (page_at b 0))) }
+    ensures fields { (b : List ℕ) → M.reveals mem.old b
+        → IfOk result (λ h. IsHead (page_at b 0) h.count h.root h.top h.free h.levels) }
+    ensures form { IfOk result (λ h. CanBegin (M.size mem.old / 512) h.levels h.root) }
+    ensures well { (b : List ℕ) → M.reveals mem.old b → (records : List (List ℕ))
+        → IsTree E K (M.size mem.old / 512) b records → IfErr result FromMemory }
+    ensures broken { (b : List ℕ) → M.reveals mem.old b
+        → IfErr result (IfMalformed (Breaks E K (M.size mem.old / 512) b)) }
+    ensures unchanged { (b : List ℕ) → M.reveals mem.old b → M.reveals mem.new b }
+    ensures kept { M.beside mem.old mem.new }
+    ensures looked { M.only_reads mem.old mem.new }
+    ensures cause { IfErr result (IfMemNotFull (M.accounted mem.old mem.new)) }
+    ensures cost { M.spent mem.new ≤ M.spent mem.old + M.cost }
+{
+    let pages = (mem.len() / PAGE_BYTES as u64) as u32;
+    let mut bytes = [0; 20];
+    match mem.read(0, &mut bytes) {
+        Ok(()) => (),
+        Err(error) => return Err(TreeError::Mem(error)),
+    }
+    let header = header_of(&bytes);
+    if !is_in_form::<E>(&header, pages) {
+        return Err(TreeError::Malformed { page: 0 });
+    }
+    Ok(header)
+}
+
 /// How many records there are, as the header says.
 pub fn count<M: FlatMem, const E: usize, const K: usize>(
     mem: &mut M,
@@ -214,8 +251,7 @@ pub fn count<M: FlatMem, const E: usize, const K: usize>(
     ensures cause { IfErr result (IfMemNotFull (M.accounted mem.old mem.new)) }
     ensures cost { M.spent mem.new ≤ M.spent mem.old + M.cost }
 {
-    let mut page = [0; PAGE_BYTES];
-    match read_header::<M, E, K>(mem, &mut page) {
+    match read_numbers::<M, E, K>(mem) {
         Ok(header) => Ok(header.count),
         Err(error) => Err(error),
     }
@@ -247,7 +283,7 @@ pub fn look_up<M: FlatMem, const E: usize, const K: usize>(
         pages: [0; 7],
         index: [0; 7],
     };
-    match read_header::<M, E, K>(mem, &mut page) {
+    match read_numbers::<M, E, K>(mem) {
         Ok(header) => {
             if header.levels == 0 {
                 return Ok(None);

@@ -1,5 +1,6 @@
 // Reading a page of the tree, and the steps of a search in it.
 ghost use Rattle.std.specs.Prelude.{◌≡◌, ℕ, ◌+◌, ◌-◌, ◌*◌, ◌<◌, ◌≤◌, List, length, true, false, IfErr, OnOk};
+ghost use Rattle.byteorder.specs.Endian.{big_number};
 ghost use Rattle.flat_mem.specs.Memory.{part, overwritten};
 ghost use Rattle.flat_mem.specs.Order.{at_most};
 ghost use Rattle.page_tree.specs.Page.{page_at, filled, key_room, leaf_room, link_at, key_at};
@@ -21,8 +22,49 @@ pub fn is_at_most(key: &[u8], other: &[u8]) -> bool
     let first = BigEndian::read_u64(key);
     let limit = BigEndian::read_u64(other);
     if first == limit {
-        let rest = &key[8..];
-        return rest.cmp(&&other[8..]).is_le();
+        return is_rest_at_most(&key[8..], &other[8..]);
+    }
+    first < limit
+}
+
+// The same of what comes after the first eight bytes: four as one number, where these are all.
+#[tactic(auto, unfolding(flat_mem::specs::Order::at_most))]
+fn is_rest_at_most(key: &[u8], other: &[u8]) -> bool
+    ensures { result ≡ at_most key.now other.now }
+{
+    if key.len() != 4 || other.len() != 4 {
+        return key.cmp(&other).is_le();
+    }
+    let last = BigEndian::read_u32(key);
+    let limit = BigEndian::read_u32(other);
+    last <= limit
+}
+
+// The first eight bytes of a key as one number, where it has so many.
+fn first_number<const K: usize>(key: &[u8; K]) -> u64
+    ensures { 8 ≤ K → result ≡ big_number 8 key.now }
+{
+    if K < 8 {
+        return 0;
+    }
+    BigEndian::read_u64(key)
+}
+
+// Whether the key at a place of a page is at most another, whose first eight bytes are this number, where it has so many.
+#[tactic(auto, unfolding(flat_mem::specs::Order::at_most))]
+fn is_key_at_most<const K: usize>(page: &Page, at: usize, limit: u64, key: &[u8]) -> bool
+    requires inside { at + K ≤ 512 }
+    requires width { length key.now ≡ K }
+    requires limit { 8 ≤ K → limit ≡ big_number 8 key.now }
+    ensures { result ≡ at_most (part page.now at K) key.now }
+{
+    let here = &page[at..at + K];
+    if K < 8 {
+        return is_at_most(here, key);
+    }
+    let first = BigEndian::read_u64(here);
+    if first == limit {
+        return is_at_most(here, key);
     }
     first < limit
 }
@@ -54,12 +96,12 @@ pub fn count_at_most<const K: usize>(page: &Page, step: usize, count: usize, key
     ensures holds { 0 < result → at_most (part page.now (8 + step * (result - 1)) K) key.now ≡ true }
     ensures above { result < count → at_most (part page.now (8 + step * result) K) key.now ≡ false }
 {
+    let limit = first_number::<K>(key);
     let mut found = 0;
     let mut end = count;
     'search: while found < end {
         let middle = found + (end - found) / 2;
-        let at = 8 + step * middle;
-        if is_at_most(&page[at..at + K], key) {
+        if is_key_at_most::<K>(page, 8 + step * middle, limit, key) {
             found = middle + 1;
         } else {
             end = middle;

@@ -9,7 +9,7 @@ ghost use Rattle.page_tree.specs.Broken.{Meets, Breaks, IfMalformed};
 
 use crate::edits::set_record;
 use crate::error::TreeError;
-use crate::look::{Header, Path, descend, read_header};
+use crate::look::{Header, Path, descend, read_numbers};
 use crate::pages::store;
 use crate::sought::last_of_key;
 use flat_mem::{FlatMem, PAGE_BYTES, Page};
@@ -73,8 +73,7 @@ pub fn replace_key<M: FlatMem, const E: usize, const K: usize>(
     ensures cause { IfErr result (IfMemNotFull (M.accounted mem.old mem.new)) }
     ensures cost { M.spent mem.new ≤ M.spent mem.old + 8 * M.cost }
 {
-    let mut page = [0; PAGE_BYTES];
-    let header = match read_header::<M, E, K>(mem, &mut page) {
+    let header = match read_numbers::<M, E, K>(mem) {
         Ok(header) => header,
         Err(error) => return Err(error),
     };
@@ -87,6 +86,7 @@ pub fn replace_key<M: FlatMem, const E: usize, const K: usize>(
         pages: [0; 7],
         index: [0; 7],
     };
+    let mut page = [0; PAGE_BYTES];
     match replace_in::<M, E, K>(mem, header, &key, entry, &mut path, &mut page) {
         Ok(found) => Ok(found),
         Err(error) => Err(error),

@@ -1,5 +1,5 @@
 -- Homes that lie where the layout lets them be.
-use Rattle.std.specs.Prelude.{◌≡◌, ◌≢◌, ◌<◌, ◌≤◌, ◌+◌, ℕ, List, length, Option, Some, None, IsSome, Result, Ok, Err, IfOk, slice_set}
+use Rattle.std.specs.Prelude.{◌≡◌, ◌≢◌, ◌<◌, ◌≤◌, ◌+◌, ℕ, List, length, Option, Some, None, IsSome, Result, Ok, Err, IfOk, IfSome, slice_set}
 use Rattle.std.proofs.Common.{refl, sym, ◌∙◌, ap, subst, arith, inl, inr}
 use Rattle.std.proofs.lemmas.Bool.{cases_eq, true≢false}
 use Rattle.std.proofs.lemmas.Option.{none-some}
@@ -9,7 +9,7 @@ use Rattle.labelled_disk.specs.Layout.{vam, vfm}
 use Rattle.labelled_disk.specs.Sectors.{Sector}
 use Rattle.labelled_disk.specs.State.{DiskState}
 use Rattle.frame_pool.specs.declared.home.Home.{Home}
-use Rattle.frame_pool.specs.Frames.{Slots, Frame, Has, frame_at}
+use Rattle.frame_pool.specs.Frames.{Slots, Frame, Has, HasPage, frame_at}
 use Rattle.frame_pool.specs.FrameLaws.{has_set, has_of_frame}
 use Rattle.swapper_kernel.specs.declared.manager.Manager.{Manager}
 use Rattle.swapper_kernel.specs.declared.manager.Manager.TheVariants.{AllocationMap, FileMap}
@@ -96,6 +96,12 @@ pub map_there : (which : Manager) (layout : Layout) (page : ℕ) (slots : Slots)
     → IfOk r (λ i. (f : Frame) × Has slots i f × (f.home.id ≡ id_of which) × (f.home.page ≡ page)) → IfOk r (λ i. (f : Frame) × Has slots i f × (f.home ≡ map_home which layout page))
 map_there which layout page slots (Ok i) placed is = (is.0, is.1, map_home_is which layout page is.0.home (placed i is.0 is.1) is.2 is.3)
 map_there which layout page slots (Err e) placed is = tt
+
+-- the same of a slot that is found
+pub map_found : (which : Manager) (layout : Layout) (page : ℕ) (slots : Slots) (o : Option ℕ) → ArePlaced slots layout
+    → IfSome o (λ i. HasPage slots i (id_of which) page) → IfSome o (λ i. (f : Frame) × Has slots i f × (f.home ≡ map_home which layout page))
+map_found which layout page slots (Some i) placed is = (is.0, is.1, map_home_is which layout page is.0.home (placed i is.0 is.1) is.2.0 is.2.1)
+map_found which layout page slots None placed is = tt
 
 -- a frame that a call gives has the page of its home, as the memory has it
 pub shown_at : (id page : ℕ) (r : Result ℕ Halt) (disk : DiskState) (slots : Slots) (m : List Sector) → Stands disk slots m → IfOk r (λ i. (f : Frame) × Has slots i f × (f.home.id ≡ id) × (f.home.page ≡ page))

@@ -1,5 +1,5 @@
 //! Pages of files, brought into frames, changed there, and written out to their homes.
-ghost use Rattle.std.specs.Prelude.{◌≡◌, ◌≢◌, ◌<◌, ◌≤◌, ◌+◌, ◌*◌, ℕ, false, List, [], length, Ok, Err, Some, None, IfOk, IfErr, OnOk, OnErr, IsSome, slice_set};
+ghost use Rattle.std.specs.Prelude.{◌≡◌, ◌≢◌, ◌<◌, ◌≤◌, ◌+◌, ◌*◌, ℕ, false, List, [], length, Ok, Err, Some, None, IfOk, IfErr, IfSome, OnOk, OnErr, IsSome, slice_set};
 ghost use Rattle.labelled_disk.specs.declared.evidence.Halt.TheVariants as halt;
 ghost use Rattle.labelled_disk.specs.Sectors.{Sector};
 ghost use Rattle.frame_pool.specs.Frames.{Frame, Has, HasPage, IsEmpty, IsNowhere, changed, cleaned_at, frame_at};
@@ -131,6 +131,15 @@ impl<D: Disk, A: Allocator> Swapper<D, A> {
         self.write_out(slot)?;
         self.load(slot, home)?;
         Ok(slot)
+    }
+
+    /// The slot that has a page of a map, if one has it.
+    pub(crate) fn resident(&self, which: Manager, page: u32) -> Option<u32>
+        ensures there { IfSome result
+            (λ i. (f : Frame) × Has self.now.pool i f × (f.home ≡ map_home which self.now.layout page)) }
+        ensures below { IfSome result (λ i. i < length self.now.pool) }
+    {
+        self.pool.find(which.id(), page)
     }
 
     /// Makes a page of a map resident and gives its slot, in at most two transfers. Where it is at home, the layout says.

@@ -107,11 +107,17 @@ impl<'s, D: Disk, A: Allocator> FlatMem for MapMemory<'s, D, A> {
         if into.is_empty() {
             return Ok(());
         }
-        let slot = self
-            .swapper
-            .fetch_map_page(self.which, (at / PAGE_BYTES as u64) as u32)?;
-        self.swapper
-            .copy_out(slot, (at % PAGE_BYTES as u64) as usize, into);
+        let page = (at / PAGE_BYTES as u64) as u32;
+        let from = (at % PAGE_BYTES as u64) as usize;
+        match self.swapper.resident(self.which, page) {
+            Some(here) => {
+                self.swapper.copy_out(here, from, into);
+                return Ok(());
+            }
+            None => (),
+        }
+        let slot = self.swapper.fetch_map_page(self.which, page)?;
+        self.swapper.copy_out(slot, from, into);
         Ok(())
     }
 
@@ -119,11 +125,17 @@ impl<'s, D: Disk, A: Allocator> FlatMem for MapMemory<'s, D, A> {
         if bytes.is_empty() {
             return Ok(());
         }
-        let slot = self
-            .swapper
-            .fetch_map_page(self.which, (at / PAGE_BYTES as u64) as u32)?;
-        self.swapper
-            .change(slot, (at % PAGE_BYTES as u64) as u32, bytes);
+        let page = (at / PAGE_BYTES as u64) as u32;
+        let from = (at % PAGE_BYTES as u64) as u32;
+        match self.swapper.resident(self.which, page) {
+            Some(here) => {
+                self.swapper.change(here, from, bytes);
+                return Ok(());
+            }
+            None => (),
+        }
+        let slot = self.swapper.fetch_map_page(self.which, page)?;
+        self.swapper.change(slot, from, bytes);
         Ok(())
     }
 }

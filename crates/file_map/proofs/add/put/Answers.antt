@@ -8,24 +8,36 @@ use Rattle.file_map.proofs.add.put.Goals as goal
 
 pub returns-in_err-extend-clause-added : goal.returns-in_err-extend-clause-added
 returns-in_err-extend-clause-added g c = λ named map_is new n counted low room.
-    passed _ _ _ _ c.from_residual.ensures.0 c.from_residual.ensures.1 (c.in_err-extend.ensures.well named map_is)
+    passed _ _ _ _ c.from_residual-in_err-extend.ensures.0 c.from_residual-in_err-extend.ensures.1 (c.in_err-extend.ensures.well named map_is)
+
+pub returns-then-not-may_join-clause-added : goal.returns-then-not-may_join-clause-added
+returns-then-not-may_join-clause-added g c = λ named map_is new n counted low room.
+    let xs = map run_bytes map_is.runs in
+    let count_is = g.met.T.SearchedEntries.counted_once c.args.entries.now n (length xs) counted (g.met.T.SearchedEntries.counted c.args.entries.now xs map_is.listed) in
+    let put = subst (λ entry. IsPut 12 (g.T.SearchedEntries.lists c.insert.new.self) xs entry) c.to_bytes.ensures (c.in_ok-insert.ensures.answer xs map_is.listed) in
+    put_named c.args.sectors _ _ named map_is c.args.run c.requires.run new (omega (arith, low, count_is, length-map map_is.runs run_bytes)) put
 
 pub returns-clause-added : goal.returns-clause-added
 returns-clause-added g c = λ named map_is new n counted low room.
     let xs = map run_bytes map_is.runs in
     let count_is = g.met.T.SearchedEntries.counted_once c.args.entries.now n (length xs) counted (g.met.T.SearchedEntries.counted c.args.entries.now xs map_is.listed) in
     let listed = c.in_ok-extend.ensures.same xs map_is.listed c.if-branch.false in
-    let put = subst (λ entry. IsPut 12 (g.T.SearchedEntries.lists c.insert.new.self) xs entry) c.to_bytes.ensures (c.in_ok-insert.ensures.answer xs listed) in
+    let put = subst (λ entry. IsPut 12 (g.T.SearchedEntries.lists c.insert-2.new.self) xs entry) c.to_bytes-2.ensures (c.in_ok-insert-2.ensures.answer xs listed) in
     put_named c.args.sectors _ _ named map_is c.args.run c.requires.run new (omega (arith, low, count_is, length-map map_is.runs run_bytes)) put
 
 pub returns-in_err-insert-clause-cause : goal.returns-in_err-insert-clause-cause
 returns-in_err-insert-clause-cause g c =
-    let last = g.met.T.SearchedEntries.beside_itself c.insert.new.self in
+    passed_cause _ _ _ c.from_residual.ensures.1
+    (put_cause c.args.sectors ((n : ℕ) → g.T.SearchedEntries.counts c.args.entries.now n → g.T.SearchedEntries.room c.args.entries.now ≤ n) (g.T.SearchedEntries.shows c.args.entries.now) (g.T.SearchedEntries.accounted c.args.entries.now c.insert.new.self) c.in_err-insert.field-0.0 c.in_err-insert.ensures.cause)
+
+pub returns-in_err-insert-2-clause-cause : goal.returns-in_err-insert-2-clause-cause
+returns-in_err-insert-2-clause-cause g c =
+    let last = g.met.T.SearchedEntries.beside_itself c.insert-2.new.self in
     let room = g.met.T.SearchedEntries.same_room _ _ c.extend.ensures.kept in
-    passed_cause _ _ _ c.from_residual-in_err-insert.ensures.1
+    passed_cause _ _ _ c.from_residual-in_err-insert-2.ensures.1
     (add_cause_wider c.args.sectors ((n : ℕ) → g.T.SearchedEntries.counts c.extend.new.entries n → g.T.SearchedEntries.room c.extend.new.entries ≤ n) ((n : ℕ) → g.T.SearchedEntries.counts c.args.entries.now n → g.T.SearchedEntries.room c.args.entries.now ≤ n)
-    (g.T.SearchedEntries.shows c.extend.new.entries) (g.T.SearchedEntries.shows c.args.entries.now) (g.T.SearchedEntries.accounted c.extend.new.entries c.insert.new.self) (g.T.SearchedEntries.accounted c.args.entries.now c.insert.new.self) _
+    (g.T.SearchedEntries.shows c.extend.new.entries) (g.T.SearchedEntries.shows c.args.entries.now) (g.T.SearchedEntries.accounted c.extend.new.entries c.insert-2.new.self) (g.T.SearchedEntries.accounted c.args.entries.now c.insert-2.new.self) _
     (λ is n counted. omega (arith, room, is n (c.in_ok-extend.ensures.same_count c.if-branch.false n counted)))
     (c.in_ok-extend.ensures.same_sights c.if-branch.false)
-    (λ e why. g.met.T.SearchedEntries.accounted_wider _ _ _ _ e c.extend.ensures.kept c.insert.ensures.kept last why)
-    (put_cause c.args.sectors ((n : ℕ) → g.T.SearchedEntries.counts c.extend.new.entries n → g.T.SearchedEntries.room c.extend.new.entries ≤ n) (g.T.SearchedEntries.shows c.extend.new.entries) (g.T.SearchedEntries.accounted c.extend.new.entries c.insert.new.self) c.in_err-insert.field-0.0 c.in_err-insert.ensures.cause))
+    (λ e why. g.met.T.SearchedEntries.accounted_wider _ _ _ _ e c.extend.ensures.kept c.insert-2.ensures.kept last why)
+    (put_cause c.args.sectors ((n : ℕ) → g.T.SearchedEntries.counts c.extend.new.entries n → g.T.SearchedEntries.room c.extend.new.entries ≤ n) (g.T.SearchedEntries.shows c.extend.new.entries) (g.T.SearchedEntries.accounted c.extend.new.entries c.insert-2.new.self) c.in_err-insert-2.field-0.0 c.in_err-insert-2.ensures.cause))

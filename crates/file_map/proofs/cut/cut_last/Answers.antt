@@ -2,7 +2,7 @@ use Rattle.std.proofs.lemmas.Bool.{false≢true}
 use Rattle.std.proofs.Common.{◌+◌, ◌<◌, ◌∙◌, ◌-◌, refl, ap, sym, subst, map, length, arith}
 use Rattle.file_map.specs.Run.{run_bytes, key_bytes}
 use Rattle.file_map.specs.Searches.{IsLastRun}
-use Rattle.file_map.proofs.Cutting.{uncut, done_none, done_other, done_before, removed_step, short_step}
+use Rattle.file_map.proofs.Cutting.{uncut, done_none, done_other, done_before, taken_step, short_step}
 use Rattle.file_map.proofs.cut.cut_last.Goals as goal
 use Rattle.file_map.proofs.cut.cut_last.Goals.{then-run-id-via-then-run-id, then-run-id-via-else-run-id+then-end-from}
 
@@ -28,9 +28,9 @@ returns-then-run-from-clause-step g c = λ named map_is n counted.
     let xs = map run_bytes map_is.runs in
     let last = subst (λ found. IsLastRun map_is.runs c.args.id 4294967295 found) c.in-Some.is (c.in_ok-run.ensures.answer map_is.runs map_is.listed map_is.form) in
     let count_is = g.met.T.SearchedEntries.counted_once c.args.entries.now n (length xs) counted (g.met.T.SearchedEntries.counted c.args.entries.now xs map_is.listed) in
-    removed_step c.args.sectors _ named map_is (g.met.T.SearchedEntries.ascending c.args.entries.now) c.args.id c.args.from (omega (arith, c.ranges.id.fits)) c.in-Some.run' last (g.T.SearchedEntries.lists c.remove_key.new.self)
-    (g.T.SearchedEntries.counts c.remove_key.new.self) (g.met.T.SearchedEntries.counted c.remove_key.new.self) c.key_of.result (c.key_of.ensures ∙ ap (λ x. key_bytes x c.in-Some.run'.first) (sym c.if-run-id.false)) c.if-run-id.false c.if-run-from.true n count_is c.in_ok-more.more
-    (c.in_ok-more.ensures.answer xs (c.last_run.ensures.same xs map_is.listed))
+    taken_step c.args.sectors _ named map_is (g.met.T.SearchedEntries.ascending c.args.entries.now) c.args.id c.args.from (omega (arith, c.ranges.id.fits)) c.in-Some.run' last (g.T.SearchedEntries.lists c.remove_key.new.self)
+    (g.T.SearchedEntries.counts c.remove_key.new.self) (g.met.T.SearchedEntries.counted c.remove_key.new.self) c.key_of.result (c.key_of.ensures ∙ ap (λ x. key_bytes x c.in-Some.run'.first) (sym c.if-run-id.false)) c.if-run-id.false c.if-run-from.true n count_is c.in_ok-taken.taken c.may_have_more.result c.may_have_more.ensures.yes c.may_have_more.ensures.no
+    (c.in_ok-taken.ensures.answer xs (c.last_run.ensures.same xs map_is.listed))
 
 pub returns-clause-step : goal.returns-clause-step
 returns-clause-step g c = λ named map_is n counted.

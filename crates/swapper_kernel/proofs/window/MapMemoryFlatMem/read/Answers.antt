@@ -25,8 +25,8 @@ returns-in_err-slot-clause-cause g c =
     let same : c.from_residual.result ≡ Err c.in_err-slot.field-0.0 = search rules in
     rw same (accounted_at self.which _ _ self.swapper.now.pool self.swapper.now.layout (c.args.at / 512) below c.in_err-slot.field-0.0 c.in_err-slot.ensures.cause c.in_err-slot.ensures.sound)
 
-pub copy_out-requires-clause-filled : goal.copy_out-requires-clause-filled
-copy_out-requires-clause-filled g c =
+pub copy_out-requires-2-clause-filled : goal.copy_out-requires-2-clause-filled
+copy_out-requires-2-clause-filled g c =
     let there = c.in_ok-slot.ensures.there in
     filled_of c.fetch_map_page.new.self.pool c.in_ok-slot.slot there.0 there.1
 
@@ -37,7 +37,7 @@ returns-clause-read g c = λ b reveals.
     let now = swaps_stands c.fetch_map_page.ensures.swaps reveals.memory reveals.stands in
     let there = c.in_ok-slot.ensures.there in
     let place : 512 * (c.args.at / 512) + c.args.at % 512 ≡ c.args.at = omega arith in
-    c.copy_out.ensures there.0 there.1
+    c.copy_out-2.ensures there.0 there.1
     ∙ read_shown self.which _ c.fetch_map_page.new.self.pool self.swapper.now.layout reveals.memory now c.in_ok-slot.slot there.0 there.1 (c.args.at / 512) below there.2 b (c.args.at % 512) (length c.args.into.now) reveals.shows c.requires.in_one_page
     ∙ ap (λ (n : ℕ). part b n (length c.args.into.now)) place
 
@@ -52,3 +52,18 @@ returns-clause-looked g c =
     let self = c.args.self.now in
     let below : c.args.at / 512 < pages_of self.which self.swapper.now.layout = search rules in
     (refl, refl, looked_swaps self.which (c.args.at / 512) below c.fetch_map_page.ensures.layout c.fetch_map_page.ensures.swaps c.fetch_map_page.ensures.brings c.fetch_map_page.ensures.steps)
+
+pub copy_out-requires-clause-filled : goal.copy_out-requires-clause-filled
+copy_out-requires-clause-filled g c =
+    let there = c.in-Some.ensures.there in
+    filled_of c.args.self.now.swapper.now.pool c.in-Some.here there.0 there.1
+
+pub returns-in-Some-clause-read : goal.returns-in-Some-clause-read
+returns-in-Some-clause-read g c = λ b reveals.
+    let self = c.args.self.now in
+    let below : c.args.at / 512 < pages_of self.which self.swapper.now.layout = search rules in
+    let there = c.in-Some.ensures.there in
+    let place : 512 * (c.args.at / 512) + c.args.at % 512 ≡ c.args.at = omega arith in
+    c.copy_out.ensures there.0 there.1
+    ∙ read_shown self.which _ self.swapper.now.pool self.swapper.now.layout reveals.memory reveals.stands c.in-Some.here there.0 there.1 (c.args.at / 512) below there.2 b (c.args.at % 512) (length c.args.into.now) reveals.shows c.requires.in_one_page
+    ∙ ap (λ (n : ℕ). part b n (length c.args.into.now)) place

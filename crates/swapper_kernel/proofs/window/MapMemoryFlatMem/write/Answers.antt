@@ -18,8 +18,8 @@ returns-in_err-slot-clause-cause g c =
     let same : c.from_residual.result ≡ Err c.in_err-slot.field-0.0 = search rules in
     rw same (accounted_at self.which _ _ self.swapper.now.pool self.swapper.now.layout (c.args.at / 512) below c.in_err-slot.field-0.0 c.in_err-slot.ensures.cause c.in_err-slot.ensures.sound)
 
-pub change-requires-clause-filled : goal.change-requires-clause-filled
-change-requires-clause-filled g c =
+pub change-requires-2-clause-filled : goal.change-requires-2-clause-filled
+change-requires-2-clause-filled g c =
     let there = c.in_ok-slot.ensures.there in
     filled_of c.fetch_map_page.new.self.pool c.in_ok-slot.slot there.0 there.1
 
@@ -29,8 +29,8 @@ returns-clause-written g c = λ b reveals.
     let below : c.args.at / 512 < pages_of self.which self.swapper.now.layout = search rules in
     let there = c.in_ok-slot.ensures.there in
     let place : 512 * (c.args.at / 512) + c.args.at % 512 ≡ c.args.at = omega arith in
-    reveals_changed self.which (c.args.at / 512) below (c.change.ensures.layout ∙ c.fetch_map_page.ensures.layout) there.0.home there.2 (c.args.at % 512) c.args.bytes.now c.requires.in_one_page
-    (c.change.ensures.goes there.0 there.1) c.args.at place b (reveals_swapped self.which refl c.fetch_map_page.ensures.swaps b reveals)
+    reveals_changed self.which (c.args.at / 512) below (c.change-2.ensures.layout ∙ c.fetch_map_page.ensures.layout) there.0.home there.2 (c.args.at % 512) c.args.bytes.now c.requires.in_one_page
+    (c.change-2.ensures.goes there.0 there.1) c.args.at place b (reveals_swapped self.which refl c.fetch_map_page.ensures.swaps b reveals)
 
 pub returns-clause-kept : goal.returns-clause-kept
 returns-clause-kept g c =
@@ -40,11 +40,36 @@ returns-clause-kept g c =
       refl,
       refl,
       beside_then refl (beside_swaps self.which (c.args.at / 512) below refl c.fetch_map_page.ensures.swaps c.fetch_map_page.ensures.brings c.fetch_map_page.ensures.steps)
-          (beside_changed self.which (c.args.at / 512) below (c.change.ensures.layout ∙ c.fetch_map_page.ensures.layout) c.in_ok-slot.slot there.0 there.1 there.2 (c.args.at % 512) c.args.bytes.now
-          c.requires.in_one_page (c.change.ensures.frame there.0 there.1) (c.change.ensures.goes there.0 there.1) (c.change.ensures.steps there.0 there.1)),
+          (beside_changed self.which (c.args.at / 512) below (c.change-2.ensures.layout ∙ c.fetch_map_page.ensures.layout) c.in_ok-slot.slot there.0 there.1 there.2 (c.args.at % 512) c.args.bytes.now
+          c.requires.in_one_page (c.change-2.ensures.frame there.0 there.1) (c.change-2.ensures.goes there.0 there.1) (c.change-2.ensures.steps there.0 there.1)),
     )
 
 pub returns-in_err-slot-clause-unchanged : goal.returns-in_err-slot-clause-unchanged
 returns-in_err-slot-clause-unchanged g c = λ b reveals.
     let same : c.from_residual.result ≡ Err c.in_err-slot.field-0.0 = search rules in
     rw same (reveals_swapped c.args.self.now.which c.fetch_map_page.ensures.layout c.fetch_map_page.ensures.swaps b reveals)
+
+pub change-requires-clause-filled : goal.change-requires-clause-filled
+change-requires-clause-filled g c =
+    let there = c.in-Some.ensures.there in
+    filled_of c.args.self.now.swapper.now.pool c.in-Some.here there.0 there.1
+
+pub returns-in-Some-clause-written : goal.returns-in-Some-clause-written
+returns-in-Some-clause-written g c = λ b reveals.
+    let self = c.args.self.now in
+    let below : c.args.at / 512 < pages_of self.which self.swapper.now.layout = search rules in
+    let there = c.in-Some.ensures.there in
+    let place : 512 * (c.args.at / 512) + c.args.at % 512 ≡ c.args.at = omega arith in
+    reveals_changed self.which (c.args.at / 512) below c.change.ensures.layout there.0.home there.2 (c.args.at % 512) c.args.bytes.now c.requires.in_one_page
+    (c.change.ensures.goes there.0 there.1) c.args.at place b reveals
+
+pub returns-in-Some-clause-kept : goal.returns-in-Some-clause-kept
+returns-in-Some-clause-kept g c =
+    let self = c.args.self.now in
+    let below : c.args.at / 512 < pages_of self.which self.swapper.now.layout = search rules in
+    let there = c.in-Some.ensures.there in (
+      refl,
+      refl,
+      beside_changed self.which (c.args.at / 512) below c.change.ensures.layout c.in-Some.here there.0 there.1 there.2 (c.args.at % 512) c.args.bytes.now
+          c.requires.in_one_page (c.change.ensures.frame there.0 there.1) (c.change.ensures.goes there.0 there.1) (c.change.ensures.steps there.0 there.1),
+    )
