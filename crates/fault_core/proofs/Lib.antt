@@ -29,11 +29,13 @@ mod WholeLemmas
 mod ActivateLemmas
 mod RoomLemmas
 mod AttemptLemmas
-mod ReadyLemmas
+pub mod ReadyLemmas
 pub mod PutLemmas
 mod RowLemmas
+pub mod StoreReadyLemmas
 mod MovedLemmas
 pub mod LackLemmas
 pub mod NeverBlamesLemmas
 mod ReferredLemmas
 mod EarlyLemmas
+mod OutcomeLemmas

@@ -20,3 +20,8 @@ pub mod Lack
 pub mod NeverBlames
 pub mod Ready
 pub mod Early
+pub mod CoreView
+pub mod Outcomes
+pub mod Comes
+pub mod Finding
+pub mod StoreReady

@@ -1,21 +1,13 @@
 //! The swap units of a range are brought in before they are asked for.
-ghost use Rattle.std.specs.Prelude.{◌≡◌, ◌≢◌, ◌≤◌, ◌<◌, ◌+◌, ◌*◌, ◌/◌, ℕ, List, length, None, IfOk, IfErr, IfSome, OnOk};
-ghost use Rattle.labelled_disk.specs.declared.evidence.Halt.TheVariants as halt;
+ghost use Rattle.std.specs.Prelude.{◌≡◌, ◌≤◌, ◌<◌, ◌+◌, ◌*◌, ◌/◌, List, length, None, IfOk, OnOk};
 ghost use Rattle.labelled_disk.specs.Sectors.{Sector};
 ghost use Rattle.file_map.specs.FileMap.{Triples};
-ghost use Rattle.frame_pool.specs.Frames.{IsEmpty};
 ghost use Rattle.flat_machine.specs.declared.space.Space.{Space};
 ghost use Rattle.flat_machine.specs.Space.{root_pages};
-ghost use Rattle.session_words.specs.FrameLaws.{BringsKnown};
-ghost use Rattle.fault_core.specs.Activate.{AreBare, AreBrought, AreUnits, AreWhole, IsActive, IsFurther, IsShownAt, IsTooLong, IsTurn, IsUnitAt, start_at};
-ghost use Rattle.fault_core.specs.Kill.{BreaksWithin};
-ghost use Rattle.fault_core.specs.Range.{IsNextPart};
-ghost use Rattle.fault_core.specs.Reach.{Reaches, ReachHalts, TouchHalts, BringsOwn};
-ghost use Rattle.fault_core.specs.Revealed.{BreaksTables};
-ghost use Rattle.fault_core.specs.Room.{KeepsWhileEmpty};
-ghost use Rattle.fault_core.specs.Lack.{MissesPage, Sees, range_units, shown_unit};
-ghost use Rattle.fault_core.specs.NeverBlames.{NeverBlamesTables};
+ghost use Rattle.fault_core.specs.Activate.{AreBrought, IsActive};
 ghost use Rattle.filer_kernel.specs.View.{FitsLayout, view_of};
+ghost use Rattle.fault_core.specs.Comes.{BringsUnits, GivesUnit, TakesTurn};
+ghost use Rattle.fault_core.specs.Outcomes.{FailsAtPage, FailsToBringPage, FailsToBringRange, FetchesInRoom, FetchesKnown, FindsAlone, StaysKnown};
 
 use crate::Core;
 use crate::walk::end_of;
@@ -45,7 +37,7 @@ fn half_of<D: Disk, A: Allocator>(filer: &mut Filer<D, A>) -> u32
 }
 
 impl<D: Disk, A: Allocator> Core<D, A> {
-    ghost use Rattle.fault_core.specs.Core.{kept, state, Knows};
+    ghost use Rattle.fault_core.specs.Core.{Knows, core_view, kept, state};
 
     // The page after the swap unit that a page is in, and how many pages the unit has; or where no window shows the page, that
     // after its interval, or the end of the range, and 0.
@@ -53,23 +45,10 @@ impl<D: Disk, A: Allocator> Core<D, A> {
         requires size { FitsLayout (state self.old) }
         requires before { page < end }
         requires in_root { end ≤ root_pages }
-        ensures further { IfOk result (λ r. page < r.0) }
-        ensures shown { (m : List Sector) (named : Triples) (ss : List Space) → Knows self.old m named ss
-            → IfOk result (λ r. r.1 ≢ 0 → IsUnitAt ss page r.0 r.1) }
-        ensures bare { (m : List Sector) (named : Triples) (ss : List Space) → Knows self.old m named ss
-            → IfOk result (λ r. r.1 ≡ 0 → AreBare ss page r.0 × IsNextPart ss page end r.0) }
-        ensures cause { IfErr result
-            (ReachHalts (BreaksTables (state self.old) self.old.intervals page) (state self.old) (state self.new)) }
-        ensures sees { (ss : List Space) → Sees (state self.old) (kept self.old) self.old.intervals ss
-            → Sees (state self.new) (kept self.new) self.new.intervals ss }
-        ensures sound { (m : List Sector) (named : Triples) (ss : List Space) → Knows self.old m named ss
-            → IfErr result (λ e. e ≡ halt.Disk) }
-        ensures same { (m : List Sector) (named : Triples) (ss : List Space) → Knows self.old m named ss
-            → Knows self.new m named ss }
-        ensures reaches { Reaches (state self.old) (state self.new) }
-        ensures came { BringsOwn (state self.old).slots (state self.new).slots }
-        ensures room { KeepsWhileEmpty (state self.old).slots (state self.new).slots }
-        ensures intervals { self.new.intervals ≡ self.old.intervals }
+        ensures comes { GivesUnit page end (core_view self.old) result }
+        ensures fails { FailsAtPage page (core_view self.old) (core_view self.new) result }
+        ensures stays { StaysKnown (core_view self.old) (core_view self.new) }
+        ensures brings { FindsAlone (state self.old) (state self.new) }
         ensures cost { (state self.new).disk.transfers ≤ (state self.old).disk.transfers + 196 }
     {
         let (x, next) = match self.part_at(page, end) {
@@ -91,29 +70,10 @@ impl<D: Disk, A: Allocator> Core<D, A> {
         requires in_root { end ≤ root_pages }
         requires some { 1 ≤ so_far.units + so_far.left }
         requires few { so_far.units + so_far.left ≤ 2048 }
-        ensures turn { IfOk result (λ o. IfSome o (IsTurn so_far)) }
-        ensures further { (m : List Sector) (named : Triples) (ss : List Space) → Knows self.old m named ss
-            → IfOk result (λ o. IfSome o (IsFurther ss end so_far)) }
-        ensures whole { (m : List Sector) (named : Triples) (ss : List Space) → Knows self.old m named ss
-            → IfOk result (λ o. IfSome o (λ now. AreWhole ss (state self.new).slots so_far.page now.page)) }
-        ensures too_long { (m : List Sector) (named : Triples) (ss : List Space) → Knows self.old m named ss
-            → IfOk result (λ o. o ≡ None → IsTooLong ss so_far) }
-        ensures cause { IfErr result
-            (TouchHalts (BreaksTables (state self.old) self.old.intervals so_far.page) (state self.old)
-            (state self.new)) }
-        ensures missing { (ss : List Space) → Sees (state self.old) (kept self.old) self.old.intervals ss
-            → IfErr result (MissesPage (shown_unit ss so_far.page)) }
-        ensures sees { (ss : List Space) → Sees (state self.old) (kept self.old) self.old.intervals ss
-            → Sees (state self.new) (kept self.new) self.new.intervals ss }
-        ensures sound { (m : List Sector) (named : Triples) (ss : List Space) → Knows self.old m named ss
-            → IfErr result (λ e. e ≡ halt.Disk) }
-        ensures same { (m : List Sector) (named : Triples) (ss : List Space) → Knows self.old m named ss
-            → Knows self.new m named ss }
-        ensures reaches { Reaches (state self.old) (state self.new) }
-        ensures came { (m : List Sector) (named : Triples) (ss : List Space) → Knows self.old m named ss
-            → BringsKnown ss (state self.old).slots (state self.new).slots }
-        ensures room { KeepsWhileEmpty (state self.old).slots (state self.new).slots }
-        ensures intervals { self.new.intervals ≡ self.old.intervals }
+        ensures comes { TakesTurn so_far end (core_view self.old) (core_view self.new) result }
+        ensures fails { FailsToBringPage so_far.page (core_view self.old) (core_view self.new) result }
+        ensures stays { StaysKnown (core_view self.old) (core_view self.new) }
+        ensures brings { FetchesInRoom (core_view self.old) (core_view self.new) }
         ensures cost { (state self.new).disk.transfers ≤ (state self.old).disk.transfers + 840 }
     {
         let (next, pages) = match self.unit_at(so_far.page, end) {
@@ -144,32 +104,10 @@ impl<D: Disk, A: Allocator> Core<D, A> {
     // brought in last.
     fn bring_units(&mut self, first: u32, pages: u32) -> Result<(u32, u32), Halt>
         requires size { FitsLayout (state self.old) }
-        ensures within { IfOk result (λ r. r.0 ≢ 0 → (first ≤ r.1) × (r.1 < first + pages)) }
-        ensures units { (m : List Sector) (named : Triples) (ss : List Space) → Knows self.old m named ss
-            → IfOk result
-            (λ r. AreUnits ss (first + pages) (start_at first (length (state self.old).slots / 2)) r.0 r.1) }
-        ensures shown { (m : List Sector) (named : Triples) (ss : List Space) → Knows self.old m named ss
-            → IfOk result (λ r. r.0 ≢ 0 → IsShownAt ss r.1) }
-        ensures all { (m : List Sector) (named : Triples) (ss : List Space) → Knows self.old m named ss
-            → IfOk result
-            (λ r.
-            (slot : ℕ) → IsEmpty (state self.new).slots slot → r.0 ≢ 0
-            → AreWhole ss (state self.new).slots first (r.1 + 1)) }
-        ensures cause { IfErr result
-            (TouchHalts (BreaksWithin (state self.old) self.old.intervals first (first + pages)) (state self.old)
-            (state self.new)) }
-        ensures missing { (ss : List Space) → Sees (state self.old) (kept self.old) self.old.intervals ss
-            → IfErr result (MissesPage (range_units ss first (first + pages))) }
-        ensures sees { (ss : List Space) → Sees (state self.old) (kept self.old) self.old.intervals ss
-            → Sees (state self.new) (kept self.new) self.new.intervals ss }
-        ensures sound { (m : List Sector) (named : Triples) (ss : List Space) → Knows self.old m named ss
-            → IfErr result (λ e. e ≡ halt.Disk) }
-        ensures same { (m : List Sector) (named : Triples) (ss : List Space) → Knows self.old m named ss
-            → Knows self.new m named ss }
-        ensures reaches { Reaches (state self.old) (state self.new) }
-        ensures came { (m : List Sector) (named : Triples) (ss : List Space) → Knows self.old m named ss
-            → BringsKnown ss (state self.old).slots (state self.new).slots }
-        ensures intervals { self.new.intervals ≡ self.old.intervals }
+        ensures comes { BringsUnits first pages (core_view self.old) (core_view self.new) result }
+        ensures fails { FailsToBringRange first (first + pages) (core_view self.old) (core_view self.new) result }
+        ensures stays { StaysKnown (core_view self.old) (core_view self.new) }
+        ensures brings { FetchesKnown (core_view self.old) (core_view self.new) }
         ensures cost { (state self.new).disk.transfers ≤ (state self.old).disk.transfers
             + (self.old.intervals + length (state self.old).slots / 2 + 1) * 840 }
         ensures at_most { (state self.new).disk.transfers ≤ (state self.old).disk.transfers + 2580480 }
@@ -207,23 +145,9 @@ impl<D: Disk, A: Allocator> Core<D, A> {
             → IfOk result
             (AreBrought ss (kept self.new) (state self.new).slots first (first + pages)
             (length (state self.old).slots / 2)) }
-        ensures cause { IfErr result
-            (TouchHalts (BreaksWithin (state self.old) self.old.intervals first (first + pages)) (state self.old)
-            (state self.new)) }
-        ensures missing { (ss : List Space) → Sees (state self.old) (kept self.old) self.old.intervals ss
-            → IfErr result (MissesPage (range_units ss first (first + pages))) }
-        ensures sees { (ss : List Space) → Sees (state self.old) (kept self.old) self.old.intervals ss
-            → Sees (state self.new) (kept self.new) self.new.intervals ss }
-        ensures right { (ss : List Space) → Sees (state self.old) (kept self.old) self.old.intervals ss
-            → IfErr result NeverBlamesTables }
-        ensures sound { (m : List Sector) (named : Triples) (ss : List Space) → Knows self.old m named ss
-            → IfErr result (λ e. e ≡ halt.Disk) }
-        ensures same { (m : List Sector) (named : Triples) (ss : List Space) → Knows self.old m named ss
-            → Knows self.new m named ss }
-        ensures reaches { Reaches (state self.old) (state self.new) }
-        ensures came { (m : List Sector) (named : Triples) (ss : List Space) → Knows self.old m named ss
-            → BringsKnown ss (state self.old).slots (state self.new).slots }
-        ensures intervals { self.new.intervals ≡ self.old.intervals }
+        ensures fails { FailsToBringRange first (first + pages) (core_view self.old) (core_view self.new) result }
+        ensures stays { StaysKnown (core_view self.old) (core_view self.new) }
+        ensures brings { FetchesKnown (core_view self.old) (core_view self.new) }
         ensures cost { (state self.new).disk.transfers ≤ (state self.old).disk.transfers
             + (self.old.intervals + length (state self.old).slots / 2 + 2) * 840 }
         ensures at_most { (state self.new).disk.transfers ≤ (state self.old).disk.transfers + 2581320 }

@@ -1,20 +1,14 @@
 //! A reference that brings in no page of a client: its pages are described, and then looked for in the frames.
-ghost use Rattle.std.specs.Prelude.{◌≡◌, ◌≢◌, ◌≤◌, ◌<◌, ◌+◌, ◌/◌, List, None, IfOk, IfErr, IfSome, IsOk};
-ghost use Rattle.labelled_disk.specs.declared.evidence.Halt.TheVariants as halt;
-ghost use Rattle.labelled_disk.specs.Sectors.{Sector};
-ghost use Rattle.file_map.specs.FileMap.{Triples};
+ghost use Rattle.std.specs.Prelude.{◌≡◌, ◌≤◌, ◌<◌, ◌+◌, ◌/◌, None, IfSome, IsOk};
 ghost use Rattle.frame_pool.specs.Frames.{HasPage};
-ghost use Rattle.flat_machine.specs.declared.space.Space.{Space};
-ghost use Rattle.fault_core.specs.declared.reference.Access.TheVariants as access;
-ghost use Rattle.fault_core.specs.Access.{BreaksFor, Shows, access_of, last_page};
-ghost use Rattle.fault_core.specs.Attempt.{HasClient, IfAbsent, IfAccess, IfReady, IfSettled, IsAbsent, IsHere, IsReferred, IsUnfound, moved};
+ghost use Rattle.fault_core.specs.Access.{Shows, last_page};
+ghost use Rattle.fault_core.specs.Attempt.{IfAbsent, IfAccess, IfReady, IfSettled, IsUnfound, moved};
 ghost use Rattle.fault_core.specs.Kept.{AreApart};
 ghost use Rattle.fault_core.specs.Kill.{is_absent};
-ghost use Rattle.fault_core.specs.Reach.{BringsOwn, Reaches, ReachHalts, StayOrYield};
-ghost use Rattle.fault_core.specs.Room.{KeepsWhileEmpty};
-ghost use Rattle.fault_core.specs.Unit.{IsReady, IsSlotOf, file_page};
-ghost use Rattle.fault_core.specs.Lack.{Sees};
+ghost use Rattle.fault_core.specs.Unit.{IsReady, file_page};
 ghost use Rattle.filer_kernel.specs.View.{FitsLayout, view_of};
+ghost use Rattle.fault_core.specs.Comes.{Foresees};
+ghost use Rattle.fault_core.specs.Outcomes.{FailsAtReference, FindsAlone, StaysKnown};
 
 use crate::Core;
 use crate::reference::{Access, Reference, last_page};
@@ -91,7 +85,7 @@ fn look_for<D: Disk, A: Allocator>(
 }
 
 impl<D: Disk, A: Allocator> Core<D, A> {
-    ghost use Rattle.fault_core.specs.Core.{kept, state, Knows};
+    ghost use Rattle.fault_core.specs.Core.{core_view, kept, state};
 
     // What comes of a reference, before a byte of it is moved. All its pages are described here, then looked for in the
     // frames, and none of them is brought in.
@@ -104,41 +98,10 @@ impl<D: Disk, A: Allocator> Core<D, A> {
         requires size { FitsLayout (state self.old) }
         requires some { 1 ≤ count }
         requires few { count ≤ 512 }
-        ensures clients { IfOk result
-            (IfReady (λ i j. HasClient (state self.new).slots i × HasClient (state self.new).slots j)) }
-        ensures here { IfOk result
-            (IfReady (λ i j. IsHere (kept self.new) (state self.new).slots (last_page address count))) }
-        ensures slots { (m : List Sector) (named : Triples) (ss : List Space) → Knows self.old m named ss
-            → IfOk result
-            (IfReady
-            (λ i j.
-            IsSlotOf ss (state self.new).slots (address / 512) i
-            × IsSlotOf ss (state self.new).slots (last_page address count) j)) }
-        ensures granted { (m : List Sector) (named : Triples) (ss : List Space) → Knows self.old m named ss
-            → IfOk result (IfReady (λ i j. access.Done ≡ access_of ss writes address count)) }
-        ensures access { (m : List Sector) (named : Triples) (ss : List Space) → Knows self.old m named ss
-            → IfOk result (IfSettled (IfAccess (λ a. a ≡ access_of ss writes address count))) }
-        ensures absent { (m : List Sector) (named : Triples) (ss : List Space) → Knows self.old m named ss
-            → IfOk result (IfSettled (IfAbsent (IsAbsent ss (state self.new).slots writes address count))) }
-        ensures referred { IfOk result (IfSettled (IfAbsent (IsReferred address count))) }
-        ensures unmoved { IfOk result (IfSettled (λ t. t ≢ moved)) }
-        ensures cause { IfErr result
-            (ReachHalts (BreaksFor (state self.old) self.old.intervals address count) (state self.old)
-            (state self.new)) }
-        ensures sees { (ss : List Space) → Sees (state self.old) (kept self.old) self.old.intervals ss
-            → Sees (state self.new) (kept self.new) self.new.intervals ss }
-        ensures sound { (m : List Sector) (named : Triples) (ss : List Space) → Knows self.old m named ss
-            → IfErr result (λ e. e ≡ halt.Disk) }
-        ensures same { (m : List Sector) (named : Triples) (ss : List Space) → Knows self.old m named ss
-            → Knows self.new m named ss }
-        ensures reaches { Reaches (state self.old) (state self.new) }
-        ensures came { BringsOwn (state self.old).slots (state self.new).slots }
-        ensures room { KeepsWhileEmpty (state self.old).slots (state self.new).slots }
-        ensures stay { StayOrYield (state self.old).slots (state self.new).slots }
-        ensures intervals { self.new.intervals ≡ self.old.intervals }
-        ensures present { IsReady (kept self.old) (state self.old).slots (address / 512)
-            → IsReady (kept self.old) (state self.old).slots (last_page address count) → AreApart (kept self.old)
-            → IfOk result (IfSettled (IfAbsent (λ page. ⊥))) }
+        ensures comes { Foresees writes address count (core_view self.old) (core_view self.new) result }
+        ensures fails { FailsAtReference address count (core_view self.old) (core_view self.new) result }
+        ensures stays { StaysKnown (core_view self.old) (core_view self.new) }
+        ensures brings { FindsAlone (state self.old) (state self.new) }
         ensures idle { IsReady (kept self.old) (state self.old).slots (address / 512)
             → IsReady (kept self.old) (state self.old).slots (last_page address count) → AreApart (kept self.old)
             → IsOk result × (self.new.filer ≡ self.old.filer) × (kept self.new ≡ kept self.old) }

@@ -7,18 +7,15 @@ ghost use Rattle.flat_machine.specs.declared.space.Space.{Space};
 ghost use Rattle.flat_machine.specs.Space.{root_pages};
 ghost use Rattle.swap_units.specs.declared.interval.Interval.{Interval};
 ghost use Rattle.swap_units.specs.Unit.{Holds, has_page};
-ghost use Rattle.space_tables.specs.Answer.{IfMem, IfMalformed, NotRefused, FromMemory};
-ghost use Rattle.space_tables.specs.Form.{BreaksLookUp};
 ghost use Rattle.space_tables.specs.SpaceTables.{IsIntervalAt};
 ghost use Rattle.space_tables.specs.Stored.{RevealSpaces};
-ghost use Rattle.filer_kernel.specs.Tables.{IsTableAccounted};
-ghost use Rattle.fault_core.specs.Kept.{IsFormed, IsKept};
+ghost use Rattle.fault_core.specs.Kept.{IsFormed};
 ghost use Rattle.filer_kernel.specs.View.{FitsLayout, TablesAre, TablesBeside, view_of};
-ghost use Rattle.fault_core.specs.Reach.{Reaches, ReachHalts, BringsOwn, StayOrYield};
+ghost use Rattle.fault_core.specs.Reach.{ReachHalts};
 ghost use Rattle.fault_core.specs.Revealed.{Known, BreaksTables};
-ghost use Rattle.fault_core.specs.Room.{KeepsWhileEmpty};
-ghost use Rattle.fault_core.specs.Lack.{Sees};
-ghost use Rattle.fault_core.specs.NeverBlames.{NeverBlamesTables};
+ghost use Rattle.fault_core.specs.Comes.{Describes};
+ghost use Rattle.fault_core.specs.Finding.{FailsToAsk, LooksUp};
+ghost use Rattle.fault_core.specs.Outcomes.{FailsAtPage, FindsAlone, StaysKnown};
 
 use crate::Core;
 use filer_kernel::{Filer, TableMemory};
@@ -38,17 +35,9 @@ fn ask<D: Disk, A: Allocator>(
     requires few { intervals ≤ 1023 }
     ensures interval { (ss : List Space) → RevealSpaces (TablesAre (view_of filer.old)) intervals ss
         → IfOk result (λ o. IfSome o (IsIntervalAt ss page)) }
-    ensures right { (ss : List Space) → RevealSpaces (TablesAre (view_of filer.old)) intervals ss
-        → IfErr result FromMemory }
+    ensures fails { FailsToAsk intervals page (view_of filer.old) (view_of filer.new) result }
     ensures none { IfOk result (λ o. (o ≡ None) ↔ (root_pages ≤ page)) }
     ensures form { IfOk result (λ o. IfSome o (λ x. IsFormed x × Holds x page)) }
-    ensures malformed { (b : List ℕ) → TablesAre (view_of filer.old) b
-        → IfErr result (IfMalformed (BreaksLookUp page intervals b)) }
-    ensures refused { IfErr result NotRefused }
-    ensures cause { IfErr result
-        (IfMem
-        (IsTableAccounted (view_of filer.old).disk (view_of filer.old).slots (view_of filer.old).layout
-        (view_of filer.old).runs (view_of filer.new).disk)) }
     ensures same { (b : List ℕ) → TablesAre (view_of filer.old) b → TablesAre (view_of filer.new) b }
     ensures kept { TablesBeside (view_of filer.old) (view_of filer.new) }
     ensures cost { (view_of filer.new).disk.transfers ≤ (view_of filer.old).disk.transfers + 196 }
@@ -66,19 +55,13 @@ fn look_up<D: Disk, A: Allocator>(
     requires size { FitsLayout (view_of filer.old) }
     requires some { 1 ≤ intervals }
     requires few { intervals ≤ 1023 }
-    ensures none { IfOk result (λ o. (o ≡ None) ↔ (root_pages ≤ page)) }
-    ensures form { IfOk result (λ o. IfSome o (λ x. IsFormed x × Holds x page)) }
+    ensures comes { LooksUp intervals page (view_of filer.old) result }
     ensures cause { IfErr result
         (ReachHalts (BreaksTables (view_of filer.old) intervals page) (view_of filer.old) (view_of filer.new)) }
-    ensures interval { (b : List ℕ) (ss : List Space) → TablesAre (view_of filer.old) b
-        → RevealSpaces (λ c. c ≡ b) intervals ss → IfOk result (λ o. IfSome o (IsIntervalAt ss page)) }
     ensures sound { (m : List Sector) (named : Triples) (b : List ℕ) (ss : List Space)
         → Known (view_of filer.old) m named b → RevealSpaces (λ c. c ≡ b) intervals ss
         → IfErr result (λ e. e ≡ halt.Disk) }
-    ensures reaches { Reaches (view_of filer.old) (view_of filer.new) }
-    ensures came { BringsOwn (view_of filer.old).slots (view_of filer.new).slots }
-    ensures room { KeepsWhileEmpty (view_of filer.old).slots (view_of filer.new).slots }
-    ensures stay { StayOrYield (view_of filer.old).slots (view_of filer.new).slots }
+    ensures brings { FindsAlone (view_of filer.old) (view_of filer.new) }
     ensures cost { (view_of filer.new).disk.transfers ≤ (view_of filer.old).disk.transfers + 196 }
 {
     if page >= ROOT_PAGES {
@@ -96,32 +79,16 @@ fn look_up<D: Disk, A: Allocator>(
 }
 
 impl<D: Disk, A: Allocator> Core<D, A> {
-    ghost use Rattle.fault_core.specs.Core.{kept, state, Knows};
+    ghost use Rattle.fault_core.specs.Core.{core_view, kept, state};
 
     /// The interval of the projection that holds a page, or None where the page is not one of the root. An interval that is
     /// kept is given without a transfer.
     pub fn describe(&mut self, page: u32) -> Result<Option<Interval>, Halt>
         requires size { FitsLayout (state self.old) }
-        ensures none { IfOk result (λ o. (o ≡ None) ↔ (root_pages ≤ page)) }
-        ensures form { IfOk result (λ o. IfSome o (λ x. IsFormed x × Holds x page)) }
-        ensures is_kept { IfOk result (λ o. IfSome o (IsKept (kept self.new))) }
-        ensures cause { IfErr result
-            (ReachHalts (BreaksTables (state self.old) self.old.intervals page) (state self.old) (state self.new)) }
-        ensures sees { (ss : List Space) → Sees (state self.old) (kept self.old) self.old.intervals ss
-            → Sees (state self.new) (kept self.new) self.new.intervals ss }
-        ensures right { (ss : List Space) → Sees (state self.old) (kept self.old) self.old.intervals ss
-            → IfErr result NeverBlamesTables }
-        ensures interval { (m : List Sector) (named : Triples) (ss : List Space) → Knows self.old m named ss
-            → IfOk result (λ o. IfSome o (IsIntervalAt ss page)) }
-        ensures sound { (m : List Sector) (named : Triples) (ss : List Space) → Knows self.old m named ss
-            → IfErr result (λ e. e ≡ halt.Disk) }
-        ensures same { (m : List Sector) (named : Triples) (ss : List Space) → Knows self.old m named ss
-            → Knows self.new m named ss }
-        ensures reaches { Reaches (state self.old) (state self.new) }
-        ensures came { BringsOwn (state self.old).slots (state self.new).slots }
-        ensures room { KeepsWhileEmpty (state self.old).slots (state self.new).slots }
-        ensures stay { StayOrYield (state self.old).slots (state self.new).slots }
-        ensures intervals { self.new.intervals ≡ self.old.intervals }
+        ensures comes { Describes page (core_view self.old) (core_view self.new) result }
+        ensures fails { FailsAtPage page (core_view self.old) (core_view self.new) result }
+        ensures stays { StaysKnown (core_view self.old) (core_view self.new) }
+        ensures brings { FindsAlone (state self.old) (state self.new) }
         ensures idle { (x : Interval) → find (has_page page) (kept self.old) ≡ Some x
             → (result ≡ Ok (Some x)) × (self.new.filer ≡ self.old.filer) × (kept self.new ≡ kept self.old) }
         ensures cost { (state self.new).disk.transfers ≤ (state self.old).disk.transfers + 196 }

@@ -1,6 +1,5 @@
 //! Pages of a range that may be stored to are given up without a write: their bytes are those of the disk again.
-ghost use Rattle.std.specs.Prelude.{◌≡◌, ◌≤◌, ◌<◌, ◌+◌, ◌*◌, ℕ, List, [], Some, IfOk, IfErr, IsOk, OnOk, find};
-ghost use Rattle.labelled_disk.specs.declared.evidence.Halt.TheVariants as halt;
+ghost use Rattle.std.specs.Prelude.{◌≡◌, ◌≤◌, ◌<◌, ◌+◌, ◌*◌, ℕ, List, [], Some, IsOk, OnOk, find};
 ghost use Rattle.labelled_disk.specs.Sectors.{Sector};
 ghost use Rattle.file_map.specs.FileMap.{Triples};
 ghost use Rattle.flat_machine.specs.declared.space.Space.{Space};
@@ -9,19 +8,18 @@ ghost use Rattle.swapper_kernel.specs.Differs.{Differs};
 ghost use Rattle.swapper_kernel.specs.Goes.{no_page};
 ghost use Rattle.session_words.specs.CellLaws.{Kills, is_killed};
 ghost use Rattle.session_words.specs.Volume.{volume_page};
-ghost use Rattle.swap_units.specs.declared.interval.Interval.{Interval as IntervalIs};
 ghost use Rattle.swap_units.specs.Unit.{has_page};
 ghost use Rattle.fault_core.specs.Kept.{AreFound};
-ghost use Rattle.fault_core.specs.Kill.{AreWritableSo, BreaksWithin, LeavesCore, ShowsPart, is_absent, may_store, of_part};
+ghost use Rattle.fault_core.specs.Kill.{AreWritableSo, LeavesCore, ShowsPart, is_absent, may_store, of_part};
 ghost use Rattle.fault_core.specs.Moves.{Leaves};
-ghost use Rattle.fault_core.specs.Range.{IsNextPart};
-ghost use Rattle.fault_core.specs.Reach.{ReachHalts, BringsOwn};
-ghost use Rattle.fault_core.specs.Revealed.{BreaksTables, Known};
+ghost use Rattle.fault_core.specs.Reach.{BringsOwn};
+ghost use Rattle.fault_core.specs.Revealed.{Known};
 ghost use Rattle.fault_core.specs.Touch.{Touches};
 ghost use Rattle.fault_core.specs.Unit.{file_page};
-ghost use Rattle.filer_kernel.specs.View.{disk_of, FitsLayout, GoesTo, HasMemory, view_of};
-ghost use Rattle.fault_core.specs.Lack.{Sees};
-ghost use Rattle.fault_core.specs.NeverBlames.{NeverBlamesTables};
+ghost use Rattle.filer_kernel.specs.View.{disk_of, FitsLayout, GoesTo, view_of};
+ghost use Rattle.fault_core.specs.Comes.{KillsPart};
+ghost use Rattle.swap_units.specs.declared.interval.Interval.{Interval as IntervalIs};
+ghost use Rattle.fault_core.specs.Outcomes.{ChangesBy, FailsAtPage, FailsInRange, StaysSeen, StaysRevealed};
 
 use crate::Core;
 use crate::walk::end_of;
@@ -56,7 +54,7 @@ fn discard_shown<D: Disk, A: Allocator>(filer: &mut Filer<D, A>, x: &Interval, p
 }
 
 impl<D: Disk, A: Allocator> Core<D, A> {
-    ghost use Rattle.fault_core.specs.Core.{kept, state, Knows};
+    ghost use Rattle.fault_core.specs.Core.{Knows, core_view, kept, state};
 
     // The same of the interval that holds a page, from that page on, where it may be stored to. Gives the page where it ends,
     // or the range does.
@@ -64,24 +62,14 @@ impl<D: Disk, A: Allocator> Core<D, A> {
         requires size { FitsLayout (state self.old) }
         requires before { page < end }
         requires in_root { end ≤ root_pages }
-        ensures next { IfOk result (λ next. (page < next) × (next ≤ end)) }
-        ensures part { (m : List Sector) (named : Triples) (ss : List Space) → Knows self.old m named ss
-            → IfOk result (IsNextPart ss page end) }
-        ensures gone { (m : List Sector) (named : Triples) (ss : List Space) → Knows self.old m named ss
-            → IfOk result (AreWritableSo (is_absent (state self.new).slots) ss page) }
-        ensures cause { IfErr result
-            (ReachHalts (BreaksTables (state self.old) self.old.intervals page) (state self.old) (state self.new)) }
-        ensures sees { (ss : List Space) → Sees (state self.old) (kept self.old) self.old.intervals ss
-            → Sees (state self.new) (kept self.new) self.new.intervals ss }
-        ensures sound { (m : List Sector) (named : Triples) (ss : List Space) → Knows self.old m named ss
-            → IfErr result (λ e. e ≡ halt.Disk) }
+        ensures comes { KillsPart page end (core_view self.old) (core_view self.new) result }
+        ensures fails { FailsAtPage page (core_view self.old) (core_view self.new) result }
+        ensures stays { StaysSeen (core_view self.old) (core_view self.new) }
         ensures left { (m : List Sector) (named : Triples) (ss : List Space) (range : Space) → Knows self.old m named ss
             → range.first ≤ page → end ≤ range.first + range.pages
             → LeavesCore (Differs (is_killed (state self.old).layout.sectors ss range)) m named ss (state self.new)
             (kept self.new) self.new.intervals }
-        ensures touches { Touches no_page (state self.old) (state self.new) }
-        ensures came { BringsOwn (state self.old).slots (state self.new).slots }
-        ensures intervals { self.new.intervals ≡ self.old.intervals }
+        ensures brings { ChangesBy no_page BringsOwn (state self.old) (state self.new) }
         ensures idle { (x : IntervalIs) → find (has_page page) (kept self.old) ≡ Some x
             → IsOk result × ((state self.new).disk ≡ (state self.old).disk) × (kept self.new ≡ kept self.old) }
         ensures cost { (state self.new).disk.transfers ≤ (state self.old).disk.transfers + 196 }
@@ -104,23 +92,12 @@ impl<D: Disk, A: Allocator> Core<D, A> {
         requires size { FitsLayout (state self.old) }
         ensures gone { (m : List Sector) (named : Triples) (ss : List Space) → Knows self.old m named ss
             → OnOk result (AreWritableSo (is_absent (state self.new).slots) ss first (first + pages)) }
-        ensures cause { IfErr result
-            (ReachHalts (BreaksWithin (state self.old) self.old.intervals first (first + pages)) (state self.old)
-            (state self.new)) }
-        ensures sees { (ss : List Space) → Sees (state self.old) (kept self.old) self.old.intervals ss
-            → Sees (state self.new) (kept self.new) self.new.intervals ss }
-        ensures right { (ss : List Space) → Sees (state self.old) (kept self.old) self.old.intervals ss
-            → IfErr result NeverBlamesTables }
-        ensures sound { (m : List Sector) (named : Triples) (ss : List Space) → Knows self.old m named ss
-            → IfErr result (λ e. e ≡ halt.Disk) }
+        ensures fails { FailsInRange first (first + pages) (core_view self.old) (core_view self.new) result }
+        ensures stays { StaysRevealed (core_view self.old) (core_view self.new) }
         ensures killed { (m : List Sector) (named : Triples) (ss : List Space) (range : Space)
             → Knows self.old m named ss → range.first ≡ first → range.pages ≡ pages
             → GoesTo (Kills ss range) volume_page [] (state self.old) (state self.new) }
-        ensures known { (m n : List Sector) (named : Triples) (ss : List Space) → Knows self.old m named ss
-            → HasMemory (state self.new) n → Knows self.new n named ss }
-        ensures touches { Touches no_page (state self.old) (state self.new) }
-        ensures came { BringsOwn (state self.old).slots (state self.new).slots }
-        ensures intervals { self.new.intervals ≡ self.old.intervals }
+        ensures brings { ChangesBy no_page BringsOwn (state self.old) (state self.new) }
         ensures idle { AreFound (kept self.old) first (first + pages)
             → IsOk result × ((state self.new).disk ≡ (state self.old).disk) × (kept self.new ≡ kept self.old) }
         ensures cost { (state self.new).disk.transfers ≤ (state self.old).disk.transfers + (self.old.intervals + 1)

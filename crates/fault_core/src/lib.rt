@@ -18,6 +18,7 @@ mod resident;
 mod search;
 mod shown;
 mod store;
+mod store_ready;
 mod touch;
 mod unit;
 mod walk;

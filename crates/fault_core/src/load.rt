@@ -1,23 +1,20 @@
 //! Bytes are loaded from the pages that windows show.
-ghost use Rattle.std.specs.Prelude.{◌≡◌, ◌≢◌, ◌≤◌, ◌<◌, ◌+◌, ◌/◌, ◌%◌, ℕ, false, List, length, slice_get, Ok, IfOk, IfErr, IsOk, OnOk, OnErr};
-ghost use Rattle.labelled_disk.specs.declared.evidence.Halt.TheVariants as halt;
+ghost use Rattle.std.specs.Prelude.{◌≡◌, ◌≤◌, ◌<◌, ◌+◌, ◌/◌, ◌%◌, ℕ, false, List, length, slice_get, Ok, IsOk, OnOk};
 ghost use Rattle.labelled_disk.specs.Sectors.{Sector};
 ghost use Rattle.file_map.specs.FileMap.{Triples};
 ghost use Rattle.flat_machine.specs.declared.space.Space.{Space};
 ghost use Rattle.fault_core.specs.declared.reference.Access.TheVariants as access;
-ghost use Rattle.session_words.specs.FrameLaws.{BringsKnown};
-ghost use Rattle.fault_core.specs.Access.{BreaksFor, Shows, access_of, last_page};
-ghost use Rattle.fault_core.specs.Attempt.{ArePresent, IfAbsent, IfAccess, IsAbsent, IsHere, IsReferred, moved};
+ghost use Rattle.fault_core.specs.Access.{Shows, access_of, last_page};
+ghost use Rattle.fault_core.specs.Attempt.{moved};
 ghost use Rattle.fault_core.specs.Kept.{AreApart};
-ghost use Rattle.fault_core.specs.Moves.{AreSeen, HasBytes, Loads};
+ghost use Rattle.fault_core.specs.Moves.{Loads};
 ghost use Rattle.fault_core.specs.Ready.{AreLoaded};
 ghost use Rattle.filer_kernel.specs.View.{FitsLayout, view_of};
-ghost use Rattle.fault_core.specs.Reach.{BringsOwn, Reaches, ReachHalts, StayOrYield, TouchHalts, no_break};
-ghost use Rattle.fault_core.specs.Room.{KeepsWhileEmpty};
-ghost use Rattle.fault_core.specs.Revealed.{Known};
-ghost use Rattle.fault_core.specs.Unit.{AreShownStored, BringsBoth, BringsShown, IsReady, IsWhole, file_page};
-ghost use Rattle.fault_core.specs.Lack.{MissesPage, Sees, both_units, shown_units, unit_pages};
-ghost use Rattle.fault_core.specs.NeverBlames.{NeverBlamesTables};
+ghost use Rattle.fault_core.specs.Unit.{AreShownStored, BringsBoth, BringsShown, IsReady, IsWhole};
+ghost use Rattle.fault_core.specs.Lack.{both_units, unit_pages};
+ghost use Rattle.fault_core.specs.Comes.{Accesses, Attempts, LoadsBytes, TriesToLoad};
+ghost use Rattle.fault_core.specs.Finding.{LoadsPart, LoadsShown};
+ghost use Rattle.fault_core.specs.Outcomes.{FailsAtReference, FailsToBringReference, FailsToFind, FetchesKnown, FindsAlone, FindsBy, StaysKnown};
 
 use crate::Core;
 use crate::attempt::Attempt;
@@ -41,17 +38,11 @@ fn load_in<D: Disk, A: Allocator>(
     requires size { FitsLayout (view_of filer.old) }
     requires shows { Shows x.now page }
     requires inside { from + length into.old ≤ 512 }
-    ensures bytes { (m : List Sector) (named : Triples) (b : List ℕ) → Known (view_of filer.old) m named b
-        → AreShownStored named m x.now → OnOk result (HasBytes x.now.id (file_page x.now page) from into.new m) }
-    ensures width { length into.new ≡ length into.old }
-    ensures intact { OnErr result (into.new ≡ into.old) }
+    ensures moves { LoadsPart x.now page from into.old into.new (view_of filer.old) result }
     ensures whole { OnOk result (IsWhole (view_of filer.new).slots x.now page) }
-    ensures cause { IfErr result (TouchHalts no_break (view_of filer.old) (view_of filer.new)) }
-    ensures misses { IfErr result (MissesPage (unit_pages x.now page)) }
-    ensures sound { (m : List Sector) (named : Triples) (b : List ℕ) → Known (view_of filer.old) m named b
-        → AreShownStored named m x.now → IfErr result (λ e. e ≡ halt.Disk) }
-    ensures reaches { Reaches (view_of filer.old) (view_of filer.new) }
-    ensures came { BringsShown x.now (view_of filer.old).slots (view_of filer.new).slots }
+    ensures fails { FailsToFind (unit_pages x.now page) (λ named m. AreShownStored named m x.now) (view_of filer.old)
+        (view_of filer.new) result }
+    ensures brings { FindsBy (BringsShown x.now) (view_of filer.old) (view_of filer.new) }
     ensures idle { IsWhole (view_of filer.old).slots x.now page → IsOk result × (filer.new ≡ filer.old) }
     ensures cost { (view_of filer.new).disk.transfers ≤ (view_of filer.old).disk.transfers + 256 }
 {
@@ -77,18 +68,12 @@ fn load_shown<D: Disk, A: Allocator>(
     requires first { Shows first.now (address / 512) }
     requires last { Shows last.now (last_page address (length into.old)) }
     requires one { address / 512 ≡ last_page address (length into.old) → last.now ≡ first.now }
-    ensures bytes { (m : List Sector) (named : Triples) (b : List ℕ) (ss : List Space)
-        → Known (view_of filer.old) m named b → AreSeen ss named m first.now → AreSeen ss named m last.now
-        → OnOk result (Loads ss address into.new m) }
-    ensures width { length into.new ≡ length into.old }
-    ensures intact { address % 512 + length into.old ≤ 512 → OnErr result (into.new ≡ into.old) }
+    ensures moves { LoadsShown first.now last.now address into.old into.new (view_of filer.old) result }
     ensures whole { OnOk result (IsWhole (view_of filer.new).slots last.now (last_page address (length into.old))) }
-    ensures cause { IfErr result (TouchHalts no_break (view_of filer.old) (view_of filer.new)) }
-    ensures misses { IfErr result (MissesPage (both_units first.now last.now address (length into.old))) }
-    ensures sound { (m : List Sector) (named : Triples) (b : List ℕ) → Known (view_of filer.old) m named b
-        → AreShownStored named m first.now → AreShownStored named m last.now → IfErr result (λ e. e ≡ halt.Disk) }
-    ensures reaches { Reaches (view_of filer.old) (view_of filer.new) }
-    ensures came { BringsBoth first.now last.now (view_of filer.old).slots (view_of filer.new).slots }
+    ensures fails { FailsToFind (both_units first.now last.now address (length into.old))
+        (λ named m. AreShownStored named m first.now × AreShownStored named m last.now) (view_of filer.old)
+        (view_of filer.new) result }
+    ensures brings { FindsBy (BringsBoth first.now last.now) (view_of filer.old) (view_of filer.new) }
     ensures idle { IsWhole (view_of filer.old).slots first.now (address / 512)
         → IsWhole (view_of filer.old).slots last.now (last_page address (length into.old))
         → IsOk result × (filer.new ≡ filer.old) }
@@ -108,40 +93,19 @@ fn load_shown<D: Disk, A: Allocator>(
 }
 
 impl<D: Disk, A: Allocator> Core<D, A> {
-    ghost use Rattle.fault_core.specs.Core.{kept, state, Knows};
+    ghost use Rattle.fault_core.specs.Core.{Knows, core_view, kept, state};
 
     // Loads 1 to 512 bytes, and brings in what is not resident.
     fn bring_and_load(&mut self, address: u32, into: &mut [u8]) -> Result<Access, Halt>
         requires size { FitsLayout (state self.old) }
         requires some { 1 ≤ length into.old }
         requires few { length into.old ≤ 512 }
-        ensures access { (m : List Sector) (named : Triples) (ss : List Space) → Knows self.old m named ss
-            → IfOk result (λ a. a ≡ access_of ss false address (length into.old)) }
-        ensures bytes { (m : List Sector) (named : Triples) (ss : List Space) → Knows self.old m named ss
-            → IfOk result (λ a. a ≡ access.Done → Loads ss address into.new m) }
-        ensures width { length into.new ≡ length into.old }
-        ensures refused { IfOk result (λ a. a ≢ access.Done → into.new ≡ into.old) }
-        ensures intact { address % 512 + length into.old ≤ 512 → OnErr result (into.new ≡ into.old) }
-        ensures ready { IfOk result
-            (λ a.
-            a ≡ access.Done → IsReady (kept self.new) (state self.new).slots (last_page address (length into.old))) }
-        ensures cause { IfErr result
-            (TouchHalts (BreaksFor (state self.old) self.old.intervals address (length into.old)) (state self.old)
-            (state self.new)) }
-        ensures missing { (ss : List Space) → Sees (state self.old) (kept self.old) self.old.intervals ss
-            → IfErr result (MissesPage (shown_units ss address (length into.old))) }
-        ensures sees { (ss : List Space) → Sees (state self.old) (kept self.old) self.old.intervals ss
-            → Sees (state self.new) (kept self.new) self.new.intervals ss }
-        ensures right { (ss : List Space) → Sees (state self.old) (kept self.old) self.old.intervals ss
-            → IfErr result NeverBlamesTables }
-        ensures sound { (m : List Sector) (named : Triples) (ss : List Space) → Knows self.old m named ss
-            → IfErr result (λ e. e ≡ halt.Disk) }
-        ensures same { (m : List Sector) (named : Triples) (ss : List Space) → Knows self.old m named ss
-            → Knows self.new m named ss }
-        ensures reaches { Reaches (state self.old) (state self.new) }
-        ensures came { (m : List Sector) (named : Triples) (ss : List Space) → Knows self.old m named ss
-            → BringsKnown ss (state self.old).slots (state self.new).slots }
-        ensures intervals { self.new.intervals ≡ self.old.intervals }
+        ensures comes { Accesses false address (length into.old) (core_view self.old) (core_view self.new) result }
+        ensures moves { LoadsBytes address into.old into.new (core_view self.old) result }
+        ensures fails { FailsToBringReference address (length into.old) (core_view self.old) (core_view self.new)
+            result }
+        ensures stays { StaysKnown (core_view self.old) (core_view self.new) }
+        ensures brings { FetchesKnown (core_view self.old) (core_view self.new) }
         ensures idle { IsReady (kept self.old) (state self.old).slots (address / 512)
             → IsReady (kept self.old) (state self.old).slots (last_page address (length into.old))
             → AreApart (kept self.old)
@@ -182,33 +146,12 @@ impl<D: Disk, A: Allocator> Core<D, A> {
         requires size { FitsLayout (state self.old) }
         requires some { 1 ≤ length into.old }
         requires few { length into.old ≤ 512 }
-        ensures access { (m : List Sector) (named : Triples) (ss : List Space) → Knows self.old m named ss
-            → IfOk result (λ a. a ≡ access_of ss false address (length into.old)) }
-        ensures bytes { (m : List Sector) (named : Triples) (ss : List Space) → Knows self.old m named ss
-            → IfOk result (λ a. a ≡ access.Done → Loads ss address into.new m) }
-        ensures width { length into.new ≡ length into.old }
-        ensures refused { IfOk result (λ a. a ≢ access.Done → into.new ≡ into.old) }
-        ensures intact { address % 512 + length into.old ≤ 512 → OnErr result (into.new ≡ into.old) }
-        ensures ready { IfOk result
-            (λ a.
-            a ≡ access.Done → IsReady (kept self.new) (state self.new).slots (last_page address (length into.old))) }
-        ensures cause { IfErr result
-            (TouchHalts (BreaksFor (state self.old) self.old.intervals address (length into.old)) (state self.old)
-            (state self.new)) }
-        ensures missing { (ss : List Space) → Sees (state self.old) (kept self.old) self.old.intervals ss
-            → IfErr result (MissesPage (shown_units ss address (length into.old))) }
-        ensures sees { (ss : List Space) → Sees (state self.old) (kept self.old) self.old.intervals ss
-            → Sees (state self.new) (kept self.new) self.new.intervals ss }
-        ensures right { (ss : List Space) → Sees (state self.old) (kept self.old) self.old.intervals ss
-            → IfErr result NeverBlamesTables }
-        ensures sound { (m : List Sector) (named : Triples) (ss : List Space) → Knows self.old m named ss
-            → IfErr result (λ e. e ≡ halt.Disk) }
-        ensures same { (m : List Sector) (named : Triples) (ss : List Space) → Knows self.old m named ss
-            → Knows self.new m named ss }
-        ensures reaches { Reaches (state self.old) (state self.new) }
-        ensures came { (m : List Sector) (named : Triples) (ss : List Space) → Knows self.old m named ss
-            → BringsKnown ss (state self.old).slots (state self.new).slots }
-        ensures intervals { self.new.intervals ≡ self.old.intervals }
+        ensures comes { Accesses false address (length into.old) (core_view self.old) (core_view self.new) result }
+        ensures moves { LoadsBytes address into.old into.new (core_view self.old) result }
+        ensures fails { FailsToBringReference address (length into.old) (core_view self.old) (core_view self.new)
+            result }
+        ensures stays { StaysKnown (core_view self.old) (core_view self.new) }
+        ensures brings { FetchesKnown (core_view self.old) (core_view self.new) }
         ensures idle { IsReady (kept self.old) (state self.old).slots (address / 512)
             → IsReady (kept self.old) (state self.old).slots (last_page address (length into.old))
             → AreApart (kept self.old)
@@ -227,38 +170,11 @@ impl<D: Disk, A: Allocator> Core<D, A> {
         requires size { FitsLayout (state self.old) }
         requires some { 1 ≤ length into.old }
         requires few { length into.old ≤ 512 }
-        ensures access { (m : List Sector) (named : Triples) (ss : List Space) → Knows self.old m named ss
-            → IfOk result (IfAccess (λ a. a ≡ access_of ss false address (length into.old))) }
-        ensures absent { (m : List Sector) (named : Triples) (ss : List Space) → Knows self.old m named ss
-            → IfOk result (IfAbsent (IsAbsent ss (state self.new).slots false address (length into.old))) }
-        ensures present { (m : List Sector) (named : Triples) (ss : List Space) → Knows self.old m named ss
-            → IfOk result (λ t. t ≡ moved → ArePresent ss (state self.new).slots address (length into.old)) }
-        ensures bytes { (m : List Sector) (named : Triples) (ss : List Space) → Knows self.old m named ss
-            → IfOk result (λ t. t ≡ moved → Loads ss address into.new m) }
-        ensures width { length into.new ≡ length into.old }
-        ensures unmoved { result ≢ Ok moved → into.new ≡ into.old }
-        ensures referred { IfOk result (IfAbsent (IsReferred address (length into.old))) }
-        ensures here { IfOk result
-            (λ t. t ≡ moved → IsHere (kept self.new) (state self.new).slots (last_page address (length into.old))) }
-        ensures cause { IfErr result
-            (ReachHalts (BreaksFor (state self.old) self.old.intervals address (length into.old)) (state self.old)
-            (state self.new)) }
-        ensures sees { (ss : List Space) → Sees (state self.old) (kept self.old) self.old.intervals ss
-            → Sees (state self.new) (kept self.new) self.new.intervals ss }
-        ensures right { (ss : List Space) → Sees (state self.old) (kept self.old) self.old.intervals ss
-            → IfErr result NeverBlamesTables }
-        ensures sound { (m : List Sector) (named : Triples) (ss : List Space) → Knows self.old m named ss
-            → IfErr result (λ e. e ≡ halt.Disk) }
-        ensures same { (m : List Sector) (named : Triples) (ss : List Space) → Knows self.old m named ss
-            → Knows self.new m named ss }
-        ensures reaches { Reaches (state self.old) (state self.new) }
-        ensures came { BringsOwn (state self.old).slots (state self.new).slots }
-        ensures room { KeepsWhileEmpty (state self.old).slots (state self.new).slots }
-        ensures stay { StayOrYield (state self.old).slots (state self.new).slots }
-        ensures intervals { self.new.intervals ≡ self.old.intervals }
-        ensures ready { IsReady (kept self.old) (state self.old).slots (address / 512)
-            → IsReady (kept self.old) (state self.old).slots (last_page address (length into.old))
-            → AreApart (kept self.old) → IfOk result (IfAbsent (λ page. ⊥)) }
+        ensures comes { Attempts false address (length into.old) (core_view self.old) (core_view self.new) result }
+        ensures moves { TriesToLoad address into.old into.new (core_view self.old) result }
+        ensures fails { FailsAtReference address (length into.old) (core_view self.old) (core_view self.new) result }
+        ensures stays { StaysKnown (core_view self.old) (core_view self.new) }
+        ensures brings { FindsAlone (state self.old) (state self.new) }
         ensures idle { IsReady (kept self.old) (state self.old).slots (address / 512)
             → IsReady (kept self.old) (state self.old).slots (last_page address (length into.old))
             → AreApart (kept self.old)

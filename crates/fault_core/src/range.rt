@@ -6,16 +6,15 @@ ghost use Rattle.file_map.specs.FileMap.{Triples};
 ghost use Rattle.flat_machine.specs.declared.space.Space.{Space};
 ghost use Rattle.fault_core.specs.declared.range.WriteBack.TheVariants as way_is;
 ghost use Rattle.force_calls.specs.Run.{OnlyRun, Stay};
-ghost use Rattle.swap_units.specs.declared.interval.Interval.{Interval as IntervalIs};
 ghost use Rattle.swap_units.specs.Unit.{has_page};
-ghost use Rattle.fault_core.specs.Kill.{BreaksWithin};
-ghost use Rattle.fault_core.specs.Range.{AreWrittenBack, IsWrittenBack, IsNextPart, LeavesFrames};
+ghost use Rattle.fault_core.specs.Range.{AreWrittenBack, IsWrittenBack, LeavesFrames};
 ghost use Rattle.fault_core.specs.Unit.{file_page};
 ghost use Rattle.filer_kernel.specs.View.{FitsLayout, view_of};
 ghost use Rattle.fault_core.specs.Reach.{Reaches, ReachHalts, BringsOwn, StayOrYield, no_break};
-ghost use Rattle.fault_core.specs.Revealed.{BreaksTables, Known};
-ghost use Rattle.fault_core.specs.Lack.{Sees};
-ghost use Rattle.fault_core.specs.NeverBlames.{NeverBlamesTables};
+ghost use Rattle.fault_core.specs.Revealed.{Known};
+ghost use Rattle.fault_core.specs.Comes.{WritesPart};
+ghost use Rattle.swap_units.specs.declared.interval.Interval.{Interval as IntervalIs};
+ghost use Rattle.fault_core.specs.Outcomes.{FailsAtPage, FailsInRange, FindsBy, StaysKnown};
 
 use crate::Core;
 use crate::walk::end_of;
@@ -102,34 +101,22 @@ fn write_back_run<D: Disk, A: Allocator>(
 }
 
 impl<D: Disk, A: Allocator> Core<D, A> {
-    ghost use Rattle.fault_core.specs.Core.{kept, state, Knows};
+    ghost use Rattle.fault_core.specs.Core.{Knows, core_view, kept, state};
 
     // What one interval shows of a range from a page on is flushed or evicted. The first page after it is given.
     fn write_back_part(&mut self, write_back: WriteBack, page: u32, end: u32) -> Result<u32, Halt>
         requires size { FitsLayout (state self.old) }
         requires below { page < end }
-        ensures further { IfOk result (λ next. (page < next) × (next ≤ end)) }
-        ensures rest { (m : List Sector) (named : Triples) (ss : List Space) → Knows self.old m named ss
-            → IfOk result (AreWrittenBack write_back ss (state self.new).slots page) }
-        ensures part { (m : List Sector) (named : Triples) (ss : List Space) → Knows self.old m named ss
-            → IfOk result (IsNextPart ss page end) }
-        ensures cause { IfErr result
-            (ReachHalts (BreaksTables (state self.old) self.old.intervals page) (state self.old) (state self.new)) }
-        ensures sees { (ss : List Space) → Sees (state self.old) (kept self.old) self.old.intervals ss
-            → Sees (state self.new) (kept self.new) self.new.intervals ss }
-        ensures sound { (m : List Sector) (named : Triples) (ss : List Space) → Knows self.old m named ss
-            → IfErr result (λ e. e ≡ halt.Disk) }
-        ensures same { (m : List Sector) (named : Triples) (ss : List Space) → Knows self.old m named ss
-            → Knows self.new m named ss }
-        ensures reaches { Reaches (state self.old) (state self.new) }
-        ensures came { BringsOwn (state self.old).slots (state self.new).slots }
+        ensures comes { WritesPart write_back page end (core_view self.old) (core_view self.new) result }
+        ensures fails { FailsAtPage page (core_view self.old) (core_view self.new) result }
+        ensures stays { StaysKnown (core_view self.old) (core_view self.new) }
+        ensures brings { FindsBy BringsOwn (state self.old) (state self.new) }
         ensures stay { write_back ≡ way_is.Flush → StayOrYield (state self.old).slots (state self.new).slots }
         ensures frames { (x : IntervalIs) → find (has_page page) (kept self.old) ≡ Some x → end ≤ x.first + x.pages
             → LeavesFrames write_back x.id (file_page x page) (end - page) (state self.old).slots
             (state self.new).slots }
         ensures all { (x : IntervalIs) → find (has_page page) (kept self.old) ≡ Some x → end ≤ x.first + x.pages
             → IfOk result (λ next. next ≡ end) }
-        ensures intervals { self.new.intervals ≡ self.old.intervals }
         ensures cost { (state self.new).disk.transfers ≤ (state self.old).disk.transfers
             + (196 + length (state self.old).slots) }
     {
@@ -164,24 +151,13 @@ impl<D: Disk, A: Allocator> Core<D, A> {
         requires size { FitsLayout (state self.old) }
         ensures rest { (m : List Sector) (named : Triples) (ss : List Space) → Knows self.old m named ss
             → OnOk result (AreWrittenBack write_back ss (state self.new).slots first (first + pages)) }
-        ensures cause { IfErr result
-            (ReachHalts (BreaksWithin (state self.old) self.old.intervals first (first + pages)) (state self.old)
-            (state self.new)) }
-        ensures sees { (ss : List Space) → Sees (state self.old) (kept self.old) self.old.intervals ss
-            → Sees (state self.new) (kept self.new) self.new.intervals ss }
-        ensures right { (ss : List Space) → Sees (state self.old) (kept self.old) self.old.intervals ss
-            → IfErr result NeverBlamesTables }
-        ensures sound { (m : List Sector) (named : Triples) (ss : List Space) → Knows self.old m named ss
-            → IfErr result (λ e. e ≡ halt.Disk) }
-        ensures same { (m : List Sector) (named : Triples) (ss : List Space) → Knows self.old m named ss
-            → Knows self.new m named ss }
-        ensures reaches { Reaches (state self.old) (state self.new) }
-        ensures came { BringsOwn (state self.old).slots (state self.new).slots }
+        ensures fails { FailsInRange first (first + pages) (core_view self.old) (core_view self.new) result }
+        ensures stays { StaysKnown (core_view self.old) (core_view self.new) }
+        ensures brings { FindsBy BringsOwn (state self.old) (state self.new) }
         ensures stay { write_back ≡ way_is.Flush → StayOrYield (state self.old).slots (state self.new).slots }
         ensures frames { (x : IntervalIs) → find (has_page first) (kept self.old) ≡ Some x
             → first + pages ≤ x.first + x.pages
             → LeavesFrames write_back x.id (file_page x first) pages (state self.old).slots (state self.new).slots }
-        ensures intervals { self.new.intervals ≡ self.old.intervals }
         ensures cost { (state self.new).disk.transfers ≤ (state self.old).disk.transfers + (self.old.intervals + 1)
             * (196 + length (state self.old).slots) }
     {
@@ -206,23 +182,12 @@ impl<D: Disk, A: Allocator> Core<D, A> {
         requires size { FitsLayout (state self.old) }
         ensures clean { (m : List Sector) (named : Triples) (ss : List Space) → Knows self.old m named ss
             → OnOk result (AreWrittenBack way_is.Flush ss (state self.new).slots first (first + pages)) }
-        ensures cause { IfErr result
-            (ReachHalts (BreaksWithin (state self.old) self.old.intervals first (first + pages)) (state self.old)
-            (state self.new)) }
-        ensures sees { (ss : List Space) → Sees (state self.old) (kept self.old) self.old.intervals ss
-            → Sees (state self.new) (kept self.new) self.new.intervals ss }
-        ensures right { (ss : List Space) → Sees (state self.old) (kept self.old) self.old.intervals ss
-            → IfErr result NeverBlamesTables }
-        ensures sound { (m : List Sector) (named : Triples) (ss : List Space) → Knows self.old m named ss
-            → IfErr result (λ e. e ≡ halt.Disk) }
-        ensures same { (m : List Sector) (named : Triples) (ss : List Space) → Knows self.old m named ss
-            → Knows self.new m named ss }
-        ensures reaches { Reaches (state self.old) (state self.new) }
-        ensures came { BringsOwn (state self.old).slots (state self.new).slots }
+        ensures fails { FailsInRange first (first + pages) (core_view self.old) (core_view self.new) result }
+        ensures stays { StaysKnown (core_view self.old) (core_view self.new) }
+        ensures brings { FindsBy BringsOwn (state self.old) (state self.new) }
         ensures stay { StayOrYield (state self.old).slots (state self.new).slots }
         ensures still { (x : IntervalIs) → find (has_page first) (kept self.old) ≡ Some x
             → first + pages ≤ x.first + x.pages → Stay (state self.old).slots (state self.new).slots }
-        ensures intervals { self.new.intervals ≡ self.old.intervals }
         ensures cost { (state self.new).disk.transfers ≤ (state self.old).disk.transfers + (self.old.intervals + 1)
             * (196 + length (state self.old).slots) }
     {
@@ -235,23 +200,12 @@ impl<D: Disk, A: Allocator> Core<D, A> {
         requires size { FitsLayout (state self.old) }
         ensures gone { (m : List Sector) (named : Triples) (ss : List Space) → Knows self.old m named ss
             → OnOk result (AreWrittenBack way_is.Evict ss (state self.new).slots first (first + pages)) }
-        ensures cause { IfErr result
-            (ReachHalts (BreaksWithin (state self.old) self.old.intervals first (first + pages)) (state self.old)
-            (state self.new)) }
-        ensures sees { (ss : List Space) → Sees (state self.old) (kept self.old) self.old.intervals ss
-            → Sees (state self.new) (kept self.new) self.new.intervals ss }
-        ensures right { (ss : List Space) → Sees (state self.old) (kept self.old) self.old.intervals ss
-            → IfErr result NeverBlamesTables }
-        ensures sound { (m : List Sector) (named : Triples) (ss : List Space) → Knows self.old m named ss
-            → IfErr result (λ e. e ≡ halt.Disk) }
-        ensures same { (m : List Sector) (named : Triples) (ss : List Space) → Knows self.old m named ss
-            → Knows self.new m named ss }
-        ensures reaches { Reaches (state self.old) (state self.new) }
-        ensures came { BringsOwn (state self.old).slots (state self.new).slots }
+        ensures fails { FailsInRange first (first + pages) (core_view self.old) (core_view self.new) result }
+        ensures stays { StaysKnown (core_view self.old) (core_view self.new) }
+        ensures brings { FindsBy BringsOwn (state self.old) (state self.new) }
         ensures others { (x : IntervalIs) → find (has_page first) (kept self.old) ≡ Some x
             → first + pages ≤ x.first + x.pages
             → OnlyRun x.id (file_page x first) pages (state self.old).slots (state self.new).slots }
-        ensures intervals { self.new.intervals ≡ self.old.intervals }
         ensures cost { (state self.new).disk.transfers ≤ (state self.old).disk.transfers + (self.old.intervals + 1)
             * (196 + length (state self.old).slots) }
     {

@@ -24,7 +24,7 @@ use std::alloc::Allocator;
 use swap_units::Interval;
 
 // Whether the pages of an interval may be loaded, or stored to.
-fn lets(x: &Interval, writes: bool) -> bool
+pub(crate) fn lets(x: &Interval, writes: bool) -> bool
     ensures mapped { result ≡ true → is_mapped x.now.mode ≡ true }
     ensures allowed { result ≡ true → writes ≡ true → is_load_only x.now ≡ false }
 {
@@ -159,7 +159,7 @@ fn load_parts<D: Disk, A: Allocator>(
 }
 
 // How many bytes there are from an address up to the end of a run of pages, of which the address is on the given one.
-fn bytes_left(run: (u32, u32), page: u32, address: u32) -> usize
+pub(crate) fn bytes_left(run: (u32, u32), page: u32, address: u32) -> usize
     requires among { (run.0 ≤ page) × (page < run.0 + run.1) }
     requires few { run.1 ≤ 16 }
     ensures { result + address % 512 ≡ (run.0 + run.1 - page) * 512 }

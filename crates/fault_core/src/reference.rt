@@ -1,19 +1,11 @@
 //! A reference: the bytes of a load or a store, on one page or on two in a row, and the intervals that show them.
-ghost use Rattle.std.specs.Prelude.{◌≡◌, ◌≢◌, ◌↔◌, ◌≤◌, ◌+◌, ◌/◌, if◌then◌else◌, List, Ok, Some, None, IfOk, IfErr, IfSome, IsOk};
-ghost use Rattle.labelled_disk.specs.declared.evidence.Halt.TheVariants as halt;
-ghost use Rattle.labelled_disk.specs.Sectors.{Sector};
-ghost use Rattle.file_map.specs.FileMap.{Triples};
-ghost use Rattle.flat_machine.specs.declared.space.Space.{Space};
-ghost use Rattle.flat_machine.specs.At.{shown_at};
-ghost use Rattle.space_tables.specs.SpaceTables.{IsIntervalAt};
-ghost use Rattle.fault_core.specs.Access.{BreaksFor, IfShown, Shows, access_of, is_load_only, last_page, outcome, refused_by};
+ghost use Rattle.std.specs.Prelude.{◌≡◌, ◌≢◌, ◌≤◌, ◌+◌, ◌/◌, if◌then◌else◌, Ok, Some, None, IfOk, IfSome, IsOk};
+ghost use Rattle.fault_core.specs.Access.{IfShown, Shows, is_load_only, last_page, outcome, refused_by};
 ghost use Rattle.fault_core.specs.Kept.{IsKept, AreApart};
-ghost use Rattle.fault_core.specs.Reach.{Reaches, ReachHalts, BringsOwn, StayOrYield};
-ghost use Rattle.fault_core.specs.Room.{KeepsWhileEmpty};
-ghost use Rattle.fault_core.specs.Revealed.{BreaksTables};
 ghost use Rattle.fault_core.specs.Unit.{IsReady, IsWhole};
-ghost use Rattle.fault_core.specs.Lack.{Sees};
 ghost use Rattle.filer_kernel.specs.View.{FitsLayout};
+ghost use Rattle.fault_core.specs.Comes.{Refers, ShowsLast};
+ghost use Rattle.fault_core.specs.Outcomes.{FailsAtPage, FailsAtReference, FindsAlone, StaysKnown};
 
 use crate::Core;
 use labelled_disk::{Disk, Halt, PAGE_BYTES};
@@ -78,33 +70,17 @@ fn allowed(first: Interval, last: Interval, address: u32, count: u32, writes: bo
 }
 
 impl<D: Disk, A: Allocator> Core<D, A> {
-    ghost use Rattle.fault_core.specs.Core.{kept, state, Knows};
+    ghost use Rattle.fault_core.specs.Core.{core_view, kept, state};
 
     // The interval of the last page of a reference, where it is mapped: that of the first page, where they are one.
     fn shown_last(&mut self, x: Interval, first: u32, last: u32) -> Result<Option<Interval>, Halt>
         requires size { FitsLayout (state self.old) }
         requires shows { Shows x first }
         requires is_kept { IsKept (kept self.old) x }
-        ensures form { IfOk result (λ o. IfSome o (λ y. Shows y last)) }
-        ensures one { first ≡ last → result ≡ Ok (Some x) }
-        ensures is_kept { IfOk result (λ o. IfSome o (IsKept (kept self.new))) }
-        ensures cause { IfErr result
-            (ReachHalts (BreaksTables (state self.old) self.old.intervals last) (state self.old) (state self.new)) }
-        ensures sees { (ss : List Space) → Sees (state self.old) (kept self.old) self.old.intervals ss
-            → Sees (state self.new) (kept self.new) self.new.intervals ss }
-        ensures interval { (m : List Sector) (named : Triples) (ss : List Space) → Knows self.old m named ss
-            → IfOk result (λ o. IfSome o (IsIntervalAt ss last)) }
-        ensures none { (m : List Sector) (named : Triples) (ss : List Space) → Knows self.old m named ss
-            → IfOk result (λ o. (o ≡ None) ↔ (shown_at ss last ≡ None)) }
-        ensures sound { (m : List Sector) (named : Triples) (ss : List Space) → Knows self.old m named ss
-            → IfErr result (λ e. e ≡ halt.Disk) }
-        ensures same { (m : List Sector) (named : Triples) (ss : List Space) → Knows self.old m named ss
-            → Knows self.new m named ss }
-        ensures reaches { Reaches (state self.old) (state self.new) }
-        ensures came { BringsOwn (state self.old).slots (state self.new).slots }
-        ensures room { KeepsWhileEmpty (state self.old).slots (state self.new).slots }
-        ensures stay { StayOrYield (state self.old).slots (state self.new).slots }
-        ensures intervals { self.new.intervals ≡ self.old.intervals }
+        ensures comes { ShowsLast x first last (core_view self.old) (core_view self.new) result }
+        ensures fails { FailsAtPage last (core_view self.old) (core_view self.new) result }
+        ensures stays { StaysKnown (core_view self.old) (core_view self.new) }
+        ensures brings { FindsAlone (state self.old) (state self.new) }
         ensures idle { IsReady (kept self.old) (state self.old).slots last → AreApart (kept self.old)
             → IfOk result (λ o. IfSome o (λ y. IsWhole (state self.old).slots y last) × (o ≢ None)) × IsOk result
             × (self.new.filer ≡ self.old.filer) × (kept self.new ≡ kept self.old) }
@@ -127,31 +103,10 @@ impl<D: Disk, A: Allocator> Core<D, A> {
         requires size { FitsLayout (state self.old) }
         requires some { 1 ≤ count }
         requires few { count ≤ 512 }
-        ensures form { IfOk result (IfShown (λ x y. Shows x (address / 512) × Shows y (last_page address count))) }
-        ensures one { IfOk result (IfShown (λ x y. address / 512 ≡ last_page address count → y ≡ x)) }
-        ensures is_kept { IfOk result (IfShown (λ x y. IsKept (kept self.new) y)) }
-        ensures cause { IfErr result
-            (ReachHalts (BreaksFor (state self.old) self.old.intervals address count) (state self.old)
-            (state self.new)) }
-        ensures sees { (ss : List Space) → Sees (state self.old) (kept self.old) self.old.intervals ss
-            → Sees (state self.new) (kept self.new) self.new.intervals ss }
-        ensures access { (m : List Sector) (named : Triples) (ss : List Space) → Knows self.old m named ss
-            → IfOk result (λ r. outcome r ≡ access_of ss writes address count) }
-        ensures intervals_at { (m : List Sector) (named : Triples) (ss : List Space) → Knows self.old m named ss
-            → IfOk result
-            (IfShown (λ x y. IsIntervalAt ss (address / 512) x × IsIntervalAt ss (last_page address count) y)) }
-        ensures seen { (ss : List Space) → Sees (state self.old) (kept self.old) self.old.intervals ss
-            → IfOk result
-            (IfShown (λ x y. IsIntervalAt ss (address / 512) x × IsIntervalAt ss (last_page address count) y)) }
-        ensures sound { (m : List Sector) (named : Triples) (ss : List Space) → Knows self.old m named ss
-            → IfErr result (λ e. e ≡ halt.Disk) }
-        ensures same { (m : List Sector) (named : Triples) (ss : List Space) → Knows self.old m named ss
-            → Knows self.new m named ss }
-        ensures reaches { Reaches (state self.old) (state self.new) }
-        ensures came { BringsOwn (state self.old).slots (state self.new).slots }
-        ensures room { KeepsWhileEmpty (state self.old).slots (state self.new).slots }
-        ensures stay { StayOrYield (state self.old).slots (state self.new).slots }
-        ensures intervals { self.new.intervals ≡ self.old.intervals }
+        ensures comes { Refers writes address count (core_view self.old) (core_view self.new) result }
+        ensures fails { FailsAtReference address count (core_view self.old) (core_view self.new) result }
+        ensures stays { StaysKnown (core_view self.old) (core_view self.new) }
+        ensures brings { FindsAlone (state self.old) (state self.new) }
         ensures idle { IsReady (kept self.old) (state self.old).slots (address / 512)
             → IsReady (kept self.old) (state self.old).slots (last_page address count) → AreApart (kept self.old)
             → IfOk result

@@ -1,21 +1,17 @@
 //! Where pages in a row of one file stand, by the file map.
-ghost use Rattle.std.specs.Prelude.{◌≡◌, ◌≤◌, ◌<◌, ◌+◌, ◌*◌, ◌^◌, ℕ, true, List, Ok, None, IfOk, IfErr, IfSome};
+ghost use Rattle.std.specs.Prelude.{◌≡◌, ◌≤◌, ◌<◌, ◌+◌, ◌*◌, ◌^◌, ℕ, true, List, Ok, None, IfErr};
 ghost use Rattle.labelled_disk.specs.declared.evidence.Halt.TheVariants as halt;
 ghost use Rattle.labelled_disk.specs.Sectors.{Sector};
-ghost use Rattle.file_map.specs.FileMap.{Triples, IsFound, IsNowhere};
-ghost use Rattle.file_map.specs.Run.{IsRun, holds};
-ghost use Rattle.filer_kernel.specs.Causes.{IsGiven};
-ghost use Rattle.filer_kernel.specs.Triples.{MapIs};
+ghost use Rattle.file_map.specs.FileMap.{Triples};
 ghost use Rattle.frame_pool.specs.Frames.{ArePages};
-ghost use Rattle.frame_pool.specs.declared.home.Home.{Home as HomeIs};
-ghost use Rattle.swapper_kernel.specs.Homes.{IsAmong};
-ghost use Rattle.filer_kernel.specs.View.{FitsLayout, HasMemory, kept_by, view_of};
-ghost use Rattle.fault_core.specs.Reach.{IsReachedHome, Reaches, ReachHalts, StayOrYield, TouchHalts, BringsOwn, no_break};
+ghost use Rattle.filer_kernel.specs.View.{FitsLayout, view_of};
+ghost use Rattle.fault_core.specs.Reach.{ReachHalts, TouchHalts, no_break};
 ghost use Rattle.fault_core.specs.Revealed.{Known};
-ghost use Rattle.fault_core.specs.Homes.{homes_in, AreHomesOf, HaveSectors};
-ghost use Rattle.fault_core.specs.Room.{KeepsWhileEmpty};
+ghost use Rattle.fault_core.specs.Homes.{HaveSectors};
 ghost use Rattle.fault_core.specs.Lack.{MissesPage, run_pages};
 ghost use Rattle.swapper_kernel.specs.Goes.{this_page};
+ghost use Rattle.fault_core.specs.Finding.{FindsHome, FindsHomes, FindsRun};
+ghost use Rattle.fault_core.specs.Outcomes.{FailsToFind, FindsAlone};
 
 use crate::homes::{Homes, MOST};
 use file_map::Run;
@@ -39,24 +35,11 @@ fn run_of<D: Disk, A: Allocator>(
     page: u32,
 ) -> Result<Option<Run>, Halt>
     requires size { FitsLayout (view_of filer.old) }
-    ensures form { IfOk result (λ o. IfSome o (IsRun (view_of filer.old).layout.sectors)) }
-    ensures holds { IfOk result (λ o. IfSome o (λ run. holds run id page ≡ true)) }
-    ensures given { IfOk result
-        (λ o.
-        IfSome o
-        (IsGiven (view_of filer.old).layout (view_of filer.old).disk (view_of filer.old).slots
-        (kept_by (view_of filer.old)))) }
-    ensures nowhere { (m : List Sector) (named : Triples) → HasMemory (view_of filer.old) m
-        → MapIs (view_of filer.old).layout named m → result ≡ Ok None → IsNowhere named id page }
+    ensures comes { FindsRun id page (view_of filer.old) result }
     ensures cause { IfErr result (ReachHalts no_break (view_of filer.old) (view_of filer.new)) }
-    ensures found { (m : List Sector) (named : Triples) (b : List ℕ) → Known (view_of filer.old) m named b
-        → IfOk result (IsFound named id page) }
     ensures sound { (m : List Sector) (named : Triples) (b : List ℕ) → Known (view_of filer.old) m named b
         → IfErr result (λ e. e ≡ halt.Disk) }
-    ensures reaches { Reaches (view_of filer.old) (view_of filer.new) }
-    ensures came { BringsOwn (view_of filer.old).slots (view_of filer.new).slots }
-    ensures room { KeepsWhileEmpty (view_of filer.old).slots (view_of filer.new).slots }
-    ensures stay { StayOrYield (view_of filer.old).slots (view_of filer.new).slots }
+    ensures brings { FindsAlone (view_of filer.old) (view_of filer.new) }
     ensures cost { (view_of filer.new).disk.transfers ≤ (view_of filer.old).disk.transfers + 14 }
 {
     count_frames(filer);
@@ -71,18 +54,12 @@ fn home_of<D: Disk, A: Allocator>(
 ) -> Result<Home, Halt>
     requires size { FitsLayout (view_of filer.old) }
     requires client { 16 ≤ id }
-    ensures found { IfOk result (IsReachedHome (view_of filer.old)) }
-    ensures is { IfOk result (λ home. (home.id ≡ id) × (home.page ≡ page)) }
+    ensures comes { FindsHome id page (view_of filer.old) result }
     ensures cause { IfErr result (TouchHalts no_break (view_of filer.old) (view_of filer.new)) }
     ensures misses { IfErr result (MissesPage (this_page id page)) }
-    ensures named { (m : List Sector) (named : Triples) (b : List ℕ) → Known (view_of filer.old) m named b
-        → IfOk result (λ home. named id page home.sector ≡ true) }
     ensures sound { (m : List Sector) (named : Triples) (b : List ℕ) (sector : ℕ) → Known (view_of filer.old) m named b
         → named id page sector ≡ true → IfErr result (λ e. e ≡ halt.Disk) }
-    ensures reaches { Reaches (view_of filer.old) (view_of filer.new) }
-    ensures came { BringsOwn (view_of filer.old).slots (view_of filer.new).slots }
-    ensures room { KeepsWhileEmpty (view_of filer.old).slots (view_of filer.new).slots }
-    ensures stay { StayOrYield (view_of filer.old).slots (view_of filer.new).slots }
+    ensures brings { FindsAlone (view_of filer.old) (view_of filer.new) }
     ensures cost { (view_of filer.new).disk.transfers ≤ (view_of filer.old).disk.transfers + 14 }
 {
     match run_of(filer, id, page) {
@@ -108,19 +85,10 @@ pub(crate) fn homes_of<D: Disk, A: Allocator>(
     requires some { 1 ≤ pages }
     requires few { pages ≤ 16 }
     requires fits { first + pages ≤ 2 ^ 32 }
-    ensures are { IfOk result (λ homes. AreHomesOf id first pages (homes_in homes)) }
-    ensures found { IfOk result
-        (λ homes. (h : HomeIs) → IsAmong (homes_in homes) h → IsReachedHome (view_of filer.old) h) }
-    ensures cause { IfErr result (TouchHalts no_break (view_of filer.old) (view_of filer.new)) }
-    ensures misses { IfErr result (MissesPage (run_pages id first pages)) }
-    ensures named { (m : List Sector) (named : Triples) (b : List ℕ) → Known (view_of filer.old) m named b
-        → IfOk result (λ homes. (h : HomeIs) → IsAmong (homes_in homes) h → named h.id h.page h.sector ≡ true) }
-    ensures sound { (m : List Sector) (named : Triples) (b : List ℕ) → Known (view_of filer.old) m named b
-        → HaveSectors named id first pages → IfErr result (λ e. e ≡ halt.Disk) }
-    ensures reaches { Reaches (view_of filer.old) (view_of filer.new) }
-    ensures came { BringsOwn (view_of filer.old).slots (view_of filer.new).slots }
-    ensures room { KeepsWhileEmpty (view_of filer.old).slots (view_of filer.new).slots }
-    ensures stay { StayOrYield (view_of filer.old).slots (view_of filer.new).slots }
+    ensures comes { FindsHomes id first pages (view_of filer.old) result }
+    ensures fails { FailsToFind (run_pages id first pages) (λ named m. HaveSectors named id first pages)
+        (view_of filer.old) (view_of filer.new) result }
+    ensures brings { FindsAlone (view_of filer.old) (view_of filer.new) }
     ensures cost { (view_of filer.new).disk.transfers ≤ (view_of filer.old).disk.transfers + 14 * pages }
 {
     let mut homes = [Home {

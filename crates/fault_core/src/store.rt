@@ -1,25 +1,17 @@
 //! Bytes are stored to the pages that windows show.
-ghost use Rattle.std.specs.Prelude.{◌≡◌, ◌≢◌, ◌≤◌, ◌+◌, ◌/◌, ℕ, true, List, [], length, Ok, IfOk, IfErr, IsOk, OnOk, OnErr};
-ghost use Rattle.labelled_disk.specs.declared.evidence.Halt.TheVariants as halt;
-ghost use Rattle.labelled_disk.specs.Sectors.{Sector};
-ghost use Rattle.file_map.specs.FileMap.{Triples};
-ghost use Rattle.flat_machine.specs.declared.space.Space.{Space};
-ghost use Rattle.swapper_kernel.specs.Goes.{IsDirty, Same, this_page};
-ghost use Rattle.session_words.specs.CellLaws.{IsTouched, IsTouchedOrOwn, Stores, StoresAt};
-ghost use Rattle.fault_core.specs.declared.reference.Access.TheVariants as access;
-ghost use Rattle.session_words.specs.FrameLaws.{BringsKnown};
-ghost use Rattle.fault_core.specs.Access.{BreaksFor, Shows, access_of, last_page};
-ghost use Rattle.fault_core.specs.Attempt.{ArePresent, IfAbsent, IfAccess, IsAbsent, IsHere, IsReferred, StoresTried, moved};
+ghost use Rattle.std.specs.Prelude.{◌≡◌, ◌≤◌, ◌+◌, ◌/◌, true, length, Ok, IsOk, OnOk};
+ghost use Rattle.swapper_kernel.specs.Goes.{this_page};
+ghost use Rattle.session_words.specs.CellLaws.{Stores};
+ghost use Rattle.fault_core.specs.Access.{Shows, last_page};
+ghost use Rattle.fault_core.specs.Attempt.{moved};
 ghost use Rattle.fault_core.specs.Kept.{AreApart};
-ghost use Rattle.fault_core.specs.Moves.{AreSeen, Leaves, StoresAs, StoresSome, client_page, of_reference};
-ghost use Rattle.filer_kernel.specs.View.{FitsLayout, GoesTo, HasMemory, view_of};
-ghost use Rattle.fault_core.specs.Reach.{BringsOwn, Reaches, ReachHalts, TouchHalts, no_break};
-ghost use Rattle.fault_core.specs.Room.{KeepsWhileEmpty, PagesStayOrYield};
-ghost use Rattle.fault_core.specs.Revealed.{Known};
-ghost use Rattle.fault_core.specs.Touch.{Touches};
-ghost use Rattle.fault_core.specs.Unit.{AreShownStored, BringsBoth, BringsShown, IsReady, IsShownDirty, IsWhole, KeepsResident, file_page};
-ghost use Rattle.fault_core.specs.Lack.{MissesPage, Sees, both_units, shown_units, unit_pages};
-ghost use Rattle.fault_core.specs.NeverBlames.{NeverBlamesTables};
+ghost use Rattle.fault_core.specs.Moves.{of_reference};
+ghost use Rattle.filer_kernel.specs.View.{FitsLayout, view_of};
+ghost use Rattle.fault_core.specs.Unit.{AreShownStored, BringsBoth, BringsShown, IsReady, IsWhole, KeepsResident, file_page};
+ghost use Rattle.fault_core.specs.Lack.{both_units, unit_pages};
+ghost use Rattle.fault_core.specs.Comes.{Accesses, Attempts, StoresBytes, TriesToStore};
+ghost use Rattle.fault_core.specs.Finding.{StoresPart, StoresShown};
+ghost use Rattle.fault_core.specs.Outcomes.{ChangesAlone, ChangesBy, ChangesKnown, FailsAtReference, FailsToBringReference, FailsToFind, StaysRevealed};
 
 use crate::Core;
 use crate::attempt::Attempt;
@@ -43,19 +35,12 @@ fn store_in<D: Disk, A: Allocator>(
     requires size { FitsLayout (view_of filer.old) }
     requires shows { Shows x.now page }
     requires inside { from + length bytes.now ≤ 512 }
-    ensures stored { (m : List Sector) (named : Triples) (b : List ℕ) → Known (view_of filer.old) m named b
-        → AreShownStored named m x.now
-        → OnOk result (Leaves (StoresAt x.now.id (file_page x.now page) from bytes.now) m named b (view_of filer.new)) }
-    ensures halted { (m : List Sector) (named : Triples) (b : List ℕ) → Known (view_of filer.old) m named b
-        → OnErr result (Leaves Same m named b (view_of filer.new)) }
+    ensures moves { StoresPart x.now page from bytes.now (view_of filer.old) (view_of filer.new) result }
     ensures whole { OnOk result (IsWhole (view_of filer.new).slots x.now page) }
-    ensures dirty { OnOk result (IsDirty (view_of filer.new).slots x.now.id (file_page x.now page)) }
-    ensures cause { IfErr result (TouchHalts no_break (view_of filer.old) (view_of filer.new)) }
-    ensures misses { IfErr result (MissesPage (unit_pages x.now page)) }
-    ensures sound { (m : List Sector) (named : Triples) (b : List ℕ) → Known (view_of filer.old) m named b
-        → AreShownStored named m x.now → IfErr result (λ e. e ≡ halt.Disk) }
-    ensures touches { Touches (this_page x.now.id (file_page x.now page)) (view_of filer.old) (view_of filer.new) }
-    ensures came { BringsShown x.now (view_of filer.old).slots (view_of filer.new).slots }
+    ensures fails { FailsToFind (unit_pages x.now page) (λ named m. AreShownStored named m x.now) (view_of filer.old)
+        (view_of filer.new) result }
+    ensures brings { ChangesBy (this_page x.now.id (file_page x.now page)) (BringsShown x.now) (view_of filer.old)
+        (view_of filer.new) }
     ensures idle { IsWhole (view_of filer.old).slots x.now page
         → IsOk result × ((view_of filer.new).disk ≡ (view_of filer.old).disk)
         × KeepsResident (view_of filer.old).slots (view_of filer.new).slots }
@@ -83,22 +68,13 @@ fn store_shown<D: Disk, A: Allocator>(
     requires first { Shows first.now (address / 512) }
     requires last { Shows last.now (last_page address (length bytes.now)) }
     requires one { address / 512 ≡ last_page address (length bytes.now) → last.now ≡ first.now }
-    ensures stored { (m : List Sector) (named : Triples) (b : List ℕ) (ss : List Space)
-        → Known (view_of filer.old) m named b → AreSeen ss named m first.now → AreSeen ss named m last.now
-        → OnOk result (Leaves (Stores ss address bytes.now) m named b (view_of filer.new)) }
-    ensures halted { (m : List Sector) (named : Triples) (b : List ℕ) (ss : List Space)
-        → Known (view_of filer.old) m named b → AreSeen ss named m first.now
-        → OnErr result (Leaves (StoresSome ss address bytes.now) m named b (view_of filer.new)) }
+    ensures moves { StoresShown first.now last.now address bytes.now (view_of filer.old) (view_of filer.new) result }
     ensures whole { OnOk result (IsWhole (view_of filer.new).slots last.now (last_page address (length bytes.now))) }
-    ensures dirty { OnOk result
-        (IsDirty (view_of filer.new).slots last.now.id (file_page last.now (last_page address (length bytes.now)))) }
-    ensures cause { IfErr result (TouchHalts no_break (view_of filer.old) (view_of filer.new)) }
-    ensures misses { IfErr result (MissesPage (both_units first.now last.now address (length bytes.now))) }
-    ensures sound { (m : List Sector) (named : Triples) (b : List ℕ) → Known (view_of filer.old) m named b
-        → AreShownStored named m first.now → AreShownStored named m last.now → IfErr result (λ e. e ≡ halt.Disk) }
-    ensures touches { Touches (of_reference first.now last.now address (length bytes.now)) (view_of filer.old)
-        (view_of filer.new) }
-    ensures came { BringsBoth first.now last.now (view_of filer.old).slots (view_of filer.new).slots }
+    ensures fails { FailsToFind (both_units first.now last.now address (length bytes.now))
+        (λ named m. AreShownStored named m first.now × AreShownStored named m last.now) (view_of filer.old)
+        (view_of filer.new) result }
+    ensures brings { ChangesBy (of_reference first.now last.now address (length bytes.now))
+        (BringsBoth first.now last.now) (view_of filer.old) (view_of filer.new) }
     ensures idle { IsWhole (view_of filer.old).slots first.now (address / 512)
         → IsWhole (view_of filer.old).slots last.now (last_page address (length bytes.now))
         → IsOk result × ((view_of filer.new).disk ≡ (view_of filer.old).disk) }
@@ -118,52 +94,19 @@ fn store_shown<D: Disk, A: Allocator>(
 }
 
 impl<D: Disk, A: Allocator> Core<D, A> {
-    ghost use Rattle.fault_core.specs.Core.{kept, state, Knows};
+    ghost use Rattle.fault_core.specs.Core.{core_view, kept, state};
 
     // Stores 1 to 512 bytes, and brings in what is not resident.
     fn bring_and_store(&mut self, address: u32, bytes: &[u8]) -> Result<Access, Halt>
         requires size { FitsLayout (state self.old) }
         requires some { 1 ≤ length bytes.now }
         requires few { length bytes.now ≤ 512 }
-        ensures access { (m : List Sector) (named : Triples) (ss : List Space) → Knows self.old m named ss
-            → IfOk result (λ a. a ≡ access_of ss true address (length bytes.now)) }
-        ensures stored { (m : List Sector) (named : Triples) (ss : List Space) → Knows self.old m named ss
-            → IfOk result
-            (λ a.
-            GoesTo (StoresAs a ss address bytes.now) (IsTouchedOrOwn ss address (length bytes.now)) [] (state self.old)
-            (state self.new)) }
-        ensures halted { (m : List Sector) (named : Triples) (ss : List Space) → Knows self.old m named ss
-            → OnErr result
-            (GoesTo (StoresSome ss address bytes.now) (IsTouchedOrOwn ss address (length bytes.now)) [] (state self.old)
-            (state self.new)) }
-        ensures known { (m n : List Sector) (named : Triples) (ss : List Space) → Knows self.old m named ss
-            → HasMemory (state self.new) n → Knows self.new n named ss }
-        ensures tested { (m : List Sector) (named : Triples) (ss : List Space) → Knows self.old m named ss
-            → access_of ss true address (length bytes.now) ≢ access.Done → Reaches (state self.old) (state self.new) }
-        ensures refused { IfOk result (λ a. a ≢ access.Done → Reaches (state self.old) (state self.new)) }
-        ensures ready { IfOk result
-            (λ a.
-            a ≡ access.Done → IsReady (kept self.new) (state self.new).slots (last_page address (length bytes.now))) }
-        ensures dirty { (m : List Sector) (named : Triples) (ss : List Space) → Knows self.old m named ss
-            → IfOk result
-            (λ a. a ≡ access.Done → IsShownDirty ss (state self.new).slots (last_page address (length bytes.now))) }
-        ensures cause { IfErr result
-            (TouchHalts (BreaksFor (state self.old) self.old.intervals address (length bytes.now)) (state self.old)
-            (state self.new)) }
-        ensures missing { (ss : List Space) → Sees (state self.old) (kept self.old) self.old.intervals ss
-            → IfErr result (MissesPage (shown_units ss address (length bytes.now))) }
-        ensures sees { (ss : List Space) → Sees (state self.old) (kept self.old) self.old.intervals ss
-            → Sees (state self.new) (kept self.new) self.new.intervals ss }
-        ensures right { (ss : List Space) → Sees (state self.old) (kept self.old) self.old.intervals ss
-            → IfErr result NeverBlamesTables }
-        ensures sound { (m : List Sector) (named : Triples) (ss : List Space) → Knows self.old m named ss
-            → IfErr result (λ e. e ≡ halt.Disk) }
-        ensures touches { Touches client_page (state self.old) (state self.new) }
-        ensures shown { (ss : List Space) → Sees (state self.old) (kept self.old) self.old.intervals ss
-            → Touches (IsTouched ss address (length bytes.now)) (state self.old) (state self.new) }
-        ensures came { (m : List Sector) (named : Triples) (ss : List Space) → Knows self.old m named ss
-            → BringsKnown ss (state self.old).slots (state self.new).slots }
-        ensures intervals { self.new.intervals ≡ self.old.intervals }
+        ensures comes { Accesses true address (length bytes.now) (core_view self.old) (core_view self.new) result }
+        ensures moves { StoresBytes address bytes.now (core_view self.old) (core_view self.new) result }
+        ensures stays { StaysRevealed (core_view self.old) (core_view self.new) }
+        ensures fails { FailsToBringReference address (length bytes.now) (core_view self.old) (core_view self.new)
+            result }
+        ensures brings { ChangesKnown address (length bytes.now) (core_view self.old) (core_view self.new) }
         ensures idle { IsReady (kept self.old) (state self.old).slots (address / 512)
             → IsReady (kept self.old) (state self.old).slots (last_page address (length bytes.now))
             → AreApart (kept self.old)
@@ -188,45 +131,12 @@ impl<D: Disk, A: Allocator> Core<D, A> {
         requires size { FitsLayout (state self.old) }
         requires some { 1 ≤ length bytes.now }
         requires few { length bytes.now ≤ 512 }
-        ensures access { (m : List Sector) (named : Triples) (ss : List Space) → Knows self.old m named ss
-            → IfOk result (λ a. a ≡ access_of ss true address (length bytes.now)) }
-        ensures stored { (m : List Sector) (named : Triples) (ss : List Space) → Knows self.old m named ss
-            → IfOk result
-            (λ a.
-            GoesTo (StoresAs a ss address bytes.now) (IsTouchedOrOwn ss address (length bytes.now)) [] (state self.old)
-            (state self.new)) }
-        ensures halted { (m : List Sector) (named : Triples) (ss : List Space) → Knows self.old m named ss
-            → OnErr result
-            (GoesTo (StoresSome ss address bytes.now) (IsTouchedOrOwn ss address (length bytes.now)) [] (state self.old)
-            (state self.new)) }
-        ensures known { (m n : List Sector) (named : Triples) (ss : List Space) → Knows self.old m named ss
-            → HasMemory (state self.new) n → Knows self.new n named ss }
-        ensures tested { (m : List Sector) (named : Triples) (ss : List Space) → Knows self.old m named ss
-            → access_of ss true address (length bytes.now) ≢ access.Done → Reaches (state self.old) (state self.new) }
-        ensures refused { IfOk result (λ a. a ≢ access.Done → Reaches (state self.old) (state self.new)) }
-        ensures ready { IfOk result
-            (λ a.
-            a ≡ access.Done → IsReady (kept self.new) (state self.new).slots (last_page address (length bytes.now))) }
-        ensures dirty { (m : List Sector) (named : Triples) (ss : List Space) → Knows self.old m named ss
-            → IfOk result
-            (λ a. a ≡ access.Done → IsShownDirty ss (state self.new).slots (last_page address (length bytes.now))) }
-        ensures cause { IfErr result
-            (TouchHalts (BreaksFor (state self.old) self.old.intervals address (length bytes.now)) (state self.old)
-            (state self.new)) }
-        ensures missing { (ss : List Space) → Sees (state self.old) (kept self.old) self.old.intervals ss
-            → IfErr result (MissesPage (shown_units ss address (length bytes.now))) }
-        ensures sees { (ss : List Space) → Sees (state self.old) (kept self.old) self.old.intervals ss
-            → Sees (state self.new) (kept self.new) self.new.intervals ss }
-        ensures right { (ss : List Space) → Sees (state self.old) (kept self.old) self.old.intervals ss
-            → IfErr result NeverBlamesTables }
-        ensures sound { (m : List Sector) (named : Triples) (ss : List Space) → Knows self.old m named ss
-            → IfErr result (λ e. e ≡ halt.Disk) }
-        ensures touches { Touches client_page (state self.old) (state self.new) }
-        ensures shown { (ss : List Space) → Sees (state self.old) (kept self.old) self.old.intervals ss
-            → Touches (IsTouched ss address (length bytes.now)) (state self.old) (state self.new) }
-        ensures came { (m : List Sector) (named : Triples) (ss : List Space) → Knows self.old m named ss
-            → BringsKnown ss (state self.old).slots (state self.new).slots }
-        ensures intervals { self.new.intervals ≡ self.old.intervals }
+        ensures comes { Accesses true address (length bytes.now) (core_view self.old) (core_view self.new) result }
+        ensures moves { StoresBytes address bytes.now (core_view self.old) (core_view self.new) result }
+        ensures stays { StaysRevealed (core_view self.old) (core_view self.new) }
+        ensures fails { FailsToBringReference address (length bytes.now) (core_view self.old) (core_view self.new)
+            result }
+        ensures brings { ChangesKnown address (length bytes.now) (core_view self.old) (core_view self.new) }
         ensures idle { IsReady (kept self.old) (state self.old).slots (address / 512)
             → IsReady (kept self.old) (state self.old).slots (last_page address (length bytes.now))
             → AreApart (kept self.old)
@@ -245,43 +155,11 @@ impl<D: Disk, A: Allocator> Core<D, A> {
         requires size { FitsLayout (state self.old) }
         requires some { 1 ≤ length bytes.now }
         requires few { length bytes.now ≤ 512 }
-        ensures access { (m : List Sector) (named : Triples) (ss : List Space) → Knows self.old m named ss
-            → IfOk result (IfAccess (λ a. a ≡ access_of ss true address (length bytes.now))) }
-        ensures absent { (m : List Sector) (named : Triples) (ss : List Space) → Knows self.old m named ss
-            → IfOk result (IfAbsent (IsAbsent ss (state self.new).slots true address (length bytes.now))) }
-        ensures present { (m : List Sector) (named : Triples) (ss : List Space) → Knows self.old m named ss
-            → IfOk result (λ t. t ≡ moved → ArePresent ss (state self.new).slots address (length bytes.now)) }
-        ensures stored { (m : List Sector) (named : Triples) (ss : List Space) → Knows self.old m named ss
-            → IfOk result
-            (λ t.
-            GoesTo (StoresTried t ss address bytes.now) (IsTouchedOrOwn ss address (length bytes.now)) []
-            (state self.old) (state self.new)) }
-        ensures known { (m n : List Sector) (named : Triples) (ss : List Space) → Knows self.old m named ss
-            → HasMemory (state self.new) n → Knows self.new n named ss }
-        ensures unmoved { result ≢ Ok moved → Reaches (state self.old) (state self.new) }
-        ensures referred { IfOk result (IfAbsent (IsReferred address (length bytes.now))) }
-        ensures here { IfOk result
-            (λ t. t ≡ moved → IsHere (kept self.new) (state self.new).slots (last_page address (length bytes.now))) }
-        ensures dirty { (m : List Sector) (named : Triples) (ss : List Space) → Knows self.old m named ss
-            → IfOk result
-            (λ t. t ≡ moved → IsShownDirty ss (state self.new).slots (last_page address (length bytes.now))) }
-        ensures cause { IfErr result
-            (ReachHalts (BreaksFor (state self.old) self.old.intervals address (length bytes.now)) (state self.old)
-            (state self.new)) }
-        ensures sees { (ss : List Space) → Sees (state self.old) (kept self.old) self.old.intervals ss
-            → Sees (state self.new) (kept self.new) self.new.intervals ss }
-        ensures right { (ss : List Space) → Sees (state self.old) (kept self.old) self.old.intervals ss
-            → IfErr result NeverBlamesTables }
-        ensures sound { (m : List Sector) (named : Triples) (ss : List Space) → Knows self.old m named ss
-            → IfErr result (λ e. e ≡ halt.Disk) }
-        ensures touches { Touches client_page (state self.old) (state self.new) }
-        ensures came { BringsOwn (state self.old).slots (state self.new).slots }
-        ensures room { KeepsWhileEmpty (state self.old).slots (state self.new).slots }
-        ensures stay { PagesStayOrYield (state self.old).slots (state self.new).slots }
-        ensures intervals { self.new.intervals ≡ self.old.intervals }
-        ensures ready { IsReady (kept self.old) (state self.old).slots (address / 512)
-            → IsReady (kept self.old) (state self.old).slots (last_page address (length bytes.now))
-            → AreApart (kept self.old) → IfOk result (IfAbsent (λ page. ⊥)) }
+        ensures comes { Attempts true address (length bytes.now) (core_view self.old) (core_view self.new) result }
+        ensures moves { TriesToStore address bytes.now (core_view self.old) (core_view self.new) result }
+        ensures stays { StaysRevealed (core_view self.old) (core_view self.new) }
+        ensures fails { FailsAtReference address (length bytes.now) (core_view self.old) (core_view self.new) result }
+        ensures brings { ChangesAlone (state self.old) (state self.new) }
         ensures idle { IsReady (kept self.old) (state self.old).slots (address / 512)
             → IsReady (kept self.old) (state self.old).slots (last_page address (length bytes.now))
             → AreApart (kept self.old)

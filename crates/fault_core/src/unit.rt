@@ -1,8 +1,7 @@
 //! The swap unit of a page as pages in a row of a file, and such pages brought in together.
-ghost use Rattle.std.specs.Prelude.{◌≡◌, ◌↔◌, ◌≤◌, ◌<◌, ◌+◌, ◌^◌, ℕ, true, List, length, IfErr, OnOk};
+ghost use Rattle.std.specs.Prelude.{◌≡◌, ◌↔◌, ◌≤◌, ◌<◌, ◌+◌, ◌^◌, true, List, length, IfErr, OnOk};
 ghost use Rattle.labelled_disk.specs.declared.evidence.Halt.TheVariants as halt;
 ghost use Rattle.labelled_disk.specs.Sectors.{Sector};
-ghost use Rattle.file_map.specs.FileMap.{Triples};
 ghost use Rattle.frame_pool.specs.Frames.{HasPage};
 ghost use Rattle.swap_units.specs.Mode.{is_mapped};
 ghost use Rattle.swap_units.specs.Unit.{Holds};
@@ -11,14 +10,11 @@ ghost use Rattle.swapper_kernel.specs.Halts.{Halts};
 ghost use Rattle.swapper_kernel.specs.Homes.{AreFileHomes, AreNamed, Brings, IsAmong, IsRow, no_home};
 ghost use Rattle.fault_core.specs.Kept.{IsFormed};
 ghost use Rattle.filer_kernel.specs.View.{FitsLayout, HasMemory, SwapsOnly, view_of};
-ghost use Rattle.fault_core.specs.Reach.{Reaches, TouchHalts, no_break};
-ghost use Rattle.fault_core.specs.Revealed.{Known};
-ghost use Rattle.fault_core.specs.Early.{IfUnfound, KeepsClients};
 ghost use Rattle.fault_core.specs.Homes.{homes_in};
 ghost use Rattle.fault_core.specs.Unit.{AreResident, AreRunStored, BringsRun, IsResident, IsUnitRun};
-ghost use Rattle.fault_core.specs.Room.{KeepsWhileEmpty};
 ghost use Rattle.swapper_kernel.specs.Steps.{Steps};
-ghost use Rattle.fault_core.specs.Lack.{MissesPage, run_pages};
+ghost use Rattle.fault_core.specs.Lack.{run_pages};
+ghost use Rattle.fault_core.specs.Outcomes.{FailsEarly, FetchesBy};
 
 use crate::homes::Homes;
 use crate::search::homes_of;
@@ -101,14 +97,9 @@ pub(crate) fn bring_run<D: Disk, A: Allocator>(
     requires few { pages ≤ 16 }
     requires fits { first + pages ≤ 2 ^ 32 }
     ensures there { OnOk result (AreResident (view_of filer.new).slots id first pages) }
-    ensures cause { IfErr result (TouchHalts no_break (view_of filer.old) (view_of filer.new)) }
-    ensures misses { IfErr result (MissesPage (run_pages id first pages)) }
-    ensures sound { (m : List Sector) (named : Triples) (b : List ℕ) → Known (view_of filer.old) m named b
-        → AreRunStored named m id first pages → IfErr result (λ e. e ≡ halt.Disk) }
-    ensures reaches { Reaches (view_of filer.old) (view_of filer.new) }
-    ensures came { BringsRun id first pages (view_of filer.old).slots (view_of filer.new).slots }
-    ensures room { KeepsWhileEmpty (view_of filer.old).slots (view_of filer.new).slots }
-    ensures early { IfErr result (IfUnfound (KeepsClients (view_of filer.old).slots (view_of filer.new).slots)) }
+    ensures fails { FailsEarly (run_pages id first pages) (λ named m. AreRunStored named m id first pages)
+        (view_of filer.old) (view_of filer.new) result }
+    ensures brings { FetchesBy (BringsRun id first pages) (view_of filer.old) (view_of filer.new) }
     ensures cost { (view_of filer.new).disk.transfers ≤ (view_of filer.old).disk.transfers + 256 }
 {
     let homes = match homes_of(filer, id, first, pages) {

@@ -13,13 +13,15 @@ returns-clause-form g c = formed_found c.describe.result c.args.page c.describe.
 pub returns-clause-interval : goal.returns-clause-interval
 returns-clause-interval g c = λ ss reveals. c.describe.ensures.interval ss (rw (c.over-tables.ensures.memory, c.over-tables.ensures.intervals, c.table_memory.ensures.value) reveals)
 
-pub returns-clause-right : goal.returns-clause-right
-returns-clause-right g c = λ ss reveals. c.describe.ensures.right ss (rw (c.over-tables.ensures.memory, c.over-tables.ensures.intervals, c.table_memory.ensures.value) reveals)
-
-pub returns-clause-malformed : goal.returns-clause-malformed
-returns-clause-malformed g c = λ b reveals.
-    subst (λ (n : ℕ). IfErr c.describe.result (IfMalformed (BreaksLookUp c.args.page n b))) c.over-tables.ensures.intervals
-    (c.describe.ensures.malformed b (rw (c.over-tables.ensures.memory, c.table_memory.ensures.value) reveals))
+pub returns-clause-fails : goal.returns-clause-fails
+returns-clause-fails g c = record {
+  right = λ ss reveals. c.describe.ensures.right ss (rw (c.over-tables.ensures.memory, c.over-tables.ensures.intervals, c.table_memory.ensures.value) reveals);
+  malformed = λ b reveals.
+      subst (λ (n : ℕ). IfErr c.describe.result (IfMalformed (BreaksLookUp c.args.page n b))) c.over-tables.ensures.intervals
+      (c.describe.ensures.malformed b (rw (c.over-tables.ensures.memory, c.table_memory.ensures.value) reveals));
+  refused = search rules;
+  cause = search rules;
+}
 
 pub returns-clause-same : goal.returns-clause-same
 returns-clause-same g c =

@@ -16,14 +16,15 @@ use Rattle.fault_core.proofs.load.load_shown.Goals as goal
 
 -- ---- On one page.
 
-pub returns-then-into-room-clause-bytes : goal.returns-then-into-room-clause-bytes
-returns-then-into-room-clause-bytes g c = λ m named b ss known seen also.
-    let into = c.load_in.new.into in
-    on_ok_wider c.load_in.result _ _ (λ has. one_loaded ss named m c.args.address into has.inside (loads_first ss named m c.args.address c.args.first.now into seen c.requires.first.holds has))
-    (c.load_in.ensures.bytes m named b known seen.stored)
-
-pub returns-then-into-room-clause-intact : goal.returns-then-into-room-clause-intact
-returns-then-into-room-clause-intact g c = λ one. c.load_in.ensures.intact
+pub returns-then-into-room-clause-moves : goal.returns-then-into-room-clause-moves
+returns-then-into-room-clause-moves g c = record {
+  bytes = λ m named b ss known seen also.
+      let into = c.load_in.new.into in
+      on_ok_wider c.load_in.result _ _ (λ has. one_loaded ss named m c.args.address into has.inside (loads_first ss named m c.args.address c.args.first.now into seen c.requires.first.holds has))
+      (c.load_in.ensures.moves.bytes m named b known seen.stored);
+  width = search rules;
+  intact = λ one. c.load_in.ensures.moves.intact;
+}
 
 pub returns-then-into-room-clause-whole : goal.returns-then-into-room-clause-whole
 returns-then-into-room-clause-whole g c =
@@ -32,46 +33,74 @@ returns-then-into-room-clause-whole g c =
     let page = one_page c.args.address (length c.args.into.now) c.requires.some (omega (arith, fits)) in
     on_ok_wider c.load_in.result _ _ (λ whole. subst (IsWhole pool c.args.last.now) page (subst (λ (x : Interval). IsWhole pool x (c.args.address / 512)) (sym (c.requires.one page)) whole)) c.load_in.ensures.whole
 
-pub returns-then-into-room-clause-sound : goal.returns-then-into-room-clause-sound
-returns-then-into-room-clause-sound g c = λ m named b known first last. c.load_in.ensures.sound m named b known first
+pub returns-then-into-room-clause-fails : goal.returns-then-into-room-clause-fails
+returns-then-into-room-clause-fails g c = record {
+  cause = search rules;
+  misses =
+      let x = c.args.first.now in
+      let y = c.args.last.now in
+      let a = c.args.address in
+      let n = length c.args.into.now in
+      err_wider c.load_in.result (MissesPage (unit_pages x (a / 512))) (MissesPage (both_units x y a n)) (misses_wider (unit_pages x (a / 512)) (both_units x y a n) (λ id number own. inl own)) c.load_in.ensures.fails.misses;
+  sound = λ m named b known both. c.load_in.ensures.fails.sound m named b known both.0;
+}
 
-pub returns-then-into-room-clause-came : goal.returns-then-into-room-clause-came
-returns-then-into-room-clause-came g c = came_first c.args.first.now c.args.last.now _ _ c.load_in.ensures.came
+pub returns-then-into-room-clause-brings : goal.returns-then-into-room-clause-brings
+returns-then-into-room-clause-brings g c = record {
+  reaches = search rules;
+  came = came_first c.args.first.now c.args.last.now _ _ c.load_in.ensures.brings.came;
+}
 
 -- ---- The first of two failed.
 
-pub returns-in-Err-clause-sound : goal.returns-in-Err-clause-sound
-returns-in-Err-clause-sound g c = λ m named b known first last. c.in-Err.ensures.sound m named b known first
+pub returns-in-Err-clause-fails : goal.returns-in-Err-clause-fails
+returns-in-Err-clause-fails g c = record {
+  cause = search rules;
+  misses =
+      let x = c.args.first.now in
+      let y = c.args.last.now in
+      let a = c.args.address in
+      let n = length c.args.into.now in
+      misses_wider (unit_pages x (a / 512)) (both_units x y a n) (λ id number own. inl own) c.in-Err.halt c.in-Err.ensures.fails.misses;
+  sound = λ m named b known both. c.in-Err.ensures.fails.sound m named b known both.0;
+}
 
--- the reference is on two pages
-pub returns-in-Err-clause-intact : goal.returns-in-Err-clause-intact
-returns-in-Err-clause-intact g c = λ one.
-    let past = c.if-into-room.false in
-    absurd (omega (arith, past, one))
+pub returns-in-Err-clause-moves : goal.returns-in-Err-clause-moves
+returns-in-Err-clause-moves g c = record {
+  bytes = search rules;
+  width = search rules;
+  intact = λ one.
+      let past = c.if-into-room.false in
+      absurd (omega (arith, past, one));
+}
 
-pub returns-in-Err-clause-came : goal.returns-in-Err-clause-came
-returns-in-Err-clause-came g c = came_first c.args.first.now c.args.last.now _ _ c.load_in-2.ensures.came
+pub returns-in-Err-clause-brings : goal.returns-in-Err-clause-brings
+returns-in-Err-clause-brings g c = record {
+  reaches = search rules;
+  came = came_first c.args.first.now c.args.last.now _ _ c.load_in-2.ensures.brings.came;
+}
 
 -- ---- On two pages.
 
-pub returns-clause-bytes : goal.returns-clause-bytes
-returns-clause-bytes g c = λ m named b ss known seen also.
-    let v = view_of c.args.filer.now in
-    let after = known_after v (view_of c.load_in-2.new.filer) m named b (accepted c.args.filer.now) c.load_in-2.ensures.reaches known in
-    let low = c.load_in-2.new.into in
-    let high = c.load_in-3.new.into in
-    let past = c.if-into-room.false in
-    let prefix : length low ≡ 512 - c.args.address % 512 = search rules in
-    let back : 1 ≤ length high = search rules in
-    let holds : Holds c.args.last.now (c.args.address / 512 + 1) = search rules in
-    let first = loads_first ss named m c.args.address c.args.first.now low seen c.requires.first.holds (c.in-Ok.ensures.bytes m named b known seen.stored) in
-    on_ok_wider c.load_in-3.result _ _ (λ has. two_loaded ss named m c.args.address low high prefix back first (loads_next ss named m c.args.address c.args.last.now high also holds has))
-    (c.load_in-3.ensures.bytes m named b after also.stored)
-
-pub returns-clause-intact : goal.returns-clause-intact
-returns-clause-intact g c = λ one.
-    let past = c.if-into-room.false in
-    absurd (omega (arith, past, one))
+pub returns-clause-moves : goal.returns-clause-moves
+returns-clause-moves g c = record {
+  bytes = λ m named b ss known seen also.
+      let v = view_of c.args.filer.now in
+      let after = known_after v (view_of c.load_in-2.new.filer) m named b (accepted c.args.filer.now) c.load_in-2.ensures.brings.reaches known in
+      let low = c.load_in-2.new.into in
+      let high = c.load_in-3.new.into in
+      let past = c.if-into-room.false in
+      let prefix : length low ≡ 512 - c.args.address % 512 = search rules in
+      let back : 1 ≤ length high = search rules in
+      let holds : Holds c.args.last.now (c.args.address / 512 + 1) = search rules in
+      let first = loads_first ss named m c.args.address c.args.first.now low seen c.requires.first.holds (c.in-Ok.ensures.moves.bytes m named b known seen.stored) in
+      on_ok_wider c.load_in-3.result _ _ (λ has. two_loaded ss named m c.args.address low high prefix back first (loads_next ss named m c.args.address c.args.last.now high also holds has))
+      (c.load_in-3.ensures.moves.bytes m named b after also.stored);
+  width = search rules;
+  intact = λ one.
+      let past = c.if-into-room.false in
+      absurd (omega (arith, past, one));
+}
 
 pub returns-clause-whole : goal.returns-clause-whole
 returns-clause-whole g c =
@@ -79,25 +108,33 @@ returns-clause-whole g c =
     let page = last_is_next c.args.address (length c.args.into.now) c.requires.few (omega (arith, past)) in
     on_ok_wider c.load_in-3.result _ _ (λ whole. subst (IsWhole (view_of c.load_in-3.new.filer).slots c.args.last.now) page whole) c.load_in-3.ensures.whole
 
-pub returns-clause-cause : goal.returns-clause-cause
-returns-clause-cause g c =
-    let v = view_of c.args.filer.now in
-    let w = view_of c.load_in-2.new.filer in
-    let x = view_of c.load_in-3.new.filer in
-    err_wider c.load_in-3.result (TouchHalts no_break w x) (TouchHalts no_break v x)
-    (finds_before v w (accepted c.args.filer.now) c.load_in-2.ensures.reaches MayBeMissing no_break no_break (λ page none. none) x x (omega arith)) c.load_in-3.ensures.cause
+pub returns-clause-fails : goal.returns-clause-fails
+returns-clause-fails g c = record {
+  cause =
+      let v = view_of c.args.filer.now in
+      let w = view_of c.load_in-2.new.filer in
+      let x = view_of c.load_in-3.new.filer in
+      err_wider c.load_in-3.result (TouchHalts no_break w x) (TouchHalts no_break v x)
+      (finds_before v w (accepted c.args.filer.now) c.load_in-2.ensures.brings.reaches MayBeMissing no_break no_break (λ page none. none) x x (omega arith)) c.load_in-3.ensures.fails.cause;
+  misses =
+      let x = c.args.first.now in
+      let y = c.args.last.now in
+      let a = c.args.address in
+      let n = length c.args.into.now in
+      let past = c.if-into-room.false in
+      let page = last_is_next a n c.requires.few (omega (arith, past)) in
+      err_wider c.load_in-3.result (MissesPage (unit_pages y (a / 512 + 1))) (MissesPage (both_units x y a n)) (misses_wider (unit_pages y (a / 512 + 1)) (both_units x y a n) (λ id number own. inr (subst (λ (q : ℕ). unit_pages y q id number) page own))) c.load_in-3.ensures.fails.misses;
+  sound = λ m named b known both.
+      c.load_in-3.ensures.fails.sound m named b (known_after (view_of c.args.filer.now) (view_of c.load_in-2.new.filer) m named b (accepted c.args.filer.now) c.load_in-2.ensures.brings.reaches known) both.1;
+}
 
-pub returns-clause-sound : goal.returns-clause-sound
-returns-clause-sound g c = λ m named b known first last.
-    c.load_in-3.ensures.sound m named b (known_after (view_of c.args.filer.now) (view_of c.load_in-2.new.filer) m named b (accepted c.args.filer.now) c.load_in-2.ensures.reaches known) last
-
-pub returns-clause-reaches : goal.returns-clause-reaches
-returns-clause-reaches g c =
-    reaches_then (view_of c.args.filer.now) (view_of c.load_in-2.new.filer) (accepted c.args.filer.now) c.load_in-2.ensures.reaches (view_of c.load_in-3.new.filer) c.load_in-3.ensures.reaches
-
-pub returns-clause-came : goal.returns-clause-came
-returns-clause-came g c =
-    brings_then (came_first c.args.first.now c.args.last.now _ _ c.load_in-2.ensures.came) (came_last c.args.first.now c.args.last.now _ _ c.load_in-3.ensures.came)
+pub returns-clause-brings : goal.returns-clause-brings
+returns-clause-brings g c = record {
+  reaches =
+      reaches_then (view_of c.args.filer.now) (view_of c.load_in-2.new.filer) (accepted c.args.filer.now) c.load_in-2.ensures.brings.reaches (view_of c.load_in-3.new.filer) c.load_in-3.ensures.brings.reaches;
+  came =
+      brings_then (came_first c.args.first.now c.args.last.now _ _ c.load_in-2.ensures.brings.came) (came_last c.args.first.now c.args.last.now _ _ c.load_in-3.ensures.brings.came);
+}
 
 pub returns-clause-idle : goal.returns-clause-idle
 returns-clause-idle g c = λ first last.
@@ -107,31 +144,3 @@ returns-clause-idle g c = λ first last.
     let whole : IsWhole (view_of c.load_in-2.new.filer).slots c.args.last.now (c.args.address / 512 + 1) = rw (one.1, page) last in
     let two = c.load_in-3.ensures.idle whole in
     (two.0, two.1 ∙ one.1)
-
--- ---- A page has no sector.
-
-pub returns-then-into-room-clause-misses : goal.returns-then-into-room-clause-misses
-returns-then-into-room-clause-misses g c =
-    let x = c.args.first.now in
-    let y = c.args.last.now in
-    let a = c.args.address in
-    let n = length c.args.into.now in
-    err_wider c.load_in.result (MissesPage (unit_pages x (a / 512))) (MissesPage (both_units x y a n)) (misses_wider (unit_pages x (a / 512)) (both_units x y a n) (λ id number own. inl own)) c.load_in.ensures.misses
-
-pub returns-in-Err-clause-misses : goal.returns-in-Err-clause-misses
-returns-in-Err-clause-misses g c =
-    let x = c.args.first.now in
-    let y = c.args.last.now in
-    let a = c.args.address in
-    let n = length c.args.into.now in
-    misses_wider (unit_pages x (a / 512)) (both_units x y a n) (λ id number own. inl own) c.in-Err.halt c.in-Err.ensures.misses
-
-pub returns-clause-misses : goal.returns-clause-misses
-returns-clause-misses g c =
-    let x = c.args.first.now in
-    let y = c.args.last.now in
-    let a = c.args.address in
-    let n = length c.args.into.now in
-    let past = c.if-into-room.false in
-    let page = last_is_next a n c.requires.few (omega (arith, past)) in
-    err_wider c.load_in-3.result (MissesPage (unit_pages y (a / 512 + 1))) (MissesPage (both_units x y a n)) (misses_wider (unit_pages y (a / 512 + 1)) (both_units x y a n) (λ id number own. inr (subst (λ (q : ℕ). unit_pages y q id number) page own))) c.load_in-3.ensures.misses

@@ -1,5 +1,4 @@
-use Rattle.std.proofs.Common.{rules, ◌∙◌, ◌≤◌, arith}
-use Rattle.filer_kernel.specs.View.{view_of}
+use Rattle.std.proofs.Common.{◌∙◌, arith}
 use Rattle.fault_core.proofs.RowLemmas.{all_loaded}
 use Rattle.fault_core.proofs.ready.load_parts.Goals as goal
 

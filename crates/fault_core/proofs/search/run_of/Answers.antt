@@ -1,3 +1,4 @@
+use Rattle.std.proofs.Common.{rules}
 use Rattle.filer_kernel.specs.Causes.{MapHalts}
 use Rattle.filer_kernel.proofs.Outcomes.{err_wider}
 use Rattle.filer_kernel.specs.View.{accepted, disk_of, view_of}
@@ -8,8 +9,16 @@ use Rattle.fault_core.proofs.TurnLemmas.{reaches_map, own_map, map_halt}
 use Rattle.fault_core.proofs.YieldLemmas.{map_yields}
 use Rattle.fault_core.proofs.search.run_of.Goals as goal
 
-pub returns-clause-nowhere : goal.returns-clause-nowhere
-returns-clause-nowhere g c = rw (← c.count_frames.ensures.same) c.find.ensures.nowhere
+pub returns-clause-comes : goal.returns-clause-comes
+returns-clause-comes g c = record {
+  form = search rules;
+  holds = search rules;
+  given = search rules;
+  nowhere = rw (← c.count_frames.ensures.same) c.find.ensures.nowhere;
+  found = λ m named b known.
+      let k : Known (view_of c.count_frames.new.filer) m named b = rw c.count_frames.ensures.same known in
+      c.find.ensures.found m named k.stands k.map k.runs;
+}
 
 pub returns-clause-cause : goal.returns-clause-cause
 returns-clause-cause g c =
@@ -17,27 +26,18 @@ returns-clause-cause g c =
     let w = view_of c.find.new.self in
     rw (← c.count_frames.ensures.same) (err_wider c.find.result (MapHalts v.layout v.disk v.slots w.disk) (ReachHalts no_break v w) (map_halt v w no_break) c.find.ensures.cause)
 
-pub returns-clause-found : goal.returns-clause-found
-returns-clause-found g c = λ m named b known.
-    let k : Known (view_of c.count_frames.new.filer) m named b = rw c.count_frames.ensures.same known in
-    c.find.ensures.found m named k.stands k.map k.runs
-
 pub returns-clause-sound : goal.returns-clause-sound
 returns-clause-sound g c = λ m named b known.
     let k : Known (view_of c.count_frames.new.filer) m named b = rw c.count_frames.ensures.same known in
     c.find.ensures.sound m named k.stands k.map k.map_labels
 
-pub returns-clause-reaches : goal.returns-clause-reaches
-returns-clause-reaches g c =
-    rw (← c.count_frames.ensures.same) (reaches_map (view_of c.count_frames.new.filer) (view_of c.find.new.self) (accepted c.count_frames.new.filer) (rw c.count_frames.ensures.same c.requires.size)
-    (g.met.D.Disk.whole (disk_of c.count_frames.new.filer)) (g.met.D.Disk.in_form (disk_of c.count_frames.new.filer)) (rw c.count_frames.ensures.same c.count_frames.ensures.pages)
-    c.find.ensures.beside c.find.ensures.same_bytes c.find.ensures.runs_given c.find.ensures.runs_are)
-
-pub returns-clause-came : goal.returns-clause-came
-returns-clause-came g c = rw (← c.count_frames.ensures.same) (own_map (view_of c.count_frames.new.filer) (view_of c.find.new.self) c.find.ensures.beside)
-
-pub returns-clause-room : goal.returns-clause-room
-returns-clause-room g c = rw (← c.count_frames.ensures.same) (steps_room c.find.ensures.beside.steps)
-
-pub returns-clause-stay : goal.returns-clause-stay
-returns-clause-stay g c = rw (← c.count_frames.ensures.same) (map_yields (view_of c.count_frames.new.filer).layout c.find.ensures.beside.steps)
+pub returns-clause-brings : goal.returns-clause-brings
+returns-clause-brings g c = record {
+  reaches =
+      rw (← c.count_frames.ensures.same) (reaches_map (view_of c.count_frames.new.filer) (view_of c.find.new.self) (accepted c.count_frames.new.filer) (rw c.count_frames.ensures.same c.requires.size)
+      (g.met.D.Disk.whole (disk_of c.count_frames.new.filer)) (g.met.D.Disk.in_form (disk_of c.count_frames.new.filer)) (rw c.count_frames.ensures.same c.count_frames.ensures.pages)
+      c.find.ensures.beside c.find.ensures.same_bytes c.find.ensures.runs_given c.find.ensures.runs_are);
+  came = rw (← c.count_frames.ensures.same) (own_map (view_of c.count_frames.new.filer) (view_of c.find.new.self) c.find.ensures.beside);
+  room = rw (← c.count_frames.ensures.same) (steps_room c.find.ensures.beside.steps);
+  stay = rw (← c.count_frames.ensures.same) (map_yields (view_of c.count_frames.new.filer).layout c.find.ensures.beside.steps);
+}

@@ -1,4 +1,4 @@
-use Rattle.std.proofs.Common.{◌≡◌, ◌⊎◌, ◌≤◌, inl, refl, ap}
+use Rattle.std.proofs.Common.{rules, ◌≡◌, ◌⊎◌, ◌≤◌, inl, refl, ap}
 use Rattle.swapper_kernel.specs.HaltLaws.{brings_then, brings_wider}
 use Rattle.fault_core.specs.Unit.{IsOfInterval, KeepsResident, file_page}
 use Rattle.filer_kernel.specs.View.{accepted, view_of}
@@ -9,39 +9,47 @@ use Rattle.fault_core.proofs.store.store_in.Goals as goal
 
 -- ---- The page could not be brought in.
 
-pub returns-in-Err-clause-halted : goal.returns-in-Err-clause-halted
-returns-in-Err-clause-halted g c = λ m named b known.
-    record { memory = m; changed = refl; known = known_after (view_of c.args.filer.now) (view_of c.touch.new.filer) m named b (accepted c.args.filer.now) c.touch.ensures.reaches known; labels = refl }
+pub returns-in-Err-clause-moves : goal.returns-in-Err-clause-moves
+returns-in-Err-clause-moves g c = record {
+  stored = search rules;
+  halted = λ m named b known.
+      record { memory = m; changed = refl; known = known_after (view_of c.args.filer.now) (view_of c.touch.new.filer) m named b (accepted c.args.filer.now) c.touch.ensures.brings.reaches known; labels = refl };
+  dirty = search rules;
+}
 
-pub returns-in-Err-clause-touches : goal.returns-in-Err-clause-touches
-returns-in-Err-clause-touches g c = touches_of _ c.touch.ensures.reaches
+pub returns-in-Err-clause-brings : goal.returns-in-Err-clause-brings
+returns-in-Err-clause-brings g c = record {
+  touches = touches_of _ c.touch.ensures.brings.reaches;
+  came = search rules;
+}
 
 -- ---- Its frame changes.
 
 pub change_in-requires-clause-slot : goal.change_in-requires-clause-slot
-change_in-requires-clause-slot g c = client_slot (view_of c.touch.new.filer).slots c.args.x.now c.args.page c.in-Ok.slot c.requires.shows c.in-Ok.ensures.slot
+change_in-requires-clause-slot g c = client_slot (view_of c.touch.new.filer).slots c.args.x.now c.args.page c.in-Ok.slot c.requires.shows c.in-Ok.ensures.comes.slot
 
-pub returns-clause-stored : goal.returns-clause-stored
-returns-clause-stored g c = λ m named b known stored.
-    let after = known_after (view_of c.args.filer.now) (view_of c.touch.new.filer) m named b (accepted c.args.filer.now) c.touch.ensures.reaches known in
-    c.change_in.ensures.stored m named b c.args.x.now.id (file_page c.args.x.now c.args.page) after c.in-Ok.ensures.slot (stored c.args.page c.requires.shows.holds).of_file
+pub returns-clause-moves : goal.returns-clause-moves
+returns-clause-moves g c = record {
+  stored = λ m named b known stored.
+      let after = known_after (view_of c.args.filer.now) (view_of c.touch.new.filer) m named b (accepted c.args.filer.now) c.touch.ensures.brings.reaches known in
+      c.change_in.ensures.stored m named b c.args.x.now.id (file_page c.args.x.now c.args.page) after c.in-Ok.ensures.comes.slot (stored c.args.page c.requires.shows.holds).of_file;
+  halted = search rules;
+  dirty = c.change_in.ensures.dirty c.args.x.now.id (file_page c.args.x.now c.args.page) c.in-Ok.ensures.comes.slot;
+}
 
 pub returns-clause-whole : goal.returns-clause-whole
 returns-clause-whole g c = λ other own.
-    let there = c.in-Ok.ensures.whole other own in
+    let there = c.in-Ok.ensures.comes.whole other own in
     (there.0, c.change_in.ensures.slots there.0 c.args.x.now.id (file_page c.args.x.now other) there.1)
 
-pub returns-clause-dirty : goal.returns-clause-dirty
-returns-clause-dirty g c = c.change_in.ensures.dirty c.args.x.now.id (file_page c.args.x.now c.args.page) c.in-Ok.ensures.slot
-
-pub returns-clause-touches : goal.returns-clause-touches
-returns-clause-touches g c =
-    touches_then (view_of c.args.filer.now) (view_of c.touch.new.filer) (accepted c.args.filer.now) (touches_of _ c.touch.ensures.reaches) (view_of c.change_in.new.filer)
-    (c.change_in.ensures.touches c.args.x.now.id (file_page c.args.x.now c.args.page) c.in-Ok.ensures.slot (c.requires.shows.formed.shows c.requires.shows.mapped).0)
-
-pub returns-clause-came : goal.returns-clause-came
-returns-clause-came g c =
-    brings_then c.touch.ensures.came (brings_wider (λ home. ((1 ≤ home.id) × (home.id ≤ 3)) ⊎ IsOfInterval c.args.x.now home) (λ home own. inl own) c.change_in.ensures.came)
+pub returns-clause-brings : goal.returns-clause-brings
+returns-clause-brings g c = record {
+  touches =
+      touches_then (view_of c.args.filer.now) (view_of c.touch.new.filer) (accepted c.args.filer.now) (touches_of _ c.touch.ensures.brings.reaches) (view_of c.change_in.new.filer)
+      (c.change_in.ensures.touches c.args.x.now.id (file_page c.args.x.now c.args.page) c.in-Ok.ensures.comes.slot (c.requires.shows.formed.shows c.requires.shows.mapped).0);
+  came =
+      brings_then c.touch.ensures.brings.came (brings_wider (λ home. ((1 ≤ home.id) × (home.id ≤ 3)) ⊎ IsOfInterval c.args.x.now home) (λ home own. inl own) c.change_in.ensures.came);
+}
 
 pub returns-clause-idle : goal.returns-clause-idle
 returns-clause-idle g c = λ whole.

@@ -78,8 +78,8 @@ returns-in-Ok-clause-answers g c = λ volume m r.
     let revealed = knows running_laws whole r in
     let found = asked_range m.spaces c.args.space c.in-Ok-Ok.field-0 c.in-Ok-Ok.run' c.in-Ok-Ok.field-0-is (c.in-Ok-Ok.ensures.answer _ _ m.spaces revealed) in
     let e = c.activate.ensures in
-    let came = came_then (state c.args.core.now) (state c.bounds.new.core) (state c.activate.new.self) whole.layout (came_asked c.bounds.ensures.asked) (record { reaches = e.reaches; brings = e.came; known = e.same; same_count = e.intervals }) in
-    let reaches = reaches_then (state c.args.core.now) (state c.bounds.new.core) whole.layout c.bounds.ensures.asked.reaches (state c.activate.new.self) c.activate.ensures.reaches in
+    let came = came_then (state c.args.core.now) (state c.bounds.new.core) (state c.activate.new.self) whole.layout (came_asked c.bounds.ensures.asked) (record { reaches = e.brings.reaches; brings = e.brings.came; known = e.stays.same; same_count = e.stays.intervals }) in
+    let reaches = reaches_then (state c.args.core.now) (state c.bounds.new.core) whole.layout c.bounds.ensures.asked.reaches (state c.activate.new.self) c.activate.ensures.brings.reaches in
     record {
       carried = (record {
         allowed = allowed_done m (call.Activate c.args.space) Done (activate_there m c.args.space found.0) refl;
@@ -91,7 +91,7 @@ returns-in-Ok-clause-answers g c = λ volume m r.
 
 pub returns-in-Ok-clause-wrote : goal.returns-in-Ok-clause-wrote
 returns-in-Ok-clause-wrote g c =
-    wrote_so (reached_makes (reaches_then (state c.args.core.now) (state c.bounds.new.core) (accepted c.args.core.now.filer) c.bounds.ensures.asked.reaches (state c.activate.new.self) c.activate.ensures.reaches))
+    wrote_so (reached_makes (reaches_then (state c.args.core.now) (state c.bounds.new.core) (accepted c.args.core.now.filer) c.bounds.ensures.asked.reaches (state c.activate.new.self) c.activate.ensures.brings.reaches))
 
 pub returns-in-Ok-clause-whole : goal.returns-in-Ok-clause-whole
 returns-in-Ok-clause-whole g c = λ volume m s runs there.
@@ -114,16 +114,16 @@ returns-in-Ok-clause-brought g c = λ volume m s runs there.
 pub returns-in-Err-activate-clause-answers : goal.returns-in-Err-activate-clause-answers
 returns-in-Err-activate-clause-answers g c = λ volume m r.
     let whole = whole_core c.args.core.now c.requires.size in
-    let reaches = reaches_then (state c.args.core.now) (state c.bounds.new.core) whole.layout c.bounds.ensures.asked.reaches (state c.activate.new.self) c.activate.ensures.reaches in
+    let reaches = reaches_then (state c.args.core.now) (state c.bounds.new.core) whole.layout c.bounds.ensures.asked.reaches (state c.activate.new.self) c.activate.ensures.brings.reaches in
     record {
       carried = tt;
-      sound = (c.in-Err-activate.ensures.sound _ _ m.spaces (c.bounds.ensures.asked.same _ _ m.spaces (knows running_laws whole r)));
+      sound = (c.in-Err-activate.ensures.fails.sound _ _ m.spaces (c.bounds.ensures.asked.same _ _ m.spaces (knows running_laws whole r)));
       passes = (still_reveals running_laws whole r (state c.activate.new.self) (g.met.D.Disk.in_form (disk_of c.args.core.now.filer)) (call.Activate c.args.space) (reached_makes reaches));
     }
 
 pub returns-in-Err-activate-clause-wrote : goal.returns-in-Err-activate-clause-wrote
 returns-in-Err-activate-clause-wrote g c =
-    wrote_so (reached_makes (reaches_then (state c.args.core.now) (state c.bounds.new.core) (accepted c.args.core.now.filer) c.bounds.ensures.asked.reaches (state c.activate.new.self) c.activate.ensures.reaches))
+    wrote_so (reached_makes (reaches_then (state c.args.core.now) (state c.bounds.new.core) (accepted c.args.core.now.filer) c.bounds.ensures.asked.reaches (state c.activate.new.self) c.activate.ensures.brings.reaches))
 
 -- ---- Why it failed.
 
@@ -136,7 +136,7 @@ returns-in-Err-clause-cause g c =
 pub returns-in-Err-activate-clause-cause : goal.returns-in-Err-activate-clause-cause
 returns-in-Err-activate-clause-cause g c =
     let asked = c.bounds.ensures.asked in
-    within_touch (state c.args.core.now) (state c.bounds.new.core) (accepted c.args.core.now.filer) c.args.space asked.reaches c.args.core.now.intervals c.bounds.new.core.intervals asked.intervals (state c.activate.new.self) c.in-Ok-Ok.run' (given_so (TablesSay (state c.args.core.now) (λ b. IsRunAt b c.args.space)) c.in-Ok-Ok.run' c.in-Ok-Ok.field-0 c.in-Ok-Ok.field-0-is c.in-Ok-Ok.ensures.read) c.in-Err-activate.halt c.in-Err-activate.ensures.cause
+    within_touch (state c.args.core.now) (state c.bounds.new.core) (accepted c.args.core.now.filer) c.args.space asked.reaches c.args.core.now.intervals c.bounds.new.core.intervals asked.intervals (state c.activate.new.self) c.in-Ok-Ok.run' (given_so (TablesSay (state c.args.core.now) (λ b. IsRunAt b c.args.space)) c.in-Ok-Ok.run' c.in-Ok-Ok.field-0 c.in-Ok-Ok.field-0-is c.in-Ok-Ok.ensures.read) c.in-Err-activate.halt c.in-Err-activate.ensures.fails.cause
 
 pub returns-in-Err-clause-missing : goal.returns-in-Err-clause-missing
 returns-in-Err-clause-missing g c = λ ss s.
@@ -147,13 +147,13 @@ returns-in-Err-clause-missing g c = λ ss s.
 pub returns-in-Err-activate-clause-missing : goal.returns-in-Err-activate-clause-missing
 returns-in-Err-activate-clause-missing g c = λ ss s.
     let found = found_run ss c.args.space c.in-Ok-Ok.run' c.in-Ok-Ok.field-0 c.in-Ok-Ok.field-0-is (c.in-Ok-Ok.ensures.seen ss s) in
-    run_misses ss c.args.space c.in-Ok-Ok.run' found.1 c.in-Err-activate.halt (c.in-Err-activate.ensures.missing ss (c.bounds.ensures.sees ss s))
+    run_misses ss c.args.space c.in-Ok-Ok.run' found.1 c.in-Err-activate.halt (c.in-Err-activate.ensures.fails.missing ss (c.bounds.ensures.sees ss s))
 
 pub returns-in-Err-clause-evidence_seen : goal.returns-in-Err-clause-evidence_seen
 returns-in-Err-clause-evidence_seen g c = shows_evidence _ (state c.args.core.now) (state c.bounds.new.core) (fits (swapper_of c.args.core.now.filer) c.requires.size) c.bounds.ensures.asked.reaches.goes.makes c.in-Err.halt c.in-Err.ensures.cause
 
 pub returns-in-Err-activate-clause-evidence_seen : goal.returns-in-Err-activate-clause-evidence_seen
-returns-in-Err-activate-clause-evidence_seen g c = touch_so _ (state c.bounds.new.core) (state c.activate.new.self) (fits (swapper_of c.bounds.new.core.filer) (search rules)) c.activate.ensures.reaches.goes.makes c.in-Err-activate.halt c.in-Err-activate.ensures.cause
+returns-in-Err-activate-clause-evidence_seen g c = touch_so _ (state c.bounds.new.core) (state c.activate.new.self) (fits (swapper_of c.bounds.new.core.filer) (search rules)) c.activate.ensures.brings.reaches.goes.makes c.in-Err-activate.halt c.in-Err-activate.ensures.fails.cause
 
 -- ---- No label was written.
 
@@ -164,10 +164,10 @@ pub returns-in-Err-clause-moves : goal.returns-in-Err-clause-moves
 returns-in-Err-clause-moves g c = moves_of_reaches (state c.args.core.now) (state c.bounds.new.core) c.bounds.ensures.asked.reaches
 
 pub returns-in-Ok-clause-moves : goal.returns-in-Ok-clause-moves
-returns-in-Ok-clause-moves g c = moves_twice (state c.args.core.now) (state c.bounds.new.core) (state c.activate.new.self) (accepted c.args.core.now.filer) c.bounds.ensures.asked.reaches c.activate.ensures.reaches
+returns-in-Ok-clause-moves g c = moves_twice (state c.args.core.now) (state c.bounds.new.core) (state c.activate.new.self) (accepted c.args.core.now.filer) c.bounds.ensures.asked.reaches c.activate.ensures.brings.reaches
 
 pub returns-in-Err-activate-clause-moves : goal.returns-in-Err-activate-clause-moves
-returns-in-Err-activate-clause-moves g c = moves_twice (state c.args.core.now) (state c.bounds.new.core) (state c.activate.new.self) (accepted c.args.core.now.filer) c.bounds.ensures.asked.reaches c.activate.ensures.reaches
+returns-in-Err-activate-clause-moves g c = moves_twice (state c.args.core.now) (state c.bounds.new.core) (state c.activate.new.self) (accepted c.args.core.now.filer) c.bounds.ensures.asked.reaches c.activate.ensures.brings.reaches
 
 -- ---- The tables are revealed.
 
@@ -178,7 +178,7 @@ pub returns-in-Err-clause-right : goal.returns-in-Err-clause-right
 returns-in-Err-clause-right g c = λ s. c.in-Err.ensures.right s.0 s.1
 
 pub returns-in-Ok-clause-sees : goal.returns-in-Ok-clause-sees
-returns-in-Ok-clause-sees g c = λ ss s. (ss, (c.activate.ensures.sees ss (c.bounds.ensures.sees ss s), shown_here ss))
+returns-in-Ok-clause-sees g c = λ ss s. (ss, (c.activate.ensures.stays.sees ss (c.bounds.ensures.sees ss s), shown_here ss))
 
 pub returns-in-Err-activate-clause-right : goal.returns-in-Err-activate-clause-right
-returns-in-Err-activate-clause-right g c = λ s. c.in-Err-activate.ensures.right s.0 (c.bounds.ensures.sees s.0 s.1)
+returns-in-Err-activate-clause-right g c = λ s. c.in-Err-activate.ensures.fails.right s.0 (c.bounds.ensures.sees s.0 s.1)

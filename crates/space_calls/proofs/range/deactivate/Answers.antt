@@ -75,12 +75,12 @@ returns-in-Err-evict-clause-answers g c = λ volume m r. record {
       let x = r.session.stands.memory in
       let named = r.session.stands.is.named in
       let revealed = knows running_laws whole r in
-      c.in-Err-evict.ensures.sound x named m.spaces (c.range_of.ensures.asked.same x named m.spaces revealed));
-  passes = (still_reveals running_laws (whole_of c.args.core.now c.requires.size) r (state c.evict.new.self) (λ d revealed. g.met.D.Disk.in_form (disk_of c.args.core.now.filer) d revealed) (call.Deactivate c.args.space) (makes_then (reached_makes c.range_of.ensures.asked.reaches) (reached_makes c.evict.ensures.reaches)));
+      c.in-Err-evict.ensures.fails.sound x named m.spaces (c.range_of.ensures.asked.same x named m.spaces revealed));
+  passes = (still_reveals running_laws (whole_of c.args.core.now c.requires.size) r (state c.evict.new.self) (λ d revealed. g.met.D.Disk.in_form (disk_of c.args.core.now.filer) d revealed) (call.Deactivate c.args.space) (makes_then (reached_makes c.range_of.ensures.asked.reaches) (reached_makes c.evict.ensures.brings.reaches)));
 }
 
 pub returns-in-Err-evict-clause-wrote : goal.returns-in-Err-evict-clause-wrote
-returns-in-Err-evict-clause-wrote g c = wrote_so (makes_then (reached_makes c.range_of.ensures.asked.reaches) (reached_makes c.evict.ensures.reaches))
+returns-in-Err-evict-clause-wrote g c = wrote_so (makes_then (reached_makes c.range_of.ensures.asked.reaches) (reached_makes c.evict.ensures.brings.reaches))
 
 -- ---- It is done.
 
@@ -96,10 +96,10 @@ returns-clause-answers g c = λ volume m r. record {
       record {
         allowed = allowed_done m (call.Deactivate c.args.space) reply.Done (deactivate_there m c.args.space found.0) refl;
         runs = subst (λ (n : Machine). Runs c.evict.new.self volume n) (deactivate_stays m c.args.space) (still_runs running_laws whole r (came_then (state c.args.core.now) (state c.range_of.new.core) (state c.evict.new.self) whole.layout
-            (came_own asked.reaches asked.came asked.same asked.intervals) (came_own gave.reaches gave.came gave.same gave.intervals)));
+            (came_own asked.reaches asked.came asked.same asked.intervals) (came_own gave.brings.reaches gave.brings.came gave.stays.same gave.stays.intervals)));
       });
   sound = tt;
-  passes = (still_reveals running_laws (whole_of c.args.core.now c.requires.size) r (state c.evict.new.self) (λ d revealed. g.met.D.Disk.in_form (disk_of c.args.core.now.filer) d revealed) (call.Deactivate c.args.space) (makes_then (reached_makes c.range_of.ensures.asked.reaches) (reached_makes c.evict.ensures.reaches)));
+  passes = (still_reveals running_laws (whole_of c.args.core.now c.requires.size) r (state c.evict.new.self) (λ d revealed. g.met.D.Disk.in_form (disk_of c.args.core.now.filer) d revealed) (call.Deactivate c.args.space) (makes_then (reached_makes c.range_of.ensures.asked.reaches) (reached_makes c.evict.ensures.brings.reaches)));
 }
 
 pub returns-clause-gone : goal.returns-clause-gone
@@ -112,7 +112,7 @@ returns-clause-gone g c = λ volume m s r there.
     of_space m.spaces c.args.space s c.in-Ok-Ok.found (AreGone m.spaces (state c.evict.new.self).slots) found.1 there (c.in-Ok.ensures.gone x named m.spaces (c.range_of.ensures.asked.same x named m.spaces revealed))
 
 pub returns-clause-wrote : goal.returns-clause-wrote
-returns-clause-wrote g c = wrote_so (makes_then (reached_makes c.range_of.ensures.asked.reaches) (reached_makes c.evict.ensures.reaches))
+returns-clause-wrote g c = wrote_so (makes_then (reached_makes c.range_of.ensures.asked.reaches) (reached_makes c.evict.ensures.brings.reaches))
 
 -- ---- Why it failed.
 
@@ -122,10 +122,10 @@ returns-in-Err-clause-cause g c = asked_halt (state c.args.core.now) (state c.ra
 pub returns-in-Err-evict-clause-cause : goal.returns-in-Err-evict-clause-cause
 returns-in-Err-evict-clause-cause g c =
     let asked = c.range_of.ensures.asked in
-    within_halt (state c.args.core.now) (state c.range_of.new.core) (accepted c.args.core.now.filer) c.args.space asked.reaches c.args.core.now.intervals c.range_of.new.core.intervals asked.intervals (state c.evict.new.self) c.in-Ok-Ok.found (given_so (TablesSay (state c.args.core.now) (λ b. IsRunAt b c.args.space)) c.in-Ok-Ok.found c.in-Ok-Ok.field-0 c.in-Ok-Ok.field-0-is c.in-Ok-Ok.ensures.read) c.in-Err-evict.halt c.in-Err-evict.ensures.cause
+    within_halt (state c.args.core.now) (state c.range_of.new.core) (accepted c.args.core.now.filer) c.args.space asked.reaches c.args.core.now.intervals c.range_of.new.core.intervals asked.intervals (state c.evict.new.self) c.in-Ok-Ok.found (given_so (TablesSay (state c.args.core.now) (λ b. IsRunAt b c.args.space)) c.in-Ok-Ok.found c.in-Ok-Ok.field-0 c.in-Ok-Ok.field-0-is c.in-Ok-Ok.ensures.read) c.in-Err-evict.halt c.in-Err-evict.ensures.fails.cause
 
 pub returns-in-Err-evict-clause-evidence_seen : goal.returns-in-Err-evict-clause-evidence_seen
-returns-in-Err-evict-clause-evidence_seen g c = shows_evidence _ (state c.range_of.new.core) (state c.evict.new.self) (fits (swapper_of c.range_of.new.core.filer) (search rules)) c.evict.ensures.reaches.goes.makes c.in-Err-evict.halt c.in-Err-evict.ensures.cause
+returns-in-Err-evict-clause-evidence_seen g c = shows_evidence _ (state c.range_of.new.core) (state c.evict.new.self) (fits (swapper_of c.range_of.new.core.filer) (search rules)) c.evict.ensures.brings.reaches.goes.makes c.in-Err-evict.halt c.in-Err-evict.ensures.fails.cause
 
 -- ---- No label was written.
 
@@ -136,10 +136,10 @@ pub returns-in-Err-clause-moves : goal.returns-in-Err-clause-moves
 returns-in-Err-clause-moves g c = moves_of_reaches (state c.args.core.now) (state c.range_of.new.core) c.range_of.ensures.asked.reaches
 
 pub returns-in-Err-evict-clause-moves : goal.returns-in-Err-evict-clause-moves
-returns-in-Err-evict-clause-moves g c = moves_twice (state c.args.core.now) (state c.range_of.new.core) (state c.evict.new.self) (accepted c.args.core.now.filer) c.range_of.ensures.asked.reaches c.evict.ensures.reaches
+returns-in-Err-evict-clause-moves g c = moves_twice (state c.args.core.now) (state c.range_of.new.core) (state c.evict.new.self) (accepted c.args.core.now.filer) c.range_of.ensures.asked.reaches c.evict.ensures.brings.reaches
 
 pub returns-clause-moves : goal.returns-clause-moves
-returns-clause-moves g c = moves_twice (state c.args.core.now) (state c.range_of.new.core) (state c.evict.new.self) (accepted c.args.core.now.filer) c.range_of.ensures.asked.reaches c.evict.ensures.reaches
+returns-clause-moves g c = moves_twice (state c.args.core.now) (state c.range_of.new.core) (state c.evict.new.self) (accepted c.args.core.now.filer) c.range_of.ensures.asked.reaches c.evict.ensures.brings.reaches
 
 -- ---- The tables are revealed.
 
@@ -147,10 +147,10 @@ pub returns-in-Ok-Err-clause-sees : goal.returns-in-Ok-Err-clause-sees
 returns-in-Ok-Err-clause-sees g c = λ ss s. (ss, (c.range_of.ensures.still ss s, shown_here ss))
 
 pub returns-in-Err-evict-clause-right : goal.returns-in-Err-evict-clause-right
-returns-in-Err-evict-clause-right g c = λ s. c.in-Err-evict.ensures.right s.0 (c.range_of.ensures.still s.0 s.1)
+returns-in-Err-evict-clause-right g c = λ s. c.in-Err-evict.ensures.fails.right s.0 (c.range_of.ensures.still s.0 s.1)
 
 pub returns-clause-sees : goal.returns-clause-sees
-returns-clause-sees g c = λ ss s. (ss, (c.evict.ensures.sees ss (c.range_of.ensures.still ss s), shown_here ss))
+returns-clause-sees g c = λ ss s. (ss, (c.evict.ensures.stays.sees ss (c.range_of.ensures.still ss s), shown_here ss))
 
 -- ---- Which pages came.
 
@@ -161,7 +161,7 @@ pub returns-in-Err-clause-came : goal.returns-in-Err-clause-came
 returns-in-Err-clause-came g c = c.range_of.ensures.asked.came
 
 pub returns-in-Err-evict-clause-came : goal.returns-in-Err-evict-clause-came
-returns-in-Err-evict-clause-came g c = brings_then c.range_of.ensures.asked.came c.evict.ensures.came
+returns-in-Err-evict-clause-came g c = brings_then c.range_of.ensures.asked.came c.evict.ensures.brings.came
 
 pub returns-clause-came : goal.returns-clause-came
-returns-clause-came g c = brings_then c.range_of.ensures.asked.came c.evict.ensures.came
+returns-clause-came g c = brings_then c.range_of.ensures.asked.came c.evict.ensures.brings.came

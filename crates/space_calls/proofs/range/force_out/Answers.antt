@@ -89,22 +89,22 @@ returns-in-Err-flush-clause-answers g c = λ volume m r. record {
       let x = r.session.stands.memory in
       let named = r.session.stands.is.named in
       let revealed = knows running_laws whole r in
-      c.in-Err-flush.ensures.sound x named m.spaces (c.range_of.ensures.asked.same x named m.spaces revealed));
-  passes = (still_reveals running_laws (whole_of c.args.core.now c.requires.size) r (state c.flush.new.self) (λ d revealed. g.met.D.Disk.in_form (disk_of c.args.core.now.filer) d revealed) (call.ForceOut c.args.space) (makes_then (reached_makes c.range_of.ensures.asked.reaches) (reached_makes c.flush.ensures.reaches)));
+      c.in-Err-flush.ensures.fails.sound x named m.spaces (c.range_of.ensures.asked.same x named m.spaces revealed));
+  passes = (still_reveals running_laws (whole_of c.args.core.now c.requires.size) r (state c.flush.new.self) (λ d revealed. g.met.D.Disk.in_form (disk_of c.args.core.now.filer) d revealed) (call.ForceOut c.args.space) (makes_then (reached_makes c.range_of.ensures.asked.reaches) (reached_makes c.flush.ensures.brings.reaches)));
 }
 
 pub returns-in-Err-flush-clause-wrote : goal.returns-in-Err-flush-clause-wrote
-returns-in-Err-flush-clause-wrote g c = wrote_so (makes_then (reached_makes c.range_of.ensures.asked.reaches) (reached_makes c.flush.ensures.reaches))
+returns-in-Err-flush-clause-wrote g c = wrote_so (makes_then (reached_makes c.range_of.ensures.asked.reaches) (reached_makes c.flush.ensures.brings.reaches))
 
 pub returns-in-Err-sync-clause-answers : goal.returns-in-Err-sync-clause-answers
 returns-in-Err-sync-clause-answers g c = λ volume m r. record {
   carried = tt;
   sound = c.in-Err-sync.ensures.fault;
-  passes = (still_reveals running_laws (whole_of c.args.core.now c.requires.size) r (state c.sync.new.core) (λ d revealed. g.met.D.Disk.in_form (disk_of c.args.core.now.filer) d revealed) (call.ForceOut c.args.space) (makes_then (reached_makes c.range_of.ensures.asked.reaches) (makes_then (reached_makes c.flush.ensures.reaches) (reached_makes c.sync.ensures.reaches))));
+  passes = (still_reveals running_laws (whole_of c.args.core.now c.requires.size) r (state c.sync.new.core) (λ d revealed. g.met.D.Disk.in_form (disk_of c.args.core.now.filer) d revealed) (call.ForceOut c.args.space) (makes_then (reached_makes c.range_of.ensures.asked.reaches) (makes_then (reached_makes c.flush.ensures.brings.reaches) (reached_makes c.sync.ensures.reaches))));
 }
 
 pub returns-in-Err-sync-clause-wrote : goal.returns-in-Err-sync-clause-wrote
-returns-in-Err-sync-clause-wrote g c = wrote_so (makes_then (reached_makes c.range_of.ensures.asked.reaches) (makes_then (reached_makes c.flush.ensures.reaches) (reached_makes c.sync.ensures.reaches)))
+returns-in-Err-sync-clause-wrote g c = wrote_so (makes_then (reached_makes c.range_of.ensures.asked.reaches) (makes_then (reached_makes c.flush.ensures.brings.reaches) (reached_makes c.sync.ensures.reaches)))
 
 -- ---- It is done.
 
@@ -120,7 +120,7 @@ returns-in-Ok-sync-clause-answers g c = λ volume m r. record {
       let forced = c.flush.ensures in
       let settled = c.sync.ensures in
       let came = came_then (state c.args.core.now) (state c.range_of.new.core) (state c.flush.new.self) whole.layout
-      (came_own asked.reaches asked.came asked.same asked.intervals) (came_own forced.reaches forced.came forced.same forced.intervals) in
+      (came_own asked.reaches asked.came asked.same asked.intervals) (came_own forced.brings.reaches forced.brings.came forced.stays.same forced.stays.intervals) in
       let s = found.1.0 in
       let rest = of_space m.spaces c.args.space s c.in-Ok-Ok.found (AreClean m.spaces (state c.flush.new.self).slots) found.1 found.1.1 (c.in-Ok.ensures.clean x named m.spaces (asked.same x named m.spaces revealed)) in
       record {
@@ -129,7 +129,7 @@ returns-in-Ok-sync-clause-answers g c = λ volume m r. record {
             (came_own settled.reaches (no_frame_came (state c.flush.new.self).slots (state c.sync.new.core).slots settled.frames) settled.known settled.intervals);
       });
   sound = tt;
-  passes = (still_reveals running_laws (whole_of c.args.core.now c.requires.size) r (state c.sync.new.core) (λ d revealed. g.met.D.Disk.in_form (disk_of c.args.core.now.filer) d revealed) (call.ForceOut c.args.space) (makes_then (reached_makes c.range_of.ensures.asked.reaches) (makes_then (reached_makes c.flush.ensures.reaches) (reached_makes c.sync.ensures.reaches))));
+  passes = (still_reveals running_laws (whole_of c.args.core.now c.requires.size) r (state c.sync.new.core) (λ d revealed. g.met.D.Disk.in_form (disk_of c.args.core.now.filer) d revealed) (call.ForceOut c.args.space) (makes_then (reached_makes c.range_of.ensures.asked.reaches) (makes_then (reached_makes c.flush.ensures.brings.reaches) (reached_makes c.sync.ensures.reaches))));
 }
 
 pub returns-in-Ok-sync-clause-clean : goal.returns-in-Ok-sync-clause-clean
@@ -143,7 +143,7 @@ returns-in-Ok-sync-clause-clean g c = λ volume m s r there.
     (of_space m.spaces c.args.space s c.in-Ok-Ok.found (AreClean m.spaces (state c.flush.new.self).slots) found.1 there (c.in-Ok.ensures.clean x named m.spaces (c.range_of.ensures.asked.same x named m.spaces revealed)))
 
 pub returns-in-Ok-sync-clause-wrote : goal.returns-in-Ok-sync-clause-wrote
-returns-in-Ok-sync-clause-wrote g c = wrote_so (makes_then (reached_makes c.range_of.ensures.asked.reaches) (makes_then (reached_makes c.flush.ensures.reaches) (reached_makes c.sync.ensures.reaches)))
+returns-in-Ok-sync-clause-wrote g c = wrote_so (makes_then (reached_makes c.range_of.ensures.asked.reaches) (makes_then (reached_makes c.flush.ensures.brings.reaches) (reached_makes c.sync.ensures.reaches)))
 
 -- ---- Why it failed.
 
@@ -153,15 +153,15 @@ returns-in-Err-clause-cause g c = asked_halt (state c.args.core.now) (state c.ra
 pub returns-in-Err-flush-clause-cause : goal.returns-in-Err-flush-clause-cause
 returns-in-Err-flush-clause-cause g c =
     let asked = c.range_of.ensures.asked in
-    within_halt (state c.args.core.now) (state c.range_of.new.core) (accepted c.args.core.now.filer) c.args.space asked.reaches c.args.core.now.intervals c.range_of.new.core.intervals asked.intervals (state c.flush.new.self) c.in-Ok-Ok.found (given_so (TablesSay (state c.args.core.now) (λ b. IsRunAt b c.args.space)) c.in-Ok-Ok.found c.in-Ok-Ok.field-0 c.in-Ok-Ok.field-0-is c.in-Ok-Ok.ensures.read) c.in-Err-flush.halt c.in-Err-flush.ensures.cause
+    within_halt (state c.args.core.now) (state c.range_of.new.core) (accepted c.args.core.now.filer) c.args.space asked.reaches c.args.core.now.intervals c.range_of.new.core.intervals asked.intervals (state c.flush.new.self) c.in-Ok-Ok.found (given_so (TablesSay (state c.args.core.now) (λ b. IsRunAt b c.args.space)) c.in-Ok-Ok.found c.in-Ok-Ok.field-0 c.in-Ok-Ok.field-0-is c.in-Ok-Ok.ensures.read) c.in-Err-flush.halt c.in-Err-flush.ensures.fails.cause
 
 pub returns-in-Err-sync-clause-cause : goal.returns-in-Err-sync-clause-cause
 returns-in-Err-sync-clause-cause g c =
     fault_halt (BreaksRange (state c.args.core.now) c.args.core.now.intervals c.args.space) (state c.args.core.now) (state c.flush.new.self) (state c.sync.new.core) c.in-Err-sync.halt
-    (makes_then (reached_makes c.range_of.ensures.asked.reaches) (reached_makes c.flush.ensures.reaches)).went.faults c.in-Err-sync.ensures.fault c.in-Err-sync.ensures.counted
+    (makes_then (reached_makes c.range_of.ensures.asked.reaches) (reached_makes c.flush.ensures.brings.reaches)).went.faults c.in-Err-sync.ensures.fault c.in-Err-sync.ensures.counted
 
 pub returns-in-Err-flush-clause-evidence_seen : goal.returns-in-Err-flush-clause-evidence_seen
-returns-in-Err-flush-clause-evidence_seen g c = shows_evidence _ (state c.range_of.new.core) (state c.flush.new.self) (fits (swapper_of c.range_of.new.core.filer) (search rules)) c.flush.ensures.reaches.goes.makes c.in-Err-flush.halt c.in-Err-flush.ensures.cause
+returns-in-Err-flush-clause-evidence_seen g c = shows_evidence _ (state c.range_of.new.core) (state c.flush.new.self) (fits (swapper_of c.range_of.new.core.filer) (search rules)) c.flush.ensures.brings.reaches.goes.makes c.in-Err-flush.halt c.in-Err-flush.ensures.fails.cause
 
 -- ---- The frames stay, or give way.
 
@@ -189,13 +189,13 @@ pub returns-in-Err-clause-moves : goal.returns-in-Err-clause-moves
 returns-in-Err-clause-moves g c = moves_of_reaches (state c.args.core.now) (state c.range_of.new.core) c.range_of.ensures.asked.reaches
 
 pub returns-in-Err-flush-clause-moves : goal.returns-in-Err-flush-clause-moves
-returns-in-Err-flush-clause-moves g c = moves_twice (state c.args.core.now) (state c.range_of.new.core) (state c.flush.new.self) (accepted c.args.core.now.filer) c.range_of.ensures.asked.reaches c.flush.ensures.reaches
+returns-in-Err-flush-clause-moves g c = moves_twice (state c.args.core.now) (state c.range_of.new.core) (state c.flush.new.self) (accepted c.args.core.now.filer) c.range_of.ensures.asked.reaches c.flush.ensures.brings.reaches
 
 pub returns-in-Err-sync-clause-moves : goal.returns-in-Err-sync-clause-moves
-returns-in-Err-sync-clause-moves g c = moves_before (state c.args.core.now) (state c.flush.new.self) (state c.sync.new.core) (accepted c.args.core.now.filer) (moves_twice (state c.args.core.now) (state c.range_of.new.core) (state c.flush.new.self) (accepted c.args.core.now.filer) c.range_of.ensures.asked.reaches c.flush.ensures.reaches) c.sync.ensures.reaches
+returns-in-Err-sync-clause-moves g c = moves_before (state c.args.core.now) (state c.flush.new.self) (state c.sync.new.core) (accepted c.args.core.now.filer) (moves_twice (state c.args.core.now) (state c.range_of.new.core) (state c.flush.new.self) (accepted c.args.core.now.filer) c.range_of.ensures.asked.reaches c.flush.ensures.brings.reaches) c.sync.ensures.reaches
 
 pub returns-in-Ok-sync-clause-moves : goal.returns-in-Ok-sync-clause-moves
-returns-in-Ok-sync-clause-moves g c = moves_before (state c.args.core.now) (state c.flush.new.self) (state c.sync.new.core) (accepted c.args.core.now.filer) (moves_twice (state c.args.core.now) (state c.range_of.new.core) (state c.flush.new.self) (accepted c.args.core.now.filer) c.range_of.ensures.asked.reaches c.flush.ensures.reaches) c.sync.ensures.reaches
+returns-in-Ok-sync-clause-moves g c = moves_before (state c.args.core.now) (state c.flush.new.self) (state c.sync.new.core) (accepted c.args.core.now.filer) (moves_twice (state c.args.core.now) (state c.range_of.new.core) (state c.flush.new.self) (accepted c.args.core.now.filer) c.range_of.ensures.asked.reaches c.flush.ensures.brings.reaches) c.sync.ensures.reaches
 
 -- ---- The tables are revealed.
 
@@ -203,13 +203,13 @@ pub returns-in-Ok-Err-clause-sees : goal.returns-in-Ok-Err-clause-sees
 returns-in-Ok-Err-clause-sees g c = λ ss s. (ss, (c.range_of.ensures.still ss s, shown_here ss))
 
 pub returns-in-Err-flush-clause-right : goal.returns-in-Err-flush-clause-right
-returns-in-Err-flush-clause-right g c = λ s. c.in-Err-flush.ensures.right s.0 (c.range_of.ensures.still s.0 s.1)
+returns-in-Err-flush-clause-right g c = λ s. c.in-Err-flush.ensures.fails.right s.0 (c.range_of.ensures.still s.0 s.1)
 
 pub returns-in-Ok-sync-clause-sees : goal.returns-in-Ok-sync-clause-sees
-returns-in-Ok-sync-clause-sees g c = λ ss s. (ss, (c.sync.ensures.still ss (c.flush.ensures.sees ss (c.range_of.ensures.still ss s)), shown_here ss))
+returns-in-Ok-sync-clause-sees g c = λ ss s. (ss, (c.sync.ensures.still ss (c.flush.ensures.stays.sees ss (c.range_of.ensures.still ss s)), shown_here ss))
 
 pub returns-in-Err-sync-clause-right : goal.returns-in-Err-sync-clause-right
-returns-in-Err-sync-clause-right g c = λ s. c.in-Err-sync.ensures.right (s.0, c.flush.ensures.sees s.0 (c.range_of.ensures.still s.0 s.1))
+returns-in-Err-sync-clause-right g c = λ s. c.in-Err-sync.ensures.right (s.0, c.flush.ensures.stays.sees s.0 (c.range_of.ensures.still s.0 s.1))
 
 -- ---- Which pages came.
 
@@ -220,10 +220,10 @@ pub returns-in-Err-clause-came : goal.returns-in-Err-clause-came
 returns-in-Err-clause-came g c = c.range_of.ensures.asked.came
 
 pub returns-in-Err-flush-clause-came : goal.returns-in-Err-flush-clause-came
-returns-in-Err-flush-clause-came g c = brings_then c.range_of.ensures.asked.came c.flush.ensures.came
+returns-in-Err-flush-clause-came g c = brings_then c.range_of.ensures.asked.came c.flush.ensures.brings.came
 
 pub returns-in-Err-sync-clause-came : goal.returns-in-Err-sync-clause-came
-returns-in-Err-sync-clause-came g c = rw c.sync.ensures.frames (brings_then c.range_of.ensures.asked.came c.flush.ensures.came)
+returns-in-Err-sync-clause-came g c = rw c.sync.ensures.frames (brings_then c.range_of.ensures.asked.came c.flush.ensures.brings.came)
 
 pub returns-in-Ok-sync-clause-came : goal.returns-in-Ok-sync-clause-came
-returns-in-Ok-sync-clause-came g c = rw c.sync.ensures.frames (brings_then c.range_of.ensures.asked.came c.flush.ensures.came)
+returns-in-Ok-sync-clause-came g c = rw c.sync.ensures.frames (brings_then c.range_of.ensures.asked.came c.flush.ensures.brings.came)

@@ -79,12 +79,12 @@ returns-in-Err-kill-clause-answers g c = λ volume m r. record {
       let x = r.session.stands.memory in
       let named = r.session.stands.is.named in
       let revealed = knows running_laws whole r in
-      c.in-Err-kill.ensures.sound x named m.spaces (c.range_of.ensures.asked.same x named m.spaces revealed));
-  passes = (still_reveals running_laws (whole_of c.args.core.now c.requires.size) r (state c.kill.new.self) (λ d revealed. g.met.D.Disk.in_form (disk_of c.args.core.now.filer) d revealed) (call.Kill c.args.space) (makes_then (reached_makes c.range_of.ensures.asked.reaches) (give_makes c.kill.ensures.touches)));
+      c.in-Err-kill.ensures.fails.sound x named m.spaces (c.range_of.ensures.asked.same x named m.spaces revealed));
+  passes = (still_reveals running_laws (whole_of c.args.core.now c.requires.size) r (state c.kill.new.self) (λ d revealed. g.met.D.Disk.in_form (disk_of c.args.core.now.filer) d revealed) (call.Kill c.args.space) (makes_then (reached_makes c.range_of.ensures.asked.reaches) (give_makes c.kill.ensures.brings.touches)));
 }
 
 pub returns-in-Err-kill-clause-wrote : goal.returns-in-Err-kill-clause-wrote
-returns-in-Err-kill-clause-wrote g c = wrote_so (makes_then (reached_makes c.range_of.ensures.asked.reaches) (give_makes c.kill.ensures.touches))
+returns-in-Err-kill-clause-wrote g c = wrote_so (makes_then (reached_makes c.range_of.ensures.asked.reaches) (give_makes c.kill.ensures.brings.touches))
 
 -- ---- It is done.
 
@@ -106,12 +106,12 @@ returns-clause-answers g c = λ volume m r. record {
       let run = found.1.2 in
       record {
         allowed = allowed_done m (call.Kill c.args.space) reply.Done free refl;
-        runs = kill_runs running_laws then_whole then_runs c.kill.ensures.intervals c.kill.ensures.touches.layout c.args.space s free found.1.1
+        runs = kill_runs running_laws then_whole then_runs c.kill.ensures.stays.intervals c.kill.ensures.brings.touches.layout c.args.space s free found.1.1
             (c.kill.ensures.killed y triples m.spaces s then_revealed (ap (λ (q : ℕ × ℕ). q.0) (sym run)) (ap (λ (q : ℕ × ℕ). q.1) (sym run)))
-            c.kill.ensures.came (λ z is. c.kill.ensures.known y z triples m.spaces then_revealed is);
+            c.kill.ensures.brings.came (λ z is. c.kill.ensures.stays.known y z triples m.spaces then_revealed is);
       });
   sound = tt;
-  passes = (still_reveals running_laws (whole_of c.args.core.now c.requires.size) r (state c.kill.new.self) (λ d revealed. g.met.D.Disk.in_form (disk_of c.args.core.now.filer) d revealed) (call.Kill c.args.space) (makes_then (reached_makes c.range_of.ensures.asked.reaches) (give_makes c.kill.ensures.touches)));
+  passes = (still_reveals running_laws (whole_of c.args.core.now c.requires.size) r (state c.kill.new.self) (λ d revealed. g.met.D.Disk.in_form (disk_of c.args.core.now.filer) d revealed) (call.Kill c.args.space) (makes_then (reached_makes c.range_of.ensures.asked.reaches) (give_makes c.kill.ensures.brings.touches)));
 }
 
 pub returns-clause-gone : goal.returns-clause-gone
@@ -124,7 +124,7 @@ returns-clause-gone g c = λ volume m s r there.
     of_space m.spaces c.args.space s c.in-Ok-Ok.found (AreWritableSo (is_absent (state c.kill.new.self).slots) m.spaces) found.1 there (c.in-Ok.ensures.gone x named m.spaces (c.range_of.ensures.asked.same x named m.spaces revealed))
 
 pub returns-clause-wrote : goal.returns-clause-wrote
-returns-clause-wrote g c = wrote_so (makes_then (reached_makes c.range_of.ensures.asked.reaches) (give_makes c.kill.ensures.touches))
+returns-clause-wrote g c = wrote_so (makes_then (reached_makes c.range_of.ensures.asked.reaches) (give_makes c.kill.ensures.brings.touches))
 
 -- ---- Why it failed.
 
@@ -134,10 +134,10 @@ returns-in-Err-clause-cause g c = asked_halt (state c.args.core.now) (state c.ra
 pub returns-in-Err-kill-clause-cause : goal.returns-in-Err-kill-clause-cause
 returns-in-Err-kill-clause-cause g c =
     let asked = c.range_of.ensures.asked in
-    within_halt (state c.args.core.now) (state c.range_of.new.core) (accepted c.args.core.now.filer) c.args.space asked.reaches c.args.core.now.intervals c.range_of.new.core.intervals asked.intervals (state c.kill.new.self) c.in-Ok-Ok.found (given_so (TablesSay (state c.args.core.now) (λ b. IsRunAt b c.args.space)) c.in-Ok-Ok.found c.in-Ok-Ok.field-0 c.in-Ok-Ok.field-0-is c.in-Ok-Ok.ensures.read) c.in-Err-kill.halt c.in-Err-kill.ensures.cause
+    within_halt (state c.args.core.now) (state c.range_of.new.core) (accepted c.args.core.now.filer) c.args.space asked.reaches c.args.core.now.intervals c.range_of.new.core.intervals asked.intervals (state c.kill.new.self) c.in-Ok-Ok.found (given_so (TablesSay (state c.args.core.now) (λ b. IsRunAt b c.args.space)) c.in-Ok-Ok.found c.in-Ok-Ok.field-0 c.in-Ok-Ok.field-0-is c.in-Ok-Ok.ensures.read) c.in-Err-kill.halt c.in-Err-kill.ensures.fails.cause
 
 pub returns-in-Err-kill-clause-evidence_seen : goal.returns-in-Err-kill-clause-evidence_seen
-returns-in-Err-kill-clause-evidence_seen g c = shows_evidence _ (state c.range_of.new.core) (state c.kill.new.self) (fits (swapper_of c.range_of.new.core.filer) (search rules)) c.kill.ensures.touches.goes.makes c.in-Err-kill.halt c.in-Err-kill.ensures.cause
+returns-in-Err-kill-clause-evidence_seen g c = shows_evidence _ (state c.range_of.new.core) (state c.kill.new.self) (fits (swapper_of c.range_of.new.core.filer) (search rules)) c.kill.ensures.brings.touches.goes.makes c.in-Err-kill.halt c.in-Err-kill.ensures.fails.cause
 
 -- ---- No table was asked but for the space.
 
@@ -178,10 +178,10 @@ pub returns-in-Err-clause-moves : goal.returns-in-Err-clause-moves
 returns-in-Err-clause-moves g c = moves_of_reaches (state c.args.core.now) (state c.range_of.new.core) c.range_of.ensures.asked.reaches
 
 pub returns-in-Err-kill-clause-moves : goal.returns-in-Err-kill-clause-moves
-returns-in-Err-kill-clause-moves g c = moves_after (state c.args.core.now) (state c.range_of.new.core) (state c.kill.new.self) (accepted c.args.core.now.filer) c.range_of.ensures.asked.reaches (moves_of_touches (state c.range_of.new.core) (state c.kill.new.self) no_page c.kill.ensures.touches)
+returns-in-Err-kill-clause-moves g c = moves_after (state c.args.core.now) (state c.range_of.new.core) (state c.kill.new.self) (accepted c.args.core.now.filer) c.range_of.ensures.asked.reaches (moves_of_touches (state c.range_of.new.core) (state c.kill.new.self) no_page c.kill.ensures.brings.touches)
 
 pub returns-clause-moves : goal.returns-clause-moves
-returns-clause-moves g c = moves_after (state c.args.core.now) (state c.range_of.new.core) (state c.kill.new.self) (accepted c.args.core.now.filer) c.range_of.ensures.asked.reaches (moves_of_touches (state c.range_of.new.core) (state c.kill.new.self) no_page c.kill.ensures.touches)
+returns-clause-moves g c = moves_after (state c.args.core.now) (state c.range_of.new.core) (state c.kill.new.self) (accepted c.args.core.now.filer) c.range_of.ensures.asked.reaches (moves_of_touches (state c.range_of.new.core) (state c.kill.new.self) no_page c.kill.ensures.brings.touches)
 
 -- ---- The tables are revealed.
 
@@ -189,10 +189,10 @@ pub returns-in-Ok-Err-clause-sees : goal.returns-in-Ok-Err-clause-sees
 returns-in-Ok-Err-clause-sees g c = λ ss s. (ss, (c.range_of.ensures.still ss s, shown_here ss))
 
 pub returns-in-Err-kill-clause-right : goal.returns-in-Err-kill-clause-right
-returns-in-Err-kill-clause-right g c = λ s. c.in-Err-kill.ensures.right s.0 (c.range_of.ensures.still s.0 s.1)
+returns-in-Err-kill-clause-right g c = λ s. c.in-Err-kill.ensures.fails.right s.0 (c.range_of.ensures.still s.0 s.1)
 
 pub returns-clause-sees : goal.returns-clause-sees
-returns-clause-sees g c = λ ss s. (ss, (c.kill.ensures.sees ss (c.range_of.ensures.still ss s), shown_here ss))
+returns-clause-sees g c = λ ss s. (ss, (c.kill.ensures.stays.sees ss (c.range_of.ensures.still ss s), shown_here ss))
 
 -- ---- Which pages came.
 
@@ -203,7 +203,7 @@ pub returns-in-Err-clause-came : goal.returns-in-Err-clause-came
 returns-in-Err-clause-came g c = c.range_of.ensures.asked.came
 
 pub returns-in-Err-kill-clause-came : goal.returns-in-Err-kill-clause-came
-returns-in-Err-kill-clause-came g c = brings_then c.range_of.ensures.asked.came c.kill.ensures.came
+returns-in-Err-kill-clause-came g c = brings_then c.range_of.ensures.asked.came c.kill.ensures.brings.came
 
 pub returns-clause-came : goal.returns-clause-came
-returns-clause-came g c = brings_then c.range_of.ensures.asked.came c.kill.ensures.came
+returns-clause-came g c = brings_then c.range_of.ensures.asked.came c.kill.ensures.brings.came

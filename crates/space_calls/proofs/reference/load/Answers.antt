@@ -25,20 +25,20 @@ pub returns-in-Ok-Done-clause-answers : goal.returns-in-Ok-Done-clause-answers
 returns-in-Ok-Done-clause-answers g c =
     let long : length c.load.new.into ≡ c.args.count = search rules in
     let came : Came (state c.args.core.now) (state c.load.new.self) (kept c.args.core.now) (kept c.load.new.self) c.args.core.now.intervals c.load.new.self.intervals =
-    record { reaches = c.load.ensures.reaches; brings = c.load.ensures.came; known = c.load.ensures.same; same_count = c.load.ensures.intervals } in
+    record { reaches = c.load.ensures.brings.reaches; brings = c.load.ensures.brings.came; known = c.load.ensures.stays.same; same_count = c.load.ensures.stays.intervals } in
     λ volume m r. record {
       carried = (let done = load_carried running_laws (whole_of c.args.core.now c.requires.size) r came c.args.address c.args.count _ c.load.new.into c.in-Ok-Done.field-0 access.Done
-          c.load.ensures.width long c.in-Ok-Done.field-0-is c.in-Ok-Done.ensures.access c.in-Ok-Done.ensures.bytes in
+          c.load.ensures.moves.width long c.in-Ok-Done.field-0-is c.in-Ok-Done.ensures.comes.access c.in-Ok-Done.ensures.moves.bytes in
           record { allowed = subst (λ (b : List ℕ). Allows m (call.Load c.args.address c.args.count) (reply.Bytes b)) (sym c.of.ensures) done.0; runs = done.1 });
       sound = tt;
-      passes = (still_reveals running_laws (whole_of c.args.core.now c.requires.size) r (state c.load.new.self) (λ d revealed. g.met.D.Disk.in_form (disk_of c.args.core.now.filer) d revealed) (call.Load c.args.address c.args.count) (reached_makes c.load.ensures.reaches));
+      passes = (still_reveals running_laws (whole_of c.args.core.now c.requires.size) r (state c.load.new.self) (λ d revealed. g.met.D.Disk.in_form (disk_of c.args.core.now.filer) d revealed) (call.Load c.args.address c.args.count) (reached_makes c.load.ensures.brings.reaches));
     }
 
 pub returns-in-Ok-Done-clause-ready : goal.returns-in-Ok-Done-clause-ready
 returns-in-Ok-Done-clause-ready g c =
     let long : length c.load.new.into ≡ c.args.count = search rules in
     λ volume m r free.
-    subst (λ (n : ℕ). IsReady (kept c.load.new.self) (state c.load.new.self).slots (last_page c.args.address n)) (sym c.load.ensures.width ∙ long) (c.in-Ok-Done.ensures.ready c.in-Ok-Done.field-0-is)
+    subst (λ (n : ℕ). IsReady (kept c.load.new.self) (state c.load.new.self).slots (last_page c.args.address n)) (sym c.load.ensures.moves.width ∙ long) (c.in-Ok-Done.ensures.comes.ready c.in-Ok-Done.field-0-is)
 
 -- ---- It was refused (NoMap).
 
@@ -46,13 +46,13 @@ pub returns-in-Ok-NoMap-clause-answers : goal.returns-in-Ok-NoMap-clause-answers
 returns-in-Ok-NoMap-clause-answers g c =
     let long : length c.load.new.into ≡ c.args.count = search rules in
     let came : Came (state c.args.core.now) (state c.load.new.self) (kept c.args.core.now) (kept c.load.new.self) c.args.core.now.intervals c.load.new.self.intervals =
-    record { reaches = c.load.ensures.reaches; brings = c.load.ensures.came; known = c.load.ensures.same; same_count = c.load.ensures.intervals } in
+    record { reaches = c.load.ensures.brings.reaches; brings = c.load.ensures.brings.came; known = c.load.ensures.stays.same; same_count = c.load.ensures.stays.intervals } in
     λ volume m r. record {
       carried = (let done = load_carried running_laws (whole_of c.args.core.now c.requires.size) r came c.args.address c.args.count _ c.load.new.into c.in-Ok-NoMap.field-0 (access.NoMap c.in-Ok-NoMap.page)
-          c.load.ensures.width long c.in-Ok-NoMap.field-0-is c.in-Ok-NoMap.ensures.access c.in-Ok-NoMap.ensures.bytes in
+          c.load.ensures.moves.width long c.in-Ok-NoMap.field-0-is c.in-Ok-NoMap.ensures.comes.access c.in-Ok-NoMap.ensures.moves.bytes in
           record { allowed = done.0; runs = done.1 });
       sound = tt;
-      passes = (still_reveals running_laws (whole_of c.args.core.now c.requires.size) r (state c.load.new.self) (λ d revealed. g.met.D.Disk.in_form (disk_of c.args.core.now.filer) d revealed) (call.Load c.args.address c.args.count) (reached_makes c.load.ensures.reaches));
+      passes = (still_reveals running_laws (whole_of c.args.core.now c.requires.size) r (state c.load.new.self) (λ d revealed. g.met.D.Disk.in_form (disk_of c.args.core.now.filer) d revealed) (call.Load c.args.address c.args.count) (reached_makes c.load.ensures.brings.reaches));
     }
 
 pub returns-in-Ok-NoMap-clause-ready : goal.returns-in-Ok-NoMap-clause-ready
@@ -60,7 +60,7 @@ returns-in-Ok-NoMap-clause-ready g c =
     let long : length c.load.new.into ≡ c.args.count = search rules in
     λ volume m r free.
     absurd (load_not_refused running_laws (whole_of c.args.core.now c.requires.size) r c.args.address c.args.count _ c.in-Ok-NoMap.field-0 (access.NoMap c.in-Ok-NoMap.page)
-    (sym c.load.ensures.width ∙ long) c.in-Ok-NoMap.field-0-is c.in-Ok-NoMap.ensures.access free)
+    (sym c.load.ensures.moves.width ∙ long) c.in-Ok-NoMap.field-0-is c.in-Ok-NoMap.ensures.comes.access free)
 
 -- ---- It was refused (ReadOnly).
 
@@ -68,13 +68,13 @@ pub returns-in-Ok-ReadOnly-clause-answers : goal.returns-in-Ok-ReadOnly-clause-a
 returns-in-Ok-ReadOnly-clause-answers g c =
     let long : length c.load.new.into ≡ c.args.count = search rules in
     let came : Came (state c.args.core.now) (state c.load.new.self) (kept c.args.core.now) (kept c.load.new.self) c.args.core.now.intervals c.load.new.self.intervals =
-    record { reaches = c.load.ensures.reaches; brings = c.load.ensures.came; known = c.load.ensures.same; same_count = c.load.ensures.intervals } in
+    record { reaches = c.load.ensures.brings.reaches; brings = c.load.ensures.brings.came; known = c.load.ensures.stays.same; same_count = c.load.ensures.stays.intervals } in
     λ volume m r. record {
       carried = (let done = load_carried running_laws (whole_of c.args.core.now c.requires.size) r came c.args.address c.args.count _ c.load.new.into c.in-Ok-ReadOnly.field-0 (access.ReadOnly c.in-Ok-ReadOnly.page)
-          c.load.ensures.width long c.in-Ok-ReadOnly.field-0-is c.in-Ok-ReadOnly.ensures.access c.in-Ok-ReadOnly.ensures.bytes in
+          c.load.ensures.moves.width long c.in-Ok-ReadOnly.field-0-is c.in-Ok-ReadOnly.ensures.comes.access c.in-Ok-ReadOnly.ensures.moves.bytes in
           record { allowed = done.0; runs = done.1 });
       sound = tt;
-      passes = (still_reveals running_laws (whole_of c.args.core.now c.requires.size) r (state c.load.new.self) (λ d revealed. g.met.D.Disk.in_form (disk_of c.args.core.now.filer) d revealed) (call.Load c.args.address c.args.count) (reached_makes c.load.ensures.reaches));
+      passes = (still_reveals running_laws (whole_of c.args.core.now c.requires.size) r (state c.load.new.self) (λ d revealed. g.met.D.Disk.in_form (disk_of c.args.core.now.filer) d revealed) (call.Load c.args.address c.args.count) (reached_makes c.load.ensures.brings.reaches));
     }
 
 pub returns-in-Ok-ReadOnly-clause-ready : goal.returns-in-Ok-ReadOnly-clause-ready
@@ -82,35 +82,35 @@ returns-in-Ok-ReadOnly-clause-ready g c =
     let long : length c.load.new.into ≡ c.args.count = search rules in
     λ volume m r free.
     absurd (load_not_refused running_laws (whole_of c.args.core.now c.requires.size) r c.args.address c.args.count _ c.in-Ok-ReadOnly.field-0 (access.ReadOnly c.in-Ok-ReadOnly.page)
-    (sym c.load.ensures.width ∙ long) c.in-Ok-ReadOnly.field-0-is c.in-Ok-ReadOnly.ensures.access free)
+    (sym c.load.ensures.moves.width ∙ long) c.in-Ok-ReadOnly.field-0-is c.in-Ok-ReadOnly.ensures.comes.access free)
 
 -- ---- Whatever it came to.
 
 pub returns-in-Ok-Done-clause-wrote : goal.returns-in-Ok-Done-clause-wrote
-returns-in-Ok-Done-clause-wrote g c = wrote_so (reached_makes c.load.ensures.reaches)
+returns-in-Ok-Done-clause-wrote g c = wrote_so (reached_makes c.load.ensures.brings.reaches)
 
 pub returns-in-Ok-NoMap-clause-wrote : goal.returns-in-Ok-NoMap-clause-wrote
-returns-in-Ok-NoMap-clause-wrote g c = wrote_so (reached_makes c.load.ensures.reaches)
+returns-in-Ok-NoMap-clause-wrote g c = wrote_so (reached_makes c.load.ensures.brings.reaches)
 
 pub returns-in-Ok-ReadOnly-clause-wrote : goal.returns-in-Ok-ReadOnly-clause-wrote
-returns-in-Ok-ReadOnly-clause-wrote g c = wrote_so (reached_makes c.load.ensures.reaches)
+returns-in-Ok-ReadOnly-clause-wrote g c = wrote_so (reached_makes c.load.ensures.brings.reaches)
 
 pub returns-in-Err-clause-answers : goal.returns-in-Err-clause-answers
 returns-in-Err-clause-answers g c = λ volume m r. record {
   carried = tt;
-  sound = (c.in-Err.ensures.sound r.session.stands.memory r.session.stands.is.named m.spaces (knows running_laws (whole_of c.args.core.now c.requires.size) r));
-  passes = (still_reveals running_laws (whole_of c.args.core.now c.requires.size) r (state c.load.new.self) (λ d revealed. g.met.D.Disk.in_form (disk_of c.args.core.now.filer) d revealed) (call.Load c.args.address c.args.count) (reached_makes c.load.ensures.reaches));
+  sound = (c.in-Err.ensures.fails.sound r.session.stands.memory r.session.stands.is.named m.spaces (knows running_laws (whole_of c.args.core.now c.requires.size) r));
+  passes = (still_reveals running_laws (whole_of c.args.core.now c.requires.size) r (state c.load.new.self) (λ d revealed. g.met.D.Disk.in_form (disk_of c.args.core.now.filer) d revealed) (call.Load c.args.address c.args.count) (reached_makes c.load.ensures.brings.reaches));
 }
 
 pub returns-in-Err-clause-wrote : goal.returns-in-Err-clause-wrote
-returns-in-Err-clause-wrote g c = wrote_so (reached_makes c.load.ensures.reaches)
+returns-in-Err-clause-wrote g c = wrote_so (reached_makes c.load.ensures.brings.reaches)
 
 pub returns-in-Ok-Done-clause-idle : goal.returns-in-Ok-Done-clause-idle
 returns-in-Ok-Done-clause-idle g c =
     let long : length c.load.new.into ≡ c.args.count = search rules in
     λ volume m r first last.
     let apart = running_laws.apart (state c.args.core.now) (kept c.args.core.now) c.args.core.now.intervals volume m r in
-    let two = c.in-Ok-Done.ensures.idle first (subst (λ (n : ℕ). IsReady (kept c.args.core.now) (state c.args.core.now).slots (last_page c.args.address n)) (sym long ∙ c.load.ensures.width) last) apart in
+    let two = c.in-Ok-Done.ensures.idle first (subst (λ (n : ℕ). IsReady (kept c.args.core.now) (state c.args.core.now).slots (last_page c.args.address n)) (sym long ∙ c.load.ensures.moves.width) last) apart in
     (refl, two.1, two.2)
 
 pub returns-in-Ok-NoMap-clause-idle : goal.returns-in-Ok-NoMap-clause-idle
@@ -118,7 +118,7 @@ returns-in-Ok-NoMap-clause-idle g c =
     let long : length c.load.new.into ≡ c.args.count = search rules in
     λ volume m r first last.
     let apart = running_laws.apart (state c.args.core.now) (kept c.args.core.now) c.args.core.now.intervals volume m r in
-    let two = c.in-Ok-NoMap.ensures.idle first (subst (λ (n : ℕ). IsReady (kept c.args.core.now) (state c.args.core.now).slots (last_page c.args.address n)) (sym long ∙ c.load.ensures.width) last) apart in
+    let two = c.in-Ok-NoMap.ensures.idle first (subst (λ (n : ℕ). IsReady (kept c.args.core.now) (state c.args.core.now).slots (last_page c.args.address n)) (sym long ∙ c.load.ensures.moves.width) last) apart in
     (refl, two.1, two.2)
 
 pub returns-in-Ok-ReadOnly-clause-idle : goal.returns-in-Ok-ReadOnly-clause-idle
@@ -126,7 +126,7 @@ returns-in-Ok-ReadOnly-clause-idle g c =
     let long : length c.load.new.into ≡ c.args.count = search rules in
     λ volume m r first last.
     let apart = running_laws.apart (state c.args.core.now) (kept c.args.core.now) c.args.core.now.intervals volume m r in
-    let two = c.in-Ok-ReadOnly.ensures.idle first (subst (λ (n : ℕ). IsReady (kept c.args.core.now) (state c.args.core.now).slots (last_page c.args.address n)) (sym long ∙ c.load.ensures.width) last) apart in
+    let two = c.in-Ok-ReadOnly.ensures.idle first (subst (λ (n : ℕ). IsReady (kept c.args.core.now) (state c.args.core.now).slots (last_page c.args.address n)) (sym long ∙ c.load.ensures.moves.width) last) apart in
     (refl, two.1, two.2)
 
 pub returns-in-Err-clause-idle : goal.returns-in-Err-clause-idle
@@ -134,46 +134,46 @@ returns-in-Err-clause-idle g c =
     let long : length c.load.new.into ≡ c.args.count = search rules in
     λ volume m r first last.
     let apart = running_laws.apart (state c.args.core.now) (kept c.args.core.now) c.args.core.now.intervals volume m r in
-    let two = c.in-Err.ensures.idle first (subst (λ (n : ℕ). IsReady (kept c.args.core.now) (state c.args.core.now).slots (last_page c.args.address n)) (sym long ∙ c.load.ensures.width) last) apart in
+    let two = c.in-Err.ensures.idle first (subst (λ (n : ℕ). IsReady (kept c.args.core.now) (state c.args.core.now).slots (last_page c.args.address n)) (sym long ∙ c.load.ensures.moves.width) last) apart in
     (two.0, two.1, two.2)
 
 pub returns-in-Err-clause-cause : goal.returns-in-Err-clause-cause
 returns-in-Err-clause-cause g c =
     let long : length c.load.new.into ≡ c.args.count = search rules in
-    subst (λ (n : ℕ). TouchHalts (BreaksFor (state c.args.core.now) c.args.core.now.intervals c.args.address n) (state c.args.core.now) (state c.load.new.self) c.in-Err.halt) (sym c.load.ensures.width ∙ long) c.in-Err.ensures.cause
+    subst (λ (n : ℕ). TouchHalts (BreaksFor (state c.args.core.now) c.args.core.now.intervals c.args.address n) (state c.args.core.now) (state c.load.new.self) c.in-Err.halt) (sym c.load.ensures.moves.width ∙ long) c.in-Err.ensures.fails.cause
 
 pub returns-in-Err-clause-missing : goal.returns-in-Err-clause-missing
 returns-in-Err-clause-missing g c =
     let long : length c.load.new.into ≡ c.args.count = search rules in
-    λ ss s. subst (λ (n : ℕ). MissesPage (shown_units ss c.args.address n) c.in-Err.halt) (sym c.load.ensures.width ∙ long) (c.in-Err.ensures.missing ss s)
+    λ ss s. subst (λ (n : ℕ). MissesPage (shown_units ss c.args.address n) c.in-Err.halt) (sym c.load.ensures.moves.width ∙ long) (c.in-Err.ensures.fails.missing ss s)
 
 pub returns-in-Err-clause-evidence_seen : goal.returns-in-Err-clause-evidence_seen
-returns-in-Err-clause-evidence_seen g c = touch_so _ (state c.args.core.now) (state c.load.new.self) (fits (swapper_of c.args.core.now.filer) c.requires.size) c.load.ensures.reaches.goes.makes c.in-Err.halt c.in-Err.ensures.cause
+returns-in-Err-clause-evidence_seen g c = touch_so _ (state c.args.core.now) (state c.load.new.self) (fits (swapper_of c.args.core.now.filer) c.requires.size) c.load.ensures.brings.reaches.goes.makes c.in-Err.halt c.in-Err.ensures.fails.cause
 
 -- ---- No label was written.
 
 pub returns-in-Ok-Done-clause-moves : goal.returns-in-Ok-Done-clause-moves
-returns-in-Ok-Done-clause-moves g c = moves_of_reaches (state c.args.core.now) (state c.load.new.self) c.load.ensures.reaches
+returns-in-Ok-Done-clause-moves g c = moves_of_reaches (state c.args.core.now) (state c.load.new.self) c.load.ensures.brings.reaches
 
 pub returns-in-Ok-NoMap-clause-moves : goal.returns-in-Ok-NoMap-clause-moves
-returns-in-Ok-NoMap-clause-moves g c = moves_of_reaches (state c.args.core.now) (state c.load.new.self) c.load.ensures.reaches
+returns-in-Ok-NoMap-clause-moves g c = moves_of_reaches (state c.args.core.now) (state c.load.new.self) c.load.ensures.brings.reaches
 
 pub returns-in-Ok-ReadOnly-clause-moves : goal.returns-in-Ok-ReadOnly-clause-moves
-returns-in-Ok-ReadOnly-clause-moves g c = moves_of_reaches (state c.args.core.now) (state c.load.new.self) c.load.ensures.reaches
+returns-in-Ok-ReadOnly-clause-moves g c = moves_of_reaches (state c.args.core.now) (state c.load.new.self) c.load.ensures.brings.reaches
 
 pub returns-in-Err-clause-moves : goal.returns-in-Err-clause-moves
-returns-in-Err-clause-moves g c = moves_of_reaches (state c.args.core.now) (state c.load.new.self) c.load.ensures.reaches
+returns-in-Err-clause-moves g c = moves_of_reaches (state c.args.core.now) (state c.load.new.self) c.load.ensures.brings.reaches
 
 -- ---- The tables are revealed.
 
 pub returns-in-Ok-Done-clause-sees : goal.returns-in-Ok-Done-clause-sees
-returns-in-Ok-Done-clause-sees g c = λ ss s. (ss, (c.load.ensures.sees ss s, shown_here ss))
+returns-in-Ok-Done-clause-sees g c = λ ss s. (ss, (c.load.ensures.stays.sees ss s, shown_here ss))
 
 pub returns-in-Ok-NoMap-clause-sees : goal.returns-in-Ok-NoMap-clause-sees
-returns-in-Ok-NoMap-clause-sees g c = λ ss s. (ss, (c.load.ensures.sees ss s, shown_here ss))
+returns-in-Ok-NoMap-clause-sees g c = λ ss s. (ss, (c.load.ensures.stays.sees ss s, shown_here ss))
 
 pub returns-in-Ok-ReadOnly-clause-sees : goal.returns-in-Ok-ReadOnly-clause-sees
-returns-in-Ok-ReadOnly-clause-sees g c = λ ss s. (ss, (c.load.ensures.sees ss s, shown_here ss))
+returns-in-Ok-ReadOnly-clause-sees g c = λ ss s. (ss, (c.load.ensures.stays.sees ss s, shown_here ss))
 
 pub returns-in-Err-clause-right : goal.returns-in-Err-clause-right
-returns-in-Err-clause-right g c = λ s. c.in-Err.ensures.right s.0 s.1
+returns-in-Err-clause-right g c = λ s. c.in-Err.ensures.fails.right s.0 s.1

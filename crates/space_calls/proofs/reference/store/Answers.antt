@@ -28,12 +28,12 @@ returns-in-Ok-Done-clause-answers g c = λ volume m r. record {
       let named = r.session.stands.is.named in
       let revealed = knows running_laws whole r in
       record {
-        allowed = store_allowed running_laws whole r c.args.address c.args.bytes.now c.in-Ok-Done.field-0 access.Done c.in-Ok-Done.field-0-is c.in-Ok-Done.ensures.access;
-        runs = store_runs running_laws whole r c.store.ensures.intervals c.store.ensures.touches.layout c.args.address c.args.bytes.now typed
-            (sym c.in-Ok-Done.field-0-is ∙ c.in-Ok-Done.ensures.access x named m.spaces revealed)
+        allowed = store_allowed running_laws whole r c.args.address c.args.bytes.now c.in-Ok-Done.field-0 access.Done c.in-Ok-Done.field-0-is c.in-Ok-Done.ensures.comes.access;
+        runs = store_runs running_laws whole r c.store.ensures.stays.intervals c.store.ensures.brings.touches.layout c.args.address c.args.bytes.now typed
+            (sym c.in-Ok-Done.field-0-is ∙ c.in-Ok-Done.ensures.comes.access x named m.spaces revealed)
             (subst (λ (a : Access). Goes (StoresAs a m.spaces c.args.address c.args.bytes.now) (IsTouchedOrOwn m.spaces c.args.address (length c.args.bytes.now)) [] (state c.args.core.now).disk (state c.args.core.now).slots (state c.store.new.self).disk (state c.store.new.self).slots)
-            c.in-Ok-Done.field-0-is (c.in-Ok-Done.ensures.stored x named m.spaces revealed))
-            (c.store.ensures.came x named m.spaces revealed) (λ y is. c.store.ensures.known x y named m.spaces revealed is);
+            c.in-Ok-Done.field-0-is (c.in-Ok-Done.ensures.moves.stored x named m.spaces revealed))
+            (c.store.ensures.brings.came x named m.spaces revealed) (λ y is. c.store.ensures.stays.known x y named m.spaces revealed is);
       });
   sound = tt;
   passes = (let typed : AreBytes c.args.bytes.now = are_bytes c.args.bytes.now (λ k. let fits = c.type_inv.bytes k in omega (arith, fits)) in
@@ -42,11 +42,11 @@ returns-in-Ok-Done-clause-answers g c = λ volume m r. record {
       let named = r.session.stands.is.named in
       let revealed = knows running_laws whole r in
       store_reveals running_laws whole r (λ d revealed. g.met.D.Disk.in_form (disk_of c.args.core.now.filer) d revealed) (state c.store.new.self) c.args.address c.args.bytes.now typed (omega (arith, c.requires.few))
-      (c.in-Ok-Done.ensures.stored x named m.spaces revealed).makes (c.store.ensures.tested x named m.spaces revealed));
+      (c.in-Ok-Done.ensures.moves.stored x named m.spaces revealed).makes (c.store.ensures.moves.tested x named m.spaces revealed));
 }
 
 pub returns-in-Ok-Done-clause-ready : goal.returns-in-Ok-Done-clause-ready
-returns-in-Ok-Done-clause-ready g c = λ volume m r free. c.in-Ok-Done.ensures.ready c.in-Ok-Done.field-0-is
+returns-in-Ok-Done-clause-ready g c = λ volume m r free. c.in-Ok-Done.ensures.comes.ready c.in-Ok-Done.field-0-is
 
 -- ---- It was refused (NoMap).
 
@@ -55,12 +55,12 @@ returns-in-Ok-NoMap-clause-answers g c = λ volume m r. record {
   carried = (let whole = whole_of c.args.core.now c.requires.size in
       let a = access.NoMap c.in-Ok-NoMap.page in
       let came : Came (state c.args.core.now) (state c.store.new.self) (kept c.args.core.now) (kept c.store.new.self) c.args.core.now.intervals c.store.new.self.intervals =
-      refused_came (c.in-Ok-NoMap.ensures.refused (λ done. other_than_done a (λ no. no) (sym c.in-Ok-NoMap.field-0-is ∙ done))) c.store.ensures.came
-      (λ x named ss revealed. stays_where (state c.args.core.now) (state c.store.new.self) (access.NoMap c.in-Ok-NoMap.page) c.in-Ok-NoMap.field-0 ss c.args.address c.args.bytes.now x c.in-Ok-NoMap.field-0-is (λ no. no) revealed.known.stands (c.in-Ok-NoMap.ensures.stored x named ss revealed))
-      c.store.ensures.known c.store.ensures.intervals in
+      refused_came (c.in-Ok-NoMap.ensures.moves.refused (λ done. other_than_done a (λ no. no) (sym c.in-Ok-NoMap.field-0-is ∙ done))) c.store.ensures.brings.came
+      (λ x named ss revealed. stays_where (state c.args.core.now) (state c.store.new.self) (access.NoMap c.in-Ok-NoMap.page) c.in-Ok-NoMap.field-0 ss c.args.address c.args.bytes.now x c.in-Ok-NoMap.field-0-is (λ no. no) revealed.known.stands (c.in-Ok-NoMap.ensures.moves.stored x named ss revealed))
+      c.store.ensures.stays.known c.store.ensures.stays.intervals in
       record {
-        allowed = store_allowed running_laws whole r c.args.address c.args.bytes.now c.in-Ok-NoMap.field-0 a c.in-Ok-NoMap.field-0-is c.in-Ok-NoMap.ensures.access;
-        runs = store_stays running_laws whole r c.args.address c.args.bytes.now (why.NoMap c.in-Ok-NoMap.page) (store_word running_laws whole r c.args.address c.args.bytes.now c.in-Ok-NoMap.field-0 a c.in-Ok-NoMap.field-0-is c.in-Ok-NoMap.ensures.access) came;
+        allowed = store_allowed running_laws whole r c.args.address c.args.bytes.now c.in-Ok-NoMap.field-0 a c.in-Ok-NoMap.field-0-is c.in-Ok-NoMap.ensures.comes.access;
+        runs = store_stays running_laws whole r c.args.address c.args.bytes.now (why.NoMap c.in-Ok-NoMap.page) (store_word running_laws whole r c.args.address c.args.bytes.now c.in-Ok-NoMap.field-0 a c.in-Ok-NoMap.field-0-is c.in-Ok-NoMap.ensures.comes.access) came;
       });
   sound = tt;
   passes = (let typed : AreBytes c.args.bytes.now = are_bytes c.args.bytes.now (λ k. let fits = c.type_inv.bytes k in omega (arith, fits)) in
@@ -69,12 +69,12 @@ returns-in-Ok-NoMap-clause-answers g c = λ volume m r. record {
       let named = r.session.stands.is.named in
       let revealed = knows running_laws whole r in
       store_reveals running_laws whole r (λ d revealed. g.met.D.Disk.in_form (disk_of c.args.core.now.filer) d revealed) (state c.store.new.self) c.args.address c.args.bytes.now typed (omega (arith, c.requires.few))
-      (c.in-Ok-NoMap.ensures.stored x named m.spaces revealed).makes (c.store.ensures.tested x named m.spaces revealed));
+      (c.in-Ok-NoMap.ensures.moves.stored x named m.spaces revealed).makes (c.store.ensures.moves.tested x named m.spaces revealed));
 }
 
 pub returns-in-Ok-NoMap-clause-ready : goal.returns-in-Ok-NoMap-clause-ready
 returns-in-Ok-NoMap-clause-ready g c = λ volume m r free.
-    absurd (store_not_refused running_laws (whole_of c.args.core.now c.requires.size) r c.args.address c.args.bytes.now c.in-Ok-NoMap.field-0 (access.NoMap c.in-Ok-NoMap.page) c.in-Ok-NoMap.field-0-is c.in-Ok-NoMap.ensures.access free)
+    absurd (store_not_refused running_laws (whole_of c.args.core.now c.requires.size) r c.args.address c.args.bytes.now c.in-Ok-NoMap.field-0 (access.NoMap c.in-Ok-NoMap.page) c.in-Ok-NoMap.field-0-is c.in-Ok-NoMap.ensures.comes.access free)
 
 -- ---- It was refused (ReadOnly).
 
@@ -83,12 +83,12 @@ returns-in-Ok-ReadOnly-clause-answers g c = λ volume m r. record {
   carried = (let whole = whole_of c.args.core.now c.requires.size in
       let a = access.ReadOnly c.in-Ok-ReadOnly.page in
       let came : Came (state c.args.core.now) (state c.store.new.self) (kept c.args.core.now) (kept c.store.new.self) c.args.core.now.intervals c.store.new.self.intervals =
-      refused_came (c.in-Ok-ReadOnly.ensures.refused (λ done. other_than_done a (λ no. no) (sym c.in-Ok-ReadOnly.field-0-is ∙ done))) c.store.ensures.came
-      (λ x named ss revealed. stays_where (state c.args.core.now) (state c.store.new.self) (access.ReadOnly c.in-Ok-ReadOnly.page) c.in-Ok-ReadOnly.field-0 ss c.args.address c.args.bytes.now x c.in-Ok-ReadOnly.field-0-is (λ no. no) revealed.known.stands (c.in-Ok-ReadOnly.ensures.stored x named ss revealed))
-      c.store.ensures.known c.store.ensures.intervals in
+      refused_came (c.in-Ok-ReadOnly.ensures.moves.refused (λ done. other_than_done a (λ no. no) (sym c.in-Ok-ReadOnly.field-0-is ∙ done))) c.store.ensures.brings.came
+      (λ x named ss revealed. stays_where (state c.args.core.now) (state c.store.new.self) (access.ReadOnly c.in-Ok-ReadOnly.page) c.in-Ok-ReadOnly.field-0 ss c.args.address c.args.bytes.now x c.in-Ok-ReadOnly.field-0-is (λ no. no) revealed.known.stands (c.in-Ok-ReadOnly.ensures.moves.stored x named ss revealed))
+      c.store.ensures.stays.known c.store.ensures.stays.intervals in
       record {
-        allowed = store_allowed running_laws whole r c.args.address c.args.bytes.now c.in-Ok-ReadOnly.field-0 a c.in-Ok-ReadOnly.field-0-is c.in-Ok-ReadOnly.ensures.access;
-        runs = store_stays running_laws whole r c.args.address c.args.bytes.now (why.ReadOnly c.in-Ok-ReadOnly.page) (store_word running_laws whole r c.args.address c.args.bytes.now c.in-Ok-ReadOnly.field-0 a c.in-Ok-ReadOnly.field-0-is c.in-Ok-ReadOnly.ensures.access) came;
+        allowed = store_allowed running_laws whole r c.args.address c.args.bytes.now c.in-Ok-ReadOnly.field-0 a c.in-Ok-ReadOnly.field-0-is c.in-Ok-ReadOnly.ensures.comes.access;
+        runs = store_stays running_laws whole r c.args.address c.args.bytes.now (why.ReadOnly c.in-Ok-ReadOnly.page) (store_word running_laws whole r c.args.address c.args.bytes.now c.in-Ok-ReadOnly.field-0 a c.in-Ok-ReadOnly.field-0-is c.in-Ok-ReadOnly.ensures.comes.access) came;
       });
   sound = tt;
   passes = (let typed : AreBytes c.args.bytes.now = are_bytes c.args.bytes.now (λ k. let fits = c.type_inv.bytes k in omega (arith, fits)) in
@@ -97,41 +97,41 @@ returns-in-Ok-ReadOnly-clause-answers g c = λ volume m r. record {
       let named = r.session.stands.is.named in
       let revealed = knows running_laws whole r in
       store_reveals running_laws whole r (λ d revealed. g.met.D.Disk.in_form (disk_of c.args.core.now.filer) d revealed) (state c.store.new.self) c.args.address c.args.bytes.now typed (omega (arith, c.requires.few))
-      (c.in-Ok-ReadOnly.ensures.stored x named m.spaces revealed).makes (c.store.ensures.tested x named m.spaces revealed));
+      (c.in-Ok-ReadOnly.ensures.moves.stored x named m.spaces revealed).makes (c.store.ensures.moves.tested x named m.spaces revealed));
 }
 
 pub returns-in-Ok-ReadOnly-clause-ready : goal.returns-in-Ok-ReadOnly-clause-ready
 returns-in-Ok-ReadOnly-clause-ready g c = λ volume m r free.
-    absurd (store_not_refused running_laws (whole_of c.args.core.now c.requires.size) r c.args.address c.args.bytes.now c.in-Ok-ReadOnly.field-0 (access.ReadOnly c.in-Ok-ReadOnly.page) c.in-Ok-ReadOnly.field-0-is c.in-Ok-ReadOnly.ensures.access free)
+    absurd (store_not_refused running_laws (whole_of c.args.core.now c.requires.size) r c.args.address c.args.bytes.now c.in-Ok-ReadOnly.field-0 (access.ReadOnly c.in-Ok-ReadOnly.page) c.in-Ok-ReadOnly.field-0-is c.in-Ok-ReadOnly.ensures.comes.access free)
 
 -- ---- The disk failed.
 
 pub returns-in-Err-clause-answers : goal.returns-in-Err-clause-answers
 returns-in-Err-clause-answers g c = λ volume m r. record {
   carried = tt;
-  sound = (c.in-Err.ensures.sound r.session.stands.memory r.session.stands.is.named m.spaces (knows running_laws (whole_of c.args.core.now c.requires.size) r));
+  sound = (c.in-Err.ensures.fails.sound r.session.stands.memory r.session.stands.is.named m.spaces (knows running_laws (whole_of c.args.core.now c.requires.size) r));
   passes = (let typed : AreBytes c.args.bytes.now = are_bytes c.args.bytes.now (λ k. let fits = c.type_inv.bytes k in omega (arith, fits)) in
       let whole = whole_of c.args.core.now c.requires.size in
       let x = r.session.stands.memory in
       let named = r.session.stands.is.named in
       let revealed = knows running_laws whole r in
       store_reveals running_laws whole r (λ d revealed. g.met.D.Disk.in_form (disk_of c.args.core.now.filer) d revealed) (state c.store.new.self) c.args.address c.args.bytes.now typed (omega (arith, c.requires.few))
-      (c.in-Err.ensures.halted x named m.spaces revealed).makes (c.store.ensures.tested x named m.spaces revealed));
+      (c.in-Err.ensures.moves.halted x named m.spaces revealed).makes (c.store.ensures.moves.tested x named m.spaces revealed));
 }
 
 -- ---- Whatever it came to.
 
 pub returns-in-Ok-Done-clause-wrote : goal.returns-in-Ok-Done-clause-wrote
-returns-in-Ok-Done-clause-wrote g c = wrote_so (store_makes c.store.ensures.touches)
+returns-in-Ok-Done-clause-wrote g c = wrote_so (store_makes c.store.ensures.brings.touches)
 
 pub returns-in-Ok-NoMap-clause-wrote : goal.returns-in-Ok-NoMap-clause-wrote
-returns-in-Ok-NoMap-clause-wrote g c = wrote_so (store_makes c.store.ensures.touches)
+returns-in-Ok-NoMap-clause-wrote g c = wrote_so (store_makes c.store.ensures.brings.touches)
 
 pub returns-in-Ok-ReadOnly-clause-wrote : goal.returns-in-Ok-ReadOnly-clause-wrote
-returns-in-Ok-ReadOnly-clause-wrote g c = wrote_so (store_makes c.store.ensures.touches)
+returns-in-Ok-ReadOnly-clause-wrote g c = wrote_so (store_makes c.store.ensures.brings.touches)
 
 pub returns-in-Err-clause-wrote : goal.returns-in-Err-clause-wrote
-returns-in-Err-clause-wrote g c = wrote_so (store_makes c.store.ensures.touches)
+returns-in-Err-clause-wrote g c = wrote_so (store_makes c.store.ensures.brings.touches)
 
 pub returns-in-Ok-Done-clause-idle : goal.returns-in-Ok-Done-clause-idle
 returns-in-Ok-Done-clause-idle g c = λ volume m r first last.
@@ -152,7 +152,7 @@ returns-in-Ok-ReadOnly-clause-idle g c = λ volume m r first last.
     (refl, two.1, two.2)
 
 pub returns-in-Err-clause-evidence_seen : goal.returns-in-Err-clause-evidence_seen
-returns-in-Err-clause-evidence_seen g c = touch_so _ (state c.args.core.now) (state c.store.new.self) (fits (swapper_of c.args.core.now.filer) c.requires.size) c.store.ensures.touches.goes.makes c.in-Err.halt c.in-Err.ensures.cause
+returns-in-Err-clause-evidence_seen g c = touch_so _ (state c.args.core.now) (state c.store.new.self) (fits (swapper_of c.args.core.now.filer) c.requires.size) c.store.ensures.brings.touches.goes.makes c.in-Err.halt c.in-Err.ensures.fails.cause
 
 pub returns-in-Err-clause-idle : goal.returns-in-Err-clause-idle
 returns-in-Err-clause-idle g c = λ volume m r first last.
@@ -163,39 +163,39 @@ returns-in-Err-clause-idle g c = λ volume m r first last.
 -- ---- No label was written.
 
 pub returns-in-Ok-Done-clause-moves : goal.returns-in-Ok-Done-clause-moves
-returns-in-Ok-Done-clause-moves g c = moves_of_touches (state c.args.core.now) (state c.store.new.self) client_page c.store.ensures.touches
+returns-in-Ok-Done-clause-moves g c = moves_of_touches (state c.args.core.now) (state c.store.new.self) client_page c.store.ensures.brings.touches
 
 pub returns-in-Ok-NoMap-clause-moves : goal.returns-in-Ok-NoMap-clause-moves
-returns-in-Ok-NoMap-clause-moves g c = moves_of_touches (state c.args.core.now) (state c.store.new.self) client_page c.store.ensures.touches
+returns-in-Ok-NoMap-clause-moves g c = moves_of_touches (state c.args.core.now) (state c.store.new.self) client_page c.store.ensures.brings.touches
 
 pub returns-in-Ok-ReadOnly-clause-moves : goal.returns-in-Ok-ReadOnly-clause-moves
-returns-in-Ok-ReadOnly-clause-moves g c = moves_of_touches (state c.args.core.now) (state c.store.new.self) client_page c.store.ensures.touches
+returns-in-Ok-ReadOnly-clause-moves g c = moves_of_touches (state c.args.core.now) (state c.store.new.self) client_page c.store.ensures.brings.touches
 
 pub returns-in-Err-clause-moves : goal.returns-in-Err-clause-moves
-returns-in-Err-clause-moves g c = moves_of_touches (state c.args.core.now) (state c.store.new.self) client_page c.store.ensures.touches
+returns-in-Err-clause-moves g c = moves_of_touches (state c.args.core.now) (state c.store.new.self) client_page c.store.ensures.brings.touches
 
 -- ---- The tables are revealed.
 
 pub returns-in-Ok-Done-clause-sees : goal.returns-in-Ok-Done-clause-sees
-returns-in-Ok-Done-clause-sees g c = λ ss s. (ss, (c.store.ensures.sees ss s, shown_here ss))
+returns-in-Ok-Done-clause-sees g c = λ ss s. (ss, (c.store.ensures.stays.sees ss s, shown_here ss))
 
 pub returns-in-Ok-NoMap-clause-sees : goal.returns-in-Ok-NoMap-clause-sees
-returns-in-Ok-NoMap-clause-sees g c = λ ss s. (ss, (c.store.ensures.sees ss s, shown_here ss))
+returns-in-Ok-NoMap-clause-sees g c = λ ss s. (ss, (c.store.ensures.stays.sees ss s, shown_here ss))
 
 pub returns-in-Ok-ReadOnly-clause-sees : goal.returns-in-Ok-ReadOnly-clause-sees
-returns-in-Ok-ReadOnly-clause-sees g c = λ ss s. (ss, (c.store.ensures.sees ss s, shown_here ss))
+returns-in-Ok-ReadOnly-clause-sees g c = λ ss s. (ss, (c.store.ensures.stays.sees ss s, shown_here ss))
 
 pub returns-in-Err-clause-right : goal.returns-in-Err-clause-right
-returns-in-Err-clause-right g c = λ s. c.in-Err.ensures.right s.0 s.1
+returns-in-Err-clause-right g c = λ s. c.in-Err.ensures.fails.right s.0 s.1
 
 pub returns-in-Ok-Done-clause-shown : goal.returns-in-Ok-Done-clause-shown
-returns-in-Ok-Done-clause-shown g c = λ ss s. wrote_so (touched_makes ss c.args.address (length c.args.bytes.now) (c.store.ensures.shown ss s))
+returns-in-Ok-Done-clause-shown g c = λ ss s. wrote_so (touched_makes ss c.args.address (length c.args.bytes.now) (c.store.ensures.brings.shown ss s))
 
 pub returns-in-Ok-NoMap-clause-shown : goal.returns-in-Ok-NoMap-clause-shown
-returns-in-Ok-NoMap-clause-shown g c = λ ss s. wrote_so (touched_makes ss c.args.address (length c.args.bytes.now) (c.store.ensures.shown ss s))
+returns-in-Ok-NoMap-clause-shown g c = λ ss s. wrote_so (touched_makes ss c.args.address (length c.args.bytes.now) (c.store.ensures.brings.shown ss s))
 
 pub returns-in-Ok-ReadOnly-clause-shown : goal.returns-in-Ok-ReadOnly-clause-shown
-returns-in-Ok-ReadOnly-clause-shown g c = λ ss s. wrote_so (touched_makes ss c.args.address (length c.args.bytes.now) (c.store.ensures.shown ss s))
+returns-in-Ok-ReadOnly-clause-shown g c = λ ss s. wrote_so (touched_makes ss c.args.address (length c.args.bytes.now) (c.store.ensures.brings.shown ss s))
 
 pub returns-in-Err-clause-shown : goal.returns-in-Err-clause-shown
-returns-in-Err-clause-shown g c = λ ss s. wrote_so (touched_makes ss c.args.address (length c.args.bytes.now) (c.store.ensures.shown ss s))
+returns-in-Err-clause-shown g c = λ ss s. wrote_so (touched_makes ss c.args.address (length c.args.bytes.now) (c.store.ensures.brings.shown ss s))

@@ -17,7 +17,7 @@ returns-clause-rest g c = λ volume m r.
     c.evict.ensures.gone _ _ m.spaces known
 
 pub returns-clause-looks : goal.returns-clause-looks
-returns-clause-looks g c = looks_moved c.frame_count-frames.ensures.same c.requires.size c.evict.ensures.reaches c.evict.ensures.came c.evict.ensures.intervals c.evict.ensures.same c.evict.ensures.sees
+returns-clause-looks g c = looks_moved c.frame_count-frames.ensures.same c.requires.size c.evict.ensures.brings.reaches c.evict.ensures.brings.came c.evict.ensures.stays.intervals c.evict.ensures.stays.same c.evict.ensures.stays.sees
 
 pub returns-clause-sound : goal.returns-clause-sound
 returns-clause-sound g c = λ volume m r.
@@ -26,19 +26,19 @@ returns-clause-sound g c = λ volume m r.
     let size = moved_size old core c.frame_count-frames.ensures.same c.requires.size in
     let runs = moved_runs old core volume m c.frame_count-frames.ensures.same r in
     let known = knows core (accepted core.filer) size volume m runs in
-    c.evict.ensures.sound _ _ m.spaces known
+    c.evict.ensures.fails.sound _ _ m.spaces known
 
 -- ---- What its evidence says is so.
 
 pub returns-clause-evidence_seen : goal.returns-clause-evidence_seen
-returns-clause-evidence_seen g c = if_so c.evict.result _ (state c.frame_count-frames.new.core) (state c.evict.new.self) (fits (swapper_of c.frame_count-frames.new.core.filer) (search rules)) c.evict.ensures.reaches.goes.makes c.evict.ensures.cause
+returns-clause-evidence_seen g c = if_so c.evict.result _ (state c.frame_count-frames.new.core) (state c.evict.new.self) (fits (swapper_of c.frame_count-frames.new.core.filer) (search rules)) c.evict.ensures.brings.reaches.goes.makes c.evict.ensures.fails.cause
 
 -- ---- What was asked, and why it failed.
 
 pub returns-clause-cause : goal.returns-clause-cause
-returns-clause-cause g c = rw c.frame_count-frames.ensures.same at c.evict.ensures.cause
+returns-clause-cause g c = rw c.frame_count-frames.ensures.same at c.evict.ensures.fails.cause
 
 -- ---- The tables are revealed.
 
 pub returns-clause-right : goal.returns-clause-right
-returns-clause-right g c = λ s. (rw c.frame_count-frames.ensures.same at c.evict.ensures.right) s.0 s.1
+returns-clause-right g c = λ s. (rw c.frame_count-frames.ensures.same at c.evict.ensures.fails.right) s.0 s.1

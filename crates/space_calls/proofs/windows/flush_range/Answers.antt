@@ -17,7 +17,7 @@ returns-clause-rest g c = λ volume m r.
     c.flush.ensures.clean _ _ m.spaces known
 
 pub returns-clause-looks : goal.returns-clause-looks
-returns-clause-looks g c = looks_moved c.frame_count-frames.ensures.same c.requires.size c.flush.ensures.reaches c.flush.ensures.came c.flush.ensures.intervals c.flush.ensures.same c.flush.ensures.sees
+returns-clause-looks g c = looks_moved c.frame_count-frames.ensures.same c.requires.size c.flush.ensures.brings.reaches c.flush.ensures.brings.came c.flush.ensures.stays.intervals c.flush.ensures.stays.same c.flush.ensures.stays.sees
 
 pub returns-clause-sound : goal.returns-clause-sound
 returns-clause-sound g c = λ volume m r.
@@ -26,19 +26,19 @@ returns-clause-sound g c = λ volume m r.
     let size = moved_size old core c.frame_count-frames.ensures.same c.requires.size in
     let runs = moved_runs old core volume m c.frame_count-frames.ensures.same r in
     let known = knows core (accepted core.filer) size volume m runs in
-    c.flush.ensures.sound _ _ m.spaces known
+    c.flush.ensures.fails.sound _ _ m.spaces known
 
 -- ---- What its evidence says is so.
 
 pub returns-clause-evidence_seen : goal.returns-clause-evidence_seen
-returns-clause-evidence_seen g c = if_so c.flush.result _ (state c.frame_count-frames.new.core) (state c.flush.new.self) (fits (swapper_of c.frame_count-frames.new.core.filer) (search rules)) c.flush.ensures.reaches.goes.makes c.flush.ensures.cause
+returns-clause-evidence_seen g c = if_so c.flush.result _ (state c.frame_count-frames.new.core) (state c.flush.new.self) (fits (swapper_of c.frame_count-frames.new.core.filer) (search rules)) c.flush.ensures.brings.reaches.goes.makes c.flush.ensures.fails.cause
 
 -- ---- What was asked, and why it failed.
 
 pub returns-clause-cause : goal.returns-clause-cause
-returns-clause-cause g c = rw c.frame_count-frames.ensures.same at c.flush.ensures.cause
+returns-clause-cause g c = rw c.frame_count-frames.ensures.same at c.flush.ensures.fails.cause
 
 -- ---- The tables are revealed.
 
 pub returns-clause-right : goal.returns-clause-right
-returns-clause-right g c = λ s. (rw c.frame_count-frames.ensures.same at c.flush.ensures.right) s.0 s.1
+returns-clause-right g c = λ s. (rw c.frame_count-frames.ensures.same at c.flush.ensures.fails.right) s.0 s.1

@@ -1,11 +1,9 @@
 use Rattle.std.proofs.Common.{◌<◌, ◌+◌, ◌∙◌, arith, refl}
 use Rattle.swapper_kernel.specs.HaltLaws.{brings_then}
 use Rattle.fault_core.specs.Core.{kept, state}
-use Rattle.fault_core.specs.Kill.{BreaksWithin}
-use Rattle.fault_core.specs.ReachLaws.{touch_of_reach}
 use Rattle.fault_core.proofs.BeforeLemmas.{touches_then}
 use Rattle.fault_core.proofs.KillLemmas.{killing_none, killing_more, killing_left, killing_halt, killing_sound, killing_cost, killing_found, killed_all, killed_cost, killed_goes, killed_known, killed_most, range_of}
-use Rattle.fault_core.proofs.NeverBlamesLemmas.{range_never_blames}
+use Rattle.fault_core.proofs.KeptLemmas.{looked}
 use Rattle.fault_core.proofs.core_over.Core.kill.Goals as goal
 use Rattle.filer_kernel.specs.View.{accepted}
 
@@ -18,41 +16,44 @@ kill_part-requires-clause-size g c = c.loop-part.invariant.size
 pub loop-part-preserved : goal.loop-part-preserved
 loop-part-preserved g c =
     killing_more (accepted c.args.self.now.filer) c.loop-part.invariant (state c.kill_part.new.self) (kept c.kill_part.new.self) c.kill_part.new.self.intervals c.end_of-end.ensures.within c.kill_part.ensures.left
-    c.in-Ok.next c.if-page-end.false c.in-Ok.ensures.next.0 c.kill_part.ensures.touches c.kill_part.ensures.came c.kill_part.ensures.sees c.kill_part.ensures.intervals c.in-Ok.ensures.gone c.in-Ok.ensures.part
+    c.in-Ok.next c.if-page-end.false c.in-Ok.ensures.comes.next.0 c.kill_part.ensures.brings.touches c.kill_part.ensures.brings.came c.kill_part.ensures.stays.sees c.kill_part.ensures.stays.intervals c.in-Ok.ensures.comes.gone c.in-Ok.ensures.comes.part
     (λ y found. let e = c.in-Ok.ensures.idle y found in (e.1, e.2)) c.kill_part.ensures.cost
 
 -- ---- A page could not be looked up.
 
-pub returns-in-Err-clause-cause : goal.returns-in-Err-clause-cause
-returns-in-Err-clause-cause g c =
+pub returns-in-Err-clause-fails : goal.returns-in-Err-clause-fails
+returns-in-Err-clause-fails g c =
     let upto = c.end_of-end.ensures.within in
     let test = c.if-page-end.false in
-    killing_halt (accepted c.args.self.now.filer) c.loop-part.invariant (state c.kill_part.new.self) (omega (arith, upto, test)) c.in-Err.halt c.in-Err.ensures.cause
-
-pub returns-in-Err-clause-sound : goal.returns-in-Err-clause-sound
-returns-in-Err-clause-sound g c = λ m named ss knows. killing_sound (accepted c.args.self.now.filer) c.loop-part.invariant m named ss c.in-Err.halt knows c.in-Err.ensures.sound
+    let to = c.args.first + c.args.pages in
+    record {
+      cause = killing_halt (accepted c.args.self.now.filer) c.loop-part.invariant (state c.kill_part.new.self) (omega (arith, upto, test)) c.in-Err.halt c.in-Err.ensures.fails.cause;
+      right = λ ss s. c.in-Err.ensures.fails.right ss (c.loop-part.invariant.sees ss s);
+      sound = λ m named ss knows. killing_sound (accepted c.args.self.now.filer) c.loop-part.invariant m named ss c.in-Err.halt knows c.in-Err.ensures.fails.sound;
+    }
 
 pub returns-in-Err-clause-killed : goal.returns-in-Err-clause-killed
 returns-in-Err-clause-killed g c = λ m named ss range knows from_first so_many.
     killed_goes range knows (killing_left (accepted c.args.self.now.filer) c.loop-part.invariant (state c.kill_part.new.self) (kept c.kill_part.new.self) c.kill_part.new.self.intervals c.end_of-end.ensures.within c.kill_part.ensures.left
     m named ss range knows from_first so_many)
-    (touches_then (state c.args.self.now) (state c.loop-part.self) (accepted c.args.self.now.filer) c.loop-part.invariant.touches (state c.kill_part.new.self) c.kill_part.ensures.touches)
+    (touches_then (state c.args.self.now) (state c.loop-part.self) (accepted c.args.self.now.filer) c.loop-part.invariant.touches (state c.kill_part.new.self) c.kill_part.ensures.brings.touches)
 
-pub returns-in-Err-clause-known : goal.returns-in-Err-clause-known
-returns-in-Err-clause-known g c = λ m n named ss knows stands.
-    killed_known (range_of c.args.first c.args.pages) knows
-    (killing_left (accepted c.args.self.now.filer) c.loop-part.invariant (state c.kill_part.new.self) (kept c.kill_part.new.self) c.kill_part.new.self.intervals c.end_of-end.ensures.within c.kill_part.ensures.left
-    m named ss (range_of c.args.first c.args.pages) knows refl refl) n stands
+pub returns-in-Err-clause-stays : goal.returns-in-Err-clause-stays
+returns-in-Err-clause-stays g c = record {
+  sees = λ ss s. c.kill_part.ensures.stays.sees ss (c.loop-part.invariant.sees ss s);
+  known = λ m n named ss knows stands.
+      killed_known (range_of c.args.first c.args.pages) knows
+      (killing_left (accepted c.args.self.now.filer) c.loop-part.invariant (state c.kill_part.new.self) (kept c.kill_part.new.self) c.kill_part.new.self.intervals c.end_of-end.ensures.within c.kill_part.ensures.left
+      m named ss (range_of c.args.first c.args.pages) knows refl refl) n stands;
+  intervals = c.kill_part.ensures.stays.intervals ∙ c.loop-part.invariant.intervals;
+}
 
-pub returns-in-Err-clause-touches : goal.returns-in-Err-clause-touches
-returns-in-Err-clause-touches g c =
-    touches_then (state c.args.self.now) (state c.loop-part.self) (accepted c.args.self.now.filer) c.loop-part.invariant.touches (state c.kill_part.new.self) c.kill_part.ensures.touches
-
-pub returns-in-Err-clause-came : goal.returns-in-Err-clause-came
-returns-in-Err-clause-came g c = brings_then c.loop-part.invariant.came c.kill_part.ensures.came
-
-pub returns-in-Err-clause-intervals : goal.returns-in-Err-clause-intervals
-returns-in-Err-clause-intervals g c = c.kill_part.ensures.intervals ∙ c.loop-part.invariant.intervals
+pub returns-in-Err-clause-brings : goal.returns-in-Err-clause-brings
+returns-in-Err-clause-brings g c = record {
+  touches =
+      touches_then (state c.args.self.now) (state c.loop-part.self) (accepted c.args.self.now.filer) c.loop-part.invariant.touches (state c.kill_part.new.self) c.kill_part.ensures.brings.touches;
+  came = brings_then c.loop-part.invariant.came c.kill_part.ensures.brings.came;
+}
 
 pub returns-in-Err-clause-cost : goal.returns-in-Err-clause-cost
 returns-in-Err-clause-cost g c = killing_cost (accepted c.args.self.now.filer) c.loop-part.invariant (state c.kill_part.new.self) (c.args.self.now.intervals + 1) c.loop-part-test.true c.kill_part.ensures.cost
@@ -65,18 +66,19 @@ returns-then-page-end-clause-gone g c = killed_all (accepted c.args.self.now.fil
 pub returns-then-page-end-clause-killed : goal.returns-then-page-end-clause-killed
 returns-then-page-end-clause-killed g c = λ m named ss range knows from_first so_many. killed_goes range knows (c.loop-part.invariant.left m named ss range knows from_first so_many) c.loop-part.invariant.touches
 
-pub returns-then-page-end-clause-known : goal.returns-then-page-end-clause-known
-returns-then-page-end-clause-known g c = λ m n named ss knows stands.
-    killed_known (range_of c.args.first c.args.pages) knows (c.loop-part.invariant.left m named ss (range_of c.args.first c.args.pages) knows refl refl) n stands
+pub returns-then-page-end-clause-stays : goal.returns-then-page-end-clause-stays
+returns-then-page-end-clause-stays g c = record {
+  sees = c.loop-part.invariant.sees;
+  known = λ m n named ss knows stands.
+      killed_known (range_of c.args.first c.args.pages) knows (c.loop-part.invariant.left m named ss (range_of c.args.first c.args.pages) knows refl refl) n stands;
+  intervals = c.loop-part.invariant.intervals;
+}
 
-pub returns-then-page-end-clause-touches : goal.returns-then-page-end-clause-touches
-returns-then-page-end-clause-touches g c = c.loop-part.invariant.touches
-
-pub returns-then-page-end-clause-came : goal.returns-then-page-end-clause-came
-returns-then-page-end-clause-came g c = c.loop-part.invariant.came
-
-pub returns-then-page-end-clause-intervals : goal.returns-then-page-end-clause-intervals
-returns-then-page-end-clause-intervals g c = c.loop-part.invariant.intervals
+pub returns-then-page-end-clause-brings : goal.returns-then-page-end-clause-brings
+returns-then-page-end-clause-brings g c = record {
+  touches = c.loop-part.invariant.touches;
+  came = c.loop-part.invariant.came;
+}
 
 pub returns-then-page-end-clause-cost : goal.returns-then-page-end-clause-cost
 returns-then-page-end-clause-cost g c = killed_cost (accepted c.args.self.now.filer) c.loop-part.invariant (c.args.self.now.intervals + 1) c.loop-part.auto._part-end
@@ -92,18 +94,19 @@ returns-clause-gone g c =
 pub returns-clause-killed : goal.returns-clause-killed
 returns-clause-killed g c = λ m named ss range knows from_first so_many. killed_goes range knows (c.loop-part.invariant.left m named ss range knows from_first so_many) c.loop-part.invariant.touches
 
-pub returns-clause-known : goal.returns-clause-known
-returns-clause-known g c = λ m n named ss knows stands.
-    killed_known (range_of c.args.first c.args.pages) knows (c.loop-part.invariant.left m named ss (range_of c.args.first c.args.pages) knows refl refl) n stands
+pub returns-clause-stays : goal.returns-clause-stays
+returns-clause-stays g c = record {
+  sees = c.loop-part.invariant.sees;
+  known = λ m n named ss knows stands.
+      killed_known (range_of c.args.first c.args.pages) knows (c.loop-part.invariant.left m named ss (range_of c.args.first c.args.pages) knows refl refl) n stands;
+  intervals = c.loop-part.invariant.intervals;
+}
 
-pub returns-clause-touches : goal.returns-clause-touches
-returns-clause-touches g c = c.loop-part.invariant.touches
-
-pub returns-clause-came : goal.returns-clause-came
-returns-clause-came g c = c.loop-part.invariant.came
-
-pub returns-clause-intervals : goal.returns-clause-intervals
-returns-clause-intervals g c = c.loop-part.invariant.intervals
+pub returns-clause-brings : goal.returns-clause-brings
+returns-clause-brings g c = record {
+  touches = c.loop-part.invariant.touches;
+  came = c.loop-part.invariant.came;
+}
 
 pub returns-clause-cost : goal.returns-clause-cost
 returns-clause-cost g c = killed_cost (accepted c.args.self.now.filer) c.loop-part.invariant (c.args.self.now.intervals + 1) c.loop-part.auto._part-end
@@ -124,21 +127,3 @@ returns-then-page-end-clause-idle g c = λ found. let was = c.loop-part.invarian
 
 pub returns-clause-idle : goal.returns-clause-idle
 returns-clause-idle g c = λ found. let was = c.loop-part.invariant.idle found in (refl, was.0, was.1)
-
--- ---- The tables are revealed.
-
-pub returns-then-page-end-clause-sees : goal.returns-then-page-end-clause-sees
-returns-then-page-end-clause-sees g c = c.loop-part.invariant.sees
-
-pub returns-clause-sees : goal.returns-clause-sees
-returns-clause-sees g c = c.loop-part.invariant.sees
-
-pub returns-in-Err-clause-sees : goal.returns-in-Err-clause-sees
-returns-in-Err-clause-sees g c = λ ss s. c.kill_part.ensures.sees ss (c.loop-part.invariant.sees ss s)
-
-pub returns-in-Err-clause-right : goal.returns-in-Err-clause-right
-returns-in-Err-clause-right g c = λ ss s.
-    let v = state c.args.self.now in
-    let w = state c.kill_part.new.self in
-    let to = c.args.first + c.args.pages in
-    range_never_blames s c.args.self.now.some w c.in-Err.halt c.args.first to (touch_of_reach (BreaksWithin v c.args.self.now.intervals c.args.first to) v w c.in-Err.halt (returns-in-Err-clause-cause g c))

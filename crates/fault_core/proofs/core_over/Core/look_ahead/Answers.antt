@@ -1,4 +1,4 @@
-use Rattle.std.proofs.Common.{◌≡◌, ◌∙◌, ◌/◌, refl, sym}
+use Rattle.std.proofs.Common.{rules, ◌≡◌, ◌∙◌, ◌/◌, refl, sym}
 use Rattle.frame_pool.specs.Frames.{HasPage}
 use Rattle.fault_core.specs.declared.reference.Access.TheVariants as access
 use Rattle.fault_core.specs.Access.{Shows, access_of, last_page}
@@ -8,133 +8,133 @@ use Rattle.fault_core.specs.Kept.{IsKept}
 use Rattle.fault_core.specs.Unit.{IsSlotOf, IsWhole, file_page}
 use Rattle.fault_core.proofs.AccessLemmas.{at_shown, both_seen, came_to}
 use Rattle.fault_core.proofs.AttemptLemmas.{absent_wider, access_wider, client_slot, first_away, no_map_unmoved, read_only_unmoved, ready_always, ready_both, ready_wider, settled_unmoved, slot_shown, unfound_never, unfound_referred}
+use Rattle.fault_core.proofs.OutcomeLemmas.{failed_on}
+use Rattle.fault_core.proofs.KeptLemmas.{looked}
 use Rattle.fault_core.proofs.core_over.Core.look_ahead.Goals as goal
 
 -- ---- It is refused.
 
-pub returns-in-Ok-NoMap-clause-access : goal.returns-in-Ok-NoMap-clause-access
-returns-in-Ok-NoMap-clause-access g c = λ m named ss knows.
-    came_to (access_of ss c.args.writes c.args.address c.args.count) c.in-Ok-NoMap.field-0 _ c.in-Ok-NoMap.field-0-is (c.in-Ok-NoMap.ensures.access m named ss knows)
+pub returns-in-Ok-NoMap-clause-comes : goal.returns-in-Ok-NoMap-clause-comes
+returns-in-Ok-NoMap-clause-comes g c = record {
+  clients = search rules;
+  here = search rules;
+  slots = search rules;
+  granted = search rules;
+  access = λ m named ss knows.
+      came_to (access_of ss c.args.writes c.args.address c.args.count) c.in-Ok-NoMap.field-0 _ c.in-Ok-NoMap.field-0-is (c.in-Ok-NoMap.ensures.comes.access m named ss knows);
+  absent = search rules;
+  referred = search rules;
+  unmoved = no_map_unmoved c.in-Ok-NoMap.page;
+  present = search rules;
+}
 
-pub returns-in-Ok-NoMap-clause-unmoved : goal.returns-in-Ok-NoMap-clause-unmoved
-returns-in-Ok-NoMap-clause-unmoved g c = no_map_unmoved c.in-Ok-NoMap.page
-
-pub returns-in-Ok-ReadOnly-clause-access : goal.returns-in-Ok-ReadOnly-clause-access
-returns-in-Ok-ReadOnly-clause-access g c = λ m named ss knows.
-    came_to (access_of ss c.args.writes c.args.address c.args.count) c.in-Ok-ReadOnly.field-0 _ c.in-Ok-ReadOnly.field-0-is (c.in-Ok-ReadOnly.ensures.access m named ss knows)
-
-pub returns-in-Ok-ReadOnly-clause-unmoved : goal.returns-in-Ok-ReadOnly-clause-unmoved
-returns-in-Ok-ReadOnly-clause-unmoved g c = read_only_unmoved c.in-Ok-ReadOnly.page
+pub returns-in-Ok-ReadOnly-clause-comes : goal.returns-in-Ok-ReadOnly-clause-comes
+returns-in-Ok-ReadOnly-clause-comes g c = record {
+  clients = search rules;
+  here = search rules;
+  slots = search rules;
+  granted = search rules;
+  access = λ m named ss knows.
+      came_to (access_of ss c.args.writes c.args.address c.args.count) c.in-Ok-ReadOnly.field-0 _ c.in-Ok-ReadOnly.field-0-is (c.in-Ok-ReadOnly.ensures.comes.access m named ss knows);
+  absent = search rules;
+  referred = search rules;
+  unmoved = read_only_unmoved c.in-Ok-ReadOnly.page;
+  present = search rules;
+}
 
 -- ---- Its pages are looked for.
 
 pub look_for-requires-clause-first : goal.look_for-requires-clause-first
 look_for-requires-clause-first g c =
-    (at_shown (λ x y. Shows x (c.args.address / 512) × Shows y (last_page c.args.address c.args.count)) c.in-Ok-Shown.field-0 c.in-Ok-Shown.first c.in-Ok-Shown.last c.in-Ok-Shown.field-0-is c.in-Ok-Shown.ensures.form).0
+    (at_shown (λ x y. Shows x (c.args.address / 512) × Shows y (last_page c.args.address c.args.count)) c.in-Ok-Shown.field-0 c.in-Ok-Shown.first c.in-Ok-Shown.last c.in-Ok-Shown.field-0-is c.in-Ok-Shown.ensures.comes.form).0
 
 pub look_for-requires-clause-last : goal.look_for-requires-clause-last
 look_for-requires-clause-last g c =
-    (at_shown (λ x y. Shows x (c.args.address / 512) × Shows y (last_page c.args.address c.args.count)) c.in-Ok-Shown.field-0 c.in-Ok-Shown.first c.in-Ok-Shown.last c.in-Ok-Shown.field-0-is c.in-Ok-Shown.ensures.form).1
+    (at_shown (λ x y. Shows x (c.args.address / 512) × Shows y (last_page c.args.address c.args.count)) c.in-Ok-Shown.field-0 c.in-Ok-Shown.first c.in-Ok-Shown.last c.in-Ok-Shown.field-0-is c.in-Ok-Shown.ensures.comes.form).1
 
-pub returns-clause-clients : goal.returns-clause-clients
-returns-clause-clients g c =
-    let x = c.in-Ok-Shown.first in
-    let y = c.in-Ok-Shown.last in
-    let p = c.args.address / 512 in
-    let q = last_page c.args.address c.args.count in
-    let pool = (state c.refer.new.self).slots in
-    let form = at_shown (λ x y. Shows x p × Shows y q) c.in-Ok-Shown.field-0 x y c.in-Ok-Shown.field-0-is c.in-Ok-Shown.ensures.form in
-    let r = c.look_for.result in
-    let first = ready_wider (λ i j. HasPage pool i x.id (file_page x p)) (λ i j. HasClient pool i) r (λ i j has. client_slot pool x p i form.0 has) c.look_for.ensures.first in
-    let last = ready_wider (λ i j. HasPage pool j y.id (file_page y q)) (λ i j. HasClient pool j) r (λ i j has. client_slot pool y q j form.1 has) c.look_for.ensures.last in
-    rw c.look_for.ensures.same (ready_both (λ i j. HasClient pool i) (λ i j. HasClient pool j) r first last)
+pub returns-clause-comes : goal.returns-clause-comes
+returns-clause-comes g c = record {
+  clients =
+      let x = c.in-Ok-Shown.first in
+      let y = c.in-Ok-Shown.last in
+      let p = c.args.address / 512 in
+      let q = last_page c.args.address c.args.count in
+      let pool = (state c.refer.new.self).slots in
+      let form = at_shown (λ x y. Shows x p × Shows y q) c.in-Ok-Shown.field-0 x y c.in-Ok-Shown.field-0-is c.in-Ok-Shown.ensures.comes.form in
+      let r = c.look_for.result in
+      let first = ready_wider (λ i j. HasPage pool i x.id (file_page x p)) (λ i j. HasClient pool i) r (λ i j has. client_slot pool x p i form.0 has) c.look_for.ensures.first in
+      let last = ready_wider (λ i j. HasPage pool j y.id (file_page y q)) (λ i j. HasClient pool j) r (λ i j has. client_slot pool y q j form.1 has) c.look_for.ensures.last in
+      rw c.look_for.ensures.same (ready_both (λ i j. HasClient pool i) (λ i j. HasClient pool j) r first last);
+  here =
+      let x = c.in-Ok-Shown.first in
+      let y = c.in-Ok-Shown.last in
+      let p = c.args.address / 512 in
+      let q = last_page c.args.address c.args.count in
+      let pool = (state c.refer.new.self).slots in
+      let form = at_shown (λ x y. Shows x p × Shows y q) c.in-Ok-Shown.field-0 x y c.in-Ok-Shown.field-0-is c.in-Ok-Shown.ensures.comes.form in
+      let is_kept = at_shown (λ x y. IsKept (kept c.refer.new.self) y) c.in-Ok-Shown.field-0 x y c.in-Ok-Shown.field-0-is c.in-Ok-Shown.ensures.comes.is_kept in
+      rw c.look_for.ensures.same (ready_wider (λ i j. HasPage pool j y.id (file_page y q)) (λ i j. IsHere (kept c.refer.new.self) pool q) c.look_for.result
+      (λ i j has. record { interval = y; is_kept = is_kept; holds = form.1.holds; mapped = form.1.mapped; resident = (j, has) }) c.look_for.ensures.last);
+  slots = λ m named ss knows.
+      let x = c.in-Ok-Shown.first in
+      let y = c.in-Ok-Shown.last in
+      let p = c.args.address / 512 in
+      let q = last_page c.args.address c.args.count in
+      let pool = (state c.refer.new.self).slots in
+      let form = at_shown (λ x y. Shows x p × Shows y q) c.in-Ok-Shown.field-0 x y c.in-Ok-Shown.field-0-is c.in-Ok-Shown.ensures.comes.form in
+      let seen = both_seen knows c.in-Ok-Shown.field-0 x y p q c.in-Ok-Shown.field-0-is c.in-Ok-Shown.ensures.comes.form (c.in-Ok-Shown.ensures.comes.intervals_at m named ss knows) in
+      let r = c.look_for.result in
+      let first = ready_wider (λ i j. HasPage pool i x.id (file_page x p)) (λ i j. IsSlotOf ss pool p i) r (λ i j has. slot_shown pool x p seen.0 form.0 i has) c.look_for.ensures.first in
+      let last = ready_wider (λ i j. HasPage pool j y.id (file_page y q)) (λ i j. IsSlotOf ss pool q j) r (λ i j has. slot_shown pool y q seen.1 form.1 j has) c.look_for.ensures.last in
+      rw c.look_for.ensures.same (ready_both (λ i j. IsSlotOf ss pool p i) (λ i j. IsSlotOf ss pool q j) r first last);
+  granted = λ m named ss knows.
+      ready_always (access.Done ≡ access_of ss c.args.writes c.args.address c.args.count) c.look_for.result
+      (came_to (access_of ss c.args.writes c.args.address c.args.count) c.in-Ok-Shown.field-0 _ c.in-Ok-Shown.field-0-is (c.in-Ok-Shown.ensures.comes.access m named ss knows));
+  access = λ m named ss knows.
+      access_wider (λ a. ⊥) (λ a. a ≡ access_of ss c.args.writes c.args.address c.args.count) c.look_for.result (λ a none. absurd none) c.look_for.ensures.no_access;
+  absent = λ m named ss knows.
+      let x = c.in-Ok-Shown.first in
+      let y = c.in-Ok-Shown.last in
+      let p = c.args.address / 512 in
+      let q = last_page c.args.address c.args.count in
+      let pool = (state c.refer.new.self).slots in
+      let form = at_shown (λ x y. Shows x p × Shows y q) c.in-Ok-Shown.field-0 x y c.in-Ok-Shown.field-0-is c.in-Ok-Shown.ensures.comes.form in
+      let seen = both_seen knows c.in-Ok-Shown.field-0 x y p q c.in-Ok-Shown.field-0-is c.in-Ok-Shown.ensures.comes.form (c.in-Ok-Shown.ensures.comes.intervals_at m named ss knows) in
+      let granted = came_to (access_of ss c.args.writes c.args.address c.args.count) c.in-Ok-Shown.field-0 _ c.in-Ok-Shown.field-0-is (c.in-Ok-Shown.ensures.comes.access m named ss knows) in
+      rw c.look_for.ensures.same (absent_wider (IsUnfound pool x y c.args.address c.args.count) (IsAbsent ss pool c.args.writes c.args.address c.args.count) c.look_for.result
+      (λ page unfound. (sym granted, first_away pool x y c.args.address c.args.count page seen.0 seen.1 form.0 form.1 unfound)) c.look_for.ensures.absent);
+  referred =
+      let x = c.in-Ok-Shown.first in
+      let y = c.in-Ok-Shown.last in
+      let pool = (state c.refer.new.self).slots in
+      absent_wider (IsUnfound pool x y c.args.address c.args.count) (IsReferred c.args.address c.args.count) c.look_for.result (unfound_referred pool x y c.args.address c.args.count) c.look_for.ensures.absent;
+  unmoved = settled_unmoved c.look_for.result c.look_for.ensures.no_access;
+  present = λ first last apart.
+      let x = c.in-Ok-Shown.first in
+      let y = c.in-Ok-Shown.last in
+      let p = c.args.address / 512 in
+      let q = last_page c.args.address c.args.count in
+      let pool = (state c.refer.new.self).slots in
+      let form = at_shown (λ x y. Shows x p × Shows y q) c.in-Ok-Shown.field-0 x y c.in-Ok-Shown.field-0-is c.in-Ok-Shown.ensures.comes.form in
+      let one = c.in-Ok-Shown.ensures.idle first last apart in
+      let whole = at_shown (λ x y. IsWhole (state c.args.self.now).slots x p × IsWhole (state c.args.self.now).slots y q) c.in-Ok-Shown.field-0 x y c.in-Ok-Shown.field-0-is one.0 in
+      let x_whole : IsWhole pool x p = rw one.2 whole.0 in
+      let y_whole : IsWhole pool y q = rw one.2 whole.1 in
+      absent_wider (IsUnfound pool x y c.args.address c.args.count) (λ page. ⊥) c.look_for.result (λ page unfound. unfound_never pool x y c.args.address c.args.count page form.0 form.1 x_whole y_whole unfound) c.look_for.ensures.absent;
+}
 
-pub returns-clause-here : goal.returns-clause-here
-returns-clause-here g c =
-    let x = c.in-Ok-Shown.first in
-    let y = c.in-Ok-Shown.last in
-    let p = c.args.address / 512 in
-    let q = last_page c.args.address c.args.count in
-    let pool = (state c.refer.new.self).slots in
-    let form = at_shown (λ x y. Shows x p × Shows y q) c.in-Ok-Shown.field-0 x y c.in-Ok-Shown.field-0-is c.in-Ok-Shown.ensures.form in
-    let is_kept = at_shown (λ x y. IsKept (kept c.refer.new.self) y) c.in-Ok-Shown.field-0 x y c.in-Ok-Shown.field-0-is c.in-Ok-Shown.ensures.is_kept in
-    rw c.look_for.ensures.same (ready_wider (λ i j. HasPage pool j y.id (file_page y q)) (λ i j. IsHere (kept c.refer.new.self) pool q) c.look_for.result
-    (λ i j has. record { interval = y; is_kept = is_kept; holds = form.1.holds; mapped = form.1.mapped; resident = (j, has) }) c.look_for.ensures.last)
-
-pub returns-clause-slots : goal.returns-clause-slots
-returns-clause-slots g c = λ m named ss knows.
-    let x = c.in-Ok-Shown.first in
-    let y = c.in-Ok-Shown.last in
-    let p = c.args.address / 512 in
-    let q = last_page c.args.address c.args.count in
-    let pool = (state c.refer.new.self).slots in
-    let form = at_shown (λ x y. Shows x p × Shows y q) c.in-Ok-Shown.field-0 x y c.in-Ok-Shown.field-0-is c.in-Ok-Shown.ensures.form in
-    let seen = both_seen knows c.in-Ok-Shown.field-0 x y p q c.in-Ok-Shown.field-0-is c.in-Ok-Shown.ensures.form (c.in-Ok-Shown.ensures.intervals_at m named ss knows) in
-    let r = c.look_for.result in
-    let first = ready_wider (λ i j. HasPage pool i x.id (file_page x p)) (λ i j. IsSlotOf ss pool p i) r (λ i j has. slot_shown pool x p seen.0 form.0 i has) c.look_for.ensures.first in
-    let last = ready_wider (λ i j. HasPage pool j y.id (file_page y q)) (λ i j. IsSlotOf ss pool q j) r (λ i j has. slot_shown pool y q seen.1 form.1 j has) c.look_for.ensures.last in
-    rw c.look_for.ensures.same (ready_both (λ i j. IsSlotOf ss pool p i) (λ i j. IsSlotOf ss pool q j) r first last)
-
-pub returns-clause-granted : goal.returns-clause-granted
-returns-clause-granted g c = λ m named ss knows.
-    ready_always (access.Done ≡ access_of ss c.args.writes c.args.address c.args.count) c.look_for.result
-    (came_to (access_of ss c.args.writes c.args.address c.args.count) c.in-Ok-Shown.field-0 _ c.in-Ok-Shown.field-0-is (c.in-Ok-Shown.ensures.access m named ss knows))
-
-pub returns-clause-access : goal.returns-clause-access
-returns-clause-access g c = λ m named ss knows.
-    access_wider (λ a. ⊥) (λ a. a ≡ access_of ss c.args.writes c.args.address c.args.count) c.look_for.result (λ a none. absurd none) c.look_for.ensures.no_access
-
-pub returns-clause-absent : goal.returns-clause-absent
-returns-clause-absent g c = λ m named ss knows.
-    let x = c.in-Ok-Shown.first in
-    let y = c.in-Ok-Shown.last in
-    let p = c.args.address / 512 in
-    let q = last_page c.args.address c.args.count in
-    let pool = (state c.refer.new.self).slots in
-    let form = at_shown (λ x y. Shows x p × Shows y q) c.in-Ok-Shown.field-0 x y c.in-Ok-Shown.field-0-is c.in-Ok-Shown.ensures.form in
-    let seen = both_seen knows c.in-Ok-Shown.field-0 x y p q c.in-Ok-Shown.field-0-is c.in-Ok-Shown.ensures.form (c.in-Ok-Shown.ensures.intervals_at m named ss knows) in
-    let granted = came_to (access_of ss c.args.writes c.args.address c.args.count) c.in-Ok-Shown.field-0 _ c.in-Ok-Shown.field-0-is (c.in-Ok-Shown.ensures.access m named ss knows) in
-    rw c.look_for.ensures.same (absent_wider (IsUnfound pool x y c.args.address c.args.count) (IsAbsent ss pool c.args.writes c.args.address c.args.count) c.look_for.result
-    (λ page unfound. (sym granted, first_away pool x y c.args.address c.args.count page seen.0 seen.1 form.0 form.1 unfound)) c.look_for.ensures.absent)
-
-pub returns-clause-referred : goal.returns-clause-referred
-returns-clause-referred g c =
-    let x = c.in-Ok-Shown.first in
-    let y = c.in-Ok-Shown.last in
-    let pool = (state c.refer.new.self).slots in
-    absent_wider (IsUnfound pool x y c.args.address c.args.count) (IsReferred c.args.address c.args.count) c.look_for.result (unfound_referred pool x y c.args.address c.args.count) c.look_for.ensures.absent
-
-pub returns-clause-unmoved : goal.returns-clause-unmoved
-returns-clause-unmoved g c = settled_unmoved c.look_for.result c.look_for.ensures.no_access
-
-pub returns-clause-same : goal.returns-clause-same
-returns-clause-same g c = λ m named ss knows. rw c.look_for.ensures.same (c.in-Ok-Shown.ensures.same m named ss knows)
-
-pub returns-clause-present : goal.returns-clause-present
-returns-clause-present g c = λ first last apart.
-    let x = c.in-Ok-Shown.first in
-    let y = c.in-Ok-Shown.last in
-    let p = c.args.address / 512 in
-    let q = last_page c.args.address c.args.count in
-    let pool = (state c.refer.new.self).slots in
-    let form = at_shown (λ x y. Shows x p × Shows y q) c.in-Ok-Shown.field-0 x y c.in-Ok-Shown.field-0-is c.in-Ok-Shown.ensures.form in
-    let one = c.in-Ok-Shown.ensures.idle first last apart in
-    let whole = at_shown (λ x y. IsWhole (state c.args.self.now).slots x p × IsWhole (state c.args.self.now).slots y q) c.in-Ok-Shown.field-0 x y c.in-Ok-Shown.field-0-is one.0 in
-    let x_whole : IsWhole pool x p = rw one.2 whole.0 in
-    let y_whole : IsWhole pool y q = rw one.2 whole.1 in
-    absent_wider (IsUnfound pool x y c.args.address c.args.count) (λ page. ⊥) c.look_for.result (λ page unfound. unfound_never pool x y c.args.address c.args.count page form.0 form.1 x_whole y_whole unfound) c.look_for.ensures.absent
+pub returns-clause-stays : goal.returns-clause-stays
+returns-clause-stays g c = rw c.look_for.ensures.same c.refer.ensures.stays
 
 pub returns-clause-idle : goal.returns-clause-idle
 returns-clause-idle g c = λ first last apart.
     let one = c.in-Ok-Shown.ensures.idle first last apart in
     (refl, c.look_for.ensures.same ∙ one.2, one.3)
 
--- ---- The tables are revealed.
-
-pub returns-clause-sees : goal.returns-clause-sees
-returns-clause-sees g c = λ ss s. rw c.look_for.ensures.same (c.in-Ok-Shown.ensures.sees ss s)
-
 -- ---- Which pages stay.
 
-pub returns-clause-stay : goal.returns-clause-stay
-returns-clause-stay g c = rw c.look_for.ensures.same c.refer.ensures.stay
+pub returns-clause-brings : goal.returns-clause-brings
+returns-clause-brings g c = rw c.look_for.ensures.same c.refer.ensures.brings
+
+pub returns-in-Err-clause-fails : goal.returns-in-Err-clause-fails
+returns-in-Err-clause-fails g c = failed_on c.in-Err.halt c.in-Err.ensures.fails

@@ -1,86 +1,83 @@
-use Rattle.std.proofs.Common.{◌≡◌, ◌≢◌, ◌∙◌, ◌/◌, false, length, refl}
+use Rattle.std.proofs.Common.{rules, ◌≡◌, ◌≢◌, ◌∙◌, ◌/◌, false, length, refl}
 use Rattle.fault_core.specs.declared.reference.Access.TheVariants as access
-use Rattle.fault_core.specs.Access.{access_of, last_page, BreaksFor}
+use Rattle.fault_core.specs.Access.{access_of, last_page}
 use Rattle.fault_core.specs.Attempt.{HasClient, IfAbsent, IfAccess, IsAbsent, IsHere, IsReferred, moved}
 use Rattle.fault_core.specs.Core.{kept, state}
-use Rattle.fault_core.specs.ReachLaws.{touch_of_reach}
 use Rattle.fault_core.specs.Unit.{IsSlotOf}
 use Rattle.fault_core.proofs.AttemptLemmas.{all_present, at_ready, at_settled}
-use Rattle.fault_core.proofs.NeverBlamesLemmas.{reference_never_blames}
+use Rattle.fault_core.proofs.OutcomeLemmas.{failed_on}
 use Rattle.fault_core.proofs.core_over.Core.look_and_load.Goals as goal
 
 -- ---- No byte is moved.
 
-pub returns-in-Ok-Settled-clause-access : goal.returns-in-Ok-Settled-clause-access
-returns-in-Ok-Settled-clause-access g c = λ m named ss knows.
-    at_settled (IfAccess (λ a. a ≡ access_of ss false c.args.address (length c.args.into.now))) c.in-Ok-Settled.field-0 c.in-Ok-Settled.attempt c.in-Ok-Settled.field-0-is (c.in-Ok-Settled.ensures.access m named ss knows)
+pub returns-in-Ok-Settled-clause-comes : goal.returns-in-Ok-Settled-clause-comes
+returns-in-Ok-Settled-clause-comes g c = record {
+  access = λ m named ss knows.
+      at_settled (IfAccess (λ a. a ≡ access_of ss false c.args.address (length c.args.into.now))) c.in-Ok-Settled.field-0 c.in-Ok-Settled.attempt c.in-Ok-Settled.field-0-is (c.in-Ok-Settled.ensures.comes.access m named ss knows);
+  absent = λ m named ss knows.
+      at_settled (IfAbsent (IsAbsent ss (state c.look_ahead.new.self).slots false c.args.address (length c.args.into.now))) c.in-Ok-Settled.field-0 c.in-Ok-Settled.attempt c.in-Ok-Settled.field-0-is (c.in-Ok-Settled.ensures.comes.absent m named ss knows);
+  present = λ m named ss knows done.
+      absurd (at_settled (λ t. t ≢ moved) c.in-Ok-Settled.field-0 c.in-Ok-Settled.attempt c.in-Ok-Settled.field-0-is c.in-Ok-Settled.ensures.comes.unmoved done);
+  referred =
+      at_settled (IfAbsent (IsReferred c.args.address (length c.args.into.now))) c.in-Ok-Settled.field-0 c.in-Ok-Settled.attempt c.in-Ok-Settled.field-0-is c.in-Ok-Settled.ensures.comes.referred;
+  here = λ done.
+      absurd (at_settled (λ t. t ≢ moved) c.in-Ok-Settled.field-0 c.in-Ok-Settled.attempt c.in-Ok-Settled.field-0-is c.in-Ok-Settled.ensures.comes.unmoved done);
+  ready = λ first last apart.
+      at_settled (IfAbsent (λ page. ⊥)) c.in-Ok-Settled.field-0 c.in-Ok-Settled.attempt c.in-Ok-Settled.field-0-is (c.in-Ok-Settled.ensures.comes.present first last apart);
+}
 
-pub returns-in-Ok-Settled-clause-absent : goal.returns-in-Ok-Settled-clause-absent
-returns-in-Ok-Settled-clause-absent g c = λ m named ss knows.
-    at_settled (IfAbsent (IsAbsent ss (state c.look_ahead.new.self).slots false c.args.address (length c.args.into.now))) c.in-Ok-Settled.field-0 c.in-Ok-Settled.attempt c.in-Ok-Settled.field-0-is (c.in-Ok-Settled.ensures.absent m named ss knows)
-
-pub returns-in-Ok-Settled-clause-present : goal.returns-in-Ok-Settled-clause-present
-returns-in-Ok-Settled-clause-present g c = λ m named ss knows done.
-    absurd (at_settled (λ t. t ≢ moved) c.in-Ok-Settled.field-0 c.in-Ok-Settled.attempt c.in-Ok-Settled.field-0-is c.in-Ok-Settled.ensures.unmoved done)
-
-pub returns-in-Ok-Settled-clause-bytes : goal.returns-in-Ok-Settled-clause-bytes
-returns-in-Ok-Settled-clause-bytes g c = λ m named ss knows done.
-    absurd (at_settled (λ t. t ≢ moved) c.in-Ok-Settled.field-0 c.in-Ok-Settled.attempt c.in-Ok-Settled.field-0-is c.in-Ok-Settled.ensures.unmoved done)
-
-pub returns-in-Ok-Settled-clause-referred : goal.returns-in-Ok-Settled-clause-referred
-returns-in-Ok-Settled-clause-referred g c =
-    at_settled (IfAbsent (IsReferred c.args.address (length c.args.into.now))) c.in-Ok-Settled.field-0 c.in-Ok-Settled.attempt c.in-Ok-Settled.field-0-is c.in-Ok-Settled.ensures.referred
-
-pub returns-in-Ok-Settled-clause-here : goal.returns-in-Ok-Settled-clause-here
-returns-in-Ok-Settled-clause-here g c = λ done.
-    absurd (at_settled (λ t. t ≢ moved) c.in-Ok-Settled.field-0 c.in-Ok-Settled.attempt c.in-Ok-Settled.field-0-is c.in-Ok-Settled.ensures.unmoved done)
-
-pub returns-in-Ok-Settled-clause-ready : goal.returns-in-Ok-Settled-clause-ready
-returns-in-Ok-Settled-clause-ready g c = λ first last apart.
-    at_settled (IfAbsent (λ page. ⊥)) c.in-Ok-Settled.field-0 c.in-Ok-Settled.attempt c.in-Ok-Settled.field-0-is (c.in-Ok-Settled.ensures.present first last apart)
+pub returns-in-Ok-Settled-clause-moves : goal.returns-in-Ok-Settled-clause-moves
+returns-in-Ok-Settled-clause-moves g c = record {
+  bytes = λ m named ss knows done.
+      absurd (at_settled (λ t. t ≢ moved) c.in-Ok-Settled.field-0 c.in-Ok-Settled.attempt c.in-Ok-Settled.field-0-is c.in-Ok-Settled.ensures.comes.unmoved done);
+  width = search rules;
+  unmoved = search rules;
+}
 
 -- ---- All bytes are.
 
 pub copy_pages-requires-clause-first : goal.copy_pages-requires-clause-first
 copy_pages-requires-clause-first g c =
-    (at_ready (λ i j. HasClient (state c.look_ahead.new.self).slots i × HasClient (state c.look_ahead.new.self).slots j) c.in-Ok-Ready.field-0 c.in-Ok-Ready.first c.in-Ok-Ready.last c.in-Ok-Ready.field-0-is c.in-Ok-Ready.ensures.clients).0
+    (at_ready (λ i j. HasClient (state c.look_ahead.new.self).slots i × HasClient (state c.look_ahead.new.self).slots j) c.in-Ok-Ready.field-0 c.in-Ok-Ready.first c.in-Ok-Ready.last c.in-Ok-Ready.field-0-is c.in-Ok-Ready.ensures.comes.clients).0
 
 pub copy_pages-requires-clause-last : goal.copy_pages-requires-clause-last
 copy_pages-requires-clause-last g c =
-    (at_ready (λ i j. HasClient (state c.look_ahead.new.self).slots i × HasClient (state c.look_ahead.new.self).slots j) c.in-Ok-Ready.field-0 c.in-Ok-Ready.first c.in-Ok-Ready.last c.in-Ok-Ready.field-0-is c.in-Ok-Ready.ensures.clients).1
+    (at_ready (λ i j. HasClient (state c.look_ahead.new.self).slots i × HasClient (state c.look_ahead.new.self).slots j) c.in-Ok-Ready.field-0 c.in-Ok-Ready.first c.in-Ok-Ready.last c.in-Ok-Ready.field-0-is c.in-Ok-Ready.ensures.comes.clients).1
 
-pub returns-clause-access : goal.returns-clause-access
-returns-clause-access g c = λ m named ss knows.
-    at_ready (λ i j. access.Done ≡ access_of ss false c.args.address (length c.args.into.now)) c.in-Ok-Ready.field-0 c.in-Ok-Ready.first c.in-Ok-Ready.last c.in-Ok-Ready.field-0-is (c.in-Ok-Ready.ensures.granted m named ss knows)
+pub returns-clause-comes : goal.returns-clause-comes
+returns-clause-comes g c = record {
+  access = λ m named ss knows.
+      at_ready (λ i j. access.Done ≡ access_of ss false c.args.address (length c.args.into.now)) c.in-Ok-Ready.field-0 c.in-Ok-Ready.first c.in-Ok-Ready.last c.in-Ok-Ready.field-0-is (c.in-Ok-Ready.ensures.comes.granted m named ss knows);
+  absent = search rules;
+  present = λ m named ss knows done.
+      let pool = (state c.look_ahead.new.self).slots in
+      let a = c.args.address in
+      let n = length c.args.into.now in
+      let slots = at_ready (λ i j. IsSlotOf ss pool (a / 512) i × IsSlotOf ss pool (last_page a n) j) c.in-Ok-Ready.field-0 c.in-Ok-Ready.first c.in-Ok-Ready.last c.in-Ok-Ready.field-0-is (c.in-Ok-Ready.ensures.comes.slots m named ss knows) in
+      rw c.copy_pages.ensures.same (all_present ss pool a n c.in-Ok-Ready.first c.in-Ok-Ready.last slots.0 slots.1);
+  referred = search rules;
+  here = λ done.
+      let self = c.look_ahead.new.self in
+      let here = at_ready (λ i j. IsHere (kept self) (state self).slots (last_page c.args.address (length c.args.into.now))) c.in-Ok-Ready.field-0 c.in-Ok-Ready.first c.in-Ok-Ready.last c.in-Ok-Ready.field-0-is c.in-Ok-Ready.ensures.comes.here in
+      rw c.copy_pages.ensures.same here;
+  ready = search rules;
+}
 
-pub returns-clause-present : goal.returns-clause-present
-returns-clause-present g c = λ m named ss knows done.
-    let pool = (state c.look_ahead.new.self).slots in
-    let a = c.args.address in
-    let n = length c.args.into.now in
-    let slots = at_ready (λ i j. IsSlotOf ss pool (a / 512) i × IsSlotOf ss pool (last_page a n) j) c.in-Ok-Ready.field-0 c.in-Ok-Ready.first c.in-Ok-Ready.last c.in-Ok-Ready.field-0-is (c.in-Ok-Ready.ensures.slots m named ss knows) in
-    rw c.copy_pages.ensures.same (all_present ss pool a n c.in-Ok-Ready.first c.in-Ok-Ready.last slots.0 slots.1)
+pub returns-clause-moves : goal.returns-clause-moves
+returns-clause-moves g c = record {
+  bytes = λ m named ss knows done.
+      let pool = (state c.look_ahead.new.self).slots in
+      let a = c.args.address in
+      let n = length c.args.into.now in
+      let after = c.in-Ok-Ready.ensures.stays.same m named ss knows in
+      let slots = at_ready (λ i j. IsSlotOf ss pool (a / 512) i × IsSlotOf ss pool (last_page a n) j) c.in-Ok-Ready.field-0 c.in-Ok-Ready.first c.in-Ok-Ready.last c.in-Ok-Ready.field-0-is (c.in-Ok-Ready.ensures.comes.slots m named ss knows) in
+      c.copy_pages.ensures.bytes m named after.bytes ss after.known after.stored slots.0 slots.1;
+  width = search rules;
+  unmoved = λ other. absurd (other refl);
+}
 
-pub returns-clause-bytes : goal.returns-clause-bytes
-returns-clause-bytes g c = λ m named ss knows done.
-    let pool = (state c.look_ahead.new.self).slots in
-    let a = c.args.address in
-    let n = length c.args.into.now in
-    let after = c.in-Ok-Ready.ensures.same m named ss knows in
-    let slots = at_ready (λ i j. IsSlotOf ss pool (a / 512) i × IsSlotOf ss pool (last_page a n) j) c.in-Ok-Ready.field-0 c.in-Ok-Ready.first c.in-Ok-Ready.last c.in-Ok-Ready.field-0-is (c.in-Ok-Ready.ensures.slots m named ss knows) in
-    c.copy_pages.ensures.bytes m named after.bytes ss after.known after.stored slots.0 slots.1
-
-pub returns-clause-unmoved : goal.returns-clause-unmoved
-returns-clause-unmoved g c = λ other. absurd (other refl)
-
-pub returns-clause-here : goal.returns-clause-here
-returns-clause-here g c = λ done.
-    let self = c.look_ahead.new.self in
-    let here = at_ready (λ i j. IsHere (kept self) (state self).slots (last_page c.args.address (length c.args.into.now))) c.in-Ok-Ready.field-0 c.in-Ok-Ready.first c.in-Ok-Ready.last c.in-Ok-Ready.field-0-is c.in-Ok-Ready.ensures.here in
-    rw c.copy_pages.ensures.same here
-
-pub returns-clause-same : goal.returns-clause-same
-returns-clause-same g c = λ m named ss knows. rw c.copy_pages.ensures.same (c.in-Ok-Ready.ensures.same m named ss knows)
+pub returns-clause-stays : goal.returns-clause-stays
+returns-clause-stays g c = rw c.copy_pages.ensures.same c.look_ahead.ensures.stays
 
 pub returns-clause-idle : goal.returns-clause-idle
 returns-clause-idle g c = λ first last apart.
@@ -89,17 +86,10 @@ returns-clause-idle g c = λ first last apart.
 
 -- ---- The tables are revealed.
 
-pub returns-clause-sees : goal.returns-clause-sees
-returns-clause-sees g c = λ ss s. rw c.copy_pages.ensures.same (c.in-Ok-Ready.ensures.sees ss s)
-
-pub returns-in-Err-clause-right : goal.returns-in-Err-clause-right
-returns-in-Err-clause-right g c = λ ss s.
-    let v = state c.args.self.now in
-    let w = state c.look_ahead.new.self in
-    let n = length c.args.into.now in
-    reference_never_blames s c.args.self.now.some w c.in-Err.halt c.args.address n (touch_of_reach (BreaksFor v c.args.self.now.intervals c.args.address n) v w c.in-Err.halt c.in-Err.ensures.cause)
+pub returns-in-Err-clause-fails : goal.returns-in-Err-clause-fails
+returns-in-Err-clause-fails g c = failed_on c.in-Err.halt c.in-Err.ensures.fails
 
 -- ---- Which pages stay.
 
-pub returns-clause-stay : goal.returns-clause-stay
-returns-clause-stay g c = rw c.copy_pages.ensures.same c.look_ahead.ensures.stay
+pub returns-clause-brings : goal.returns-clause-brings
+returns-clause-brings g c = rw c.copy_pages.ensures.same c.look_ahead.ensures.brings

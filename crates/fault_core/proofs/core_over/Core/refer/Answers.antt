@@ -1,53 +1,65 @@
-use Rattle.std.proofs.Common.{◌≡◌, ◌/◌, ◌∙◌, sym, subst, refl, arith, Option}
+use Rattle.std.proofs.Common.{rules, ◌≡◌, ◌/◌, ◌∙◌, sym, subst, refl, arith, Option}
 use Rattle.std.specs.Prelude.{IfSome, None}
 use Rattle.flat_machine.specs.At.{shown_at}
 use Rattle.swap_units.specs.declared.interval.Interval.{Interval}
 use Rattle.space_tables.specs.SpaceTables.{IsIntervalAt}
-use Rattle.swapper_kernel.specs.HaltLaws.{brings_then}
 use Rattle.fault_core.specs.Access.{last_page, outcome, BreaksFor}
-use Rattle.fault_core.specs.Core.{kept, state}
+use Rattle.fault_core.specs.Core.{core_view, kept, state}
 use Rattle.fault_core.specs.Kept.{IsKept, AreApart}
 use Rattle.fault_core.specs.Revealed.{BreaksTables}
 use Rattle.fault_core.specs.Unit.{IsReady, IsWhole}
 use Rattle.fault_core.proofs.AccessLemmas.{no_map_first, no_map_last, access_shown, breaks_first, breaks_last, breaks_before, shown_some, shows_of, some_shows, at_of}
-use Rattle.fault_core.proofs.ReachLemmas.{reaches_itself, reaches_then, halts_before}
+use Rattle.fault_core.proofs.ReachLemmas.{reaches_itself, halts_before}
 use Rattle.fault_core.proofs.ShowLemmas.{shown_is}
 use Rattle.fault_core.proofs.RevealedLemmas.{interval_of}
 use Rattle.fault_core.proofs.LackLemmas.{seen_at}
-use Rattle.fault_core.proofs.RoomLemmas.{room_then}
-use Rattle.fault_core.proofs.YieldLemmas.{yield_then}
+use Rattle.fault_core.proofs.OutcomeLemmas.{alone_then, failed_after, stays_itself, stays_then}
 use Rattle.fault_core.proofs.core_over.Core.refer.Goals as goal
 use Rattle.filer_kernel.specs.View.{accepted}
 
 -- ---- The first page.
 
-pub returns-in-Ok-None-clause-access : goal.returns-in-Ok-None-clause-access
-returns-in-Ok-None-clause-access g c = λ m named ss knows.
-    no_map_first ss c.args.writes c.args.address c.args.count ((c.in-Ok-None.ensures.none m named ss knows).0 c.in-Ok-None.field-0-is)
+pub returns-in-Ok-None-clause-comes : goal.returns-in-Ok-None-clause-comes
+returns-in-Ok-None-clause-comes g c = record {
+  form = search rules;
+  one = search rules;
+  is_kept = search rules;
+  access = λ m named ss knows.
+      no_map_first ss c.args.writes c.args.address c.args.count ((c.in-Ok-None.ensures.comes.none m named ss knows).0 c.in-Ok-None.field-0-is);
+  intervals_at = search rules;
+  seen = search rules;
+}
 
-pub returns-in-Err-clause-cause : goal.returns-in-Err-clause-cause
-returns-in-Err-clause-cause g c =
-    let v = state c.args.self.now in
+pub returns-in-Err-clause-fails : goal.returns-in-Err-clause-fails
+returns-in-Err-clause-fails g c =
+    let v = (state c.args.self.now) in
     let w = state c.shown.new.self in
-    halts_before v v (accepted c.args.self.now.filer) (reaches_itself v) (BreaksTables v c.args.self.now.intervals (c.args.address / 512)) (BreaksFor v c.args.self.now.intervals c.args.address c.args.count)
-    (breaks_first v c.args.self.now.intervals c.args.address c.args.count) w w (omega arith) c.in-Err.halt c.in-Err.ensures.cause
+    failed_after (stays_itself (core_view c.args.self.now))
+    (halts_before v v (accepted c.args.self.now.filer) (reaches_itself v) (BreaksTables v c.args.self.now.intervals (c.args.address / 512)) (BreaksFor v c.args.self.now.intervals c.args.address c.args.count) (breaks_first v c.args.self.now.intervals c.args.address c.args.count) w w (omega arith))
+    c.in-Err.halt c.in-Err.ensures.fails
 
 -- ---- It is shown, and no window shows the last page.
 
-pub returns-in-Ok-None-shown_last-clause-access : goal.returns-in-Ok-None-shown_last-clause-access
-returns-in-Ok-None-shown_last-clause-access g c = λ m named ss knows.
-    let x = c.in-Ok-Some.x in
-    let at = at_of ss c.in-Ok-Some.field-0 x (c.args.address / 512) c.in-Ok-Some.field-0-is (c.in-Ok-Some.ensures.interval m named ss knows) in
-    let shows = shows_of c.in-Ok-Some.field-0 x (c.args.address / 512) c.in-Ok-Some.field-0-is c.in-Ok-Some.ensures.form in
-    let none : shown_at ss (last_page c.args.address c.args.count) ≡ None = rw (← c.last_page-last.ensures) ((c.in-Ok-None-shown_last.ensures.none m named ss (c.in-Ok-Some.ensures.same m named ss knows)).0 c.in-Ok-None-shown_last.field-0-is) in
-    rw c.last_page-last.ensures (no_map_last ss c.args.writes c.args.address c.args.count _ (shown_is knows.tables x (interval_of ss (c.args.address / 512) x at) (c.args.address / 512) shows.holds shows.mapped) none)
+pub returns-in-Ok-None-shown_last-clause-comes : goal.returns-in-Ok-None-shown_last-clause-comes
+returns-in-Ok-None-shown_last-clause-comes g c = record {
+  form = search rules;
+  one = search rules;
+  is_kept = search rules;
+  access = λ m named ss knows.
+      let x = c.in-Ok-Some.x in
+      let at = at_of ss c.in-Ok-Some.field-0 x (c.args.address / 512) c.in-Ok-Some.field-0-is (c.in-Ok-Some.ensures.comes.interval m named ss knows) in
+      let shows = shows_of c.in-Ok-Some.field-0 x (c.args.address / 512) c.in-Ok-Some.field-0-is c.in-Ok-Some.ensures.comes.form in
+      let none : shown_at ss (last_page c.args.address c.args.count) ≡ None = rw (← c.last_page-last.ensures) ((c.in-Ok-None-shown_last.ensures.comes.none m named ss (c.in-Ok-Some.ensures.stays.same m named ss knows)).0 c.in-Ok-None-shown_last.field-0-is) in
+      rw c.last_page-last.ensures (no_map_last ss c.args.writes c.args.address c.args.count _ (shown_is knows.tables x (interval_of ss (c.args.address / 512) x at) (c.args.address / 512) shows.holds shows.mapped) none);
+  intervals_at = search rules;
+  seen = search rules;
+}
 
-pub returns-in-Ok-None-shown_last-clause-same : goal.returns-in-Ok-None-shown_last-clause-same
-returns-in-Ok-None-shown_last-clause-same g c = λ m named ss knows. c.in-Ok-None-shown_last.ensures.same m named ss (c.in-Ok-Some.ensures.same m named ss knows)
+pub returns-in-Ok-None-shown_last-clause-stays : goal.returns-in-Ok-None-shown_last-clause-stays
+returns-in-Ok-None-shown_last-clause-stays g c = stays_then c.shown.ensures.stays c.shown_last.ensures.stays
 
-pub returns-in-Ok-None-shown_last-clause-reaches : goal.returns-in-Ok-None-shown_last-clause-reaches
-returns-in-Ok-None-shown_last-clause-reaches g c =
-    reaches_then (state c.args.self.now) (state c.shown.new.self) (accepted c.args.self.now.filer) c.shown.ensures.reaches (state c.shown_last.new.self) c.shown_last.ensures.reaches
+pub returns-in-Ok-None-shown_last-clause-brings : goal.returns-in-Ok-None-shown_last-clause-brings
+returns-in-Ok-None-shown_last-clause-brings g c = alone_then (state c.args.self.now) (state c.shown.new.self) (state c.shown_last.new.self) (accepted c.args.self.now.filer) c.shown.ensures.brings c.shown_last.ensures.brings
 
 pub returns-in-Ok-None-shown_last-clause-idle : goal.returns-in-Ok-None-shown_last-clause-idle
 returns-in-Ok-None-shown_last-clause-idle g c = λ first last apart.
@@ -58,26 +70,23 @@ returns-in-Ok-None-shown_last-clause-idle g c = λ first last apart.
 
 -- ---- The last page could not be described.
 
-pub returns-in-Err-shown_last-clause-cause : goal.returns-in-Err-shown_last-clause-cause
-returns-in-Err-shown_last-clause-cause g c =
-    let v = state c.args.self.now in
+pub returns-in-Err-shown_last-clause-fails : goal.returns-in-Err-shown_last-clause-fails
+returns-in-Err-shown_last-clause-fails g c =
+    let v = (state c.args.self.now) in
     let w = state c.shown.new.self in
     let x = state c.shown_last.new.self in
     let last = c.last_page-last.result in
-    halts_before v w (accepted c.args.self.now.filer) c.shown.ensures.reaches (BreaksTables w c.shown.new.self.intervals last) (BreaksFor v c.args.self.now.intervals c.args.address c.args.count)
+    failed_after c.shown.ensures.stays
+    (halts_before v w (accepted c.args.self.now.filer) c.shown.ensures.brings.reaches (BreaksTables w c.shown.new.self.intervals last) (BreaksFor v c.args.self.now.intervals c.args.address c.args.count)
     (λ page broken. breaks_last v c.args.self.now.intervals c.args.address c.args.count page
-    (rw (← c.last_page-last.ensures) (breaks_before v w c.shown.ensures.reaches c.args.self.now.intervals c.shown.new.self.intervals last page c.shown.ensures.intervals broken)))
-    x x (omega arith) c.in-Err-shown_last.halt c.in-Err-shown_last.ensures.cause
+    (rw (← c.last_page-last.ensures) (breaks_before v w c.shown.ensures.brings.reaches c.args.self.now.intervals c.shown.new.self.intervals last page c.shown.ensures.stays.intervals broken)))
+    x x (omega arith)) c.in-Err-shown_last.halt c.in-Err-shown_last.ensures.fails
 
-pub returns-in-Err-shown_last-clause-sound : goal.returns-in-Err-shown_last-clause-sound
-returns-in-Err-shown_last-clause-sound g c = λ m named ss knows. c.in-Err-shown_last.ensures.sound m named ss (c.in-Ok-Some.ensures.same m named ss knows)
+pub returns-in-Err-shown_last-clause-stays : goal.returns-in-Err-shown_last-clause-stays
+returns-in-Err-shown_last-clause-stays g c = stays_then c.shown.ensures.stays c.shown_last.ensures.stays
 
-pub returns-in-Err-shown_last-clause-same : goal.returns-in-Err-shown_last-clause-same
-returns-in-Err-shown_last-clause-same g c = λ m named ss knows. c.in-Err-shown_last.ensures.same m named ss (c.in-Ok-Some.ensures.same m named ss knows)
-
-pub returns-in-Err-shown_last-clause-reaches : goal.returns-in-Err-shown_last-clause-reaches
-returns-in-Err-shown_last-clause-reaches g c =
-    reaches_then (state c.args.self.now) (state c.shown.new.self) (accepted c.args.self.now.filer) c.shown.ensures.reaches (state c.shown_last.new.self) c.shown_last.ensures.reaches
+pub returns-in-Err-shown_last-clause-brings : goal.returns-in-Err-shown_last-clause-brings
+returns-in-Err-shown_last-clause-brings g c = alone_then (state c.args.self.now) (state c.shown.new.self) (state c.shown_last.new.self) (accepted c.args.self.now.filer) c.shown.ensures.brings c.shown_last.ensures.brings
 
 pub returns-in-Err-shown_last-clause-idle : goal.returns-in-Err-shown_last-clause-idle
 returns-in-Err-shown_last-clause-idle g c = λ first last apart.
@@ -88,40 +97,49 @@ returns-in-Err-shown_last-clause-idle g c = λ first last apart.
 
 -- ---- Both are shown.
 
-pub returns-clause-is_kept : goal.returns-clause-is_kept
-returns-clause-is_kept g c =
-    shown_some (λ x y. IsKept (kept c.shown_last.new.self) y) c.allowed.result c.in-Ok-Some.x c.in-Ok-Some-shown_last.y c.allowed.ensures.shown
-    (subst (λ (o : Option Interval). IfSome o (IsKept (kept c.shown_last.new.self))) c.in-Ok-Some-shown_last.field-0-is c.in-Ok-Some-shown_last.ensures.is_kept)
+pub returns-clause-comes : goal.returns-clause-comes
+returns-clause-comes g c = record {
+  form = search rules;
+  one = search rules;
+  is_kept =
+      shown_some (λ x y. IsKept (kept c.shown_last.new.self) y) c.allowed.result c.in-Ok-Some.x c.in-Ok-Some-shown_last.y c.allowed.ensures.shown
+      (subst (λ (o : Option Interval). IfSome o (IsKept (kept c.shown_last.new.self))) c.in-Ok-Some-shown_last.field-0-is c.in-Ok-Some-shown_last.ensures.comes.is_kept);
+  access = λ m named ss knows.
+      let x = c.in-Ok-Some.x in
+      let y = c.in-Ok-Some-shown_last.y in
+      let last = c.last_page-last.result in
+      let x_at = at_of ss c.in-Ok-Some.field-0 x (c.args.address / 512) c.in-Ok-Some.field-0-is (c.in-Ok-Some.ensures.comes.interval m named ss knows) in
+      let y_at = at_of ss c.in-Ok-Some-shown_last.field-0 y last c.in-Ok-Some-shown_last.field-0-is (c.in-Ok-Some-shown_last.ensures.comes.interval m named ss (c.in-Ok-Some.ensures.stays.same m named ss knows)) in
+      let x_shows = shows_of c.in-Ok-Some.field-0 x (c.args.address / 512) c.in-Ok-Some.field-0-is c.in-Ok-Some.ensures.comes.form in
+      let y_shows = some_shows c.in-Ok-Some-shown_last.field-0 y last c.in-Ok-Some-shown_last.field-0-is c.in-Ok-Some-shown_last.ensures.comes.form in
+      access_shown ss c.args.writes c.args.address c.args.count knows.tables x y (interval_of ss (c.args.address / 512) x x_at) (interval_of ss last y y_at) x_shows (rw (← c.last_page-last.ensures) y_shows) (outcome c.allowed.result) c.allowed.ensures.access;
+  intervals_at = λ m named ss knows.
+      let x = c.in-Ok-Some.x in
+      let y = c.in-Ok-Some-shown_last.y in
+      let last = c.last_page-last.result in
+      let x_at = at_of ss c.in-Ok-Some.field-0 x (c.args.address / 512) c.in-Ok-Some.field-0-is (c.in-Ok-Some.ensures.comes.interval m named ss knows) in
+      let y_at = at_of ss c.in-Ok-Some-shown_last.field-0 y last c.in-Ok-Some-shown_last.field-0-is (c.in-Ok-Some-shown_last.ensures.comes.interval m named ss (c.in-Ok-Some.ensures.stays.same m named ss knows)) in
+      shown_some (λ x y. IsIntervalAt ss (c.args.address / 512) x × IsIntervalAt ss (last_page c.args.address c.args.count) y) c.allowed.result x y c.allowed.ensures.shown (x_at, rw (← c.last_page-last.ensures) y_at);
+  seen = λ ss s.
+      let x = c.in-Ok-Some.x in
+      let y = c.in-Ok-Some-shown_last.y in
+      let last = c.last_page-last.result in
+      let mid = c.in-Ok-Some.ensures.stays.sees ss s in
+      let after = c.in-Ok-Some-shown_last.ensures.stays.sees ss mid in
+      let x_kept = subst (λ (o : Option Interval). IfSome o (IsKept (kept c.shown.new.self))) c.in-Ok-Some.field-0-is c.in-Ok-Some.ensures.comes.is_kept in
+      let y_kept = subst (λ (o : Option Interval). IfSome o (IsKept (kept c.shown_last.new.self))) c.in-Ok-Some-shown_last.field-0-is c.in-Ok-Some-shown_last.ensures.comes.is_kept in
+      let x_shows = shows_of c.in-Ok-Some.field-0 x (c.args.address / 512) c.in-Ok-Some.field-0-is c.in-Ok-Some.ensures.comes.form in
+      let y_shows = some_shows c.in-Ok-Some-shown_last.field-0 y last c.in-Ok-Some-shown_last.field-0-is c.in-Ok-Some-shown_last.ensures.comes.form in
+      let x_at = seen_at mid x (c.args.address / 512) x_kept x_shows in
+      let y_at = seen_at after y last y_kept y_shows in
+      shown_some (λ x y. IsIntervalAt ss (c.args.address / 512) x × IsIntervalAt ss (last_page c.args.address c.args.count) y) c.allowed.result x y c.allowed.ensures.shown (x_at, rw (← c.last_page-last.ensures) y_at);
+}
 
-pub returns-clause-access : goal.returns-clause-access
-returns-clause-access g c = λ m named ss knows.
-    let x = c.in-Ok-Some.x in
-    let y = c.in-Ok-Some-shown_last.y in
-    let last = c.last_page-last.result in
-    let x_at = at_of ss c.in-Ok-Some.field-0 x (c.args.address / 512) c.in-Ok-Some.field-0-is (c.in-Ok-Some.ensures.interval m named ss knows) in
-    let y_at = at_of ss c.in-Ok-Some-shown_last.field-0 y last c.in-Ok-Some-shown_last.field-0-is (c.in-Ok-Some-shown_last.ensures.interval m named ss (c.in-Ok-Some.ensures.same m named ss knows)) in
-    let x_shows = shows_of c.in-Ok-Some.field-0 x (c.args.address / 512) c.in-Ok-Some.field-0-is c.in-Ok-Some.ensures.form in
-    let y_shows = some_shows c.in-Ok-Some-shown_last.field-0 y last c.in-Ok-Some-shown_last.field-0-is c.in-Ok-Some-shown_last.ensures.form in
-    access_shown ss c.args.writes c.args.address c.args.count knows.tables x y (interval_of ss (c.args.address / 512) x x_at) (interval_of ss last y y_at) x_shows (rw (← c.last_page-last.ensures) y_shows) (outcome c.allowed.result) c.allowed.ensures.access
+pub returns-clause-stays : goal.returns-clause-stays
+returns-clause-stays g c = stays_then c.shown.ensures.stays c.shown_last.ensures.stays
 
-pub returns-clause-intervals_at : goal.returns-clause-intervals_at
-returns-clause-intervals_at g c = λ m named ss knows.
-    let x = c.in-Ok-Some.x in
-    let y = c.in-Ok-Some-shown_last.y in
-    let last = c.last_page-last.result in
-    let x_at = at_of ss c.in-Ok-Some.field-0 x (c.args.address / 512) c.in-Ok-Some.field-0-is (c.in-Ok-Some.ensures.interval m named ss knows) in
-    let y_at = at_of ss c.in-Ok-Some-shown_last.field-0 y last c.in-Ok-Some-shown_last.field-0-is (c.in-Ok-Some-shown_last.ensures.interval m named ss (c.in-Ok-Some.ensures.same m named ss knows)) in
-    shown_some (λ x y. IsIntervalAt ss (c.args.address / 512) x × IsIntervalAt ss (last_page c.args.address c.args.count) y) c.allowed.result x y c.allowed.ensures.shown (x_at, rw (← c.last_page-last.ensures) y_at)
-
-pub returns-clause-same : goal.returns-clause-same
-returns-clause-same g c = λ m named ss knows. c.in-Ok-Some-shown_last.ensures.same m named ss (c.in-Ok-Some.ensures.same m named ss knows)
-
-pub returns-clause-reaches : goal.returns-clause-reaches
-returns-clause-reaches g c =
-    reaches_then (state c.args.self.now) (state c.shown.new.self) (accepted c.args.self.now.filer) c.shown.ensures.reaches (state c.shown_last.new.self) c.shown_last.ensures.reaches
-
-pub returns-clause-came : goal.returns-clause-came
-returns-clause-came g c = brings_then c.shown.ensures.came c.shown_last.ensures.came
+pub returns-clause-brings : goal.returns-clause-brings
+returns-clause-brings g c = alone_then (state c.args.self.now) (state c.shown.new.self) (state c.shown_last.new.self) (accepted c.args.self.now.filer) c.shown.ensures.brings c.shown_last.ensures.brings
 
 pub returns-clause-idle : goal.returns-clause-idle
 returns-clause-idle g c = λ first last apart.
@@ -139,61 +157,3 @@ returns-clause-idle g c = λ first last apart.
       two.2 ∙ one.2,
       two.3 ∙ one.3,
     )
-
--- ---- The tables are revealed.
-
-pub returns-in-Ok-None-shown_last-clause-sees : goal.returns-in-Ok-None-shown_last-clause-sees
-returns-in-Ok-None-shown_last-clause-sees g c = λ ss s. c.in-Ok-None-shown_last.ensures.sees ss (c.in-Ok-Some.ensures.sees ss s)
-
-pub returns-in-Err-shown_last-clause-sees : goal.returns-in-Err-shown_last-clause-sees
-returns-in-Err-shown_last-clause-sees g c = λ ss s. c.in-Err-shown_last.ensures.sees ss (c.in-Ok-Some.ensures.sees ss s)
-
-pub returns-clause-sees : goal.returns-clause-sees
-returns-clause-sees g c = λ ss s. c.in-Ok-Some-shown_last.ensures.sees ss (c.in-Ok-Some.ensures.sees ss s)
-
-pub returns-clause-seen : goal.returns-clause-seen
-returns-clause-seen g c = λ ss s.
-    let x = c.in-Ok-Some.x in
-    let y = c.in-Ok-Some-shown_last.y in
-    let last = c.last_page-last.result in
-    let mid = c.in-Ok-Some.ensures.sees ss s in
-    let after = c.in-Ok-Some-shown_last.ensures.sees ss mid in
-    let x_kept = subst (λ (o : Option Interval). IfSome o (IsKept (kept c.shown.new.self))) c.in-Ok-Some.field-0-is c.in-Ok-Some.ensures.is_kept in
-    let y_kept = subst (λ (o : Option Interval). IfSome o (IsKept (kept c.shown_last.new.self))) c.in-Ok-Some-shown_last.field-0-is c.in-Ok-Some-shown_last.ensures.is_kept in
-    let x_shows = shows_of c.in-Ok-Some.field-0 x (c.args.address / 512) c.in-Ok-Some.field-0-is c.in-Ok-Some.ensures.form in
-    let y_shows = some_shows c.in-Ok-Some-shown_last.field-0 y last c.in-Ok-Some-shown_last.field-0-is c.in-Ok-Some-shown_last.ensures.form in
-    let x_at = seen_at mid x (c.args.address / 512) x_kept x_shows in
-    let y_at = seen_at after y last y_kept y_shows in
-    shown_some (λ x y. IsIntervalAt ss (c.args.address / 512) x × IsIntervalAt ss (last_page c.args.address c.args.count) y) c.allowed.result x y c.allowed.ensures.shown (x_at, rw (← c.last_page-last.ensures) y_at)
-
--- ---- Which pages stay.
-
-pub returns-in-Ok-None-clause-room : goal.returns-in-Ok-None-clause-room
-returns-in-Ok-None-clause-room g c = c.shown.ensures.room
-
-pub returns-in-Ok-None-clause-stay : goal.returns-in-Ok-None-clause-stay
-returns-in-Ok-None-clause-stay g c = c.shown.ensures.stay
-
-pub returns-in-Err-clause-room : goal.returns-in-Err-clause-room
-returns-in-Err-clause-room g c = c.shown.ensures.room
-
-pub returns-in-Err-clause-stay : goal.returns-in-Err-clause-stay
-returns-in-Err-clause-stay g c = c.shown.ensures.stay
-
-pub returns-in-Ok-None-shown_last-clause-room : goal.returns-in-Ok-None-shown_last-clause-room
-returns-in-Ok-None-shown_last-clause-room g c = room_then c.shown.ensures.room c.shown_last.ensures.room
-
-pub returns-in-Ok-None-shown_last-clause-stay : goal.returns-in-Ok-None-shown_last-clause-stay
-returns-in-Ok-None-shown_last-clause-stay g c = yield_then c.shown.ensures.stay c.shown_last.ensures.stay
-
-pub returns-in-Err-shown_last-clause-room : goal.returns-in-Err-shown_last-clause-room
-returns-in-Err-shown_last-clause-room g c = room_then c.shown.ensures.room c.shown_last.ensures.room
-
-pub returns-in-Err-shown_last-clause-stay : goal.returns-in-Err-shown_last-clause-stay
-returns-in-Err-shown_last-clause-stay g c = yield_then c.shown.ensures.stay c.shown_last.ensures.stay
-
-pub returns-clause-room : goal.returns-clause-room
-returns-clause-room g c = room_then c.shown.ensures.room c.shown_last.ensures.room
-
-pub returns-clause-stay : goal.returns-clause-stay
-returns-clause-stay g c = yield_then c.shown.ensures.stay c.shown_last.ensures.stay

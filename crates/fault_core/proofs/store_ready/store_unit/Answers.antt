@@ -1,0 +1,81 @@
+use Rattle.std.proofs.Common.{rules, ◌≡◌, ◌∙◌, ◌/◌, ◌≤◌, true, refl, sym, arith}
+use Rattle.descriptor_cache.specs.Cache.{kept_in}
+use Rattle.filer_kernel.specs.View.{view_of}
+use Rattle.fault_core.proofs.KeptLemmas.{looked}
+use Rattle.fault_core.proofs.RowLemmas.{ends_below, here_of}
+use Rattle.fault_core.proofs.StoreReadyLemmas.{stored_none}
+use Rattle.fault_core.proofs.UnitLemmas.{own_unit}
+use Rattle.fault_core.proofs.store_ready.store_unit.Goals as goal
+
+pub unit_run-run-requires-clause-formed : goal.unit_run-run-requires-clause-formed
+unit_run-run-requires-clause-formed g c = (looked (kept_in c.args.kept.now) (c.args.address / 512) c.in-Some.x c.requires.formed (sym c.look.ensures.found ∙ c.in-Some.is)).formed
+
+pub unit_run-run-requires-clause-holds : goal.unit_run-run-requires-clause-holds
+unit_run-run-requires-clause-holds g c = (looked (kept_in c.args.kept.now) (c.args.address / 512) c.in-Some.x c.requires.formed (sym c.look.ensures.found ∙ c.in-Some.is)).holds
+
+pub overflow_sub-page : goal.overflow_sub-page
+overflow_sub-page g c = (looked (kept_in c.args.kept.now) (c.args.address / 512) c.in-Some.x c.requires.formed (sym c.look.ensures.found ∙ c.in-Some.is)).holds.0
+
+pub overflow_add-x : goal.overflow_add-x
+overflow_add-x g c =
+    let own = looked (kept_in c.args.kept.now) (c.args.address / 512) c.in-Some.x c.requires.formed (sym c.look.ensures.found ∙ c.in-Some.is) in
+    let lets : c.lets.result ≡ true = search rules in
+    let holds = own.holds in
+    let fits = (own.formed.shows (c.lets.ensures.mapped lets)).1 in
+    omega (arith, holds, fits)
+
+-- the page of the file is one of the unit's
+pub bytes_left-requires-clause-among : goal.bytes_left-requires-clause-among
+bytes_left-requires-clause-among g c =
+    let own = looked (kept_in c.args.kept.now) (c.args.address / 512) c.in-Some.x c.requires.formed (sym c.look.ensures.found ∙ c.in-Some.is) in
+    let at = c.unit_run-run.ensures.all (c.args.address / 512) (own_unit c.in-Some.x (c.args.address / 512) own.holds) in
+    (omega (arith, at.1, at.2), omega (arith, at.1, at.2))
+
+pub store_parts-requires-clause-formed : goal.store_parts-requires-clause-formed
+store_parts-requires-clause-formed g c = (looked (kept_in c.args.kept.now) (c.args.address / 512) c.in-Some.x c.requires.formed (sym c.look.ensures.found ∙ c.in-Some.is)).formed
+
+pub store_parts-requires-clause-allowed : goal.store_parts-requires-clause-allowed
+store_parts-requires-clause-allowed g c =
+    let lets : c.lets.result ≡ true = search rules in
+    c.lets.ensures.allowed lets refl
+
+-- the unit is resident, so all of these pages are
+pub store_parts-requires-clause-here : goal.store_parts-requires-clause-here
+store_parts-requires-clause-here g c =
+    let own = looked (kept_in c.args.kept.now) (c.args.address / 512) c.in-Some.x c.requires.formed (sym c.look.ensures.found ∙ c.in-Some.is) in
+    let there : c.is_there.result ≡ true = search rules in
+    let few : c.min-count.result ≤ c.bytes_left.result = search rules in
+    rw c.is_there.ensures.same
+    (here_of c.in-Some.x (c.args.address / 512) c.unit_run-run.result c.unit_run-run.ensures own.holds c.args.address c.min-count.result c.bytes_left.result refl c.bytes_left.ensures few (view_of c.args.filer.now).slots (c.is_there.ensures.there.0 there))
+
+pub store_parts-requires-clause-below : goal.store_parts-requires-clause-below
+store_parts-requires-clause-below g c =
+    let own = looked (kept_in c.args.kept.now) (c.args.address / 512) c.in-Some.x c.requires.formed (sym c.look.ensures.found ∙ c.in-Some.is) in
+    let few : c.min-count.result ≤ c.bytes_left.result = search rules in
+    ends_below c.in-Some.x (c.args.address / 512) c.unit_run-run.result c.unit_run-run.ensures own.holds c.args.address c.min-count.result c.bytes_left.result refl c.bytes_left.ensures few own.formed
+
+-- ---- Nothing was stored.
+
+pub returns-in_default-clause-stored : goal.returns-in_default-clause-stored
+returns-in_default-clause-stored g c = stored_none (kept_in c.args.kept.now) c.args.address c.args.bytes.now (view_of c.args.filer.now)
+
+pub returns-then-not-lets-clause-stored : goal.returns-then-not-lets-clause-stored
+returns-then-not-lets-clause-stored g c = stored_none (kept_in c.args.kept.now) c.args.address c.args.bytes.now (view_of c.args.filer.now)
+
+pub returns-then-not-is_there-clause-stored : goal.returns-then-not-is_there-clause-stored
+returns-then-not-is_there-clause-stored g c =
+    rw c.is_there.ensures.same (stored_none (kept_in c.args.kept.now) c.args.address c.args.bytes.now (view_of c.args.filer.now))
+
+-- ---- Or what is of the unit.
+
+pub returns-clause-stored : goal.returns-clause-stored
+returns-clause-stored g c =
+    let own = looked (kept_in c.args.kept.now) (c.args.address / 512) c.in-Some.x c.requires.formed (sym c.look.ensures.found ∙ c.in-Some.is) in
+    (rw c.is_there.ensures.same at c.store_parts.ensures.stored) (kept_in c.args.kept.now) own.kept
+
+pub returns-clause-left : goal.returns-clause-left
+returns-clause-left g c = λ none.
+    let own = looked (kept_in c.args.kept.now) (c.args.address / 512) c.in-Some.x c.requires.formed (sym c.look.ensures.found ∙ c.in-Some.is) in
+    let at = c.unit_run-run.ensures.all (c.args.address / 512) (own_unit c.in-Some.x (c.args.address / 512) own.holds) in
+    let left = c.bytes_left.ensures in
+    absurd (omega (arith, none, left, at.1, at.2, c.requires.some))
