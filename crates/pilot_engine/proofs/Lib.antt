@@ -44,6 +44,7 @@ pub mod SettledWider
 pub mod AnonymousLemmas
 pub mod NewWindow
 pub mod OwnLemmas
+pub mod WritingLemmas
 pub mod LabelLemmas
 pub mod ShutLemmas
 pub mod ShutBySyncLemmas
@@ -65,3 +66,4 @@ mod QuietLemmas
 mod TryLemmas
 mod TriedLemmas
 mod SteppedLemmas
+mod StoreReadyLemmas

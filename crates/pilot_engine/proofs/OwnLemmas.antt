@@ -1,7 +1,6 @@
--- The labels that a call on a file writes over are those of that file.
-use Rattle.std.proofs.Common.{◌≡◌, ◌⊎◌, inl, inr, ℕ, Bool, true, false, List, Some, None, Result, Ok, Err, refl, sym, ◌∙◌, subst}
+-- The syncs around the labels that calls write over leaders of permanent files.
+use Rattle.std.proofs.Common.{◌≡◌, inl, inr, Bool, true, false, List, Result, Ok, Err, refl, sym, ◌∙◌}
 use Rattle.std.proofs.lemmas.Bool.{true≢false}
-use Rattle.std.proofs.lemmas.Option.{same_Some, none-some}
 use Rattle.labelled_disk.specs.declared.disk.DiskWrite.{DiskWrite}
 use Rattle.labelled_disk.specs.declared.evidence.Halt.{Halt}
 use Rattle.labelled_disk.specs.State.{DiskState}
@@ -10,39 +9,10 @@ use Rattle.swapper_kernel.specs.Goes.{Makes, Pages}
 use Rattle.label_calls.specs.declared.page.Mark.{Mark}
 use Rattle.flat_machine.specs.declared.call.Call.{Call}
 use Rattle.flat_machine.specs.declared.call.Call.TheVariants as call
-use Rattle.label_calls.specs.Own.{RelabelsOwn}
 use Rattle.label_calls.specs.Synced.{SyncsAround, SyncsLeaders}
 use Rattle.label_calls.specs.SyncedLaws.{WroteSynced, around_after, wrote_synced}
 use Rattle.file_manager.specs.Answer.{WritesMark}
-use Rattle.pilot_engine.specs.Stepping.{is_on_spaces, relabels, writes_leader}
-
--- a call on this file
-pub own_of : (c : Call) {of : ℕ} {a b : DiskState} → relabels c ≡ Some of → RelabelsOwn of a b → (id : ℕ) → relabels c ≡ Some id → RelabelsOwn id a b
-own_of c {of = of} {a = a} {b = b} is own id revealed = subst (λ (k : ℕ). RelabelsOwn k a b) (same_Some of id (sym is ∙ revealed)) own
-
--- one that gives no file another label
-pub own_none : (c : Call) {a b : DiskState} → relabels c ≡ None → (id : ℕ) → relabels c ≡ Some id → RelabelsOwn id a b
-own_none c is id revealed = absurd (none-some id (sym is ∙ revealed))
-
--- such are the calls on spaces
-pub none_relabelled : (c : Call) → is_on_spaces c ≡ true → relabels c ≡ None
-none_relabelled (call.MakeSpace parent pages first) revealed = refl
-none_relabelled (call.RemoveSpace space) revealed = refl
-none_relabelled (call.Place page) revealed = refl
-none_relabelled (call.Units space pages) revealed = refl
-none_relabelled (call.Map space id page writable) revealed = refl
-none_relabelled (call.MapAnonymous space) revealed = refl
-none_relabelled (call.Unmap space) revealed = refl
-none_relabelled (call.Protect space writable) revealed = refl
-none_relabelled (call.Load address count) revealed = refl
-none_relabelled (call.Store address bytes) revealed = refl
-none_relabelled (call.Activate space) revealed = refl
-none_relabelled (call.Deactivate space) revealed = refl
-none_relabelled (call.Kill space) revealed = refl
-none_relabelled (call.ForceOut space) revealed = refl
-none_relabelled other revealed = absurd (true≢false (sym revealed))
-
--- ---- The syncs around the leaders of permanent files.
+use Rattle.pilot_engine.specs.Stepping.{is_on_spaces, writes_leader}
 
 -- calls on spaces write no leader
 pub no_leader : (c : Call) → is_on_spaces c ≡ true → writes_leader c ≡ false

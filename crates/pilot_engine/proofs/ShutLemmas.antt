@@ -27,19 +27,24 @@ use Rattle.file_manager.proofs.RootForm.{root_in_form}
 use Rattle.running_words.specs.Session.{AreOpen, Wrote, WroteIn}
 use Rattle.running_words.proofs.FlagLemmas.{append_open, open_writes}
 use Rattle.pilot_engine.specs.Closing.{ShutLast, WroteAny, WroteOn, closed_root}
+use Rattle.pilot_engine.specs.Writing.{EndMay, FreeMay, Written}
+use Rattle.pilot_engine.proofs.WroteLemmas.{wrote_nothing}
+use Rattle.pilot_engine.proofs.WritingLemmas.{closes_end, frees_end, only_same, only_then}
 
 -- none of the writes of a call sets the clean flag
 pub writes_open : {pages : Pages} {a b : DiskState} {s t : Slots} (h : WroteIn pages a s b t) → AreOpen h.makes.wrote.writes
 writes_open h = open_writes h.makes.wrote.writes (subst AreOpen (sym h.makes.wrote.labels) h.opens)
 
-pub any_of : {a b : DiskState} {s t : Slots} → Wrote a s b t → WroteAny a s b t
-any_of h = record { labels = h.labels; makes = h.makes; shut = inl (writes_open h) }
+pub any_of : (root : Root) {a b : DiskState} {s t : Slots} → Wrote a s b t → Written FreeMay a b → WroteAny root a s b t
+any_of root h frees = record { labels = h.labels; makes = h.makes; shut = inl (writes_open h); ends = frees_end root frees }
 
-pub wrote_on : {a b : DiskState} {s t : Slots} → Wrote a s b t → WroteOn s a b
-wrote_on h = record { labels = h.labels; went = h.makes.went; wrote = h.makes.wrote; shut = inl (writes_open h) }
+pub nothing_on : (root : Root) (disk : DiskState) (slots : Slots) → WroteOn root slots disk disk
+nothing_on root disk slots =
+    let none = wrote_nothing disk slots in
+    record { labels = none.labels; went = none.makes.went; wrote = none.makes.wrote; shut = inl (writes_open none); ends = only_same (EndMay root) (record { contents = refl; writes = refl }) }
 
-pub on_of : {a b : DiskState} {s t : Slots} → WroteAny a s b t → WroteOn s a b
-on_of h = record { labels = h.labels; went = h.makes.went; wrote = h.makes.wrote; shut = h.shut }
+pub on_of : {root : Root} {a b : DiskState} {s t : Slots} → WroteAny root a s b t → WroteOn root s a b
+on_of h = record { labels = h.labels; went = h.makes.went; wrote = h.makes.wrote; shut = h.shut; ends = h.ends }
 
 -- an element of two lists in a row
 get_append : {X : Type 0} (xs ys : List X) (k : ℕ) (x : X) → slice_get (xs ++ ys) k ≡ Some x
@@ -90,16 +95,17 @@ shut_after ws more opens (inr (earlier, root, is, others)) =
     inr (ws ++ earlier, root, ap (λ (l : List DiskWrite). ws ++ l) is ∙ sym (append_assoc ws earlier (root_write (closed_root root) ∷ [])), append_open ws earlier opens others)
 
 -- calls of a session, and then the end of one
-pub shut_then : {a b c : DiskState} {s t u : Slots} → Wrote a s b t → WroteAny b t c u → WroteAny a s c u
-shut_then h k = record {
+pub shut_then : {root : Root} {a b c : DiskState} {s t u : Slots} → Wrote a s b t → Written FreeMay a b → WroteAny root b t c u → WroteAny root a s c u
+shut_then {root = root} h frees k = record {
   labels = h.labels ++ k.labels;
   makes = joined h.makes k.makes;
   shut = shut_after h.makes.wrote.writes k.makes.wrote.writes (writes_open h) k.shut;
+  ends = only_then (frees_end root frees) k.ends;
 }
 
 -- an end, and then nothing is written
-pub shut_still : {a b c : DiskState} {s t u : Slots} → WroteAny a s b t → RevealsSame b c → Wrote b t c u → WroteAny a s c u
-shut_still h same k = record {
+pub shut_still : {root : Root} {a b c : DiskState} {s t u : Slots} → WroteAny root a s b t → RevealsSame b c → Wrote b t c u → WroteAny root a s c u
+shut_still {root = root} h same k = record {
   labels = h.labels;
   makes = record {
     went = went_then h.makes.went k.makes.went;
@@ -115,7 +121,12 @@ shut_still h same k = record {
     count = k.makes.count ∙ h.makes.count;
   };
   shut = h.shut;
+  ends = only_then h.ends (only_same (EndMay root) same);
 }
+
+-- the same of a root that stayed
+pub any_root_is : {root now : Root} {a b : DiskState} {s t : Slots} → now ≡ root → WroteAny now a s b t → WroteAny root a s b t
+any_root_is {a = a} {b = b} {s = s} {t = t} same wrote = subst (λ (r : Root). WroteAny r a s b t) same wrote
 
 -- The root of the closed volume is written, and nothing else.
 module _ (old new : DiskState) (slots : Slots) (n : ℕ) (root : Root) (valid : IsValidRoot n (closed_root root)) (serial : root.serial < 2 ^ 32) (counter : root.counter < 2 ^ 32)
@@ -139,7 +150,7 @@ module _ (old new : DiskState) (slots : Slots) (n : ℕ) (root : Root) (valid : 
   of_none zero sector wanted bytes here = absurd (cc here)
   of_none (suc k) sector wanted bytes here = absurd (none-some (write.Page sector wanted bytes) here)
 
-  pub any_root : RevealsSame old new ⊎ RevealsWrite (root_write (closed_root root)) old new → WroteAny old slots new slots
+  pub any_root : RevealsSame old new ⊎ RevealsWrite (root_write (closed_root root)) old new → WroteAny root old slots new slots
   any_root (inl same) = record {
     labels = [];
     makes = record {
@@ -156,6 +167,7 @@ module _ (old new : DiskState) (slots : Slots) (n : ℕ) (root : Root) (valid : 
       count = refl;
     };
     shut = inl tt;
+    ends = closes_end root serial counter (inl same);
   }
   any_root (inr made) = record {
     labels = root_write (closed_root root) ∷ [];
@@ -173,4 +185,5 @@ module _ (old new : DiskState) (slots : Slots) (n : ℕ) (root : Root) (valid : 
       count = refl;
     };
     shut = inr ([], root, refl, tt);
+    ends = closes_end root serial counter (inr made);
   }

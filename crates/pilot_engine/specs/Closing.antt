@@ -30,6 +30,7 @@ use Rattle.session_words.specs.Volume.{volume_page}
 use Rattle.file_manager.specs.declared.volume.Volume.{Volume}
 use Rattle.running_words.specs.Bound.{room_above}
 use Rattle.running_words.specs.Session.{AreOpen, IsAlone}
+use Rattle.pilot_engine.specs.Writing.{EndMay, Written}
 
 -- Each crash state of the writes.
 
@@ -154,15 +155,18 @@ pub record ShutsBySync (old new : DiskState) : Type 0 where
   pub shut : AreOpen writes ⊎ ShutAfterSync writes old new
 
 -- over any contents: the writes of an end, whose last may set the clean flag, were permitted, each where it is made, and no page but
--- those of the volume's own became dirty
-pub record WroteAny (old : DiskState) (before : Slots) (new : DiskState) (after : Slots) : Type 0 where
+-- those of the volume's own became dirty. Labels were freed, and a root has the numbers of this one.
+pub record WroteAny (root : Root) (old : DiskState) (before : Slots) (new : DiskState) (after : Slots) : Type 0 where
   pub labels : List DiskWrite
   pub makes : Makes volume_page labels old before new after
   pub shut : ShutLast makes.wrote.writes
+  pub ends : Written (EndMay root) old new
 
--- over any contents: the same disk later, the writes were permitted, each where it is made, and none but the last sets the clean flag
-pub record WroteOn (before : Slots) (old new : DiskState) : Type 0 where
+-- over any contents: the same disk later, the writes were permitted, each where it is made, and none but the last sets the clean flag. Labels were
+-- freed, and a root has the numbers of this one.
+pub record WroteOn (root : Root) (before : Slots) (old new : DiskState) : Type 0 where
   pub labels : List DiskWrite
   pub went : Went old new
   pub wrote : Wrote volume_page labels old before new
   pub shut : ShutLast wrote.writes
+  pub ends : Written (EndMay root) old new

@@ -18,4 +18,6 @@ pub mod Rest
 pub mod Referring
 pub mod Calls
 pub mod Sparing
+pub mod Writing
 pub mod Showing
+pub mod StoreReady

@@ -7,7 +7,6 @@ use Rattle.labelled_disk.specs.declared.evidence.Halt.TheVariants as halt
 use Rattle.filer_kernel.specs.Evidence.{ShowsEvidence}
 use Rattle.filer_kernel.specs.Fails.{Fails}
 use Rattle.filer_kernel.specs.View.{View}
-use Rattle.label_calls.specs.Own.{RelabelsOwn}
 use Rattle.label_calls.specs.Synced.{SyncsLeaders}
 use Rattle.flat_machine.specs.declared.call.Call.{Call}
 use Rattle.flat_machine.specs.declared.call.Call.TheVariants as call
@@ -38,7 +37,8 @@ use Rattle.pilot_engine.specs.Advised.{IsAdvised}
 use Rattle.pilot_engine.specs.Calls.{SparesOthers, Stays}
 use Rattle.pilot_engine.specs.Labels.{WritesPagesAlone, keeps_labels}
 use Rattle.pilot_engine.specs.Reasons.{IsBlameless, SeesHome}
-use Rattle.pilot_engine.specs.Stepping.{StepHalts, brings_clients, relabels, waits, writes_leader}
+use Rattle.pilot_engine.specs.Writing.{WritesAllowed}
+use Rattle.pilot_engine.specs.Stepping.{StepHalts, brings_clients, waits, writes_leader}
 
 -- what an attempt comes to, with this reply where the bytes were moved
 abbrev pub tried_as : Reply → Attempt → Tried
@@ -96,10 +96,9 @@ module _ {D A : Type 0} {G : Ghosts D} where
     pub stay : is_reference call ≡ true → PagesStayOrYield (state old.core).slots (state new.core).slots
     pub stays : Stays old new
 
-  -- Of a call that brings in no page of a client's file when it is carried out: labels are written as then. Those that it frees are its file's
-  -- own, other files are spared, a leader's is written between two waits for the medium, and a call that changes no file writes pages alone.
+  -- Of a call that brings in no page of a client's file when it is carried out: labels are written as then. It writes what it may, other files are spared, a leader's is written between two waits for the medium, and a call that changes no file writes pages alone.
   pub record WritesLabels (call : Call) (old : Session D A G) (result : Result Tried Halt) (new : Session D A G) : Type 0 where
-    pub own : (id : ℕ) → relabels call ≡ Some id → RelabelsOwn id (state old.core).disk (state new.core).disk
+    pub own : WritesAllowed call old new result
     pub spares : SparesOthers call old new
     pub around : writes_leader call ≡ true → SyncsLeaders result (state old.core).disk (state new.core).disk
     pub unlabelled : keeps_labels call ≡ true → WritesPagesAlone (state old.core).disk (state new.core).disk

@@ -9,6 +9,7 @@ ghost use Rattle.flat_machine.specs.Machine.{Machine};
 ghost use Rattle.running_words.specs.Running.{Runs};
 ghost use Rattle.running_words.specs.Session.{IsOpen, Wrote};
 ghost use Rattle.fault_core.specs.Core.{kept, state};
+ghost use Rattle.pilot_engine.specs.Writing.{FileMay, WritesAllowed, Written};
 ghost use Rattle.pilot_engine.specs.Sparing.{SparesAll, SparesBut};
 ghost use Rattle.pilot_engine.specs.Halting.{MapNewHalts, UnmapHalts};
 ghost use Rattle.file_manager.specs.Creating.{next_id};
@@ -49,6 +50,7 @@ impl<D: Disk, A: Allocator> Session<D, A> {
         ensures evidence_seen { IfErr result (ShowsEvidence (state self.new.core).disk) }
         ensures wrote { Wrote (state self.old.core).disk (state self.old.core).slots (state self.new.core).disk
             (state self.new.core).slots }
+        ensures own { Written (FileMay (call.Unmap space)) (state self.old.core).disk (state self.new.core).disk }
         ensures spares { SparesAll (state self.old.core).disk (state self.new.core).disk }
         ensures stays { Stays self.old self.new }
         ensures running { self.new.running ≡ self.old.running }
@@ -88,6 +90,7 @@ impl<D: Disk, A: Allocator> Session<D, A> {
         ensures evidence_seen { IfErr result (ShowsEvidence (state self.new.core).disk) }
         ensures wrote { Wrote (state self.old.core).disk (state self.old.core).slots (state self.new.core).disk
             (state self.new.core).slots }
+        ensures own { WritesAllowed (call.MapAnonymous space) self.old self.new result }
         ensures spares { SparesBut (next_id self.old.volume.root) (state self.old.core).disk
             (state self.new.core).disk }
         ensures stays { Stays self.old self.new }

@@ -10,7 +10,7 @@ ghost use Rattle.running_words.specs.Bound.{delete_cost, visit_cost, room_above}
 ghost use Rattle.running_words.specs.Session.{IsOpen, IsAlone, Wrote};
 ghost use Rattle.pilot_engine.specs.Closing.{IsOpenStop, Shed, Throughout, up_to_next};
 ghost use Rattle.fault_core.specs.Core.{state};
-ghost use Rattle.pilot_engine.specs.Sparing.{SparesAll};
+ghost use Rattle.pilot_engine.specs.Writing.{Clears};
 ghost use Rattle.space_calls.specs.Halts.{After, OnFileHalts};
 ghost use Rattle.pilot_engine.specs.Halting.{ClearHalts, Made, RemoveHalts};
 ghost use Rattle.file_manager.specs.Reasons.{KeepsOn, InitialState};
@@ -53,7 +53,7 @@ impl<D: Disk, A: Allocator> Session<D, A> {
         ensures evidence_seen { IfErr result (ShowsEvidence (state self.new.core).disk) }
         ensures wrote { Wrote (state self.old.core).disk (state self.old.core).slots (state self.new.core).disk
             (state self.new.core).slots }
-        ensures spares { SparesAll (state self.old.core).disk (state self.new.core).disk }
+        ensures spares { Clears self.old self.new }
         ensures open_still { IsOpen (state self.new.core).layout self.new.volume }
         ensures layout { (state self.new.core).layout ≡ (state self.old.core).layout }
         ensures cost { (spaces_of : TablesMeaning) (m : Machine) (f : File)
@@ -105,7 +105,7 @@ impl<D: Disk, A: Allocator> Session<D, A> {
         ensures evidence_seen { IfErr result (ShowsEvidence (state self.new.core).disk) }
         ensures wrote { Wrote (state self.old.core).disk (state self.old.core).slots (state self.new.core).disk
             (state self.new.core).slots }
-        ensures spares { SparesAll (state self.old.core).disk (state self.new.core).disk }
+        ensures spares { Clears self.old self.new }
         ensures open_still { IsOpen (state self.new.core).layout self.new.volume }
         ensures layout { (state self.new.core).layout ≡ (state self.old.core).layout }
         ensures cost { (spaces_of : TablesMeaning) (m : Machine)
@@ -160,7 +160,7 @@ impl<D: Disk, A: Allocator> Session<D, A> {
         ensures evidence_seen { IfErr result (ShowsEvidence (state self.new.core).disk) }
         ensures wrote { Wrote (state self.old.core).disk (state self.old.core).slots (state self.new.core).disk
             (state self.new.core).slots }
-        ensures spares { SparesAll (state self.old.core).disk (state self.new.core).disk }
+        ensures spares { Clears self.old self.new }
         ensures open_still { IsOpen (state self.new.core).layout self.new.volume }
         ensures layout { (state self.new.core).layout ≡ (state self.old.core).layout }
         ensures cost { (spaces_of : TablesMeaning) (m : Machine)

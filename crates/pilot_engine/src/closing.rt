@@ -145,8 +145,8 @@ impl<D: Disk, A: Allocator> Session<D, A> {
         ensures stops { (m : Machine) → IsReady m self.old.volume.root (state self.old.core).disk
             → ((d : List Sector) → (state self.old.core).disk.contents ≡ Some d → IsOpenStop m d)
             → Throughout (IsStop m) (state self.old.core).disk (state self.new.core).disk }
-        ensures wrote { WroteAny (state self.old.core).disk (state self.old.core).slots (state self.new.core).disk
-            (state self.new.core).slots }
+        ensures wrote { WroteAny self.old.volume.root (state self.old.core).disk (state self.old.core).slots
+            (state self.new.core).disk (state self.new.core).slots }
         ensures spares { SparesAll (state self.old.core).disk (state self.new.core).disk }
         ensures sets { (m : Machine) → IsReady m self.old.volume.root (state self.old.core).disk
             → MayClose self.old.volume.root (state self.old.core).disk (state self.new.core).disk }

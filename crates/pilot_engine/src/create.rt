@@ -11,6 +11,7 @@ ghost use Rattle.session_words.specs.Parts.{TablesMeaning};
 ghost use Rattle.fault_core.specs.Reach.{BringsOwn};
 ghost use Rattle.fault_core.specs.Core.{kept, state};
 ghost use Rattle.pilot_engine.specs.Sparing.{SparesBut};
+ghost use Rattle.pilot_engine.specs.Writing.{WritesAllowed};
 ghost use Rattle.running_words.specs.Session.{IsOpen, IsSession, Carries, Wrote};
 ghost use Rattle.running_words.specs.Stages.{Passes};
 ghost use Rattle.pilot_engine.specs.Seen.{CostsInside};
@@ -75,6 +76,7 @@ impl<D: Disk, A: Allocator> Session<D, A> {
             (state self.new.core).slots }
         ensures spares { SparesBut (next_id self.old.volume.root) (state self.old.core).disk
             (state self.new.core).disk }
+        ensures own { WritesAllowed (call.Create pages kind) self.old self.new result }
         ensures stays { Stays self.old self.new }
         ensures running { self.new.running ≡ self.old.running }
         ensures kept { kept self.new.core ≡ kept self.old.core }
@@ -91,6 +93,7 @@ impl<D: Disk, A: Allocator> Session<D, A> {
         if self.volume.root.counter == u32::MAX {
             return Ok(Reply::Refused(Refusal::Ids));
         }
+        let _serial = self.volume.root.serial;
         match file_manager::create(&mut self.core.filer, &mut self.volume, pages, kind) {
             Ok(id) => Ok(Reply::File(id)),
             Err(halt) => Err(halt),

@@ -7,7 +7,7 @@ ghost use Rattle.filer_kernel.specs.Evidence.{ShowsEvidence};
 ghost use Rattle.flat_machine.specs.declared.call.Call.TheVariants as call;
 ghost use Rattle.file_map.specs.FileMap.{most_records};
 ghost use Rattle.flat_machine.specs.Machine.{Machine};
-ghost use Rattle.label_calls.specs.Own.{RelabelsOwn};
+ghost use Rattle.pilot_engine.specs.Writing.{FileMay, Written};
 ghost use Rattle.pilot_engine.specs.Sparing.{SparesAll, SparesBut};
 ghost use Rattle.label_calls.specs.Synced.{SyncsLeaders};
 ghost use Rattle.session_words.specs.Parts.{TablesMeaning};
@@ -90,7 +90,7 @@ impl<D: Disk, A: Allocator> Session<D, A> {
             → IsSession spaces_of (state self.old.core).disk (state self.old.core).slots (state self.old.core).layout
             (state self.old.core).runs self.old.volume m
             → CostsInside (state self.old.core).disk (state self.new.core).disk }
-        ensures own { RelabelsOwn id (state self.old.core).disk (state self.new.core).disk }
+        ensures own { Written (FileMay (call.Delete id)) (state self.old.core).disk (state self.new.core).disk }
         ensures spares { SparesBut id (state self.old.core).disk (state self.new.core).disk }
         ensures lasting { anonymous ≡ true → SparesAll (state self.old.core).disk (state self.new.core).disk }
         ensures around { SyncsLeaders result (state self.old.core).disk (state self.new.core).disk }
@@ -126,7 +126,7 @@ impl<D: Disk, A: Allocator> Session<D, A> {
             (state self.new.core).slots }
         ensures stays { Stays self.old self.new }
         ensures running { self.new.running ≡ self.old.running }
-        ensures own { RelabelsOwn id (state self.old.core).disk (state self.new.core).disk }
+        ensures own { Written (FileMay (call.Delete id)) (state self.old.core).disk (state self.new.core).disk }
         ensures spares { SparesBut id (state self.old.core).disk (state self.new.core).disk }
         ensures around { SyncsLeaders result (state self.old.core).disk (state self.new.core).disk }
     {

@@ -12,7 +12,7 @@ ghost use Rattle.running_words.specs.Session.{IsOpen, IsAlone, Wrote};
 ghost use Rattle.pilot_engine.specs.Closing.{IsEmptied, IsOpenStop, Throughout};
 ghost use Rattle.pilot_engine.specs.Opening.{root_alone};
 ghost use Rattle.fault_core.specs.Core.{state};
-ghost use Rattle.pilot_engine.specs.Sparing.{SparesAll};
+ghost use Rattle.pilot_engine.specs.Writing.{Clears};
 ghost use Rattle.fault_core.specs.Kill.{BreaksWithin};
 ghost use Rattle.fault_core.specs.Reach.{ReachHalts};
 ghost use Rattle.space_calls.specs.Halts.{After};
@@ -51,7 +51,7 @@ impl<D: Disk, A: Allocator> Session<D, A> {
         ensures evidence_seen { IfErr result (ShowsEvidence (state self.new.core).disk) }
         ensures wrote { Wrote (state self.old.core).disk (state self.old.core).slots (state self.new.core).disk
             (state self.new.core).slots }
-        ensures spares { SparesAll (state self.old.core).disk (state self.new.core).disk }
+        ensures spares { Clears self.old self.new }
         ensures layout { (state self.new.core).layout ≡ (state self.old.core).layout }
         ensures open_still { IsOpen (state self.new.core).layout self.new.volume }
         ensures volume { self.new.volume ≡ self.old.volume }
@@ -85,7 +85,7 @@ impl<D: Disk, A: Allocator> Session<D, A> {
         ensures evidence_seen { IfErr result (ShowsEvidence (state self.new.core).disk) }
         ensures wrote { Wrote (state self.old.core).disk (state self.old.core).slots (state self.new.core).disk
             (state self.new.core).slots }
-        ensures spares { SparesAll (state self.old.core).disk (state self.new.core).disk }
+        ensures spares { Clears self.old self.new }
         ensures layout { (state self.new.core).layout ≡ (state self.old.core).layout }
         ensures open_still { IsOpen (state self.new.core).layout self.new.volume }
         ensures volume { self.new.volume ≡ self.old.volume }
@@ -129,7 +129,7 @@ impl<D: Disk, A: Allocator> Session<D, A> {
         ensures evidence_seen { IfErr result (ShowsEvidence (state self.new.core).disk) }
         ensures wrote { Wrote (state self.old.core).disk (state self.old.core).slots (state self.new.core).disk
             (state self.new.core).slots }
-        ensures spares { SparesAll (state self.old.core).disk (state self.new.core).disk }
+        ensures spares { Clears self.old self.new }
         ensures open_still { IsOpen (state self.new.core).layout self.new.volume }
         ensures layout { (state self.new.core).layout ≡ (state self.old.core).layout }
         ensures cost { (spaces_of : TablesMeaning) (m : Machine)

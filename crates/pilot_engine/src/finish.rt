@@ -42,8 +42,8 @@ impl<D: Disk, A: Allocator> Session<D, A> {
             → IfErr result (NeverBlamesEnd o (state self.new.core).disk) }
         ensures evidence_seen { IfErr result (ShowsEvidence (state self.new.core).disk) }
         ensures left_open { IsUnset (state self.old.core).disk → IfErr result (LeavesOpen (state self.new.core).disk) }
-        ensures wrote { WroteAny (state self.old.core).disk (state self.old.core).slots (state self.new.core).disk
-            (state self.new.core).slots }
+        ensures wrote { WroteAny self.old.volume.root (state self.old.core).disk (state self.old.core).slots
+            (state self.new.core).disk (state self.new.core).slots }
         ensures spares { SparesAll (state self.old.core).disk (state self.new.core).disk }
         ensures syncs { (m : Machine) → Runs self.old.core self.old.volume m
             → ShutsBySync (state self.old.core).disk (state self.new.core).disk }
@@ -107,7 +107,7 @@ impl<D: Disk, A: Allocator> Session<D, A> {
             → IfErr result.0 (NeverBlamesEnd o (D.state result.1)) }
         ensures evidence_seen { IfErr result.0 (ShowsEvidence (D.state result.1)) }
         ensures left_open { IsUnset (state self.core).disk → IfErr result.0 (LeavesOpen (D.state result.1)) }
-        ensures wrote { WroteOn (state self.core).slots (state self.core).disk (D.state result.1) }
+        ensures wrote { WroteOn self.volume.root (state self.core).slots (state self.core).disk (D.state result.1) }
         ensures spares { SparesAll (state self.core).disk (D.state result.1) }
         ensures syncs { (m : Machine) → Runs self.core self.volume m
             → ShutsBySync (state self.core).disk (D.state result.1) }

@@ -24,6 +24,7 @@ mod spaces;
 mod start;
 mod step;
 mod stepped;
+mod store_ready;
 mod trying;
 
 pub use fault::StartFault;

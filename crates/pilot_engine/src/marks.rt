@@ -5,7 +5,7 @@ ghost use Rattle.labelled_disk.specs.declared.evidence.Halt.TheVariants as halt;
 ghost use Rattle.filer_kernel.specs.Evidence.{ShowsEvidence};
 ghost use Rattle.flat_machine.specs.declared.call.Call.TheVariants as call;
 ghost use Rattle.flat_machine.specs.Machine.{Machine, is_anonymous};
-ghost use Rattle.label_calls.specs.Own.{RelabelsOwn};
+ghost use Rattle.pilot_engine.specs.Writing.{FileMay, Written};
 ghost use Rattle.pilot_engine.specs.Sparing.{SparesBut};
 ghost use Rattle.label_calls.specs.Synced.{SyncsLeaders};
 ghost use Rattle.session_words.specs.Parts.{TablesMeaning};
@@ -70,7 +70,7 @@ impl<D: Disk, A: Allocator> Session<D, A> {
         ensures kept { kept self.new.core ≡ kept self.old.core }
         ensures intervals { self.new.core.intervals ≡ self.old.core.intervals }
         ensures cost { (state self.new.core).disk.transfers ≤ (state self.old.core).disk.transfers + 45 }
-        ensures own { RelabelsOwn id (state self.old.core).disk (state self.new.core).disk }
+        ensures own { Written (FileMay (call.MakePermanent id)) (state self.old.core).disk (state self.new.core).disk }
         ensures spares { SparesBut id (state self.old.core).disk (state self.new.core).disk }
         ensures around { SyncsLeaders result (state self.old.core).disk (state self.new.core).disk }
     {
@@ -124,7 +124,7 @@ impl<D: Disk, A: Allocator> Session<D, A> {
         ensures kept { kept self.new.core ≡ kept self.old.core }
         ensures intervals { self.new.core.intervals ≡ self.old.core.intervals }
         ensures cost { (state self.new.core).disk.transfers ≤ (state self.old.core).disk.transfers + 45 }
-        ensures own { RelabelsOwn id (state self.old.core).disk (state self.new.core).disk }
+        ensures own { Written (FileMay (call.MakeImmutable id)) (state self.old.core).disk (state self.new.core).disk }
         ensures spares { SparesBut id (state self.old.core).disk (state self.new.core).disk }
         ensures around { SyncsLeaders result (state self.old.core).disk (state self.new.core).disk }
     {
@@ -156,7 +156,7 @@ impl<D: Disk, A: Allocator> Session<D, A> {
             (state self.new.core).slots }
         ensures stays { Stays self.old self.new }
         ensures running { self.new.running ≡ self.old.running }
-        ensures own { RelabelsOwn id (state self.old.core).disk (state self.new.core).disk }
+        ensures own { Written (FileMay (call.MakePermanent id)) (state self.old.core).disk (state self.new.core).disk }
         ensures spares { SparesBut id (state self.old.core).disk (state self.new.core).disk }
         ensures around { SyncsLeaders result (state self.old.core).disk (state self.new.core).disk }
     {
@@ -184,7 +184,7 @@ impl<D: Disk, A: Allocator> Session<D, A> {
             (state self.new.core).slots }
         ensures stays { Stays self.old self.new }
         ensures running { self.new.running ≡ self.old.running }
-        ensures own { RelabelsOwn id (state self.old.core).disk (state self.new.core).disk }
+        ensures own { Written (FileMay (call.MakeImmutable id)) (state self.old.core).disk (state self.new.core).disk }
         ensures spares { SparesBut id (state self.old.core).disk (state self.new.core).disk }
         ensures around { SyncsLeaders result (state self.old.core).disk (state self.new.core).disk }
     {

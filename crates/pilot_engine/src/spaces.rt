@@ -18,6 +18,7 @@ ghost use Rattle.fault_core.specs.Lack.{MissesPage, Sees};
 ghost use Rattle.flat_machine.specs.declared.space.Space.{Space};
 ghost use Rattle.filer_kernel.specs.View.{FitsLayout};
 ghost use Rattle.pilot_engine.specs.Calls.{Accounts, Answers, SparesOthers, Stays};
+ghost use Rattle.pilot_engine.specs.Writing.{WritesAllowed};
 ghost use Rattle.pilot_engine.specs.Showing.{DirtiesShown, ShowsMapped};
 ghost use Rattle.filer_kernel.specs.Fails.{Fails};
 
@@ -60,6 +61,7 @@ impl<D: Disk, A: Allocator> Session<D, A> {
         ensures running { self.new.running ≡ self.old.running }
         ensures reference { is_reference call.now ≡ true
             → (state self.new.core).disk.transfers ≤ (state self.old.core).disk.transfers + 1680 }
+        ensures own { WritesAllowed call.now self.old self.new result }
         ensures spares { SparesOthers call.now self.old self.new }
         ensures unlabelled { keeps_labels call.now ≡ true
             → WritesPagesAlone (state self.old.core).disk (state self.new.core).disk }

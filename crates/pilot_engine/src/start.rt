@@ -21,6 +21,7 @@ ghost use Rattle.volume_root.specs.RootPage.{IsValidRoot, root_in, root_write};
 ghost use Rattle.volume_root.specs.Sound.{Sound};
 ghost use Rattle.running_words.specs.Bound.{CostsOther};
 ghost use Rattle.pilot_engine.specs.declared.fault.StartFault.TheVariants as start_fault;
+ghost use Rattle.pilot_engine.specs.Writing.{BeginMay, Written};
 ghost use Rattle.pilot_engine.specs.Opening.{root_alone, in_use, IsBare, StartsSome, WroteFirst, SyncsFirst, KeepsFiles, CostsStart, IsDiskFault, IsOutside, IsEarly, IsRightRefusal, IsUnset, LeavesOpen, IsSoAtStart, LeavesOpenAtStart};
 ghost use Rattle.running_words.specs.Running.{IsRunning, Runs};
 ghost use Rattle.running_words.specs.Session.{IsOpen, IsSession};
@@ -278,8 +279,12 @@ impl<D: Disk, A: Allocator> Session<D, A> {
             (λ e. FromStart d named ws (λ o. ShowsReasonAtStart o (layout_of (length d)) (D.state e.1) e.0)) }
         ensures sees { (d : List Sector) (named : Triples) (ws : List DiskWrite) → IsBegun d named ws (D.state disk)
             → MatchResult result (λ s. SeesFiles no_page s.core) (λ e. NeverBlamesFilesAtStart e.0) }
-        ensures monotone { (d : List Sector) → (D.state disk).contents ≡ Some d
-            → IfOk result (λ s. IsMonotone (root_in (root_page d)) s.volume.root) }
+        ensures root { (d : List Sector) → (D.state disk).contents ≡ Some d
+            → MatchResult result
+            (λ s.
+            IsMonotone (root_in (root_page d)) s.volume.root
+            × Written (BeginMay (root_in (root_page d))) (D.state disk) (state s.core).disk)
+            (λ e. Written (BeginMay (root_in (root_page d))) (D.state disk) (D.state e.1)) }
         ensures evidence_seen { IfErr result (λ e. IsSoAtStart (D.state e.1) e.0) }
 
         // What was written, whether or not one starts.

@@ -4,7 +4,6 @@ ghost use Rattle.labelled_disk.specs.declared.evidence.Halt.TheVariants as halt;
 ghost use Rattle.flat_machine.specs.After.{ends_trace};
 ghost use Rattle.flat_machine.specs.Form.{IsInForm};
 ghost use Rattle.flat_machine.specs.Machine.{Machine};
-ghost use Rattle.label_calls.specs.Own.{RelabelsOwn};
 ghost use Rattle.label_calls.specs.Synced.{SyncsLeaders};
 ghost use Rattle.flat_machine.specs.References.{is_reference};
 ghost use Rattle.flat_machine.specs.Refusal.{refusal};
@@ -14,13 +13,14 @@ ghost use Rattle.running_words.specs.Stages.{may_dirty};
 ghost use Rattle.fault_core.specs.Core.{kept, state};
 ghost use Rattle.pilot_engine.specs.Advised.{IsAdvised};
 ghost use Rattle.pilot_engine.specs.Labels.{WritesPagesAlone, keeps_labels};
-ghost use Rattle.pilot_engine.specs.Stepping.{IsResident, StepHalts, relabels, waits, missing_page, writes_leader};
+ghost use Rattle.pilot_engine.specs.Stepping.{IsResident, StepHalts, waits, missing_page, writes_leader};
 ghost use Rattle.file_manager.specs.Creating.{next_id};
 ghost use Rattle.file_manager.specs.Reasons.{KeepsOn, InitialState, IsNotOlder, giving};
 ghost use Rattle.fault_core.specs.Lack.{MissesPage, Sees};
 ghost use Rattle.flat_machine.specs.declared.space.Space.{Space};
 ghost use Rattle.filer_kernel.specs.View.{FitsLayout};
 ghost use Rattle.pilot_engine.specs.Calls.{Accounts, Answers, SparesOthers, Stays};
+ghost use Rattle.pilot_engine.specs.Writing.{WritesAllowed};
 ghost use Rattle.pilot_engine.specs.Showing.{DirtiesShown, ShowsMapped};
 ghost use Rattle.filer_kernel.specs.Fails.{Fails};
 
@@ -69,8 +69,7 @@ impl<D: Disk, A: Allocator> Session<D, A> {
         ensures halted { OnErr result (self.new.running ≡ false) }
         ensures reference { is_reference call.now ≡ true
             → (state self.new.core).disk.transfers ≤ (state self.old.core).disk.transfers + 1680 }
-        ensures own { (id : ℕ) → relabels call.now ≡ Some id
-            → RelabelsOwn id (state self.old.core).disk (state self.new.core).disk }
+        ensures own { WritesAllowed call.now self.old self.new result }
         ensures spares { SparesOthers call.now self.old self.new }
         ensures around { writes_leader call.now ≡ true
             → SyncsLeaders result (state self.old.core).disk (state self.new.core).disk }
@@ -115,8 +114,7 @@ impl<D: Disk, A: Allocator> Session<D, A> {
         ensures running { self.new.running ≡ self.old.running }
         ensures reference { is_reference call.now ≡ true
             → (state self.new.core).disk.transfers ≤ (state self.old.core).disk.transfers + 1680 }
-        ensures own { (id : ℕ) → relabels call.now ≡ Some id
-            → RelabelsOwn id (state self.old.core).disk (state self.new.core).disk }
+        ensures own { WritesAllowed call.now self.old self.new result }
         ensures spares { SparesOthers call.now self.old self.new }
         ensures around { writes_leader call.now ≡ true
             → SyncsLeaders result (state self.old.core).disk (state self.new.core).disk }

@@ -1,9 +1,10 @@
 //! One call of a client that brings in no page of a client's file.
-ghost use Rattle.std.specs.Prelude.{◌≡◌, ◌≤◌, length, true, false, OnOk, OnErr};
+ghost use Rattle.std.specs.Prelude.{◌≡◌, ◌≤◌, length, true, false, Ok, OnOk, OnErr};
 ghost use Rattle.flat_machine.specs.After.{ends_trace};
 ghost use Rattle.flat_machine.specs.Form.{IsInForm};
 ghost use Rattle.flat_machine.specs.Machine.{Machine};
 ghost use Rattle.flat_machine.specs.declared.call.Call.TheVariants as calls;
+ghost use Rattle.flat_machine.specs.declared.call.Reply.TheVariants as reply;
 ghost use Rattle.filer_kernel.specs.View.{FitsLayout};
 ghost use Rattle.file_manager.specs.Creating.{next_id};
 ghost use Rattle.file_manager.specs.Reasons.{KeepsOn, InitialState, IsNotOlder, giving};
@@ -21,6 +22,23 @@ use flight_core::Tried;
 use labelled_disk::{Disk, Halt};
 use space_calls::try_activate;
 use std::alloc::Allocator;
+
+// What an attempt to load comes to, with these bytes where they were moved. The answer is put together where it is given back.
+fn loaded(attempt: Attempt, bytes: &[u8]) -> Result<Tried, Halt>
+    requires few { length bytes.now ≤ 64 }
+    ensures { result ≡ Ok (tried_as (reply.Bytes bytes.now) attempt) }
+{
+    match attempt {
+        Attempt::Access(Access::Done) => Ok(Tried::Reply(Reply::Bytes(Piece::of(bytes)))),
+        Attempt::Access(Access::NoMap(page)) => {
+            Ok(Tried::Reply(Reply::Refused(Refusal::NoMap(page))))
+        }
+        Attempt::Access(Access::ReadOnly(page)) => {
+            Ok(Tried::Reply(Reply::Refused(Refusal::ReadOnly(page))))
+        }
+        Attempt::Absent(page) => Ok(Tried::Absent(page)),
+    }
+}
 
 // What an attempt comes to, with this reply where the bytes were moved.
 fn outcome(attempt: Attempt, done: Reply) -> Tried
@@ -109,7 +127,7 @@ impl<D: Disk, A: Allocator> Session<D, A> {
         let mut room = [0; 64];
         let bytes = &mut room[..usize::from(count)];
         match self.core.try_load(address, bytes) {
-            Ok(attempt) => Ok(outcome(attempt, Reply::Bytes(Piece::of(bytes)))),
+            Ok(attempt) => loaded(attempt, bytes),
             Err(halt) => Err(halt),
         }
     }

@@ -5,7 +5,7 @@ use Rattle.pilot_engine.specs.Labels.{keeps_labels}
 use Rattle.pilot_engine.specs.Stepping.{relabels, waits, IsResident, writes_leader}
 use Rattle.fault_core.specs.Core.{kept, state}
 use Rattle.swapper_kernel.specs.Goes.{no_page}
-use Rattle.file_manager.specs.Creating.{next_id}
+use Rattle.file_manager.specs.Creating.{counted, next_id}
 use Rattle.space_calls.specs.Halts.{NamedHalts, OnNamedHalts}
 use Rattle.file_manager.specs.Grounds.{IsNewPage}
 use Rattle.pilot_engine.specs.Halting.{MarkHalts, NewFileHalts, NextHalts, RemoveHalts, SizeHalts}
@@ -14,7 +14,8 @@ use Rattle.pilot_engine.proofs.LiftLemmas.{carried_out}
 use Rattle.pilot_engine.proofs.StepLemmas.{nothing_revealed, on_spaces}
 use Rattle.flat_machine.specs.declared.call.Call.{Call}
 use Rattle.flat_machine.specs.declared.call.Call.TheVariants as call
-use Rattle.pilot_engine.proofs.OwnLemmas.{own_of, own_none, none_relabelled, around_other, no_leader}
+use Rattle.pilot_engine.proofs.OwnLemmas.{around_other, no_leader}
+use Rattle.pilot_engine.proofs.WritingLemmas.{allowed_alone, allowed_call, allowed_named}
 use Rattle.pilot_engine.proofs.HomeSteps.{same_or_blameless}
 use Rattle.pilot_engine.proofs.LackLemmas.{fails_missing_page, mark_misses, named_misses, new_misses, on_named_misses, pages_of, remove_misses, size_misses}
 use Rattle.pilot_engine.proofs.ReasonSteps.{not_older_on}
@@ -167,31 +168,47 @@ pub answer_on_spaces-requires-clause-on_spaces : goal.answer_on_spaces-requires-
 answer_on_spaces-requires-clause-on_spaces g c = on_spaces c.args.call.now c.requires.more c.in_default.not-Create c.in_default.not-Delete c.in_default.not-Attributes c.in_default.not-SetSize c.in_default.not-MakePermanent c.in_default.not-MakeImmutable c.in_default.not-Next c.in_default.not-Volume
 
 pub returns-in-Delete-clause-own : goal.returns-in-Delete-clause-own
-returns-in-Delete-clause-own g c = own_of c.args.call.now (ap relabels c.in-Delete.is) c.delete.ensures.own
+returns-in-Delete-clause-own g c =
+    let root = c.args.self.now.volume.root in
+    allowed_call c.delete.result (next_id root) (counted root) c.delete.new.self.volume.root c.args.call.now c.in-Delete.is c.delete.ensures.own
 
 pub returns-in-SetSize-clause-own : goal.returns-in-SetSize-clause-own
-returns-in-SetSize-clause-own g c = own_of c.args.call.now (ap relabels c.in-SetSize.is) c.set_size.ensures.own
+returns-in-SetSize-clause-own g c =
+    let root = c.args.self.now.volume.root in
+    allowed_call c.set_size.result (next_id root) (counted root) c.set_size.new.self.volume.root c.args.call.now c.in-SetSize.is c.set_size.ensures.own
 
 pub returns-in-MakePermanent-clause-own : goal.returns-in-MakePermanent-clause-own
-returns-in-MakePermanent-clause-own g c = own_of c.args.call.now (ap relabels c.in-MakePermanent.is) c.make_permanent.ensures.own
+returns-in-MakePermanent-clause-own g c =
+    let root = c.args.self.now.volume.root in
+    allowed_call c.make_permanent.result (next_id root) (counted root) c.make_permanent.new.self.volume.root c.args.call.now c.in-MakePermanent.is c.make_permanent.ensures.own
 
 pub returns-in-MakeImmutable-clause-own : goal.returns-in-MakeImmutable-clause-own
-returns-in-MakeImmutable-clause-own g c = own_of c.args.call.now (ap relabels c.in-MakeImmutable.is) c.make_immutable.ensures.own
+returns-in-MakeImmutable-clause-own g c =
+    let root = c.args.self.now.volume.root in
+    allowed_call c.make_immutable.result (next_id root) (counted root) c.make_immutable.new.self.volume.root c.args.call.now c.in-MakeImmutable.is c.make_immutable.ensures.own
 
 pub returns-in-Create-clause-own : goal.returns-in-Create-clause-own
-returns-in-Create-clause-own g c = own_none c.args.call.now (ap relabels c.in-Create.is)
+returns-in-Create-clause-own g c =
+    let root = c.args.self.now.volume.root in
+    allowed_named c.create.result (next_id root) (counted root) c.create.new.self.volume.root c.args.call.now c.in-Create.is c.create.ensures.own
 
 pub returns-in-Attributes-clause-own : goal.returns-in-Attributes-clause-own
-returns-in-Attributes-clause-own g c = own_none c.args.call.now (ap relabels c.in-Attributes.is)
+returns-in-Attributes-clause-own g c =
+    let root = c.args.self.now.volume.root in
+    allowed_alone c.attributes.result (next_id root) (counted root) c.attributes.new.self.volume.root c.args.call.now c.attributes.ensures.wrote.makes c.attributes.ensures.unlabelled
 
 pub returns-in-Next-clause-own : goal.returns-in-Next-clause-own
-returns-in-Next-clause-own g c = own_none c.args.call.now (ap relabels c.in-Next.is)
+returns-in-Next-clause-own g c =
+    let root = c.args.self.now.volume.root in
+    allowed_alone c.next.result (next_id root) (counted root) c.next.new.self.volume.root c.args.call.now c.next.ensures.wrote.makes c.next.ensures.unlabelled
 
 pub returns-in-Volume-clause-own : goal.returns-in-Volume-clause-own
-returns-in-Volume-clause-own g c = own_none c.args.call.now (ap relabels c.in-Volume.is)
+returns-in-Volume-clause-own g c =
+    let root = c.args.self.now.volume.root in
+    allowed_alone c.volume.result (next_id root) (counted root) c.volume.new.self.volume.root c.args.call.now c.volume.ensures.wrote.makes c.volume.ensures.unlabelled
 
 pub returns-in_default-clause-own : goal.returns-in_default-clause-own
-returns-in_default-clause-own g c = own_none c.args.call.now (none_relabelled c.args.call.now (on_spaces c.args.call.now c.requires.more c.in_default.not-Create c.in_default.not-Delete c.in_default.not-Attributes c.in_default.not-SetSize c.in_default.not-MakePermanent c.in_default.not-MakeImmutable c.in_default.not-Next c.in_default.not-Volume))
+returns-in_default-clause-own g c = c.answer_on_spaces.ensures.own
 
 pub returns-in-Create-clause-idle : goal.returns-in-Create-clause-idle
 returns-in-Create-clause-idle g c = λ m r resident. absurd (subst (λ (x : Call). IsResident x (kept c.args.self.now.core) (state c.args.self.now.core).slots) c.in-Create.is resident)

@@ -24,7 +24,7 @@ use Rattle.flat_machine.specs.declared.call.Call.TheVariants as call
 use Rattle.flat_machine.specs.declared.call.Reply.TheVariants as answer
 use Rattle.swapper_kernel.specs.Goes.{no_page}
 use Rattle.filer_kernel.proofs.Outcomes.{ok_wider}
-use Rattle.file_manager.specs.Creating.{next_id}
+use Rattle.file_manager.specs.Creating.{counted, next_id}
 use Rattle.file_manager.specs.Reasons.{WasBelow}
 use Rattle.fault_core.specs.Lack.{MissesPage, shown_units}
 use Rattle.fault_core.specs.Reach.{ReachHalts}
@@ -45,6 +45,7 @@ use Rattle.running_words.specs.Session.{WroteIn}
 use Rattle.pilot_engine.specs.Showing.{mapped_by, maps}
 use Rattle.pilot_engine.proofs.WindowLemmas.{map_or_more, on_or_more}
 use Rattle.pilot_engine.proofs.ReferLemmas.{ok_always}
+use Rattle.pilot_engine.proofs.WritingLemmas.{allowed_asked, allowed_call, allowed_named}
 use Rattle.pilot_engine.proofs.session.Session.answer_on_spaces.Goals as goal
 use Rattle.filer_kernel.specs.View.{accepted}
 use Rattle.filer_kernel.specs.FailsLaws.{if_fails}
@@ -965,3 +966,75 @@ returns-in-Kill-clause-shown g c = λ ss s. rw c.in-Kill.is c.kill.ensures.wrote
 
 pub returns-in-ForceOut-clause-shown : goal.returns-in-ForceOut-clause-shown
 returns-in-ForceOut-clause-shown g c = λ ss s. rw c.in-ForceOut.is c.force_out.ensures.wrote
+
+-- ---- What is written.
+
+pub returns-in-MakeSpace-clause-own : goal.returns-in-MakeSpace-clause-own
+returns-in-MakeSpace-clause-own g c =
+    let root = c.args.self.now.volume.root in
+    allowed_asked c.make_space.result (next_id root) (counted root) root c.args.call.now c.make_space.ensures.moves.goes.makes
+
+pub returns-in-RemoveSpace-clause-own : goal.returns-in-RemoveSpace-clause-own
+returns-in-RemoveSpace-clause-own g c =
+    let root = c.args.self.now.volume.root in
+    allowed_asked c.remove_space.result (next_id root) (counted root) root c.args.call.now c.remove_space.ensures.moves.goes.makes
+
+pub returns-in-Place-clause-own : goal.returns-in-Place-clause-own
+returns-in-Place-clause-own g c =
+    let root = c.args.self.now.volume.root in
+    allowed_asked c.place.result (next_id root) (counted root) root c.args.call.now c.place.ensures.moves.goes.makes
+
+pub returns-in-Units-clause-own : goal.returns-in-Units-clause-own
+returns-in-Units-clause-own g c =
+    let root = c.args.self.now.volume.root in
+    allowed_asked c.set_units.result (next_id root) (counted root) root c.args.call.now c.set_units.ensures.moves.goes.makes
+
+pub returns-in-Map-clause-own : goal.returns-in-Map-clause-own
+returns-in-Map-clause-own g c =
+    let root = c.args.self.now.volume.root in
+    allowed_asked c.map.result (next_id root) (counted root) root c.args.call.now c.map.ensures.moves.goes.makes
+
+pub returns-in-Protect-clause-own : goal.returns-in-Protect-clause-own
+returns-in-Protect-clause-own g c =
+    let root = c.args.self.now.volume.root in
+    allowed_asked c.protect.result (next_id root) (counted root) root c.args.call.now c.protect.ensures.moves.goes.makes
+
+pub returns-in-Load-clause-own : goal.returns-in-Load-clause-own
+returns-in-Load-clause-own g c =
+    let root = c.args.self.now.volume.root in
+    allowed_asked c.load.result (next_id root) (counted root) root c.args.call.now c.load.ensures.moves.goes.makes
+
+pub returns-in-Store-clause-own : goal.returns-in-Store-clause-own
+returns-in-Store-clause-own g c =
+    let root = c.args.self.now.volume.root in
+    allowed_asked c.store.result (next_id root) (counted root) root c.args.call.now c.store.ensures.moves.goes.makes
+
+pub returns-in-Activate-clause-own : goal.returns-in-Activate-clause-own
+returns-in-Activate-clause-own g c =
+    let root = c.args.self.now.volume.root in
+    allowed_asked c.activate.result (next_id root) (counted root) root c.args.call.now c.activate.ensures.moves.goes.makes
+
+pub returns-in-Deactivate-clause-own : goal.returns-in-Deactivate-clause-own
+returns-in-Deactivate-clause-own g c =
+    let root = c.args.self.now.volume.root in
+    allowed_asked c.deactivate.result (next_id root) (counted root) root c.args.call.now c.deactivate.ensures.moves.goes.makes
+
+pub returns-in-Kill-clause-own : goal.returns-in-Kill-clause-own
+returns-in-Kill-clause-own g c =
+    let root = c.args.self.now.volume.root in
+    allowed_asked c.kill.result (next_id root) (counted root) root c.args.call.now c.kill.ensures.moves.goes.makes
+
+pub returns-in-ForceOut-clause-own : goal.returns-in-ForceOut-clause-own
+returns-in-ForceOut-clause-own g c =
+    let root = c.args.self.now.volume.root in
+    allowed_asked c.force_out.result (next_id root) (counted root) root c.args.call.now c.force_out.ensures.moves.goes.makes
+
+pub returns-in-MapAnonymous-clause-own : goal.returns-in-MapAnonymous-clause-own
+returns-in-MapAnonymous-clause-own g c =
+    let root = c.args.self.now.volume.root in
+    allowed_named c.map_anonymous.result (next_id root) (counted root) c.map_anonymous.new.self.volume.root c.args.call.now c.in-MapAnonymous.is c.map_anonymous.ensures.own
+
+pub returns-in-Unmap-clause-own : goal.returns-in-Unmap-clause-own
+returns-in-Unmap-clause-own g c =
+    let root = c.args.self.now.volume.root in
+    allowed_call c.unmap.result (next_id root) (counted root) c.unmap.new.self.volume.root c.args.call.now c.in-Unmap.is c.unmap.ensures.own

@@ -1,4 +1,4 @@
-use Rattle.std.proofs.Common.{subst, sym, ◌∙◌, arith, inl, inr}
+use Rattle.std.proofs.Common.{ap, subst, sym, ◌∙◌, arith, inl, inr}
 use Rattle.file_manager.specs.declared.volume.Volume.{Volume}
 use Rattle.pilot_engine.proofs.CountedHalts.{counted_then}
 use Rattle.space_calls.proofs.RunLemmas.{reached_makes}
@@ -12,7 +12,8 @@ use Rattle.pilot_engine.proofs.StopLemmas.{ends, open_is_stop, throughout_less, 
 use Rattle.pilot_engine.proofs.TableStops.{stops_closed, stops_forcing}
 use Rattle.swapper_kernel.specs.GoesLaws.{went_then}
 use Rattle.pilot_engine.proofs.ShutBySyncLemmas.{openly_shut, reveals_itself, sets_shut}
-use Rattle.pilot_engine.proofs.ShutLemmas.{any_of, shut_still, shut_then}
+use Rattle.pilot_engine.proofs.ShutLemmas.{any_of, any_root_is, shut_still, shut_then}
+use Rattle.pilot_engine.proofs.WritingLemmas.{frees_none, only_then}
 use Rattle.pilot_engine.proofs.UnsetLemmas.{leaves_open, unset_then}
 use Rattle.pilot_engine.proofs.WroteLemmas.{rose_after, wrote_by, wrote_swapping, wrote_then}
 use Rattle.fault_core.specs.Core.{state}
@@ -33,22 +34,22 @@ pub returns-in-Err-sync_maps-clause-sound : goal.returns-in-Err-sync_maps-clause
 returns-in-Err-sync_maps-clause-sound g c = λ m r. let e = c.in-Ok-empty.ensures.emptied root_alone (forgotten m) (c.in-Ok.ensures.alone m r) in c.in-Err-sync_maps.ensures.sound e.memory e.stands
 
 pub returns-in-Err-clause-wrote : goal.returns-in-Err-clause-wrote
-returns-in-Err-clause-wrote g c = any_of c.evict_all.ensures.wrote
+returns-in-Err-clause-wrote g c = any_of c.args.self.now.volume.root c.evict_all.ensures.wrote c.evict_all.ensures.spares.frees
 
 pub returns-in-Err-empty-clause-wrote : goal.returns-in-Err-empty-clause-wrote
-returns-in-Err-empty-clause-wrote g c = any_of (wrote_then c.evict_all.ensures.wrote c.empty.ensures.wrote)
+returns-in-Err-empty-clause-wrote g c = any_of c.args.self.now.volume.root (wrote_then c.evict_all.ensures.wrote c.empty.ensures.wrote) (only_then c.evict_all.ensures.spares.frees c.empty.ensures.spares.frees)
 
 pub returns-in-Err-sync_maps-clause-wrote : goal.returns-in-Err-sync_maps-clause-wrote
-returns-in-Err-sync_maps-clause-wrote g c = any_of (wrote_then (wrote_then c.evict_all.ensures.wrote c.empty.ensures.wrote) (wrote_swapping c.sync_maps.ensures.swaps))
+returns-in-Err-sync_maps-clause-wrote g c = any_of c.args.self.now.volume.root (wrote_then (wrote_then c.evict_all.ensures.wrote c.empty.ensures.wrote) (wrote_swapping c.sync_maps.ensures.swaps)) (only_then (only_then c.evict_all.ensures.spares.frees c.empty.ensures.spares.frees) (frees_none c.sync_maps.ensures.swaps.makes))
 
 pub returns-in-Err-write_clean-clause-wrote : goal.returns-in-Err-write_clean-clause-wrote
-returns-in-Err-write_clean-clause-wrote g c = shut_then (wrote_then (wrote_then c.evict_all.ensures.wrote c.empty.ensures.wrote) (wrote_swapping c.sync_maps.ensures.swaps)) c.write_clean.ensures.wrote
+returns-in-Err-write_clean-clause-wrote g c = shut_then (wrote_then (wrote_then c.evict_all.ensures.wrote c.empty.ensures.wrote) (wrote_swapping c.sync_maps.ensures.swaps)) (only_then (only_then c.evict_all.ensures.spares.frees c.empty.ensures.spares.frees) (frees_none c.sync_maps.ensures.swaps.makes)) (any_root_is (ap (λ (v : Volume). v.root) c.sync_maps.ensures.volume ∙ c.empty.ensures.spares.root ∙ ap (λ (v : Volume). v.root) c.evict_all.ensures.volume) c.write_clean.ensures.wrote)
 
 pub returns-in-Ok-sync-clause-wrote : goal.returns-in-Ok-sync-clause-wrote
-returns-in-Ok-sync-clause-wrote g c = shut_still (shut_then (wrote_then (wrote_then c.evict_all.ensures.wrote c.empty.ensures.wrote) (wrote_swapping c.sync_maps.ensures.swaps)) c.write_clean.ensures.wrote) c.sync.ensures.same (wrote_by (reached_makes c.sync.ensures.reaches) tt)
+returns-in-Ok-sync-clause-wrote g c = shut_still (shut_then (wrote_then (wrote_then c.evict_all.ensures.wrote c.empty.ensures.wrote) (wrote_swapping c.sync_maps.ensures.swaps)) (only_then (only_then c.evict_all.ensures.spares.frees c.empty.ensures.spares.frees) (frees_none c.sync_maps.ensures.swaps.makes)) (any_root_is (ap (λ (v : Volume). v.root) c.sync_maps.ensures.volume ∙ c.empty.ensures.spares.root ∙ ap (λ (v : Volume). v.root) c.evict_all.ensures.volume) c.write_clean.ensures.wrote)) c.sync.ensures.same (wrote_by (reached_makes c.sync.ensures.reaches) tt)
 
 pub returns-in-Err-sync-clause-wrote : goal.returns-in-Err-sync-clause-wrote
-returns-in-Err-sync-clause-wrote g c = shut_still (shut_then (wrote_then (wrote_then c.evict_all.ensures.wrote c.empty.ensures.wrote) (wrote_swapping c.sync_maps.ensures.swaps)) c.write_clean.ensures.wrote) c.sync.ensures.same (wrote_by (reached_makes c.sync.ensures.reaches) tt)
+returns-in-Err-sync-clause-wrote g c = shut_still (shut_then (wrote_then (wrote_then c.evict_all.ensures.wrote c.empty.ensures.wrote) (wrote_swapping c.sync_maps.ensures.swaps)) (only_then (only_then c.evict_all.ensures.spares.frees c.empty.ensures.spares.frees) (frees_none c.sync_maps.ensures.swaps.makes)) (any_root_is (ap (λ (v : Volume). v.root) c.sync_maps.ensures.volume ∙ c.empty.ensures.spares.root ∙ ap (λ (v : Volume). v.root) c.evict_all.ensures.volume) c.write_clean.ensures.wrote)) c.sync.ensures.same (wrote_by (reached_makes c.sync.ensures.reaches) tt)
 
 pub returns-in-Ok-sync-clause-closed : goal.returns-in-Ok-sync-clause-closed
 returns-in-Ok-sync-clause-closed g c = λ m r.
@@ -121,7 +122,7 @@ pub returns-in-Err-write_clean-clause-counted : goal.returns-in-Err-write_clean-
 returns-in-Err-write_clean-clause-counted g c = λ is. rose_after _ _ _ (wrote_then (wrote_then c.evict_all.ensures.wrote c.empty.ensures.wrote) (wrote_swapping c.sync_maps.ensures.swaps)).makes.went.faults c.in-Err-write_clean.ensures.counted
 
 pub returns-in-Err-sync-clause-counted : goal.returns-in-Err-sync-clause-counted
-returns-in-Err-sync-clause-counted g c = λ is. rose_after _ _ _ (shut_then (wrote_then (wrote_then c.evict_all.ensures.wrote c.empty.ensures.wrote) (wrote_swapping c.sync_maps.ensures.swaps)) c.write_clean.ensures.wrote).makes.went.faults c.in-Err-sync.ensures.counted
+returns-in-Err-sync-clause-counted g c = λ is. rose_after _ _ _ (shut_then (wrote_then (wrote_then c.evict_all.ensures.wrote c.empty.ensures.wrote) (wrote_swapping c.sync_maps.ensures.swaps)) (only_then (only_then c.evict_all.ensures.spares.frees c.empty.ensures.spares.frees) (frees_none c.sync_maps.ensures.swaps.makes)) c.write_clean.ensures.wrote).makes.went.faults c.in-Err-sync.ensures.counted
 
 pub returns-in-Err-clause-cost : goal.returns-in-Err-clause-cost
 returns-in-Err-clause-cost g c = λ m r.
@@ -232,7 +233,7 @@ returns-in-Err-sync-clause-cause g c =
     let v = state c.args.self.now.core in
     let x = state c.write_clean.new.self.core in
     let w = state c.sync.new.core in
-    inl (fault_halt (BreaksWithin v c.args.self.now.core.intervals 0 root_pages) v x w c.in-Err-sync.halt (shut_then (wrote_then (wrote_then c.evict_all.ensures.wrote c.empty.ensures.wrote) (wrote_swapping c.sync_maps.ensures.swaps)) c.write_clean.ensures.wrote).makes.went.faults c.in-Err-sync.ensures.fault c.in-Err-sync.ensures.counted)
+    inl (fault_halt (BreaksWithin v c.args.self.now.core.intervals 0 root_pages) v x w c.in-Err-sync.halt (shut_then (wrote_then (wrote_then c.evict_all.ensures.wrote c.empty.ensures.wrote) (wrote_swapping c.sync_maps.ensures.swaps)) (only_then (only_then c.evict_all.ensures.spares.frees c.empty.ensures.spares.frees) (frees_none c.sync_maps.ensures.swaps.makes)) c.write_clean.ensures.wrote).makes.went.faults c.in-Err-sync.ensures.fault c.in-Err-sync.ensures.counted)
 
 -- ---- What began stays a reason.
 
@@ -319,19 +320,19 @@ returns-in-Err-clause-sees g c = λ o k seen. (c.in-Err.ensures.accounts o k).se
 -- ---- Which files are spared.
 
 pub returns-in-Err-clause-spares : goal.returns-in-Err-clause-spares
-returns-in-Err-clause-spares g c = c.evict_all.ensures.spares
+returns-in-Err-clause-spares g c = c.evict_all.ensures.spares.spares
 
 pub returns-in-Err-empty-clause-spares : goal.returns-in-Err-empty-clause-spares
-returns-in-Err-empty-clause-spares g c = all_then c.evict_all.ensures.spares c.empty.ensures.spares
+returns-in-Err-empty-clause-spares g c = all_then c.evict_all.ensures.spares.spares c.empty.ensures.spares.spares
 
 pub returns-in-Err-sync_maps-clause-spares : goal.returns-in-Err-sync_maps-clause-spares
-returns-in-Err-sync_maps-clause-spares g c = all_then (all_then c.evict_all.ensures.spares c.empty.ensures.spares) (spares_quiet c.sync_maps.ensures.swaps.makes)
+returns-in-Err-sync_maps-clause-spares g c = all_then (all_then c.evict_all.ensures.spares.spares c.empty.ensures.spares.spares) (spares_quiet c.sync_maps.ensures.swaps.makes)
 
 pub returns-in-Err-write_clean-clause-spares : goal.returns-in-Err-write_clean-clause-spares
-returns-in-Err-write_clean-clause-spares g c = all_then (all_then (all_then c.evict_all.ensures.spares c.empty.ensures.spares) (spares_quiet c.sync_maps.ensures.swaps.makes)) c.write_clean.ensures.spares
+returns-in-Err-write_clean-clause-spares g c = all_then (all_then (all_then c.evict_all.ensures.spares.spares c.empty.ensures.spares.spares) (spares_quiet c.sync_maps.ensures.swaps.makes)) c.write_clean.ensures.spares
 
 pub returns-in-Ok-sync-clause-spares : goal.returns-in-Ok-sync-clause-spares
-returns-in-Ok-sync-clause-spares g c = all_then (all_then (all_then (all_then c.evict_all.ensures.spares c.empty.ensures.spares) (spares_quiet c.sync_maps.ensures.swaps.makes)) c.write_clean.ensures.spares) (spares_quiet (reached_makes c.sync.ensures.reaches))
+returns-in-Ok-sync-clause-spares g c = all_then (all_then (all_then (all_then c.evict_all.ensures.spares.spares c.empty.ensures.spares.spares) (spares_quiet c.sync_maps.ensures.swaps.makes)) c.write_clean.ensures.spares) (spares_quiet (reached_makes c.sync.ensures.reaches))
 
 pub returns-in-Err-sync-clause-spares : goal.returns-in-Err-sync-clause-spares
-returns-in-Err-sync-clause-spares g c = all_then (all_then (all_then (all_then c.evict_all.ensures.spares c.empty.ensures.spares) (spares_quiet c.sync_maps.ensures.swaps.makes)) c.write_clean.ensures.spares) (spares_quiet (reached_makes c.sync.ensures.reaches))
+returns-in-Err-sync-clause-spares g c = all_then (all_then (all_then (all_then c.evict_all.ensures.spares.spares c.empty.ensures.spares.spares) (spares_quiet c.sync_maps.ensures.swaps.makes)) c.write_clean.ensures.spares) (spares_quiet (reached_makes c.sync.ensures.reaches))

@@ -16,7 +16,7 @@ use Rattle.pilot_engine.proofs.RefusalLemmas.{create_full, create_ids, create_th
 use Rattle.running_words.proofs.SessionLemmas.{room_is}
 use Rattle.running_words.proofs.StageLemmas.{no_step}
 use Rattle.pilot_engine.proofs.WroteLemmas.{wrote_file, wrote_some}
-use Rattle.file_manager.specs.Creating.{next_id}
+use Rattle.file_manager.specs.Creating.{counted, next_id}
 use Rattle.file_manager.specs.Reasons.{WasBelow, giving, telling}
 use Rattle.file_manager.specs.declared.volume.Volume.{Volume}
 use Rattle.fault_core.specs.Core.{state}
@@ -30,6 +30,7 @@ use Rattle.pilot_engine.proofs.SeesLemmas.{counted_next, same_next, seen_blamele
 use Rattle.pilot_engine.proofs.SparedCalls.{all_but, spares_itself}
 use Rattle.pilot_engine.proofs.SparedFiles.{spares_made, spares_making}
 use Rattle.pilot_engine.proofs.CameOwn.{own_itself}
+use Rattle.pilot_engine.proofs.WritingLemmas.{counted_numbers, only_created, only_creating, only_still}
 use Rattle.pilot_engine.proofs.session.Session.create.Goals as goal
 
 pub returns-then-pages-free-clause-carried : goal.returns-then-pages-free-clause-carried
@@ -235,3 +236,35 @@ returns-in-Ok-clause-came g c = λ spaces_of m s.
     let same_room : c.args.self.now.volume.layout.capacity ≡ (state c.args.self.now.core).layout.capacity = ap (λ l. l.capacity) c.requires.opened.same_layout in
     let under = c.if-pages-free.false in
     (c.in-Ok.ensures.created s.stands.memory (shapes_of m.files) m.spaces (may_create spaces_of _ _ _ _ _ m s is c.args.pages (omega (arith, under, same_room)))).leads.brings
+
+-- ---- What is written.
+
+pub returns-then-pages-free-clause-own : goal.returns-then-pages-free-clause-own
+returns-then-pages-free-clause-own g c =
+    let root = c.args.self.now.volume.root in
+    let what = call.Create c.args.pages c.args.kind in
+    (only_still (next_id root) (counted root) what (state c.args.self.now.core).disk, only_still (next_id root) root what (state c.args.self.now.core).disk)
+
+pub returns-then-self-clause-own : goal.returns-then-self-clause-own
+returns-then-self-clause-own g c =
+    let root = c.args.self.now.volume.root in
+    let what = call.Create c.args.pages c.args.kind in
+    (only_still (next_id root) (counted root) what (state c.args.self.now.core).disk, only_still (next_id root) root what (state c.args.self.now.core).disk)
+
+pub returns-in-Ok-clause-own : goal.returns-in-Ok-clause-own
+returns-in-Ok-clause-own g c =
+    let root = c.args.self.now.volume.root in
+    let serial : root.serial < 2 ^ 32 = search rules in
+    let counter : root.counter < 4294967295 = search rules in
+    let some = c.requires.opened.valid.serial in
+    let now = ap (λ (v : Volume). v.root) c.in-Ok.ensures.volume.1 in (
+      (only_created root (counted root) some (counted_numbers root (counted root) refl serial counter) c.args.pages c.args.kind c.in-Ok.ensures.writes),
+      (only_created root c.create.new.volume.root some (counted_numbers root c.create.new.volume.root now serial counter) c.args.pages c.args.kind c.in-Ok.ensures.writes),
+    )
+
+pub returns-in-Err-clause-own : goal.returns-in-Err-clause-own
+returns-in-Err-clause-own g c =
+    let root = c.args.self.now.volume.root in
+    let serial : root.serial < 2 ^ 32 = search rules in
+    let counter : root.counter < 4294967295 = search rules in
+    ((only_creating root (counted root) c.requires.opened.valid.serial (counted_numbers root (counted root) refl serial counter) c.args.pages c.args.kind c.in-Err.ensures.writes), tt)

@@ -13,8 +13,7 @@ use Rattle.pilot_engine.proofs.PassThen.{asked_then}
 use Rattle.pilot_engine.proofs.WroteLemmas.{rose_after, wrote_by, wrote_then}
 use Rattle.pilot_engine.proofs.RefusalLemmas.{delete_gone, no_file_hidden}
 use Rattle.pilot_engine.proofs.SeenLemmas.{delete_seen}
-use Rattle.label_calls.specs.OwnLaws.{relabels_own, quiet_own, wrote_own}
-use Rattle.file_manager.proofs.OwnSteps.{own_after}
+use Rattle.pilot_engine.proofs.WritingLemmas.{only_quiet, only_then}
 use Rattle.fault_core.specs.Core.{state}
 use Rattle.pilot_engine.proofs.CauseLemmas.{named_halt}
 use Rattle.pilot_engine.specs.Halting.{RemoveHalts}
@@ -98,16 +97,16 @@ returns-clause-stays g c = record {
 }
 
 pub returns-in-Ok-Hidden-clause-own : goal.returns-in-Ok-Hidden-clause-own
-returns-in-Ok-Hidden-clause-own g c = relabels_own (quiet_own c.args.id c.sight.ensures.makes)
+returns-in-Ok-Hidden-clause-own g c = only_quiet (call.Delete c.args.id) c.sight.ensures.makes
 
 pub returns-in-Err-clause-own : goal.returns-in-Err-clause-own
-returns-in-Err-clause-own g c = relabels_own (quiet_own c.args.id c.sight.ensures.makes)
+returns-in-Err-clause-own g c = only_quiet (call.Delete c.args.id) c.sight.ensures.makes
 
 pub returns-in-Some-clause-own : goal.returns-in-Some-clause-own
-returns-in-Some-clause-own g c = relabels_own (quiet_own c.args.id c.sight.ensures.makes)
+returns-in-Some-clause-own g c = only_quiet (call.Delete c.args.id) c.sight.ensures.makes
 
 pub returns-clause-own : goal.returns-clause-own
-returns-clause-own g c = own_after (quiet_own c.args.id c.sight.ensures.makes) (wrote_own c.delete_unseen.ensures.wrote.makes c.delete_unseen.ensures.own)
+returns-clause-own g c = only_then (only_quiet (call.Delete c.args.id) c.sight.ensures.makes) c.delete_unseen.ensures.own
 
 -- ---- Why it failed.
 

@@ -1,4 +1,4 @@
-use Rattle.std.proofs.Common.{ℕ, ◌<◌, ◌≤◌, Option, subst, arith, inl, inr}
+use Rattle.std.proofs.Common.{refl, ℕ, ◌<◌, ◌≤◌, Option, subst, arith, inl, inr}
 use Rattle.std.specs.Prelude.{IfSome}
 use Rattle.session_words.specs.Parts.{shapes_of}
 use Rattle.file_manager.specs.Answer.{IsNextFile}
@@ -19,7 +19,7 @@ use Rattle.pilot_engine.proofs.EndNeverBlames.{end_blameless, search_no_table}
 use Rattle.pilot_engine.proofs.HomeLemmas.{file_later, file_pages}
 use Rattle.pilot_engine.proofs.LackLemmas.{search_misses}
 use Rattle.pilot_engine.proofs.SeesLemmas.{seen_blameless, seen_still}
-use Rattle.pilot_engine.proofs.SparedCalls.{all_then, spares_quiet}
+use Rattle.pilot_engine.proofs.WritingLemmas.{clears_none, clears_then}
 use Rattle.pilot_engine.proofs.session.Session.delete_next.Goals as goal
 
 pub returns-in-Ok-None-clause-shed : goal.returns-in-Ok-None-clause-shed
@@ -175,13 +175,13 @@ returns-in-Err-delete_unless_permanent-clause-accounts g c = λ o k. record {
 -- ---- Which files are spared.
 
 pub returns-in-Ok-None-clause-spares : goal.returns-in-Ok-None-clause-spares
-returns-in-Ok-None-clause-spares g c = spares_quiet c.next.ensures.stays.makes
+returns-in-Ok-None-clause-spares g c = clears_none c.next.ensures.stays.makes refl
 
 pub returns-in-Err-clause-spares : goal.returns-in-Err-clause-spares
-returns-in-Err-clause-spares g c = spares_quiet c.next.ensures.stays.makes
+returns-in-Err-clause-spares g c = clears_none c.next.ensures.stays.makes refl
 
 pub returns-in-Ok-clause-spares : goal.returns-in-Ok-clause-spares
-returns-in-Ok-clause-spares g c = all_then (spares_quiet c.next.ensures.stays.makes) c.delete_unless_permanent.ensures.spares
+returns-in-Ok-clause-spares g c = clears_then (clears_none c.next.ensures.stays.makes refl) c.delete_unless_permanent.ensures.spares
 
 pub returns-in-Err-delete_unless_permanent-clause-spares : goal.returns-in-Err-delete_unless_permanent-clause-spares
-returns-in-Err-delete_unless_permanent-clause-spares g c = all_then (spares_quiet c.next.ensures.stays.makes) c.delete_unless_permanent.ensures.spares
+returns-in-Err-delete_unless_permanent-clause-spares g c = clears_then (clears_none c.next.ensures.stays.makes refl) c.delete_unless_permanent.ensures.spares

@@ -1,4 +1,4 @@
-use Rattle.std.proofs.Common.{rules, ℕ, Option, subst, ◌<◌, ◌∙◌, ◌^◌, arith}
+use Rattle.std.proofs.Common.{refl, rules, ℕ, Option, subst, ◌<◌, ◌∙◌, ◌^◌, arith}
 use Rattle.std.specs.Prelude.{IfSome}
 use Rattle.pilot_engine.proofs.ClearedUpTo.{cleared_all, cleared_more, cleared_none, cleared_paid, cleared_sound, cleared_stops}
 use Rattle.pilot_engine.proofs.WroteLemmas.{wrote_then}
@@ -6,12 +6,14 @@ use Rattle.pilot_engine.proofs.CountedHalts.{counted_then}
 use Rattle.fault_core.specs.Core.{state}
 use Rattle.labelled_disk.specs.declared.layout.Layout.{Layout}
 use Rattle.file_manager.specs.Reasons.{ShowsReason}
-use Rattle.pilot_engine.proofs.SparedCalls.{all_then, spares_itself}
+use Rattle.pilot_engine.proofs.WritingLemmas.{clears_none, clears_then}
+use Rattle.session_words.specs.Volume.{volume_page}
+use Rattle.swapper_kernel.specs.GoesLaws.{makes_nothing}
 use Rattle.pilot_engine.proofs.session.Session.delete_temporary.Goals as goal
 use Rattle.filer_kernel.specs.View.{disk_of}
 
 pub files-init : goal.files-init
-files-init g c = (cleared_none _ _ _ _ _ c.requires.size c.requires.opened (g.met.D.Disk.in_form (disk_of c.args.self.now.core.filer)), λ o keeps seen. seen, spares_itself (state c.args.self.now.core).disk)
+files-init g c = (cleared_none _ _ _ _ _ c.requires.size c.requires.opened (g.met.D.Disk.in_form (disk_of c.args.self.now.core.filer)), λ o keeps seen. seen, clears_none (makes_nothing volume_page (state c.args.self.now.core).disk (state c.args.self.now.core).slots) refl)
 
 pub delete_next-requires-clause-size : goal.delete_next-requires-clause-size
 delete_next-requires-clause-size g c = c.files.invariant.0.size
@@ -32,7 +34,7 @@ pub files-preserved : goal.files-preserved
 files-preserved g c = (
   cleared_more _ _ _ _ _ _ _ _ _ _ _ c.files.invariant.0 _ _ _ _ _ _ _ c.in-Ok-Some.field-0-is c.in-Ok-Some.ensures.shed c.delete_next.ensures.stops c.in-Ok-Some.ensures.above c.delete_next.ensures.wrote (λ o k. (c.in-Ok-Some.ensures.accounts o k).keeps_to) c.delete_next.ensures.open_still c.delete_next.ensures.layout c.in-Ok-Some.ensures.paid,
   λ o keeps seen. (c.in-Ok-Some.ensures.accounts o (c.files.invariant.0.keeps o keeps)).sees (c.files.invariant.1 o keeps seen),
-  all_then c.files.invariant.2 c.delete_next.ensures.spares,
+  clears_then c.files.invariant.2 c.delete_next.ensures.spares,
 )
 
 pub returns-in-Ok-None-clause-shed : goal.returns-in-Ok-None-clause-shed
@@ -94,7 +96,7 @@ returns-in-Err-clause-accounts g c = λ o k. record {
 -- ---- Which files are spared.
 
 pub returns-in-Ok-None-clause-spares : goal.returns-in-Ok-None-clause-spares
-returns-in-Ok-None-clause-spares g c = all_then c.files.invariant.2 c.delete_next.ensures.spares
+returns-in-Ok-None-clause-spares g c = clears_then c.files.invariant.2 c.delete_next.ensures.spares
 
 pub returns-in-Err-clause-spares : goal.returns-in-Err-clause-spares
-returns-in-Err-clause-spares g c = all_then c.files.invariant.2 c.delete_next.ensures.spares
+returns-in-Err-clause-spares g c = clears_then c.files.invariant.2 c.delete_next.ensures.spares

@@ -1,4 +1,4 @@
-use Rattle.std.proofs.Common.{inr, Option, subst, inl}
+use Rattle.std.proofs.Common.{ap, refl, inr, Option, subst, inl}
 use Rattle.std.specs.Prelude.{IfSome}
 use Rattle.file_manager.specs.declared.attributes.Attributes.{Attributes}
 use Rattle.labelled_disk.specs.Label.{leader_page}
@@ -24,6 +24,8 @@ use Rattle.pilot_engine.proofs.SeesLemmas.{seen_from, seen_blameless, seen_still
 use Rattle.pilot_engine.proofs.SparedCalls.{all_then, spares_quiet}
 use Rattle.pilot_engine.proofs.SparedFiles.{found_temporary, spares_going, spares_gone}
 use Rattle.file_manager.specs.Attributes.{HasLeader}
+use Rattle.pilot_engine.proofs.WritingLemmas.{clears_none, frees_none, frees_run, only_then}
+use Rattle.file_manager.specs.declared.volume.Volume.{Volume}
 use Rattle.pilot_engine.proofs.session.Session.delete_unless_permanent.Goals as goal
 
 pub returns-in-Ok-None-clause-shed : goal.returns-in-Ok-None-clause-shed
@@ -197,18 +199,28 @@ returns-in-Err-delete-clause-accounts g c = λ o k. record {
 -- ---- Which files are spared.
 
 pub returns-in-Ok-None-clause-spares : goal.returns-in-Ok-None-clause-spares
-returns-in-Ok-None-clause-spares g c = spares_quiet c.attributes_of.ensures.stays.makes
+returns-in-Ok-None-clause-spares g c = clears_none c.attributes_of.ensures.stays.makes refl
 
 pub returns-in-Err-clause-spares : goal.returns-in-Err-clause-spares
-returns-in-Err-clause-spares g c = spares_quiet c.attributes_of.ensures.stays.makes
+returns-in-Err-clause-spares g c = clears_none c.attributes_of.ensures.stays.makes refl
 
 pub returns-then-found-clause-spares : goal.returns-then-found-clause-spares
-returns-then-found-clause-spares g c = spares_quiet c.attributes_of.ensures.stays.makes
+returns-then-found-clause-spares g c = clears_none c.attributes_of.ensures.stays.makes refl
 
 pub returns-in-Ok-clause-spares : goal.returns-in-Ok-clause-spares
 returns-in-Ok-clause-spares g c =
-    all_then (spares_quiet c.attributes_of.ensures.stays.makes) (spares_gone c.args.id (found_temporary (view_of c.attributes_of.new.filer).disk c.args.id c.in-Ok-Some.found.permanent (subst (λ (o : Option Attributes). IfSome o (λ a. HasLeader (view_of c.attributes_of.new.filer).disk c.args.id a.permanent)) c.in-Ok-Some.field-0-is c.in-Ok-Some.ensures.marked) c.if-found.false) c.in-Ok.ensures.writes.1 c.in-Ok.ensures.labels.own)
+    record {
+      spares =
+          all_then (spares_quiet c.attributes_of.ensures.stays.makes) (spares_gone c.args.id (found_temporary (view_of c.attributes_of.new.filer).disk c.args.id c.in-Ok-Some.found.permanent (subst (λ (o : Option Attributes). IfSome o (λ a. HasLeader (view_of c.attributes_of.new.filer).disk c.args.id a.permanent)) c.in-Ok-Some.field-0-is c.in-Ok-Some.ensures.marked) c.if-found.false) c.in-Ok.ensures.writes.1 c.in-Ok.ensures.labels.own);
+      frees = only_then (frees_none c.attributes_of.ensures.stays.makes) (frees_run c.in-Ok.ensures.writes.1.sectors c.in-Ok.ensures.writes.1.makes);
+      root = ap (λ (v : Volume). v.root) c.delete.ensures.volume.rest_of_volume;
+    }
 
 pub returns-in-Err-delete-clause-spares : goal.returns-in-Err-delete-clause-spares
 returns-in-Err-delete-clause-spares g c =
-    all_then (spares_quiet c.attributes_of.ensures.stays.makes) (spares_going c.args.id (found_temporary (view_of c.attributes_of.new.filer).disk c.args.id c.in-Ok-Some.found.permanent (subst (λ (o : Option Attributes). IfSome o (λ a. HasLeader (view_of c.attributes_of.new.filer).disk c.args.id a.permanent)) c.in-Ok-Some.field-0-is c.in-Ok-Some.ensures.marked) c.if-found.false) c.in-Err-delete.ensures.writes c.in-Err-delete.ensures.labels.own)
+    record {
+      spares =
+          all_then (spares_quiet c.attributes_of.ensures.stays.makes) (spares_going c.args.id (found_temporary (view_of c.attributes_of.new.filer).disk c.args.id c.in-Ok-Some.found.permanent (subst (λ (o : Option Attributes). IfSome o (λ a. HasLeader (view_of c.attributes_of.new.filer).disk c.args.id a.permanent)) c.in-Ok-Some.field-0-is c.in-Ok-Some.ensures.marked) c.if-found.false) c.in-Err-delete.ensures.writes c.in-Err-delete.ensures.labels.own);
+      frees = only_then (frees_none c.attributes_of.ensures.stays.makes) (frees_run c.in-Err-delete.ensures.writes.sectors c.in-Err-delete.ensures.writes.makes);
+      root = ap (λ (v : Volume). v.root) c.delete.ensures.volume.rest_of_volume;
+    }

@@ -12,8 +12,7 @@ use Rattle.pilot_engine.proofs.RefusalLemmas.{delete_gone, delete_free, no_file_
 use Rattle.pilot_engine.proofs.SeenLemmas.{unseen_named, unseen_pages}
 use Rattle.running_words.proofs.SessionLemmas.{session_books}
 use Rattle.running_words.proofs.StageLemmas.{no_step}
-use Rattle.label_calls.specs.OwnLaws.{relabels_own, quiet_own}
-use Rattle.file_manager.proofs.OwnSteps.{freed_own, some_own, own_after}
+use Rattle.pilot_engine.proofs.WritingLemmas.{only_deleted, only_deleting, only_quiet, only_then}
 use Rattle.fault_core.specs.Core.{state}
 use Rattle.space_calls.proofs.HaltLemmas.{look_reaches}
 use Rattle.pilot_engine.proofs.ReasonSteps.{shows_since}
@@ -119,16 +118,16 @@ returns-in-Err-delete-clause-bounded g c = λ spaces_of m s.
     (view_of c.attributes_of.new.filer).disk (view_of c.delete.new.filer).disk c.args.id _ revealed c.requires.size c.attributes_of.ensures.cost paid
 
 pub returns-in-Ok-None-clause-own : goal.returns-in-Ok-None-clause-own
-returns-in-Ok-None-clause-own g c = relabels_own (quiet_own c.args.id c.attributes_of.ensures.stays.makes)
+returns-in-Ok-None-clause-own g c = only_quiet (call.Delete c.args.id) c.attributes_of.ensures.stays.makes
 
 pub returns-in-Err-clause-own : goal.returns-in-Err-clause-own
-returns-in-Err-clause-own g c = relabels_own (quiet_own c.args.id c.attributes_of.ensures.stays.makes)
+returns-in-Err-clause-own g c = only_quiet (call.Delete c.args.id) c.attributes_of.ensures.stays.makes
 
 pub returns-in-Ok-clause-own : goal.returns-in-Ok-clause-own
-returns-in-Ok-clause-own g c = own_after (quiet_own c.args.id c.attributes_of.ensures.stays.makes) (freed_own c.in-Ok.ensures.writes.1 c.in-Ok.ensures.labels.own)
+returns-in-Ok-clause-own g c = only_then (only_quiet (call.Delete c.args.id) c.attributes_of.ensures.stays.makes) (only_deleted c.args.id c.in-Ok.ensures.writes.1 c.in-Ok.ensures.labels.own)
 
 pub returns-in-Err-delete-clause-own : goal.returns-in-Err-delete-clause-own
-returns-in-Err-delete-clause-own g c = own_after (quiet_own c.args.id c.attributes_of.ensures.stays.makes) (some_own c.in-Err-delete.ensures.writes c.in-Err-delete.ensures.labels.own)
+returns-in-Err-delete-clause-own g c = only_then (only_quiet (call.Delete c.args.id) c.attributes_of.ensures.stays.makes) (only_deleting c.args.id c.in-Err-delete.ensures.writes c.in-Err-delete.ensures.labels.own)
 
 -- ---- Why it failed.
 
@@ -247,7 +246,7 @@ pub returns-then-is_kept-clause-bounded : goal.returns-then-is_kept-clause-bound
 returns-then-is_kept-clause-bounded g c = λ spaces_of m s. inside_layout (state c.args.self.now.core).layout (state c.args.self.now.core).disk (view_of c.attributes_of.new.filer).disk c.requires.size (inside _ _ _ 29 (omega arith) c.attributes_of.ensures.cost)
 
 pub returns-then-is_kept-clause-own : goal.returns-then-is_kept-clause-own
-returns-then-is_kept-clause-own g c = relabels_own (quiet_own c.args.id c.attributes_of.ensures.stays.makes)
+returns-then-is_kept-clause-own g c = only_quiet (call.Delete c.args.id) c.attributes_of.ensures.stays.makes
 
 pub returns-then-is_kept-clause-accounts : goal.returns-then-is_kept-clause-accounts
 returns-then-is_kept-clause-accounts g c = λ o k. record {

@@ -19,8 +19,9 @@ use Rattle.pilot_engine.proofs.EndNeverBlames.{end_blameless, none_no_table}
 use Rattle.pilot_engine.proofs.FormLemmas.{cut_form}
 use Rattle.pilot_engine.proofs.HomeLemmas.{file_pages}
 use Rattle.pilot_engine.proofs.LackLemmas.{cut_misses, tables_lack}
-use Rattle.pilot_engine.proofs.SparedCalls.{all_then, spares_all}
+use Rattle.pilot_engine.proofs.SparedCalls.{spares_all}
 use Rattle.pilot_engine.proofs.SparedFiles.{spares_freed, spares_some}
+use Rattle.pilot_engine.proofs.WritingLemmas.{clears_then, frees_run}
 use Rattle.pilot_engine.proofs.session.Session.empty.Goals as goal
 
 pub returns-in-Ok-free_tables-clause-emptied : goal.returns-in-Ok-free_tables-clause-emptied
@@ -127,7 +128,17 @@ pub returns-in-Err-clause-spares : goal.returns-in-Err-clause-spares
 returns-in-Err-clause-spares g c = c.delete_temporary.ensures.spares
 
 pub returns-in-Ok-free_tables-clause-spares : goal.returns-in-Ok-free_tables-clause-spares
-returns-in-Ok-free_tables-clause-spares g c = all_then c.delete_temporary.ensures.spares (spares_all 3 (omega arith) (spares_freed 3 c.in-Ok-free_tables.ensures.writes c.in-Ok-free_tables.ensures.own))
+returns-in-Ok-free_tables-clause-spares g c =
+    clears_then c.delete_temporary.ensures.spares (record {
+      spares = spares_all 3 (omega arith) (spares_freed 3 c.in-Ok-free_tables.ensures.writes c.in-Ok-free_tables.ensures.own);
+      frees = frees_run c.in-Ok-free_tables.ensures.writes.sectors c.in-Ok-free_tables.ensures.writes.makes;
+      root = refl;
+    })
 
 pub returns-in-Err-free_tables-clause-spares : goal.returns-in-Err-free_tables-clause-spares
-returns-in-Err-free_tables-clause-spares g c = all_then c.delete_temporary.ensures.spares (spares_all 3 (omega arith) (spares_some 3 c.in-Err-free_tables.ensures.writes c.in-Err-free_tables.ensures.own))
+returns-in-Err-free_tables-clause-spares g c =
+    clears_then c.delete_temporary.ensures.spares (record {
+      spares = spares_all 3 (omega arith) (spares_some 3 c.in-Err-free_tables.ensures.writes c.in-Err-free_tables.ensures.own);
+      frees = frees_run c.in-Err-free_tables.ensures.writes.sectors c.in-Err-free_tables.ensures.writes.makes;
+      root = refl;
+    })

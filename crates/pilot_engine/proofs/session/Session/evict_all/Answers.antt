@@ -61,7 +61,15 @@ returns-in-Err-clause-accounts g c = λ o k.
 -- ---- Which files are spared.
 
 pub returns-in-Ok-clause-spares : goal.returns-in-Ok-clause-spares
-returns-in-Ok-clause-spares g c = rw c.look_at_frames.ensures.same at c.evict_root.ensures.spares
+returns-in-Ok-clause-spares g c = record {
+  spares = rw c.look_at_frames.ensures.same at c.evict_root.ensures.spares.spares;
+  frees = rw c.look_at_frames.ensures.same at c.evict_root.ensures.spares.frees;
+  root = c.evict_root.ensures.spares.root;
+}
 
 pub returns-in-Err-clause-spares : goal.returns-in-Err-clause-spares
-returns-in-Err-clause-spares g c = rw c.look_at_frames.ensures.same at c.evict_root.ensures.spares
+returns-in-Err-clause-spares g c = record {
+  spares = rw c.look_at_frames.ensures.same at c.evict_root.ensures.spares.spares;
+  frees = rw c.look_at_frames.ensures.same at c.evict_root.ensures.spares.frees;
+  root = c.evict_root.ensures.spares.root;
+}

@@ -1,4 +1,4 @@
-use Rattle.std.proofs.Common.{length, subst, sym}
+use Rattle.std.proofs.Common.{refl, length, subst, sym}
 use Rattle.labelled_disk.specs.declared.layout.Layout.{Layout}
 use Rattle.fault_core.specs.Core.{kept, state}
 use Rattle.running_words.specs.RunningLaws.{IsWhole}
@@ -16,7 +16,7 @@ use Rattle.flat_machine.specs.Space.{root_pages}
 use Rattle.fault_core.specs.Kill.{BreaksWithin}
 use Rattle.fault_core.specs.ReachLaws.{reach_misses}
 use Rattle.pilot_engine.proofs.HomeLemmas.{file_pages, files_later}
-use Rattle.pilot_engine.proofs.SparedCalls.{spares_quiet}
+use Rattle.pilot_engine.proofs.WritingLemmas.{clears_none}
 use Rattle.pilot_engine.proofs.session.Session.evict_root.Goals as goal
 use Rattle.filer_kernel.specs.View.{accepted, disk_of, swapper_of}
 
@@ -28,34 +28,34 @@ returns-in-Ok-clause-alone g c = λ m r.
     let revealed = revealed_there running_laws (state old) (state new) (kept old) (kept new) old.intervals new.intervals c.args.self.now.volume m whole r in
     let x = r.session.stands.memory in
     let named = r.session.stands.is.named in
-    evict_alone running_laws (state old) (state new) (kept old) (kept new) old.intervals new.intervals c.args.self.now.volume m whole r c.evict.ensures.reaches c.evict.ensures.came c.evict.ensures.intervals
-    (c.evict.ensures.same x named m.spaces revealed) (c.in-Ok.ensures.gone x named m.spaces revealed)
+    evict_alone running_laws (state old) (state new) (kept old) (kept new) old.intervals new.intervals c.args.self.now.volume m whole r c.evict.ensures.brings.reaches c.evict.ensures.brings.came c.evict.ensures.stays.intervals
+    (c.evict.ensures.stays.same x named m.spaces revealed) (c.in-Ok.ensures.gone x named m.spaces revealed)
 
 pub returns-in-Err-clause-sound : goal.returns-in-Err-clause-sound
 returns-in-Err-clause-sound g c = λ m r.
     let old = c.args.self.now.core in
     let whole : IsWhole (state old) = record { layout = (accepted old.filer); size = c.requires.size } in
-    c.in-Err.ensures.sound r.session.stands.memory r.session.stands.is.named m.spaces (running_laws.known (state old) (kept old) old.intervals c.args.self.now.volume m whole r)
+    c.in-Err.ensures.fails.sound r.session.stands.memory r.session.stands.is.named m.spaces (running_laws.known (state old) (kept old) old.intervals c.args.self.now.volume m whole r)
 
 pub returns-in-Ok-clause-stops : goal.returns-in-Ok-clause-stops
 returns-in-Ok-clause-stops g c = λ m r.
-    stops_quiet (exactly r.pages m.spaces) _ _ _ _ m r.session.stands (g.met.D.Disk.in_form (disk_of c.args.self.now.core.filer)) (own_makes c.evict.ensures.reaches.goes.makes)
+    stops_quiet (exactly r.pages m.spaces) _ _ _ _ m r.session.stands (g.met.D.Disk.in_form (disk_of c.args.self.now.core.filer)) (own_makes c.evict.ensures.brings.reaches.goes.makes)
 
 pub returns-in-Err-clause-stops : goal.returns-in-Err-clause-stops
 returns-in-Err-clause-stops g c = λ m r.
-    stops_quiet (exactly r.pages m.spaces) _ _ _ _ m r.session.stands (g.met.D.Disk.in_form (disk_of c.args.self.now.core.filer)) (own_makes c.evict.ensures.reaches.goes.makes)
+    stops_quiet (exactly r.pages m.spaces) _ _ _ _ m r.session.stands (g.met.D.Disk.in_form (disk_of c.args.self.now.core.filer)) (own_makes c.evict.ensures.brings.reaches.goes.makes)
 
 pub returns-in-Ok-clause-wrote : goal.returns-in-Ok-clause-wrote
-returns-in-Ok-clause-wrote g c = wrote_by (own_makes c.evict.ensures.reaches.goes.makes) tt
+returns-in-Ok-clause-wrote g c = wrote_by (own_makes c.evict.ensures.brings.reaches.goes.makes) tt
 
 pub returns-in-Err-clause-wrote : goal.returns-in-Err-clause-wrote
-returns-in-Err-clause-wrote g c = wrote_by (own_makes c.evict.ensures.reaches.goes.makes) tt
+returns-in-Err-clause-wrote g c = wrote_by (own_makes c.evict.ensures.brings.reaches.goes.makes) tt
 
 pub returns-in-Ok-clause-open_still : goal.returns-in-Ok-clause-open_still
-returns-in-Ok-clause-open_still g c = subst (λ (l : Layout). IsOpen l c.args.self.now.volume) (sym c.evict.ensures.reaches.layout) c.requires.opened
+returns-in-Ok-clause-open_still g c = subst (λ (l : Layout). IsOpen l c.args.self.now.volume) (sym c.evict.ensures.brings.reaches.layout) c.requires.opened
 
 pub returns-in-Err-clause-open_still : goal.returns-in-Err-clause-open_still
-returns-in-Err-clause-open_still g c = subst (λ (l : Layout). IsOpen l c.args.self.now.volume) (sym c.evict.ensures.reaches.layout) c.requires.opened
+returns-in-Err-clause-open_still g c = subst (λ (l : Layout). IsOpen l c.args.self.now.volume) (sym c.evict.ensures.brings.reaches.layout) c.requires.opened
 
 pub returns-in-Ok-clause-cost : goal.returns-in-Ok-clause-cost
 returns-in-Ok-clause-cost g c =
@@ -66,7 +66,7 @@ returns-in-Err-clause-cost g c =
     gone_cost c.args.self.now.core.intervals (length (state c.args.self.now.core).slots) (state c.args.self.now.core).disk.transfers (state c.evict.new.self).disk.transfers c.args.self.now.core.few c.evict.ensures.cost
 
 pub returns-in-Err-clause-evidence_seen : goal.returns-in-Err-clause-evidence_seen
-returns-in-Err-clause-evidence_seen g c = shows_evidence _ (state c.args.self.now.core) (state c.evict.new.self) (fits (swapper_of c.args.self.now.core.filer) c.requires.size) c.evict.ensures.reaches.goes.makes c.in-Err.halt c.in-Err.ensures.cause
+returns-in-Err-clause-evidence_seen g c = shows_evidence _ (state c.args.self.now.core) (state c.evict.new.self) (fits (swapper_of c.args.self.now.core.filer) c.requires.size) c.evict.ensures.brings.reaches.goes.makes c.in-Err.halt c.in-Err.ensures.fails.cause
 
 -- ---- What began stays a reason.
 
@@ -74,19 +74,19 @@ pub returns-in-Ok-clause-accounts : goal.returns-in-Ok-clause-accounts
 returns-in-Ok-clause-accounts g c = λ o k. record {
   keeps_to = (let v = state c.args.self.now.core in
       let w = state c.evict.new.self in
-      (k.0, keeps_moved o v w k.0 (accepted c.args.self.now.core.filer) k.1 (moves_of_reaches v w c.evict.ensures.reaches)));
+      (k.0, keeps_moved o v w k.0 (accepted c.args.self.now.core.filer) k.1 (moves_of_reaches v w c.evict.ensures.brings.reaches)));
   reasons = tt;
-  sees = (λ seen. (seen.0, (c.evict.ensures.sees seen.0 seen.1.0, files_later o c.evict.ensures.reaches.goes.makes seen.0 seen.1.1)));
+  sees = (λ seen. (seen.0, (c.evict.ensures.stays.sees seen.0 seen.1.0, files_later o c.evict.ensures.brings.reaches.goes.makes seen.0 seen.1.1)));
 }
 
 pub returns-in-Err-clause-accounts : goal.returns-in-Err-clause-accounts
 returns-in-Err-clause-accounts g c = λ o k. record {
   keeps_to = tt;
-  reasons = (reach_reasons o (state c.args.self.now.core) (state c.evict.new.self) k.0 _ (accepted c.args.self.now.core.filer) k.1 c.evict.ensures.reaches.goes.makes c.in-Err.halt c.in-Err.ensures.cause);
+  reasons = (reach_reasons o (state c.args.self.now.core) (state c.evict.new.self) k.0 _ (accepted c.args.self.now.core.filer) k.1 c.evict.ensures.brings.reaches.goes.makes c.in-Err.halt c.in-Err.ensures.fails.cause);
   sees = (λ seen. let old = c.args.self.now.core in
       let v = state old in
       let new = c.evict.new.self in
-      (c.in-Err.ensures.right seen.0 seen.1.0, reach_misses (BreaksWithin v old.intervals 0 root_pages) v (state new) (file_pages o (state new).disk) c.in-Err.halt c.in-Err.ensures.cause));
+      (c.in-Err.ensures.fails.right seen.0 seen.1.0, reach_misses (BreaksWithin v old.intervals 0 root_pages) v (state new) (file_pages o (state new).disk) c.in-Err.halt c.in-Err.ensures.fails.cause));
 }
 
 -- ---- What is seen of the space tables, and which page is reported as missing.
@@ -94,7 +94,7 @@ returns-in-Err-clause-accounts g c = λ o k. record {
 -- ---- Which files are spared.
 
 pub returns-in-Ok-clause-spares : goal.returns-in-Ok-clause-spares
-returns-in-Ok-clause-spares g c = spares_quiet (own_makes c.evict.ensures.reaches.goes.makes)
+returns-in-Ok-clause-spares g c = clears_none (own_makes c.evict.ensures.brings.reaches.goes.makes) refl
 
 pub returns-in-Err-clause-spares : goal.returns-in-Err-clause-spares
-returns-in-Err-clause-spares g c = spares_quiet (own_makes c.evict.ensures.reaches.goes.makes)
+returns-in-Err-clause-spares g c = clears_none (own_makes c.evict.ensures.brings.reaches.goes.makes) refl

@@ -32,16 +32,16 @@ returns-in-Ok g c =
     let address = c.args.address in
     let n = length c.args.into.now in
     let whole = whole_of old c.requires.taken.size in
-    let moves = moves_of_reaches (state old) (state new) did.reaches in
-    let makes = reached_makes did.reaches in
+    let moves = moves_of_reaches (state old) (state new) did.brings.reaches in
+    let makes = reached_makes did.brings.reaches in
     let came : Came (state old) (state new) (kept old) (kept new) old.intervals new.intervals =
-    record { reaches = did.reaches; brings = did.came; known = did.same; same_count = did.intervals } in
+    record { reaches = did.brings.reaches; brings = did.brings.came; known = did.stays.same; same_count = did.stays.intervals } in
     record {
       machine = λ m r. record {
         carried =
-            let p = load_answered whole r address n c.load.new.into result did.width came did.access did.bytes in
+            let p = load_answered whole r address n c.load.new.into result did.moves.width came did.comes.access did.moves.bytes in
             record { allowed = p.0; runs = p.1 };
-        sound = did.sound r.session.stands.memory r.session.stands.is.named m.spaces (running_laws.known (state old) (kept old) old.intervals c.args.self.now.volume m whole r);
+        sound = did.fails.sound r.session.stands.memory r.session.stands.is.named m.spaces (running_laws.known (state old) (kept old) old.intervals c.args.self.now.volume m whole r);
         passes = still_reveals running_laws whole r (state new) (λ d revealed. g.met.D.Disk.in_form (disk_of old.filer) d revealed) (call.Load address n) makes;
         idle = λ ready.
             let two = did.idle ready.0 ready.1 (running_laws.apart (state old) (kept old) old.intervals c.args.self.now.volume m r) in
@@ -49,28 +49,28 @@ returns-in-Ok g c =
       };
       since = λ o k. record {
         keeps_to = moving_keeps (state old) (state new) result (accepted old.filer) moves o k;
-        reasons = touching_reasons (λ v. BreaksFor v old.intervals address n) (state old) (state new) result (accepted old.filer) moves did.cause o k;
+        reasons = touching_reasons (λ v. BreaksFor v old.intervals address n) (state old) (state new) result (accepted old.filer) moves did.fails.cause o k;
         sees = λ seen.
-            still_or_blameless o old new moves.goes.makes result (ok_always result (StillOn old new) (λ ss s. (ss, (did.sees ss s, shown_here ss)))) (λ s. did.right s.0 s.1)
-            (shown_units seen.0 address n) (did.missing seen.0 seen.1.0)
+            still_or_blameless o old new moves.goes.makes result (ok_always result (StillOn old new) (λ ss s. (ss, (did.stays.sees ss s, shown_here ss)))) (λ s. did.fails.right s.0 s.1)
+            (shown_units seen.0 address n) (did.fails.missing seen.0 seen.1.0)
             (units_on (WasBelow o (state old).disk) (have_lower o (state old).disk) seen.0 seen.1.1 address n) seen;
       };
       refers = record {
-        fails = fails_of result (BreaksFor (state old) old.intervals address n) (state old) (state new) (fits (swapper_of old.filer) c.requires.taken.size) did.reaches.goes.makes did.cause;
-        missing = did.missing;
+        fails = fails_of result (BreaksFor (state old) old.intervals address n) (state old) (state new) (fits (swapper_of old.filer) c.requires.taken.size) did.brings.reaches.goes.makes did.fails.cause;
+        missing = did.fails.missing;
         wrote = wrote_so makes;
         shown = λ ss s. wrote_so makes;
         unlabelled = pages_alone moves.goes.makes;
-        ready = λ done ss. did.ready done;
+        ready = λ done ss. did.comes.ready done;
         few = did.cost;
-        stays = record { open_still = still_open _ _ _ _ c.requires.taken.opened did.reaches.layout refl; monotone = omega arith; serial = refl; layout = did.reaches.layout };
+        stays = record { open_still = still_open _ _ _ _ c.requires.taken.opened did.brings.reaches.layout refl; monotone = omega arith; serial = refl; layout = did.brings.reaches.layout };
         same_volume = refl;
         goes_on = c.requires.taken.running;
         halted = tt;
       };
-      width = did.width;
-      unmoved = did.refused;
-      intact = did.intact;
+      width = did.moves.width;
+      unmoved = did.moves.refused;
+      intact = did.moves.intact;
     }
 
 pub returns-in-Err : goal.returns-in-Err
@@ -82,14 +82,14 @@ returns-in-Err g c =
     let address = c.args.address in
     let n = length c.args.into.now in
     let whole = whole_of old c.requires.taken.size in
-    let moves = moves_of_reaches (state old) (state new) did.reaches in
-    let makes = reached_makes did.reaches in
+    let moves = moves_of_reaches (state old) (state new) did.brings.reaches in
+    let makes = reached_makes did.brings.reaches in
     let came : Came (state old) (state new) (kept old) (kept new) old.intervals new.intervals =
-    record { reaches = did.reaches; brings = did.came; known = did.same; same_count = did.intervals } in
+    record { reaches = did.brings.reaches; brings = did.brings.came; known = did.stays.same; same_count = did.stays.intervals } in
     record {
       machine = λ m r. record {
         carried = tt;
-        sound = did.sound r.session.stands.memory r.session.stands.is.named m.spaces (running_laws.known (state old) (kept old) old.intervals c.args.self.now.volume m whole r);
+        sound = did.fails.sound r.session.stands.memory r.session.stands.is.named m.spaces (running_laws.known (state old) (kept old) old.intervals c.args.self.now.volume m whole r);
         passes = still_reveals running_laws whole r (state new) (λ d revealed. g.met.D.Disk.in_form (disk_of old.filer) d revealed) (call.Load address n) makes;
         idle = λ ready.
             let two = did.idle ready.0 ready.1 (running_laws.apart (state old) (kept old) old.intervals c.args.self.now.volume m r) in
@@ -97,26 +97,26 @@ returns-in-Err g c =
       };
       since = λ o k. record {
         keeps_to = moving_keeps (state old) (state new) result (accepted old.filer) moves o k;
-        reasons = touching_reasons (λ v. BreaksFor v old.intervals address n) (state old) (state new) result (accepted old.filer) moves did.cause o k;
+        reasons = touching_reasons (λ v. BreaksFor v old.intervals address n) (state old) (state new) result (accepted old.filer) moves did.fails.cause o k;
         sees = λ seen.
-            still_or_blameless o old new moves.goes.makes result (ok_always result (StillOn old new) (λ ss s. (ss, (did.sees ss s, shown_here ss)))) (λ s. did.right s.0 s.1)
-            (shown_units seen.0 address n) (did.missing seen.0 seen.1.0)
+            still_or_blameless o old new moves.goes.makes result (ok_always result (StillOn old new) (λ ss s. (ss, (did.stays.sees ss s, shown_here ss)))) (λ s. did.fails.right s.0 s.1)
+            (shown_units seen.0 address n) (did.fails.missing seen.0 seen.1.0)
             (units_on (WasBelow o (state old).disk) (have_lower o (state old).disk) seen.0 seen.1.1 address n) seen;
       };
       refers = record {
-        fails = fails_of result (BreaksFor (state old) old.intervals address n) (state old) (state new) (fits (swapper_of old.filer) c.requires.taken.size) did.reaches.goes.makes did.cause;
-        missing = did.missing;
+        fails = fails_of result (BreaksFor (state old) old.intervals address n) (state old) (state new) (fits (swapper_of old.filer) c.requires.taken.size) did.brings.reaches.goes.makes did.fails.cause;
+        missing = did.fails.missing;
         wrote = wrote_so makes;
         shown = λ ss s. wrote_so makes;
         unlabelled = pages_alone moves.goes.makes;
         ready = tt;
         few = did.cost;
-        stays = record { open_still = still_open _ _ _ _ c.requires.taken.opened did.reaches.layout refl; monotone = omega arith; serial = refl; layout = did.reaches.layout };
+        stays = record { open_still = still_open _ _ _ _ c.requires.taken.opened did.brings.reaches.layout refl; monotone = omega arith; serial = refl; layout = did.brings.reaches.layout };
         same_volume = refl;
         goes_on = tt;
         halted = refl;
       };
-      width = did.width;
-      unmoved = did.refused;
-      intact = did.intact;
+      width = did.moves.width;
+      unmoved = did.moves.refused;
+      intact = did.moves.intact;
     }

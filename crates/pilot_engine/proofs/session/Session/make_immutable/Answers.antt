@@ -14,8 +14,7 @@ use Rattle.space_tables.specs.declared.shown.Shown.{Shown}
 use Rattle.swapper_kernel.specs.GoesLaws.{makes_then}
 use Rattle.pilot_engine.proofs.RefusalLemmas.{no_file_hidden, immutable_gone}
 use Rattle.pilot_engine.proofs.SeenLemmas.{immutable_seen, written_by_none}
-use Rattle.label_calls.specs.OwnLaws.{relabels_own, quiet_own, wrote_own, own_then}
-use Rattle.file_manager.proofs.OwnSteps.{own_after}
+use Rattle.pilot_engine.proofs.WritingLemmas.{only_quiet, only_then}
 use Rattle.fault_core.specs.Core.{state}
 use Rattle.pilot_engine.proofs.CauseLemmas.{named_halt}
 use Rattle.pilot_engine.specs.Halting.{MarkHalts}
@@ -125,19 +124,19 @@ returns-clause-stays g c = record {
 }
 
 pub returns-in-Ok-Hidden-clause-own : goal.returns-in-Ok-Hidden-clause-own
-returns-in-Ok-Hidden-clause-own g c = relabels_own (quiet_own c.args.id c.sight.ensures.makes)
+returns-in-Ok-Hidden-clause-own g c = only_quiet (call.MakeImmutable c.args.id) c.sight.ensures.makes
 
 pub returns-in-Err-clause-own : goal.returns-in-Err-clause-own
-returns-in-Err-clause-own g c = relabels_own (quiet_own c.args.id c.sight.ensures.makes)
+returns-in-Err-clause-own g c = only_quiet (call.MakeImmutable c.args.id) c.sight.ensures.makes
 
 pub returns-in-Ok-Some-clause-own : goal.returns-in-Ok-Some-clause-own
-returns-in-Ok-Some-clause-own g c = own_after (quiet_own c.args.id c.sight.ensures.makes) (quiet_own c.args.id c.window_on.ensures.looks.makes)
+returns-in-Ok-Some-clause-own g c = only_then (only_quiet (call.MakeImmutable c.args.id) c.sight.ensures.makes) (only_quiet (call.MakeImmutable c.args.id) c.window_on.ensures.looks.makes)
 
 pub returns-in-Err-window_on-clause-own : goal.returns-in-Err-window_on-clause-own
-returns-in-Err-window_on-clause-own g c = own_after (quiet_own c.args.id c.sight.ensures.makes) (quiet_own c.args.id c.window_on.ensures.looks.makes)
+returns-in-Err-window_on-clause-own g c = only_then (only_quiet (call.MakeImmutable c.args.id) c.sight.ensures.makes) (only_quiet (call.MakeImmutable c.args.id) c.window_on.ensures.looks.makes)
 
 pub returns-clause-own : goal.returns-clause-own
-returns-clause-own g c = own_after (quiet_own c.args.id c.sight.ensures.makes) (own_then (quiet_own c.args.id c.window_on.ensures.looks.makes) (wrote_own c.mark_immutable.ensures.wrote.makes c.mark_immutable.ensures.own))
+returns-clause-own g c = only_then (only_quiet (call.MakeImmutable c.args.id) c.sight.ensures.makes) (only_then (only_quiet (call.MakeImmutable c.args.id) c.window_on.ensures.looks.makes) c.mark_immutable.ensures.own)
 
 -- ---- Why it failed.
 

@@ -9,8 +9,7 @@ use Rattle.pilot_engine.proofs.LiftLemmas.{asked_passes, carried_out, refused_ru
 use Rattle.pilot_engine.proofs.PassThen.{asked_then}
 use Rattle.pilot_engine.proofs.WroteLemmas.{rose_after, wrote_by, wrote_then}
 use Rattle.pilot_engine.proofs.RefusalLemmas.{no_file_hidden, permanent_gone}
-use Rattle.label_calls.specs.OwnLaws.{relabels_own, quiet_own, wrote_own}
-use Rattle.file_manager.proofs.OwnSteps.{own_after}
+use Rattle.pilot_engine.proofs.WritingLemmas.{only_quiet, only_then}
 use Rattle.fault_core.specs.Core.{state}
 use Rattle.pilot_engine.proofs.CauseLemmas.{named_halt}
 use Rattle.pilot_engine.specs.Halting.{MarkHalts}
@@ -82,13 +81,13 @@ returns-in-Ok-By-clause-stays g c = record {
 }
 
 pub returns-in-Ok-Hidden-clause-own : goal.returns-in-Ok-Hidden-clause-own
-returns-in-Ok-Hidden-clause-own g c = relabels_own (quiet_own c.args.id c.sight.ensures.makes)
+returns-in-Ok-Hidden-clause-own g c = only_quiet (call.MakePermanent c.args.id) c.sight.ensures.makes
 
 pub returns-in-Err-clause-own : goal.returns-in-Err-clause-own
-returns-in-Err-clause-own g c = relabels_own (quiet_own c.args.id c.sight.ensures.makes)
+returns-in-Err-clause-own g c = only_quiet (call.MakePermanent c.args.id) c.sight.ensures.makes
 
 pub returns-in-Ok-By-clause-own : goal.returns-in-Ok-By-clause-own
-returns-in-Ok-By-clause-own g c = own_after (quiet_own c.args.id c.sight.ensures.makes) (wrote_own c.mark_permanent.ensures.wrote.makes c.mark_permanent.ensures.own)
+returns-in-Ok-By-clause-own g c = only_then (only_quiet (call.MakePermanent c.args.id) c.sight.ensures.makes) c.mark_permanent.ensures.own
 
 -- ---- Why it failed.
 

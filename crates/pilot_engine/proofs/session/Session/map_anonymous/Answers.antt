@@ -21,7 +21,7 @@ use Rattle.fault_core.specs.Core.{state}
 use Rattle.filer_kernel.proofs.Outcomes.{err_wider}
 use Rattle.space_calls.specs.Halts.{ChangeHalts, PathHalts}
 use Rattle.space_calls.proofs.HaltLemmas.{counted_change}
-use Rattle.file_manager.specs.Creating.{next_id}
+use Rattle.file_manager.specs.Creating.{counted, next_id}
 use Rattle.file_manager.specs.Grounds.{IsNewPage}
 use Rattle.file_manager.specs.Taking.{every_page}
 use Rattle.file_manager.proofs.RoomStops.{create_wider}
@@ -44,6 +44,7 @@ use Rattle.pilot_engine.specs.Showing.{mapped_by}
 use Rattle.pilot_engine.proofs.WindowLemmas.{ok_for_each, sees_or}
 use Rattle.swapper_kernel.specs.HaltLaws.{brings_then}
 use Rattle.pilot_engine.proofs.ReferLemmas.{ok_always}
+use Rattle.pilot_engine.proofs.WritingLemmas.{mapped_after, only_asked, only_then, where_ok}
 use Rattle.pilot_engine.proofs.session.Session.map_anonymous.Goals as goal
 use Rattle.filer_kernel.specs.View.{accepted, disk_of, swapper_of, view_of}
 
@@ -327,3 +328,41 @@ returns-clause-windows g c =
     (record { above_reserved = omega (arith, serial, same_id); small = small; pages_fit = omega (arith, few, long) }) in
     given_for_files c.give_window.new.core c.args.space c.in-File.id 0 c.give_window.result ss given (λ id page. IsShown ss id page ⊎ more ss id page) (shown_or (more ss) ss)
     (λ last at. inr (ap (λ (i : ℕ). Some i) (sym same_id))))
+
+-- ---- What is written.
+
+pub returns-in-Ok-Err-clause-own : goal.returns-in-Ok-Err-clause-own
+returns-in-Ok-Err-clause-own g c =
+    let root = c.args.self.now.volume.root in
+    let what = call.MapAnonymous c.args.space in
+    let makes = reached_makes c.can_map.ensures.asked.reaches in
+    ((only_asked (next_id root) (counted root) what makes), (only_asked (next_id root) root what makes))
+
+pub returns-in-Err-clause-own : goal.returns-in-Err-clause-own
+returns-in-Err-clause-own g c =
+    let root = c.args.self.now.volume.root in
+    ((only_asked (next_id root) (counted root) (call.MapAnonymous c.args.space) (reached_makes c.can_map.ensures.asked.reaches)), tt)
+
+pub returns-in-Err-create-clause-own : goal.returns-in-Err-create-clause-own
+returns-in-Err-create-clause-own g c =
+    let root = c.args.self.now.volume.root in
+    ((mapped_after (next_id root) (counted root) c.in-Ok-Ok.run'.1 0 c.args.space (reached_makes c.can_map.ensures.asked.reaches) c.in-Err-create.ensures.own.0), tt)
+
+pub returns-in_default-clause-own : goal.returns-in_default-clause-own
+returns-in_default-clause-own g c =
+    let root = c.args.self.now.volume.root in
+    let looks = reached_makes c.can_map.ensures.asked.reaches in (
+      (mapped_after (next_id root) (counted root) c.in-Ok-Ok.run'.1 0 c.args.space looks c.in-Ok.ensures.own.0),
+      (mapped_after (next_id root) c.create.new.self.volume.root c.in-Ok-Ok.run'.1 0 c.args.space looks c.in-Ok.ensures.own.1),
+    )
+
+pub returns-clause-own : goal.returns-clause-own
+returns-clause-own g c =
+    let root = c.args.self.now.volume.root in
+    let now = c.create.new.self.volume.root in
+    let what = call.MapAnonymous c.args.space in
+    let looks = reached_makes c.can_map.ensures.asked.reaches in
+    let pages = c.in-Ok-Ok.run'.1 in (
+      only_then (mapped_after (next_id root) (counted root) pages 0 c.args.space looks c.in-Ok.ensures.own.0) (only_asked (next_id root) (counted root) what c.give_window.ensures.makes),
+      where_ok c.give_window.result (only_then (mapped_after (next_id root) now pages 0 c.args.space looks c.in-Ok.ensures.own.1) (only_asked (next_id root) now what c.give_window.ensures.makes)),
+    )

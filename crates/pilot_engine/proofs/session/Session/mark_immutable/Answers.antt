@@ -11,8 +11,7 @@ use Rattle.pilot_engine.proofs.CallLemmas.{immutable_done, immutable_passed, imm
 use Rattle.pilot_engine.proofs.RefusalLemmas.{immutable_gone, immutable_free, no_file_missing}
 use Rattle.running_words.proofs.SessionLemmas.{session_books}
 use Rattle.running_words.proofs.StageLemmas.{no_step}
-use Rattle.label_calls.specs.OwnLaws.{relabels_own, quiet_own}
-use Rattle.file_manager.proofs.OwnSteps.{marked_own, own_after}
+use Rattle.pilot_engine.proofs.WritingLemmas.{only_immutable, only_quiet, only_then}
 use Rattle.fault_core.specs.Core.{state}
 use Rattle.space_calls.proofs.HaltLemmas.{look_reaches}
 use Rattle.pilot_engine.proofs.ReasonSteps.{shows_since}
@@ -86,16 +85,16 @@ returns-in-Err-make_immutable-clause-passes g c = λ spaces_of m s named unwritt
     (g.met.D.Disk.in_form (disk_of c.args.self.now.core.filer)) broken
 
 pub returns-in-Ok-None-clause-own : goal.returns-in-Ok-None-clause-own
-returns-in-Ok-None-clause-own g c = relabels_own (quiet_own c.args.id c.attributes_of.ensures.stays.makes)
+returns-in-Ok-None-clause-own g c = only_quiet (call.MakeImmutable c.args.id) c.attributes_of.ensures.stays.makes
 
 pub returns-in-Err-clause-own : goal.returns-in-Err-clause-own
-returns-in-Err-clause-own g c = relabels_own (quiet_own c.args.id c.attributes_of.ensures.stays.makes)
+returns-in-Err-clause-own g c = only_quiet (call.MakeImmutable c.args.id) c.attributes_of.ensures.stays.makes
 
 pub returns-in-Ok-clause-own : goal.returns-in-Ok-clause-own
-returns-in-Ok-clause-own g c = own_after (quiet_own c.args.id c.attributes_of.ensures.stays.makes) (marked_own Immutable c.make_immutable.ensures.makes c.make_immutable.ensures.labels.own)
+returns-in-Ok-clause-own g c = only_then (only_quiet (call.MakeImmutable c.args.id) c.attributes_of.ensures.stays.makes) (only_immutable c.args.id c.make_immutable.ensures.makes c.make_immutable.ensures.labels.own)
 
 pub returns-in-Err-make_immutable-clause-own : goal.returns-in-Err-make_immutable-clause-own
-returns-in-Err-make_immutable-clause-own g c = own_after (quiet_own c.args.id c.attributes_of.ensures.stays.makes) (marked_own Immutable c.make_immutable.ensures.makes c.make_immutable.ensures.labels.own)
+returns-in-Err-make_immutable-clause-own g c = only_then (only_quiet (call.MakeImmutable c.args.id) c.attributes_of.ensures.stays.makes) (only_immutable c.args.id c.make_immutable.ensures.makes c.make_immutable.ensures.labels.own)
 
 -- ---- Why it failed.
 

@@ -15,6 +15,9 @@ use Rattle.file_manager.specs.Reasons.{ShowsReason, initial_state}
 use Rattle.pilot_engine.proofs.BoundLemmas.{on_layout, start_bounded}
 use Rattle.pilot_engine.proofs.InitialStateLemmas.{begun_read}
 use Rattle.pilot_engine.proofs.SparedCalls.{clean_start}
+use Rattle.pilot_engine.proofs.WritingLemmas.{only_begun, only_read}
+use Rattle.volume_root.specs.RootPage.{root_in}
+use Rattle.labelled_disk.specs.Root.{root_page}
 use Rattle.pilot_engine.proofs.session.Session.over.Goals as goal
 
 pub returns-in-Err-clause-sound : goal.returns-in-Err-clause-sound
@@ -131,8 +134,18 @@ pub returns-in-Ok-begin-clause-sees : goal.returns-in-Ok-begin-clause-sees
 returns-in-Ok-begin-clause-sees g c = λ d named ws begun.
     sees_over c.over.result c.begin.new.filer c.over.ensures.filer c.over.ensures.kept c.over.ensures.intervals (c.in-Ok-begin.ensures.sees d named ws (begun_read c.in-Ok.ensures.reads.only begun))
 
-pub returns-in-Ok-begin-clause-monotone : goal.returns-in-Ok-begin-clause-monotone
-returns-in-Ok-begin-clause-monotone g c = λ d revealed. subst (λ (r : Root). IsMonotone r c.in-Ok-begin.volume.root) (c.in-Ok.ensures.read d revealed) c.in-Ok-begin.ensures.monotone
+pub returns-in-Ok-begin-clause-root : goal.returns-in-Ok-begin-clause-root
+returns-in-Ok-begin-clause-root g c = λ d revealed.
+    let read = c.in-Ok.ensures.read d revealed in
+    let begun = only_begun c.in-Ok.ensures.reads.only c.in-Ok-begin.ensures.starts c.in-Ok-begin.ensures.serial c.in-Ok-begin.ensures.counter (root_in (root_page d)) read in
+    (subst (λ (r : Root). IsMonotone r c.in-Ok-begin.volume.root) read c.in-Ok-begin.ensures.monotone, rw c.over.ensures.filer begun)
+
+pub returns-in-Err-clause-root : goal.returns-in-Err-clause-root
+returns-in-Err-clause-root g c = λ d revealed. only_read (root_in (root_page d)) c.in-Err.ensures.reads.only
+
+pub returns-in-Err-begin-clause-root : goal.returns-in-Err-begin-clause-root
+returns-in-Err-begin-clause-root g c = λ d revealed.
+    rw c.into_disk.ensures (only_begun c.in-Ok.ensures.reads.only c.in-Err-begin.ensures.starts c.in-Err-begin.ensures.serial c.in-Err-begin.ensures.counter (root_in (root_page d)) (c.in-Ok.ensures.read d revealed))
 
 -- ---- What it spends.
 

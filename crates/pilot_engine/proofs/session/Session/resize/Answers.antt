@@ -16,8 +16,8 @@ use Rattle.running_words.proofs.SessionLemmas.{session_books}
 use Rattle.pilot_engine.proofs.SetSizeLemmas.{within_room, never_file, immutable_refused, cut_held, cut_refused, full_refused, size_sound, size_done, size_passed, size_broken, resized_wrote, some_resized_wrote}
 use Rattle.running_words.proofs.StageLemmas.{no_step}
 use Rattle.pilot_engine.proofs.WroteLemmas.{wrote_nothing}
-use Rattle.label_calls.specs.OwnLaws.{relabels_own, quiet_own, same_own}
-use Rattle.file_manager.proofs.OwnSteps.{resized_own, resizing_own, own_after}
+use Rattle.file_manager.proofs.NextLemmas.{file_id}
+use Rattle.pilot_engine.proofs.WritingLemmas.{only_itself, only_quiet, only_resized, only_resizing, only_then}
 use Rattle.fault_core.specs.Core.{state}
 use Rattle.space_calls.proofs.HaltLemmas.{look_reaches}
 use Rattle.pilot_engine.proofs.ReasonSteps.{shows_since}
@@ -169,28 +169,28 @@ pub returns-in-Some-clause-bounded : goal.returns-in-Some-clause-bounded
 returns-in-Some-clause-bounded g c = λ spaces_of m s. inside_layout (state c.args.self.now.core).layout (state c.args.self.now.core).disk (view_of c.attributes_of.new.filer).disk c.requires.size (inside _ _ _ 29 (omega arith) c.attributes_of.ensures.cost)
 
 pub returns-then-not-may_be_file-clause-own : goal.returns-then-not-may_be_file-clause-own
-returns-then-not-may_be_file-clause-own g c = relabels_own (same_own c.args.id (record { contents = refl; writes = refl }))
+returns-then-not-may_be_file-clause-own g c = only_itself (call.SetSize c.args.id c.args.pages) (state c.args.self.now.core).disk
 
 pub returns-in-Ok-None-clause-own : goal.returns-in-Ok-None-clause-own
-returns-in-Ok-None-clause-own g c = relabels_own (quiet_own c.args.id c.attributes_of.ensures.stays.makes)
+returns-in-Ok-None-clause-own g c = only_quiet (call.SetSize c.args.id c.args.pages) c.attributes_of.ensures.stays.makes
 
 pub returns-in-Err-clause-own : goal.returns-in-Err-clause-own
-returns-in-Err-clause-own g c = relabels_own (quiet_own c.args.id c.attributes_of.ensures.stays.makes)
+returns-in-Err-clause-own g c = only_quiet (call.SetSize c.args.id c.args.pages) c.attributes_of.ensures.stays.makes
 
 pub returns-then-found-clause-own : goal.returns-then-found-clause-own
-returns-then-found-clause-own g c = relabels_own (quiet_own c.args.id c.attributes_of.ensures.stays.makes)
+returns-then-found-clause-own g c = only_quiet (call.SetSize c.args.id c.args.pages) c.attributes_of.ensures.stays.makes
 
 pub returns-in-Some-clause-own : goal.returns-in-Some-clause-own
-returns-in-Some-clause-own g c = relabels_own (quiet_own c.args.id c.attributes_of.ensures.stays.makes)
+returns-in-Some-clause-own g c = only_quiet (call.SetSize c.args.id c.args.pages) c.attributes_of.ensures.stays.makes
 
 pub returns-then-not-has_room-clause-own : goal.returns-then-not-has_room-clause-own
-returns-then-not-has_room-clause-own g c = relabels_own (quiet_own c.args.id c.attributes_of.ensures.stays.makes)
+returns-then-not-has_room-clause-own g c = only_quiet (call.SetSize c.args.id c.args.pages) c.attributes_of.ensures.stays.makes
 
 pub returns-in-Ok-clause-own : goal.returns-in-Ok-clause-own
-returns-in-Ok-clause-own g c = own_after (quiet_own c.args.id c.attributes_of.ensures.stays.makes) (resized_own c.in-Ok.ensures.writes c.in-Ok.ensures.own)
+returns-in-Ok-clause-own g c = only_then (only_quiet (call.SetSize c.args.id c.args.pages) c.attributes_of.ensures.stays.makes) (only_resized c.args.id c.args.pages (file_id c.args.id (sym c.may_be_file.ensures ∙ c.if-not-may_be_file.false)) c.in-Ok.ensures.writes c.in-Ok.ensures.own)
 
 pub returns-in-Err-set_size-clause-own : goal.returns-in-Err-set_size-clause-own
-returns-in-Err-set_size-clause-own g c = own_after (quiet_own c.args.id c.attributes_of.ensures.stays.makes) (resizing_own c.args.pages c.in-Err-set_size.ensures.writes c.in-Err-set_size.ensures.own)
+returns-in-Err-set_size-clause-own g c = only_then (only_quiet (call.SetSize c.args.id c.args.pages) c.attributes_of.ensures.stays.makes) (only_resizing c.args.id c.args.pages (file_id c.args.id (sym c.may_be_file.ensures ∙ c.if-not-may_be_file.false)) c.in-Err-set_size.ensures.writes c.in-Err-set_size.ensures.own)
 
 -- ---- Why it failed.
 

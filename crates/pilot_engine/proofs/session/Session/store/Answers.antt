@@ -33,36 +33,36 @@ returns-in-Ok g c =
     let address = c.args.address in
     let bytes = c.args.bytes.now in
     let whole = whole_of old c.requires.taken.size in
-    let moves = moves_of_touches (state old) (state new) client_page did.touches in
+    let moves = moves_of_touches (state old) (state new) client_page did.brings.touches in
     let typed : AreBytes bytes = are_bytes bytes (λ k. let fits = c.type_inv.bytes k in omega (arith, fits)) in
     record {
       machine = λ m r. record {
         carried =
-            let p = store_answered whole r address bytes result typed did.intervals did.touches.layout did.access did.stored did.refused did.came did.known in
+            let p = store_answered whole r address bytes result typed did.stays.intervals did.brings.touches.layout did.comes.access did.moves.stored did.moves.refused did.brings.came did.stays.known in
             record { allowed = p.0; runs = p.1 };
-        sound = did.sound r.session.stands.memory r.session.stands.is.named m.spaces (running_laws.known (state old) (kept old) old.intervals c.args.self.now.volume m whole r);
-        passes = store_passed whole r (λ d revealed. g.met.D.Disk.in_form (disk_of old.filer) d revealed) address bytes result typed c.requires.count.1 did.stored did.halted did.tested;
+        sound = did.fails.sound r.session.stands.memory r.session.stands.is.named m.spaces (running_laws.known (state old) (kept old) old.intervals c.args.self.now.volume m whole r);
+        passes = store_passed whole r (λ d revealed. g.met.D.Disk.in_form (disk_of old.filer) d revealed) address bytes result typed c.requires.count.1 did.moves.stored did.moves.halted did.moves.tested;
         idle = λ ready.
             let two = did.idle ready.0 ready.1 (running_laws.apart (state old) (kept old) old.intervals c.args.self.now.volume m r) in
             (two.0, two.1);
       };
       since = λ o k. record {
         keeps_to = moving_keeps (state old) (state new) result (accepted old.filer) moves o k;
-        reasons = touching_reasons (λ v. BreaksFor v old.intervals address (length bytes)) (state old) (state new) result (accepted old.filer) moves did.cause o k;
+        reasons = touching_reasons (λ v. BreaksFor v old.intervals address (length bytes)) (state old) (state new) result (accepted old.filer) moves did.fails.cause o k;
         sees = λ seen.
-            still_or_blameless o old new moves.goes.makes result (ok_always result (StillOn old new) (λ ss s. (ss, (did.sees ss s, shown_here ss)))) (λ s. did.right s.0 s.1)
-            (shown_units seen.0 address (length bytes)) (did.missing seen.0 seen.1.0)
+            still_or_blameless o old new moves.goes.makes result (ok_always result (StillOn old new) (λ ss s. (ss, (did.stays.sees ss s, shown_here ss)))) (λ s. did.fails.right s.0 s.1)
+            (shown_units seen.0 address (length bytes)) (did.fails.missing seen.0 seen.1.0)
             (units_on (WasBelow o (state old).disk) (have_lower o (state old).disk) seen.0 seen.1.1 address (length bytes)) seen;
       };
       refers = record {
-        fails = fails_of result (BreaksFor (state old) old.intervals address (length bytes)) (state old) (state new) (fits (swapper_of old.filer) c.requires.taken.size) did.touches.goes.makes did.cause;
-        missing = did.missing;
-        wrote = wrote_so (store_makes did.touches);
-        shown = λ ss s. wrote_so (touched_makes ss address (length bytes) (did.shown ss s));
+        fails = fails_of result (BreaksFor (state old) old.intervals address (length bytes)) (state old) (state new) (fits (swapper_of old.filer) c.requires.taken.size) did.brings.touches.goes.makes did.fails.cause;
+        missing = did.fails.missing;
+        wrote = wrote_so (store_makes did.brings.touches);
+        shown = λ ss s. wrote_so (touched_makes ss address (length bytes) (did.brings.shown ss s));
         unlabelled = pages_alone moves.goes.makes;
-        ready = λ done ss. did.ready done;
+        ready = λ done ss. did.comes.ready done;
         few = did.cost;
-        stays = record { open_still = still_open _ _ _ _ c.requires.taken.opened did.touches.layout refl; monotone = omega arith; serial = refl; layout = did.touches.layout };
+        stays = record { open_still = still_open _ _ _ _ c.requires.taken.opened did.brings.touches.layout refl; monotone = omega arith; serial = refl; layout = did.brings.touches.layout };
         same_volume = refl;
         goes_on = c.requires.taken.running;
         halted = tt;
@@ -78,34 +78,34 @@ returns-in-Err g c =
     let address = c.args.address in
     let bytes = c.args.bytes.now in
     let whole = whole_of old c.requires.taken.size in
-    let moves = moves_of_touches (state old) (state new) client_page did.touches in
+    let moves = moves_of_touches (state old) (state new) client_page did.brings.touches in
     let typed : AreBytes bytes = are_bytes bytes (λ k. let fits = c.type_inv.bytes k in omega (arith, fits)) in
     record {
       machine = λ m r. record {
         carried = tt;
-        sound = did.sound r.session.stands.memory r.session.stands.is.named m.spaces (running_laws.known (state old) (kept old) old.intervals c.args.self.now.volume m whole r);
-        passes = store_passed whole r (λ d revealed. g.met.D.Disk.in_form (disk_of old.filer) d revealed) address bytes result typed c.requires.count.1 did.stored did.halted did.tested;
+        sound = did.fails.sound r.session.stands.memory r.session.stands.is.named m.spaces (running_laws.known (state old) (kept old) old.intervals c.args.self.now.volume m whole r);
+        passes = store_passed whole r (λ d revealed. g.met.D.Disk.in_form (disk_of old.filer) d revealed) address bytes result typed c.requires.count.1 did.moves.stored did.moves.halted did.moves.tested;
         idle = λ ready.
             let two = did.idle ready.0 ready.1 (running_laws.apart (state old) (kept old) old.intervals c.args.self.now.volume m r) in
             (two.0, two.1);
       };
       since = λ o k. record {
         keeps_to = moving_keeps (state old) (state new) result (accepted old.filer) moves o k;
-        reasons = touching_reasons (λ v. BreaksFor v old.intervals address (length bytes)) (state old) (state new) result (accepted old.filer) moves did.cause o k;
+        reasons = touching_reasons (λ v. BreaksFor v old.intervals address (length bytes)) (state old) (state new) result (accepted old.filer) moves did.fails.cause o k;
         sees = λ seen.
-            still_or_blameless o old new moves.goes.makes result (ok_always result (StillOn old new) (λ ss s. (ss, (did.sees ss s, shown_here ss)))) (λ s. did.right s.0 s.1)
-            (shown_units seen.0 address (length bytes)) (did.missing seen.0 seen.1.0)
+            still_or_blameless o old new moves.goes.makes result (ok_always result (StillOn old new) (λ ss s. (ss, (did.stays.sees ss s, shown_here ss)))) (λ s. did.fails.right s.0 s.1)
+            (shown_units seen.0 address (length bytes)) (did.fails.missing seen.0 seen.1.0)
             (units_on (WasBelow o (state old).disk) (have_lower o (state old).disk) seen.0 seen.1.1 address (length bytes)) seen;
       };
       refers = record {
-        fails = fails_of result (BreaksFor (state old) old.intervals address (length bytes)) (state old) (state new) (fits (swapper_of old.filer) c.requires.taken.size) did.touches.goes.makes did.cause;
-        missing = did.missing;
-        wrote = wrote_so (store_makes did.touches);
-        shown = λ ss s. wrote_so (touched_makes ss address (length bytes) (did.shown ss s));
+        fails = fails_of result (BreaksFor (state old) old.intervals address (length bytes)) (state old) (state new) (fits (swapper_of old.filer) c.requires.taken.size) did.brings.touches.goes.makes did.fails.cause;
+        missing = did.fails.missing;
+        wrote = wrote_so (store_makes did.brings.touches);
+        shown = λ ss s. wrote_so (touched_makes ss address (length bytes) (did.brings.shown ss s));
         unlabelled = pages_alone moves.goes.makes;
         ready = tt;
         few = did.cost;
-        stays = record { open_still = still_open _ _ _ _ c.requires.taken.opened did.touches.layout refl; monotone = omega arith; serial = refl; layout = did.touches.layout };
+        stays = record { open_still = still_open _ _ _ _ c.requires.taken.opened did.brings.touches.layout refl; monotone = omega arith; serial = refl; layout = did.brings.touches.layout };
         same_volume = refl;
         goes_on = tt;
         halted = refl;

@@ -12,6 +12,8 @@ use Rattle.pilot_engine.specs.Calls.{Accounts}
 use Rattle.pilot_engine.specs.Stepping.{brings_clients}
 use Rattle.pilot_engine.specs.Trying.{Tries, TriesIn}
 use Rattle.pilot_engine.proofs.TriedLemmas.{no_client, no_reference, replied_accounts, replied_around, replied_in, reply_tried, step_fails}
+use Rattle.pilot_engine.specs.Writing.{CallMay, WritesAllowed, Written}
+use Rattle.pilot_engine.proofs.WritingLemmas.{allowed_tried}
 use Rattle.pilot_engine.proofs.session.Session.try_answer.Goals as goal
 
 pub returns-in-Load : goal.returns-in-Load
@@ -69,7 +71,7 @@ returns-in_default g c =
         stays = did.stays;
       });
       labels = λ none. record {
-        own = did.own;
+        own = subst (λ (t : Result Tried Halt). WritesAllowed what old new t) (sym c.replied.ensures) (allowed_tried r (Written (CallMay (next_id old.volume.root) new.volume.root what) (state old.core).disk (state new.core).disk) did.own);
         spares = did.spares;
         around = λ leads. subst (λ (t : Result Tried Halt). SyncsLeaders t (state old.core).disk (state new.core).disk) (sym c.replied.ensures) (replied_around (state old.core).disk (state new.core).disk r (did.around leads));
         unlabelled = did.unlabelled;

@@ -44,7 +44,7 @@ returns-in-Ok g c =
     let n = length bytes in
     let whole = whole_of old c.requires.size in
     let few : n ≤ 512 = omega (arith, c.requires.few) in
-    let moves = moves_of_touches (state old) (state new) client_page did.touches in
+    let moves = moves_of_touches (state old) (state new) client_page did.brings.touches in
     let typed : AreBytes bytes = are_bytes bytes (λ k. let fits = c.type_inv.bytes k in omega (arith, fits)) in
     let attempted : Result Attempt Halt = Ok c.in-Ok.attempt in
     let outcome : Result Tried Halt = Ok c.outcome.result in
@@ -52,12 +52,12 @@ returns-in-Ok g c =
     record {
       machine = λ m r. record {
         tried = subst (λ (t : Tried). IsTried m (call.Store c.args.address bytes) t (λ k. Runs new c.args.self.now.volume k) (λ k page. IsPresent k.spaces (state new).slots page)) (sym is)
-            (store_tried whole r c.args.address bytes c.in-Ok.attempt typed did.intervals did.touches.layout did.came did.access did.absent did.present did.stored (λ other. did.unmoved (λ same. other (cc same))) did.known);
+            (store_tried whole r c.args.address bytes c.in-Ok.attempt typed did.stays.intervals did.brings.touches.layout did.brings.came did.comes.access did.comes.absent did.comes.present did.moves.stored (λ other. did.moves.unmoved (λ same. other (cc same))) did.stays.known);
         quiet = subst (λ (t : Tried). ComesBy m (call.Store c.args.address bytes) (λ page. IsPresent m.spaces (state old).slots page) (λ page. IsPresent (after_tried m (call.Store c.args.address bytes) t).spaces (state new).slots page)) (sym is)
-            (quiet_tried r (state new).slots did.came (call.Store c.args.address bytes) refl reply.Done c.in-Ok.attempt);
+            (quiet_tried r (state new).slots did.brings.came (call.Store c.args.address bytes) refl reply.Done c.in-Ok.attempt);
         sound = tt;
-        passes = store_tried_passes whole r (λ d revealed. g.met.D.Disk.in_form (disk_of old.filer) d revealed) c.args.address bytes attempted typed few did.access did.stored did.unmoved;
-        came = did.came;
+        passes = store_tried_passes whole r (λ d revealed. g.met.D.Disk.in_form (disk_of old.filer) d revealed) c.args.address bytes attempted typed few did.comes.access did.moves.stored did.moves.unmoved;
+        came = did.brings.came;
         advised = λ quiet free. absurd (true≢false quiet);
         forced = λ one free. absurd (true≢false (sym one));
         cost = asked_inside (state old).disk (state new).disk 392 (omega arith) did.cost;
@@ -66,17 +66,17 @@ returns-in-Ok g c =
         keeps_to = moving_ahead (state old) (state new) outcome (accepted old.filer) moves o c.args.self.now.volume.root k up;
         reasons = reaching_reasons (λ v. BreaksFor v old.intervals c.args.address n) (state old) (state new) outcome (accepted old.filer) moves tt o k;
         sees = λ seen.
-            none_or_blameless o old new moves.goes.makes outcome (ok_always outcome (StillOn old new) (λ ss s. (ss, (did.sees ss s, shown_here ss)))) (λ s. did.right s.0 s.1)
+            none_or_blameless o old new moves.goes.makes outcome (ok_always outcome (StillOn old new) (λ ss s. (ss, (did.stays.sees ss s, shown_here ss)))) (λ s. did.fails.right s.0 s.1)
             (fails_missing_page (λ v w e. ReachHalts (BreaksFor v old.intervals c.args.address n) v w e) no_page (reached_misses (λ v. BreaksFor v old.intervals c.args.address n) no_page) (state old) (state new) outcome tt) seen;
       };
       tries = record {
         absent = subst (λ (t : Tried). MayBeTried (call.Store c.args.address bytes) t) (sym is) (store_may_be c.args.address bytes reply.Done c.in-Ok.attempt);
         fails = tt;
-        wrote = wrote_so (store_makes did.touches);
+        wrote = wrote_so (store_makes did.brings.touches);
         few = λ one. did.cost;
-        room = λ one. did.room;
-        stay = λ one. did.stay;
-        stays = record { open_still = still_open _ _ _ _ c.requires.opened did.touches.layout refl; monotone = omega arith; serial = refl; layout = did.touches.layout };
+        room = λ one. did.brings.room;
+        stay = λ one. did.brings.stay;
+        stays = record { open_still = still_open _ _ _ _ c.requires.opened did.brings.touches.layout refl; monotone = omega arith; serial = refl; layout = did.brings.touches.layout };
       };
       running = refl;
     }
@@ -90,17 +90,17 @@ returns-in-Err g c =
     let n = length bytes in
     let whole = whole_of old c.requires.size in
     let few : n ≤ 512 = omega (arith, c.requires.few) in
-    let moves = moves_of_touches (state old) (state new) client_page did.touches in
+    let moves = moves_of_touches (state old) (state new) client_page did.brings.touches in
     let typed : AreBytes bytes = are_bytes bytes (λ k. let fits = c.type_inv.bytes k in omega (arith, fits)) in
     let attempted : Result Attempt Halt = Err c.in-Err.halt in
     let outcome : Result Tried Halt = Err c.in-Err.halt in
-    let cause = did.cause in
+    let cause = did.fails.cause in
     record {
       machine = λ m r. record {
         tried = tt;
         quiet = tt;
-        sound = did.sound r.session.stands.memory r.session.stands.is.named m.spaces (running_laws.known (state old) (kept old) old.intervals c.args.self.now.volume m whole r);
-        passes = store_tried_passes whole r (λ d revealed. g.met.D.Disk.in_form (disk_of old.filer) d revealed) c.args.address bytes attempted typed few did.access did.stored did.unmoved;
+        sound = did.fails.sound r.session.stands.memory r.session.stands.is.named m.spaces (running_laws.known (state old) (kept old) old.intervals c.args.self.now.volume m whole r);
+        passes = store_tried_passes whole r (λ d revealed. g.met.D.Disk.in_form (disk_of old.filer) d revealed) c.args.address bytes attempted typed few did.comes.access did.moves.stored did.moves.unmoved;
         came = tt;
         advised = λ quiet free. absurd (true≢false quiet);
         forced = λ one free. absurd (true≢false (sym one));
@@ -110,17 +110,17 @@ returns-in-Err g c =
         keeps_to = moving_ahead (state old) (state new) outcome (accepted old.filer) moves o c.args.self.now.volume.root k up;
         reasons = reaching_reasons (λ v. BreaksFor v old.intervals c.args.address n) (state old) (state new) outcome (accepted old.filer) moves cause o k;
         sees = λ seen.
-            none_or_blameless o old new moves.goes.makes outcome (ok_always outcome (StillOn old new) (λ ss s. (ss, (did.sees ss s, shown_here ss)))) (λ s. did.right s.0 s.1)
+            none_or_blameless o old new moves.goes.makes outcome (ok_always outcome (StillOn old new) (λ ss s. (ss, (did.stays.sees ss s, shown_here ss)))) (λ s. did.fails.right s.0 s.1)
             (fails_missing_page (λ v w e. ReachHalts (BreaksFor v old.intervals c.args.address n) v w e) no_page (reached_misses (λ v. BreaksFor v old.intervals c.args.address n) no_page) (state old) (state new) outcome cause) seen;
       };
       tries = record {
         absent = tt;
-        fails = fails_reached (BreaksFor (state old) old.intervals c.args.address n) (state old) (state new) (fits (swapper_of old.filer) c.requires.size) did.touches.goes.makes c.in-Err.halt cause;
-        wrote = wrote_so (store_makes did.touches);
+        fails = fails_reached (BreaksFor (state old) old.intervals c.args.address n) (state old) (state new) (fits (swapper_of old.filer) c.requires.size) did.brings.touches.goes.makes c.in-Err.halt cause;
+        wrote = wrote_so (store_makes did.brings.touches);
         few = λ one. did.cost;
-        room = λ one. did.room;
-        stay = λ one. did.stay;
-        stays = record { open_still = still_open _ _ _ _ c.requires.opened did.touches.layout refl; monotone = omega arith; serial = refl; layout = did.touches.layout };
+        room = λ one. did.brings.room;
+        stay = λ one. did.brings.stay;
+        stays = record { open_still = still_open _ _ _ _ c.requires.opened did.brings.touches.layout refl; monotone = omega arith; serial = refl; layout = did.brings.touches.layout };
       };
       running = refl;
     }

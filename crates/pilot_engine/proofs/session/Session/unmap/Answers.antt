@@ -31,6 +31,7 @@ use Rattle.pilot_engine.proofs.SpaceMisses.{fault_misses, take_window_misses, un
 use Rattle.pilot_engine.proofs.SparedCalls.{all_then, spares_quiet}
 use Rattle.pilot_engine.proofs.WindowLemmas.{on_then}
 use Rattle.swapper_kernel.specs.HaltLaws.{brings_then}
+use Rattle.pilot_engine.proofs.WritingLemmas.{only_quiet, only_then, only_unmapped}
 use Rattle.pilot_engine.proofs.session.Session.unmap.Goals as goal
 use Rattle.filer_kernel.specs.View.{accepted, disk_of, view_of}
 
@@ -334,3 +335,28 @@ returns-in-Ok-sync-clause-windows g c = λ o k.
     let w = c.delete_unseen.new.self.core in
     let taken = reshaped_on o (state old) (state u) (accepted old.filer) c.take_window.ensures.reshapes k in
     on_then old u c.sync.new.core c.in-Ok-Ok.ensures.sees (λ ss s. c.sync.ensures.still ss (c.in-Ok.ensures.windows o taken ss s))
+
+-- ---- What is written.
+
+pub returns-in-Ok-Err-clause-own : goal.returns-in-Ok-Err-clause-own
+returns-in-Ok-Err-clause-own g c = only_quiet (call.Unmap c.args.space) c.take_window.ensures.makes
+
+pub returns-in-Err-clause-own : goal.returns-in-Err-clause-own
+returns-in-Err-clause-own g c = only_quiet (call.Unmap c.args.space) c.take_window.ensures.makes
+
+pub returns-then-not-shown-clause-own : goal.returns-then-not-shown-clause-own
+returns-then-not-shown-clause-own g c = only_quiet (call.Unmap c.args.space) c.take_window.ensures.makes
+
+pub returns-in-Err-delete_unseen-clause-own : goal.returns-in-Err-delete_unseen-clause-own
+returns-in-Err-delete_unseen-clause-own g c =
+    only_then (only_quiet (call.Unmap c.args.space) c.take_window.ensures.makes) ((only_unmapped c.in-Ok-Ok.shown.id c.args.space c.delete_unseen.ensures.own))
+
+pub returns-in-Ok-sync-clause-own : goal.returns-in-Ok-sync-clause-own
+returns-in-Ok-sync-clause-own g c =
+    let what = call.Unmap c.args.space in
+    only_then (only_then (only_quiet what c.take_window.ensures.makes) ((only_unmapped c.in-Ok-Ok.shown.id c.args.space c.delete_unseen.ensures.own))) (only_quiet what (reached_makes c.sync.ensures.reaches))
+
+pub returns-in-Err-sync-clause-own : goal.returns-in-Err-sync-clause-own
+returns-in-Err-sync-clause-own g c =
+    let what = call.Unmap c.args.space in
+    only_then (only_then (only_quiet what c.take_window.ensures.makes) ((only_unmapped c.in-Ok-Ok.shown.id c.args.space c.delete_unseen.ensures.own))) (only_quiet what (reached_makes c.sync.ensures.reaches))
