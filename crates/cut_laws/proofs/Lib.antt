@@ -14,6 +14,7 @@ pub mod HonestLemmas
 pub mod OwnLemmas
 mod NumberLemmas
 pub mod SizeLemmas
+pub mod CommonLemmas
 pub mod WholeLemmas
 mod WholeWriteLemmas
 mod ResizeLemmas

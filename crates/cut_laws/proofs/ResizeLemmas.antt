@@ -302,7 +302,7 @@ module _ (d : List Sector) (writes : List DiskWrite) (id : ℕ) (permitted : Are
         either : (is_page id p old.0 ≡ true) ⊎ (is_free old.0.0 ≡ true) → (disk_page d id p ≡ Some cells) ⊎ (cells ≡ map byte zero_bytes)
         either (inl mine) =
             let page = same_page old.0.1 (bytes_stay (first_data (length d) + place.0) (omega arith) p first same old.0 old.1 mine) in
-            inl (shown d writes e id permitted cut whole_throughout 0 p place.0 old.0 (omega arith) (data_at d place.0 ∙ old.1) mine ∙ ap (λ (l : List ℕ). Some (map byte l)) (sym page) ∙ ap (λ (c : Page). Some c) place.4)
+            inl (shown d writes e id cut whole_throughout 0 p place.0 old.0 (omega arith) (data_at d place.0 ∙ old.1) mine ∙ ap (λ (l : List ℕ). Some (map byte l)) (sym page) ∙ ap (λ (c : Page). Some c) place.4)
         either (inr free) =
             inr (sym place.4 ∙ ap (λ (l : List ℕ). map byte l) (same_page zero_bytes (zeros_stay (first_data (length d) + place.0) (omega arith) p first same old.0 old.1 free)))
 

@@ -107,7 +107,7 @@ module _ (place : ℕ) (xs ys : List Sector) (apart : OneApart place xs ys) (id 
               absurd (off (old.once there.0 i p there.1 s (sym (apart.same there.0 (λ e. off (e ∙ sym on))) ∙ there.2) at there.3 is))
 
 -- two crash states in a row
-steps : (d : List Sector) (writes : List DiskWrite) (k : ℕ) → k < length writes → (place : ℕ) × OneApart place (data_sectors (crash_state d writes k)) (data_sectors (crash_state d writes (suc k)))
+pub steps : (d : List Sector) (writes : List DiskWrite) (k : ℕ) → k < length writes → (place : ℕ) × OneApart place (data_sectors (crash_state d writes k)) (data_sectors (crash_state d writes (suc k)))
 steps d writes k few =
     let write = get_some writes k few in
     let first : ℕ = first_data (length d) in (
@@ -123,11 +123,11 @@ steps d writes k few =
       },
     )
 
-module _ (d : List Sector) (writes : List DiskWrite) (e : List Sector) (id : ℕ) (permitted : ArePermitted d writes) (cut : IsCutSince d writes e) (whole : IsWholeThroughout d writes id) where
-  abbrev count : ℕ → ℕ
+module _ (d : List Sector) (writes : List DiskWrite) (e : List Sector) (id : ℕ) (cut : IsCutSince d writes e) (whole : IsWholeThroughout d writes id) where
+  abbrev pub count : ℕ → ℕ
   count j = count_on (crash_state d writes j) id
 
-  pages_at : (j : ℕ) → j ≤ length writes → HasPages (data_sectors (crash_state d writes j)) id (count j)
+  pub pages_at : (j : ℕ) → j ≤ length writes → HasPages (data_sectors (crash_state d writes j)) id (count j)
   pages_at j few = has_pages (crash_state d writes j) id (whole j few)
 
   up : (j : ℕ) → j < length writes → count (suc j) ≤ suc (count j)
@@ -142,7 +142,7 @@ module _ (d : List Sector) (writes : List DiskWrite) (e : List Sector) (id : ℕ
       (count (suc j)) (count j) (pages_at (suc j) (omega (arith, few))) (pages_at j (omega (arith, few)))
 
   -- a page that is there in each crash state stands in one place
-  always : (p : ℕ) → ((j : ℕ) → j ≤ length writes → p < count j) → (i : ℕ) (s : Sector) → slice_get (data_sectors d) i ≡ Some s → is_page id p s ≡ true
+  pub always : (p : ℕ) → ((j : ℕ) → j ≤ length writes → p < count j) → (i : ℕ) (s : Sector) → slice_get (data_sectors d) i ≡ Some s → is_page id p s ≡ true
       → (j : ℕ) → j ≤ length writes → (t : Sector) × (slice_get (data_sectors (crash_state d writes j)) i ≡ Some t) × (is_page id p t ≡ true)
   always p low i s at is zero few = (s, at, is)
   always p low i s at is (suc j) few =
@@ -152,7 +152,7 @@ module _ (d : List Sector) (writes : List DiskWrite) (e : List Sector) (id : ℕ
       (pages_at j (omega (arith, few))) (pages_at (suc j) few) before.1 before.2 (low (suc j) few)
 
   -- a label of the cut stood in the data in some crash state
-  label_of : (i : ℕ) (t : Sector) → slice_get (data_sectors e) i ≡ Some t → AtSome 0 (length writes) (λ j. (s : Sector) × (slice_get (data_sectors (crash_state d writes j)) i ≡ Some s) × (s.0 ≡ t.0))
+  pub label_of : (i : ℕ) (t : Sector) → slice_get (data_sectors e) i ≡ Some t → AtSome 0 (length writes) (λ j. (s : Sector) × (slice_get (data_sectors (crash_state d writes j)) i ≡ Some s) × (s.0 ≡ t.0))
   label_of i t at =
       let one = cut.labels (first_data (length e) + i) t (sym (data_at e i) ∙ at) in (
         one.0,
@@ -183,7 +183,7 @@ module _ (d : List Sector) (writes : List DiskWrite) (e : List Sector) (id : ℕ
       omega (arith, less, high one.0 one.2)
 
   -- so as many follow each other as in some crash state
-  count_of_crash_state : (j : ℕ) × (j ≤ length writes) × (count j ≡ count_on e id)
+  pub count_of_crash_state : (j : ℕ) × (j ≤ length writes) × (count j ≡ count_on e id)
   count_of_crash_state = either (some_or_each (λ j. count j ≤ count_on e id) (λ j. count_on e id < count j) (λ j. turn_around (cases_lt (count_on e id) (count j))) (length writes))
       (some_or_each (λ j. count_on e id ≤ count j) (λ j. count j < count_on e id) (λ j. turn_around (cases_lt (count j) (count_on e id))) (length writes))
     where
@@ -213,8 +213,8 @@ module _ (d : List Sector) (writes : List DiskWrite) (e : List Sector) (id : ℕ
               (ap (page_at (data_sectors e) id) (sym z) ∙ sym (pages_each (page_at (data_sectors e) id) 0 leader_page p below) ∙ cells.1))
 
   -- the leader's label stays
-  leader_stays : (all : Bool) → EachWrite (λ now write. IsLabelWriteOf id now write → IsOnPage now write) d writes → Steady (λ l. leads_file all id (l, [])) d writes
-  leader_stays all only = steady_by_turns (λ l. leads_file all id (l, [])) d writes permitted (λ k write i s t is low now turn. either k write i s t is now (cases_eq id (id_of (crash_state d writes k) write)) turn)
+  leader_stays : (all : Bool) → ArePermitted d writes → EachWrite (λ now write. IsLabelWriteOf id now write → IsOnPage now write) d writes → Steady (λ l. leads_file all id (l, [])) d writes
+  leader_stays all permitted only = steady_by_turns (λ l. leads_file all id (l, [])) d writes permitted (λ k write i s t is low now turn. either k write i s t is now (cases_eq id (id_of (crash_state d writes k) write)) turn)
     where
       free_leads : (l : Label) → is_free l ≡ true → leads_file all id (l, []) ≡ false
       free_leads l free = not_of-not_leader all id l (ap (λ (b : Bool). b && eqb l.id id) (free_none l free))
@@ -235,14 +235,14 @@ module _ (d : List Sector) (writes : List DiskWrite) (e : List Sector) (id : ℕ
           let on = subst (λ (v : DiskWrite). IsOnPage (crash_state d writes k) v) eq (only k write is (ap gives_label eq, sym own)) in
           absurd (on.2 (ap (λ (v : Sector). v.0.page) (same_Some on.0 s (sym on.1 ∙ now)) ∙ old))
 
-  size_of_crash_state : (all : Bool) → EachWrite (λ now write. IsLabelWriteOf id now write → IsOnPage now write) d writes → AtSome 0 (length writes) (λ j. SameShape all (crash_state d writes j) e id)
-  size_of_crash_state all only =
+  size_of_crash_state : (all : Bool) → ArePermitted d writes → EachWrite (λ now write. IsLabelWriteOf id now write → IsOnPage now write) d writes → AtSome 0 (length writes) (λ j. SameShape all (crash_state d writes j) e id)
+  size_of_crash_state all permitted only =
       let j = count_of_crash_state in (
         j.0,
         omega arith,
         j.1,
         shape_by_count all id (data_sectors (crash_state d writes j.0)) (data_sectors e)
-            (leader_pairs all id (data_sectors (crash_state d writes j.0)) (data_sectors e) (steady_pairs d writes e cut (λ l. leads_file all id (l, [])) (leader_stays all only) j.0 j.1)) (sym j.2),
+            (leader_pairs all id (data_sectors (crash_state d writes j.0)) (data_sectors e) (steady_pairs d writes e cut (λ l. leads_file all id (l, [])) (leader_stays all permitted only) j.0 j.1)) (sym j.2),
       )
 
   -- where a page stands, it is the page of the file
@@ -252,7 +252,7 @@ module _ (d : List Sector) (writes : List DiskWrite) (e : List Sector) (id : ℕ
       (find_alone (is_page id p) (data_sectors (crash_state d writes j)) i s at is (λ k t there passes. (pages_at j few).once k i p t s there at passes is))
 
 pub size_of_one_crash_state : (all : Bool) → SizeOfOneCrashState all
-size_of_one_crash_state all d writes e id permitted cut whole only = size_of_crash_state d writes e id permitted cut whole all only
+size_of_one_crash_state all d writes e id permitted cut whole only = size_of_crash_state d writes e id cut whole all permitted only
 
 pub pages_are_own : PagesAreOwn
 pages_are_own d writes e id permitted cut whole unwritten own p u cells low is =
@@ -264,6 +264,6 @@ pages_are_own d writes e id permitted cut whole unwritten own p u cells low is =
       some.0,
       some.1,
       some.2,
-      ap (option_map (unit u)) (shown d writes e id permitted cut whole some.0 p at.0 some.3.0 some.2 here some.3.2)
+      ap (option_map (unit u)) (shown d writes e id cut whole some.0 p at.0 some.3.0 some.2 here some.3.2)
           ∙ ap (λ l. Some l) (unit-map byte u some.3.0.1 ∙ ap (λ l. map byte l) some.3.3 ∙ sym (unit-map byte u t.0.1) ∙ ap (unit u) t.2),
     )

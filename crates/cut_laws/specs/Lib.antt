@@ -1,3 +1,4 @@
+pub mod Common
 pub mod Cut
 pub mod CutLaws
 pub mod Example

@@ -2,6 +2,7 @@
 
 ghost use Rattle.std.specs.Prelude.{ℕ, Bool, List};
 ghost use Rattle.labelled_disk.specs.Syncing.{AreSyncs};
+ghost use Rattle.cut_laws.specs.Common.{CommonStays};
 ghost use Rattle.cut_laws.specs.CutLaws.{CutLaws, WindowLaws};
 ghost use Rattle.cut_laws.specs.Example.{ExampleCuts};
 ghost use Rattle.cut_laws.specs.Honest.{CutsAreHonest};
@@ -45,6 +46,11 @@ pub fn shapes_stay_in_cuts()
     ensures marks { (with_temporary : Bool) → LeaderWritten with_temporary }
     ensures leaves { (with_temporary : Bool) → LeaderFreed with_temporary }
     ensures all { (with_temporary : Bool) → ShapesOfOneCrashState with_temporary }
+{}
+
+/// A file that is whole in each crash state, with one shape, has it in a cut, and its pages stood there.
+pub fn common_stays_in_cuts()
+    ensures { (with_temporary : Bool) → CommonStays with_temporary }
 {}
 
 /// Sectors that no file needs are freed, and root and maps are written: each cut has the files.

@@ -21,7 +21,9 @@ use Rattle.pilot_top.specs.Cuts.{HonestCuts}
 use Rattle.pilot_top.specs.CrashStates.{Lawfully, CrashStates}
 use Rattle.pilot_top.specs.InitialState.{FromInitialState}
 use Rattle.pilot_top.specs.Sparing.{Spared}
-use Rattle.pilot_top.specs.Parts.{InParts, Stops}
+use Rattle.volume_root.specs.declared.root.Root.{Root}
+use Rattle.pilot_top.specs.Parts.{InParts, RaisesRoot, Stops}
+use Rattle.pilot_top.specs.Staying.{StaysSinceNamed}
 use Rattle.pilot_top.specs.Replied.{AreToFirst, Replied}
 use Rattle.pilot_top.specs.Trial.{HasNoFile, TriesLawfully}
 use Rattle.pilot_top.specs.declared.status.Status.{Status}
@@ -35,8 +37,8 @@ none_rose_after state before x y none same = subst (λ z. Rose before (state z).
 -- another word for the writes
 pub Stops-less : (s : Status) (b t : List ℕ) (left took : Option (List ℕ)) (failed : Type 0) (wrote then : ℕ → Type 0) → ((k : ℕ) → wrote k → then k) → Stops s b left t took failed wrote → Stops s b left t took failed then
 Stops-less status.Done b t left took failed wrote then less is = less _ is
-Stops-less status.DiskFault b t left took failed wrote then less is = (is.0, is.1, less _ is.2)
-Stops-less status.Damaged b t left took failed wrote then less is = (is.0, is.1, is.2, less _ is.3)
+Stops-less status.DiskFault b t left took failed wrote then less is = (is.0, is.1, less _ is.2, λ none. less 0 (is.3 none))
+Stops-less status.Damaged b t left took failed wrote then less is = (is.0, is.1, is.2, less _ is.3, λ none. less 0 (is.4 none))
 Stops-less status.Long b t left took failed wrote then less is = (is.0, less _ is.1)
 Stops-less status.StreamFault b t left took failed wrote then less (inl is) = inl (is.0, less _ is.1)
 Stops-less status.StreamFault b t left took failed wrote then less (inr is) = inr (is.0, less _ is.1)
@@ -195,6 +197,22 @@ module _ {D : Type 0} (state : D → DiskState) (x y : D) (same : x ≡ y) where
       hidden = on.hidden;
     })
 
+    -- what stays since a line began
+    pub stays_after : (lines : List TraceLine) (d : List Sector) → StaysSinceNamed lines d (lent_state m first) (lent_state n (state y)) → StaysSinceNamed lines d first (state x)
+    stays_after lines d on = rw same (record {
+      parts = record {
+        writes = on.parts.writes;
+        appended = record { contents = on.parts.appended.contents; revealed = on.parts.appended.revealed };
+        part = on.parts.part;
+        rise = on.parts.rise;
+        by_last = on.parts.by_last;
+        each = on.parts.each;
+      };
+      labels = on.labels;
+      sectors = on.sectors;
+      hidden = on.hidden;
+    })
+
     -- where a run stopped
     pub stops_after : (s : Status) (b t : List ℕ) (left took : Option (List ℕ)) (failed : Type 0) (may : ℕ → List Sector → DiskWrite → Type 0)
         → Stops s b left t took failed (λ k. InParts may k (lent_state m first) (lent_state n (state y))) → Stops s b left t took failed (λ k. InParts may k first (state x))
@@ -206,6 +224,20 @@ module _ {D : Type 0} (state : D → DiskState) (x y : D) (same : x ≡ y) where
       by_last = on.by_last;
       each = on.each;
     })) stops
+
+    -- the roots that were written
+    pub roots_after : (root last : Root) → RaisesRoot root last (lent_state m first) (lent_state n (state y)) → RaisesRoot root last first (state x)
+    roots_after root last on = rw same (record {
+      roots = record {
+        writes = on.roots.writes;
+        appended = record { contents = on.roots.appended.contents; revealed = on.roots.appended.revealed };
+        part = on.roots.part;
+        rise = on.roots.rise;
+        by_last = on.roots.by_last;
+        each = on.roots.each;
+      };
+      from = on.from;
+    })
 
     -- what a trial wrote
     pub tries_after : TriesLawfully (lent_state m first) (lent_state n (state y)) → TriesLawfully first (state x)

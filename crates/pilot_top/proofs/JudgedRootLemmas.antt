@@ -25,7 +25,7 @@ use Rattle.pilot_top.specs.declared.last.Cause.TheVariants as cause
 use Rattle.pilot_top.specs.declared.last.OtherCause.TheVariants as other
 use Rattle.pilot_top.specs.declared.status.Status.TheVariants as status
 use Rattle.pilot_top.proofs.QueuedRuns.{root_opened}
-use Rattle.pilot_top.proofs.ReplicatedStates.{none_replied}
+use Rattle.pilot_top.proofs.ReplicatedStates.{keeps_read, none_replied, none_taken}
 use Rattle.pilot_top.proofs.ReplicatingLemmas.{none_permitted, only_read}
 
 -- ---- A root that was looked at.
@@ -143,9 +143,9 @@ module _ (from to new_from new_to : DiskState) (why : PairStart) (judges : Judge
       → RanLines (outcome.NotStarted why) (world from left source_faults took sink_faults) (world new_from left source_faults took sink_faults) to new_to
   refused_lines left source_faults took sink_faults = record {
     replies = λ d e b t revealed there sound sound_too source sink. (source, sink, none_replied d e (pair_reading b) why to new_to judges.to_reads there sound_too (judges.sound d e revealed there sound sound_too));
-    texts = λ b t source sink. (source, sink, tt);
+    texts = λ b t source sink. (source, sink, none_taken why (pair_reading b) to new_to judges.to_reads);
     from = only_read judges.from_reads;
-    to = record { permitted = none_permitted judges.to_reads; early = λ early. judges.to_reads };
+    to = record { permitted = none_permitted judges.to_reads; keeps = keeps_read judges.to_reads; early = λ early. judges.to_reads };
     judged = λ d e revealed there. record { none_starts = λ why refused. tt; refused = judges.right d e revealed there; starts = judges.sound d e revealed there; goes_on = λ sound sound_too. tt };
     shown = record { started = judges.shown.1; halted = tt };
     refuses = record {

@@ -2,6 +2,7 @@
 use Rattle.std.proofs.Common.{◌≡◌, ◌⊎◌, inl, inr, ℕ, zero, suc, ◌+◌, ◌<◌, ◌≤◌, Bool, true, false, List, [], ◌∷◌, ◌++◌, length, take, Option, Some, None, refl, sym, ◌∙◌, ap, subst, arith, length-append}
 use Rattle.std.specs.Prelude.{filter, not, option_map, slice_get}
 use Rattle.std.proofs.lemmas.Bool.{true≢false}
+use Rattle.std.proofs.lemmas.List.{append_cancel_left}
 use Rattle.std.proofs.lemmas.Option.{none-some, same_Some}
 use Rattle.labelled_disk.specs.declared.disk.DiskWrite.{DiskWrite}
 use Rattle.labelled_disk.specs.declared.disk.DiskWrite.TheVariants as write
@@ -14,21 +15,23 @@ use Rattle.frame_pool.specs.Frames.{Slots}
 use Rattle.flat_machine.specs.declared.call.Call.{Call}
 use Rattle.flat_machine.specs.declared.call.Call.TheVariants as call
 use Rattle.flat_machine.specs.After.{TraceLine}
-use Rattle.label_calls.specs.Own.{RelabelsOwn}
-use Rattle.swapper_kernel.specs.Goes.{Pages, is_page_write}
+use Rattle.labelled_disk.specs.Permitted.{Permitted}
+use Rattle.labelled_disk.specs.WriteRuns.{Appended}
+use Rattle.swapper_kernel.specs.Goes.{Pages, Wrote, is_page_write}
 use Rattle.trace_io.specs.Reading.{is_last}
+use Rattle.file_manager.specs.Creating.{counted, next_id}
+use Rattle.volume_root.specs.declared.root.Root.{Root}
 use Rattle.volume_root.specs.RootPage.{root_write}
 use Rattle.running_words.specs.Session.{WroteIn}
 use Rattle.pilot_engine.specs.Closing.{WroteOn}
-use Rattle.pilot_engine.specs.Labels.{WritesPagesAlone, keeps_labels}
 use Rattle.pilot_engine.specs.Opening.{WroteFirst, in_use}
-use Rattle.pilot_engine.specs.Stepping.{relabels}
-use Rattle.pilot_top.specs.Parts.{CallMay, InParts, LineMay, LineWrote, NextMay, PartMay, StartMay, Written}
+use Rattle.pilot_engine.specs.Writing.{CallMay, Written}
+use Rattle.pilot_top.specs.Parts.{InParts, LineMay, LineWrote, NextMay, PartMay, StartMay}
 use Rattle.pilot_top.proofs.PartLemmas.{parts_one, parts_then, parts_wider}
 
 -- ---- Lines.
 
-get_first : (lines more : List TraceLine) (j : ℕ) → j < length lines → slice_get (lines ++ more) j ≡ slice_get lines j
+pub get_first : (lines more : List TraceLine) (j : ℕ) → j < length lines → slice_get (lines ++ more) j ≡ slice_get lines j
 get_first [] more j below = absurd (omega (arith, below))
 get_first (line ∷ lines) more zero below = refl
 get_first (line ∷ lines) more (suc j) below = get_first lines more j (omega (arith, below))
@@ -42,7 +45,7 @@ get_end [] = refl
 get_end (line ∷ lines) = get_end lines
 
 -- later lines change nothing of the parts before them
-may_longer : (lines more : List TraceLine) (j : ℕ) (d : List Sector) (w : DiskWrite) → j ≤ length lines → PartMay lines j d w → PartMay (lines ++ more) j d w
+pub may_longer : (lines more : List TraceLine) (j : ℕ) (d : List Sector) (w : DiskWrite) → j ≤ length lines → PartMay lines j d w → PartMay (lines ++ more) j d w
 may_longer lines more zero d w few may = may
 may_longer lines more (suc j) d w few may = (may.0, subst (λ (line : Option TraceLine). NextMay line d w) (sym (get_first lines more j (omega (arith, few)))) may.1)
 
@@ -67,8 +70,8 @@ parts_line lines line {a = a} {b = b} {c = c} on wrote =
     (parts_then may (length lines) (suc (length lines)) (parts_of_trace lines (line ∷ []) (lines ++ line ∷ []) (length lines) refl (omega arith) on) (parts_one may (suc (length lines)) next) (λ n. omega arith))
 
 -- the end of a trace, where nothing or a `close` comes after these lines
-pub parts_end : (lines more all : List TraceLine) {a b c : DiskState} {before : Slots} → all ≡ lines ++ more → ((d : List Sector) (w : DiskWrite) → NextMay (slice_get all (length lines)) d w)
-    → InParts (PartMay lines) (length lines) a b → WroteOn before b c → InParts (PartMay all) (suc (length lines)) a c
+pub parts_end : (lines more all : List TraceLine) {root : Root} {a b c : DiskState} {before : Slots} → all ≡ lines ++ more → ((d : List Sector) (w : DiskWrite) → NextMay (slice_get all (length lines)) d w)
+    → InParts (PartMay lines) (length lines) a b → WroteOn root before b c → InParts (PartMay all) (suc (length lines)) a c
 parts_end lines more all {b = b} {c = c} are may on wrote =
     let next : Written (PartMay all (suc (length lines))) b c = record {
       writes = wrote.wrote.writes;
@@ -79,41 +82,32 @@ parts_end lines more all {b = b} {c = c} are may on wrote =
 
 -- ---- What a call writes.
 
-line_may : (c : Call) (d : List Sector) (w : DiskWrite) → is_last (Some c) ≡ false → CallMay c d w → LineMay (Some c) d w
+line_may : (c : Call) (d : List Sector) (w : DiskWrite) → is_last (Some c) ≡ false → (root : Root) × CallMay (next_id root) (counted root) c d w → LineMay (Some c) d w
 line_may call.Close d w more may = absurd (true≢false more)
 line_may call.Halt d w more may = absurd (true≢false more)
 line_may c d w more may = may
 
--- where a label was written, the call does not keep labels
-no_keeper : (c : Call) {a b : DiskState} (earlier writes : List DiskWrite) (k : ℕ) (w : DiskWrite) → (keeps_labels c ≡ true → WritesPagesAlone a b) → a.writes ≡ Some earlier → b.writes ≡ Some (earlier ++ writes)
-    → slice_get writes k ≡ Some w → is_page_write w ≡ false → keeps_labels c ≡ false
-no_keeper c {a = a} {b = b} earlier writes k w alone made now at label = by (keeps_labels c) refl
-  where
-    by : (h : Bool) → keeps_labels c ≡ h → keeps_labels c ≡ false
-    by false is = is
-    by true is = absurd (true≢false (sym ((alone is).pages earlier writes made now k w at) ∙ label))
+-- two lists of the writes between two states are the same
+pub same_list : {a b : DiskState} (earlier one other : List DiskWrite) → a.writes ≡ Some earlier → Appended one a b → Appended other a b → one ≡ other
+same_list earlier one other made first second =
+    append_cancel_left earlier one other (same_Some (earlier ++ one) (earlier ++ other)
+    (sym (first.revealed ∙ ap (option_map (λ (l : List DiskWrite). l ++ one)) made) ∙ (second.revealed ∙ ap (option_map (λ (l : List DiskWrite). l ++ other)) made)))
 
-pub line_wrote : (c : Call) {pages : Pages} {a b : DiskState} {before after : Slots} → is_last (Some c) ≡ false → WroteIn pages a before b after
-    → (keeps_labels c ≡ true → WritesPagesAlone a b) → ((id : ℕ) → relabels c ≡ Some id → RelabelsOwn id a b) → LineWrote (Some c) a b
-line_wrote c {a = a} {b = b} more wrote alone own =
-    let made = wrote.makes.wrote in
-    record {
-      writes = made.writes;
-      appended = made.appended;
-      each = λ d earlier k w revealed told at. (made.permitted d k w revealed at, line_may c (crash_state d made.writes k) w more (may d earlier k w revealed told at));
-    }
-  where
-    now : (earlier : List DiskWrite) → a.writes ≡ Some earlier → b.writes ≡ Some (earlier ++ wrote.makes.wrote.writes)
-    now earlier told = wrote.makes.wrote.appended.revealed ∙ ap (option_map (λ (l : List DiskWrite). l ++ wrote.makes.wrote.writes)) told
+-- each write of one of them is permitted
+pub permitted_there : {pages : Pages} {run : List DiskWrite} {a b : DiskState} {s : Slots} (wrote : Wrote pages run a s b) (other : List DiskWrite) → Appended other a b
+    → (d : List Sector) (earlier : List DiskWrite) (k : ℕ) (w : DiskWrite) → a.contents ≡ Some d → a.writes ≡ Some earlier → slice_get other k ≡ Some w → Permitted (crash_state d other k) w
+permitted_there wrote other appended d earlier k w revealed told at =
+    subst (λ (ws : List DiskWrite). (j : ℕ) (v : DiskWrite) → slice_get ws j ≡ Some v → Permitted (crash_state d ws j) v) (same_list earlier wrote.writes other told wrote.appended appended) (λ j v there. wrote.permitted d j v revealed there) k w at
 
-    may : (d : List Sector) (earlier : List DiskWrite) (k : ℕ) (w : DiskWrite) → a.contents ≡ Some d → a.writes ≡ Some earlier → slice_get wrote.makes.wrote.writes k ≡ Some w
-        → CallMay c (crash_state d wrote.makes.wrote.writes k) w
-    may d earlier k (write.Whole sector label bytes) revealed told at = no_keeper c earlier wrote.makes.wrote.writes k _ alone told (now earlier told) at refl
-    may d earlier k (write.LabelOnly sector label) revealed told at = (
-      no_keeper c earlier wrote.makes.wrote.writes k _ alone told (now earlier told) at refl,
-      λ id is s here. (own id is).own d earlier wrote.makes.wrote.writes revealed told (now earlier told) k sector label at s here,
-    )
-    may d earlier k (write.Page sector wanted bytes) revealed told at = tt
+pub line_wrote : (root : Root) (c : Call) {pages : Pages} {a b : DiskState} {before after : Slots} → is_last (Some c) ≡ false → WroteIn pages a before b after → Written (CallMay (next_id root) (counted root) c) a b → LineWrote (Some c) a b
+line_wrote root c more wrote allowed = record {
+  writes = allowed.writes;
+  appended = allowed.appended;
+  each = λ d earlier k w revealed told at. (
+    permitted_there wrote.makes.wrote allowed.writes allowed.appended d earlier k w revealed told at,
+    line_may c (crash_state d allowed.writes k) w more (root, allowed.each d earlier k w revealed told at),
+  );
+}
 
 -- ---- What a start writes.
 

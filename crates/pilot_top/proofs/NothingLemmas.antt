@@ -28,11 +28,16 @@ use Rattle.pilot_top.specs.World.{World}
 use Rattle.pilot_top.specs.declared.status.Status.TheVariants as status
 use Rattle.pilot_top.proofs.CostLemmas.{nothing_spent}
 use Rattle.pilot_top.proofs.CutLemmas.{nothing_honest}
+use Rattle.pilot_top.proofs.RootLemmas.{raises_itself}
+use Rattle.volume_root.specs.RootPage.{root_in}
+use Rattle.labelled_disk.specs.Root.{root_page}
+use Rattle.pilot_top.proofs.ForceLemmas.{keeps_forced}
 use Rattle.pilot_top.specs.Parts.{PartMay}
 use Rattle.pilot_top.proofs.PartLemmas.{parts_none}
 use Rattle.pilot_top.proofs.PermittedRuns.{lawfully_none}
 use Rattle.pilot_top.proofs.ProcessingLemmas.{costs_refused}
 use Rattle.pilot_top.proofs.StagedLemmas.{from_nothing, crash_states_before}
+use Rattle.pilot_top.proofs.StayLemmas.{nothing_stays, spared_stays}
 
 -- a disk to which nothing was written
 old_still : (d : List Sector) (k : ℕ) → IsOldOrConverted d (crash_state d [] k)
@@ -73,6 +78,10 @@ module _ (w : World) where
     cuts = λ d revealed sound. nothing_honest d w.disk sound;
     stops = λ b t source sink. parts_none (PartMay (reading b)) 0 (record { contents = refl; writes = refl });
     spares = λ d earlier b id revealed made source file untouched. none_spared id (reading b) d w.disk;
+    roots = λ d revealed. (root_in (root_page d), raises_itself (root_in (root_page d)) w.disk);
+    stays = λ d earlier b id revealed made source file untouched. spared_stays id (reading b) d (none_spared id (reading b) d w.disk);
+    stays_since = λ d earlier b revealed made source. nothing_stays (reading b) d earlier w.disk revealed made;
+    forced = λ d b revealed sound source. keeps_forced (start d) (reading b) d (crash_states_before (start d) [] (reading b) (from_nothing d sound revealed)) revealed;
     stays_open = λ b source early. absurd early;
     untaken = λ b source failed some. absurd (cc failed);
     left_open = λ is. absurd (elim is [ inl long ↦ cc long | inr damaged ↦ cc damaged ]);

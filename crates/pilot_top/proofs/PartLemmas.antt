@@ -1,5 +1,5 @@
 -- Writes of a run, part by part.
-use Rattle.std.proofs.Common.{◌≡◌, ◌⊎◌, inl, inr, ℕ, ◌-◌, ◌<◌, ◌≤◌, List, [], ◌++◌, length, Some, sym, ◌∙◌, ap, subst, arith}
+use Rattle.std.proofs.Common.{◌≡◌, ◌⊎◌, inl, inr, ℕ, ◌+◌, ◌-◌, ◌<◌, ◌≤◌, List, [], ◌++◌, length, Some, refl, sym, ◌∙◌, ap, subst, arith}
 use Rattle.std.proofs.lemmas.Bool.{cases_lt}
 use Rattle.std.specs.Prelude.{option_map, slice_get}
 use Rattle.std.proofs.lemmas.Option.{none-some}
@@ -10,11 +10,12 @@ use Rattle.labelled_disk.specs.Sectors.{Sector}
 use Rattle.labelled_disk.specs.State.{DiskState}
 use Rattle.labelled_disk.specs.WriteRuns.{after_writes}
 use Rattle.labelled_disk.proofs.WriteRunLemmas.{appended_no_more, appended_none, appended_then, crash_state-earlier, crash_state-later}
-use Rattle.pilot_top.specs.Parts.{InParts, Written}
+use Rattle.pilot_engine.specs.Writing.{Written}
+use Rattle.pilot_top.specs.Parts.{InParts}
 use Rattle.pilot_top.proofs.PermittedRuns.{get_append}
 
 -- no write
-pub parts_none : (may : ℕ → List Sector → DiskWrite → Type 0) (last : ℕ) {a b : DiskState} → RevealsSame a b → InParts may last a b
+abbrev pub parts_none : (may : ℕ → List Sector → DiskWrite → Type 0) (last : ℕ) {a b : DiskState} → RevealsSame a b → InParts may last a b
 parts_none may last same = record {
   writes = [];
   appended = appended_none same;
@@ -28,7 +29,7 @@ pub written_none : (may : List Sector → DiskWrite → Type 0) {a b : DiskState
 written_none may same = record { writes = []; appended = appended_none same; each = λ d earlier k w revealed made at. absurd (none-some w at) }
 
 -- and then nothing is written
-pub parts_still : (may : ℕ → List Sector → DiskWrite → Type 0) (last : ℕ) {a b c : DiskState} → InParts may last a b → RevealsSame b c → InParts may last a c
+abbrev pub parts_still : (may : ℕ → List Sector → DiskWrite → Type 0) (last : ℕ) {a b c : DiskState} → InParts may last a b → RevealsSame b c → InParts may last a c
 parts_still may last on same = record {
   writes = on.writes;
   appended = appended_no_more on.writes on.appended same;
@@ -50,7 +51,7 @@ parts_one may j wrote = record {
 }
 
 -- other words for the same parts, and more of them
-pub parts_wider : (may more : ℕ → List Sector → DiskWrite → Type 0) (last later : ℕ) {a b : DiskState} → last ≤ later → ((j : ℕ) (d : List Sector) (w : DiskWrite) → j ≤ last → may j d w → more j d w) → InParts may last a b → InParts more later a b
+abbrev pub parts_wider : (may more : ℕ → List Sector → DiskWrite → Type 0) (last later : ℕ) {a b : DiskState} → last ≤ later → ((j : ℕ) (d : List Sector) (w : DiskWrite) → j ≤ last → may j d w → more j d w) → InParts may last a b → InParts more later a b
 parts_wider may more last later le wider on = record {
   writes = on.writes;
   appended = on.appended;
@@ -69,17 +70,17 @@ module _ (may : ℕ → List Sector → DiskWrite → Type 0) (mid last : ℕ) {
   part_at n (inl early) = one.part n
   part_at n (inr past) = two.part (n - length one.writes)
 
-  rises : (j k : ℕ) → j ≤ k → (s : Where j) (t : Where k) → part_at j s ≤ part_at k t
+  pub rises : (j k : ℕ) → j ≤ k → (s : Where j) (t : Where k) → part_at j s ≤ part_at k t
   rises j k le (inl early) (inl less) = one.rise j k le
   rises j k le (inl early) (inr past) = let first = one.by_last j in let next = low (k - length one.writes) in omega (arith, first, next)
   rises j k le (inr past) (inl early) = absurd (omega (arith, le, past, early))
   rises j k le (inr past) (inr more) = two.rise (j - length one.writes) (k - length one.writes) (omega (arith, le))
 
-  ends : (n : ℕ) (s : Where n) → part_at n s ≤ last
+  pub ends : (n : ℕ) (s : Where n) → part_at n s ≤ last
   ends n (inl early) = let first = one.by_last n in let next = low 0 in let end = two.by_last 0 in omega (arith, first, next, end)
   ends n (inr past) = two.by_last (n - length one.writes)
 
-  holds : (d : List Sector) (earlier : List DiskWrite) (n : ℕ) (w : DiskWrite) → a.contents ≡ Some d → a.writes ≡ Some earlier → slice_get (one.writes ++ two.writes) n ≡ Some w
+  pub holds : (d : List Sector) (earlier : List DiskWrite) (n : ℕ) (w : DiskWrite) → a.contents ≡ Some d → a.writes ≡ Some earlier → slice_get (one.writes ++ two.writes) n ≡ Some w
       → (s : Where n) → may (part_at n s) (crash_state d (one.writes ++ two.writes) n) w
   holds d earlier n w revealed made at (inl early) = elim (get_append one.writes two.writes n w at) [
     | inl (below, here) ↦
@@ -96,7 +97,7 @@ module _ (may : ℕ → List Sector → DiskWrite → Type 0) (mid last : ℕ) {
         (subst (λ (now : List Sector). may (two.part j) now w) (sym (ap (crash_state d (one.writes ++ two.writes)) is ∙ crash_state-later d one.writes two.writes j)) there)
   ]
 
-  pub parts_then : InParts may last a c
+  abbrev pub parts_then : InParts may last a c
   parts_then = record {
     writes = one.writes ++ two.writes;
     appended = appended_then one.writes two.writes one.appended two.appended;
@@ -105,3 +106,26 @@ module _ (may : ℕ → List Sector → DiskWrite → Type 0) (mid last : ℕ) {
     by_last = λ n. ends n (cases_lt n (length one.writes));
     each = λ d earlier n w revealed made at. holds d earlier n w revealed made at (cases_lt n (length one.writes));
   }
+
+  -- what lies below the parts of both lies below all
+  lies_below : (least : ℕ) → ((n : ℕ) → least ≤ one.part n) → ((n : ℕ) → least ≤ two.part n) → (n : ℕ) (s : Where n) → least ≤ part_at n s
+  lies_below least first next n (inl early) = first n
+  lies_below least first next n (inr past) = next (n - length one.writes)
+
+  pub parts_above : (least : ℕ) → ((n : ℕ) → least ≤ one.part n) → ((n : ℕ) → least ≤ two.part n) → (n : ℕ) → least ≤ parts_then.part n
+  parts_above least first next n = lies_below least first next n (cases_lt n (length one.writes))
+
+  -- the parts of the first writes, and of the others
+  at_early : (n : ℕ) (w : Where n) → n < length one.writes → part_at n w ≡ one.part n
+  at_early n (inl below) is = refl
+  at_early n (inr past) is = absurd (omega (arith, past, is))
+
+  at_late : (n k : ℕ) (w : Where k) → k ≡ length one.writes + n → part_at k w ≡ two.part n
+  at_late n k (inl below) is = absurd (omega (arith, below, is))
+  at_late n k (inr past) is = let place : k - length one.writes ≡ n = omega (arith, is) in ap two.part place
+
+  pub part_early : (n : ℕ) → n < length one.writes → parts_then.part n ≡ one.part n
+  part_early n below = at_early n (cases_lt n (length one.writes)) below
+
+  pub part_late : (n : ℕ) → parts_then.part (length one.writes + n) ≡ two.part n
+  part_late n = at_late n (length one.writes + n) (cases_lt (length one.writes + n) (length one.writes)) refl

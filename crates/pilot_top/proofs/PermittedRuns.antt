@@ -23,6 +23,7 @@ use Rattle.pilot_engine.specs.Opening.{IsUnset, WroteFirst, in_use}
 use Rattle.pilot_engine.proofs.ShutLemmas.{writes_open}
 use Rattle.pilot_engine.proofs.UnsetLemmas.{begun_flag}
 use Rattle.pilot_top.specs.CrashStates.{Lawfully, Openly, ShutsLast}
+use Rattle.volume_root.specs.declared.root.Root.{Root}
 
 -- an element of two lists in a row
 pub get_append : {X : Type 0} (xs ys : List X) (k : ℕ) (x : X) → slice_get (xs ++ ys) k ≡ Some x
@@ -85,7 +86,7 @@ shut_after ws more opens (inl others) = inl (append_open ws more opens others)
 shut_after ws more opens (inr (earlier, root, is, others)) =
     inr (ws ++ earlier, root, ap (λ (l : List DiskWrite). ws ++ l) is ∙ sym (append_assoc ws earlier (root_write (closed_root root) ∷ [])), append_open ws earlier opens others)
 
-pub ended_last : {a b c : DiskState} {before : Slots} → Openly a b → WroteOn before b c → ShutsLast a c
+pub ended_last : {root : Root} {a b c : DiskState} {before : Slots} → Openly a b → WroteOn root before b c → ShutsLast a c
 ended_last h k = record {
   writes = h.writes ++ k.wrote.writes;
   appended = appended_then h.writes k.wrote.writes h.appended k.wrote.appended;

@@ -31,7 +31,7 @@ use Rattle.pilot_top.specs.declared.last.Cause.{Cause}
 use Rattle.pilot_top.specs.declared.last.Cause.TheVariants as cause
 use Rattle.pilot_top.specs.declared.last.OtherCause.TheVariants as other
 use Rattle.pilot_top.specs.declared.status.Status.TheVariants as status
-use Rattle.pilot_top.proofs.ReplicatedStates.{none_replied}
+use Rattle.pilot_top.proofs.ReplicatedStates.{keeps_before, keeps_read, none_replied, none_taken}
 
 -- ---- Reads before the lines.
 
@@ -73,8 +73,17 @@ early_before outcome.Long a b c h k = tt
 early_before outcome.ReadFault a b c h k = tt
 early_before outcome.SinkFault a b c h k = tt
 
+-- what holds where no pair started gives something else
+pub map_unstarted : {P Q : Type 0} (how : Outcome) → (P → Q) → IfNotStarted how (λ why. P) → IfNotStarted how (λ why. Q)
+map_unstarted (outcome.NotStarted why) f holds = f holds
+map_unstarted outcome.Done f holds = tt
+map_unstarted (outcome.Halted why) f holds = tt
+map_unstarted outcome.Long f holds = tt
+map_unstarted outcome.ReadFault f holds = tt
+map_unstarted outcome.SinkFault f holds = tt
+
 pub wrote_before : (how : Outcome) (a b c : DiskState) → OnlyReads a b → WroteSecond how b c → WroteSecond how a c
-wrote_before how a b c h k = record { permitted = permitted_before h k.permitted; early = early_before how a b c h k.early }
+wrote_before how a b c h k = record { permitted = permitted_before h k.permitted; keeps = map_unstarted how (keeps_before h) k.keeps; early = early_before how a b c h k.early }
 
 -- faults that rose later rose
 pub shown_before : (how : Outcome) (from to mid mid_to new new_to : DiskState) → from.faults ≤ mid.faults → to.faults ≤ mid_to.faults → IsShown how mid mid_to new new_to → IsShown how from to new new_to
@@ -102,9 +111,9 @@ module _ (w : World) (second : DiskState) where
   nothing_ran : RanLines (outcome.NotStarted unstarted.NoMemory) w w second second
   nothing_ran = record {
     replies = λ d e b t revealed there sound sound_too source sink. (source, sink, none_replied d e (pair_reading b) unstarted.NoMemory second second (only_reads_itself second) there sound_too tt);
-    texts = λ b t source sink. (source, sink, tt);
+    texts = λ b t source sink. (source, sink, none_taken unstarted.NoMemory (pair_reading b) second second (only_reads_itself second));
     from = only_read (only_reads_itself w.disk);
-    to = record { permitted = none_permitted (only_reads_itself second); early = λ early. only_reads_itself second };
+    to = record { permitted = none_permitted (only_reads_itself second); keeps = keeps_read (only_reads_itself second); early = λ early. only_reads_itself second };
     judged = λ d e revealed there. record { none_starts = λ why refused. tt; refused = tt; starts = λ sound sound_too. tt; goes_on = λ sound sound_too. tt };
     shown = record { started = tt; halted = tt };
     refuses = record {
@@ -306,15 +315,6 @@ module _ (how : Outcome) (before after : World) (heard : Option (List ℕ)) (fau
     complete = completed;
     cause = reasons;
   }
-
--- what holds where no pair started gives something else
-pub map_unstarted : {P Q : Type 0} (how : Outcome) → (P → Q) → IfNotStarted how (λ why. P) → IfNotStarted how (λ why. Q)
-map_unstarted (outcome.NotStarted why) f holds = f holds
-map_unstarted outcome.Done f holds = tt
-map_unstarted (outcome.Halted why) f holds = tt
-map_unstarted outcome.Long f holds = tt
-map_unstarted outcome.ReadFault f holds = tt
-map_unstarted outcome.SinkFault f holds = tt
 
 -- a last line is that of the whole command, if its sink did not fail less often before
 pub put_before : (old new : Option (List ℕ)) (a b c : ℕ) (why : Option Cause) → a ≤ b → PutsCause (Rose b c) old new why → PutsCause (Rose a c) old new why

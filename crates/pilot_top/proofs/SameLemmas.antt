@@ -14,6 +14,7 @@ use Rattle.pilot_engine.specs.Opening.{IsUnset}
 use Rattle.pilot_top.specs.CrashStates.{CrashStates, IsCrashState, ShutsLast}
 use Rattle.pilot_top.specs.Headline.{LeadsTo}
 use Rattle.pilot_top.proofs.AlongLemmas.{along_same}
+use Rattle.volume_root.specs.declared.root.Root.{Root}
 
 module _ {mid new : DiskState} (same : RevealsSame mid new) where
   pub appended_same : {old : DiskState} (writes : List DiskWrite) → Appended writes old mid → Appended writes old new
@@ -43,7 +44,7 @@ module _ {mid new : DiskState} (same : RevealsSame mid new) where
   pub stops_same : {old : DiskState} {m : Machine} → Throughout (IsStop m) old mid → Throughout (IsStop m) old new
   stops_same on = record { writes = on.writes; appended = appended_same on.writes on.appended; each = on.each }
 
-  pub wrote_same : {old : DiskState} {slots : Slots} → Went mid new → WroteOn slots old mid → WroteOn slots old new
+  pub wrote_same : {root : Root} {old : DiskState} {slots : Slots} → Went mid new → WroteOn root slots old mid → WroteOn root slots old new
   wrote_same later on = record {
     labels = on.labels;
     went = went_then on.went later;
@@ -56,4 +57,5 @@ module _ {mid new : DiskState} (same : RevealsSame mid new) where
       of_dirty = on.wrote.of_dirty;
     };
     shut = on.shut;
+    ends = record { writes = on.ends.writes; appended = appended_same on.ends.writes on.ends.appended; each = on.ends.each };
   }

@@ -18,7 +18,7 @@ use Rattle.volume_pair.specs.declared.fault.PairStart.{PairStart}
 use Rattle.volume_pair.specs.declared.fault.PairStart.TheVariants as unstarted
 use Rattle.pair_session.specs.Causes.{HasReason, IsJudged, IsShortText, IsShown, WroteSecond}
 use Rattle.pair_session.specs.Ended.{Ended}
-use Rattle.pair_session.specs.Lines.{AreTo}
+use Rattle.pair_session.specs.Owned.{RepliesTo}
 use Rattle.pair_session.specs.Second.{Replicates}
 use Rattle.pair_session.specs.declared.outcome.Outcome.{Outcome}
 use Rattle.pair_session.specs.declared.outcome.Outcome.TheVariants as outcome
@@ -118,8 +118,9 @@ pub record RanLines (how : Outcome) (before after : World) (second second_after 
   -- what it has in each crash state of what was written on it.
   pub replies : (d e : List Sector) (b t : List ℕ) → Holds before d → second.contents ≡ Some e → Sound d → Sound e → Gives before b → Took before t
       → Ended how b after.left t after.took (Replicates how d e (pair_reading b) second second_after)
-  -- Whatever the disks hold, replies that suit the lines.
-  pub texts : (b t : List ℕ) → Gives before b → Took before t → Ended how b after.left t after.took AreTo
+  -- Whatever the disks hold, replies that suit the lines; for which files the second disk was written, and that its volume is in use
+  -- until the end.
+  pub texts : (b t : List ℕ) → Gives before b → Took before t → Ended how b after.left t after.took (RepliesTo how (pair_reading b) second second_after)
   -- The first disk is never written; each write of the second is permitted where it is made, and none is made where it is refused.
   pub from : IsOnlyRead before.disk after.disk
   pub to : WroteSecond how second second_after

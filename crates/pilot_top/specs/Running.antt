@@ -4,20 +4,25 @@ use Rattle.std.specs.List.{list_any}
 use Rattle.labelled_disk.specs.declared.disk.DiskWrite.{DiskWrite}
 use Rattle.labelled_disk.specs.Sectors.{Sector}
 use Rattle.labelled_disk.specs.declared.layout.RootFault.{RootFault}
+use Rattle.labelled_disk.specs.Root.{root_page}
 use Rattle.flat_machine.specs.After.{TraceLine}
 use Rattle.flat_machine.specs.Start.{start}
 use Rattle.trace_io.specs.Reading.{IsShort, reading, rest_of}
+use Rattle.volume_root.specs.declared.root.Root.{Root}
 use Rattle.volume_root.specs.Flag.{IsRefused}
+use Rattle.volume_root.specs.RootPage.{root_in}
 use Rattle.volume_root.specs.Sound.{Sound}
 use Rattle.pilot_engine.specs.Closing.{HasShut}
 use Rattle.pilot_top.specs.Ending.{halts, closes}
 use Rattle.pilot_top.specs.Headline.{EndsEarly, IsLeftOpen, Run, RevealsDamage, at_end, run_bound}
 use Rattle.pilot_top.specs.Cuts.{HonestCuts}
 use Rattle.pilot_top.specs.CrashStates.{Lawfully, CrashStates}
+use Rattle.pilot_top.specs.Forcing.{KeepsForced}
 use Rattle.pilot_top.specs.InitialState.{FromInitialState}
-use Rattle.pilot_top.specs.Parts.{InParts, PartMay, Stops}
+use Rattle.pilot_top.specs.Parts.{InParts, PartMay, RaisesRoot, Stops}
 use Rattle.pilot_top.specs.Replied.{Replied}
 use Rattle.pilot_top.specs.Sparing.{IsPermanentFile, Spared, names_file}
+use Rattle.pilot_top.specs.Staying.{StaysInCuts, StaysSinceNamed}
 use Rattle.pilot_top.specs.World.{World, Holds, Gives, Took, DiskFailed, SourceFailed, SinkFailed, StaysUnwritten, WritesLast}
 use Rattle.pilot_top.specs.declared.last.Cause.TheVariants as cause
 use Rattle.pilot_top.specs.declared.status.Status.{Status}
@@ -48,6 +53,18 @@ pub record Ran (s : Status) (before after : World) : Type 0 where
   -- that it had, and where no line stores bytes, its bytes.
   pub spares : (d : List Sector) (earlier : List DiskWrite) (b : List ℕ) (id : ℕ) → Holds before d → before.disk.writes ≡ Some earlier → Gives before b
       → IsPermanentFile id d → list_any (names_file id) (reading b) ≡ false → Spared id (reading b) d before.disk after.disk
+  -- Each root that it writes has the serial of the root at the start, and gives out no identifier again: none next below that root's next, nor
+  -- below that of a root that it wrote before.
+  pub roots : (d : List Sector) → Holds before d → (last : Root) × RaisesRoot (root_in (root_page d)) last before.disk after.disk
+  -- Where the power goes, the same: in each cut of its writes such a file has these labels, and where no line stores bytes, its bytes. So it
+  -- is since any line began: a file that no line named from then on has in each cut from a later sync on what it had when that line began.
+  pub stays : (d : List Sector) (earlier : List DiskWrite) (b : List ℕ) (id : ℕ) → Holds before d → before.disk.writes ≡ Some earlier → Gives before b
+      → IsPermanentFile id d → list_any (names_file id) (reading b) ≡ false → StaysInCuts id (reading b) d before.disk after.disk
+  pub stays_since : (d : List Sector) (earlier : List DiskWrite) (b : List ℕ) → Holds before d → before.disk.writes ≡ Some earlier → Gives before b
+      → StaysSinceNamed (reading b) d before.disk after.disk
+  -- And on a sound volume: what the machine's settled files have in common at all places since the disk was synced is in each cut, a page
+  -- with the bytes that were forced.
+  pub forced : (d : List Sector) (b : List ℕ) → Holds before d → Sound d → Gives before b → KeepsForced (start d) (reading b) d before.disk after.disk
   -- Where it ended before its session did, the volume is left open; so where lines are left after the one that was answered
   -- last, and where the trace is too long or the volume damaged, whatever the source reveals.
   pub stays_open : (b : List ℕ) → Gives before b → EndsEarly s (reading b) → IsLeftOpen after.disk

@@ -1,9 +1,10 @@
 -- Files that no line of a trace touches, whatever the maps of the volume say.
-use Rattle.std.specs.Prelude.{◌≡◌, ◌≢◌, ◌==◌, ◌<◌, ◌≤◌, ℕ, Bool, true, false, if◌then◌else◌, List, Option, Some, None, slice_get}
+use Rattle.std.specs.Prelude.{◌≡◌, ◌≢◌, ◌⊎◌, ◌==◌, ◌<◌, ◌≤◌, ℕ, zero, suc, Bool, true, false, if◌then◌else◌, List, length, take, Option, Some, None, slice_get}
 use Rattle.std.specs.List.{list_any}
 use Rattle.std.specs.Option.{option_map_or}
 use Rattle.labelled_disk.specs.declared.disk.Disk.{Ghosts}
 use Rattle.labelled_disk.specs.declared.disk.DiskWrite.{DiskWrite}
+use Rattle.labelled_disk.specs.declared.disk.DiskWrite.TheVariants.{Whole, LabelOnly, Page}
 use Rattle.labelled_disk.specs.CrashState.{crash_state}
 use Rattle.labelled_disk.specs.Root.{root_page}
 use Rattle.labelled_disk.specs.Sectors.{Sector}
@@ -14,7 +15,7 @@ use Rattle.flat_machine.specs.declared.call.Call.TheVariants.{Map, Store}
 use Rattle.flat_machine.specs.After.{TraceLine}
 use Rattle.file_map.specs.FileMap.{Triples}
 use Rattle.file_map.specs.InSectors.{MapNames}
-use Rattle.swapper_kernel.specs.Goes.{Makes, Pages, Wrote}
+use Rattle.swapper_kernel.specs.Goes.{IsDirty, Makes, Pages, Wrote}
 use Rattle.session_words.specs.Volume.{volume_page}
 use Rattle.volume_root.specs.declared.root.Root.{Root}
 use Rattle.volume_root.specs.RootPage.{root_in}
@@ -24,7 +25,7 @@ use Rattle.space_calls.specs.Sees.{SeesFiles}
 use Rattle.pilot_engine.specs.Sparing.{HasSameLabels, IsLasting, Spares}
 use Rattle.pilot_engine.specs.Stepping.{relabels}
 use Rattle.pilot_engine.specs.declared.session.Session.{Session}
-use Rattle.pilot_top.specs.Parts.{LineWrote}
+use Rattle.pilot_top.specs.Parts.{InParts, LineWrote, PartMay}
 
 -- the line deletes this file, gives it another size, or marks it
 abbrev pub names_file : ℕ → TraceLine → Bool
@@ -89,8 +90,49 @@ pub record LineDone (root : Root) (line : TraceLine) (old : DiskState) (before :
   pub quiet : stores line ≡ false → (run : List DiskWrite) × Makes volume_page run old before new after
   pub apart : (id : ℕ) → 16 ≤ id → next_id root ≢ id → maps_file id line ≡ false → hid id → hides id × ((run : List DiskWrite) × Makes (other_file id) run old before new after)
 
+-- Part by part.
+
+-- the line of this part names the file; start and end do not
+abbrev pub part_names : ℕ → List TraceLine → ℕ → Bool
+part_names id lines zero = false
+part_names id lines (suc j) = option_map_or (names_file id) (slice_get lines j) false
+
+-- A part begins after j of the writes, and of those from there to the first k none is of a part that names the file.
+pub record IsUnnamed (id : ℕ) (lines : List TraceLine) (part : ℕ → ℕ) (j k : ℕ) : Type 0 where
+  pub begins : (n : ℕ) → n < j → part n < part j
+  pub unnamed : (n : ℕ) → j ≤ n → n < k → part_names id lines (part n) ≡ false
+
+-- no line is so, up to that of each of the first k writes
+abbrev pub NoneUpTo : (TraceLine → Bool) → List TraceLine → (ℕ → ℕ) → ℕ → Type 0
+NoneUpTo is lines part k = (n : ℕ) → n < k → list_any is (take (part n) lines) ≡ false
+
+-- A write of a page's bytes in this part. Where no line so far stored bytes, it is one of the volume's own, or was dirty before. And where
+-- none showed this file in a window, which was hidden before, it is another file's, or was dirty before.
+abbrev pub OfShown : ℕ → List TraceLine → Slots → (ℕ → Type 0) → ℕ → DiskWrite → Type 0
+OfShown limit lines before hid part (Whole sector label page) = Unit {0}
+OfShown limit lines before hid part (LabelOnly sector label) = Unit {0}
+OfShown limit lines before hid part (Page sector wanted page) =
+    (list_any stores (take part lines) ≡ false → IsDirty before wanted.id wanted.page ⊎ volume_page wanted.id wanted.page)
+    × ((id : ℕ) → 16 ≤ id → id < limit → list_any (maps_file id) (take part lines) ≡ false → hid id → IsDirty before wanted.id wanted.page ⊎ other_file id wanted.id wanted.page)
+
+-- what a part may write, where these pages were dirty and these files were hidden before
+abbrev pub PartMakes : ℕ → List TraceLine → Slots → (ℕ → Type 0) → ℕ → List Sector → DiskWrite → Type 0
+PartMakes limit lines before hid part d w = PartMay lines part d w × OfShown limit lines before hid part w
+
+-- where no part names the file, its labels stay, if its leaders are all permanent
+abbrev pub KeepsUnnamed : ℕ → List TraceLine → (ℕ → ℕ) → List DiskWrite → DiskState → Type 0
+KeepsUnnamed id lines part writes old = (d : List Sector) (earlier : List DiskWrite) (j k : ℕ) → old.contents ≡ Some d → old.writes ≡ Some earlier
+    → IsUnnamed id lines part j k → IsLasting id (crash_state d writes j) → j ≤ k → k ≤ length writes → HasSameLabels id (crash_state d writes j) (crash_state d writes k)
+
+-- Each write belongs to a part, up to this one, and spares the files that this part does not name. These are files whose identifier is below
+-- the limit.
+pub record SparesInParts (limit : ℕ) (lines : List TraceLine) (last : ℕ) (old : DiskState) (before : Slots) (new : DiskState) (hid : ℕ → Type 0) : Type 0 where
+  pub parts : InParts (PartMakes limit lines before hid) last old new
+  pub keeps : (id : ℕ) → 16 ≤ id → id < limit → KeepsUnnamed id lines parts.part parts.writes old
+
 -- so it is of all lines of a trace, from a session's start to its end
 pub record RunSpares (root : Root) (lines : List TraceLine) (old : DiskState) (before : Slots) (new : DiskState) (hid : ℕ → Type 0) : Type 0 where
   pub spares : (id : ℕ) → 16 ≤ id → id < next_id root → list_any (names_file id) lines ≡ false → Spares id old new
   pub quiet : list_any stores lines ≡ false → (run : List DiskWrite) × Wrote volume_page run old before new
   pub apart : (id : ℕ) → 16 ≤ id → id < next_id root → list_any (maps_file id) lines ≡ false → hid id → (run : List DiskWrite) × Wrote (other_file id) run old before new
+  pub in_parts : SparesInParts (next_id root) lines (suc (length lines)) old before new hid

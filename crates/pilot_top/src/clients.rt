@@ -79,7 +79,8 @@ fn end_events<D: Disk, A: Allocator, K: Sink>(
         → CostsOther (state flights.stepped.core).disk (D.state result.1) }
     ensures left_open { IsUnset (state flights.stepped.core).disk → result.0 ≡ Status.Damaged
         → IsUnset (D.state result.1) }
-    ensures wrote { WroteOn (state flights.stepped.core).slots (state flights.stepped.core).disk (D.state result.1) }
+    ensures wrote { WroteOn flights.stepped.volume.root (state flights.stepped.core).slots
+        (state flights.stepped.core).disk (D.state result.1) }
     ensures ends { (result.0 ≡ Status.Done) ⊎ (result.0 ≡ Status.StreamFault)
         ⊎ (result.0 ≡ Status.DiskFault) ⊎ (result.0 ≡ Status.Damaged) }
 {

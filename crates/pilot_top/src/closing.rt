@@ -65,7 +65,8 @@ pub(crate) fn close<D: Disk, A: Allocator, K: Sink>(
         → IsUnset (D.state result.1) }
     ensures ends { (result.0 ≡ None) ⊎ (result.0 ≡ Some Status.DiskFault)
         ⊎ (result.0 ≡ Some Status.Damaged) }
-    ensures wrote { WroteOn (state session.core).slots (state session.core).disk (D.state result.1) }
+    ensures wrote { WroteOn session.volume.root (state session.core).slots (state session.core).disk
+        (D.state result.1) }
     ensures syncs { (m : Machine) → Runs session.core session.volume m
         → ShutsBySync (state session.core).disk (D.state result.1) }
     ensures later { K.faults sink.old ≤ K.faults sink.new }
@@ -113,7 +114,8 @@ pub(crate) fn end_trace<D: RunDisk, A: Allocator, K: Sink>(
     ensures left_open { IsUnset (state session.core).disk → result.0 ≡ Status.Damaged → IsUnset (D.state result.1) }
     ensures ends { (result.0 ≡ Status.Done) ⊎ (result.0 ≡ Status.StreamFault)
         ⊎ (result.0 ≡ Status.DiskFault) ⊎ (result.0 ≡ Status.Damaged) }
-    ensures wrote { WroteOn (state session.core).slots (state session.core).disk (D.state result.1) }
+    ensures wrote { WroteOn session.volume.root (state session.core).slots (state session.core).disk
+        (D.state result.1) }
     ensures spares { SparesAll (state session.core).disk (D.state result.1) }
     ensures syncs { (m : Machine) → Runs session.core session.volume m
         → ShutsBySync (state session.core).disk (D.state result.1) }

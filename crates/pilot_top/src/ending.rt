@@ -122,7 +122,8 @@ pub(crate) fn close_run<D: RunDisk, A: Allocator, K: Sink>(
         → IsUnset (D.state result.1) }
     ensures ends { (result.0 ≡ None) ⊎ (result.0 ≡ Some Status.DiskFault)
         ⊎ (result.0 ≡ Some Status.Damaged) }
-    ensures wrote { WroteOn (state session.core).slots (state session.core).disk (D.state result.1) }
+    ensures wrote { WroteOn session.volume.root (state session.core).slots (state session.core).disk
+        (D.state result.1) }
     ensures spares { SparesAll (state session.core).disk (D.state result.1) }
     ensures syncs { (m : Machine) → Runs session.core session.volume m
         → ShutsBySync (state session.core).disk (D.state result.1) }

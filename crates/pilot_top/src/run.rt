@@ -21,10 +21,14 @@ ghost use Rattle.pilot_top.specs.Last.{last_line, Puts};
 ghost use Rattle.pilot_top.specs.Cuts.{HonestCuts};
 ghost use Rattle.pilot_top.specs.CrashStates.{Lawfully, CrashStates, ShutsLast};
 ghost use Rattle.pilot_top.specs.InitialState.{FromEachInitialState, FromInitialState};
-ghost use Rattle.pilot_top.specs.Parts.{InParts, PartMay, Stops};
+ghost use Rattle.volume_root.specs.declared.root.Root.{Root};
+ghost use Rattle.volume_root.specs.RootPage.{root_in};
+ghost use Rattle.labelled_disk.specs.Root.{root_page};
+ghost use Rattle.pilot_top.specs.Parts.{InParts, PartMay, RaisesRoot, Stops};
 ghost use Rattle.pilot_top.specs.Queued.{RepliesChange, WroteChange};
 ghost use Rattle.pilot_top.specs.Replied.{Replied};
 ghost use Rattle.pilot_top.specs.Sparing.{Hides, IsPermanentFile, RunSpares, Spared, names_file};
+ghost use Rattle.pilot_top.specs.Staying.{StaysSinceNamed};
 ghost use Rattle.labelled_disk.specs.declared.disk.DiskWrite.{DiskWrite};
 ghost use Rattle.std.specs.List.{list_any};
 ghost use Rattle.filer_kernel.specs.View.{FitsLayout};
@@ -107,6 +111,8 @@ pub(crate) fn answer_lines<D: RunDisk, A: Allocator, S: Source, K: Sink>(
     ensures spares { (b : List ℕ) → S.left source.old ≡ Some b
         → RunSpares session.volume.root (reading b) (state session.core).disk (state session.core).slots
         (D.state result.1) (Hides session) }
+    ensures roots { (last : Root)
+        × RaisesRoot session.volume.root last (state session.core).disk (D.state result.1) }
     ensures same_disk { Went (state session.core).disk (D.state result.1) }
     ensures disk_cause { result.0 ≡ Status.DiskFault → (D.shown result.1 ≡ None)
         × Rose (state session.core).disk.faults (D.state result.1).faults }
@@ -199,6 +205,11 @@ pub(crate) fn run<A: Allocator, D: RunDisk, S: Source, K: Sink>(
         → (D.state disk).contents ≡ Some d → (D.state disk).writes ≡ Some earlier → S.left source.old ≡ Some b
         → IsPermanentFile id d → list_any (names_file id) (reading b) ≡ false
         → Spared id (reading b) d (D.state disk) (D.state result.1) }
+    ensures roots { (d : List Sector) → (D.state disk).contents ≡ Some d
+        → (last : Root) × RaisesRoot (root_in (root_page d)) last (D.state disk) (D.state result.1) }
+    ensures stays { (d : List Sector) (earlier : List DiskWrite) (b : List ℕ)
+        → (D.state disk).contents ≡ Some d → (D.state disk).writes ≡ Some earlier → S.left source.old ≡ Some b
+        → StaysSinceNamed (reading b) d (D.state disk) (D.state result.1) }
     ensures same_disk { Went (D.state disk) (D.state result.1) }
 
     // The volume can't be opened.

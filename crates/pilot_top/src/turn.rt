@@ -3,7 +3,7 @@ ghost use Rattle.std.specs.Prelude.{◌≡◌, ◌⊎◌, ◌≤◌, true, Some,
 ghost use Rattle.labelled_disk.specs.declared.evidence.Halt.TheVariants as halt;
 ghost use Rattle.labelled_disk.specs.Calls.{Rose};
 ghost use Rattle.filer_kernel.specs.Evidence.{ShowsEvidence};
-ghost use Rattle.file_manager.specs.Creating.{IsMonotone, next_id};
+ghost use Rattle.file_manager.specs.Creating.{next_id};
 ghost use Rattle.file_manager.specs.Reasons.{KeepsOn, InitialState, ShowsReason, IsNotOlder, giving};
 ghost use Rattle.flat_machine.specs.Machine.{Machine};
 ghost use Rattle.running_words.specs.Session.{IsOpen, WroteIn};
@@ -12,6 +12,7 @@ ghost use Rattle.running_words.specs.Running.{Runs};
 ghost use Rattle.pilot_top.specs.Headline.{CostsLine};
 ghost use Rattle.pilot_top.specs.CrashStates.{LineCrashStates};
 ghost use Rattle.pilot_top.specs.Sparing.{Hides, LineDone};
+ghost use Rattle.pilot_top.specs.Parts.{TurnsRoot};
 ghost use Rattle.pilot_top.specs.Turn.{EndsAt, IsGoing, IsIdle, Turns};
 ghost use Rattle.pilot_engine.specs.Reasons.{IsBlameless, SeesHome};
 ghost use Rattle.filer_kernel.specs.View.{FitsLayout};
@@ -93,7 +94,8 @@ pub(crate) fn take_turn<D: Disk, A: Allocator, S: Source>(
     ensures right { (o : InitialState) → KeepsOn o session.old.core.filer → IsNotOlder o session.old.volume.root
         → SeesHome o session.old.core → (why : Halt) → result ≡ Turn.Halts why
         → IsBlameless o (state session.new.core).disk why }
-    ensures monotone { IsMonotone session.old.volume.root session.new.volume.root }
+    ensures roots { TurnsRoot (IsGoing result) session.old.volume.root session.new.volume.root
+        (state session.old.core).disk (state session.new.core).disk }
     ensures evidence_seen { (why : Halt) → result ≡ Turn.Halts why → ShowsEvidence (state session.new.core).disk why }
     ensures wrote { WroteIn client_or_own (state session.old.core).disk (state session.old.core).slots
         (state session.new.core).disk (state session.new.core).slots }

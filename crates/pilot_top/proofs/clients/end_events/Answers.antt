@@ -4,8 +4,7 @@ use Rattle.flat_machine.specs.Machine.{Machine}
 use Rattle.fault_core.specs.Core.{state}
 use Rattle.pilot_engine.specs.declared.session.Session.{Session}
 use Rattle.pilot_engine.specs.Trying.{StandsAs}
-use Rattle.pilot_engine.proofs.ShutLemmas.{wrote_on}
-use Rattle.pilot_engine.proofs.WroteLemmas.{wrote_nothing}
+use Rattle.pilot_engine.proofs.ShutLemmas.{nothing_on}
 use Rattle.pilot_top.specs.contracts.turn.End.{the_type}
 use Rattle.pilot_top.specs.declared.status.Status.{Status}
 use Rattle.pilot_top.specs.declared.turn.End.TheVariants as end
@@ -34,7 +33,7 @@ returns-then-eq-clause-sound g c = λ m is damaged. elim c.put_end.ensures.ends 
 pub returns-then-eq-clause-wrote : goal.returns-then-eq-clause-wrote
 returns-then-eq-clause-wrote g c =
     let s = c.args.flights.stepped in
-    rw (c.into_disk-disk.ensures, c.into_inner-session.ensures) (wrote_on (wrote_nothing (state s.core).disk (state s.core).slots))
+    rw (c.into_disk-disk.ensures, c.into_inner-session.ensures) (nothing_on s.volume.root (state s.core).disk (state s.core).slots)
 
 -- its end failed
 

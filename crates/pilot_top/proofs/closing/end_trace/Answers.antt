@@ -4,9 +4,8 @@ use Rattle.labelled_disk.specs.Calls.{RevealsSame}
 use Rattle.labelled_disk.proofs.WriteRunLemmas.{appended_none}
 use Rattle.swapper_kernel.specs.Goes.{Went}
 use Rattle.pilot_top.proofs.ShutLemmas.{none_shuts}
-use Rattle.pilot_engine.proofs.ShutLemmas.{wrote_on}
+use Rattle.pilot_engine.proofs.ShutLemmas.{nothing_on}
 use Rattle.pilot_engine.proofs.SparingLemmas.{spares_same}
-use Rattle.pilot_engine.proofs.WroteLemmas.{wrote_nothing}
 use Rattle.pilot_top.specs.contracts.turn.End.{the_type}
 use Rattle.pilot_top.specs.declared.status.Status.{Status}
 use Rattle.pilot_top.proofs.CloseLemmas.{rest_stops, not_closed}
@@ -48,7 +47,7 @@ pub returns-in-Some-clause-wrote : goal.returns-in-Some-clause-wrote
 returns-in-Some-clause-wrote g c =
     let disk = (disk_of c.args.session.core.filer) in
     wrote_same (same_there g disk c.into_disk-disk.result c.bring.new.disk c.into_disk-disk.ensures c.bring.ensures.same)
-    (went_there g disk c.into_disk-disk.result c.bring.new.disk c.into_disk-disk.ensures c.bring.ensures.went) (wrote_on (wrote_nothing (g.D.Disk.state disk) (state c.args.session.core).slots))
+    (went_there g disk c.into_disk-disk.result c.bring.new.disk c.into_disk-disk.ensures c.bring.ensures.went) (nothing_on c.args.session.volume.root (g.D.Disk.state disk) (state c.args.session.core).slots)
 
 pub returns-in-Some-clause-left_open : goal.returns-in-Some-clause-left_open
 returns-in-Some-clause-left_open g c unset damaged =
@@ -68,7 +67,7 @@ pub returns-in-Ok-clause-wrote : goal.returns-in-Ok-clause-wrote
 returns-in-Ok-clause-wrote g c =
     let disk = (disk_of c.args.session.core.filer) in
     wrote_same (same_there g disk c.into_disk-disk.result c.bring.new.disk c.into_disk-disk.ensures c.bring.ensures.same)
-    (went_there g disk c.into_disk-disk.result c.bring.new.disk c.into_disk-disk.ensures c.bring.ensures.went) (wrote_on (wrote_nothing (g.D.Disk.state disk) (state c.args.session.core).slots))
+    (went_there g disk c.into_disk-disk.result c.bring.new.disk c.into_disk-disk.ensures c.bring.ensures.went) (nothing_on c.args.session.volume.root (g.D.Disk.state disk) (state c.args.session.core).slots)
 
 pub returns-in-Ok-clause-cost : goal.returns-in-Ok-clause-cost
 returns-in-Ok-clause-cost g c m is =
@@ -86,7 +85,7 @@ pub returns-in-Err-clause-wrote : goal.returns-in-Err-clause-wrote
 returns-in-Err-clause-wrote g c =
     let disk = (disk_of c.args.session.core.filer) in
     wrote_same (same_there g disk c.into_disk-disk.result c.bring.new.disk c.into_disk-disk.ensures c.bring.ensures.same)
-    (went_there g disk c.into_disk-disk.result c.bring.new.disk c.into_disk-disk.ensures c.bring.ensures.went) (wrote_on (wrote_nothing (g.D.Disk.state disk) (state c.args.session.core).slots))
+    (went_there g disk c.into_disk-disk.result c.bring.new.disk c.into_disk-disk.ensures c.bring.ensures.went) (nothing_on c.args.session.volume.root (g.D.Disk.state disk) (state c.args.session.core).slots)
 
 pub returns-in-Err-clause-cost : goal.returns-in-Err-clause-cost
 returns-in-Err-clause-cost g c m is =

@@ -6,11 +6,15 @@ use Rattle.trace_io.specs.Reading.{reading}
 use Rattle.command_words.specs.declared.words.Command.TheVariants as command
 use Rattle.pilot_top.specs.Headline.{at_end, run_bound}
 use Rattle.pilot_top.specs.InitialState.{FromInitialState}
+use Rattle.volume_root.specs.RootPage.{root_in}
+use Rattle.labelled_disk.specs.Root.{root_page}
 use Rattle.pilot_top.specs.Parts.{PartMay}
-use Rattle.pilot_top.proofs.AfterLemmas.{none_rose_after, rose_after, shut_after, open_after, spent_after, run_after, reads_after, crash_states_after, cuts_after, lawfully_after, spared_after, stops_after, damage_after, replied_after, from_after}
+use Rattle.pilot_top.proofs.AfterLemmas.{none_rose_after, rose_after, shut_after, open_after, spent_after, run_after, reads_after, crash_states_after, cuts_after, lawfully_after, spared_after, stops_after, roots_after, damage_after, replied_after, from_after, stays_after}
 use Rattle.pilot_top.proofs.CommandLemmas.{no_run}
+use Rattle.pilot_top.proofs.ForceLemmas.{keeps_forced}
 use Rattle.pilot_top.proofs.ReasonLemmas.{replied_reasoned}
 use Rattle.pilot_top.proofs.StatusLemmas.{is_done, with_memory}
+use Rattle.pilot_top.proofs.StayLemmas.{spared_stays}
 use Rattle.pilot_top.proofs.lent.run_on.Given as given
 use Rattle.pilot_top.proofs.lent.run_on.Goals as goal
 
@@ -38,6 +42,13 @@ returns g c = record {
     stops = λ b t source sink.
         stops_after g.D.Disk.state _ c.run-status.result.1.now (after g c) (g.D.Disk.state c.args.disk.now) _ c.run-status.result.1.ghost_name c.run-status.result.0 b t _ _ _ (PartMay (reading b)) (e.stops b t source sink);
     spares = λ d earlier b id revealed made source file untouched. spared_after g.D.Disk.state _ c.run-status.result.1.now (after g c) (g.D.Disk.state c.args.disk.now) _ c.run-status.result.1.ghost_name id (reading b) d (e.spares d earlier b id revealed made source file untouched);
+    roots = λ d revealed. let on = e.roots d revealed in (on.0, roots_after g.D.Disk.state _ c.run-status.result.1.now (after g c) (g.D.Disk.state c.args.disk.now) _ c.run-status.result.1.ghost_name (root_in (root_page d)) on.0 on.1);
+    stays = λ d earlier b id revealed made source file untouched.
+        spared_stays id (reading b) d (spared_after g.D.Disk.state _ c.run-status.result.1.now (after g c) (g.D.Disk.state c.args.disk.now) _ c.run-status.result.1.ghost_name id (reading b) d (e.spares d earlier b id revealed made source file untouched));
+    stays_since = λ d earlier b revealed made source.
+        stays_after g.D.Disk.state _ c.run-status.result.1.now (after g c) (g.D.Disk.state c.args.disk.now) _ c.run-status.result.1.ghost_name (reading b) d (e.stays d earlier b revealed made source);
+    forced = λ d b revealed sound source.
+        keeps_forced (start d) (reading b) d (crash_states_after g.D.Disk.state _ c.run-status.result.1.now (after g c) (g.D.Disk.state c.args.disk.now) _ _ (start d) (reading b) (e.crash_states d b revealed sound source)) revealed;
     stays_open = λ b source early. open_after g.D.Disk.state _ c.run-status.result.1.now (after g c) (e.stays_open b source early);
     untaken = λ b source failed some. open_after g.D.Disk.state _ c.run-status.result.1.now (after g c) (e.untaken b source failed some);
     left_open = λ is. open_after g.D.Disk.state _ c.run-status.result.1.now (after g c) (e.left_open is);

@@ -31,7 +31,7 @@ started g c e shown =
     let session = c.in-Ok.session in (
       shown.0,
       reason_started session (g.D.Disk.state c.args.disk) (g.D.Disk.state c.answer_clients.result.1) e (accepted session.core.filer) (sym c.in-Ok.ensures.size ∙ c.in-Ok.ensures.wrote.went.sectors) (g.met.D.Disk.whole c.args.disk)
-          c.in-Ok.ensures.keeps_to c.in-Ok.ensures.sees c.in-Ok.ensures.monotone shown.1,
+          c.in-Ok.ensures.keeps_to c.in-Ok.ensures.sees (λ d revealed. (c.in-Ok.ensures.root d revealed).0) shown.1,
     )
 
 pub returns-in-Ok-clause-replied : goal.returns-in-Ok-clause-replied

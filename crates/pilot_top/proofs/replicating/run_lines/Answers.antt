@@ -1,10 +1,11 @@
 use Rattle.std.proofs.Common.{◌≡◌, Result, refl, sym, ◌∙◌, subst}
 use Rattle.trace_io.specs.PairReading.{pair_reading}
 use Rattle.volume_pair.specs.declared.fault.PairStart.{PairStart}
+use Rattle.pair_session.specs.Owned.{RepliesTo}
 use Rattle.pair_session.specs.Second.{Replicates}
 use Rattle.pilot_top.specs.Replicating.{JudgesRoots}
 use Rattle.pilot_top.proofs.JudgedRootLemmas.{none_refused, refused_lines}
-use Rattle.pilot_top.proofs.ReplicatedStates.{ended_less, replicates_before}
+use Rattle.pilot_top.proofs.ReplicatedStates.{ended_less, replicates_before, replies_before}
 use Rattle.pilot_top.proofs.ReplicatingLemmas.{read_before, shown_before, wrote_before}
 use Rattle.pilot_top.proofs.replicating.run_lines.Goals as goal
 
@@ -35,7 +36,7 @@ returns-in-Ok g c =
         replies = λ d f b t revealed there sound sound_too source sink.
             ended_less (Replicates how d f (pair_reading b) mid_to new_to) (Replicates how d f (pair_reading b) to new_to) (replicates_before how d f (pair_reading b) to mid_to new_to judges.to_reads) how b _ t _
             (e.replies d f b t (judges.from_reads.contents ∙ revealed) (judges.to_reads.contents ∙ there) sound sound_too source sink);
-        texts = e.texts;
+        texts = λ b t source sink. ended_less (RepliesTo how (pair_reading b) mid_to new_to) (RepliesTo how (pair_reading b) to new_to) (replies_before how (pair_reading b) to mid_to new_to judges.to_reads) how b _ t _ (e.texts b t source sink);
         from = read_before judges.from_reads e.from;
         to = wrote_before how to mid_to new_to judges.to_reads e.to;
         judged = λ d f revealed there. e.judged d f (judges.from_reads.contents ∙ revealed) (judges.to_reads.contents ∙ there);

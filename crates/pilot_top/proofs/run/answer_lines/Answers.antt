@@ -1,4 +1,4 @@
-use Rattle.std.proofs.Common.{◌≡◌, ◌≤◌, ℕ, suc, length, inl, inr, ◌∙◌, refl, sym, ap, subst, arith, Some, None, Option, List, []}
+use Rattle.std.proofs.Common.{◌≡◌, ◌≤◌, ◌^◌, ℕ, suc, length, inl, inr, ◌∙◌, refl, sym, ap, subst, arith, Some, None, Option, List, []}
 use Rattle.labelled_disk.specs.declared.evidence.Evidence.{Evidence}
 use Rattle.labelled_disk.specs.declared.evidence.Halt.{Halt}
 use Rattle.labelled_disk.specs.declared.evidence.Halt.TheVariants as halt
@@ -13,6 +13,7 @@ use Rattle.swapper_kernel.specs.Goes.{Went}
 use Rattle.swapper_kernel.specs.GoesLaws.{went_itself, went_then}
 use Rattle.trace_io.specs.Reading.{reading}
 use Rattle.trace_io.proofs.CourseLemmas.{HasRead-none}
+use Rattle.trace_io.specs.declared.progress.Stop.TheVariants as stop
 use Rattle.frame_pool.specs.Frames.{Slots}
 use Rattle.session_words.specs.StandsFor.{RevealsSettled}
 use Rattle.filer_kernel.specs.Evidence.{IsEvident, ShowsEvidence}
@@ -39,13 +40,15 @@ use Rattle.pilot_top.proofs.ShutLemmas.{openly_shuts, shuts_after}
 use Rattle.pilot_top.proofs.OpenLemmas.{early_halt}
 use Rattle.pilot_top.proofs.PartLemmas.{parts_still}
 use Rattle.pilot_top.proofs.PlaceLemmas.{stop_revealed}
+use Rattle.pilot_top.proofs.RootLemmas.{raises_end, raises_itself, raises_still, raises_then}
+use Rattle.file_manager.specs.Creating.{counted}
 use Rattle.pilot_top.proofs.ReasonLemmas.{damage_same, goes_nowhere, goes_then, reason_before, reason_halted}
 use Rattle.pilot_top.proofs.RepliedLemmas.{Replied-changed, Replied-end, Replied-halted, Replied-long, Replied-read_fault, Replied-write_fault}
 use Rattle.pilot_top.specs.Sparing.{Hides}
-use Rattle.pilot_top.proofs.SpareLemmas.{lines_end, lines_hide, lines_more, lines_none, lines_run, lines_same, lines_source, run_still}
+use Rattle.pilot_top.proofs.SparedLineLemmas.{lines_end, lines_hide, lines_more, lines_none, lines_run, lines_same, lines_source, run_still}
 use Rattle.pilot_top.proofs.StagedLemmas.{from_rest, stands_revealed}
 use Rattle.pilot_top.proofs.StatusLemmas.{halt_ends, trace_ends}
-use Rattle.pilot_top.proofs.StopParts.{Stops-end, Stops-halted, Stops-long, Stops-read_fault, Stops-write_fault, end_parts}
+use Rattle.pilot_top.proofs.StopParts.{Stops-end, Stops-halted, Stops-long, Stops-read_fault, Stops-write_fault, bytes_taken, end_parts, line_taken}
 use Rattle.pilot_top.proofs.TopLemmas.{change_revealed, last_of, Run-disk, Run-long, Run-read_fault, Run-write_fault, not_short, rose_later, Puts-later, damage_revealed, revealed_prefix, Going-sink, Going-revealed}
 use Rattle.pilot_top.proofs.TurnedLemmas.{line_parts, more_crash_states, ended_crash_states, still_parts, Turned-start, Turned-reply, Turned-source, Turned-revealed, Turned-same}
 use Rattle.pilot_top.proofs.SameLemmas.{crash_states_same, leads_same, shuts_same, unset_same}
@@ -97,6 +100,7 @@ turns-init g c =
           (openly_none (record { contents = refl; writes = refl }));
       spared = lines_none _ c.with_limit-lines.result c.args.session.volume.root (session_disk g c.args.session) (session_slots g c.args.session) (Hides c.args.session)
           (HasRead-none _ c.with_limit-lines.result (ap (λ p. p.taken) made) stopped);
+      roots = raises_itself c.args.session.volume.root (state c.args.session.core).disk;
       same_disk = went_itself (state c.args.session.core).disk;
       goes_on = inl stopped;
       limit = ap (λ p. p.limit) made;
@@ -129,6 +133,7 @@ turns-preserved g c =
       turned = Turned-reply i.turned i.same_disk.sectors turn.0 turn.2 turn.3 turn.4 turn.5 turn.6.wrote
           (called_openly c.take_turn.ensures.wrote) c.in-Ok.ensures.ok;
       spared = lines_hide (λ id still. still tt) (lines_more i.spared turn.0 turn.2 turn.4 i.goes.monotone turn.6);
+      roots = raises_then i.goes.monotone i.roots (c.in-Replies.ensures.roots.raises tt);
       same_disk = went_then i.same_disk went;
       goes_on = elim turn.2.ends [ inl fed ↦ inl fed.1 | inr ended ↦ inr ended.3 ];
       limit = turn.2.limit ∙ i.limit;
@@ -138,7 +143,7 @@ turns-preserved g c =
       goes = goes_then c.args.session c.turns.session c.take_turn.new.session i.goes (record {
         keeps = λ o keeps not_older. c.in-Replies.ensures.keeps_to o keeps not_older tt;
         sees = λ o keeps not_older seen. c.in-Replies.ensures.sees o keeps not_older seen tt;
-        monotone = c.take_turn.ensures.monotone;
+        monotone = c.take_turn.ensures.roots.monotone;
       });
       opened = c.take_turn.ensures.open_still;
       running = c.in-Replies.ensures.going tt;
@@ -186,6 +191,7 @@ returns-in_default g c =
           (Stops-write_fault b t turned.going (Unit {0}) (λ k. InParts (PartMay (reading b)) k (session_disk g c.args.session) (session_disk g c.take_turn.new.session)) (g.S.Source.left c.take_turn.new.source) None c.take_turn.new.lines turn.1 turn.0 turn.2
           (line_parts turned turn.0 turn.2 turn.4 turn.6.wrote));
       spares = λ b source. rw c.into_disk.ensures (lines_run (lines_source source (lines_more i.spared turn.0 turn.2 turn.4 i.goes.monotone turn.6)));
+      roots = rw c.into_disk.ensures (counted c.turns.session.volume.root, raises_then i.goes.monotone i.roots c.take_turn.ensures.roots.counts);
       same_disk = rw c.into_disk.ensures went;
       disk_cause = λ is. absurd (cc is);
       stream_cause = λ is. inr rose;
@@ -232,6 +238,7 @@ returns-in-ReadFault g c =
           (Stops-read_fault b t turned.going (Unit {0}) (λ k. InParts (PartMay (reading b)) k (session_disk g c.args.session) (session_disk g c.take_turn.new.session)) (g.S.Source.left c.take_turn.new.source) None c.take_turn.new.lines turn.0 turn.1
           (still_parts turned (length turned.going.lines) (omega arith)));
       spares = λ b source. rw c.into_disk-in-ReadFault.ensures (lines_run (lines_source source (lines_same {S = Sessions g} (session_disk g) (session_slots g) (hides_of g) same i.spared)));
+      roots = rw c.into_disk-in-ReadFault.ensures (counted c.turns.session.volume.root, raises_then i.goes.monotone i.roots c.take_turn.ensures.roots.counts);
       same_disk = rw c.into_disk-in-ReadFault.ensures went;
       disk_cause = λ is. absurd (cc is);
       stream_cause = λ is. inl rose;
@@ -314,18 +321,21 @@ returns-in-Long g c =
       stops = λ b t source sink.
           let turned = Turned-same {S = Sessions g} (session_disk g) (stands_of g) same (Turned-revealed i.turned source sink) in
           let wrote = λ (k : ℕ). InParts (PartMay (reading b)) k (session_disk g c.args.session) disk in
+          let full : c.take_turn.new.lines.taken ≡ 2 ^ 32 = turn.2 ∙ turn.1.limit ∙ i.limit in
+          let some = bytes_taken b t turned.going (Unit {0}) wrote (g.S.Source.left c.take_turn.new.source) c.take_turn.new.lines stop.Long turn.0 turn.1 (omega (arith, full)) in
           let at : (k : ℕ) → length turned.going.lines ≤ k → wrote k = λ k le. parts_still (PartMay (reading b)) k (still_parts turned k le) there in
           elim e.ends [
             | inl long ↦ rw long (Stops-long b t turned.going (Unit {0}) wrote (g.S.Source.left c.take_turn.new.source) None c.take_turn.new.lines turn.0 turn.1 (at (length turned.going.lines) (omega arith)))
             | inr (inl failed) ↦
                 Stops-halted b t turned.going _ wrote c.end_long.result.0 halt.Disk (g.S.Source.left c.take_turn.new.source) _ failed
-                (Puts-later _ _ _ _ _ (rose_later _ _ _ i.sink) (e.disk_fault failed).2) (at (suc (length turned.going.lines)) (omega arith))
+                (Puts-later _ _ _ _ _ (rose_later _ _ _ i.sink) (e.disk_fault failed).2) (at (suc (length turned.going.lines)) (omega arith)) some
             | inr (inr damaged) ↦
                 let line = e.changed damaged in
                 Stops-halted b t turned.going _ wrote c.end_long.result.0 (halt.Damaged line.0) (g.S.Source.left c.take_turn.new.source) _ damaged
-                (Puts-later _ _ _ _ _ (rose_later _ _ _ i.sink) line.2) (at (suc (length turned.going.lines)) (omega arith))
+                (Puts-later _ _ _ _ _ (rose_later _ _ _ i.sink) line.2) (at (suc (length turned.going.lines)) (omega arith)) some
           ];
       spares = λ b source. run_still (lines_run (lines_source source (lines_same {S = Sessions g} (session_disk g) (session_slots g) (hides_of g) same i.spared))) there;
+      roots = (counted c.turns.session.volume.root, raises_still (raises_then i.goes.monotone i.roots c.take_turn.ensures.roots.counts) there);
       same_disk = went_then before later;
       disk_cause = λ is.
           let failed = e.disk_fault is in
@@ -407,8 +417,10 @@ returns-in-Halts g c =
           let turned = Turned-revealed i.turned source sink in
           rw c.into_disk-disk.ensures
           (Stops-halted b t turned.going _ (λ k. InParts (PartMay (reading b)) k (session_disk g c.args.session) disk) s (halt_on shown c.in-Halts.halt) (g.S.Source.left c.take_turn.new.source) _ stopped
-          (Puts-later _ _ _ _ _ (rose_later _ _ _ i.sink) line) (line_parts turned turn.0 turn.2 turn.3 turn.5.wrote));
+          (Puts-later _ _ _ _ _ (rose_later _ _ _ i.sink) line) (line_parts turned turn.0 turn.2 turn.3 turn.5.wrote)
+          (line_taken b t turned.going (Unit {0}) (λ k. InParts (PartMay (reading b)) k (session_disk g c.args.session) disk) (g.S.Source.left c.take_turn.new.source) c.take_turn.new.lines turn.1 turn.0 turn.2));
       spares = λ b source. rw c.into_disk-disk.ensures (lines_run (lines_source source (lines_more i.spared turn.0 turn.2 turn.3 i.goes.monotone turn.5)));
+      roots = rw c.into_disk-disk.ensures (counted c.turns.session.volume.root, raises_then i.goes.monotone i.roots c.take_turn.ensures.roots.counts);
       same_disk = rw c.into_disk-disk.ensures went;
       disk_cause = λ is.
           let failed = on_disk shown c.in-Halts.halt s stopped _ _ _ is line in
@@ -435,7 +447,7 @@ returns-in-Ends g c =
     let goes = goes_then c.args.session c.turns.session c.take_turn.new.session i.goes (record {
       keeps = λ o keeps not_older. c.in-Ends.ensures.keeps_to o keeps not_older tt;
       sees = λ o keeps not_older seen. c.in-Ends.ensures.sees o keeps not_older seen tt;
-      monotone = c.take_turn.ensures.monotone;
+      monotone = c.take_turn.ensures.roots.monotone;
     }) in
     let reason = λ (e : Evidence). reason_before c.args.session c.take_turn.new.session layout goes disk e in
     record {
@@ -503,7 +515,10 @@ returns-in-Ends g c =
           (λ is. Puts-later _ _ _ _ _ (rose_later _ _ _ i.sink) (e.disk_fault is).2)
           (λ is. let line = e.damage is in (line.0, Puts-later _ _ _ _ _ (rose_later _ _ _ i.sink) line.2))
           (end_parts b turned.going c.in-Ends.end (g.S.Source.left c.take_turn.new.source) c.take_turn.new.lines ended e.halted turned.parts e.wrote);
-      spares = λ b source. lines_end (lines_source source (lines_same {S = Sessions g} (session_disk g) (session_slots g) (hides_of g) same i.spared)) e.spares e.wrote;
+      spares = λ b source.
+          lines_end c.in-Ends.end (g.S.Source.left c.take_turn.new.source) c.take_turn.new.lines ended e.halted
+          (lines_source source (lines_same {S = Sessions g} (session_disk g) (session_slots g) (hides_of g) same i.spared)) e.spares e.wrote;
+      roots = (c.take_turn.new.session.volume.root, raises_then goes.monotone (raises_then i.goes.monotone i.roots (c.in-Ends.ensures.roots.raises tt)) (raises_end c.take_turn.new.session.volume.root e.wrote.ends));
       same_disk = went_then went e.wrote.went;
       disk_cause = λ is. let failed = e.disk_fault is in (failed.0, rose_later _ _ _ went.faults failed.1);
       stream_cause = λ is. inr (rose_later _ _ _ i.sink (e.stream_cause is).0);

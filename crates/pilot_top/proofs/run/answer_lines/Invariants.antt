@@ -4,9 +4,10 @@ use Rattle.swapper_kernel.specs.Goes.{Went}
 use Rattle.pilot_engine.specs.Opening.{IsUnset}
 use Rattle.running_words.specs.Session.{IsOpen}
 use Rattle.running_words.specs.Running.{Runs}
+use Rattle.pilot_top.specs.Parts.{RaisesRoot}
 use Rattle.pilot_top.specs.Sparing.{Hides}
 use Rattle.pilot_top.proofs.ReasonLemmas.{GoesOn}
-use Rattle.pilot_top.proofs.SpareLemmas.{SparedLines}
+use Rattle.pilot_top.proofs.SparedLineLemmas.{SparedLines}
 use Rattle.pilot_top.proofs.TurnedLemmas.{Turned}
 use Rattle.pilot_top.proofs.run.answer_lines.Given as goal
 use Rattle.fault_core.specs.Core.{state}
@@ -20,6 +21,7 @@ invariant-turns g l = record {
       (state l.fn.session.core).disk (state l.session.core).disk;
   spared : SparedLines (g.S.Source.left l.fn.source) (g.S.Source.left l.source) l.lines l.fn.session.volume.root
       (state l.fn.session.core).disk (state l.fn.session.core).slots (state l.session.core).disk (state l.session.core).slots (Hides l.fn.session) (Hides l.session);
+  roots : RaisesRoot l.fn.session.volume.root l.session.volume.root (state l.fn.session.core).disk (state l.session.core).disk;
   same_disk : Went (state l.fn.session.core).disk (state l.session.core).disk;
   goes_on : (l.lines.stopped ≡ None) ⊎ (l.lines.stopped ≡ Some stop.End);
   limit : l.lines.limit ≡ 2 ^ 32;

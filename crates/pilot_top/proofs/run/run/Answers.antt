@@ -1,4 +1,4 @@
-use Rattle.std.proofs.Common.{[], inl, inr, refl, sym, ◌∙◌, subst}
+use Rattle.std.proofs.Common.{arith, [], inl, inr, refl, sym, ◌∙◌, subst}
 use Rattle.labelled_disk.specs.declared.evidence.Evidence.{Evidence}
 use Rattle.flat_machine.specs.Start.{start}
 use Rattle.swapper_kernel.specs.GoesLaws.{went_then}
@@ -18,7 +18,11 @@ use Rattle.pilot_top.proofs.ReasonLemmas.{reason_refused, reason_started, replie
 use Rattle.pilot_top.proofs.RunLemmas.{memory_early, refused_early, run_started, not_sound, not_done, left_early, run_refused, damage_first, replied_refused, refused_why, refused_line, refused_ends, is_early}
 use Rattle.pilot_top.proofs.SpareLemmas.{run_spared, start_spared}
 use Rattle.pilot_top.proofs.StagedLemmas.{from_start, crash_states_before, crash_states_then}
+use Rattle.pilot_top.proofs.StayLemmas.{run_stays, start_stays}
 use Rattle.pilot_top.proofs.run.run.Given as given
+use Rattle.pilot_top.proofs.RootLemmas.{raises_start, raises_then}
+use Rattle.volume_root.specs.RootPage.{root_in}
+use Rattle.labelled_disk.specs.Root.{root_page}
 use Rattle.pilot_top.proofs.run.run.Goals as goal
 use Rattle.filer_kernel.specs.View.{accepted}
 use Rattle.fault_core.specs.Core.{state}
@@ -62,7 +66,7 @@ started : (g : given.Over) (c : goal.After-answer_lines g) (e : Evidence) → Fr
 started g c e =
     let session = c.in-Ok.session in
     reason_started session (g.D.Disk.state c.args.disk) (g.D.Disk.state c.answer_lines.result.1) e (accepted session.core.filer) (sym c.in-Ok.ensures.size ∙ c.in-Ok.ensures.wrote.went.sectors) (g.met.D.Disk.whole c.args.disk)
-    c.in-Ok.ensures.keeps_to c.in-Ok.ensures.sees c.in-Ok.ensures.monotone
+    c.in-Ok.ensures.keeps_to c.in-Ok.ensures.sees (λ d revealed. (c.in-Ok.ensures.root d revealed).0)
 
 pub returns-in-Ok-clause-damage : goal.returns-in-Ok-clause-damage
 returns-in-Ok-clause-damage g c t sink is = let all = c.answer_lines.ensures.damage t c.in-Ok.ensures.left_open sink is (c.requires.plain c.answer_lines.result.1) in (all.0, started g c all.0.evidence all.1)
@@ -196,8 +200,33 @@ pub returns-in-Ok-clause-spares : goal.returns-in-Ok-clause-spares
 returns-in-Ok-clause-spares g c d earlier b id revealed made source file untouched =
     let session = c.in-Ok.session in
     run_spared id (reading b) d earlier session.volume.root (state session.core).slots c.in-Ok.ensures.wrote c.in-Ok.ensures.clean c.answer_lines.ensures.same_disk (c.answer_lines.ensures.spares b source)
-    (λ named map. hidden_first session (g.D.Disk.state c.args.disk) c.in-Ok.ensures.keeps_to c.in-Ok.ensures.sees c.in-Ok.ensures.monotone d named earlier (record { contents = revealed; writes = made; map = map }) id)
-    (c.in-Ok.ensures.monotone d revealed) file untouched revealed made
+    (λ named map. hidden_first session (g.D.Disk.state c.args.disk) c.in-Ok.ensures.keeps_to c.in-Ok.ensures.sees (λ d revealed. (c.in-Ok.ensures.root d revealed).0) d named earlier (record { contents = revealed; writes = made; map = map }) id)
+    (c.in-Ok.ensures.root d revealed).0 file untouched revealed made
 
 pub returns-in-Err-clause-spares : goal.returns-in-Err-clause-spares
 returns-in-Err-clause-spares g c d earlier b id revealed made source file untouched = start_spared id (reading b) d earlier c.in-Err.ensures.wrote file revealed made
+
+-- ---- The roots that were written.
+
+pub returns-in-Ok-clause-roots : goal.returns-in-Ok-clause-roots
+returns-in-Ok-clause-roots g c d revealed =
+    let begun = c.in-Ok.ensures.root d revealed in
+    let on = c.answer_lines.ensures.roots in
+    (on.0, raises_then begun.0 (raises_start (root_in (root_page d)) c.in-Ok.session.volume.root begun.0.0 c.in-Ok.ensures.wrote begun.1) on.1)
+
+pub returns-in-Err-clause-roots : goal.returns-in-Err-clause-roots
+returns-in-Err-clause-roots g c d revealed =
+    let root = root_in (root_page d) in
+    (root, raises_start root root (omega arith) c.in-Err.ensures.wrote (c.in-Err.ensures.root d revealed))
+
+-- ---- Which stay where the power goes.
+
+pub returns-in-Ok-clause-stays : goal.returns-in-Ok-clause-stays
+returns-in-Ok-clause-stays g c d earlier b revealed made source =
+    let session = c.in-Ok.session in
+    run_stays (reading b) d earlier session.volume.root (state session.core).slots c.in-Ok.ensures.wrote c.in-Ok.ensures.clean (c.answer_lines.ensures.spares b source)
+    (λ named map id. hidden_first session (g.D.Disk.state c.args.disk) c.in-Ok.ensures.keeps_to c.in-Ok.ensures.sees (λ d revealed. (c.in-Ok.ensures.root d revealed).0) d named earlier (record { contents = revealed; writes = made; map = map }) id)
+    (c.in-Ok.ensures.root d revealed).0 revealed made
+
+pub returns-in-Err-clause-stays : goal.returns-in-Err-clause-stays
+returns-in-Err-clause-stays g c d earlier b revealed made source = start_stays (reading b) d earlier c.in-Err.ensures.wrote revealed made

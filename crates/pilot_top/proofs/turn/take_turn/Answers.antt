@@ -1,7 +1,7 @@
 use Rattle.std.proofs.Common.{◌≡◌, false, Some, None, refl, sym, ◌∙◌, subst, arith}
 use Rattle.labelled_disk.specs.declared.evidence.Halt.{Halt}
 use Rattle.filer_kernel.specs.Evidence.{ShowsEvidence}
-use Rattle.file_manager.specs.Creating.{next_id}
+use Rattle.file_manager.specs.Creating.{IsMonotone, counted, next_id}
 use Rattle.file_manager.specs.Reasons.{ShowsReason}
 use Rattle.file_manager.specs.RetoldLaws.{on_giving}
 use Rattle.trace_io.specs.Form.{GivesForm}
@@ -12,7 +12,8 @@ use Rattle.pilot_top.proofs.CostLemmas.{bad_costs, call_costs}
 use Rattle.pilot_top.proofs.HiddenLemmas.{hidden_makes, hidden_still}
 use Rattle.pilot_top.proofs.LineParts.{line_wrote}
 use Rattle.pilot_top.proofs.PartLemmas.{written_none}
-use Rattle.pilot_top.proofs.SpareLemmas.{bad_done, call_done}
+use Rattle.pilot_top.proofs.RootLemmas.{counted_up, raises_call, turns_none}
+use Rattle.pilot_top.proofs.SparedLineLemmas.{bad_done, call_done}
 use Rattle.pilot_top.proofs.StagedLemmas.{line_rest, line_step}
 use Rattle.pilot_top.proofs.TurnLemmas.{goes_on, call_not_end, bad_not_end, same_halt, answers_call, call_wrote, nothing_wrote, answers_bad}
 use Rattle.pilot_top.proofs.turn.take_turn.Goals as goal
@@ -63,7 +64,7 @@ returns-in-Ok-clause-turns g c =
         line_step m c.in-Call.call ((c.step.ensures.answers m is).passes),
         call_costs c.in-Call.call (state c.args.session.now.core).disk (state c.step.new.self.core).disk c.step.ensures.reference ((c.step.ensures.answers m is).cost),
       ),
-      call_done c.args.session.now.volume.root c.in-Call.call (line_wrote c.in-Call.call more c.step.ensures.wrote c.step.ensures.unlabelled c.step.ensures.own) c.step.ensures.wrote c.step.ensures.spares
+      call_done c.args.session.now.volume.root c.in-Call.call (line_wrote c.args.session.now.volume.root c.in-Call.call more c.step.ensures.wrote c.step.ensures.own.0) c.step.ensures.wrote c.step.ensures.spares
           (λ id client other free is. (
             λ going. hidden_still c.args.session.now c.step.new.self c.in-Call.call id client is other free (c.step.ensures.stays.monotone, c.step.ensures.stays.serial)
                 (λ o keeps not_older. (c.in-Ok.ensures.accounts o keeps not_older).keeps_to) c.in-Ok.ensures.windows,
@@ -83,7 +84,7 @@ returns-in-Err-clause-turns g c =
         line_step m c.in-Call.call ((c.step.ensures.answers m is).passes),
         call_costs c.in-Call.call (state c.args.session.now.core).disk (state c.step.new.self.core).disk c.step.ensures.reference ((c.step.ensures.answers m is).cost),
       ),
-      call_done c.args.session.now.volume.root c.in-Call.call (line_wrote c.in-Call.call more c.step.ensures.wrote c.step.ensures.unlabelled c.step.ensures.own) c.step.ensures.wrote c.step.ensures.spares
+      call_done c.args.session.now.volume.root c.in-Call.call (line_wrote c.args.session.now.volume.root c.in-Call.call more c.step.ensures.wrote c.step.ensures.own.0) c.step.ensures.wrote c.step.ensures.spares
           (λ id client other free is. (λ going. absurd going, hidden_makes c.args.session.now c.step.new.self c.in-Call.call id client is c.step.ensures.shown)),
     )
 
@@ -154,23 +155,38 @@ pub returns-in-Err-clause-right : goal.returns-in-Err-clause-right
 returns-in-Err-clause-right g c o keeps not_older seen halt same =
     subst (λ (h : Halt). IsBlameless o (state c.step.new.self.core).disk h) (same_halt c.in-Err.halt halt same) ((c.in-Err.ensures.accounts o keeps not_older).sees seen)
 
-pub returns-in-Ok-clause-monotone : goal.returns-in-Ok-clause-monotone
-returns-in-Ok-clause-monotone g c = (c.step.ensures.stays.monotone, c.step.ensures.stays.serial)
+-- ---- The roots that were written.
 
-pub returns-in-Err-clause-monotone : goal.returns-in-Err-clause-monotone
-returns-in-Err-clause-monotone g c = (c.step.ensures.stays.monotone, c.step.ensures.stays.serial)
+pub returns-in-Ok-clause-roots : goal.returns-in-Ok-clause-roots
+returns-in-Ok-clause-roots g c =
+    let root = c.args.session.now.volume.root in
+    let up : IsMonotone root c.step.new.self.volume.root = (c.step.ensures.stays.monotone, c.step.ensures.stays.serial) in
+    record {
+      monotone = up;
+      raises = λ goes. raises_call root c.step.new.self.volume.root c.in-Call.call c.requires.opened.valid.serial up c.step.ensures.wrote c.in-Ok.ensures.own.1;
+      counts = raises_call root (counted root) c.in-Call.call c.requires.opened.valid.serial (counted_up root) c.step.ensures.wrote c.step.ensures.own.0;
+    }
 
-pub returns-in-Some-clause-monotone : goal.returns-in-Some-clause-monotone
-returns-in-Some-clause-monotone g c = (omega arith, refl)
+pub returns-in-Err-clause-roots : goal.returns-in-Err-clause-roots
+returns-in-Err-clause-roots g c =
+    let root = c.args.session.now.volume.root in
+    record {
+      monotone = (c.step.ensures.stays.monotone, c.step.ensures.stays.serial);
+      raises = λ goes. absurd goes;
+      counts = raises_call root (counted root) c.in-Call.call c.requires.opened.valid.serial (counted_up root) c.step.ensures.wrote c.step.ensures.own.0;
+    }
 
-pub returns-in-Bad-clause-monotone : goal.returns-in-Bad-clause-monotone
-returns-in-Bad-clause-monotone g c = (omega arith, refl)
+pub returns-in-Some-clause-roots : goal.returns-in-Some-clause-roots
+returns-in-Some-clause-roots g c = turns_none c.args.session.now.volume.root (state c.args.session.now.core).disk
 
-pub returns-in-End-clause-monotone : goal.returns-in-End-clause-monotone
-returns-in-End-clause-monotone g c = (omega arith, refl)
+pub returns-in-Bad-clause-roots : goal.returns-in-Bad-clause-roots
+returns-in-Bad-clause-roots g c = turns_none c.args.session.now.volume.root (state c.args.session.now.core).disk
 
-pub returns-in-ReadFault-clause-monotone : goal.returns-in-ReadFault-clause-monotone
-returns-in-ReadFault-clause-monotone g c = (omega arith, refl)
+pub returns-in-End-clause-roots : goal.returns-in-End-clause-roots
+returns-in-End-clause-roots g c = turns_none c.args.session.now.volume.root (state c.args.session.now.core).disk
 
-pub returns-in-Long-clause-monotone : goal.returns-in-Long-clause-monotone
-returns-in-Long-clause-monotone g c = (omega arith, refl)
+pub returns-in-ReadFault-clause-roots : goal.returns-in-ReadFault-clause-roots
+returns-in-ReadFault-clause-roots g c = turns_none c.args.session.now.volume.root (state c.args.session.now.core).disk
+
+pub returns-in-Long-clause-roots : goal.returns-in-Long-clause-roots
+returns-in-Long-clause-roots g c = turns_none c.args.session.now.volume.root (state c.args.session.now.core).disk
