@@ -10,22 +10,24 @@ use Rattle.pair_machine.specs.Pair.{Pair}
 use Rattle.pair_machine.specs.declared.call.PairReply.{PairReply}
 use Rattle.pair_machine.specs.declared.call.PairReply.TheVariants as reply
 use Rattle.trace_io.specs.PairGrammar.{Close}
+use Rattle.trace_io.specs.PairReading.{pair_reading}
 use Rattle.trace_io.specs.PairText.{pair_text}
-use Rattle.volume_pair.specs.CrashStates.{CrashStatesOf, KeepsFiles}
+use Rattle.volume_pair.specs.CrashStates.{KeepsFiles, SyncedStatesOf}
 use Rattle.volume_pair.specs.Kept.{IsRootOf}
 use Rattle.pair_session.specs.Closing.{EndsSilently, Finishes, RepliesLast}
 use Rattle.pair_session.specs.Ending.{HasReplied, TookTexts}
 use Rattle.pair_session.specs.Lines.{Answers, Item, after_lines}
 use Rattle.pair_session.specs.Pairs.{GoesOn, PairView, StandsFor}
 use Rattle.pair_session.specs.Replicated.{Carries, Streams, reasons, streams}
-use Rattle.pair_session.specs.Second.{EndsAfter, IsAfter, IsClosedWith}
+use Rattle.pair_session.specs.Second.{EndsAfter, IsAfter, IsClosedWith, IsCopied}
 use Rattle.pair_session.specs.declared.ending.Ending.TheVariants as ending
 use Rattle.pair_session.specs.declared.outcome.Outcome.{Outcome}
 use Rattle.pair_session.specs.declared.outcome.Outcome.TheVariants as outcome
 use Rattle.pair_session.proofs.EndLemmas.{first_lines}
 use Rattle.pair_session.proofs.GoingLemmas.{revealed_bytes}
-use Rattle.pair_session.proofs.LineLemmas.{after_more, answers_more, closes_last, to_more}
-use Rattle.pair_session.proofs.StateLemmas.{ends_closed, keeps_closed}
+use Rattle.pair_session.proofs.LineLemmas.{after_more, answers_more, closes_last, copied_close, to_more}
+use Rattle.pair_session.proofs.OwnedLemmas.{closed_there, ended_there, owns_closed}
+use Rattle.pair_session.proofs.StateLemmas.{ends_closed, keeps_closed, keeps_fewer}
 use Rattle.pair_session.proofs.WroteLemmas.{first_still, halt_after, permitted_then, root_still}
 
 -- the reply to the line that ends the text comes behind the others
@@ -49,9 +51,9 @@ module _ {v w : PairView} (before mid : Streams) (goes : GoesOn v w) where
     close_answers : (p : Pair) → StandsFor v p → Answers p (r.items ++ Some Close ∷ []) (r.replies ++ reply.Done ∷ [])
     close_answers p stands = answers_more p r.items r.replies (Some Close) reply.Done (r.leads p stands).0 refl
 
-    closed_states : {how : Outcome} → Finishes how w from to → (p : Pair) → StandsFor v p → (d : List Sector) → IsRootOf d v.volume.root → CrashStatesOf (IsAfter d p r.lines) (length r.lines) v.to.disk to
+    closed_states : {how : Outcome} → Finishes how w from to → (p : Pair) → StandsFor v p → (d : List Sector) → IsRootOf d v.volume.root → SyncedStatesOf (IsAfter d p r.lines) (length r.lines) (IsCopied r.items r.replies) v.to.disk to
     closed_states f p stands d is =
-        keeps_closed d p w.volume.root r.lines (root_still goes d is) (r.crash_states p stands d is)
+        keeps_closed d p w.volume.root r.lines (root_still goes d is) goes.to.went.syncs f.wrote.went.syncs (r.crash_states p stands d is)
         (subst (λ (xs : List Item). KeepsFiles (after_lines p xs).to w.volume.root.serial w.volume.root.counter w.to.disk to) (sym r.begun) (f.crash_states (after_lines p r.items) (r.leads p stands).1))
 
     closed_ends : {how : Outcome} → Finishes how w from to → (p : Pair) → StandsFor v p → (d : List Sector) → IsRootOf d v.volume.root → EndsAfter d p r.lines (length r.items) (length r.lines) to
@@ -69,7 +71,9 @@ module _ {v w : PairView} (before mid : Streams) (goes : GoesOn v w) where
       suit = to_more r.items r.replies (Some Close) reply.Done r.suit refl;
       lines = r.lines;
       few = let begun = ap (λ (xs : List Item). length xs) r.begun in omega (arith, begun, length-append r.items (Some Close ∷ []));
-      crash_states = closed_states f;
+      own = owns_closed v w r.lines r.own f.own;
+      left_open = λ b t source sink is. absurd is;
+      crash_states = λ p stands d is. keeps_fewer (λ j copied. copied_close r.items r.replies (r.leads p stands).0.one_a_line j copied) (closed_states f p stands d is);
       halts = λ p stands d is. tt;
       text = λ b t source sink. first_lines ending.Close b mid.left t mid.took r.items r.replies r.lines r.begun (r.ended b t source sink);
       leads = λ p stands. (close_answers p stands, λ d is. closed_after d p r.items to (f.shut d (after_lines p r.items) (root_still goes d is) (r.leads p stands).1));
@@ -95,7 +99,9 @@ module _ {v w : PairView} (before mid : Streams) (goes : GoesOn v w) where
       suit = to_more r.items r.replies (Some Close) reply.Done r.suit refl;
       lines = r.lines;
       few = let begun = ap (λ (xs : List Item). length xs) r.begun in omega (arith, begun, length-append r.items (Some Close ∷ []));
-      crash_states = closed_states f;
+      own = owns_closed v w r.lines r.own f.own;
+      left_open = λ b t source sink is. absurd (true≢false (sym (closes_last r.items r.none_last) ∙ is));
+      crash_states = λ p stands d is. keeps_fewer (λ j copied. copied_close r.items r.replies (r.leads p stands).0.one_a_line j copied) (closed_states f p stands d is);
       halts = λ p stands d is. tt;
       text = λ b t source sink. first_lines ending.Close b mid.left t mid.took r.items r.replies r.lines r.begun (r.ended b t source sink);
       leads = λ p stands. (
@@ -137,6 +143,8 @@ module _ {v w : PairView} (before mid : Streams) (goes : GoesOn v w) where
       suit = r.suit;
       lines = r.lines;
       few = let begun = ap (λ (xs : List Item). length xs) r.begun in omega (arith, begun);
+      own = owns_closed v w r.lines r.own f.own;
+      left_open = λ b t source sink is. closed_there (pair_reading b) r.items is.0 (r.ended b t source sink).0 is.1;
       crash_states = closed_states f;
       halts = closed_ends f;
       text = λ b t source sink. first_lines ending.Close b mid.left t mid.took r.items r.replies r.lines r.begun (r.ended b t source sink);
@@ -163,9 +171,9 @@ module _ {v w : PairView} (before mid : Streams) (goes : GoesOn v w) where
 
   -- ---- At the end of the text.
   module _ (r : HasReplied ending.End v w before.left mid.left before.took mid.took) (reason : reasons outcome.Done before mid) (from to : DiskState) where
-    ended_states : {how : Outcome} → Finishes how w from to → (p : Pair) → StandsFor v p → (d : List Sector) → IsRootOf d v.volume.root → CrashStatesOf (IsAfter d p r.lines) (length r.lines) v.to.disk to
+    ended_states : {how : Outcome} → Finishes how w from to → (p : Pair) → StandsFor v p → (d : List Sector) → IsRootOf d v.volume.root → SyncedStatesOf (IsAfter d p r.lines) (length r.lines) (IsCopied r.items r.replies) v.to.disk to
     ended_states f p stands d is =
-        keeps_closed d p w.volume.root r.lines (root_still goes d is) (r.crash_states p stands d is)
+        keeps_closed d p w.volume.root r.lines (root_still goes d is) goes.to.went.syncs f.wrote.went.syncs (r.crash_states p stands d is)
         (subst (λ (xs : List Item). KeepsFiles (after_lines p xs).to w.volume.root.serial w.volume.root.counter w.to.disk to) (sym r.begun) (f.crash_states (after_lines p r.items) (r.leads p stands).1))
 
     ended_ends : {how : Outcome} → Finishes how w from to → (p : Pair) → StandsFor v p → (d : List Sector) → IsRootOf d v.volume.root → EndsAfter d p r.lines (length r.items) (length r.lines) to
@@ -183,6 +191,8 @@ module _ {v w : PairView} (before mid : Streams) (goes : GoesOn v w) where
       suit = r.suit;
       lines = r.lines;
       few = let begun = ap (λ (xs : List Item). length xs) r.begun in omega (arith, begun);
+      own = owns_closed v w r.lines r.own f.own;
+      left_open = λ b t source sink is. absurd is;
       crash_states = ended_states f;
       halts = λ p stands d is. tt;
       text = λ b t source sink. first_lines ending.End b mid.left t mid.took r.items r.replies r.lines r.begun (r.ended b t source sink);
@@ -202,6 +212,8 @@ module _ {v w : PairView} (before mid : Streams) (goes : GoesOn v w) where
       suit = r.suit;
       lines = r.lines;
       few = let begun = ap (λ (xs : List Item). length xs) r.begun in omega (arith, begun);
+      own = owns_closed v w r.lines r.own f.own;
+      left_open = λ b t source sink is. ended_there (pair_reading b) r.items is.0 (r.ended b t source sink).0 is.1;
       crash_states = ended_states f;
       halts = ended_ends f;
       text = λ b t source sink. first_lines ending.End b mid.left t mid.took r.items r.replies r.lines r.begun (r.ended b t source sink);

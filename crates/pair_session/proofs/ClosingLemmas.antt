@@ -29,10 +29,10 @@ module _ (v : PairView) (answer : Result (Unit {0}) PairHalt) (from to : DiskSta
   closed_ok is p stands = subst (λ (a : Result (Unit {0}) PairHalt). MatchResult a (λ _. HasClosed p v.volume.root to) IsFaultOfDisk) is (closed p stands)
 
   pub finishes_done : answer ≡ Ok tt → Finishes outcome.Done v from to
-  finishes_done is = record { shut = λ d p root stands. closed_with d v.volume.root root p to (closed_ok is p stands); crash_states = states; same = same; wrote = permitted_of wrote.went wrote.wrote; halted = tt }
+  finishes_done is = record { shut = λ d p root stands. closed_with d v.volume.root root p to (closed_ok is p stands); crash_states = states; same = same; wrote = permitted_of wrote.went wrote.wrote; own = wrote.own; halted = tt }
 
   pub finishes_unheard : answer ≡ Ok tt → Finishes outcome.SinkFault v from to
-  finishes_unheard is = record { shut = λ d p root stands. closed_with d v.volume.root root p to (closed_ok is p stands); crash_states = states; same = same; wrote = permitted_of wrote.went wrote.wrote; halted = tt }
+  finishes_unheard is = record { shut = λ d p root stands. closed_with d v.volume.root root p to (closed_ok is p stands); crash_states = states; same = same; wrote = permitted_of wrote.went wrote.wrote; own = wrote.own; halted = tt }
 
   pub finishes_halted : (why : PairHalt) → answer ≡ Err why → IfErr answer (IsOfSecond v.to.disk to) → Finishes (outcome.Halted why) v from to
   finishes_halted why is shows = record {
@@ -40,5 +40,6 @@ module _ (v : PairView) (answer : Result (Unit {0}) PairHalt) (from to : DiskSta
     crash_states = states;
     same = same;
     wrote = permitted_of wrote.went wrote.wrote;
+    own = wrote.own;
     halted = second_shows v.from.disk v.to.disk from to why (subst (λ (a : Result (Unit {0}) PairHalt). IfErr a (IsOfSecond v.to.disk to)) is shows);
   }

@@ -20,6 +20,7 @@ use Rattle.pair_session.specs.declared.ending.Ending.TheVariants as ending
 use Rattle.pair_session.specs.declared.outcome.Outcome.TheVariants as outcome
 use Rattle.pair_session.proofs.EndLemmas.{first_lines}
 use Rattle.pair_session.proofs.LeftLemmas.{left_with}
+use Rattle.pair_session.proofs.OwnedLemmas.{owns_root}
 use Rattle.pair_session.proofs.WroteLemmas.{first_still, root_still}
 
 module _ {v w : PairView} (before mid : Streams) (goes : GoesOn v w) where
@@ -35,6 +36,8 @@ module _ {v w : PairView} (before mid : Streams) (goes : GoesOn v w) where
       suit = r.suit;
       lines = r.lines;
       few = let begun = ap (λ (xs : List Item). length xs) r.begun in omega (arith, begun);
+      own = λ told. rw second (r.own.own told);
+      left_open = λ b t source sink is. owns_root v w r.lines r.own second;
       crash_states = λ p stands d is. rw second (r.crash_states p stands d is);
       halts = λ p stands d is. tt;
       text = λ b t source sink. first_lines ending.Long b mid.left t mid.took r.items r.replies r.lines r.begun (r.ended b t source sink);
@@ -56,6 +59,8 @@ module _ {v w : PairView} (before mid : Streams) (goes : GoesOn v w) where
       suit = r.suit;
       lines = r.lines;
       few = let begun = ap (λ (xs : List Item). length xs) r.begun in omega (arith, begun);
+      own = λ told. rw second (r.own.own told);
+      left_open = λ b t source sink is. owns_root v w r.lines r.own second;
       crash_states = λ p stands d is. rw second (r.crash_states p stands d is);
       halts = λ p stands d is. tt;
       text = λ b t source sink. first_lines ending.ReadFault b mid.left t mid.took r.items r.replies r.lines r.begun (r.ended b t source sink);
@@ -77,6 +82,8 @@ module _ {v w : PairView} (before mid : Streams) (goes : GoesOn v w) where
       suit = r.suit;
       lines = r.lines;
       few = let begun = ap (λ (xs : List Item). length xs) r.begun in omega (arith, begun);
+      own = λ told. rw second (r.own.own told);
+      left_open = λ b t source sink is. owns_root v w r.lines r.own second;
       crash_states = λ p stands d is. rw second (r.crash_states p stands d is);
       halts = λ p stands d is. tt;
       text = λ b t source sink. first_lines ending.SinkFault b mid.left t mid.took r.items r.replies r.lines r.begun (r.ended b t source sink);
@@ -111,6 +118,8 @@ module _ {v w : PairView} (before mid : Streams) (goes : GoesOn v w) where
       suit = r.suit;
       lines = r.lines;
       few = let begun = ap (λ (xs : List Item). length xs) r.begun.1 in omega (arith, begun, length-append r.items (r.begun.0 ∷ []));
+      own = λ told. rw second (r.own.own told);
+      left_open = λ b t source sink is. owns_root v w r.lines r.own second;
       crash_states = λ p stands d is. rw second (r.crash_states p stands d is);
       halts = λ p stands d is. rw second (r.halted p stands d is);
       text = λ b t source sink. first_lines (ending.Halted why) b mid.left t mid.took r.items r.replies r.lines r.begun (r.ended b t source sink);

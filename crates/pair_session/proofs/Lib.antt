@@ -1,5 +1,6 @@
 pub mod LineLemmas
 pub mod GoingLemmas
+pub mod OwnedLemmas
 pub mod TurnLemmas
 pub mod EndLemmas
 pub mod WroteLemmas

@@ -1,14 +1,19 @@
 -- Lines that were answered, one after the other.
-use Rattle.std.proofs.Common.{◌≡◌, ℕ, ◌+◌, Bool, true, false, List, [], ◌∷◌, ◌++◌, length, Some, None, refl, sym, ◌∙◌, ap, subst, arith, length-append}
-use Rattle.std.specs.Prelude.{fold}
+use Rattle.std.proofs.Common.{◌≡◌, ◌⊎◌, inl, inr, ℕ, zero, suc, ◌+◌, Bool, true, false, List, [], ◌∷◌, ◌++◌, length, Some, None, refl, sym, ◌∙◌, ap, subst, arith, length-append}
+use Rattle.std.specs.Prelude.{fold, slice_get}
+use Rattle.std.proofs.lemmas.Option.{none-some, same_Some}
 use Rattle.std.proofs.lemmas.List.Folds.{list_any-append}
 use Rattle.pair_machine.specs.Pair.{Pair}
 use Rattle.pair_machine.specs.Transcripts.{AllowsAllBy}
+use Rattle.pair_machine.specs.declared.call.PairCall.TheVariants as call
 use Rattle.pair_machine.specs.declared.call.PairReply.{PairReply}
+use Rattle.pair_machine.specs.declared.call.PairReply.TheVariants as reply
+use Rattle.label_calls.specs.OwnLaws.{place_in}
 use Rattle.trace_io.specs.PairGrammar.{Ask, Close, is_last_pair_item}
 use Rattle.trace_io.specs.PairText.{pair_text}
 use Rattle.pair_session.specs.Ended.{closes}
 use Rattle.pair_session.specs.Lines.{AllowsLine, Answers, AnswersAreTranscripts, AnswersSuit, AreTo, Item, Suits, after_lines, next_line}
+use Rattle.pair_session.specs.Second.{IsCopied}
 
 -- one line more
 pub after_more : (p : Pair) (items : List Item) (item : Item) → after_lines p (items ++ item ∷ []) ≡ next_line (after_lines p items) item
@@ -44,6 +49,30 @@ closes_more items item none last = let here : closes (item ∷ []) ≡ false = r
 -- and one that does
 pub closes_last : (items : List Item) → closes items ≡ false → closes (items ++ Some Close ∷ []) ≡ true
 closes_last items none = list_any-append is_last_pair_item items (Some Close ∷ []) ∙ rw none refl
+
+-- a copy that was answered among these lines and one more
+pub copied_more : (items : List Item) (replies : List PairReply) (item : Item) (r : PairReply) → length replies ≡ length items → (j : ℕ) → IsCopied (items ++ item ∷ []) (replies ++ r ∷ []) j
+    → IsCopied items replies j ⊎ ((j ≡ length items) × (id : ℕ) × (item ≡ Some (Ask (call.Copy id))) × (r ≡ reply.Done))
+copied_more items replies item r long j (id, at, answered) = elim (place_in items (item ∷ []) j (Some (Ask (call.Copy id))) at) [
+  | inl (below, here) ↦ elim (place_in replies (r ∷ []) j reply.Done answered) [
+    | inl (few, there) ↦ inl (id, here, there)
+    | inr (i, past, there) ↦ absurd (omega (arith, below, past, long))
+  ]
+  | inr (i, past, here) ↦
+      let one = alone item i (Some (Ask (call.Copy id))) here in
+      elim (place_in replies (r ∷ []) j reply.Done answered) [
+        | inl (few, there) ↦ absurd (omega (arith, few, past, long))
+        | inr (k, more, there) ↦ let first = one.0 in inr (omega (arith, past, first), id, one.1, (alone r k reply.Done there).1)
+      ]
+]
+  where
+    alone : {X : Type 0} (x : X) (i : ℕ) (y : X) → slice_get (x ∷ []) i ≡ Some y → (i ≡ 0) × (x ≡ y)
+    alone x zero y is = (refl, same_Some x y is)
+    alone x (suc i) y is = absurd (none-some y is)
+
+-- the line that ends the text copies nothing
+pub copied_close : (items : List Item) (replies : List PairReply) → length replies ≡ length items → (j : ℕ) → IsCopied (items ++ Some Close ∷ []) (replies ++ reply.Done ∷ []) j → IsCopied items replies j
+copied_close items replies long j copied = elim (copied_more items replies (Some Close) reply.Done long j copied) [ inl was ↦ was | inr (last, id, line, done) ↦ absurd (cc line) ]
 
 -- ---- The laws.
 

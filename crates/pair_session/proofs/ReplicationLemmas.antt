@@ -1,6 +1,7 @@
 -- A replication, from its start to its end, and over disks that are lent.
-use Rattle.std.proofs.Common.{◌≡◌, inl, inr, ℕ, ◌+◌, length, List, [], ◌∷◌, drop, Option, Some, refl, sym, ap, ◌∙◌, subst, arith}
+use Rattle.std.proofs.Common.{◌≡◌, inl, inr, ℕ, ◌+◌, length, List, [], ◌∷◌, drop, take, Option, Some, refl, sym, ap, ◌∙◌, subst, arith}
 use Rattle.std.specs.Prelude.{IfOk, MatchResult}
+use Rattle.labelled_disk.specs.declared.disk.DiskWrite.{DiskWrite}
 use Rattle.labelled_disk.specs.declared.evidence.Evidence.{Evidence}
 use Rattle.labelled_disk.specs.declared.evidence.Evidence.TheVariants.{Mismatch, Malformed, Missing}
 use Rattle.labelled_disk.specs.declared.evidence.Halt.{Halt}
@@ -17,7 +18,8 @@ use Rattle.trace_io.specs.PairReading.{pair_reading}
 use Rattle.volume_root.specs.Sound.{Sound}
 use Rattle.volume_pair.specs.CrashStates.{CrashStatesOf}
 use Rattle.volume_pair.specs.Ends.{IsAccepted, IsCounted, IsEarly, IsOutside, IsRightRefusal, pair_of}
-use Rattle.volume_pair.specs.Kept.{IsOnlyRead, IsRootOf, StartKeeps, StartWrote}
+use Rattle.volume_pair.specs.Kept.{IsOnlyRead, IsRootOf, StartKeeps, StartMade, StartWrote}
+use Rattle.volume_pair.specs.Owned.{EachWrite}
 use Rattle.volume_pair.specs.Pairs.{IsFaultOfDisk}
 use Rattle.volume_pair.specs.declared.fault.PairHalt.{PairHalt}
 use Rattle.volume_pair.specs.declared.fault.PairHalt.TheVariants as on
@@ -25,13 +27,15 @@ use Rattle.volume_pair.specs.declared.fault.PairStart.{PairStart}
 use Rattle.volume_pair.specs.declared.fault.PairStart.TheVariants as start
 use Rattle.pair_session.specs.Causes.{HasReason, IfHalted, IfNotStarted, IsJudged, IsPermitted, IsShown, ShowsHalt, WroteSecond}
 use Rattle.pair_session.specs.Ended.{Ended}
-use Rattle.pair_session.specs.Lines.{Answers, AreTo, Item}
+use Rattle.pair_session.specs.Lines.{Answers, Item}
+use Rattle.pair_session.specs.Owned.{RepliesTo, begun}
 use Rattle.pair_session.specs.Pairs.{PairView, StandsFor}
 use Rattle.pair_session.specs.Replicated.{Carries, IsStarted, Replicated, Streams, reasons}
-use Rattle.pair_session.specs.Second.{IsClosedWith, IsLeftWith, Leaves, Replicates, begun}
+use Rattle.pair_session.specs.Second.{IsClosedWith, IsLeftWith, Leaves, Replicates}
 use Rattle.pair_session.specs.declared.outcome.Outcome.{Outcome}
 use Rattle.pair_session.specs.declared.outcome.Outcome.TheVariants as outcome
 use Rattle.pair_session.proofs.LineLemmas.{answers_none}
+use Rattle.pair_session.proofs.OwnedLemmas.{all_own, copied_text, none_own, still_in_use}
 use Rattle.pair_session.proofs.StateLemmas.{ends_text, keeps_start, keeps_started, keeps_text}
 use Rattle.pair_session.proofs.WroteLemmas.{halt_after, only_then, permitted_of, permitted_then}
 
@@ -80,9 +84,9 @@ halted_fault outcome.ReadFault d p items disk is = tt
 halted_fault outcome.SinkFault d p items disk is = tt
 
 -- ---- A pair was started.
-module _ {how : Outcome} {v : PairView} {before after : Streams} {new_from new_to : DiskState} (from to : DiskState) (c : Carries how v before after new_from new_to) (first : IsOnlyRead from v.from.disk) (second : IsPermitted to v.to.disk)
+module _ {how : Outcome} {v : PairView} {before after : Streams} {new_from new_to : DiskState} (from to : DiskState) (c : Carries how v before after new_from new_to) (first : IsOnlyRead from v.from.disk) (second : StartMade to v.to)
     (stands : (d e : List Sector) → from.contents ≡ Some d → to.contents ≡ Some e → Sound d → Sound e → StandsFor v (pair_of d e))
-    (root : (d e : List Sector) → from.contents ≡ Some d → to.contents ≡ Some e → IsRootOf e v.volume.root) (accepted : (d e : List Sector) → from.contents ≡ Some d → to.contents ≡ Some e → IsAccepted d × IsAccepted e) (keeps : StartKeeps to v.to.disk) where
+    (root : (d e : List Sector) → from.contents ≡ Some d → to.contents ≡ Some e → IsRootOf e v.volume.root) (accepted : (d e : List Sector) → from.contents ≡ Some d → to.contents ≡ Some e → IsAccepted d × IsAccepted e) where
   pub carried : Replicated how from to before new_from new_to after
   carried = record {
     replies = λ d e b t of_from of_to sound also source sink.
@@ -93,7 +97,7 @@ module _ {how : Outcome} {v : PairView} {before after : Streams} {new_from new_t
           answers = leads.0;
           leaves = leads.1 e of_root;
           crash_states = keeps_text e (pair_of d e) c.lines first.0 (pair_reading b) (length c.items + begun how) first.1 c.few
-              (keeps_started e (pair_of d e) c.lines (keeps e of_to also) (c.crash_states (pair_of d e) (stands d e of_from of_to sound also) e of_root));
+              (keeps_started e (pair_of d e) c.lines second.written.went.syncs c.second.went.syncs (second.crash_states e of_to also) (c.crash_states (pair_of d e) (stands d e of_from of_to sound also) e of_root));
           halted = halted_wider how (λ why ends. ends_text e (pair_of d e) c.lines first.0 (pair_reading b) (length c.items) (length c.items + begun how) new_to first.1 c.few ends)
               (c.halts (pair_of d e) (stands d e of_from of_to sound also) e of_root);
         } in
@@ -101,8 +105,16 @@ module _ {how : Outcome} {v : PairView} {before after : Streams} {new_from new_t
         (λ is rs same. subst (λ (xs : List Item). Replicates how d e (pair_reading b) to new_to xs rs) (sym same.0) (subst (λ (ys : List PairReply). Replicates how d e (pair_reading b) to new_to c.items ys) (sym same.1) all))
         (c.ended b t source sink);
     texts = λ b t source sink.
+        let first = c.text b t source sink in
+        let text = pair_reading b in
+        let n = length c.items + begun how in
+        let all : RepliesTo how text to new_to c.items c.replies = record {
+          suit = c.suit;
+          own = all_own second c.lines (take n text) (λ id is. copied_text c.lines first.0 text n first.1 c.few id is) c.own;
+          left_open = λ is. still_in_use second new_to (c.left_open b t source sink is);
+        } in
         ended_wider how b t after.left after.took
-        (λ is rs same. subst (λ (xs : List Item). AreTo xs rs) (sym same.0) (subst (λ (ys : List PairReply). AreTo c.items ys) (sym same.1) c.suit))
+        (λ is rs same. subst (λ (xs : List Item). RepliesTo how text to new_to xs rs) (sym same.0) (subst (λ (ys : List PairReply). RepliesTo how text to new_to c.items ys) (sym same.1) all))
         (c.ended b t source sink);
     judged = λ d e of_from of_to. record {
       none_starts = λ why refused. let a = accepted d e of_from of_to in absurd (elim refused [ inl of_first ↦ a.0 why of_first | inr of_second ↦ a.1 why of_second ]);
@@ -112,8 +124,12 @@ module _ {how : Outcome} {v : PairView} {before after : Streams} {new_from new_t
           halted_fault how e (pair_of d e) c.items new_to ((c.leads (pair_of d e) (stands d e of_from of_to sound also)).1 e (root d e of_from of_to));
     };
     first = only_then first c.first;
-    second = record { permitted = permitted_then second c.second; early = started_so (λ why. IsEarly why → OnlyReads to new_to) how c.started };
-    seen = record { started = started_so (IsCounted from to new_from new_to) how c.started; halted = halted_wider how (halt_after new_from new_to first.went second.went) c.halted };
+    second = record {
+      permitted = permitted_then (permitted_of second.written.went second.written.wrote) c.second;
+      keeps = started_so (λ why. StartKeeps to new_to) how c.started;
+      early = started_so (λ why. IsEarly why → OnlyReads to new_to) how c.started;
+    };
+    seen = record { started = started_so (IsCounted from to new_from new_to) how c.started; halted = halted_wider how (halt_after new_from new_to first.went second.written.went) c.halted };
     reason = c.reason;
   }
 
@@ -143,10 +159,10 @@ module _ (why : PairStart) (from to new_from new_to : DiskState) (before : Strea
         halted = tt;
       },
     );
-    texts = λ b t source sink. (source, sink, tt);
+    texts = λ b t source sink. (source, sink, record { suit = tt; own = λ told. none_own _ second.written.own; left_open = λ is. absurd is });
     judged = λ d e of_from of_to. record { none_starts = λ w is. tt; refused = refused d e of_from of_to; starts = λ sound also. outside d e of_from of_to sound also; goes_on = λ sound also. tt };
     first = first;
-    second = record { permitted = permitted_of second.written.went second.written.wrote; early = second.early };
+    second = record { permitted = permitted_of second.written.went second.written.wrote; keeps = second.crash_states; early = second.early };
     seen = record { started = counted; halted = tt };
     reason = none_faulted;
   }
@@ -205,7 +221,7 @@ module _ (n l : ℕ) (from to new_from new_to : DiskState) where
   leaves_second outcome.ReadFault d p items is = left_second d _ is
   leaves_second outcome.SinkFault d p items is = (λ closed. closed_second d _ (is.0 closed), λ none. left_second d _ (is.1 none))
 
-  states_second : {P : ℕ → List Sector → Type 0} {most : ℕ} → CrashStatesOf P most (lent_state n to) (lent_state l new_to) → CrashStatesOf P most to new_to
+  abbrev states_second : {P : ℕ → List Sector → Type 0} {most : ℕ} → CrashStatesOf P most (lent_state n to) (lent_state l new_to) → CrashStatesOf P most to new_to
   states_second h = record {
     writes = h.writes;
     appended = record { contents = h.appended.contents; revealed = h.appended.revealed };
@@ -215,16 +231,25 @@ module _ (n l : ℕ) (from to new_from new_to : DiskState) where
     each = h.each;
   }
 
+  each_second : {P : List Sector → DiskWrite → Type 0} → EachWrite P (lent_state n to) (lent_state l new_to) → EachWrite P to new_to
+  each_second h = record { writes = h.writes; appended = record { contents = h.appended.contents; revealed = h.appended.revealed }; each = h.each }
+
+  keeps_second : (why : PairStart) → StartKeeps (lent_state n to) (lent_state l new_to) → StartKeeps to new_to
+  keeps_second why h = λ e revealed sound. states_second (h e revealed sound)
+
   pub through_second : (how : Outcome) (before after : Streams) → Replicated how from (lent_state n to) before new_from (lent_state l new_to) after → Replicated how from to before new_from new_to after
   through_second how before after r = record {
     replies = λ d e b t of_from of_to sound also source sink.
         ended_wider how b t after.left after.took
-        (λ is rs h. record { answers = h.answers; leaves = leaves_second how e (pair_of d e) is h.leaves; crash_states = states_second h.crash_states; halted = halted_wider how (λ why ends. ends) h.halted })
+        (λ is rs h. record { answers = h.answers; leaves = leaves_second how e (pair_of d e) is h.leaves; crash_states = record { states = states_second h.crash_states.states; synced = h.crash_states.synced }; halted = halted_wider how (λ why ends. ends) h.halted })
         (r.replies d e b t of_from of_to sound also source sink);
-    texts = r.texts;
+    texts = λ b t source sink.
+        ended_wider how b t after.left after.took
+        (λ is rs h. record { suit = h.suit; own = λ told. each_second (h.own told); left_open = h.left_open })
+        (r.texts b t source sink);
     judged = r.judged;
     first = r.first;
-    second = record { permitted = permitted_lent n l to new_to r.second.permitted; early = not_started_wider how early_second r.second.early };
+    second = record { permitted = permitted_lent n l to new_to r.second.permitted; keeps = not_started_wider how keeps_second r.second.keeps; early = not_started_wider how early_second r.second.early };
     seen = record { started = not_started_wider how counted_second r.seen.started; halted = halted_wider how halt_second r.seen.halted };
     reason = r.reason;
   }

@@ -21,8 +21,10 @@ use Rattle.pair_session.specs.declared.ending.Ending.{Ending}
 use Rattle.pair_session.specs.declared.ending.Ending.TheVariants as ending
 use Rattle.pair_session.specs.declared.turn.Turn.TheVariants as turn
 use Rattle.pair_session.proofs.EndLemmas.{begun_lines}
-use Rattle.pair_session.proofs.LineLemmas.{after_more, answers_more, answers_none}
-use Rattle.pair_session.proofs.StateLemmas.{KeepsEach, ends_more, keeps_more}
+use Rattle.volume_pair.proofs.SyncedLemmas.{ended_states, ended_step}
+use Rattle.pair_session.proofs.LineLemmas.{after_more, answers_more, answers_none, copied_more}
+use Rattle.pair_session.proofs.OwnedLemmas.{OwnsEach, owns_more}
+use Rattle.pair_session.proofs.StateLemmas.{KeepsEach, ends_more, ends_with, keeps_more}
 use Rattle.pair_session.proofs.WroteLemmas.{halt_after}
 
 -- a line has a byte
@@ -50,19 +52,23 @@ module _ (u v w : PairView) (item : Item) (r : PairReply) (steps : Steps v w ite
   pub leads_more : LeadsEach u w (items ++ item ∷ []) (replies ++ r ∷ [])
   leads_more p stands =
       let before = leads p stands in
-      let step = steps (after_lines p items) before.1 in
+      let step = steps.1 (after_lines p items) before.1 in
       (answers_more p items replies item r before.0 step.allowed, subst (λ (q : Pair). StandsFor w q) (sym (after_more p items item)) step.stands)
 
-  pub keeps_line : GoesOn u v → KeepsEach u v items → KeepsEach u w (items ++ item ∷ [])
-  keeps_line goes keeps p stands d is =
-      keeps_more u v w items item p d (goes.same_root ∙ is) (keeps p stands d is) (steps (after_lines p items) (leads p stands).1).crash_states
+  pub keeps_line : GoesOn u v → GoesOn v w → KeepsEach u v items items replies → KeepsEach u w (items ++ item ∷ []) (items ++ item ∷ []) (replies ++ r ∷ [])
+  keeps_line goes next keeps p stands d is =
+      let before = leads p stands in
+      let step = steps.1 (after_lines p items) before.1 in
+      let final = ends_with v w (after_lines p items) item step.stands next.same_root in
+      keeps_more u v w items item p d (goes.same_root ∙ is) goes.to.went.syncs next.to.went.syncs (keeps p stands d is) (ended_states step.crash_states final)
+      (λ j copied. elim (copied_more items replies item r before.0.one_a_line j copied) [ inl was ↦ inl was | inr (last, id, line, done) ↦ inr (last, step.synced done, ended_step step.crash_states final) ])
 
 -- ---- Where no line follows.
 
 module _ (u v w : PairView) (b c : Option (List ℕ)) (x y : Progress) (items : List Item) (replies : List PairReply) (leads : LeadsEach u v items replies) where
   -- the pair stands for the same machine still, or a disk failed
   pub stands_or : (how : Ending) → EndsSo how b c x y (HaltsBy v w) → StaysOpen (turn.Ends how) v w → (p : Pair) → StandsFor u p → StandsOr how w (after_lines p items)
-  stands_or (ending.Halted why) is stays p stands = (is.4 (after_lines p items) (leads p stands).1).0
+  stands_or (ending.Halted why) is stays p stands = (is.4.1 (after_lines p items) (leads p stands).1).0
   stands_or ending.Close is stays p stands = subst (λ (x : PairView). StandsFor x (after_lines p items)) (sym stays) (leads p stands).1
   stands_or ending.End is stays p stands = subst (λ (x : PairView). StandsFor x (after_lines p items)) (sym stays) (leads p stands).1
   stands_or ending.Long is stays p stands = subst (λ (x : PairView). StandsFor x (after_lines p items)) (sym stays) (leads p stands).1
@@ -70,21 +76,30 @@ module _ (u v w : PairView) (b c : Option (List ℕ)) (x y : Progress) (items : 
   stands_or ending.SinkFault is stays p stands = absurd is
 
   -- what the lines that were begun left in each crash state
-  pub keeps_end : GoesOn u v → KeepsEach u v items → (how : Ending) (is : EndsSo how b c x y (HaltsBy v w)) → StaysOpen (turn.Ends how) v w → KeepsEach u w (begun_lines (HaltsBy v w) b c x y how is items)
-  keeps_end goes keeps (ending.Halted why) is stays p stands d of_root =
-      keeps_more u v w items is.1 p d (goes.same_root ∙ of_root) (keeps p stands d of_root) (is.4 (after_lines p items) (leads p stands).1).1
-  keeps_end goes keeps ending.Close is stays p stands d of_root = subst (λ (x : PairView). KeepsEach u x items) (sym stays) keeps p stands d of_root
-  keeps_end goes keeps ending.End is stays p stands d of_root = subst (λ (x : PairView). KeepsEach u x items) (sym stays) keeps p stands d of_root
-  keeps_end goes keeps ending.Long is stays p stands d of_root = subst (λ (x : PairView). KeepsEach u x items) (sym stays) keeps p stands d of_root
-  keeps_end goes keeps ending.ReadFault is stays p stands d of_root = subst (λ (x : PairView). KeepsEach u x items) (sym stays) keeps p stands d of_root
-  keeps_end goes keeps ending.SinkFault is stays p stands d of_root = absurd is
+  pub keeps_end : GoesOn u v → GoesOn v w → KeepsEach u v items items replies → (how : Ending) (is : EndsSo how b c x y (HaltsBy v w)) → StaysOpen (turn.Ends how) v w → KeepsEach u w (begun_lines (HaltsBy v w) b c x y how is items) items replies
+  keeps_end goes next keeps (ending.Halted why) is stays p stands d of_root =
+      keeps_more u v w items is.1 p d (goes.same_root ∙ of_root) goes.to.went.syncs next.to.went.syncs (keeps p stands d of_root) (is.4.1 (after_lines p items) (leads p stands).1).1 (λ j copied. inl copied)
+  keeps_end goes next keeps ending.Close is stays p stands d of_root = subst (λ (x : PairView). KeepsEach u x items items replies) (sym stays) keeps p stands d of_root
+  keeps_end goes next keeps ending.End is stays p stands d of_root = subst (λ (x : PairView). KeepsEach u x items items replies) (sym stays) keeps p stands d of_root
+  keeps_end goes next keeps ending.Long is stays p stands d of_root = subst (λ (x : PairView). KeepsEach u x items items replies) (sym stays) keeps p stands d of_root
+  keeps_end goes next keeps ending.ReadFault is stays p stands d of_root = subst (λ (x : PairView). KeepsEach u x items items replies) (sym stays) keeps p stands d of_root
+  keeps_end goes next keeps ending.SinkFault is stays p stands d of_root = absurd is
+
+  -- and what was written for them
+  pub owns_end : OwnsEach u v items → (how : Ending) (is : EndsSo how b c x y (HaltsBy v w)) → StaysOpen (turn.Ends how) v w → OwnsEach u w (begun_lines (HaltsBy v w) b c x y how is items)
+  owns_end owns (ending.Halted why) is stays = owns_more u v w items is.1 owns is.4.0
+  owns_end owns ending.Close is stays = subst (λ (x : PairView). OwnsEach u x items) (sym stays) owns
+  owns_end owns ending.End is stays = subst (λ (x : PairView). OwnsEach u x items) (sym stays) owns
+  owns_end owns ending.Long is stays = subst (λ (x : PairView). OwnsEach u x items) (sym stays) owns
+  owns_end owns ending.ReadFault is stays = subst (λ (x : PairView). OwnsEach u x items) (sym stays) owns
+  owns_end owns ending.SinkFault is stays = absurd is
 
   -- where it halted
   pub halts_after : GoesOn u v → (how : Ending) (is : EndsSo how b c x y (HaltsBy v w)) (p : Pair) → StandsFor u p → (d : List Sector) → IsRootOf d u.volume.root
       → IfHalted (outcome_of how) (λ why. EndsAfter d p (begun_lines (HaltsBy v w) b c x y how is items) (length items) (length (begun_lines (HaltsBy v w) b c x y how is items)) w.to.disk)
   halts_after goes (ending.Halted why) is p stands d of_root =
       let there = (leads p stands).1.to_is.stands in
-      ends_more u v w items is.1 p d (goes.same_root ∙ of_root) there.sectors there.revealed (is.4 (after_lines p items) (leads p stands).1).1
+      ends_more u v w items is.1 p d (goes.same_root ∙ of_root) there.sectors there.revealed (is.4.1 (after_lines p items) (leads p stands).1).1
   halts_after goes ending.Close is p stands d of_root = tt
   halts_after goes ending.End is p stands d of_root = tt
   halts_after goes ending.Long is p stands d of_root = tt

@@ -15,6 +15,7 @@ use Rattle.filer_kernel.specs.Evidence.{ShowsEvidence}
 use Rattle.trace_io.specs.Items.{FitsIn}
 use Rattle.trace_io.specs.PairGrammar.{is_last_pair_item, pair_item_of}
 use Rattle.volume_pair.specs.Ends.{IsCounted, IsEarly, IsOutside, IsRightRefusal}
+use Rattle.volume_pair.specs.Kept.{StartKeeps}
 use Rattle.volume_pair.specs.Pairs.{IsFaultOfDisk}
 use Rattle.volume_pair.specs.declared.fault.PairHalt.{PairHalt}
 use Rattle.volume_pair.specs.declared.fault.PairHalt.TheVariants as on
@@ -66,9 +67,11 @@ pub record IsPermitted (old new : DiskState) : Type 0 where
   pub form : (k : ℕ) (w : DiskWrite) → slice_get writes k ≡ Some w → IsWriteInForm w
   pub permitted : (d : List Sector) (k : ℕ) (w : DiskWrite) → old.contents ≡ Some d → slice_get writes k ≡ Some w → Permitted (crash_state d writes k) w
 
--- so it was written; and nothing was, where none started for another reason than that its first writes failed
+-- So it was written. Where none started, a sound second volume keeps its files in each crash state, whatever the first one holds; and
+-- nothing was written, if it was for another reason than that its first writes failed.
 pub record WroteSecond (how : Outcome) (old new : DiskState) : Type 0 where
   pub permitted : IsPermitted old new
+  pub keeps : IfNotStarted how (λ why. StartKeeps old new)
   pub early : IfNotStarted how (λ why. IsEarly why → OnlyReads old new)
 
 -- the text fits in the bytes that are read

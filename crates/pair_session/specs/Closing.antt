@@ -5,12 +5,14 @@ use Rattle.labelled_disk.specs.Calls.{Rose}
 use Rattle.labelled_disk.specs.File.{File}
 use Rattle.labelled_disk.specs.Sectors.{Sector}
 use Rattle.labelled_disk.specs.State.{DiskState}
+use Rattle.swapper_kernel.specs.Goes.{IsDirty}
 use Rattle.pair_machine.specs.Pair.{Pair}
 use Rattle.pair_machine.specs.declared.call.PairReply.TheVariants as reply
 use Rattle.trace_io.specs.PairText.{pair_text}
 use Rattle.trace_io.specs.Stream.{AppendsPrefix}
 use Rattle.volume_pair.specs.CrashStates.{KeepsFiles}
 use Rattle.volume_pair.specs.Kept.{IsRootOf}
+use Rattle.volume_pair.specs.Owned.{EachWrite, IsWriteFor, no_file}
 use Rattle.volume_pair.specs.Pairs.{IsFaultOfDisk}
 use Rattle.pair_session.specs.Causes.{IfHalted, IsPermitted, ShowsHalt}
 use Rattle.pair_session.specs.Pairs.{PairView, StandsFor}
@@ -30,6 +32,7 @@ pub record Finishes (how : Outcome) (v : PairView) (from to : DiskState) : Type 
   pub crash_states : (p : Pair) → StandsFor v p → KeepsFiles p.to v.volume.root.serial v.volume.root.counter v.to.disk to
   pub same : from ≡ v.from.disk
   pub wrote : IsPermitted v.to.disk to
+  pub own : EachWrite (IsWriteFor (IsDirty v.to.slots) no_file) v.to.disk to
   pub halted : IfHalted how (ShowsHalt v.from.disk v.to.disk from to)
 
 -- no reply is due: it is done, or it halted

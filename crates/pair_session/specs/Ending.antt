@@ -6,14 +6,16 @@ use Rattle.pair_machine.specs.declared.call.PairReply.{PairReply}
 use Rattle.trace_io.specs.PairGrammar.{Close}
 use Rattle.trace_io.specs.PairReading.{pair_reading, rest_of_pair}
 use Rattle.trace_io.specs.PairText.{pair_text}
-use Rattle.volume_pair.specs.CrashStates.{CrashStatesOf}
+use Rattle.volume_pair.specs.CrashStates.{SyncedStatesOf}
 use Rattle.volume_pair.specs.Kept.{IsRootOf}
+use Rattle.volume_pair.specs.Owned.{WritesFor}
 use Rattle.volume_pair.specs.Pairs.{IsFaultOfDisk}
 use Rattle.pair_session.specs.Causes.{IfHalted}
 use Rattle.pair_session.specs.Ended.{IsCutShort, TakesToLast, TakesWhole, closes}
 use Rattle.pair_session.specs.Lines.{Answers, AreTo, Item, after_lines}
+use Rattle.pair_session.specs.Owned.{copied_by_any}
 use Rattle.pair_session.specs.Pairs.{MayBeAsked, PairView, StandsFor}
-use Rattle.pair_session.specs.Second.{EndsAfter, IsAfter}
+use Rattle.pair_session.specs.Second.{EndsAfter, IsAfter, IsCopied}
 use Rattle.pair_session.specs.declared.ending.Ending.{Ending}
 use Rattle.pair_session.specs.declared.ending.Ending.TheVariants as ending
 use Rattle.pair_session.specs.declared.outcome.Outcome.{Outcome}
@@ -65,7 +67,8 @@ pub record HasReplied (how : Ending) (v w : PairView) (left_old left_new took_ol
   pub none_last : closes items ≡ false
   pub lines : List Item
   pub begun : AreBegun how items lines
+  pub own : WritesFor (copied_by_any lines) v.to w.to
   pub leads : (p : Pair) → StandsFor v p → Answers p items replies × StandsOr how w (after_lines p items)
-  pub crash_states : (p : Pair) → StandsFor v p → (d : List Sector) → IsRootOf d v.volume.root → CrashStatesOf (IsAfter d p lines) (length lines) v.to.disk w.to.disk
+  pub crash_states : (p : Pair) → StandsFor v p → (d : List Sector) → IsRootOf d v.volume.root → SyncedStatesOf (IsAfter d p lines) (length lines) (IsCopied items replies) v.to.disk w.to.disk
   pub halted : (p : Pair) → StandsFor v p → (d : List Sector) → IsRootOf d v.volume.root → IfHalted (outcome_of how) (λ why. EndsAfter d p lines (length items) (length lines) w.to.disk)
   pub ended : (b t : List ℕ) → left_old ≡ Some b → took_old ≡ Some t → EndsAt how b left_new t took_new items replies lines

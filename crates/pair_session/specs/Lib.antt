@@ -1,5 +1,6 @@
 pub mod Lines
 pub mod Ended
+pub mod Owned
 pub mod Second
 pub mod Causes
 pub mod Pairs

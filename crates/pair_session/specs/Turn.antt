@@ -4,15 +4,18 @@ use Rattle.std.specs.Io.KnownBytes.{Consumes, IsAtEnd}
 use Rattle.labelled_disk.specs.Calls.{Rose}
 use Rattle.pair_machine.specs.Pair.{Pair}
 use Rattle.pair_machine.specs.declared.call.PairReply.{PairReply}
+use Rattle.pair_machine.specs.declared.call.PairReply.TheVariants as reply
 use Rattle.trace_io.specs.PairGrammar.{Close, is_last_pair_item}
 use Rattle.trace_io.specs.PairLines.{TakesPairLine}
 use Rattle.trace_io.specs.Progress.{Progress}
 use Rattle.trace_io.specs.Taken.{TakesPart}
 use Rattle.trace_io.specs.declared.progress.Stop.TheVariants as stop
-use Rattle.volume_pair.specs.CrashStates.{ChangesFiles}
+use Rattle.volume_pair.specs.CrashStates.{ChangesFiles, IsSyncedNow}
+use Rattle.volume_pair.specs.Owned.{WritesFor}
 use Rattle.volume_pair.specs.Pairs.{IsFaultOfDisk}
 use Rattle.volume_pair.specs.declared.fault.PairHalt.{PairHalt}
 use Rattle.pair_session.specs.Lines.{AllowsLine, Item, Suits, next_line}
+use Rattle.pair_session.specs.Owned.{copied_by}
 use Rattle.pair_session.specs.Pairs.{MayBeAsked, PairView, StandsFor}
 use Rattle.pair_session.specs.declared.ending.Ending.{Ending}
 use Rattle.pair_session.specs.declared.ending.Ending.TheVariants as ending
@@ -37,18 +40,23 @@ Turns (turn.Ends how) b c p q step halted = EndsSo how b c p q halted
 abbrev pub ChangesByLine : PairView → PairView → Pair → Item → Type 0
 ChangesByLine v w p item = ChangesFiles p.to (next_line p item).to v.volume.root v.to.disk w.to.disk
 
--- The pair allows the reply to the line, and stands for what follows.
+-- The pair allows the reply to the line, and stands for what follows. What is done is on the medium.
 pub record StepsBy (v w : PairView) (p : Pair) (item : Item) (r : PairReply) : Type 0 where
   pub allowed : AllowsLine p item r
   pub stands : StandsFor w (next_line p item)
   pub crash_states : ChangesByLine v w p item
+  pub synced : r ≡ reply.Done → IsSyncedNow w.to.disk
+
+-- over any contents, the second disk was written for the file that the line copies alone
+abbrev pub WritesByLine : PairView → PairView → Item → Type 0
+WritesByLine v w item = WritesFor (copied_by item) v.to w.to
 
 abbrev pub Steps : PairView → PairView → Item → PairReply → Type 0
-Steps v w item r = (p : Pair) → StandsFor v p → StepsBy v w p item r
+Steps v w item r = WritesByLine v w item × ((p : Pair) → StandsFor v p → StepsBy v w p item r)
 
 -- a disk failed, in the middle of the line
 abbrev pub HaltsBy : PairView → PairView → PairHalt → Item → Type 0
-HaltsBy v w why item = (p : Pair) → StandsFor v p → IsFaultOfDisk why × ChangesByLine v w p item
+HaltsBy v w why item = WritesByLine v w item × ((p : Pair) → StandsFor v p → IsFaultOfDisk why × ChangesByLine v w p item)
 
 -- this holds of why it halted, if it did
 abbrev pub IfHalts : Turn → (PairHalt → Type 0) → Type 0

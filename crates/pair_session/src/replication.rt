@@ -6,7 +6,7 @@ ghost use Rattle.trace_io.specs.PairReading.{pair_reading};
 ghost use Rattle.volume_pair.specs.Kept.{IsOnlyRead};
 ghost use Rattle.pair_session.specs.Causes.{HasReason, IfNotStarted, IsJudged, IsShown, WroteSecond};
 ghost use Rattle.pair_session.specs.Ended.{Ended};
-ghost use Rattle.pair_session.specs.Lines.{AreTo};
+ghost use Rattle.pair_session.specs.Owned.{RepliesTo};
 ghost use Rattle.pair_session.specs.Pairs.{MayBeAsked, shown};
 ghost use Rattle.pair_session.specs.Replicated.{Carries, Replicated, streams};
 ghost use Rattle.pair_session.specs.Second.{Replicates};
@@ -107,7 +107,8 @@ pub fn replicate<A: Allocator + Clone, D: Disk, E: Disk, S: Source, K: Sink>(
         → Ended result b (S.left source.new) t (K.took sink.new)
         (Replicates result d e (pair_reading b) (E.state to.old) (E.state to.new)) }
     ensures texts { (b t : List ℕ) → S.left source.old ≡ Some b → K.took sink.old ≡ Some t
-        → Ended result b (S.left source.new) t (K.took sink.new) AreTo }
+        → Ended result b (S.left source.new) t (K.took sink.new)
+        (RepliesTo result (pair_reading b) (E.state to.old) (E.state to.new)) }
     ensures judged { (d e : List Sector) → (D.state from.old).contents ≡ Some d
         → (E.state to.old).contents ≡ Some e → IsJudged result d e }
     ensures from { IsOnlyRead (D.state from.old) (D.state from.new) }

@@ -2,6 +2,7 @@
 
 use crate::images::{Task, leaves_a_volume};
 use crate::{NOTHING, command, reasons};
+use command_words::Command;
 use image_disk::{Image, ImageDisk, NoImage, image_of, new_image, open_image, remove_image};
 use labelled_disk::{Disk, Layout, MemoryDisk};
 use pilot_top::Status;
@@ -12,6 +13,20 @@ use volume_root::read_root;
 /// Carries out a command on a disk beside one of no sector.
 pub(crate) fn beside_none<D: Disk>(rt: &HostRuntime, disk: &mut D, words: &[String]) -> Status {
     command(rt, disk, &mut ImageDisk::<File>::absent(), words)
+}
+
+fn asks_for_two(meant: Command) -> bool {
+    matches!(meant, Command::Replicate { .. })
+}
+
+/// Carries out a command on a disk beside one of no sector, since no word asks for another.
+fn beside_nothing<D: Disk>(rt: &HostRuntime, disk: &mut D, task: Task<'_>) -> Status {
+    let status = beside_none(rt, disk, task.words);
+    let is_refused = asks_for_two(task.meant) && status == Status::NotOpened;
+    if is_refused && read_root(disk, true).is_ok() {
+        reasons::no_second_image(rt);
+    }
+    status
 }
 
 /// Carries out a command on a disk beside one in memory.
@@ -110,7 +125,7 @@ fn beside_file<D: Disk>(rt: &HostRuntime, disk: &mut D, path: &str, task: Task<'
 /// number of a standard stream may be free.
 pub(crate) fn beside_other<D: Disk>(rt: &HostRuntime, disk: &mut D, task: Task<'_>) -> Status {
     let Some(word) = task.other else {
-        return beside_none(rt, disk, task.words);
+        return beside_nothing(rt, disk, task);
     };
     match image_of(word) {
         Image::Memory(sectors) => beside_memory(rt, disk, sectors, task.words),

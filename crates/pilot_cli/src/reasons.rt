@@ -41,6 +41,11 @@ pub(crate) fn no_command(
     status
 }
 
+/// No word asks for the second image of a command on two.
+pub(crate) fn no_second_image(rt: &HostRuntime) {
+    let _ = eprintln!(rt; "pilot: no second image: pilot IMAGE replicate OTHER");
+}
+
 /// A word is not UTF-8.
 pub(crate) fn not_a_text(rt: &HostRuntime) {
     let _ = eprintln!(rt; "pilot: no command: a word is not UTF-8");

@@ -3,11 +3,12 @@
 use crate::asked::{End, asked};
 use crate::labels::leaves_of;
 use crate::rows::{Row, is_unwritten, row_of};
-use crate::volume::{NEVER, restore, twin};
+use crate::volume::{NEVER, Volume, restore, twin};
 use anyhow::{Result, bail, ensure};
 use labelled_disk::{Halt, RootFault};
 use std::alloc::Global;
 use volume_pair::{PairHalt, PairStart};
+use volume_root::read_root;
 
 /// When a disk failed.
 #[derive(Clone, Copy)]
@@ -27,6 +28,21 @@ fn is_fault(end: End, is_first: bool) -> bool {
         End::Halted(PairHalt::From(Halt::Disk)) => is_first,
         End::Halted(PairHalt::To(Halt::Disk)) => !is_first,
         _ => false,
+    }
+}
+
+/// Whether the volume of a disk has its clean flag cleared.
+pub(crate) fn is_open(disk: &mut Volume) -> bool {
+    read_root(disk, true) == Err(RootFault::Unclean)
+}
+
+// Whether a pair that ended so may leave the second volume so: open where a call halted, as it was where the start never wrote.
+fn is_left_right(end: End, open: bool, in_call: bool) -> bool {
+    match end {
+        End::NotStarted(PairStart::Halt(_)) => true,
+        End::NotStarted(_) => !open,
+        End::Halted(_) => open || !in_call,
+        End::Closed => !open,
     }
 }
 
@@ -51,12 +67,17 @@ fn stopped_at(alloc: Global, row: &mut Row, is_first: bool, transfer: u64) -> Re
         return Ok(None);
     }
     ensure!(is_fault(answers.end, is_first), "no disk failed");
+    let in_call = answers.replies.len() < row.calls.len();
+    ensure!(
+        is_left_right(answers.end, is_open(&mut to), in_call),
+        "transfer {transfer}: the second volume is closed, or was opened"
+    );
     restore(alloc, &mut to)?;
     let found = leaves_of(alloc, &mut to)?;
     ensure!(found == plain.to, "transfer {transfer}: torn, or lost");
     Ok(Some(match answers.end {
         End::NotStarted(_) => When::BeforeStart,
-        _ if answers.replies.len() < row.calls.len() => When::InCall,
+        _ if in_call => When::InCall,
         _ => When::AtEnd,
     }))
 }

@@ -1,5 +1,5 @@
 -- In each crash state of a call that may copy a file the second volume has the list of before, or that with the copy.
-use Rattle.std.proofs.Common.{◌≡◌, ℕ, true, false, List, [], Option, Some, None, Ok, refl, sym, ◌∙◌, ap, subst, arith}
+use Rattle.std.proofs.Common.{◌≡◌, ℕ, true, false, List, [], Option, Some, None, Ok, Result, refl, sym, ◌∙◌, ap, subst, arith}
 use Rattle.std.specs.Option.{option_map_or}
 use Rattle.std.proofs.lemmas.Option.{same_Some}
 use Rattle.labelled_disk.specs.declared.layout.Layout.{Layout}
@@ -26,12 +26,16 @@ use Rattle.volume_root.specs.declared.root.Root.{Root}
 use Rattle.volume_pair.specs.Copied.{IsCopying, IsSealing}
 use Rattle.volume_pair.specs.Copying.{IsOriginal, Takes}
 use Rattle.volume_pair.specs.CrashStates.{ChangesFiles, CrashStatesOf, KeepsVolume, WritesSecond}
+use Rattle.volume_pair.specs.Owned.{no_file}
 use Rattle.volume_pair.specs.Pairs.{IsPaired}
-use Rattle.volume_pair.specs.Sides.{IsLookedAt, IsSide, IsWrittenFor, WritesPages, with_own}
+use Rattle.volume_pair.specs.Sides.{IsLookedAt, IsSide, IsWrittenFor, SyncsSecond, WritesPages, with_own}
+use Rattle.volume_pair.specs.declared.fault.PairHalt.{PairHalt}
+use Rattle.volume_pair.proofs.AroundLemmas.{looked_around}
 use Rattle.volume_pair.proofs.CrashStateLemmas.{last_state, none_states, quiet_on, quiet_then, quiet_wider}
 use Rattle.volume_pair.proofs.CreateStateLemmas.{broken_states, created_states}
 use Rattle.volume_pair.proofs.DoneLemmas.{few_pages, kept_in_use, sealing_in_use}
 use Rattle.volume_pair.proofs.KeepLemmas.{frames_loose, loose_keeps, none_is_zero, pages_keep, volume_then}
+use Rattle.volume_pair.proofs.OwnedLemmas.{writes_none}
 use Rattle.volume_pair.proofs.WriteLemmas.{looked_written}
 
 -- ---- A volume that is looked at.
@@ -111,11 +115,13 @@ copy_states p id root a b is states = subst (λ (q : Pair). ChangesFiles p.to q.
 
 -- ---- What is written on the second disk.
 
-pub copy_writes : (from to : View) (volume : Volume) (id : ℕ) (w : View) → IsWrittenFor id to w → ((p : Pair) → IsPaired from to volume p → ChangesFiles p.to (next_pair p (Copy id)).to volume.root to.disk w.disk) → WritesSecond (Copy id) from to volume w
-copy_writes from to volume id w writes states = record {
+pub copy_writes : (from to : View) (volume : Volume) (id : ℕ) {T : Type 0} (result : Result T PairHalt) (w : View) → IsWrittenFor id to w → SyncsSecond result to.disk w.disk → ((p : Pair) → IsPaired from to volume p → ChangesFiles p.to (next_pair p (Copy id)).to volume.root to.disk w.disk) → WritesSecond (Copy id) result from to volume w
+copy_writes from to volume id result w writes around states = record {
   labels = writes.labels;
   makes = writes.makes;
   layout = writes.layout;
+  own = writes.own;
+  around = around;
   compares = λ other is. absurd (subst IsCopy is tt);
   crash_states = states;
 }
@@ -124,11 +130,13 @@ copy_writes from to volume id w writes states = record {
     IsCopy (Copy i) = Unit {0}
     IsCopy (Compare i) = ⊥
 
-pub compare_writes : (from to : View) (volume : Volume) (id : ℕ) (w : View) → IsLookedAt to w → WritesSecond (Compare id) from to volume w
-compare_writes from to volume id w looked = record {
+pub compare_writes : (from to : View) (volume : Volume) (id : ℕ) {T : Type 0} (result : Result T PairHalt) (w : View) → IsLookedAt to w → WritesSecond (Compare id) result from to volume w
+compare_writes from to volume id result w looked = record {
   labels = (looked_written id looked).labels;
   makes = (looked_written id looked).makes;
   layout = looked.layout;
+  own = writes_none no_file looked;
+  around = looked_around result looked;
   compares = λ other is. looked;
   crash_states = λ p h. asked_states from to volume p h w (next_pair p (Compare id)).to looked;
 }

@@ -1,6 +1,6 @@
 -- Crash states of calls in a row.
 use Rattle.std.proofs.Common.{◌≡◌, inl, inr, ℕ, zero, suc, ◌+◌, ◌-◌, ◌<◌, ◌≤◌, true, false, cond, Bool, List, [], ◌∷◌, ◌++◌, length, Some, sym, ◌∙◌, ap, subst, arith}
-use Rattle.std.specs.Prelude.{nat_le, option_map}
+use Rattle.std.specs.Prelude.{nat_lt, option_map}
 use Rattle.std.proofs.lemmas.Bool.{cases_lt}
 use Rattle.std.proofs.lemmas.Bool.Decides.{nat_tests}
 use Rattle.std.proofs.lemmas.Option.{same_Some}
@@ -86,15 +86,15 @@ last_state {P = P} h d revealed = (
 
 -- ---- One call and then another.
 
--- the steps of the writes up to one, and then those of later writes
+-- the steps of the writes before one, and then those of later writes
 abbrev steps_then : ℕ → (ℕ → ℕ) → (ℕ → ℕ) → ℕ → ℕ
-steps_then n first later k = cond (nat_le k n) (first k) (later (k - n))
+steps_then n first later k = cond (nat_lt k n) (first k) (later (k - n))
 
-then_low : (n : ℕ) (first later : ℕ → ℕ) (k : ℕ) → k ≤ n → steps_then n first later k ≡ first k
-then_low n first later k low = let a : nat_le k n ≡ true = grind (arith, nat_tests) in ap (λ (b : Bool). cond b (first k) (later (k - n))) a
+then_low : (n : ℕ) (first later : ℕ → ℕ) (k : ℕ) → k < n → steps_then n first later k ≡ first k
+then_low n first later k low = let a : nat_lt k n ≡ true = grind (arith, nat_tests) in ap (λ (b : Bool). cond b (first k) (later (k - n))) a
 
-then_high : (n : ℕ) (first later : ℕ → ℕ) (k : ℕ) → n < k → steps_then n first later k ≡ later (k - n)
-then_high n first later k high = let a : nat_le k n ≡ false = grind (arith, nat_tests) in ap (λ (b : Bool). cond b (first k) (later (k - n))) a
+then_high : (n : ℕ) (first later : ℕ → ℕ) (k : ℕ) → n ≤ k → steps_then n first later k ≡ later (k - n)
+then_high n first later k high = let a : nat_lt k n ≡ false = grind (arith, nat_tests) in ap (λ (b : Bool). cond b (first k) (later (k - n))) a
 
 module _ {P Q : ℕ → List Sector → Type 0} (R : ℕ → List Sector → Type 0) {m n : ℕ} {a b c : DiskState} (first : CrashStatesOf P m a b) (later : CrashStatesOf Q n b c) (most : ℕ) (one two : ℕ → ℕ) (rise_one : (j k : ℕ) → j ≤ k → one j ≤ one k) (rise_two : (j k : ℕ) → j ≤ k → two j ≤ two k)
     (apart : (j k : ℕ) → j ≤ m → one j ≤ two k) (few_one : (k : ℕ) → k ≤ m → one k ≤ most) (few_two : (k : ℕ) → k ≤ n → two k ≤ most) (alike_one : (k : ℕ) (e : List Sector) → P k e → R (one k) e) (alike_two : (k : ℕ) (e : List Sector) → Q k e → R (two k) e) where
@@ -110,46 +110,46 @@ module _ {P Q : ℕ → List Sector → Type 0} (R : ℕ → List Sector → Typ
   abbrev step : ℕ → ℕ
   step = steps_then count early late
 
-  rises : (j k : ℕ) → j ≤ k → step j ≤ step k
-  rises j k le = elim (cases_lt count k) [
-    | inl past_k ↦
+  pub rises : (j k : ℕ) → j ≤ k → step j ≤ step k
+  rises j k le = elim (cases_lt k count) [
+    | inr past_k ↦
         let to = then_high count early late k past_k in
-        elim (cases_lt count j) [
-          | inl past ↦ let more = rise_two (later.steps (j - count)) (later.steps (k - count)) (later.rise (j - count) (k - count) (omega (arith, le))) in let at = then_high count early late j past in omega (arith, more, at, to)
-          | inr few ↦ let more = apart (first.steps j) (later.steps (k - count)) (first.within j) in let at = then_low count early late j few in omega (arith, more, at, to)
+        elim (cases_lt j count) [
+          | inr past ↦ let more = rise_two (later.steps (j - count)) (later.steps (k - count)) (later.rise (j - count) (k - count) (omega (arith, le))) in let at = then_high count early late j past in omega (arith, more, at, to)
+          | inl few ↦ let more = apart (first.steps j) (later.steps (k - count)) (first.within j) in let at = then_low count early late j few in omega (arith, more, at, to)
         ]
-    | inr few_k ↦
+    | inl few_k ↦
         let to = then_low count early late k few_k in
         let at = then_low count early late j (omega (arith, le, few_k)) in
         let more = rise_one (first.steps j) (first.steps k) (first.rise j k le) in
         omega (arith, more, at, to)
   ]
 
-  few_steps : (k : ℕ) → step k ≤ most
-  few_steps k = elim (cases_lt count k) [
-    | inl past ↦ let few = few_two (later.steps (k - count)) (later.within (k - count)) in let at = then_high count early late k past in omega (arith, few, at)
-    | inr low ↦ let few = few_one (first.steps k) (first.within k) in let at = then_low count early late k low in omega (arith, few, at)
+  pub few_steps : (k : ℕ) → step k ≤ most
+  few_steps k = elim (cases_lt k count) [
+    | inr past ↦ let few = few_two (later.steps (k - count)) (later.within (k - count)) in let at = then_high count early late k past in omega (arith, few, at)
+    | inl low ↦ let few = few_one (first.steps k) (first.within k) in let at = then_low count early late k low in omega (arith, few, at)
   ]
 
   module _ (d : List Sector) (k : ℕ) (revealed : a.contents ≡ Some d) where
     revealed_mid : b.contents ≡ Some (after_writes first.writes d)
     revealed_mid = first.appended.contents ∙ ap (option_map (after_writes first.writes)) revealed
 
-    at_later : count < k → crash_state d (first.writes ++ later.writes) k ≡ crash_state (after_writes first.writes d) later.writes (k - count)
+    at_later : count ≤ k → crash_state d (first.writes ++ later.writes) k ≡ crash_state (after_writes first.writes d) later.writes (k - count)
     at_later past = let at : k ≡ count + (k - count) = omega (arith, past) in ap (crash_state d (first.writes ++ later.writes)) at ∙ crash_state-later d first.writes later.writes (k - count)
 
-    at_crash_state : R (step k) (crash_state d (first.writes ++ later.writes) k)
-    at_crash_state = elim (cases_lt count k) [
-      | inl past ↦
+    pub at_crash_state : R (step k) (crash_state d (first.writes ++ later.writes) k)
+    at_crash_state = elim (cases_lt k count) [
+      | inr past ↦
           subst (R (step k)) (sym (at_later past))
           (subst (λ (j : ℕ). R j (crash_state (after_writes first.writes d) later.writes (k - count))) (sym (then_high count early late k past))
           (alike_two (later.steps (k - count)) (crash_state (after_writes first.writes d) later.writes (k - count)) (later.each (after_writes first.writes d) (k - count) revealed_mid)))
-      | inr few ↦
-          subst (R (step k)) (sym (crash_state-earlier d first.writes later.writes k few))
+      | inl few ↦
+          subst (R (step k)) (sym (crash_state-earlier d first.writes later.writes k (omega (arith, few))))
           (subst (λ (j : ℕ). R j (crash_state d first.writes k)) (sym (then_low count early late k few)) (alike_one (first.steps k) (crash_state d first.writes k) (first.each d k revealed)))
     ]
 
-  pub joined : CrashStatesOf R most a c
+  abbrev pub joined : CrashStatesOf R most a c
   joined = record {
     writes = first.writes ++ later.writes;
     appended = appended_then first.writes later.writes first.appended later.appended;
@@ -158,6 +158,21 @@ module _ {P Q : ℕ → List Sector → Type 0} (R : ℕ → List Sector → Typ
     within = few_steps;
     each = at_crash_state;
   }
+
+  -- a write of the first call leaves as many steps at least
+  pub joined_early : (k : ℕ) → k ≤ count → one (first.steps k) ≤ step k
+  joined_early k few = elim (cases_lt k count) [
+    | inr past ↦ let more = apart (first.steps k) (later.steps (k - count)) (first.within k) in let at = then_high count early late k past in omega (arith, more, at)
+    | inl low ↦ let at = then_low count early late k low in omega (arith, at)
+  ]
+
+  -- and one of the second call
+  pub joined_late : (k : ℕ) → two (later.steps k) ≤ step (count + k)
+  joined_late k =
+      let at = then_high count early late (count + k) (omega arith) in
+      let back : count + k - count ≡ k = omega arith in
+      let same : late (count + k - count) ≡ late k = ap late back in
+      omega (arith, at, same)
 
 -- the first takes no step
 pub quiet_then : {P Q R : ℕ → List Sector → Type 0} {most : ℕ} {a b c : DiskState} → CrashStatesOf P 0 a b → CrashStatesOf Q most b c → ((i : ℕ) (e : List Sector) → P i e → R 0 e) → ((i : ℕ) (e : List Sector) → Q i e → R i e) → CrashStatesOf R most a c

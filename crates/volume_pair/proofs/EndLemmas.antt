@@ -1,6 +1,7 @@
 -- The second volume is closed: its maps are written, and then its root.
 use Rattle.std.proofs.Common.{◌≡◌, ◌⊎◌, inl, inr, ℕ, zero, suc, ◌+◌, ◌<◌, ◌≤◌, ◌^◌, Bool, true, false, List, [], ◌∷◌, ◌++◌, length, Some, refl, sym, ◌∙◌, ap, subst, arith}
 use Rattle.std.specs.Prelude.{slice_get, option_map}
+use Rattle.std.specs.List.{AllByRecursion}
 use Rattle.std.proofs.lemmas.Option.{none-some, same_Some}
 use Rattle.std.proofs.lemmas.Bool.{ne_eqb, true≢false}
 use Rattle.std.proofs.lemmas.List.{length-map}
@@ -48,18 +49,19 @@ use Rattle.file_manager.proofs.TablesMade.{no_shape, unowned_from}
 use Rattle.pair_machine.specs.Pair.{Pair}
 use Rattle.volume_pair.specs.Ends.{AreWritten, HasClosed, HasVolume, IsWritten, IsWrittenOwn, closed_root}
 use Rattle.volume_pair.specs.Sides.{IsSide, ShowsWhy}
+use Rattle.volume_pair.proofs.OwnedLemmas.{IsOfRoot, own_each, own_each_then}
 use Rattle.volume_pair.proofs.SideLemmas.{side_books}
 
 -- ---- What was written.
 
-pub written_on : {labels : List DiskWrite} {a b : DiskState} {s t : Slots} → Makes volume_page labels a s b t → IsWritten s a b
-written_on {labels = labels} h = record { labels = labels; went = h.went; wrote = h.wrote }
+pub written_on : (v w : View) → IsWrittenOwn v w → IsWritten v.slots v.disk w.disk
+written_on v w h = record { labels = h.labels; went = h.makes.went; wrote = h.makes.wrote; own = h.own }
 
 pub swaps_own : (v w : View) → SwapsOnly v w → IsWrittenOwn v w
-swaps_own v w swaps = record { labels = []; makes = makes_wider volume_page (λ id page none. absurd none) swaps.makes }
+swaps_own v w swaps = let makes = makes_wider volume_page (λ id page none. absurd none) swaps.makes in record { labels = []; makes = makes; own = own_each makes.wrote tt }
 
 pub own_then : {u v w : View} → IsWrittenOwn u v → IsWrittenOwn v w → IsWrittenOwn u w
-own_then h k = record { labels = h.labels ++ k.labels; makes = makes_then h.makes k.makes }
+own_then h k = record { labels = h.labels ++ k.labels; makes = makes_then h.makes k.makes; own = own_each_then h.makes.dirty h.own k.own }
 
 -- The root of the closed volume is written, and nothing else.
 module _ (old new : DiskState) (slots : Slots) (n : ℕ) (root : Root) (valid : IsValidRoot n (closed_root root)) (serial : root.serial < 2 ^ 32) (counter : root.counter < 2 ^ 32)
@@ -114,9 +116,9 @@ module _ (old new : DiskState) (slots : Slots) (n : ℕ) (root : Root) (valid : 
   }
 
   -- so it is, or nothing is written
-  pub root_either : RevealsSame old new ⊎ RevealsWrite (root_write (closed_root root)) old new → (labels : List DiskWrite) × Makes volume_page labels old slots new slots
-  root_either (inl same) = ([], none_made same)
-  root_either (inr made) = (root_write (closed_root root) ∷ [], root_made made)
+  pub root_either : RevealsSame old new ⊎ RevealsWrite (root_write (closed_root root)) old new → (labels : List DiskWrite) × Makes volume_page labels old slots new slots × AllByRecursion IsOfRoot labels
+  root_either (inl same) = ([], none_made same, tt)
+  root_either (inr made) = (root_write (closed_root root) ∷ [], root_made made, (refl, tt))
 
 -- ---- The maps are written.
 

@@ -1,5 +1,5 @@
 -- In each crash state of a start and of an end the second volume has its files, and where it is closed it is sound.
-use Rattle.std.proofs.Common.{◌≡◌, ◌⊎◌, inl, inr, ℕ, suc, true, false, not, List, [], ◌∷◌, length, Some, refl, sym, ◌∙◌, ap, subst, arith}
+use Rattle.std.proofs.Common.{◌≡◌, ◌⊎◌, inl, inr, ℕ, ◌<◌, ◌≤◌, ◌^◌, suc, true, false, not, List, [], ◌∷◌, length, Some, refl, sym, ◌∙◌, ap, subst, arith}
 use Rattle.std.specs.Prelude.{slice_get, filter, option_map}
 use Rattle.std.proofs.lemmas.Option.{same_Some}
 use Rattle.labelled_disk.specs.declared.disk.DiskWrite.{DiskWrite}
@@ -9,10 +9,12 @@ use Rattle.labelled_disk.specs.Calls.{ReadsAtMost, RevealsSame, RevealsWrite}
 use Rattle.labelled_disk.specs.CrashState.{written}
 use Rattle.labelled_disk.specs.File.{File}
 use Rattle.labelled_disk.specs.FilesOn.{files_on}
-use Rattle.labelled_disk.specs.Root.{counter_of, root_page, serial_of}
+use Rattle.labelled_disk.specs.Label.{root_label}
+use Rattle.labelled_disk.specs.Root.{counter_of, number_at, page_in, root_page, serial_of, short_at}
 use Rattle.labelled_disk.specs.Sectors.{AreSectors, Sector}
 use Rattle.labelled_disk.specs.State.{DiskState}
-use Rattle.labelled_disk.specs.WriteRuns.{Appended}
+use Rattle.labelled_disk.specs.WriteRuns.{Appended, after_writes}
+use Rattle.labelled_disk.proofs.Finds.{get_set_same}
 use Rattle.labelled_disk.proofs.WriteRunLemmas.{appended_one}
 use Rattle.frame_pool.specs.Frames.{Slots}
 use Rattle.swapper_kernel.specs.Goes.{Makes, is_page_write, no_page}
@@ -21,14 +23,16 @@ use Rattle.label_calls.specs.Labels.{MayHaveWritten}
 use Rattle.session_words.specs.Parts.{HasRoot}
 use Rattle.volume_root.specs.declared.root.Root.{Root}
 use Rattle.volume_root.specs.Flag.{FlagLaws, with_flag}
-use Rattle.volume_root.specs.RootPage.{IsValidRoot, root_in, root_write}
+use Rattle.volume_root.specs.RootPage.{IsValidRoot, root_bytes, root_in, root_write}
 use Rattle.volume_root.specs.Sound.{Sound}
 use Rattle.volume_root.proofs.FlagLemmas.{flag_keeps_volume}
+use Rattle.volume_root.proofs.WrittenLemmas.{counter_read, flag_read, serial_read}
 use Rattle.pair_machine.specs.Pair.{Pair}
 use Rattle.volume_pair.specs.declared.fault.PairStart.{PairStart}
 use Rattle.volume_pair.specs.CrashStates.{HasFilesHonestly, HasFilesInUse, KeepsFiles}
 use Rattle.volume_pair.specs.Ends.{HasClosed, HasVolume, IsBare, closed_root, in_use}
 use Rattle.volume_pair.specs.Kept.{StartKeeps, StartWrote}
+use Rattle.volume_pair.specs.Owned.{IsInUseAs}
 use Rattle.volume_pair.specs.Sides.{IsLookedAt, IsSide}
 use Rattle.volume_pair.proofs.CopyStateLemmas.{looked_states, under_side}
 use Rattle.volume_pair.proofs.CrashStateLemmas.{none_states, one_write, quiet_wider, same_first}
@@ -88,6 +92,20 @@ run_alone : {run : List DiskWrite} {a b : DiskState} {slots after : Slots} → I
 run_alone {a = a} {b = b} bare makes =
     let all = only_labels makes.wrote.writes (λ k sector wanted bytes at. elim (makes.wrote.of_dirty k sector wanted bytes at) [ inl was ↦ bare was.slot was.frame was.has | inr none ↦ none ]) in
     subst (λ (ws : List DiskWrite). Appended ws a b) (sym all ∙ makes.wrote.labels) makes.wrote.appended
+
+-- the root of the volume in use stands there, over any contents
+pub in_use_as : (root : Root) {a b c : DiskState} {slots after : Slots} → root.serial < 2 ^ 32 → root.counter < 2 ^ 32 → IsBare slots → Makes no_page (root_write (in_use root) ∷ []) a slots b after → RevealsSame b c → (d e : List Sector) → 1 ≤ length d → a.contents ≡ Some d
+    → root ≡ root_in (root_page d) → c.contents ≡ Some e → IsInUseAs d e
+in_use_as root serial counter bare makes same d e some revealed is now =
+    let r = in_use root in
+    let one = run_alone bare makes in
+    let last : written (root_write r) d ≡ e = same_Some (written (root_write r) d) e (sym (same.contents ∙ one.contents ∙ ap (option_map (after_writes (root_write r ∷ []))) revealed) ∙ now) in
+    let page : root_page e ≡ root_bytes r = ap root_page (sym last) ∙ ap page_in (get_set_same d 0 (root_label, root_bytes r) some) in
+    record {
+      open_flag = ap (λ (p : List ℕ). short_at p 10) page ∙ flag_read r;
+      same_serial = ap (λ (p : List ℕ). number_at p 16) page ∙ serial_read r serial ∙ ap (λ (q : Root). q.serial) is;
+      same_counter = ap (λ (p : List ℕ). number_at p 20) page ∙ counter_read r counter ∙ ap (λ (q : Root). q.counter) is;
+    }
 
 -- a volume that was closed
 pub sound_before : (d : List Sector) → Sound d → HasFilesHonestly (files_on d) (serial_of d) (counter_of d) d

@@ -1,7 +1,9 @@
 pub mod ReplyLemmas
 pub mod SideLemmas
 pub mod PageLemmas
+pub mod OwnedLemmas
 pub mod WriteLemmas
+pub mod AroundLemmas
 pub mod CompareLemmas
 pub mod EndLemmas
 pub mod StartLemmas
@@ -16,6 +18,7 @@ pub mod StepLemmas
 pub mod DoneLemmas
 pub mod CostLemmas
 pub mod CrashStateLemmas
+pub mod SyncedLemmas
 pub mod KeepLemmas
 pub mod CreateStateLemmas
 pub mod SealLemmas

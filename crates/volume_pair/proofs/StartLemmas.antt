@@ -1,7 +1,7 @@
 -- A pair is started on two volumes that were closed.
 use Rattle.std.proofs.Common.{◌≡◌, ◌⊎◌, inl, inr, ℕ, zero, suc, ◌+◌, ◌-◌, ◌/◌, ◌%◌, ◌≤◌, Bool, true, false, not, cond, List, [], ◌∷◌, length, replicate, Option, Some, None, Result, Ok, Err, refl, sym, ◌∙◌, ap, subst, arith, min}
 use Rattle.std.specs.Prelude.{slice_get, count_by, if◌then◌else◌, nat_le}
-use Rattle.std.specs.List.{range_with_len}
+use Rattle.std.specs.List.{AllByRecursion, range_with_len}
 use Rattle.std.specs.Option.{option_map_or}
 use Rattle.std.proofs.lemmas.Bool.{le-leb, leb-true, true≢false}
 use Rattle.std.proofs.lemmas.List.{length-drop, length-map}
@@ -10,7 +10,7 @@ use Rattle.std.proofs.lemmas.Option.{none-some, same_Some}
 use Rattle.labelled_disk.specs.declared.layout.Layout.{Layout}
 use Rattle.labelled_disk.specs.declared.layout.RootFault.{RootFault}
 use Rattle.labelled_disk.specs.declared.layout.RootFault.TheVariants as fault
-use Rattle.labelled_disk.specs.Calls.{OnlyReads, ReadsAtMost}
+use Rattle.labelled_disk.specs.Calls.{OnlyReads, ReadsAtMost, RevealsSame}
 use Rattle.labelled_disk.specs.CrashState.{written}
 use Rattle.labelled_disk.specs.File.{total_room}
 use Rattle.labelled_disk.specs.FilesOn.{files_on}
@@ -26,7 +26,7 @@ use Rattle.frame_pool.specs.Frames.{Frame, Slots}
 use Rattle.swapper_kernel.specs.declared.manager.Manager.TheVariants.{AllocationMap}
 use Rattle.swapper_kernel.specs.DiffersLaws.{label_here}
 use Rattle.swapper_kernel.specs.FormLaws.{memory_in_form}
-use Rattle.swapper_kernel.specs.Goes.{Change, Goes, Makes, Swaps, Went, no_page}
+use Rattle.swapper_kernel.specs.Goes.{Change, Goes, IsDirty, Makes, Swaps, Went, no_page}
 use Rattle.swapper_kernel.specs.GoesLaws.{goes_swapping, makes_then, makes_wider, same_syncs, swaps_itself, wrote_none}
 use Rattle.labelled_disk.specs.declared.disk.DiskWrite.{DiskWrite}
 use Rattle.swapper_kernel.specs.Homes.{AreNamed, IsLayout}
@@ -62,8 +62,10 @@ use Rattle.file_manager.specs.declared.volume.Volume.{Volume}
 use Rattle.volume_pair.specs.Ends.{IsAccepted, IsBare, IsEarly, IsOutside, IsRightRefusal, IsStarted, IsWritten, IsWrittenOwn, in_use, pair_of}
 use Rattle.volume_pair.specs.declared.fault.PairStart.{PairStart}
 use Rattle.volume_pair.specs.declared.fault.PairStart.TheVariants as start
+use Rattle.volume_pair.specs.Owned.{no_file}
 use Rattle.volume_pair.specs.Pairs.{IsPaired}
 use Rattle.volume_pair.specs.Sides.{AreClean, IsSide}
+use Rattle.volume_pair.proofs.OwnedLemmas.{IsOfRoot, each_none, each_then, each_wider, own_each, write_wider}
 use Rattle.volume_pair.proofs.SideLemmas.{is_booked}
 
 -- ---- No frame is there.
@@ -343,22 +345,23 @@ outside_from d sectors sound w (inr refused) = absurd (sound_is_opened d sectors
 
 -- ---- What was written.
 
-pub root_own : {ws : List DiskWrite} (v w : View) → Makes no_page ws v.disk v.slots w.disk v.slots → w.slots ≡ v.slots → IsWrittenOwn v w
-root_own {ws = ws} v w makes frames = record {
-  labels = ws;
-  makes = makes_wider volume_page (λ id page none. absurd none) (subst (λ (s : Slots). Makes no_page ws v.disk v.slots w.disk s) (sym frames) makes);
-}
+pub root_own : {ws : List DiskWrite} (v w : View) → AllByRecursion IsOfRoot ws → Makes no_page ws v.disk v.slots w.disk v.slots → w.slots ≡ v.slots → IsWrittenOwn v w
+root_own {ws = ws} v w of makes frames =
+    let own = makes_wider volume_page (λ id page none. absurd none) (subst (λ (s : Slots). Makes no_page ws v.disk v.slots w.disk s) (sym frames) makes) in
+    record { labels = ws; makes = own; own = own_each own.wrote of }
 
 pub may_own : (v w : View) (root : Root) → MayHaveWritten (root_write root) v.disk v.slots w.disk → w.slots ≡ v.slots → IsWrittenOwn v w
-may_own v w root (inl none) frames = root_own v w none frames
-may_own v w root (inr made) frames = root_own v w made frames
+may_own v w root (inl none) frames = root_own v w tt none frames
+may_own v w root (inr made) frames = root_own v w (refl, tt) made frames
 
 went_read : {a b : DiskState} → OnlyReads a b → Went a b
 went_read {a = a} {b = b} h = record { sectors = h.sectors; lent = h.lent; syncs = same_syncs a b h.syncs; faults = h.faults; transfers = h.transfers }
 
 -- nothing was written
 pub reads_written : {n : ℕ} {a b : DiskState} → ReadsAtMost n a b → IsWritten [] a b
-reads_written h = record { labels = []; went = went_read h.only; wrote = wrote_none volume_page [] (record { contents = h.only.contents; writes = h.only.writes }) }
+reads_written h =
+    let same : RevealsSame _ _ = record { contents = h.only.contents; writes = h.only.writes } in
+    record { labels = []; went = went_read h.only; wrote = wrote_none volume_page [] same; own = each_none same }
 
 -- or what was written after that, where no frame was there
 pub read_then : {n : ℕ} {a : DiskState} (v w : View) → ReadsAtMost n a v.disk → IsBare v.slots → IsWrittenOwn v w → IsWritten [] a w.disk
@@ -373,6 +376,8 @@ read_then {a = a} v w reads bare own = record {
     labels = all.wrote.labels;
     of_dirty = λ k sector wanted bytes at. elim (all.wrote.of_dirty k sector wanted bytes at) [ inl was ↦ absurd (bare was.slot was.frame was.has) | inr page ↦ inr page ];
   };
+  own = each_then (each_none (record { contents = reads.only.contents; writes = reads.only.writes }))
+      (each_wider (write_wider (IsDirty v.slots) (IsDirty []) no_file no_file (λ id page is. absurd (bare is.slot is.frame is.has)) (λ id none. none)) own.own);
 }
   where
     first : Makes volume_page [] a v.slots v.disk v.slots

@@ -29,6 +29,7 @@ use Rattle.file_manager.specs.declared.volume.Volume.{Volume}
 use Rattle.pair_machine.specs.Pair.{Pair}
 use Rattle.volume_pair.specs.declared.fault.PairStart.{PairStart}
 use Rattle.volume_pair.specs.declared.fault.PairStart.TheVariants as start
+use Rattle.volume_pair.specs.Owned.{EachWrite, IsWriteFor, no_file}
 use Rattle.volume_pair.specs.Sides.{IsSide}
 
 -- no frame is there
@@ -48,16 +49,18 @@ abbrev pub pair_of : List Sector → List Sector → Pair
 pair_of d e = record { from = files_on d; to = files_on e; serial = serial_of e; capacity = capacity (length e) }
 
 -- Over any contents: the same disk later. The writes that were made were permitted, each where it is made, and bytes were written
--- to pages of the volume's own alone, but for pages of frames that were dirty.
+-- to pages of the volume's own alone, but for pages of frames that were dirty. The root's label was written alone.
 pub record IsWritten (before : Slots) (old new : DiskState) : Type 0 where
   pub labels : List DiskWrite
   pub went : Went old new
   pub wrote : Wrote volume_page labels old before new
+  pub own : EachWrite (IsWriteFor (IsDirty before) no_file) old new
 
 -- so it is between two views, with the frames that are dirty afterwards
 pub record IsWrittenOwn (v w : View) : Type 0 where
   pub labels : List DiskWrite
   pub makes : MakesOnly volume_page labels v w
+  pub own : EachWrite (IsWriteFor (IsDirty v.slots) no_file) v.disk w.disk
 
 -- the volume of these sectors is not refused
 abbrev pub IsAccepted : List Sector → Type 0

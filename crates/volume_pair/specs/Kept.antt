@@ -1,21 +1,21 @@
 -- What a start and a call of a pair leave as it was.
 use Rattle.std.specs.Prelude.{◌≡◌, List, [], Some}
-use Rattle.labelled_disk.specs.declared.disk.DiskWrite.{DiskWrite}
 use Rattle.labelled_disk.specs.Calls.{OnlyReads, RevealsSame}
 use Rattle.labelled_disk.specs.FilesOn.{files_on}
 use Rattle.labelled_disk.specs.Root.{counter_of, root_page, serial_of}
 use Rattle.labelled_disk.specs.Sectors.{Sector}
 use Rattle.labelled_disk.specs.State.{DiskState}
-use Rattle.swapper_kernel.specs.Goes.{Went, Wrote}
+use Rattle.swapper_kernel.specs.Goes.{Went}
 use Rattle.filer_kernel.specs.View.{View}
 use Rattle.volume_root.specs.declared.root.Root.{Root}
 use Rattle.volume_root.specs.RootPage.{root_in}
 use Rattle.volume_root.specs.Sound.{Sound}
-use Rattle.session_words.specs.Volume.{volume_page}
 use Rattle.file_manager.specs.declared.volume.Volume.{Volume}
 use Rattle.volume_pair.specs.CrashStates.{KeepsFiles}
 use Rattle.volume_pair.specs.Ends.{IsEarly, IsWritten, in_use}
+use Rattle.volume_pair.specs.Owned.{IsInUseAs}
 use Rattle.volume_pair.specs.Pairs.{IsInUse}
+use Rattle.volume_pair.specs.Sides.{AreClean}
 use Rattle.volume_pair.specs.declared.fault.PairStart.{PairStart}
 
 -- the same disk later, on which nothing was written
@@ -36,12 +36,12 @@ IsRootOf d root = root ≡ in_use (root_in (root_page d))
 abbrev pub StartKeeps : DiskState → DiskState → Type 0
 StartKeeps old new = (e : List Sector) → old.contents ≡ Some e → Sound e → KeepsFiles (files_on e) (serial_of e) (counter_of e) old new
 
--- What a start wrote that put the volume in use.
-pub record StartMade (old new : DiskState) : Type 0 where
-  pub labels : List DiskWrite
-  pub went : Went old new
-  pub wrote : Wrote volume_page labels old [] new
-  pub crash_states : StartKeeps old new
+-- What a start wrote that put the volume in use: over any contents its root says so, with the numbers of before, and no frame is dirty.
+pub record StartMade (old : DiskState) (v : View) : Type 0 where
+  pub written : IsWritten [] old v.disk
+  pub in_use : (d e : List Sector) → old.contents ≡ Some d → v.disk.contents ≡ Some e → IsInUseAs d e
+  pub clean : AreClean v.slots
+  pub crash_states : StartKeeps old v.disk
 
 -- What a start wrote that ended so: nothing, if it ended before its first write.
 pub record StartWrote (why : PairStart) (old new : DiskState) : Type 0 where

@@ -1,3 +1,4 @@
+pub mod Owned
 pub mod Sides
 pub mod Pairs
 pub mod Comparing

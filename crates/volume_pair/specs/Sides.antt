@@ -1,5 +1,5 @@
 -- What a pair shows of one volume: a disk, the frames over it and the runs that are kept, as a filer shows them.
-use Rattle.std.specs.Prelude.{◌≡◌, ◌⊎◌, ℕ, ◌<◌, List, [], length, Some, slice_get}
+use Rattle.std.specs.Prelude.{◌≡◌, ◌⊎◌, ℕ, ◌<◌, true, false, List, [], length, Some, slice_get, MatchResult, Result}
 use Rattle.labelled_disk.specs.declared.disk.DiskWrite.{DiskWrite}
 use Rattle.labelled_disk.specs.declared.evidence.Halt.{Halt}
 use Rattle.labelled_disk.specs.declared.evidence.Halt.TheVariants as halt
@@ -8,6 +8,8 @@ use Rattle.labelled_disk.specs.Calls.{Rose}
 use Rattle.labelled_disk.specs.File.{File}
 use Rattle.labelled_disk.specs.FilesOn.{files_on}
 use Rattle.labelled_disk.specs.Sectors.{Sector}
+use Rattle.labelled_disk.specs.State.{DiskState}
+use Rattle.label_calls.specs.Synced.{SyncsAround}
 use Rattle.frame_pool.specs.Frames.{Slots}
 use Rattle.swapper_kernel.specs.Goes.{IsDirty, Pages, no_page}
 use Rattle.swapper_kernel.specs.Stands.{labels_of}
@@ -17,6 +19,8 @@ use Rattle.session_words.specs.FrameLaws.{HasFrames}
 use Rattle.session_words.specs.OpenLaws.{CanOpen}
 use Rattle.session_words.specs.Parts.{Shapes, IsTriple}
 use Rattle.file_manager.specs.Book.{AreTrue, BooksUpto}
+use Rattle.volume_pair.specs.Owned.{WritesFor, this_file}
+use Rattle.volume_pair.specs.declared.fault.PairHalt.{PairHalt}
 
 -- no frame is dirty
 abbrev pub AreClean : Slots → Type 0
@@ -38,11 +42,17 @@ pub record WritesPages (file : ℕ) (v w : View) : Type 0 where
   pub layout : w.layout ≡ v.layout
 
 -- Over any contents: writes were made, each permitted where it is made. Bytes were written to pages of this file and of the
--- volume's own alone, but for pages of frames that were dirty.
+-- volume's own alone, but for pages of frames that were dirty; and labels of this file alone.
 pub record IsWrittenFor (file : ℕ) (v w : View) : Type 0 where
   pub labels : List DiskWrite
   pub makes : MakesOnly (with_own file) labels v w
   pub layout : w.layout ≡ v.layout
+  pub own : WritesFor (this_file file) v w
+
+-- Over any contents: each label that became that of a permanent file's leader, or was written over one, came right after a sync, and
+-- where such a leader went there was one right after, too; but what halted may end with a label.
+abbrev pub SyncsSecond : {T : Type 0} → Result T PairHalt → DiskState → DiskState → Type 0
+SyncsSecond result old new = MatchResult result (λ x. SyncsAround false old new) (λ e. SyncsAround true old new)
 
 -- The halt is a fault of the disk only where the disk counted one, and its evidence of damage is so of the disk.
 pub record ShowsWhy (v w : View) (e : Halt) : Type 0 where

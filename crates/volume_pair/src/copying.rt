@@ -6,6 +6,7 @@ ghost use Rattle.labelled_disk.specs.FilesOn.{files_on};
 ghost use Rattle.labelled_disk.specs.Label.{is_file_id};
 ghost use Rattle.labelled_disk.specs.Root.{LabelsRight};
 ghost use Rattle.labelled_disk.specs.Sectors.{Sector};
+ghost use Rattle.label_calls.specs.Synced.{SyncedThere, SyncsLeaders};
 ghost use Rattle.filer_kernel.specs.View.{FitsLayout, view_of};
 ghost use Rattle.pair_machine.specs.Pair as machine;
 ghost use Rattle.pair_machine.specs.Pair.{next_pair, with_copy};
@@ -15,7 +16,7 @@ ghost use Rattle.volume_pair.specs.Copying.{IsOriginal, KeepsNumbers, LeavesSeco
 ghost use Rattle.volume_pair.specs.Costs.{SpendsOnFile, making};
 ghost use Rattle.volume_pair.specs.CrashStates.{ChangesFiles, CrashStatesOf};
 ghost use Rattle.volume_pair.specs.Pairs.{IsFaultOfDisk, IsPaired, ShowsSide};
-ghost use Rattle.volume_pair.specs.Sides.{IsLookedAt, IsSide, IsWrittenFor, ShowsWhy, WritesPages};
+ghost use Rattle.volume_pair.specs.Sides.{IsLookedAt, IsSide, IsWrittenFor, ShowsWhy, SyncsSecond, WritesPages};
 
 use crate::PairHalt;
 use crate::comparing::size_of;
@@ -179,6 +180,8 @@ fn seal<E: Disk, A: Allocator>(to: &mut Filer<E, A>, id: FileId) -> Result<(), H
         → LabelsRight d → file_at (files_on d) id ≡ None
         → CrashStatesOf (IsSealing y gs f (view_of to.old).layout d) 1 (view_of to.old).disk (view_of to.new).disk }
     ensures writes { IsWrittenFor id (view_of to.old) (view_of to.new) }
+    ensures pages_first { IfOk result (λ _. SyncedThere (view_of to.old).disk (view_of to.new).disk) }
+    ensures around { SyncsLeaders result (view_of to.old).disk (view_of to.new).disk }
     ensures synced { IfOk result (λ _. (view_of to.new).disk.synced ≡ true) }
     ensures cost { (view_of to.new).disk.transfers ≤ (view_of to.old).disk.transfers + 32 }
     ensures why { IfErr result (ShowsWhy (view_of to.old) (view_of to.new)) }
@@ -220,6 +223,7 @@ fn make_copy<D: Disk, E: Disk, A: Allocator>(
         × ChangesFiles p.to (with_copy p id).to volume.old.root (view_of to.old).disk (view_of to.new).disk }
     ensures from_looks { IsLookedAt (view_of from.old) (view_of from.new) }
     ensures to_writes { IsWrittenFor id (view_of to.old) (view_of to.new) }
+    ensures around { SyncsSecond result (view_of to.old).disk (view_of to.new).disk }
     ensures synced { IfOk result (λ _. (view_of to.new).disk.synced ≡ true) }
     ensures from_cost { (view_of from.new).disk.transfers ≤ (view_of from.old).disk.transfers + 15 * file.pages }
     ensures to_cost { (view_of to.new).disk.transfers ≤ (view_of to.old).disk.transfers
@@ -259,6 +263,7 @@ pub(crate) fn copy<D: Disk, E: Disk, A: Allocator>(
         (view_of to.new).disk }
     ensures from_looks { IsLookedAt (view_of from.old) (view_of from.new) }
     ensures to_writes { IsWrittenFor id (view_of to.old) (view_of to.new) }
+    ensures around { SyncsSecond result (view_of to.old).disk (view_of to.new).disk }
     ensures leaves { IfOk result (LeavesSecond (view_of to.old) (view_of to.new)) }
     ensures cost { (p : machine.Pair) → IsPaired (view_of from.old) (view_of to.old) volume.old p
         → SpendsOnFile p id (view_of from.old) (view_of to.old) (view_of from.new) (view_of to.new) }

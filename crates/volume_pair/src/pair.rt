@@ -41,7 +41,7 @@ fn ask<D: Disk, E: Disk, A: Allocator>(
         → MatchResult result (RepliesPair p call.now (view_of from.new) (view_of to.new) volume.new) IsFaultOfDisk }
     ensures in_use { IsStillInUse (view_of from.new) (view_of to.new) volume.old volume.new }
     ensures from { IsOnlyRead (view_of from.old).disk (view_of from.new).disk }
-    ensures to { WritesSecond call.now (view_of from.old) (view_of to.old) volume.old (view_of to.new) }
+    ensures to { WritesSecond call.now result (view_of from.old) (view_of to.old) volume.old (view_of to.new) }
     ensures leaves { IfOk result (LeavesSecond (view_of to.old) (view_of to.new)) }
     ensures cost { (p : machine.Pair) → IsPaired (view_of from.old) (view_of to.old) volume.old p
         → SpendsOnFile p (id_of call.now) (view_of from.old) (view_of to.old) (view_of from.new) (view_of to.new) }
@@ -72,7 +72,7 @@ impl<D: Disk, E: Disk, A: Allocator> Pair<D, E, A> {
             (RepliesPair p call.now (view_of self.new.from) (view_of self.new.to) self.new.volume) IsFaultOfDisk }
         ensures in_use { IsStillInUse (view_of self.new.from) (view_of self.new.to) self.old.volume self.new.volume }
         ensures from { IsOnlyRead (view_of self.old.from).disk (view_of self.new.from).disk }
-        ensures to { WritesSecond call.now (view_of self.old.from) (view_of self.old.to) self.old.volume
+        ensures to { WritesSecond call.now result (view_of self.old.from) (view_of self.old.to) self.old.volume
             (view_of self.new.to) }
         ensures leaves { IfOk result (LeavesSecond (view_of self.old.to) (view_of self.new.to)) }
         ensures cost { (p : machine.Pair)

@@ -19,8 +19,9 @@ ghost use Rattle.label_calls.specs.Labels.{MayHaveWritten};
 ghost use Rattle.volume_pair.specs.CrashStates.{KeepsFiles};
 ghost use Rattle.volume_pair.specs.Ends.{IsAccepted, IsBare, IsCounted, IsEarly, IsLaid, IsOutside, IsRightRefusal, IsStarted, IsWrittenOwn, in_use, pair_of};
 ghost use Rattle.volume_pair.specs.Kept.{IsRootOf, StartMade, StartWrote};
+ghost use Rattle.volume_pair.specs.Owned.{IsInUseAs};
 ghost use Rattle.volume_pair.specs.Pairs.{IsInUse, IsPaired};
-ghost use Rattle.volume_pair.specs.Sides.{ShowsWhy};
+ghost use Rattle.volume_pair.specs.Sides.{AreClean, ShowsWhy};
 
 use crate::syncing::sync_disk;
 use crate::{Pair, PairStart};
@@ -118,6 +119,11 @@ fn put_in_use<D: Disk, A: Allocator>(
         → root ≡ root_in (root_page d)
         → KeepsFiles (files_on d) (serial_of d) (counter_of d) (view_of filer.old).disk (view_of filer.new).disk }
     ensures volume { IfOk result (λ v. (v.layout ≡ layout) × (v.root ≡ in_use root)) }
+    ensures in_use { IfOk result
+        (λ _.
+        (d e : List Sector) → (view_of filer.old).disk.contents ≡ Some d → root ≡ root_in (root_page d)
+        → (view_of filer.new).disk.contents ≡ Some e → IsInUseAs d e) }
+    ensures clean { IfOk result (λ _. AreClean (view_of filer.new).slots) }
     ensures writes { IsWrittenOwn (view_of filer.old) (view_of filer.new) }
     ensures why { IfErr result (ShowsWhy (view_of filer.old) (view_of filer.new)) }
     ensures layout { (view_of filer.new).layout ≡ (view_of filer.old).layout }
@@ -196,7 +202,7 @@ impl<D: Disk, E: Disk, A: Allocator + Clone> Pair<D, E, A> {
         ensures running { IfOk result (λ s. s.running ≡ true) }
         ensures from { MatchResult result (λ s. ReadsAtMost 1 (D.state from) (view_of s.from).disk)
             (λ f. ReadsAtMost 1 (D.state from) (D.state f.1)) }
-        ensures to { MatchResult result (λ s. StartMade (E.state to) (view_of s.to).disk)
+        ensures to { MatchResult result (λ s. StartMade (E.state to) (view_of s.to))
             (λ f. StartWrote f.0 (E.state to) (E.state f.2)) }
         ensures root { (d e : List Sector) → (D.state from).contents ≡ Some d → (E.state to).contents ≡ Some e
             → IfOk result (λ s. IsRootOf e s.volume.root) }

@@ -9,8 +9,9 @@ use Rattle.pair_session.specs.declared.turn.Turn.TheVariants.{Ends}
 use Rattle.pair_session.proofs.EndLemmas.{are_begun, begun_lines, cut_short, ends_at, long, no_sink, read_fault, short}
 use Rattle.pair_session.proofs.GoingLemmas.{Going-more, Going-source, Going-revealed, Going-start}
 use Rattle.pair_session.proofs.LineLemmas.{closes_more, to_more}
+use Rattle.pair_session.proofs.OwnedLemmas.{OwnsEach, owns_more, owns_none}
 use Rattle.pair_session.proofs.StateLemmas.{KeepsEach, keeps_none}
-use Rattle.pair_session.proofs.TurnLemmas.{LeadsEach, halts_after, keeps_end, keeps_line, leads_more, leads_none, open_at, stands_or, takes_more, turn_halts}
+use Rattle.pair_session.proofs.TurnLemmas.{LeadsEach, halts_after, keeps_end, keeps_line, leads_more, leads_none, open_at, owns_end, stands_or, takes_more, turn_halts}
 use Rattle.pair_session.proofs.WroteLemmas.{goes_itself, goes_then}
 use Rattle.pair_session.proofs.answering.answer_lines.Goals as goal
 
@@ -20,8 +21,8 @@ turns-init g c =
     let stopped = ap (λ p. p.stopped) made in
     record {
       going = Going-start _ _ c.with_limit-lines.result
-          (λ items replies. LeadsEach (shown c.args.pair.now) (shown c.args.pair.now) items replies × KeepsEach (shown c.args.pair.now) (shown c.args.pair.now) items) (ap (λ p. p.taken) made) stopped
-          (leads_none (shown c.args.pair.now), keeps_none (shown c.args.pair.now));
+          (λ items replies. LeadsEach (shown c.args.pair.now) (shown c.args.pair.now) items replies × KeepsEach (shown c.args.pair.now) (shown c.args.pair.now) items items replies × OwnsEach (shown c.args.pair.now) (shown c.args.pair.now) items) (ap (λ p. p.taken) made) stopped
+          (leads_none (shown c.args.pair.now), keeps_none (shown c.args.pair.now), owns_none (shown c.args.pair.now));
       goes = goes_itself (shown c.args.pair.now);
       asked = c.requires.asked;
       goes_on = inl stopped;
@@ -48,7 +49,8 @@ turns-preserved g c =
       going = Going-more i.going c.in-Replies.reply turn.0 turn.2 turn.3 turn.4
           (λ items replies are. (
             leads_more (shown c.args.pair.now) (shown c.turns.pair) (shown c.take_turn.new.pair) turn.1 c.in-Replies.reply turn.5 items replies are.0,
-            keeps_line (shown c.args.pair.now) (shown c.turns.pair) (shown c.take_turn.new.pair) turn.1 c.in-Replies.reply turn.5 items replies are.0 i.goes are.1,
+            keeps_line (shown c.args.pair.now) (shown c.turns.pair) (shown c.take_turn.new.pair) turn.1 c.in-Replies.reply turn.5 items replies are.0 i.goes c.take_turn.ensures.goes_on are.1,
+            owns_more (shown c.args.pair.now) (shown c.turns.pair) (shown c.take_turn.new.pair) items turn.1 are.2 turn.5.0,
           ))
           c.in-Ok.ensures.ok;
       goes = goes_then i.goes c.take_turn.ensures.goes_on;
@@ -75,8 +77,9 @@ returns-in_default g c =
         none_last = closes_more i.going.items turn.1 i.going.none_last turn.3;
         lines = i.going.items ++ turn.1 ∷ [];
         begun = refl;
+        own = owns_more (shown c.args.pair.now) (shown c.turns.pair) (shown c.take_turn.new.pair) i.going.items turn.1 i.going.are.2 turn.5.0;
         leads = leads_more (shown c.args.pair.now) (shown c.turns.pair) (shown c.take_turn.new.pair) turn.1 c.in-Replies.reply turn.5 i.going.items i.going.replies i.going.are.0;
-        crash_states = keeps_line (shown c.args.pair.now) (shown c.turns.pair) (shown c.take_turn.new.pair) turn.1 c.in-Replies.reply turn.5 i.going.items i.going.replies i.going.are.0 i.goes i.going.are.1;
+        crash_states = keeps_line (shown c.args.pair.now) (shown c.turns.pair) (shown c.take_turn.new.pair) turn.1 c.in-Replies.reply turn.5 i.going.items i.going.replies i.going.are.0 i.goes c.take_turn.ensures.goes_on i.going.are.1;
         halted = λ p stands d is. tt;
         ended = λ b t source sink.
             let all : List Item = i.going.items ++ turn.1 ∷ [] in
@@ -114,8 +117,9 @@ returns-in-Ends g c =
         none_last = i.going.none_last;
         lines = begun_lines halts _ _ c.turns.lines c.take_turn.new.lines how turn i.going.items;
         begun = are_begun halts _ _ c.turns.lines c.take_turn.new.lines how turn i.going.items;
+        own = owns_end old mid new _ _ c.turns.lines c.take_turn.new.lines i.going.items i.going.replies i.going.are.0 i.going.are.2 how turn c.in-Ends.ensures.stays;
         leads = λ p stands. ((i.going.are.0 p stands).0, stands_or old mid new _ _ c.turns.lines c.take_turn.new.lines i.going.items i.going.replies i.going.are.0 how turn c.in-Ends.ensures.stays p stands);
-        crash_states = keeps_end old mid new _ _ c.turns.lines c.take_turn.new.lines i.going.items i.going.replies i.going.are.0 i.goes i.going.are.1 how turn c.in-Ends.ensures.stays;
+        crash_states = keeps_end old mid new _ _ c.turns.lines c.take_turn.new.lines i.going.items i.going.replies i.going.are.0 i.goes c.take_turn.ensures.goes_on i.going.are.1 how turn c.in-Ends.ensures.stays;
         halted = halts_after old mid new _ _ c.turns.lines c.take_turn.new.lines i.going.items i.going.replies i.going.are.0 i.goes how turn;
         ended = λ b t source sink.
             Going-revealed i.going source sink (λ items replies. EndsAt how b _ t _ items replies (begun_lines halts _ _ c.turns.lines c.take_turn.new.lines how turn items))

@@ -2,6 +2,7 @@ use Rattle.std.proofs.Common.{◌≡◌, ◌⊎◌, ◌-◌, ◌^◌, ◌≤◌,
 use Rattle.trace_io.specs.declared.progress.Stop.TheVariants as stop
 use Rattle.pair_session.specs.Pairs.{GoesOn, MayBeAsked, shown}
 use Rattle.pair_session.proofs.GoingLemmas.{Going}
+use Rattle.pair_session.proofs.OwnedLemmas.{OwnsEach}
 use Rattle.pair_session.proofs.StateLemmas.{KeepsEach}
 use Rattle.pair_session.proofs.TurnLemmas.{LeadsEach}
 use Rattle.pair_session.proofs.answering.answer_lines.Given as goal
@@ -10,7 +11,7 @@ use Rattle.pair_session.proofs.answering.answer_lines.Given as goal
 abbrev pub invariant-turns : goal.invariant-turns
 invariant-turns g l = record {
   going : Going (g.S.Source.left l.fn.source) (g.S.Source.left l.source) (g.K.Sink.took l.fn.sink) (g.K.Sink.took l.sink) l.lines
-      (λ items replies. LeadsEach (shown l.fn.pair) (shown l.pair) items replies × KeepsEach (shown l.fn.pair) (shown l.pair) items);
+      (λ items replies. LeadsEach (shown l.fn.pair) (shown l.pair) items replies × KeepsEach (shown l.fn.pair) (shown l.pair) items items replies × OwnsEach (shown l.fn.pair) (shown l.pair) items);
   goes : GoesOn (shown l.fn.pair) (shown l.pair);
   asked : MayBeAsked (shown l.pair);
   goes_on : (l.lines.stopped ≡ None) ⊎ (l.lines.stopped ≡ Some stop.End);

@@ -1,5 +1,12 @@
 use Rattle.std.proofs.Common.{◌≡◌, None, Some, refl, sym, ◌∙◌}
+use Rattle.filer_kernel.specs.View.{disk_of}
+use Rattle.pair_machine.specs.declared.call.PairRefusal.TheVariants as why
 use Rattle.trace_io.specs.PairGrammar.{Ask}
+use Rattle.volume_pair.specs.Owned.{no_file}
+use Rattle.volume_pair.proofs.OwnedLemmas.{writes_none}
+use Rattle.volume_pair.proofs.ReplyLemmas.{refused_not_done}
+use Rattle.volume_pair.proofs.SideLemmas.{looked_nothing}
+use Rattle.volume_pair.proofs.SyncedLemmas.{synced_now}
 use Rattle.pair_session.specs.Pairs.{shown}
 use Rattle.pair_session.proofs.StateLemmas.{keeps_bad}
 use Rattle.pair_session.proofs.TurnLemmas.{none_stopped}
@@ -17,7 +24,7 @@ returns-in-Ok-clause-turns g c =
       c.in-Call.ensures.next none,
       refl,
       tt,
-      λ p stands. let r = c.in-Ok.ensures.replies p stands in record { allowed = r.allowed; stands = r.stands; crash_states = steps.crash_states p stands },
+      (steps.own, λ p stands. let r = c.in-Ok.ensures.replies p stands in record { allowed = r.allowed; stands = r.stands; crash_states = steps.crash_states p stands; synced = λ done. synced_now (shown c.step.new.self).to.disk (g.met.E.Disk.sync_counts (disk_of c.step.new.self.to)) (c.in-Ok.ensures.leaves.on_medium done) }),
     )
 
 pub returns-in-Ok-clause-goes_on : goal.returns-in-Ok-clause-goes_on
@@ -33,7 +40,7 @@ returns-in-Err-clause-turns g c =
       Some (Ask c.in-Call.call),
       c.in-Call.ensures.next none,
       refl,
-      λ p stands. (c.in-Err.ensures.replies p stands, steps.crash_states p stands),
+      (steps.own, λ p stands. (c.in-Err.ensures.replies p stands, steps.crash_states p stands)),
     )
 
 pub returns-in-Err-clause-goes_on : goal.returns-in-Err-clause-goes_on
@@ -54,7 +61,7 @@ returns-in-Bad-clause-turns g c =
       c.in-Bad.ensures.next none,
       refl,
       refl,
-      λ p stands. record { allowed = refl; stands = stands; crash_states = keeps_bad (shown c.args.pair.now) p stands },
+      (writes_none no_file (looked_nothing (shown c.args.pair.now).to), λ p stands. record { allowed = refl; stands = stands; crash_states = keeps_bad (shown c.args.pair.now) p stands; synced = λ done. absurd (refused_not_done why.Syntax done) }),
     )
 
 pub returns-in-Bad-clause-goes_on : goal.returns-in-Bad-clause-goes_on

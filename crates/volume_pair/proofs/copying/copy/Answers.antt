@@ -1,7 +1,9 @@
-use Rattle.std.proofs.Common.{◌≡◌, ◌∙◌, None, refl, subst, sym, rules}
+use Rattle.std.proofs.Common.{◌≡◌, ◌∙◌, None, true, false, refl, subst, sym, rules}
 use Rattle.filer_kernel.specs.View.{view_of}
+use Rattle.label_calls.specs.SyncedLaws.{quiet_synced, syncs_around}
 use Rattle.volume_pair.specs.Copying.{IsOriginal}
 use Rattle.volume_pair.specs.Costs.{making, size_in}
+use Rattle.volume_pair.proofs.AroundLemmas.{looked_first}
 use Rattle.volume_pair.proofs.CostLemmas.{copy_spends, spends_little, stays_little}
 use Rattle.volume_pair.proofs.CopyStateLemmas.{asked_states, asked_then, copy_states, untouched_states}
 use Rattle.volume_pair.proofs.CopyLemmas.{judged_refused, keeps_numbers, paired_then, replies_done, replies_refused, room_refused}
@@ -180,3 +182,23 @@ returns-in-Err-make_copy-clause-cost g c = λ p h.
     let original = subst (IsOriginal p.from c.args.id) c.in-Ok-Ok.field-0-is first.1 in
     copy_spends p c.args.id c.in-Ok-Ok.file original (view_of c.args.from.now) (view_of c.args.to.now) (view_of c.original.new.from) (view_of c.refusal.new.to) (view_of c.make_copy.new.from) (view_of c.make_copy.new.to) c.refusal.ensures.looks.layout
     c.original.ensures.cost c.refusal.ensures.cost c.make_copy.ensures.from_cost c.make_copy.ensures.to_cost
+
+-- ---- The syncs around the marks.
+
+pub returns-in-Ok-Err-clause-around : goal.returns-in-Ok-Err-clause-around
+returns-in-Ok-Err-clause-around g c = syncs_around (quiet_synced false (looked_nothing (view_of c.args.to.now)).makes)
+
+pub returns-in-Err-clause-around : goal.returns-in-Err-clause-around
+returns-in-Err-clause-around g c = syncs_around (quiet_synced true (looked_nothing (view_of c.args.to.now)).makes)
+
+pub returns-in-Err-refusal-clause-around : goal.returns-in-Err-refusal-clause-around
+returns-in-Err-refusal-clause-around g c = syncs_around (quiet_synced true c.refusal.ensures.looks.makes)
+
+pub returns-in-Some-clause-around : goal.returns-in-Some-clause-around
+returns-in-Some-clause-around g c = syncs_around (quiet_synced false c.refusal.ensures.looks.makes)
+
+pub returns-in-Ok-make_copy-clause-around : goal.returns-in-Ok-make_copy-clause-around
+returns-in-Ok-make_copy-clause-around g c = looked_first (view_of c.args.to.now) (view_of c.refusal.new.to) (view_of c.make_copy.new.to) c.refusal.ensures.looks c.make_copy.ensures.to_writes c.in-Ok-make_copy.ensures.around
+
+pub returns-in-Err-make_copy-clause-around : goal.returns-in-Err-make_copy-clause-around
+returns-in-Err-make_copy-clause-around g c = looked_first (view_of c.args.to.now) (view_of c.refusal.new.to) (view_of c.make_copy.new.to) c.refusal.ensures.looks c.make_copy.ensures.to_writes c.in-Err-make_copy.ensures.around

@@ -1,40 +1,42 @@
-use Rattle.std.proofs.Common.{[], false, ap, subst, sym, ℕ}
+use Rattle.std.proofs.Common.{[], true, false, ap, subst, sym, ℕ}
 use Rattle.file_manager.specs.declared.volume.Volume.{Volume}
 use Rattle.session_words.proofs.FoundLemmas.{above_reserved}
 use Rattle.filer_kernel.specs.View.{accepted, view_of}
+use Rattle.label_calls.specs.SyncedLaws.{around_after, quiet_synced, synced_then, syncs_around}
 use Rattle.session_words.specs.Parts.{shapes_of}
 use Rattle.volume_pair.specs.Copied.{IsCopying}
+use Rattle.volume_pair.proofs.AroundLemmas.{all_around, some_around, written_around}
 use Rattle.volume_pair.proofs.CostLemmas.{filled_spends, made_spends, sealed_spends}
 use Rattle.volume_pair.proofs.CopyLemmas.{written_fits}
 use Rattle.volume_pair.proofs.CopyStateLemmas.{all_states, filled_broken, made_broken}
 use Rattle.volume_pair.proofs.DoneLemmas.{begun, copy_done, may_create, same_id}
 use Rattle.volume_pair.proofs.SideLemmas.{looked_nothing, why_after, why_of}
-use Rattle.volume_pair.proofs.WriteLemmas.{copied_after, own_written, pages_written, written_then}
+use Rattle.volume_pair.proofs.WriteLemmas.{all_written, copied_after, pages_written, some_written, written_then}
 use Rattle.volume_pair.proofs.copying.make_copy.Goals as goal
 
 pub returns-in-Err-clause-from_looks : goal.returns-in-Err-clause-from_looks
 returns-in-Err-clause-from_looks g c = looked_nothing (view_of c.args.from.now)
 
 pub returns-in-Err-clause-to_writes : goal.returns-in-Err-clause-to_writes
-returns-in-Err-clause-to_writes g c = own_written c.args.id _ (view_of c.args.to.now) (view_of c.create_as.new.filer) c.in-Err.ensures.writes.makes c.create_as.ensures.stays.layout
+returns-in-Err-clause-to_writes g c = some_written c.args.id _ _ (view_of c.args.to.now) (view_of c.create_as.new.filer) c.requires.of_file c.in-Err.ensures.writes c.create_as.ensures.stays.layout
 
 pub returns-in-Err-clause-why : goal.returns-in-Err-clause-why
 returns-in-Err-clause-why g c = why_of c.in-Err.ensures.fails
 
 pub copy_pages-requires-clause-to_size : goal.copy_pages-requires-clause-to_size
-copy_pages-requires-clause-to_size g c = written_fits (own_written c.args.id _ (view_of c.args.to.now) (view_of c.create_as.new.filer) c.in-Ok.ensures.writes.makes c.create_as.ensures.stays.layout) c.requires.to_size
+copy_pages-requires-clause-to_size g c = written_fits (all_written c.args.id _ _ (view_of c.args.to.now) (view_of c.create_as.new.filer) c.requires.of_file c.in-Ok.ensures.writes c.create_as.ensures.stays.layout) c.requires.to_size
 
 pub returns-in-Err-copy_pages-clause-to_writes : goal.returns-in-Err-copy_pages-clause-to_writes
-returns-in-Err-copy_pages-clause-to_writes g c = written_then (own_written c.args.id _ (view_of c.args.to.now) (view_of c.create_as.new.filer) c.in-Ok.ensures.writes.makes c.create_as.ensures.stays.layout) (pages_written c.copy_pages.ensures.to_writes)
+returns-in-Err-copy_pages-clause-to_writes g c = written_then (all_written c.args.id _ _ (view_of c.args.to.now) (view_of c.create_as.new.filer) c.requires.of_file c.in-Ok.ensures.writes c.create_as.ensures.stays.layout) (pages_written c.copy_pages.ensures.to_writes)
 
 pub returns-in-Err-copy_pages-clause-why : goal.returns-in-Err-copy_pages-clause-why
-returns-in-Err-copy_pages-clause-why g c = copied_after _ _ (looked_nothing (view_of c.args.from.now)) (own_written c.args.id _ (view_of c.args.to.now) (view_of c.create_as.new.filer) c.in-Ok.ensures.writes.makes c.create_as.ensures.stays.layout) c.in-Err-copy_pages.halt c.in-Err-copy_pages.ensures.why
+returns-in-Err-copy_pages-clause-why g c = copied_after _ _ (looked_nothing (view_of c.args.from.now)) (all_written c.args.id _ _ (view_of c.args.to.now) (view_of c.create_as.new.filer) c.requires.of_file c.in-Ok.ensures.writes c.create_as.ensures.stays.layout) c.in-Err-copy_pages.halt c.in-Err-copy_pages.ensures.why
 
 pub seal-requires-clause-size : goal.seal-requires-clause-size
-seal-requires-clause-size g c = written_fits (written_then (own_written c.args.id _ (view_of c.args.to.now) (view_of c.create_as.new.filer) c.in-Ok.ensures.writes.makes c.create_as.ensures.stays.layout) (pages_written c.copy_pages.ensures.to_writes)) c.requires.to_size
+seal-requires-clause-size g c = written_fits (written_then (all_written c.args.id _ _ (view_of c.args.to.now) (view_of c.create_as.new.filer) c.requires.of_file c.in-Ok.ensures.writes c.create_as.ensures.stays.layout) (pages_written c.copy_pages.ensures.to_writes)) c.requires.to_size
 
 pub returns-in-Ok-seal-clause-to_writes : goal.returns-in-Ok-seal-clause-to_writes
-returns-in-Ok-seal-clause-to_writes g c = written_then (written_then (own_written c.args.id _ (view_of c.args.to.now) (view_of c.create_as.new.filer) c.in-Ok.ensures.writes.makes c.create_as.ensures.stays.layout) (pages_written c.copy_pages.ensures.to_writes)) c.seal.ensures.writes
+returns-in-Ok-seal-clause-to_writes g c = written_then (written_then (all_written c.args.id _ _ (view_of c.args.to.now) (view_of c.create_as.new.filer) c.requires.of_file c.in-Ok.ensures.writes c.create_as.ensures.stays.layout) (pages_written c.copy_pages.ensures.to_writes)) c.seal.ensures.writes
 
 pub returns-in-Ok-seal-clause-volume : goal.returns-in-Ok-seal-clause-volume
 returns-in-Ok-seal-clause-volume g c = record { root = ap (λ (v : Volume). v.root) c.in-Ok.ensures.volume; layout = ap (λ (v : Volume). v.layout) c.in-Ok.ensures.volume }
@@ -49,11 +51,11 @@ pub returns-in-Err-clause-volume : goal.returns-in-Err-clause-volume
 returns-in-Err-clause-volume g c = record { root = ap (λ (v : Volume). v.root) c.in-Err.ensures.volume; layout = ap (λ (v : Volume). v.layout) c.in-Err.ensures.volume }
 
 pub returns-in-Err-seal-clause-to_writes : goal.returns-in-Err-seal-clause-to_writes
-returns-in-Err-seal-clause-to_writes g c = written_then (written_then (own_written c.args.id _ (view_of c.args.to.now) (view_of c.create_as.new.filer) c.in-Ok.ensures.writes.makes c.create_as.ensures.stays.layout) (pages_written c.copy_pages.ensures.to_writes)) c.seal.ensures.writes
+returns-in-Err-seal-clause-to_writes g c = written_then (written_then (all_written c.args.id _ _ (view_of c.args.to.now) (view_of c.create_as.new.filer) c.requires.of_file c.in-Ok.ensures.writes c.create_as.ensures.stays.layout) (pages_written c.copy_pages.ensures.to_writes)) c.seal.ensures.writes
 
 pub returns-in-Err-seal-clause-why : goal.returns-in-Err-seal-clause-why
 returns-in-Err-seal-clause-why g c =
-    why_after (written_then (own_written c.args.id _ (view_of c.args.to.now) (view_of c.create_as.new.filer) c.in-Ok.ensures.writes.makes c.create_as.ensures.stays.layout) (pages_written c.copy_pages.ensures.to_writes)).makes.went.faults c.in-Err-seal.ensures.why
+    why_after (written_then (all_written c.args.id _ _ (view_of c.args.to.now) (view_of c.create_as.new.filer) c.requires.of_file c.in-Ok.ensures.writes c.create_as.ensures.stays.layout) (pages_written c.copy_pages.ensures.to_writes)).makes.went.faults c.in-Err-seal.ensures.why
 
 pub create_as-requires-clause-other : goal.create_as-requires-clause-other
 create_as-requires-clause-other g c = c.requires.takes.other
@@ -131,3 +133,21 @@ returns-in-Err-seal-clause-to_cost g c = sealed_spends _ _ _ _ _ c.args.file.pag
 
 pub returns-in-Ok-seal-clause-to_cost : goal.returns-in-Ok-seal-clause-to_cost
 returns-in-Ok-seal-clause-to_cost g c = sealed_spends _ _ _ _ _ c.args.file.pages c.create_as.ensures.cost c.copy_pages.ensures.to_cost c.seal.ensures.cost
+
+-- ---- The syncs around the marks.
+
+pub returns-in-Err-clause-around : goal.returns-in-Err-clause-around
+returns-in-Err-clause-around g c = syncs_around (some_around c.args.id _ _ (view_of c.args.to.now) (view_of c.create_as.new.filer) c.in-Err.ensures.writes)
+
+pub returns-in-Err-copy_pages-clause-around : goal.returns-in-Err-copy_pages-clause-around
+returns-in-Err-copy_pages-clause-around g c = around_after (all_around c.args.id _ _ (view_of c.args.to.now) (view_of c.create_as.new.filer) c.in-Ok.ensures.writes) (quiet_synced true c.copy_pages.ensures.to_writes.makes)
+
+pub returns-in-Err-seal-clause-around : goal.returns-in-Err-seal-clause-around
+returns-in-Err-seal-clause-around g c =
+    around_after (synced_then (all_around c.args.id _ _ (view_of c.args.to.now) (view_of c.create_as.new.filer) c.in-Ok.ensures.writes) (quiet_synced false c.copy_pages.ensures.to_writes.makes))
+    (written_around (view_of c.copy_pages.new.to) (view_of c.seal.new.to) c.seal.ensures.writes c.in-Err-seal.ensures.around)
+
+pub returns-in-Ok-seal-clause-around : goal.returns-in-Ok-seal-clause-around
+returns-in-Ok-seal-clause-around g c =
+    around_after (synced_then (all_around c.args.id _ _ (view_of c.args.to.now) (view_of c.create_as.new.filer) c.in-Ok.ensures.writes) (quiet_synced false c.copy_pages.ensures.to_writes.makes))
+    (written_around (view_of c.copy_pages.new.to) (view_of c.seal.new.to) c.seal.ensures.writes c.in-Ok-seal.ensures.around)

@@ -29,10 +29,10 @@ pub returns-in-Compare-clause-from : goal.returns-in-Compare-clause-from
 returns-in-Compare-clause-from g c = looked_only c.requires.in_use.clean c.compare.ensures.from_looks
 
 pub returns-in-Compare-clause-to : goal.returns-in-Compare-clause-to
-returns-in-Compare-clause-to g c = rw c.in-Compare.is (compare_writes (view_of c.args.from.now) (view_of c.args.to.now) c.args.volume.now c.in-Compare.id (view_of c.compare.new.to) c.compare.ensures.to_looks)
+returns-in-Compare-clause-to g c = rw c.in-Compare.is (compare_writes (view_of c.args.from.now) (view_of c.args.to.now) c.args.volume.now c.in-Compare.id c.compare.result (view_of c.compare.new.to) c.compare.ensures.to_looks)
 
 pub returns-in-Copy-clause-to : goal.returns-in-Copy-clause-to
-returns-in-Copy-clause-to g c = rw c.in-Copy.is (copy_writes (view_of c.args.from.now) (view_of c.args.to.now) c.args.volume.now c.in-Copy.id (view_of c.copy.new.to) c.copy.ensures.to_writes c.copy.ensures.crash_states)
+returns-in-Copy-clause-to g c = rw c.in-Copy.is (copy_writes (view_of c.args.from.now) (view_of c.args.to.now) c.args.volume.now c.in-Copy.id c.copy.result (view_of c.copy.new.to) c.copy.ensures.to_writes c.copy.ensures.around c.copy.ensures.crash_states)
 
 pub returns-in-Copy-clause-leaves : goal.returns-in-Copy-clause-leaves
 returns-in-Copy-clause-leaves g c = c.copy.ensures.leaves

@@ -9,8 +9,8 @@ use Rattle.volume_pair.specs.Ends.{in_use}
 use Rattle.volume_pair.specs.Sides.{AreClean}
 use Rattle.volume_pair.proofs.CrashStateLemmas.{same_then}
 use Rattle.volume_pair.proofs.EndLemmas.{own_then, swaps_own}
-use Rattle.volume_pair.proofs.EndStateLemmas.{may_made_states, root_made_states}
-use Rattle.volume_pair.proofs.SideLemmas.{looked_same, why_after}
+use Rattle.volume_pair.proofs.EndStateLemmas.{in_use_as, may_made_states, root_made_states}
+use Rattle.volume_pair.proofs.SideLemmas.{clean_still, looked_same, why_after}
 use Rattle.volume_pair.proofs.StartLemmas.{bare_clean, bits, is_started, made_in_use, map_named, marks, opened, opened_stands}
 use Rattle.volume_pair.proofs.starting.put_in_use.Goals as goal
 
@@ -92,3 +92,22 @@ returns-in-Ok-free_count-clause-crash_states g c = λ d revealed sound same.
     let made = root_made_states d sectors sound c.args.root same v.disk u.disk v.slots v.slots revealed c.requires.bare (rw c.in_use-root.ensures.root at c.in-Ok.ensures.made).makes in
     let still : AreClean u.slots = subst AreClean (sym c.write_in_use.ensures.stays.frames) (bare_clean v.slots c.requires.bare) in
     same_then made (looked_same {v = u} {w = view_of c.free_count.new.self} still (record { makes = c.free_count.ensures.looked.swaps.makes; layout = c.free_count.ensures.looked.layout }))
+
+-- ---- The volume is in use, over any contents.
+
+pub returns-in-Ok-free_count-clause-in_use : goal.returns-in-Ok-free_count-clause-in_use
+returns-in-Ok-free_count-clause-in_use g c = λ d e revealed same now.
+    let v = view_of c.args.filer.now in
+    let u = view_of c.write_in_use.new.filer in
+    let long = g.met.D.Disk.whole (disk_of c.args.filer.now) d revealed ∙ c.requires.size in
+    let least = (accepted c.args.filer.now).0.0 in
+    let still : AreClean u.slots = subst AreClean (sym c.write_in_use.ensures.stays.frames) (bare_clean v.slots c.requires.bare) in
+    in_use_as c.args.root c.in_use-root.ensures.serial c.in_use-root.ensures.counter c.requires.bare (rw c.in_use-root.ensures.root at c.in-Ok.ensures.made).makes
+    (looked_same {v = u} {w = view_of c.free_count.new.self} still (record { makes = c.free_count.ensures.looked.swaps.makes; layout = c.free_count.ensures.looked.layout })) d e (omega (arith, long, least)) revealed same now
+
+pub returns-in-Ok-free_count-clause-clean : goal.returns-in-Ok-free_count-clause-clean
+returns-in-Ok-free_count-clause-clean g c =
+    let v = view_of c.args.filer.now in
+    let u = view_of c.write_in_use.new.filer in
+    let still : AreClean u.slots = subst AreClean (sym c.write_in_use.ensures.stays.frames) (bare_clean v.slots c.requires.bare) in
+    clean_still {v = u} {w = view_of c.free_count.new.self} still (record { makes = c.free_count.ensures.looked.swaps.makes; layout = c.free_count.ensures.looked.layout })

@@ -1,4 +1,4 @@
-use Rattle.std.proofs.Common.{◌≡◌, ◌∙◌, inr, [], ◌∷◌}
+use Rattle.std.proofs.Common.{◌≡◌, ◌∙◌, inr, [], ◌∷◌, refl}
 use Rattle.labelled_disk.specs.CrashState.{written}
 use Rattle.volume_root.specs.RootPage.{root_write}
 use Rattle.filer_kernel.specs.View.{view_of}
@@ -18,7 +18,7 @@ returns-in-Ok-sync_disk-clause-made g c =
     goes_synced (λ m n. n ≡ written (root_write c.args.root) m) (root_write c.args.root ∷ []) c.in-Ok.ensures.writes c.sync_disk.ensures.swaps c.write_over.ensures.stays.frames (c.sync_disk.ensures.stays.frames ∙ c.write_over.ensures.stays.frames)
 
 pub returns-in-Ok-sync_disk-clause-writes : goal.returns-in-Ok-sync_disk-clause-writes
-returns-in-Ok-sync_disk-clause-writes g c = own_then (root_own (view_of c.args.filer.now) (view_of c.write_over.new.filer) c.in-Ok.ensures.writes.makes c.write_over.ensures.stays.frames) (swaps_own (view_of c.write_over.new.filer) (view_of c.sync_disk.new.filer) c.sync_disk.ensures.swaps)
+returns-in-Ok-sync_disk-clause-writes g c = own_then (root_own (view_of c.args.filer.now) (view_of c.write_over.new.filer) (refl, tt) c.in-Ok.ensures.writes.makes c.write_over.ensures.stays.frames) (swaps_own (view_of c.write_over.new.filer) (view_of c.sync_disk.new.filer) c.sync_disk.ensures.swaps)
 
 pub returns-in-Ok-sync_disk-clause-stays : goal.returns-in-Ok-sync_disk-clause-stays
 returns-in-Ok-sync_disk-clause-stays g c = record {
@@ -28,7 +28,7 @@ returns-in-Ok-sync_disk-clause-stays g c = record {
 }
 
 pub returns-in-Err-sync_disk-clause-writes : goal.returns-in-Err-sync_disk-clause-writes
-returns-in-Err-sync_disk-clause-writes g c = own_then (root_own (view_of c.args.filer.now) (view_of c.write_over.new.filer) c.in-Ok.ensures.writes.makes c.write_over.ensures.stays.frames) (swaps_own (view_of c.write_over.new.filer) (view_of c.sync_disk.new.filer) c.sync_disk.ensures.swaps)
+returns-in-Err-sync_disk-clause-writes g c = own_then (root_own (view_of c.args.filer.now) (view_of c.write_over.new.filer) (refl, tt) c.in-Ok.ensures.writes.makes c.write_over.ensures.stays.frames) (swaps_own (view_of c.write_over.new.filer) (view_of c.sync_disk.new.filer) c.sync_disk.ensures.swaps)
 
 pub returns-in-Err-sync_disk-clause-stays : goal.returns-in-Err-sync_disk-clause-stays
 returns-in-Err-sync_disk-clause-stays g c = record {

@@ -54,11 +54,11 @@ returns-in-Ok-put_in_use-clause-in_use g c =
 pub returns-in-Ok-put_in_use-clause-to : goal.returns-in-Ok-put_in_use-clause-to
 returns-in-Ok-put_in_use-clause-to g c =
     let reads = subst (λ x. ReadsAtMost 1 (g.E.Disk.state c.args.to) (g.E.Disk.state x)) (sym c.in-Ok-frames_over-2.ensures.disk) c.roots.ensures.to_reads in
-    let all = read_then (view_of c.in-Ok-frames_over-2.filer) (view_of c.put_in_use.new.filer) reads c.in-Ok-frames_over-2.ensures.bare c.put_in_use.ensures.writes in
     record {
-      labels = all.labels;
-      went = all.went;
-      wrote = all.wrote;
+      written = read_then (view_of c.in-Ok-frames_over-2.filer) (view_of c.put_in_use.new.filer) reads c.in-Ok-frames_over-2.ensures.bare
+          c.put_in_use.ensures.writes;
+      in_use = λ d e was now. c.in-Ok-put_in_use.ensures.in_use d e (reads.only.contents ∙ was) (c.in-Ok.ensures.root d was) now;
+      clean = c.in-Ok-put_in_use.ensures.clean;
       crash_states = λ e revealed sound. started_states reads (λ d here also. c.put_in_use.ensures.crash_states d here also (c.in-Ok.ensures.root d (sym reads.only.contents ∙ here))) e revealed sound;
     }
 
