@@ -15,6 +15,7 @@ from ctypes import byref, c_bool, c_char_p, c_int, c_size_t, c_uint16, c_uint32,
 ROOT = os.path.dirname(os.path.dirname(os.path.dirname(os.path.realpath(__file__))))
 LIBRARY = ctypes.CDLL(os.environ.get("PILOT_LIBRARY") or os.path.join(ROOT, "out", "libpilot.so"))
 LIBRARY.pilot_text.restype = c_char_p
+LIBRARY.pilot_is_open.restype = c_bool
 
 WORDS = """Ok Syntax Space File Size Full Spaces Gap Range Children Mapped Window Immutable NotMapped NoMap ReadOnly FileMapped
 Root Ids NoFile Disk Damaged NotVolume Unclean Version Count NoMemory Closed Open Argument System InUse""".split()

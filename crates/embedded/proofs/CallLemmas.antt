@@ -39,7 +39,7 @@ not_halted other is = cc is
 
 module _ {D A : Type 0} {G : Ghosts D} where
   -- what stands for a machine is running
-  open_in : (h : Held D A G) (m : Machine) → IsIn h m → is_running h ≡ true
+  pub open_in : (h : Held D A G) (m : Machine) → IsIn h m → is_running h ≡ true
   open_in (held.Session live) m stands = stands.0
   open_in other m stands = absurd stands
 

@@ -1,5 +1,7 @@
 mod CallLemmas
+mod TakeLemmas
 mod OpenLemmas
+mod MadeLemmas
 mod ReferenceLemmas
 mod PieceLemmas
 mod FaultLemmas

@@ -121,6 +121,26 @@ lead_then m address (bytes ∷ rest) n piece lead free =
           (lead_then (next m (call.Store address bytes)) (address + length bytes) rest n piece lead.1 (subst (λ (a : ℕ). refusal n (call.Store a piece) ≡ None) at free)),
     )
 
+pub take_whole : (n : ℕ) (bytes : List ℕ) → length bytes ≤ n → take n bytes ≡ bytes
+take_whole zero [] all = refl
+take_whole zero (b ∷ bs) all = absurd (omega (arith, all))
+take_whole (suc n) [] all = refl
+take_whole (suc n) (b ∷ bs) all = ap (λ (l : List ℕ). b ∷ l) (take_whole n bs (omega (arith, all)))
+
+-- stores in a row after others
+lead_row : (m : Machine) (address at : ℕ) (ps qs : List (List ℕ)) (n o : Machine) → at ≡ address + length (concat ps) → Lead m address ps n → Lead n at qs o
+    → Lead m address (ps ++ qs) o
+lead_row m address at [] qs n o is lead more =
+    let none : address + 0 ≡ address = omega arith in
+    subst (λ (x : Machine). Lead x address qs o) lead (subst (λ (a : ℕ). Lead n a qs o) (is ∙ none) more)
+lead_row m address at (bytes ∷ rest) qs n o is lead more =
+    let there : at ≡ (address + length bytes) + length (concat rest) = omega (arith, is, length-append bytes (concat rest)) in
+    (lead.0, lead_row (next m (call.Store address bytes)) (address + length bytes) at rest qs n o there lead.1 more)
+
+some_row : (ps qs : List (List ℕ)) → AllByRecursion (λ p. 1 ≤ length p) ps → AllByRecursion (λ p. 1 ≤ length p) qs → AllByRecursion (λ p. 1 ≤ length p) (ps ++ qs)
+some_row [] qs h l = l
+some_row (p ∷ ps) qs h l = (h.0, some_row ps qs h.1 l)
+
 -- no piece is empty, nor one more after them
 pub some_then : (pieces : List (List ℕ)) (piece : List ℕ) → AllByRecursion (λ p. 1 ≤ length p) pieces → 1 ≤ length piece
     → AllByRecursion (λ p. 1 ≤ length p) (pieces ++ piece ∷ [])
@@ -186,6 +206,22 @@ module _ {D A : Type 0} {G : Ghosts D} where
         after = next s.after (call.Store (address + length (concat s.pieces)) piece);
         lead = lead_then m address s.pieces s.after piece s.lead (subst (λ (a : ℕ). refusal s.after (call.Store a piece) ≡ None) at p.0);
         stands = subst (λ (a : ℕ). StandsFor new (next s.after (call.Store a piece))) at p.1;
+      }
+
+  -- and bytes in a row after the first ones
+  pub stored_row : (m : Machine) (address done n : ℕ) (bytes rest : List ℕ) (old new : Engine D A G) → done ≤ length bytes → rest ≡ drop done bytes → (s : Stored m address done bytes old)
+      → Stored s.after (address + done) n rest new → Stored m address (done + n) bytes new
+  stored_row m address done n bytes rest old new within is s t =
+      let long : length (concat s.pieces) ≡ done = ap (λ (l : List ℕ). length l) s.whole ∙ length-take-le done bytes within in
+      let at : address + done ≡ address + length (concat s.pieces) = omega (arith, long) in
+      record {
+        pieces = s.pieces ++ t.pieces;
+        some = some_row s.pieces t.pieces s.some t.some;
+        whole = concat-append s.pieces t.pieces ∙ ap (λ (l : List ℕ). l ++ concat t.pieces) s.whole ∙ ap (λ (l : List ℕ). take done bytes ++ l) (t.whole ∙ ap (λ (l : List ℕ). take n l) is)
+            ∙ sym (take-add done n bytes);
+        after = t.after;
+        lead = lead_row m address (address + done) s.pieces t.pieces s.after t.after at s.lead t.lead;
+        stands = t.stands;
       }
 
   -- The same, from what the call did to the engine.

@@ -1,5 +1,5 @@
 -- What calls in a row spend, put together.
-use Rattle.std.proofs.Common.{◌≡◌, ◌≤◌, ◌<◌, ◌+◌, ◌*◌, ◌%◌, ◌^◌, ℕ, true, inl, inr, ap, sym, subst, refl, arith, Option, Some, None, Result, Ok, Err, add-mul, mul-le-mul_right}
+use Rattle.std.proofs.Common.{◌≡◌, ◌∙◌, ◌≤◌, ◌<◌, ◌+◌, ◌*◌, ◌%◌, ◌^◌, ℕ, true, inl, inr, ap, sym, subst, refl, arith, Option, Some, None, Result, Ok, Err, add-mul, mul-le-mul_right}
 use Rattle.labelled_disk.specs.Calls.{Rose}
 use Rattle.labelled_disk.specs.State.{DiskState}
 use Rattle.labelled_disk.specs.declared.disk.Disk.{Ghosts}
@@ -10,10 +10,14 @@ use Rattle.flat_machine.specs.Machine.{Machine}
 use Rattle.flat_machine.specs.Next.{next}
 use Rattle.flat_machine.specs.References.{is_reference}
 use Rattle.running_words.specs.Bound.{CostsOther, other_bound}
+use Rattle.fault_core.specs.Core.{state}
 use Rattle.embedded.specs.declared.code.Code.{Code}
 use Rattle.embedded.specs.declared.engine.Engine.{Engine}
+use Rattle.embedded.specs.declared.held.Held.{Held}
+use Rattle.embedded.specs.declared.held.Held.TheVariants as held
+use Rattle.embedded.specs.declared.live.Live.{Live}
 use Rattle.embedded.specs.Called.{Called}
-use Rattle.embedded.specs.Engine.{IsClosed, OfBoth, StandsFor, disk_of}
+use Rattle.embedded.specs.Engine.{IsClosed, OfBoth, StandsFor, disk_in, disk_of}
 use Rattle.embedded.specs.Later.{Later}
 use Rattle.embedded.specs.Spending.{HasFailed, IsKnown, IsLater, MovedFew, Spends, SpendsOn}
 
@@ -114,6 +118,16 @@ module _ {D A : Type 0} {G : Ghosts D} where
     later = later_itself (disk_of a);
     cost = λ known. (known, moved_none calls pieces (disk_of a));
   }
+
+  -- nothing was moved of the disk of a session
+  pub session_spends_none : (old new : Engine D A G) (a b : Live D A G) → old.held ≡ held.Session a → new ≡ record old { held = held.Session b }
+      → (state b.session.core).disk ≡ (state a.session.core).disk → (IsKnown old → IsKnown new) → Spends 0 1 old new
+  session_spends_none old new a b had has still goes_on =
+      let same : disk_of new ≡ disk_of old = ap (λ (e : Engine D A G). disk_of e) has ∙ ap (λ (d : DiskState). Some d) still ∙ sym (ap (λ (h : Held D A G). disk_in h) had) in
+      record {
+        later = subst (λ (o : Option DiskState). IsLater (disk_of old) o) (sym same) (later_itself (disk_of old));
+        cost = λ known. (goes_on known, subst (λ (o : Option DiskState). MovedFew 0 1 (disk_of old) o) (sym same) (moved_none 0 1 (disk_of old)));
+      }
 
   -- calls in a row, and then others
   pub spends_then : (c p d q e r : ℕ) (x y z : Engine D A G) → c + d ≤ e → p + q ≤ r → Spends c p x y → Spends d q y z → Spends e r x z

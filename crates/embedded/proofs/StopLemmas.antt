@@ -16,13 +16,17 @@ use Rattle.flat_machine.specs.Machine.{Machine}
 use Rattle.flat_machine.specs.Next.{next, change}
 use Rattle.flat_machine.specs.Refusal.{refusal}
 use Rattle.session_words.specs.StandsFor.{RevealsSettled}
+use Rattle.fault_core.specs.Core.{state}
 use Rattle.running_words.specs.Stages.{Passes, stage}
 use Rattle.pilot_engine.specs.Closing.{Throughout}
-use Rattle.pilot_engine.proofs.StopLemmas.{throughout_then}
+use Rattle.pilot_engine.proofs.StopLemmas.{throughout_less, throughout_then}
 use Rattle.embedded.specs.declared.code.Code.{Code}
 use Rattle.embedded.specs.declared.engine.Engine.{Engine}
+use Rattle.embedded.specs.declared.held.Held.{Held}
+use Rattle.embedded.specs.declared.held.Held.TheVariants as held
+use Rattle.embedded.specs.declared.live.Live.{Live}
 use Rattle.embedded.specs.Called.{Called}
-use Rattle.embedded.specs.Engine.{Between, OfBoth, StandsFor, disk_of}
+use Rattle.embedded.specs.Engine.{Between, OfBoth, StandsFor, disk_in, disk_of}
 use Rattle.embedded.specs.References.{IsPiece, Lead, Stored}
 use Rattle.embedded.specs.Stops.{IsPartway, Leaves, RevealsPart}
 use Rattle.embedded.proofs.ReferenceLemmas.{lead_then, piece_long, some_then, unchanged}
@@ -38,6 +42,11 @@ both_then P (Some a) (Some b) (Some c) one two = throughout_then P one two
 both_then P (Some a) (Some b) None one two = absurd two
 both_then P (Some a) None q one two = absurd one
 both_then P None p q one two = absurd one
+
+both_less : (P Q : List Sector → Type 0) → ((d : List Sector) → P d → Q d) → (o p : Option DiskState) → OfBoth (Throughout P) o p → OfBoth (Throughout Q) o p
+both_less P Q less (Some a) (Some b) one = throughout_less P Q less one
+both_less P Q less (Some a) None one = absurd one
+both_less P Q less None p one = absurd one
 
 -- The machine stays, or goes on by a piece.
 
@@ -103,3 +112,17 @@ module _ {D A : Type 0} {G : Ghosts D} where
             (then_partway m address done n bytes a part s is) (refusal s.after one) refl,
         r,
       )
+
+  -- bytes in a row after the first ones, of which no write was made
+  pub row_leaves : (m : Machine) (address done : ℕ) (bytes : List ℕ) (a b : Engine D A G) → done ≤ length bytes → (s : Stored m address done bytes a) → Leaves (λ d. RevealsSettled d s.after) a b
+      → Leaves (RevealsPart m address bytes) a b
+  row_leaves m address done bytes a b part s (inl same) = inl same
+  row_leaves m address done bytes a b part s (inr one) =
+      inr (both_less (λ d. RevealsSettled d s.after) (RevealsPart m address bytes) (λ d r. (s.after, here_partway m address done bytes a part s, r)) (disk_of a) (disk_of b) one)
+
+  -- what is so of the writes of a session is so of its engine's
+  pub session_leaves : (P : List Sector → Type 0) (old new : Engine D A G) (a b : Live D A G) → old.held ≡ held.Session a → new ≡ record old { held = held.Session b }
+      → Throughout P (state a.session.core).disk (state b.session.core).disk → Leaves P old new
+  session_leaves P old new a b had has each =
+      inr (subst (λ (e : Engine D A G). Between (Throughout P) old e) (sym has)
+      (subst (λ (h : Held D A G). OfBoth (Throughout P) (disk_in h) (Some (state b.session.core).disk)) (sym had) each))

@@ -5,6 +5,10 @@ pub mod Later
 pub mod Spending
 pub mod Called
 pub mod Stepped
+pub mod Taking
 pub mod Opened
+pub mod Begun
+pub mod Closed
+pub mod Made
 pub mod References
 pub mod Stops

@@ -11,6 +11,7 @@ use Rattle.flat_machine.specs.Machine.{Machine}
 use Rattle.flat_machine.specs.At.{cell_at}
 use Rattle.flat_machine.specs.Next.{next}
 use Rattle.flat_machine.specs.Refusal.{refusal}
+pub use Rattle.pilot_engine.specs.StoreReady.{Lead}
 use Rattle.embedded.specs.declared.code.Code.{Code}
 use Rattle.embedded.specs.declared.code.Code.TheVariants as code
 use Rattle.embedded.specs.declared.engine.Engine.{Engine}
@@ -23,12 +24,6 @@ IsAt m address b = MatchOption (cell_at m address) (b < 256) (λ c. b ≡ c)
 -- the first bytes, so many, are what the machine has from the address on
 abbrev pub AreAt : Machine → ℕ → ℕ → List ℕ → Type 0
 AreAt m address count bytes = (k b : ℕ) → k < count → slice_get bytes k ≡ Some b → IsAt m (address + k) b
-
--- stores in a row, in ascending addresses from this one on, lead from one machine to another, and none is refused
-abbrev pub Lead : Machine → ℕ → List (List ℕ) → Machine → Type 0
-Lead m address [] n = n ≡ m
-Lead m address (bytes ∷ rest) n =
-    (refusal m (Store address bytes) ≡ None) × Lead (next m (Store address bytes)) (address + length bytes) rest n
 
 -- Why a reference of many bytes stops.
 

@@ -122,8 +122,28 @@ impl<D: Disk + Drop, A: Allocator> Engine<D, A> {
         self.fetch_next(address, into, done)
     }
 
-    // Stores the piece after the first bytes, and says how long it is.
-    fn store_next(&mut self, address: u32, bytes: &[u8], done: usize) -> Result<usize, Code>
+    // Stores those of the bytes after the first ones whose pages are ready, and says how many.
+    fn store_at_hand(&mut self, address: u32, bytes: &[u8], done: usize) -> usize
+        requires { done < length bytes.now }
+        ensures part { done + result ≤ length bytes.now }
+        ensures stored { (m : Machine) → Stored m address done bytes.now self.old
+            → Stored m address (done + result) bytes.now self.new }
+        ensures leaves { (m : Machine) → Stored m address done bytes.now self.old
+            → Leaves (RevealsPart m address bytes.now) self.old self.new }
+        ensures ends { 1 ≤ result → done + result < length bytes.now → (address + done + result) % 512 ≡ 0 }
+        ensures closed { IsClosed self.old → result ≡ 0 }
+        ensures left { result ≡ 0 → self.new ≡ self.old }
+        ensures faults { LosesNoFault self.old self.new }
+        ensures spends { Spends 0 1 self.old self.new }
+    {
+        let Some(at) = address_after(address, done) else {
+            return 0;
+        };
+        self.store_ready(at, &bytes[done..])
+    }
+
+    // Stores the piece after the first bytes, which need not be ready, and says how long it is.
+    fn put_next(&mut self, address: u32, bytes: &[u8], done: usize) -> Result<usize, Code>
         requires { done < length bytes.now }
         ensures more { IfOk result (λ n. (1 ≤ n) × (done + n ≤ length bytes.now)) }
         ensures stored { (m : Machine) → Stored m address done bytes.now self.old
@@ -151,6 +171,34 @@ impl<D: Disk + Drop, A: Allocator> Engine<D, A> {
             Ok(()) => Ok(count),
             Err(code) => Err(code),
         }
+    }
+
+    // Stores bytes after the first ones, and says how many: those whose pages are ready, or else one piece.
+    fn store_next(&mut self, address: u32, bytes: &[u8], done: usize) -> Result<usize, Code>
+        requires { done < length bytes.now }
+        ensures more { IfOk result (λ n. (1 ≤ n) × (done + n ≤ length bytes.now)) }
+        ensures stored { (m : Machine) → Stored m address done bytes.now self.old
+            → IfOk result (λ n. Stored m address (done + n) bytes.now self.new) }
+        ensures still { (m : Machine) → Stored m address done bytes.now self.old
+            → IfErr result (λ e. Stored m address done bytes.now self.new ⊎ (e ≡ Code.Halted halt.Disk)) }
+        ensures stops { (m : Machine) → Stored m address done bytes.now self.old → address + done < 2 ^ 32
+            → IfErr result (StopsAfter m address done bytes.now) }
+        ensures closed { IsClosed self.old → address + done < 2 ^ 32
+            → (result ≡ Err Code.Closed) × (self.new ≡ self.old) }
+        ensures stopped { (why : Halt) → result ≡ Err (Code.Halted why) → HasStopped why self.new }
+        ensures cause { result ≡ Err (Code.Halted halt.Disk)
+            → Between (λ before after. Rose before.faults after.faults) self.old self.new }
+        ensures leaves { (m : Machine) → Stored m address done bytes.now self.old
+            → Leaves (RevealsPart m address bytes.now) self.old self.new }
+        ensures faults { OnOk result (LosesNoFault self.old self.new) }
+        ensures ends { IfOk result (λ n. done + n < length bytes.now → (address + done + n) % 512 ≡ 0) }
+        ensures spends { Spends 0 1 self.old self.new }
+    {
+        let ready = self.store_at_hand(address, bytes, done);
+        if ready > 0 {
+            return Ok(ready);
+        }
+        self.put_next(address, bytes, done)
     }
 
     /// Loads bytes from an address on, and says how many of the first were loaded: all of them, or as many as came

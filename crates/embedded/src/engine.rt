@@ -1,5 +1,5 @@
 //! A session, or none, over a disk.
-ghost use Rattle.std.specs.Prelude.{◌≡◌, false, None, Some, Err, IfErr};
+ghost use Rattle.std.specs.Prelude.{◌≡◌};
 
 use crate::Code;
 use crate::held::Held;
@@ -15,13 +15,13 @@ pub struct Engine<D: Disk, A: Allocator> {
 }
 
 impl<D: Disk + Drop, A: Allocator> Engine<D, A> {
+    ghost use Rattle.embedded.specs.Closed.{Abandons};
     ghost use Rattle.embedded.specs.Engine.{IsClosed, disk_of, is_open};
+    ghost use Rattle.embedded.specs.Taking.{IsFresh, LetsGo};
 
     /// No session yet, over a disk.
     pub fn over(disk: D) -> Engine<D, A>
-        ensures disk { disk_of result ≡ Some (D.state disk) }
-        ensures closed { IsClosed result }
-        ensures halt { result.halt ≡ None }
+        ensures { IsFresh (D.state disk) result }
     {
         Engine {
             held: Held::Disk(disk),
@@ -60,10 +60,7 @@ impl<D: Disk + Drop, A: Allocator> Engine<D, A> {
 
     /// Lets the session go: what was not forced may be lost, and the volume is left open.
     pub fn abandon(&mut self) -> Result<(), Code>
-        ensures closed { IsClosed self.new }
-        ensures disk { disk_of self.new ≡ disk_of self.old }
-        ensures halt { self.new.halt ≡ self.old.halt }
-        ensures refused { IfErr result (λ e. (e ≡ Code.Closed) × IsClosed self.old × (self.new ≡ self.old)) }
+        ensures { Abandons self.old result self.new }
     {
         if !self.is_open() {
             return Err(Code::Closed);
@@ -74,9 +71,7 @@ impl<D: Disk + Drop, A: Allocator> Engine<D, A> {
 
     /// Lets the disk go, and with it a session, if there is one.
     pub fn release(&mut self)
-        ensures closed { IsClosed self.new }
-        ensures disk { disk_of self.new ≡ None }
-        ensures halt { self.new.halt ≡ self.old.halt }
+        ensures { LetsGo self.old self.new }
     {
         self.held = Held::Nothing;
     }

@@ -1,24 +1,15 @@
 //! A session begins and ends.
-ghost use Rattle.std.specs.Prelude.{◌≡◌, ◌⊎◌, true, None, Some, List, Err, OnOk, OnErr, IfOk, IfErr, IfSome, MatchOption};
-ghost use Rattle.labelled_disk.specs.Sectors.{Sector};
-ghost use Rattle.labelled_disk.specs.declared.evidence.Halt.TheVariants as halt;
-ghost use Rattle.labelled_disk.specs.declared.layout.RootFault.TheVariants as fault;
-ghost use Rattle.labelled_disk.specs.Calls.{Rose};
-ghost use Rattle.labelled_disk.specs.Root.{LabelsRight};
-ghost use Rattle.flat_machine.specs.Machine.{Machine};
-ghost use Rattle.flat_machine.specs.Start.{start};
-ghost use Rattle.volume_root.specs.Flag.{IsRefused};
-ghost use Rattle.volume_root.specs.Sound.{Sound};
-ghost use Rattle.pilot_engine.specs.Closing.{HasShut, IsStop, Throughout};
-ghost use Rattle.pilot_engine.specs.Opening.{KeepsFiles};
-ghost use Rattle.embedded.specs.Called.{HasStopped};
-ghost use Rattle.embedded.specs.Engine.{Between, IsClosed, OfDisk, StandsFor};
-ghost use Rattle.embedded.specs.Opened.{IsFrames, Reveals, code_of};
+ghost use Rattle.std.specs.Prelude.{◌≡◌, true, OnOk, OnErr, IfOk, IfErr, IfSome, MatchOption};
+ghost use Rattle.embedded.specs.Begun.{Opens, halt_of};
+ghost use Rattle.embedded.specs.Closed.{Closes};
+ghost use Rattle.embedded.specs.Engine.{IsClosed};
+ghost use Rattle.embedded.specs.Opened.{code_of};
+ghost use Rattle.embedded.specs.Taking.{MissesFree};
 
 use crate::held::Held;
 use crate::live::Live;
 use crate::{Code, Engine};
-use labelled_disk::{Disk, Halt, RootFault};
+use labelled_disk::{Disk, Halt};
 use pilot_engine::{Session, StartFault};
 use std::alloc::Allocator;
 use std::mem::replace;
@@ -35,11 +26,12 @@ fn code_of(why: StartFault) -> Code
 
 // The halt that kept a session from starting, if one did.
 fn halt_of(why: StartFault) -> Option<Halt>
-    ensures { (halt : Halt) → why ≡ StartFault.Halt halt → result ≡ Some halt }
+    ensures { result ≡ halt_of why }
 {
     match why {
+        StartFault::Root(_) => None,
+        StartFault::NoMemory => None,
         StartFault::Halt(halt) => Some(halt),
-        _ => None,
     }
 }
 
@@ -48,7 +40,7 @@ impl<D: Disk + Drop, A: Allocator> Engine<D, A> {
     pub(crate) fn take_disk(&mut self) -> Result<D, Code>
         ensures disk { IfOk result (λ disk. self.old.held ≡ Held.Disk disk) }
         ensures taken { OnOk result (self.new ≡ record self.old { held = Held.Nothing }) }
-        ensures why { IfErr result (λ e. (e ≡ Code.Closed) ⊎ (e ≡ Code.Open)) }
+        ensures why { IfErr result (MissesFree self.old.held) }
         ensures same { OnErr result (self.new ≡ self.old) }
     {
         match replace(&mut self.held, Held::Nothing) {
@@ -82,16 +74,7 @@ impl<D: Disk + Drop, A: Allocator> Engine<D, A> {
 
     /// Starts a session on the volume of the disk, with 24 to 4,096 frames. This takes all memory that it ever has.
     pub fn open(&mut self, alloc: A, frames: u32) -> Result<(), Code>
-        ensures stands { (d : List Sector) → Reveals d self.old → Sound d → OnOk result (StandsFor self.new (start d)) }
-        ensures argument { ¬ IsFrames frames → (result ≡ Err Code.Argument) × (self.new ≡ self.old) }
-        ensures other { (result ≡ Err Code.Closed) ⊎ (result ≡ Err Code.Open) → self.new ≡ self.old }
-        ensures judged { (d : List Sector) (why : RootFault) → Reveals d self.old → result ≡ Err (Code.Root why)
-            → (why ≡ fault.Disk) ⊎ IsRefused d why }
-        ensures crash_states { (d : List Sector) → Reveals d self.old → LabelsRight d
-            → (self.new ≡ self.old) ⊎ Between (KeepsFiles d) self.old self.new }
-        ensures stopped { (why : Halt) → result ≡ Err (Code.Halted why) → HasStopped why self.new }
-        ensures cause { (result ≡ Err (Code.Halted halt.Disk)) ⊎ (result ≡ Err (Code.Root fault.Disk))
-            → Between (λ before after. Rose before.faults after.faults) self.old self.new }
+        ensures { Opens frames self.old result self.new }
     {
         if !(24..=4096).contains(&frames) {
             return Err(Code::Argument);
@@ -116,15 +99,7 @@ impl<D: Disk + Drop, A: Allocator> Engine<D, A> {
 
     /// Ends the session: its temporary files go, and the volume is closed, on the medium.
     pub fn close(&mut self) -> Result<(), Code>
-        ensures closed { (m : Machine) → StandsFor self.old m → OnOk result (OfDisk (HasShut m) self.new) }
-        ensures sound { (m : Machine) → StandsFor self.old m → IfErr result (λ e. e ≡ Code.Halted halt.Disk) }
-        ensures stops { (m : Machine) → StandsFor self.old m → Between (Throughout (IsStop m)) self.old self.new }
-        ensures synced { OnOk result (OfDisk (λ disk. disk.synced ≡ true) self.new) }
-        ensures stopped { (why : Halt) → result ≡ Err (Code.Halted why) → HasStopped why self.new }
-        ensures cause { result ≡ Err (Code.Halted halt.Disk)
-            → Between (λ before after. Rose before.faults after.faults) self.old self.new }
-        ensures none { IsClosed self.old → (result ≡ Err Code.Closed) × (self.new ≡ self.old) }
-        ensures ended { IsClosed self.new }
+        ensures { Closes self.old result self.new }
     {
         let Some(live) = self.take_session() else {
             return Err(Code::Closed);

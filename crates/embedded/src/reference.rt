@@ -3,11 +3,14 @@ ghost use Rattle.std.specs.Prelude.{◌≡◌, ℕ, ◌+◌, ◌%◌, ◌<◌, �
 ghost use Rattle.flat_machine.specs.declared.call.Call.TheVariants as call;
 ghost use Rattle.flat_machine.specs.declared.call.Reply.TheVariants as reply;
 ghost use Rattle.flat_machine.specs.Machine.{Machine};
+ghost use Rattle.session_words.specs.StandsFor.{RevealsSettled};
 ghost use Rattle.pilot_engine.specs.Referring.{IsAtOnce};
 ghost use Rattle.embedded.specs.Answers.{answer_of, replied};
 ghost use Rattle.embedded.specs.Called.{Called};
 ghost use Rattle.embedded.specs.Engine.{IsClosed, LosesNoFault, StandsFor};
-ghost use Rattle.embedded.specs.References.{AreAt};
+ghost use Rattle.embedded.specs.References.{AreAt, Stored};
+ghost use Rattle.embedded.specs.Spending.{Spends};
+ghost use Rattle.embedded.specs.Stops.{Leaves};
 
 use crate::held::Held;
 use crate::{Code, Engine};
@@ -66,6 +69,27 @@ impl<D: Disk + Drop, A: Allocator> Engine<D, A> {
             return 0;
         }
         live.load_ready(address, into)
+    }
+
+    // Stores the first of these bytes whose pages are ready, and says how many.
+    pub(crate) fn store_ready(&mut self, address: u32, bytes: &[u8]) -> usize
+        requires { 1 ≤ length bytes.now }
+        ensures stored { (m : Machine) → StandsFor self.old m → Stored m address result bytes.now self.new }
+        ensures leaves { (m : Machine) → StandsFor self.old m → Leaves (λ d. RevealsSettled d m) self.old self.new }
+        ensures part { result ≤ length bytes.now }
+        ensures ends { 1 ≤ result → result < length bytes.now → (address + result) % 512 ≡ 0 }
+        ensures closed { IsClosed self.old → result ≡ 0 }
+        ensures left { result ≡ 0 → self.new ≡ self.old }
+        ensures faults { LosesNoFault self.old self.new }
+        ensures spends { Spends 0 1 self.old self.new }
+    {
+        let Held::Session(live) = &mut self.held else {
+            return 0;
+        };
+        if !live.running() {
+            return 0;
+        }
+        live.store_ready(address, bytes)
     }
 
     // Stores 1 to 512 bytes.

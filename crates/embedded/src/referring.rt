@@ -6,6 +6,7 @@ ghost use Rattle.flat_machine.specs.Machine.{Machine};
 ghost use Rattle.fault_core.specs.declared.reference.Access.TheVariants as access;
 ghost use Rattle.running_words.specs.Running.{Runs};
 ghost use Rattle.pilot_engine.specs.Referring.{AreReplied, IsAtOnce, Refers, RefersIn};
+ghost use Rattle.pilot_engine.specs.StoreReady.{StaysAtHand, StoresAtHand};
 
 use crate::live::Live;
 use labelled_disk::{Disk, Halt};
@@ -40,6 +41,20 @@ impl<D: Disk, A: Allocator> Live<D, A> {
         ensures same { self.new ≡ self.old }
     {
         self.session.load_ready(address, into)
+    }
+
+    /// Stores the first of these bytes whose pages are ready, and says how many.
+    pub(crate) fn store_ready(&mut self, address: u32, bytes: &[u8]) -> usize
+        requires some { 1 ≤ length bytes.now }
+        requires running { self.old.session.running ≡ true }
+        ensures machine { (m : Machine) → Runs self.old.session.core self.old.session.volume m
+            → StoresAtHand m address result bytes.now self.old.session self.new.session }
+        ensures stays { StaysAtHand self.old.session self.new.session }
+        ensures part { result ≤ length bytes.now }
+        ensures ends { 1 ≤ result → result < length bytes.now → (address + result) % 512 ≡ 0 }
+        ensures left { result ≡ 0 → self.new ≡ self.old }
+    {
+        self.session.store_ready(address, bytes)
     }
 
     /// Stores 1 to 512 bytes from an address on.

@@ -1,3 +1,5 @@
 pub mod Lends
 pub mod Places
 pub mod Answers
+pub mod Numbers
+pub mod Moves

@@ -1,10 +1,13 @@
 //! What C gets of an answer.
 ghost use Rattle.std.specs.Prelude.{◌≡◌, pos};
 ghost use Rattle.pilot_c.specs.Answers.{finding_of, found_in, named_by, number_of, numbers, numbers_of};
+ghost use Rattle.pilot_c.specs.Numbers.{report_of, reported};
 
 use embedded::Code;
 use flat_machine::{Refusal, Reply as Answered};
 use labelled_disk::{Evidence, Halt};
+use scavenger::Report as Found;
+use std::alloc::Global;
 
 /// The numbers of an answer; those that it does not have are 0.
 #[repr(C)]
@@ -148,6 +151,32 @@ pub(crate) fn reply_with(answer: Result<Answered, Code>, reply: &mut Reply) -> i
             *reply = named_by(code);
             i32::from(code.number())
         }
+    }
+}
+
+// The numbers of what a restoration found.
+fn report_of(found: &Found<Global>) -> Report
+    ensures { result ≡ report_of found.now }
+{
+    Report {
+        files: found.files,
+        pages: found.pages,
+        freed: found.freed,
+        lost: u32::try_from(found.lost().len()).unwrap_or(u32::MAX),
+    }
+}
+
+/// The number of an answer to a restoration; what it found is put in `report`.
+pub(crate) fn report_with(answer: &Result<Found<Global>, Code>, report: &mut Report) -> i32
+    ensures number { result ≡ pos (number_of answer.now) }
+    ensures report { report.new ≡ reported report.old answer.now }
+{
+    match answer {
+        Ok(found) => {
+            *report = report_of(found);
+            0
+        }
+        Err(code) => i32::from(code.number()),
     }
 }
 

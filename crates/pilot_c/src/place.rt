@@ -1,14 +1,17 @@
 //! An engine is placed in C's memory.
+ghost use Rattle.std.specs.Prelude.{◌≡◌};
 ghost use Rattle.std.specs.Borrow.{full_share, sem};
 ghost use Rattle.std.specs.Ptr.{lies_at, room_at};
 ghost use Rattle.embedded.specs.contracts.image.ImageEngine.{the_row as engine-row};
-ghost use Rattle.pilot_c.specs.Places.{File, file-row, placed};
+ghost use Rattle.pilot_c.specs.Places.{File, engine_size, file-row, placed};
 
 use embedded::ImageEngine;
 
 /// How many bytes an engine takes.
 #[unsafe(no_mangle)]
-pub extern "C" fn pilot_size() -> usize {
+pub extern "C" fn pilot_size() -> usize
+    ensures { result ≡ engine_size }
+{
     size_of::<ImageEngine>()
 }
 

@@ -1,6 +1,6 @@
 //! Bytes are loaded and stored.
-ghost use Rattle.std.specs.Prelude.{◌≡◌, ◌≤◌, length, pos};
-ghost use Rattle.embedded.specs.Engine.{IsClosed};
+ghost use Rattle.pilot_c.specs.Moves.{Loads, Stores};
+ghost use Rattle.pilot_c.specs.Numbers.{IsNumberOf};
 
 use crate::Pilot;
 use crate::answers::number;
@@ -13,10 +13,8 @@ pub extern "C" fn pilot_load(
     into: &mut [u8],
     done: &mut usize,
 ) -> i32
-    ensures part { done.new ≤ length into.old }
-    ensures whole { result ≡ pos 0 → done.new ≡ length into.old }
-    ensures closed { IsClosed pilot.old.value.engine → 1 ≤ length into.old
-        → (result ≡ pos 27) × (done.new ≡ 0) × (pilot.new.value ≡ pilot.old.value) }
+    ensures { IsNumberOf (λ answer. Loads address into.old into.new done.new pilot.old.value.engine answer
+        pilot.new.value.engine) result }
 {
     let (count, answer) = pilot.engine().engine.load(address, into);
     *done = count;
@@ -31,10 +29,8 @@ pub extern "C" fn pilot_store(
     bytes: &[u8],
     done: &mut usize,
 ) -> i32
-    ensures part { done.new ≤ length bytes.now }
-    ensures whole { result ≡ pos 0 → done.new ≡ length bytes.now }
-    ensures closed { IsClosed pilot.old.value.engine → 1 ≤ length bytes.now
-        → (result ≡ pos 27) × (done.new ≡ 0) × (pilot.new.value ≡ pilot.old.value) }
+    ensures { IsNumberOf (λ answer. Stores address bytes.now done.new pilot.old.value.engine answer
+        pilot.new.value.engine) result }
 {
     let (count, answer) = pilot.engine().engine.store(address, bytes);
     *done = count;

@@ -1,8 +1,11 @@
 //! A session begins and ends.
-ghost use Rattle.std.specs.Prelude.{◌≡◌, pos, None};
-ghost use Rattle.embedded.specs.Engine.{IsClosed, disk_of, is_open};
-ghost use Rattle.embedded.specs.Opened.{IsFrames};
+ghost use Rattle.std.specs.Prelude.{◌≡◌, pos};
+ghost use Rattle.embedded.specs.Begun.{Opens};
+ghost use Rattle.embedded.specs.Closed.{Abandons, Closes};
+ghost use Rattle.embedded.specs.Engine.{is_open};
+ghost use Rattle.embedded.specs.Taking.{LetsGo};
 ghost use Rattle.pilot_c.specs.Answers.{finding_of};
+ghost use Rattle.pilot_c.specs.Numbers.{IsNumberAtEnd, IsNumberOf};
 
 use crate::answers::{finding_of, number};
 use crate::{Finding, Pilot};
@@ -11,7 +14,7 @@ use std::alloc::Global;
 /// Starts a session with so many frames.
 #[unsafe(no_mangle)]
 pub extern "C" fn pilot_start(alloc: Global, pilot: &mut Pilot, frames: u32) -> i32
-    ensures { ¬ IsFrames frames → (result ≡ pos 29) × (pilot.new.value ≡ pilot.old.value) }
+    ensures { IsNumberOf (λ answer. Opens frames pilot.old.value.engine answer pilot.new.value.engine) result }
 {
     number(&pilot.engine().open(alloc, frames))
 }
@@ -28,9 +31,7 @@ pub extern "C" fn pilot_is_open(pilot: &mut Pilot) -> bool
 /// Ends the session, closes the volume, and lets the file go.
 #[unsafe(no_mangle)]
 pub extern "C" fn pilot_close(pilot: &mut Pilot) -> i32
-    ensures none { IsClosed pilot.old.value.engine → result ≡ pos 27 }
-    ensures ended { IsClosed pilot.new.value.engine }
-    ensures file { disk_of pilot.new.value.engine ≡ None }
+    ensures { IsNumberAtEnd (Closes pilot.old.value.engine) result pilot.new.value.engine }
 {
     let engine = &mut pilot.engine().engine;
     let closed = engine.close();
@@ -41,8 +42,7 @@ pub extern "C" fn pilot_close(pilot: &mut Pilot) -> i32
 /// Lets the session and the file go, and leaves the volume open.
 #[unsafe(no_mangle)]
 pub extern "C" fn pilot_halt(pilot: &mut Pilot) -> i32
-    ensures ended { IsClosed pilot.new.value.engine }
-    ensures file { disk_of pilot.new.value.engine ≡ None }
+    ensures { IsNumberAtEnd (Abandons pilot.old.value.engine) result pilot.new.value.engine }
 {
     let engine = &mut pilot.engine().engine;
     let halted = engine.abandon();
@@ -53,8 +53,7 @@ pub extern "C" fn pilot_halt(pilot: &mut Pilot) -> i32
 /// Lets the file go, and with it a session, if there is one.
 #[unsafe(no_mangle)]
 pub extern "C" fn pilot_release(pilot: &mut Pilot)
-    ensures ended { IsClosed pilot.new.value.engine }
-    ensures file { disk_of pilot.new.value.engine ≡ None }
+    ensures { LetsGo pilot.old.value.engine pilot.new.value.engine }
 {
     pilot.engine().engine.release();
 }

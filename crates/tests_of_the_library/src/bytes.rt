@@ -1,6 +1,6 @@
 //! Bytes of several lengths, from several addresses on.
 
-use crate::engines::{MemoryEngine, opened, shown};
+use crate::engines::{MemoryEngine, opened, shown, shown_at};
 use embedded::Code;
 use flat_machine::Refusal;
 use std::test::Fail;
@@ -128,5 +128,24 @@ fn what_comes_before_a_page_that_is_refused(rt: HostRuntime) -> Result<(), Fail>
     assert_eq!(rt; engine.store(window.address, &[4; 600]), (0, fixed));
     let top = Err(Code::Refused(Refusal::NoMap((1 << 23) - 1)));
     assert_eq!(rt; engine.load(u32::MAX, &mut into), (0, top));
+    Ok(())
+}
+
+// The pages from here on are the system region: no space lies there, and so no window up to the last address.
+const SYSTEM: u32 = 8_126_464;
+
+#[test]
+fn up_to_the_last_address(rt: HostRuntime) -> Result<(), Fail> {
+    let mut engine = opened(rt.alloc())?;
+    shown_at(&mut engine, 1, Some(SYSTEM - 1))?;
+    let at = SYSTEM * 512 - 10;
+    let past = Err(Code::Refused(Refusal::NoMap(SYSTEM)));
+    let mut into = [7; 20];
+    assert_eq!(rt; engine.store(at, &[3; 20]), (10, past));
+    assert_eq!(rt; engine.load(at, &mut into), (10, past));
+    assert!(rt; is_partly(&into, 10, 3, 7));
+    let last = Err(Code::Refused(Refusal::NoMap((1 << 23) - 1)));
+    assert_eq!(rt; engine.store(u32::MAX - 9, &[3; 20]), (0, last));
+    assert_eq!(rt; engine.load(u32::MAX - 9, &mut into), (0, last));
     Ok(())
 }

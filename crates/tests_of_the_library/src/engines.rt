@@ -2,8 +2,8 @@
 
 use embedded::{Code, Engine};
 use flat_machine::Reply;
-use labelled_disk::{FileId, MemoryDisk};
-use std::alloc::Global;
+use labelled_disk::{Disk, FileId, MemoryDisk};
+use std::alloc::{Allocator, Global};
 use std::test::Fail;
 
 /// An engine over a disk in memory.
@@ -27,11 +27,23 @@ pub(crate) fn opened(alloc: Global) -> Result<MemoryEngine, Fail> {
 }
 
 /// Makes a file of so many pages, shows it in a space of its size, writable, and says where.
-pub(crate) fn shown(engine: &mut MemoryEngine, pages: u32) -> Result<Window, Code> {
+pub(crate) fn shown<D: Disk + Drop, A: Allocator>(
+    engine: &mut Engine<D, A>,
+    pages: u32,
+) -> Result<Window, Code> {
+    shown_at(engine, pages, None)
+}
+
+/// The same with the space at a page, if one is given.
+pub(crate) fn shown_at<D: Disk + Drop, A: Allocator>(
+    engine: &mut Engine<D, A>,
+    pages: u32,
+    first: Option<u32>,
+) -> Result<Window, Code> {
     let Reply::File(file) = engine.create(pages, 9)? else {
         return Err(Code::Argument);
     };
-    let Reply::Space { handle, first } = engine.make_space(0, pages, None)? else {
+    let Reply::Space { handle, first } = engine.make_space(0, pages, first)? else {
         return Err(Code::Argument);
     };
     engine.map(handle, file, 0, true)?;

@@ -4,8 +4,12 @@
 #[cfg(test)]
 mod bytes;
 #[cfg(test)]
+mod damage;
+#[cfg(test)]
 mod engines;
 #[cfg(test)]
 mod failing;
+#[cfg(test)]
+mod ready;
 #[cfg(test)]
 mod rows;

@@ -2,22 +2,24 @@
 use Rattle.std.proofs.Common.{[], ◌∷◌, ◌++◌, refl}
 use Rattle.std.proofs.raw_atomic.Walks.{proved}
 use base.Fraction.{full_share}
-use base.Logic.{id⊢}
-use base.Fml.{ftrue, fat}
+use base.Logic.{id⊢, sep, snd∗, ex_e}
+use base.Fml.{fex, fsep, ftrue, fat}
 use mir.Val.{Val, vunit}
 use prog.Wp.{WpFn}
+use types.Logic.{sem}
 use types.Kit.{‵, raw, ◌⊛◌, some, later, at_ret, prop, ◌$◌, ◌∵◌, !, qed, done, move, drop, use1, use2, split, join, feq_i, pick, await, regoal, suffices, group, fjoin, fpack}
 use types.Run.{enter, of_opd, unit_lit, no_more, and_then, returns, assigns_last, first, blocks, exec, load, look, stop, init}
 use types.ByLocal.{alloc_all, pass_all, free_all, look_at, get, through, sets, sets_last, lands_as, env}
+use contract.Monad.{fact}
 use contract.Running.{tables}
 use denote.Exit.{yes}
 use denote.Laws.{Is, shows}
 use denote.Memory.{part_at}
 use denote.RawPtr.{Ptr, RawPtr, block_ptr, lies_at, room_at, in_a_block, rawptr_vals, rawptr_Tells}
 use denote.Signature.{plain}
-use denote.Steps.{nothing, peeks}
+use denote.Steps.{nothing, heard, peeks}
 use denote.Triple.Call.{calls_at}
-use denote.Triple.Clauses.{ensured}
+use denote.Triple.Clauses.{ensured, lasts}
 use denote.Triple.Entry.{on_entry}
 use denote.Triple.Spec.{triple_of}
 use denote.Triple.Walked.{Stays, stay_dropped, Goes-dropped, walk_of, ends_at}
@@ -27,6 +29,7 @@ use denote.Param.{layout}
 use Rattle.std.specs.contracts.fs.File.{the_row as F}
 use Rattle.std.proofs.fs.File.TheLaws.{the_row_laws as file_laws}
 use Rattle.embedded.specs.declared.image.ImageEngine.{ImageEngine}
+use Rattle.embedded.specs.Taking.{IsNew}
 use Rattle.embedded.specs.contracts.image.ImageEngine.{the_row as E}
 use Rattle.embedded.proofs.image.ImageEngine.TheLaws.{the_row_laws}
 use Rattle.embedded.specs.contracts.image.ImageEngine.over as g
@@ -64,19 +67,22 @@ pilot_place_spec 𝓤 𝓛 𝓜 𝓡 wired =
     move ! (1 ∷ []) $ drop ! $ nothing ! $ move ! (1 ∷ 0 ∷ []) $ fjoin ! $ nothing ! $ join ! $ nothing ! $ move ! (1 ∷ 0 ∷ []) $ use2 𝓛 (raw (G.pre z)) (id⊢ 𝓤 _) $
     calls_at ! (framed 𝓤 𝓛.H 𝓜 (tables 𝓤 𝓛.H 𝓜 𝓡 𝓡.env)) G (met 𝓤 𝓛 𝓜 𝓡 (code.calls-embedded::image::ImageEngine::over 𝓡.env wired)) z (and_then ! (get ! refl) (no_more !)) (λ u.
     use1 𝓛 (later (some (λ (r : ImageEngine). (‵ ftrue ⊛ ‵ (E.own_val r (u ∷ []))) ⊛ raw (ensured 𝓛 g.ended (g.clauses 𝓛 𝓜.mem 𝓡.returns) tt (n, tt) tt r)))) (id⊢ 𝓤 _) $
-    await ! tt $ pick ! (λ r. split ! $ split ! $ drop ! $
+    await ! tt $ pick ! (λ r. split ! $ move ! (1 ∷ []) $
+    use1 𝓛 (raw (fact 𝓤 (IsNew r.engine))) (ex_e 𝓤 _ (λ ws. snd∗ 𝓤 (sem 𝓛 (lasts g.ended tt (n, tt) ws)) (fact 𝓤 (IsNew r.engine)))) $
+    heard ! (IsNew r.engine) (λ fresh. split ! $ drop ! $
     peeks ! E (Is E) (shows 𝓛 E) r (u ∷ []) (λ is. let good = (((the_row_laws).lawful 𝓛).typed r _ is).0 in
     lands_as ! refl refl good $
     first ! $ blocks ! $
     sets ! (of_opd ! (get ! refl)) refl (tt, tt) $
     sets ! (of_opd ! (get ! refl)) refl good $
-    assigns_last ! (of_opd ! (get ! refl)) (through ! refl (stop !)) (init ! 2 refl good) $
+    assigns_last ! (of_opd ! (get ! refl)) (through ! refl (stop !)) (init ! 1 refl good) $
     exec ! 𝓣.C 𝓣.Λ (env code.Mir.locals l) code.Mir.t-6 (at_ret (env (code.function).locals l) (W.post (y (block_ptr b o) (block_ptr b' o')))) $
     sets ! (of_opd ! (unit_lit !)) refl (tt, tt) $
     returns ! (look_at ! 0 refl) $ free_all ! refl $
-    move ! (1 ∷ []) $ drop ! $ move ! (1 ∷ 0 ∷ []) $
+    move ! (1 ∷ 0 ∷ []) $
     use2 𝓛 (‵ (part_at E full_share r b o)) (part_in 𝓛 E refl full_share r b o u) $
     use1 𝓛 (‵ (lies_at E full_share (block_ptr b o) r)) (id⊢ 𝓤 _) $
-    fpack ! ImageEngine (λ x. lies_at E full_share (block_ptr b o) x) r $
+    nothing ! $ fpack ! (IsNew r.engine) (λ _. ftrue) fresh $ move ! (1 ∷ 0 ∷ []) $ fjoin ! $
+    fpack ! ImageEngine (λ x. fsep (lies_at E full_share (block_ptr b o) x) (fex (IsNew x.engine) (λ _. ftrue))) r $
     suffices ! _ (ends_at 𝓛 f.ended stayed c (y (block_ptr b o) (block_ptr b' o')) vunit tt (tt, (tt, tt)) (tt, (tt, tt))) $
-    feq_i ! _ (vunit ∷ []) _ refl $ nothing ! $ nothing ! $ join ! $ nothing ! $ join ! $ nothing ! $ group ! 3 $ done !)))))))))
+    feq_i ! _ (vunit ∷ []) _ refl $ nothing ! $ nothing ! $ join ! $ nothing ! $ join ! $ nothing ! $ group ! 3 $ done !))))))))))

@@ -1,29 +1,63 @@
-use Rattle.std.proofs.Common.{◌≡◌, ap, subst, Result, IfErr, OnOk}
+use Rattle.std.proofs.Common.{◌≡◌, ◌∙◌, ap, subst, refl, true, Some, Result, Err, IfErr, OnOk}
+use Rattle.labelled_disk.specs.Calls.{Rose}
 use Rattle.labelled_disk.specs.declared.evidence.Halt.{Halt}
 use Rattle.labelled_disk.specs.declared.evidence.Halt.TheVariants as halt
+use Rattle.filer_kernel.specs.Evidence.{ShowsEvidence}
 use Rattle.pilot_engine.specs.Closing.{HasShut, IsStop, Throughout}
 use Rattle.embedded.specs.declared.code.Code.TheVariants as code
-use Rattle.embedded.proofs.OpenLemmas.{ended_between, runs_of}
+use Rattle.embedded.proofs.OpenLemmas.{ended_between, ended_later, had_open, not_closed, runs_of}
 use Rattle.embedded.proofs.engine.Engine.close.Goals as goal
 
-pub returns-in-Ok-clause-closed : goal.returns-in-Ok-clause-closed
-returns-in-Ok-clause-closed g c = λ m stands.
-    let runs = runs_of c.args.self.now.held c.in-Some.live c.into_session.result m c.in-Some.ensures.session.0 c.into_session.ensures stands in
-    subst (λ (r : Result (Unit {0}) Halt). OnOk r (HasShut m (g.D.Disk.state c.finish-closed.result.1))) c.in-Ok.is (c.finish-closed.ensures.closed m runs)
+pub returns-in_default : goal.returns-in_default
+returns-in_default g c = not_closed c.args.self.now _ c.in_default.ensures.none.0 c.in_default.ensures.none.1
 
-pub returns-in-Ok-clause-stops : goal.returns-in-Ok-clause-stops
-returns-in-Ok-clause-stops g c = λ m stands.
-    let runs = runs_of c.args.self.now.held c.in-Some.live c.into_session.result m c.in-Some.ensures.session.0 c.into_session.ensures stands in
-    ended_between (Throughout (IsStop m)) c.args.self.now.held c.in-Some.live c.into_session.result _ c.in-Some.ensures.session.0 c.into_session.ensures
-    (c.finish-closed.ensures.stops m runs)
+pub returns-in-Ok : goal.returns-in-Ok
+returns-in-Ok g c =
+    let h = c.args.self.now.held in
+    let live = c.in-Some.live in
+    let s = c.into_session.result in
+    let had = c.in-Some.ensures.session.0 in
+    let same = c.into_session.ensures in
+    let left = g.D.Disk.state c.finish-closed.result.1 in
+    let f = c.finish-closed.ensures in
+    record {
+      closed = λ m stands. (left, refl, subst (λ (r : Result (Unit {0}) Halt). OnOk r (HasShut m left)) c.in-Ok.is (f.closed m (runs_of h live s m had same stands)));
+      sound = λ m stands. tt;
+      stops = λ m stands. ended_between (Throughout (IsStop m)) h live s left had same (f.stops m (runs_of h live s m had same stands));
+      synced = ((left, refl, subst (λ (r : Result (Unit {0}) Halt). OnOk r (left.synced ≡ true)) c.in-Ok.is f.synced), c.take_session.ensures.halt);
+      stopped = λ why is. absurd (cc is);
+      cause = λ is. absurd (cc is);
+      none = λ closed. absurd (cc (had_open h live had c.in-Some.ensures.session.1, closed));
+      ended = refl;
+      later = ended_later h live s left had same (record { sectors = f.wrote.went.sectors; faults = f.wrote.went.faults });
+    }
 
-pub returns-in-Err-clause-sound : goal.returns-in-Err-clause-sound
-returns-in-Err-clause-sound g c = λ m stands.
-    let runs = runs_of c.args.self.now.held c.in-Some.live c.into_session.result m c.in-Some.ensures.session.0 c.into_session.ensures stands in
-    ap (λ (x : Halt). code.Halted x) (subst (λ (r : Result (Unit {0}) Halt). IfErr r (λ e. e ≡ halt.Disk)) c.in-Err.is (c.finish-closed.ensures.sound m runs))
-
-pub returns-in-Err-clause-stops : goal.returns-in-Err-clause-stops
-returns-in-Err-clause-stops g c = λ m stands.
-    let runs = runs_of c.args.self.now.held c.in-Some.live c.into_session.result m c.in-Some.ensures.session.0 c.into_session.ensures stands in
-    ended_between (Throughout (IsStop m)) c.args.self.now.held c.in-Some.live c.into_session.result _ c.in-Some.ensures.session.0 c.into_session.ensures
-    (c.finish-closed.ensures.stops m runs)
+pub returns-in-Err : goal.returns-in-Err
+returns-in-Err g c =
+    let h = c.args.self.now.held in
+    let live = c.in-Some.live in
+    let s = c.into_session.result in
+    let had = c.in-Some.ensures.session.0 in
+    let same = c.into_session.ensures in
+    let left = g.D.Disk.state c.finish-closed.result.1 in
+    let f = c.finish-closed.ensures in
+    record {
+      closed = λ m stands. tt;
+      sound = λ m stands.
+          ap (λ (x : Halt). code.Halted x) (subst (λ (r : Result (Unit {0}) Halt). IfErr r (λ e. e ≡ halt.Disk)) c.in-Err.is (f.sound m (runs_of h live s m had same stands)));
+      stops = λ m stands. ended_between (Throughout (IsStop m)) h live s left had same (f.stops m (runs_of h live s m had same stands));
+      synced = tt;
+      stopped = λ why is.
+          let it : c.in-Err.halt ≡ why = cc is in
+          record {
+            closed = refl;
+            kept = ap (λ (x : Halt). Some x) it;
+            evident = subst (λ (x : Halt). ShowsEvidence left x) it (subst (λ (r : Result (Unit {0}) Halt). IfErr r (ShowsEvidence left)) c.in-Err.is f.evidence_seen);
+          };
+      cause = λ is.
+          ended_between (λ before after. Rose before.faults after.faults) h live s left had same
+          (f.counted (c.in-Err.is ∙ ap (λ (x : Halt). Err x) (cc is)));
+      none = λ closed. absurd (cc (had_open h live had c.in-Some.ensures.session.1, closed));
+      ended = refl;
+      later = ended_later h live s left had same (record { sectors = f.wrote.went.sectors; faults = f.wrote.went.faults });
+    }

@@ -1,29 +1,80 @@
-use Rattle.std.proofs.Common.{subst, inr, refl}
+use Rattle.std.proofs.Common.{ap, refl, rules, Ok, Err}
 use Rattle.flat_machine.specs.Start.{start}
 use Rattle.pilot_engine.specs.declared.fault.StartFault.{StartFault}
-use Rattle.pilot_engine.specs.Opening.{IsSoAtStart, KeepsFiles}
-use Rattle.embedded.proofs.OpenLemmas.{between_of, held_contents, judged_code, stands_of, start_halted}
+use Rattle.fault_core.specs.Core.{state}
+use Rattle.embedded.specs.declared.code.Code.{Code}
+use Rattle.embedded.specs.Opened.{IsFrames}
+use Rattle.embedded.proofs.OpenLemmas.{either_outcome, frames_of, not_opened, open_of, opened, same_disk, stands_of}
 use Rattle.embedded.proofs.engine.Engine.open.Goals as goal
 
-pub returns-in-Ok-over-clause-stands : goal.returns-in-Ok-over-clause-stands
-returns-in-Ok-over-clause-stands g c = λ d revealed sound.
+pub returns-in-Err : goal.returns-in-Err
+returns-in-Err g c =
+    let are : IsFrames c.args.frames = search rules in
+    not_opened c.args.frames c.args.self.now c.take_disk.new.self c.in-Err.code are c.in-Err.ensures.why c.in-Err.ensures.same
+
+pub returns-in-Ok-over : goal.returns-in-Ok-over
+returns-in-Ok-over g c =
     let s = c.in-Ok-over.ensures in
-    stands_of c.of.result _ (start d) c.of.ensures s.running (s.stands d (held_contents _ _ d c.in-Ok.ensures.disk revealed) sound)
+    let left = (state c.in-Ok-over.session.core).disk in
+    let are : IsFrames c.args.frames = search rules in
+    opened c.args.frames c.args.self.now _ (Ok tt) c.in-Ok.disk are c.in-Ok.ensures.disk
+    (record {
+      outcome = Ok tt;
+      answered = refl;
+      left = left;
+      disk_is = same_disk c.of.result c.in-Ok-over.session c.of.ensures;
+      runs = record {
+        running = open_of c.of.result c.in-Ok-over.session c.of.ensures s.running;
+        all_frames = frames_of c.of.result c.in-Ok-over.session c.args.frames c.of.ensures s.frames;
+        no_halt = refl;
+      };
+      stands = λ d revealed sound. stands_of c.of.result c.in-Ok-over.session (start d) c.of.ensures s.running (s.stands d revealed sound);
+      refuses = tt;
+      judges = record {
+        count = λ not. absurd (s.count not);
+        bad_count = λ n is. absurd (cc is);
+        refused = λ d why revealed is. absurd (s.refused d why revealed is);
+        judged = λ d revealed. tt;
+        sound = λ d revealed sound. tt;
+      };
+      leaves = record {
+        unwritten = tt;
+        counted = tt;
+        evident = tt;
+        crash_states = s.crash_states;
+        synced = s.synced;
+        later = record { sectors = s.wrote.went.sectors; faults = s.wrote.went.faults };
+        cost = s.cost;
+      };
+    })
 
-pub returns-in-Ok-over-clause-crash_states : goal.returns-in-Ok-over-clause-crash_states
-returns-in-Ok-over-clause-crash_states g c = λ d revealed right.
-    inr (between_of (KeepsFiles d) _ _ c.of.result _ c.in-Ok.ensures.disk c.of.ensures
-    (c.in-Ok-over.ensures.crash_states d (held_contents _ _ d c.in-Ok.ensures.disk revealed) right))
-
-pub returns-in-Err-over-clause-judged : goal.returns-in-Err-over-clause-judged
-returns-in-Err-over-clause-judged g c = λ d why revealed is.
-    judged_code c.in-Err-over.why why d (c.in-Err-over.ensures.judged d (held_contents _ _ d c.in-Ok.ensures.disk revealed)) (cc (is, c.code_of.ensures))
-
-pub returns-in-Err-over-clause-stopped : goal.returns-in-Err-over-clause-stopped
-returns-in-Err-over-clause-stopped g c = λ why is.
-    let same = start_halted c.in-Err-over.why why (cc (is, c.code_of.ensures)) in
-    record {
-      closed = refl;
-      kept = c.halt_of-self.ensures why same;
-      evident = subst (λ (w : StartFault). IsSoAtStart (g.D.Disk.state c.in-Err-over.disk) w) same c.in-Err-over.ensures.evidence_seen;
-    }
+pub returns-in-Err-over : goal.returns-in-Err-over
+returns-in-Err-over g c =
+    let s = c.in-Err-over.ensures in
+    let are : IsFrames c.args.frames = search rules in
+    opened c.args.frames c.args.self.now _ (Err c.code_of.result) c.in-Ok.disk are c.in-Ok.ensures.disk
+    (record {
+      outcome = Err c.in-Err-over.why;
+      answered = ap (λ (x : Code). Err x) c.code_of.ensures;
+      left = g.D.Disk.state c.in-Err-over.disk;
+      disk_is = refl;
+      runs = tt;
+      stands = λ d revealed sound. tt;
+      refuses = record { free = refl; halt_is = c.halt_of-self.ensures };
+      judges = record {
+        count = λ not. ap (λ (w : StartFault). Err w) (s.count not);
+        bad_count = λ n is. s.bad_count n (cc is);
+        refused = λ d why revealed is. either_outcome (s.refused d why revealed is);
+        judged = s.judged;
+        sound = s.sound;
+      };
+      leaves = record {
+        unwritten = s.unwritten;
+        counted = s.counted;
+        evident = s.evidence_seen;
+        crash_states = s.crash_states;
+        synced = tt;
+        later = record { sectors = s.wrote.went.sectors; faults = s.wrote.went.faults };
+        cost = s.cost;
+      };
+    })
