@@ -2,13 +2,36 @@
 #![tactic(auto)]
 
 mod answered;
+mod counted;
+mod crowd;
 mod drawn;
+mod frames;
 mod happen;
 mod paged;
 mod rows;
+mod sessions;
 
+use crate::frames::Frames;
+use crate::paged::PagedMachine;
 use anyhow::{Context, Result};
+use slow_machine::SlowMachine;
+use std::alloc::Global;
 use std::{env, fs};
+
+// Drawn events over the plain machine, and in sessions.
+fn drawn_reports(alloc: Global) -> Result<[String; 3]> {
+    let paged = PagedMachine::over(SlowMachine::new(alloc, 7, 1, 124)?);
+    Ok([
+        drawn::report(
+            alloc,
+            paged,
+            Frames::unknown(alloc),
+            "over the plain machine",
+        )?,
+        sessions::report(alloc, 24)?,
+        sessions::report(alloc, 4_096)?,
+    ])
+}
 
 fn main(rt: HostRuntime) -> Result<()> {
     for name in env::args(&rt)?.skip(1) {
@@ -19,7 +42,8 @@ fn main(rt: HostRuntime) -> Result<()> {
             println!(rt; "{report}")?;
         }
     }
-    let report = drawn::report(rt.alloc())?;
-    println!(rt; "{report}")?;
+    for report in drawn_reports(rt.alloc())? {
+        println!(rt; "{report}")?;
+    }
     Ok(())
 }
