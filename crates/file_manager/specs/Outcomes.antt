@@ -9,8 +9,6 @@ use Rattle.file_map.specs.FileMap.{most_records}
 use Rattle.flat_machine.specs.declared.space.Space.{Space}
 use Rattle.filer_kernel.specs.Evidence.{ShowsEvidence}
 use Rattle.filer_kernel.specs.View.{View}
-use Rattle.label_calls.specs.Own.{RelabelsOwn}
-use Rattle.label_calls.specs.Synced.{SyncsLeaders}
 use Rattle.session_words.specs.FrameLaws.{is_shown}
 use Rattle.session_words.specs.Parts.{Shape, Shapes}
 use Rattle.file_manager.specs.declared.volume.Volume.{Volume}
@@ -26,11 +24,6 @@ pub record FailsIf (given : Type 0) (why : Halt → Type 0) (v w : View) (e : Ha
   pub cause : why e
   pub counted : e ≡ halt.Disk → Rose v.disk.faults w.disk.faults
   pub evidence_seen : given → ShowsEvidence w.disk e
-
--- labels without a page are written over those of one file alone, and a permanent one's leader between syncs
-pub record RelabelsAround {T : Type 0} (id : ℕ) (result : Result T Halt) (old new : DiskState) : Type 0 where
-  pub own : RelabelsOwn id old new
-  pub around : SyncsLeaders result old new
 
 -- A file of so many pages is deleted: its sectors are used no more, and the transfers are bounded by its pages. Where no window
 -- shows it, its labels were freed, and an error comes of the disk alone, after the first of them at most.

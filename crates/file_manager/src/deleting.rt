@@ -11,7 +11,8 @@ ghost use Rattle.file_manager.specs.Deleting.{MakesOneFree};
 ghost use Rattle.file_manager.specs.Freeing.{MakesSomeFree};
 ghost use Rattle.file_manager.specs.Reasons.{Keeps, KeepsFrom, InitialState, ShowsReason};
 ghost use Rattle.filer_kernel.specs.View.{FitsLayout, kept_by, view_of};
-ghost use Rattle.file_manager.specs.Outcomes.{RelabelsAround, Deletes};
+ghost use Rattle.file_manager.specs.Outcomes.{Deletes};
+ghost use Rattle.label_calls.specs.Synced.{RelabelsAround};
 ghost use Rattle.file_manager.specs.Stays.{KeepsRoot, UsesLess};
 ghost use Rattle.filer_kernel.specs.Fails.{Fails};
 

@@ -9,7 +9,7 @@ ghost use Rattle.labelled_disk.specs.Label.{leader_page};
 ghost use Rattle.file_manager.specs.Freeing.{MayFreeAll, FreedAll, FreedFirst, MakesFree, MakesSomeFree};
 ghost use Rattle.file_manager.specs.Reasons.{AreReleased, Keeps, InitialState, ShowsReason};
 ghost use Rattle.filer_kernel.specs.View.{FitsLayout, kept_by, view_of};
-ghost use Rattle.file_manager.specs.Outcomes.{RelabelsAround};
+ghost use Rattle.label_calls.specs.Synced.{RelabelsAround};
 ghost use Rattle.file_manager.specs.Stays.{MapStays};
 ghost use Rattle.filer_kernel.specs.Fails.{Fails};
 

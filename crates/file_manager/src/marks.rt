@@ -16,7 +16,7 @@ ghost use Rattle.file_manager.specs.Broken.{MarksFirst};
 ghost use Rattle.file_manager.specs.Causes.{LeaderHalts};
 ghost use Rattle.file_manager.specs.Reasons.{Keeps, InitialState, ShowsReason};
 ghost use Rattle.filer_kernel.specs.View.{FitsLayout, kept_by, view_of};
-ghost use Rattle.file_manager.specs.Outcomes.{RelabelsAround};
+ghost use Rattle.label_calls.specs.Synced.{RelabelsAround};
 ghost use Rattle.file_manager.specs.Stays.{KeepsRoot};
 ghost use Rattle.filer_kernel.specs.Fails.{Fails};
 

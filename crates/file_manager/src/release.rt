@@ -20,7 +20,8 @@ ghost use Rattle.filer_kernel.specs.Evidence.{MayBeMissing};
 ghost use Rattle.file_manager.specs.Freeing.{MayFree, Freed, FreedSome, IsPartOf, NamesAll, MakesFree, MakesSomeFree, run_sectors};
 ghost use Rattle.file_manager.specs.Reasons.{AreReleased, Keeps, MissesNone, LeavesTables, MayLack, InitialState, ShowsReason};
 ghost use Rattle.filer_kernel.specs.View.{FitsLayout, HasMemory, kept_by, view_of};
-ghost use Rattle.file_manager.specs.Outcomes.{FailsIf, RelabelsAround};
+ghost use Rattle.file_manager.specs.Outcomes.{FailsIf};
+ghost use Rattle.label_calls.specs.Synced.{RelabelsAround};
 ghost use Rattle.file_manager.specs.Stays.{FramesStay, FindsRuns, MapStays};
 ghost use Rattle.filer_kernel.specs.Fails.{Fails};
 

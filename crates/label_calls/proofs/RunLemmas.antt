@@ -29,8 +29,9 @@ use Rattle.swapper_kernel.specs.GoesLaws.{makes_nothing, makes_then, goes_itself
 use Rattle.swapper_kernel.specs.Halts.{HasCause}
 use Rattle.swapper_kernel.specs.Stands.{Stands}
 use Rattle.swapper_kernel.specs.StepLaws.{IsLabelled}
-use Rattle.label_calls.specs.Labels.{Labels, HasOne, IsUncovered, Relabels, MayHaveWritten, IsTaken, IsNotOf}
-use Rattle.label_calls.specs.Runs.{AreUncovered, RelabelsRun, MadeSome, NamedSome}
+use Rattle.label_calls.specs.Fails.{FailsBy}
+use Rattle.label_calls.specs.Labels.{Labels, HasOne, IsUncovered, Relabels, MayRelabel, IsTaken, IsNotOf}
+use Rattle.label_calls.specs.Runs.{AreUncovered, RelabelsRun, NamedSome}
 
 -- a label write leaves all other sectors
 pub write_elsewhere : (w : DiskWrite) (k j : ℕ) (d : List Sector) → IsLabelled w k → j ≢ k → slice_get (written w d) j ≡ slice_get d j
@@ -135,39 +136,19 @@ module _ (place : ℕ → ℕ) (f : ℕ → DiskWrite) (labels : ℕ → Labels)
       append_nothing [] = refl
       append_nothing (x ∷ xs) = ap (λ (l : List DiskWrite). x ∷ l) (append_nothing xs)
 
-  some_made : (all : ℕ) → k < all → (new : DiskState) → MayHaveWritten (f k) mid slots new → MadeSome (turns f all) old slots new
-  some_made all below new (inl nothing) = record {
-    count = k;
-    within = subst (λ (n : ℕ). k ≤ n) (sym (length-map-range_with_len f 0 all)) (omega (arith, below));
-    makes = taken_makes all below new nothing;
-  }
-  some_made all below new (inr made) = record {
-    count = k + 1;
-    within = subst (λ (n : ℕ). k + 1 ≤ n) (sym (length-map-range_with_len f 0 all)) (omega (arith, below));
-    makes = subst (λ (run : List DiskWrite). Makes no_page run old slots new slots) (sym (turns_more f k) ∙ sym (take-map-range_with_len f 0 all (k + 1) (omega (arith, below)))) (makes_then so_far.makes made);
-  }
-
-  -- some of the writes were made
-  pub made_some : (all : ℕ) (run : List DiskWrite) → turns f all ≡ run → k < all → (new : DiskState) → MayHaveWritten (f k) mid pool new → MadeSome run old slots new
-  made_some all run is below new either =
-      subst (λ (r : List DiskWrite). MadeSome r old slots new) is (some_made all below new (subst (λ (t : Slots). MayHaveWritten (f k) mid t new) so_far.same_pool either))
-
-  -- and the sectors of the turns that were over had their labels, the next one too where its write was made
-  pub named_some : (all : ℕ) (run : List DiskWrite) → turns f all ≡ run → k < all → (new : DiskState) → MayHaveWritten (f k) mid pool new
-      → Makes no_page [] mid pool new pool ⊎ ((d : List Sector) → mid.contents ≡ Some d → HasOne (labels k) d (place k)) → NamedSome place labels run old slots new
-  named_some all run is below new (inl nothing) was = subst (λ (r : List DiskWrite). NamedSome place labels r old slots new) is (record {
+  none_more : (all : ℕ) (run : List DiskWrite) → turns f all ≡ run → k < all → (new : DiskState) → Makes no_page [] mid pool new pool → NamedSome place labels run old slots new
+  none_more all run is below new nothing = subst (λ (r : List DiskWrite). NamedSome place labels r old slots new) is (record {
     count = k;
     within = subst (λ (n : ℕ). k ≤ n) (sym (length-map-range_with_len f 0 all)) (omega (arith, below));
     makes = taken_makes all below new (subst (λ (t : Slots). Makes no_page [] mid t new t) so_far.same_pool nothing);
     found = so_far.found;
   })
-  named_some all run is below new (inr made) (inl nothing) = subst (λ (r : List DiskWrite). NamedSome place labels r old slots new) is (record {
-    count = k;
-    within = subst (λ (n : ℕ). k ≤ n) (sym (length-map-range_with_len f 0 all)) (omega (arith, below));
-    makes = taken_makes all below new (subst (λ (t : Slots). Makes no_page [] mid t new t) so_far.same_pool nothing);
-    found = so_far.found;
-  })
-  named_some all run is below new (inr made) (inr had) = subst (λ (r : List DiskWrite). NamedSome place labels r old slots new) is (record {
+
+  -- some of the writes were made, and the sectors of these had their labels
+  pub named_some : (all : ℕ) (run : List DiskWrite) → turns f all ≡ run → k < all → (new : DiskState) → MayRelabel (labels k) (place k) (f k) mid pool new → NamedSome place labels run old slots new
+  named_some all run is below new (inl nothing) = none_more all run is below new nothing
+  named_some all run is below new (inr (had, inl nothing)) = none_more all run is below new nothing
+  named_some all run is below new (inr (had, inr made)) = subst (λ (r : List DiskWrite). NamedSome place labels r old slots new) is (record {
     count = k + 1;
     within = subst (λ (n : ℕ). k + 1 ≤ n) (sym (length-map-range_with_len f 0 all)) (omega (arith, below));
     makes = subst (λ (r : List DiskWrite). Makes no_page r old slots new slots) (sym (turns_more f k) ∙ sym (take-map-range_with_len f 0 all (k + 1) (omega (arith, below)))) (makes_then so_far.makes (subst (λ (t : Slots). Makes no_page (f k ∷ []) mid t new t) so_far.same_pool made));
@@ -178,9 +159,19 @@ module _ (place : ℕ → ℕ) (f : ℕ → DiskWrite) (labels : ℕ → Labels)
   })
 
   -- the halt of the next turn is one of the whole run
-  pub cause_before : (shown whole : Evidence → Type 0) (new : DiskState) (e : Halt) → ((evidence : Evidence) → shown evidence → whole evidence) → HasCause shown mid new e → HasCause whole old new e
+  cause_before : (shown whole : Evidence → Type 0) (new : DiskState) (e : Halt) → ((evidence : Evidence) → shown evidence → whole evidence) → HasCause shown mid new e → HasCause whole old new e
   cause_before shown whole new halt.Disk less is = let faults = so_far.makes.went.faults in rose_earlier old.faults mid.faults new.faults faults is
   cause_before shown whole new (halt.Damaged evidence) less is = less evidence is
+
+  -- how the next turn fails is how the whole run does
+  pub fails_before : (right : List Sector → Type 0) (turn whole : DiskState → Evidence → Type 0) (new : DiskState) (e : Halt) → ((m : List Sector) → right m → covered × HasOne (labels k) m (place k))
+      → ((d : DiskState) (evidence : Evidence) → turn d evidence → whole d evidence) → ((evidence : Evidence) → turn mid evidence → turn old evidence)
+      → FailsBy (λ m. HasOne (labels k) m (place k)) turn mid pool new e → FailsBy right whole old slots new e
+  fails_before right turn whole new e one less back fails = record {
+    sound = λ m stands is. let there = one_still_there (one m is).0 m stands (one m is).1 in fails.sound there.0 there.1 there.2;
+    cause = cause_before (turn mid) (whole old) new e (λ evidence shown. less old evidence (back evidence shown)) fails.cause;
+    evidence_seen = cause_before (turn new) (whole new) new e (less new) fails.evidence_seen;
+  }
 
 -- all turns are over
 pub run_is : (place : ℕ → ℕ) (f : ℕ → DiskWrite) (labels : ℕ → Labels) (sector pages : ℕ) (run : List DiskWrite) (old new : DiskState) (slots after : Slots) (layout later : Layout) → turns f pages ≡ run
@@ -204,8 +195,3 @@ freeing_is place (i ∷ is) = ap (λ (l : List DiskWrite). write.LabelOnly (plac
 pub row_is : (sector pages i : ℕ) → map (λ k. sector + k) (range_with_len i pages) ≡ range_with_len (sector + i) pages
 row_is sector zero i = refl
 row_is sector (suc pages) i = ap (λ (l : List ℕ). (sector + i) ∷ l) (row_is sector pages (i + 1) ∙ (λ j. range_with_len (let e : sector + (i + 1) ≡ sector + i + 1 = omega arith in e j) pages))
-
--- what a turn wrote, with the frames as they were
-pub was_before : {mid new : DiskState} {pool after : Slots} {P : Type 0} → after ≡ pool → Makes no_page [] mid pool new after ⊎ P → Makes no_page [] mid pool new pool ⊎ P
-was_before {mid = mid} {new = new} {pool = pool} same (inl nothing) = inl (subst (λ (t : Slots). Makes no_page [] mid pool new t) same nothing)
-was_before same (inr had) = inr had

@@ -1,8 +1,10 @@
 -- What a label write does to disk and frames.
-use Rattle.std.specs.Prelude.{◌≡◌, ◌≢◌, ◌⊎◌, ℕ, ◌<◌, true, false, List, [], ◌∷◌, Some, slice_get}
+use Rattle.std.specs.Prelude.{◌≡◌, ◌≢◌, ◌⊎◌, ℕ, ◌+◌, ◌<◌, ◌≤◌, true, false, List, [], ◌∷◌, Some, slice_get}
 use Rattle.labelled_disk.specs.declared.label.Label.{Label}
 use Rattle.labelled_disk.specs.declared.label.Wanted.{Wanted}
+use Rattle.labelled_disk.specs.declared.layout.Layout.{Layout}
 use Rattle.labelled_disk.specs.declared.disk.DiskWrite.{DiskWrite}
+use Rattle.labelled_disk.specs.declared.disk.DiskWrite.TheVariants as write
 use Rattle.labelled_disk.specs.declared.evidence.Evidence.{Evidence}
 use Rattle.labelled_disk.specs.declared.evidence.Evidence.TheVariants.{Mismatch, Malformed, Missing}
 use Rattle.labelled_disk.specs.Label.{is_free, is_file, names, permanent_label, immutable_label}
@@ -14,6 +16,12 @@ use Rattle.frame_pool.specs.Frames.{Frame, Slots, Has}
 use Rattle.swapper_kernel.specs.Goes.{Goes, Makes, no_page}
 use Rattle.label_calls.specs.declared.page.Mark.{Mark}
 use Rattle.label_calls.specs.declared.page.Mark.TheVariants.{Permanent, Immutable}
+
+-- so many sectors from this one on are data sectors of the layout, whose disk it is
+pub record AreData (disk : DiskState) (layout : Layout) (sector pages : ℕ) : Type 0 where
+  pub size : disk.sectors ≡ layout.sectors
+  pub first : layout.first ≤ sector
+  pub last : sector + pages ≤ layout.sectors
 
 -- the label of a page of the space tables or of a file, or of a leader without marks
 pub record IsFresh (label : Label) : Type 0 where
@@ -56,6 +64,17 @@ pub record Relabels (labels : Labels) (sector : ℕ) (write : DiskWrite) (old : 
 -- nothing was written, or the write was made
 abbrev pub MayHaveWritten : DiskWrite → DiskState → Slots → DiskState → Type 0
 MayHaveWritten write old slots new = Makes no_page [] old slots new slots ⊎ Makes no_page (write ∷ []) old slots new slots
+
+-- Nothing was written; or the sector had one of these labels, and the write may have been made.
+abbrev pub MayRelabel : Labels → ℕ → DiskWrite → DiskState → Slots → DiskState → Type 0
+MayRelabel labels sector write old slots new =
+    Makes no_page [] old slots new slots ⊎ (((d : List Sector) → old.contents ≡ Some d → HasOne labels d sector) × MayHaveWritten write old slots new)
+
+-- Nothing was written; or the sector had this page, and its label may have been written with a mark more.
+pub record MayMark (wanted : Wanted) (mark : Mark) (sector : ℕ) (old : DiskState) (slots : Slots) (new : DiskState) (after : Slots) : Type 0 where
+  pub written : Makes no_page [] old slots new after
+      ⊎ ((label : Label) × HasLabel old sector label × MayHaveWritten (write.LabelOnly sector (with_mark mark label)) old slots new)
+  pub had : Makes no_page [] old slots new after ⊎ ((d : List Sector) → old.contents ≡ Some d → HasOne (ones_of wanted) d sector)
 
 -- what is wanted where a sector is to be free
 abbrev pub nobody : Wanted

@@ -1,4 +1,5 @@
 pub mod Bytes
+pub mod Fails
 pub mod Labels
 pub mod Own
 pub mod OwnLaws

@@ -16,7 +16,7 @@ use Rattle.labelled_disk.specs.State.{DiskState, HasLabel}
 use Rattle.labelled_disk.specs.WriteRuns.{Appended, after_writes}
 use Rattle.labelled_disk.proofs.WriteRunLemmas.{appended_none, appended_one, appended_then, crash_state-earlier, crash_state-later}
 use Rattle.frame_pool.specs.Frames.{Slots}
-use Rattle.swapper_kernel.specs.Goes.{Pages, Makes, is_page_write}
+use Rattle.swapper_kernel.specs.Goes.{Pages, Makes, is_page_write, no_page}
 use Rattle.label_calls.specs.Labels.{MayHaveWritten}
 use Rattle.label_calls.specs.Own.{RelabelsOwn}
 
@@ -177,3 +177,8 @@ fresh_own id sector label bytes same (inr made) = relabels_own (record {
 pub may_own : {id : ℕ} {w : DiskWrite} {a b : DiskState} {slots : Slots} → MayHaveWritten w a slots b → RelabelsOwn id a b → WroteOwn id a b
 may_own (inl nothing) relabels = wrote_own nothing relabels
 may_own (inr made) relabels = wrote_own made relabels
+
+-- a write that may have been made, and what it was made over
+pub relabelled : {had : Type 0} {w : DiskWrite} {a b : DiskState} {slots : Slots} → Makes no_page [] a slots b slots ⊎ (had × MayHaveWritten w a slots b) → MayHaveWritten w a slots b
+relabelled (inl nothing) = inl nothing
+relabelled (inr may) = may.1

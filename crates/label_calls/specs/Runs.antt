@@ -29,6 +29,15 @@ pub record RelabelsRun (sector pages : ℕ) (run : List DiskWrite) (old : DiskSt
   pub makes : Makes no_page run old slots new slots
   pub goes : AreUncovered slots sector pages → Goes (λ m n. n ≡ after_writes run m) no_page run old slots new slots
 
+-- and these sectors had the labels of their turns before
+pub record RelabelsOnes (labels : ℕ → Labels) (sector pages : ℕ) (run : List DiskWrite) (old : DiskState) (slots : Slots) (new : DiskState) : Type 0 where
+  pub were : (d : List Sector) → old.contents ≡ Some d → HaveOnes labels d sector pages
+  pub relabels : RelabelsRun sector pages run old slots new
+
+-- the memory has sectors with the labels of their turns, and no frame has one as its home
+abbrev pub AreRight : (ℕ → Labels) → ℕ → ℕ → Slots → List Sector → Type 0
+AreRight labels sector pages slots m = AreUncovered slots sector pages × HaveOnes labels m sector pages
+
 -- the first of these writes were made
 pub record MadeSome (run : List DiskWrite) (old : DiskState) (slots : Slots) (new : DiskState) : Type 0 where
   pub count : ℕ

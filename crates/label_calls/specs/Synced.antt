@@ -8,6 +8,7 @@ use Rattle.labelled_disk.specs.CrashState.{crash_state}
 use Rattle.labelled_disk.specs.Label.{is_free, is_permanent}
 use Rattle.labelled_disk.specs.Sectors.{Sector}
 use Rattle.labelled_disk.specs.State.{DiskState}
+use Rattle.label_calls.specs.Own.{RelabelsOwn}
 
 -- The label `now` is written over `was`, after n writes. Where either is that of a permanent file's leader the disk was synced
 -- just before. Where such a leader goes the disk was synced just after, too, or that is how it ended.
@@ -31,6 +32,11 @@ pub record SyncsAround (failed : Bool) (old new : DiskState) : Type 0 where
 -- so is what a call wrote; one that failed may end with a label
 abbrev pub SyncsLeaders : {T : Type 0} → Result T Halt → DiskState → DiskState → Type 0
 SyncsLeaders result old new = MatchResult result (λ x. SyncsAround false old new) (λ e. SyncsAround true old new)
+
+-- labels without a page are written over those of one file alone, and a permanent one's leader between syncs
+pub record RelabelsAround {T : Type 0} (id : ℕ) (result : Result T Halt) (old new : DiskState) : Type 0 where
+  pub own : RelabelsOwn id old new
+  pub around : SyncsLeaders result old new
 
 -- so is one label that was written over another, or that may have been
 abbrev pub SyncsAroundOne : Bool → Label → Label → DiskState → DiskState → Type 0

@@ -1,12 +1,9 @@
 //! The page of one data sector, past the frames: no frame has it.
 ghost use Rattle.std.specs.Prelude.{◌≡◌, ◌<◌, List, [], IfErr, OnErr, OnOk};
-ghost use Rattle.labelled_disk.specs.declared.evidence.Halt.TheVariants as halt;
-ghost use Rattle.labelled_disk.specs.Sectors.{Sector};
 ghost use Rattle.labelled_disk.specs.Calls.{Moves, RevealsSame};
 ghost use Rattle.swapper_kernel.specs.Goes.{Makes, no_page};
-ghost use Rattle.swapper_kernel.specs.Halts.{HasCause};
-ghost use Rattle.swapper_kernel.specs.Stands.{Stands};
 ghost use Rattle.label_calls.specs.Bytes.{MayWritePage, ReadsPage, WritesPage};
+ghost use Rattle.label_calls.specs.Fails.{FailsBy};
 ghost use Rattle.label_calls.specs.Labels.{HasOne, IsNotOf, ones_of};
 
 use labelled_disk::{Disk, DiskError, Evidence, Halt, Page, Wanted};
@@ -26,14 +23,9 @@ pub fn read_page<D: Disk, A: Allocator>(
     ensures moves { Moves (D.state swapper.old.disk) (D.state swapper.new.disk) }
     ensures makes { Makes no_page [] (D.state swapper.old.disk) swapper.old.pool (D.state swapper.new.disk)
         swapper.new.pool }
-    ensures sound { (m : List Sector) → Stands (D.state swapper.old.disk) swapper.old.pool m
-        → HasOne (ones_of wanted) m sector → IfErr result (λ e. e ≡ halt.Disk) }
-    ensures cause { IfErr result
-        (HasCause (IsNotOf sector wanted (D.state swapper.old.disk)) (D.state swapper.old.disk)
-        (D.state swapper.new.disk)) }
-    ensures evidence_seen { IfErr result
-        (HasCause (IsNotOf sector wanted (D.state swapper.new.disk)) (D.state swapper.old.disk)
-        (D.state swapper.new.disk)) }
+    ensures fails { IfErr result
+        (FailsBy (λ m. HasOne (ones_of wanted) m sector) (IsNotOf sector wanted) (D.state swapper.old.disk)
+        swapper.old.pool (D.state swapper.new.disk)) }
     ensures frames { swapper.new.pool ≡ swapper.old.pool }
     ensures layout { swapper.new.layout ≡ swapper.old.layout }
 {
@@ -66,14 +58,9 @@ pub fn write_page<D: Disk, A: Allocator>(
     ensures stopped { OnErr result
         (MayWritePage sector wanted bytes.now (D.state swapper.old.disk) swapper.old.pool (D.state swapper.new.disk)) }
     ensures moves { Moves (D.state swapper.old.disk) (D.state swapper.new.disk) }
-    ensures sound { (m : List Sector) → Stands (D.state swapper.old.disk) swapper.old.pool m
-        → HasOne (ones_of wanted) m sector → IfErr result (λ e. e ≡ halt.Disk) }
-    ensures cause { IfErr result
-        (HasCause (IsNotOf sector wanted (D.state swapper.old.disk)) (D.state swapper.old.disk)
-        (D.state swapper.new.disk)) }
-    ensures evidence_seen { IfErr result
-        (HasCause (IsNotOf sector wanted (D.state swapper.new.disk)) (D.state swapper.old.disk)
-        (D.state swapper.new.disk)) }
+    ensures fails { IfErr result
+        (FailsBy (λ m. HasOne (ones_of wanted) m sector) (IsNotOf sector wanted) (D.state swapper.old.disk)
+        swapper.old.pool (D.state swapper.new.disk)) }
     ensures frames { swapper.new.pool ≡ swapper.old.pool }
     ensures layout { swapper.new.layout ≡ swapper.old.layout }
 {

@@ -1,18 +1,15 @@
 //! The label of one data sector.
 ghost use Rattle.std.specs.Prelude.{◌≡◌, ◌⊎◌, ◌<◌, ◌≤◌, ◌+◌, ℕ, false, List, [], Some, IfErr, OnErr, OnOk};
 ghost use Rattle.labelled_disk.specs.declared.disk.DiskWrite.TheVariants as write;
-ghost use Rattle.labelled_disk.specs.declared.evidence.Halt.TheVariants as halt;
 ghost use Rattle.labelled_disk.specs.Label.{leader_page, is_permanent};
 ghost use Rattle.labelled_disk.specs.Runs.{zero_bytes};
 ghost use Rattle.labelled_disk.specs.Sectors.{Sector, free_label};
 ghost use Rattle.labelled_disk.specs.State.{HasLabel};
 ghost use Rattle.labelled_disk.specs.declared.label.Label.{Label};
-ghost use Rattle.swapper_kernel.specs.Goes.{Makes, no_page};
-ghost use Rattle.swapper_kernel.specs.Halts.{HasCause};
-ghost use Rattle.swapper_kernel.specs.Stands.{Stands};
-ghost use Rattle.label_calls.specs.Labels.{IsFresh, HasOne, Relabels, MayHaveWritten, IsTaken, IsNotOf, free_ones, ones_of, with_mark};
+ghost use Rattle.label_calls.specs.Fails.{FailsBy};
+ghost use Rattle.label_calls.specs.Labels.{AreData, HasOne, IsFresh, IsNotOf, IsTaken, MayMark, MayRelabel, Relabels, free_ones, ones_of, with_mark};
 ghost use Rattle.label_calls.specs.Own.{RelabelsOwn};
-ghost use Rattle.label_calls.specs.Synced.{SyncsLeaders};
+ghost use Rattle.label_calls.specs.Synced.{RelabelsAround};
 
 use crate::label::{read_label, relabel, write_fresh};
 use labelled_disk::{Disk, Evidence, FileId, Halt, LEADER, Label, Wanted};
@@ -44,25 +41,17 @@ pub fn make_page<D: Disk, A: Allocator>(
     sector: u32,
     label: Label,
 ) -> Result<(), Halt>
-    requires size { (D.state swapper.old.disk).sectors ≡ swapper.old.layout.sectors }
-    requires data { swapper.old.layout.first ≤ sector }
-    requires inside { sector < swapper.old.layout.sectors }
+    requires data { AreData (D.state swapper.old.disk) swapper.old.layout sector 1 }
     requires form { IsFresh label }
     ensures made { OnOk result
         (Relabels free_ones sector (write.Whole sector label zero_bytes) (D.state swapper.old.disk) swapper.old.pool
         (D.state swapper.new.disk)) }
     ensures stopped { OnErr result
-        (MayHaveWritten (write.Whole sector label zero_bytes) (D.state swapper.old.disk) swapper.old.pool
-        (D.state swapper.new.disk)) }
-    ensures was { OnErr result
-        (Makes no_page [] (D.state swapper.old.disk) swapper.old.pool (D.state swapper.new.disk) swapper.new.pool
-        ⊎ ((d : List Sector) → (D.state swapper.old.disk).contents ≡ Some d → HasOne free_ones d sector)) }
-    ensures sound { (m : List Sector) → Stands (D.state swapper.old.disk) swapper.old.pool m → HasOne free_ones m sector
-        → IfErr result (λ e. e ≡ halt.Disk) }
-    ensures cause { IfErr result
-        (HasCause (IsTaken sector (D.state swapper.old.disk)) (D.state swapper.old.disk) (D.state swapper.new.disk)) }
-    ensures evidence_seen { IfErr result
-        (HasCause (IsTaken sector (D.state swapper.new.disk)) (D.state swapper.old.disk) (D.state swapper.new.disk)) }
+        (MayRelabel free_ones sector (write.Whole sector label zero_bytes) (D.state swapper.old.disk)
+        swapper.old.pool (D.state swapper.new.disk)) }
+    ensures fails { IfErr result
+        (FailsBy (λ m. HasOne free_ones m sector) (IsTaken sector)
+        (D.state swapper.old.disk) swapper.old.pool (D.state swapper.new.disk)) }
     ensures frames { swapper.new.pool ≡ swapper.old.pool }
     ensures layout { swapper.new.layout ≡ swapper.old.layout }
     ensures cost { (D.state swapper.new.disk).transfers ≤ (D.state swapper.old.disk).transfers + 2 }
@@ -92,32 +81,21 @@ pub fn free_page<D: Disk, A: Allocator>(
     sector: u32,
     wanted: Wanted,
 ) -> Result<(), Halt>
-    requires size { (D.state swapper.old.disk).sectors ≡ swapper.old.layout.sectors }
-    requires data { swapper.old.layout.first ≤ sector }
-    requires inside { sector < swapper.old.layout.sectors }
+    requires data { AreData (D.state swapper.old.disk) swapper.old.layout sector 1 }
     requires of_file { (wanted.id ≡ 3) ⊎ (16 ≤ wanted.id) }
     ensures freed { OnOk result
         (Relabels (ones_of wanted) sector (write.LabelOnly sector free_label) (D.state swapper.old.disk)
         swapper.old.pool (D.state swapper.new.disk)) }
     ensures stopped { OnErr result
-        (MayHaveWritten (write.LabelOnly sector free_label) (D.state swapper.old.disk) swapper.old.pool
-        (D.state swapper.new.disk)) }
-    ensures was { OnErr result
-        (Makes no_page [] (D.state swapper.old.disk) swapper.old.pool (D.state swapper.new.disk) swapper.new.pool
-        ⊎ ((d : List Sector) → (D.state swapper.old.disk).contents ≡ Some d → HasOne (ones_of wanted) d sector)) }
-    ensures sound { (m : List Sector) → Stands (D.state swapper.old.disk) swapper.old.pool m
-        → HasOne (ones_of wanted) m sector → IfErr result (λ e. e ≡ halt.Disk) }
-    ensures cause { IfErr result
-        (HasCause (IsNotOf sector wanted (D.state swapper.old.disk)) (D.state swapper.old.disk)
-        (D.state swapper.new.disk)) }
-    ensures evidence_seen { IfErr result
-        (HasCause (IsNotOf sector wanted (D.state swapper.new.disk)) (D.state swapper.old.disk)
-        (D.state swapper.new.disk)) }
+        (MayRelabel (ones_of wanted) sector (write.LabelOnly sector free_label) (D.state swapper.old.disk)
+        swapper.old.pool (D.state swapper.new.disk)) }
+    ensures fails { IfErr result
+        (FailsBy (λ m. HasOne (ones_of wanted) m sector) (IsNotOf sector wanted)
+        (D.state swapper.old.disk) swapper.old.pool (D.state swapper.new.disk)) }
     ensures frames { swapper.new.pool ≡ swapper.old.pool }
     ensures layout { swapper.new.layout ≡ swapper.old.layout }
     ensures cost { (D.state swapper.new.disk).transfers ≤ (D.state swapper.old.disk).transfers + 2 }
-    ensures own { RelabelsOwn wanted.id (D.state swapper.old.disk) (D.state swapper.new.disk) }
-    ensures around { SyncsLeaders result (D.state swapper.old.disk) (D.state swapper.new.disk) }
+    ensures labels { RelabelsAround wanted.id result (D.state swapper.old.disk) (D.state swapper.new.disk) }
     ensures unsynced { (label : Label) → HasLabel (D.state swapper.old.disk) sector label → is_permanent label ≡ false
         → (d : List Sector) → (D.state swapper.old.disk).contents ≡ Some d
         → (D.state swapper.new.disk).syncs ≡ (D.state swapper.old.disk).syncs }
@@ -147,9 +125,7 @@ pub fn mark_leader<D: Disk, A: Allocator>(
     id: FileId,
     mark: Mark,
 ) -> Result<(), Halt>
-    requires size { (D.state swapper.old.disk).sectors ≡ swapper.old.layout.sectors }
-    requires data { swapper.old.layout.first ≤ sector }
-    requires inside { sector < swapper.old.layout.sectors }
+    requires data { AreData (D.state swapper.old.disk) swapper.old.layout sector 1 }
     requires of_file { 16 ≤ id }
     ensures marked { OnOk result
         ((label : Label)
@@ -157,27 +133,16 @@ pub fn mark_leader<D: Disk, A: Allocator>(
         (write.LabelOnly sector (with_mark mark label)) (D.state swapper.old.disk) swapper.old.pool
         (D.state swapper.new.disk)) }
     ensures stopped { OnErr result
-        (Makes no_page [] (D.state swapper.old.disk) swapper.old.pool (D.state swapper.new.disk) swapper.new.pool
-        ⊎ ((label : Label) × HasLabel (D.state swapper.old.disk) sector label
-        × MayHaveWritten (write.LabelOnly sector (with_mark mark label)) (D.state swapper.old.disk) swapper.old.pool
-        (D.state swapper.new.disk))) }
-    ensures was { OnErr result
-        (Makes no_page [] (D.state swapper.old.disk) swapper.old.pool (D.state swapper.new.disk) swapper.new.pool
-        ⊎ ((d : List Sector) → (D.state swapper.old.disk).contents ≡ Some d
-        → HasOne (ones_of (record { id = id; page = leader_page })) d sector)) }
-    ensures sound { (m : List Sector) → Stands (D.state swapper.old.disk) swapper.old.pool m
-        → HasOne (ones_of (record { id = id; page = leader_page })) m sector → IfErr result (λ e. e ≡ halt.Disk) }
-    ensures cause { IfErr result
-        (HasCause (IsNotOf sector (record { id = id; page = leader_page }) (D.state swapper.old.disk))
-        (D.state swapper.old.disk) (D.state swapper.new.disk)) }
-    ensures evidence_seen { IfErr result
-        (HasCause (IsNotOf sector (record { id = id; page = leader_page }) (D.state swapper.new.disk))
-        (D.state swapper.old.disk) (D.state swapper.new.disk)) }
+        (MayMark (record { id = id; page = leader_page }) mark sector (D.state swapper.old.disk) swapper.old.pool
+        (D.state swapper.new.disk) swapper.new.pool) }
+    ensures fails { IfErr result
+        (FailsBy (λ m. HasOne (ones_of (record { id = id; page = leader_page })) m sector)
+        (IsNotOf sector (record { id = id; page = leader_page })) (D.state swapper.old.disk) swapper.old.pool
+        (D.state swapper.new.disk)) }
     ensures frames { swapper.new.pool ≡ swapper.old.pool }
     ensures layout { swapper.new.layout ≡ swapper.old.layout }
     ensures cost { (D.state swapper.new.disk).transfers ≤ (D.state swapper.old.disk).transfers + 2 }
-    ensures own { RelabelsOwn id (D.state swapper.old.disk) (D.state swapper.new.disk) }
-    ensures around { SyncsLeaders result (D.state swapper.old.disk) (D.state swapper.new.disk) }
+    ensures labels { RelabelsAround id result (D.state swapper.old.disk) (D.state swapper.new.disk) }
     ensures unsynced { (label : Label) → HasLabel (D.state swapper.old.disk) sector label
         → is_permanent (with_mark mark label) ≡ false → (d : List Sector)
         → (D.state swapper.old.disk).contents ≡ Some d

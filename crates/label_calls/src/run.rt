@@ -1,15 +1,13 @@
 //! Labels of data sectors in a row.
 ghost use Rattle.std.specs.Prelude.{◌≡◌, ◌⊎◌, ◌<◌, ◌≤◌, ◌+◌, ◌-◌, ◌*◌, ◌^◌, ℕ, List, Some, IfErr, OnErr, OnOk, map};
 ghost use Rattle.std.specs.List.{range_with_len};
-ghost use Rattle.labelled_disk.specs.declared.evidence.Halt.TheVariants as halt;
 ghost use Rattle.labelled_disk.specs.Runs.{freeing, growth};
 ghost use Rattle.labelled_disk.specs.Sectors.{Sector};
-ghost use Rattle.swapper_kernel.specs.Halts.{HasCause};
-ghost use Rattle.swapper_kernel.specs.Stands.{Stands};
-ghost use Rattle.label_calls.specs.Labels.{free_ones, ones_of};
+ghost use Rattle.label_calls.specs.Fails.{FailsBy};
+ghost use Rattle.label_calls.specs.Labels.{AreData, free_ones, ones_of};
 ghost use Rattle.label_calls.specs.Own.{RelabelsOwn};
-ghost use Rattle.label_calls.specs.Synced.{SyncsLeaders};
-ghost use Rattle.label_calls.specs.Runs.{AreOfFile, AreUncovered, HaveOnes, RelabelsRun, MadeSome, NamedSome, IsOneTaken, IsOneNotOf};
+ghost use Rattle.label_calls.specs.Synced.{RelabelsAround};
+ghost use Rattle.label_calls.specs.Runs.{AreOfFile, AreRight, IsOneNotOf, IsOneTaken, NamedSome, RelabelsOnes};
 
 use crate::page::{free_page, make_page};
 use labelled_disk::{Disk, FileId, Halt, Label, Wanted};
@@ -25,31 +23,19 @@ pub fn make_pages<D: Disk, A: Allocator>(
     kind: u16,
     page: u32,
 ) -> Result<(), Halt>
-    requires size { (D.state swapper.old.disk).sectors ≡ swapper.old.layout.sectors }
-    requires data { swapper.old.layout.first ≤ sector }
-    requires inside { sector + pages ≤ swapper.old.layout.sectors }
+    requires data { AreData (D.state swapper.old.disk) swapper.old.layout sector pages }
     requires numbers { page + pages ≤ 2 ^ 32 }
     requires of_file { AreOfFile id kind page pages }
     ensures made { OnOk result
-        (RelabelsRun sector pages (growth id kind page (range_with_len sector pages)) (D.state swapper.old.disk)
-        swapper.old.pool (D.state swapper.new.disk)) }
+        (RelabelsOnes (λ k. free_ones) sector pages (growth id kind page (range_with_len sector pages))
+        (D.state swapper.old.disk) swapper.old.pool (D.state swapper.new.disk)) }
     ensures stopped { OnErr result
-        (MadeSome (growth id kind page (range_with_len sector pages)) (D.state swapper.old.disk) swapper.old.pool
-        (D.state swapper.new.disk)) }
-    ensures named { OnErr result
         (NamedSome (λ k. sector + k) (λ k. free_ones) (growth id kind page (range_with_len sector pages))
         (D.state swapper.old.disk) swapper.old.pool (D.state swapper.new.disk)) }
-    ensures were { OnOk result
-        ((d : List Sector) → (D.state swapper.old.disk).contents ≡ Some d → HaveOnes (λ k. free_ones) d sector pages) }
-    ensures sound { (m : List Sector) → Stands (D.state swapper.old.disk) swapper.old.pool m
-        → AreUncovered swapper.old.pool sector pages → HaveOnes (λ k. free_ones) m sector pages
-        → IfErr result (λ e. e ≡ halt.Disk) }
-    ensures cause { IfErr result
-        (HasCause (IsOneTaken sector pages (D.state swapper.old.disk)) (D.state swapper.old.disk)
-        (D.state swapper.new.disk)) }
-    ensures evidence_seen { IfErr result
-        (HasCause (IsOneTaken sector pages (D.state swapper.new.disk)) (D.state swapper.old.disk)
-        (D.state swapper.new.disk)) }
+    ensures fails { IfErr result
+        (FailsBy (AreRight (λ k. free_ones) sector pages swapper.old.pool)
+        (IsOneTaken sector pages) (D.state swapper.old.disk)
+        swapper.old.pool (D.state swapper.new.disk)) }
     ensures frames { swapper.new.pool ≡ swapper.old.pool }
     ensures layout { swapper.new.layout ≡ swapper.old.layout }
     ensures cost { (D.state swapper.new.disk).transfers ≤ (D.state swapper.old.disk).transfers + 2 * pages }
@@ -73,39 +59,25 @@ pub fn free_pages_up<D: Disk, A: Allocator>(
     id: FileId,
     page: u32,
 ) -> Result<(), Halt>
-    requires size { (D.state swapper.old.disk).sectors ≡ swapper.old.layout.sectors }
-    requires data { swapper.old.layout.first ≤ sector }
-    requires inside { sector + pages ≤ swapper.old.layout.sectors }
+    requires data { AreData (D.state swapper.old.disk) swapper.old.layout sector pages }
     requires numbers { page + pages ≤ 2 ^ 32 }
     requires of_file { (id ≡ 3) ⊎ (16 ≤ id) }
     ensures freed { OnOk result
-        (RelabelsRun sector pages (freeing (range_with_len sector pages)) (D.state swapper.old.disk) swapper.old.pool
+        (RelabelsOnes (λ k. ones_of (record { id = id; page = page + k })) sector pages
+        (freeing (range_with_len sector pages)) (D.state swapper.old.disk) swapper.old.pool
         (D.state swapper.new.disk)) }
     ensures stopped { OnErr result
-        (MadeSome (freeing (range_with_len sector pages)) (D.state swapper.old.disk) swapper.old.pool
-        (D.state swapper.new.disk)) }
-    ensures were { OnOk result
-        ((d : List Sector) → (D.state swapper.old.disk).contents ≡ Some d
-        → HaveOnes (λ k. ones_of (record { id = id; page = page + k })) d sector pages) }
-    ensures named { OnErr result
         (NamedSome (λ k. sector + k) (λ k. ones_of (record { id = id; page = page + k }))
         (freeing (range_with_len sector pages)) (D.state swapper.old.disk) swapper.old.pool
         (D.state swapper.new.disk)) }
-    ensures sound { (m : List Sector) → Stands (D.state swapper.old.disk) swapper.old.pool m
-        → AreUncovered swapper.old.pool sector pages
-        → HaveOnes (λ k. ones_of (record { id = id; page = page + k })) m sector pages
-        → IfErr result (λ e. e ≡ halt.Disk) }
-    ensures cause { IfErr result
-        (HasCause (IsOneNotOf sector pages (λ k. record { id = id; page = page + k }) (D.state swapper.old.disk))
-        (D.state swapper.old.disk) (D.state swapper.new.disk)) }
-    ensures evidence_seen { IfErr result
-        (HasCause (IsOneNotOf sector pages (λ k. record { id = id; page = page + k }) (D.state swapper.new.disk))
-        (D.state swapper.old.disk) (D.state swapper.new.disk)) }
+    ensures fails { IfErr result
+        (FailsBy (AreRight (λ k. ones_of (record { id = id; page = page + k })) sector pages swapper.old.pool)
+        (IsOneNotOf sector pages (λ k. record { id = id; page = page + k })) (D.state swapper.old.disk)
+        swapper.old.pool (D.state swapper.new.disk)) }
     ensures frames { swapper.new.pool ≡ swapper.old.pool }
     ensures layout { swapper.new.layout ≡ swapper.old.layout }
     ensures cost { (D.state swapper.new.disk).transfers ≤ (D.state swapper.old.disk).transfers + 2 * pages }
-    ensures own { RelabelsOwn id (D.state swapper.old.disk) (D.state swapper.new.disk) }
-    ensures around { SyncsLeaders result (D.state swapper.old.disk) (D.state swapper.new.disk) }
+    ensures labels { RelabelsAround id result (D.state swapper.old.disk) (D.state swapper.new.disk) }
 {
     for k in 0..pages {
         let wanted = Wanted { id, page: page + k };
@@ -125,40 +97,26 @@ pub fn free_pages_down<D: Disk, A: Allocator>(
     id: FileId,
     page: u32,
 ) -> Result<(), Halt>
-    requires size { (D.state swapper.old.disk).sectors ≡ swapper.old.layout.sectors }
-    requires data { swapper.old.layout.first ≤ sector }
-    requires inside { sector + pages ≤ swapper.old.layout.sectors }
+    requires data { AreData (D.state swapper.old.disk) swapper.old.layout sector pages }
     requires numbers { page + pages ≤ 2 ^ 32 }
     requires of_file { (id ≡ 3) ⊎ (16 ≤ id) }
     ensures freed { OnOk result
-        (RelabelsRun sector pages (freeing (map (λ k. sector + (pages - (k + 1))) (range_with_len 0 pages)))
-        (D.state swapper.old.disk) swapper.old.pool (D.state swapper.new.disk)) }
-    ensures stopped { OnErr result
-        (MadeSome (freeing (map (λ k. sector + (pages - (k + 1))) (range_with_len 0 pages))) (D.state swapper.old.disk)
+        (RelabelsOnes (λ k. ones_of (record { id = id; page = page + k })) sector pages
+        (freeing (map (λ k. sector + (pages - (k + 1))) (range_with_len 0 pages))) (D.state swapper.old.disk)
         swapper.old.pool (D.state swapper.new.disk)) }
-    ensures were { OnOk result
-        ((d : List Sector) → (D.state swapper.old.disk).contents ≡ Some d
-        → HaveOnes (λ k. ones_of (record { id = id; page = page + k })) d sector pages) }
-    ensures named { OnErr result
+    ensures stopped { OnErr result
         (NamedSome (λ k. sector + (pages - (k + 1)))
         (λ k. ones_of (record { id = id; page = page + (pages - (k + 1)) }))
         (freeing (map (λ k. sector + (pages - (k + 1))) (range_with_len 0 pages))) (D.state swapper.old.disk)
         swapper.old.pool (D.state swapper.new.disk)) }
-    ensures sound { (m : List Sector) → Stands (D.state swapper.old.disk) swapper.old.pool m
-        → AreUncovered swapper.old.pool sector pages
-        → HaveOnes (λ k. ones_of (record { id = id; page = page + k })) m sector pages
-        → IfErr result (λ e. e ≡ halt.Disk) }
-    ensures cause { IfErr result
-        (HasCause (IsOneNotOf sector pages (λ k. record { id = id; page = page + k }) (D.state swapper.old.disk))
-        (D.state swapper.old.disk) (D.state swapper.new.disk)) }
-    ensures evidence_seen { IfErr result
-        (HasCause (IsOneNotOf sector pages (λ k. record { id = id; page = page + k }) (D.state swapper.new.disk))
-        (D.state swapper.old.disk) (D.state swapper.new.disk)) }
+    ensures fails { IfErr result
+        (FailsBy (AreRight (λ k. ones_of (record { id = id; page = page + k })) sector pages swapper.old.pool)
+        (IsOneNotOf sector pages (λ k. record { id = id; page = page + k })) (D.state swapper.old.disk)
+        swapper.old.pool (D.state swapper.new.disk)) }
     ensures frames { swapper.new.pool ≡ swapper.old.pool }
     ensures layout { swapper.new.layout ≡ swapper.old.layout }
     ensures cost { (D.state swapper.new.disk).transfers ≤ (D.state swapper.old.disk).transfers + 2 * pages }
-    ensures own { RelabelsOwn id (D.state swapper.old.disk) (D.state swapper.new.disk) }
-    ensures around { SyncsLeaders result (D.state swapper.old.disk) (D.state swapper.new.disk) }
+    ensures labels { RelabelsAround id result (D.state swapper.old.disk) (D.state swapper.new.disk) }
 {
     for k in 0..pages {
         let after = pages - (k + 1);

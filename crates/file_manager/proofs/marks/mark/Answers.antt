@@ -41,14 +41,14 @@ pub returns-in-Err-mark_leader-clause-revealed : goal.returns-in-Err-mark_leader
 returns-in-Err-mark_leader-clause-revealed g c = λ tables x shapes spaces f books is.
     let now = (c.leader_of.ensures.revealed tables x shapes spaces books).1 in
     let triple = subst (IsLeaderOf (labels_of x) shapes c.args.id) c.in-Ok-Some.field-0-is ((c.in-Ok-Some.ensures.revealed tables x shapes spaces books).0) in
-    let sound = rw c.swapper_over-swapper.ensures.value at c.in-Err-mark_leader.ensures.sound in (
+    let sound = rw c.swapper_over-swapper.ensures.value at c.in-Err-mark_leader.ensures.fails.sound in (
       sound x now.stands (leader_one _ _ shapes x books.booked c.args.id c.in-Ok-Some.sector c.requires.client triple),
-      marks_first (view_of c.args.filer.now).layout _ _ _ _ _ _ _ shapes spaces x c.args.id c.in-Ok-Some.sector c.args.mark c.requires.client now c.leader_of.ensures.stays.makes triple (rw c.swapper_over-swapper.ensures.value at c.mark_leader.ensures.frames) (rw c.swapper_over-swapper.ensures.value at c.in-Err-mark_leader.ensures.stopped),
+      marks_first (view_of c.args.filer.now).layout _ _ _ _ _ _ _ shapes spaces x c.args.id c.in-Ok-Some.sector c.args.mark c.requires.client now c.leader_of.ensures.stays.makes triple (rw c.swapper_over-swapper.ensures.value at c.mark_leader.ensures.frames) (rw c.swapper_over-swapper.ensures.value at c.in-Err-mark_leader.ensures.stopped.written),
     )
 
 pub returns-in-Err-mark_leader-clause-makes : goal.returns-in-Err-mark_leader-clause-makes
 returns-in-Err-mark_leader-clause-makes g c =
-    stopped_makes _ _ _ _ _ _ c.in-Ok-Some.sector c.args.mark c.leader_of.ensures.stays.makes (rw c.swapper_over-swapper.ensures.value at c.mark_leader.ensures.frames) (rw c.swapper_over-swapper.ensures.value at c.in-Err-mark_leader.ensures.stopped)
+    stopped_makes _ _ _ _ _ _ c.in-Ok-Some.sector c.args.mark c.leader_of.ensures.stays.makes (rw c.swapper_over-swapper.ensures.value at c.mark_leader.ensures.frames) (rw c.swapper_over-swapper.ensures.value at c.in-Err-mark_leader.ensures.stopped.written)
 
 pub returns-clause-revealed : goal.returns-clause-revealed
 returns-clause-revealed g c = λ tables x shapes spaces f books is hidden.
@@ -75,9 +75,9 @@ returns-in-Err-mark_leader-clause-fails g c =
     let size : new.sectors ≡ layout.sectors = marked_sectors c.args.mark _ new _ _ (returns-in-Err-mark_leader-clause-makes g c) ∙ c.requires.size in
     let place = subst (λ (o : Option ℕ). IfSome o (λ sector. (layout.first ≤ sector) × (sector < layout.sectors))) c.in-Ok-Some.field-0-is c.in-Ok-Some.ensures.found.0 in
     record {
-      cause = label_halts layout kept c.args.id old (view_of c.args.filer.now).slots (view_of c.leader_of.new.filer).disk (g.D.Disk.state c.mark_leader.new.swapper.disk) (view_of c.leader_of.new.filer).slots c.in-Ok-Some.sector c.leader_of.ensures.stays.makes given c.in-Err-mark_leader.halt (rw c.swapper_over-swapper.ensures.value at c.in-Err-mark_leader.ensures.cause);
-      counted = counted _ _ (view_of c.leader_of.new.filer).disk (g.D.Disk.state c.mark_leader.new.swapper.disk) _ c.leader_of.ensures.stays.makes.went.faults (rw c.swapper_over-swapper.ensures.value at c.in-Err-mark_leader.ensures.cause);
-      evidence_seen = so_of_other new c.in-Ok-Some.sector wanted (file_may layout new (accepted c.args.filer.now) size c.in-Ok-Some.sector wanted (inr c.requires.client) place.0 place.1) (view_of c.leader_of.new.filer).disk (g.D.Disk.state c.mark_leader.new.swapper.disk) c.in-Err-mark_leader.halt (rw c.swapper_over-swapper.ensures.value at c.in-Err-mark_leader.ensures.evidence_seen);
+      cause = label_halts layout kept c.args.id old (view_of c.args.filer.now).slots (view_of c.leader_of.new.filer).disk (g.D.Disk.state c.mark_leader.new.swapper.disk) (view_of c.leader_of.new.filer).slots c.in-Ok-Some.sector c.leader_of.ensures.stays.makes given c.in-Err-mark_leader.halt (rw c.swapper_over-swapper.ensures.value at c.in-Err-mark_leader.ensures.fails.cause);
+      counted = counted _ _ (view_of c.leader_of.new.filer).disk (g.D.Disk.state c.mark_leader.new.swapper.disk) _ c.leader_of.ensures.stays.makes.went.faults (rw c.swapper_over-swapper.ensures.value at c.in-Err-mark_leader.ensures.fails.cause);
+      evidence_seen = so_of_other new c.in-Ok-Some.sector wanted (file_may layout new (accepted c.args.filer.now) size c.in-Ok-Some.sector wanted (inr c.requires.client) place.0 place.1) (view_of c.leader_of.new.filer).disk (g.D.Disk.state c.mark_leader.new.swapper.disk) c.in-Err-mark_leader.halt (rw c.swapper_over-swapper.ensures.value at c.in-Err-mark_leader.ensures.fails.evidence_seen);
     }
 
 pub returns-in-Err-clause-fails : goal.returns-in-Err-clause-fails
@@ -103,16 +103,16 @@ returns-in-Err-clause-labels g c = record {
 
 pub returns-in-Err-mark_leader-clause-labels : goal.returns-in-Err-mark_leader-clause-labels
 returns-in-Err-mark_leader-clause-labels g c = record {
-  own = own_after (quiet_own c.args.id c.leader_of.ensures.stays.makes) (leader_own c.args.mark (rw c.swapper_over-swapper.ensures.value at c.in-Err-mark_leader.ensures.stopped) (rw c.swapper_over-swapper.ensures.value at c.mark_leader.ensures.own));
-  around = around_after (quiet_synced false c.leader_of.ensures.stays.makes) (leader_synced c.args.mark (rw c.swapper_over-swapper.ensures.value at c.in-Err-mark_leader.ensures.stopped) (rw c.swapper_over-swapper.ensures.value at c.in-Err-mark_leader.ensures.around));
+  own = own_after (quiet_own c.args.id c.leader_of.ensures.stays.makes) (leader_own c.args.mark (rw c.swapper_over-swapper.ensures.value at c.in-Err-mark_leader.ensures.stopped.written) (rw c.swapper_over-swapper.ensures.value at c.mark_leader.ensures.labels.own));
+  around = around_after (quiet_synced false c.leader_of.ensures.stays.makes) (leader_synced c.args.mark (rw c.swapper_over-swapper.ensures.value at c.in-Err-mark_leader.ensures.stopped.written) (rw c.swapper_over-swapper.ensures.value at c.in-Err-mark_leader.ensures.labels.around));
 }
 
 pub returns-clause-labels : goal.returns-clause-labels
 returns-clause-labels g c =
     let made = rw c.swapper_over-swapper.ensures.value at c.in-Ok.ensures.marked in
     record {
-      own = own_after (quiet_own c.args.id c.leader_of.ensures.stays.makes) (wrote_own made.1.makes (rw c.swapper_over-swapper.ensures.value at c.mark_leader.ensures.own));
-      around = around_after (quiet_synced false c.leader_of.ensures.stays.makes) (wrote_synced made.1.makes (rw c.swapper_over-swapper.ensures.value at c.in-Ok.ensures.around));
+      own = own_after (quiet_own c.args.id c.leader_of.ensures.stays.makes) (wrote_own made.1.makes (rw c.swapper_over-swapper.ensures.value at c.mark_leader.ensures.labels.own));
+      around = around_after (quiet_synced false c.leader_of.ensures.stays.makes) (wrote_synced made.1.makes (rw c.swapper_over-swapper.ensures.value at c.in-Ok.ensures.labels.around));
     }
 
 pub returns-in-Ok-None-clause-stays : goal.returns-in-Ok-None-clause-stays
@@ -139,8 +139,8 @@ pub returns-in-Err-mark_leader-clause-accounts : goal.returns-in-Err-mark_leader
 returns-in-Err-mark_leader-clause-accounts g c = λ o named k.
     let led = subst (λ (o : Option ℕ). IfSome o (λ sector. named c.args.id leader_page sector ≡ true)) c.in-Ok-Some.field-0-is (c.in-Ok-Some.ensures.names k.memory named k.stands k.map k.kept) in
     let now = c.in-Ok-Some.ensures.accounts o named k in
-    let stopped = rw c.swapper_over-swapper.ensures.value at c.in-Err-mark_leader.ensures.stopped in
-    let cause = rw c.swapper_over-swapper.ensures.value at c.in-Err-mark_leader.ensures.cause in
+    let stopped = rw c.swapper_over-swapper.ensures.value at c.in-Err-mark_leader.ensures.stopped.written in
+    let cause = rw c.swapper_over-swapper.ensures.value at c.in-Err-mark_leader.ensures.fails.cause in
     subst (λ (l : Layout). ShowsReason o l (g.D.Disk.state c.mark_leader.new.swapper.disk) c.in-Err-mark_leader.halt) c.leader_of.ensures.stays.layout
     (mark_reasons now (record { id = c.args.id; page = leader_page }) c.in-Ok-Some.sector c.args.mark led stopped c.in-Err-mark_leader.halt cause)
 

@@ -5,31 +5,29 @@ use Rattle.file_manager.proofs.release.free_labels.Goals as goal
 use Rattle.filer_kernel.specs.View.{accepted, view_of}
 
 pub returns-in-Err-clause-sound : goal.returns-in-Err-clause-sound
-returns-in-Err-clause-sound g c = λ m stands free ones. (rw (c.swapper_over-swapper.ensures.value) at c.in-Err.ensures.sound) m stands free ones
+returns-in-Err-clause-sound g c = λ m stands free ones. (rw c.swapper_over-swapper.ensures.value at c.in-Err.ensures.fails).sound m stands (free, ones)
 
 pub returns-in-Err-clause-fails : goal.returns-in-Err-clause-fails
 returns-in-Err-clause-fails g c =
+    let fails = rw c.swapper_over-swapper.ensures.value at c.in-Err.ensures.fails in
     let new = g.D.Disk.state c.free_pages_up.new.swapper.disk in
     let size = (rw c.swapper_over-swapper.ensures.value at c.in-Err.ensures.stopped).makes.went.sectors ∙ c.requires.size in
     record {
-      cause = rw c.swapper_over-swapper.ensures.value at c.in-Err.ensures.cause;
-      counted = counted _ _ (view_of c.args.filer.now).disk (g.D.Disk.state c.free_pages_up.new.swapper.disk) _ (omega arith) (rw (c.swapper_over-swapper.ensures.value) at c.in-Err.ensures.cause);
-      evidence_seen = so_of_run (view_of c.args.filer.now).layout new (accepted c.args.filer.now) size c.args.run c.requires.data c.requires.form (view_of c.args.filer.now).disk new c.in-Err.halt (rw c.swapper_over-swapper.ensures.value at c.in-Err.ensures.evidence_seen);
+      cause = fails.cause;
+      counted = counted _ _ (view_of c.args.filer.now).disk (g.D.Disk.state c.free_pages_up.new.swapper.disk) _ (omega arith) fails.cause;
+      evidence_seen = so_of_run (view_of c.args.filer.now).layout new (accepted c.args.filer.now) size c.args.run c.requires.data c.requires.form (view_of c.args.filer.now).disk new c.in-Err.halt fails.evidence_seen;
     }
 
 pub returns-in-Ok-clause-writes : goal.returns-in-Ok-clause-writes
-returns-in-Ok-clause-writes g c = (search rules, rw c.swapper_over-swapper.ensures.value at c.in-Ok.ensures.were)
+returns-in-Ok-clause-writes g c = let made = rw c.swapper_over-swapper.ensures.value at c.in-Ok.ensures.freed in (made.relabels, made.were)
+
+pub returns-in-Err-clause-writes : goal.returns-in-Err-clause-writes
+returns-in-Err-clause-writes g c = let some = rw c.swapper_over-swapper.ensures.value at c.in-Err.ensures.stopped in record { count = some.count; within = some.within; makes = some.makes }
 
 pub returns-in-Ok-clause-labels : goal.returns-in-Ok-clause-labels
-returns-in-Ok-clause-labels g c = record {
-  own = rw (c.swapper_over-swapper.ensures.value) at c.free_pages_up.ensures.own;
-  around = rw (c.swapper_over-swapper.ensures.value) at c.in-Ok.ensures.around;
-}
+returns-in-Ok-clause-labels g c = rw c.swapper_over-swapper.ensures.value at c.in-Ok.ensures.labels
 
 pub returns-in-Err-clause-labels : goal.returns-in-Err-clause-labels
-returns-in-Err-clause-labels g c = record {
-  own = rw (c.swapper_over-swapper.ensures.value) at c.free_pages_up.ensures.own;
-  around = rw (c.swapper_over-swapper.ensures.value) at c.in-Err.ensures.around;
-}
+returns-in-Err-clause-labels g c = rw c.swapper_over-swapper.ensures.value at c.in-Err.ensures.labels
 
 -- ---- What is on the medium.

@@ -19,14 +19,21 @@ returns-then-not-names-clause-makes g c =
     let moves : Moves (g.D.Disk.state c.args.swapper.now.disk) (g.D.Disk.state c.read.new.self) = search rules in
     (step_laws.read _ _ c.args.swapper.now.pool same moves).makes
 
-pub returns-then-not-names-clause-sound : goal.returns-then-not-names-clause-sound
-returns-then-not-names-clause-sound g c = λ m stands one.
-    let named : names c.in-Ok.found c.args.wanted ≡ true = in_memory (ones_of c.args.wanted) _ _ _ c.in-Ok.found m (search rules) stands one in
-    let other : names c.in-Ok.found c.args.wanted ≡ false = search rules in
-    absurd (not_named c.args.wanted c.in-Ok.found other named)
-
 pub returns-clause-makes : goal.returns-clause-makes
 returns-clause-makes g c =
     let same : RevealsSame (g.D.Disk.state c.args.swapper.now.disk) (g.D.Disk.state c.read.new.self) = search rules in
     let moves : Moves (g.D.Disk.state c.args.swapper.now.disk) (g.D.Disk.state c.read.new.self) = search rules in
     (step_laws.read _ _ c.args.swapper.now.pool same moves).makes
+
+pub returns-then-not-names-clause-fails : goal.returns-then-not-names-clause-fails
+returns-then-not-names-clause-fails g c = record {
+  sound = λ m stands one.
+      let named : names c.in-Ok.found c.args.wanted ≡ true = in_memory (ones_of c.args.wanted) _ _ _ c.in-Ok.found m (search rules) stands one in
+      let other : names c.in-Ok.found c.args.wanted ≡ false = search rules in
+      absurd (not_named c.args.wanted c.in-Ok.found other named);
+  cause = search rules;
+  evidence_seen = search rules;
+}
+
+pub returns-in-Err-clause-fails : goal.returns-in-Err-clause-fails
+returns-in-Err-clause-fails g c = record { sound = λ m stands one. search rules; cause = search rules; evidence_seen = search rules }

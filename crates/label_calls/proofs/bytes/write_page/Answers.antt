@@ -28,8 +28,15 @@ returns-in-Err-Failed-clause-stopped g c =
     let moves : Moves old new = search rules in
     may_write c.args.sector c.args.wanted c.args.bytes.now old new c.args.swapper.now.pool c.requires.not_root form (went_by moves) either
 
-pub returns-in-Err-Wrong-clause-sound : goal.returns-in-Err-Wrong-clause-sound
-returns-in-Err-Wrong-clause-sound g c = λ m stands one.
-    let named : names c.in-Err-Wrong.found c.args.wanted ≡ true = in_memory (ones_of c.args.wanted) _ _ _ c.in-Err-Wrong.found m (search rules) stands one in
-    let other : names c.in-Err-Wrong.found c.args.wanted ≡ false = search rules in
-    absurd (not_named c.args.wanted c.in-Err-Wrong.found other named)
+pub returns-in-Err-Wrong-clause-fails : goal.returns-in-Err-Wrong-clause-fails
+returns-in-Err-Wrong-clause-fails g c = record {
+  sound = λ m stands one.
+      let named : names c.in-Err-Wrong.found c.args.wanted ≡ true = in_memory (ones_of c.args.wanted) _ _ _ c.in-Err-Wrong.found m (search rules) stands one in
+      let other : names c.in-Err-Wrong.found c.args.wanted ≡ false = search rules in
+      absurd (not_named c.args.wanted c.in-Err-Wrong.found other named);
+  cause = search rules;
+  evidence_seen = search rules;
+}
+
+pub returns-in-Err-Failed-clause-fails : goal.returns-in-Err-Failed-clause-fails
+returns-in-Err-Failed-clause-fails g c = record { sound = λ m stands one. search rules; cause = search rules; evidence_seen = search rules }

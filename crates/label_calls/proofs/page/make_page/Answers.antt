@@ -14,12 +14,6 @@ use Rattle.label_calls.proofs.page.make_page.Goals as goal
 pub returns-then-not-is_free-clause-stopped : goal.returns-then-not-is_free-clause-stopped
 returns-then-not-is_free-clause-stopped g c = inl (search rules)
 
-pub returns-then-not-is_free-clause-sound : goal.returns-then-not-is_free-clause-sound
-returns-then-not-is_free-clause-sound g c = λ m stands one.
-    let free : is_free c.in-Ok.found ≡ true = in_memory free_ones _ _ _ c.in-Ok.found m (search rules) stands one in
-    let taken : is_free c.in-Ok.found ≡ false = search rules in
-    absurd (true≢false (sym free ∙ taken))
-
 pub returns-in-Err-write_fresh-clause-stopped : goal.returns-in-Err-write_fresh-clause-stopped
 returns-in-Err-write_fresh-clause-stopped g c =
     let old = g.D.Disk.state c.args.swapper.now.disk in
@@ -32,7 +26,10 @@ returns-in-Err-write_fresh-clause-stopped g c =
     let layout : IsLayout c.args.swapper.now.layout = search rules in
     let free : is_free c.in-Ok.found ≡ true = search rules in
     let form : IsSector (c.args.label, zero_bytes) = fresh_in_form c.args.label (search rules) (search rules) (search rules) (search rules) (search rules) in
-    (fresh_laws c.args.swapper.now.layout old mid new c.args.swapper.now.pool c.args.sector c.in-Ok.found layout (λ d revealed. g.met.D.Disk.whole c.args.swapper.now.disk d revealed ∙ c.requires.size) c.requires.data there same (went_by read) (went_by moves) c.args.label c.requires.form form free).stopped c.in-Err-write_fresh.ensures.stopped
+    inr (
+      had_one old mid c.args.swapper.now.pool c.args.sector c.in-Ok.found there same (went_by read) free_ones free,
+      (fresh_laws c.args.swapper.now.layout old mid new c.args.swapper.now.pool c.args.sector c.in-Ok.found layout (λ d revealed. g.met.D.Disk.whole c.args.swapper.now.disk d revealed ∙ c.requires.data.size) c.requires.data.first there same (went_by read) (went_by moves) c.args.label c.requires.form form free).stopped c.in-Err-write_fresh.ensures.stopped,
+    )
 
 pub returns-clause-made : goal.returns-clause-made
 returns-clause-made g c =
@@ -46,17 +43,7 @@ returns-clause-made g c =
     let layout : IsLayout c.args.swapper.now.layout = search rules in
     let free : is_free c.in-Ok.found ≡ true = search rules in
     let form : IsSector (c.args.label, zero_bytes) = fresh_in_form c.args.label (search rules) (search rules) (search rules) (search rules) (search rules) in
-    (fresh_laws c.args.swapper.now.layout old mid new c.args.swapper.now.pool c.args.sector c.in-Ok.found layout (λ d revealed. g.met.D.Disk.whole c.args.swapper.now.disk d revealed ∙ c.requires.size) c.requires.data there same (went_by read) (went_by moves) c.args.label c.requires.form form free).made c.in-Ok-write_fresh.ensures.writes
-
-pub returns-in-Err-write_fresh-clause-was : goal.returns-in-Err-write_fresh-clause-was
-returns-in-Err-write_fresh-clause-was g c =
-    let old = g.D.Disk.state c.args.swapper.now.disk in
-    let mid = g.D.Disk.state c.read_label.new.swapper.disk in
-    let there : HasLabel old c.args.sector c.in-Ok.found = search rules in
-    let same : RevealsSame old mid = search rules in
-    let read : Moves old mid = search rules in
-    let free : is_free c.in-Ok.found ≡ true = search rules in
-    inr (had_one old mid c.args.swapper.now.pool c.args.sector c.in-Ok.found there same (went_by read) free_ones free)
+    (fresh_laws c.args.swapper.now.layout old mid new c.args.swapper.now.pool c.args.sector c.in-Ok.found layout (λ d revealed. g.met.D.Disk.whole c.args.swapper.now.disk d revealed ∙ c.requires.data.size) c.requires.data.first there same (went_by read) (went_by moves) c.args.label c.requires.form form free).made c.in-Ok-write_fresh.ensures.writes
 
 pub returns-in-Err-clause-own : goal.returns-in-Err-clause-own
 returns-in-Err-clause-own g c = λ other. relabels_own (same_own other c.read_label.ensures.same)
@@ -69,3 +56,19 @@ returns-in-Err-write_fresh-clause-own g c = λ other. fresh_own other c.args.sec
 
 pub returns-clause-own : goal.returns-clause-own
 returns-clause-own g c = λ other. fresh_own other c.args.sector c.args.label zero_bytes c.read_label.ensures.same (inr c.in-Ok-write_fresh.ensures.writes)
+
+pub returns-in-Err-clause-fails : goal.returns-in-Err-clause-fails
+returns-in-Err-clause-fails g c = record { sound = λ m stands one. search rules; cause = search rules; evidence_seen = search rules }
+
+pub returns-then-not-is_free-clause-fails : goal.returns-then-not-is_free-clause-fails
+returns-then-not-is_free-clause-fails g c = record {
+  sound = λ m stands one.
+      let free : is_free c.in-Ok.found ≡ true = in_memory free_ones _ _ _ c.in-Ok.found m (search rules) stands one in
+      let taken : is_free c.in-Ok.found ≡ false = search rules in
+      absurd (true≢false (sym free ∙ taken));
+  cause = search rules;
+  evidence_seen = search rules;
+}
+
+pub returns-in-Err-write_fresh-clause-fails : goal.returns-in-Err-write_fresh-clause-fails
+returns-in-Err-write_fresh-clause-fails g c = record { sound = λ m stands one. search rules; cause = search rules; evidence_seen = search rules }

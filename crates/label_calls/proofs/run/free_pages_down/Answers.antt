@@ -1,45 +1,23 @@
 use Rattle.std.proofs.Common.{◌≡◌, ◌≢◌, ℕ, ◌+◌, ◌-◌, ◌<◌, map, false, rules, refl, arith}
 use Rattle.std.specs.List.{range_with_len}
+use Rattle.labelled_disk.specs.declared.label.Wanted.{Wanted}
 use Rattle.labelled_disk.specs.declared.disk.DiskWrite.TheVariants as write
 use Rattle.labelled_disk.specs.Runs.{freeing}
 use Rattle.labelled_disk.specs.Sectors.{free_label}
-use Rattle.label_calls.specs.Labels.{IsNotOf}
-use Rattle.label_calls.specs.Runs.{IsOneNotOf}
-use Rattle.label_calls.proofs.RunLemmas.{so_far_none, so_far_more, one_still_there, made_some, cause_before, run_is, freeing_is, not_of_before, named_some, was_before}
-use Rattle.label_calls.specs.OwnLaws.{relabels_own, own_then, may_own}
+use Rattle.label_calls.specs.Labels.{IsNotOf, ones_of}
+use Rattle.label_calls.specs.Runs.{AreRight, IsOneNotOf}
+use Rattle.label_calls.proofs.RunLemmas.{so_far_none, so_far_more, one_still_there, fails_before, run_is, freeing_is, not_of_before, named_some}
+use Rattle.label_calls.specs.OwnLaws.{relabels_own, own_then, may_own, relabelled}
 use Rattle.swapper_kernel.specs.GoesLaws.{went_itself}
 use Rattle.label_calls.specs.SyncedLaws.{syncs_around, same_synced, wrote_synced, around_after, may_synced}
 use Rattle.label_calls.proofs.OwnLemmas.{of_page, so_far_own}
 use Rattle.label_calls.proofs.run.free_pages_down.Goals as goal
 
 pub loop-k-init : goal.loop-k-init
-loop-k-init g c = (so_far_none _ _ _ _ _ _ _ c.requires.size, syncs_around (same_synced false (record { contents = refl; writes = refl }) (went_itself _)))
+loop-k-init g c = (so_far_none _ _ _ _ _ _ _ c.requires.data.size, syncs_around (same_synced false (record { contents = refl; writes = refl }) (went_itself _)))
 
 apart : (sector pages k : ℕ) → k < pages → (i : ℕ) → i < k → sector + (pages - (k + 1)) ≢ sector + (pages - (i + 1))
 apart sector pages k inside i below same = omega (arith, inside, below, same)
-
-pub returns-in-Err-clause-stopped : goal.returns-in-Err-clause-stopped
-returns-in-Err-clause-stopped g c =
-    let below : c.loop-k.k < c.args.pages = search rules in
-    made_some (λ k. c.args.sector + (c.args.pages - (k + 1))) (λ k. write.LabelOnly (c.args.sector + (c.args.pages - (k + 1))) free_label) _ _ _ _ _ _ _ _ c.loop-k.k c.loop-k.invariant.0 (apart c.args.sector c.args.pages c.loop-k.k below)
-    c.args.pages (freeing (map (λ k. c.args.sector + (c.args.pages - (k + 1))) (range_with_len 0 c.args.pages))) (freeing_is (λ k. c.args.sector + (c.args.pages - (k + 1))) (range_with_len 0 c.args.pages)) below _ c.in-Err.ensures.stopped
-
-pub returns-in-Err-clause-sound : goal.returns-in-Err-clause-sound
-returns-in-Err-clause-sound g c = λ m stands free ones.
-    let below : c.loop-k.k < c.args.pages = search rules in
-    let last : (c.args.pages - (c.loop-k.k + 1)) < c.args.pages = omega (arith, below) in
-    let there = one_still_there (λ k. c.args.sector + (c.args.pages - (k + 1))) _ _ _ _ _ _ _ _ _ c.loop-k.k c.loop-k.invariant.0 (apart c.args.sector c.args.pages c.loop-k.k below) free m stands (ones (c.args.pages - (c.loop-k.k + 1)) last) in
-    c.in-Err.ensures.sound there.0 there.1 there.2
-
-pub returns-in-Err-clause-cause : goal.returns-in-Err-clause-cause
-returns-in-Err-clause-cause g c =
-    let below : c.loop-k.k < c.args.pages = search rules in
-    let last : (c.args.pages - (c.loop-k.k + 1)) < c.args.pages = omega (arith, below) in
-    let old = g.D.Disk.state c.args.swapper.now.disk in
-    let mid = g.D.Disk.state c.loop-k.swapper.disk in
-    let new = g.D.Disk.state c.free_page.new.swapper.disk in
-    cause_before (λ k. c.args.sector + (c.args.pages - (k + 1))) _ _ _ _ _ _ _ _ _ c.loop-k.k c.loop-k.invariant.0 (apart c.args.sector c.args.pages c.loop-k.k below) (IsNotOf (c.args.sector + (c.args.pages - (c.loop-k.k + 1))) (record { id = c.args.id; page = c.args.page + (c.args.pages - (c.loop-k.k + 1)) }) mid) (IsOneNotOf c.args.sector c.args.pages (λ k. record { id = c.args.id; page = c.args.page + k }) old) new c.in-Err.halt
-    (λ evidence is. ((c.args.pages - (c.loop-k.k + 1)), last, not_of_before (λ k. c.args.sector + (c.args.pages - (k + 1))) _ _ _ _ _ _ _ _ _ c.loop-k.k c.loop-k.invariant.0 (apart c.args.sector c.args.pages c.loop-k.k below) (record { id = c.args.id; page = c.args.page + (c.args.pages - (c.loop-k.k + 1)) }) evidence is)) c.in-Err.ensures.cause
 
 pub loop-k-preserved : goal.loop-k-preserved
 loop-k-preserved g c =
@@ -47,54 +25,53 @@ loop-k-preserved g c =
     let last : (c.args.pages - (c.loop-k.k + 1)) < c.args.pages = omega (arith, below) in (
       so_far_more (λ k. c.args.sector + (c.args.pages - (k + 1))) (λ k. write.LabelOnly (c.args.sector + (c.args.pages - (k + 1))) free_label) _ _ _ _ _ _ _ _ c.loop-k.k c.loop-k.invariant.0 (apart c.args.sector c.args.pages c.loop-k.k below)
           _ _ _ refl (λ free. free (c.args.pages - (c.loop-k.k + 1)) last) c.in-Ok.ensures.freed c.in-Ok.ensures.frames c.in-Ok.ensures.layout c.in-Ok.ensures.cost,
-      around_after (wrote_synced c.loop-k.invariant.0.makes c.loop-k.invariant.1) (wrote_synced c.in-Ok.ensures.freed.makes c.in-Ok.ensures.around),
+      around_after (wrote_synced c.loop-k.invariant.0.makes c.loop-k.invariant.1) (wrote_synced c.in-Ok.ensures.freed.makes c.in-Ok.ensures.labels.around),
     )
-
-pub returns-clause-freed : goal.returns-clause-freed
-returns-clause-freed g c =
-    let all : c.loop-k.k ≡ c.args.pages = search rules in
-    let so_far = rw all at c.loop-k.invariant.0 in
-    run_is (λ k. c.args.sector + (c.args.pages - (k + 1))) (λ k. write.LabelOnly (c.args.sector + (c.args.pages - (k + 1))) free_label) _ c.args.sector c.args.pages _ _ _ _ _ _ _ (freeing_is (λ k. c.args.sector + (c.args.pages - (k + 1))) (range_with_len 0 c.args.pages)) so_far
-
-pub returns-in-Err-clause-named : goal.returns-in-Err-clause-named
-returns-in-Err-clause-named g c =
-    let below : c.loop-k.k < c.args.pages = search rules in
-    named_some (λ k. c.args.sector + (c.args.pages - (k + 1))) (λ k. write.LabelOnly (c.args.sector + (c.args.pages - (k + 1))) free_label) _ _ _ _ _ _ _ _ c.loop-k.k c.loop-k.invariant.0 (apart c.args.sector c.args.pages c.loop-k.k below)
-    c.args.pages (freeing (map (λ k. c.args.sector + (c.args.pages - (k + 1))) (range_with_len 0 c.args.pages))) (freeing_is (λ k. c.args.sector + (c.args.pages - (k + 1))) (range_with_len 0 c.args.pages)) below _ c.in-Err.ensures.stopped (was_before c.in-Err.ensures.frames c.in-Err.ensures.was)
 
 -- the turn of a sector in the row
 turned : (k pages : ℕ) → k < pages → pages - (pages - (k + 1) + 1) ≡ k
 turned k pages below = omega (arith, below)
 
-pub returns-clause-were : goal.returns-clause-were
-returns-clause-were g c = λ d revealed k below.
-    let all : c.loop-k.k ≡ c.args.pages = search rules in
-    let i : ℕ = c.args.pages - (k + 1) in
-    let less : i < c.loop-k.k = omega (arith, all, below) in
-    let one = c.loop-k.invariant.0.found d revealed i less in
-    let back : c.args.pages - (i + 1) ≡ k = turned k c.args.pages below in
-    rw back at one
+pub returns-in-Err-clause-stopped : goal.returns-in-Err-clause-stopped
+returns-in-Err-clause-stopped g c =
+    let below : c.loop-k.k < c.args.pages = search rules in
+    named_some (λ k. c.args.sector + (c.args.pages - (k + 1))) (λ k. write.LabelOnly (c.args.sector + (c.args.pages - (k + 1))) free_label) _ _ _ _ _ _ _ _ c.loop-k.k c.loop-k.invariant.0 (apart c.args.sector c.args.pages c.loop-k.k below)
+    c.args.pages (freeing (map (λ k. c.args.sector + (c.args.pages - (k + 1))) (range_with_len 0 c.args.pages))) (freeing_is (λ k. c.args.sector + (c.args.pages - (k + 1))) (range_with_len 0 c.args.pages)) below _ c.in-Err.ensures.stopped
 
-pub returns-in-Err-clause-evidence_seen : goal.returns-in-Err-clause-evidence_seen
-returns-in-Err-clause-evidence_seen g c =
+pub returns-in-Err-clause-fails : goal.returns-in-Err-clause-fails
+returns-in-Err-clause-fails g c =
     let below : c.loop-k.k < c.args.pages = search rules in
     let last : (c.args.pages - (c.loop-k.k + 1)) < c.args.pages = omega (arith, below) in
-    let new = g.D.Disk.state c.free_page.new.swapper.disk in
-    cause_before (λ k. c.args.sector + (c.args.pages - (k + 1))) _ _ _ _ _ _ _ _ _ c.loop-k.k c.loop-k.invariant.0 (apart c.args.sector c.args.pages c.loop-k.k below) (IsNotOf (c.args.sector + (c.args.pages - (c.loop-k.k + 1))) (record { id = c.args.id; page = c.args.page + (c.args.pages - (c.loop-k.k + 1)) }) new) (IsOneNotOf c.args.sector c.args.pages (λ k. record { id = c.args.id; page = c.args.page + k }) new) new c.in-Err.halt
-    (λ evidence is. ((c.args.pages - (c.loop-k.k + 1)), last, is)) c.in-Err.ensures.evidence_seen
+    let place : ℕ → ℕ = λ k. c.args.sector + (c.args.pages - (k + 1)) in
+    let wanted : Wanted = record { id = c.args.id; page = c.args.page + (c.args.pages - (c.loop-k.k + 1)) } in
+    fails_before place _ _ _ _ _ _ _ _ _ c.loop-k.k c.loop-k.invariant.0 (apart c.args.sector c.args.pages c.loop-k.k below) (AreRight (λ k. ones_of (record { id = c.args.id; page = c.args.page + k })) c.args.sector c.args.pages c.args.swapper.now.pool)
+    (IsNotOf (place c.loop-k.k) wanted) (IsOneNotOf c.args.sector c.args.pages (λ k. record { id = c.args.id; page = c.args.page + k })) _ c.in-Err.halt
+    (λ m right. (right.0, right.1 (c.args.pages - (c.loop-k.k + 1)) last)) (λ d evidence is. ((c.args.pages - (c.loop-k.k + 1)), last, is)) (not_of_before place _ _ _ _ _ _ _ _ _ c.loop-k.k c.loop-k.invariant.0 (apart c.args.sector c.args.pages c.loop-k.k below) wanted) c.in-Err.ensures.fails
 
-pub returns-in-Err-clause-own : goal.returns-in-Err-clause-own
-returns-in-Err-clause-own g c =
-    let all : c.loop-k.k < c.args.pages = search rules in
-    relabels_own (own_then (so_far_own (λ k. c.args.sector + (c.args.pages - (k + 1))) free_label _ c.args.id c.loop-k.k c.loop-k.invariant.0 (λ i l named. of_page _ l named) (λ i below. apart c.args.sector c.args.pages i (omega (arith, all, below)))) (may_own c.in-Err.ensures.stopped c.in-Err.ensures.own))
-
-pub returns-clause-own : goal.returns-clause-own
-returns-clause-own g c =
+pub returns-clause-freed : goal.returns-clause-freed
+returns-clause-freed g c =
     let all : c.loop-k.k ≡ c.args.pages = search rules in
-    relabels_own (so_far_own (λ k. c.args.sector + (c.args.pages - (k + 1))) free_label _ c.args.id c.loop-k.k c.loop-k.invariant.0 (λ i l named. of_page _ l named) (λ i below. apart c.args.sector c.args.pages i (omega (arith, all, below))))
+    let so_far = rw all at c.loop-k.invariant.0 in
+    record {
+      were = λ d revealed k below.
+          let i : ℕ = c.args.pages - (k + 1) in
+          let one = c.loop-k.invariant.0.found d revealed i (omega (arith, all, below)) in
+          rw (turned k c.args.pages below) at one;
+      relabels = run_is (λ k. c.args.sector + (c.args.pages - (k + 1))) (λ k. write.LabelOnly (c.args.sector + (c.args.pages - (k + 1))) free_label) _ c.args.sector c.args.pages _ _ _ _ _ _ _ (freeing_is (λ k. c.args.sector + (c.args.pages - (k + 1))) (range_with_len 0 c.args.pages)) so_far;
+    }
 
-pub returns-in-Err-clause-around : goal.returns-in-Err-clause-around
-returns-in-Err-clause-around g c = around_after (wrote_synced c.loop-k.invariant.0.makes c.loop-k.invariant.1) (may_synced c.in-Err.ensures.stopped c.in-Err.ensures.around)
+pub returns-in-Err-clause-labels : goal.returns-in-Err-clause-labels
+returns-in-Err-clause-labels g c =
+    let all : c.loop-k.k < c.args.pages = search rules in
+    record {
+      own = relabels_own (own_then (so_far_own (λ k. c.args.sector + (c.args.pages - (k + 1))) free_label _ c.args.id c.loop-k.k c.loop-k.invariant.0 (λ i l named. of_page _ l named) (λ i below. apart c.args.sector c.args.pages i (omega (arith, all, below)))) (may_own (relabelled c.in-Err.ensures.stopped) c.in-Err.ensures.labels.own));
+      around = around_after (wrote_synced c.loop-k.invariant.0.makes c.loop-k.invariant.1) (may_synced (relabelled c.in-Err.ensures.stopped) c.in-Err.ensures.labels.around);
+    }
 
-pub returns-clause-around : goal.returns-clause-around
-returns-clause-around g c = c.loop-k.invariant.1
+pub returns-clause-labels : goal.returns-clause-labels
+returns-clause-labels g c =
+    let all : c.loop-k.k ≡ c.args.pages = search rules in
+    record {
+      own = relabels_own (so_far_own (λ k. c.args.sector + (c.args.pages - (k + 1))) free_label _ c.args.id c.loop-k.k c.loop-k.invariant.0 (λ i l named. of_page _ l named) (λ i below. apart c.args.sector c.args.pages i (omega (arith, all, below))));
+      around = c.loop-k.invariant.1;
+    }

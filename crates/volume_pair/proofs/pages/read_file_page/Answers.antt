@@ -34,7 +34,7 @@ returns-in-Err-read_page-clause-read g c = λ x shapes books.
     let same = rw c.swapper_over-swapper.ensures.value at c.read_page.ensures.same in
     let frames = rw c.swapper_over-swapper.ensures.value at c.read_page.ensures.frames in
     let layout = rw c.swapper_over-swapper.ensures.value at c.read_page.ensures.layout in
-    let sound = rw c.swapper_over-swapper.ensures.value at c.in-Err-read_page.ensures.sound in (
+    let sound = rw c.swapper_over-swapper.ensures.value at c.in-Err-read_page.ensures.fails.sound in (
       books_read u w shapes x found.0 same frames layout refl,
       λ f shape below. sound x found.0.stands (has_one u shapes x found.0 c.args.id c.args.page c.in-Ok.sector c.requires.client ((c.in-Ok.ensures.found x shapes books).1 f shape below)),
     )
@@ -57,6 +57,6 @@ returns-in-Err-read_page-clause-why g c =
     file_may u.layout w.disk (accepted c.sector_of.new.filer) (makes.went.sectors ∙ size) c.in-Ok.sector wanted (inr c.requires.client)
     (subst (λ (l : Layout). l.first ≤ c.in-Ok.sector) (sym lay) first) (subst (λ (l : Layout). c.in-Ok.sector < l.sectors) (sym lay) below) in
     record {
-      counted = counted _ _ u.disk w.disk _ c.sector_of.ensures.looks.makes.went.faults (rw c.swapper_over-swapper.ensures.value at c.in-Err-read_page.ensures.cause);
-      evidence_seen = so_of_other w.disk c.in-Ok.sector wanted may u.disk w.disk c.in-Err-read_page.halt (rw c.swapper_over-swapper.ensures.value at c.in-Err-read_page.ensures.evidence_seen);
+      counted = counted _ _ u.disk w.disk _ c.sector_of.ensures.looks.makes.went.faults (rw c.swapper_over-swapper.ensures.value at c.in-Err-read_page.ensures.fails.cause);
+      evidence_seen = so_of_other w.disk c.in-Ok.sector wanted may u.disk w.disk c.in-Err-read_page.halt (rw c.swapper_over-swapper.ensures.value at c.in-Err-read_page.ensures.fails.evidence_seen);
     }

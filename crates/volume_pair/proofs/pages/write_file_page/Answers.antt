@@ -26,7 +26,7 @@ pub returns-in-Err-write_page-clause-puts : goal.returns-in-Err-write_page-claus
 returns-in-Err-write_page-clause-puts g c = λ x shapes f books found below.
     let u = view_of c.sector_of.new.filer in
     let has = c.in-Ok.ensures.found x shapes books in
-    let sound = rw c.swapper_over-swapper.ensures.value at c.in-Err-write_page.ensures.sound in
+    let sound = rw c.swapper_over-swapper.ensures.value at c.in-Err-write_page.ensures.fails.sound in
     sound x has.0.stands (has_one u shapes x has.0 c.args.id c.args.page c.in-Ok.sector c.requires.client (has.1 f found below))
 
 pub returns-in-Err-clause-writes : goal.returns-in-Err-clause-writes
@@ -57,6 +57,6 @@ returns-in-Err-write_page-clause-why g c =
     file_may u.layout w.disk (accepted c.sector_of.new.filer) (moves.sectors ∙ size) c.in-Ok.sector wanted (inr c.requires.client)
     (subst (λ (l : Layout). l.first ≤ c.in-Ok.sector) (sym lay) first) (subst (λ (l : Layout). c.in-Ok.sector < l.sectors) (sym lay) below) in
     record {
-      counted = counted _ _ u.disk w.disk _ c.sector_of.ensures.looks.makes.went.faults (rw c.swapper_over-swapper.ensures.value at c.in-Err-write_page.ensures.cause);
-      evidence_seen = so_of_other w.disk c.in-Ok.sector wanted may u.disk w.disk c.in-Err-write_page.halt (rw c.swapper_over-swapper.ensures.value at c.in-Err-write_page.ensures.evidence_seen);
+      counted = counted _ _ u.disk w.disk _ c.sector_of.ensures.looks.makes.went.faults (rw c.swapper_over-swapper.ensures.value at c.in-Err-write_page.ensures.fails.cause);
+      evidence_seen = so_of_other w.disk c.in-Ok.sector wanted may u.disk w.disk c.in-Err-write_page.halt (rw c.swapper_over-swapper.ensures.value at c.in-Err-write_page.ensures.fails.evidence_seen);
     }
