@@ -1,12 +1,11 @@
 -- The sectors of a page of the map, in the page and in the whole.
-use Rattle.std.proofs.Common.{◌≡◌, ◌≢◌, ◌⊎◌, inl, inr, ℕ, ◌+◌, ◌-◌, ◌*◌, ◌/◌, ◌%◌, ◌<◌, ◌≤◌, Bool, eqb, List, length, get_or, drop, arith, sym, ◌∙◌, ap}
-use Rattle.std.proofs.lemmas.Bool.{cases_lt, cases_eq}
+use Rattle.std.proofs.Common.{◌≡◌, ◌⊎◌, inl, inr, ℕ, ◌+◌, ◌-◌, ◌*◌, ◌/◌, ◌%◌, ◌<◌, ◌≤◌, Bool, eqb, List, length, get_or, drop, arith, sym, ◌∙◌, ap}
+use Rattle.std.proofs.lemmas.Bool.{cases_lt}
 use Rattle.std.proofs.lemmas.List.{get_or-take, get_or-drop, places}
 use Rattle.std.specs.Int.{bit_at}
 use Rattle.flat_mem.specs.Memory.{part, overwritten}
-use Rattle.flat_mem.specs.Parts.{length-overwritten, part-overwritten_same}
+use Rattle.flat_mem.specs.Parts.{length-overwritten, length-part}
 use Rattle.alloc_map.specs.Bits.{is_used, AreAll, free_in, IsMarked}
-use Rattle.alloc_map.specs.Pages.{first_sector_after}
 use Rattle.alloc_map.proofs.BitLemmas.{free_in_same}
 
 -- a sector of the page, and the same of the whole
@@ -42,37 +41,90 @@ get_or-overwritten_prefix b piece at i fits prefix = grind (arith, places)
 get_or-overwritten_after : (b piece : List ℕ) (at i : ℕ) → at + length piece ≤ length b → at + length piece ≤ i → get_or (overwritten b at piece) i 0 ≡ get_or b i 0
 get_or-overwritten_after b piece at i fits after = grind (arith, places)
 
--- a sector of another page
-used_elsewhere : (b new : List ℕ) (n s : ℕ) → length new ≡ 512 → 512 * n + 512 ≤ length b → s / 4096 ≢ n → is_used (overwritten b (512 * n) new) s ≡ is_used b s
-unfolding is_used
-used_elsewhere b new n s long fits other =
-    ap (λ x. eqb (bit_at x (7 - s % 8)) 1) (elim (cases_lt (s / 4096) n) [
-      | inl low ↦ get_or-overwritten_prefix b new (512 * n) (s / 8) (omega arith) (omega (arith, low))
-      | inr not ↦ get_or-overwritten_after b new (512 * n) (s / 8) (omega arith) (omega (arith, not, other, long))
-    ])
+-- ---- bytes of a page that are read, marked and written back
 
--- marks in a page that is written back
-pub marked_in_page : (u : Bool) (b page new : List ℕ) (at stop : ℕ) → page ≡ part b (512 * (at / 4096)) 512 → 512 * (at / 4096) + 512 ≤ length b → length new ≡ 512 → at < stop → stop ≤ first_sector_after at
-    → IsMarked u page new (at % 4096) (at % 4096 + (stop - at)) → IsMarked u b (overwritten b (512 * (at / 4096)) new) at stop
-marked_in_page u b page new at stop read fits long some one_page marks =
-    let n : ℕ = at / 4096 in
-    let now : List ℕ = overwritten b (512 * n) new in
-    let written : new ≡ part now (512 * n) 512 = sym (part-overwritten_same b new (512 * n) 512 long (omega (arith, fits, long))) in
+get_or-part : (b : List ℕ) (from len i : ℕ) → i < len → get_or (part b from len) i 0 ≡ get_or b (from + i) 0
+get_or-part b from len i below = get_or-take len (drop from b) i 0 below ∙ get_or-drop from b i 0
+
+get_or-overwritten_piece : (b piece : List ℕ) (at i : ℕ) → at + length piece ≤ length b → at ≤ i → i < at + length piece → get_or (overwritten b at piece) i 0 ≡ get_or piece (i - at) 0
+get_or-overwritten_piece b piece at i fits above below = grind (arith, places)
+
+-- sectors whose bytes are the same
+used_by_byte : (b c : List ℕ) (s k : ℕ) → get_or b (s / 8) 0 ≡ get_or c (k / 8) 0 → s % 8 ≡ k % 8 → is_used b s ≡ is_used c k
+unfolding is_used
+used_by_byte b c s k byte bit = ap (λ x. eqb (bit_at x (7 - s % 8)) 1) byte ∙ ap (λ x. eqb (bit_at (get_or c (k / 8) 0) (7 - x)) 1) bit
+
+-- the sector k of page n, whose byte is one of those from `first` up to `last`
+module _ (b page : List ℕ) (n first last : ℕ) (read : part page first (last - first) ≡ part b (512 * n + first) (last - first)) where
+  used_as_read : (k : ℕ) → first ≤ k / 8 → k / 8 < last → is_used page k ≡ is_used b (4096 * n + k)
+  used_as_read k low high =
+      let i : ℕ = k / 8 - first in
+      let below : i < last - first = omega (arith, low, high) in
+      let here : first + i ≡ k / 8 = omega (arith, low) in
+      let there : 512 * n + first + i ≡ (4096 * n + k) / 8 = omega (arith, low) in
+      used_by_byte page b k (4096 * n + k)
+      (ap (λ x. get_or page x 0) (sym here) ∙ sym (get_or-part page first (last - first) i below) ∙ ap (λ x. get_or x i 0) read
+      ∙ get_or-part b (512 * n + first) (last - first) i below ∙ ap (λ x. get_or b x 0) there)
+      (omega arith)
+
+module _ (b new : List ℕ) (n first last : ℕ) (fits : 512 * n + 512 ≤ length b) (long : length new ≡ 512) (order : first ≤ last) (most : last ≤ 512) where
+  abbrev written : List ℕ
+  written = overwritten b (512 * n + first) (part new first (last - first))
+
+  piece_long : length (part new first (last - first)) ≡ last - first
+  piece_long = length-part new first (last - first) (omega (arith, long, order, most))
+
+  used_as_written : (k : ℕ) → first ≤ k / 8 → k / 8 < last → is_used written (4096 * n + k) ≡ is_used new k
+  used_as_written k low high =
+      let i : ℕ = k / 8 - first in
+      let below : i < last - first = omega (arith, low, high) in
+      let here : first + i ≡ k / 8 = omega (arith, low) in
+      let byte : (4096 * n + k) / 8 ≡ 512 * n + first + i = omega (arith, low) in
+      used_by_byte written new (4096 * n + k) k
+      (ap (λ x. get_or written x 0) byte
+      ∙ get_or-overwritten_piece b (part new first (last - first)) (512 * n + first) (512 * n + first + i) (omega (arith, piece_long, fits, order, most)) (omega arith) (omega (arith, piece_long, below))
+      ∙ ap (λ x. get_or (part new first (last - first)) x 0) (omega arith) ∙ get_or-part new first (last - first) i below ∙ ap (λ x. get_or new x 0) here)
+      (omega arith)
+
+  used_before : (s : ℕ) → s / 8 < 512 * n + first → is_used written s ≡ is_used b s
+  used_before s low = used_by_byte written b s s (get_or-overwritten_prefix b (part new first (last - first)) (512 * n + first) (s / 8) (omega (arith, piece_long, fits, order, most)) low) (omega arith)
+
+  used_after : (s : ℕ) → 512 * n + last ≤ s / 8 → is_used written s ≡ is_used b s
+  used_after s high = used_by_byte written b s s (get_or-overwritten_after b (part new first (last - first)) (512 * n + first) (s / 8) (omega (arith, piece_long, fits, order, most)) (omega (arith, piece_long, high, order))) (omega arith)
+
+-- marks in bytes of a page that are written back
+pub marked_in_bytes : (u : Bool) (b page new : List ℕ) (n at stop from end first last : ℕ) → at ≡ 4096 * n + from → stop ≡ 4096 * n + end → from < end → end ≤ 4096
+    → first ≡ from / 8 → last ≡ (end - 1) / 8 + 1
+    → part page first (last - first) ≡ part b (512 * n + first) (last - first) → 512 * n + 512 ≤ length b → length new ≡ 512
+    → IsMarked u page new from end → IsMarked u b (overwritten b (512 * n + first) (part new first (last - first))) at stop
+marked_in_bytes u b page new n at stop from end first last starts stops some inside begins ends read fits long marks =
+    let order : first ≤ last = omega (arith, begins, ends, some) in
+    let most : last ≤ 512 = omega (arith, ends, inside) in
+    let piece_fits : 512 * n + first + length (part new first (last - first)) ≤ length b = omega (arith, piece_long b new n first last fits long order most, fits, order, most) in
     record {
-      same_length = length-overwritten b new (512 * n) (omega (arith, fits, long));
+      same_length = length-overwritten b (part new first (last - first)) (512 * n + first) piece_fits;
       marked = λ s above below.
           let k : ℕ = s - 4096 * n in
-          sym (used_in_page now new at written k s (omega (arith, below, one_page)) (omega (arith, above))) ∙ marks.marked k (omega (arith, above)) (omega (arith, above, below));
-      others = λ s out. elim (cases_eq (s / 4096) n) [
-        | inr other ↦ used_elsewhere b new n s long fits other
-        | inl here ↦
-            let k : ℕ = s - 4096 * n in
-            let inside : k < 4096 = omega (arith, here) in
-            let place : s ≡ 4096 * n + k = omega (arith, here) in
-            let apart : (k < at % 4096) ⊎ (at % 4096 + (stop - at) ≤ k) = elim out [
-              | inl before ↦ inl (omega (arith, before, here))
-              | inr after ↦ inr (omega (arith, after, some))
-            ] in
-            sym (used_in_page now new at written k s inside place) ∙ marks.others k apart ∙ used_in_page b page at read k s inside place
+          let place : s ≡ 4096 * n + k = omega (arith, starts, above) in
+          let low : first ≤ k / 8 = omega (arith, starts, begins, above) in
+          let high : k / 8 < last = omega (arith, starts, stops, ends, above, below) in
+          ap (is_used _) place ∙ used_as_written b new n first last fits long order most k low high
+          ∙ marks.marked k (omega (arith, starts, above)) (omega (arith, starts, stops, above, below));
+      others = λ s out. elim (cases_lt (s / 8) (512 * n + first)) [
+        | inl before ↦ used_before b new n first last fits long order most s before
+        | inr above ↦ elim (cases_lt (s / 8) (512 * n + last)) [
+          | inr after ↦ used_after b new n first last fits long order most s after
+          | inl below ↦
+              let k : ℕ = s - 4096 * n in
+              let place : s ≡ 4096 * n + k = omega (arith, above) in
+              let low : first ≤ k / 8 = omega (arith, above) in
+              let high : k / 8 < last = omega (arith, above, below) in
+              let apart : (k < from) ⊎ (end ≤ k) = elim out [
+                | inl less ↦ inl (omega (arith, starts, less, above))
+                | inr more ↦ inr (omega (arith, stops, more))
+              ] in
+              ap (is_used _) place ∙ used_as_written b new n first last fits long order most k low high ∙ marks.others k apart
+              ∙ used_as_read b page n first last read k low high ∙ ap (is_used b) (sym place)
+        ]
       ];
     }

@@ -40,6 +40,23 @@ fn is_passed(word: u64, used: bool) -> bool
     word == if used { 0 } else { u64::MAX }
 }
 
+// Passes words of whose sectors none is used, or none is free, up to an end, or less than a word past it.
+fn past_words(page: &Page, from: u32, end: u32, used: bool) -> u32
+    requires whole { from % 64 ≡ 0 }
+    requires inside { end ≤ 4096 }
+    ensures order { from ≤ result }
+    ensures passed { AreAll (not used) page.now from result }
+{
+    let mut at = from;
+    'passing: while at < end {
+        if !is_passed(word_at(page, at), used) {
+            return at;
+        }
+        at += 64;
+    }
+    at
+}
+
 /// The first sector from `from` on that is used, or is free, or `end` where there is none below it.
 pub fn find(page: &Page, from: u32, end: u32, used: bool) -> u32
     requires order { from ≤ end }
@@ -52,7 +69,7 @@ pub fn find(page: &Page, from: u32, end: u32, used: bool) -> u32
     let mut at = from;
     'search: while at < end {
         if at % 64 == 0 && is_passed(word_at(page, at), used) {
-            at += 64;
+            at = past_words(page, at + 64, end, used);
         } else if page[(at / 8) as usize] == passed {
             at = at - at % 8 + 8;
         } else if is_used(page, at) == used {

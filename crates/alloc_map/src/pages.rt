@@ -1,10 +1,11 @@
 //! The sectors of the whole map, page by page.
 ghost use Rattle.std.specs.Prelude.{◌≡◌, ℕ, ◌+◌, ◌-◌, ◌*◌, ◌/◌, ◌≤◌, ◌<◌, not, List, IfOk, IfErr, OnOk, OnErr};
+ghost use Rattle.flat_mem.specs.Memory.{InOnePage, part};
 ghost use Rattle.alloc_map.specs.Bits.{is_used, AreAll, free_in, RevealsMarked, RevealsOthers};
 ghost use Rattle.alloc_map.specs.Pages.{first_sector_after, pages_to, pages_between};
 
 use crate::bits;
-use flat_mem::{FlatMem, PAGE_BYTES};
+use flat_mem::{FlatMem, PAGE_BYTES, Page};
 
 // The end of the sectors from `at` to `end` that lie in one page with the first.
 fn page_stop(at: u32, end: u32) -> u32
@@ -108,7 +109,29 @@ pub fn count_free<M: FlatMem>(mem: &mut M, from: u32, end: u32) -> Result<u32, M
     Ok(count)
 }
 
-// Marks these sectors used or free. They lie in one page.
+// Reads bytes of the memory to the same place of a page: those from `first` up to `last`.
+fn read_bytes<M: FlatMem>(
+    mem: &mut M,
+    place: u64,
+    first: usize,
+    last: usize,
+    page: &mut Page,
+) -> Result<(), M::Error>
+    requires order { first ≤ last }
+    requires most { last ≤ 512 }
+    requires inside { place + (last - first) ≤ M.size mem.old }
+    requires in_one_page { InOnePage place (last - first) }
+    ensures read { (b : List ℕ) → M.reveals mem.old b
+        → OnOk result (part page.new first (last - first) ≡ part b place (last - first)) }
+    ensures cause { IfErr result (λ e. M.accounted mem.old mem.new e) }
+    ensures unchanged { (b : List ℕ) → M.reveals mem.old b → M.reveals mem.new b }
+    ensures kept { M.beside mem.old mem.new }
+    ensures cost { M.spent mem.new ≤ M.spent mem.old + M.cost }
+{
+    mem.read(place, &mut page[first..last])
+}
+
+// Marks these sectors used or free. They lie in one page. Only the bytes that have them are read and written.
 fn set_in_page<M: FlatMem>(mem: &mut M, at: u32, stop: u32, used: bool) -> Result<(), M::Error>
     requires order { at < stop }
     requires one_page { stop ≤ first_sector_after at }
@@ -120,12 +143,15 @@ fn set_in_page<M: FlatMem>(mem: &mut M, at: u32, stop: u32, used: bool) -> Resul
     ensures kept { M.beside mem.old mem.new }
     ensures cost { M.spent mem.new ≤ M.spent mem.old + 2 * M.cost }
 {
-    let place = PAGE_BYTES as u64 * (at / 4096) as u64;
-    let mut page = [0; PAGE_BYTES];
-    mem.read(place, &mut page)?;
     let from = at % 4096;
-    bits::set_range(&mut page, from, from + (stop - at), used);
-    mem.write(place, &page)
+    let end = from + (stop - at);
+    let first = (from / 8) as usize;
+    let last = (end - 1) as usize / 8 + 1;
+    let place = PAGE_BYTES as u64 * (at / 4096) as u64 + first as u64;
+    let mut page = [0; PAGE_BYTES];
+    read_bytes(mem, place, first, last, &mut page)?;
+    bits::set_range(&mut page, from, end, used);
+    mem.write(place, &page[first..last])
 }
 
 /// Marks these sectors used or free.

@@ -1,5 +1,5 @@
 //! The runs that were found last.
-ghost use Rattle.std.specs.Prelude.{◌≡◌, ℕ, ◌≤◌, ◌++◌, ◌∷◌, ◌==◌, not, filter, find, [], length};
+ghost use Rattle.std.specs.Prelude.{◌≡◌, ℕ, ◌≤◌, ◌++◌, ◌∷◌, ◌==◌, not, filter, find, [], length, option_copied};
 ghost use Rattle.file_map.specs.Run.{IsRun, holds};
 ghost use Rattle.filer_kernel.specs.Runs.{AreRunsOf, newest};
 ghost use Rattle.filer_kernel.specs.RunLaws.{are_once};
@@ -15,6 +15,13 @@ pub struct CachedRuns {
     pub(crate) runs: ArrayVec<Run, 32>,
     ghost form: { AreRunsOf sectors runs.items } by { are_once sectors runs.items },
     ghost few: { length runs.items ≤ 32 },
+}
+
+// The first of these runs that has the page.
+fn first_with(runs: &[Run], id: FileId, page: u32) -> Option<&Run>
+    ensures { option_copied result ≡ find (λ r. holds r id page) runs.now }
+{
+    runs.iter().find(|run| run.holds(id, page))
 }
 
 impl CachedRuns {
@@ -38,7 +45,7 @@ impl CachedRuns {
         if self.sectors != sectors {
             return None;
         }
-        self.runs.iter().copied().find(|run| run.holds(id, page))
+        first_with(&self.runs, id, page).copied()
     }
 
     // Keeps one more run of the same volume.
