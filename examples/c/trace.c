@@ -1,6 +1,9 @@
 /* Reads a trace from standard input, makes the calls of its lines by the library, and writes the replies that `pilot IMAGE run` writes.
  *
- *     trace IMAGE [FRAMES]      ends with 1 where a session does not begin, or stops */
+ *     trace IMAGE [FRAMES [CALLS]]      ends with 1 where a session does not begin, or stops
+ *
+ * CALLS gets the trace of what the library did: the same lines, but that a load or a store over the end of a page is one line a page,
+ * up to the page that was refused, and that a store over the end of a page first asks whether both pages may be stored to. */
 #include "pilot.h"
 #include <stdio.h>
 #include <stdlib.h>
@@ -9,6 +12,7 @@
 enum { WORDS = 6, MOST = 256 };
 
 static pilot p = PILOT_HANDLE;
+static FILE *calls;
 static char *words[WORDS];
 static int count;
 
@@ -98,13 +102,41 @@ static int plain(int code, uint32_t space) {
     return 1;
 }
 
+static void note_piece(uint32_t at, const uint8_t *bytes, uint32_t size) {
+    uint32_t i;
+    fprintf(calls, bytes ? "store %u " : "load %u %u", at, size);
+    for (i = 0; bytes && i < size; i++) fprintf(calls, "%02x", bytes[i]);
+    putc('\n', calls);
+}
+
+/* writes a reference of at most 64 bytes down, a line a page, of which so many bytes were moved; of a load there are no bytes */
+static void note(uint32_t at, const uint8_t *bytes, uint32_t size, size_t done) {
+    uint32_t first = 512 - at % 512;
+    if (!calls) return;
+    note_piece(at, bytes, size < first ? size : first);
+    if (first < size && first <= done && first <= UINT32_MAX - at) note_piece(at + first, bytes ? bytes + first : NULL, size - first);
+}
+
+static int load_at(uint32_t at, uint8_t *bytes, uint32_t size, size_t *done) {
+    int code = pilot_load(&p, at, bytes, size, done);
+    note(at, NULL, size, *done);
+    return code;
+}
+
+static int store_at(uint32_t at, const uint8_t *bytes, uint32_t size) {
+    size_t done;
+    int code = pilot_store(&p, at, bytes, size, &done);
+    note(at, bytes, size, done);
+    return code;
+}
+
 static int load(void) {
     uint32_t at, size, i;
     uint8_t bytes[64];
     size_t done;
     int code;
     if (!number(words[1], 1ull << 32, &at) || !number(words[2], 65, &size) || size == 0) return 0;
-    code = pilot_load(&p, at, bytes, size, &done);
+    code = load_at(at, bytes, size, &done);
     if (code != PILOT_OK) {
         refused(code, (uint32_t)((at + (uint64_t)done) / 512));
         return 1;
@@ -123,11 +155,11 @@ static int may_store(uint32_t at, uint32_t size, uint32_t *page) {
     int i, code;
     for (i = 0; i < 2; i++) {
         *page = ends[i] / 512;
-        if ((code = pilot_load(&p, ends[i], &byte[i], 1, &done)) != PILOT_OK) return code;
+        if ((code = load_at(ends[i], &byte[i], 1, &done)) != PILOT_OK) return code;
     }
     for (i = 0; i < 2; i++) {
         *page = ends[i] / 512;
-        if ((code = pilot_store(&p, ends[i], &byte[i], 1, &done)) != PILOT_OK) return code;
+        if ((code = store_at(ends[i], &byte[i], 1)) != PILOT_OK) return code;
     }
     return PILOT_OK;
 }
@@ -136,12 +168,11 @@ static int may_store(uint32_t at, uint32_t size, uint32_t *page) {
 static int store(void) {
     uint32_t at, size, page;
     uint8_t bytes[64];
-    size_t done;
     int code = PILOT_OK;
     if (!number(words[1], 1ull << 32, &at) || !bytes_of(words[2], bytes, &size)) return 0;
     page = at / 512;
     if (at % 512 + size > 512) code = may_store(at, size, &page);
-    if (code == PILOT_OK) code = pilot_store(&p, at, bytes, size, &done);
+    if (code == PILOT_OK) code = store_at(at, bytes, size);
     return plain(code, page);
 }
 
@@ -233,6 +264,7 @@ static int on_spaces(void) {
 
 /* whether there is a call after the line */
 static int answer(char *line) {
+    if (calls && strncmp(line, "load ", 5) != 0 && strncmp(line, "store ", 6) != 0) fprintf(calls, "%s\n", line);
     if (strcmp(line, "close") == 0 || strcmp(line, "halt") == 0) {
         plain(line[0] == 'c' ? pilot_close(&p) : pilot_halt(&p), 0);
         return 0;
@@ -253,12 +285,12 @@ static int next_line(char *line) {
 int main(int argc, char **argv) {
     char line[MOST + 1];
     int code;
-    if (argc < 2) return 2;
+    if (argc < 2 || (argc > 3 && !(calls = fopen(argv[3], "w")))) return 2;
     code = pilot_open(&p, argv[1], argc > 2 ? (uint32_t)atoi(argv[2]) : 64);
     if (code != PILOT_OK) refused(code < PILOT_DISK ? PILOT_DISK : code, 0);
     while (next_line(line))
         if (!answer(line)) break;
     if (pilot_is_open(&p) && (code = pilot_close(&p)) != PILOT_OK) refused(code, 0);
     pilot_free(&p);
-    return 0;
+    return calls && fclose(calls) ? 2 : 0;
 }

@@ -13,7 +13,7 @@ use Rattle.embedded.specs.declared.held.Held.{Held}
 use Rattle.embedded.specs.declared.held.Held.TheVariants as held
 use Rattle.embedded.specs.declared.live.Live.{Live}
 use Rattle.embedded.specs.Begun.{Begins, HasFrames, Opens}
-use Rattle.embedded.specs.Closed.{Closes}
+use Rattle.embedded.specs.Closed.{Abandons, Closes}
 use Rattle.embedded.specs.Engine.{IsClosed, IsIn, OfBoth, disk_in, disk_of, is_running}
 use Rattle.embedded.specs.Later.{Later}
 use Rattle.embedded.specs.Opened.{IsFrames}
@@ -50,6 +50,17 @@ module _ {D A : Type 0} {G : Ghosts D} where
   opens_alike frames old middle new answer are free same opens = record {
     argument = λ not. absurd (not are);
     begins = λ are. takes_alike (λ disk. Begins frames disk answer new) old middle new answer free same (opens.begins are);
+  }
+
+  -- a session that was let go, after which the disk did what it says nothing of
+  pub abandons_then : (old middle new : Engine D A G) → Abandons old (Ok tt) middle → (IsClosed middle → IsClosed new) → disk_of new ≡ disk_of middle → new.halt ≡ middle.halt
+      → Abandons old (Ok tt) new
+  abandons_then old middle new abandons closed disk halt = record {
+    done = λ is. refl;
+    none = λ closed. absurd (cc (abandons.none closed).0);
+    ended = closed abandons.ended;
+    disk = disk ∙ abandons.disk;
+    same_halt = halt ∙ abandons.same_halt;
   }
 
   -- an open that found no disk without a session, and one that took the disk

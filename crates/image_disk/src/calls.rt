@@ -37,7 +37,7 @@ impl<F: FileExt + OpenFile> Disk for ImageDisk<F> {
         self.count_transfer();
         match self.get_sector(sector, page) {
             Ok(label) => {
-                self.labels.keep(sector, label);
+                self.labels.keep(sector, &label);
                 Ok(label)
             }
             Err(trouble) => Err(self.fault(trouble)),
@@ -55,8 +55,8 @@ impl<F: FileExt + OpenFile> Disk for ImageDisk<F> {
         let bytes = joined(label, page);
         match self.put_sector(sector, &bytes) {
             Ok(()) => {
-                self.last.keep(sector, bytes);
-                self.labels.keep(sector, *label);
+                self.last.keep(sector, &bytes);
+                self.labels.keep(sector, label);
                 Ok(())
             }
             Err(trouble) => Err(self.fault(trouble)),
@@ -77,7 +77,7 @@ impl<F: FileExt + OpenFile> Disk for ImageDisk<F> {
         let bytes = label.to_bytes();
         match self.put(label_at(sector), &bytes) {
             Ok(()) => {
-                self.labels.keep(sector, *label);
+                self.labels.keep(sector, label);
                 self.last.put_label(sector, &bytes);
                 Ok(())
             }

@@ -3,7 +3,7 @@ ghost use Rattle.std.specs.Prelude.{◌≡◌, ◌<◌, ◌≤◌, ◌+◌, ◌-
 ghost use Rattle.labelled_disk.specs.Calls.{Rose, Moved};
 
 use crate::Remembered;
-use crate::neighbours::Neighbours;
+use crate::neighbours::{Neighbours, room_for_sectors};
 use labelled_disk::{DiskError, Label};
 use std::alloc::Global;
 use std::fs::OpenFile;
@@ -25,10 +25,11 @@ pub enum Trouble {
 /// The bytes of a sector in an image file.
 pub const SECTOR_BYTES: u64 = 528;
 
-// How many places there are for sectors, and for labels, two each.
-const SECTOR_PLACES: usize = 64;
+/// How many labels of an image are remembered, where nobody asks for more.
+pub const LABELS: usize = 1024;
 
-const LABEL_PLACES: usize = 512;
+// How many places there are for sectors, two each.
+const SECTOR_PLACES: usize = 64;
 
 /// A disk over an image file. It reveals nothing of what the file holds, since no contract can: only
 /// its counts. It is synced from an Ok of `sync` to the next call that may write, and a `sync` until
@@ -48,6 +49,8 @@ pub struct ImageDisk<F: FileExt + OpenFile> {
     // Sectors and labels as they stand in the file once what waits is written.
     pub(crate) last: Remembered<[u8; 528]>,
     pub(crate) labels: Remembered<Label>,
+    // Where neighbouring sectors are read to, before they are remembered.
+    pub(crate) room: Option<Vec<u8>>,
     // Neighbouring sectors that wait to be written in one call of the system, where writes are joined.
     pub(crate) waiting: Option<Neighbours>,
     // Whether sectors that are written whole are joined too, and not pages alone.
@@ -83,6 +86,7 @@ impl<F: FileExt + OpenFile> ImageDisk<F> {
             trouble: None,
             last: Remembered::none(),
             labels: Remembered::none(),
+            room: None,
             waiting: None,
             joins_sectors: false,
         }
@@ -113,18 +117,20 @@ impl<F: FileExt + OpenFile> ImageDisk<F> {
             trouble: None,
             last: Remembered::none(),
             labels: Remembered::none(),
+            room: None,
             waiting: None,
             joins_sectors: false,
         }
     }
 
-    /// From now on, up to 128 sectors and 1,024 labels are remembered, where there is
+    /// From now on, up to 128 sectors and so many labels are remembered, where there is
     /// memory for them.
-    pub fn remember(&mut self, alloc: Global)
+    pub fn remember(&mut self, alloc: Global, labels: usize)
         ensures same { image_state self.new ≡ image_state self.old }
     {
         self.last = Remembered::with_places(alloc, SECTOR_PLACES);
-        self.labels = Remembered::with_places(alloc, LABEL_PLACES);
+        self.labels = Remembered::with_places(alloc, labels / 2);
+        self.room = room_for_sectors(alloc);
     }
 
     /// From now on, up to 32 sectors that are written one after the other are written in one call of

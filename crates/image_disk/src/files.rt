@@ -1,6 +1,6 @@
 //! Image files: a new one, and one that is there. Each is locked while it is worked on.
 
-use crate::{ImageDisk, SECTOR_BYTES};
+use crate::{ImageDisk, LABELS, SECTOR_BYTES};
 use labelled_disk::Disk;
 use std::fs::{File, OpenOptions, TryLockError};
 use std::{fs, io};
@@ -56,7 +56,7 @@ pub fn open_image(rt: &HostRuntime, path: &str) -> Result<ImageDisk<File>, NoIma
 
 // The disk that remembers what it read or wrote last, where there is memory for that.
 fn remembering(rt: &HostRuntime, mut disk: ImageDisk<File>) -> ImageDisk<File> {
-    disk.remember(rt.alloc());
+    disk.remember(rt.alloc(), LABELS);
     disk
 }
 

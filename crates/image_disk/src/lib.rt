@@ -10,7 +10,7 @@ mod neighbours;
 mod remembered;
 mod word;
 
-pub use disk::{ImageDisk, SECTOR_BYTES, Trouble};
+pub use disk::{ImageDisk, LABELS, SECTOR_BYTES, Trouble};
 pub use files::{NoImage, new_image, open_image, remove_image};
 pub(crate) use remembered::Remembered;
 pub use word::{Image, image_of};

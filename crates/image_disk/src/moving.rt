@@ -51,9 +51,16 @@ impl<F: FileExt + OpenFile> ImageDisk<F> {
                 return Ok(parted(bytes, page));
             }
         }
+        self.get_alone(sector, page)
+    }
+
+    // The same of a sector that is not remembered: it is read by itself.
+    fn get_alone(&mut self, sector: u32, page: &mut Page) -> Result<Label, Trouble>
+        ensures same { image_state self.new ≡ image_state self.old }
+    {
         let mut bytes = [0; 528];
         self.get(sector, &mut bytes)?;
-        self.last.keep(sector, bytes);
+        self.last.keep(sector, &bytes);
         Ok(parted(&bytes, page))
     }
 
@@ -62,9 +69,12 @@ impl<F: FileExt + OpenFile> ImageDisk<F> {
         requires { sector < (image_state self.old).sectors }
         ensures same { image_state self.new ≡ image_state self.old }
     {
-        if let Some(file) = &self.file {
-            let count = MOST.min(self.sectors - sector);
-            let _ = read_neighbours(file, sector, count, &mut self.last);
+        let count = MOST.min(self.sectors - sector) as usize;
+        if let Some(file) = &self.file
+            && let Some(room) = &mut self.room
+            && 528 * count <= room.len()
+        {
+            let _ = read_neighbours(file, sector, &mut room[..528 * count], &mut self.last);
         }
     }
 
@@ -87,7 +97,7 @@ impl<F: FileExt + OpenFile> ImageDisk<F> {
         let mut bytes = [0; 16];
         self.get(sector, &mut bytes)?;
         let label = Label::from_bytes(&bytes);
-        self.labels.keep(sector, label);
+        self.labels.keep(sector, &label);
         Ok(label)
     }
 
@@ -104,9 +114,12 @@ impl<F: FileExt + OpenFile> ImageDisk<F> {
         requires { sector < (image_state self.old).sectors }
         ensures same { image_state self.new ≡ image_state self.old }
     {
-        if let Some(file) = &self.file {
-            let count = MOST.min(self.sectors - sector);
-            let _ = read_labels(file, sector, count, &mut self.labels);
+        let count = MOST.min(self.sectors - sector) as usize;
+        if let Some(file) = &self.file
+            && let Some(room) = &mut self.room
+            && 528 * count <= room.len()
+        {
+            let _ = read_labels(file, sector, &mut room[..528 * count], &mut self.labels);
         }
     }
 

@@ -1,5 +1,4 @@
 //! Sectors that lie in the file one after the other: read in one call of the system, or written in one.
-ghost use Rattle.std.specs.Prelude.{◌≤◌};
 
 use crate::Remembered;
 use crate::bytes::{label_at, label_in};
@@ -11,40 +10,37 @@ use std::os::unix::fs::FileExt;
 /// How many sectors are moved in one call of the system at most.
 pub(crate) const MOST: u32 = 32;
 
-/// Reads so many sectors in one call, and remembers them.
+/// Room for the bytes of so many sectors, where there is memory for it.
+pub(crate) fn room_for_sectors(alloc: Global) -> Option<Vec<u8>> {
+    vec![in alloc; 0; 16896].ok()
+}
+
+/// Reads as many sectors as there is room for in one call, and remembers them.
 pub(crate) fn read_neighbours<F: FileExt>(
     file: &F,
     first: u32,
-    count: u32,
+    room: &mut [u8],
     into: &mut Remembered<[u8; 528]>,
-) -> io::Result<()>
-    requires { count ≤ 32 }
-{
-    let mut bytes = [0; 16896];
-    let bytes = &mut bytes[..528 * count as usize];
-    file.read_exact_at(bytes, label_at(first))?;
-    let (sectors, _) = bytes.as_chunks::<528>();
+) -> io::Result<()> {
+    file.read_exact_at(room, label_at(first))?;
+    let (sectors, _) = room.as_chunks::<528>();
     for (sector, bytes) in (first..=u32::MAX).zip(sectors) {
-        into.keep(sector, *bytes);
+        into.keep(sector, bytes);
     }
     Ok(())
 }
 
-/// Reads so many sectors in one call, and remembers their labels.
+/// Reads as many sectors as there is room for in one call, and remembers their labels.
 pub(crate) fn read_labels<F: FileExt>(
     file: &F,
     first: u32,
-    count: u32,
+    room: &mut [u8],
     into: &mut Remembered<Label>,
-) -> io::Result<()>
-    requires { count ≤ 32 }
-{
-    let mut bytes = [0; 16896];
-    let bytes = &mut bytes[..528 * count as usize];
-    file.read_exact_at(bytes, label_at(first))?;
-    let (sectors, _) = bytes.as_chunks::<528>();
+) -> io::Result<()> {
+    file.read_exact_at(room, label_at(first))?;
+    let (sectors, _) = room.as_chunks::<528>();
     for (sector, bytes) in (first..=u32::MAX).zip(sectors) {
-        into.keep(sector, label_in(bytes));
+        into.keep(sector, &label_in(bytes));
     }
     Ok(())
 }

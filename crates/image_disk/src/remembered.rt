@@ -1,4 +1,5 @@
 //! What is remembered of the sectors that were read or written last.
+ghost use Rattle.std.specs.Prelude.{◌+◌, ◌≤◌, length};
 
 use labelled_disk::Page;
 use std::alloc::Global;
@@ -6,37 +7,108 @@ use std::alloc::Global;
 /// The two values that were kept last of the sectors that share a place.
 #[derive(Clone, Copy)]
 struct Place<T> {
-    last: Option<(u32, T)>,
-    before: Option<(u32, T)>,
+    one: Option<(u32, T)>,
+    other: Option<(u32, T)>,
+    // Which of the two was kept last.
+    is_other_last: bool,
 }
 
 impl<T: Copy> Place<T> {
     const fn empty() -> Place<T> {
         Place {
-            last: None,
-            before: None,
+            one: None,
+            other: None,
+            is_other_last: false,
         }
     }
 
     fn get(&self, sector: u32) -> Option<&T> {
-        if let Some((kept, value)) = &self.last
+        if let Some((kept, value)) = &self.one
             && *kept == sector
         {
             return Some(value);
         }
-        match &self.before {
+        match &self.other {
             Some((kept, value)) if *kept == sector => Some(value),
             _ => None,
         }
     }
 
-    fn keep(&mut self, sector: u32, value: T) {
-        if let Some((kept, _)) = self.last
+    // The sector whose value was kept last.
+    fn last(&self) -> Option<u32> {
+        let last = if self.is_other_last {
+            &self.other
+        } else {
+            &self.one
+        };
+        match last {
+            Some((kept, _)) => Some(*kept),
+            None => None,
+        }
+    }
+
+    fn keep(&mut self, sector: u32, value: &T) {
+        if let Some(kept) = self.last()
             && kept != sector
         {
-            self.before = self.last;
+            self.is_other_last = !self.is_other_last;
         }
-        self.last = Some((sector, value));
+        if self.is_other_last {
+            put(&mut self.other, sector, value);
+        } else {
+            put(&mut self.one, sector, value);
+        }
+    }
+}
+
+// Puts a value in the place of another, where there is one.
+fn put<T: Copy>(place: &mut Option<(u32, T)>, sector: u32, value: &T) {
+    match place {
+        Some((kept, old)) => {
+            *kept = sector;
+            *old = *value;
+        }
+        None => *place = Some((sector, *value)),
+    }
+}
+
+// Whether a place has the value of this sector.
+fn is_of<T>(place: &Option<(u32, T)>, sector: u32) -> bool {
+    match place {
+        Some((kept, _)) => *kept == sector,
+        None => false,
+    }
+}
+
+// The value in a place, where there is one.
+fn value_in<T>(place: &mut Option<(u32, T)>) -> Option<&mut T> {
+    match place {
+        Some((_, value)) => Some(value),
+        None => None,
+    }
+}
+
+impl Place<[u8; 528]> {
+    // Puts bytes in the place of those from one on, where the sector is kept.
+    fn overwrite(&mut self, sector: u32, at: usize, bytes: &[u8])
+        requires { at + length bytes.now ≤ 528 }
+    {
+        if is_of(&self.one, sector) {
+            self.is_other_last = false;
+            overwrite_in(&mut self.one, at, bytes);
+        } else if is_of(&self.other, sector) {
+            self.is_other_last = true;
+            overwrite_in(&mut self.other, at, bytes);
+        }
+    }
+}
+
+// Puts bytes in the place of those from one on.
+fn overwrite_in(place: &mut Option<(u32, [u8; 528])>, at: usize, bytes: &[u8])
+    requires { at + length bytes.now ≤ 528 }
+{
+    if let Some(old) = value_in(place) {
+        old[at..at + bytes.len()].copy_from_slice(bytes);
     }
 }
 
@@ -70,7 +142,7 @@ impl<T: Copy> Remembered<T> {
         self.get(sector).is_some()
     }
 
-    pub(crate) fn keep(&mut self, sector: u32, value: T) {
+    pub(crate) fn keep(&mut self, sector: u32, value: &T) {
         if let Some(places) = &mut self.places {
             keep(places, sector, value);
         }
@@ -88,25 +160,33 @@ impl<T: Copy> Remembered<T> {
 impl Remembered<[u8; 528]> {
     /// Puts a label in the place of that of a sector that is kept.
     pub(crate) fn put_label(&mut self, sector: u32, label: &[u8; 16]) {
-        if let Some(mut bytes) = self.get(sector).copied() {
-            bytes[..16].copy_from_slice(label);
-            self.keep(sector, bytes);
+        if let Some(places) = &mut self.places {
+            overwrite(places, sector, 0, label);
         }
     }
 
     /// Puts a page in the place of that of a sector that is kept.
     pub(crate) fn put_page(&mut self, sector: u32, page: &Page) {
-        if let Some(mut bytes) = self.get(sector).copied() {
-            bytes[16..].copy_from_slice(page);
-            self.keep(sector, bytes);
+        if let Some(places) = &mut self.places {
+            overwrite(places, sector, 16, page);
         }
     }
 }
 
-fn keep<T: Copy>(places: &mut [Place<T>], sector: u32, value: T) {
+fn keep<T: Copy>(places: &mut [Place<T>], sector: u32, value: &T) {
     if let Some(place) = (sector as usize).checked_rem(places.len())
         && place < places.len()
     {
         places[place].keep(sector, value);
+    }
+}
+
+fn overwrite(places: &mut [Place<[u8; 528]>], sector: u32, at: usize, bytes: &[u8])
+    requires { at + length bytes.now ≤ 528 }
+{
+    if let Some(place) = (sector as usize).checked_rem(places.len())
+        && place < places.len()
+    {
+        places[place].overwrite(sector, at, bytes);
     }
 }

@@ -44,9 +44,9 @@ pub extern "C" fn pilot_close(pilot: &mut Pilot) -> i32
 pub extern "C" fn pilot_halt(pilot: &mut Pilot) -> i32
     ensures { IsNumberAtEnd (Abandons pilot.old.value.engine) result pilot.new.value.engine }
 {
-    let engine = &mut pilot.engine().engine;
-    let halted = engine.abandon();
-    engine.release();
+    let handle = pilot.engine();
+    let halted = handle.abandon();
+    handle.engine.release();
     number(&halted)
 }
 
@@ -55,7 +55,9 @@ pub extern "C" fn pilot_halt(pilot: &mut Pilot) -> i32
 pub extern "C" fn pilot_release(pilot: &mut Pilot)
     ensures { LetsGo pilot.old.value.engine pilot.new.value.engine }
 {
-    pilot.engine().engine.release();
+    let handle = pilot.engine();
+    let _ = handle.abandon();
+    handle.engine.release();
 }
 
 /// What stopped the last session, or kept it from beginning. Answers 0.

@@ -2,7 +2,7 @@
 
 use crate::files::calls;
 use anyhow::{Context, Result};
-use image_disk::{ImageDisk, Trouble, new_image};
+use image_disk::{ImageDisk, LABELS, Trouble, new_image};
 use labelled_disk::{Disk, Label, Wanted};
 use std::cell::Cell;
 use std::fs::{File, Metadata, OpenFile, OpenOptions};
@@ -142,7 +142,7 @@ pub(crate) fn counted(rt: &HostRuntime, words: &str) -> Result<String> {
         failing: failing.parse()?,
         most: 1_000_000,
     });
-    disk.remember(rt.alloc());
+    disk.remember(rt.alloc(), LABELS);
     let text = calls(rt, &mut disk, words)?;
     Ok(format!(in rt.alloc(); "{text}{}", made.get())?)
 }

@@ -1,5 +1,5 @@
 //! The image, opened for reading alone.
-use image_disk::ImageDisk;
+use image_disk::{ImageDisk, LABELS};
 use labelled_disk::Disk;
 use std::fs::{File, OpenOptions, metadata};
 use std::io;
@@ -29,7 +29,7 @@ pub(crate) fn open_image(rt: &HostRuntime, path: &str) -> Result<ImageDisk<File>
         return Err(NoImage::NoFile);
     }
     let mut disk = ImageDisk::over(open_file(rt, path).map_err(NoImage::System)?);
-    disk.remember(rt.alloc());
+    disk.remember(rt.alloc(), LABELS);
     if disk.sectors() == 0 {
         return Err(NoImage::Short);
     }
