@@ -1,6 +1,6 @@
 -- Homes of pages in a row, found one after the other.
-use Rattle.std.proofs.Common.{◌≡◌, ◌⊎◌, inl, inr, ℕ, zero, suc, ◌+◌, ◌*◌, ◌<◌, ◌≤◌, true, List, [], ◌∷◌, length, take, Some, refl, sym, ◌∙◌, ap, subst, arith, length-set}
-use Rattle.std.specs.Prelude.{slice_get, slice_set}
+use Rattle.std.proofs.Common.{◌≡◌, ◌⊎◌, inl, inr, ℕ, zero, suc, ◌+◌, ◌*◌, ◌<◌, ◌≤◌, true, List, [], ◌∷◌, length, take, Option, Some, refl, sym, ◌∙◌, ap, subst, arith, length-set}
+use Rattle.std.specs.Prelude.{IfSome, slice_get, slice_set}
 use Rattle.std.proofs.lemmas.Bool.{cases_eq}
 use Rattle.std.proofs.lemmas.List.{length-take-le}
 use Rattle.std.proofs.lemmas.Option.{same_Some, none-some}
@@ -17,14 +17,17 @@ use Rattle.file_map.proofs.Runs.{has_page}
 use Rattle.filer_kernel.specs.Causes.{IsGiven}
 use Rattle.filer_kernel.specs.Evidence.{MayBeMissing}
 use Rattle.filer_kernel.specs.PlaceLaws.{data_first}
+use Rattle.swapper_kernel.specs.Goes.{no_page}
 use Rattle.swapper_kernel.specs.Homes.{IsLayout, IsAmong}
 use Rattle.swapper_kernel.specs.HaltLaws.{brings_itself, brings_then}
 use Rattle.filer_kernel.specs.View.{View, kept_by}
 use Rattle.fault_core.specs.Reach.{IsReachedHome, Reaches, StayOrYield, TouchHalts, BringsOwn, no_break}
 use Rattle.fault_core.specs.Revealed.{Known}
+use Rattle.fault_core.specs.Finding.{IsRunFor}
 use Rattle.fault_core.specs.Homes.{AreHomesOf, HaveSectors}
 use Rattle.fault_core.specs.Room.{KeepsWhileEmpty}
-use Rattle.fault_core.proofs.ReachLemmas.{reaches_itself, reaches_then, reached_home_before, finds_before, known_after}
+use Rattle.fault_core.proofs.BeforeLemmas.{given_before, touches_of}
+use Rattle.fault_core.proofs.ReachLemmas.{reaches_itself, reaches_then, finds_before, known_after}
 use Rattle.fault_core.proofs.RoomLemmas.{room_itself, room_then}
 use Rattle.fault_core.proofs.YieldLemmas.{yield_itself, yield_then}
 
@@ -46,6 +49,23 @@ pub record IsFinding (v : View) (id first pages : ℕ) (w : View) (homes : List 
   pub found : (j : ℕ) (h : Home) → j < k → slice_get homes j ≡ Some h → IsHomeFor v id (first + j) h
   pub are_named : (m : List Sector) (named : Triples) (b : List ℕ) → Known v m named b → (j : ℕ) (h : Home) → j < k → slice_get homes j ≡ Some h → named h.id h.page h.sector ≡ true
   pub cost : w.disk.transfers ≤ v.disk.transfers + 14 * k
+
+-- the run at hand, if there is one, is one that the map gave
+abbrev pub IsInHand : ℕ → View → Option Run → Type 0
+IsInHand id v hand = IfSome hand (IsRunFor id v)
+
+-- the home that a run gives to a page of a client's file
+pub home_found : (v : View) (r : Run) (id page : ℕ) → IsLayout v.layout → 16 ≤ id → IsGiven v.layout v.disk v.slots (kept_by v) r → IsRun v.layout.sectors r → holds r id page ≡ true
+    → IsReachedHome v (record { sector = sector_at r page; id = id; page = page })
+home_found v r id page is client given form held =
+    let has = has_page r id page held in
+    let from = form.from_data in
+    let inside = form.inside in
+    let first = data_first v.layout is in
+    record {
+      on_data = record { id = inr client; from = omega (arith, from, first); below = omega (arith, inside, has.from, has.below) };
+      by_run = record { run = r; given = given; form = form; has = held; at = refl };
+    }
 
 pub finding_none : (v : View) (id first pages : ℕ) (homes : List Home) → v.disk.sectors ≡ v.layout.sectors → length homes ≡ 16 → IsFinding v id first pages v homes 0
 finding_none v id first pages homes size long = record {
@@ -69,10 +89,22 @@ set_cases homes k j home h long below here = elim (cases_eq j k) [
 ]
 
 module _ {v : View} {id first pages : ℕ} {w : View} {homes : List Home} {k : ℕ} (is : IsLayout v.layout) (h : IsFinding v id first pages w homes k) where
-  pub finding_more : (x : View) (home : Home) → pages ≤ 16 → k < pages → IsReachedHome w home → home.id ≡ id → home.page ≡ first + k
-      → ((m : List Sector) (named : Triples) (b : List ℕ) → Known w m named b → named id (first + k) home.sector ≡ true)
-      → Reaches w x → BringsOwn w.slots x.slots → KeepsWhileEmpty w.slots x.slots → StayOrYield w.slots x.slots → x.disk.transfers ≤ w.disk.transfers + 14 → IsFinding v id first pages x (slice_set homes k home) (k + 1)
-  finding_more x home few below reached same_id same_page revealed next came room stay cost =
+  -- a run that the map gave later, or that was at hand
+  pub finding_run : (hand : Option Run) (r : Run) → IsInHand id v hand → (hand ≡ Some r) ⊎ IsRunFor id w r → IsRunFor id v r
+  finding_run hand r in_hand which = elim which [
+    | inl same ↦ subst (λ (o : Option Run). IfSome o (IsRunFor id v)) same in_hand
+    | inr is_new ↦ record {
+      form = subst (λ l. IsRun l.sectors r) h.reaches.layout is_new.form;
+      given = given_before v w is (touches_of no_page h.reaches) r is_new.given;
+      named = λ m named b known p held. is_new.named m named b (known_after v w m named b is h.reaches known) p held;
+    }
+  ]
+
+  pub finding_more : (x : View) (r : Run) → pages ≤ 16 → k < pages → 16 ≤ id → IsRunFor id v r → holds r id (first + k) ≡ true
+      → Reaches w x → BringsOwn w.slots x.slots → KeepsWhileEmpty w.slots x.slots → StayOrYield w.slots x.slots → x.disk.transfers ≤ w.disk.transfers + 14
+      → IsFinding v id first pages x (slice_set homes k (record { sector = sector_at r (first + k); id = id; page = first + k })) (k + 1)
+  finding_more x r few below client run held next came room stay cost =
+      let home : Home = record { sector = sector_at r (first + k); id = id; page = first + k } in
       let long = h.long in
       let inside : k < length homes = omega (arith, long, below, few) in
       let same_long : length (slice_set homes k home) ≡ length homes = simp length-set in
@@ -85,11 +117,11 @@ module _ {v : View} {id first pages : ℕ} {w : View} {homes : List Home} {k : �
         stay = yield_then h.stay stay;
         long = same_long ∙ long;
         found = λ j g under here. elim (set_cases homes k j home g inside under here) [
-          | inl (at, same) ↦ subst (IsHomeFor v id (first + j)) same (record { is_id = same_id; is_page = same_page ∙ ap (λ n. first + n) (sym at); reached = reached_home_before v w is h.reaches home reached })
+          | inl (at, same) ↦ subst (IsHomeFor v id (first + j)) same (record { is_id = refl; is_page = ap (λ n. first + n) (sym at); reached = home_found v r id (first + k) is client run.given run.form held })
           | inr (prefix, was) ↦ h.found j g prefix was
         ];
         are_named = λ m named b known j g under here. elim (set_cases homes k j home g inside under here) [
-          | inl (at, same) ↦ subst (λ (o : Home). named o.id o.page o.sector ≡ true) same (rw (same_id, same_page) (revealed m named b (known_after v w m named b is h.reaches known)))
+          | inl (at, same) ↦ subst (λ (o : Home). named o.id o.page o.sector ≡ true) same (run.named m named b known (first + k) held)
           | inr (prefix, was) ↦ h.are_named m named b known j g prefix was
         ];
         cost = let c = h.cost in omega (arith, c, cost);
@@ -148,18 +180,3 @@ module _ {v : View} {id first pages : ℕ} {w : View} {homes : List Home} {k : �
 
   pub found_named : (m : List Sector) (named : Triples) (b : List ℕ) → Known v m named b → (g : Home) → IsAmong (take k homes) g → named g.id g.page g.sector ≡ true
   found_named m named b known g among = h.are_named m named b known among.0 g (below_taken among.0 g among.1) (get_taken k homes among.0 g among.1)
-
--- ---- One home.
-
--- the home that a run gives to a page of a client's file
-pub home_found : (v : View) (r : Run) (id page : ℕ) → IsLayout v.layout → 16 ≤ id → IsGiven v.layout v.disk v.slots (kept_by v) r → IsRun v.layout.sectors r → holds r id page ≡ true
-    → IsReachedHome v (record { sector = sector_at r page; id = id; page = page })
-home_found v r id page is client given form held =
-    let has = has_page r id page held in
-    let from = form.from_data in
-    let inside = form.inside in
-    let first = data_first v.layout is in
-    record {
-      on_data = record { id = inr client; from = omega (arith, from, first); below = omega (arith, inside, has.from, has.below) };
-      by_run = record { run = r; given = given; form = form; has = held; at = refl };
-    }

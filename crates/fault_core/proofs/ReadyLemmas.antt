@@ -1,8 +1,8 @@
 -- A reference to a page that is at hand.
-use Rattle.std.proofs.Common.{◌≡◌, ◌≢◌, inl, ℕ, ◌+◌, ◌/◌, ◌%◌, ◌≤◌, Bool, true, false, List, [], length, Some, Option, refl, sym, subst}
-use Rattle.std.specs.Prelude.{IfSome, None, if◌then◌else◌}
+use Rattle.std.proofs.Common.{◌≡◌, ◌≢◌, ◌∙◌, inl, ℕ, ◌+◌, ◌/◌, ◌%◌, ◌≤◌, Bool, true, false, List, [], length, Some, Option, refl, sym, subst}
+use Rattle.std.specs.Prelude.{IfSome, None, find, if◌then◌else◌}
 use Rattle.std.proofs.lemmas.Bool.{true≢false}
-use Rattle.std.proofs.lemmas.Option.{none-some}
+use Rattle.std.proofs.lemmas.Option.{none-some, same_Some}
 use Rattle.labelled_disk.specs.Sectors.{Sector}
 use Rattle.file_map.specs.FileMap.{Triples}
 use Rattle.frame_pool.specs.Frames.{Slots, HasPage}
@@ -11,10 +11,11 @@ use Rattle.swap_units.specs.declared.interval.Interval.{Interval}
 use Rattle.swap_units.specs.declared.mode.Mode.{Mode}
 use Rattle.swap_units.specs.declared.mode.Mode.TheVariants.{Unmapped, Mapped}
 use Rattle.swap_units.specs.Mode.{is_mapped, is_read_only, is_writable}
+use Rattle.swap_units.specs.Unit.{has_page}
 use Rattle.fault_core.specs.declared.reference.Access.TheVariants as access
 use Rattle.fault_core.specs.Access.{Shows, access_of, is_load_only, last_page, refused_by}
 use Rattle.fault_core.specs.Attempt.{ArePresent, IsHere}
-use Rattle.fault_core.specs.Kept.{IsKept}
+use Rattle.fault_core.specs.Kept.{AreApart, IsKept}
 use Rattle.swapper_kernel.specs.Goes.{IsDirty, this_page}
 use Rattle.session_words.specs.CellLaws.{IsTouched, IsTouchedOrOwn, Stores}
 use Rattle.fault_core.specs.Lack.{Sees}
@@ -27,6 +28,7 @@ use Rattle.filer_kernel.specs.View.{GoesTo, HasMemory, View}
 use Rattle.fault_core.proofs.AccessLemmas.{access_shown, first_touched}
 use Rattle.fault_core.proofs.AttemptLemmas.{all_present, here_stays, slot_shown, slot_stays}
 use Rattle.fault_core.proofs.BeforeLemmas.{touches_wider}
+use Rattle.fault_core.proofs.KeptLemmas.{ready_found}
 use Rattle.fault_core.proofs.LeaveLemmas.{goes_revealed, revealed_leaves, revealed_stands, stored_on_one, touched_or_own}
 use Rattle.fault_core.proofs.NeverBlamesLemmas.{sees_touched}
 use Rattle.fault_core.proofs.PieceLemmas.{one_page}
@@ -57,9 +59,23 @@ at_hand kept slots writes address count x is_kept shows allowed inside (Some i) 
   inside = inside;
 }
 
+pub let_writable : (m : Mode) → is_mapped m ≡ true → is_read_only m ≡ false → is_writable m ≡ true
+let_writable Unmapped is allowed = is
+let_writable (Mapped true anonymous) is allowed = refl
+let_writable (Mapped false anonymous) is allowed = absurd (true≢false allowed)
+
 -- ---- What is known of it.
 
 module _ {kept : List Interval} {slots : Slots} {writes : Bool} {address count slot : ℕ} (h : IsAtHand kept slots writes address count slot) where
+  -- where no two kept intervals share a page, its interval is the one that is looked up
+  pub hand_looked : AreApart kept → find (has_page (address / 512)) kept ≡ Some h.interval
+  hand_looked apart =
+      let ready : IsReady kept slots (address / 512) = record { interval = h.interval; is_kept = h.is_kept; holds = h.shows.holds; mapped = h.shows.mapped; whole = h.whole } in
+      ready_found kept slots (address / 512) ready apart
+
+  pub hand_same : AreApart kept → (x : Interval) → find (has_page (address / 512)) kept ≡ Some x → h.interval ≡ x
+  hand_same apart x found = same_Some h.interval x (sym (hand_looked apart) ∙ found)
+
   pub hand_seen : {v : View} {n : ℕ} {m : List Sector} {named : Triples} {ss : List Space} → Revealed v kept n m named ss → AreSeen ss named m h.interval
   hand_seen {m = m} {named = named} r = seen_of r.tables h.interval (r.cached h.interval h.is_kept) h.shows.mapped named m r.stored
 

@@ -1,12 +1,12 @@
 -- What the calls on a filer come to that look for pages of clients, and move their bytes.
-use Rattle.std.specs.Prelude.{◌≡◌, ◌↔◌, true, ℕ, ◌+◌, ◌/◌, ◌%◌, ◌<◌, ◌≤◌, List, length, Option, None, Result, Ok, IfOk, IfErr, IfSome, OnOk, OnErr}
+use Rattle.std.specs.Prelude.{◌≡◌, ◌↔◌, true, ℕ, ◌+◌, ◌%◌, ◌<◌, ◌≤◌, List, length, Option, None, Result, Ok, IfOk, IfErr, IfSome, OnOk, OnErr}
 use Rattle.labelled_disk.specs.declared.evidence.Halt.{Halt}
 use Rattle.labelled_disk.specs.Sectors.{Sector}
 use Rattle.frame_pool.specs.declared.home.Home.{Home}
 use Rattle.frame_pool.specs.Frames.{HasPage}
 use Rattle.file_map.specs.declared.run.Run.{Run}
 use Rattle.file_map.specs.FileMap.{IsFound, IsNowhere, Triples}
-use Rattle.file_map.specs.Run.{IsRun, holds}
+use Rattle.file_map.specs.Run.{IsRun, holds, sector_at}
 use Rattle.flat_machine.specs.declared.space.Space.{Space}
 use Rattle.flat_machine.specs.Space.{root_pages}
 use Rattle.swap_units.specs.declared.interval.Interval.{Interval}
@@ -55,11 +55,11 @@ pub record FindsRun (id page : ℕ) (v : View) (result : Result (Option Run) Hal
   pub nowhere : (m : List Sector) (named : Triples) → HasMemory v m → MapIs v.layout named m → result ≡ Ok None → IsNowhere named id page
   pub found : (m : List Sector) (named : Triples) (b : List ℕ) → Known v m named b → IfOk result (IsFound named id page)
 
--- the home of the page
-pub record FindsHome (id page : ℕ) (v : View) (result : Result Home Halt) : Type 0 where
-  pub found : IfOk result (IsReachedHome v)
-  pub is : IfOk result (λ home. (home.id ≡ id) × (home.page ≡ page))
-  pub named : (m : List Sector) (named : Triples) (b : List ℕ) → Known v m named b → IfOk result (λ home. named id page home.sector ≡ true)
+-- the run was kept or read; where the map is known, each page of the file that the run has stands where it says
+pub record IsRunFor (id : ℕ) (v : View) (r : Run) : Type 0 where
+  pub form : IsRun v.layout.sectors r
+  pub given : IsGiven v.layout v.disk v.slots (kept_by v) r
+  pub named : (m : List Sector) (named : Triples) (b : List ℕ) → Known v m named b → (p : ℕ) → holds r id p ≡ true → named id p (sector_at r p) ≡ true
 
 -- the homes of so many pages
 pub record FindsHomes (id first pages : ℕ) (v : View) (result : Result Homes Halt) : Type 0 where

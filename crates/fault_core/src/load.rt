@@ -8,7 +8,7 @@ ghost use Rattle.fault_core.specs.Access.{Shows, access_of, last_page};
 ghost use Rattle.fault_core.specs.Attempt.{moved};
 ghost use Rattle.fault_core.specs.Kept.{AreApart};
 ghost use Rattle.fault_core.specs.Moves.{Loads};
-ghost use Rattle.fault_core.specs.Ready.{AreLoaded};
+ghost use Rattle.fault_core.specs.Ready.{AreLoaded, IsAtHand};
 ghost use Rattle.filer_kernel.specs.View.{FitsLayout, view_of};
 ghost use Rattle.fault_core.specs.Unit.{AreShownStored, BringsBoth, BringsShown, IsReady, IsWhole};
 ghost use Rattle.fault_core.specs.Lack.{both_units, unit_pages};
@@ -125,10 +125,13 @@ impl<D: Disk, A: Allocator> Core<D, A> {
     }
 
     /// Loads the first of these bytes, page by page, as far as their pages are ready and in the swap unit of the first one,
-    /// and says how many. No table is asked, no page comes in, and nothing but these bytes changes.
+    /// and says how many: at least one, where the first is. No table is asked, no page comes in, and nothing but these bytes
+    /// changes.
     pub fn load_ready(&mut self, address: u32, into: &mut [u8]) -> usize
         ensures part { result ≤ length into.old }
         ensures ends { 1 ≤ result → result < length into.old → (address + result) % 512 ≡ 0 }
+        ensures first { (slot : ℕ) → IsAtHand (kept self.old) (state self.old).slots false address 1 slot
+            → AreApart (kept self.old) → 1 ≤ length into.old → 1 ≤ result }
         ensures access { (m : List Sector) (named : Triples) (ss : List Space) → Knows self.old m named ss
             → (k : ℕ) → k < result → access.Done ≡ access_of ss false (address + k) 1 }
         ensures bytes { (m : List Sector) (named : Triples) (ss : List Space) → Knows self.old m named ss

@@ -8,7 +8,7 @@ ghost use Rattle.frame_pool.specs.Frames.{HasPage};
 ghost use Rattle.swap_units.specs.Mode.{is_mapped};
 ghost use Rattle.filer_kernel.specs.View.{view_of};
 ghost use Rattle.fault_core.specs.Access.{Shows, is_load_only};
-ghost use Rattle.fault_core.specs.Kept.{AreFormed, IsFormed};
+ghost use Rattle.fault_core.specs.Kept.{AreApart, AreFormed, IsFormed};
 ghost use Rattle.fault_core.specs.Moves.{AreSeen, Loads};
 ghost use Rattle.fault_core.specs.Ready.{AreHere, AreLoaded, IsAtHand, IsChanged};
 ghost use Rattle.fault_core.specs.Revealed.{Known, Revealed};
@@ -27,6 +27,7 @@ use swap_units::Interval;
 pub(crate) fn lets(x: &Interval, writes: bool) -> bool
     ensures mapped { result ≡ true → is_mapped x.now.mode ≡ true }
     ensures allowed { result ≡ true → writes ≡ true → is_load_only x.now ≡ false }
+    ensures all { is_mapped x.now.mode ≡ true → (writes ≡ true → is_load_only x.now ≡ false) → result ≡ true }
 {
     if writes {
         return x.mode.is_writable();
@@ -181,6 +182,8 @@ pub(crate) fn load_unit<D: Disk, A: Allocator>(
     ensures ends { 1 ≤ result → result < length into.old → (address + result) % 512 ≡ 0 }
     ensures hand { (k : ℕ) → k < result → (slot : ℕ)
         × IsAtHand (kept_in kept.now) (view_of filer.old).slots false (address + k) 1 slot }
+    ensures first { (slot : ℕ) → IsAtHand (kept_in kept.now) (view_of filer.old).slots false address 1 slot
+        → AreApart (kept_in kept.now) → 1 ≤ length into.old → 1 ≤ result }
     ensures bytes { (n : ℕ) (m : List Sector) (named : Triples) (ss : List Space)
         → Revealed (view_of filer.old) (kept_in kept.now) n m named ss → AreLoaded ss address result into.new m }
     ensures rest { (k : ℕ) → result ≤ k → slice_get into.new k ≡ slice_get into.old k }

@@ -5,8 +5,8 @@ ghost use Rattle.swap_units.specs.declared.interval.Interval.{Interval as Interv
 ghost use Rattle.swap_units.specs.Mode.{is_mapped};
 ghost use Rattle.filer_kernel.specs.View.{view_of};
 ghost use Rattle.fault_core.specs.Access.{is_load_only};
-ghost use Rattle.fault_core.specs.Kept.{AreFormed, IsFormed, IsKept};
-ghost use Rattle.fault_core.specs.Ready.{AreHere, IsChanged};
+ghost use Rattle.fault_core.specs.Kept.{AreApart, AreFormed, IsFormed, IsKept};
+ghost use Rattle.fault_core.specs.Ready.{AreHere, IsAtHand, IsChanged};
 ghost use Rattle.fault_core.specs.Room.{KeepsSlots};
 ghost use Rattle.fault_core.specs.StoreReady.{AreStoredAtHand};
 
@@ -90,6 +90,8 @@ fn store_unit<D: Disk, A: Allocator>(
     ensures stored { AreStoredAtHand (kept_in kept.now) address result bytes.now (view_of filer.old)
         (view_of filer.new) }
     ensures left { result ≡ 0 → filer.new ≡ filer.old }
+    ensures first { (slot : ℕ) → IsAtHand (kept_in kept.now) (view_of filer.old).slots true address 1 slot
+        → AreApart (kept_in kept.now) → 1 ≤ result }
 {
     let page = address / PAGE_BYTES as u32;
     let Some(x) = kept.look(page) else {
@@ -113,13 +115,16 @@ impl<D: Disk, A: Allocator> Core<D, A> {
     ghost use Rattle.fault_core.specs.Core.{kept, state};
 
     /// Stores the first of these bytes, page by page, as far as their pages are ready, may be stored to and are in the swap
-    /// unit of the first one, and says how many. No table is asked and no page comes in: each stays in its slot.
+    /// unit of the first one, and says how many: at least one, where the first is. No table is asked and no page comes in: each
+    /// stays in its slot.
     pub fn store_ready(&mut self, address: u32, bytes: &[u8]) -> usize
         requires some { 1 ≤ length bytes.now }
         ensures part { result ≤ length bytes.now }
         ensures ends { 1 ≤ result → result < length bytes.now → (address + result) % 512 ≡ 0 }
         ensures stored { AreStoredAtHand (kept self.old) address result bytes.now (state self.old) (state self.new) }
         ensures left { result ≡ 0 → self.new ≡ self.old }
+        ensures first { (slot : ℕ) → IsAtHand (kept self.old) (state self.old).slots true address 1 slot
+            → AreApart (kept self.old) → 1 ≤ result }
         ensures slots { KeepsSlots (state self.old).slots (state self.new).slots }
         ensures disk { (state self.new).disk ≡ (state self.old).disk }
         ensures kept { kept self.new ≡ kept self.old }

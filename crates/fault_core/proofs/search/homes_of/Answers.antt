@@ -1,7 +1,7 @@
-use Rattle.std.proofs.Common.{◌≡◌, subst, arith, ◌+◌}
+use Rattle.std.proofs.Common.{rules, ◌≡◌, subst, arith, ◌+◌}
 use Rattle.std.proofs.lemmas.List.{length-replicate}
 use Rattle.filer_kernel.specs.View.{accepted, view_of}
-use Rattle.fault_core.proofs.FindLemmas.{IsFinding, finding_none, finding_more, finding_halt, finding_sound, finding_came, finding_room, finding_stay, finding_stopped, finding_cost, found_are, found_each, found_named}
+use Rattle.fault_core.proofs.FindLemmas.{IsFinding, finding_none, finding_more, finding_run, finding_halt, finding_sound, finding_came, finding_room, finding_stay, finding_stopped, finding_cost, found_are, found_each, found_named}
 use Rattle.fault_core.proofs.search.homes_of.Given as given
 use Rattle.fault_core.specs.Lack.{run_pages}
 use Rattle.fault_core.proofs.LackLemmas.{misses_wider}
@@ -10,44 +10,47 @@ use Rattle.fault_core.proofs.search.homes_of.Goals as goal
 use Rattle.fault_core.proofs.search.homes_of.Goals.{After-loop-k}
 
 pub loop-k-init : goal.loop-k-init
-loop-k-init g c = finding_none (view_of c.args.filer.now) c.args.id c.args.first c.args.pages _ c.requires.size (simp length-replicate)
+loop-k-init g c = (finding_none (view_of c.args.filer.now) c.args.id c.args.first c.args.pages _ c.requires.size (simp length-replicate), search rules)
 
-pub home_of-requires-clause-size : goal.home_of-requires-clause-size
-home_of-requires-clause-size g c = c.loop-k.invariant.size
+pub run_at-requires-clause-size : goal.run_at-requires-clause-size
+run_at-requires-clause-size g c = c.loop-k.invariant.0.size
 
 pub returns-in-Err-clause-fails : goal.returns-in-Err-clause-fails
 returns-in-Err-clause-fails g c = record {
-  cause = finding_halt (accepted c.args.filer.now) c.loop-k.invariant (view_of c.home_of.new.filer) c.in-Err.halt c.in-Err.ensures.cause;
+  cause = finding_halt (accepted c.args.filer.now) c.loop-k.invariant.0 (view_of c.run_at.new.filer) c.in-Err.halt c.in-Err.ensures.cause;
   misses =
       let below = c.loop-k-test.true in
       misses_wider (this_page c.args.id (c.args.first + c.loop-k.k)) (run_pages c.args.id c.args.first c.args.pages) (λ i p own. let at = own.1 in (own.0, omega (arith, at), omega (arith, at, below))) c.in-Err.halt c.in-Err.ensures.misses;
-  sound = finding_sound (accepted c.args.filer.now) c.loop-k.invariant c.in-Err.halt c.loop-k-test.true c.in-Err.ensures.sound;
+  sound = finding_sound (accepted c.args.filer.now) c.loop-k.invariant.0 c.in-Err.halt c.loop-k-test.true c.in-Err.ensures.sound;
 }
 
 pub returns-in-Err-clause-brings : goal.returns-in-Err-clause-brings
 returns-in-Err-clause-brings g c = record {
-  reaches = finding_stopped (accepted c.args.filer.now) c.loop-k.invariant (view_of c.home_of.new.filer) c.home_of.ensures.brings.reaches;
-  came = finding_came (accepted c.args.filer.now) c.loop-k.invariant (view_of c.home_of.new.filer).slots c.home_of.ensures.brings.came;
-  room = finding_room (accepted c.args.filer.now) c.loop-k.invariant (view_of c.home_of.new.filer).slots c.home_of.ensures.brings.room;
-  stay = finding_stay (accepted c.args.filer.now) c.loop-k.invariant (view_of c.home_of.new.filer).slots c.home_of.ensures.brings.stay;
+  reaches = finding_stopped (accepted c.args.filer.now) c.loop-k.invariant.0 (view_of c.run_at.new.filer) c.run_at.ensures.brings.reaches;
+  came = finding_came (accepted c.args.filer.now) c.loop-k.invariant.0 (view_of c.run_at.new.filer).slots c.run_at.ensures.brings.came;
+  room = finding_room (accepted c.args.filer.now) c.loop-k.invariant.0 (view_of c.run_at.new.filer).slots c.run_at.ensures.brings.room;
+  stay = finding_stay (accepted c.args.filer.now) c.loop-k.invariant.0 (view_of c.run_at.new.filer).slots c.run_at.ensures.brings.stay;
 }
 
 pub returns-in-Err-clause-cost : goal.returns-in-Err-clause-cost
-returns-in-Err-clause-cost g c = finding_cost (accepted c.args.filer.now) c.loop-k.invariant (view_of c.home_of.new.filer) c.loop-k-test.true c.home_of.ensures.cost
+returns-in-Err-clause-cost g c = finding_cost (accepted c.args.filer.now) c.loop-k.invariant.0 (view_of c.run_at.new.filer) c.loop-k-test.true c.run_at.ensures.cost
 
 pub loop-k-preserved : goal.loop-k-preserved
 loop-k-preserved g c =
-    finding_more (accepted c.args.filer.now) c.loop-k.invariant (view_of c.home_of.new.filer) c.in-Ok.home c.requires.few c.loop-k-test.true c.in-Ok.ensures.comes.found c.in-Ok.ensures.comes.is.0 c.in-Ok.ensures.comes.is.1 c.in-Ok.ensures.comes.named
-    c.home_of.ensures.brings.reaches c.home_of.ensures.brings.came c.home_of.ensures.brings.room c.home_of.ensures.brings.stay c.home_of.ensures.cost
+    let is = accepted c.args.filer.now in
+    let found = c.loop-k.invariant.0 in
+    let brings = c.run_at.ensures.brings in
+    let run = finding_run is found c.loop-k.hand c.in-Ok.run' c.loop-k.invariant.1 c.in-Ok.ensures.which in
+    (finding_more is found (view_of c.run_at.new.filer) c.in-Ok.run' c.requires.few c.loop-k-test.true c.requires.client run c.in-Ok.ensures.holds brings.reaches brings.came brings.room brings.stay c.run_at.ensures.cost, run)
 
 -- ---- All were found.
 
 all : (g : given.Over) (c : After-loop-k g) → IsFinding (view_of c.args.filer.now) c.args.id c.args.first c.args.pages (view_of c.loop-k.filer) c.loop-k.homes c.args.pages
 all g c =
-    let below = c.loop-k.invariant.below in
+    let below = c.loop-k.invariant.0.below in
     let past = c.loop-k-test.false in
     let same : c.loop-k.k ≡ c.args.pages = omega (arith, below, past) in
-    subst (IsFinding (view_of c.args.filer.now) c.args.id c.args.first c.args.pages (view_of c.loop-k.filer) c.loop-k.homes) same c.loop-k.invariant
+    subst (IsFinding (view_of c.args.filer.now) c.args.id c.args.first c.args.pages (view_of c.loop-k.filer) c.loop-k.homes) same c.loop-k.invariant.0
 
 pub returns-clause-comes : goal.returns-clause-comes
 returns-clause-comes g c =

@@ -1,10 +1,16 @@
-use Rattle.std.proofs.Common.{rules, ◌≡◌, ◌∙◌, ◌/◌, ◌≤◌, true, refl, sym, arith}
+use Rattle.std.proofs.Common.{rules, ◌≡◌, ◌∙◌, ◌/◌, ◌≤◌, true, false, refl, sym, subst, arith}
+use Rattle.std.proofs.lemmas.Bool.{true≢false}
 use Rattle.descriptor_cache.specs.Cache.{kept_in}
+use Rattle.swap_units.specs.declared.interval.Interval.{Interval}
+use Rattle.swap_units.specs.Mode.{is_mapped}
 use Rattle.filer_kernel.specs.View.{view_of}
+use Rattle.fault_core.specs.Access.{is_load_only}
+use Rattle.fault_core.specs.Unit.{IsWhole}
 use Rattle.fault_core.proofs.KeptLemmas.{looked}
+use Rattle.fault_core.proofs.ReadyLemmas.{hand_looked, hand_same}
 use Rattle.fault_core.proofs.RowLemmas.{ends_below, here_of}
 use Rattle.fault_core.proofs.StoreReadyLemmas.{stored_none}
-use Rattle.fault_core.proofs.UnitLemmas.{own_unit}
+use Rattle.fault_core.proofs.UnitLemmas.{own_unit, run_of_whole}
 use Rattle.fault_core.proofs.store_ready.store_unit.Goals as goal
 
 pub unit_run-run-requires-clause-formed : goal.unit_run-run-requires-clause-formed
@@ -79,3 +85,31 @@ returns-clause-left g c = λ none.
     let at = c.unit_run-run.ensures.all (c.args.address / 512) (own_unit c.in-Some.x (c.args.address / 512) own.holds) in
     let left = c.bytes_left.ensures in
     absurd (omega (arith, none, left, at.1, at.2, c.requires.some))
+
+-- ---- A first byte at hand is among them.
+
+pub returns-in_default-clause-first : goal.returns-in_default-clause-first
+returns-in_default-clause-first g c = λ slot h apart. absurd (c.in_default.not-Some h.interval (c.look.ensures.found ∙ hand_looked h apart))
+
+pub returns-then-not-lets-clause-first : goal.returns-then-not-lets-clause-first
+returns-then-not-lets-clause-first g c = λ slot h apart.
+    let same = hand_same h apart c.in-Some.x (sym c.look.ensures.found ∙ c.in-Some.is) in
+    let not : c.lets.result ≡ false = search rules in
+    let mapped = subst (λ (x : Interval). is_mapped x.mode ≡ true) same h.shows.mapped in
+    let allowed = subst (λ (x : Interval). true ≡ true → is_load_only x ≡ false) same h.allowed in
+    absurd (true≢false (sym (c.lets.ensures.all mapped allowed) ∙ not))
+
+pub returns-then-not-is_there-clause-first : goal.returns-then-not-is_there-clause-first
+returns-then-not-is_there-clause-first g c = λ slot h apart.
+    let slots = (view_of c.args.filer.now).slots in
+    let same = hand_same h apart c.in-Some.x (sym c.look.ensures.found ∙ c.in-Some.is) in
+    let not : c.is_there.result ≡ false = search rules in
+    let whole = subst (λ (x : Interval). IsWhole slots x (c.args.address / 512)) same h.whole in
+    absurd (true≢false (sym (c.is_there.ensures.there.1 (run_of_whole c.unit_run-run.ensures slots whole)) ∙ not))
+
+pub returns-clause-first : goal.returns-clause-first
+returns-clause-first g c = λ slot h apart.
+    let own = looked (kept_in c.args.kept.now) (c.args.address / 512) c.in-Some.x c.requires.formed (sym c.look.ensures.found ∙ c.in-Some.is) in
+    let at = c.unit_run-run.ensures.all (c.args.address / 512) (own_unit c.in-Some.x (c.args.address / 512) own.holds) in
+    let left = c.bytes_left.ensures in
+    omega (arith, left, at.1, at.2, c.requires.some)
